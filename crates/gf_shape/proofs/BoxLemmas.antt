@@ -1,0 +1,60 @@
+-- What a box holds: its moves and its bounds.
+use Rattle.std.specs.Prelude.{◌≡◌, ℕ, ℤ, pos, ◌+ℤ◌, ◌-ℤ◌, ◌≤ℤ◌, IsTrue, int_le, refl}
+use Rattle.std.proofs.Common.{arith}
+use Rattle.std.proofs.lemmas.Bool.{and_parts}
+use Rattle.std.proofs.lemmas.Int.{ints}
+use Rattle.gf_shape.specs.declared.point.Point.{Point}
+use Rattle.gf_shape.specs.Area.{Area, is_area, is_side, is_movable, far_corner}
+use Rattle.gf_shape.specs.Reach.{is_reached}
+use Rattle.gf_shape.specs.Moving.{plus}
+use Rattle.gf_shape.specs.ShapeMeaning.{rect_holds}
+use Rattle.gf_shape.specs.ShapeLaws.{IsMovedBy, IsBounds, IsWithin}
+
+gap-moved : (a b d : ℤ) → (b +ℤ d) -ℤ (a +ℤ d) ≡ b -ℤ a
+gap-moved a b d = omega (arith, ints)
+
+-- the move law
+pub rect_holds-moved : (a : Area) (d : Point) → IsMovedBy d (rect_holds a) (rect_holds (record a { low = plus a.low d }))
+rect_holds-moved a d = λ p. simp gap-moved
+
+-- a side whose moved ends lie within reach is a side
+is_side-moved : (low d : ℤ) (size : ℕ) → IsTrue (is_side low size) → IsTrue (is_reached (low +ℤ d)) → IsTrue (is_reached ((low +ℤ pos size) +ℤ d)) → IsTrue (is_side (low +ℤ d) size)
+unfolding is_side is_reached
+is_side-moved low d size side first last = grind (arith, ints)
+
+pub is_area-moved : (a : Area) (d : Point) → IsTrue (is_area a) → IsTrue (is_movable a d) → IsTrue (is_area (record a { low = plus a.low d }))
+is_area-moved a d area movable = grind (arith, is_side-moved)
+
+-- what lies along a side lies between its ends
+along : (low at : ℤ) (size : ℕ) → IsTrue (int_le (pos 0) (at -ℤ low)) → IsTrue (int_le (at -ℤ low) (pos size)) → (low ≤ℤ at) × (at ≤ℤ (low +ℤ pos size))
+along low at size first last = (omega (arith, ints), omega (arith, ints))
+
+-- what a box holds lies between its corners
+rect_holds-within : (a : Area) (p : Point) → IsTrue (rect_holds a p) → IsWithin (record { low = a.low; high = far_corner a }) p
+rect_holds-within a p h =
+    let bottom = and_parts _ _ h in
+    let top = and_parts _ _ bottom.0 in
+    let sides = and_parts _ _ top.0 in
+    let x = along a.low.x p.x a.width sides.0 sides.1 in
+    let y = along a.low.y p.y a.height top.1 bottom.1 in
+    record { left = x.0; right = x.1; top = y.0; bottom = y.1 }
+
+gap-far : (low : ℤ) (size : ℕ) → (low +ℤ pos size) -ℤ low ≡ pos size
+gap-far low size = omega (arith, ints)
+
+-- a box holds both its corners
+rect_holds-low : (a : Area) → IsTrue (rect_holds a a.low)
+rect_holds-low a = grind (arith, ints)
+
+rect_holds-far : (a : Area) → IsTrue (rect_holds a (far_corner a))
+rect_holds-far a = simp gap-far (grind (arith, ints))
+
+-- the bounds law
+pub rect_bounds : (a : Area) → IsBounds (rect_holds a) (record { low = a.low; high = far_corner a })
+rect_bounds a = record {
+  within = rect_holds-within a;
+  left = (a.low, rect_holds-low a, refl);
+  right = (far_corner a, rect_holds-far a, refl);
+  top = (a.low, rect_holds-low a, refl);
+  bottom = (far_corner a, rect_holds-far a, refl);
+}

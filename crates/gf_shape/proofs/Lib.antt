@@ -1,0 +1,3 @@
+pub mod BoxLemmas
+pub mod OutlineLemmas
+pub mod SideLemmas

@@ -1,0 +1,188 @@
+-- The chain of a box's corners is lawful, and holds by the ray to the left what the box holds.
+use Rattle.std.specs.Prelude.{◌≡◌, ℕ, ◌+◌, ◌%◌, ℤ, pos, ◌+ℤ◌, ◌-ℤ◌, ◌≤ℤ◌, ◌<ℤ◌, IsTrue, Bool, true, false, not, cond, ◌&&◌, ◌||◌, int_le, int_lt, nat_eq, refl, [], ◌∷◌}
+use Rattle.std.proofs.Common.{arith, inl, inr}
+use Rattle.std.proofs.Math.Bool.{and-false, or-false}
+use Rattle.std.proofs.Math.IntN.{*ℤ-zero, zero-*ℤ}
+use Rattle.std.proofs.lemmas.Int.{ints, by_lt_z}
+use Rattle.std.proofs.lemmas.Bool.{and_parts, and_from, cases_Bool}
+use Rattle.std.proofs.lemmas.List.Elements.{All-from_recursion}
+use Rattle.gf_shape.specs.declared.point.Point.{Point}
+use Rattle.gf_shape.specs.declared.outline.Outline.TheVariants.{Chain}
+use Rattle.gf_shape.specs.ShapeLaws.{IsOutlineOf}
+use Rattle.gf_shape.specs.Area.{Area, is_area, is_side, corners_again}
+use Rattle.gf_shape.specs.Edges.{side, is_on_line, is_between, is_on_edge, crosses_left}
+use Rattle.gf_shape.specs.Reach.{is_reached, is_within_reach}
+use Rattle.gf_shape.specs.Ring.{IsRing}
+use Rattle.gf_shape.specs.ShapeMeaning.{rect_holds}
+use Rattle.gf_shape.specs.FigureMeaning.{chain_holds}
+use Rattle.gf_shape.proofs.SideLemmas.{side-right_up, side-right_down, side-left_up, side-left_down}
+
+-- both ends of a side lie within reach
+is_side-reached : (low : ℤ) (size : ℕ) → IsTrue (is_side low size) → IsTrue (is_reached low) × IsTrue (is_reached (low +ℤ pos size))
+unfolding is_side is_reached
+is_side-reached low size h = (grind (arith, ints), grind (arith, ints))
+
+-- the corners of a box, the first one again, are a lawful ring
+pub IsRing-corners_again : (a : Area) → IsTrue (is_area a) → IsRing (record { boxed = true; points = corners_again a })
+IsRing-corners_again a h =
+    let sides = and_parts _ _ h in
+    let x = is_side-reached a.low.x a.width sides.0 in
+    let y = is_side-reached a.low.y a.height sides.1 in
+    record {
+      least = omega arith;
+      most = omega arith;
+      box = λ _. refl;
+      closed = refl;
+      reach = All-from_recursion (λ p. IsTrue (is_within_reach p)) (corners_again a) (and_from _ _ x.0 y.0, (and_from _ _ x.1 y.0, (and_from _ _ x.1 y.1, (and_from _ _ x.0 y.1, (and_from _ _ x.0 y.0, tt)))));
+    }
+
+-- a point of these coordinates
+abbrev at : ℤ → ℤ → Point
+at x y = record { x = x; y = y }
+
+-- n lies at a
+abbrev is_at : ℤ → ℤ → Bool
+is_at a n = int_le a n && int_le n a
+
+gap-same : (a : ℤ) → a -ℤ a ≡ pos 0
+gap-same a = omega (arith, ints)
+
+-- a point at the height of a level edge lies on its line
+is_on_line-level : (p : Point) (a b y : ℤ) → p.y ≡ y → is_on_line p (at a y, at b y) ≡ true
+unfolding side is_on_line
+is_on_line-level p a b y e = rw e (simp (gap-same, *ℤ-zero, zero-*ℤ))
+
+side-upright : (p : Point) (x a b : ℤ) → p.x ≡ x → side (at x a, at x b) p ≡ pos 0
+unfolding side
+side-upright p x a b e = rw e (simp (gap-same, *ℤ-zero, zero-*ℤ))
+
+-- a point straight above or below an upright edge lies on its line
+is_on_line-upright : (p : Point) (x a b : ℤ) → p.x ≡ x → is_on_line p (at x a, at x b) ≡ true
+unfolding is_on_line
+is_on_line-upright p x a b e = rw (side-upright p x a b e)
+
+-- no ray crosses a level edge
+crosses_left-level : (p : Point) (a b y : ℤ) → crosses_left p (at a y, at b y) ≡ false
+crosses_left-level p a b y = elim (cases_Bool (int_le y p.y)) [
+  | inl h ↦ rw h
+  | inr h ↦ rw h
+]
+
+is_between-same : (a n : ℤ) → is_between a n a ≡ true → n ≡ a
+unfolding is_between
+is_between-same a n h = grind (arith, ints)
+
+is_on_edge-level : (p : Point) (a b y : ℤ) → is_on_edge p (at a y, at b y) ≡ (is_between a p.x b && is_between y p.y y)
+is_on_edge-level p a b y = elim (cases_Bool (is_between y p.y y)) [
+  | inl h ↦ rw (is_on_line-level p a b y (is_between-same y p.y h))
+  | inr h ↦ rw (h, and-false, and-false)
+]
+
+is_on_edge-upright : (p : Point) (x a b : ℤ) → is_on_edge p (at x a, at x b) ≡ (is_between x p.x x && is_between a p.y b)
+is_on_edge-upright p x a b = elim (cases_Bool (is_between x p.x x)) [
+  | inl h ↦ rw (is_on_line-upright p x a b (is_between-same x p.x h))
+  | inr h ↦ rw (h, and-false)
+]
+
+-- an upright edge that climbs past the height of a point crosses its ray to the left exactly if the point is past the edge
+climbs-past : (p : Point) (x a b : ℤ) → int_le a p.y ≡ true → int_le b p.y ≡ false → int_lt (side (at x a, at x b) p) (pos 0) ≡ not (int_le p.x x)
+climbs-past p x a b h l =
+    by_lt_z x p.x
+    (λ past. let s = side-right_up (at x a) (at x b) p past past (omega (arith, ints)) (omega (arith, ints)) in grind (arith, ints))
+    (λ upto. by_lt_z p.x x
+    (λ left. let s = side-left_up (at x a) (at x b) p left left (omega (arith, ints)) (omega (arith, ints)) in grind (arith, ints))
+    (λ from. let s = side-upright p x a b (omega (arith, ints)) in rw s (grind (arith, ints))))
+
+falls-past : (p : Point) (x a b : ℤ) → int_le b p.y ≡ true → int_le a p.y ≡ false → int_lt (pos 0) (side (at x a, at x b) p) ≡ not (int_le p.x x)
+falls-past p x a b h l =
+    by_lt_z x p.x
+    (λ past. let s = side-right_down (at x a) (at x b) p past past (omega (arith, ints)) (omega (arith, ints)) in grind (arith, ints))
+    (λ upto. by_lt_z p.x x
+    (λ left. let s = side-left_down (at x a) (at x b) p left left (omega (arith, ints)) (omega (arith, ints)) in grind (arith, ints))
+    (λ from. let s = side-upright p x a b (omega (arith, ints)) in rw s (grind (arith, ints))))
+
+-- one is true and the other is not
+abbrev differ : Bool → Bool → Bool
+differ a b = (a && not b) || (b && not a)
+
+crosses_left-upright : (p : Point) (x a b : ℤ) → crosses_left p (at x a, at x b) ≡ (differ (int_le a p.y) (int_le b p.y) && not (int_le p.x x))
+crosses_left-upright p x a b = elim (cases_Bool (int_le a p.y)) [
+  | inl h ↦ elim (cases_Bool (int_le b p.y)) [
+    | inl k ↦ rw (h, k)
+    | inr k ↦ rw (h, k, climbs-past p x a b h k, or-false)
+  ]
+  | inr h ↦ elim (cases_Bool (int_le b p.y)) [
+    | inl k ↦ rw (h, k, falls-past p x a b k h)
+    | inr k ↦ rw (h, k)
+  ]
+]
+
+-- where n lies along a side: whether low ≤ n, n ≤ low, n ≤ high and high ≤ n
+data Along : Bool → Bool → Bool → Bool → Type 0 where
+  Before : Along false true true false
+  First : Along true true true false
+  Inside : Along true false true false
+  Last : Along true false true true
+  Past : Along true false false true
+
+le_true : (m n : ℤ) → m ≤ℤ n → int_le m n ≡ true
+le_true m n h = grind (arith, ints)
+
+le_false : (m n : ℤ) → n <ℤ m → int_le m n ≡ false
+le_false m n h = grind (arith, ints)
+
+along : (low high n : ℤ) → low <ℤ high → Along (int_le low n) (int_le n low) (int_le n high) (int_le high n)
+along low high n h =
+    by_lt_z n low
+    (λ k. rw (le_false low n k, le_true n low (omega (arith, ints)), le_true n high (omega (arith, ints)), le_false high n (omega (arith, ints))) Before)
+    (λ k. by_lt_z low n
+    (λ l. by_lt_z n high
+    (λ m. rw (le_true low n k, le_false n low l, le_true n high (omega (arith, ints)), le_false high n m) Inside)
+    (λ m. by_lt_z high n
+    (λ o. rw (le_true low n k, le_false n low l, le_false n high o, le_true high n m) Past)
+    (λ o. rw (le_true low n k, le_false n low l, le_true n high o, le_true high n m) Last)))
+    (λ l. rw (le_true low n k, le_true n low l, le_true n high (omega (arith, ints)), le_false high n (omega (arith, ints))) First))
+
+-- the tests of a box's ring come to those of the box
+ring_tests : {a b c d e f g h : Bool} → Along a b c d → Along e f g h →
+    (((((a && c) || (d && b)) && ((e && f) || (e && f)))
+    || ((((d && c) || (d && c)) && ((e && g) || (h && f)))
+    || ((((d && b) || (a && c)) && ((h && g) || (h && g)))
+    || ((((a && b) || (a && b)) && ((h && f) || (e && g)))
+    || false))))
+    || nat_eq ((0 + 0 + cond (differ e h && not c) 1 0 + 0 + cond (differ h e && not b) 1 0) % 2) 1)
+    ≡ (((a && c) && e) && g)
+ring_tests Before Before = refl
+ring_tests First Before = refl
+ring_tests Inside Before = refl
+ring_tests Last Before = refl
+ring_tests Past Before = refl
+ring_tests x y = refl
+
+-- a ring round two sides holds what lies along both
+chain_holds-ring : (left right top bottom : ℤ) (p : Point) → left <ℤ right → top <ℤ bottom →
+    chain_holds (at left top ∷ at right top ∷ at right bottom ∷ at left bottom ∷ at left top ∷ []) p
+    ≡ (((int_le left p.x && int_le p.x right) && int_le top p.y) && int_le p.y bottom)
+unfolding is_between
+chain_holds-ring left right top bottom p h l =
+    simp (is_on_edge-level, is_on_edge-upright, crosses_left-level, crosses_left-upright) (ring_tests (along left right p.x h) (along top bottom p.y l))
+
+from_low : (low n : ℤ) → int_le (pos 0) (n -ℤ low) ≡ int_le low n
+from_low low n = grind (arith, ints)
+
+to_high : (low n : ℤ) (size : ℕ) → int_le (n -ℤ low) (pos size) ≡ int_le n (low +ℤ pos size)
+to_high low n size = grind (arith, ints)
+
+past_low : (low : ℤ) (size : ℕ) → IsTrue (is_side low size) → low <ℤ (low +ℤ pos size)
+unfolding is_side
+past_low low size h = grind (arith, ints)
+
+chain_holds-corners_again : (a : Area) → IsTrue (is_area a) → (p : Point) → chain_holds (corners_again a) p ≡ rect_holds a p
+chain_holds-corners_again a h p =
+    let sides = and_parts _ _ h in
+    rw (from_low a.low.x p.x, to_high a.low.x p.x a.width, from_low a.low.y p.y, to_high a.low.y p.y a.height)
+    (chain_holds-ring a.low.x (a.low.x +ℤ pos a.width) a.low.y (a.low.y +ℤ pos a.height) p (past_low a.low.x a.width sides.0) (past_low a.low.y a.height sides.1))
+
+-- the outline law of boxes
+pub IsOutlineOf-corners_again : (a : Area) → IsTrue (is_area a) → IsOutlineOf (rect_holds a) (Chain (record { boxed = true; points = corners_again a }))
+IsOutlineOf-corners_again a h = record { lawful = IsRing-corners_again a h; same = chain_holds-corners_again a h }

@@ -1,0 +1,36 @@
+-- A box as its callers see it: its least corner and its size (this project's limits).
+use Rattle.std.specs.Prelude.{ℕ, ℤ, pos, negsuc, ◌+ℤ◌, Bool, ◌&&◌, nat_le, int_le, List, [], ◌∷◌}
+use Rattle.gf_shape.specs.declared.point.Point.{Point}
+use Rattle.gf_shape.specs.Moving.{plus}
+use Rattle.gf_shape.specs.Reach.{is_within_reach}
+
+pub record Area : Type 0 where
+  pub low : Point
+  pub width : ℕ
+  pub height : ℕ
+
+-- the corner opposite the least one
+abbrev pub far_corner : Area → Point
+far_corner a = record { x = a.low.x +ℤ pos a.width; y = a.low.y +ℤ pos a.height }
+
+-- the corners in the order in which FIG writes a box, the first one again at the end
+abbrev pub corners_again : Area → List Point
+corners_again a =
+    a.low
+    ∷ record { x = a.low.x +ℤ pos a.width; y = a.low.y }
+    ∷ far_corner a
+    ∷ record { x = a.low.x; y = a.low.y +ℤ pos a.height }
+    ∷ a.low
+    ∷ []
+
+-- a side from low has a size of at least 1, and both ends lie between -10,000,000 and 10,000,000
+unfoldable pub is_side : ℤ → ℕ → Bool
+is_side low size = nat_le 1 size && int_le (negsuc 9999999) low && int_le (low +ℤ pos size) (pos 10000000)
+
+-- both sides of the box a are such
+abbrev pub is_area : Area → Bool
+is_area a = is_side a.low.x a.width && is_side a.low.y a.height
+
+-- both corners of the box a, moved by d, lie within reach
+abbrev pub is_movable : Area → Point → Bool
+is_movable a d = is_within_reach (plus a.low d) && is_within_reach (plus (far_corner a) d)

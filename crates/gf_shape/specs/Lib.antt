@@ -1,0 +1,10 @@
+pub mod Moving
+pub mod Reach
+pub mod Area
+pub mod Ring
+pub mod Round
+pub mod Edges
+pub mod ShapeMeaning
+pub mod FigureMeaning
+pub mod ShapeLaws
+pub mod WorkedExamples

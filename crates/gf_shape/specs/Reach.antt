@@ -1,0 +1,11 @@
+-- How far from the axes a shape and a FIG file reach (this project's limit).
+use Rattle.std.specs.Prelude.{ℤ, pos, negsuc, Bool, ◌&&◌, int_le}
+use Rattle.gf_shape.specs.declared.point.Point.{Point}
+
+-- the coordinate n lies between -10,000,000 and 10,000,000
+unfoldable pub is_reached : ℤ → Bool
+is_reached n = int_le (negsuc 9999999) n && int_le n (pos 10000000)
+
+-- both coordinates of p do
+abbrev pub is_within_reach : Point → Bool
+is_within_reach p = is_reached p.x && is_reached p.y

@@ -1,0 +1,16 @@
+-- A closed chain as its callers see it (Xfig, FIG Format 3.2: polyline objects; this project's limits).
+use Rattle.std.specs.Prelude.{◌≡◌, ◌≤◌, ◌-◌, Bool, true, IsTrue, List, length, All, slice_get}
+use Rattle.gf_shape.specs.declared.point.Point.{Point}
+use Rattle.gf_shape.specs.Reach.{is_within_reach}
+
+pub record Ring : Type 0 where
+  pub boxed : Bool
+  pub points : List Point
+
+-- the ring r has 4 to 65,536 points, 5 where it is a box of FIG; its last point is its first; all lie within reach
+pub record IsRing (r : Ring) : Type 0 where
+  pub least : 4 ≤ length r.points
+  pub most : length r.points ≤ 65536
+  pub box : r.boxed ≡ true → length r.points ≡ 5
+  pub closed : slice_get r.points (length r.points - 1) ≡ slice_get r.points 0
+  pub reach : All (λ p. IsTrue (is_within_reach p)) r.points

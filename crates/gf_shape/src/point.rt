@@ -1,0 +1,53 @@
+//! Grid points, and how far from the axes a shape reaches.
+
+ghost use Rattle.std.specs.Prelude.{◌≡◌, ◌+ℤ◌, IsTrue};
+ghost use Rattle.gf_shape.specs.Moving.{plus};
+ghost use Rattle.gf_shape.specs.Reach.{is_reached, is_within_reach};
+
+/// The greatest distance of a shape's defining points from either axis.
+pub const REACH: i32 = 10_000_000;
+
+/// A grid point. The y axis points downwards.
+#[derive(Clone, Copy, Debug, PartialEq, Eq)]
+pub struct Point {
+    pub x: i32,
+    pub y: i32,
+}
+
+impl Point {
+    /// Whether the point, moved by `d`, lies within reach.
+    pub(crate) fn movable(self, d: Point) -> bool
+        ensures { result ≡ is_within_reach (plus self d) }
+    {
+        is_reached(self.x, d.x) && is_reached(self.y, d.y)
+    }
+
+    /// The point moved by `d`.
+    pub(crate) fn moved(self, d: Point) -> Point
+        requires { IsTrue (is_within_reach (plus self d)) }
+        ensures { result ≡ plus self d }
+    {
+        Point {
+            x: sum(self.x, d.x),
+            y: sum(self.y, d.y),
+        }
+    }
+}
+
+/// Whether a sum lies within reach.
+#[tactic(auto, using(std::proofs::lemmas::Int::ints), unfolding(crate::specs::Reach::is_reached))]
+fn is_reached(n: i32, d: i32) -> bool
+    ensures { result ≡ is_reached (n +ℤ d) }
+{
+    let sum = n as i64 + d as i64;
+    -(REACH as i64) <= sum && sum <= REACH as i64
+}
+
+/// A sum that lies within reach.
+#[tactic(auto, using(std::proofs::lemmas::Int::ints), unfolding(crate::specs::Reach::is_reached))]
+fn sum(n: i32, d: i32) -> i32
+    requires { IsTrue (is_reached (n +ℤ d)) }
+    ensures { result ≡ n +ℤ d }
+{
+    n + d
+}

@@ -1,0 +1,126 @@
+//! Worked examples.
+
+ghost use Rattle.std.specs.Prelude.{◌≡◌};
+
+use crate::{Bounds, Chain, Disc, OutOfMemory, Outline, Point, Range, Rect};
+use std::test::Fail;
+
+fn at(x: i32, y: i32) -> Point
+    ensures { result ≡ record { x = x; y = y } }
+{
+    Point { x, y }
+}
+
+#[test]
+fn boxes_keep_their_limits(rt: HostRuntime) {
+    let rows = [
+        (at(0, 0), 1, 1, true),
+        (at(0, 0), 0, 5, false),
+        (at(0, 0), 5, 0, false),
+        (at(10_000_000, 0), 1, 1, false),
+        (at(0, 9_999_999), 1, 1, true),
+        (at(-10_000_000, -10_000_000), 20_000_000, 20_000_000, true),
+        (at(-10_000_000, -10_000_000), 20_000_001, 20_000_000, false),
+        (at(-10_000_000, -10_000_000), 20_000_000, 20_000_001, false),
+        (at(-10_000_001, 0), 1, 1, false),
+        (at(0, -10_000_001), 1, 1, false),
+        (at(i32::MAX, i32::MAX), u32::MAX, u32::MAX, false),
+    ];
+    for (low, width, height, lawful) in rows {
+        let made = Rect::new(low, width, height).is_ok();
+        assert_eq!(rt; made, lawful, "{low:?} {width} by {height}");
+    }
+}
+
+#[test]
+fn boxes_hold_their_edges(rt: HostRuntime) -> Result<(), Fail> {
+    let rect = Rect::new(at(100, 200), 300, 400)?;
+    let rows = [
+        (at(100, 200), true),
+        (at(400, 600), true),
+        (at(250, 200), true),
+        (at(250, 333), true),
+        (at(99, 333), false),
+        (at(401, 333), false),
+        (at(250, 199), false),
+        (at(250, 601), false),
+        (at(i32::MIN, i32::MAX), false),
+    ];
+    for (p, held) in rows {
+        assert_eq!(rt; rect.holds(p), held, "{p:?}");
+    }
+    let bounds = Bounds {
+        low: at(100, 200),
+        high: at(400, 600),
+    };
+    assert_eq!(rt; rect.bounds(), bounds);
+    Ok(())
+}
+
+#[test]
+fn boxes_move_within_reach(rt: HostRuntime) -> Result<(), Fail> {
+    let edge = Rect::new(at(9_999_990, 0), 10, 10)?;
+    let rows = [
+        (at(0, 0), true),
+        (at(1, 0), false),
+        (at(-1, 0), true),
+        (at(-19_999_990, 9_999_990), true),
+        (at(-19_999_991, 0), false),
+        (at(0, 9_999_991), false),
+        (at(0, -10_000_000), true),
+        (at(0, -10_000_001), false),
+        (at(i32::MIN, i32::MIN), false),
+    ];
+    for (d, movable) in rows {
+        assert_eq!(rt; edge.movable(d), movable, "{d:?}");
+    }
+    let d = at(-5, 7);
+    assert!(rt; edge.movable(d));
+    let moved = edge.moved(rt.alloc(), d)?;
+    assert_eq!(rt; moved, Rect::new(at(9_999_985, 7), 10, 10)?);
+    Ok(())
+}
+
+#[test]
+fn outlines_close(rt: HostRuntime) -> Result<(), Fail> {
+    let rect = Rect::new(at(100, 200), 300, 400)?;
+    let corners = [
+        at(100, 200),
+        at(400, 200),
+        at(400, 600),
+        at(100, 600),
+        at(100, 200),
+    ];
+    match rect.outline(rt.alloc())? {
+        Outline::Chain(chain) => {
+            assert!(rt; chain.boxed());
+            assert_eq!(rt; chain.points(), corners.as_slice());
+        }
+        Outline::Disc(_) => assert!(rt; false, "a box has corners"),
+    }
+    Ok(())
+}
+
+#[tactic(auto, unfolding(crate::specs::Reach::is_reached))]
+#[test]
+fn figures_tell_what_they_were_made_of(rt: HostRuntime) -> Result<(), Fail> {
+    let corners = [at(0, 0), at(-1_000_000, 0), at(0, -1_000_000), at(0, 0)];
+    let chain = Chain::new(false, Vec::from_array(rt.alloc(), corners)?);
+    assert!(rt; !chain.boxed());
+    assert_eq!(rt; chain.points(), corners.as_slice());
+    let disc = Disc::new(at(10_000_000, 0), 10_000_000);
+    assert_eq!(rt; disc.centre(), at(10_000_000, 0));
+    assert_eq!(rt; disc.radius(), 10_000_000);
+    Ok(())
+}
+
+#[test]
+fn refusals_say_why(rt: HostRuntime) -> Result<(), Fail> {
+    let alloc = rt.alloc();
+    assert_eq!(rt; format!(in alloc; "{Range}")?.as_str(), "out of range");
+    assert_eq!(rt;
+        format!(in alloc; "{OutOfMemory}")?.as_str(),
+        "out of memory"
+    );
+    Ok(())
+}
