@@ -1,0 +1,17 @@
+-- Which operation may be added behind a history (this project's choice).
+use Rattle.std.specs.Prelude.{◌≡◌, ◌≢◌, ℕ, ◌+◌, ◌≤◌, List, Contains}
+use Rattle.gf_ops.specs.declared.op.Op.{Op}
+use Rattle.gf_ops.specs.OperationOrder.{IsSite, entry, count_of, Precedes}
+use Rattle.gf_ops.specs.ValidHistory.{IsWithin}
+
+-- the clock of a is that of the next operation of its site behind h
+pub record IsNext (h : List Op) (a : Op) : Type 0 where
+  pub seq : a.id.seq ≡ count_of h a.id.site + 1
+  pub own : entry a.past a.id.site + 1 ≡ a.id.seq
+  pub others : (s : ℕ) → IsSite s → s ≢ a.id.site → entry a.past s ≤ count_of h s
+  pub closed : (b : Op) → Contains h b → Precedes b a → IsWithin b.past a.past
+
+-- a may be added behind h: so far an operation of site 1 with the next clock
+pub record IsAccepted (h : List Op) (a : Op) : Type 0 where
+  pub site : a.id.site ≡ 1
+  pub next : IsNext h a

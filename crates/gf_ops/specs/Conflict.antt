@@ -1,0 +1,20 @@
+-- Which operations cannot stand in one version (conflict and compatible, Sun and Chen, ACM TOCHI 9(1), 2002).
+use Rattle.std.specs.Prelude.{◌≡◌, ◌≢◌, Some}
+use Rattle.gf_ops.specs.declared.op.Op.{Op}
+use Rattle.gf_ops.specs.Attribute.{Attribute, Value, given, object_of}
+use Rattle.gf_ops.specs.OperationOrder.{IsConcurrent}
+
+-- a and b set one attribute, to different values
+pub record SetApart (a b : Op) : Type 0 where
+  pub attribute : Attribute
+  pub first : Value
+  pub second : Value
+  pub first_given : given a attribute ≡ Some first
+  pub second_given : given b attribute ≡ Some second
+  pub differ : first ≢ second
+
+-- a and b are concurrent, concern one object and set one attribute to different values
+pub record Conflict (a b : Op) : Type 0 where
+  pub concurrent : IsConcurrent a b
+  pub one_object : object_of a ≡ object_of b
+  pub apart : SetApart a b

@@ -1,0 +1,9 @@
+pub mod Limits
+pub mod OperationOrder
+pub mod ValidHistory
+pub mod Attribute
+pub mod Conflict
+pub mod Version
+pub mod SettledValue
+pub mod Accepted
+pub mod HistoryState

@@ -1,0 +1,44 @@
+-- The limits of an operation (this project's choice).
+use Rattle.std.specs.Prelude.{ℕ, pos, negsuc, Bool, IsTrue, ◌&&◌, nat_le, int_le}
+use Rattle.std.specs.List.{list_all}
+use Rattle.gf_shape.specs.declared.point.Point.{Point}
+use Rattle.gf_ops.specs.declared.op.Op.{Op}
+use Rattle.gf_ops.specs.declared.op.OpId.{OpId}
+use Rattle.gf_ops.specs.declared.op.Clock.{Clock}
+use Rattle.gf_ops.specs.declared.change.Form.{Form}
+use Rattle.gf_ops.specs.declared.change.Form.TheVariants.{Rect}
+use Rattle.gf_ops.specs.declared.change.Change.{Change}
+use Rattle.gf_ops.specs.declared.change.Change.TheVariants.{Create}
+
+-- sites are numbered 1 to 8
+abbrev pub is_site : ℕ → Bool
+is_site s = nat_le 1 s && nat_le s 8
+
+-- an id names one of the first 10,000 operations of a site
+abbrev pub is_id : OpId → Bool
+is_id i = is_site i.site && nat_le 1 i.seq && nat_le i.seq 10000
+
+-- no entry of the clock is above 10,000
+abbrev pub is_clock : Clock → Bool
+is_clock c = list_all (λ n. nat_le n 10000) c.0
+
+-- both coordinates of p lie between -1,000,000 and 1,000,000
+unfoldable pub is_near : Point → Bool
+is_near p = int_le (negsuc 999999) p.x && int_le p.x (pos 1000000) && int_le (negsuc 999999) p.y && int_le p.y (pos 1000000)
+
+-- a size is 1 to 1,000,000
+abbrev pub is_size : ℕ → Bool
+is_size n = nat_le 1 n && nat_le n 1000000
+
+abbrev pub is_form : Form → Bool
+is_form (Rect width height) = is_size width && is_size height
+
+abbrev pub is_change : Change → Bool
+is_change (Create start) = is_form start.form && is_near start.place && nat_le start.layer 9999
+
+abbrev pub is_in_range : Op → Bool
+is_in_range a = is_id a.id && is_clock a.past && is_change a.change
+
+-- the operation a keeps all limits
+abbrev pub IsInRange : Op → Type 0
+IsInRange a = IsTrue (is_in_range a)

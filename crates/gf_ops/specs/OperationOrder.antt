@@ -1,0 +1,33 @@
+-- Causal order and concurrency of operations (Sun and Chen, ACM TOCHI 9(1), 2002).
+use Rattle.std.specs.Prelude.{◌≢◌, ℕ, ◌-◌, ◌≤◌, List, slice_index, count_by, nat_eq}
+use Rattle.std.specs.declared.cmp.Ordering.{Ordering}
+use Rattle.std.specs.Ordering.{ordering_then, nat_cmp}
+use Rattle.gf_ops.specs.declared.op.Op.{Op}
+use Rattle.gf_ops.specs.declared.op.OpId.{OpId}
+use Rattle.gf_ops.specs.declared.op.Clock.{Clock}
+
+-- sites are numbered 1 to 8
+abbrev pub IsSite : ℕ → Type 0
+IsSite s = (1 ≤ s) × (s ≤ 8)
+
+-- how many operations of site s the clock knows
+abbrev pub entry : Clock → ℕ → ℕ
+entry clock s = slice_index clock.0 (s - 1)
+
+-- how many operations of site s are in h
+abbrev pub count_of : List Op → ℕ → ℕ
+count_of h s = count_by (λ a. nat_eq a.id.site s) h
+
+-- a comes before b
+abbrev pub Precedes : Op → Op → Type 0
+Precedes a b = a.id.seq ≤ entry b.past a.id.site
+
+-- a and b are two, and neither comes before the other
+pub record IsConcurrent (a b : Op) : Type 0 where
+  pub different : a.id ≢ b.id
+  pub not_before : ¬ (Precedes a b)
+  pub not_after : ¬ (Precedes b a)
+
+-- ids are ordered by site, then by number
+abbrev pub id_cmp : OpId → OpId → Ordering
+id_cmp i j = ordering_then (nat_cmp i.site j.site) (nat_cmp i.seq j.seq)

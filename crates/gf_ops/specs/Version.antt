@@ -1,0 +1,36 @@
+-- The versions of an object (maximal compatible groups, Sun and Chen, ACM TOCHI 9(1), 2002).
+use Rattle.std.specs.Prelude.{◌≡◌, List, Contains}
+use Rattle.std.specs.List.Sorted.{IsStrictlySortedBy}
+use Rattle.gf_ops.specs.declared.op.Op.{Op}
+use Rattle.gf_ops.specs.declared.op.OpId.{OpId}
+use Rattle.gf_ops.specs.declared.op.ObjectId.{ObjectId}
+use Rattle.gf_ops.specs.Attribute.{object_of}
+use Rattle.gf_ops.specs.Conflict.{Conflict}
+use Rattle.gf_ops.specs.OperationOrder.{id_cmp}
+
+-- h has an operation under id i, on the object o
+pub record HasOn (h : List Op) (o : ObjectId) (i : OpId) : Type 0 where
+  pub op : Op
+  pub contained : Contains h op
+  pub id : op.id ≡ i
+  pub object : object_of op ≡ o
+
+-- a is an operation of h that the group g has
+pub record IsMember (h : List Op) (g : List OpId) (a : Op) : Type 0 where
+  pub contained : Contains h a
+  pub grouped : Contains g a.id
+
+-- a conflicts with a member of the group
+pub record Clashes (h : List Op) (g : List OpId) (a : Op) : Type 0 where
+  pub member : Op
+  pub is_member : IsMember h g member
+  pub conflict : Conflict a member
+
+-- the rising ids g are a group of operations of h on the object o, whose Create is in h;
+-- no two of them conflict, and each other operation on o conflicts with one of them
+pub record IsVersion (h : List Op) (o : ObjectId) (g : List OpId) : Type 0 where
+  pub rising : IsStrictlySortedBy id_cmp g
+  pub created : HasOn h o o.0
+  pub members : (i : OpId) → Contains g i → HasOn h o i
+  pub compatible : (a b : Op) → IsMember h g a → IsMember h g b → ¬ (Conflict a b)
+  pub largest : (a : Op) → Contains h a → object_of a ≡ o → ¬ (Contains g a.id) → Clashes h g a

@@ -1,0 +1,23 @@
+//! Operations on the objects of a drawing, and the history that they make.
+//!
+//! - [`Op`] with its [`OpId`], its [`Clock`] and its [`Change`]: one edit by one designer.
+//! - [`Form`], [`Start`], [`ObjectId`]: what a new object begins with, and its name.
+//! - [`before`]: the causal order of operations.
+//! - [`History`]: the operations that a site has, always a valid history.
+//! - [`OpFault`], [`AddFault`]: why an operation was not added.
+#![tactic(auto)]
+
+mod change;
+mod faults;
+mod history;
+mod limits;
+mod op;
+mod order;
+#[cfg(test)]
+mod tests;
+
+pub use change::{Change, Form, Start};
+pub use faults::{AddFault, OpFault};
+pub use history::History;
+pub use op::{Clock, ObjectId, Op, OpId};
+pub use order::before;

@@ -1,0 +1,65 @@
+//! The limits of operations.
+
+ghost use Rattle.std.specs.Prelude.{◌≡◌};
+ghost use Rattle.gf_ops.specs.Limits.{is_site, is_size, is_near, is_id, is_clock, is_form, is_change, is_in_range};
+
+use crate::{Change, Clock, Form, Op, OpId};
+use gf_shape::Point;
+
+impl Op {
+    /// Whether its site, its number, its clock and its change keep the limits.
+    pub fn in_range(&self) -> bool
+        ensures { result ≡ is_in_range self.now }
+    {
+        is_id(self.id) && is_clock(&self.past) && self.change.in_range()
+    }
+}
+
+impl Change {
+    /// Whether its values keep the limits: coordinates ±1,000,000, sizes 1 to 1,000,000, layers 0
+    /// to 9,999.
+    pub fn in_range(&self) -> bool
+        ensures { result ≡ is_change self.now }
+    {
+        let Change::Create(start) = self;
+        is_form(&start.form) && is_near(start.place) && start.layer <= 9_999
+    }
+}
+
+fn is_site(site: u8) -> bool
+    ensures { result ≡ is_site site }
+{
+    (1..=8).contains(&site)
+}
+
+fn is_id(id: OpId) -> bool
+    ensures { result ≡ is_id id }
+{
+    is_site(id.site) && 1 <= id.seq && id.seq <= 10_000
+}
+
+fn is_clock(clock: &Clock) -> bool
+    ensures { result ≡ is_clock clock.now }
+{
+    clock.0.iter().all(|n| *n <= 10_000)
+}
+
+fn is_size(n: u32) -> bool
+    ensures { result ≡ is_size n }
+{
+    1 <= n && n <= 1_000_000
+}
+
+fn is_form(form: &Form) -> bool
+    ensures { result ≡ is_form form.now }
+{
+    let Form::Rect(width, height) = form;
+    is_size(*width) && is_size(*height)
+}
+
+#[tactic(auto, using(std::proofs::lemmas::Int::ints), unfolding(crate::specs::Limits::is_near))]
+fn is_near(p: Point) -> bool
+    ensures { result ≡ is_near p }
+{
+    -1_000_000 <= p.x && p.x <= 1_000_000 && -1_000_000 <= p.y && p.y <= 1_000_000
+}

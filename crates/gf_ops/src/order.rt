@@ -1,0 +1,16 @@
+//! The causal order of operations.
+
+ghost use Rattle.std.specs.Prelude.{◌≡◌, ◌↔◌, IsTrue};
+ghost use Rattle.gf_ops.specs.Limits.{IsInRange};
+ghost use Rattle.gf_ops.specs.OperationOrder.{Precedes};
+
+use crate::Op;
+
+/// Whether `b` was made at a site that knew `a`.
+pub fn before(a: &Op, b: &Op) -> bool
+    requires a { IsInRange a.now }
+    requires b { IsInRange b.now }
+    ensures { IsTrue result ↔ Precedes a.now b.now }
+{
+    a.id.seq <= b.past.0[usize::from(a.id.site) - 1]
+}

@@ -1,0 +1,137 @@
+//! Tests of what the clauses mean: values from the project's own limits and rules.
+
+use crate::{AddFault, Change, Clock, Form, History, Op, OpFault, OpId, Start, before};
+use gf_shape::{Point, Rgb};
+use std::test::Fail;
+
+fn op_at(id: OpId, past: [u32; 8], place: Point, form: Form, layer: u16) -> Op {
+    let colour = Rgb { r: 0, g: 0, b: 0 };
+    let start = Start {
+        form,
+        place,
+        colour,
+        layer,
+        shown: true,
+    };
+    Op {
+        id,
+        past: Clock(past),
+        change: Change::Create(start),
+    }
+}
+
+fn op(site: u8, seq: u32, past: [u32; 8]) -> Op {
+    op_at(
+        OpId { site, seq },
+        past,
+        Point { x: 0, y: 0 },
+        Form::Rect(1, 1),
+        0,
+    )
+}
+
+#[test]
+fn keeps_limits(rt: HostRuntime) {
+    for (site, seq, known, x, y, width, height, layer, want) in [
+        (1, 1, 0, 0, 0, 1, 1, 0, true),
+        (
+            8, 10_000, 10_000, 1_000_000, 1_000_000, 1_000_000, 1_000_000, 9_999, true,
+        ),
+        (1, 1, 0, -1_000_000, -1_000_000, 1, 1, 0, true),
+        (0, 1, 0, 0, 0, 1, 1, 0, false),
+        (9, 1, 0, 0, 0, 1, 1, 0, false),
+        (1, 0, 0, 0, 0, 1, 1, 0, false),
+        (1, 10_001, 0, 0, 0, 1, 1, 0, false),
+        (1, 1, 10_001, 0, 0, 1, 1, 0, false),
+        (1, 1, 0, 1_000_001, 0, 1, 1, 0, false),
+        (1, 1, 0, -1_000_001, 0, 1, 1, 0, false),
+        (1, 1, 0, 0, 1_000_001, 1, 1, 0, false),
+        (1, 1, 0, 0, -1_000_001, 1, 1, 0, false),
+        (1, 1, 0, 0, 0, 0, 1, 0, false),
+        (1, 1, 0, 0, 0, 1_000_001, 1, 0, false),
+        (1, 1, 0, 0, 0, 1, 0, 0, false),
+        (1, 1, 0, 0, 0, 1, 1_000_001, 0, false),
+        (1, 1, 0, 0, 0, 1, 1, 10_000, false),
+    ] {
+        let form = Form::Rect(width, height);
+        let past = [0, 0, 0, 0, 0, 0, 0, known];
+        let op = op_at(OpId { site, seq }, past, Point { x, y }, form, layer);
+        assert_eq!(rt; op.in_range(), want, "of {op:?}");
+    }
+}
+
+#[test]
+fn orders_by_what_was_known(rt: HostRuntime) {
+    for (site, seq, own, known, want) in [
+        (1, 1, 1, 0, true),
+        (1, 2, 1, 0, false),
+        (1, 1, 0, 0, false),
+        (8, 3, 0, 2, false),
+        (8, 3, 0, 3, true),
+        (8, 3, 9, 4, true),
+    ] {
+        let a = op(site, seq, [0; 8]);
+        let b = op(2, 1, [own, 0, 0, 0, 0, 0, 0, known]);
+        assert!(rt; a.in_range() && b.in_range());
+        assert_eq!(rt; before(&a, &b), want, "{a:?} before {b:?}");
+    }
+}
+
+#[test]
+fn takes_the_next_operation_alone(rt: HostRuntime) -> Result<(), Fail> {
+    let mut history = History::new(rt.alloc());
+    assert!(rt; history.ops().is_empty());
+    let first = op(1, 1, [0; 8]);
+    assert!(rt; first.in_range());
+    history.add(first)?;
+    for (site, seq, past, want) in [
+        (1, 3, [1, 0, 0, 0, 0, 0, 0, 0], Err(OpFault::BadClock)),
+        (1, 2, [0, 0, 0, 0, 0, 0, 0, 0], Err(OpFault::BadClock)),
+        (1, 2, [1, 1, 0, 0, 0, 0, 0, 0], Err(OpFault::BadClock)),
+        (1, 2, [1, 0, 0, 0, 0, 0, 0, 1], Err(OpFault::BadClock)),
+        (1, 1, [0, 0, 0, 0, 0, 0, 0, 0], Err(OpFault::BadClock)),
+        (2, 1, [0, 0, 0, 0, 0, 0, 0, 0], Err(OpFault::BadClock)),
+        (1, 2, [1, 0, 0, 0, 0, 0, 0, 0], Ok(())),
+    ] {
+        let next = op(site, seq, past);
+        assert!(rt; next.in_range());
+        assert_eq!(rt; history.check(&next), want, "of {next:?}");
+    }
+    let gap = op(1, 3, [1, 0, 0, 0, 0, 0, 0, 0]);
+    assert!(rt; gap.in_range());
+    assert_eq!(rt; history.add(gap), Err(AddFault::Op(OpFault::BadClock)));
+    assert_eq!(rt; history.ops().len(), 1);
+    assert_eq!(rt; history.ops()[0].id, OpId { site: 1, seq: 1 });
+    Ok(())
+}
+
+#[test]
+fn finds_what_was_added(rt: HostRuntime) -> Result<(), Fail> {
+    let mut history = History::new(rt.alloc());
+    for (seq, known) in [(1, 0), (2, 1)] {
+        let next = op(1, seq, [known, 0, 0, 0, 0, 0, 0, 0]);
+        assert!(rt; next.in_range());
+        history.room()?;
+        history.add(next)?;
+    }
+    assert_eq!(rt; history.count(1), 2);
+    assert_eq!(rt; history.count(2), 0);
+    for (site, seq, want) in [
+        (1, 1, true),
+        (1, 2, true),
+        (1, 3, false),
+        (0, 0, false),
+        (2, 1, false),
+    ] {
+        let id = OpId { site, seq };
+        assert_eq!(rt;
+            history.get(id).map(|op| op.id),
+            want.then_some(id),
+            "at {id:?}"
+        );
+    }
+    assert_eq!(rt; history.ops().len(), 2);
+    assert_eq!(rt; history.ops()[0].id, OpId { site: 1, seq: 1 });
+    assert_eq!(rt; history.ops()[1].id, OpId { site: 1, seq: 2 });
+    Ok(())
+}
