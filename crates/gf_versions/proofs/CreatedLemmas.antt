@@ -1,0 +1,189 @@
+-- In a history where each operation makes an object of its own, the versions are those that the operations make.
+use Rattle.std.proofs.Common.{◌≡◌, ◌≢◌, List, [], ◌∷◌, map, get_or, inl, inr, refl, subst, sym, ap, ◌∙◌, arith}
+use Rattle.std.specs.Prelude.{◌↔◌, AllPairs, Contains, Some}
+use Rattle.std.specs.declared.cmp.Ordering.TheVariants.{Less, Greater}
+use Rattle.std.specs.Ordering.{ordering_reverse}
+use Rattle.std.specs.List.Sorted.{IsStrictlySortedBy}
+use Rattle.std.proofs.lemmas.Bool.{cases_order}
+use Rattle.std.proofs.lemmas.List.{get_or_default}
+use Rattle.gf_ops.specs.declared.op.Op.{Op}
+use Rattle.gf_ops.specs.declared.op.OpId.{OpId}
+use Rattle.gf_ops.specs.declared.op.ObjectId.{ObjectId}
+use Rattle.gf_ops.specs.declared.change.Change.{Change}
+use Rattle.gf_ops.specs.declared.change.Change.TheVariants.{Create}
+use Rattle.gf_ops.specs.declared.change.Form.{Form}
+use Rattle.gf_ops.specs.declared.change.Form.TheVariants.{Rect}
+use Rattle.gf_ops.specs.Attribute.{Attribute, Value, Place, Size, Colour, Layer, Shown, PlaceAt, ColourOf, LayerAt, ShownIf, size_of, given, start_value, change_value, object_of, changed_object}
+use Rattle.gf_ops.specs.OperationOrder.{id_cmp, Precedes}
+use Rattle.gf_ops.specs.SettledValue.{IsSettled}
+use Rattle.gf_ops.specs.ValidHistory.{IsValid}
+use Rattle.gf_ops.specs.Version.{IsVersion, IsMember}
+use Rattle.gf_versions.specs.declared.key.Version.{Version}
+use Rattle.gf_versions.specs.Created.{created, made, shown_of}
+use Rattle.gf_versions.specs.VersionOf.{IsVersionOf}
+use Rattle.gf_versions.specs.Visible.{IsVisible}
+use Rattle.gf_versions.proofs.KeyLemmas.{id_cmp_total}
+use Rattle.gf_versions.proofs.ListLemmas.{Contains-cons_cases, Contains-cons_head, Contains-cons_tail, not_Contains-nil, Contains-filter, Contains-map, Contains-map_from}
+
+-- two elements with one key are one, where the keys differ
+one_by_key : {X K : Type 0} (key : X → K) (xs : List X) (a b : X) → AllPairs (λ x y. key x ≢ key y) xs → Contains xs a → Contains xs b → key a ≡ key b → a ≡ b
+one_by_key key xs a b d (i, l, e) (j, m, f) s = elim (cases_order i j) [
+  | inl k ↦ let u = get_or_default xs i a b l in let v : get_or xs i b ≡ get_or xs j b = ap (λ n. get_or xs n b) k in cc
+  | inr k ↦ elim k [
+    | inl n ↦ let g = d i j b n m in let u = get_or_default xs i a b l in absurd (g (ap key (sym u ∙ e) ∙ (s ∙ sym (ap key f))))
+    | inr n ↦ let g = d j i a n l in let u = get_or_default xs j a b m in absurd (g (ap key (u ∙ f) ∙ (sym s ∙ sym (ap key e))))
+  ]
+]
+
+-- the object that a change makes is named by its operation
+makes_its_own : (id : OpId) (change : Change) → (changed_object id change).0 ≡ id
+makes_its_own id (Create start) = refl
+
+pub made_object : (id : OpId) (change : Change) → (made id change).key.object.0 ≡ id
+made_object id (Create start) = refl
+
+-- the operation under the id of an object is the only one on it
+pub only_on : (h : List Op) (o : ObjectId) (a : Op) → object_of a ≡ o → a.id ≡ o.0
+only_on h o a e = sym (makes_its_own a.id a.change) ∙ ap (λ (x : ObjectId). x.0) e
+
+-- no id is below itself
+not_below_itself : (i : OpId) → id_cmp i i ≡ Less → ⊥
+not_below_itself i e = let f = id_cmp_total.antisymm i i in let g : ordering_reverse (id_cmp i i) ≡ Greater = ap ordering_reverse e in absurd cc
+
+-- a rising list of one id alone has it once
+one_alone : (i : OpId) (g : List OpId) → IsStrictlySortedBy id_cmp g → Contains g i → ((j : OpId) → Contains g j → j ≡ i) → g ≡ i ∷ []
+unfolding IsStrictlySortedBy
+one_alone i [] rising has only = absurd (not_Contains-nil i has)
+one_alone i (x ∷ []) rising has only = ap (λ j. j ∷ []) (only x (Contains-cons_head x []))
+one_alone i (x ∷ y ∷ g) rising has only =
+    let first = only x (Contains-cons_head x (y ∷ g)) in
+    let second = only y (Contains-cons_tail x (y ∷ g) y (Contains-cons_head y g)) in
+    absurd (not_below_itself i (subst (λ j. id_cmp i j ≡ Less) second (subst (λ j. id_cmp j y ≡ Less) first rising.0.0)))
+
+module _ (h : List Op) (valid : IsValid h) where
+  -- an operation of h is the only one under its id
+  same_op : (a b : Op) → Contains h a → Contains h b → a.id ≡ b.id → a ≡ b
+  same_op a b x y e = one_by_key (λ (op : Op). op.id) h a b valid.distinct x y e
+
+  -- no operation of h comes before itself
+  not_before_itself : (a : Op) → Contains h a → ¬ (Precedes a a)
+  not_before_itself a x before = let own = valid.own a x in absurd (omega arith)
+
+  -- a version of an object has the operation that made it
+  has_maker : (o : ObjectId) (g : List OpId) (version : IsVersion h o g) → ((j : OpId) → Contains g j → j ≡ version.created.op.id) → (ids : List OpId) → g ≡ ids → Contains g version.created.op.id
+  has_maker o g version only [] e =
+      let none : (j : OpId) → ¬ (Contains g j) = λ j c. not_Contains-nil j (subst (λ ids. Contains ids j) e c) in
+      let a = version.created in
+      let clash = version.largest a.op a.contained a.object (none a.op.id) in
+      absurd (none clash.member.id clash.is_member.grouped)
+  has_maker o g version only (x ∷ ids) e =
+      let first = subst (λ js. Contains js x) (sym e) (Contains-cons_head x ids) in
+      subst (λ j. Contains g j) (only x first) first
+
+  -- and no other
+  alone : (o : ObjectId) (g : List OpId) (version : IsVersion h o g) → g ≡ version.created.op.id ∷ []
+  alone o g version =
+      let a = version.created.op in
+      let only : (j : OpId) → Contains g j → j ≡ a.id = λ j c. let m = version.members j c in sym m.id ∙ (only_on h o m.op m.object ∙ sym version.created.id) in
+      one_alone a.id g version.rising (has_maker o g version only g refl) only
+
+  -- it gives each attribute its value there
+  gives : (a : Op) (t : Attribute) (v : Value) → Contains h a → IsSettled h (a.id ∷ []) t v → given a t ≡ Some v
+  gives a t v x settled =
+      let m = settled.member in
+      let e : settled.setter ≡ a = same_op settled.setter a m.contained x (elim (Contains-cons_cases a.id [] settled.setter.id m.grouped) [ inl k ↦ k | inr k ↦ absurd (not_Contains-nil settled.setter.id k) ]) in
+      subst (λ (b : Op). given b t ≡ Some v) e settled.gives
+
+  settles : (a : Op) (t : Attribute) (v : Value) → Contains h a → given a t ≡ Some v → IsSettled h (a.id ∷ []) t v
+  settles a t v x given_by = record {
+    setter = a;
+    member = record { contained = x; grouped = Contains-cons_head a.id [] };
+    gives = given_by;
+    last = λ b m some before.
+        let e : a ≡ b = same_op a b x m.contained (elim (Contains-cons_cases a.id [] b.id m.grouped) [ inl k ↦ sym k | inr k ↦ absurd (not_Contains-nil b.id k) ]) in
+        not_before_itself a x (subst (λ (c : Op). Precedes a c) (sym e) before);
+  }
+
+  -- the operation's own group is a version of its object
+  own_version : (a : Op) → Contains h a → IsVersion h (object_of a) (a.id ∷ [])
+  unfolding IsStrictlySortedBy
+  own_version a x =
+      let one : (b : Op) → IsMember h (a.id ∷ []) b → b ≡ a = λ b m. same_op b a m.contained x (elim (Contains-cons_cases a.id [] b.id m.grouped) [ inl k ↦ k | inr k ↦ absurd (not_Contains-nil b.id k) ]) in
+      record {
+        rising = (tt, tt);
+        created = record { op = a; contained = x; id = sym (makes_its_own a.id a.change); object = refl };
+        members = λ i c. record { op = a; contained = x; id = sym (elim (Contains-cons_cases a.id [] i c) [ inl k ↦ k | inr k ↦ absurd (not_Contains-nil i k) ]); object = refl };
+        compatible = λ b c m n conflict. conflict.concurrent.different (ap (λ (d : Op). d.id) (one b m ∙ sym (one c n)));
+        largest = λ b y e out. absurd (out (subst (λ i. Contains (a.id ∷ []) i) (sym (makes_its_own a.id a.change) ∙ sym (only_on h (object_of a) b e)) (Contains-cons_head a.id [])));
+      }
+
+  made_version : (a : Op) → Contains h a → (change : Change) → a.change ≡ change → IsVersionOf h (made a.id change)
+  made_version a x (Create start) e =
+      let value : (t : Attribute) (v : Value) → start_value start t ≡ Some v → IsSettled h (a.id ∷ []) t v = λ t v s. settles a t v x (ap (λ c. change_value c t) e ∙ s) in
+      record {
+        version = subst (λ o. IsVersion h o (a.id ∷ [])) (ap (changed_object a.id) e) (own_version a x);
+        form = value Size (size_of start.form) refl;
+        place = value Place (PlaceAt start.place) refl;
+        colour = value Colour (ColourOf start.colour) refl;
+        layer = value Layer (LayerAt start.layer) refl;
+        shown = value Shown (ShownIf start.shown) refl;
+      }
+
+  -- what an operation of h makes is a version of h
+  pub created_version : (a : Op) → Contains h a → IsVersionOf h (created a)
+  created_version a x = made_version a x a.change refl
+
+  same_form : (f g : Form) → size_of f ≡ size_of g → f ≡ g
+  same_form (Rect w k) (Rect x l) e = cc
+
+  same_values : (id : OpId) (change : Change) (v : Version) → v.key.object.0 ≡ id → v.key.ops ≡ id ∷ [] →
+      change_value change Size ≡ Some (size_of v.form) → change_value change Place ≡ Some (PlaceAt v.place) → change_value change Colour ≡ Some (ColourOf v.colour) →
+      change_value change Layer ≡ Some (LayerAt v.key.layer) → change_value change Shown ≡ Some (ShownIf v.shown) → v ≡ made id change
+  same_values id (Create start) v object ops form place colour layer shown =
+      let forms = same_form start.form v.form cc in
+      let places : start.place ≡ v.place = cc in
+      let colours : start.colour ≡ v.colour = cc in
+      let layers : start.layer ≡ v.key.layer = cc in
+      let shows : start.shown ≡ v.shown = cc in
+      sym (λ n. record {
+        key = record { layer = layers n; object = record { 0 = sym object n }; ops = sym ops n };
+        form = forms n;
+        place = places n;
+        colour = colours n;
+        shown = shows n;
+      })
+
+  -- and each version of h is what some operation makes
+  pub version_created : (v : Version) → IsVersionOf h v → (a : Op) × Contains h a × (v ≡ created a)
+  version_created v is =
+      let maker = is.version.created in
+      let a = maker.op in
+      let ops = alone v.key.object v.key.ops is.version in
+      let value : (t : Attribute) (w : Value) → IsSettled h v.key.ops t w → given a t ≡ Some w = λ t w s. gives a t w maker.contained (subst (λ ids. IsSettled h ids t w) ops s) in (
+        a,
+        maker.contained,
+        same_values a.id a.change v (sym maker.id) ops (value Size (size_of v.form) is.form) (value Place (PlaceAt v.place) is.place)
+            (value Colour (ColourOf v.colour) is.colour) (value Layer (LayerAt v.key.layer) is.layer) (value Shown (ShownIf v.shown) is.shown),
+      )
+
+  -- the visible versions of h are those of its operations that are shown
+  pub visible_exactly : (v : Version) → IsVisible h v ↔ Contains (shown_of h) v
+  visible_exactly v = (
+    λ seen.
+        let from = version_created v seen.version in
+        (Contains-filter (λ (w : Version). w.shown) (map created h) v).1
+        (subst (λ w. Contains (map created h) w) (sym from.2) (Contains-map created h from.0 from.1), seen.shown),
+    λ c.
+        let parts = (Contains-filter (λ (w : Version). w.shown) (map created h) v).0 c in
+        let from = Contains-map_from created h v parts.0 in
+        record { version = subst (IsVersionOf h) (sym from.2) (created_version from.0 from.1); shown = parts.1 },
+  )
+
+  -- two versions of one object are one
+  pub one_of_object : (v w : Version) → IsVersionOf h v → IsVersionOf h w → v.key.object ≡ w.key.object → v ≡ w
+  one_of_object v w x y e =
+      let a = version_created v x in
+      let b = version_created w y in
+      let named : (u : Version) (c : Op) → u ≡ created c → u.key.object.0 ≡ c.id = λ u c f. ap (λ (z : Version). z.key.object.0) f ∙ made_object c.id c.change in
+      let one : a.0 ≡ b.0 = same_op a.0 b.0 a.1 b.1 (sym (named v a.0 a.2) ∙ (ap (λ (o : ObjectId). o.0) e ∙ named w b.0 b.2)) in
+      a.2 ∙ (ap created one ∙ sym b.2)

@@ -1,0 +1,54 @@
+-- The order of versions is total, and only one key ties with another: itself.
+use Rattle.std.proofs.Common.{◌≡◌, refl, ap}
+use Rattle.std.specs.Cmp.{IsTotalOrder}
+use Rattle.std.specs.declared.cmp.Ordering.{Ordering}
+use Rattle.std.specs.declared.cmp.Ordering.TheVariants.{Less, Equal, Greater}
+use Rattle.std.specs.Ordering.{ordering_then, nat_cmp, ordering_reverse}
+use Rattle.std.specs.Cmp.Lexicographic.{slice_cmp}
+use Rattle.std.specs.FinMap.{IsAntisymmetric, nat_cmp-IsAntisymmetric, slice_cmp-IsAntisymmetric}
+use Rattle.std.proofs.lemmas.Cmp.{nat_cmp_total, on_total, then_total, lists_total}
+use Rattle.gf_ops.specs.declared.op.OpId.{OpId}
+use Rattle.gf_ops.specs.OperationOrder.{id_cmp}
+use Rattle.gf_versions.specs.declared.key.VersionKey.{VersionKey}
+use Rattle.gf_versions.specs.Above.{key_cmp, IsAbove}
+
+pub id_cmp_total : IsTotalOrder id_cmp
+id_cmp_total = then_total (on_total (λ (i : OpId). i.site) nat_cmp_total) (on_total (λ (i : OpId). i.seq) nat_cmp_total)
+
+-- what two orders in turn leave equal, each leaves equal
+both_tied : (o p : Ordering) → ordering_then o p ≡ Equal → (o ≡ Equal) × (p ≡ Equal)
+both_tied Less p e = absurd cc
+both_tied Equal p e = (refl, e)
+both_tied Greater p e = absurd cc
+
+id_cmp_exact : IsAntisymmetric id_cmp
+id_cmp_exact i j e =
+    let t = both_tied (nat_cmp i.site j.site) (nat_cmp i.seq j.seq) e in
+    λ k. record { site = nat_cmp-IsAntisymmetric i.site j.site t.0 k; seq = nat_cmp-IsAntisymmetric i.seq j.seq t.1 k }
+
+pub key_cmp_total : IsTotalOrder key_cmp
+key_cmp_total = then_total (on_total (λ (k : VersionKey). k.layer) nat_cmp_total)
+    (then_total (on_total (λ (k : VersionKey). k.object.0) id_cmp_total) (on_total (λ (k : VersionKey). k.ops) (lists_total id_cmp_total)))
+
+pub key_cmp_exact : IsAntisymmetric key_cmp
+key_cmp_exact a b e =
+    let t = both_tied (nat_cmp a.layer b.layer) (ordering_then (id_cmp a.object.0 b.object.0) (slice_cmp id_cmp a.ops b.ops)) e in
+    let u = both_tied (id_cmp a.object.0 b.object.0) (slice_cmp id_cmp a.ops b.ops) t.1 in
+    λ k. record {
+      layer = nat_cmp-IsAntisymmetric a.layer b.layer t.0 k;
+      object = record { 0 = id_cmp_exact a.object.0 b.object.0 u.0 k };
+      ops = slice_cmp-IsAntisymmetric id_cmp_exact a.ops b.ops u.1 k;
+    }
+
+-- not both are above the other
+pub above_one_way : (k l : VersionKey) → IsAbove k l → ¬ (IsAbove l k)
+above_one_way k l h i = let e = key_cmp_total.antisymm k l in let f : ordering_reverse (key_cmp l k) ≡ Less = ap ordering_reverse i in absurd cc
+
+-- of two keys neither of which is above the other both are one
+pub neither_above : (k l : VersionKey) → ¬ (IsAbove k l) → ¬ (IsAbove l k) → k ≡ l
+neither_above k l h i = by_answer (key_cmp k l) refl
+  where
+    by_answer : (o : Ordering) → key_cmp k l ≡ o → k ≡ l
+    by_answer Less e = let f = key_cmp_total.antisymm l k in let g : ordering_reverse (key_cmp k l) ≡ Greater = ap ordering_reverse e in absurd (i cc)
+    by_answer Equal e = key_cmp_exact k l e
+    by_answer Greater e = absurd (h e)

@@ -1,0 +1,9 @@
+-- The test by which versions are sorted. No public clause cites this module.
+use Rattle.std.specs.Prelude.{Bool}
+use Rattle.std.specs.Ordering.{is_lt}
+use Rattle.gf_versions.specs.declared.placed.Placed.{Placed}
+use Rattle.gf_versions.specs.Above.{key_cmp}
+
+-- i stands before j: its key is above
+abbrev pub falls_by : Placed → Placed → Bool
+falls_by i j = is_lt (key_cmp j.key i.key)

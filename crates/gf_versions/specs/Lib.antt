@@ -1,0 +1,7 @@
+pub mod Above
+pub mod VersionOf
+pub mod Visible
+pub mod HistoryColour
+pub mod Ranking
+pub mod Created
+pub mod Falling

@@ -1,0 +1,28 @@
+//! Laws of versions and of the history's colour, each the contract of a function that does nothing.
+
+ghost use Rattle.std.specs.Prelude.{◌≡◌, ◌⊎◌, List};
+ghost use Rattle.gf_shape.specs.declared.point.Point.{Point};
+ghost use Rattle.gf_shape.specs.declared.colour.Rgb.{Rgb};
+ghost use Rattle.gf_ops.specs.declared.op.Op.{Op};
+ghost use Rattle.gf_ops.specs.ValidHistory.{IsValid};
+ghost use Rattle.gf_versions.specs.declared.key.Version.{Version};
+ghost use Rattle.gf_versions.specs.declared.placed.Placed.{Placed};
+ghost use Rattle.gf_versions.specs.Above.{IsAbove, AreOrdered};
+ghost use Rattle.gf_versions.specs.HistoryColour.{HistoryColour, HasOneColour};
+ghost use Rattle.gf_versions.specs.Ranking.{AreRanked, first_colour};
+ghost use Rattle.gf_versions.specs.VersionOf.{IsVersionOf};
+
+/// Of two versions of a history that are not one, exactly one is above the other.
+pub fn versions_are_in_a_total_order()
+    ensures { (h : List Op) → IsValid h → (v w : Version) → IsVersionOf h v → IsVersionOf h w → AreOrdered v w }
+{}
+
+/// A valid history means one colour at each point.
+pub fn one_colour_at_a_point()
+    ensures { (h : List Op) → IsValid h → (p : Point) → HasOneColour h p }
+{}
+
+/// The first of the ranked versions that holds a point has the colour that the history means there.
+pub fn the_first_that_holds_is_on_top()
+    ensures { (h : List Op) (items : List Placed) → AreRanked h items → (p : Point) → HistoryColour h p (first_colour items p) }
+{}

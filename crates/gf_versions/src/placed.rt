@@ -1,0 +1,36 @@
+//! Versions at their places, ranked.
+
+ghost use Rattle.std.specs.Prelude.{◌≡◌, ◌==◌, length};
+
+use crate::VersionKey;
+use gf_shape::{Rect, Rgb};
+
+/// A visible version: its shape at its settled place, and its settled colour.
+#[derive(Debug, Drop)]
+pub struct Placed {
+    pub key: VersionKey,
+    pub shape: Rect,
+    pub colour: Rgb,
+}
+
+/// The visible versions of a history, topmost first.
+#[derive(Debug, Drop)]
+pub struct Ranked {
+    pub items: Vec<Placed>,
+}
+
+impl Ranked {
+    /// How many they are.
+    pub fn len(&self) -> usize
+        ensures { result ≡ length self.now.items.items }
+    {
+        self.items.len()
+    }
+
+    /// Whether there is none.
+    pub fn is_empty(&self) -> bool
+        ensures { result ≡ (length self.now.items.items == 0) }
+    {
+        self.items.is_empty()
+    }
+}
