@@ -1,0 +1,211 @@
+-- The canonical drawing grows by one figure with each version.
+use Rattle.std.proofs.Common.{◌≡◌, ℕ, ◌+◌, ◌<◌, ◌≤◌, Bool, true, false, cond, List, [], ◌∷◌, ◌++◌, map, length, suc, refl, sym, ap, subst, ◌∙◌, inl, inr, arith, length-append, take, drop, append_assoc}
+use Rattle.std.specs.Prelude.{nat_lt, not, ◌&&◌, ◌||◌, ◌==◌, filter, unwrap_or, position, All}
+use Rattle.std.specs.Bool.{Decides}
+use Rattle.std.specs.List.{position_or_len, enumerate_from, list_any}
+use Rattle.std.proofs.lemmas.Bool.{cases_Bool, or_parts}
+use Rattle.std.proofs.lemmas.Bool.Decides.{nat_tests, Decides-eqb, Decides-and, Decides-like}
+use Rattle.std.proofs.lemmas.List.{append-nil, map-append, length-map, length-take-le, take-append-drop}
+use Rattle.std.proofs.lemmas.List.Elements.{filter-append, All-nil, All-cons, All-head, All-tail, All-weaker}
+use Rattle.std.proofs.lemmas.List.FromFn.{length-enumerate_from}
+use Rattle.gf_shape.specs.declared.colour.Rgb.{Rgb}
+use Rattle.gf_versions.specs.declared.placed.Placed.{Placed}
+use Rattle.gf_drawing.specs.CanonicalDrawing.{rgb_eq, first_seen, colours_of, number_of, canonical_figure, canonical_table, canonical_figures, canonical_drawing}
+use Rattle.gf_drawing.specs.Compiling.{place_in, with_colour, with_item}
+
+-- the place of the first that passes is at most the length
+pub position_or_len-within : {X : Type 0} (p : X → Bool) (xs : List X) → position_or_len p xs ≤ length xs
+position_or_len-within p [] = omega arith
+position_or_len-within p (x ∷ xs) = elim (cases_Bool (p x)) [ inl t ↦ rw t (omega arith) | inr t ↦ rw t (let r = position_or_len-within p xs in omega arith) ]
+
+-- what `position` does not find has the length for its place
+pub position_or_len_from_position : {X : Type 0} (p : X → Bool) (xs : List X) → unwrap_or (position p xs) (length xs) ≡ position_or_len p xs
+position_or_len_from_position p xs =
+    elim (cases_Bool (nat_lt (position_or_len p xs) (length xs))) [
+      | inl t ↦ rw t
+      | inr t ↦ rw t (let w = position_or_len-within p xs in grind (arith, nat_tests))
+    ]
+
+-- the test of colours tells whether they are one
+pub rgb_decided : (c d : Rgb) → Decides (rgb_eq c d) (c ≡ d)
+rgb_decided c d = Decides-like (rgb_eq c d) (λ h k. record { r = h.0.0 k; g = h.0.1 k; b = h.1 k }) (λ e. ((ap (λ (x : Rgb). x.r) e, ap (λ (x : Rgb). x.g) e), ap (λ (x : Rgb). x.b) e))
+    (Decides-and (c.r == d.r && c.g == d.g) (c.b == d.b) (Decides-and (c.r == d.r) (c.g == d.g) (Decides-eqb c.r d.r) (Decides-eqb c.g d.g)) (Decides-eqb c.b d.b))
+
+-- the distinct colours with c among them
+abbrev pub with_new : List Rgb → Rgb → List Rgb
+with_new cs c = cond (list_any (rgb_eq c) cs) cs (cs ++ c ∷ [])
+
+rgb_false : (c d : Rgb) → rgb_eq d c ≡ false → rgb_eq c d ≡ false
+rgb_false c d e = elim (cases_Bool (rgb_eq c d)) [
+  | inl t ↦ let k = (rgb_decided d c).1 (sym ((rgb_decided c d).0 t)) in absurd cc
+  | inr t ↦ t
+]
+
+-- whether c is there is the same where d is taken out
+list_any-filter : (c d : Rgb) (cs : List Rgb) → rgb_eq d c ≡ false → list_any (rgb_eq c) (filter (λ x. not (rgb_eq d x)) cs) ≡ list_any (rgb_eq c) cs
+list_any-filter c d [] e = refl
+list_any-filter c d (x ∷ cs) e = elim (cases_Bool (rgb_eq d x)) [
+  | inl t ↦
+      let k : d ≡ x = (rgb_decided d x).0 t in
+      let n : rgb_eq c x ≡ false = subst (λ y. rgb_eq c y ≡ false) k (rgb_false c d e) in
+      rw (t, n) (list_any-filter c d cs e)
+  | inr t ↦ rw t (ap (λ b. rgb_eq c x || b) (list_any-filter c d cs e))
+]
+
+-- taking out d behind c: c stays unless it is d
+filter-with_new : (c d : Rgb) (cs : List Rgb) → d ∷ filter (λ x. not (rgb_eq d x)) (with_new cs c) ≡ with_new (d ∷ filter (λ x. not (rgb_eq d x)) cs) c
+filter-with_new c d cs = elim (cases_Bool (rgb_eq d c)) [
+  | inl t ↦
+      let k : rgb_eq c d ≡ true = (rgb_decided c d).1 (sym ((rgb_decided d c).0 t)) in
+      rw k (elim (cases_Bool (list_any (rgb_eq c) cs)) [
+        | inl there ↦ rw there
+        | inr new ↦ rw (new, filter-append (λ x. not (rgb_eq d x)) cs (c ∷ []), t, append-nil)
+      ])
+  | inr t ↦
+      rw (rgb_false c d t, list_any-filter c d cs t) (elim (cases_Bool (list_any (rgb_eq c) cs)) [
+        | inl there ↦ rw there
+        | inr new ↦ rw (new, filter-append (λ x. not (rgb_eq d x)) cs (c ∷ []), t)
+      ])
+]
+
+first_seen-push : (cs : List Rgb) (c : Rgb) → first_seen (cs ++ c ∷ []) ≡ with_new (first_seen cs) c
+first_seen-push [] c = refl
+first_seen-push (d ∷ cs) c = ap (λ xs. d ∷ filter (λ x. not (rgb_eq d x)) xs) (first_seen-push cs c) ∙ filter-with_new c d (first_seen cs)
+
+pub colours_of-push : (items : List Placed) (i : Placed) → colours_of (items ++ i ∷ []) ≡ with_new (colours_of items) i.colour
+colours_of-push items i = ap first_seen (map-append (λ (j : Placed). j.colour) items (i ∷ [])) ∙ first_seen-push (map (λ (j : Placed). j.colour) items) i.colour
+
+-- what is there has a place
+place_found : {X : Type 0} (p : X → Bool) (xs : List X) → list_any p xs ≡ nat_lt (position_or_len p xs) (length xs)
+place_found p [] = refl
+place_found p (x ∷ xs) = elim (cases_Bool (p x)) [
+  | inl t ↦ rw t (grind (arith, nat_tests))
+  | inr t ↦ rw (t, place_found p xs) (grind (arith, nat_tests))
+]
+
+pub place_in-enumerate : (n : ℕ) (cs : List Rgb) (c : Rgb) → place_in (enumerate_from n cs) c ≡ position_or_len (rgb_eq c) cs
+place_in-enumerate n [] c = refl
+place_in-enumerate n (d ∷ cs) c = rw (place_in-enumerate (n + 1) cs c)
+
+enumerate_from-push : {X : Type 0} (n : ℕ) (xs : List X) (x : X) → enumerate_from n (xs ++ x ∷ []) ≡ enumerate_from n xs ++ (n + length xs, x) ∷ []
+enumerate_from-push n [] x = let e : n ≡ n + 0 = omega arith in ap (λ k. (k, x) ∷ []) e
+enumerate_from-push n (y ∷ xs) x =
+    let e : n + 1 + length xs ≡ n + suc (length xs) = omega arith in
+    ap (λ ys. (n, y) ∷ ys) (enumerate_from-push (n + 1) xs x ∙ ap (λ k. enumerate_from (n + 1) xs ++ (k, x) ∷ []) e)
+
+pub with_colour-enumerate : (cs : List Rgb) (c : Rgb) → with_colour (enumerate_from 32 cs) c ≡ enumerate_from 32 (with_new cs c)
+with_colour-enumerate cs c = rw (place_in-enumerate 32 cs c, length-enumerate_from 32 cs, ← place_found (rgb_eq c) cs) (elim (cases_Bool (list_any (rgb_eq c) cs)) [
+  | inl there ↦ rw there
+  | inr new ↦ rw (new, enumerate_from-push 32 cs c)
+])
+
+pub canonical_table-push : (items : List Placed) (i : Placed) → canonical_table (items ++ i ∷ []) ≡ with_colour (canonical_table items) i.colour
+canonical_table-push items i = ap (enumerate_from 32) (colours_of-push items i) ∙ sym (with_colour-enumerate (colours_of items) i.colour)
+
+-- a colour keeps its place as others are added
+position-with_new : (cs : List Rgb) (c d : Rgb) → list_any (rgb_eq c) cs ≡ true → position_or_len (rgb_eq c) (with_new cs d) ≡ position_or_len (rgb_eq c) cs
+position-with_new cs c d there = elim (cases_Bool (list_any (rgb_eq d) cs)) [
+  | inl t ↦ rw t
+  | inr t ↦ rw t (position-append (rgb_eq c) cs (d ∷ []) there)
+]
+  where
+    position-append : {X : Type 0} (p : X → Bool) (xs ys : List X) → list_any p xs ≡ true → position_or_len p (xs ++ ys) ≡ position_or_len p xs
+    position-append p [] ys e = absurd cc
+    position-append p (x ∷ xs) ys e = elim (cases_Bool (p x)) [
+      | inl t ↦ rw t
+      | inr t ↦ rw t (ap (λ n. 1 + n) (position-append p xs ys (rw t at e)))
+    ]
+
+-- the place of c is the same before and after it is added
+pub position-own : (cs : List Rgb) (c : Rgb) → position_or_len (rgb_eq c) (with_new cs c) ≡ position_or_len (rgb_eq c) cs
+position-own cs c = elim (cases_Bool (list_any (rgb_eq c) cs)) [
+  | inl t ↦ rw t
+  | inr t ↦ rw t (at_end cs t)
+]
+  where
+    at_end : (ds : List Rgb) → list_any (rgb_eq c) ds ≡ false → position_or_len (rgb_eq c) (ds ++ c ∷ []) ≡ position_or_len (rgb_eq c) ds
+    at_end [] e = rw ((rgb_decided c c).1 refl)
+    at_end (d ∷ ds) e = let parts = or_parts (rgb_eq c d) (list_any (rgb_eq c) ds) e in rw parts.0 (ap (λ n. 1 + n) (at_end ds parts.1))
+
+-- what was seen stays seen behind another colour
+seen-cons : (c d : Rgb) (cs : List Rgb) → list_any (rgb_eq c) (first_seen cs) ≡ true → list_any (rgb_eq c) (first_seen (d ∷ cs)) ≡ true
+seen-cons c d cs e = elim (cases_Bool (rgb_eq c d)) [
+  | inl t ↦ rw t
+  | inr t ↦ rw (t, list_any-filter c d (first_seen cs) (rgb_false d c t)) e
+]
+
+-- each item's colour is among those of the items
+pub own_colour : (items : List Placed) → All (λ (i : Placed). list_any (rgb_eq i.colour) (colours_of items) ≡ true) items
+own_colour [] = All-nil _
+own_colour (i ∷ items) =
+    let Seen : List Placed → Placed → Type 0 = λ all j. list_any (rgb_eq j.colour) (colours_of all) ≡ true in
+    All-cons (Seen (i ∷ items)) i items (rw ((rgb_decided i.colour i.colour).1 refl))
+    (All-weaker (Seen items) (Seen (i ∷ items)) (λ j e. seen-cons j.colour i.colour (map (λ (k : Placed). k.colour) items) e) items (own_colour items))
+
+-- figures with their colours numbered by cs and by ds are the same where the numbers are
+figures_same : (cs ds : List Rgb) (n : ℕ) (items : List Placed) → All (λ (i : Placed). number_of cs i.colour ≡ number_of ds i.colour) items →
+    map (canonical_figure cs) (enumerate_from n items) ≡ map (canonical_figure ds) (enumerate_from n items)
+figures_same cs ds n [] h = refl
+figures_same cs ds n (i ∷ items) h =
+    let Same : Placed → Type 0 = λ j. number_of cs j.colour ≡ number_of ds j.colour in
+    let first : canonical_figure cs (n, i) ≡ canonical_figure ds (n, i) = λ k. record { shape = i.shape; colour = All-head Same i items h k; depth = n } in
+    ap (λ f. f ∷ map (canonical_figure cs) (enumerate_from (n + 1) items)) first
+    ∙ ap (λ fs. canonical_figure ds (n, i) ∷ fs) (figures_same cs ds (n + 1) items (All-tail Same i items h))
+
+pub length-canonical_figures : (items : List Placed) → length (canonical_figures items) ≡ length items
+length-canonical_figures items = length-map (enumerate_from 0 items) (canonical_figure (colours_of items)) ∙ length-enumerate_from 0 items
+
+canonical_figures-push : (items : List Placed) (i : Placed) → canonical_figures (items ++ i ∷ []) ≡ (with_item (canonical_drawing items) i).figures
+canonical_figures-push items i =
+    let cs = colours_of items in
+    let ds = colours_of (items ++ i ∷ []) in
+    let grown : ds ≡ with_new cs i.colour = colours_of-push items i in
+    let before : map (canonical_figure ds) (enumerate_from 0 items) ≡ canonical_figures items =
+    figures_same ds cs 0 items (All-weaker (λ (j : Placed). list_any (rgb_eq j.colour) cs ≡ true) (λ (j : Placed). number_of ds j.colour ≡ number_of cs j.colour)
+    (λ j e. ap (λ xs. number_of xs j.colour) grown ∙ ap (λ n. 32 + n) (position-with_new cs j.colour i.colour e)) items (own_colour items)) in
+    let number : number_of ds i.colour ≡ 32 + place_in (canonical_table items) i.colour =
+    ap (λ xs. number_of xs i.colour) grown ∙ ap (λ n. 32 + n) (position-own cs i.colour ∙ sym (place_in-enumerate 32 cs i.colour)) in
+    let depth : 0 + length items ≡ length (canonical_figures items) = let e = length-canonical_figures items in omega arith in
+    let last : canonical_figure ds (0 + length items, i) ≡ record { shape = i.shape; colour = 32 + place_in (canonical_table items) i.colour; depth = length (canonical_figures items) } =
+    λ k. record { shape = i.shape; colour = number k; depth = depth k } in
+    ap (map (canonical_figure ds)) (enumerate_from-push 0 items i)
+    ∙ (map-append (canonical_figure ds) (enumerate_from 0 items) ((0 + length items, i) ∷ [])
+    ∙ (ap (λ fs. fs ++ canonical_figure ds (0 + length items, i) ∷ []) before ∙ ap (λ f. canonical_figures items ++ f ∷ []) last))
+
+-- one more version at the back is one step more
+pub canonical_drawing-push : (items : List Placed) (i : Placed) → canonical_drawing (items ++ i ∷ []) ≡ with_item (canonical_drawing items) i
+canonical_drawing-push items i = λ k. record { table = canonical_table-push items i k; figures = canonical_figures-push items i k }
+
+-- more versions have no fewer colours
+colours_of-more : (items rest : List Placed) → length (colours_of items) ≤ length (colours_of (items ++ rest))
+colours_of-more items [] = rw append-nil (omega arith)
+colours_of-more items (i ∷ rest) =
+    let step : length (colours_of items) ≤ length (colours_of (items ++ i ∷ [])) = rw (colours_of-push items i) (with_new-long (colours_of items) i.colour) in
+    let more = colours_of-more (items ++ i ∷ []) rest in
+    let same : length (colours_of ((items ++ i ∷ []) ++ rest)) ≡ length (colours_of (items ++ i ∷ rest)) = ap (λ xs. length (colours_of xs)) (append_assoc items (i ∷ []) rest) in
+    omega arith
+  where
+    with_new-long : (cs : List Rgb) (c : Rgb) → length cs ≤ length (with_new cs c)
+    with_new-long cs c = elim (cases_Bool (list_any (rgb_eq c) cs)) [ inl t ↦ rw t (omega arith) | inr t ↦ rw (t, length-append cs (c ∷ [])) (omega arith) ]
+
+-- where the table of the first versions has no room for the next one's colour, all have too many
+pub full_table : (items : List Placed) (k : ℕ) (i : Placed) → take (k + 1) items ≡ take k items ++ i ∷ [] →
+    512 < length (with_colour (canonical_table (take k items)) i.colour) → 512 < length (colours_of items)
+full_table items k i e full =
+    let table = canonical_table-push (take k items) i in
+    let long : length (with_colour (canonical_table (take k items)) i.colour) ≡ length (colours_of (take k items ++ i ∷ [])) =
+    ap length (sym table) ∙ length-enumerate_from 32 (colours_of (take k items ++ i ∷ [])) in
+    let more = colours_of-more (take (k + 1) items) (drop (k + 1) items) in
+    let whole : length (colours_of (take (k + 1) items ++ drop (k + 1) items)) ≡ length (colours_of items) = ap (λ xs. length (colours_of xs)) (take-append-drop (k + 1) items) in
+    let first : length (colours_of (take (k + 1) items)) ≡ length (colours_of (take k items ++ i ∷ [])) = ap (λ xs. length (colours_of xs)) e in
+    omega arith
+
+pub canonical_room : (items : List Placed) (k : ℕ) → k < length items → length items ≤ 1000 → length (canonical_figures (take k items)) < 1000
+canonical_room items k inside few =
+    let figures = length-canonical_figures (take k items) in
+    let first = length-take-le k items (omega arith) in
+    omega arith
+
+-- the table has as many entries as there are colours
+pub length-canonical_table : (items : List Placed) → length (canonical_table items) ≡ length (colours_of items)
+length-canonical_table items = length-enumerate_from 32 (colours_of items)

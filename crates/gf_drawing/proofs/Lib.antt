@@ -1,0 +1,7 @@
+pub mod Painting
+pub mod DrawingLaw
+pub mod LawfulLemmas
+pub mod TakenLemmas
+pub mod CompilingLemmas
+pub mod NumberLemmas
+pub mod CanonicalColour

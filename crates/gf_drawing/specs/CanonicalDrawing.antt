@@ -1,0 +1,54 @@
+-- The drawing that a history means (this project's choice of depths and colour numbers, within Xfig's FIG Format 3.2).
+use Rattle.std.specs.Prelude.{◌≡◌, ℕ, ◌+◌, ◌≤◌, Bool, not, ◌&&◌, ◌==◌, List, [], ◌∷◌, length, map, filter}
+use Rattle.std.specs.List.{enumerate_from, position_or_len}
+use Rattle.gf_shape.specs.declared.colour.Rgb.{Rgb}
+use Rattle.gf_ops.specs.declared.op.Op.{Op}
+use Rattle.gf_versions.specs.declared.placed.Placed.{Placed}
+use Rattle.gf_versions.specs.Ranking.{AreRanked}
+use Rattle.gf_drawing.specs.declared.figure.Figure.{Figure}
+use Rattle.gf_drawing.specs.Colours.{Table}
+use Rattle.gf_drawing.specs.DrawingState.{DrawingState}
+
+-- c and d are one colour
+abbrev pub rgb_eq : Rgb → Rgb → Bool
+rgb_eq c d = c.r == d.r && c.g == d.g && c.b == d.b
+
+-- each colour once, as it is first seen
+abbrev pub first_seen : List Rgb → List Rgb
+first_seen [] = []
+first_seen (c ∷ cs) = c ∷ filter (λ d. not (rgb_eq c d)) (first_seen cs)
+
+-- the distinct colours of the items, as they are first seen from the top
+abbrev pub colours_of : List Placed → List Rgb
+colours_of items = first_seen (map (λ (i : Placed). i.colour) items)
+
+-- 32, and how many of the distinct colours cs come before c
+abbrev pub number_of : List Rgb → Rgb → ℕ
+number_of cs c = 32 + position_or_len (rgb_eq c) cs
+
+-- the n-th item from the top, counted from 0: its shape, the number of its colour among cs, depth n
+abbrev pub canonical_figure : List Rgb → ℕ × Placed → Figure
+canonical_figure cs (n, i) = record { shape = i.shape; colour = number_of cs i.colour; depth = n }
+
+-- the distinct colours of the items, numbered from 32
+abbrev pub canonical_table : List Placed → Table
+canonical_table items = enumerate_from 32 (colours_of items)
+
+abbrev pub canonical_figures : List Placed → List Figure
+canonical_figures items = map (canonical_figure (colours_of items)) (enumerate_from 0 items)
+
+-- the drawing of the items, topmost first
+abbrev pub canonical_drawing : List Placed → DrawingState
+canonical_drawing items = record { table = canonical_table items; figures = canonical_figures items }
+
+-- the items are at most 1,000, and have at most 512 distinct colours
+pub record Fits (items : List Placed) : Type 0 where
+  pub versions : length items ≤ 1000
+  pub colours : length (colours_of items) ≤ 512
+
+-- d is the canonical drawing of h: that of its visible versions, which fit
+pub record IsCanonical (h : List Op) (d : DrawingState) : Type 0 where
+  pub items : List Placed
+  pub ranked : AreRanked h items
+  pub fits : Fits items
+  pub drawing : d ≡ canonical_drawing items

@@ -1,0 +1,10 @@
+pub mod Colours
+pub mod DrawingState
+pub mod DrawingColour
+pub mod FrontMost
+pub mod WorkedExamples
+pub mod Counts
+pub mod Taken
+pub mod TapeState
+pub mod CanonicalDrawing
+pub mod Compiling

@@ -1,0 +1,15 @@
+-- What a sink took, and whether it was flushed since (this project's choice).
+use Rattle.std.specs.Prelude.{◌≡◌, ℕ, ◌≤◌, List, Option, Bool, true, ◌&&◌, nat_eq, length, take, Result, MatchResult}
+use Rattle.std.specs.Io.KnownBytes.{Appends}
+
+-- known bytes grow from old to new by the first of bytes, or by none
+abbrev pub AppendsFront : Option (List ℕ) → Option (List ℕ) → List ℕ → Type 0
+AppendsFront old new bytes = (n : ℕ) × (n ≤ length bytes) × Appends old new (take n bytes)
+
+-- a write that took bytes makes new false, and any other leaves it as old
+abbrev pub Unflushes : {E : Type 0} → Bool → Bool → Result ℕ E → Type 0
+Unflushes old new result = MatchResult result (λ n. new ≡ (old && nat_eq n 0)) (λ _. new ≡ old)
+
+-- a flush that succeeded makes new true, and any other leaves it as old
+abbrev pub Flushes : {T E : Type 0} → Bool → Bool → Result T E → Type 0
+Flushes old new result = MatchResult result (λ _. new ≡ true) (λ _. new ≡ old)

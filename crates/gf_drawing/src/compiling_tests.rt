@@ -1,0 +1,137 @@
+//! Worked examples: from histories to drawings.
+
+use crate::{CompileFault, Figure, compile};
+use gf_ops::{Change, Clock, Form, History, Op, OpId, Start};
+use gf_shape::{Point, Rect, Rgb};
+use gf_versions::{Ranked, ranked};
+use std::alloc::Global;
+use std::process::Abort;
+use std::test::Fail;
+
+const RED: Rgb = Rgb { r: 255, g: 0, b: 0 };
+
+const BLUE: Rgb = Rgb { r: 0, g: 0, b: 255 };
+
+/// The box 1.(before + 1) at (0, 0), 10 by 10.
+fn created(before: u32, layer: u16, colour: Rgb, shown: bool) -> Op {
+    let start = Start {
+        form: Form::Rect(10, 10),
+        place: Point { x: 0, y: 0 },
+        colour,
+        layer,
+        shown,
+    };
+    Op {
+        id: OpId {
+            site: 1,
+            seq: before.saturating_add(1),
+        },
+        past: Clock([before, 0, 0, 0, 0, 0, 0, 0]),
+        change: Change::Create(start),
+    }
+}
+
+/// Adds such a box behind those that are there.
+fn create(
+    rt: &impl Abort,
+    history: &mut History,
+    layer: u16,
+    colour: Rgb,
+    shown: bool,
+) -> Result<(), Fail> {
+    let op = created(history.count(1), layer, colour, shown);
+    assert!(rt; op.in_range());
+    history.add(op)?;
+    Ok(())
+}
+
+/// So many boxes of so many colours; the last one may be hidden.
+fn boxes(
+    rt: &impl Abort,
+    alloc: Global,
+    count: u16,
+    colours: u16,
+    last_shown: bool,
+) -> Result<Ranked, Fail> {
+    let mut history = History::new(alloc);
+    for i in 0..count {
+        let n = i.min(colours.saturating_sub(1));
+        let colour = Rgb {
+            r: (n / 256) as u8,
+            g: (n % 256) as u8,
+            b: 0,
+        };
+        let last = i == count - 1;
+        create(rt, &mut history, 0, colour, !last || last_shown)?;
+    }
+    Ok(ranked(alloc, &history)?)
+}
+
+#[test]
+fn versions_are_numbered_from_the_top(rt: HostRuntime) -> Result<(), Fail> {
+    let alloc = rt.alloc();
+    let mut history = History::new(alloc);
+    create(&rt, &mut history, 5, RED, true)?;
+    create(&rt, &mut history, 9, Rgb { r: 1, g: 2, b: 3 }, false)?;
+    create(&rt, &mut history, 0, BLUE, true)?;
+    create(&rt, &mut history, 4, RED, true)?;
+    let drawing = compile(alloc, ranked(alloc, &history)?)?;
+    let shape = Rect::new(Point { x: 0, y: 0 }, 10, 10)?;
+    let rows = [(32, 0), (32, 1), (33, 2)];
+    assert_eq!(rt; drawing.figures().len(), rows.len());
+    for ((colour, depth), figure) in rows.into_iter().zip(drawing.figures()) {
+        let wanted = Figure {
+            shape,
+            colour,
+            depth,
+        };
+        assert_eq!(rt; *figure, wanted);
+    }
+    assert_eq!(rt; drawing.colours().at(0), Some((32, RED)));
+    assert_eq!(rt; drawing.colours().at(1), Some((33, BLUE)));
+    assert_eq!(rt; drawing.colours().at(2), None);
+    assert_eq!(rt; drawing.colour_at(Point { x: 5, y: 5 }), RED);
+    Ok(())
+}
+
+#[test]
+fn drawings_keep_their_limits(rt: HostRuntime) -> Result<(), Fail> {
+    let alloc = rt.alloc();
+    let rows = [
+        (1_000, 1, true, Ok(1_000)),
+        (1_001, 1, true, Err(CompileFault::TooManyVersions)),
+        (1_001, 513, true, Err(CompileFault::TooManyVersions)),
+        (512, 512, true, Ok(512)),
+        (513, 513, true, Err(CompileFault::TooManyColours)),
+        (513, 513, false, Ok(512)),
+    ];
+    for (count, colours, last_shown, figures) in rows {
+        let ranked = boxes(&rt, alloc, count, colours, last_shown)?;
+        let made = compile(alloc, ranked).map(|drawing| drawing.figures().len());
+        assert_eq!(rt; made, figures, "{count} boxes of {colours} colours");
+    }
+    Ok(())
+}
+
+#[test]
+fn the_last_number_and_depth_are_met(rt: HostRuntime) -> Result<(), Fail> {
+    let alloc = rt.alloc();
+    let most = compile(alloc, boxes(&rt, alloc, 1_000, 1, true)?)?;
+    assert_eq!(rt; most.figures().last().map(|figure| figure.depth), Some(999));
+    let many = compile(alloc, boxes(&rt, alloc, 512, 512, true)?)?;
+    let last = many.colours().at(511).map(|(number, _)| number);
+    assert_eq!(rt; last, Some(543));
+    Ok(())
+}
+
+#[test]
+fn refusals_have_their_names(rt: HostRuntime) -> Result<(), Fail> {
+    let rows = [
+        (CompileFault::TooManyVersions, "TooManyVersions"),
+        (CompileFault::TooManyColours, "TooManyColours"),
+    ];
+    for (fault, text) in rows {
+        assert_eq!(rt; format!(in rt.alloc(); "{fault}")?.as_str(), text);
+    }
+    Ok(())
+}

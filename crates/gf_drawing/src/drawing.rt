@@ -1,0 +1,151 @@
+//! Drawings.
+
+ghost use Rattle.std.specs.Prelude.{◌≡◌, None, [], ◌∷◌, ◌++◌, OnOk, OnErr, fold};
+ghost use Rattle.gf_drawing.specs.Colours.{colour_in, rgb_of, standard_colours};
+ghost use Rattle.gf_drawing.specs.DrawingState.{IsFreeNumber, IsLawfulDrawing, IsLawfulFigure};
+ghost use Rattle.gf_drawing.specs.DrawingColour.{drawing_colour};
+ghost use Rattle.gf_drawing.specs.FrontMost.{front_at, is_no_deeper, nearer_at};
+
+use crate::{ColourTable, Figure};
+use gf_shape::{OutOfMemory, Point, Rgb};
+use std::alloc::Global;
+use std::marker::Model;
+
+/// The ground of a drawing.
+const WHITE: Rgb = Rgb {
+    r: 255,
+    g: 255,
+    b: 255,
+};
+
+/// Figures over a white ground, with the table of their colours.
+#[derive(Debug, Drop)]
+pub struct Drawing {
+    table: ColourTable,
+    figures: Vec<Figure>,
+}
+
+impl Model for Drawing {
+    ghost use Rattle.gf_drawing.specs.DrawingState.{DrawingState};
+
+    ghost Value = { DrawingState };
+
+    ghost view = { λ d. record { table = d.table; figures = d.figures.items } };
+
+    ghost use Rattle.gf_drawing.specs.DrawingState.{IsLawfulDrawing};
+
+    ghost invariant = { λ d. IsLawfulDrawing (record { table = d.table; figures = d.figures.items }) };
+}
+
+impl Drawing {
+    /// The drawing of no figures.
+    pub fn new(alloc: Global) -> Drawing
+        ensures { result ≡ record { table = []; figures = [] } }
+    {
+        Drawing {
+            table: ColourTable::new(alloc),
+            figures: Vec::new(alloc),
+        }
+    }
+
+    /// The table of its colours.
+    pub fn colours(&self) -> &ColourTable
+        ensures table { result.now ≡ self.now.table }
+        ensures lawful { IsLawfulDrawing self.now }
+    {
+        &self.table
+    }
+
+    /// Its figures in file order.
+    pub fn figures(&self) -> &[Figure]
+        ensures figures { result.now ≡ self.now.figures }
+        ensures lawful { IsLawfulDrawing self.now }
+    {
+        &self.figures
+    }
+
+    /// The colour under a number: a standard one, or one of the table.
+    pub fn rgb(&self, number: u16) -> Option<Rgb>
+        ensures { result ≡ rgb_of self.now.table number }
+    {
+        standard_colour(number).or(self.table.colour(number))
+    }
+
+    /// The colour at a point, in one pass over the figures.
+    pub fn colour_at(&self, p: Point) -> Rgb
+        ensures { result ≡ drawing_colour self.now.table self.now.figures p }
+    {
+        match front_at(&self.figures, p) {
+            Some(figure) => self.rgb(figure.colour).unwrap_or(WHITE),
+            None => WHITE,
+        }
+    }
+
+    /// Adds a colour at the end of the table.
+    pub fn add_colour(&mut self, number: u16, colour: Rgb) -> Result<(), OutOfMemory>
+        requires { IsFreeNumber self.old.table number }
+        ensures ok { OnOk result (self.new ≡ record self.old { table = self.old.table ++ (number, colour) ∷ [] }) }
+        ensures err { OnErr result (self.new ≡ self.old) }
+    {
+        self.table.add(number, colour)?;
+        Ok(())
+    }
+
+    /// Adds a figure at the end of the file.
+    pub fn add_figure(&mut self, figure: Figure) -> Result<(), OutOfMemory>
+        requires { IsLawfulFigure self.old.table figure }
+        ensures ok { OnOk result (self.new ≡ record self.old { figures = self.old.figures ++ figure ∷ [] }) }
+        ensures err { OnErr result (self.new ≡ self.old) }
+    {
+        self.figures.push(figure)?;
+        Ok(())
+    }
+}
+
+/// The colour that every file has under a number.
+fn standard_colour(number: u16) -> Option<Rgb>
+    ensures { result ≡ colour_in standard_colours number }
+{
+    let (r, g, b) = match number {
+        0 => (0, 0, 0),
+        1 => (0, 0, 255),
+        2 => (0, 255, 0),
+        3 => (0, 255, 255),
+        4 => (255, 0, 0),
+        5 => (255, 0, 255),
+        6 => (255, 255, 0),
+        7 => (255, 255, 255),
+        _ => return None,
+    };
+    Some(Rgb { r, g, b })
+}
+
+/// The figure in front of all that hold a point.
+fn front_at(figures: &[Figure], p: Point) -> Option<Figure>
+    ensures { result ≡ front_at p figures.now }
+{
+    let mut front = None;
+    for figure in figures {
+        cover(&mut front, figure, p);
+    }
+    front
+}
+
+/// Puts the next figure of the file in front at a point, if it covers the one there.
+fn cover(front: &mut Option<Figure>, figure: &Figure, p: Point)
+    ensures { front.new ≡ nearer_at p front.old figure.now }
+{
+    if figure.shape.holds(p) && is_no_deeper(figure.depth, front) {
+        *front = Some(*figure);
+    }
+}
+
+/// Whether a depth is no greater than that of the figure in front, if there is one.
+fn is_no_deeper(depth: u16, front: &Option<Figure>) -> bool
+    ensures { result ≡ is_no_deeper (λ f. f.depth) depth front.now }
+{
+    match front {
+        Some(figure) => depth <= figure.depth,
+        None => true,
+    }
+}

@@ -1,0 +1,107 @@
+//! Worked examples.
+
+ghost use Rattle.std.specs.Prelude.{◌≡◌};
+
+use crate::{Drawing, Figure};
+use gf_shape::{Point, Rect, Rgb};
+use std::test::Fail;
+
+fn colour(r: u8, g: u8, b: u8) -> Rgb {
+    Rgb { r, g, b }
+}
+
+fn figure(shape: Rect, colour: u16, depth: u16) -> Figure
+    ensures { result ≡ record { shape = shape; colour = colour; depth = depth } }
+{
+    Figure {
+        shape,
+        colour,
+        depth,
+    }
+}
+
+#[test]
+fn colours_have_their_numbers(rt: HostRuntime) -> Result<(), Fail> {
+    let mut drawing = Drawing::new(rt.alloc());
+    assert!(rt; drawing.colours().is_empty());
+    drawing.add_colour(543, colour(1, 2, 3))?;
+    drawing.add_colour(32, colour(1, 2, 3))?;
+    let rows = [
+        (0, Some(colour(0, 0, 0))),
+        (1, Some(colour(0, 0, 255))),
+        (2, Some(colour(0, 255, 0))),
+        (3, Some(colour(0, 255, 255))),
+        (4, Some(colour(255, 0, 0))),
+        (5, Some(colour(255, 0, 255))),
+        (6, Some(colour(255, 255, 0))),
+        (7, Some(colour(255, 255, 255))),
+        (8, None),
+        (31, None),
+        (32, Some(colour(1, 2, 3))),
+        (33, None),
+        (543, Some(colour(1, 2, 3))),
+        (544, None),
+    ];
+    for (number, rgb) in rows {
+        assert_eq!(rt; drawing.rgb(number), rgb, "{number}");
+    }
+    let table = drawing.colours();
+    assert_eq!(rt; table.len(), 2);
+    assert!(rt; !table.is_empty());
+    assert_eq!(rt; table.at(0), Some((543, colour(1, 2, 3))));
+    assert_eq!(rt; table.at(1), Some((32, colour(1, 2, 3))));
+    assert_eq!(rt; table.at(2), None);
+    Ok(())
+}
+
+#[test]
+fn the_front_is_seen(rt: HostRuntime) -> Result<(), Fail> {
+    let origin = Point { x: 0, y: 0 };
+    let small = Rect::new(origin, 3, 3)?;
+    let great = Rect::new(origin, 6, 6)?;
+    let mut same = Drawing::new(rt.alloc());
+    same.add_figure(figure(great, 1, 50))?;
+    same.add_figure(figure(small, 2, 50))?;
+    let mut apart = Drawing::new(rt.alloc());
+    apart.add_figure(figure(great, 1, 5))?;
+    apart.add_figure(figure(small, 2, 6))?;
+    let rows = [
+        (0, colour(0, 255, 0), colour(0, 0, 255)),
+        (3, colour(0, 255, 0), colour(0, 0, 255)),
+        (6, colour(0, 0, 255), colour(0, 0, 255)),
+        (7, colour(255, 255, 255), colour(255, 255, 255)),
+        (-1, colour(255, 255, 255), colour(255, 255, 255)),
+    ];
+    for (x, one_depth, two_depths) in rows {
+        let p = Point { x, y: x };
+        assert_eq!(rt; same.colour_at(p), one_depth, "{x}, one depth");
+        assert_eq!(rt; apart.colour_at(p), two_depths, "{x}, two depths");
+    }
+    Ok(())
+}
+
+#[test]
+fn what_lies_behind_is_hidden(rt: HostRuntime) -> Result<(), Fail> {
+    let origin = Point { x: 0, y: 0 };
+    let figures = [
+        figure(Rect::new(origin, 9, 9)?, 2, 999),
+        figure(Rect::new(origin, 3, 3)?, 4, 0),
+        figure(Rect::new(origin, 6, 6)?, 32, 500),
+    ];
+    let mut drawing = Drawing::new(rt.alloc());
+    drawing.add_colour(32, colour(1, 2, 3))?;
+    drawing.add_figure(figures[0])?;
+    drawing.add_figure(figures[1])?;
+    drawing.add_figure(figures[2])?;
+    assert_eq!(rt; drawing.figures(), figures.as_slice());
+    let rows = [
+        (1, colour(255, 0, 0)),
+        (4, colour(1, 2, 3)),
+        (9, colour(0, 255, 0)),
+        (10, colour(255, 255, 255)),
+    ];
+    for (x, rgb) in rows {
+        assert_eq!(rt; drawing.colour_at(Point { x, y: 0 }), rgb, "{x}");
+    }
+    Ok(())
+}

@@ -1,0 +1,36 @@
+//! Drawings: figures with colours and depths, the colour that they leave at a point, and the sinks
+//! that drawings are written to.
+//!
+//! - [`Figure`], [`ColourTable`], [`Drawing`]: what a FIG file holds, as far as this project writes
+//!   and reads it.
+//! - [`compile`]: the drawing of ranked versions, refused as [`CompileFault`] tells.
+//! - [`Sink`], [`write_whole`]: where bytes go, and how all of them get there; [`Out`] is a sink over
+//!   a writer of std, [`Tape`] one in memory.
+//! - [`SinkFault`], [`WriteError`]: why a write was refused.
+#![tactic(auto)]
+
+mod compiling;
+#[cfg(test)]
+mod compiling_tests;
+mod drawing;
+#[cfg(test)]
+mod drawing_tests;
+mod figure;
+mod laws;
+mod out;
+mod refusals;
+mod sink;
+#[cfg(test)]
+mod sink_tests;
+mod table;
+mod tape;
+
+pub use compiling::{CompileFault, compile};
+pub use drawing::Drawing;
+pub use figure::Figure;
+pub use laws::the_canonical_drawing_paints_the_history;
+pub use out::Out;
+pub use refusals::WriteError;
+pub use sink::{Sink, SinkFault, write_whole};
+pub use table::ColourTable;
+pub use tape::Tape;
