@@ -109,6 +109,7 @@ impl History {
         ensures bad_clock { result ≡ Err (AddFault.Op OpFault.BadClock) ↔ (¬ IsAccepted self.old.ops op) }
         ensures out_of_memory { result ≡ Err AddFault.OutOfMemory → IsAccepted self.old.ops op × (self.old.room ≡ 0) }
         ensures err { OnErr result (self.new ≡ self.old) }
+        ensures valid { IsValid self.new.ops }
     {
         if let Err(fault) = self.check(&op) {
             return Err(AddFault::Op(fault));

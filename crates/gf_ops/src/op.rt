@@ -1,12 +1,19 @@
 //! Operations and their names.
 
 use crate::Change;
+use std::fmt;
 
 /// The name of an operation: the site that made it, 1 to 8, and its number there, from 1.
 #[derive(Clone, Copy, Debug, PartialEq, Eq, PartialOrd, Ord)]
 pub struct OpId {
     pub site: u8,
     pub seq: u32,
+}
+
+impl fmt::Display for OpId {
+    fn fmt<W: fmt::Write>(&self, f: &mut fmt::Formatter<W>) -> fmt::Result {
+        write!(f, "{}.{}", self.site, self.seq)
+    }
 }
 
 /// The name of an object: that of the operation that created it.

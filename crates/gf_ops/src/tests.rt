@@ -135,3 +135,11 @@ fn finds_what_was_added(rt: HostRuntime) -> Result<(), Fail> {
     assert_eq!(rt; history.ops()[1].id, OpId { site: 1, seq: 2 });
     Ok(())
 }
+
+#[test]
+fn names_read_as_site_and_number(rt: HostRuntime) -> Result<(), Fail> {
+    let id = OpId { site: 3, seq: 41 };
+    assert_eq!(rt; format!(in rt.alloc(); "{id}")?.as_str(), "3.41");
+    assert_eq!(rt; format!(in rt.alloc(); "{}", OpFault::BadClock)?.as_str(), "BadClock");
+    Ok(())
+}
