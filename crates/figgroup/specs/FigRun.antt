@@ -1,0 +1,103 @@
+-- What a run makes of the bytes that it reads (this project's own).
+use Rattle.std.specs.Prelude.{◌≡◌, ◌<◌, ◌≤◌, ℕ, List, ◌∷◌, ◌++◌, length, map, Option, Ok, Err}
+use Rattle.std.specs.Io.KnownBytes.{Appends}
+use Rattle.gf_shape.specs.declared.point.Point.{Point}
+use Rattle.gf_ops.specs.declared.op.Op.{Op}
+use Rattle.gf_ops.specs.declared.op.OpId.{OpId}
+use Rattle.gf_ops.specs.Accepted.{IsAccepted}
+use Rattle.gf_ops.specs.ValidHistory.{IsValid}
+use Rattle.gf_versions.specs.declared.placed.Placed.{Placed}
+use Rattle.gf_versions.specs.HistoryColour.{HistoryColour}
+use Rattle.gf_versions.specs.Ranking.{AreRanked}
+use Rattle.gf_drawing.specs.declared.compiling.CompileFault.{CompileFault}
+use Rattle.gf_drawing.specs.declared.compiling.CompileFault.TheVariants as compile
+use Rattle.gf_drawing.specs.CanonicalDrawing.{IsCanonical, colours_of}
+use Rattle.gf_drawing.specs.DrawingColour.{drawing_colour}
+use Rattle.gf_drawing.specs.DrawingState.{DrawingState}
+use Rattle.gf_drawing.specs.Taken.{AppendsFront}
+use Rattle.figgroup.specs.declared.studio_error.LineCause.{LineCause}
+use Rattle.figgroup.specs.FigText.{fig_text}
+use Rattle.figgroup.specs.LineValues.{Got}
+use Rattle.figgroup.specs.OperationLines.{denoted}
+use Rattle.figgroup.specs.Refusals.{line_fault}
+use Rattle.figgroup.specs.TextLines.{numbered_lines}
+
+-- a line that denotes this operation
+abbrev pub denotes_op : Op → Got Op
+denotes_op op = Ok op
+
+-- each of the lines denotes an operation, and these are the operations in order
+abbrev pub AreLinesOf : List (ℕ × List ℕ) → List Op → Type 0
+AreLinesOf lines ops = map (λ (line : ℕ × List ℕ). denoted line.1) lines ≡ map denotes_op ops
+
+-- the bytes denote these operations, which are a valid history
+pub record Denotes (bytes : List ℕ) (history : List Op) : Type 0 where
+  pub lines : AreLinesOf (numbered_lines bytes) history
+  pub valid : IsValid history
+
+-- the lines of the bytes before line number n denote a valid history, and this is line n
+pub record IsAt (bytes : List ℕ) (n : ℕ) (line : List ℕ) : Type 0 where
+  pub before : List (ℕ × List ℕ)
+  pub behind : List (ℕ × List ℕ)
+  pub whole : numbered_lines bytes ≡ before ++ (n, line) ∷ behind
+  pub history : List Op
+  pub lines : AreLinesOf before history
+  pub valid : IsValid history
+
+-- line n is the first that denotes no operation, for this cause
+pub record HasFault (bytes : List ℕ) (n : ℕ) (cause : LineCause) : Type 0 where
+  pub line : List ℕ
+  pub at : IsAt bytes n line
+  pub fault : denoted line ≡ Err (line_fault cause)
+
+-- the operation under this id is the first that cannot be added behind those of the lines before it
+pub record Drops (bytes : List ℕ) (id : OpId) : Type 0 where
+  pub number : ℕ
+  pub line : List ℕ
+  pub at : IsAt bytes number line
+  pub op : Op
+  pub denotes : denoted line ≡ Ok op
+  pub named : op.id ≡ id
+  pub unfit : ¬ (IsAccepted at.history op)
+
+-- the bytes denote a history with a canonical drawing, which has at every point the colour that the history means there
+pub record Draws (bytes : List ℕ) (drawing : DrawingState) : Type 0 where
+  pub history : List Op
+  pub denoted : Denotes bytes history
+  pub canonical : IsCanonical history drawing
+  pub colours : (p : Point) → HistoryColour history p (drawing_colour drawing.table drawing.figures p)
+
+-- known bytes grow from old to new by the FIG text of what the bytes draw
+pub record Exports (bytes : List ℕ) (old new : Option (List ℕ)) : Type 0 where
+  pub drawing : DrawingState
+  pub drawn : Draws bytes drawing
+  pub written : Appends old new (fig_text drawing)
+
+-- known bytes grow from old to new by the first of that text
+pub record ExportsFront (bytes : List ℕ) (old new : Option (List ℕ)) : Type 0 where
+  pub drawing : DrawingState
+  pub drawn : Draws bytes drawing
+  pub written : AppendsFront old new (fig_text drawing)
+
+-- the bytes denote a history with more than 1,000 visible versions
+pub record HasTooManyVersions (bytes : List ℕ) : Type 0 where
+  pub history : List Op
+  pub denoted : Denotes bytes history
+  pub items : List Placed
+  pub ranked : AreRanked history items
+  pub many : 1000 < length items
+
+-- the bytes denote a history with at most 1,000 visible versions, of more than 512 distinct colours
+pub record HasTooManyColours (bytes : List ℕ) : Type 0 where
+  pub history : List Op
+  pub denoted : Denotes bytes history
+  pub items : List Placed
+  pub ranked : AreRanked history items
+  pub few : length items ≤ 1000
+  pub many : 512 < length (colours_of items)
+
+-- what a compile fault says of the bytes
+abbrev pub RefusesCompiling : List ℕ → CompileFault → Type 0
+RefusesCompiling bytes compile.TooManyVersions = HasTooManyVersions bytes
+RefusesCompiling bytes compile.TooManyColours = HasTooManyColours bytes
+RefusesCompiling bytes compile.OutOfMemory = ⊥

@@ -1,0 +1,13 @@
+pub mod Reads
+pub mod ReelState
+pub mod LineValues
+pub mod LineFields
+pub mod OperationLines
+pub mod TextLines
+pub mod LineCutting
+pub mod LineExamples
+pub mod FigText
+pub mod FigTextExamples
+pub mod Refusals
+pub mod FigRun
+pub mod LineSteps

@@ -1,0 +1,62 @@
+-- What one line does to a history, and what the errors of reading say. No public clause cites this module.
+use Rattle.std.specs.Prelude.{◌≡◌, ℕ, List, [], ◌∷◌, ◌++◌, Ok, Err, ⊤}
+use Rattle.gf_ops.specs.declared.op.Op.{Op}
+use Rattle.gf_ops.specs.declared.op.OpId.{OpId}
+use Rattle.gf_ops.specs.Accepted.{IsAccepted}
+use Rattle.figgroup.specs.declared.line_error.LineError.{LineError}
+use Rattle.figgroup.specs.declared.line_error.LineError.TheVariants as line
+use Rattle.figgroup.specs.declared.studio_error.LineCause.TheVariants as cause
+use Rattle.figgroup.specs.declared.studio_error.StudioError.{StudioError}
+use Rattle.figgroup.specs.declared.studio_error.StudioError.TheVariants as studio
+use Rattle.figgroup.specs.FigRun.{AreLinesOf, HasFault, Drops, RefusesCompiling}
+use Rattle.figgroup.specs.OperationLines.{denoted}
+use Rattle.figgroup.specs.Refusals.{line_fault}
+use Rattle.figgroup.specs.TextLines.{numbered_lines}
+
+-- line n has this fault
+abbrev pub of_line : ℕ → LineError → StudioError
+of_line n line.Json = studio.Line n cause.Json
+of_line n line.Field = studio.Line n cause.Field
+of_line n line.Range = studio.Line n cause.Range
+of_line n line.OutOfMemory = studio.OutOfMemory
+
+-- the lines before those that are left denote these operations
+pub record HasRead (bytes : List ℕ) (left : List (ℕ × List ℕ)) (ops : List Op) : Type 0 where
+  pub before : List (ℕ × List ℕ)
+  pub whole : numbered_lines bytes ≡ before ++ left
+  pub lines : AreLinesOf before ops
+
+-- the history grows from old to new by the operation that the line denotes
+pub record AddsLine (bytes : List ℕ) (old new : List Op) : Type 0 where
+  pub op : Op
+  pub denotes : denoted bytes ≡ Ok op
+  pub added : new ≡ old ++ op ∷ []
+
+-- the line denotes an operation under this id that cannot be added behind h
+pub record Unfit (bytes : List ℕ) (h : List Op) (id : OpId) : Type 0 where
+  pub op : Op
+  pub denotes : denoted bytes ≡ Ok op
+  pub named : op.id ≡ id
+  pub unfit : ¬ (IsAccepted h op)
+
+-- why line n is not added behind h
+abbrev pub RefusesLine : ℕ → List ℕ → List Op → StudioError → Type 0
+RefusesLine n bytes h (studio.Line m why) = (m ≡ n) × (denoted bytes ≡ Err (line_fault why))
+RefusesLine n bytes h (studio.Dropped id fault) = Unfit bytes h id
+RefusesLine n bytes h studio.OutOfMemory = ⊤
+RefusesLine n bytes h other = ⊥
+
+-- why a text is no history
+abbrev pub RefusesText : List ℕ → StudioError → Type 0
+RefusesText bytes (studio.Line n why) = HasFault bytes n why
+RefusesText bytes (studio.Dropped id fault) = Drops bytes id
+RefusesText bytes studio.OutOfMemory = ⊤
+RefusesText bytes other = ⊥
+
+-- why a text has no drawing
+abbrev pub RefusesDrawing : List ℕ → StudioError → Type 0
+RefusesDrawing bytes (studio.Line n why) = HasFault bytes n why
+RefusesDrawing bytes (studio.Dropped id fault) = Drops bytes id
+RefusesDrawing bytes (studio.Compile fault) = RefusesCompiling bytes fault
+RefusesDrawing bytes studio.OutOfMemory = ⊤
+RefusesDrawing bytes other = ⊥

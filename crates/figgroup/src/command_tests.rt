@@ -1,0 +1,167 @@
+//! The command line, over sources and sinks in memory.
+
+use crate::{MOST_INPUT_BYTES, Reel, command};
+use gf_drawing::Tape;
+use std::alloc::{AllocError, Global};
+use std::test::Fail;
+
+const EMPTY: &str = "#FIG 3.2\nLandscape\nCenter\nMetric\nA4\n100.00\nSingle\n-2\n1200 2\n";
+
+const RED_BOX: &str =
+    "{\"colour\":\"ff0000\",\"id\":[1,1],\"kind\":\"box\",\"layer\":0,\"op\":\"create\",\"past\":[0,0,0,0,0,0,0,0],\"place\":[100,200],\"shown\":true,\"size\":[300,400]}\n";
+
+const RED_BOX_FIG: &str =
+    "#FIG 3.2\nLandscape\nCenter\nMetric\nA4\n100.00\nSingle\n-2\n1200 2\n0 32 #ff0000\n2 2 0 0 32 32 0 -1 20 0.000 0 0 -1 0 0 5\n\t 100 200 400 200 400 600 100 600 100 200\n";
+
+const RED_OVER_BLUE: &str =
+    "{\"colour\":\"ff0000\",\"id\":[1,1],\"kind\":\"box\",\"layer\":5,\"op\":\"create\",\"past\":[0,0,0,0,0,0,0,0],\"place\":[0,0],\"shown\":true,\"size\":[10,10]}\n{\"colour\":\"0000ff\",\"id\":[1,2],\"kind\":\"box\",\"layer\":0,\"op\":\"create\",\"past\":[1,0,0,0,0,0,0,0],\"place\":[0,0],\"shown\":true,\"size\":[10,10]}\n";
+
+// The keys in another order, upper-case digits, blank lines, CRLF, and no last newline.
+const RED_OVER_BLUE_OTHERWISE: &str =
+    "\r\n\n{\"size\":[10,10],\"shown\":true,\"place\":[0,0],\"past\":[0,0,0,0,0,0,0,0],\"op\":\"create\",\"layer\":5,\"kind\":\"box\",\"id\":[1,1],\"colour\":\"FF0000\"}\r\n\r\n  \t\n { \"id\" : [1, 2], \"op\" : \"create\", \"kind\" : \"box\", \"past\" : [1,0,0,0,0,0,0,0], \"place\" : [0,0], \"size\" : [10,10], \"shown\" : true, \"layer\" : 0, \"colour\" : \"0000Ff\" }";
+
+const RED_OVER_BLUE_FIG: &str =
+    "#FIG 3.2\nLandscape\nCenter\nMetric\nA4\n100.00\nSingle\n-2\n1200 2\n0 32 #ff0000\n0 33 #0000ff\n2 2 0 0 32 32 0 -1 20 0.000 0 0 -1 0 0 5\n\t 0 0 10 0 10 10 0 10 0 0\n2 2 0 0 33 33 1 -1 20 0.000 0 0 -1 0 0 5\n\t 0 0 10 0 10 10 0 10 0 0\n";
+
+fn words(alloc: Global, texts: &[&str]) -> Result<Vec<String>, AllocError> {
+    let mut words = Vec::new(alloc);
+    for text in texts {
+        words.push(String::from_str(alloc, text)?)?;
+    }
+    Ok(words)
+}
+
+/// A run over this source: its status, its output, and its faults.
+fn run(rt: &HostRuntime, texts: &[&str], source: &mut Reel) -> Result<(u8, Tape, Tape), Fail> {
+    let alloc = rt.alloc();
+    let words = words(alloc, texts)?;
+    let mut output = Tape::new(alloc, None);
+    let mut faults = Tape::new(alloc, None);
+    let status = command(rt, alloc, &words, source, &mut output, &mut faults);
+    Ok((status, output, faults))
+}
+
+#[test]
+fn lines_become_fig_text(rt: HostRuntime) -> Result<(), Fail> {
+    let rows = [
+        ("", EMPTY),
+        ("\n \r\n", EMPTY),
+        (RED_BOX, RED_BOX_FIG),
+        (RED_OVER_BLUE, RED_OVER_BLUE_FIG),
+        (RED_OVER_BLUE_OTHERWISE, RED_OVER_BLUE_FIG),
+    ];
+    for (row, (input, want)) in rows.iter().enumerate() {
+        let mut source = Reel::new(input.as_bytes(), None);
+        let (status, output, faults) = run(&rt, &["figgroup", "fig"], &mut source)?;
+        assert_eq!(rt; status, 0, "row {row}");
+        assert_eq!(rt; output.bytes(), want.as_bytes(), "row {row}");
+        assert!(rt; faults.bytes().is_empty(), "row {row}");
+    }
+    assert_eq!(rt; (EMPTY.len(), RED_BOX_FIG.len()), (60, 156));
+    Ok(())
+}
+
+#[test]
+fn refusals_are_told(rt: HostRuntime) -> Result<(), Fail> {
+    let gap = RED_BOX.replace(rt.alloc(), "[1,1]", "[1,3]")?;
+    let past_gap = format!(in rt.alloc(); "{RED_BOX}{gap}")?;
+    let range = RED_BOX.replace(rt.alloc(), ":0,", ":10000,")?;
+    let bad_line = format!(in rt.alloc(); "{RED_BOX}\n{{\n")?;
+    let other_kind = RED_BOX.replace(rt.alloc(), "box", "circle")?;
+    let rows = [
+        ("{", "figgroup: line 1: Json\n"),
+        (bad_line.as_str(), "figgroup: line 3: Json\n"),
+        ("{}", "figgroup: line 1: Field\n"),
+        (other_kind.as_str(), "figgroup: line 1: Field\n"),
+        (range.as_str(), "figgroup: line 1: Range\n"),
+        (gap.as_str(), "figgroup: operation 1.3 dropped: BadClock\n"),
+        (
+            past_gap.as_str(),
+            "figgroup: operation 1.3 dropped: BadClock\n",
+        ),
+    ];
+    for (input, want) in rows {
+        let mut source = Reel::new(input.as_bytes(), None);
+        let (status, output, faults) = run(&rt, &["figgroup", "fig"], &mut source)?;
+        assert_eq!(rt; status, 1, "{want}");
+        assert!(rt; output.bytes().is_empty(), "{want}");
+        assert_eq!(rt; faults.bytes(), want.as_bytes());
+    }
+    Ok(())
+}
+
+#[test]
+fn unread_input_is_told(rt: HostRuntime) -> Result<(), Fail> {
+    let mut long = Vec::new(rt.alloc());
+    long.resize(MOST_INPUT_BYTES + 1, b'\n')?;
+    let rows = [
+        (Reel::new(&long, None), "figgroup: input too long\n"),
+        (
+            Reel::new(RED_BOX.as_bytes(), Some(5)),
+            "figgroup: read failed\n",
+        ),
+    ];
+    for (mut source, want) in rows {
+        let (status, output, faults) = run(&rt, &["figgroup", "fig"], &mut source)?;
+        assert_eq!(rt; status, 1, "{want}");
+        assert!(rt; output.bytes().is_empty(), "{want}");
+        assert_eq!(rt; faults.bytes(), want.as_bytes());
+    }
+    let mut source = Reel::new(&long[1..], None);
+    let (status, output, _) = run(&rt, &["figgroup", "fig"], &mut source)?;
+    assert_eq!(rt; status, 0);
+    assert_eq!(rt; output.bytes(), EMPTY.as_bytes());
+    Ok(())
+}
+
+#[test]
+fn a_full_output_is_told(rt: HostRuntime) -> Result<(), Fail> {
+    let alloc = rt.alloc();
+    let words = words(alloc, &["figgroup", "fig"])?;
+    let mut output = Tape::new(alloc, Some(100));
+    let mut faults = Tape::new(alloc, None);
+    let mut source = Reel::new(RED_BOX.as_bytes(), None);
+    let status = command(&rt, alloc, &words, &mut source, &mut output, &mut faults);
+    assert_eq!(rt; status, 1);
+    assert_eq!(rt; output.bytes(), &RED_BOX_FIG.as_bytes()[..100]);
+    assert_eq!(rt; faults.bytes(), b"figgroup: write failed\n".as_slice());
+
+    // Where no fault can be told either, the status stays.
+    let mut nowhere = Tape::new(alloc, Some(0));
+    let mut source = Reel::new(b"{", None);
+    let status = command(&rt, alloc, &words, &mut source, &mut output, &mut nowhere);
+    assert_eq!(rt; status, 1);
+    Ok(())
+}
+
+#[test]
+fn words_are_read_first(rt: HostRuntime) -> Result<(), Fail> {
+    let mistakes: [&[&str]; 5] = [
+        &["figgroup"],
+        &["figgroup", "paint"],
+        &["figgroup", "fig", "input"],
+        &["figgroup", "--colour"],
+        &[],
+    ];
+    for (row, texts) in mistakes.iter().enumerate() {
+        let mut source = Reel::new(RED_BOX.as_bytes(), Some(0));
+        let (status, output, faults) = run(&rt, texts, &mut source)?;
+        assert_eq!(rt; status, 2, "row {row}");
+        assert!(rt; output.bytes().is_empty(), "row {row}");
+        assert!(rt; !faults.bytes().is_empty(), "row {row}");
+    }
+    let helps: [(&[&str], &[u8]); 4] = [
+        (&["figgroup", "--help"], b"Figures drawn by a group"),
+        (&["figgroup", "help"], b"Figures drawn by a group"),
+        (&["figgroup", "fig", "--help"], b"Read operation lines"),
+        (&["figgroup", "--version"], b"figgroup 0.1.0\n"),
+    ];
+    for (row, (texts, want)) in helps.iter().enumerate() {
+        let mut source = Reel::new(RED_BOX.as_bytes(), Some(0));
+        let (status, output, faults) = run(&rt, texts, &mut source)?;
+        assert_eq!(rt; status, 0, "row {row}");
+        assert!(rt; output.bytes().starts_with(want), "row {row}");
+        assert!(rt; faults.bytes().is_empty(), "row {row}");
+    }
+    Ok(())
+}

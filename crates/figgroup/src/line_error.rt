@@ -1,0 +1,20 @@
+//! Why a line is no operation.
+
+use thiserror::Error;
+
+/// Why a line is no operation, in the order of the checks.
+#[derive(Clone, Copy, Debug, PartialEq, Eq, Error)]
+pub enum LineError {
+    /// It is no JSON.
+    #[error("Json")]
+    Json,
+    /// A key is missing or unknown, or a value has another form.
+    #[error("Field")]
+    Field,
+    /// A value is outside its limits.
+    #[error("Range")]
+    Range,
+    /// A growth of memory was refused.
+    #[error("out of memory")]
+    OutOfMemory,
+}

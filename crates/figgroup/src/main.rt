@@ -1,0 +1,55 @@
+//! figgroup: figures drawn by a group, exported as FIG text.
+#![tactic(auto)]
+
+mod command;
+#[cfg(test)]
+mod command_tests;
+mod fig_run;
+#[cfg(test)]
+mod fig_tests;
+mod fig_text;
+mod fig_writing;
+mod input;
+mod line_error;
+mod line_fields;
+#[cfg(test)]
+mod line_tests;
+mod line_values;
+mod lines;
+mod reading;
+mod reel;
+mod source;
+#[cfg(test)]
+mod source_tests;
+mod studio_error;
+mod text_lines;
+
+pub use command::command;
+pub use fig_run::fig_run;
+pub use fig_text::fig_bytes;
+pub use fig_writing::write_fig;
+use gf_drawing::Out;
+pub use input::In;
+pub use line_error::LineError;
+pub use lines::read_op;
+pub use reel::Reel;
+pub use source::{InputError, MOST_INPUT_BYTES, Source, SourceFault, read_input};
+use std::io;
+use std::process::ExitCode;
+pub use studio_error::{LineCause, StudioError};
+pub use text_lines::TextLines;
+
+/// Runs the words of the command line on the standard streams.
+fn main(rt: HostRuntime) -> io::Result<ExitCode> {
+    let alloc = rt.alloc();
+    let words: Vec<String> = std::env::args(&rt)?.collect(alloc)?;
+    let status = command(
+        &rt,
+        alloc,
+        words.as_slice(),
+        &mut In::new(rt.reader()),
+        &mut Out::new(rt.stdout()),
+        &mut Out::new(rt.stderr()),
+    );
+    Ok(ExitCode::from(status))
+}
