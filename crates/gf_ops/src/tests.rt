@@ -140,6 +140,9 @@ fn finds_what_was_added(rt: HostRuntime) -> Result<(), Fail> {
 fn names_read_as_site_and_number(rt: HostRuntime) -> Result<(), Fail> {
     let id = OpId { site: 3, seq: 41 };
     assert_eq!(rt; format!(in rt.alloc(); "{id}")?.as_str(), "3.41");
-    assert_eq!(rt; format!(in rt.alloc(); "{}", OpFault::BadClock)?.as_str(), "BadClock");
+    assert_eq!(rt;
+        format!(in rt.alloc(); "{}", OpFault::BadClock)?.as_str(),
+        "BadClock"
+    );
     Ok(())
 }
