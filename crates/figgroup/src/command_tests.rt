@@ -90,6 +90,42 @@ fn refusals_are_told(rt: HostRuntime) -> Result<(), Fail> {
     Ok(())
 }
 
+/// Lines of so many boxes, of so many colours in turn.
+fn boxes(alloc: Global, count: u32, colours: u32) -> Result<String, AllocError> {
+    let mut text = String::new(alloc);
+    for n in 1..=count {
+        let colour = n % colours.max(1);
+        let before = n - 1;
+        let line = format!(in alloc;
+            "{{\"op\":\"create\",\"id\":[1,{n}],\"past\":[{before},0,0,0,0,0,0,0],\"kind\":\"box\",\"place\":[0,0],\"size\":[10,10],\"colour\":\"{colour:06x}\",\"layer\":0,\"shown\":true}}\n"
+        )?;
+        text.push_str(line.as_str())?;
+    }
+    Ok(text)
+}
+
+#[test]
+fn the_limits_of_a_drawing_are_told(rt: HostRuntime) -> Result<(), Fail> {
+    let too_many_versions = "figgroup: export refused: TooManyVersions\n";
+    let too_many_colours = "figgroup: export refused: TooManyColours\n";
+    let rows = [
+        (1_000, 1, 0, ""),
+        (1_001, 1, 1, too_many_versions),
+        (1_001, 513, 1, too_many_versions),
+        (512, 512, 0, ""),
+        (513, 513, 1, too_many_colours),
+    ];
+    for (row, (count, colours, status, want)) in rows.iter().enumerate() {
+        let input = boxes(rt.alloc(), *count, *colours)?;
+        let mut source = Reel::new(input.as_bytes(), None);
+        let (answer, output, faults) = run(&rt, &["figgroup", "fig"], &mut source)?;
+        assert_eq!(rt; answer, *status, "row {row}");
+        assert_eq!(rt; output.bytes().is_empty(), *status == 1, "row {row}");
+        assert_eq!(rt; faults.bytes(), want.as_bytes(), "row {row}");
+    }
+    Ok(())
+}
+
 #[test]
 fn unread_input_is_told(rt: HostRuntime) -> Result<(), Fail> {
     let mut long = Vec::new(rt.alloc());
