@@ -6,6 +6,8 @@ mod command;
 mod command_tests;
 mod fig_run;
 #[cfg(test)]
+mod fig_run_tests;
+#[cfg(test)]
 mod fig_tests;
 mod fig_text;
 mod fig_writing;
