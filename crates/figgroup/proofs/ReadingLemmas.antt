@@ -1,13 +1,24 @@
 -- How the operations of the lines grow, and what a refused line says of the text.
-use Rattle.std.proofs.Common.{ℕ, List, [], ◌∷◌, ◌++◌, map, sym, ap, subst, ◌∙◌, append_assoc}
+use Rattle.std.proofs.Common.{◌≡◌, ℕ, List, [], ◌∷◌, ◌++◌, map, sym, ap, subst, ◌∙◌, append_assoc}
 use Rattle.std.proofs.lemmas.List.{map-append, append-nil}
 use Rattle.gf_ops.specs.declared.op.Op.{Op}
+use Rattle.gf_ops.specs.Accepted.{AreAccepted, none, next}
 use Rattle.gf_ops.specs.ValidHistory.{IsValid}
 use Rattle.figgroup.specs.declared.studio_error.StudioError.{StudioError}
 use Rattle.figgroup.specs.declared.studio_error.StudioError.TheVariants as studio
 use Rattle.figgroup.specs.FigRun.{Denotes, IsAt, denotes_op}
 use Rattle.figgroup.specs.LineSteps.{HasRead, AddsLine, RefusesLine, RefusesText}
 use Rattle.figgroup.specs.OperationLines.{denoted}
+use Rattle.figgroup.specs.TextLines.{numbered_lines}
+
+-- before the first line none is read
+pub HasRead-none : (bytes : List ℕ) (left : List (ℕ × List ℕ)) (ops : List Op) → left ≡ numbered_lines bytes → ops ≡ [] → HasRead bytes left ops
+HasRead-none bytes left ops all empty = record {
+  before = [];
+  whole = sym all;
+  lines = ap (map denotes_op) (sym empty);
+  accepted = subst AreAccepted (sym empty) none;
+}
 
 -- one line more is read
 pub HasRead-line : (bytes : List ℕ) (n : ℕ) (line : List ℕ) (left : List (ℕ × List ℕ)) (old new : List Op) →
@@ -20,17 +31,19 @@ HasRead-line bytes n line left old new read adds = record {
       ∙ (ap (λ r. r ++ denoted line ∷ []) read.lines
       ∙ (ap (λ r. map denotes_op old ++ r ∷ []) adds.denotes
       ∙ (sym (map-append denotes_op old (adds.op ∷ [])) ∙ ap (map denotes_op) (sym adds.added))));
+  accepted = subst AreAccepted (sym adds.added) (next read.accepted adds.accepted);
 }
 
 -- with no line left, all are read
 pub Denotes-read : (bytes : List ℕ) (ops : List Op) → HasRead bytes [] ops → IsValid ops → Denotes bytes ops
 Denotes-read bytes ops read valid = record {
   lines = ap (map (λ (l : ℕ × List ℕ). denoted l.1)) (read.whole ∙ append-nil read.before) ∙ read.lines;
+  accepted = read.accepted;
   valid = valid;
 }
 
 abbrev at_line : (bytes : List ℕ) (n : ℕ) (line : List ℕ) (left : List (ℕ × List ℕ)) (ops : List Op) → HasRead bytes ((n, line) ∷ left) ops → IsValid ops → IsAt bytes n line
-at_line bytes n line left ops read valid = record { before = read.before; behind = left; whole = read.whole; history = ops; lines = read.lines; valid = valid }
+at_line bytes n line left ops read valid = record { before = read.before; behind = left; whole = read.whole; history = ops; lines = read.lines; accepted = read.accepted; valid = valid }
 
 -- what a line is refused for, the text is
 pub RefusesText-line : (bytes : List ℕ) (n : ℕ) (line : List ℕ) (left : List (ℕ × List ℕ)) (ops : List Op) → HasRead bytes ((n, line) ∷ left) ops → IsValid ops →

@@ -4,7 +4,7 @@ use Rattle.std.specs.Io.KnownBytes.{Appends}
 use Rattle.gf_shape.specs.declared.point.Point.{Point}
 use Rattle.gf_ops.specs.declared.op.Op.{Op}
 use Rattle.gf_ops.specs.declared.op.OpId.{OpId}
-use Rattle.gf_ops.specs.Accepted.{IsAccepted}
+use Rattle.gf_ops.specs.Accepted.{IsAccepted, AreAccepted}
 use Rattle.gf_ops.specs.ValidHistory.{IsValid}
 use Rattle.gf_versions.specs.declared.placed.Placed.{Placed}
 use Rattle.gf_versions.specs.HistoryColour.{HistoryColour}
@@ -30,18 +30,20 @@ denotes_op op = Ok op
 abbrev pub AreLinesOf : List (ℕ × List ℕ) → List Op → Type 0
 AreLinesOf lines ops = map (λ (line : ℕ × List ℕ). denoted line.1) lines ≡ map denotes_op ops
 
--- the bytes denote these operations, which are a valid history
+-- the bytes denote these operations, each accepted behind those before it, and together a valid history
 pub record Denotes (bytes : List ℕ) (history : List Op) : Type 0 where
   pub lines : AreLinesOf (numbered_lines bytes) history
+  pub accepted : AreAccepted history
   pub valid : IsValid history
 
--- the lines of the bytes before line number n denote a valid history, and this is line n
+-- the lines of the bytes before line number n denote operations that are accepted one by one, and this is line n
 pub record IsAt (bytes : List ℕ) (n : ℕ) (line : List ℕ) : Type 0 where
   pub before : List (ℕ × List ℕ)
   pub behind : List (ℕ × List ℕ)
   pub whole : numbered_lines bytes ≡ before ++ (n, line) ∷ behind
   pub history : List Op
   pub lines : AreLinesOf before history
+  pub accepted : AreAccepted history
   pub valid : IsValid history
 
 -- line n is the first that denotes no operation, for this cause

@@ -2,7 +2,7 @@
 use Rattle.std.specs.Prelude.{◌≡◌, ℕ, List, [], ◌∷◌, ◌++◌, Ok, Err, ⊤}
 use Rattle.gf_ops.specs.declared.op.Op.{Op}
 use Rattle.gf_ops.specs.declared.op.OpId.{OpId}
-use Rattle.gf_ops.specs.Accepted.{IsAccepted}
+use Rattle.gf_ops.specs.Accepted.{IsAccepted, AreAccepted}
 use Rattle.figgroup.specs.declared.line_error.LineError.{LineError}
 use Rattle.figgroup.specs.declared.line_error.LineError.TheVariants as line
 use Rattle.figgroup.specs.declared.studio_error.LineCause.TheVariants as cause
@@ -20,16 +20,18 @@ of_line n line.Field = studio.Line n cause.Field
 of_line n line.Range = studio.Line n cause.Range
 of_line n line.OutOfMemory = studio.OutOfMemory
 
--- the lines before those that are left denote these operations
+-- the lines before those that are left denote these operations, which are accepted one by one
 pub record HasRead (bytes : List ℕ) (left : List (ℕ × List ℕ)) (ops : List Op) : Type 0 where
   pub before : List (ℕ × List ℕ)
   pub whole : numbered_lines bytes ≡ before ++ left
   pub lines : AreLinesOf before ops
+  pub accepted : AreAccepted ops
 
 -- the history grows from old to new by the operation that the line denotes
 pub record AddsLine (bytes : List ℕ) (old new : List Op) : Type 0 where
   pub op : Op
   pub denotes : denoted bytes ≡ Ok op
+  pub accepted : IsAccepted old op
   pub added : new ≡ old ++ op ∷ []
 
 -- the line denotes an operation under this id that cannot be added behind h

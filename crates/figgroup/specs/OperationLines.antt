@@ -56,7 +56,7 @@ creates_box d = has_exactly line_keys d && says (codes "op") (codes "create") d 
 -- what the new object begins with
 abbrev pub start : Data → Got Start
 start d = mapped
-    (λ (form, (at, (paint, (above, seen)))). record { form = form; place = at; colour = paint; layer = above; shown = seen })
+    (λ (size, (at, (fill, (level, visible)))). record { form = size; place = at; colour = fill; layer = level; shown = visible })
     (box_size d & place d & colour d & layer d & shown d)
 
 -- the operation of a line's value

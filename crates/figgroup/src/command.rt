@@ -1,12 +1,14 @@
 //! The command line.
 
-ghost use Rattle.std.specs.Prelude.{◌≡◌, ◌≤◌};
+ghost use Rattle.std.specs.Prelude.{◌≡◌, ◌≤◌, ◌⊎◌, IfSome};
+ghost use Rattle.figgroup.specs.FigRun.{Exports, ExportsFront};
 
 use crate::{Source, StudioError, fig_run};
 use clap::error::ErrorKind;
 use clap::{Command, Error};
 use gf_drawing::{Sink, write_whole};
 use std::alloc::Global;
+use std::io;
 
 /// Runs what `words` ask for, the first of which is the program's name, and answers the status:
 /// 0 for success, 1 for a refusal, 2 for a mistake in the words.
@@ -23,6 +25,10 @@ pub fn command<R: Source, W: Sink, E: Sink>(
     faults: &mut E,
 ) -> u8
     ensures status { result ≤ 2 }
+    // A run with status 0 writes the FIG text of what its input denotes; help reads no input.
+    ensures done { result ≡ 0 → (source.new ≡ source.old) ⊎ IfSome (R.left source.old) (λ bytes. Exports bytes (W.taken output.old) (W.taken output.new)) }
+    // A refusal leaves the output as it was, or with a front of the text.
+    ensures refused { result ≡ 1 → (output.new ≡ output.old) ⊎ IfSome (R.left source.old) (λ bytes. ExportsFront bytes (W.taken output.old) (W.taken output.new)) }
     ensures mistake { result ≡ 2 → (source.new ≡ source.old) × (output.new ≡ output.old) }
 {
     match parse(alloc, words) {
@@ -57,6 +63,19 @@ fn parse(alloc: Global, words: &[String]) -> Result<(), Error> {
         .subcommand(fig)?;
     program.try_get_matches_from(words)?;
     Ok(())
+}
+
+/// Tells why the words were not read, and answers the status.
+pub(crate) fn refuse_words<E: Sink>(fault: &io::Error, faults: &mut E) -> u8
+    ensures { (result ≡ 1) ⊎ (result ≡ 2) }
+{
+    if fault.kind() == io::ErrorKind::InvalidData {
+        let _ = write_whole(faults, b"figgroup: a word is no UTF-8\n");
+        2
+    } else {
+        let _ = write_whole(faults, b"figgroup: out of memory\n");
+        1
+    }
 }
 
 /// Writes a refusal, and answers its status.

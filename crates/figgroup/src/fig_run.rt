@@ -31,6 +31,7 @@ pub fn fig_run<R: Source, W: Sink>(
     // The input was not read.
     ensures read_failed { result ≡ Err StudioError.ReadFailed → Rises (R.failures source.old) (R.failures source.new) }
     ensures too_long { result ≡ Err StudioError.TooLong → IfSome (R.left source.old) (λ bytes. MOST_INPUT_BYTES < length bytes) }
+    ensures beyond { IfSome (R.left source.old) (λ bytes. MOST_INPUT_BYTES < length bytes → (result ≡ Err StudioError.TooLong) ⊎ (result ≡ Err StudioError.ReadFailed) ⊎ (result ≡ Err StudioError.OutOfMemory)) }
     ensures longer { CamePast MOST_INPUT_BYTES (R.left source.old) (R.left source.new) → (result ≡ Err StudioError.TooLong) ⊎ (result ≡ Err StudioError.OutOfMemory) }
 
     // The first line that is at fault.

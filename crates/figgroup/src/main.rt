@@ -27,6 +27,7 @@ mod studio_error;
 mod text_lines;
 
 pub use command::command;
+use command::refuse_words;
 pub use fig_run::fig_run;
 pub use fig_text::fig_bytes;
 pub use fig_writing::write_fig;
@@ -42,16 +43,24 @@ pub use studio_error::{LineCause, StudioError};
 pub use text_lines::TextLines;
 
 /// Runs the words of the command line on the standard streams.
-fn main(rt: HostRuntime) -> io::Result<ExitCode> {
+fn main(rt: HostRuntime) -> ExitCode {
     let alloc = rt.alloc();
-    let words: Vec<String> = std::env::args(&rt)?.collect(alloc)?;
-    let status = command(
-        &rt,
-        alloc,
-        words.as_slice(),
-        &mut In::new(rt.reader()),
-        &mut Out::new(rt.stdout()),
-        &mut Out::new(rt.stderr()),
-    );
-    Ok(ExitCode::from(status))
+    let mut faults = Out::new(rt.stderr());
+    let status = match words(&rt) {
+        Ok(words) => command(
+            &rt,
+            alloc,
+            &words,
+            &mut In::new(rt.reader()),
+            &mut Out::new(rt.stdout()),
+            &mut faults,
+        ),
+        Err(fault) => refuse_words(&fault, &mut faults),
+    };
+    ExitCode::from(status)
+}
+
+fn words(rt: &HostRuntime) -> io::Result<Vec<String>> {
+    let words = std::env::args(rt)?.collect(rt.alloc())?;
+    Ok(words)
 }

@@ -43,7 +43,7 @@ impl<'a> Reel<'a> {
         }
     }
 
-    // How many bytes a read with so much room gives.
+    /// How many bytes a read with so much room gives.
     fn given(&self, room: usize) -> usize
         ensures { result ≡ given self.now room }
     {

@@ -70,7 +70,7 @@ pub trait Source {
         ensures counts { CountsFailure (failures self.old) (failures self.new) result };
 }
 
-// One read, behind the bytes that are held.
+/// One read, behind the bytes that are held.
 fn read_onto<R: Source>(
     source: &mut R,
     chunk: &mut [u8],

@@ -29,7 +29,7 @@ pub enum CompileFault {
     #[error("TooManyColours")]
     TooManyColours,
     /// A growth of memory was refused.
-    #[error("OutOfMemory")]
+    #[error("out of memory")]
     OutOfMemory,
 }
 

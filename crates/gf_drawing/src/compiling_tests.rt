@@ -129,6 +129,7 @@ fn refusals_have_their_names(rt: HostRuntime) -> Result<(), Fail> {
     let rows = [
         (CompileFault::TooManyVersions, "TooManyVersions"),
         (CompileFault::TooManyColours, "TooManyColours"),
+        (CompileFault::OutOfMemory, "out of memory"),
     ];
     for (fault, text) in rows {
         assert_eq!(rt; format!(in rt.alloc(); "{fault}")?.as_str(), text);

@@ -2,7 +2,7 @@
 //! that drawings are written to.
 //!
 //! - [`Figure`], [`ColourTable`], [`Drawing`]: what a FIG file holds, as far as this project writes
-//!   and reads it.
+//!   it; [`the_canonical_drawing_paints_the_history`]: the law that ties it to a history.
 //! - [`compile`]: the drawing of ranked versions, refused as [`CompileFault`] tells.
 //! - [`Sink`], [`write_whole`]: where bytes go, and how all of them get there; [`Out`] is a sink over
 //!   a writer of std, [`Tape`] one in memory.

@@ -54,7 +54,7 @@ impl Tape {
         &self.bytes
     }
 
-    // How many of `count` bytes fit.
+    /// How many of `count` bytes fit.
     fn fitting(&self, count: usize) -> usize
         ensures { result ≡ fitting self.now count }
     {

@@ -1,5 +1,5 @@
 -- Which operation may be added behind a history (this project's choice).
-use Rattle.std.specs.Prelude.{◌≡◌, ◌≢◌, ℕ, ◌+◌, ◌≤◌, List, Contains}
+use Rattle.std.specs.Prelude.{◌≡◌, ◌≢◌, ℕ, ◌+◌, ◌≤◌, List, [], ◌∷◌, ◌++◌, Contains}
 use Rattle.gf_ops.specs.declared.op.Op.{Op}
 use Rattle.gf_ops.specs.OperationOrder.{IsSite, entry, count_of, Precedes}
 use Rattle.gf_ops.specs.ValidHistory.{IsWithin}
@@ -15,3 +15,8 @@ pub record IsNext (h : List Op) (a : Op) : Type 0 where
 pub record IsAccepted (h : List Op) (a : Op) : Type 0 where
   pub site : a.id.site ≡ 1
   pub next : IsNext h a
+
+-- operations each of which was accepted behind those before it
+pub data AreAccepted : List Op → Type 0 where
+  none : AreAccepted []
+  next : {h : List Op} {a : Op} → AreAccepted h → IsAccepted h a → AreAccepted (h ++ a ∷ [])

@@ -144,5 +144,12 @@ fn names_read_as_site_and_number(rt: HostRuntime) -> Result<(), Fail> {
         format!(in rt.alloc(); "{}", OpFault::BadClock)?.as_str(),
         "BadClock"
     );
+    let rows = [
+        (AddFault::Op(OpFault::BadClock), "BadClock"),
+        (AddFault::OutOfMemory, "out of memory"),
+    ];
+    for (fault, text) in rows {
+        assert_eq!(rt; format!(in rt.alloc(); "{fault}")?.as_str(), text);
+    }
     Ok(())
 }

@@ -1,6 +1,6 @@
 //! Shapes over grid points: what each holds, its bounds, its moves and its outline.
 //!
-//! - [`Point`], [`Rgb`], [`Bounds`], [`Span`]: plain values.
+//! - [`Point`], [`Rgb`], [`Bounds`], [`Span`]: plain values; [`REACH`]: how far points lie.
 //! - [`Rect`]: a box, what a designer draws.
 //! - [`Outline`], which is a [`Chain`] or a [`Disc`]: what a FIG file draws.
 //! - [`Range`], [`OutOfMemory`]: why a call was refused.

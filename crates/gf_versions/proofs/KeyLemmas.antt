@@ -1,5 +1,5 @@
 -- The order of versions is total, and only one key ties with another: itself.
-use Rattle.std.proofs.Common.{◌≡◌, refl, ap}
+use Rattle.std.proofs.Common.{◌≡◌, ◌∙◌, refl, ap}
 use Rattle.std.specs.Cmp.{IsTotalOrder}
 use Rattle.std.specs.declared.cmp.Ordering.{Ordering}
 use Rattle.std.specs.declared.cmp.Ordering.TheVariants.{Less, Equal, Greater}
@@ -52,3 +52,9 @@ neither_above k l h i = by_answer (key_cmp k l) refl
     by_answer Less e = let f = key_cmp_total.antisymm l k in let g : ordering_reverse (key_cmp k l) ≡ Greater = ap ordering_reverse e in absurd (i cc)
     by_answer Equal e = key_cmp_exact k l e
     by_answer Greater e = absurd (h e)
+
+-- what is above a key that is above another is above that one
+pub above_transitive : (k l m : VersionKey) → IsAbove k l → IsAbove l m → IsAbove k m
+above_transitive k l m h i =
+    let down = key_cmp_total.trans m l k (key_cmp_total.antisymm m l ∙ ap ordering_reverse i) (key_cmp_total.antisymm l k ∙ ap ordering_reverse h) in
+    key_cmp_total.antisymm k m ∙ ap ordering_reverse down

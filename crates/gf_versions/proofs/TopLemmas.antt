@@ -23,7 +23,7 @@ use Rattle.gf_versions.specs.Ranking.{AreRanked, first_colour, form_at, placed_v
 use Rattle.gf_versions.specs.VersionOf.{IsVersionOf}
 use Rattle.gf_versions.specs.Visible.{IsVisible, form_holds, version_holds}
 use Rattle.gf_versions.proofs.CreatedLemmas.{one_of_object, visible_exactly}
-use Rattle.gf_versions.proofs.KeyLemmas.{above_one_way, neither_above, key_cmp_total, key_cmp_exact}
+use Rattle.gf_versions.proofs.KeyLemmas.{above_one_way, above_transitive, neither_above, key_cmp_total, key_cmp_exact}
 use Rattle.gf_versions.proofs.ListLemmas.{Contains-cons_cases, Contains-cons_head, Contains-cons_tail, not_Contains-nil}
 
 module _ {X : Type 0} (Above : X → X → Type 0) (one_way : (a b : X) → Above a b → ¬ (Above b a)) (test : X → Bool) where
@@ -123,12 +123,6 @@ one_colour h p c d valid x y = elim (taken_apart x) [
   ]
 ]
 
--- of three versions the highest is above the lowest
-above_trans : (k l m : VersionKey) → IsAbove k l → IsAbove l m → IsAbove k m
-above_trans k l m h i =
-    let down = key_cmp_total.trans m l k (key_cmp_total.antisymm m l ∙ ap ordering_reverse i) (key_cmp_total.antisymm l k ∙ ap ordering_reverse h) in
-    key_cmp_total.antisymm k m ∙ ap ordering_reverse down
-
 -- v is one of the versions, passes, and none that passes is above it
 record IsHighest (test : Version → Bool) (vs : List Version) (v : Version) : Type 0 where
   known : Contains vs v
@@ -177,7 +171,7 @@ highest_or_none test (x ∷ vs) = elim (cases_Bool (test x)) [
         passes = t;
         highest = λ w c k a. elim (Contains-cons_cases x vs w c) [
           | inl i ↦ not_above_itself x.key (subst (λ (z : Version). IsAbove z.key x.key) i a)
-          | inr d ↦ f.highest w d k (above_trans w.key x.key v.key a e)
+          | inr d ↦ f.highest w d k (above_transitive w.key x.key v.key a e)
         ];
       },
     )

@@ -6,15 +6,18 @@ ghost use Rattle.gf_shape.specs.declared.colour.Rgb.{Rgb};
 ghost use Rattle.gf_ops.specs.declared.op.Op.{Op};
 ghost use Rattle.gf_ops.specs.ValidHistory.{IsValid};
 ghost use Rattle.gf_versions.specs.declared.key.Version.{Version};
+ghost use Rattle.gf_versions.specs.declared.key.VersionKey.{VersionKey};
 ghost use Rattle.gf_versions.specs.declared.placed.Placed.{Placed};
 ghost use Rattle.gf_versions.specs.Above.{IsAbove, AreOrdered};
 ghost use Rattle.gf_versions.specs.HistoryColour.{HistoryColour, HasOneColour};
 ghost use Rattle.gf_versions.specs.Ranking.{AreRanked, first_colour};
 ghost use Rattle.gf_versions.specs.VersionOf.{IsVersionOf};
 
-/// Of two versions of a history that are not one, exactly one is above the other.
+/// Above is a total order of the versions of a history: of two that are not one, exactly one is
+/// above the other.
 pub fn versions_are_in_a_total_order()
-    ensures { (h : List Op) → IsValid h → (v w : Version) → IsVersionOf h v → IsVersionOf h w → AreOrdered v w }
+    ensures transitive { (k l m : VersionKey) → IsAbove k l → IsAbove l m → IsAbove k m }
+    ensures total { (h : List Op) → IsValid h → (v w : Version) → IsVersionOf h v → IsVersionOf h w → AreOrdered v w }
 {}
 
 /// A valid history means one colour at each point.

@@ -4,6 +4,8 @@
 //!   operations; [`Ids`] lists the group.
 //! - [`Ranked`], a list of [`Placed`]: the visible versions, topmost first.
 //! - [`ranked`]: makes that list.
+//! - [`versions_are_in_a_total_order`], [`one_colour_at_a_point`], [`the_first_that_holds_is_on_top`]:
+//!   the laws.
 #![tactic(auto)]
 
 mod ids;

@@ -1,8 +1,14 @@
-use Rattle.std.proofs.Common.{sym, subst}
+use Rattle.std.proofs.Common.{rules, sym, subst}
 use Rattle.std.proofs.lemmas.Result.{err_from_is_err_and}
 use Rattle.figgroup.specs.LineSteps.{RefusesLine}
-use Rattle.figgroup.proofs.ReadingLemmas.{HasRead-line, Denotes-read, RefusesText-line}
+use Rattle.figgroup.proofs.ReadingLemmas.{HasRead-none, HasRead-line, Denotes-read, RefusesText-line}
 use Rattle.figgroup.proofs.reading.read_history.Goals as goal
+
+pub loop-number-init : goal.loop-number-init
+loop-number-init c = record {
+  read = HasRead-none c.args.text.now _ _ c.new-lines.ensures c.new-history.ensures;
+  valid = search rules;
+}
 
 pub loop-number-preserved : goal.loop-number-preserved
 loop-number-preserved c = record {
