@@ -1,8 +1,10 @@
 //! The command line, over sources and sinks in memory.
 
+use crate::command::refuse_words;
 use crate::{MOST_INPUT_BYTES, Reel, command};
 use gf_drawing::Tape;
 use std::alloc::{AllocError, Global};
+use std::io;
 use std::test::Fail;
 
 const EMPTY: &str = "#FIG 3.2\nLandscape\nCenter\nMetric\nA4\n100.00\nSingle\n-2\n1200 2\n";
@@ -168,6 +170,24 @@ fn a_full_output_is_told(rt: HostRuntime) -> Result<(), Fail> {
     let status = command(&rt, alloc, &words, &mut source, &mut output, &mut nowhere);
     assert_eq!(rt; status, 1);
     Ok(())
+}
+
+#[test]
+fn unread_words_are_told(rt: HostRuntime) {
+    let rows = [
+        (
+            io::ErrorKind::InvalidData,
+            2,
+            "figgroup: a word is no UTF-8\n",
+        ),
+        (io::ErrorKind::OutOfMemory, 1, "figgroup: out of memory\n"),
+    ];
+    for (kind, status, want) in rows {
+        let mut faults = Tape::new(rt.alloc(), None);
+        let answer = refuse_words(&io::Error::from(kind), &mut faults);
+        assert_eq!(rt; answer, status, "{want}");
+        assert_eq!(rt; faults.bytes(), want.as_bytes());
+    }
 }
 
 #[test]
