@@ -1,28 +1,23 @@
--- What a box holds: its moves and its bounds.
-use Rattle.std.specs.Prelude.{◌≡◌, ℕ, ℤ, pos, ◌+ℤ◌, ◌-ℤ◌, ◌≤ℤ◌, IsTrue, int_le, refl}
+-- What a box holds: its bounds; its moves and its outline are lawful.
+use Rattle.std.specs.Prelude.{◌≡◌, ℕ, ℤ, pos, ◌+ℤ◌, ◌-ℤ◌, ◌≤ℤ◌, IsTrue, true, int_le, refl}
 use Rattle.std.proofs.Common.{arith}
-use Rattle.std.proofs.lemmas.Bool.{and_parts}
+use Rattle.std.proofs.lemmas.Bool.{and_parts, and_from}
+use Rattle.std.proofs.lemmas.List.Elements.{All-from_recursion}
 use Rattle.std.proofs.lemmas.Int.{ints}
 use Rattle.gf_shape.specs.declared.point.Point.{Point}
-use Rattle.gf_shape.specs.Area.{Area, is_area, is_side, is_movable, far_corner}
-use Rattle.gf_shape.specs.Reach.{is_reached}
-use Rattle.gf_shape.specs.Moving.{plus}
+use Rattle.gf_shape.specs.Area.{Area, is_area, is_side, far_corner, corners_again}
+use Rattle.gf_shape.specs.Reach.{is_reached, is_within_reach}
+use Rattle.gf_shape.specs.Ring.{IsRing}
 use Rattle.gf_shape.specs.ShapeMeaning.{rect_holds}
-use Rattle.gf_shape.specs.ShapeLaws.{IsMovedBy, IsBounds, IsWithin}
-
-gap-moved : (a b d : ℤ) → (b +ℤ d) -ℤ (a +ℤ d) ≡ b -ℤ a
-gap-moved a b d = omega (arith, ints)
-
--- the move law
-pub rect_holds-moved : (a : Area) (d : Point) → IsMovedBy d (rect_holds a) (rect_holds (record a { low = plus a.low d }))
-rect_holds-moved a d = λ p. simp gap-moved
+use Rattle.gf_shape.specs.ShapeMoves.{rect_movable, rect_moved}
+use Rattle.gf_shape.specs.ShapeLaws.{IsBounds, IsWithin}
 
 -- a side whose moved ends lie within reach is a side
 is_side-moved : (low d : ℤ) (size : ℕ) → IsTrue (is_side low size) → IsTrue (is_reached (low +ℤ d)) → IsTrue (is_reached ((low +ℤ pos size) +ℤ d)) → IsTrue (is_side (low +ℤ d) size)
 unfolding is_side is_reached
 is_side-moved low d size side first last = grind (arith, ints)
 
-pub is_area-moved : (a : Area) (d : Point) → IsTrue (is_area a) → IsTrue (is_movable a d) → IsTrue (is_area (record a { low = plus a.low d }))
+pub is_area-moved : (a : Area) (d : Point) → IsTrue (is_area a) → IsTrue (rect_movable a d) → IsTrue (is_area (rect_moved a d))
 is_area-moved a d area movable = grind (arith, is_side-moved)
 
 -- what lies along a side lies between its ends
@@ -58,3 +53,22 @@ rect_bounds a = record {
   top = (a.low, rect_holds-low a, refl);
   bottom = (far_corner a, rect_holds-far a, refl);
 }
+
+-- both ends of a side lie within reach
+is_side-reached : (low : ℤ) (size : ℕ) → IsTrue (is_side low size) → IsTrue (is_reached low) × IsTrue (is_reached (low +ℤ pos size))
+unfolding is_side is_reached
+is_side-reached low size h = (grind (arith, ints), grind (arith, ints))
+
+-- the corners of a box, the first one again, are a lawful ring
+pub IsRing-corners_again : (a : Area) → IsTrue (is_area a) → IsRing (record { boxed = true; points = corners_again a })
+IsRing-corners_again a h =
+    let sides = and_parts _ _ h in
+    let x = is_side-reached a.low.x a.width sides.0 in
+    let y = is_side-reached a.low.y a.height sides.1 in
+    record {
+      least = omega arith;
+      most = omega arith;
+      box = λ _. refl;
+      closed = refl;
+      reach = All-from_recursion (λ p. IsTrue (is_within_reach p)) (corners_again a) (and_from _ _ x.0 y.0, (and_from _ _ x.1 y.0, (and_from _ _ x.1 y.1, (and_from _ _ x.0 y.1, (and_from _ _ x.0 y.0, tt)))));
+    }

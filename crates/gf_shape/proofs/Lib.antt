@@ -1,3 +1,8 @@
+pub mod ProductLemmas
 pub mod BoxLemmas
-pub mod OutlineLemmas
-pub mod SideLemmas
+pub mod DiscLemmas
+pub mod EvenOddLemmas
+pub mod BoundsLemmas
+pub mod PolygonBounds
+pub mod RingLemmas
+pub mod ChainBounds

@@ -1,8 +1,6 @@
 -- A box as its callers see it: its least corner and its size (this project's limits).
 use Rattle.std.specs.Prelude.{ℕ, ℤ, pos, negsuc, ◌+ℤ◌, Bool, ◌&&◌, nat_le, int_le, List, [], ◌∷◌}
 use Rattle.gf_shape.specs.declared.point.Point.{Point}
-use Rattle.gf_shape.specs.Moving.{plus}
-use Rattle.gf_shape.specs.Reach.{is_within_reach}
 
 pub record Area : Type 0 where
   pub low : Point
@@ -30,7 +28,3 @@ is_side low size = nat_le 1 size && int_le (negsuc 9999999) low && int_le (low +
 -- both sides of the box a are such
 abbrev pub is_area : Area → Bool
 is_area a = is_side a.low.x a.width && is_side a.low.y a.height
-
--- both corners of the box a, moved by d, lie within reach
-abbrev pub is_movable : Area → Point → Bool
-is_movable a d = is_within_reach (plus a.low d) && is_within_reach (plus (far_corner a) d)

@@ -18,6 +18,7 @@ chain_holds ps p = list_any (is_on_edge p) (open_edges ps) || nat_eq (count_by (
 abbrev pub disc_holds : Point → ℕ → Point → Bool
 disc_holds centre r p = int_le ((p.x -ℤ centre.x) *ℤ (p.x -ℤ centre.x) +ℤ (p.y -ℤ centre.y) *ℤ (p.y -ℤ centre.y)) (pos (r * r))
 
+-- which points an outline holds
 abbrev pub outline_holds : Outline → Point → Bool
-outline_holds (Chain ring) p = chain_holds ring.points p
-outline_holds (Disc disc) p = disc_holds disc.centre disc.radius p
+outline_holds (Chain ring) = chain_holds ring.points
+outline_holds (Disc disc) = disc_holds disc.centre disc.radius

@@ -1,10 +1,16 @@
 pub mod Moving
 pub mod Reach
 pub mod Area
+pub mod Polygons
 pub mod Ring
 pub mod Round
 pub mod Edges
 pub mod ShapeMeaning
+pub mod ShapeMoves
+pub mod Outlines
 pub mod FigureMeaning
 pub mod ShapeLaws
+pub mod BoundsOf
+pub mod Opened
+pub mod Laws
 pub mod WorkedExamples

@@ -1,11 +1,15 @@
 -- A closed chain as its callers see it (Xfig, FIG Format 3.2: polyline objects; this project's limits).
-use Rattle.std.specs.Prelude.{◌≡◌, ◌≤◌, ◌-◌, Bool, true, IsTrue, List, length, All, slice_get}
+use Rattle.std.specs.Prelude.{◌≡◌, ◌≤◌, ◌-◌, Bool, true, false, IsTrue, List, ◌++◌, take, length, All, slice_get}
 use Rattle.gf_shape.specs.declared.point.Point.{Point}
 use Rattle.gf_shape.specs.Reach.{is_within_reach}
 
 pub record Ring : Type 0 where
   pub boxed : Bool
   pub points : List Point
+
+-- the chain round the points ps
+abbrev pub ring_of : List Point → Ring
+ring_of ps = record { boxed = false; points = ps ++ take 1 ps }
 
 -- the ring r has 4 to 65,536 points, 5 where it is a box of FIG; its last point is its first; all lie within reach
 pub record IsRing (r : Ring) : Type 0 where

@@ -37,7 +37,6 @@ abbrev pub IsLawful : Outline → Type 0
 IsLawful (Chain ring) = IsRing ring
 IsLawful (Disc round) = IsTrue (is_round round)
 
--- outline law: the outline is lawful, and holds by the figure meaning what the shape holds by its own
-pub record IsOutlineOf (holds : Point → Bool) (outline : Outline) : Type 0 where
-  pub lawful : IsLawful outline
-  pub same : (p : Point) → outline_holds outline p ≡ holds p
+-- outline law: the outline holds by the figure meaning what the shape holds by its own
+abbrev pub IsOutlineOf : (Point → Bool) → Outline → Type 0
+IsOutlineOf holds outline = (p : Point) → outline_holds outline p ≡ holds p

@@ -2,9 +2,12 @@
 use Rattle.std.specs.Prelude.{ℕ, ◌*◌, ◌%◌, Bool, ◌&&◌, ◌||◌, List, ◌++◌, zip, drop, take, count_by, pos, ◌+ℤ◌, ◌*ℤ◌, int_le, nat_eq}
 use Rattle.std.specs.List.{list_any}
 use Rattle.gf_shape.specs.declared.point.Point.{Point}
+use Rattle.gf_shape.specs.declared.any_shape.AnyShape.{AnyShape}
+use Rattle.gf_shape.specs.declared.any_shape.AnyShape.TheVariants as any
 use Rattle.gf_shape.specs.Area.{Area}
 use Rattle.gf_shape.specs.Edges.{Edge, is_on_edge, crosses_right}
 use Rattle.gf_shape.specs.Moving.{minus}
+use Rattle.gf_shape.specs.Round.{Round}
 
 -- a box of this width and height holds d, seen from its least corner
 abbrev pub box_holds : ℕ → ℕ → Point → Bool
@@ -25,3 +28,13 @@ polygon_holds ps d = list_any (is_on_edge d) (closed_edges ps) || nat_eq (count_
 -- the box a holds p
 abbrev pub rect_holds : Area → Point → Bool
 rect_holds a p = box_holds a.width a.height (minus p a.low)
+
+-- the circle r holds p
+abbrev pub round_holds : Round → Point → Bool
+round_holds r p = circle_holds r.radius (minus p r.centre)
+
+-- which points a shape of any kind holds; a polygon by its points as they are
+abbrev pub any_holds : AnyShape → Point → Bool
+any_holds (any.Rect a) = rect_holds a
+any_holds (any.Circle r) = round_holds r
+any_holds (any.Polygon ps) = polygon_holds ps

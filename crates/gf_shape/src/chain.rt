@@ -1,9 +1,15 @@
 //! Closed chains of points.
 
-ghost use Rattle.std.specs.Prelude.{◌≡◌};
+ghost use Rattle.std.specs.Prelude.{◌≡◌, IfOk, IsTrue};
+ghost use Rattle.gf_shape.specs.FigureMeaning.{chain_holds};
 ghost use Rattle.gf_shape.specs.Ring.{IsRing};
+ghost use Rattle.gf_shape.specs.ShapeLaws.{IsBounds};
+ghost use Rattle.gf_shape.specs.ShapeMoves.{points_movable, ring_moved};
 
-use crate::Point;
+use crate::edges::path_holds;
+use crate::points::{all_movable, all_moved, bounds_from};
+use crate::{Bounds, OutOfMemory, Point};
+use std::alloc::Global;
 use std::marker::Model;
 
 /// A closed chain of points, the first one again at its end. FIG has two kinds: boxes and
@@ -48,5 +54,44 @@ impl Chain {
         ensures lawful { IsRing self.now }
     {
         &self.points
+    }
+
+    /// Whether it holds the point.
+    pub(crate) fn holds(&self, p: Point) -> bool
+        ensures { result ≡ chain_holds self.now.points p }
+    {
+        path_holds(self.points[0], &self.points[1..], p)
+    }
+
+    /// The least bounds of what it holds.
+    pub(crate) fn bounds(&self) -> Bounds
+        ensures { IsBounds (chain_holds self.now.points) result }
+    {
+        bounds_from(self.points[0], &self.points[1..])
+    }
+
+    /// Whether each of its points, moved by `d`, lies within reach.
+    pub(crate) fn movable(&self, d: Point) -> bool
+        ensures { result ≡ points_movable self.now.points d }
+    {
+        all_movable(&self.points, d)
+    }
+
+    /// The chain moved by `d`.
+    pub(crate) fn moved(&self, alloc: Global, d: Point) -> Result<Chain, OutOfMemory>
+        requires { IsTrue (points_movable self.now.points d) }
+        ensures { IfOk result (λ chain. chain ≡ ring_moved self.now d) }
+    {
+        let points = all_moved(alloc, &self.points, d)?;
+        Ok(Chain::new(self.boxed, points))
+    }
+
+    /// The same chain again.
+    pub(crate) fn copy(&self, alloc: Global) -> Result<Chain, OutOfMemory>
+        ensures same { IfOk result (λ chain. chain ≡ self.now) }
+        ensures lawful { IfOk result (λ chain. IsRing chain) }
+    {
+        let points = Vec::from_slice(alloc, &self.points)?;
+        Ok(Chain::new(self.boxed, points))
     }
 }

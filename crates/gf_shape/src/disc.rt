@@ -1,10 +1,18 @@
 //! Discs.
 
-ghost use Rattle.std.specs.Prelude.{◌≡◌, IsTrue};
+ghost use Rattle.std.specs.Prelude.{◌≡◌, ◌+ℤ◌, ◌-ℤ◌, ◌*ℤ◌, ◌*◌, ◌≤◌, ◌^◌, pos, int_le, unsigned_abs, IsTrue};
+ghost use Rattle.gf_shape.specs.Reach.{is_reached, is_within_reach};
 ghost use Rattle.gf_shape.specs.Round.{is_round};
+ghost use Rattle.gf_shape.specs.ShapeLaws.{IsBounds};
+ghost use Rattle.gf_shape.specs.ShapeMeaning.{round_holds};
+ghost use Rattle.gf_shape.specs.ShapeMoves.{round_movable, round_moved};
 
-use crate::Point;
+use crate::products::{gap, product};
+use crate::{Bounds, Point};
 use std::marker::Model;
+
+/// The greatest radius.
+pub(crate) const MOST_RADIUS: u32 = 10_000_000;
 
 /// The points within a radius of a centre.
 #[derive(Clone, Copy, Debug, PartialEq, Eq)]
@@ -52,4 +60,103 @@ impl Disc {
     {
         self.radius
     }
+
+    /// The same disc again.
+    pub(crate) fn copy(&self) -> Disc
+        ensures same { result ≡ self.now }
+        ensures lawful { IsTrue (is_round result) }
+    {
+        Disc::new(self.centre, self.radius)
+    }
+
+    /// Whether it holds the point.
+    pub(crate) fn holds(&self, p: Point) -> bool
+        ensures { result ≡ round_holds self.now p }
+    {
+        is_within(
+            gap(self.centre.x, p.x),
+            gap(self.centre.y, p.y),
+            self.radius,
+        )
+    }
+
+    /// The least bounds of what it holds.
+    pub(crate) fn bounds(&self) -> Bounds
+        ensures { IsBounds (round_holds self.now) result }
+    {
+        Bounds {
+            low: low_corner(self.centre, self.radius),
+            high: high_corner(self.centre, self.radius),
+        }
+    }
+
+    /// Whether its centre, moved by `d`, lies within reach.
+    pub(crate) fn movable(&self, d: Point) -> bool
+        ensures { result ≡ round_movable self.now d }
+    {
+        self.centre.movable(d)
+    }
+
+    /// The disc moved by `d`.
+    pub(crate) fn moved(&self, d: Point) -> Disc
+        requires { IsTrue (round_movable self.now d) }
+        ensures { result ≡ round_moved self.now d }
+    {
+        Disc {
+            centre: self.centre.moved(d),
+            ..*self
+        }
+    }
+}
+
+/// Whether two gaps are the sides of a right angle whose far side is at most a radius.
+fn is_within(x: i64, y: i64, radius: u32) -> bool
+    requires x { unsigned_abs x ≤ 2 ^ 32 }
+    requires y { unsigned_abs y ≤ 2 ^ 32 }
+    ensures { result ≡ int_le (x *ℤ x +ℤ y *ℤ y) (pos (radius * radius)) }
+{
+    let radius = i64::from(radius);
+    product(x, x) + product(y, y) <= product(radius, radius)
+}
+
+/// The point `n` before and above `p`.
+fn low_corner(p: Point, n: u32) -> Point
+    requires p { IsTrue (is_within_reach p) }
+    requires n { n ≤ 10000000 }
+    ensures { result ≡ record { x = p.x -ℤ pos n; y = p.y -ℤ pos n } }
+{
+    Point {
+        x: less(p.x, n),
+        y: less(p.y, n),
+    }
+}
+
+/// The point `n` past and below `p`.
+fn high_corner(p: Point, n: u32) -> Point
+    requires p { IsTrue (is_within_reach p) }
+    requires n { n ≤ 10000000 }
+    ensures { result ≡ record { x = p.x +ℤ pos n; y = p.y +ℤ pos n } }
+{
+    Point {
+        x: more(p.x, n),
+        y: more(p.y, n),
+    }
+}
+
+#[tactic(auto, using(std::proofs::lemmas::Int::ints), unfolding(crate::specs::Reach::is_reached))]
+fn less(at: i32, n: u32) -> i32
+    requires at { IsTrue (is_reached at) }
+    requires n { n ≤ 10000000 }
+    ensures { result ≡ at -ℤ pos n }
+{
+    at - n as i32
+}
+
+#[tactic(auto, using(std::proofs::lemmas::Int::ints), unfolding(crate::specs::Reach::is_reached))]
+fn more(at: i32, n: u32) -> i32
+    requires at { IsTrue (is_reached at) }
+    requires n { n ≤ 10000000 }
+    ensures { result ≡ at +ℤ pos n }
+{
+    at + n as i32
 }

@@ -1,27 +1,45 @@
 //! Shapes over grid points: what each holds, its bounds, its moves and its outline.
 //!
 //! - [`Point`], [`Rgb`], [`Bounds`], [`Span`]: plain values; [`REACH`]: how far points lie.
-//! - [`Rect`]: a box, what a designer draws.
+//! - [`Shape`]: what every shape can do, and the laws that it keeps.
+//! - [`Rect`], [`Circle`], [`Polygon`] and [`AnyShape`], which is one of these: what a designer draws.
 //! - [`Outline`], which is a [`Chain`] or a [`Disc`]: what a FIG file draws.
-//! - [`Range`], [`OutOfMemory`]: why a call was refused.
+//! - [`Range`], [`OutOfMemory`], [`PolygonError`]: why a call was refused.
 #![tactic(auto)]
 
+mod any_shape;
 mod bounds;
 mod chain;
+mod circle;
 mod colour;
 mod disc;
+mod edges;
 mod outline;
 mod point;
+mod points;
+mod polygon;
+#[cfg(test)]
+mod polygon_tests;
+mod products;
 mod rect;
 mod refusals;
 #[cfg(test)]
+mod round_tests;
+mod shape;
+#[cfg(test)]
+mod shape_tests;
+#[cfg(test)]
 mod tests;
 
+pub use any_shape::AnyShape;
 pub use bounds::{Bounds, Span};
 pub use chain::Chain;
+pub use circle::Circle;
 pub use colour::Rgb;
 pub use disc::Disc;
 pub use outline::Outline;
 pub use point::{Point, REACH};
+pub use polygon::Polygon;
 pub use rect::Rect;
-pub use refusals::{OutOfMemory, Range};
+pub use refusals::{OutOfMemory, PolygonError, Range};
+pub use shape::Shape;

@@ -1,10 +1,66 @@
 //! What a figure of a FIG file draws.
 
-use crate::{Chain, Disc};
+ghost use Rattle.std.specs.Prelude.{◌≡◌, IfOk, refl};
+ghost use Rattle.gf_shape.specs.FigureMeaning.{outline_holds};
+ghost use Rattle.gf_shape.specs.ShapeMoves.{outline_movable, outline_moved};
+ghost use Rattle.gf_shape.specs.Laws.Shapes.{outline_moves};
+
+use crate::{Bounds, Chain, Disc, OutOfMemory, Point, Shape};
+use std::alloc::Global;
 
 /// The outline of a figure, filled.
 #[derive(Debug, Drop)]
 pub enum Outline {
     Chain(Chain),
     Disc(Disc),
+}
+
+impl Shape for Outline {
+    ghost holds = { outline_holds };
+
+    ghost is_movable = { outline_movable };
+
+    ghost moved = { outline_moved };
+
+    ghost outline = { λ o. o };
+
+    fn holds(&self, p: Point) -> bool {
+        match self {
+            Outline::Chain(chain) => chain.holds(p),
+            Outline::Disc(disc) => disc.holds(p),
+        }
+    }
+
+    fn bounds(&self) -> Bounds {
+        match self {
+            Outline::Chain(chain) => chain.bounds(),
+            Outline::Disc(disc) => disc.bounds(),
+        }
+    }
+
+    fn movable(&self, d: Point) -> bool {
+        match self {
+            Outline::Chain(chain) => chain.movable(d),
+            Outline::Disc(disc) => disc.movable(d),
+        }
+    }
+
+    fn moved(&self, alloc: Global, d: Point) -> Result<Outline, OutOfMemory> {
+        match self {
+            Outline::Chain(chain) => Ok(Outline::Chain(chain.moved(alloc, d)?)),
+            Outline::Disc(disc) => Ok(Outline::Disc(disc.moved(d))),
+        }
+    }
+
+    /// A copy of itself.
+    fn outline(&self, alloc: Global) -> Result<Outline, OutOfMemory> {
+        match self {
+            Outline::Chain(chain) => Ok(Outline::Chain(chain.copy(alloc)?)),
+            Outline::Disc(disc) => Ok(Outline::Disc(disc.copy())),
+        }
+    }
+
+    ghost moves = { outline_moves };
+
+    ghost outlines = { λ o p. refl };
 }

@@ -1,6 +1,7 @@
 //! Grid points, and how far from the axes a shape reaches.
 
 ghost use Rattle.std.specs.Prelude.{◌≡◌, ◌+ℤ◌, IsTrue};
+ghost use Rattle.gf_shape.specs.BoundsOf.{least, most};
 ghost use Rattle.gf_shape.specs.Moving.{plus};
 ghost use Rattle.gf_shape.specs.Reach.{is_reached, is_within_reach};
 
@@ -15,11 +16,38 @@ pub struct Point {
 }
 
 impl Point {
+    /// Whether the point lies within reach.
+    pub(crate) fn is_within_reach(self) -> bool
+        ensures { result ≡ is_within_reach self }
+    {
+        is_reached(self.x.into()) && is_reached(self.y.into())
+    }
+
+    /// The lesser of both coordinates.
+    pub(crate) fn least(self, p: Point) -> Point
+        ensures { result ≡ least self p }
+    {
+        Point {
+            x: self.x.min(p.x),
+            y: self.y.min(p.y),
+        }
+    }
+
+    /// The greater of both coordinates.
+    pub(crate) fn most(self, p: Point) -> Point
+        ensures { result ≡ most self p }
+    {
+        Point {
+            x: self.x.max(p.x),
+            y: self.y.max(p.y),
+        }
+    }
+
     /// Whether the point, moved by `d`, lies within reach.
     pub(crate) fn movable(self, d: Point) -> bool
         ensures { result ≡ is_within_reach (plus self d) }
     {
-        is_reached(self.x, d.x) && is_reached(self.y, d.y)
+        is_reached(moved(self.x, d.x)) && is_reached(moved(self.y, d.y))
     }
 
     /// The point moved by `d`.
@@ -34,16 +62,23 @@ impl Point {
     }
 }
 
-/// Whether a sum lies within reach.
-#[tactic(auto, using(std::proofs::lemmas::Int::ints), unfolding(crate::specs::Reach::is_reached))]
-fn is_reached(n: i32, d: i32) -> bool
-    ensures { result ≡ is_reached (n +ℤ d) }
+/// A coordinate moved by a distance.
+#[tactic(auto, using(std::proofs::lemmas::Int::ints))]
+fn moved(n: i32, d: i32) -> i64
+    ensures { result ≡ n +ℤ d }
 {
-    let sum = n as i64 + d as i64;
-    -(REACH as i64) <= sum && sum <= REACH as i64
+    i64::from(n) + i64::from(d)
 }
 
-/// A sum that lies within reach.
+/// Whether a coordinate lies within reach.
+#[tactic(auto, using(std::proofs::lemmas::Int::ints), unfolding(crate::specs::Reach::is_reached))]
+fn is_reached(n: i64) -> bool
+    ensures { result ≡ is_reached n }
+{
+    -i64::from(REACH) <= n && n <= i64::from(REACH)
+}
+
+/// A coordinate moved by a distance, where the result lies within reach.
 #[tactic(auto, using(std::proofs::lemmas::Int::ints), unfolding(crate::specs::Reach::is_reached))]
 fn sum(n: i32, d: i32) -> i32
     requires { IsTrue (is_reached (n +ℤ d)) }

@@ -1,12 +1,13 @@
 //! Boxes.
 
 ghost use Rattle.std.specs.Prelude.{◌≡◌, ◌↔◌, IsTrue, IsOk, IfOk, pos, true, ◌+ℤ◌, ◌-ℤ◌, ◌&&◌, int_le};
-ghost use Rattle.gf_shape.specs.Area.{is_area, is_side, is_movable, far_corner, corners_again};
-ghost use Rattle.gf_shape.specs.Moving.{plus};
+ghost use Rattle.gf_shape.specs.Area.{is_area, is_side, far_corner, corners_again};
+ghost use Rattle.gf_shape.specs.Outlines.{rect_outline};
 ghost use Rattle.gf_shape.specs.ShapeMeaning.{rect_holds};
-ghost use Rattle.gf_shape.specs.ShapeLaws.{IsMovedBy, IsBounds, IsOutlineOf};
+ghost use Rattle.gf_shape.specs.ShapeMoves.{rect_movable, rect_moved};
+ghost use Rattle.gf_shape.specs.Laws.Shapes.{rect_moves, rect_outlines};
 
-use crate::{Bounds, Chain, OutOfMemory, Outline, Point, REACH, Range};
+use crate::{Bounds, Chain, OutOfMemory, Outline, Point, REACH, Range, Shape};
 use std::alloc::Global;
 use std::marker::Model;
 
@@ -46,53 +47,6 @@ impl Rect {
         }
     }
 
-    /// Whether the point lies in the box or on its edges.
-    pub fn holds(&self, p: Point) -> bool
-        ensures { result ≡ rect_holds self.now p }
-    {
-        is_along(self.low.x, self.width, p.x) && is_along(self.low.y, self.height, p.y)
-    }
-
-    /// The least bounds of what it holds.
-    pub fn bounds(&self) -> Bounds
-        ensures { IsBounds (rect_holds self.now) result }
-    {
-        let far = self.far_corner();
-        Bounds {
-            low: self.low,
-            high: far,
-        }
-    }
-
-    /// Whether the box, moved by `d`, keeps within reach.
-    pub fn movable(&self, d: Point) -> bool
-        ensures { result ≡ is_movable self.now d }
-    {
-        self.low.movable(d) && self.far_corner().movable(d)
-    }
-
-    /// The box moved by `d`. It takes no memory, so it is not refused for want of it.
-    pub fn moved(&self, _alloc: Global, d: Point) -> Result<Rect, OutOfMemory>
-        requires { IsTrue (is_movable self.now d) }
-        ensures ok { IsOk result }
-        ensures place { IfOk result (λ rect. rect ≡ record self.now { low = plus self.now.low d }) }
-        ensures moves { IfOk result (λ rect. IsMovedBy d (rect_holds self.now) (rect_holds rect)) }
-    {
-        Ok(Rect {
-            low: self.low.moved(d),
-            ..*self
-        })
-    }
-
-    /// The closed chain of its corners.
-    pub fn outline(&self, alloc: Global) -> Result<Outline, OutOfMemory>
-        ensures points { IfOk result (λ o. o ≡ Outline.Chain (record { boxed = true; points = corners_again self.now })) }
-        ensures law { IfOk result (IsOutlineOf (rect_holds self.now)) }
-    {
-        let points = Vec::from_array(alloc, self.corners_again())?;
-        Ok(Outline::Chain(Chain::new(true, points)))
-    }
-
     /// The corners in FIG's order, the first one again at the end.
     fn corners_again(&self) -> [Point; 5]
         ensures corners { result ≡ corners_again self.now }
@@ -113,6 +67,54 @@ impl Rect {
             y: end(self.low.y, self.height),
         }
     }
+}
+
+impl Shape for Rect {
+    ghost holds = { rect_holds };
+
+    ghost is_movable = { rect_movable };
+
+    ghost moved = { rect_moved };
+
+    ghost outline = { rect_outline };
+
+    fn holds(&self, p: Point) -> bool {
+        is_along(self.low.x, self.width, p.x) && is_along(self.low.y, self.height, p.y)
+    }
+
+    fn bounds(&self) -> Bounds {
+        let far = self.far_corner();
+        Bounds {
+            low: self.low,
+            high: far,
+        }
+    }
+
+    fn movable(&self, d: Point) -> bool {
+        self.low.movable(d) && self.far_corner().movable(d)
+    }
+
+    /// The box moved by `d`. It takes no memory, so it is not refused for want of it.
+    fn moved(&self, _alloc: Global, d: Point) -> Result<Rect, OutOfMemory>
+        requires { IsTrue (rect_movable self.now d) }
+        ensures ok { IsOk result }
+        ensures moved { IfOk result (λ rect. rect ≡ rect_moved self.now d) }
+    {
+        Ok(Rect {
+            low: self.low.moved(d),
+            ..*self
+        })
+    }
+
+    /// The closed chain of its corners.
+    fn outline(&self, alloc: Global) -> Result<Outline, OutOfMemory> {
+        let points = Vec::from_array(alloc, self.corners_again())?;
+        Ok(Outline::Chain(Chain::new(true, points)))
+    }
+
+    ghost moves = { rect_moves };
+
+    ghost outlines = { rect_outlines };
 }
 
 /// Whether a side of at least 1 keeps within reach at both ends.

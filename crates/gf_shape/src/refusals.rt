@@ -13,6 +13,20 @@ pub struct Range;
 #[error("out of memory")]
 pub struct OutOfMemory;
 
+/// Why points make no polygon.
+#[derive(Clone, Copy, Debug, PartialEq, Eq, Error)]
+pub enum PolygonError {
+    /// They are fewer than 3 or more than 64.
+    #[error("Count")]
+    Count,
+    /// They are 3 to 64, and one of them is out of reach.
+    #[error("Range")]
+    Range,
+    /// A growth of memory was refused.
+    #[error("out of memory")]
+    OutOfMemory,
+}
+
 impl From<AllocError> for OutOfMemory {
     fn from(_: AllocError) -> OutOfMemory {
         OutOfMemory

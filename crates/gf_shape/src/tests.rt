@@ -1,13 +1,9 @@
-//! Worked examples.
+//! Worked examples: boxes, and the words of refusals.
 
-ghost use Rattle.std.specs.Prelude.{◌≡◌};
-
-use crate::{Bounds, Chain, Disc, OutOfMemory, Outline, Point, Range, Rect};
+use crate::{Bounds, OutOfMemory, Outline, Point, PolygonError, Range, Rect, Shape};
 use std::test::Fail;
 
-fn at(x: i32, y: i32) -> Point
-    ensures { result ≡ record { x = x; y = y } }
-{
+fn at(x: i32, y: i32) -> Point {
     Point { x, y }
 }
 
@@ -44,7 +40,6 @@ fn boxes_hold_their_edges(rt: HostRuntime) -> Result<(), Fail> {
         (at(401, 333), false),
         (at(250, 199), false),
         (at(250, 601), false),
-        (at(i32::MIN, i32::MAX), false),
     ];
     for (p, held) in rows {
         assert_eq!(rt; rect.holds(p), held, "{p:?}");
@@ -82,7 +77,7 @@ fn boxes_move_within_reach(rt: HostRuntime) -> Result<(), Fail> {
 }
 
 #[test]
-fn outlines_close(rt: HostRuntime) -> Result<(), Fail> {
+fn outlines_of_boxes_close(rt: HostRuntime) -> Result<(), Fail> {
     let rect = Rect::new(at(100, 200), 300, 400)?;
     let corners = [
         at(100, 200),
@@ -101,19 +96,6 @@ fn outlines_close(rt: HostRuntime) -> Result<(), Fail> {
     Ok(())
 }
 
-#[tactic(auto, unfolding(crate::specs::Reach::is_reached))]
-#[test]
-fn figures_tell_what_they_were_made_of(rt: HostRuntime) -> Result<(), Fail> {
-    let corners = [at(0, 0), at(-1_000_000, 0), at(0, -1_000_000), at(0, 0)];
-    let chain = Chain::new(false, Vec::from_array(rt.alloc(), corners)?);
-    assert!(rt; !chain.boxed());
-    assert_eq!(rt; chain.points(), corners.as_slice());
-    let disc = Disc::new(at(10_000_000, 0), 10_000_000);
-    assert_eq!(rt; disc.centre(), at(10_000_000, 0));
-    assert_eq!(rt; disc.radius(), 10_000_000);
-    Ok(())
-}
-
 #[test]
 fn refusals_say_why(rt: HostRuntime) -> Result<(), Fail> {
     let alloc = rt.alloc();
@@ -122,5 +104,13 @@ fn refusals_say_why(rt: HostRuntime) -> Result<(), Fail> {
         format!(in alloc; "{OutOfMemory}")?.as_str(),
         "out of memory"
     );
+    let rows = [
+        (PolygonError::Count, "Count"),
+        (PolygonError::Range, "Range"),
+        (PolygonError::OutOfMemory, "out of memory"),
+    ];
+    for (error, text) in rows {
+        assert_eq!(rt; format!(in alloc; "{error}")?.as_str(), text);
+    }
     Ok(())
 }

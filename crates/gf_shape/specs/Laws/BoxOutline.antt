@@ -1,40 +1,16 @@
--- The chain of a box's corners is lawful, and holds by the ray to the left what the box holds.
-use Rattle.std.specs.Prelude.{◌≡◌, ℕ, ◌+◌, ◌%◌, ℤ, pos, ◌+ℤ◌, ◌-ℤ◌, ◌≤ℤ◌, ◌<ℤ◌, IsTrue, Bool, true, false, not, cond, ◌&&◌, ◌||◌, int_le, int_lt, nat_eq, refl, [], ◌∷◌}
+-- The chain of a box's corners holds by the ray to the left what the box holds. No public clause cites this module.
+use Rattle.std.specs.Prelude.{◌≡◌, ℕ, ◌+◌, ◌%◌, ℤ, pos, ◌+ℤ◌, ◌-ℤ◌, ◌≤ℤ◌, ◌<ℤ◌, Bool, true, false, not, cond, ◌&&◌, ◌||◌, int_le, int_lt, nat_eq, refl, [], ◌∷◌}
 use Rattle.std.proofs.Common.{arith, inl, inr}
 use Rattle.std.proofs.Math.Bool.{and-false, or-false}
 use Rattle.std.proofs.Math.IntN.{*ℤ-zero, zero-*ℤ}
 use Rattle.std.proofs.lemmas.Int.{ints, by_lt_z}
-use Rattle.std.proofs.lemmas.Bool.{and_parts, and_from, cases_Bool}
-use Rattle.std.proofs.lemmas.List.Elements.{All-from_recursion}
+use Rattle.std.proofs.lemmas.Bool.{cases_Bool}
 use Rattle.gf_shape.specs.declared.point.Point.{Point}
-use Rattle.gf_shape.specs.declared.outline.Outline.TheVariants.{Chain}
-use Rattle.gf_shape.specs.ShapeLaws.{IsOutlineOf}
-use Rattle.gf_shape.specs.Area.{Area, is_area, is_side, corners_again}
+use Rattle.gf_shape.specs.Area.{Area, corners_again}
 use Rattle.gf_shape.specs.Edges.{side, is_on_line, is_between, is_on_edge, crosses_left}
-use Rattle.gf_shape.specs.Reach.{is_reached, is_within_reach}
-use Rattle.gf_shape.specs.Ring.{IsRing}
 use Rattle.gf_shape.specs.ShapeMeaning.{rect_holds}
 use Rattle.gf_shape.specs.FigureMeaning.{chain_holds}
-use Rattle.gf_shape.proofs.SideLemmas.{side-right_up, side-right_down, side-left_up, side-left_down}
-
--- both ends of a side lie within reach
-is_side-reached : (low : ℤ) (size : ℕ) → IsTrue (is_side low size) → IsTrue (is_reached low) × IsTrue (is_reached (low +ℤ pos size))
-unfolding is_side is_reached
-is_side-reached low size h = (grind (arith, ints), grind (arith, ints))
-
--- the corners of a box, the first one again, are a lawful ring
-pub IsRing-corners_again : (a : Area) → IsTrue (is_area a) → IsRing (record { boxed = true; points = corners_again a })
-IsRing-corners_again a h =
-    let sides = and_parts _ _ h in
-    let x = is_side-reached a.low.x a.width sides.0 in
-    let y = is_side-reached a.low.y a.height sides.1 in
-    record {
-      least = omega arith;
-      most = omega arith;
-      box = λ _. refl;
-      closed = refl;
-      reach = All-from_recursion (λ p. IsTrue (is_within_reach p)) (corners_again a) (and_from _ _ x.0 y.0, (and_from _ _ x.1 y.0, (and_from _ _ x.1 y.1, (and_from _ _ x.0 y.1, (and_from _ _ x.0 y.0, tt)))));
-    }
+use Rattle.gf_shape.specs.Laws.Sides.{side-right_up, side-right_down, side-left_up, side-left_down}
 
 -- a point of these coordinates
 abbrev at : ℤ → ℤ → Point
@@ -121,6 +97,7 @@ crosses_left-upright p x a b = elim (cases_Bool (int_le a p.y)) [
 data Along : Bool → Bool → Bool → Bool → Type 0 where
   Before : Along false true true false
   First : Along true true true false
+  Only : Along true true true true
   Inside : Along true false true false
   Last : Along true false true true
   Past : Along true false false true
@@ -131,7 +108,7 @@ le_true m n h = grind (arith, ints)
 le_false : (m n : ℤ) → n <ℤ m → int_le m n ≡ false
 le_false m n h = grind (arith, ints)
 
-along : (low high n : ℤ) → low <ℤ high → Along (int_le low n) (int_le n low) (int_le n high) (int_le high n)
+along : (low high n : ℤ) → low ≤ℤ high → Along (int_le low n) (int_le n low) (int_le n high) (int_le high n)
 along low high n h =
     by_lt_z n low
     (λ k. rw (le_false low n k, le_true n low (omega (arith, ints)), le_true n high (omega (arith, ints)), le_false high n (omega (arith, ints))) Before)
@@ -141,7 +118,9 @@ along low high n h =
     (λ m. by_lt_z high n
     (λ o. rw (le_true low n k, le_false n low l, le_false n high o, le_true high n m) Past)
     (λ o. rw (le_true low n k, le_false n low l, le_true n high o, le_true high n m) Last)))
-    (λ l. rw (le_true low n k, le_true n low l, le_true n high (omega (arith, ints)), le_false high n (omega (arith, ints))) First))
+    (λ l. by_lt_z low high
+    (λ m. rw (le_true low n k, le_true n low l, le_true n high (omega (arith, ints)), le_false high n (omega (arith, ints))) First)
+    (λ m. rw (le_true low n k, le_true n low l, le_true n high (omega (arith, ints)), le_true high n (omega (arith, ints))) Only)))
 
 -- the tests of a box's ring come to those of the box
 ring_tests : {a b c d e f g h : Bool} → Along a b c d → Along e f g h →
@@ -155,12 +134,13 @@ ring_tests : {a b c d e f g h : Bool} → Along a b c d → Along e f g h →
 ring_tests Before Before = refl
 ring_tests First Before = refl
 ring_tests Inside Before = refl
+ring_tests Only Before = refl
 ring_tests Last Before = refl
 ring_tests Past Before = refl
 ring_tests x y = refl
 
 -- a ring round two sides holds what lies along both
-chain_holds-ring : (left right top bottom : ℤ) (p : Point) → left <ℤ right → top <ℤ bottom →
+chain_holds-ring : (left right top bottom : ℤ) (p : Point) → left ≤ℤ right → top ≤ℤ bottom →
     chain_holds (at left top ∷ at right top ∷ at right bottom ∷ at left bottom ∷ at left top ∷ []) p
     ≡ (((int_le left p.x && int_le p.x right) && int_le top p.y) && int_le p.y bottom)
 unfolding is_between
@@ -173,16 +153,11 @@ from_low low n = grind (arith, ints)
 to_high : (low n : ℤ) (size : ℕ) → int_le (n -ℤ low) (pos size) ≡ int_le n (low +ℤ pos size)
 to_high low n size = grind (arith, ints)
 
-past_low : (low : ℤ) (size : ℕ) → IsTrue (is_side low size) → low <ℤ (low +ℤ pos size)
-unfolding is_side
-past_low low size h = grind (arith, ints)
-
-chain_holds-corners_again : (a : Area) → IsTrue (is_area a) → (p : Point) → chain_holds (corners_again a) p ≡ rect_holds a p
-chain_holds-corners_again a h p =
-    let sides = and_parts _ _ h in
-    rw (from_low a.low.x p.x, to_high a.low.x p.x a.width, from_low a.low.y p.y, to_high a.low.y p.y a.height)
-    (chain_holds-ring a.low.x (a.low.x +ℤ pos a.width) a.low.y (a.low.y +ℤ pos a.height) p (past_low a.low.x a.width sides.0) (past_low a.low.y a.height sides.1))
+from_low_to_high : (low : ℤ) (size : ℕ) → low ≤ℤ (low +ℤ pos size)
+from_low_to_high low size = omega (arith, ints)
 
 -- the outline law of boxes
-pub IsOutlineOf-corners_again : (a : Area) → IsTrue (is_area a) → IsOutlineOf (rect_holds a) (Chain (record { boxed = true; points = corners_again a }))
-IsOutlineOf-corners_again a h = record { lawful = IsRing-corners_again a h; same = chain_holds-corners_again a h }
+pub chain_holds-corners_again : (a : Area) (p : Point) → chain_holds (corners_again a) p ≡ rect_holds a p
+chain_holds-corners_again a p =
+    rw (from_low a.low.x p.x, to_high a.low.x p.x a.width, from_low a.low.y p.y, to_high a.low.y p.y a.height)
+    (chain_holds-ring a.low.x (a.low.x +ℤ pos a.width) a.low.y (a.low.y +ℤ pos a.height) p (from_low_to_high a.low.x a.width) (from_low_to_high a.low.y a.height))

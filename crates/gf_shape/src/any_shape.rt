@@ -1,0 +1,72 @@
+//! Shapes of every kind.
+
+ghost use Rattle.std.specs.Prelude.{◌≡◌, IfOk};
+ghost use Rattle.gf_shape.specs.ShapeMeaning.{any_holds};
+ghost use Rattle.gf_shape.specs.ShapeMoves.{any_movable, any_moved};
+ghost use Rattle.gf_shape.specs.Outlines.{any_outline};
+ghost use Rattle.gf_shape.specs.Laws.Shapes.{any_moves, any_outlines};
+
+use crate::{Bounds, Circle, OutOfMemory, Outline, Point, Polygon, Rect, Shape};
+use std::alloc::Global;
+
+/// A shape of any kind that a designer draws.
+#[derive(Debug, Drop)]
+pub enum AnyShape {
+    Rect(Rect),
+    Circle(Circle),
+    Polygon(Polygon),
+}
+
+impl Shape for AnyShape {
+    ghost holds = { any_holds };
+
+    ghost is_movable = { any_movable };
+
+    ghost moved = { any_moved };
+
+    ghost outline = { any_outline };
+
+    fn holds(&self, p: Point) -> bool {
+        match self {
+            AnyShape::Rect(rect) => rect.holds(p),
+            AnyShape::Circle(circle) => circle.holds(p),
+            AnyShape::Polygon(polygon) => polygon.holds(p),
+        }
+    }
+
+    fn bounds(&self) -> Bounds {
+        match self {
+            AnyShape::Rect(rect) => rect.bounds(),
+            AnyShape::Circle(circle) => circle.bounds(),
+            AnyShape::Polygon(polygon) => polygon.bounds(),
+        }
+    }
+
+    fn movable(&self, d: Point) -> bool {
+        match self {
+            AnyShape::Rect(rect) => rect.movable(d),
+            AnyShape::Circle(circle) => circle.movable(d),
+            AnyShape::Polygon(polygon) => polygon.movable(d),
+        }
+    }
+
+    fn moved(&self, alloc: Global, d: Point) -> Result<AnyShape, OutOfMemory> {
+        match self {
+            AnyShape::Rect(rect) => Ok(AnyShape::Rect(rect.moved(alloc, d)?)),
+            AnyShape::Circle(circle) => Ok(AnyShape::Circle(circle.moved(alloc, d)?)),
+            AnyShape::Polygon(polygon) => Ok(AnyShape::Polygon(polygon.moved(alloc, d)?)),
+        }
+    }
+
+    fn outline(&self, alloc: Global) -> Result<Outline, OutOfMemory> {
+        match self {
+            AnyShape::Rect(rect) => rect.outline(alloc),
+            AnyShape::Circle(circle) => circle.outline(alloc),
+            AnyShape::Polygon(polygon) => polygon.outline(alloc),
+        }
+    }
+
+    ghost moves = { any_moves };
+
+    ghost outlines = { any_outlines };
+}

@@ -1,0 +1,52 @@
+//! What every shape can do, and the laws that it keeps.
+
+ghost use Rattle.std.specs.Prelude.{◌≡◌, Bool, IsTrue, IfOk};
+ghost use Rattle.gf_shape.specs.declared.outline.Outline.{Outline};
+ghost use Rattle.gf_shape.specs.declared.point.Point.{Point};
+ghost use Rattle.gf_shape.specs.ShapeLaws.{IsBounds, IsLawful, IsMovedBy, IsOutlineOf};
+
+use crate::{Bounds, OutOfMemory, Outline, Point};
+use std::alloc::Global;
+
+/// A set of grid points that a designer can draw.
+pub trait Shape: Drop {
+    /// Which points it holds.
+    ghost holds: { Self → Point → Bool };
+
+    /// Whether each of its defining points, moved by a distance, lies within reach.
+    ghost is_movable: { Self → Point → Bool };
+
+    /// The shape whose defining points are moved by a distance.
+    ghost moved: { Self → Point → Self };
+
+    /// What FIG draws of it.
+    ghost outline: { Self → Outline };
+
+    /// Whether it holds the point.
+    fn holds(&self, p: Point) -> bool
+        ensures { result ≡ holds self.now p };
+
+    /// The least bounds of what it holds.
+    fn bounds(&self) -> Bounds
+        ensures { IsBounds (holds self.now) result };
+
+    /// Whether it, moved by `d`, keeps within reach.
+    fn movable(&self, d: Point) -> bool
+        ensures { result ≡ is_movable self.now d };
+
+    /// The shape moved by `d`.
+    fn moved(&self, alloc: Global, d: Point) -> Result<Self, OutOfMemory>
+        requires { IsTrue (is_movable self.now d) }
+        ensures { IfOk result (λ shape. shape ≡ moved self.now d) };
+
+    /// Its outline, as a FIG file draws it.
+    fn outline(&self, alloc: Global) -> Result<Outline, OutOfMemory>
+        ensures outline { IfOk result (λ o. o ≡ outline self.now) }
+        ensures lawful { IfOk result IsLawful };
+
+    /// Move law.
+    ghost moves: { (s : Self) (d : Point) → IsMovedBy d (holds s) (holds (moved s d)) };
+
+    /// Outline law.
+    ghost outlines: { (s : Self) → IsOutlineOf (holds s) (outline s) };
+}
