@@ -1,6 +1,6 @@
 -- What holds of every history of site 1.
 use Rattle.std.proofs.Common.{length-append, rules, suc, zero, ◌≡◌, ◌≢◌, ℕ, ◌+◌, ◌-◌, ◌≤◌, ◌<◌, Bool, true, false, cond, ◌&&◌, List, [], ◌∷◌, ◌++◌, length, get_or, replicate, refl, ap, sym, subst, ◌∙◌, arith, inl, inr}
-use Rattle.std.specs.Prelude.{Contains, All, Some, slice_get, count_by, nat_eq, slice_index}
+use Rattle.std.specs.Prelude.{Contains, All, Some, IsTrue, slice_get, count_by, nat_eq, slice_index}
 use Rattle.std.proofs.lemmas.Bool.{eq-eqb, eqb-true, and_parts, cases_eq, cases_lt}
 use Rattle.std.proofs.lemmas.Bool.Decides.{eqb_tells, Decides-eqb}
 use Rattle.std.proofs.lemmas.List.{ext_get_or, get_or_append_left, get_or-replicate}
@@ -12,15 +12,24 @@ use Rattle.std.proofs.Math.Seq.{get_or-append_seam}
 use Rattle.std.proofs.lemmas.Option.{slice_get_cases, get_or_from_slice_get, slice_get_within, slice_get-get_or}
 use Rattle.gf_ops.specs.declared.op.Op.{Op}
 use Rattle.gf_ops.specs.declared.op.OpId.{OpId}
-use Rattle.gf_ops.specs.Limits.{IsInRange}
+use Rattle.gf_ops.specs.Limits.{is_id, is_clock, is_change, IsInRange}
 use Rattle.gf_ops.specs.OperationOrder.{IsSite, entry, count_of}
 use Rattle.gf_ops.specs.Accepted.{IsAccepted}
 use Rattle.gf_ops.specs.HistoryState.{IsNth, IsHistory}
 use Rattle.gf_ops.proofs.ValidityLemmas.{Holds, IsValid-push}
 
+-- the first of three tests
+first_of : (p q r : Bool) → IsTrue (p && q && r) → IsTrue p
+first_of true q r t = refl
+first_of false q r t = absurd cc
+
+-- the number of an id in range is at most 10,000
+number_of_id : (i : OpId) → IsTrue (is_id i) → i.seq ≤ 10000
+number_of_id i t = search rules
+
 -- the number of an operation in range is at most 10,000
 number_within : (a : Op) → IsInRange a → a.id.seq ≤ 10000
-number_within a r = search rules
+number_within a r = number_of_id a.id (first_of (is_id a.id) (is_clock a.past) (is_change a.change) r)
 
 -- a history has at most 10,000 operations, since its last one is in range
 pub short : (h : List Op) → IsHistory h → length h ≤ 10000

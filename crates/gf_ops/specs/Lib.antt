@@ -1,3 +1,4 @@
+pub mod SamePoints
 pub mod Limits
 pub mod OperationOrder
 pub mod ValidHistory

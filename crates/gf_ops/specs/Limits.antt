@@ -1,12 +1,12 @@
 -- The limits of an operation (this project's choice).
-use Rattle.std.specs.Prelude.{ℕ, pos, negsuc, Bool, IsTrue, ◌&&◌, nat_le, int_le}
+use Rattle.std.specs.Prelude.{ℕ, pos, negsuc, Bool, IsTrue, ◌&&◌, nat_le, int_le, List, length}
 use Rattle.std.specs.List.{list_all}
 use Rattle.gf_shape.specs.declared.point.Point.{Point}
 use Rattle.gf_ops.specs.declared.op.Op.{Op}
 use Rattle.gf_ops.specs.declared.op.OpId.{OpId}
 use Rattle.gf_ops.specs.declared.op.Clock.{Clock}
 use Rattle.gf_ops.specs.declared.change.Form.{Form}
-use Rattle.gf_ops.specs.declared.change.Form.TheVariants.{Rect}
+use Rattle.gf_ops.specs.declared.change.Form.TheVariants.{Rect, Polygon, Circle}
 use Rattle.gf_ops.specs.declared.change.Change.{Change}
 use Rattle.gf_ops.specs.declared.change.Change.TheVariants.{Create}
 
@@ -30,12 +30,25 @@ is_near p = int_le (negsuc 999999) p.x && int_le p.x (pos 1000000) && int_le (ne
 abbrev pub is_size : ℕ → Bool
 is_size n = nat_le 1 n && nat_le n 1000000
 
+-- a polygon has 3 to 64 points
+abbrev pub is_count : ℕ → Bool
+is_count n = nat_le 3 n && nat_le n 64
+
+-- the polygon of ps has as many points as it may have, each of them near
+abbrev pub is_polygon : List Point → Bool
+is_polygon ps = is_count (length ps) && list_all is_near ps
+
+-- both sides of a box are sizes, and so is the radius of a circle
 abbrev pub is_form : Form → Bool
 is_form (Rect width height) = is_size width && is_size height
+is_form (Polygon ps) = is_polygon ps
+is_form (Circle radius) = is_size radius
 
+-- a new object has a form in range, is near, and has a layer up to 9,999
 abbrev pub is_change : Change → Bool
 is_change (Create start) = is_form start.form && is_near start.place && nat_le start.layer 9999
 
+-- the id, the clock and the change of a keep the limits
 abbrev pub is_in_range : Op → Bool
 is_in_range a = is_id a.id && is_clock a.past && is_change a.change
 

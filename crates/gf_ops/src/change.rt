@@ -1,5 +1,6 @@
 //! What an operation changes.
 
+use crate::Points;
 use gf_shape::{Point, Rgb};
 
 /// The shape of an object, seen from its place.
@@ -7,6 +8,10 @@ use gf_shape::{Point, Rgb};
 pub enum Form {
     /// A box of this width and height; its place is its least corner.
     Rect(u32, u32),
+    /// A polygon of these points, seen from its place.
+    Polygon(Points),
+    /// A circle of this radius; its place is its centre.
+    Circle(u32),
 }
 
 /// The attributes that a new object begins with. Objects of a higher layer are above.

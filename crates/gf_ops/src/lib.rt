@@ -1,7 +1,7 @@
 //! Operations on the objects of a drawing, and the history that they make.
 //!
 //! - [`Op`] with its [`OpId`], its [`Clock`] and its [`Change`]: one edit by one designer.
-//! - [`Form`], [`Start`], [`ObjectId`]: what a new object begins with, and its name.
+//! - [`Form`] with its [`Points`], [`Start`], [`ObjectId`]: what a new object begins with, and its name.
 //! - [`before`]: the causal order of operations.
 //! - [`History`]: the operations that a site has, always a valid history.
 //! - [`OpFault`], [`AddFault`]: why an operation was not added.
@@ -13,6 +13,7 @@ mod history;
 mod limits;
 mod op;
 mod order;
+mod points;
 #[cfg(test)]
 mod tests;
 
@@ -21,3 +22,4 @@ pub use faults::{AddFault, OpFault};
 pub use history::History;
 pub use op::{Clock, ObjectId, Op, OpId};
 pub use order::before;
+pub use points::Points;

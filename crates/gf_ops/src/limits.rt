@@ -1,7 +1,8 @@
 //! The limits of operations.
 
 ghost use Rattle.std.specs.Prelude.{◌≡◌};
-ghost use Rattle.gf_ops.specs.Limits.{is_site, is_size, is_near, is_id, is_clock, is_form, is_change, is_in_range};
+ghost use Rattle.std.specs.List.{list_all};
+ghost use Rattle.gf_ops.specs.Limits.{is_site, is_size, is_near, is_id, is_clock, is_count, is_polygon, is_form, is_change, is_in_range};
 
 use crate::{Change, Clock, Form, Op, OpId};
 use gf_shape::Point;
@@ -16,8 +17,8 @@ impl Op {
 }
 
 impl Change {
-    /// Whether its values keep the limits: coordinates ±1,000,000, sizes 1 to 1,000,000, layers 0
-    /// to 9,999.
+    /// Whether its values keep the limits: coordinates ±1,000,000, sizes 1 to 1,000,000, 3 to 64
+    /// points, layers 0 to 9,999.
     pub fn in_range(&self) -> bool
         ensures { result ≡ is_change self.now }
     {
@@ -53,8 +54,29 @@ fn is_size(n: u32) -> bool
 fn is_form(form: &Form) -> bool
     ensures { result ≡ is_form form.now }
 {
-    let Form::Rect(width, height) = form;
-    is_size(*width) && is_size(*height)
+    match form {
+        Form::Rect(width, height) => is_size(*width) && is_size(*height),
+        Form::Polygon(points) => is_polygon(points.as_slice()),
+        Form::Circle(radius) => is_size(*radius),
+    }
+}
+
+fn is_polygon(points: &[Point]) -> bool
+    ensures { result ≡ is_polygon points.now }
+{
+    is_count(points.len()) && are_near(points)
+}
+
+fn is_count(n: usize) -> bool
+    ensures { result ≡ is_count n }
+{
+    3 <= n && n <= 64
+}
+
+fn are_near(points: &[Point]) -> bool
+    ensures { result ≡ list_all is_near points.now }
+{
+    points.iter().all(|p| is_near(*p))
 }
 
 #[tactic(auto, using(std::proofs::lemmas::Int::ints), unfolding(crate::specs::Limits::is_near))]

@@ -1,7 +1,8 @@
 //! Tests of what the clauses mean: values from the project's own limits and rules.
 
-use crate::{AddFault, Change, Clock, Form, History, Op, OpFault, OpId, Start, before};
+use crate::{AddFault, Change, Clock, Form, History, Op, OpFault, OpId, Points, Start, before};
 use gf_shape::{Point, Rgb};
+use std::alloc::{AllocError, Global};
 use std::test::Fail;
 
 fn op_at(id: OpId, past: [u32; 8], place: Point, form: Form, layer: u16) -> Op {
@@ -58,6 +59,73 @@ fn keeps_limits(rt: HostRuntime) {
         let op = op_at(OpId { site, seq }, past, Point { x, y }, form, layer);
         assert_eq!(rt; op.in_range(), want, "of {op:?}");
     }
+}
+
+/// A polygon of so many points, all but this last one at its place.
+fn polygon(alloc: Global, count: u32, last: Point) -> Result<Form, AllocError> {
+    let mut points = Vec::new(alloc);
+    for _ in 1..count {
+        points.push(Point { x: 0, y: 0 })?;
+    }
+    points.push(last)?;
+    Ok(Form::Polygon(Points::new(points)))
+}
+
+/// The first operation of site 1, which creates an object of this form.
+fn creates(form: Form) -> Op {
+    op_at(
+        OpId { site: 1, seq: 1 },
+        [0; 8],
+        Point { x: 0, y: 0 },
+        form,
+        0,
+    )
+}
+
+#[test]
+fn keeps_the_limits_of_circles(rt: HostRuntime) {
+    for (radius, want) in [(0, false), (1, true), (1_000_000, true), (1_000_001, false)] {
+        let op = creates(Form::Circle(radius));
+        assert_eq!(rt; op.in_range(), want, "of {op:?}");
+    }
+}
+
+#[test]
+fn keeps_the_limits_of_polygons(rt: HostRuntime) -> Result<(), Fail> {
+    for (count, x, y, want) in [
+        (1, 0, 0, false),
+        (2, 0, 0, false),
+        (3, 0, 0, true),
+        (64, 0, 0, true),
+        (65, 0, 0, false),
+        (3, 1_000_000, -1_000_000, true),
+        (3, -1_000_000, 1_000_000, true),
+        (3, 1_000_001, 0, false),
+        (3, -1_000_001, 0, false),
+        (3, 0, 1_000_001, false),
+        (3, 0, -1_000_001, false),
+        (64, 0, 1_000_001, false),
+    ] {
+        let op = creates(polygon(rt.alloc(), count, Point { x, y })?);
+        assert_eq!(rt; op.in_range(), want, "of {count} points to {x}, {y}");
+    }
+    Ok(())
+}
+
+#[test]
+fn keeps_points_in_order(rt: HostRuntime) -> Result<(), Fail> {
+    let [a, b, c] = [
+        Point { x: 1, y: 2 },
+        Point { x: 3, y: 4 },
+        Point { x: 1, y: 5 },
+    ];
+    let points = Points::new(vec![in rt.alloc(); a, b, c]?);
+    assert_eq!(rt; points.as_slice(), &[a, b, c][..]);
+    assert_eq!(rt; points, Points::new(vec![in rt.alloc(); a, b, c]?));
+    assert!(rt; points != Points::new(vec![in rt.alloc(); b, a, c]?));
+    assert!(rt; points != Points::new(vec![in rt.alloc(); a, b, a]?));
+    assert!(rt; points != Points::new(vec![in rt.alloc(); a, b]?));
+    Ok(())
 }
 
 #[test]
