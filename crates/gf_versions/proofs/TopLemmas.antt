@@ -11,6 +11,7 @@ use Rattle.gf_ops.specs.declared.op.Op.{Op}
 use Rattle.gf_ops.specs.ValidHistory.{IsValid}
 use Rattle.gf_versions.specs.declared.key.Version.{Version}
 use Rattle.gf_versions.specs.declared.key.VersionKey.{VersionKey}
+use Rattle.gf_shape.specs.Area.{Area}
 use Rattle.gf_versions.specs.declared.placed.Placed.{Placed}
 use Rattle.gf_shape.specs.Moving.{minus}
 use Rattle.gf_shape.specs.ShapeMeaning.{rect_holds}
@@ -78,29 +79,29 @@ shape_holds : (form : Form) (place p : Point) → rect_holds (form_at form place
 shape_holds (Rect width height) place p = refl
 
 -- the first item of a ranking that holds p has the history's colour
-pub first_gives : (h : List Op) (p : Point) (items : List Placed) → AreRanked h items → HistoryColour h p (first_colour items p)
-first_gives h p items ranked = by_answer (find (λ (i : Placed). rect_holds i.shape p) items) refl
+pub first_gives : (h : List Op) (p : Point) (items : List (Placed Area)) → AreRanked h items → HistoryColour h p (first_colour rect_holds items p)
+first_gives h p items ranked = by_answer (find (λ (i : Placed Area). rect_holds i.shape p) items) refl
   where
-    Over : Placed → Placed → Type 0
+    Over : Placed Area → Placed Area → Type 0
     Over i j = IsAbove i.key j.key
 
     placed : (v : Version) → IsVisible h v → Contains items (placed_version v)
     placed v s = (ranked.exactly (placed_version v)).0 (record { version = v; visible = s; placed = refl })
 
-    by_answer : (r : Option Placed) → find (λ (i : Placed). rect_holds i.shape p) items ≡ r → HistoryColour h p (unwrap_or (option_map (λ (i : Placed). i.colour) r) white)
+    by_answer : (r : Option (Placed Area)) → find (λ (i : Placed Area). rect_holds i.shape p) items ≡ r → HistoryColour h p (unwrap_or (option_map (λ (i : Placed Area). i.colour) r) white)
     by_answer (Some i) e =
-        let first = find_first Over (λ j k. above_one_way j.key k.key) (λ (j : Placed). rect_holds j.shape p) items i ranked.falling e in
+        let first = find_first Over (λ j k. above_one_way j.key k.key) (λ (j : Placed Area). rect_holds j.shape p) items i ranked.falling e in
         let member = (ranked.exactly i).1 first.known in
         let v = member.version in
-        subst (HistoryColour h p) (sym (ap (λ (j : Placed). j.colour) member.placed)) (top v (record {
+        subst (HistoryColour h p) (sym (ap (λ (j : Placed Area). j.colour) member.placed)) (top v (record {
           seen = record {
             visible = member.visible;
-            holds = sym (shape_holds v.form v.place p) ∙ (sym (ap (λ (j : Placed). rect_holds j.shape p) member.placed) ∙ first.passes);
+            holds = sym (shape_holds v.form v.place p) ∙ (sym (ap (λ (j : Placed Area). rect_holds j.shape p) member.placed) ∙ first.passes);
           };
           top = λ w s above. first.highest (placed_version w) (placed w s.visible) (shape_holds w.form w.place p ∙ s.holds)
-              (subst (λ (j : Placed). IsAbove w.key j.key) (sym member.placed) above);
+              (subst (λ (j : Placed Area). IsAbove w.key j.key) (sym member.placed) above);
         }))
-    by_answer None e = blank (λ v s. find_none (λ (i : Placed). rect_holds i.shape p) items e (placed_version v) (placed v s.visible) (shape_holds v.form v.place p ∙ s.holds))
+    by_answer None e = blank (λ v s. find_none (λ (i : Placed Area). rect_holds i.shape p) items e (placed_version v) (placed v s.visible) (shape_holds v.form v.place p ∙ s.holds))
 
 -- the colour with its reason
 taken_apart : {h : List Op} {p : Point} {c : Rgb} → HistoryColour h p c → ((v : Version) × IsTopAt h p v × (c ≡ v.colour)) ⊎ (((v : Version) → ¬ (IsSeenAt h p v)) × (c ≡ white))

@@ -5,5 +5,5 @@ use Rattle.gf_versions.specs.declared.placed.Placed.{Placed}
 use Rattle.gf_versions.specs.Above.{key_cmp}
 
 -- i stands before j: its key is above
-abbrev pub falls_by : Placed → Placed → Bool
+abbrev pub falls_by : {S : Type 0} → Placed S → Placed S → Bool
 falls_by i j = is_lt (key_cmp j.key i.key)

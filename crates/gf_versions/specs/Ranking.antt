@@ -1,9 +1,8 @@
 -- The visible versions of a history in their order (this project's choice).
-use Rattle.std.specs.Prelude.{◌≡◌, List, AllPairs, Contains, ◌↔◌, find, option_map, unwrap_or}
+use Rattle.std.specs.Prelude.{◌≡◌, Bool, List, AllPairs, Contains, ◌↔◌, find, option_map, unwrap_or}
 use Rattle.gf_shape.specs.declared.point.Point.{Point}
 use Rattle.gf_shape.specs.declared.colour.Rgb.{Rgb}
 use Rattle.gf_shape.specs.Area.{Area}
-use Rattle.gf_shape.specs.ShapeMeaning.{rect_holds}
 use Rattle.gf_ops.specs.declared.op.Op.{Op}
 use Rattle.gf_ops.specs.declared.change.Form.{Form}
 use Rattle.gf_ops.specs.declared.change.Form.TheVariants.{Rect}
@@ -18,20 +17,20 @@ abbrev pub form_at : Form → Point → Area
 form_at (Rect width height) place = record { low = place; width = width; height = height }
 
 -- a version at its place: its key, its form moved to its place, its colour
-abbrev pub placed_version : Version → Placed
+abbrev pub placed_version : Version → Placed Area
 placed_version v = record { key = v.key; shape = form_at v.form v.place; colour = v.colour }
 
 -- i is a visible version of h at its place
-pub record IsPlaced (h : List Op) (i : Placed) : Type 0 where
+pub record IsPlaced (h : List Op) (i : Placed Area) : Type 0 where
   pub version : Version
   pub visible : IsVisible h version
   pub placed : i ≡ placed_version version
 
 -- the items are the visible versions of h at their places, each above those after it
-pub record AreRanked (h : List Op) (items : List Placed) : Type 0 where
-  pub exactly : (i : Placed) → IsPlaced h i ↔ Contains items i
+pub record AreRanked (h : List Op) (items : List (Placed Area)) : Type 0 where
+  pub exactly : (i : Placed Area) → IsPlaced h i ↔ Contains items i
   pub falling : AllPairs (λ i j. IsAbove i.key j.key) items
 
--- the colour of the first item that holds p, or white
-abbrev pub first_colour : List Placed → Point → Rgb
-first_colour items p = unwrap_or (option_map (λ (i : Placed). i.colour) (find (λ (i : Placed). rect_holds i.shape p) items)) white
+-- the colour of the first item whose shape holds p, or white
+abbrev pub first_colour : {S : Type 0} → (S → Point → Bool) → List (Placed S) → Point → Rgb
+first_colour {S} holds items p = unwrap_or (option_map (λ (i : Placed S). i.colour) (find (λ (i : Placed S). holds i.shape p) items)) white

@@ -3,23 +3,23 @@
 ghost use Rattle.std.specs.Prelude.{◌≡◌, ◌==◌, length};
 
 use crate::VersionKey;
-use gf_shape::{Rect, Rgb};
+use gf_shape::Rgb;
 
 /// A visible version: its shape at its settled place, and its settled colour.
 #[derive(Debug, Drop)]
-pub struct Placed {
+pub struct Placed<S> {
     pub key: VersionKey,
-    pub shape: Rect,
+    pub shape: S,
     pub colour: Rgb,
 }
 
 /// The visible versions of a history, topmost first.
 #[derive(Debug, Drop)]
-pub struct Ranked {
-    pub items: Vec<Placed>,
+pub struct Ranked<S> {
+    pub items: Vec<Placed<S>>,
 }
 
-impl Ranked {
+impl<S> Ranked<S> {
     /// How many they are.
     pub fn len(&self) -> usize
         ensures { result ≡ length self.now.items.items }

@@ -15,7 +15,7 @@ use gf_shape::{OutOfMemory, Point, Rect};
 use std::alloc::Global;
 
 /// The visible versions of a history, topmost first.
-pub fn ranked(alloc: Global, history: &History) -> Result<Ranked, OutOfMemory>
+pub fn ranked(alloc: Global, history: &History) -> Result<Ranked<Rect>, OutOfMemory>
     ensures { IfOk result (λ ranked. AreRanked history.now.ops ranked.items.items) }
 {
     let mut items = shown(alloc, history.ops())?;
@@ -24,7 +24,7 @@ pub fn ranked(alloc: Global, history: &History) -> Result<Ranked, OutOfMemory>
 }
 
 /// Puts each item above those after it.
-fn sort(items: &mut Vec<Placed>) -> Result<(), OutOfMemory>
+fn sort(items: &mut Vec<Placed<Rect>>) -> Result<(), OutOfMemory>
     ensures moved { IsPermutation items.old.items items.new.items }
     ensures sorted { OnOk result (IsSortedBy falls_by items.new.items) }
 {
@@ -33,7 +33,7 @@ fn sort(items: &mut Vec<Placed>) -> Result<(), OutOfMemory>
 }
 
 /// The visible versions of these operations at their places, each of which makes an object.
-fn shown(alloc: Global, ops: &[Op]) -> Result<Vec<Placed>, OutOfMemory>
+fn shown(alloc: Global, ops: &[Op]) -> Result<Vec<Placed<Rect>>, OutOfMemory>
     requires { (op : Op) → Contains ops.now op → IsInRange op }
     ensures { IfOk result (λ items. items.items ≡ map placed_version (shown_of ops.now)) }
 {
@@ -56,7 +56,7 @@ fn is_shown(op: &Op) -> bool
 }
 
 /// The version that the operation alone makes, at its place.
-fn placed(alloc: Global, op: &Op) -> Result<Placed, OutOfMemory>
+fn placed(alloc: Global, op: &Op) -> Result<Placed<Rect>, OutOfMemory>
     requires { IsInRange op.now }
     ensures { IfOk result (λ item. item ≡ placed_version (created op.now)) }
 {
