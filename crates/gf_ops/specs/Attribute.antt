@@ -41,6 +41,10 @@ kind_of (form.Rect width height) = Box
 kind_of (form.Polygon ps) = Polygon
 kind_of (form.Circle radius) = Circle
 
+-- the kind of the object that the change c makes, if it makes one
+abbrev pub made_kind : Change → Option Kind
+made_kind (Create start) = Some (kind_of start.form)
+
 -- the attribute that the form f gives a value to
 abbrev pub form_attribute : Form → Attribute
 form_attribute (form.Rect width height) = Size

@@ -12,12 +12,13 @@ use Rattle.gf_ops.specs.declared.op.ObjectId.{ObjectId}
 use Rattle.gf_ops.specs.declared.change.Change.{Change}
 use Rattle.gf_ops.specs.declared.change.Change.TheVariants.{Create}
 use Rattle.gf_ops.specs.declared.change.Form.{Form}
-use Rattle.gf_ops.specs.declared.change.Form.TheVariants.{Rect}
-use Rattle.gf_ops.specs.Attribute.{Attribute, Value, Place, Size, Colour, Layer, Shown, PlaceAt, ColourOf, LayerAt, ShownIf, size_of, given, start_value, change_value, object_of, changed_object}
+use Rattle.gf_ops.specs.declared.change.Form.TheVariants.{Rect, Circle, Polygon}
+use Rattle.gf_ops.specs.declared.change.Start.{Start}
+use Rattle.gf_ops.specs.Attribute.{Attribute, Value, Place, Colour, Layer, Shown, SizeOf, PointsOf, PlaceAt, ColourOf, LayerAt, ShownIf, form_attribute, form_value, given, kind_of, made_kind, points_in, size_in, start_value, change_value, object_of, changed_object}
 use Rattle.gf_ops.specs.OperationOrder.{id_cmp, Precedes}
 use Rattle.gf_ops.specs.SettledValue.{IsSettled}
 use Rattle.gf_ops.specs.ValidHistory.{IsValid}
-use Rattle.gf_ops.specs.Version.{IsVersion, IsMember}
+use Rattle.gf_ops.specs.Version.{IsMember, IsOfKind, IsVersion}
 use Rattle.gf_versions.specs.declared.key.Version.{Version}
 use Rattle.gf_versions.specs.Created.{created, made, shown_of}
 use Rattle.gf_versions.specs.VersionOf.{IsVersionOf}
@@ -117,12 +118,19 @@ module _ (h : List Op) (valid : IsValid h) where
         largest = λ b y e out. absurd (out (subst (λ i. Contains (a.id ∷ []) i) (sym (makes_its_own a.id a.change) ∙ sym (only_on h (object_of a) b e)) (Contains-cons_head a.id [])));
       }
 
+  -- a new object begins with its form
+  form_begins : (s : Start) (f : Form) → s.form ≡ f → start_value s (form_attribute f) ≡ Some (form_value f)
+  form_begins s (Rect width height) e = ap (λ f. size_in (form_value f)) e
+  form_begins s (Circle radius) e = ap (λ f. size_in (form_value f)) e
+  form_begins s (Polygon ps) e = ap (λ f. points_in (form_value f)) e
+
   made_version : (a : Op) → Contains h a → (change : Change) → a.change ≡ change → IsVersionOf h (made a.id change)
   made_version a x (Create start) e =
       let value : (t : Attribute) (v : Value) → start_value start t ≡ Some v → IsSettled h (a.id ∷ []) t v = λ t v s. settles a t v x (ap (λ c. change_value c t) e ∙ s) in
       record {
         version = subst (λ o. IsVersion h o (a.id ∷ [])) (ap (changed_object a.id) e) (own_version a x);
-        form = value Size (size_of start.form) refl;
+        kind = record { maker = a; contained = x; id = refl; kind = ap made_kind e };
+        form = value (form_attribute start.form) (form_value start.form) (form_begins start start.form refl);
         place = value Place (PlaceAt start.place) refl;
         colour = value Colour (ColourOf start.colour) refl;
         layer = value Layer (LayerAt start.layer) refl;
@@ -133,14 +141,19 @@ module _ (h : List Op) (valid : IsValid h) where
   pub created_version : (a : Op) → Contains h a → IsVersionOf h (created a)
   created_version a x = made_version a x a.change refl
 
-  same_form : (f g : Form) → size_of f ≡ size_of g → f ≡ g
-  same_form (Rect w k) (Rect x l) e = cc
+  -- a form is told by its kind and its value
+  same_form : (s : Start) (f g : Form) → s.form ≡ f → kind_of f ≡ kind_of g → start_value s (form_attribute g) ≡ Some (form_value g) → f ≡ g
+  same_form s (Rect w k) (Rect x l) e kind value = let v : Some (SizeOf w k) ≡ Some (SizeOf x l) = sym (ap (λ f. size_in (form_value f)) e) ∙ value in cc
+  same_form s (Circle r) (Circle q) e kind value = let v : Some (SizeOf r r) ≡ Some (SizeOf q q) = sym (ap (λ f. size_in (form_value f)) e) ∙ value in cc
+  same_form s (Polygon ps) (Polygon qs) e kind value = let v : Some (PointsOf ps) ≡ Some (PointsOf qs) = sym (ap (λ f. points_in (form_value f)) e) ∙ value in cc
+  same_form s f g e kind value = absurd cc
 
   same_values : (id : OpId) (change : Change) (v : Version) → v.key.object.0 ≡ id → v.key.ops ≡ id ∷ [] →
-      change_value change Size ≡ Some (size_of v.form) → change_value change Place ≡ Some (PlaceAt v.place) → change_value change Colour ≡ Some (ColourOf v.colour) →
+      made_kind change ≡ Some (kind_of v.form) → change_value change (form_attribute v.form) ≡ Some (form_value v.form) → change_value change Place ≡ Some (PlaceAt v.place) → change_value change Colour ≡ Some (ColourOf v.colour) →
       change_value change Layer ≡ Some (LayerAt v.key.layer) → change_value change Shown ≡ Some (ShownIf v.shown) → v ≡ made id change
-  same_values id (Create start) v object ops form place colour layer shown =
-      let forms = same_form start.form v.form cc in
+  same_values id (Create start) v object ops kind form place colour layer shown =
+      let kinds : kind_of start.form ≡ kind_of v.form = cc in
+      let forms = same_form start start.form v.form refl kinds form in
       let places : start.place ≡ v.place = cc in
       let colours : start.colour ≡ v.colour = cc in
       let layers : start.layer ≡ v.key.layer = cc in
@@ -159,10 +172,11 @@ module _ (h : List Op) (valid : IsValid h) where
       let maker = is.version.created in
       let a = maker.op in
       let ops = alone v.key.object v.key.ops is.version in
+      let kind_told : IsOfKind h v.key.object (kind_of v.form) → made_kind a.change ≡ Some (kind_of v.form) = λ k. subst (λ (b : Op). made_kind b.change ≡ Some (kind_of v.form)) (same_op k.maker a k.contained maker.contained (k.id ∙ sym maker.id)) k.kind in
       let value : (t : Attribute) (w : Value) → IsSettled h v.key.ops t w → given a t ≡ Some w = λ t w s. gives a t w maker.contained (subst (λ ids. IsSettled h ids t w) ops s) in (
         a,
         maker.contained,
-        same_values a.id a.change v (sym maker.id) ops (value Size (size_of v.form) is.form) (value Place (PlaceAt v.place) is.place)
+        same_values a.id a.change v (sym maker.id) ops (kind_told is.kind) (value (form_attribute v.form) (form_value v.form) is.form) (value Place (PlaceAt v.place) is.place)
             (value Colour (ColourOf v.colour) is.colour) (value Layer (LayerAt v.key.layer) is.layer) (value Shown (ShownIf v.shown) is.shown),
       )
 

@@ -1,6 +1,6 @@
-pub mod AreaLemmas
 pub mod CreatedLemmas
 pub mod KeyLemmas
 pub mod ListLemmas
 pub mod RankingLemmas
+pub mod ShapeLemmas
 pub mod TopLemmas

@@ -15,7 +15,7 @@ use Rattle.gf_ops.specs.declared.op.Op.{Op}
 use Rattle.gf_ops.specs.ValidHistory.{IsValid}
 use Rattle.gf_versions.specs.declared.key.Version.{Version}
 use Rattle.gf_versions.specs.declared.key.VersionKey.{VersionKey}
-use Rattle.gf_shape.specs.Area.{Area}
+use Rattle.gf_shape.specs.declared.any_shape.AnyShape.{AnyShape}
 use Rattle.gf_versions.specs.declared.placed.Placed.{Placed}
 use Rattle.gf_versions.specs.Above.{IsAbove, key_cmp}
 use Rattle.gf_versions.specs.Created.{created, shown_of}
@@ -28,10 +28,10 @@ use Rattle.gf_versions.proofs.ListLemmas.{Contains-filter, Contains-map, Contain
 pub falls_by_order : {S : Type 0} → IsStrictWeakOrder (falls_by {S = S})
 falls_by_order {S} = IsStrictWeakOrder-flip _ (ranks_by key_cmp_total (λ (i : Placed S). i.key))
 
-abbrev same_key : Placed Area → Placed Area → Bool
+abbrev same_key : Placed AnyShape → Placed AnyShape → Bool
 same_key i j = is_eq (key_cmp i.key j.key)
 
-same_key-flips : (i j : Placed Area) → same_key i j ≡ same_key j i
+same_key-flips : (i j : Placed AnyShape) → same_key i j ≡ same_key j i
 same_key-flips i j = ap is_eq (key_cmp_total.antisymm i.key j.key) ∙ turned (key_cmp j.key i.key)
   where
     turned : (o : Ordering) → is_eq (ordering_reverse o) ≡ is_eq o
@@ -50,15 +50,15 @@ equal_left Equal e = refl
 equal_left Greater e = absurd cc
 
 -- what is sorted and has each key once falls
-falling_from_sorted : (items : List (Placed Area)) → IsSortedBy falls_by items → IsDistinct same_key items → AllPairs (λ i j. IsAbove i.key j.key) items
+falling_from_sorted : (items : List (Placed AnyShape)) → IsSortedBy falls_by items → IsDistinct same_key items → AllPairs (λ i j. IsAbove i.key j.key) items
 falling_from_sorted items sorted distinct i j d before inside =
     greater_left _ (sorted_far falls_by falls_by_order items sorted i j d (omega arith) inside) (apart_from_distinct same_key items i j d distinct before inside)
 
-abbrev items_of : List Op → List (Placed Area)
+abbrev items_of : List Op → List (Placed AnyShape)
 items_of ops = map placed_version (shown_of ops)
 
 -- each item is what some operation makes
-made_by : (ops : List Op) (i : Placed Area) → Contains (items_of ops) i → (a : Op) × Contains ops a × (i ≡ placed_version (created a))
+made_by : (ops : List Op) (i : Placed AnyShape) → Contains (items_of ops) i → (a : Op) × Contains ops a × (i ≡ placed_version (created a))
 made_by ops i c =
     let from = Contains-map_from placed_version (shown_of ops) i c in
     let parts = (Contains-filter (λ (v : Version). v.shown) (map created ops) from.0).0 from.1 in
@@ -75,7 +75,7 @@ keys_apart a b different = elim (cases_Bool (same_key (placed_version (created a
 ]
 
 -- the first operation makes another key than each later one
-head_apart : (a : Op) (ops : List Op) → AllPairs (λ x y. x.id ≢ y.id) (a ∷ ops) → (i : Placed Area) → Contains (items_of ops) i → same_key (placed_version (created a)) i ≡ false
+head_apart : (a : Op) (ops : List Op) → AllPairs (λ x y. x.id ≢ y.id) (a ∷ ops) → (i : Placed AnyShape) → Contains (items_of ops) i → same_key (placed_version (created a)) i ≡ false
 head_apart a ops apart i c =
     let m = made_by ops i c in
     let (k, inside, e) = m.1 in
@@ -95,7 +95,7 @@ items_distinct (a ∷ ops) apart =
     ]
 
 -- the shown versions of a valid history, sorted, are its ranking
-pub ranked_from_sorted : (h : List Op) (items : List (Placed Area)) → IsValid h → IsPermutation (items_of h) items → IsSortedBy falls_by items → AreRanked h items
+pub ranked_from_sorted : (h : List Op) (items : List (Placed AnyShape)) → IsValid h → IsPermutation (items_of h) items → IsSortedBy falls_by items → AreRanked h items
 ranked_from_sorted h items valid moved sorted = record {
   exactly = λ i. (
     λ is.

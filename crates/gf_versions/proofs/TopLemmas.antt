@@ -11,21 +11,19 @@ use Rattle.gf_ops.specs.declared.op.Op.{Op}
 use Rattle.gf_ops.specs.ValidHistory.{IsValid}
 use Rattle.gf_versions.specs.declared.key.Version.{Version}
 use Rattle.gf_versions.specs.declared.key.VersionKey.{VersionKey}
-use Rattle.gf_shape.specs.Area.{Area}
+use Rattle.gf_shape.specs.declared.any_shape.AnyShape.{AnyShape}
 use Rattle.gf_versions.specs.declared.placed.Placed.{Placed}
-use Rattle.gf_shape.specs.Moving.{minus}
-use Rattle.gf_shape.specs.ShapeMeaning.{rect_holds}
-use Rattle.gf_ops.specs.declared.change.Form.{Form}
-use Rattle.gf_ops.specs.declared.change.Form.TheVariants.{Rect}
+use Rattle.gf_shape.specs.ShapeMeaning.{any_holds}
 use Rattle.gf_versions.specs.Above.{IsAbove, AreOrdered, same, first_above, second_above, key_cmp}
 use Rattle.gf_versions.specs.Created.{shown_of}
 use Rattle.gf_versions.specs.HistoryColour.{HistoryColour, HasOneColour, IsSeenAt, IsTopAt, top, blank, white}
-use Rattle.gf_versions.specs.Ranking.{AreRanked, first_colour, form_at, placed_version}
+use Rattle.gf_versions.specs.Ranking.{AreRanked, first_colour, placed_version}
 use Rattle.gf_versions.specs.VersionOf.{IsVersionOf}
-use Rattle.gf_versions.specs.Visible.{IsVisible, form_holds, version_holds}
+use Rattle.gf_versions.specs.Visible.{IsVisible, version_holds}
 use Rattle.gf_versions.proofs.CreatedLemmas.{one_of_object, visible_exactly}
 use Rattle.gf_versions.proofs.KeyLemmas.{above_one_way, above_transitive, neither_above, key_cmp_total, key_cmp_exact}
 use Rattle.gf_versions.proofs.ListLemmas.{Contains-cons_cases, Contains-cons_head, Contains-cons_tail, not_Contains-nil}
+use Rattle.gf_versions.proofs.ShapeLemmas.{shape_holds}
 
 module _ {X : Type 0} (Above : X → X → Type 0) (one_way : (a b : X) → Above a b → ¬ (Above b a)) (test : X → Bool) where
   -- v passes, and no element above it does
@@ -74,34 +72,30 @@ module _ {X : Type 0} (test : X → Bool) where
     ]
   ]
 
--- a form at its place holds p exactly if the form holds p seen from there
-shape_holds : (form : Form) (place p : Point) → rect_holds (form_at form place) p ≡ form_holds form (minus p place)
-shape_holds (Rect width height) place p = refl
-
 -- the first item of a ranking that holds p has the history's colour
-pub first_gives : (h : List Op) (p : Point) (items : List (Placed Area)) → AreRanked h items → HistoryColour h p (first_colour rect_holds items p)
-first_gives h p items ranked = by_answer (find (λ (i : Placed Area). rect_holds i.shape p) items) refl
+pub first_gives : (h : List Op) (p : Point) (items : List (Placed AnyShape)) → AreRanked h items → HistoryColour h p (first_colour any_holds items p)
+first_gives h p items ranked = by_answer (find (λ (i : Placed AnyShape). any_holds i.shape p) items) refl
   where
-    Over : Placed Area → Placed Area → Type 0
+    Over : Placed AnyShape → Placed AnyShape → Type 0
     Over i j = IsAbove i.key j.key
 
     placed : (v : Version) → IsVisible h v → Contains items (placed_version v)
     placed v s = (ranked.exactly (placed_version v)).0 (record { version = v; visible = s; placed = refl })
 
-    by_answer : (r : Option (Placed Area)) → find (λ (i : Placed Area). rect_holds i.shape p) items ≡ r → HistoryColour h p (unwrap_or (option_map (λ (i : Placed Area). i.colour) r) white)
+    by_answer : (r : Option (Placed AnyShape)) → find (λ (i : Placed AnyShape). any_holds i.shape p) items ≡ r → HistoryColour h p (unwrap_or (option_map (λ (i : Placed AnyShape). i.colour) r) white)
     by_answer (Some i) e =
-        let first = find_first Over (λ j k. above_one_way j.key k.key) (λ (j : Placed Area). rect_holds j.shape p) items i ranked.falling e in
+        let first = find_first Over (λ j k. above_one_way j.key k.key) (λ (j : Placed AnyShape). any_holds j.shape p) items i ranked.falling e in
         let member = (ranked.exactly i).1 first.known in
         let v = member.version in
-        subst (HistoryColour h p) (sym (ap (λ (j : Placed Area). j.colour) member.placed)) (top v (record {
+        subst (HistoryColour h p) (sym (ap (λ (j : Placed AnyShape). j.colour) member.placed)) (top v (record {
           seen = record {
             visible = member.visible;
-            holds = sym (shape_holds v.form v.place p) ∙ (sym (ap (λ (j : Placed Area). rect_holds j.shape p) member.placed) ∙ first.passes);
+            holds = sym (shape_holds v.form v.place p) ∙ (sym (ap (λ (j : Placed AnyShape). any_holds j.shape p) member.placed) ∙ first.passes);
           };
           top = λ w s above. first.highest (placed_version w) (placed w s.visible) (shape_holds w.form w.place p ∙ s.holds)
-              (subst (λ (j : Placed Area). IsAbove w.key j.key) (sym member.placed) above);
+              (subst (λ (j : Placed AnyShape). IsAbove w.key j.key) (sym member.placed) above);
         }))
-    by_answer None e = blank (λ v s. find_none (λ (i : Placed Area). rect_holds i.shape p) items e (placed_version v) (placed v s.visible) (shape_holds v.form v.place p ∙ s.holds))
+    by_answer None e = blank (λ v s. find_none (λ (i : Placed AnyShape). any_holds i.shape p) items e (placed_version v) (placed v s.visible) (shape_holds v.form v.place p ∙ s.holds))
 
 -- the colour with its reason
 taken_apart : {h : List Op} {p : Point} {c : Rgb} → HistoryColour h p c → ((v : Version) × IsTopAt h p v × (c ≡ v.colour)) ⊎ (((v : Version) → ¬ (IsSeenAt h p v)) × (c ≡ white))

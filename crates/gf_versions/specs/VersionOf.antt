@@ -1,15 +1,16 @@
 -- A version of a history with its settled values (Sun and Chen's multi-versioning, ACM TOCHI 9(1), 2002).
 use Rattle.std.specs.Prelude.{List}
 use Rattle.gf_ops.specs.declared.op.Op.{Op}
-use Rattle.gf_ops.specs.Attribute.{Place, Size, Colour, Layer, Shown, PlaceAt, ColourOf, LayerAt, ShownIf, size_of}
+use Rattle.gf_ops.specs.Attribute.{Place, Colour, Layer, Shown, PlaceAt, ColourOf, LayerAt, ShownIf, form_attribute, form_value, kind_of}
 use Rattle.gf_ops.specs.SettledValue.{IsSettled}
-use Rattle.gf_ops.specs.Version.{IsVersion}
+use Rattle.gf_ops.specs.Version.{IsOfKind, IsVersion}
 use Rattle.gf_versions.specs.declared.key.Version.{Version}
 
--- v is a version of an object of h, each attribute with its settled value
+-- v is a version of an object of h and of its kind, each attribute with its settled value
 pub record IsVersionOf (h : List Op) (v : Version) : Type 0 where
   pub version : IsVersion h v.key.object v.key.ops
-  pub form : IsSettled h v.key.ops Size (size_of v.form)
+  pub kind : IsOfKind h v.key.object (kind_of v.form)
+  pub form : IsSettled h v.key.ops (form_attribute v.form) (form_value v.form)
   pub place : IsSettled h v.key.ops Place (PlaceAt v.place)
   pub colour : IsSettled h v.key.ops Colour (ColourOf v.colour)
   pub layer : IsSettled h v.key.ops Layer (LayerAt v.key.layer)

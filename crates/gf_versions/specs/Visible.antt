@@ -2,10 +2,10 @@
 use Rattle.std.specs.Prelude.{List, Bool, IsTrue}
 use Rattle.gf_shape.specs.declared.point.Point.{Point}
 use Rattle.gf_shape.specs.Moving.{minus}
-use Rattle.gf_shape.specs.ShapeMeaning.{box_holds}
+use Rattle.gf_shape.specs.ShapeMeaning.{box_holds, circle_holds, polygon_holds}
 use Rattle.gf_ops.specs.declared.op.Op.{Op}
 use Rattle.gf_ops.specs.declared.change.Form.{Form}
-use Rattle.gf_ops.specs.declared.change.Form.TheVariants.{Rect}
+use Rattle.gf_ops.specs.declared.change.Form.TheVariants.{Rect, Circle, Polygon}
 use Rattle.gf_versions.specs.declared.key.Version.{Version}
 use Rattle.gf_versions.specs.VersionOf.{IsVersionOf}
 
@@ -17,6 +17,8 @@ pub record IsVisible (h : List Op) (v : Version) : Type 0 where
 -- a form holds d, seen from its place
 abbrev pub form_holds : Form → Point → Bool
 form_holds (Rect width height) d = box_holds width height d
+form_holds (Circle radius) d = circle_holds radius d
+form_holds (Polygon ps) d = polygon_holds ps d
 
 -- v holds p, with its settled form at its settled place
 abbrev pub version_holds : Version → Point → Bool

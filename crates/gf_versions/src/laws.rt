@@ -3,8 +3,8 @@
 ghost use Rattle.std.specs.Prelude.{◌≡◌, ◌⊎◌, List};
 ghost use Rattle.gf_shape.specs.declared.point.Point.{Point};
 ghost use Rattle.gf_shape.specs.declared.colour.Rgb.{Rgb};
-ghost use Rattle.gf_shape.specs.Area.{Area};
-ghost use Rattle.gf_shape.specs.ShapeMeaning.{rect_holds};
+ghost use Rattle.gf_shape.specs.declared.any_shape.AnyShape.{AnyShape};
+ghost use Rattle.gf_shape.specs.ShapeMeaning.{any_holds};
 ghost use Rattle.gf_ops.specs.declared.op.Op.{Op};
 ghost use Rattle.gf_ops.specs.ValidHistory.{IsValid};
 ghost use Rattle.gf_versions.specs.declared.key.Version.{Version};
@@ -29,5 +29,5 @@ pub fn one_colour_at_a_point()
 
 /// The first of the ranked versions that holds a point has the colour that the history means there.
 pub fn the_first_that_holds_is_on_top()
-    ensures { (h : List Op) (items : List (Placed Area)) → AreRanked h items → (p : Point) → HistoryColour h p (first_colour rect_holds items p) }
+    ensures { (h : List Op) (items : List (Placed AnyShape)) → AreRanked h items → (p : Point) → HistoryColour h p (first_colour any_holds items p) }
 {}

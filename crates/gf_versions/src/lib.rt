@@ -13,6 +13,7 @@ mod key;
 mod laws;
 mod placed;
 mod ranking;
+mod shaping;
 #[cfg(test)]
 mod tests;
 

@@ -1,21 +1,22 @@
 //! The visible versions of a history, made and sorted.
 
-ghost use Rattle.std.specs.Prelude.{◌≡◌, IfOk, OnOk, IsTrue, Contains, map};
+ghost use Rattle.std.specs.Prelude.{◌≡◌, IfOk, OnOk, Contains, map};
 ghost use Rattle.gf_ops.specs.declared.op.Op.{Op};
-ghost use Rattle.gf_ops.specs.Limits.{IsInRange, is_form, is_near};
+ghost use Rattle.gf_ops.specs.Limits.{IsInRange};
 ghost use Rattle.gf_versions.specs.Created.{created, shown_of};
-ghost use Rattle.gf_versions.specs.Ranking.{AreRanked, form_at, placed_version};
+ghost use Rattle.gf_versions.specs.Ranking.{AreRanked, placed_version};
 ghost use Rattle.gf_versions.specs.Falling.{falls_by};
 ghost use Rattle.std.specs.List.Sorted.{IsPermutation, IsSortedBy};
 
 use crate::key::compare;
+use crate::shaping::shape_at;
 use crate::{Ids, Placed, Ranked, VersionKey};
-use gf_ops::{Change, Form, History, ObjectId, Op};
-use gf_shape::{OutOfMemory, Point, Rect};
+use gf_ops::{Change, History, ObjectId, Op};
+use gf_shape::{AnyShape, OutOfMemory};
 use std::alloc::Global;
 
 /// The visible versions of a history, topmost first.
-pub fn ranked(alloc: Global, history: &History) -> Result<Ranked<Rect>, OutOfMemory>
+pub fn ranked(alloc: Global, history: &History) -> Result<Ranked<AnyShape>, OutOfMemory>
     ensures { IfOk result (λ ranked. AreRanked history.now.ops ranked.items.items) }
 {
     let mut items = shown(alloc, history.ops())?;
@@ -24,7 +25,7 @@ pub fn ranked(alloc: Global, history: &History) -> Result<Ranked<Rect>, OutOfMem
 }
 
 /// Puts each item above those after it.
-fn sort(items: &mut Vec<Placed<Rect>>) -> Result<(), OutOfMemory>
+fn sort(items: &mut Vec<Placed<AnyShape>>) -> Result<(), OutOfMemory>
     ensures moved { IsPermutation items.old.items items.new.items }
     ensures sorted { OnOk result (IsSortedBy falls_by items.new.items) }
 {
@@ -33,7 +34,7 @@ fn sort(items: &mut Vec<Placed<Rect>>) -> Result<(), OutOfMemory>
 }
 
 /// The visible versions of these operations at their places, each of which makes an object.
-fn shown(alloc: Global, ops: &[Op]) -> Result<Vec<Placed<Rect>>, OutOfMemory>
+fn shown(alloc: Global, ops: &[Op]) -> Result<Vec<Placed<AnyShape>>, OutOfMemory>
     requires { (op : Op) → Contains ops.now op → IsInRange op }
     ensures { IfOk result (λ items. items.items ≡ map placed_version (shown_of ops.now)) }
 {
@@ -56,7 +57,7 @@ fn is_shown(op: &Op) -> bool
 }
 
 /// The version that the operation alone makes, at its place.
-fn placed(alloc: Global, op: &Op) -> Result<Placed<Rect>, OutOfMemory>
+fn placed(alloc: Global, op: &Op) -> Result<Placed<AnyShape>, OutOfMemory>
     requires { IsInRange op.now }
     ensures { IfOk result (λ item. item ≡ placed_version (created op.now)) }
 {
@@ -68,29 +69,8 @@ fn placed(alloc: Global, op: &Op) -> Result<Placed<Rect>, OutOfMemory>
                 object: ObjectId(op.id),
                 ops,
             },
-            shape: rect(&start.form, start.place),
+            shape: shape_at(alloc, &start.form, start.place)?,
             colour: start.colour,
         }),
     }
-}
-
-/// A form at its place.
-fn rect(form: &Form, place: Point) -> Rect
-    requires form { IsTrue (is_form form.now) }
-    requires place { IsTrue (is_near place) }
-    ensures { result ≡ form_at form.now place }
-{
-    let (width, height) = size(form);
-    match Rect::new(place, width, height) {
-        Ok(rect) => rect,
-        Err(_) => unreachable!(),
-    }
-}
-
-/// The width and the height of a form.
-fn size(form: &Form) -> (u32, u32)
-    ensures { form.now ≡ Form.Rect result.0 result.1 }
-{
-    let Form::Rect(width, height) = form;
-    (*width, *height)
 }
