@@ -1,6 +1,4 @@
 pub mod ReadsLemmas
-pub mod ArrayLemmas
-pub mod KeyLemmas
 pub mod CuttingLemmas
 pub mod TableLemmas
 pub mod ReadingLemmas

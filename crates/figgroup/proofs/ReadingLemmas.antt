@@ -8,7 +8,7 @@ use Rattle.figgroup.specs.declared.studio_error.StudioError.{StudioError}
 use Rattle.figgroup.specs.declared.studio_error.StudioError.TheVariants as studio
 use Rattle.figgroup.specs.FigRun.{Denotes, IsAt, denotes_op}
 use Rattle.figgroup.specs.LineSteps.{HasRead, AddsLine, RefusesLine, RefusesText}
-use Rattle.figgroup.specs.OperationLines.{denoted}
+use Rattle.gf_json.specs.OperationLines.{denoted}
 use Rattle.figgroup.specs.TextLines.{numbered_lines}
 
 -- before the first line none is read

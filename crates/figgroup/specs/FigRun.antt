@@ -17,8 +17,8 @@ use Rattle.gf_drawing.specs.DrawingState.{DrawingState}
 use Rattle.gf_drawing.specs.Taken.{AppendsFront}
 use Rattle.figgroup.specs.declared.studio_error.LineCause.{LineCause}
 use Rattle.figgroup.specs.FigText.{fig_text}
-use Rattle.figgroup.specs.LineValues.{Got}
-use Rattle.figgroup.specs.OperationLines.{denoted}
+use Rattle.gf_json.specs.LineValues.{Got}
+use Rattle.gf_json.specs.OperationLines.{denoted}
 use Rattle.figgroup.specs.Refusals.{line_fault}
 use Rattle.figgroup.specs.TextLines.{numbered_lines}
 

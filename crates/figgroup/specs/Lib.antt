@@ -1,11 +1,8 @@
 pub mod Reads
 pub mod ReelState
-pub mod LineValues
-pub mod LineFields
-pub mod OperationLines
 pub mod TextLines
 pub mod LineCutting
-pub mod LineExamples
+pub mod TextLinesExamples
 pub mod FigText
 pub mod FigTextExamples
 pub mod Refusals

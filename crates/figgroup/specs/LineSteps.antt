@@ -3,13 +3,13 @@ use Rattle.std.specs.Prelude.{◌≡◌, ℕ, List, [], ◌∷◌, ◌++◌, Ok,
 use Rattle.gf_ops.specs.declared.op.Op.{Op}
 use Rattle.gf_ops.specs.declared.op.OpId.{OpId}
 use Rattle.gf_ops.specs.Accepted.{IsAccepted, AreAccepted}
-use Rattle.figgroup.specs.declared.line_error.LineError.{LineError}
-use Rattle.figgroup.specs.declared.line_error.LineError.TheVariants as line
+use Rattle.gf_json.specs.declared.line_error.LineError.{LineError}
+use Rattle.gf_json.specs.declared.line_error.LineError.TheVariants as line
 use Rattle.figgroup.specs.declared.studio_error.LineCause.TheVariants as cause
 use Rattle.figgroup.specs.declared.studio_error.StudioError.{StudioError}
 use Rattle.figgroup.specs.declared.studio_error.StudioError.TheVariants as studio
 use Rattle.figgroup.specs.FigRun.{AreLinesOf, HasFault, Drops, RefusesCompiling}
-use Rattle.figgroup.specs.OperationLines.{denoted}
+use Rattle.gf_json.specs.OperationLines.{denoted}
 use Rattle.figgroup.specs.Refusals.{line_fault}
 use Rattle.figgroup.specs.TextLines.{numbered_lines}
 

@@ -3,8 +3,8 @@ use Rattle.gf_drawing.specs.declared.compiling.CompileFault.{CompileFault}
 use Rattle.gf_drawing.specs.declared.compiling.CompileFault.TheVariants as compile
 use Rattle.gf_drawing.specs.declared.refusals.WriteError.{WriteError}
 use Rattle.gf_drawing.specs.declared.refusals.WriteError.TheVariants as write
-use Rattle.figgroup.specs.declared.line_error.LineError.{LineError}
-use Rattle.figgroup.specs.declared.line_error.LineError.TheVariants as line
+use Rattle.gf_json.specs.declared.line_error.LineError.{LineError}
+use Rattle.gf_json.specs.declared.line_error.LineError.TheVariants as line
 use Rattle.figgroup.specs.declared.source.InputError.{InputError}
 use Rattle.figgroup.specs.declared.source.InputError.TheVariants as input
 use Rattle.figgroup.specs.declared.studio_error.LineCause.{LineCause}

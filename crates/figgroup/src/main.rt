@@ -12,12 +12,6 @@ mod fig_tests;
 mod fig_text;
 mod fig_writing;
 mod input;
-mod line_error;
-mod line_fields;
-#[cfg(test)]
-mod line_tests;
-mod line_values;
-mod lines;
 mod reading;
 mod reel;
 mod source;
@@ -25,6 +19,8 @@ mod source;
 mod source_tests;
 mod studio_error;
 mod text_lines;
+#[cfg(test)]
+mod text_lines_tests;
 
 pub use command::command;
 use command::refuse_words;
@@ -33,8 +29,6 @@ pub use fig_text::fig_bytes;
 pub use fig_writing::write_fig;
 use gf_drawing::Out;
 pub use input::In;
-pub use line_error::LineError;
-pub use lines::read_op;
 pub use reel::Reel;
 pub use source::{InputError, MOST_INPUT_BYTES, Source, SourceFault, read_input};
 use std::io;

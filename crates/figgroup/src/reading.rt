@@ -5,7 +5,8 @@ ghost use Rattle.gf_ops.specs.ValidHistory.{IsValid};
 ghost use Rattle.figgroup.specs.FigRun.{Denotes};
 ghost use Rattle.figgroup.specs.LineSteps.{AddsLine, RefusesLine, RefusesText, of_line};
 
-use crate::{LineCause, LineError, StudioError, TextLines, read_op};
+use crate::{LineCause, StudioError, TextLines};
+use gf_json::{LineError, read_op};
 use gf_ops::{AddFault, History};
 use std::alloc::Global;
 

@@ -1,0 +1,3 @@
+pub mod ArrayLemmas
+pub mod KeyLemmas
+pub mod PointLemmas

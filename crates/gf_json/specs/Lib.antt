@@ -1,0 +1,5 @@
+pub mod LineValues
+pub mod LineFields
+pub mod OperationLines
+pub mod CheckedPoints
+pub mod LineExamples

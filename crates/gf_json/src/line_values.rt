@@ -1,0 +1,168 @@
+//! The values of a line: forms, limits and colours.
+
+ghost use Rattle.std.specs.Prelude.{◌≡◌, ◌≤◌, ◌<◌, ◌&&◌, pos, negsuc, int_le, IsTrue, Ok, IfOk, IfSome};
+ghost use Rattle.serde_json.specs.View.{view, items_view};
+ghost use Rattle.gf_ops.specs.Limits.{is_near, is_size};
+ghost use Rattle.gf_json.specs.LineValues.{◌&◌, mapped, whole, elements, array, two, integer, natural, coordinate, side, side_twice, entry, point, clock, hex_digit, hex_byte, rgb};
+
+use crate::LineError;
+use gf_ops::Clock;
+use gf_shape::{Point, Rgb};
+use serde_json::Value;
+
+/// Both of two parts. Field in either comes before Range in either.
+pub(crate) fn both<A: Drop, B: Drop>(
+    first: Result<A, LineError>,
+    second: Result<B, LineError>,
+) -> Result<(A, B), LineError>
+    ensures value { result ≡ (first & second) }
+    ensures parts { IfOk result (λ p. (first ≡ Ok p.0) × (second ≡ Ok p.1)) }
+{
+    match (first, second) {
+        (Ok(a), Ok(b)) => Ok((a, b)),
+        (Ok(_), Err(fault)) => Err(fault),
+        (Err(_), Err(LineError::Field)) => Err(LineError::Field),
+        (Err(fault), _) => Err(fault),
+    }
+}
+
+fn whole(value: &Value) -> Result<i64, LineError>
+    ensures { result ≡ whole (view value.now) }
+{
+    value.as_i64().ok_or(LineError::Field)
+}
+
+fn integer(value: &Value, low: i64, high: i64) -> Result<i64, LineError>
+    ensures { result ≡ integer low high (view value.now) }
+{
+    let n = whole(value)?;
+    if low <= n && n <= high {
+        Ok(n)
+    } else {
+        Err(LineError::Range)
+    }
+}
+
+#[tactic(auto, using(std::proofs::lemmas::Int::ints))]
+pub(crate) fn natural(value: &Value, low: u32, high: u32) -> Result<u32, LineError>
+    ensures value { result ≡ natural low high (view value.now) }
+    ensures within { IfOk result (λ n. (low ≤ n) × (n ≤ high)) }
+{
+    let n = integer(value, i64::from(low), i64::from(high))?;
+    Ok(n as u32)
+}
+
+#[tactic(auto, using(std::proofs::lemmas::Int::ints))]
+fn coordinate(value: &Value) -> Result<i32, LineError>
+    ensures value { result ≡ coordinate (view value.now) }
+    ensures within { IfOk result (λ n. IsTrue (int_le (negsuc 999999) n && int_le n (pos 1000000))) }
+{
+    let n = integer(value, -1_000_000, 1_000_000)?;
+    Ok(n as i32)
+}
+
+pub(crate) fn side(value: &Value) -> Result<u32, LineError>
+    ensures value { result ≡ side (view value.now) }
+    ensures within { IfOk result (λ n. IsTrue (is_size n)) }
+{
+    natural(value, 1, 1_000_000)
+}
+
+/// The size that stands twice, as a circle's radius does.
+pub(crate) fn side_twice(first: &Value, second: &Value) -> Result<u32, LineError>
+    ensures value { result ≡ side_twice (view first.now) (view second.now) }
+    ensures within { IfOk result (λ n. IsTrue (is_size n)) }
+{
+    let (width, height) = both(whole(first), whole(second))?;
+    if width == height {
+        side(first)
+    } else {
+        Err(LineError::Field)
+    }
+}
+
+fn entry(value: &Value) -> Result<u32, LineError>
+    ensures value { result ≡ entry (view value.now) }
+    ensures within { IfOk result (λ n. n ≤ 10000) }
+{
+    natural(value, 0, 10_000)
+}
+
+/// The elements of an array.
+pub(crate) fn elements(value: &Value) -> Result<&[Value], LineError>
+    ensures { mapped (λ vs. elements (items_view vs.now)) result ≡ array (view value.now) }
+{
+    match value.as_array() {
+        Some(list) => Ok(list.as_slice()),
+        None => Err(LineError::Field),
+    }
+}
+
+/// The elements of an array of two.
+#[tactic(auto, using(crate::proofs::ArrayLemmas::not_two))]
+pub(crate) fn two(value: &Value) -> Result<(&Value, &Value), LineError>
+    ensures { mapped (λ p. (view p.0.now, view p.1.now)) result ≡ two (view value.now) }
+{
+    match elements(value)? {
+        [a, b] => Ok((a, b)),
+        [] | [_] | [_, _, _, ..] => Err(LineError::Field),
+    }
+}
+
+#[tactic(auto, using(std::proofs::lemmas::Int::ints), unfolding(gf_ops::specs::Limits::is_near))]
+pub(crate) fn point(value: &Value) -> Result<Point, LineError>
+    ensures value { result ≡ point (view value.now) }
+    ensures in_range { IfOk result (λ p. IsTrue (is_near p)) }
+{
+    let (x, y) = two(value)?;
+    let (x, y) = both(coordinate(x), coordinate(y))?;
+    Ok(Point { x, y })
+}
+
+#[tactic(auto, using(crate::proofs::ArrayLemmas::not_eight))]
+pub(crate) fn clock(values: &[Value]) -> Result<Clock, LineError>
+    ensures { result ≡ clock (elements (items_view values.now)) }
+{
+    let [a, b, c, d, e, f, g, h] = values else {
+        return Err(LineError::Field);
+    };
+    let last = both(entry(f), both(entry(g), entry(h)));
+    let later = both(entry(c), both(entry(d), both(entry(e), last)));
+    match both(entry(a), both(entry(b), later)) {
+        Ok((a, (b, (c, (d, (e, (f, (g, h)))))))) => Ok(Clock([a, b, c, d, e, f, g, h])),
+        Err(fault) => Err(fault),
+    }
+}
+
+/// What a hexadecimal digit of either case is worth.
+fn hex_digit(byte: u8) -> Option<u8>
+    ensures value { result ≡ hex_digit byte }
+    ensures within { IfSome result (λ n. n < 16) }
+{
+    match byte {
+        b'0'..=b'9' => Some(byte - b'0'),
+        b'a'..=b'f' => Some(byte - b'a' + 10),
+        b'A'..=b'F' => Some(byte - b'A' + 10),
+        _ => None,
+    }
+}
+
+fn hex_byte(high: u8, low: u8) -> Option<u8>
+    ensures { result ≡ hex_byte high low }
+{
+    let high = hex_digit(high)?;
+    let low = hex_digit(low)?;
+    Some(high * 16 + low)
+}
+
+pub(crate) fn rgb(text: &[u8]) -> Option<Rgb>
+    ensures { result ≡ rgb text.now }
+{
+    let [a, b, c, d, e, f] = text else {
+        return None;
+    };
+    let r = hex_byte(*a, *b)?;
+    let g = hex_byte(*c, *d)?;
+    let b = hex_byte(*e, *f)?;
+    Some(Rgb { r, g, b })
+}
