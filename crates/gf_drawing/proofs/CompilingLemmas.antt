@@ -1,11 +1,11 @@
 -- The canonical drawing grows by one figure with each version.
-use Rattle.std.proofs.Common.{◌≡◌, ℕ, ◌+◌, ◌<◌, ◌≤◌, Bool, true, false, cond, List, [], ◌∷◌, ◌++◌, map, length, suc, refl, sym, ap, subst, ◌∙◌, inl, inr, arith, length-append, take, drop, append_assoc}
+use Rattle.std.proofs.Common.{◌≡◌, ℕ, ◌+◌, ◌<◌, ◌≤◌, Bool, true, false, cond, List, [], ◌∷◌, ◌++◌, map, length, suc, refl, sym, ap, subst, ◌∙◌, inl, inr, arith, length-append, append_assoc}
 use Rattle.std.specs.Prelude.{nat_lt, not, ◌&&◌, ◌||◌, ◌==◌, filter, unwrap_or, position, All}
 use Rattle.std.specs.Bool.{Decides}
 use Rattle.std.specs.List.{position_or_len, enumerate_from, list_any}
 use Rattle.std.proofs.lemmas.Bool.{cases_Bool, or_parts}
 use Rattle.std.proofs.lemmas.Bool.Decides.{nat_tests, Decides-eqb, Decides-and, Decides-like}
-use Rattle.std.proofs.lemmas.List.{append-nil, map-append, length-map, length-take-le, take-append-drop}
+use Rattle.std.proofs.lemmas.List.{append-nil, map-append, length-map}
 use Rattle.std.proofs.lemmas.List.Elements.{filter-append, All-nil, All-cons, All-head, All-tail, All-weaker}
 use Rattle.std.proofs.lemmas.List.FromFn.{length-enumerate_from}
 use Rattle.gf_shape.specs.declared.colour.Rgb.{Rgb}
@@ -72,8 +72,8 @@ first_seen-push : (cs : List Rgb) (c : Rgb) → first_seen (cs ++ c ∷ []) ≡ 
 first_seen-push [] c = refl
 first_seen-push (d ∷ cs) c = ap (λ xs. d ∷ filter (λ x. not (rgb_eq d x)) xs) (first_seen-push cs c) ∙ filter-with_new c d (first_seen cs)
 
-pub colours_of-push : (items : List Placed) (i : Placed) → colours_of (items ++ i ∷ []) ≡ with_new (colours_of items) i.colour
-colours_of-push items i = ap first_seen (map-append (λ (j : Placed). j.colour) items (i ∷ [])) ∙ first_seen-push (map (λ (j : Placed). j.colour) items) i.colour
+pub colours_of-push : {S : Type 0} → (items : List (Placed S)) (i : Placed S) → colours_of (items ++ i ∷ []) ≡ with_new (colours_of items) i.colour
+colours_of-push {S} items i = ap first_seen (map-append (λ (j : Placed S). j.colour) items (i ∷ [])) ∙ first_seen-push (map (λ (j : Placed S). j.colour) items) i.colour
 
 -- what is there has a place
 place_found : {X : Type 0} (p : X → Bool) (xs : List X) → list_any p xs ≡ nat_lt (position_or_len p xs) (length xs)
@@ -99,7 +99,7 @@ with_colour-enumerate cs c = rw (place_in-enumerate 32 cs c, length-enumerate_fr
   | inr new ↦ rw (new, enumerate_from-push 32 cs c)
 ])
 
-pub canonical_table-push : (items : List Placed) (i : Placed) → canonical_table (items ++ i ∷ []) ≡ with_colour (canonical_table items) i.colour
+pub canonical_table-push : {S : Type 0} → (items : List (Placed S)) (i : Placed S) → canonical_table (items ++ i ∷ []) ≡ with_colour (canonical_table items) i.colour
 canonical_table-push items i = ap (enumerate_from 32) (colours_of-push items i) ∙ sym (with_colour-enumerate (colours_of items) i.colour)
 
 -- a colour keeps its place as others are added
@@ -135,33 +135,33 @@ seen-cons c d cs e = elim (cases_Bool (rgb_eq c d)) [
 ]
 
 -- each item's colour is among those of the items
-pub own_colour : (items : List Placed) → All (λ (i : Placed). list_any (rgb_eq i.colour) (colours_of items) ≡ true) items
-own_colour [] = All-nil _
-own_colour (i ∷ items) =
-    let Seen : List Placed → Placed → Type 0 = λ all j. list_any (rgb_eq j.colour) (colours_of all) ≡ true in
+pub own_colour : {S : Type 0} → (items : List (Placed S)) → All (λ (i : Placed S). list_any (rgb_eq i.colour) (colours_of items) ≡ true) items
+own_colour {S} [] = All-nil _
+own_colour {S} (i ∷ items) =
+    let Seen : List (Placed S) → Placed S → Type 0 = λ all j. list_any (rgb_eq j.colour) (colours_of all) ≡ true in
     All-cons (Seen (i ∷ items)) i items (rw ((rgb_decided i.colour i.colour).1 refl))
-    (All-weaker (Seen items) (Seen (i ∷ items)) (λ j e. seen-cons j.colour i.colour (map (λ (k : Placed). k.colour) items) e) items (own_colour items))
+    (All-weaker (Seen items) (Seen (i ∷ items)) (λ j e. seen-cons j.colour i.colour (map (λ (k : Placed S). k.colour) items) e) items (own_colour items))
 
 -- figures with their colours numbered by cs and by ds are the same where the numbers are
-figures_same : (cs ds : List Rgb) (n : ℕ) (items : List Placed) → All (λ (i : Placed). number_of cs i.colour ≡ number_of ds i.colour) items →
+figures_same : {S : Type 0} → (cs ds : List Rgb) (n : ℕ) (items : List (Placed S)) → All (λ (i : Placed S). number_of cs i.colour ≡ number_of ds i.colour) items →
     map (canonical_figure cs) (enumerate_from n items) ≡ map (canonical_figure ds) (enumerate_from n items)
-figures_same cs ds n [] h = refl
-figures_same cs ds n (i ∷ items) h =
-    let Same : Placed → Type 0 = λ j. number_of cs j.colour ≡ number_of ds j.colour in
+figures_same {S} cs ds n [] h = refl
+figures_same {S} cs ds n (i ∷ items) h =
+    let Same : Placed S → Type 0 = λ j. number_of cs j.colour ≡ number_of ds j.colour in
     let first : canonical_figure cs (n, i) ≡ canonical_figure ds (n, i) = λ k. record { shape = i.shape; colour = All-head Same i items h k; depth = n } in
     ap (λ f. f ∷ map (canonical_figure cs) (enumerate_from (n + 1) items)) first
     ∙ ap (λ fs. canonical_figure ds (n, i) ∷ fs) (figures_same cs ds (n + 1) items (All-tail Same i items h))
 
-pub length-canonical_figures : (items : List Placed) → length (canonical_figures items) ≡ length items
+pub length-canonical_figures : {S : Type 0} → (items : List (Placed S)) → length (canonical_figures items) ≡ length items
 length-canonical_figures items = length-map (enumerate_from 0 items) (canonical_figure (colours_of items)) ∙ length-enumerate_from 0 items
 
-canonical_figures-push : (items : List Placed) (i : Placed) → canonical_figures (items ++ i ∷ []) ≡ (with_item (canonical_drawing items) i).figures
-canonical_figures-push items i =
+canonical_figures-push : {S : Type 0} → (items : List (Placed S)) (i : Placed S) → canonical_figures (items ++ i ∷ []) ≡ (with_item (canonical_drawing items) i).figures
+canonical_figures-push {S} items i =
     let cs = colours_of items in
     let ds = colours_of (items ++ i ∷ []) in
     let grown : ds ≡ with_new cs i.colour = colours_of-push items i in
     let before : map (canonical_figure ds) (enumerate_from 0 items) ≡ canonical_figures items =
-    figures_same ds cs 0 items (All-weaker (λ (j : Placed). list_any (rgb_eq j.colour) cs ≡ true) (λ (j : Placed). number_of ds j.colour ≡ number_of cs j.colour)
+    figures_same ds cs 0 items (All-weaker (λ (j : Placed S). list_any (rgb_eq j.colour) cs ≡ true) (λ (j : Placed S). number_of ds j.colour ≡ number_of cs j.colour)
     (λ j e. ap (λ xs. number_of xs j.colour) grown ∙ ap (λ n. 32 + n) (position-with_new cs j.colour i.colour e)) items (own_colour items)) in
     let number : number_of ds i.colour ≡ 32 + place_in (canonical_table items) i.colour =
     ap (λ xs. number_of xs i.colour) grown ∙ ap (λ n. 32 + n) (position-own cs i.colour ∙ sym (place_in-enumerate 32 cs i.colour)) in
@@ -173,11 +173,11 @@ canonical_figures-push items i =
     ∙ (ap (λ fs. fs ++ canonical_figure ds (0 + length items, i) ∷ []) before ∙ ap (λ f. canonical_figures items ++ f ∷ []) last))
 
 -- one more version at the back is one step more
-pub canonical_drawing-push : (items : List Placed) (i : Placed) → canonical_drawing (items ++ i ∷ []) ≡ with_item (canonical_drawing items) i
+pub canonical_drawing-push : {S : Type 0} → (items : List (Placed S)) (i : Placed S) → canonical_drawing (items ++ i ∷ []) ≡ with_item (canonical_drawing items) i
 canonical_drawing-push items i = λ k. record { table = canonical_table-push items i k; figures = canonical_figures-push items i k }
 
 -- more versions have no fewer colours
-colours_of-more : (items rest : List Placed) → length (colours_of items) ≤ length (colours_of (items ++ rest))
+colours_of-more : {S : Type 0} → (items rest : List (Placed S)) → length (colours_of items) ≤ length (colours_of (items ++ rest))
 colours_of-more items [] = rw append-nil (omega arith)
 colours_of-more items (i ∷ rest) =
     let step : length (colours_of items) ≤ length (colours_of (items ++ i ∷ [])) = rw (colours_of-push items i) (with_new-long (colours_of items) i.colour) in
@@ -189,23 +189,22 @@ colours_of-more items (i ∷ rest) =
     with_new-long cs c = elim (cases_Bool (list_any (rgb_eq c) cs)) [ inl t ↦ rw t (omega arith) | inr t ↦ rw (t, length-append cs (c ∷ [])) (omega arith) ]
 
 -- where the table of the first versions has no room for the next one's colour, all have too many
-pub full_table : (items : List Placed) (k : ℕ) (i : Placed) → take (k + 1) items ≡ take k items ++ i ∷ [] →
-    512 < length (with_colour (canonical_table (take k items)) i.colour) → 512 < length (colours_of items)
-full_table items k i e full =
-    let table = canonical_table-push (take k items) i in
-    let long : length (with_colour (canonical_table (take k items)) i.colour) ≡ length (colours_of (take k items ++ i ∷ [])) =
-    ap length (sym table) ∙ length-enumerate_from 32 (colours_of (take k items ++ i ∷ [])) in
-    let more = colours_of-more (take (k + 1) items) (drop (k + 1) items) in
-    let whole : length (colours_of (take (k + 1) items ++ drop (k + 1) items)) ≡ length (colours_of items) = ap (λ xs. length (colours_of xs)) (take-append-drop (k + 1) items) in
-    let first : length (colours_of (take (k + 1) items)) ≡ length (colours_of (take k items ++ i ∷ [])) = ap (λ xs. length (colours_of xs)) e in
+pub full_table : {S : Type 0} → (seen : List (Placed S)) (i : Placed S) (rest : List (Placed S)) → 512 < length (with_colour (canonical_table seen) i.colour) →
+    512 < length (colours_of (seen ++ i ∷ rest))
+full_table seen i rest full =
+    let long : length (with_colour (canonical_table seen) i.colour) ≡ length (colours_of (seen ++ i ∷ [])) =
+    ap length (sym (canonical_table-push seen i)) ∙ length-enumerate_from 32 (colours_of (seen ++ i ∷ [])) in
+    let more = colours_of-more (seen ++ i ∷ []) rest in
+    let whole : length (colours_of ((seen ++ i ∷ []) ++ rest)) ≡ length (colours_of (seen ++ i ∷ rest)) = ap (λ xs. length (colours_of xs)) (append_assoc seen (i ∷ []) rest) in
     omega arith
 
-pub canonical_room : (items : List Placed) (k : ℕ) → k < length items → length items ≤ 1000 → length (canonical_figures (take k items)) < 1000
-canonical_room items k inside few =
-    let figures = length-canonical_figures (take k items) in
-    let first = length-take-le k items (omega arith) in
+-- the first versions leave room for the next one
+pub canonical_room : {S : Type 0} → (seen : List (Placed S)) (i : Placed S) (rest : List (Placed S)) → length (seen ++ i ∷ rest) ≤ 1000 → length (canonical_figures seen) < 1000
+canonical_room seen i rest few =
+    let figures = length-canonical_figures seen in
+    let long = length-append seen (i ∷ rest) in
     omega arith
 
 -- the table has as many entries as there are colours
-pub length-canonical_table : (items : List Placed) → length (canonical_table items) ≡ length (colours_of items)
+pub length-canonical_table : {S : Type 0} → (items : List (Placed S)) → length (canonical_table items) ≡ length (colours_of items)
 length-canonical_table items = length-enumerate_from 32 (colours_of items)

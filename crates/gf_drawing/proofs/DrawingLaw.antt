@@ -6,7 +6,6 @@ use Rattle.std.proofs.lemmas.Bool.{cases_Bool}
 use Rattle.std.proofs.lemmas.Bool.Decides.{nat_tests}
 use Rattle.std.proofs.lemmas.List.Elements.{All-nil, All-cons}
 use Rattle.gf_shape.specs.declared.point.Point.{Point}
-use Rattle.gf_shape.specs.ShapeMeaning.{rect_holds}
 use Rattle.gf_drawing.specs.declared.figure.Figure.{Figure}
 use Rattle.gf_drawing.specs.Colours.{Table}
 use Rattle.gf_versions.specs.HistoryColour.{white}
@@ -53,21 +52,22 @@ module _ {F : Type 0} (depth : F → ℕ) where
     first_shows colour fs k c e l =
         front_shows depth holds colour fs k c (All-below 0 k fs e (omega arith)) ∙ ap (shown depth holds colour c) (front_first 0 fs e)
 
--- the colour at p is that of the first figure that holds p, or white
-pub first_figure_colours : (table : Table) (figures : List Figure) (p : Point) → length figures ≤ 1000 →
-    map (λ (f : Figure). f.depth) figures ≡ range_with_len 0 (length figures) →
-    drawing_colour table figures p ≡ unwrap_or (option_map (figure_colour table) (find (λ (f : Figure). rect_holds f.shape p) figures)) white
-unfolding from_back
-first_figure_colours table figures p few e =
-    first_shows (λ (f : Figure). f.depth) (λ (f : Figure). rect_holds f.shape p) (figure_colour table) figures 1000 white e few
-
-lawful_depth : (table : Table) (f : Figure) → IsLawfulFigure table f → f.depth < 1000
+lawful_depth : {S : Type 0} → (table : Table) (f : Figure S) → IsLawfulFigure table f → f.depth < 1000
 lawful_depth table f h = grind (arith, nat_tests)
 
--- the colour at p is that of the figure in front there, or white
-pub front_figure_colours : (table : Table) (figures : List Figure) (p : Point) → All (IsLawfulFigure table) figures →
-    drawing_colour table figures p ≡ unwrap_or (option_map (figure_colour table) (front_at p figures)) white
-unfolding from_back
-front_figure_colours table figures p lawful =
-    front_shows (λ (f : Figure). f.depth) (λ (f : Figure). rect_holds f.shape p) (figure_colour table) figures 1000 white
-    (λ k d l. lawful_depth table (get_or figures k d) (lawful k d l))
+module _ {S : Type 0} (holds : S → Point → Bool) where
+  -- the colour at p is that of the first figure that holds p, or white
+  pub first_figure_colours : (table : Table) (figures : List (Figure S)) (p : Point) → length figures ≤ 1000 →
+      map (λ (f : Figure S). f.depth) figures ≡ range_with_len 0 (length figures) →
+      drawing_colour holds table figures p ≡ unwrap_or (option_map (figure_colour table) (find (λ (f : Figure S). holds f.shape p) figures)) white
+  unfolding from_back
+  first_figure_colours table figures p few e =
+      first_shows (λ (f : Figure S). f.depth) (λ (f : Figure S). holds f.shape p) (figure_colour table) figures 1000 white e few
+
+  -- the colour at p is that of the figure in front there, or white
+  pub front_figure_colours : (table : Table) (figures : List (Figure S)) (p : Point) → All (IsLawfulFigure table) figures →
+      drawing_colour holds table figures p ≡ unwrap_or (option_map (figure_colour table) (front_at holds p figures)) white
+  unfolding from_back
+  front_figure_colours table figures p lawful =
+      front_shows (λ (f : Figure S). f.depth) (λ (f : Figure S). holds f.shape p) (figure_colour table) figures 1000 white
+      (λ k d l. lawful_depth table (get_or figures k d) (lawful k d l))

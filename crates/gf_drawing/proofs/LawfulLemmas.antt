@@ -9,7 +9,7 @@ use Rattle.gf_drawing.specs.declared.figure.Figure.{Figure}
 use Rattle.gf_drawing.specs.Colours.{Table, colour_in, standard_colours}
 use Rattle.gf_drawing.specs.DrawingState.{IsFreeNumber, IsLawfulDrawing, IsLawfulFigure, is_table_number}
 
-pub IsLawfulDrawing-add_figure : (table : Table) (figures : List Figure) (f : Figure) →
+pub IsLawfulDrawing-add_figure : {S : Type 0} → (table : Table) (figures : List (Figure S)) (f : Figure S) →
     IsLawfulDrawing (record { table = table; figures = figures }) → IsLawfulFigure table f →
     IsLawfulDrawing (record { table = table; figures = figures ++ f ∷ [] })
 IsLawfulDrawing-add_figure table figures f h l = record {
@@ -38,7 +38,7 @@ is_some-colour_in (e ∷ table) added n h = elim (cases_Bool (eqb e.0 n)) [
   | inr t ↦ rw t (is_some-colour_in table added n (rw t at h))
 ]
 
-pub IsLawfulDrawing-add_colour : (table : Table) (figures : List Figure) (n : ℕ) (c : Rgb) →
+pub IsLawfulDrawing-add_colour : {S : Type 0} → (table : Table) (figures : List (Figure S)) (n : ℕ) (c : Rgb) →
     IsLawfulDrawing (record { table = table; figures = figures }) → IsFreeNumber table n →
     IsLawfulDrawing (record { table = table ++ (n, c) ∷ []; figures = figures })
 IsLawfulDrawing-add_colour table figures n c h free =

@@ -9,7 +9,6 @@ use Rattle.std.proofs.lemmas.List.Elements.{All-head, All-tail, All-nil, All-con
 use Rattle.std.proofs.lemmas.List.Folds.{find-append}
 use Rattle.std.proofs.lemmas.List.FromFn.{length-enumerate_from}
 use Rattle.gf_shape.specs.declared.colour.Rgb.{Rgb}
-use Rattle.gf_shape.specs.Area.{Area}
 use Rattle.gf_versions.specs.declared.placed.Placed.{Placed}
 use Rattle.gf_drawing.specs.CanonicalDrawing.{rgb_eq, colours_of, canonical_table}
 use Rattle.gf_drawing.specs.Colours.{Table, colour_in, rgb_of, standard_colours}
@@ -97,7 +96,7 @@ in_depth : (n : ℕ) → n < 1000 → nat_le n 999 ≡ true
 in_depth n h = grind (arith, nat_tests)
 
 -- the figure of the next version is lawful
-pub lawful_next : (table grown : Table) (c : Rgb) (shape : Area) (number depth : ℕ) → IsNumbered table → grown ≡ with_colour table c → number ≡ 32 + place_in table c → depth < 1000 →
+pub lawful_next : {S : Type 0} → (table grown : Table) (c : Rgb) (shape : S) (number depth : ℕ) → IsNumbered table → grown ≡ with_colour table c → number ≡ 32 + place_in table c → depth < 1000 →
     IsLawfulFigure grown (record { shape = shape; colour = number; depth = depth })
 lawful_next table grown c shape number depth numbered added under room =
     let cs = map (λ (e : ℕ × Rgb). e.1) table in
@@ -114,5 +113,5 @@ enumerated_numbered : (m : ℕ) (cs : List Rgb) → map (λ (e : ℕ × Rgb). e.
 enumerated_numbered m [] = refl
 enumerated_numbered m (c ∷ cs) = ap (λ ds. c ∷ ds) (enumerated_numbered (m + 1) cs)
 
-pub canonical_numbered : (items : List Placed) → IsNumbered (canonical_table items)
+pub canonical_numbered : {S : Type 0} → (items : List (Placed S)) → IsNumbered (canonical_table items)
 canonical_numbered items = sym (ap (enumerate_from 32) (enumerated_numbered 32 (colours_of items)))

@@ -2,11 +2,16 @@
 use Rattle.std.specs.Prelude.{◌≡◌, ℕ, ◌+◌, ◌≤◌, Bool, not, ◌&&◌, ◌==◌, List, [], ◌∷◌, length, map, filter}
 use Rattle.std.specs.List.{enumerate_from, position_or_len}
 use Rattle.gf_shape.specs.declared.colour.Rgb.{Rgb}
+use Rattle.gf_shape.specs.declared.point.Point.{Point}
+use Rattle.gf_shape.specs.Area.{Area}
+use Rattle.gf_shape.specs.ShapeMeaning.{rect_holds}
 use Rattle.gf_ops.specs.declared.op.Op.{Op}
 use Rattle.gf_versions.specs.declared.placed.Placed.{Placed}
+use Rattle.gf_versions.specs.HistoryColour.{HistoryColour}
 use Rattle.gf_versions.specs.Ranking.{AreRanked}
 use Rattle.gf_drawing.specs.declared.figure.Figure.{Figure}
 use Rattle.gf_drawing.specs.Colours.{Table}
+use Rattle.gf_drawing.specs.DrawingColour.{drawing_colour}
 use Rattle.gf_drawing.specs.DrawingState.{DrawingState}
 
 -- c and d are one colour
@@ -18,37 +23,44 @@ abbrev pub first_seen : List Rgb → List Rgb
 first_seen [] = []
 first_seen (c ∷ cs) = c ∷ filter (λ d. not (rgb_eq c d)) (first_seen cs)
 
--- the distinct colours of the items, as they are first seen from the top
-abbrev pub colours_of : List Placed → List Rgb
-colours_of items = first_seen (map (λ (i : Placed). i.colour) items)
-
 -- 32, and how many of the distinct colours cs come before c
 abbrev pub number_of : List Rgb → Rgb → ℕ
 number_of cs c = 32 + position_or_len (rgb_eq c) cs
 
--- the n-th item from the top, counted from 0: its shape, the number of its colour among cs, depth n
-abbrev pub canonical_figure : List Rgb → ℕ × Placed → Figure
-canonical_figure cs (n, i) = record { shape = i.shape; colour = number_of cs i.colour; depth = n }
+-- the items are versions at their places, of shapes of type S
+module _ {S : Type 0} where
+  -- the distinct colours of the items, as they are first seen from the top
+  abbrev pub colours_of : List (Placed S) → List Rgb
+  colours_of items = first_seen (map (λ (i : Placed S). i.colour) items)
 
--- the distinct colours of the items, numbered from 32
-abbrev pub canonical_table : List Placed → Table
-canonical_table items = enumerate_from 32 (colours_of items)
+  -- the n-th item from the top, counted from 0: its shape, the number of its colour among cs, depth n
+  abbrev pub canonical_figure : List Rgb → ℕ × Placed S → Figure S
+  canonical_figure cs (n, i) = record { shape = i.shape; colour = number_of cs i.colour; depth = n }
 
-abbrev pub canonical_figures : List Placed → List Figure
-canonical_figures items = map (canonical_figure (colours_of items)) (enumerate_from 0 items)
+  -- the distinct colours of the items, numbered from 32
+  abbrev pub canonical_table : List (Placed S) → Table
+  canonical_table items = enumerate_from 32 (colours_of items)
 
--- the drawing of the items, topmost first
-abbrev pub canonical_drawing : List Placed → DrawingState
-canonical_drawing items = record { table = canonical_table items; figures = canonical_figures items }
+  -- a figure for each of the items, from the top
+  abbrev pub canonical_figures : List (Placed S) → List (Figure S)
+  canonical_figures items = map (canonical_figure (colours_of items)) (enumerate_from 0 items)
 
--- the items are at most 1,000, and have at most 512 distinct colours
-pub record Fits (items : List Placed) : Type 0 where
-  pub versions : length items ≤ 1000
-  pub colours : length (colours_of items) ≤ 512
+  -- the drawing of the items, topmost first
+  abbrev pub canonical_drawing : List (Placed S) → DrawingState S
+  canonical_drawing items = record { table = canonical_table items; figures = canonical_figures items }
+
+  -- the items are at most 1,000, and have at most 512 distinct colours
+  pub record Fits (items : List (Placed S)) : Type 0 where
+    pub versions : length items ≤ 1000
+    pub colours : length (colours_of items) ≤ 512
 
 -- d is the canonical drawing of h: that of its visible versions, which fit
-pub record IsCanonical (h : List Op) (d : DrawingState) : Type 0 where
-  pub items : List Placed
+pub record IsCanonical (h : List Op) (d : DrawingState Area) : Type 0 where
+  pub items : List (Placed Area)
   pub ranked : AreRanked h items
   pub fits : Fits items
   pub drawing : d ≡ canonical_drawing items
+
+-- d has at every point the colour that h means there
+abbrev pub Paints : List Op → DrawingState Area → Type 0
+Paints h d = (p : Point) → HistoryColour h p (drawing_colour rect_holds d.table d.figures p)

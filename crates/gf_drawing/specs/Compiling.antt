@@ -16,7 +16,7 @@ abbrev pub with_colour : Table → Rgb → Table
 with_colour table c = if nat_lt (place_in table c) (length table) then table else table ++ (32 + length table, c) ∷ []
 
 -- the drawing d with item i behind its figures
-abbrev pub with_item : DrawingState → Placed → DrawingState
+abbrev pub with_item : {S : Type 0} → DrawingState S → Placed S → DrawingState S
 with_item d i = record {
   table = with_colour d.table i.colour;
   figures = d.figures ++ record { shape = i.shape; colour = 32 + place_in d.table i.colour; depth = length d.figures } ∷ [];

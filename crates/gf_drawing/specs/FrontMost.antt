@@ -1,7 +1,6 @@
 -- The figure in front at a point, found in file order. No public clause cites this module.
 use Rattle.std.specs.Prelude.{ℕ, Bool, true, ◌&&◌, nat_le, if◌then◌else◌, List, fold, Option, None, Some}
 use Rattle.gf_shape.specs.declared.point.Point.{Point}
-use Rattle.gf_shape.specs.ShapeMeaning.{rect_holds}
 use Rattle.gf_drawing.specs.declared.figure.Figure.{Figure}
 
 module _ {F : Type 0} (depth : F → ℕ) where
@@ -14,10 +13,11 @@ module _ {F : Type 0} (depth : F → ℕ) where
   abbrev pub nearer : (F → Bool) → Option F → F → Option F
   nearer holds front f = if holds f && is_no_deeper (depth f) front then Some f else front
 
--- the figure in front at p, where f comes next
-abbrev pub nearer_at : Point → Option Figure → Figure → Option Figure
-nearer_at p = nearer (λ (f : Figure). f.depth) (λ (f : Figure). rect_holds f.shape p)
+module _ {S : Type 0} (holds : S → Point → Bool) where
+  -- the figure in front at p, where f comes next
+  abbrev pub nearer_at : Point → Option (Figure S) → Figure S → Option (Figure S)
+  nearer_at p = nearer (λ (f : Figure S). f.depth) (λ (f : Figure S). holds f.shape p)
 
--- the figure in front at p
-abbrev pub front_at : Point → List Figure → Option Figure
-front_at p figures = fold (nearer_at p) None figures
+  -- the figure in front at p
+  abbrev pub front_at : Point → List (Figure S) → Option (Figure S)
+  front_at p figures = fold (nearer_at p) None figures

@@ -5,7 +5,7 @@ ghost use Rattle.gf_drawing.specs.CanonicalDrawing.{Fits, canonical_drawing, col
 ghost use Rattle.gf_drawing.specs.Compiling.{IsNumbered, place_in, with_colour, with_item};
 
 use crate::{Drawing, Figure};
-use gf_shape::Rgb;
+use gf_shape::{Rgb, Shape};
 use gf_versions::{Placed, Ranked};
 use std::alloc::Global;
 use thiserror::Error;
@@ -35,7 +35,7 @@ pub enum CompileFault {
 
 /// The drawing of the versions: the i-th from the top at depth i, counted from 0, and the colours
 /// numbered from 32 as they are first seen from the top.
-pub fn compile(alloc: Global, ranked: Ranked) -> Result<Drawing, CompileFault>
+pub fn compile<S: Shape>(alloc: Global, ranked: Ranked<S>) -> Result<Drawing<S>, CompileFault>
     ensures drawing { IfOk result (λ drawing. drawing ≡ canonical_drawing ranked.items.items) }
     ensures fits { OnOk result (Fits ranked.items.items) }
     ensures versions { result ≡ Err CompileFault.TooManyVersions ↔ (1000 < length ranked.items.items) }
@@ -44,15 +44,15 @@ pub fn compile(alloc: Global, ranked: Ranked) -> Result<Drawing, CompileFault>
     if ranked.len() > MOST_VERSIONS {
         return Err(CompileFault::TooManyVersions);
     }
-    drawing_of(alloc, &ranked.items)
+    drawing_of(alloc, ranked.items)
 }
 
 /// The drawing of at most 1,000 versions.
-fn drawing_of(alloc: Global, items: &[Placed]) -> Result<Drawing, CompileFault>
-    requires { length items.now ≤ 1000 }
-    ensures drawing { IfOk result (λ drawing. drawing ≡ canonical_drawing items.now) }
-    ensures fits { OnOk result (Fits items.now) }
-    ensures colours { result ≡ Err CompileFault.TooManyColours → 512 < length (colours_of items.now) }
+fn drawing_of<S: Shape>(alloc: Global, items: Vec<Placed<S>>) -> Result<Drawing<S>, CompileFault>
+    requires { length items.items ≤ 1000 }
+    ensures drawing { IfOk result (λ drawing. drawing ≡ canonical_drawing items.items) }
+    ensures fits { OnOk result (Fits items.items) }
+    ensures colours { result ≡ Err CompileFault.TooManyColours → 512 < length (colours_of items.items) }
     ensures never { result ≢ Err CompileFault.TooManyVersions }
 {
     let mut drawing = Drawing::new(alloc);
@@ -63,18 +63,18 @@ fn drawing_of(alloc: Global, items: &[Placed]) -> Result<Drawing, CompileFault>
 }
 
 /// Adds a version behind the figures.
-fn add(drawing: &mut Drawing, item: &Placed) -> Result<(), CompileFault>
+fn add<S: Shape>(drawing: &mut Drawing<S>, item: Placed<S>) -> Result<(), CompileFault>
     requires numbered { IsNumbered drawing.old.table }
     requires few { length drawing.old.table ≤ 512 }
     requires room { length drawing.old.figures < 1000 }
-    ensures ok { OnOk result ((drawing.new ≡ with_item drawing.old item.now) × (length drawing.new.table ≤ 512)) }
-    ensures full { result ≡ Err CompileFault.TooManyColours → 512 < length (with_colour drawing.old.table item.now.colour) }
+    ensures ok { OnOk result ((drawing.new ≡ with_item drawing.old item) × (length drawing.new.table ≤ 512)) }
+    ensures full { result ≡ Err CompileFault.TooManyColours → 512 < length (with_colour drawing.old.table item.colour) }
     ensures never { result ≢ Err CompileFault.TooManyVersions }
 {
     let figure = Figure {
-        shape: item.shape,
         colour: number(drawing, item.colour)?,
         depth: drawing.figures().len() as u16,
+        shape: item.shape,
     };
     match drawing.add_figure(figure) {
         Ok(()) => Ok(()),
@@ -83,7 +83,7 @@ fn add(drawing: &mut Drawing, item: &Placed) -> Result<(), CompileFault>
 }
 
 /// The number of a colour, which is added if it is new.
-fn number(drawing: &mut Drawing, colour: Rgb) -> Result<u16, CompileFault>
+fn number<S: Shape>(drawing: &mut Drawing<S>, colour: Rgb) -> Result<u16, CompileFault>
     requires numbered { IsNumbered drawing.old.table }
     requires few { length drawing.old.table ≤ 512 }
     ensures number { IfOk result (λ number. number ≡ 32 + place_in drawing.old.table colour) }

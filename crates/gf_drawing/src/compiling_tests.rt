@@ -1,6 +1,6 @@
 //! Worked examples: from histories to drawings.
 
-use crate::{CompileFault, Figure, compile};
+use crate::{CompileFault, compile};
 use gf_ops::{Change, Clock, Form, History, Op, OpId, Start};
 use gf_shape::{Point, Rect, Rgb};
 use gf_versions::{Ranked, ranked};
@@ -52,7 +52,7 @@ fn boxes(
     count: u16,
     colours: u16,
     last_shown: bool,
-) -> Result<Ranked, Fail> {
+) -> Result<Ranked<Rect>, Fail> {
     let mut history = History::new(alloc);
     for i in 0..count {
         let n = i.min(colours.saturating_sub(1));
@@ -80,12 +80,8 @@ fn versions_are_numbered_from_the_top(rt: HostRuntime) -> Result<(), Fail> {
     let rows = [(32, 0), (32, 1), (33, 2)];
     assert_eq!(rt; drawing.figures().len(), rows.len());
     for ((colour, depth), figure) in rows.into_iter().zip(drawing.figures()) {
-        let wanted = Figure {
-            shape,
-            colour,
-            depth,
-        };
-        assert_eq!(rt; *figure, wanted);
+        assert_eq!(rt; figure.shape, shape);
+        assert_eq!(rt; (figure.colour, figure.depth), (colour, depth));
     }
     assert_eq!(rt; drawing.colours().at(0), Some((32, RED)));
     assert_eq!(rt; drawing.colours().at(1), Some((33, BLUE)));

@@ -1,13 +1,13 @@
 //! Drawings.
 
-ghost use Rattle.std.specs.Prelude.{◌≡◌, None, [], ◌∷◌, ◌++◌, OnOk, OnErr, fold};
+ghost use Rattle.std.specs.Prelude.{◌≡◌, None, [], ◌∷◌, ◌++◌, OnOk, OnErr, fold, option_copied};
 ghost use Rattle.gf_drawing.specs.Colours.{colour_in, rgb_of, standard_colours};
 ghost use Rattle.gf_drawing.specs.DrawingState.{IsFreeNumber, IsLawfulDrawing, IsLawfulFigure};
 ghost use Rattle.gf_drawing.specs.DrawingColour.{drawing_colour};
 ghost use Rattle.gf_drawing.specs.FrontMost.{front_at, is_no_deeper, nearer_at};
 
 use crate::{ColourTable, Figure};
-use gf_shape::{OutOfMemory, Point, Rgb};
+use gf_shape::{OutOfMemory, Point, Rgb, Shape};
 use std::alloc::Global;
 use std::marker::Model;
 
@@ -20,15 +20,15 @@ const WHITE: Rgb = Rgb {
 
 /// Figures over a white ground, with the table of their colours.
 #[derive(Debug, Drop)]
-pub struct Drawing {
+pub struct Drawing<S> {
     table: ColourTable,
-    figures: Vec<Figure>,
+    figures: Vec<Figure<S>>,
 }
 
-impl Model for Drawing {
+impl<S> Model for Drawing<S> {
     ghost use Rattle.gf_drawing.specs.DrawingState.{DrawingState};
 
-    ghost Value = { DrawingState };
+    ghost Value = { DrawingState S };
 
     ghost view = { λ d. record { table = d.table; figures = d.figures.items } };
 
@@ -37,9 +37,9 @@ impl Model for Drawing {
     ghost invariant = { λ d. IsLawfulDrawing (record { table = d.table; figures = d.figures.items }) };
 }
 
-impl Drawing {
+impl<S: Shape> Drawing<S> {
     /// The drawing of no figures.
-    pub fn new(alloc: Global) -> Drawing
+    pub fn new(alloc: Global) -> Drawing<S>
         ensures { result ≡ record { table = []; figures = [] } }
     {
         Drawing {
@@ -57,7 +57,7 @@ impl Drawing {
     }
 
     /// Its figures in file order.
-    pub fn figures(&self) -> &[Figure]
+    pub fn figures(&self) -> &[Figure<S>]
         ensures figures { result.now ≡ self.now.figures }
         ensures lawful { IsLawfulDrawing self.now }
     {
@@ -73,7 +73,7 @@ impl Drawing {
 
     /// The colour at a point, in one pass over the figures.
     pub fn colour_at(&self, p: Point) -> Rgb
-        ensures { result ≡ drawing_colour self.now.table self.now.figures p }
+        ensures { result ≡ drawing_colour S.holds self.now.table self.now.figures p }
     {
         match front_at(&self.figures, p) {
             Some(figure) => self.rgb(figure.colour).unwrap_or(WHITE),
@@ -92,7 +92,7 @@ impl Drawing {
     }
 
     /// Adds a figure at the end of the file.
-    pub fn add_figure(&mut self, figure: Figure) -> Result<(), OutOfMemory>
+    pub fn add_figure(&mut self, figure: Figure<S>) -> Result<(), OutOfMemory>
         requires { IsLawfulFigure self.old.table figure }
         ensures ok { OnOk result (self.new ≡ record self.old { figures = self.old.figures ++ figure ∷ [] }) }
         ensures err { OnErr result (self.new ≡ self.old) }
@@ -121,28 +121,34 @@ fn standard_colour(number: u16) -> Option<Rgb>
 }
 
 /// The figure in front of all that hold a point.
-fn front_at(figures: &[Figure], p: Point) -> Option<Figure>
-    ensures { result ≡ front_at p figures.now }
+fn front_at<'a, S: Shape>(figures: &'a [Figure<S>], p: Point) -> Option<&'a Figure<S>>
+    ensures { option_copied result ≡ front_at S.holds p figures.now }
 {
     let mut front = None;
     for figure in figures {
-        cover(&mut front, figure, p);
+        front = nearer_at(front, figure, p);
     }
     front
 }
 
-/// Puts the next figure of the file in front at a point, if it covers the one there.
-fn cover(front: &mut Option<Figure>, figure: &Figure, p: Point)
-    ensures { front.new ≡ nearer_at p front.old figure.now }
+/// The figure in front at a point, where one more comes next in the file.
+fn nearer_at<'a, S: Shape>(
+    front: Option<&'a Figure<S>>,
+    figure: &'a Figure<S>,
+    p: Point,
+) -> Option<&'a Figure<S>>
+    ensures { option_copied result ≡ nearer_at S.holds p (option_copied front.entry) figure.now }
 {
     if figure.shape.holds(p) && is_no_deeper(figure.depth, front) {
-        *front = Some(*figure);
+        Some(figure)
+    } else {
+        front
     }
 }
 
 /// Whether a depth is no greater than that of the figure in front, if there is one.
-fn is_no_deeper(depth: u16, front: &Option<Figure>) -> bool
-    ensures { result ≡ is_no_deeper (λ f. f.depth) depth front.now }
+fn is_no_deeper<S>(depth: u16, front: Option<&Figure<S>>) -> bool
+    ensures { result ≡ is_no_deeper (λ f. f.depth) depth (option_copied front.entry) }
 {
     match front {
         Some(figure) => depth <= figure.depth,

@@ -10,7 +10,7 @@ fn colour(r: u8, g: u8, b: u8) -> Rgb {
     Rgb { r, g, b }
 }
 
-fn figure(shape: Rect, colour: u16, depth: u16) -> Figure
+fn figure<S>(shape: S, colour: u16, depth: u16) -> Figure<S>
     ensures { result ≡ record { shape = shape; colour = colour; depth = depth } }
 {
     Figure {
@@ -22,7 +22,7 @@ fn figure(shape: Rect, colour: u16, depth: u16) -> Figure
 
 #[test]
 fn colours_have_their_numbers(rt: HostRuntime) -> Result<(), Fail> {
-    let mut drawing = Drawing::new(rt.alloc());
+    let mut drawing: Drawing<Rect> = Drawing::new(rt.alloc());
     assert!(rt; drawing.colours().is_empty());
     drawing.add_colour(543, colour(1, 2, 3))?;
     drawing.add_colour(32, colour(1, 2, 3))?;
@@ -83,17 +83,19 @@ fn the_front_is_seen(rt: HostRuntime) -> Result<(), Fail> {
 #[test]
 fn what_lies_behind_is_hidden(rt: HostRuntime) -> Result<(), Fail> {
     let origin = Point { x: 0, y: 0 };
-    let figures = [
-        figure(Rect::new(origin, 9, 9)?, 2, 999),
-        figure(Rect::new(origin, 3, 3)?, 4, 0),
-        figure(Rect::new(origin, 6, 6)?, 32, 500),
-    ];
+    let (behind, front) = (Rect::new(origin, 9, 9)?, Rect::new(origin, 3, 3)?);
+    let between = Rect::new(origin, 6, 6)?;
     let mut drawing = Drawing::new(rt.alloc());
     drawing.add_colour(32, colour(1, 2, 3))?;
-    drawing.add_figure(figures[0])?;
-    drawing.add_figure(figures[1])?;
-    drawing.add_figure(figures[2])?;
-    assert_eq!(rt; drawing.figures(), figures.as_slice());
+    drawing.add_figure(figure(behind, 2, 999))?;
+    drawing.add_figure(figure(front, 4, 0))?;
+    drawing.add_figure(figure(between, 32, 500))?;
+    let figures = [(behind, 2, 999), (front, 4, 0), (between, 32, 500)];
+    assert_eq!(rt; drawing.figures().len(), figures.len());
+    for (figure, (shape, colour, depth)) in drawing.figures().iter().zip(figures) {
+        assert_eq!(rt; figure.shape, shape);
+        assert_eq!(rt; (figure.colour, figure.depth), (colour, depth));
+    }
     let rows = [
         (1, colour(255, 0, 0)),
         (4, colour(1, 2, 3)),

@@ -1,14 +1,10 @@
 //! The law of drawings, the contract of a function that does nothing.
 
 ghost use Rattle.std.specs.Prelude.{List};
-ghost use Rattle.gf_shape.specs.declared.point.Point.{Point};
 ghost use Rattle.gf_ops.specs.declared.op.Op.{Op};
-ghost use Rattle.gf_versions.specs.HistoryColour.{HistoryColour};
-ghost use Rattle.gf_drawing.specs.CanonicalDrawing.{IsCanonical};
-ghost use Rattle.gf_drawing.specs.DrawingColour.{drawing_colour};
-ghost use Rattle.gf_drawing.specs.DrawingState.{DrawingState};
+ghost use Rattle.gf_drawing.specs.CanonicalDrawing.{IsCanonical, Paints};
 
 /// The canonical drawing of a history has at every point the colour that the history means there.
 pub fn the_canonical_drawing_paints_the_history()
-    ensures { (h : List Op) (d : DrawingState) → IsCanonical h d → (p : Point) → HistoryColour h p (drawing_colour d.table d.figures p) }
+    ensures { (h : List Op) (d : _) → IsCanonical h d → Paints h d }
 {}

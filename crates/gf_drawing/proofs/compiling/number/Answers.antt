@@ -6,12 +6,12 @@ use Rattle.gf_drawing.proofs.NumberLemmas.{free_next}
 use Rattle.gf_drawing.proofs.compiling.number.Goals as goal
 
 pub add_colour-requires : goal.add_colour-requires
-add_colour-requires c =
+add_colour-requires g c =
     let count : c.len-count.result ≡ length c.args.drawing.now.table = c.len-count.ensures ∙ ap length c.colours.ensures.table in
     rw count (free_next c.args.drawing.now.table c.requires.numbered (omega arith))
 
 pub returns-in-Ok-clause-number : goal.returns-in-Ok-clause-number
-returns-in-Ok-clause-number c =
+returns-in-Ok-clause-number g c =
     let table = c.args.drawing.now.table in
     let count : c.len-count.result ≡ length table = c.len-count.ensures ∙ ap length c.colours.ensures.table in
     let place : c.place-place.result ≡ place_in table c.args.colour = c.place-place.ensures ∙ ap (λ t. place_in t c.args.colour) c.colours-2.ensures.table in
