@@ -1,4 +1,3 @@
 pub mod ReadsLemmas
 pub mod CuttingLemmas
-pub mod TableLemmas
 pub mod ReadingLemmas

@@ -1,22 +1,21 @@
 -- What a run makes of the bytes that it reads (this project's own).
 use Rattle.std.specs.Prelude.{◌≡◌, ◌<◌, ◌≤◌, ℕ, List, ◌∷◌, ◌++◌, length, map, Option, Ok, Err}
 use Rattle.std.specs.Io.KnownBytes.{Appends}
-use Rattle.gf_shape.specs.declared.point.Point.{Point}
+use Rattle.gf_shape.specs.Area.{Area}
+use Rattle.gf_shape.specs.Outlines.{rect_outline}
 use Rattle.gf_ops.specs.declared.op.Op.{Op}
 use Rattle.gf_ops.specs.declared.op.OpId.{OpId}
 use Rattle.gf_ops.specs.Accepted.{IsAccepted, AreAccepted}
 use Rattle.gf_ops.specs.ValidHistory.{IsValid}
 use Rattle.gf_versions.specs.declared.placed.Placed.{Placed}
-use Rattle.gf_versions.specs.HistoryColour.{HistoryColour}
 use Rattle.gf_versions.specs.Ranking.{AreRanked}
 use Rattle.gf_drawing.specs.declared.compiling.CompileFault.{CompileFault}
 use Rattle.gf_drawing.specs.declared.compiling.CompileFault.TheVariants as compile
-use Rattle.gf_drawing.specs.CanonicalDrawing.{IsCanonical, colours_of}
-use Rattle.gf_drawing.specs.DrawingColour.{drawing_colour}
+use Rattle.gf_drawing.specs.CanonicalDrawing.{IsCanonical, Paints, colours_of}
 use Rattle.gf_drawing.specs.DrawingState.{DrawingState}
 use Rattle.gf_drawing.specs.Taken.{AppendsFront}
+use Rattle.gf_fig_write.specs.FigText.{fig_text}
 use Rattle.figgroup.specs.declared.studio_error.LineCause.{LineCause}
-use Rattle.figgroup.specs.FigText.{fig_text}
 use Rattle.gf_json.specs.LineValues.{Got}
 use Rattle.gf_json.specs.OperationLines.{denoted}
 use Rattle.figgroup.specs.Refusals.{line_fault}
@@ -63,29 +62,29 @@ pub record Drops (bytes : List ℕ) (id : OpId) : Type 0 where
   pub unfit : ¬ (IsAccepted at.history op)
 
 -- the bytes denote a history with a canonical drawing, which has at every point the colour that the history means there
-pub record Draws (bytes : List ℕ) (drawing : DrawingState) : Type 0 where
+pub record Draws (bytes : List ℕ) (drawing : DrawingState Area) : Type 0 where
   pub history : List Op
   pub denoted : Denotes bytes history
   pub canonical : IsCanonical history drawing
-  pub colours : (p : Point) → HistoryColour history p (drawing_colour drawing.table drawing.figures p)
+  pub colours : Paints history drawing
 
 -- known bytes grow from old to new by the FIG text of what the bytes draw
 pub record Exports (bytes : List ℕ) (old new : Option (List ℕ)) : Type 0 where
-  pub drawing : DrawingState
+  pub drawing : DrawingState Area
   pub drawn : Draws bytes drawing
-  pub written : Appends old new (fig_text drawing)
+  pub written : Appends old new (fig_text rect_outline drawing)
 
 -- known bytes grow from old to new by the first of that text
 pub record ExportsFront (bytes : List ℕ) (old new : Option (List ℕ)) : Type 0 where
-  pub drawing : DrawingState
+  pub drawing : DrawingState Area
   pub drawn : Draws bytes drawing
-  pub written : AppendsFront old new (fig_text drawing)
+  pub written : AppendsFront old new (fig_text rect_outline drawing)
 
 -- the bytes denote a history with more than 1,000 visible versions
 pub record HasTooManyVersions (bytes : List ℕ) : Type 0 where
   pub history : List Op
   pub denoted : Denotes bytes history
-  pub items : List Placed
+  pub items : List (Placed Area)
   pub ranked : AreRanked history items
   pub many : 1000 < length items
 
@@ -93,7 +92,7 @@ pub record HasTooManyVersions (bytes : List ℕ) : Type 0 where
 pub record HasTooManyColours (bytes : List ℕ) : Type 0 where
   pub history : List Op
   pub denoted : Denotes bytes history
-  pub items : List Placed
+  pub items : List (Placed Area)
   pub ranked : AreRanked history items
   pub few : length items ≤ 1000
   pub many : 512 < length (colours_of items)

@@ -3,8 +3,6 @@ pub mod ReelState
 pub mod TextLines
 pub mod LineCutting
 pub mod TextLinesExamples
-pub mod FigText
-pub mod FigTextExamples
 pub mod Refusals
 pub mod FigRun
 pub mod LineSteps

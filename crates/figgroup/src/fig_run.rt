@@ -11,8 +11,10 @@ ghost use Rattle.figgroup.specs.LineSteps.{RefusesDrawing};
 ghost use Rattle.figgroup.specs.Reads.{CamePast, ConsumesAtMost};
 
 use crate::reading::read_history;
-use crate::{MOST_INPUT_BYTES, Source, StudioError, read_input, write_fig};
+use crate::{MOST_INPUT_BYTES, Source, StudioError, read_input};
 use gf_drawing::{Drawing, Sink, compile};
+use gf_fig_write::write_fig;
+use gf_shape::Rect;
 use gf_versions::ranked;
 use std::alloc::Global;
 
@@ -57,7 +59,7 @@ pub fn fig_run<R: Source, W: Sink>(
 }
 
 /// The drawing of the history that these bytes denote.
-fn draw(alloc: Global, bytes: &[u8]) -> Result<Drawing, StudioError>
+fn draw(alloc: Global, bytes: &[u8]) -> Result<Drawing<Rect>, StudioError>
     ensures ok { IfOk result (λ drawing. Draws bytes.now drawing) }
     ensures err { IfErr result (RefusesDrawing bytes.now) }
 {

@@ -7,10 +7,6 @@ mod command_tests;
 mod fig_run;
 #[cfg(test)]
 mod fig_run_tests;
-#[cfg(test)]
-mod fig_tests;
-mod fig_text;
-mod fig_writing;
 mod input;
 mod reading;
 mod reel;
@@ -25,8 +21,6 @@ mod text_lines_tests;
 pub use command::command;
 use command::refuse_words;
 pub use fig_run::fig_run;
-pub use fig_text::fig_bytes;
-pub use fig_writing::write_fig;
 use gf_drawing::Out;
 pub use input::In;
 pub use reel::Reel;

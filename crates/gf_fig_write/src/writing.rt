@@ -4,20 +4,25 @@ ghost use Rattle.std.specs.Prelude.{◌≡◌, IsTrue, OnOk, Err};
 ghost use Rattle.std.specs.Io.KnownBytes.{Appends};
 ghost use Rattle.gf_drawing.specs.Counts.{Rises};
 ghost use Rattle.gf_drawing.specs.Taken.{AppendsFront};
-ghost use Rattle.figgroup.specs.FigText.{fig_text};
+ghost use Rattle.gf_fig_write.specs.FigText.{fig_text};
 
 use crate::fig_bytes;
 use gf_drawing::{Drawing, Sink, WriteError, write_whole};
+use gf_shape::Shape;
 use std::alloc::Global;
 
 /// Writes the FIG text of a drawing, and flushes. The text is made before the first byte is
 /// written, so want of memory leaves the sink alone.
-pub fn write_fig<W: Sink>(alloc: Global, drawing: &Drawing, sink: &mut W) -> Result<(), WriteError>
-    ensures whole { OnOk result (Appends (W.taken sink.old) (W.taken sink.new) (fig_text drawing.now)) }
+pub fn write_fig<S: Shape, W: Sink>(
+    alloc: Global,
+    drawing: &Drawing<S>,
+    sink: &mut W,
+) -> Result<(), WriteError>
+    ensures whole { OnOk result (Appends (W.taken sink.old) (W.taken sink.new) (fig_text S.outline drawing.now)) }
     ensures flushed { OnOk result (IsTrue (W.flushed sink.new)) }
     ensures unfailed { OnOk result (W.failures sink.new ≡ W.failures sink.old) }
     ensures memory { result ≡ Err WriteError.OutOfMemory → sink.new ≡ sink.old }
-    ensures front { result ≡ Err WriteError.WriteFailed → AppendsFront (W.taken sink.old) (W.taken sink.new) (fig_text drawing.now) }
+    ensures front { result ≡ Err WriteError.WriteFailed → AppendsFront (W.taken sink.old) (W.taken sink.new) (fig_text S.outline drawing.now) }
     ensures failed { result ≡ Err WriteError.WriteFailed → Rises (W.failures sink.old) (W.failures sink.new) }
 {
     let Ok(bytes) = fig_bytes(alloc, drawing) else {

@@ -2,7 +2,7 @@
 
 ghost use Rattle.std.specs.Prelude.{◌≡◌};
 
-use crate::fig_text::push_outline;
+use crate::outlines::push_outline;
 use crate::{fig_bytes, write_fig};
 use gf_drawing::{Drawing, Figure, Tape, WriteError};
 use gf_shape::{Chain, Disc, Outline, Point, Rect, Rgb};
@@ -22,7 +22,7 @@ fn at(x: i32, y: i32) -> Point
     Point { x, y }
 }
 
-fn figure(shape: Rect, colour: u16, depth: u16) -> Figure
+fn figure<S>(shape: S, colour: u16, depth: u16) -> Figure<S>
     ensures { result ≡ record { shape = shape; colour = colour; depth = depth } }
 {
     Figure {
@@ -32,7 +32,7 @@ fn figure(shape: Rect, colour: u16, depth: u16) -> Figure
     }
 }
 
-fn red_box(rt: &HostRuntime) -> Result<Drawing, Fail> {
+fn red_box(rt: &HostRuntime) -> Result<Drawing<Rect>, Fail> {
     let mut drawing = Drawing::new(rt.alloc());
     drawing.add_colour(32, Rgb { r: 255, g: 0, b: 0 })?;
     drawing.add_figure(figure(Rect::new(at(100, 200), 300, 400)?, 32, 0))?;
@@ -42,7 +42,10 @@ fn red_box(rt: &HostRuntime) -> Result<Drawing, Fail> {
 #[test]
 fn drawings_have_their_text(rt: HostRuntime) -> Result<(), Fail> {
     let alloc = rt.alloc();
-    assert_eq!(rt; fig_bytes(alloc, &Drawing::new(alloc))?.as_slice(), EMPTY);
+    assert_eq!(rt;
+        fig_bytes(alloc, &Drawing::<Rect>::new(alloc))?.as_slice(),
+        EMPTY
+    );
     assert_eq!(rt; fig_bytes(alloc, &red_box(&rt)?)?.as_slice(), RED_BOX);
     assert_eq!(rt; RED_BOX.len(), 156);
     let shape = Rect::new(at(0, 0), 10, 10)?;
@@ -86,7 +89,7 @@ fn outlines_have_their_lines(rt: HostRuntime) -> Result<(), Fail> {
 fn what_a_sink_takes_is_a_front(rt: HostRuntime) -> Result<(), Fail> {
     let alloc = rt.alloc();
     let mut short = Tape::new(alloc, Some(20));
-    let written = write_fig(alloc, &Drawing::new(alloc), &mut short);
+    let written = write_fig(alloc, &Drawing::<Rect>::new(alloc), &mut short);
     assert_eq!(rt; written, Err(WriteError::WriteFailed));
     assert_eq!(rt; short.bytes(), b"#FIG 3.2\nLandscape\nC".as_slice());
     let drawing = red_box(&rt)?;

@@ -1,7 +1,7 @@
 use Rattle.std.proofs.Common.{◌≡◌, ◌++◌, take}
 use Rattle.std.specs.Prelude.{flat_map}
-use Rattle.figgroup.specs.FigText.{colour_line}
-use Rattle.figgroup.proofs.fig_text.push_table.Given as goal
+use Rattle.gf_fig_write.specs.FigText.{colour_line}
+use Rattle.gf_fig_write.proofs.colours.push_table.Given as goal
 
 abbrev pub invariant-loop-i : goal.invariant-loop-i
 invariant-loop-i l = l.out.items ≡ l.initial.out.items ++ flat_map colour_line (take l.i l.table)
