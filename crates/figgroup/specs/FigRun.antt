@@ -1,8 +1,8 @@
 -- What a run makes of the bytes that it reads (this project's own).
 use Rattle.std.specs.Prelude.{◌≡◌, ◌<◌, ◌≤◌, ℕ, List, ◌∷◌, ◌++◌, length, map, Option, Ok, Err}
 use Rattle.std.specs.Io.KnownBytes.{Appends}
-use Rattle.gf_shape.specs.Area.{Area}
-use Rattle.gf_shape.specs.Outlines.{rect_outline}
+use Rattle.gf_shape.specs.declared.any_shape.AnyShape.{AnyShape}
+use Rattle.gf_shape.specs.Outlines.{any_outline}
 use Rattle.gf_ops.specs.declared.op.Op.{Op}
 use Rattle.gf_ops.specs.declared.op.OpId.{OpId}
 use Rattle.gf_ops.specs.Accepted.{IsAccepted, AreAccepted}
@@ -62,7 +62,7 @@ pub record Drops (bytes : List ℕ) (id : OpId) : Type 0 where
   pub unfit : ¬ (IsAccepted at.history op)
 
 -- the bytes denote a history with a canonical drawing, which has at every point the colour that the history means there
-pub record Draws (bytes : List ℕ) (drawing : DrawingState Area) : Type 0 where
+pub record Draws (bytes : List ℕ) (drawing : DrawingState AnyShape) : Type 0 where
   pub history : List Op
   pub denoted : Denotes bytes history
   pub canonical : IsCanonical history drawing
@@ -70,21 +70,21 @@ pub record Draws (bytes : List ℕ) (drawing : DrawingState Area) : Type 0 where
 
 -- known bytes grow from old to new by the FIG text of what the bytes draw
 pub record Exports (bytes : List ℕ) (old new : Option (List ℕ)) : Type 0 where
-  pub drawing : DrawingState Area
+  pub drawing : DrawingState AnyShape
   pub drawn : Draws bytes drawing
-  pub written : Appends old new (fig_text rect_outline drawing)
+  pub written : Appends old new (fig_text any_outline drawing)
 
 -- known bytes grow from old to new by the first of that text
 pub record ExportsFront (bytes : List ℕ) (old new : Option (List ℕ)) : Type 0 where
-  pub drawing : DrawingState Area
+  pub drawing : DrawingState AnyShape
   pub drawn : Draws bytes drawing
-  pub written : AppendsFront old new (fig_text rect_outline drawing)
+  pub written : AppendsFront old new (fig_text any_outline drawing)
 
 -- the bytes denote a history with more than 1,000 visible versions
 pub record HasTooManyVersions (bytes : List ℕ) : Type 0 where
   pub history : List Op
   pub denoted : Denotes bytes history
-  pub items : List (Placed Area)
+  pub items : List (Placed AnyShape)
   pub ranked : AreRanked history items
   pub many : 1000 < length items
 
@@ -92,7 +92,7 @@ pub record HasTooManyVersions (bytes : List ℕ) : Type 0 where
 pub record HasTooManyColours (bytes : List ℕ) : Type 0 where
   pub history : List Op
   pub denoted : Denotes bytes history
-  pub items : List (Placed Area)
+  pub items : List (Placed AnyShape)
   pub ranked : AreRanked history items
   pub few : length items ≤ 1000
   pub many : 512 < length (colours_of items)

@@ -14,7 +14,7 @@ use crate::reading::read_history;
 use crate::{MOST_INPUT_BYTES, Source, StudioError, read_input};
 use gf_drawing::{Drawing, Sink, compile};
 use gf_fig_write::write_fig;
-use gf_shape::Rect;
+use gf_shape::AnyShape;
 use gf_versions::ranked;
 use std::alloc::Global;
 
@@ -59,7 +59,7 @@ pub fn fig_run<R: Source, W: Sink>(
 }
 
 /// The drawing of the history that these bytes denote.
-fn draw(alloc: Global, bytes: &[u8]) -> Result<Drawing<Rect>, StudioError>
+fn draw(alloc: Global, bytes: &[u8]) -> Result<Drawing<AnyShape>, StudioError>
     ensures ok { IfOk result (λ drawing. Draws bytes.now drawing) }
     ensures err { IfErr result (RefusesDrawing bytes.now) }
 {

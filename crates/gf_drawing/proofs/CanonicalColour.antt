@@ -6,7 +6,7 @@ use Rattle.std.proofs.lemmas.Bool.{cases_Bool}
 use Rattle.std.proofs.lemmas.List.Elements.{All-head, All-tail}
 use Rattle.gf_shape.specs.declared.colour.Rgb.{Rgb}
 use Rattle.gf_shape.specs.declared.point.Point.{Point}
-use Rattle.gf_shape.specs.ShapeMeaning.{rect_holds}
+use Rattle.gf_shape.specs.ShapeMeaning.{any_holds}
 use Rattle.gf_ops.specs.declared.op.Op.{Op}
 use Rattle.gf_versions.specs.declared.placed.Placed.{Placed}
 use Rattle.gf_versions.specs.HistoryColour.{HistoryColour, white}
@@ -51,4 +51,4 @@ module _ {S : Type 0} (holds : S → Point → Bool) where
 -- at every point the canonical drawing has the colour that the history means
 pub canonical_colour : (h : List Op) (d : _) → IsCanonical h d → Paints h d
 canonical_colour h d canonical p =
-    subst (HistoryColour h p) (sym (same_first rect_holds d canonical.items p canonical.drawing canonical.fits.versions)) (first_gives h p canonical.items canonical.ranked)
+    subst (HistoryColour h p) (sym (same_first any_holds d canonical.items p canonical.drawing canonical.fits.versions)) (first_gives h p canonical.items canonical.ranked)

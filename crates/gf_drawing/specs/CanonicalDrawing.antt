@@ -3,8 +3,8 @@ use Rattle.std.specs.Prelude.{◌≡◌, ℕ, ◌+◌, ◌≤◌, Bool, not, ◌
 use Rattle.std.specs.List.{enumerate_from, position_or_len}
 use Rattle.gf_shape.specs.declared.colour.Rgb.{Rgb}
 use Rattle.gf_shape.specs.declared.point.Point.{Point}
-use Rattle.gf_shape.specs.Area.{Area}
-use Rattle.gf_shape.specs.ShapeMeaning.{rect_holds}
+use Rattle.gf_shape.specs.declared.any_shape.AnyShape.{AnyShape}
+use Rattle.gf_shape.specs.ShapeMeaning.{any_holds}
 use Rattle.gf_ops.specs.declared.op.Op.{Op}
 use Rattle.gf_versions.specs.declared.placed.Placed.{Placed}
 use Rattle.gf_versions.specs.HistoryColour.{HistoryColour}
@@ -55,12 +55,12 @@ module _ {S : Type 0} where
     pub colours : length (colours_of items) ≤ 512
 
 -- d is the canonical drawing of h: that of its visible versions, which fit
-pub record IsCanonical (h : List Op) (d : DrawingState Area) : Type 0 where
-  pub items : List (Placed Area)
+pub record IsCanonical (h : List Op) (d : DrawingState AnyShape) : Type 0 where
+  pub items : List (Placed AnyShape)
   pub ranked : AreRanked h items
   pub fits : Fits items
   pub drawing : d ≡ canonical_drawing items
 
 -- d has at every point the colour that h means there
-abbrev pub Paints : List Op → DrawingState Area → Type 0
-Paints h d = (p : Point) → HistoryColour h p (drawing_colour rect_holds d.table d.figures p)
+abbrev pub Paints : List Op → DrawingState AnyShape → Type 0
+Paints h d = (p : Point) → HistoryColour h p (drawing_colour any_holds d.table d.figures p)

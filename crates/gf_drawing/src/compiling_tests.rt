@@ -52,7 +52,7 @@ fn boxes(
     count: u16,
     colours: u16,
     last_shown: bool,
-) -> Result<Ranked<Rect>, Fail> {
+) -> Result<Ranked<AnyShape>, Fail> {
     let mut history = History::new(alloc);
     for i in 0..count {
         let n = i.min(colours.saturating_sub(1));
