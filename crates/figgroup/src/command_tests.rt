@@ -25,6 +25,18 @@ const RED_OVER_BLUE_OTHERWISE: &str =
 const RED_OVER_BLUE_FIG: &str =
     "#FIG 3.2\nLandscape\nCenter\nMetric\nA4\n100.00\nSingle\n-2\n1200 2\n0 32 #ff0000\n0 33 #0000ff\n2 2 0 0 32 32 0 -1 20 0.000 0 0 -1 0 0 5\n\t 0 0 10 0 10 10 0 10 0 0\n2 2 0 0 33 33 1 -1 20 0.000 0 0 -1 0 0 5\n\t 0 0 10 0 10 10 0 10 0 0\n";
 
+const UNIT_CIRCLE: &str =
+    "{\"colour\":\"00ff00\",\"id\":[1,1],\"kind\":\"circle\",\"layer\":0,\"op\":\"create\",\"past\":[0,0,0,0,0,0,0,0],\"place\":[0,0],\"shown\":true,\"size\":[1,1]}\n";
+
+const UNIT_CIRCLE_FIG: &str =
+    "#FIG 3.2\nLandscape\nCenter\nMetric\nA4\n100.00\nSingle\n-2\n1200 2\n0 32 #00ff00\n1 3 0 0 32 32 0 -1 20 0.000 1 0.0000 0 0 1 1 0 0 1 0\n";
+
+const FAR_TRIANGLE: &str =
+    "{\"colour\":\"ff0000\",\"id\":[1,1],\"kind\":\"polygon\",\"layer\":0,\"op\":\"create\",\"past\":[0,0,0,0,0,0,0,0],\"place\":[-1000000,-1000000],\"points\":[[0,0],[-1000000,0],[0,-1000000]],\"shown\":true}\n";
+
+const FAR_TRIANGLE_FIG: &str =
+    "#FIG 3.2\nLandscape\nCenter\nMetric\nA4\n100.00\nSingle\n-2\n1200 2\n0 32 #ff0000\n2 3 0 0 32 32 0 -1 20 0.000 0 0 -1 0 0 4\n\t -1000000 -1000000 -2000000 -1000000 -1000000 -2000000 -1000000 -1000000\n";
+
 fn words(alloc: Global, texts: &[&str]) -> Result<Vec<String>, AllocError> {
     let mut words = Vec::new(alloc);
     for text in texts {
@@ -51,6 +63,8 @@ fn lines_become_fig_text(rt: HostRuntime) -> Result<(), Fail> {
         (RED_BOX, RED_BOX_FIG),
         (RED_OVER_BLUE, RED_OVER_BLUE_FIG),
         (RED_OVER_BLUE_OTHERWISE, RED_OVER_BLUE_FIG),
+        (UNIT_CIRCLE, UNIT_CIRCLE_FIG),
+        (FAR_TRIANGLE, FAR_TRIANGLE_FIG),
     ];
     for (row, (input, want)) in rows.iter().enumerate() {
         let mut source = Reel::new(input.as_bytes(), None);
@@ -69,12 +83,16 @@ fn refusals_are_told(rt: HostRuntime) -> Result<(), Fail> {
     let past_gap = format!(in rt.alloc(); "{RED_BOX}{gap}")?;
     let range = RED_BOX.replace(rt.alloc(), ":0,", ":10000,")?;
     let bad_line = format!(in rt.alloc(); "{RED_BOX}\n{{\n")?;
-    let other_kind = RED_BOX.replace(rt.alloc(), "box", "circle")?;
+    let other_kind = RED_BOX.replace(rt.alloc(), "box", "star")?;
+    let unequal = RED_BOX.replace(rt.alloc(), "box", "circle")?;
+    let two_points = FAR_TRIANGLE.replace(rt.alloc(), ",[0,-1000000]", "")?;
     let rows = [
         ("{", "figgroup: line 1: Json\n"),
         (bad_line.as_str(), "figgroup: line 3: Json\n"),
         ("{}", "figgroup: line 1: Field\n"),
         (other_kind.as_str(), "figgroup: line 1: Field\n"),
+        (unequal.as_str(), "figgroup: line 1: Field\n"),
+        (two_points.as_str(), "figgroup: line 1: Range\n"),
         (range.as_str(), "figgroup: line 1: Range\n"),
         (gap.as_str(), "figgroup: operation 1.3 dropped: BadClock\n"),
         (

@@ -2,7 +2,7 @@
 
 use crate::{CompileFault, compile};
 use gf_ops::{Change, Clock, Form, History, Op, OpId, Start};
-use gf_shape::{Point, Rect, Rgb};
+use gf_shape::{AnyShape, Bounds, Point, Rgb, Shape};
 use gf_versions::{Ranked, ranked};
 use std::alloc::Global;
 use std::process::Abort;
@@ -76,11 +76,14 @@ fn versions_are_numbered_from_the_top(rt: HostRuntime) -> Result<(), Fail> {
     create(&rt, &mut history, 0, BLUE, true)?;
     create(&rt, &mut history, 4, RED, true)?;
     let drawing = compile(alloc, ranked(alloc, &history)?)?;
-    let shape = Rect::new(Point { x: 0, y: 0 }, 10, 10)?;
     let rows = [(32, 0), (32, 1), (33, 2)];
+    let bounds = Bounds {
+        low: Point { x: 0, y: 0 },
+        high: Point { x: 10, y: 10 },
+    };
     assert_eq!(rt; drawing.figures().len(), rows.len());
     for ((colour, depth), figure) in rows.into_iter().zip(drawing.figures()) {
-        assert_eq!(rt; figure.shape, shape);
+        assert_eq!(rt; figure.shape.bounds(), bounds);
         assert_eq!(rt; (figure.colour, figure.depth), (colour, depth));
     }
     assert_eq!(rt; drawing.colours().at(0), Some((32, RED)));

@@ -3,7 +3,8 @@
 ghost use Rattle.std.specs.Prelude.{◌≡◌};
 
 use crate::{Drawing, Figure};
-use gf_shape::{Point, Rect, Rgb};
+use gf_shape::{AnyShape, Circle, Outline, Point, Polygon, Rect, Rgb, Shape};
+use std::alloc::Global;
 use std::test::Fail;
 
 fn colour(r: u8, g: u8, b: u8) -> Rgb {
@@ -76,6 +77,43 @@ fn the_front_is_seen(rt: HostRuntime) -> Result<(), Fail> {
         let p = Point { x, y: x };
         assert_eq!(rt; same.colour_at(p), one_depth, "{x}, one depth");
         assert_eq!(rt; apart.colour_at(p), two_depths, "{x}, two depths");
+    }
+    Ok(())
+}
+
+/// A red polygon before a green circle before a blue box.
+fn kinds(alloc: Global) -> Result<[(AnyShape, u16, u16); 3], Fail> {
+    let origin = Point { x: 0, y: 0 };
+    let corners = [origin, Point { x: 4, y: 0 }, Point { x: 0, y: 4 }];
+    let polygon = AnyShape::Polygon(Polygon::new(alloc, &corners)?);
+    let circle = AnyShape::Circle(Circle::new(origin, 5)?);
+    let rect = AnyShape::Rect(Rect::new(origin, 6, 6)?);
+    Ok([(polygon, 4, 0), (circle, 2, 1), (rect, 1, 2)])
+}
+
+#[test]
+fn shapes_of_every_kind_are_seen(rt: HostRuntime) -> Result<(), Fail> {
+    let alloc = rt.alloc();
+    let mut shapes = Drawing::new(alloc);
+    let mut outlines: Drawing<Outline> = Drawing::new(alloc);
+    for (shape, colour, depth) in kinds(alloc)? {
+        outlines.add_figure(figure(shape.outline(alloc)?, colour, depth))?;
+        shapes.add_figure(figure(shape, colour, depth))?;
+    }
+    let rows = [
+        (0, 0, colour(255, 0, 0)),
+        (2, 2, colour(255, 0, 0)),
+        (3, 2, colour(0, 255, 0)),
+        (-5, 0, colour(0, 255, 0)),
+        (4, 4, colour(0, 0, 255)),
+        (6, 6, colour(0, 0, 255)),
+        (-4, -4, colour(255, 255, 255)),
+        (7, 0, colour(255, 255, 255)),
+    ];
+    for (x, y, rgb) in rows {
+        let p = Point { x, y };
+        assert_eq!(rt; shapes.colour_at(p), rgb, "{p:?}");
+        assert_eq!(rt; outlines.colour_at(p), rgb, "{p:?} of outlines");
     }
     Ok(())
 }

@@ -5,7 +5,7 @@ ghost use Rattle.std.specs.Prelude.{◌≡◌};
 use crate::outlines::push_outline;
 use crate::{fig_bytes, write_fig};
 use gf_drawing::{Drawing, Figure, Tape, WriteError};
-use gf_shape::{Chain, Disc, Outline, Point, Rect, Rgb};
+use gf_shape::{AnyShape, Chain, Circle, Disc, Outline, Point, Polygon, Rect, Rgb, Shape};
 use std::test::Fail;
 
 const EMPTY: &[u8] = b"#FIG 3.2\nLandscape\nCenter\nMetric\nA4\n100.00\nSingle\n-2\n1200 2\n";
@@ -55,6 +55,34 @@ fn drawings_have_their_text(rt: HostRuntime) -> Result<(), Fail> {
     drawing.add_figure(figure(shape, 32, 0))?;
     drawing.add_figure(figure(shape, 33, 1))?;
     assert_eq!(rt; fig_bytes(alloc, &drawing)?.as_slice(), TWO_BOXES);
+    Ok(())
+}
+
+const THREE_KINDS: &[u8] =
+    b"#FIG 3.2\nLandscape\nCenter\nMetric\nA4\n100.00\nSingle\n-2\n1200 2\n0 32 #00ff00\n1 3 0 0 32 32 0 -1 20 0.000 1 0.0000 0 0 1 1 0 0 1 0\n2 3 0 0 32 32 1 -1 20 0.000 0 0 -1 0 0 4\n\t 0 0 -1000000 0 0 -1000000 0 0\n2 2 0 0 32 32 2 -1 20 0.000 0 0 -1 0 0 5\n\t 0 0 10 0 10 10 0 10 0 0\n";
+
+#[test]
+fn shapes_are_written_as_their_outlines(rt: HostRuntime) -> Result<(), Fail> {
+    let alloc = rt.alloc();
+    let corners = [at(0, 0), at(-1_000_000, 0), at(0, -1_000_000)];
+    let kinds = [
+        (AnyShape::Circle(Circle::new(at(0, 0), 1)?), 0),
+        (AnyShape::Polygon(Polygon::new(alloc, &corners)?), 1),
+        (AnyShape::Rect(Rect::new(at(0, 0), 10, 10)?), 2),
+    ];
+    let mut shapes = Drawing::new(alloc);
+    let mut outlines: Drawing<Outline> = Drawing::new(alloc);
+    shapes.add_colour(32, Rgb { r: 0, g: 255, b: 0 })?;
+    outlines.add_colour(32, Rgb { r: 0, g: 255, b: 0 })?;
+    for (shape, depth) in kinds {
+        outlines.add_figure(figure(shape.outline(alloc)?, 32, depth))?;
+        shapes.add_figure(figure(shape, 32, depth))?;
+    }
+    assert_eq!(rt; fig_bytes(alloc, &shapes)?.as_slice(), THREE_KINDS);
+    assert_eq!(rt; fig_bytes(alloc, &outlines)?.as_slice(), THREE_KINDS);
+    let mut tape = Tape::new(alloc, None);
+    write_fig(alloc, &outlines, &mut tape)?;
+    assert_eq!(rt; tape.bytes(), THREE_KINDS);
     Ok(())
 }
 

@@ -73,11 +73,8 @@ impl Disc {
     pub(crate) fn holds(&self, p: Point) -> bool
         ensures { result ≡ round_holds self.now p }
     {
-        is_within(
-            gap(self.centre.x, p.x),
-            gap(self.centre.y, p.y),
-            self.radius,
-        )
+        let (x, y) = (gap(self.centre.x, p.x), gap(self.centre.y, p.y));
+        is_within(x, y, self.radius)
     }
 
     /// The least bounds of what it holds.
@@ -94,7 +91,7 @@ impl Disc {
     pub(crate) fn movable(&self, d: Point) -> bool
         ensures { result ≡ round_movable self.now d }
     {
-        self.centre.movable(d)
+        Point::movable(self.centre, d)
     }
 
     /// The disc moved by `d`.
