@@ -1,5 +1,5 @@
 -- The points of a polygon, and what is read of them.
-use Rattle.std.proofs.Common.{◌≡◌, ℕ, ◌≤◌, ◌+◌, ◌-◌, ℤ, List, [], ◌∷◌, length, map, drop, get_or, refl, subst, arith, Ok, Err, inl, inr, if◌then◌else◌, Bool, true, false, ◌&&◌, int_le, pos, negsuc}
+use Rattle.std.proofs.Common.{◌≡◌, ℕ, ◌≤◌, ◌+◌, ◌-◌, ℤ, List, [], ◌∷◌, length, map, drop, get_or, refl, subst, arith, Ok, Err, inl, inr, if◌then◌else◌, true, ◌&&◌, int_le, pos, negsuc}
 use Rattle.std.specs.Prelude.{IsTrue, ⊤}
 use Rattle.std.specs.List.{list_all}
 use Rattle.std.proofs.lemmas.Bool.{cases_Bool}

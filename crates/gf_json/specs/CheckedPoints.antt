@@ -1,5 +1,5 @@
 -- Points that were checked before they are read. No public clause cites this module.
-use Rattle.std.specs.Prelude.{pos, Result, Ok, Err, ⊤}
+use Rattle.std.specs.Prelude.{pos, Ok, Err, ⊤}
 use Rattle.gf_shape.specs.declared.point.Point.{Point}
 use Rattle.serde_json.specs.Data.{Data}
 use Rattle.gf_json.specs.LineValues.{Got, mapped, point}

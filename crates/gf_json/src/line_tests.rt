@@ -1,10 +1,7 @@
-//! Tests of what the clauses mean: lines and texts with the answers that the format asks for.
+//! Tests of what the clauses mean: lines with the answers that the format asks for.
 
-ghost use Rattle.std.specs.Prelude.{◌≡◌, IfOk, map};
-ghost use Rattle.figgroup.specs.TextLines.{numbered_lines};
-
-use crate::{LineError, TextLines, read_op};
-use gf_ops::{Change, Clock, Form, Op, OpId, Start};
+use crate::{LineError, read_op};
+use gf_ops::{Change, Clock, Form, Op, OpId, Points, Start};
 use gf_shape::{Point, Rgb};
 use std::alloc::{AllocError, Global};
 use std::test::Fail;
@@ -105,7 +102,6 @@ fn names_the_first_fault(rt: HostRuntime) -> Result<(), Fail> {
         ("\"layer\":0", "\"layer\":0,\"extra\":0", LineError::Field),
         ("\"layer\":0,", "", LineError::Field),
         ("\"layer\"", "\"Layer\"", LineError::Field),
-        ("\"box\"", "\"circle\"", LineError::Field),
         ("\"create\"", "\"set\"", LineError::Field),
         ("[1,1]", "[1]", LineError::Field),
         ("[1,1]", "[1,1,1]", LineError::Field),
@@ -169,6 +165,249 @@ fn refuses_what_is_no_line(rt: HostRuntime) {
     ] {
         assert_eq!(rt; read_op(rt.alloc(), line).err(), Some(want));
     }
+}
+
+const BOX: [&str; 9] = [
+    "\"op\":\"create\"",
+    "\"id\":[1,1]",
+    "\"past\":[0,0,0,0,0,0,0,0]",
+    "\"kind\":\"box\"",
+    "\"place\":[100,200]",
+    "\"size\":[300,400]",
+    "\"colour\":\"ff0000\"",
+    "\"layer\":0",
+    "\"shown\":true",
+];
+
+const CIRCLE: [&str; 9] = [
+    "\"op\":\"create\"",
+    "\"id\":[1,1]",
+    "\"past\":[0,0,0,0,0,0,0,0]",
+    "\"kind\":\"circle\"",
+    "\"place\":[100,200]",
+    "\"size\":[7,7]",
+    "\"colour\":\"ff0000\"",
+    "\"layer\":0",
+    "\"shown\":true",
+];
+
+const POLYGON: [&str; 9] = [
+    "\"op\":\"create\"",
+    "\"id\":[1,1]",
+    "\"past\":[0,0,0,0,0,0,0,0]",
+    "\"kind\":\"polygon\"",
+    "\"place\":[100,200]",
+    "\"points\":[[0,0],[10,-20],[-1000000,1000000]]",
+    "\"colour\":\"ff0000\"",
+    "\"layer\":0",
+    "\"shown\":true",
+];
+
+/// The places of some members.
+const KIND: usize = 3;
+
+const SHAPE: usize = 5;
+
+const LAYER: usize = 7;
+
+/// The line of these members with others in place of one.
+fn with(alloc: Global, members: [&str; 9], at: usize, new: &str) -> Result<Vec<u8>, AllocError> {
+    let mut line = Vec::new(alloc);
+    line.extend_from_slice(b"{")?;
+    for (n, member) in members.iter().enumerate() {
+        let text = if n == at { new } else { *member };
+        if line.len() > 1 && !text.is_empty() {
+            line.extend_from_slice(b",")?;
+        }
+        line.extend_from_slice(text.as_bytes())?;
+    }
+    line.extend_from_slice(b"}")?;
+    Ok(line)
+}
+
+/// The fault of the line of these members with others in place of one.
+fn fault(
+    alloc: Global,
+    members: [&str; 9],
+    at: usize,
+    new: &str,
+) -> Result<Option<LineError>, AllocError> {
+    let line = with(alloc, members, at, new)?;
+    Ok(read_op(alloc, &line).err())
+}
+
+/// The red box in another form.
+fn red(form: Form) -> Op {
+    let Op {
+        id,
+        past,
+        change: Change::Create(start),
+    } = red_box();
+    Op {
+        id,
+        past,
+        change: Change::Create(Start { form, ..start }),
+    }
+}
+
+#[test]
+fn reads_each_kind(rt: HostRuntime) -> Result<(), Fail> {
+    let alloc = rt.alloc();
+    for (size, radius) in [
+        ("\"size\":[7,7]", 7),
+        ("\"size\":[1,1]", 1),
+        ("\"size\":[1000000,1000000]", 1_000_000),
+    ] {
+        let line = with(alloc, CIRCLE, SHAPE, size)?;
+        assert_eq!(rt;
+            read_op(alloc, &line),
+            Ok(red(Form::Circle(radius))),
+            "of {size}"
+        );
+    }
+    let points = vec![in alloc;
+        Point { x: 0, y: 0 },
+        Point { x: 10, y: -20 },
+        Point {
+            x: -1_000_000,
+            y: 1_000_000
+        },
+    ]?;
+    let line = with(alloc, POLYGON, LAYER, POLYGON[LAYER])?;
+    assert_eq!(rt;
+        read_op(alloc, &line),
+        Ok(red(Form::Polygon(Points::new(points))))
+    );
+    let line = with(alloc, BOX, LAYER, BOX[LAYER])?;
+    assert_eq!(rt; read_op(alloc, &line), Ok(red_box()));
+    Ok(())
+}
+
+#[test]
+fn misses_each_key(rt: HostRuntime) -> Result<(), Fail> {
+    for members in [BOX, CIRCLE, POLYGON] {
+        for at in 0..9 {
+            let found = fault(rt.alloc(), members, at, "")?;
+            assert_eq!(rt;
+                found,
+                Some(LineError::Field),
+                "without {at} of {members:?}"
+            );
+        }
+    }
+    Ok(())
+}
+
+#[test]
+fn knows_three_kinds(rt: HostRuntime) -> Result<(), Fail> {
+    for (at, new) in [
+        (KIND, "\"kind\":\"ellipse\""),
+        (KIND, "\"kind\":\"Box\""),
+        (KIND, "\"kind\":3"),
+        (KIND, "\"kind\":\"circle\""),
+        (KIND, "\"kind\":\"polygon\""),
+        (SHAPE, "\"points\":[[0,0],[1,0],[0,1]]"),
+        (LAYER, "\"layer\":0,\"points\":[[0,0],[1,0],[0,1]]"),
+        (LAYER, "\"layer\":0,\"extra\":0"),
+    ] {
+        let found = fault(rt.alloc(), BOX, at, new)?;
+        assert_eq!(rt; found, Some(LineError::Field), "with {new}");
+    }
+    Ok(())
+}
+
+#[test]
+fn names_the_fault_of_a_circle(rt: HostRuntime) -> Result<(), Fail> {
+    for (at, new, want) in [
+        (SHAPE, "\"points\":[[0,0],[1,0],[0,1]]", LineError::Field),
+        (LAYER, "\"layer\":0,\"extra\":0", LineError::Field),
+        (SHAPE, "\"size\":[7,8]", LineError::Field),
+        (SHAPE, "\"size\":[8,7]", LineError::Field),
+        (SHAPE, "\"size\":[0,7]", LineError::Field),
+        (SHAPE, "\"size\":[7,1000001]", LineError::Field),
+        (SHAPE, "\"size\":[1000001,1000002]", LineError::Field),
+        (SHAPE, "\"size\":[7]", LineError::Field),
+        (SHAPE, "\"size\":[7,7,7]", LineError::Field),
+        (SHAPE, "\"size\":[7,7.0]", LineError::Field),
+        (SHAPE, "\"size\":7", LineError::Field),
+        (LAYER, "\"layer\":10000,\"size\":[7,8]", LineError::Field),
+        (SHAPE, "\"size\":[0,0]", LineError::Range),
+        (SHAPE, "\"size\":[-7,-7]", LineError::Range),
+        (SHAPE, "\"size\":[1000001,1000001]", LineError::Range),
+    ] {
+        let found = fault(rt.alloc(), CIRCLE, at, new)?;
+        assert_eq!(rt; found, Some(want), "with {new}");
+    }
+    Ok(())
+}
+
+#[test]
+fn names_the_fault_of_a_polygon(rt: HostRuntime) -> Result<(), Fail> {
+    for (at, new, want) in [
+        (SHAPE, "\"size\":[7,7]", LineError::Field),
+        (LAYER, "\"layer\":0,\"extra\":0", LineError::Field),
+        (LAYER, "\"layer\":0,\"size\":[7,7]", LineError::Field),
+        (SHAPE, "\"points\":{}", LineError::Field),
+        (SHAPE, "\"points\":[0,0,1,0,0,1]", LineError::Field),
+        (
+            SHAPE,
+            "\"points\":[[1000001,0],[0,0],null]",
+            LineError::Field,
+        ),
+        (
+            SHAPE,
+            "\"points\":[null,[0,0],[1000001,0]]",
+            LineError::Field,
+        ),
+        (LAYER, "\"layer\":null,\"points\":[]", LineError::Field),
+        (SHAPE, "\"points\":[]", LineError::Range),
+    ] {
+        let found = fault(rt.alloc(), POLYGON, at, new)?;
+        assert_eq!(rt; found, Some(want), "with {new}");
+    }
+    Ok(())
+}
+
+/// So many points, all but this last one at 5, 6.
+fn points(alloc: Global, count: u32, last: &str) -> Result<String, AllocError> {
+    let mut text = String::new(alloc);
+    text.push_str("\"points\":[")?;
+    for _ in 1..count {
+        text.push_str("[5,6],")?;
+    }
+    text.push_str(last)?;
+    text.push_str("]")?;
+    Ok(text)
+}
+
+#[test]
+fn counts_the_points(rt: HostRuntime) -> Result<(), Fail> {
+    for (count, last, want) in [
+        (1, "[0,0]", Some(LineError::Range)),
+        (2, "[0,0]", Some(LineError::Range)),
+        (3, "[0,0]", None),
+        (64, "[0,0]", None),
+        (65, "[0,0]", Some(LineError::Range)),
+        (3, "[1000000,-1000000]", None),
+        (3, "[-1000000,1000000]", None),
+        (3, "[1000001,0]", Some(LineError::Range)),
+        (3, "[-1000001,0]", Some(LineError::Range)),
+        (3, "[0,1000001]", Some(LineError::Range)),
+        (64, "[0,-1000001]", Some(LineError::Range)),
+        (2, "[0]", Some(LineError::Field)),
+        (2, "null", Some(LineError::Field)),
+        (3, "[0,0,0]", Some(LineError::Field)),
+        (3, "[1000001,null]", Some(LineError::Field)),
+        (3, "[0,1.5]", Some(LineError::Field)),
+        (3, "{}", Some(LineError::Field)),
+        (64, "[\"0\",0]", Some(LineError::Field)),
+        (65, "[0]", Some(LineError::Field)),
+    ] {
+        let text = points(rt.alloc(), count, last)?;
+        let found = fault(rt.alloc(), POLYGON, SHAPE, &text)?;
+        assert_eq!(rt; found, want, "of {count} points to {last}");
+    }
+    Ok(())
 }
 
 #[test]
