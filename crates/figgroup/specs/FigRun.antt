@@ -13,6 +13,7 @@ use Rattle.gf_drawing.specs.declared.compiling.CompileFault.{CompileFault}
 use Rattle.gf_drawing.specs.declared.compiling.CompileFault.TheVariants as compile
 use Rattle.gf_drawing.specs.CanonicalDrawing.{IsCanonical, Paints, colours_of}
 use Rattle.gf_drawing.specs.DrawingState.{DrawingState}
+use Rattle.gf_drawing.specs.Outlined.{PaintsAsFig, outlined}
 use Rattle.gf_drawing.specs.Taken.{AppendsFront}
 use Rattle.gf_fig_write.specs.FigText.{fig_text}
 use Rattle.figgroup.specs.declared.studio_error.LineCause.{LineCause}
@@ -61,12 +62,14 @@ pub record Drops (bytes : List ℕ) (id : OpId) : Type 0 where
   pub named : op.id ≡ id
   pub unfit : ¬ (IsAccepted at.history op)
 
--- the bytes denote a history with a canonical drawing, which has at every point the colour that the history means there
+-- the bytes denote a history with a canonical drawing, which has at every point the colour that the history means there,
+-- by its shapes and by the outlines that FIG draws of them
 pub record Draws (bytes : List ℕ) (drawing : DrawingState AnyShape) : Type 0 where
   pub history : List Op
   pub denoted : Denotes bytes history
   pub canonical : IsCanonical history drawing
   pub colours : Paints history drawing
+  pub figures : PaintsAsFig history (outlined any_outline drawing)
 
 -- known bytes grow from old to new by the FIG text of what the bytes draw
 pub record Exports (bytes : List ℕ) (old new : Option (List ℕ)) : Type 0 where

@@ -6,7 +6,10 @@ use Rattle.std.proofs.lemmas.Bool.{cases_Bool}
 use Rattle.std.proofs.lemmas.List.Elements.{All-head, All-tail}
 use Rattle.gf_shape.specs.declared.colour.Rgb.{Rgb}
 use Rattle.gf_shape.specs.declared.point.Point.{Point}
+use Rattle.gf_shape.specs.declared.any_shape.AnyShape.{AnyShape}
+use Rattle.gf_shape.specs.Outlines.{any_outline}
 use Rattle.gf_shape.specs.ShapeMeaning.{any_holds}
+use Rattle.gf_shape.specs.Laws.Shapes.{any_outlines}
 use Rattle.gf_ops.specs.declared.op.Op.{Op}
 use Rattle.gf_versions.specs.declared.placed.Placed.{Placed}
 use Rattle.gf_versions.specs.HistoryColour.{HistoryColour, white}
@@ -16,9 +19,11 @@ use Rattle.gf_drawing.specs.declared.figure.Figure.{Figure}
 use Rattle.gf_drawing.specs.CanonicalDrawing.{IsCanonical, Paints, rgb_eq, colours_of, canonical_figure, canonical_figures, canonical_table, canonical_drawing}
 use Rattle.gf_drawing.specs.DrawingColour.{drawing_colour, figure_colour}
 use Rattle.gf_drawing.specs.DrawingState.{DrawingState}
+use Rattle.gf_drawing.specs.Outlined.{PaintsAsFig, outlined}
 use Rattle.gf_drawing.proofs.CompilingLemmas.{own_colour, length-canonical_figures}
 use Rattle.gf_drawing.proofs.DrawingLaw.{first_figure_colours}
 use Rattle.gf_drawing.proofs.NumberLemmas.{number_gives}
+use Rattle.gf_drawing.proofs.OutlinedLemmas.{drawing_colour-outlined}
 
 -- the depths are the places
 counted : {S : Type 0} → (cs : List Rgb) (n : ℕ) (items : List (Placed S)) → map (λ (f : Figure S). f.depth) (map (canonical_figure cs) (enumerate_from n items)) ≡ range_with_len n (length items)
@@ -49,6 +54,11 @@ module _ {S : Type 0} (holds : S → Point → Bool) where
   same_first d items p e few = ap (λ (f : DrawingState S). drawing_colour holds f.table f.figures p) e ∙ canonical_first items p few
 
 -- at every point the canonical drawing has the colour that the history means
-pub canonical_colour : (h : List Op) (d : _) → IsCanonical h d → Paints h d
+pub canonical_colour : (h : List Op) (d : DrawingState AnyShape) → IsCanonical h d → Paints h d
 canonical_colour h d canonical p =
     subst (HistoryColour h p) (sym (same_first any_holds d canonical.items p canonical.drawing canonical.fits.versions)) (first_gives h p canonical.items canonical.ranked)
+
+-- so has the drawing of its outlines
+pub canonical_colour-outlined : (h : List Op) (d : DrawingState AnyShape) → IsCanonical h d → PaintsAsFig h (outlined any_outline d)
+canonical_colour-outlined h d canonical p =
+    subst (HistoryColour h p) (sym (drawing_colour-outlined any_holds any_outline any_outlines d p)) (canonical_colour h d canonical p)

@@ -5,3 +5,4 @@ pub mod TakenLemmas
 pub mod CompilingLemmas
 pub mod NumberLemmas
 pub mod CanonicalColour
+pub mod OutlinedLemmas

@@ -7,4 +7,5 @@ pub mod Counts
 pub mod Taken
 pub mod TapeState
 pub mod CanonicalDrawing
+pub mod Outlined
 pub mod Compiling

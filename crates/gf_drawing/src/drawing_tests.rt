@@ -2,7 +2,7 @@
 
 ghost use Rattle.std.specs.Prelude.{◌≡◌};
 
-use crate::{Drawing, Figure};
+use crate::{Drawing, Figure, outlines_paint_as_their_shapes};
 use gf_shape::{AnyShape, Circle, Outline, Point, Polygon, Rect, Rgb, Shape};
 use std::alloc::Global;
 use std::test::Fail;
@@ -81,25 +81,31 @@ fn the_front_is_seen(rt: HostRuntime) -> Result<(), Fail> {
     Ok(())
 }
 
-/// A red polygon before a green circle before a blue box.
-fn kinds(alloc: Global) -> Result<[(AnyShape, u16, u16); 3], Fail> {
-    let origin = Point { x: 0, y: 0 };
-    let corners = [origin, Point { x: 4, y: 0 }, Point { x: 0, y: 4 }];
-    let polygon = AnyShape::Polygon(Polygon::new(alloc, &corners)?);
-    let circle = AnyShape::Circle(Circle::new(origin, 5)?);
-    let rect = AnyShape::Rect(Rect::new(origin, 6, 6)?);
-    Ok([(polygon, 4, 0), (circle, 2, 1), (rect, 1, 2)])
+/// The first before the second before the third, in red, green and blue.
+fn in_turn<S: Shape>(alloc: Global, first: S, second: S, third: S) -> Result<Drawing<S>, Fail> {
+    let mut drawing = Drawing::new(alloc);
+    drawing.add_figure(figure(first, 4, 0))?;
+    drawing.add_figure(figure(second, 2, 1))?;
+    drawing.add_figure(figure(third, 1, 2))?;
+    Ok(drawing)
 }
 
 #[test]
 fn shapes_of_every_kind_are_seen(rt: HostRuntime) -> Result<(), Fail> {
     let alloc = rt.alloc();
-    let mut shapes = Drawing::new(alloc);
-    let mut outlines: Drawing<Outline> = Drawing::new(alloc);
-    for (shape, colour, depth) in kinds(alloc)? {
-        outlines.add_figure(figure(shape.outline(alloc)?, colour, depth))?;
-        shapes.add_figure(figure(shape, colour, depth))?;
-    }
+    let origin = Point { x: 0, y: 0 };
+    let corners = [origin, Point { x: 4, y: 0 }, Point { x: 0, y: 4 }];
+    let polygon = AnyShape::Polygon(Polygon::new(alloc, &corners)?);
+    let circle = AnyShape::Circle(Circle::new(origin, 5)?);
+    let rect = AnyShape::Rect(Rect::new(origin, 6, 6)?);
+    let outlines: Drawing<Outline> = in_turn(
+        alloc,
+        polygon.outline(alloc)?,
+        circle.outline(alloc)?,
+        rect.outline(alloc)?,
+    )?;
+    let shapes = in_turn(alloc, polygon, circle, rect)?;
+    outlines_paint_as_their_shapes::<AnyShape>();
     let rows = [
         (0, 0, colour(255, 0, 0)),
         (2, 2, colour(255, 0, 0)),

@@ -2,7 +2,8 @@
 //! that drawings are written to.
 //!
 //! - [`Figure`], [`ColourTable`], [`Drawing`]: what a FIG file holds, as far as this project writes
-//!   it; [`the_canonical_drawing_paints_the_history`]: the law that ties it to a history.
+//!   it; [`the_canonical_drawing_paints_the_history`] ties it to a history, and
+//!   [`outlines_paint_as_their_shapes`] to what FIG draws.
 //! - [`compile`]: the drawing of ranked versions, refused as [`CompileFault`] tells.
 //! - [`Sink`], [`write_whole`]: where bytes go, and how all of them get there; [`Out`] is a sink over
 //!   a writer of std, [`Tape`] one in memory.
@@ -28,7 +29,7 @@ mod tape;
 pub use compiling::{CompileFault, compile};
 pub use drawing::Drawing;
 pub use figure::Figure;
-pub use laws::the_canonical_drawing_paints_the_history;
+pub use laws::{outlines_paint_as_their_shapes, the_canonical_drawing_paints_the_history};
 pub use out::Out;
 pub use refusals::WriteError;
 pub use sink::{Sink, SinkFault, write_whole};
