@@ -7,6 +7,7 @@ use Rattle.gf_drawing.specs.declared.figure.Figure.{Figure}
 use Rattle.gf_drawing.specs.Colours.{rgb}
 use Rattle.gf_drawing.specs.DrawingColour.{drawing_colour, from_back}
 
+-- the point of which both coordinates are n
 abbrev pub at : ℕ → Point
 at n = record { x = pos n; y = pos n }
 
