@@ -149,7 +149,7 @@ fn the_limits_of_a_drawing_are_told(rt: HostRuntime) -> Result<(), Fail> {
 #[test]
 fn unread_input_is_told(rt: HostRuntime) -> Result<(), Fail> {
     let mut long = Vec::new(rt.alloc());
-    long.resize(MOST_INPUT_BYTES + 1, b'\n')?;
+    long.resize(MOST_INPUT_BYTES + 1, b' ')?;
     let rows = [
         (Reel::new(&long, None), "figgroup: input too long\n"),
         (
