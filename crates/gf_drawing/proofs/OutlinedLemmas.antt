@@ -1,5 +1,5 @@
 -- Painting the outlines of shapes gives the colours that painting the shapes gives.
-use Rattle.std.proofs.Common.{◌≡◌, ℕ, Bool, List, [], ◌∷◌, ◌++◌, map, reverse, refl, sym, ap, ◌∙◌, inl, inr}
+use Rattle.std.proofs.Common.{◌≡◌, ℕ, Bool, List, [], ◌∷◌, map, reverse, refl, sym, ap, ◌∙◌, inl, inr}
 use Rattle.std.specs.Prelude.{flat_map, fold, ◌==◌, if◌then◌else◌}
 use Rattle.std.specs.List.{range_with_len}
 use Rattle.std.proofs.lemmas.Bool.{cases_Bool}
