@@ -13,6 +13,7 @@ use Rattle.gf_shape.specs.Edges.{Edge, side, is_between, is_on_edge, crosses_lef
 use Rattle.gf_shape.specs.FigureMeaning.{chain_holds}
 use Rattle.gf_shape.specs.ShapeMeaning.{polygon_holds}
 use Rattle.gf_shape.specs.Laws.Sides.{is_on_line-from, side-right_up, side-right_down, side-left_up, side-left_down}
+use Rattle.gf_shape.specs.Laws.Moved.{gap_same}
 use Rattle.gf_shape.specs.Laws.Parity.{crosses, polygon_holds_as_chain}
 
 not_lt : (a b : ℤ) → b <ℤ a → int_lt a b ≡ false
@@ -111,12 +112,9 @@ polygon_holds-bottom b ps d h e =
     by_lt_z b d.y (λ past. absurd (false≢true (sym (polygon_none-below d ps (All-weaker (λ q. q.y ≤ℤ b) (λ q. q.y <ℤ d.y) (λ q k. omega (arith, ints)) ps h)) ∙ e))) (λ k. k)
 
 -- each point of a polygon is held: it is on the edge that it begins
-gap_none : (a : ℤ) → a -ℤ a ≡ pos 0
-gap_none a = omega (arith, ints)
-
 side-start : (q b : Point) → side (q, b) q ≡ pos 0
 unfolding side
-side-start q b = simp (gap_none, *ℤ-zero)
+side-start q b = simp (gap_same, *ℤ-zero)
 
 is_between-start : (a b : ℤ) → is_between a a b ≡ true
 unfolding is_between

@@ -9,6 +9,7 @@ use Rattle.gf_shape.specs.Area.{Area, is_area, is_side, far_corner, corners_agai
 use Rattle.gf_shape.specs.Reach.{is_reached, is_within_reach}
 use Rattle.gf_shape.specs.Ring.{IsRing}
 use Rattle.gf_shape.specs.ShapeMeaning.{rect_holds}
+use Rattle.gf_shape.specs.Laws.Moved.{gap_past}
 use Rattle.gf_shape.specs.ShapeMoves.{rect_movable, rect_moved}
 use Rattle.gf_shape.specs.ShapeLaws.{IsBounds, IsWithin}
 
@@ -34,15 +35,12 @@ rect_holds-within a p h =
     let y = along a.low.y p.y a.height top.1 bottom.1 in
     record { left = x.0; right = x.1; top = y.0; bottom = y.1 }
 
-gap-far : (low : ℤ) (size : ℕ) → (low +ℤ pos size) -ℤ low ≡ pos size
-gap-far low size = omega (arith, ints)
-
 -- a box holds both its corners
 rect_holds-low : (a : Area) → IsTrue (rect_holds a a.low)
 rect_holds-low a = grind (arith, ints)
 
 rect_holds-far : (a : Area) → IsTrue (rect_holds a (far_corner a))
-rect_holds-far a = simp gap-far (grind (arith, ints))
+rect_holds-far a = simp gap_past (grind (arith, ints))
 
 -- the bounds law
 pub rect_bounds : (a : Area) → IsBounds (rect_holds a) (record { low = a.low; high = far_corner a })

@@ -7,6 +7,7 @@ use Rattle.gf_shape.specs.declared.point.Point.{Point}
 use Rattle.gf_shape.specs.Round.{Round}
 use Rattle.gf_shape.specs.ShapeLaws.{IsBounds, IsWithin}
 use Rattle.gf_shape.specs.ShapeMeaning.{circle_holds, round_holds}
+use Rattle.gf_shape.specs.Laws.Moved.{gap_past, gap_same}
 use Rattle.gf_shape.specs.Laws.Sides.{lt_products}
 
 -- what has no greater square than n lies within n
@@ -37,14 +38,8 @@ round_holds-within r p h =
     let y = side_within (p.y -ℤ r.centre.y) (p.x -ℤ r.centre.x) r.radius (rw (turned (p.y -ℤ r.centre.y) (p.x -ℤ r.centre.x)) h) in
     record { left = omega (arith, ints); right = omega (arith, ints); top = omega (arith, ints); bottom = omega (arith, ints) }
 
-gap_same : (a : ℤ) → a -ℤ a ≡ pos 0
-gap_same a = omega (arith, ints)
-
 gap_before : (a n : ℤ) → (a -ℤ n) -ℤ a ≡ pos 0 -ℤ n
 gap_before a n = omega (arith, ints)
-
-gap_past : (a n : ℤ) → (a +ℤ n) -ℤ a ≡ n
-gap_past a n = omega (arith, ints)
 
 -- a circle holds the four points on its axes
 left_held : (n : ℕ) → IsTrue (circle_holds n (record { x = pos 0 -ℤ pos n; y = pos 0 }))

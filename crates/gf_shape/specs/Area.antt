@@ -2,6 +2,7 @@
 use Rattle.std.specs.Prelude.{ℕ, ℤ, pos, negsuc, ◌+ℤ◌, Bool, ◌&&◌, nat_le, int_le, List, [], ◌∷◌}
 use Rattle.gf_shape.specs.declared.point.Point.{Point}
 
+-- the box from its least corner to as far as its width and height reach
 pub record Area : Type 0 where
   pub low : Point
   pub width : ℕ

@@ -3,6 +3,7 @@ use Rattle.std.specs.Prelude.{◌≡◌, ◌≤◌, ◌-◌, Bool, true, false, 
 use Rattle.gf_shape.specs.declared.point.Point.{Point}
 use Rattle.gf_shape.specs.Reach.{is_within_reach}
 
+-- the points of a chain, and whether FIG calls it a box
 pub record Ring : Type 0 where
   pub boxed : Bool
   pub points : List Point

@@ -3,6 +3,7 @@ use Rattle.std.specs.Prelude.{ℕ, Bool, ◌&&◌, nat_le}
 use Rattle.gf_shape.specs.declared.point.Point.{Point}
 use Rattle.gf_shape.specs.Reach.{is_within_reach}
 
+-- the points within a radius of a centre
 pub record Round : Type 0 where
   pub centre : Point
   pub radius : ℕ

@@ -16,6 +16,7 @@ made id (Create start) = record {
   shown = start.shown;
 }
 
+-- the version of the object that the operation makes
 abbrev pub created : Op → Version
 created a = made a.id a.change
 

@@ -7,6 +7,7 @@ use Rattle.gf_versions.specs.declared.key.Version.{Version}
 use Rattle.gf_versions.specs.Above.{IsAbove}
 use Rattle.gf_versions.specs.Visible.{IsVisible, version_holds}
 
+-- the colour of the ground
 abbrev pub white : Rgb
 white = record { r = 255; g = 255; b = 255 }
 

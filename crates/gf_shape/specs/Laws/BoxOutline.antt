@@ -10,6 +10,7 @@ use Rattle.gf_shape.specs.Area.{Area, corners_again}
 use Rattle.gf_shape.specs.Edges.{side, is_on_line, is_between, is_on_edge, crosses_left}
 use Rattle.gf_shape.specs.ShapeMeaning.{rect_holds}
 use Rattle.gf_shape.specs.FigureMeaning.{chain_holds}
+use Rattle.gf_shape.specs.Laws.Moved.{gap_same}
 use Rattle.gf_shape.specs.Laws.Sides.{side-right_up, side-right_down, side-left_up, side-left_down}
 
 -- a point of these coordinates
@@ -20,17 +21,14 @@ at x y = record { x = x; y = y }
 abbrev is_at : ℤ → ℤ → Bool
 is_at a n = int_le a n && int_le n a
 
-gap-same : (a : ℤ) → a -ℤ a ≡ pos 0
-gap-same a = omega (arith, ints)
-
 -- a point at the height of a level edge lies on its line
 is_on_line-level : (p : Point) (a b y : ℤ) → p.y ≡ y → is_on_line p (at a y, at b y) ≡ true
 unfolding side is_on_line
-is_on_line-level p a b y e = rw e (simp (gap-same, *ℤ-zero, zero-*ℤ))
+is_on_line-level p a b y e = rw e (simp (gap_same, *ℤ-zero, zero-*ℤ))
 
 side-upright : (p : Point) (x a b : ℤ) → p.x ≡ x → side (at x a, at x b) p ≡ pos 0
 unfolding side
-side-upright p x a b e = rw e (simp (gap-same, *ℤ-zero, zero-*ℤ))
+side-upright p x a b e = rw e (simp (gap_same, *ℤ-zero, zero-*ℤ))
 
 -- a point straight above or below an upright edge lies on its line
 is_on_line-upright : (p : Point) (x a b : ℤ) → p.x ≡ x → is_on_line p (at x a, at x b) ≡ true

@@ -1,5 +1,5 @@
 -- What is moved by v holds p + v exactly if it held p. No public clause cites this module.
-use Rattle.std.specs.Prelude.{◌≡◌, Bool, cond, List, [], ◌∷◌, ◌++◌, zip, count_by, ℤ, ◌+ℤ◌, ◌-ℤ◌, int_le, refl}
+use Rattle.std.specs.Prelude.{◌≡◌, Bool, cond, List, [], ◌∷◌, ◌++◌, zip, count_by, ℤ, pos, ◌+ℤ◌, ◌-ℤ◌, int_le, refl}
 use Rattle.std.specs.List.{list_any}
 use Rattle.std.proofs.Common.{arith, sym, ◌∙◌}
 use Rattle.std.proofs.Math.IntN.{+ℤ-neg_ℤ_cancel, -ℤ-+ℤ_cancel}
@@ -13,6 +13,12 @@ use Rattle.gf_shape.specs.Moving.{minus}
 use Rattle.gf_shape.specs.ShapeMeaning.{polygon_holds}
 use Rattle.gf_shape.specs.Moving.{plus}
 use Rattle.gf_shape.specs.ShapeMoves.{points_moved}
+
+pub gap_same : (a : ℤ) → a -ℤ a ≡ pos 0
+gap_same a = omega (arith, ints)
+
+pub gap_past : (a n : ℤ) → (a +ℤ n) -ℤ a ≡ n
+gap_past a n = omega (arith, ints)
 
 gap-moved : (a b v : ℤ) → (b +ℤ v) -ℤ (a +ℤ v) ≡ b -ℤ a
 gap-moved a b v = omega (arith, ints)
