@@ -1,9 +1,9 @@
 //! Worked examples: from histories to drawings.
 
 use crate::{CompileFault, compile};
-use gf_ops::{Change, Clock, Form, History, Op, OpId, Start};
-use gf_shape::{AnyShape, Bounds, Point, Rgb, Shape};
-use gf_versions::{Ranked, ranked};
+use gf_ops::{Change, Clock, Form, History, ObjectId, Op, OpId, Start};
+use gf_shape::{AnyShape, Bounds, Circle, Outline, Point, Rgb, Shape};
+use gf_versions::{Ids, Placed, Ranked, VersionKey, ranked};
 use std::alloc::Global;
 use std::process::Abort;
 use std::test::Fail;
@@ -133,5 +133,32 @@ fn refusals_have_their_names(rt: HostRuntime) -> Result<(), Fail> {
     for (fault, text) in rows {
         assert_eq!(rt; format!(in rt.alloc(); "{fault}")?.as_str(), text);
     }
+    Ok(())
+}
+
+#[test]
+fn outlines_are_compiled_as_shapes_are(rt: HostRuntime) -> Result<(), Fail> {
+    let alloc = rt.alloc();
+    let mut items = Vec::new(alloc);
+    for seq in [2, 1] {
+        let circle = Circle::new(Point { x: 0, y: 0 }, seq)?;
+        let id = OpId { site: 1, seq };
+        let key = VersionKey {
+            layer: 0,
+            object: ObjectId(id),
+            ops: Ids::new(Vec::from_array(alloc, [id])?),
+        };
+        items.push(Placed {
+            key,
+            shape: circle.outline(alloc)?,
+            colour: RED,
+        })?;
+    }
+    let ranked: Ranked<Outline> = Ranked { items };
+    assert_eq!(rt; ranked.len(), 2);
+    let drawing = compile(alloc, ranked)?;
+    assert_eq!(rt; drawing.figures().len(), 2);
+    assert_eq!(rt; drawing.colours().at(0), Some((32, RED)));
+    assert_eq!(rt; drawing.colour_at(Point { x: 2, y: 0 }), RED);
     Ok(())
 }

@@ -40,6 +40,7 @@ fn polygons_are_even_odd_with_their_edges(rt: HostRuntime) -> Result<(), Fail> {
     let doubled = [at(0, 0), at(0, 0), at(4, 0), at(0, 4)];
     let dot = [at(7, 7), at(7, 7), at(7, 7)];
     let there_and_back = [at(0, 0), at(4, 2), at(0, 0)];
+    let repeated = [at(0, 0), at(0, 0), at(4, 2)];
     let rows = [
         (star.as_slice(), at(0, 0), false),
         (star.as_slice(), at(0, -8), true),
@@ -59,6 +60,10 @@ fn polygons_are_even_odd_with_their_edges(rt: HostRuntime) -> Result<(), Fail> {
         (there_and_back.as_slice(), at(2, 0), false),
         (there_and_back.as_slice(), at(3, 1), false),
         (there_and_back.as_slice(), at(6, 3), false),
+        (repeated.as_slice(), at(2, 1), true),
+        (repeated.as_slice(), at(4, 2), true),
+        (repeated.as_slice(), at(1, 1), false),
+        (repeated.as_slice(), at(-2, -1), false),
     ];
     for (points, p, held) in rows {
         let polygon = Polygon::new(rt.alloc(), points)?;
