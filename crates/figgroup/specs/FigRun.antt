@@ -77,7 +77,7 @@ pub record Exports (bytes : List ℕ) (old new : Option (List ℕ)) : Type 0 whe
   pub drawn : Draws bytes drawing
   pub written : Appends old new (fig_text any_outline drawing)
 
--- known bytes grow from old to new by the first of that text
+-- known bytes grow from old to new by a front of that text, which may be none or all of it
 pub record ExportsFront (bytes : List ℕ) (old new : Option (List ℕ)) : Type 0 where
   pub drawing : DrawingState AnyShape
   pub drawn : Draws bytes drawing

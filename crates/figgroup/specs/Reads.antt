@@ -5,7 +5,7 @@ use Rattle.gf_drawing.specs.Counts.{raised}
 use Rattle.figgroup.specs.declared.source.InputError.{InputError}
 use Rattle.figgroup.specs.declared.source.InputError.TheVariants.{ReadFailed, TooLong, OutOfMemory}
 
--- no more than most of the known bytes came between old and new
+-- at most `most` of the known bytes came between old and new
 abbrev pub ConsumesAtMost : ℕ → Option (List ℕ) → Option (List ℕ) → Type 0
 ConsumesAtMost most old new = (front : List ℕ) × (length front ≤ most) × Consumes old new front
 
@@ -13,12 +13,12 @@ ConsumesAtMost most old new = (front : List ℕ) × (length front ≤ most) × C
 abbrev pub ConsumesExactly : ℕ → Option (List ℕ) → Option (List ℕ) → Type 0
 ConsumesExactly n old new = (front : List ℕ) × (length front ≡ n) × Consumes old new front
 
--- some of the known bytes came between old and new, and no more than most
+-- some of the known bytes came between old and new, at most `most`
 abbrev pub ConsumesSome : ℕ → Option (List ℕ) → Option (List ℕ) → Type 0
 ConsumesSome most old new =
     (front : List ℕ) × (0 < length front) × (length front ≤ most) × Consumes old new front
 
--- more than most of the known bytes came between old and new
+-- more than `most` known bytes came between old and new
 abbrev pub CamePast : ℕ → Option (List ℕ) → Option (List ℕ) → Type 0
 CamePast most None new = ⊥
 CamePast most (Some xs) None = ⊥

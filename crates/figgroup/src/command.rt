@@ -1,6 +1,6 @@
 //! The command line.
 
-ghost use Rattle.std.specs.Prelude.{◌≡◌, ◌≤◌, ◌⊎◌, IfSome};
+ghost use Rattle.std.specs.Prelude.{◌≡◌, ◌≤◌, ◌⊎◌, IfSome, IsTrue};
 ghost use Rattle.figgroup.specs.FigRun.{Exports, ExportsFront};
 
 use crate::{Source, StudioError, fig_run};
@@ -27,6 +27,7 @@ pub fn command<R: Source, W: Sink, E: Sink>(
     ensures status { result ≤ 2 }
     // A run with status 0 writes the FIG text of what its input denotes; help reads no input.
     ensures done { result ≡ 0 → (source.new ≡ source.old) ⊎ IfSome (R.left source.old) (λ bytes. Exports bytes (W.taken output.old) (W.taken output.new)) }
+    ensures flushed { result ≡ 0 → (source.new ≡ source.old) ⊎ IsTrue (W.flushed output.new) }
     // A refusal leaves the output as it was, or with a front of the text.
     ensures refused { result ≡ 1 → (output.new ≡ output.old) ⊎ IfSome (R.left source.old) (λ bytes. ExportsFront bytes (W.taken output.old) (W.taken output.new)) }
     ensures mistake { result ≡ 2 → (source.new ≡ source.old) × (output.new ≡ output.old) }

@@ -2,7 +2,7 @@
 use Rattle.std.specs.Prelude.{◌≡◌, ℕ, ◌≤◌, List, Option, Bool, true, ◌&&◌, nat_eq, length, take, Result, MatchResult}
 use Rattle.std.specs.Io.KnownBytes.{Appends}
 
--- known bytes grow from old to new by the first of bytes, or by none
+-- known bytes grow from old to new by a front of bytes, which may be none or all
 abbrev pub AppendsFront : Option (List ℕ) → Option (List ℕ) → List ℕ → Type 0
 AppendsFront old new bytes = (n : ℕ) × (n ≤ length bytes) × Appends old new (take n bytes)
 

@@ -4,14 +4,15 @@ use Rattle.gf_ops.specs.declared.op.Op.{Op}
 use Rattle.gf_ops.specs.OperationOrder.{IsSite, entry, count_of, Precedes}
 use Rattle.gf_ops.specs.ValidHistory.{IsWithin}
 
--- the clock of a is that of the next operation of its site behind h
+-- a is the next operation of its site behind h: it has the next number, knows all of its site before it, of other sites
+-- only what h has, and all that those that it knows knew
 pub record IsNext (h : List Op) (a : Op) : Type 0 where
   pub seq : a.id.seq ≡ count_of h a.id.site + 1
   pub own : entry a.past a.id.site + 1 ≡ a.id.seq
   pub others : (s : ℕ) → IsSite s → s ≢ a.id.site → entry a.past s ≤ count_of h s
   pub closed : (b : Op) → Contains h b → Precedes b a → IsWithin b.past a.past
 
--- a may be added behind h: so far an operation of site 1 with the next clock
+-- a may be added behind h: so far the next operation of site 1
 pub record IsAccepted (h : List Op) (a : Op) : Type 0 where
   pub site : a.id.site ≡ 1
   pub next : IsNext h a

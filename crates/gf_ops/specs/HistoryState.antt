@@ -1,4 +1,4 @@
--- A history as its callers see it.
+-- A history as its callers see it (this project's choice).
 use Rattle.std.specs.Prelude.{◌≡◌, ℕ, ◌+◌, List, slice_get, Some, ◌∷◌, replicate}
 use Rattle.gf_ops.specs.declared.op.Op.{Op}
 use Rattle.gf_ops.specs.ValidHistory.{IsValid}

@@ -38,7 +38,7 @@ is_count n = nat_le 3 n && nat_le n 64
 abbrev pub is_polygon : List Point → Bool
 is_polygon ps = is_count (length ps) && list_all is_near ps
 
--- both sides of a box are sizes, and so is the radius of a circle
+-- both sides of a box are sizes, so is the radius of a circle, and a polygon has such points
 abbrev pub is_form : Form → Bool
 is_form (Rect width height) = is_size width && is_size height
 is_form (Polygon ps) = is_polygon ps

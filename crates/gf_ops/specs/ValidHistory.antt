@@ -23,7 +23,7 @@ pub record Has (h : List Op) (c : Clock) (i : OpId) : Type 0 where
   pub id : op.id ≡ i
   pub past : IsWithin op.past c
 
--- the operations of h keep all limits, each under its own id; each knows all of its site before it, and all that it knows is there
+-- the operations of h keep all limits, each under its own id; each knows all of its site before it, and all that it knows is there and knew no more than it
 pub record IsValid (h : List Op) : Type 0 where
   pub in_range : (a : Op) → Contains h a → IsInRange a
   pub distinct : AllPairs (λ a b. a.id ≢ b.id) h

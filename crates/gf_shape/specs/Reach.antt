@@ -1,4 +1,4 @@
--- How far from the axes a shape and a FIG file reach (this project's limit).
+-- How far from the axes the defining points of a shape and the points of a FIG file lie (this project's limit).
 use Rattle.std.specs.Prelude.{ℤ, pos, negsuc, Bool, ◌&&◌, int_le}
 use Rattle.gf_shape.specs.declared.point.Point.{Point}
 

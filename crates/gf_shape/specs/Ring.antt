@@ -12,7 +12,7 @@ pub record Ring : Type 0 where
 abbrev pub ring_of : List Point → Ring
 ring_of ps = record { boxed = false; points = ps ++ take 1 ps }
 
--- the ring r has 4 to 65,536 points, 5 where it is a box of FIG; its last point is its first; all lie within reach
+-- the ring r has 4 to 65,536 points, 5 where FIG calls it a box, which need not be a rectangle; its last point is its first; all lie within reach
 pub record IsRing (r : Ring) : Type 0 where
   pub least : 4 ≤ length r.points
   pub most : length r.points ≤ 65536

@@ -1,4 +1,4 @@
-//! Grid points, and how far from the axes a shape reaches.
+//! Grid points, and how far from the axes the defining points of a shape lie.
 
 ghost use Rattle.std.specs.Prelude.{◌≡◌, ◌+ℤ◌, IsTrue};
 ghost use Rattle.gf_shape.specs.BoundsOf.{least, most};
