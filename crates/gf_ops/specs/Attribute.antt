@@ -1,7 +1,5 @@
 -- The attributes of objects, and the value that an operation gives to each (this project's choice).
-use Rattle.std.specs.Prelude.{ℕ, Bool, List, Option, Some, None}
-use Rattle.gf_shape.specs.declared.point.Point.{Point}
-use Rattle.gf_shape.specs.declared.colour.Rgb.{Rgb}
+use Rattle.std.specs.Prelude.{Bool, true, false, ◌==◌, Option, Some, None}
 use Rattle.gf_ops.specs.declared.op.Op.{Op}
 use Rattle.gf_ops.specs.declared.op.OpId.{OpId}
 use Rattle.gf_ops.specs.declared.op.ObjectId.{ObjectId}
@@ -9,25 +7,11 @@ use Rattle.gf_ops.specs.declared.change.Form.{Form}
 use Rattle.gf_ops.specs.declared.change.Form.TheVariants as form
 use Rattle.gf_ops.specs.declared.change.Start.{Start}
 use Rattle.gf_ops.specs.declared.change.Change.{Change}
-use Rattle.gf_ops.specs.declared.change.Change.TheVariants.{Create}
-
--- what an object has a value of; which of Size and Points, its kind decides
-pub data Attribute : Type 0 where
-  Place : Attribute
-  Size : Attribute
-  Points : Attribute
-  Colour : Attribute
-  Layer : Attribute
-  Shown : Attribute
-
--- the values of attributes; the size of a circle is its radius, twice
-pub data Value : Type 0 where
-  PlaceAt : Point → Value
-  SizeOf : ℕ → ℕ → Value
-  PointsOf : List Point → Value
-  ColourOf : Rgb → Value
-  LayerAt : ℕ → Value
-  ShownIf : Bool → Value
+use Rattle.gf_ops.specs.declared.change.Change.TheVariants.{Create, Set}
+use Rattle.gf_ops.specs.declared.change.Attr.{Attr}
+use Rattle.gf_ops.specs.declared.change.Attr.TheVariants.{Place, Points, Size, Colour, Layer, Shown}
+use Rattle.gf_ops.specs.declared.change.Value.{Value}
+use Rattle.gf_ops.specs.declared.change.Value.TheVariants as value
 
 -- the kinds of objects
 pub data Kind : Type 0 where
@@ -44,49 +28,79 @@ kind_of (form.Circle radius) = Circle
 -- the kind of the object that the change c makes, if it makes one
 abbrev pub made_kind : Change → Option Kind
 made_kind (Create start) = Some (kind_of start.form)
+made_kind (Set object v) = None
+
+-- whether objects of the kind have such a value; the two numbers of a circle's size are its radius
+abbrev pub suits : Kind → Value → Bool
+suits Box (value.Points ps) = false
+suits Circle (value.Points ps) = false
+suits Circle (value.Size width height) = width == height
+suits Polygon (value.Size width height) = false
+suits kind v = true
+
+-- the attribute that v is a value of
+abbrev pub attribute_of : Value → Attr
+attribute_of (value.Place p) = Place
+attribute_of (value.Points ps) = Points
+attribute_of (value.Size width height) = Size
+attribute_of (value.Colour c) = Colour
+attribute_of (value.Layer n) = Layer
+attribute_of (value.Shown b) = Shown
 
 -- the attribute that the form f gives a value to
-abbrev pub form_attribute : Form → Attribute
+abbrev pub form_attribute : Form → Attr
 form_attribute (form.Rect width height) = Size
 form_attribute (form.Polygon ps) = Points
 form_attribute (form.Circle radius) = Size
 
 -- the value that the form f gives to it
 abbrev pub form_value : Form → Value
-form_value (form.Rect width height) = SizeOf width height
-form_value (form.Polygon ps) = PointsOf ps
-form_value (form.Circle radius) = SizeOf radius radius
+form_value (form.Rect width height) = value.Size width height
+form_value (form.Polygon ps) = value.Points ps
+form_value (form.Circle radius) = value.Size radius radius
 
 -- the value v, if it is a size
 abbrev pub size_in : Value → Option Value
-size_in (SizeOf width height) = Some (SizeOf width height)
+size_in (value.Size width height) = Some (value.Size width height)
 size_in v = None
 
 -- the value v, if it is a list of points
 abbrev pub points_in : Value → Option Value
-points_in (PointsOf ps) = Some (PointsOf ps)
+points_in (value.Points ps) = Some (value.Points ps)
 points_in v = None
 
 -- the value of the attribute t that an object begins with, if its kind has t; s is what it begins with
-abbrev pub start_value : Start → Attribute → Option Value
-start_value s Place = Some (PlaceAt s.place)
+abbrev pub start_value : Start → Attr → Option Value
+start_value s Place = Some (value.Place s.place)
 start_value s Size = size_in (form_value s.form)
 start_value s Points = points_in (form_value s.form)
-start_value s Colour = Some (ColourOf s.colour)
-start_value s Layer = Some (LayerAt s.layer)
-start_value s Shown = Some (ShownIf s.shown)
+start_value s Colour = Some (value.Colour s.colour)
+start_value s Layer = Some (value.Layer s.layer)
+start_value s Shown = Some (value.Shown s.shown)
+
+-- the value v, if it is one of the attribute t
+abbrev pub set_value : Value → Attr → Option Value
+set_value (value.Place p) Place = Some (value.Place p)
+set_value (value.Points ps) Points = Some (value.Points ps)
+set_value (value.Size width height) Size = Some (value.Size width height)
+set_value (value.Colour c) Colour = Some (value.Colour c)
+set_value (value.Layer n) Layer = Some (value.Layer n)
+set_value (value.Shown b) Shown = Some (value.Shown b)
+set_value v t = None
 
 -- the value that the change c gives to the attribute t, if it sets it
-abbrev pub change_value : Change → Attribute → Option Value
+abbrev pub change_value : Change → Attr → Option Value
 change_value (Create start) t = start_value start t
+change_value (Set object v) t = set_value v t
 
 -- the value that the operation a gives to the attribute t, if it sets it
-abbrev pub given : Op → Attribute → Option Value
+abbrev pub given : Op → Attr → Option Value
 given a t = change_value a.change t
 
 -- the object that the change c of the operation under the id i concerns
 abbrev pub changed_object : OpId → Change → ObjectId
 changed_object i (Create start) = record { 0 = i }
+changed_object i (Set object v) = object
 
 -- the object that the operation a concerns
 abbrev pub object_of : Op → ObjectId

@@ -1,12 +1,14 @@
 -- Which operations cannot stand in one version (conflict and compatible, Sun and Chen, ACM TOCHI 9(1), 2002).
 use Rattle.std.specs.Prelude.{◌≡◌, ◌≢◌, Some}
 use Rattle.gf_ops.specs.declared.op.Op.{Op}
-use Rattle.gf_ops.specs.Attribute.{Attribute, Value, given, object_of}
+use Rattle.gf_ops.specs.declared.change.Attr.{Attr}
+use Rattle.gf_ops.specs.declared.change.Value.{Value}
+use Rattle.gf_ops.specs.Attribute.{given, object_of}
 use Rattle.gf_ops.specs.OperationOrder.{IsConcurrent}
 
 -- a and b set one attribute, to different values
 pub record SetApart (a b : Op) : Type 0 where
-  pub attribute : Attribute
+  pub attribute : Attr
   pub first : Value
   pub second : Value
   pub first_given : given a attribute ≡ Some first

@@ -1,5 +1,5 @@
 -- The limits of an operation (this project's choice).
-use Rattle.std.specs.Prelude.{ℕ, pos, negsuc, Bool, IsTrue, ◌&&◌, nat_le, int_le, List, length}
+use Rattle.std.specs.Prelude.{ℕ, pos, negsuc, Bool, true, IsTrue, ◌&&◌, nat_le, int_le, List, length}
 use Rattle.std.specs.List.{list_all}
 use Rattle.gf_shape.specs.declared.point.Point.{Point}
 use Rattle.gf_ops.specs.declared.op.Op.{Op}
@@ -8,7 +8,9 @@ use Rattle.gf_ops.specs.declared.op.Clock.{Clock}
 use Rattle.gf_ops.specs.declared.change.Form.{Form}
 use Rattle.gf_ops.specs.declared.change.Form.TheVariants.{Rect, Polygon, Circle}
 use Rattle.gf_ops.specs.declared.change.Change.{Change}
-use Rattle.gf_ops.specs.declared.change.Change.TheVariants.{Create}
+use Rattle.gf_ops.specs.declared.change.Change.TheVariants.{Create, Set}
+use Rattle.gf_ops.specs.declared.change.Value.{Value}
+use Rattle.gf_ops.specs.declared.change.Value.TheVariants as value
 
 -- sites are numbered 1 to 8
 abbrev pub is_site : ℕ → Bool
@@ -44,9 +46,23 @@ is_form (Rect width height) = is_size width && is_size height
 is_form (Polygon ps) = is_polygon ps
 is_form (Circle radius) = is_size radius
 
--- a new object has a form in range, is near, and has a layer up to 9,999
+-- layers go up to 9,999
+abbrev pub is_layer : ℕ → Bool
+is_layer n = nat_le n 9999
+
+-- a value keeps the limits of its attribute
+abbrev pub is_value : Value → Bool
+is_value (value.Place p) = is_near p
+is_value (value.Points ps) = is_polygon ps
+is_value (value.Size width height) = is_size width && is_size height
+is_value (value.Colour c) = true
+is_value (value.Layer n) = is_layer n
+is_value (value.Shown b) = true
+
+-- a new object has a form in range, is near, and has a layer; an object is named by an id, and its new value is in range
 abbrev pub is_change : Change → Bool
-is_change (Create start) = is_form start.form && is_near start.place && nat_le start.layer 9999
+is_change (Create start) = is_form start.form && is_near start.place && is_layer start.layer
+is_change (Set object v) = is_id object.0 && is_value v
 
 -- the id, the clock and the change of a keep the limits
 abbrev pub is_in_range : Op → Bool

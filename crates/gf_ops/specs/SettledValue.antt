@@ -2,12 +2,14 @@
 use Rattle.std.specs.Prelude.{◌≡◌, List, IsSome, Some}
 use Rattle.gf_ops.specs.declared.op.Op.{Op}
 use Rattle.gf_ops.specs.declared.op.OpId.{OpId}
-use Rattle.gf_ops.specs.Attribute.{Attribute, Value, given}
+use Rattle.gf_ops.specs.declared.change.Attr.{Attr}
+use Rattle.gf_ops.specs.declared.change.Value.{Value}
+use Rattle.gf_ops.specs.Attribute.{given}
 use Rattle.gf_ops.specs.OperationOrder.{Precedes}
 use Rattle.gf_ops.specs.Version.{IsMember}
 
 -- in the group g of h the attribute t has the value v: a setter of t gives it, and no setter of t comes after that one
-pub record IsSettled (h : List Op) (g : List OpId) (t : Attribute) (v : Value) : Type 0 where
+pub record IsSettled (h : List Op) (g : List OpId) (t : Attr) (v : Value) : Type 0 where
   pub setter : Op
   pub member : IsMember h g setter
   pub gives : given setter t ≡ Some v

@@ -1,7 +1,30 @@
 //! What an operation changes.
 
-use crate::Points;
+use crate::{ObjectId, Points};
 use gf_shape::{Point, Rgb};
+
+/// What an object has a value of. Boxes and circles have no `Points`, polygons no `Size`.
+#[derive(Clone, Copy, Debug, PartialEq, Eq)]
+pub enum Attr {
+    Place,
+    Points,
+    Size,
+    Colour,
+    Layer,
+    Shown,
+}
+
+/// A value of an attribute.
+#[derive(Debug, PartialEq, Eq, Drop)]
+pub enum Value {
+    Place(Point),
+    Points(Points),
+    /// A box's width and height, or a circle's radius twice.
+    Size(u32, u32),
+    Colour(Rgb),
+    Layer(u16),
+    Shown(bool),
+}
 
 /// The shape of an object, seen from its place.
 #[derive(Debug, PartialEq, Eq, Drop)]
@@ -29,4 +52,6 @@ pub struct Start {
 pub enum Change {
     /// Makes a new object, named by the operation's own id.
     Create(Start),
+    /// Gives an attribute of the object this value.
+    Set { object: ObjectId, value: Value },
 }

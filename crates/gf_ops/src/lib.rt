@@ -17,7 +17,7 @@ mod points;
 #[cfg(test)]
 mod tests;
 
-pub use change::{Change, Form, Start};
+pub use change::{Attr, Change, Form, Start, Value};
 pub use faults::{AddFault, OpFault};
 pub use history::History;
 pub use op::{Clock, ObjectId, Op, OpId};

@@ -2,9 +2,9 @@
 
 ghost use Rattle.std.specs.Prelude.{◌≡◌};
 ghost use Rattle.std.specs.List.{list_all};
-ghost use Rattle.gf_ops.specs.Limits.{is_site, is_size, is_near, is_id, is_clock, is_count, is_polygon, is_form, is_change, is_in_range};
+ghost use Rattle.gf_ops.specs.Limits.{is_site, is_size, is_near, is_id, is_clock, is_count, is_polygon, is_form, is_layer, is_value, is_change, is_in_range};
 
-use crate::{Change, Clock, Form, Op, OpId};
+use crate::{Change, Clock, Form, Op, OpId, Value};
 use gf_shape::Point;
 
 impl Op {
@@ -22,8 +22,12 @@ impl Change {
     pub fn in_range(&self) -> bool
         ensures { result ≡ is_change self.now }
     {
-        let Change::Create(start) = self;
-        is_form(&start.form) && is_near(start.place) && start.layer <= 9_999
+        match self {
+            Change::Create(start) => {
+                is_form(&start.form) && is_near(start.place) && is_layer(start.layer)
+            }
+            Change::Set { object, value } => is_id(object.0) && is_value(value),
+        }
     }
 }
 
@@ -59,6 +63,24 @@ fn is_form(form: &Form) -> bool
         Form::Polygon(points) => is_polygon(points.as_slice()),
         Form::Circle(radius) => is_size(*radius),
     }
+}
+
+fn is_value(value: &Value) -> bool
+    ensures { result ≡ is_value value.now }
+{
+    match value {
+        Value::Place(place) => is_near(*place),
+        Value::Points(points) => is_polygon(points.as_slice()),
+        Value::Size(width, height) => is_size(*width) && is_size(*height),
+        Value::Colour(_) | Value::Shown(_) => true,
+        Value::Layer(layer) => is_layer(*layer),
+    }
+}
+
+fn is_layer(layer: u16) -> bool
+    ensures { result ≡ is_layer layer }
+{
+    layer <= 9_999
 }
 
 fn is_polygon(points: &[Point]) -> bool

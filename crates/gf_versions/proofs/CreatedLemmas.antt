@@ -14,7 +14,11 @@ use Rattle.gf_ops.specs.declared.change.Change.TheVariants.{Create}
 use Rattle.gf_ops.specs.declared.change.Form.{Form}
 use Rattle.gf_ops.specs.declared.change.Form.TheVariants.{Rect, Circle, Polygon}
 use Rattle.gf_ops.specs.declared.change.Start.{Start}
-use Rattle.gf_ops.specs.Attribute.{Attribute, Value, Place, Colour, Layer, Shown, SizeOf, PointsOf, PlaceAt, ColourOf, LayerAt, ShownIf, form_attribute, form_value, given, kind_of, made_kind, points_in, size_in, start_value, change_value, object_of, changed_object}
+use Rattle.gf_ops.specs.declared.change.Attr.{Attr}
+use Rattle.gf_ops.specs.declared.change.Attr.TheVariants.{Place, Colour, Layer, Shown}
+use Rattle.gf_ops.specs.declared.change.Value.{Value}
+use Rattle.gf_ops.specs.declared.change.Value.TheVariants as value
+use Rattle.gf_ops.specs.Attribute.{form_attribute, form_value, given, kind_of, made_kind, points_in, size_in, start_value, change_value, object_of, changed_object}
 use Rattle.gf_ops.specs.OperationOrder.{id_cmp, Precedes}
 use Rattle.gf_ops.specs.SettledValue.{IsSettled}
 use Rattle.gf_ops.specs.ValidHistory.{IsValid}
@@ -89,13 +93,13 @@ module _ (h : List Op) (valid : IsValid h) where
       one_alone a.id g version.rising (has_maker o g version only g refl) only
 
   -- it gives each attribute its value there
-  gives : (a : Op) (t : Attribute) (v : Value) → Contains h a → IsSettled h (a.id ∷ []) t v → given a t ≡ Some v
+  gives : (a : Op) (t : Attr) (v : Value) → Contains h a → IsSettled h (a.id ∷ []) t v → given a t ≡ Some v
   gives a t v x settled =
       let m = settled.member in
       let e : settled.setter ≡ a = same_op settled.setter a m.contained x (elim (Contains-cons_cases a.id [] settled.setter.id m.grouped) [ inl k ↦ k | inr k ↦ absurd (not_Contains-nil settled.setter.id k) ]) in
       subst (λ (b : Op). given b t ≡ Some v) e settled.gives
 
-  settles : (a : Op) (t : Attribute) (v : Value) → Contains h a → given a t ≡ Some v → IsSettled h (a.id ∷ []) t v
+  settles : (a : Op) (t : Attr) (v : Value) → Contains h a → given a t ≡ Some v → IsSettled h (a.id ∷ []) t v
   settles a t v x given_by = record {
     setter = a;
     member = record { contained = x; grouped = Contains-cons_head a.id [] };
@@ -126,15 +130,15 @@ module _ (h : List Op) (valid : IsValid h) where
 
   made_version : (a : Op) → Contains h a → (change : Change) → a.change ≡ change → IsVersionOf h (made a.id change)
   made_version a x (Create start) e =
-      let value : (t : Attribute) (v : Value) → start_value start t ≡ Some v → IsSettled h (a.id ∷ []) t v = λ t v s. settles a t v x (ap (λ c. change_value c t) e ∙ s) in
+      let value : (t : Attr) (v : Value) → start_value start t ≡ Some v → IsSettled h (a.id ∷ []) t v = λ t v s. settles a t v x (ap (λ c. change_value c t) e ∙ s) in
       record {
         version = subst (λ o. IsVersion h o (a.id ∷ [])) (ap (changed_object a.id) e) (own_version a x);
         kind = record { maker = a; contained = x; id = refl; kind = ap made_kind e };
         form = value (form_attribute start.form) (form_value start.form) (form_begins start start.form refl);
-        place = value Place (PlaceAt start.place) refl;
-        colour = value Colour (ColourOf start.colour) refl;
-        layer = value Layer (LayerAt start.layer) refl;
-        shown = value Shown (ShownIf start.shown) refl;
+        place = value Place (value.Place start.place) refl;
+        colour = value Colour (value.Colour start.colour) refl;
+        layer = value Layer (value.Layer start.layer) refl;
+        shown = value Shown (value.Shown start.shown) refl;
       }
 
   -- what an operation of h makes is a version of h
@@ -143,14 +147,14 @@ module _ (h : List Op) (valid : IsValid h) where
 
   -- a form is told by its kind and its value
   same_form : (s : Start) (f g : Form) → s.form ≡ f → kind_of f ≡ kind_of g → start_value s (form_attribute g) ≡ Some (form_value g) → f ≡ g
-  same_form s (Rect w k) (Rect x l) e kind value = let v : Some (SizeOf w k) ≡ Some (SizeOf x l) = sym (ap (λ f. size_in (form_value f)) e) ∙ value in cc
-  same_form s (Circle r) (Circle q) e kind value = let v : Some (SizeOf r r) ≡ Some (SizeOf q q) = sym (ap (λ f. size_in (form_value f)) e) ∙ value in cc
-  same_form s (Polygon ps) (Polygon qs) e kind value = let v : Some (PointsOf ps) ≡ Some (PointsOf qs) = sym (ap (λ f. points_in (form_value f)) e) ∙ value in cc
+  same_form s (Rect w k) (Rect x l) e kind value = let v : Some (value.Size w k) ≡ Some (value.Size x l) = sym (ap (λ f. size_in (form_value f)) e) ∙ value in cc
+  same_form s (Circle r) (Circle q) e kind value = let v : Some (value.Size r r) ≡ Some (value.Size q q) = sym (ap (λ f. size_in (form_value f)) e) ∙ value in cc
+  same_form s (Polygon ps) (Polygon qs) e kind value = let v : Some (value.Points ps) ≡ Some (value.Points qs) = sym (ap (λ f. points_in (form_value f)) e) ∙ value in cc
   same_form s f g e kind value = absurd cc
 
   same_values : (id : OpId) (change : Change) (v : Version) → v.key.object.0 ≡ id → v.key.ops ≡ id ∷ [] →
-      made_kind change ≡ Some (kind_of v.form) → change_value change (form_attribute v.form) ≡ Some (form_value v.form) → change_value change Place ≡ Some (PlaceAt v.place) → change_value change Colour ≡ Some (ColourOf v.colour) →
-      change_value change Layer ≡ Some (LayerAt v.key.layer) → change_value change Shown ≡ Some (ShownIf v.shown) → v ≡ made id change
+      made_kind change ≡ Some (kind_of v.form) → change_value change (form_attribute v.form) ≡ Some (form_value v.form) → change_value change Place ≡ Some (value.Place v.place) → change_value change Colour ≡ Some (value.Colour v.colour) →
+      change_value change Layer ≡ Some (value.Layer v.key.layer) → change_value change Shown ≡ Some (value.Shown v.shown) → v ≡ made id change
   same_values id (Create start) v object ops kind form place colour layer shown =
       let kinds : kind_of start.form ≡ kind_of v.form = cc in
       let forms = same_form start start.form v.form refl kinds form in
@@ -173,11 +177,11 @@ module _ (h : List Op) (valid : IsValid h) where
       let a = maker.op in
       let ops = alone v.key.object v.key.ops is.version in
       let kind_told : IsOfKind h v.key.object (kind_of v.form) → made_kind a.change ≡ Some (kind_of v.form) = λ k. subst (λ (b : Op). made_kind b.change ≡ Some (kind_of v.form)) (same_op k.maker a k.contained maker.contained (k.id ∙ sym maker.id)) k.kind in
-      let value : (t : Attribute) (w : Value) → IsSettled h v.key.ops t w → given a t ≡ Some w = λ t w s. gives a t w maker.contained (subst (λ ids. IsSettled h ids t w) ops s) in (
+      let value : (t : Attr) (w : Value) → IsSettled h v.key.ops t w → given a t ≡ Some w = λ t w s. gives a t w maker.contained (subst (λ ids. IsSettled h ids t w) ops s) in (
         a,
         maker.contained,
-        same_values a.id a.change v (sym maker.id) ops (kind_told is.kind) (value (form_attribute v.form) (form_value v.form) is.form) (value Place (PlaceAt v.place) is.place)
-            (value Colour (ColourOf v.colour) is.colour) (value Layer (LayerAt v.key.layer) is.layer) (value Shown (ShownIf v.shown) is.shown),
+        same_values a.id a.change v (sym maker.id) ops (kind_told is.kind) (value (form_attribute v.form) (form_value v.form) is.form) (value Place (value.Place v.place) is.place)
+            (value Colour (value.Colour v.colour) is.colour) (value Layer (value.Layer v.key.layer) is.layer) (value Shown (value.Shown v.shown) is.shown),
       )
 
   -- the visible versions of h are those of its operations that are shown
