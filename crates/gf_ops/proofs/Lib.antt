@@ -1,2 +1,3 @@
 pub mod ValidityLemmas
 pub mod HistoryLemmas
+pub mod ConflictLemmas

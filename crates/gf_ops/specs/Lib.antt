@@ -4,6 +4,7 @@ pub mod OperationOrder
 pub mod ValidHistory
 pub mod Attribute
 pub mod Conflict
+pub mod ConflictTests
 pub mod Version
 pub mod SettledValue
 pub mod Accepted

@@ -8,6 +8,8 @@
 #![tactic(auto)]
 
 mod change;
+mod conflict;
+mod copying;
 mod faults;
 mod history;
 mod limits;
@@ -21,5 +23,6 @@ pub use change::{Attr, Change, Form, Start, Value};
 pub use faults::{AddFault, OpFault};
 pub use history::History;
 pub use op::{Clock, ObjectId, Op, OpId};
-pub use order::before;
+pub use conflict::conflicts;
+pub use order::{before, concurrent};
 pub use points::Points;

@@ -1,0 +1,45 @@
+-- Tests that tell conflicts. No public clause cites this module.
+use Rattle.std.specs.Prelude.{Bool, false, not, ◌&&◌, ◌==◌, Option, Some, None}
+use Rattle.std.specs.Bool.{beq}
+use Rattle.std.specs.Ordering.{on, int_eq, eq_of_both}
+use Rattle.gf_shape.specs.declared.point.Point.{Point}
+use Rattle.gf_shape.specs.declared.colour.Rgb.{Rgb}
+use Rattle.gf_ops.specs.declared.change.Change.{Change}
+use Rattle.gf_ops.specs.declared.change.Change.TheVariants.{Create, Set}
+use Rattle.gf_ops.specs.declared.change.Value.{Value}
+use Rattle.gf_ops.specs.declared.change.Value.TheVariants.{Place, Points, Size, Colour, Layer, Shown}
+use Rattle.gf_ops.specs.Attribute.{attribute_of, change_value}
+use Rattle.gf_ops.specs.SamePoints.{are_same}
+
+-- p and q are one point
+abbrev pub point_eq : Point → Point → Bool
+point_eq = eq_of_both (on (λ p. p.x) int_eq) (on (λ p. p.y) int_eq)
+
+-- c and d are one colour
+abbrev pub colour_eq : Rgb → Rgb → Bool
+colour_eq c d = c.r == d.r && c.g == d.g && c.b == d.b
+
+-- v and w are one value of one attribute
+abbrev pub value_eq : Value → Value → Bool
+value_eq (Place p) (Place q) = point_eq p q
+value_eq (Points ps) (Points qs) = are_same ps qs
+value_eq (Size v j) (Size w k) = v == w && j == k
+value_eq (Colour c) (Colour d) = colour_eq c d
+value_eq (Layer m) (Layer n) = m == n
+value_eq (Shown b) (Shown c) = beq b c
+value_eq v w = false
+
+-- a value is given, and it is not w
+abbrev pub is_another : Option Value → Value → Bool
+is_another None w = false
+is_another (Some v) w = not (value_eq v w)
+
+-- the change c gives the attribute of w another value
+abbrev pub sets_another : Change → Value → Bool
+sets_another c w = is_another (change_value c (attribute_of w)) w
+
+-- the changes of two operations on one object give an attribute different values; two creations are of two objects
+abbrev pub are_apart : Change → Change → Bool
+are_apart c (Set o w) = sets_another c w
+are_apart (Set o v) (Create start) = sets_another (Create start) v
+are_apart (Create s) (Create t) = false

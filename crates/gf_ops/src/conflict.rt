@@ -1,0 +1,85 @@
+//! Which operations cannot stand in one version.
+
+ghost use Rattle.std.specs.Prelude.{◌≡◌, ◌↔◌, IsTrue};
+ghost use Rattle.gf_ops.specs.Attribute.{attribute_of, start_value, set_value, object_of};
+ghost use Rattle.gf_ops.specs.Conflict.{Conflict};
+ghost use Rattle.gf_ops.specs.ConflictTests.{is_another, sets_another, are_apart};
+ghost use Rattle.gf_ops.specs.Limits.{IsInRange};
+
+use crate::{Change, Form, ObjectId, Op, Start, Value, concurrent};
+
+/// Whether they are concurrent, concern one object and set one attribute to different values.
+pub fn conflicts(a: &Op, b: &Op) -> bool
+    requires a { IsInRange a.now }
+    requires b { IsInRange b.now }
+    ensures { IsTrue result ↔ Conflict a.now b.now }
+{
+    concurrent(a, b) && a.object() == b.object() && are_apart(&a.change, &b.change)
+}
+
+impl Op {
+    /// The object that it makes or changes.
+    pub fn object(&self) -> ObjectId
+        ensures { result ≡ object_of self.now }
+    {
+        match &self.change {
+            Change::Create(_) => ObjectId(self.id),
+            Change::Set { object, .. } => *object,
+        }
+    }
+}
+
+/// Whether the changes of two operations on one object give an attribute different values.
+fn are_apart(a: &Change, b: &Change) -> bool
+    ensures { result ≡ are_apart a.now b.now }
+{
+    match (a, b) {
+        (_, Change::Set { value, .. }) => sets_another(a, value),
+        (Change::Set { value, .. }, Change::Create(_)) => sets_another(b, value),
+        (Change::Create(_), Change::Create(_)) => false,
+    }
+}
+
+/// Whether the change gives the attribute of this value another one.
+fn sets_another(change: &Change, value: &Value) -> bool
+    ensures { result ≡ sets_another change.now value.now }
+{
+    match change {
+        Change::Create(start) => begins_with_another(start, value),
+        Change::Set { value: own, .. } => is_another(own, value),
+    }
+}
+
+fn is_another(own: &Value, value: &Value) -> bool
+    ensures { result ≡ is_another (set_value own.now (attribute_of value.now)) value.now }
+{
+    match (own, value) {
+        (Value::Place(own), Value::Place(place)) => own != place,
+        (Value::Points(own), Value::Points(points)) => own != points,
+        (Value::Size(own, deep), Value::Size(width, height)) => !(own == width && deep == height),
+        (Value::Colour(own), Value::Colour(colour)) => own != colour,
+        (Value::Layer(own), Value::Layer(layer)) => own != layer,
+        (Value::Shown(own), Value::Shown(shown)) => own != shown,
+        _ => false,
+    }
+}
+
+fn begins_with_another(start: &Start, value: &Value) -> bool
+    ensures { result ≡ is_another (start_value start.now (attribute_of value.now)) value.now }
+{
+    match value {
+        Value::Place(place) => start.place != *place,
+        Value::Points(points) => match &start.form {
+            Form::Polygon(own) => own != points,
+            Form::Rect(_, _) | Form::Circle(_) => false,
+        },
+        Value::Size(width, height) => match &start.form {
+            Form::Rect(own, deep) => !(own == width && deep == height),
+            Form::Circle(radius) => !(radius == width && radius == height),
+            Form::Polygon(_) => false,
+        },
+        Value::Colour(colour) => start.colour != *colour,
+        Value::Layer(layer) => start.layer != *layer,
+        Value::Shown(shown) => start.shown != *shown,
+    }
+}

@@ -1,0 +1,87 @@
+//! Copies of operations.
+
+ghost use Rattle.std.specs.Prelude.{◌≡◌, IfOk};
+
+use crate::{Change, Form, Op, Points, Start, Value};
+use gf_shape::OutOfMemory;
+use std::alloc::Global;
+
+impl Op {
+    /// The same operation once more.
+    pub fn copy(&self, alloc: Global) -> Result<Op, OutOfMemory>
+        ensures { IfOk result (λ op. op ≡ self.now) }
+    {
+        Ok(Op {
+            id: self.id,
+            past: self.past,
+            change: self.change.copy(alloc)?,
+        })
+    }
+}
+
+impl Change {
+    /// The same change once more.
+    pub fn copy(&self, alloc: Global) -> Result<Change, OutOfMemory>
+        ensures { IfOk result (λ change. change ≡ self.now) }
+    {
+        match self {
+            Change::Create(start) => Ok(Change::Create(copy_start(start, alloc)?)),
+            Change::Set { object, value } => Ok(Change::Set {
+                object: *object,
+                value: value.copy(alloc)?,
+            }),
+        }
+    }
+}
+
+fn copy_start(start: &Start, alloc: Global) -> Result<Start, OutOfMemory>
+    ensures { IfOk result (λ copy. copy ≡ start.now) }
+{
+    Ok(Start {
+        form: start.form.copy(alloc)?,
+        place: start.place,
+        colour: start.colour,
+        layer: start.layer,
+        shown: start.shown,
+    })
+}
+
+impl Form {
+    /// The same form once more.
+    pub fn copy(&self, alloc: Global) -> Result<Form, OutOfMemory>
+        ensures { IfOk result (λ form. form ≡ self.now) }
+    {
+        match self {
+            Form::Rect(width, height) => Ok(Form::Rect(*width, *height)),
+            Form::Polygon(points) => Ok(Form::Polygon(points.copy(alloc)?)),
+            Form::Circle(radius) => Ok(Form::Circle(*radius)),
+        }
+    }
+}
+
+impl Value {
+    /// The same value once more.
+    pub fn copy(&self, alloc: Global) -> Result<Value, OutOfMemory>
+        ensures { IfOk result (λ value. value ≡ self.now) }
+    {
+        match self {
+            Value::Place(place) => Ok(Value::Place(*place)),
+            Value::Points(points) => Ok(Value::Points(points.copy(alloc)?)),
+            Value::Size(width, height) => Ok(Value::Size(*width, *height)),
+            Value::Colour(colour) => Ok(Value::Colour(*colour)),
+            Value::Layer(layer) => Ok(Value::Layer(*layer)),
+            Value::Shown(shown) => Ok(Value::Shown(*shown)),
+        }
+    }
+}
+
+impl Points {
+    /// The same points once more.
+    pub fn copy(&self, alloc: Global) -> Result<Points, OutOfMemory>
+        ensures { IfOk result (λ points. points ≡ self.now) }
+    {
+        let mut points = Vec::new(alloc);
+        points.extend_from_slice(self.as_slice())?;
+        Ok(Points::new(points))
+    }
+}
