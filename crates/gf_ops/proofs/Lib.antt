@@ -1,3 +1,4 @@
 pub mod ValidityLemmas
 pub mod HistoryLemmas
+pub mod IndexLemmas
 pub mod ConflictLemmas

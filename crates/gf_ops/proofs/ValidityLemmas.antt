@@ -1,15 +1,19 @@
--- A valid history with one more operation behind it is valid.
-use Rattle.std.proofs.Common.{◌≡◌, ◌≢◌, ◌+◌, ◌≤◌, List, [], ◌∷◌, ◌++◌, get_or, subst, sym, arith, inl, inr}
+-- Valid histories: what they keep, and that they stay valid with one more operation behind them.
+use Rattle.std.proofs.Common.{◌≡◌, ◌≢◌, ℕ, ◌+◌, ◌≤◌, List, [], ◌∷◌, ◌++◌, get_or, subst, sym, ap, ◌∙◌, arith, inl, inr}
 use Rattle.std.specs.Prelude.{Contains}
-use Rattle.std.proofs.lemmas.Bool.{cases_eq}
+use Rattle.std.proofs.lemmas.Bool.{cases_eq, cases_order}
+use Rattle.std.proofs.lemmas.List.{get_or_default}
 use Rattle.std.proofs.lemmas.List.Elements.{Contains-get_or, Contains-push_cases, Contains-append_left}
 use Rattle.std.proofs.lemmas.List.Quantifiers.{all_pairs_push}
 use Rattle.gf_ops.specs.declared.op.Op.{Op}
 use Rattle.gf_ops.specs.declared.op.OpId.{OpId}
 use Rattle.gf_ops.specs.declared.op.Clock.{Clock}
+use Rattle.gf_ops.specs.declared.change.Change.{Change}
+use Rattle.gf_ops.specs.declared.change.Change.TheVariants.{Create, Set}
+use Rattle.gf_ops.specs.KnownObject.{IsSuited}
 use Rattle.gf_ops.specs.Limits.{IsInRange}
 use Rattle.gf_ops.specs.OperationOrder.{IsSite, entry, count_of}
-use Rattle.gf_ops.specs.ValidHistory.{Counts, Has, IsValid}
+use Rattle.gf_ops.specs.ValidHistory.{IsWithin, Counts, Has, IsValid}
 use Rattle.gf_ops.specs.Accepted.{IsNext}
 
 -- h has an operation under id i
@@ -21,6 +25,17 @@ pub record Holds (h : List Op) (i : OpId) : Type 0 where
 -- what h has, it still has with a behind it
 has_before : (h : List Op) (a : Op) (c : Clock) (i : OpId) → Has h c i → Has (h ++ a ∷ []) c i
 has_before h a c i t = record { op = t.op; contained = Contains-append_left h (a ∷ []) t.op t.contained; id = t.id; past = t.past }
+
+-- whom a knew and what suits it, it still knows and suits with another operation behind h
+suited_before : (h : List Op) (a b : Op) (c : Change) → IsSuited h b c → IsSuited (h ++ a ∷ []) b c
+suited_before h a b (Create start) s = tt
+suited_before h a b (Set o v) s =
+    let k = s.known in
+    record {
+      kind = s.kind;
+      known = record { maker = k.maker; contained = Contains-append_left h (a ∷ []) k.maker k.contained; id = k.id; kind = k.kind; before = k.before };
+      suited = s.suited;
+    }
 
 -- the next operation knows no operation that h lacks
 counted : (h : List Op) (a : Op) (i : OpId) → IsNext h a → Counts a.past i → i.seq ≤ count_of h i.site
@@ -38,12 +53,12 @@ next_closed h a i next c t = record {
   past = next.closed t.op t.contained (subst (λ (j : OpId). j.seq ≤ entry a.past j.site) (sym t.id) c.last);
 }
 
--- the next operation keeps a history valid, if its id is new and the history has as many operations of each site as it counts
-pub IsValid-push : (h : List Op) (a : Op) → IsValid h → IsInRange a → IsNext h a →
+-- the next operation, whose change suits, keeps a history valid, if its id is new and the history has as many operations of each site as it counts
+pub IsValid-push : (h : List Op) (a : Op) → IsValid h → IsInRange a → IsNext h a → IsSuited h a a.change →
     (fresh : (b : Op) → Contains h b → b.id ≢ a.id) →
     (known : (i : OpId) → IsSite i.site → 1 ≤ i.seq → i.seq ≤ count_of h i.site → Holds h i) →
     IsValid (h ++ a ∷ [])
-IsValid-push h a valid in_range next fresh known = record {
+IsValid-push h a valid in_range next suited fresh known = record {
   in_range = λ b m. elim (Contains-push_cases h a b m) [ inl k ↦ valid.in_range b k | inr e ↦ subst IsInRange e in_range ];
   distinct = all_pairs_push (λ x y. x.id ≢ y.id) h a valid.distinct (λ k d l. fresh (get_or h k d) (Contains-get_or h k d l));
   own = λ b m. elim (Contains-push_cases h a b m) [
@@ -57,4 +72,29 @@ IsValid-push h a valid in_range next fresh known = record {
         let t = next_closed h a i next d (known i d.site d.first (counted h a i next d)) in
         has_before h a b.past i (subst (λ (x : Op). Has h x.past i) e t)
   ];
+  suited = λ b m. elim (Contains-push_cases h a b m) [
+    | inl k ↦ suited_before h a b b.change (valid.suited b k)
+    | inr e ↦ subst (λ (x : Op). IsSuited (h ++ a ∷ []) x x.change) e (suited_before h a a a.change suited)
+  ];
 }
+
+-- an operation of a valid history is the only one under its id
+pub same_op : (h : List Op) → IsValid h → (a b : Op) → Contains h a → Contains h b → a.id ≡ b.id → a ≡ b
+same_op h valid a b (i, l, e) (j, m, f) s = elim (cases_order i j) [
+  | inl k ↦ let u = get_or_default h i a b l in let v : get_or h i b ≡ get_or h j b = ap (λ n. get_or h n b) k in cc
+  | inr k ↦ elim k [
+    | inl n ↦ let g = valid.distinct i j b n m in let u = get_or_default h i a b l in absurd (g (ap (λ (x : Op). x.id) (sym u ∙ e) ∙ (s ∙ sym (ap (λ (x : Op). x.id) f))))
+    | inr n ↦ let g = valid.distinct j i a n l in let u = get_or_default h j a b m in absurd (g (ap (λ (x : Op). x.id) (u ∙ f) ∙ (sym s ∙ sym (ap (λ (x : Op). x.id) e))))
+  ]
+]
+
+-- the pasts of one site only grow
+pub pasts_grow : (h : List Op) → IsValid h → (a b : Op) → Contains h a → Contains h b → a.id.site ≡ b.id.site → IsSite a.id.site → 1 ≤ a.id.seq → a.id.seq ≤ b.id.seq → IsWithin a.past b.past
+pasts_grow h valid a b x y site is first last = elim (cases_eq a.id.seq b.id.seq) [
+  | inl e ↦ subst (λ (c : Op). IsWithin a.past c.past) (same_op h valid a b x y (λ j. record { site = site j; seq = e j })) (λ s i. omega arith)
+  | inr n ↦
+      let own = valid.own b y in
+      let known : a.id.seq ≤ entry b.past a.id.site = rw site (omega arith) in
+      let has = valid.closed b y a.id (record { site = is; first = first; last = known }) in
+      subst (λ (c : Op). IsWithin c.past b.past) (same_op h valid has.op a has.contained x has.id) has.past
+]

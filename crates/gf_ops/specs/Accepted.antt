@@ -1,6 +1,7 @@
 -- Which operation may be added behind a history (this project's choice).
 use Rattle.std.specs.Prelude.{◌≡◌, ◌≢◌, ℕ, ◌+◌, ◌≤◌, List, [], ◌∷◌, ◌++◌, Contains}
 use Rattle.gf_ops.specs.declared.op.Op.{Op}
+use Rattle.gf_ops.specs.KnownObject.{IsFounded, IsSuited}
 use Rattle.gf_ops.specs.OperationOrder.{IsSite, entry, count_of, Precedes}
 use Rattle.gf_ops.specs.ValidHistory.{IsWithin}
 
@@ -12,10 +13,10 @@ pub record IsNext (h : List Op) (a : Op) : Type 0 where
   pub others : (s : ℕ) → IsSite s → s ≢ a.id.site → entry a.past s ≤ count_of h s
   pub closed : (b : Op) → Contains h b → Precedes b a → IsWithin b.past a.past
 
--- a may be added behind h: so far the next operation of site 1
+-- a may be added behind h: it is the next operation of its site, and makes an object or gives one that it knows a value that suits it
 pub record IsAccepted (h : List Op) (a : Op) : Type 0 where
-  pub site : a.id.site ≡ 1
   pub next : IsNext h a
+  pub suited : IsSuited h a a.change
 
 -- operations each of which was accepted behind those before it
 pub data AreAccepted : List Op → Type 0 where

@@ -1,11 +1,13 @@
 pub mod SamePoints
 pub mod Limits
 pub mod OperationOrder
-pub mod ValidHistory
 pub mod Attribute
+pub mod KnownObject
+pub mod ValidHistory
 pub mod Conflict
 pub mod ConflictTests
 pub mod Version
 pub mod SettledValue
 pub mod Accepted
 pub mod HistoryState
+pub mod HistoryIndex

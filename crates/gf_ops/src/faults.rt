@@ -2,12 +2,20 @@
 
 use thiserror::Error;
 
-/// Why an operation doesn't fit behind a history.
+/// Why an operation doesn't fit behind a history, in the order of the checks.
 #[derive(Clone, Copy, Debug, PartialEq, Eq, Error)]
 pub enum OpFault {
-    /// Its site or its clock is not that of the history's next operation.
+    /// Its number is not the next of its site, or it knows another number of its own site's
+    /// operations, or more of another site's than there are, or less than one that it knows.
     #[error("BadClock")]
     BadClock,
+    /// It changes an object whose creation it doesn't know.
+    #[error("NoObject")]
+    NoObject,
+    /// It gives an object a value that doesn't suit its kind: a box or a circle points, a polygon a
+    /// size, a circle two numbers that are not one.
+    #[error("WrongKind")]
+    WrongKind,
 }
 
 /// Why [`History::add`](crate::History::add) refused an operation.

@@ -1,36 +1,41 @@
 //! The history of a site.
 
-ghost use Rattle.std.specs.Prelude.{◌≡◌, ◌≢◌, ◌<◌, ◌↔◌, ◌++◌, ◌∷◌, [], Contains, Err, IsOk, IsSome, IfSome, IfNone, OnOk, OnErr};
+ghost use Rattle.std.specs.Prelude.{◌≡◌, ◌≢◌, ◌<◌, ◌↔◌, ◌++◌, ◌∷◌, [], Contains, IsTrue, Ok, Err, IsOk, IfSome, IfNone, OnOk, OnErr};
 ghost use Rattle.gf_ops.specs.declared.op.Op.{Op};
 ghost use Rattle.gf_ops.specs.declared.history.History.{History};
+ghost use Rattle.gf_ops.specs.Accepted.{IsNext, IsAccepted};
+ghost use Rattle.gf_ops.specs.Attribute.{kind_of, suits};
+ghost use Rattle.gf_ops.specs.HistoryIndex.{CountsAtMost};
+ghost use Rattle.gf_ops.specs.KnownObject.{Knows, KnowsSome, IsFounded, IsSuited};
 ghost use Rattle.gf_ops.specs.Limits.{IsInRange};
-ghost use Rattle.gf_ops.specs.OperationOrder.{count_of};
-ghost use Rattle.gf_ops.specs.ValidHistory.{IsValid};
-ghost use Rattle.gf_ops.specs.Accepted.{IsAccepted};
+ghost use Rattle.gf_ops.specs.OperationOrder.{count_of, Precedes};
+ghost use Rattle.gf_ops.specs.ValidHistory.{IsWithin, IsValid};
 
-use crate::{AddFault, Clock, Op, OpFault, OpId};
+use crate::{AddFault, Change, Clock, Form, ObjectId, Op, OpFault, OpId, Value, before};
 use gf_shape::OutOfMemory;
 use std::alloc::Global;
 use std::marker::Model;
 
 /// A valid history: operations in the order in which they were added.
-///
-/// So far it takes the operations of site 1 alone. Its n-th operation is then 1.n, which is how
-/// `get` finds it.
 #[derive(Debug, Drop)]
 pub struct History {
     ops: Vec<Op>,
+    // Where each operation stands in `ops`: that of s.n in row n - 1, at s - 1.
+    places: Vec<[usize; 8]>,
+    // How many operations of each site there are.
+    counts: Clock,
 }
 
 impl Model for History {
-    ghost use Rattle.std.specs.Prelude.{◌-◌, vec_len, vec_capacity};
-    ghost use Rattle.gf_ops.specs.HistoryState.{HistoryState, IsHistory};
+    ghost use Rattle.std.specs.Prelude.{◌-◌, min, vec_len, vec_capacity};
+    ghost use Rattle.gf_ops.specs.HistoryIndex.{IsHistory};
+    ghost use Rattle.gf_ops.specs.HistoryState.{HistoryState};
 
     ghost Value = { HistoryState };
 
-    ghost view = { λ h. record { ops = h.ops.items; room = vec_capacity h.ops - vec_len h.ops } };
+    ghost view = { λ h. record { ops = h.ops.items; room = min (vec_capacity h.ops - vec_len h.ops) (vec_capacity h.places - vec_len h.places) } };
 
-    ghost invariant = { λ h. IsHistory h.ops.items };
+    ghost invariant = { λ h. IsHistory h.ops.items h.places.items h.counts };
 }
 
 impl History {
@@ -40,16 +45,20 @@ impl History {
     {
         History {
             ops: Vec::new(alloc),
+            places: Vec::new(alloc),
+            counts: Clock([0; 8]),
         }
     }
 
     /// How many operations of this site it has.
-    #[tactic(auto, using(crate::proofs::HistoryLemmas::short, crate::proofs::HistoryLemmas::count_one, crate::proofs::HistoryLemmas::count_other))]
     pub fn count(&self, site: u8) -> u32
         ensures { result ≡ count_of self.now.ops site }
     {
-        let count = self.ops.len() as u32;
-        if site == 1 { count } else { 0 }
+        if 1 <= site && site <= 8 {
+            self.counts.0[usize::from(site) - 1]
+        } else {
+            0
+        }
     }
 
     /// The operation under this id. It takes constant time.
@@ -58,8 +67,9 @@ impl History {
         ensures none { IfNone result ((op : Op) → Contains self.now.ops op → op.id ≢ id) }
     {
         let ops = &self.ops;
-        if id.site == 1 && id.seq != 0 {
-            ops.get(id.seq as usize - 1)
+        if 1 <= id.seq && id.seq <= self.count(id.site) {
+            let row = &self.places[id.seq as usize - 1];
+            ops.get(row[usize::from(id.site) - 1])
         } else {
             None
         }
@@ -73,21 +83,83 @@ impl History {
         &self.ops
     }
 
-    /// Whether the operation may be added now. It takes constant time.
-    #[tactic(auto, using(crate::proofs::HistoryLemmas::short, crate::proofs::HistoryLemmas::accepted_nth))]
+    /// Whether the operation may be added now, with the first of its faults. It takes a look at the
+    /// last operation of each site that it knows.
     pub fn check(&self, op: &Op) -> Result<(), OpFault>
         requires { IsInRange op.now }
-        ensures { IsOk result ↔ IsAccepted self.now.ops op.now }
+        ensures ok { IsOk result ↔ IsAccepted self.now.ops op.now }
+        ensures bad_clock { result ≡ Err OpFault.BadClock ↔ (¬ IsNext self.now.ops op.now) }
+        ensures no_object { result ≡ Err OpFault.NoObject ↔ (IsNext self.now.ops op.now × (¬ IsFounded self.now.ops op.now op.now.change)) }
+        ensures wrong_kind { result ≡ Err OpFault.WrongKind ↔ (IsNext self.now.ops op.now × IsFounded self.now.ops op.now op.now.change × (¬ IsSuited self.now.ops op.now op.now.change)) }
     {
-        let count = self.ops.len() as u32;
-        let next = OpId {
-            site: 1,
-            seq: count + 1,
-        };
-        if op.id == next && op.past == Clock([count, 0, 0, 0, 0, 0, 0, 0]) {
-            Ok(())
+        if self.is_next(op) {
+            self.check_change(op)
         } else {
             Err(OpFault::BadClock)
+        }
+    }
+
+    /// Whether it is the next operation of its site.
+    fn is_next(&self, op: &Op) -> bool
+        requires { IsInRange op.now }
+        ensures { IsTrue result ↔ IsNext self.now.ops op.now }
+    {
+        let count = self.count(op.id.site);
+        op.id.seq == count + 1
+            && op.past.0[usize::from(op.id.site) - 1] == count
+            && is_within(&op.past, &self.counts)
+            && self.is_closed(op)
+    }
+
+    /// Whether it knows all that the operations that it knows knew. The pasts of a site only grow, so
+    /// the last of each site decides.
+    fn is_closed(&self, op: &Op) -> bool
+        requires within { CountsAtMost op.now.past self.now.ops }
+        ensures { IsTrue result ↔ ((b : Op) → Contains self.now.ops b → Precedes b op.now → IsWithin b.past op.now.past) }
+    {
+        for site in 1..9 {
+            let seq = op.past.0[usize::from(site) - 1];
+            if let Some(last) = self.get(OpId { site, seq }) {
+                if !is_within(&last.past, &op.past) {
+                    return false;
+                }
+            }
+        }
+        true
+    }
+
+    /// Whether the operation makes an object, or knows the one that it changes, and its value suits.
+    fn check_change(&self, op: &Op) -> Result<(), OpFault>
+        requires { IsInRange op.now }
+        ensures ok { IsOk result ↔ IsSuited self.now.ops op.now op.now.change }
+        ensures no_object { result ≡ Err OpFault.NoObject ↔ (¬ IsFounded self.now.ops op.now op.now.change) }
+        ensures wrong_kind { result ≡ Err OpFault.WrongKind ↔ (IsFounded self.now.ops op.now op.now.change × (¬ IsSuited self.now.ops op.now op.now.change)) }
+        ensures clock { result ≢ Err OpFault.BadClock }
+    {
+        let Change::Set { object, value } = &op.change else {
+            return Ok(());
+        };
+        match self.known_form(op, *object) {
+            Some(form) if suits(form, value) => Ok(()),
+            Some(_) => Err(OpFault::WrongKind),
+            None => Err(OpFault::NoObject),
+        }
+    }
+
+    /// The form that the object was made with, if the operation knows that.
+    fn known_form(&self, op: &Op, object: ObjectId) -> Option<&Form>
+        requires { IsInRange op.now }
+        ensures found { IfSome result (λ form. Knows self.now.ops op.now object (kind_of form.now)) }
+        ensures none { IfNone result (¬ KnowsSome self.now.ops op.now object) }
+    {
+        let ops = &self.ops;
+        let maker = self.get(object.0)?;
+        if !before(maker, op) {
+            return None;
+        }
+        match &maker.change {
+            Change::Create(start) => Some(&start.form),
+            Change::Set { .. } => None,
         }
     }
 
@@ -99,6 +171,7 @@ impl History {
         ensures err { OnErr result (self.new ≡ self.old) }
     {
         self.ops.reserve(1)?;
+        self.places.reserve(1)?;
         Ok(())
     }
 
@@ -106,7 +179,9 @@ impl History {
     pub fn add(&mut self, op: Op) -> Result<(), AddFault>
         requires { IsInRange op }
         ensures ok { OnOk result (IsAccepted self.old.ops op × (self.new.ops ≡ self.old.ops ++ op ∷ [])) }
-        ensures bad_clock { result ≡ Err (AddFault.Op OpFault.BadClock) ↔ (¬ IsAccepted self.old.ops op) }
+        ensures bad_clock { result ≡ Err (AddFault.Op OpFault.BadClock) ↔ (¬ IsNext self.old.ops op) }
+        ensures no_object { result ≡ Err (AddFault.Op OpFault.NoObject) ↔ (IsNext self.old.ops op × (¬ IsFounded self.old.ops op op.change)) }
+        ensures wrong_kind { result ≡ Err (AddFault.Op OpFault.WrongKind) ↔ (IsNext self.old.ops op × IsFounded self.old.ops op op.change × (¬ IsSuited self.old.ops op op.change)) }
         ensures out_of_memory { result ≡ Err AddFault.OutOfMemory → IsAccepted self.old.ops op × (self.old.room ≡ 0) }
         ensures err { OnErr result (self.new ≡ self.old) }
         ensures valid { IsValid self.new.ops }
@@ -114,10 +189,52 @@ impl History {
         if let Err(fault) = self.check(&op) {
             return Err(AddFault::Op(fault));
         }
-        if self.ops.reserve(1).is_err() {
+        if self.room().is_err() {
             return Err(AddFault::OutOfMemory);
         }
-        self.ops.push_reserved(op);
+        self.push(op);
         Ok(())
+    }
+
+    /// Appends an operation that `check` accepted.
+    fn push(&mut self, op: Op)
+        requires in_range { IsInRange op }
+        requires accepted { IsAccepted self.old.ops op }
+        requires room { 0 < self.old.room }
+        ensures ops { self.new.ops ≡ self.old.ops ++ op ∷ [] }
+        ensures valid { IsValid self.new.ops }
+    {
+        let row = op.id.seq as usize - 1;
+        if row == self.places.len() {
+            self.places.push_reserved([0; 8]);
+        }
+        let site = usize::from(op.id.site) - 1;
+        self.places[row][site] = self.ops.len();
+        self.counts.0[site] = op.id.seq;
+        self.ops.push_reserved(op);
+    }
+}
+
+/// Whether no entry of `past` is above that of `clock`.
+fn is_within(past: &Clock, clock: &Clock) -> bool
+    ensures { IsTrue result ↔ IsWithin past.now clock.now }
+{
+    for site in 0..8 {
+        if clock.0[site] < past.0[site] {
+            return false;
+        }
+    }
+    true
+}
+
+/// Whether objects of this form have such a value.
+fn suits(form: &Form, value: &Value) -> bool
+    ensures { result ≡ suits (kind_of form.now) value.now }
+{
+    match (form, value) {
+        (Form::Rect(_, _) | Form::Circle(_), Value::Points(_)) => false,
+        (Form::Polygon(_), Value::Size(_, _)) => false,
+        (Form::Circle(_), Value::Size(width, height)) => width == height,
+        _ => true,
     }
 }

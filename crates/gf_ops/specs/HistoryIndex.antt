@@ -1,0 +1,32 @@
+-- How a history finds its operations. No public clause cites this module.
+use Rattle.std.specs.Prelude.{◌≡◌, ℕ, ◌-◌, ◌<◌, ◌≤◌, List, [], length, slice_index, slice_index_or, Contains}
+use Rattle.gf_ops.specs.declared.op.Op.{Op}
+use Rattle.gf_ops.specs.declared.op.OpId.{OpId}
+use Rattle.gf_ops.specs.declared.op.Clock.{Clock}
+use Rattle.gf_ops.specs.OperationOrder.{IsSite, entry, count_of}
+use Rattle.gf_ops.specs.ValidHistory.{IsValid}
+
+-- the number that the rows tell for the id i
+abbrev pub place : List (List ℕ) → OpId → ℕ
+place rows i = slice_index (slice_index_or rows (i.seq - 1) []) (i.site - 1)
+
+-- it is the place in h of the operation under i
+pub record IsPlaced (h : List Op) (rows : List (List ℕ)) (i : OpId) : Type 0 where
+  pub row : i.seq - 1 < length rows
+  pub op : Op
+  pub within : place rows i < length h
+  pub there : slice_index_or h (place rows i) op ≡ op
+  pub id : op.id ≡ i
+
+-- what every history keeps: it is valid; the clock counts its operations, which have the numbers from 1 to the count of their site;
+-- and the rows tell their places
+pub record IsHistory (h : List Op) (rows : List (List ℕ)) (counts : Clock) : Type 0 where
+  pub valid : IsValid h
+  pub counted : (s : ℕ) → IsSite s → entry counts s ≡ count_of h s
+  pub reached : (a : Op) → Contains h a → a.id.seq ≤ count_of h a.id.site
+  pub wide : (k : ℕ) → k < length rows → length (slice_index_or rows k []) ≡ 8
+  pub placed : (i : OpId) → IsSite i.site → 1 ≤ i.seq → i.seq ≤ count_of h i.site → IsPlaced h rows i
+
+-- the clock counts no operation that h lacks
+abbrev pub CountsAtMost : Clock → List Op → Type 0
+CountsAtMost c h = (s : ℕ) → IsSite s → entry c s ≤ count_of h s
