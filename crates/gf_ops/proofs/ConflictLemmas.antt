@@ -1,7 +1,6 @@
 -- The tests of conflicts tell conflicts, and conflicts are symmetric.
-use Rattle.std.proofs.Common.{◌≡◌, ◌≢◌, ℕ, Bool, true, false, not, ◌&&◌, ◌==◌, List, Some, None, Option, refl, sym, ap, subst, ◌∙◌, true≢false, inl, inr}
-use Rattle.std.specs.Prelude.{IsTrue, ◌↔◌}
-use Rattle.std.specs.Bool.{Decides, beq}
+use Rattle.std.proofs.Common.{◌≡◌, ◌≢◌, true, ◌&&◌, ◌==◌, Some, None, Option, refl, sym, ap, subst, ◌∙◌, true≢false, inl, inr}
+use Rattle.std.specs.Bool.{Decides}
 use Rattle.std.specs.Cmp.{booleans_Decides}
 use Rattle.std.specs.Ordering.{int_eq}
 use Rattle.std.proofs.lemmas.Bool.{and_parts, cases_Bool}

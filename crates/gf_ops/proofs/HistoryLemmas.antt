@@ -1,5 +1,5 @@
 -- What holds of every history.
-use Rattle.std.proofs.Common.{◌≡◌, ◌≢◌, ℕ, ◌+◌, ◌-◌, ◌≤◌, ◌<◌, Bool, true, false, cond, ◌&&◌, List, [], ◌∷◌, ◌++◌, length, get_or, refl, ap, sym, subst, ◌∙◌, arith, rules, inl, inr}
+use Rattle.std.proofs.Common.{◌≡◌, ◌≢◌, ℕ, ◌-◌, ◌≤◌, ◌<◌, Bool, true, false, cond, ◌&&◌, List, [], ◌∷◌, length, get_or, refl, ap, sym, subst, ◌∙◌, arith, rules, inl, inr, true≢false}
 use Rattle.std.specs.Borrow.{Bor}
 use Rattle.std.specs.Prelude.{◌⊎◌, IfSome, IfNone, IsSome, All, Contains, Option, Some, None, IsTrue, slice_index, slice_index_or, count_by, nat_eq}
 use Rattle.std.proofs.lemmas.Bool.{cases_lt}
@@ -10,11 +10,17 @@ use Rattle.std.proofs.lemmas.List.{get_or_default}
 use Rattle.gf_ops.specs.declared.op.Op.{Op}
 use Rattle.gf_ops.specs.declared.op.OpId.{OpId}
 use Rattle.gf_ops.specs.declared.op.Clock.{Clock}
+use Rattle.gf_ops.specs.declared.op.ObjectId.{ObjectId}
+use Rattle.gf_ops.specs.declared.change.Change.TheVariants.{Set}
+use Rattle.gf_ops.specs.declared.change.Value.{Value}
+use Rattle.gf_ops.specs.Attribute.{Kind, made_kind, suits}
+use Rattle.gf_ops.specs.Accepted.{CountsAtMost}
 use Rattle.gf_ops.specs.HistoryIndex.{place, IsHistory}
-use Rattle.gf_ops.specs.Limits.{is_site, is_id, is_clock, is_change, IsInRange}
-use Rattle.gf_ops.specs.OperationOrder.{IsSite, entry, count_of}
-use Rattle.gf_ops.specs.ValidHistory.{IsValid}
-use Rattle.gf_ops.proofs.ValidityLemmas.{Holds}
+use Rattle.gf_ops.specs.KnownObject.{Knows, KnowsSome, KnowsSuited}
+use Rattle.gf_ops.specs.Limits.{is_id, is_clock, is_change, IsInRange}
+use Rattle.gf_ops.specs.OperationOrder.{IsSite, Precedes, count_of}
+use Rattle.gf_ops.specs.ValidHistory.{IsWithin, IsValid}
+use Rattle.gf_ops.proofs.ValidityLemmas.{Holds, closed_by_last, same_op}
 
 -- ---- limits
 
@@ -104,3 +110,51 @@ found_under h i k (Some o) op l at d e = let f : o.now ≡ op = e ∙ (get_or_de
 pub found_some : (A : Type 0) (r : Option (Bor Op)) → IsSome r → IfNone r A
 found_some A None s = absurd cc
 found_some A (Some o) s = tt
+
+-- ---- the object that an operation changes
+
+-- an operation knows an object as one of one kind
+one_kind : (h : List Op) → IsValid h → (a : Op) (o : ObjectId) (k l : Kind) → Knows h a o k → Knows h a o l → k ≡ l
+one_kind h valid a o k l x y =
+    let same = same_op h valid x.maker y.maker x.contained y.contained (x.id ∙ sym y.id) in
+    let e : Some k ≡ Some l = sym x.kind ∙ (ap (λ (b : Op). made_kind b.change) same ∙ y.kind) in cc
+
+pub not_suited : (h : List Op) → IsValid h → (a : Op) (o : ObjectId) (k : Kind) (v : Value) → Knows h a o k → suits k v ≡ false → ¬ (KnowsSuited h a o v)
+not_suited h valid a o k v x off s = let e = one_kind h valid a o k s.kind x s.known in absurd (true≢false (sym s.suited ∙ (ap (λ j. suits j v) (sym e) ∙ off)))
+
+-- what was set was not made
+pub not_made : (h : List Op) → IsValid h → (a maker : Op) (o p : ObjectId) (v : Value) → Contains h maker → maker.id ≡ o.0 → maker.change ≡ Set p v → ¬ (KnowsSome h a o)
+not_made h valid a maker o p v c id e s =
+    let x = s.known in
+    let same = same_op h valid x.maker maker x.contained c (x.id ∙ sym id) in
+    let none : made_kind x.maker.change ≡ None = ap (λ (b : Op). made_kind b.change) same ∙ ap made_kind e in
+    let some = x.kind in cc
+
+pub not_there : (h : List Op) (a : Op) (o : ObjectId) → ((b : Op) → Contains h b → b.id ≢ o.0) → ¬ (KnowsSome h a o)
+not_there h a o none s = none s.known.maker s.known.contained s.known.id
+
+pub none_told : {X : Type 0} (A : Type 0) (r : Option X) → A → IfNone r A
+none_told A None a = a
+none_told A (Some x) a = tt
+
+-- ---- what the operations that an operation knows knew
+
+module _ (h : List Op) (a b : Op) (s j : ℕ) (from : j ≡ s) (there : Contains h b) (before : Precedes b a) (site : b.id.site ≡ s) where
+  -- the last operation of the site of b that a knows decides for b
+  pub closed_by_found : IsValid h → (last : Op) → Contains h last → last.id ≡ record { site = s; seq = slice_index a.past.0 (j - 1) } → IsWithin last.past a.past → IsWithin b.past a.past
+  closed_by_found valid last c id within =
+      let known : last.id.site ≡ s = ap (λ (i : OpId). i.site) id in
+      let number : last.id.seq ≡ slice_index a.past.0 (j - 1) = ap (λ (i : OpId). i.seq) id in
+      let range = valid.in_range b there in
+      closed_by_last h valid a last b c (rw (known, ← from) number) within there (site_in_range b range) (seq_in_range b range).0 (site ∙ sym known) before
+
+  -- and there is one
+  pub closed_by_none : (rows : List (List ℕ)) (counts : Clock) → IsHistory h rows counts → CountsAtMost a.past h → ((op : Op) → Contains h op → op.id ≢ record { site = s; seq = slice_index a.past.0 (j - 1) }) → ⊥
+  closed_by_none rows counts t within none =
+      let range = t.valid.in_range b there in
+      let is : IsSite s = subst IsSite site (site_in_range b range) in
+      let first = (seq_in_range b range).0 in
+      let last : b.id.seq ≤ slice_index a.past.0 (s - 1) = rw site at before in
+      let most = within s is in
+      let holds = has_counted h rows counts t (record { site = s; seq = slice_index a.past.0 (j - 1) }) is (rw from (omega arith)) (rw from most) in
+      none holds.op holds.contained holds.id

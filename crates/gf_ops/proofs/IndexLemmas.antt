@@ -1,9 +1,9 @@
 -- The index of a history tells the places with one more operation behind it, too.
-use Rattle.std.proofs.Common.{◌≡◌, ◌≢◌, ℕ, ◌+◌, ◌-◌, ◌≤◌, ◌<◌, Bool, true, false, cond, List, [], ◌∷◌, ◌++◌, length, get_or, set, replicate, refl, ap, sym, subst, ◌∙◌, arith, inl, inr}
-use Rattle.std.specs.Prelude.{◌⊎◌, Contains, slice_index, nat_eq, count_by, sum_by}
+use Rattle.std.proofs.Common.{◌≡◌, ◌≢◌, ℕ, ◌+◌, ◌-◌, ◌≤◌, ◌<◌, cond, List, [], ◌∷◌, ◌++◌, length, get_or, set, replicate, refl, ap, sym, subst, ◌∙◌, arith, inl, inr}
+use Rattle.std.specs.Prelude.{◌⊎◌, Contains, slice_index, nat_eq}
 use Rattle.std.proofs.lemmas.Bool.{cases_eq, cases_lt, eq-eqb}
 use Rattle.std.proofs.lemmas.Bool.Decides.{eqb_tells}
-use Rattle.std.proofs.lemmas.List.{get_or_default, get_or_append_left, get_or-set_same, get_or-set_other, get_or_push, length-set, length-append, length-replicate}
+use Rattle.std.proofs.lemmas.List.{get_or_default, get_or_append_left, get_or-set_same, get_or-set_other, get_or_push, length-set, length-append}
 use Rattle.std.proofs.lemmas.List.Elements.{Contains-push_cases}
 use Rattle.std.proofs.lemmas.List.Sums.{sum_by-append, sum_by-cons}
 use Rattle.gf_ops.specs.declared.op.Op.{Op}
@@ -12,8 +12,8 @@ use Rattle.gf_ops.specs.declared.op.Clock.{Clock}
 use Rattle.gf_ops.specs.Accepted.{IsAccepted}
 use Rattle.gf_ops.specs.HistoryIndex.{place, IsPlaced, IsHistory}
 use Rattle.gf_ops.specs.Limits.{IsInRange}
-use Rattle.gf_ops.specs.OperationOrder.{IsSite, entry, count_of}
-use Rattle.gf_ops.proofs.HistoryLemmas.{site_in_range, seq_in_range, has_counted}
+use Rattle.gf_ops.specs.OperationOrder.{IsSite, count_of}
+use Rattle.gf_ops.proofs.HistoryLemmas.{site_in_range, has_counted}
 use Rattle.gf_ops.proofs.ValidityLemmas.{IsValid-push}
 
 -- ---- rows
@@ -71,7 +71,6 @@ count-push_other h a s n = elim (eqb_tells a.id.site s) [
 
 module _ (h : List Op) (rows : List (List ℕ)) (counts : Clock) (a : Op) (row : List ℕ) (t : IsHistory h rows counts) (r : IsInRange a) (p : IsAccepted h a)
     (eight : length counts.0 ≡ 8) (l : a.id.seq - 1 < length rows) (e : row ≡ get_or rows (a.id.seq - 1) row) where
-
   abbrev grown : List (List ℕ)
   grown = set rows (a.id.seq - 1) (set row (a.id.site - 1) (length h))
 
@@ -113,7 +112,7 @@ module _ (h : List Op) (rows : List (List ℕ)) (counts : Clock) (a : Op) (row :
 
   all_placed : (i : OpId) → IsSite i.site → 1 ≤ i.seq → i.seq ≤ count_of (h ++ a ∷ []) i.site → IsPlaced (h ++ a ∷ []) grown i
   all_placed i s f c =
-      let site = site_in_range a r in let least = site.0 in let low = s.0 in let seq = p.next.seq in
+      let site = site_in_range a r in let least = site.0 in let low = s.0 in let seq = p.next.numbered.seq in
       elim (cases_eq i.site a.id.site) [
         | inl q ↦ elim (cases_eq i.seq a.id.seq) [
           | inl u ↦ last_placed i (λ j. record { site = q j; seq = u j })
@@ -132,14 +131,14 @@ module _ (h : List Op) (rows : List (List ℕ)) (counts : Clock) (a : Op) (row :
   all_counted s i =
       let site = site_in_range a r in let least = site.0 in let most = site.1 in let low = i.0 in
       elim (cases_eq s a.id.site) [
-        | inl q ↦ rw (q, get_or-set_same counts.0 (a.id.site - 1) a.id.seq 0 (omega arith), count-push_same h a a.id.site refl) p.next.seq
+        | inl q ↦ rw (q, get_or-set_same counts.0 (a.id.site - 1) a.id.seq 0 (omega arith), count-push_same h a a.id.site refl) p.next.numbered.seq
         | inr q ↦ rw (get_or-set_other counts.0 (a.id.site - 1) (s - 1) a.id.seq 0 (λ v. q (omega arith)), count-push_other h a s q) (t.counted s i)
       ]
 
   all_reached : (b : Op) → Contains (h ++ a ∷ []) b → b.id.seq ≤ count_of (h ++ a ∷ []) b.id.site
   all_reached b m = elim (Contains-push_cases h a b m) [
     | inl k ↦ let n = t.reached b k in let c = count-push h a b.id.site in omega arith
-    | inr q ↦ subst (λ (x : Op). x.id.seq ≤ count_of (h ++ a ∷ []) x.id.site) q (let c = count-push_same h a a.id.site refl in let n = p.next.seq in omega arith)
+    | inr q ↦ subst (λ (x : Op). x.id.seq ≤ count_of (h ++ a ∷ []) x.id.site) q (let c = count-push_same h a a.id.site refl in let n = p.next.numbered.seq in omega arith)
   ]
 
   all_wide : (k : ℕ) → k < length grown → length (get_or grown k []) ≡ 8
@@ -153,7 +152,7 @@ module _ (h : List Op) (rows : List (List ℕ)) (counts : Clock) (a : Op) (row :
   -- the next operation has a new id
   is_new : (b : Op) → Contains h b → b.id ≢ a.id
   is_new b m q =
-      let n = t.reached b m in let s = p.next.seq in
+      let n = t.reached b m in let s = p.next.numbered.seq in
       let site : b.id.site ≡ a.id.site = ap (λ (i : OpId). i.site) q in
       let seq : b.id.seq ≡ a.id.seq = ap (λ (i : OpId). i.seq) q in
       let k = rw site at n in absurd (omega arith)

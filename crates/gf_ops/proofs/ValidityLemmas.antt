@@ -1,5 +1,5 @@
 -- Valid histories: what they keep, and that they stay valid with one more operation behind them.
-use Rattle.std.proofs.Common.{◌≡◌, ◌≢◌, ℕ, ◌+◌, ◌≤◌, List, [], ◌∷◌, ◌++◌, get_or, subst, sym, ap, ◌∙◌, arith, inl, inr}
+use Rattle.std.proofs.Common.{◌≡◌, ◌≢◌, ◌+◌, ◌≤◌, List, [], ◌∷◌, ◌++◌, get_or, subst, sym, ap, ◌∙◌, arith, inl, inr}
 use Rattle.std.specs.Prelude.{Contains}
 use Rattle.std.proofs.lemmas.Bool.{cases_eq, cases_order}
 use Rattle.std.proofs.lemmas.List.{get_or_default}
@@ -12,7 +12,7 @@ use Rattle.gf_ops.specs.declared.change.Change.{Change}
 use Rattle.gf_ops.specs.declared.change.Change.TheVariants.{Create, Set}
 use Rattle.gf_ops.specs.KnownObject.{IsSuited}
 use Rattle.gf_ops.specs.Limits.{IsInRange}
-use Rattle.gf_ops.specs.OperationOrder.{IsSite, entry, count_of}
+use Rattle.gf_ops.specs.OperationOrder.{IsSite, Precedes, entry, count_of}
 use Rattle.gf_ops.specs.ValidHistory.{IsWithin, Counts, Has, IsValid}
 use Rattle.gf_ops.specs.Accepted.{IsNext}
 
@@ -39,10 +39,7 @@ suited_before h a b (Set o v) s =
 
 -- the next operation knows no operation that h lacks
 counted : (h : List Op) (a : Op) (i : OpId) → IsNext h a → Counts a.past i → i.seq ≤ count_of h i.site
-counted h a i next c = elim (cases_eq i.site a.id.site) [
-  | inl e ↦ let n = next.seq in let o = next.own in let l = c.last in rw e (let m : i.seq ≤ entry a.past a.id.site = rw (← e) l in omega arith)
-  | inr n ↦ let o = next.others i.site c.site n in let l = c.last in omega arith
-]
+counted h a i next c = let most = next.known i.site c.site in let last = c.last in omega arith
 
 -- an operation that the next one knows is there, with all that it knows
 next_closed : (h : List Op) (a : Op) (i : OpId) → IsNext h a → Counts a.past i → Holds h i → Has h a.past i
@@ -63,7 +60,7 @@ IsValid-push h a valid in_range next suited fresh known = record {
   distinct = all_pairs_push (λ x y. x.id ≢ y.id) h a valid.distinct (λ k d l. fresh (get_or h k d) (Contains-get_or h k d l));
   own = λ b m. elim (Contains-push_cases h a b m) [
     | inl k ↦ valid.own b k
-    | inr e ↦ subst (λ (x : Op). entry x.past x.id.site + 1 ≡ x.id.seq) e next.own
+    | inr e ↦ subst (λ (x : Op). entry x.past x.id.site + 1 ≡ x.id.seq) e next.numbered.own
   ];
   closed = λ b m i c. elim (Contains-push_cases h a b m) [
     | inl k ↦ has_before h a b.past i (valid.closed b k i c)
@@ -98,3 +95,22 @@ pasts_grow h valid a b x y site is first last = elim (cases_eq a.id.seq b.id.seq
       let has = valid.closed b y a.id (record { site = is; first = first; last = known }) in
       subst (λ (c : Op). IsWithin c.past b.past) (same_op h valid has.op a has.contained x has.id) has.past
 ]
+
+-- no operation comes before itself
+pub precedes_irreflexive : (h : List Op) → IsValid h → (a : Op) → Contains h a → ¬ (Precedes a a)
+precedes_irreflexive h valid a x before = let own = valid.own a x in absurd (omega arith)
+
+-- and each knows what those that it knows knew
+pub precedes_transitive : (h : List Op) → IsValid h → (a b c : Op) → Contains h b → Contains h c → IsSite a.id.site → IsSite b.id.site → 1 ≤ b.id.seq → Precedes a b → Precedes b c → Precedes a c
+precedes_transitive h valid a b c y z site other first before after =
+    let has = valid.closed c z b.id (record { site = other; first = first; last = after }) in
+    let grown = subst (λ (d : Op). IsWithin d.past c.past) (same_op h valid has.op b has.contained y has.id) has.past a.id.site site in
+    omega arith
+
+-- where the last operation of a site that a knows knew no more than a, no operation of that site that a knows did
+pub closed_by_last : (h : List Op) → IsValid h → (a last b : Op) → Contains h last → last.id.seq ≡ entry a.past last.id.site → IsWithin last.past a.past → Contains h b → IsSite b.id.site → 1 ≤ b.id.seq →
+    b.id.site ≡ last.id.site → Precedes b a → IsWithin b.past a.past
+closed_by_last h valid a last b x seq within y site first same before s i =
+    let known = rw same at before in
+    let grown = pasts_grow h valid b last y x same site first (omega arith) s i in
+    let rest = within s i in omega arith

@@ -1,17 +1,29 @@
 -- Which operation may be added behind a history (this project's choice).
-use Rattle.std.specs.Prelude.{◌≡◌, ◌≢◌, ℕ, ◌+◌, ◌≤◌, List, [], ◌∷◌, ◌++◌, Contains}
+use Rattle.std.specs.Prelude.{◌≡◌, ℕ, ◌+◌, ◌≤◌, List, [], ◌∷◌, ◌++◌, Contains}
 use Rattle.gf_ops.specs.declared.op.Op.{Op}
-use Rattle.gf_ops.specs.KnownObject.{IsFounded, IsSuited}
+use Rattle.gf_ops.specs.declared.op.Clock.{Clock}
+use Rattle.gf_ops.specs.KnownObject.{IsSuited}
 use Rattle.gf_ops.specs.OperationOrder.{IsSite, entry, count_of, Precedes}
 use Rattle.gf_ops.specs.ValidHistory.{IsWithin}
 
--- a is the next operation of its site behind h: it has the next number, knows all of its site before it, of other sites
--- only what h has, and all that those that it knows knew
-pub record IsNext (h : List Op) (a : Op) : Type 0 where
+-- clock c counts no operation that h lacks
+abbrev pub CountsAtMost : Clock → List Op → Type 0
+CountsAtMost c h = (s : ℕ) → IsSite s → entry c s ≤ count_of h s
+
+-- a has the next number of its site behind h, and knows all of its site before it
+pub record IsNumbered (h : List Op) (a : Op) : Type 0 where
   pub seq : a.id.seq ≡ count_of h a.id.site + 1
   pub own : entry a.past a.id.site + 1 ≡ a.id.seq
-  pub others : (s : ℕ) → IsSite s → s ≢ a.id.site → entry a.past s ≤ count_of h s
-  pub closed : (b : Op) → Contains h b → Precedes b a → IsWithin b.past a.past
+
+-- a knows all that those operations of h knew that it knows
+abbrev pub IsClosed : List Op → Op → Type 0
+IsClosed h a = (b : Op) → Contains h b → Precedes b a → IsWithin b.past a.past
+
+-- a is the next operation of its site behind h: it has the next number, knows no more than h has, and all that those knew
+pub record IsNext (h : List Op) (a : Op) : Type 0 where
+  pub numbered : IsNumbered h a
+  pub known : CountsAtMost a.past h
+  pub closed : IsClosed h a
 
 -- a may be added behind h: it is the next operation of its site, and makes an object or gives one that it knows a value that suits it
 pub record IsAccepted (h : List Op) (a : Op) : Type 0 where

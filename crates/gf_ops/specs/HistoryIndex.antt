@@ -26,7 +26,3 @@ pub record IsHistory (h : List Op) (rows : List (List ℕ)) (counts : Clock) : T
   pub reached : (a : Op) → Contains h a → a.id.seq ≤ count_of h a.id.site
   pub wide : (k : ℕ) → k < length rows → length (slice_index_or rows k []) ≡ 8
   pub placed : (i : OpId) → IsSite i.site → 1 ≤ i.seq → i.seq ≤ count_of h i.site → IsPlaced h rows i
-
--- the clock counts no operation that h lacks
-abbrev pub CountsAtMost : Clock → List Op → Type 0
-CountsAtMost c h = (s : ℕ) → IsSite s → entry c s ≤ count_of h s

@@ -1,5 +1,8 @@
 //! What an operation changes.
 
+ghost use Rattle.std.specs.Prelude.{◌≡◌};
+ghost use Rattle.gf_ops.specs.Attribute.{attribute_of};
+
 use crate::{ObjectId, Points};
 use gf_shape::{Point, Rgb};
 
@@ -54,4 +57,20 @@ pub enum Change {
     Create(Start),
     /// Gives an attribute of the object this value.
     Set { object: ObjectId, value: Value },
+}
+
+impl Value {
+    /// The attribute that it is a value of.
+    pub fn attribute(&self) -> Attr
+        ensures { result ≡ attribute_of self.now }
+    {
+        match self {
+            Value::Place(_) => Attr::Place,
+            Value::Points(_) => Attr::Points,
+            Value::Size(_, _) => Attr::Size,
+            Value::Colour(_) => Attr::Colour,
+            Value::Layer(_) => Attr::Layer,
+            Value::Shown(_) => Attr::Shown,
+        }
+    }
 }

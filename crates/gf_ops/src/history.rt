@@ -3,12 +3,11 @@
 ghost use Rattle.std.specs.Prelude.{◌≡◌, ◌≢◌, ◌<◌, ◌↔◌, ◌++◌, ◌∷◌, [], Contains, IsTrue, Ok, Err, IsOk, IfSome, IfNone, OnOk, OnErr};
 ghost use Rattle.gf_ops.specs.declared.op.Op.{Op};
 ghost use Rattle.gf_ops.specs.declared.history.History.{History};
-ghost use Rattle.gf_ops.specs.Accepted.{IsNext, IsAccepted};
+ghost use Rattle.gf_ops.specs.Accepted.{CountsAtMost, IsNumbered, IsClosed, IsNext, IsAccepted};
 ghost use Rattle.gf_ops.specs.Attribute.{kind_of, suits};
-ghost use Rattle.gf_ops.specs.HistoryIndex.{CountsAtMost};
 ghost use Rattle.gf_ops.specs.KnownObject.{Knows, KnowsSome, IsFounded, IsSuited};
 ghost use Rattle.gf_ops.specs.Limits.{IsInRange};
-ghost use Rattle.gf_ops.specs.OperationOrder.{count_of, Precedes};
+ghost use Rattle.gf_ops.specs.OperationOrder.{count_of};
 ghost use Rattle.gf_ops.specs.ValidHistory.{IsWithin, IsValid};
 
 use crate::{AddFault, Change, Clock, Form, ObjectId, Op, OpFault, OpId, Value, before};
@@ -104,19 +103,32 @@ impl History {
         requires { IsInRange op.now }
         ensures { IsTrue result ↔ IsNext self.now.ops op.now }
     {
-        let count = self.count(op.id.site);
-        op.id.seq == count + 1
-            && op.past.0[usize::from(op.id.site) - 1] == count
-            && is_within(&op.past, &self.counts)
-            && self.is_closed(op)
+        self.is_numbered(op) && self.has_known(&op.past) && self.is_closed(op)
+    }
+
+    /// Whether it has the next number of its site, and knows all of its site before it.
+    fn is_numbered(&self, op: &Op) -> bool
+        requires { IsInRange op.now }
+        ensures { IsTrue result ↔ IsNumbered self.now.ops op.now }
+    {
+        let before = op.id.seq - 1;
+        before == self.count(op.id.site) && before == op.past.0[usize::from(op.id.site) - 1]
+    }
+
+    /// Whether it has all that the clock counts.
+    fn has_known(&self, clock: &Clock) -> bool
+        ensures { IsTrue result ↔ CountsAtMost clock.now self.now.ops }
+    {
+        is_within(clock, &self.counts)
     }
 
     /// Whether it knows all that the operations that it knows knew. The pasts of a site only grow, so
     /// the last of each site decides.
     fn is_closed(&self, op: &Op) -> bool
         requires within { CountsAtMost op.now.past self.now.ops }
-        ensures { IsTrue result ↔ ((b : Op) → Contains self.now.ops b → Precedes b op.now → IsWithin b.past op.now.past) }
+        ensures { IsTrue result ↔ IsClosed self.now.ops op.now }
     {
+        let _ = &self.ops;
         for site in 1..9 {
             let seq = op.past.0[usize::from(site) - 1];
             if let Some(last) = self.get(OpId { site, seq }) {
@@ -136,6 +148,7 @@ impl History {
         ensures wrong_kind { result ≡ Err OpFault.WrongKind ↔ (IsFounded self.now.ops op.now op.now.change × (¬ IsSuited self.now.ops op.now op.now.change)) }
         ensures clock { result ≢ Err OpFault.BadClock }
     {
+        let _ = &self.ops;
         let Change::Set { object, value } = &op.change else {
             return Ok(());
         };
@@ -152,7 +165,7 @@ impl History {
         ensures found { IfSome result (λ form. Knows self.now.ops op.now object (kind_of form.now)) }
         ensures none { IfNone result (¬ KnowsSome self.now.ops op.now object) }
     {
-        let ops = &self.ops;
+        let _ = &self.ops;
         let maker = self.get(object.0)?;
         if !before(maker, op) {
             return None;
@@ -186,6 +199,7 @@ impl History {
         ensures err { OnErr result (self.new ≡ self.old) }
         ensures valid { IsValid self.new.ops }
     {
+        let _ = &self.ops;
         if let Err(fault) = self.check(&op) {
             return Err(AddFault::Op(fault));
         }

@@ -1,10 +1,13 @@
 //! Operations on the objects of a drawing, and the history that they make.
 //!
 //! - [`Op`] with its [`OpId`], its [`Clock`] and its [`Change`]: one edit by one designer.
-//! - [`Form`] with its [`Points`], [`Start`], [`ObjectId`]: what a new object begins with, and its name.
-//! - [`before`]: the causal order of operations.
+//! - [`Start`] with its [`Form`] and [`Points`], [`ObjectId`]: what a new object begins with, and its name.
+//! - [`Value`], [`Attr`]: what a change of an object sets.
+//! - [`before`], [`concurrent`]: the causal order of operations.
+//! - [`conflicts`]: whether two operations cannot stand in one version.
 //! - [`History`]: the operations that a site has, always a valid history.
 //! - [`OpFault`], [`AddFault`]: why an operation was not added.
+//! - [`before_is_a_strict_order`], [`conflict_is_symmetric_and_irreflexive`]: the laws.
 #![tactic(auto)]
 
 mod change;
@@ -12,6 +15,7 @@ mod conflict;
 mod copying;
 mod faults;
 mod history;
+mod laws;
 mod limits;
 mod op;
 mod order;
@@ -20,9 +24,10 @@ mod points;
 mod tests;
 
 pub use change::{Attr, Change, Form, Start, Value};
+pub use conflict::conflicts;
 pub use faults::{AddFault, OpFault};
 pub use history::History;
+pub use laws::{before_is_a_strict_order, conflict_is_symmetric_and_irreflexive};
 pub use op::{Clock, ObjectId, Op, OpId};
-pub use conflict::conflicts;
 pub use order::{before, concurrent};
 pub use points::Points;

@@ -1,4 +1,4 @@
-use Rattle.std.proofs.Common.{rules, sym, arith}
+use Rattle.std.proofs.Common.{sym, arith}
 use Rattle.gf_ops.proofs.HistoryLemmas.{count_beyond}
 use Rattle.gf_ops.proofs.history.History.count.Goals.{else-site-ge1-via-then-site-ge1+else-site-le8, else-site-ge1-via-else-site-ge1}
 use Rattle.gf_ops.proofs.history.History.count.Goals as goal

@@ -1,4 +1,4 @@
-use Rattle.std.proofs.Common.{rules, refl, sym, ap, ◌∙◌, ◌≡◌, ◌≤◌, Some, inl, inr, arith}
+use Rattle.std.proofs.Common.{rules, inl, inr, arith}
 use Rattle.gf_ops.proofs.HistoryLemmas.{counted_site, place_read, row_within, not_counted, found_under, found_some}
 use Rattle.gf_ops.proofs.history.History.get.Goals.{else-id-ge1-via-then-id-ge1+else-id-count, else-id-ge1-via-else-id-ge1}
 use Rattle.gf_ops.proofs.history.History.get.Goals as goal

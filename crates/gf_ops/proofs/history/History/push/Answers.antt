@@ -9,7 +9,7 @@ use Rattle.gf_ops.proofs.history.History.push.Goals as goal
 
 pub index_mut-requires : goal.index_mut-requires
 index_mut-requires c =
-    let seq = rw (← c.self.view_is) at c.requires.accepted.next.seq in
+    let seq = rw (← c.self.view_is) at c.requires.accepted.next.numbered.seq in
     let reach = rows_reach _ _ _ c.args.op.id.site c.self.invariant (site_in_range c.args.op c.requires.in_range) in
     let len = c.len.ensures in
     elim c.if-row-len.branch [
@@ -27,7 +27,7 @@ pub invariant_of-self : goal.invariant_of-self
 invariant_of-self c =
     let inside = c.if-row-len.self-inside in
     let told = rw (← c.self.view_is) at c.requires.accepted in
-    let seq = told.next.seq in
+    let seq = told.next.numbered.seq in
     let reach = rows_reach _ _ _ c.args.op.id.site c.self.invariant (site_in_range c.args.op c.requires.in_range) in
     let history : IsHistory inside.ops.items inside.places.items inside.counts = elim c.if-row-len.branch [
       | then-row-len w ↦ rw (w.self-inside-is, w.push_reserved.ensures.items) (IsHistory-row _ _ _ c.self.invariant)
