@@ -1,16 +1,14 @@
 -- In a history where each operation makes an object of its own, the versions are those that the operations make.
-use Rattle.std.proofs.Common.{◌≡◌, ◌≢◌, List, [], ◌∷◌, map, get_or, inl, inr, refl, subst, sym, ap, ◌∙◌, arith}
-use Rattle.std.specs.Prelude.{◌↔◌, AllPairs, Contains, Some}
+use Rattle.std.proofs.Common.{◌≡◌, List, [], ◌∷◌, map, inl, inr, refl, subst, sym, ap, ◌∙◌}
+use Rattle.std.specs.Prelude.{◌↔◌, Contains, Some, IsSome}
 use Rattle.std.specs.declared.cmp.Ordering.TheVariants.{Less, Greater}
 use Rattle.std.specs.Ordering.{ordering_reverse}
 use Rattle.std.specs.List.Sorted.{IsStrictlySortedBy}
-use Rattle.std.proofs.lemmas.Bool.{cases_order}
-use Rattle.std.proofs.lemmas.List.{get_or_default}
 use Rattle.gf_ops.specs.declared.op.Op.{Op}
 use Rattle.gf_ops.specs.declared.op.OpId.{OpId}
 use Rattle.gf_ops.specs.declared.op.ObjectId.{ObjectId}
 use Rattle.gf_ops.specs.declared.change.Change.{Change}
-use Rattle.gf_ops.specs.declared.change.Change.TheVariants.{Create}
+use Rattle.gf_ops.specs.declared.change.Change.TheVariants.{Create, Set}
 use Rattle.gf_ops.specs.declared.change.Form.{Form}
 use Rattle.gf_ops.specs.declared.change.Form.TheVariants.{Rect, Circle, Polygon}
 use Rattle.gf_ops.specs.declared.change.Start.{Start}
@@ -23,33 +21,27 @@ use Rattle.gf_ops.specs.OperationOrder.{id_cmp, Precedes}
 use Rattle.gf_ops.specs.SettledValue.{IsSettled}
 use Rattle.gf_ops.specs.ValidHistory.{IsValid}
 use Rattle.gf_ops.specs.Version.{IsMember, IsOfKind, IsVersion}
+use Rattle.gf_ops.proofs.ValidityLemmas.{same_op, precedes_irreflexive}
 use Rattle.gf_versions.specs.declared.key.Version.{Version}
 use Rattle.gf_versions.specs.Created.{created, made, shown_of}
+use Rattle.gf_versions.specs.Creations.{AreCreations}
 use Rattle.gf_versions.specs.VersionOf.{IsVersionOf}
 use Rattle.gf_versions.specs.Visible.{IsVisible}
 use Rattle.gf_versions.proofs.KeyLemmas.{id_cmp_total}
 use Rattle.gf_versions.proofs.ListLemmas.{Contains-cons_cases, Contains-cons_head, Contains-cons_tail, not_Contains-nil, Contains-filter, Contains-map, Contains-map_from}
 
--- two elements with one key are one, where the keys differ
-one_by_key : {X K : Type 0} (key : X → K) (xs : List X) (a b : X) → AllPairs (λ x y. key x ≢ key y) xs → Contains xs a → Contains xs b → key a ≡ key b → a ≡ b
-one_by_key key xs a b d (i, l, e) (j, m, f) s = elim (cases_order i j) [
-  | inl k ↦ let u = get_or_default xs i a b l in let v : get_or xs i b ≡ get_or xs j b = ap (λ n. get_or xs n b) k in cc
-  | inr k ↦ elim k [
-    | inl n ↦ let g = d i j b n m in let u = get_or_default xs i a b l in absurd (g (ap key (sym u ∙ e) ∙ (s ∙ sym (ap key f))))
-    | inr n ↦ let g = d j i a n l in let u = get_or_default xs j a b m in absurd (g (ap key (u ∙ f) ∙ (sym s ∙ sym (ap key e))))
-  ]
-]
-
 -- the object that a change makes is named by its operation
-makes_its_own : (id : OpId) (change : Change) → (changed_object id change).0 ≡ id
-makes_its_own id (Create start) = refl
+makes_its_own : (id : OpId) (change : Change) → IsSome (made_kind change) → (changed_object id change).0 ≡ id
+makes_its_own id (Create start) s = refl
+makes_its_own id (Set object v) s = absurd cc
 
 pub made_object : (id : OpId) (change : Change) → (made id change).key.object.0 ≡ id
 made_object id (Create start) = refl
+made_object id (Set object v) = refl
 
 -- the operation under the id of an object is the only one on it
-pub only_on : (h : List Op) (o : ObjectId) (a : Op) → object_of a ≡ o → a.id ≡ o.0
-only_on h o a e = sym (makes_its_own a.id a.change) ∙ ap (λ (x : ObjectId). x.0) e
+only_on : (o : ObjectId) (a : Op) → IsSome (made_kind a.change) → object_of a ≡ o → a.id ≡ o.0
+only_on o a s e = sym (makes_its_own a.id a.change s) ∙ ap (λ (x : ObjectId). x.0) e
 
 -- no id is below itself
 not_below_itself : (i : OpId) → id_cmp i i ≡ Less → ⊥
@@ -65,15 +57,7 @@ one_alone i (x ∷ y ∷ g) rising has only =
     let second = only y (Contains-cons_tail x (y ∷ g) y (Contains-cons_head y g)) in
     absurd (not_below_itself i (subst (λ j. id_cmp i j ≡ Less) second (subst (λ j. id_cmp j y ≡ Less) first rising.0.0)))
 
-module _ (h : List Op) (valid : IsValid h) where
-  -- an operation of h is the only one under its id
-  same_op : (a b : Op) → Contains h a → Contains h b → a.id ≡ b.id → a ≡ b
-  same_op a b x y e = one_by_key (λ (op : Op). op.id) h a b valid.distinct x y e
-
-  -- no operation of h comes before itself
-  not_before_itself : (a : Op) → Contains h a → ¬ (Precedes a a)
-  not_before_itself a x before = let own = valid.own a x in absurd (omega arith)
-
+module _ (h : List Op) (valid : IsValid h) (creations : AreCreations h) where
   -- a version of an object has the operation that made it
   has_maker : (o : ObjectId) (g : List OpId) (version : IsVersion h o g) → ((j : OpId) → Contains g j → j ≡ version.created.op.id) → (ids : List OpId) → g ≡ ids → Contains g version.created.op.id
   has_maker o g version only [] e =
@@ -89,14 +73,14 @@ module _ (h : List Op) (valid : IsValid h) where
   alone : (o : ObjectId) (g : List OpId) (version : IsVersion h o g) → g ≡ version.created.op.id ∷ []
   alone o g version =
       let a = version.created.op in
-      let only : (j : OpId) → Contains g j → j ≡ a.id = λ j c. let m = version.members j c in sym m.id ∙ (only_on h o m.op m.object ∙ sym version.created.id) in
+      let only : (j : OpId) → Contains g j → j ≡ a.id = λ j c. let m = version.members j c in sym m.id ∙ (only_on o m.op (creations m.op m.contained) m.object ∙ sym version.created.id) in
       one_alone a.id g version.rising (has_maker o g version only g refl) only
 
-  -- it gives each attribute its value there
+  -- it gives each attribute its told there
   gives : (a : Op) (t : Attr) (v : Value) → Contains h a → IsSettled h (a.id ∷ []) t v → given a t ≡ Some v
   gives a t v x settled =
       let m = settled.member in
-      let e : settled.setter ≡ a = same_op settled.setter a m.contained x (elim (Contains-cons_cases a.id [] settled.setter.id m.grouped) [ inl k ↦ k | inr k ↦ absurd (not_Contains-nil settled.setter.id k) ]) in
+      let e : settled.setter ≡ a = same_op h valid settled.setter a m.contained x (elim (Contains-cons_cases a.id [] settled.setter.id m.grouped) [ inl k ↦ k | inr k ↦ absurd (not_Contains-nil settled.setter.id k) ]) in
       subst (λ (b : Op). given b t ≡ Some v) e settled.gives
 
   settles : (a : Op) (t : Attr) (v : Value) → Contains h a → given a t ≡ Some v → IsSettled h (a.id ∷ []) t v
@@ -105,21 +89,21 @@ module _ (h : List Op) (valid : IsValid h) where
     member = record { contained = x; grouped = Contains-cons_head a.id [] };
     gives = given_by;
     last = λ b m some before.
-        let e : a ≡ b = same_op a b x m.contained (elim (Contains-cons_cases a.id [] b.id m.grouped) [ inl k ↦ sym k | inr k ↦ absurd (not_Contains-nil b.id k) ]) in
-        not_before_itself a x (subst (λ (c : Op). Precedes a c) (sym e) before);
+        let e : a ≡ b = same_op h valid a b x m.contained (elim (Contains-cons_cases a.id [] b.id m.grouped) [ inl k ↦ sym k | inr k ↦ absurd (not_Contains-nil b.id k) ]) in
+        precedes_irreflexive h valid a x (subst (λ (c : Op). Precedes a c) (sym e) before);
   }
 
   -- the operation's own group is a version of its object
   own_version : (a : Op) → Contains h a → IsVersion h (object_of a) (a.id ∷ [])
   unfolding IsStrictlySortedBy
   own_version a x =
-      let one : (b : Op) → IsMember h (a.id ∷ []) b → b ≡ a = λ b m. same_op b a m.contained x (elim (Contains-cons_cases a.id [] b.id m.grouped) [ inl k ↦ k | inr k ↦ absurd (not_Contains-nil b.id k) ]) in
+      let one : (b : Op) → IsMember h (a.id ∷ []) b → b ≡ a = λ b m. same_op h valid b a m.contained x (elim (Contains-cons_cases a.id [] b.id m.grouped) [ inl k ↦ k | inr k ↦ absurd (not_Contains-nil b.id k) ]) in
       record {
         rising = (tt, tt);
-        created = record { op = a; contained = x; id = sym (makes_its_own a.id a.change); object = refl };
+        created = record { op = a; contained = x; id = sym (makes_its_own a.id a.change (creations a x)); object = refl };
         members = λ i c. record { op = a; contained = x; id = sym (elim (Contains-cons_cases a.id [] i c) [ inl k ↦ k | inr k ↦ absurd (not_Contains-nil i k) ]); object = refl };
         compatible = λ b c m n conflict. conflict.concurrent.different (ap (λ (d : Op). d.id) (one b m ∙ sym (one c n)));
-        largest = λ b y e out. absurd (out (subst (λ i. Contains (a.id ∷ []) i) (sym (makes_its_own a.id a.change) ∙ sym (only_on h (object_of a) b e)) (Contains-cons_head a.id [])));
+        largest = λ b y e out. absurd (out (subst (λ i. Contains (a.id ∷ []) i) (sym (makes_its_own a.id a.change (creations a x)) ∙ sym (only_on (object_of a) b (creations b y) e)) (Contains-cons_head a.id [])));
       }
 
   -- a new object begins with its form
@@ -130,31 +114,33 @@ module _ (h : List Op) (valid : IsValid h) where
 
   made_version : (a : Op) → Contains h a → (change : Change) → a.change ≡ change → IsVersionOf h (made a.id change)
   made_version a x (Create start) e =
-      let value : (t : Attr) (v : Value) → start_value start t ≡ Some v → IsSettled h (a.id ∷ []) t v = λ t v s. settles a t v x (ap (λ c. change_value c t) e ∙ s) in
+      let told : (t : Attr) (v : Value) → start_value start t ≡ Some v → IsSettled h (a.id ∷ []) t v = λ t v s. settles a t v x (ap (λ c. change_value c t) e ∙ s) in
       record {
         version = subst (λ o. IsVersion h o (a.id ∷ [])) (ap (changed_object a.id) e) (own_version a x);
         kind = record { maker = a; contained = x; id = refl; kind = ap made_kind e };
-        form = value (form_attribute start.form) (form_value start.form) (form_begins start start.form refl);
-        place = value Place (value.Place start.place) refl;
-        colour = value Colour (value.Colour start.colour) refl;
-        layer = value Layer (value.Layer start.layer) refl;
-        shown = value Shown (value.Shown start.shown) refl;
+        form = told (form_attribute start.form) (form_value start.form) (form_begins start start.form refl);
+        place = told Place (value.Place start.place) refl;
+        colour = told Colour (value.Colour start.colour) refl;
+        layer = told Layer (value.Layer start.layer) refl;
+        shown = told Shown (value.Shown start.shown) refl;
       }
+  made_version a x (Set object v) e = let made = creations a x in let none = ap made_kind e in absurd cc
 
   -- what an operation of h makes is a version of h
   pub created_version : (a : Op) → Contains h a → IsVersionOf h (created a)
   created_version a x = made_version a x a.change refl
 
-  -- a form is told by its kind and its value
+  -- a form is told by its kind and its told
   same_form : (s : Start) (f g : Form) → s.form ≡ f → kind_of f ≡ kind_of g → start_value s (form_attribute g) ≡ Some (form_value g) → f ≡ g
-  same_form s (Rect w k) (Rect x l) e kind value = let v : Some (value.Size w k) ≡ Some (value.Size x l) = sym (ap (λ f. size_in (form_value f)) e) ∙ value in cc
-  same_form s (Circle r) (Circle q) e kind value = let v : Some (value.Size r r) ≡ Some (value.Size q q) = sym (ap (λ f. size_in (form_value f)) e) ∙ value in cc
-  same_form s (Polygon ps) (Polygon qs) e kind value = let v : Some (value.Points ps) ≡ Some (value.Points qs) = sym (ap (λ f. points_in (form_value f)) e) ∙ value in cc
-  same_form s f g e kind value = absurd cc
+  same_form s (Rect w k) (Rect x l) e kind told = let v : Some (value.Size w k) ≡ Some (value.Size x l) = sym (ap (λ f. size_in (form_value f)) e) ∙ told in cc
+  same_form s (Circle r) (Circle q) e kind told = let v : Some (value.Size r r) ≡ Some (value.Size q q) = sym (ap (λ f. size_in (form_value f)) e) ∙ told in cc
+  same_form s (Polygon ps) (Polygon qs) e kind told = let v : Some (value.Points ps) ≡ Some (value.Points qs) = sym (ap (λ f. points_in (form_value f)) e) ∙ told in cc
+  same_form s f g e kind told = absurd cc
 
   same_values : (id : OpId) (change : Change) (v : Version) → v.key.object.0 ≡ id → v.key.ops ≡ id ∷ [] →
       made_kind change ≡ Some (kind_of v.form) → change_value change (form_attribute v.form) ≡ Some (form_value v.form) → change_value change Place ≡ Some (value.Place v.place) → change_value change Colour ≡ Some (value.Colour v.colour) →
       change_value change Layer ≡ Some (value.Layer v.key.layer) → change_value change Shown ≡ Some (value.Shown v.shown) → v ≡ made id change
+  same_values id (Set object w) v named ops kind form place colour layer shown = absurd cc
   same_values id (Create start) v object ops kind form place colour layer shown =
       let kinds : kind_of start.form ≡ kind_of v.form = cc in
       let forms = same_form start start.form v.form refl kinds form in
@@ -176,12 +162,12 @@ module _ (h : List Op) (valid : IsValid h) where
       let maker = is.version.created in
       let a = maker.op in
       let ops = alone v.key.object v.key.ops is.version in
-      let kind_told : IsOfKind h v.key.object (kind_of v.form) → made_kind a.change ≡ Some (kind_of v.form) = λ k. subst (λ (b : Op). made_kind b.change ≡ Some (kind_of v.form)) (same_op k.maker a k.contained maker.contained (k.id ∙ sym maker.id)) k.kind in
-      let value : (t : Attr) (w : Value) → IsSettled h v.key.ops t w → given a t ≡ Some w = λ t w s. gives a t w maker.contained (subst (λ ids. IsSettled h ids t w) ops s) in (
+      let kind_told : IsOfKind h v.key.object (kind_of v.form) → made_kind a.change ≡ Some (kind_of v.form) = λ k. subst (λ (b : Op). made_kind b.change ≡ Some (kind_of v.form)) (same_op h valid k.maker a k.contained maker.contained (k.id ∙ sym maker.id)) k.kind in
+      let told : (t : Attr) (w : Value) → IsSettled h v.key.ops t w → given a t ≡ Some w = λ t w s. gives a t w maker.contained (subst (λ ids. IsSettled h ids t w) ops s) in (
         a,
         maker.contained,
-        same_values a.id a.change v (sym maker.id) ops (kind_told is.kind) (value (form_attribute v.form) (form_value v.form) is.form) (value Place (value.Place v.place) is.place)
-            (value Colour (value.Colour v.colour) is.colour) (value Layer (value.Layer v.key.layer) is.layer) (value Shown (value.Shown v.shown) is.shown),
+        same_values a.id a.change v (sym maker.id) ops (kind_told is.kind) (told (form_attribute v.form) (form_value v.form) is.form) (told Place (value.Place v.place) is.place)
+            (told Colour (value.Colour v.colour) is.colour) (told Layer (value.Layer v.key.layer) is.layer) (told Shown (value.Shown v.shown) is.shown),
       )
 
   -- the visible versions of h are those of its operations that are shown
@@ -203,5 +189,5 @@ module _ (h : List Op) (valid : IsValid h) where
       let a = version_created v x in
       let b = version_created w y in
       let named : (u : Version) (c : Op) → u ≡ created c → u.key.object.0 ≡ c.id = λ u c f. ap (λ (z : Version). z.key.object.0) f ∙ made_object c.id c.change in
-      let one : a.0 ≡ b.0 = same_op a.0 b.0 a.1 b.1 (sym (named v a.0 a.2) ∙ (ap (λ (o : ObjectId). o.0) e ∙ named w b.0 b.2)) in
+      let one : a.0 ≡ b.0 = same_op h valid a.0 b.0 a.1 b.1 (sym (named v a.0 a.2) ∙ (ap (λ (o : ObjectId). o.0) e ∙ named w b.0 b.2)) in
       a.2 ∙ (ap created one ∙ sym b.2)

@@ -19,6 +19,7 @@ use Rattle.gf_shape.specs.declared.any_shape.AnyShape.{AnyShape}
 use Rattle.gf_versions.specs.declared.placed.Placed.{Placed}
 use Rattle.gf_versions.specs.Above.{IsAbove, key_cmp}
 use Rattle.gf_versions.specs.Created.{created, shown_of}
+use Rattle.gf_versions.specs.Creations.{AreCreations}
 use Rattle.gf_versions.specs.Falling.{falls_by}
 use Rattle.gf_versions.specs.Ranking.{AreRanked, placed_version}
 use Rattle.gf_versions.proofs.CreatedLemmas.{visible_exactly, made_object}
@@ -95,16 +96,16 @@ items_distinct (a ∷ ops) apart =
     ]
 
 -- the shown versions of a valid history, sorted, are its ranking
-pub ranked_from_sorted : (h : List Op) (items : List (Placed AnyShape)) → IsValid h → IsPermutation (items_of h) items → IsSortedBy falls_by items → AreRanked h items
-ranked_from_sorted h items valid moved sorted = record {
+pub ranked_from_sorted : (h : List Op) (items : List (Placed AnyShape)) → IsValid h → AreCreations h → IsPermutation (items_of h) items → IsSortedBy falls_by items → AreRanked h items
+ranked_from_sorted h items valid creations moved sorted = record {
   exactly = λ i. (
     λ is.
         let v = is.version in
         Contains-permutation (items_of h) items i moved
-        (subst (λ j. Contains (items_of h) j) (sym is.placed) (Contains-map placed_version (shown_of h) v ((visible_exactly h valid v).0 is.visible))),
+        (subst (λ j. Contains (items_of h) j) (sym is.placed) (Contains-map placed_version (shown_of h) v ((visible_exactly h valid creations v).0 is.visible))),
     λ c.
         let from = Contains-map_from placed_version (shown_of h) i (Contains-permutation items (items_of h) i (IsPermutation-sym _ _ moved) c) in
-        record { version = from.0; visible = (visible_exactly h valid from.0).1 from.1; placed = from.2 },
+        record { version = from.0; visible = (visible_exactly h valid creations from.0).1 from.1; placed = from.2 },
   );
   falling = falling_from_sorted items sorted (IsDistinct-IsPermutation same_key same_key-flips (items_of h) items moved (items_distinct h valid.distinct));
 }

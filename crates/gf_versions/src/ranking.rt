@@ -1,9 +1,10 @@
 //! The visible versions of a history, made and sorted.
 
-ghost use Rattle.std.specs.Prelude.{◌≡◌, IfOk, OnOk, Contains, map};
+ghost use Rattle.std.specs.Prelude.{◌≡◌, ◌&&◌, IsTrue, IfOk, OnOk, Contains, map};
 ghost use Rattle.gf_ops.specs.declared.op.Op.{Op};
-ghost use Rattle.gf_ops.specs.Limits.{IsInRange};
-ghost use Rattle.gf_versions.specs.Created.{created, shown_of};
+ghost use Rattle.gf_ops.specs.Limits.{IsInRange, is_form, is_near};
+ghost use Rattle.gf_versions.specs.Created.{made, shown_of};
+ghost use Rattle.gf_versions.specs.Creations.{AreCreations};
 ghost use Rattle.gf_versions.specs.Ranking.{AreRanked, placed_version};
 ghost use Rattle.gf_versions.specs.Falling.{falls_by};
 ghost use Rattle.std.specs.List.Sorted.{IsPermutation, IsSortedBy};
@@ -11,12 +12,13 @@ ghost use Rattle.std.specs.List.Sorted.{IsPermutation, IsSortedBy};
 use crate::key::compare;
 use crate::shaping::shape_at;
 use crate::{Ids, Placed, Ranked, VersionKey};
-use gf_ops::{Change, History, ObjectId, Op};
+use gf_ops::{Change, History, ObjectId, Op, OpId, Start};
 use gf_shape::{AnyShape, OutOfMemory};
 use std::alloc::Global;
 
 /// The visible versions of a history, topmost first.
 pub fn ranked(alloc: Global, history: &History) -> Result<Ranked<AnyShape>, OutOfMemory>
+    requires { AreCreations history.now.ops }
     ensures { IfOk result (λ ranked. AreRanked history.now.ops ranked.items.items) }
 {
     let mut items = shown(alloc, history.ops())?;
@@ -40,37 +42,28 @@ fn shown(alloc: Global, ops: &[Op]) -> Result<Vec<Placed<AnyShape>>, OutOfMemory
 {
     let mut items = Vec::new(alloc);
     for op in ops {
-        if is_shown(op) {
-            items.push(placed(alloc, op)?)?;
+        if let Change::Create(start) = &op.change {
+            if start.shown {
+                items.push(placed(alloc, op.id, start)?)?;
+            }
         }
     }
     Ok(items)
 }
 
-/// Whether the object that the operation makes is shown.
-fn is_shown(op: &Op) -> bool
-    ensures { result ≡ (created op.now).shown }
+/// The version that the creation of this id alone makes, at its place.
+fn placed(alloc: Global, id: OpId, start: &Start) -> Result<Placed<AnyShape>, OutOfMemory>
+    requires { IsTrue (is_form start.now.form && is_near start.now.place) }
+    ensures { IfOk result (λ item. item ≡ placed_version (made id (Change.Create start.now))) }
 {
-    match &op.change {
-        Change::Create(start) => start.shown,
-    }
-}
-
-/// The version that the operation alone makes, at its place.
-fn placed(alloc: Global, op: &Op) -> Result<Placed<AnyShape>, OutOfMemory>
-    requires { IsInRange op.now }
-    ensures { IfOk result (λ item. item ≡ placed_version (created op.now)) }
-{
-    let ops = Ids::new(Vec::from_array(alloc, [op.id])?);
-    match &op.change {
-        Change::Create(start) => Ok(Placed {
-            key: VersionKey {
-                layer: start.layer,
-                object: ObjectId(op.id),
-                ops,
-            },
-            shape: shape_at(alloc, &start.form, start.place)?,
-            colour: start.colour,
-        }),
-    }
+    let ops = Ids::new(Vec::from_array(alloc, [id])?);
+    Ok(Placed {
+        key: VersionKey {
+            layer: start.layer,
+            object: ObjectId(id),
+            ops,
+        },
+        shape: shape_at(alloc, &start.form, start.place)?,
+        colour: start.colour,
+    })
 }
