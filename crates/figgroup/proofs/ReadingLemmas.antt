@@ -1,5 +1,9 @@
 -- How the operations of the lines grow, and what a refused line says of the text.
-use Rattle.std.proofs.Common.{◌≡◌, ℕ, List, [], ◌∷◌, ◌++◌, map, sym, ap, subst, ◌∙◌, append_assoc}
+use Rattle.std.specs.Prelude.{IsSome}
+use Rattle.std.proofs.lemmas.List.Elements.{Contains-push_cases}
+use Rattle.gf_ops.specs.Attribute.{made_kind}
+use Rattle.gf_versions.specs.Creations.{AreCreations}
+use Rattle.std.proofs.Common.{arith, inl, inr, ◌≡◌, ℕ, List, [], ◌∷◌, ◌++◌, map, sym, ap, subst, ◌∙◌, append_assoc}
 use Rattle.std.proofs.lemmas.List.{map-append, append-nil}
 use Rattle.gf_ops.specs.declared.op.Op.{Op}
 use Rattle.gf_ops.specs.Accepted.{AreAccepted, none, next}
@@ -8,7 +12,7 @@ use Rattle.figgroup.specs.declared.studio_error.StudioError.{StudioError}
 use Rattle.figgroup.specs.declared.studio_error.StudioError.TheVariants as studio
 use Rattle.figgroup.specs.FigRun.{Denotes, IsAt, denotes_op}
 use Rattle.figgroup.specs.LineSteps.{HasRead, AddsLine, RefusesLine, RefusesText}
-use Rattle.gf_json.specs.OperationLines.{denoted}
+use Rattle.figgroup.specs.Creations.{creation}
 use Rattle.figgroup.specs.TextLines.{numbered_lines}
 
 -- before the first line none is read
@@ -18,6 +22,7 @@ HasRead-none bytes left ops all empty = record {
   whole = sym all;
   lines = ap (map denotes_op) (sym empty);
   accepted = subst AreAccepted (sym empty) none;
+  creations = subst AreCreations (sym empty) (λ a (k, l, e). absurd (omega arith));
 }
 
 -- one line more is read
@@ -27,17 +32,21 @@ HasRead-line bytes n line left old new read adds = record {
   before = read.before ++ (n, line) ∷ [];
   whole = read.whole ∙ sym (append_assoc read.before ((n, line) ∷ []) left);
   lines =
-      map-append (λ (l : ℕ × List ℕ). denoted l.1) read.before ((n, line) ∷ [])
-      ∙ (ap (λ r. r ++ denoted line ∷ []) read.lines
+      map-append (λ (l : ℕ × List ℕ). creation l.1) read.before ((n, line) ∷ [])
+      ∙ (ap (λ r. r ++ creation line ∷ []) read.lines
       ∙ (ap (λ r. map denotes_op old ++ r ∷ []) adds.denotes
       ∙ (sym (map-append denotes_op old (adds.op ∷ [])) ∙ ap (map denotes_op) (sym adds.added))));
   accepted = subst AreAccepted (sym adds.added) (next read.accepted adds.accepted);
+  creations = subst AreCreations (sym adds.added) (λ a c. elim (Contains-push_cases old adds.op a c) [
+    | inl k ↦ read.creations a k
+    | inr e ↦ subst (λ (b : Op). IsSome (made_kind b.change)) e adds.created
+  ]);
 }
 
 -- with no line left, all are read
 pub Denotes-read : (bytes : List ℕ) (ops : List Op) → HasRead bytes [] ops → IsValid ops → Denotes bytes ops
 Denotes-read bytes ops read valid = record {
-  lines = ap (map (λ (l : ℕ × List ℕ). denoted l.1)) (read.whole ∙ append-nil read.before) ∙ read.lines;
+  lines = ap (map (λ (l : ℕ × List ℕ). creation l.1)) (read.whole ∙ append-nil read.before) ∙ read.lines;
   accepted = read.accepted;
   valid = valid;
 }

@@ -18,25 +18,25 @@ use Rattle.gf_drawing.specs.Taken.{AppendsFront}
 use Rattle.gf_fig_write.specs.FigText.{fig_text}
 use Rattle.figgroup.specs.declared.studio_error.LineCause.{LineCause}
 use Rattle.gf_json.specs.LineValues.{Got}
-use Rattle.gf_json.specs.OperationLines.{denoted}
 use Rattle.figgroup.specs.Refusals.{line_fault}
+use Rattle.figgroup.specs.Creations.{creation}
 use Rattle.figgroup.specs.TextLines.{numbered_lines}
 
--- a line that denotes this operation
+-- a line that denotes this creation
 abbrev pub denotes_op : Op → Got Op
 denotes_op op = Ok op
 
--- each of the lines denotes an operation, and these are the operations in order
+-- each of the lines denotes a creation, and these are the operations in order
 abbrev pub AreLinesOf : List (ℕ × List ℕ) → List Op → Type 0
-AreLinesOf lines ops = map (λ (line : ℕ × List ℕ). denoted line.1) lines ≡ map denotes_op ops
+AreLinesOf lines ops = map (λ (line : ℕ × List ℕ). creation line.1) lines ≡ map denotes_op ops
 
--- the bytes denote these operations, each accepted behind those before it, and together a valid history
+-- the bytes denote these creations, each accepted behind those before it, and together a valid history
 pub record Denotes (bytes : List ℕ) (history : List Op) : Type 0 where
   pub lines : AreLinesOf (numbered_lines bytes) history
   pub accepted : AreAccepted history
   pub valid : IsValid history
 
--- the lines of the bytes before line number n denote operations that are accepted one by one, and this is line n
+-- the lines of the bytes before line number n denote creations that are accepted one by one, and this is line n
 pub record IsAt (bytes : List ℕ) (n : ℕ) (line : List ℕ) : Type 0 where
   pub before : List (ℕ × List ℕ)
   pub behind : List (ℕ × List ℕ)
@@ -46,11 +46,11 @@ pub record IsAt (bytes : List ℕ) (n : ℕ) (line : List ℕ) : Type 0 where
   pub accepted : AreAccepted history
   pub valid : IsValid history
 
--- line n is the first that denotes no operation, for this cause
+-- line n is the first that denotes no creation, for this cause
 pub record HasFault (bytes : List ℕ) (n : ℕ) (cause : LineCause) : Type 0 where
   pub line : List ℕ
   pub at : IsAt bytes n line
-  pub fault : denoted line ≡ Err (line_fault cause)
+  pub fault : creation line ≡ Err (line_fault cause)
 
 -- the operation under this id is the first that cannot be added behind those of the lines before it
 pub record Drops (bytes : List ℕ) (id : OpId) : Type 0 where
@@ -58,7 +58,7 @@ pub record Drops (bytes : List ℕ) (id : OpId) : Type 0 where
   pub line : List ℕ
   pub at : IsAt bytes number line
   pub op : Op
-  pub denotes : denoted line ≡ Ok op
+  pub denotes : creation line ≡ Ok op
   pub named : op.id ≡ id
   pub unfit : ¬ (IsAccepted at.history op)
 

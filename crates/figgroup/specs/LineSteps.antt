@@ -1,16 +1,18 @@
 -- What one line does to a history, and what the errors of reading say. No public clause cites this module.
-use Rattle.std.specs.Prelude.{◌≡◌, ℕ, List, [], ◌∷◌, ◌++◌, Ok, Err, ⊤}
+use Rattle.std.specs.Prelude.{◌≡◌, ℕ, List, [], ◌∷◌, ◌++◌, Ok, Err, IsSome, ⊤}
 use Rattle.gf_ops.specs.declared.op.Op.{Op}
 use Rattle.gf_ops.specs.declared.op.OpId.{OpId}
+use Rattle.gf_ops.specs.Attribute.{made_kind}
 use Rattle.gf_ops.specs.Accepted.{IsAccepted, AreAccepted}
+use Rattle.gf_versions.specs.Creations.{AreCreations}
 use Rattle.gf_json.specs.declared.line_error.LineError.{LineError}
 use Rattle.gf_json.specs.declared.line_error.LineError.TheVariants as line
 use Rattle.figgroup.specs.declared.studio_error.LineCause.TheVariants as cause
 use Rattle.figgroup.specs.declared.studio_error.StudioError.{StudioError}
 use Rattle.figgroup.specs.declared.studio_error.StudioError.TheVariants as studio
 use Rattle.figgroup.specs.FigRun.{AreLinesOf, HasFault, Drops, RefusesCompiling}
-use Rattle.gf_json.specs.OperationLines.{denoted}
 use Rattle.figgroup.specs.Refusals.{line_fault}
+use Rattle.figgroup.specs.Creations.{creation}
 use Rattle.figgroup.specs.TextLines.{numbered_lines}
 
 -- line n has this fault
@@ -26,24 +28,26 @@ pub record HasRead (bytes : List ℕ) (left : List (ℕ × List ℕ)) (ops : Lis
   pub whole : numbered_lines bytes ≡ before ++ left
   pub lines : AreLinesOf before ops
   pub accepted : AreAccepted ops
+  pub creations : AreCreations ops
 
 -- the history grows from old to new by the operation that the line denotes
 pub record AddsLine (bytes : List ℕ) (old new : List Op) : Type 0 where
   pub op : Op
-  pub denotes : denoted bytes ≡ Ok op
+  pub denotes : creation bytes ≡ Ok op
+  pub created : IsSome (made_kind op.change)
   pub accepted : IsAccepted old op
   pub added : new ≡ old ++ op ∷ []
 
 -- the line denotes an operation under this id that cannot be added behind h
 pub record Unfit (bytes : List ℕ) (h : List Op) (id : OpId) : Type 0 where
   pub op : Op
-  pub denotes : denoted bytes ≡ Ok op
+  pub denotes : creation bytes ≡ Ok op
   pub named : op.id ≡ id
   pub unfit : ¬ (IsAccepted h op)
 
 -- why line n is not added behind h
 abbrev pub RefusesLine : ℕ → List ℕ → List Op → StudioError → Type 0
-RefusesLine n bytes h (studio.Line m why) = (m ≡ n) × (denoted bytes ≡ Err (line_fault why))
+RefusesLine n bytes h (studio.Line m why) = (m ≡ n) × (creation bytes ≡ Err (line_fault why))
 RefusesLine n bytes h (studio.Dropped id fault) = Unfit bytes h id
 RefusesLine n bytes h studio.OutOfMemory = ⊤
 RefusesLine n bytes h other = ⊥
