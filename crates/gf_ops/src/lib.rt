@@ -12,9 +12,13 @@
 
 mod change;
 mod conflict;
+#[cfg(test)]
+mod conflict_tests;
 mod copying;
 mod faults;
 mod history;
+#[cfg(test)]
+mod history_tests;
 mod laws;
 mod limits;
 mod op;

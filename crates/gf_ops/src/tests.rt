@@ -1,11 +1,13 @@
 //! Tests of what the clauses mean: values from the project's own limits and rules.
 
-use crate::{AddFault, Change, Clock, Form, History, Op, OpFault, OpId, Points, Start, before};
+use crate::{
+    AddFault, Change, Clock, Form, ObjectId, Op, OpFault, OpId, Points, Start, Value, before,
+};
 use gf_shape::{Point, Rgb};
 use std::alloc::{AllocError, Global};
 use std::test::Fail;
 
-fn op_at(id: OpId, past: [u32; 8], place: Point, form: Form, layer: u16) -> Op {
+pub(crate) fn op_at(id: OpId, past: [u32; 8], place: Point, form: Form, layer: u16) -> Op {
     let colour = Rgb { r: 0, g: 0, b: 0 };
     let start = Start {
         form,
@@ -21,14 +23,26 @@ fn op_at(id: OpId, past: [u32; 8], place: Point, form: Form, layer: u16) -> Op {
     }
 }
 
-fn op(site: u8, seq: u32, past: [u32; 8]) -> Op {
-    op_at(
-        OpId { site, seq },
-        past,
-        Point { x: 0, y: 0 },
-        Form::Rect(1, 1),
-        0,
-    )
+/// An operation that makes an object of this form.
+pub(crate) fn create(site: u8, seq: u32, past: [u32; 8], form: Form) -> Op {
+    op_at(OpId { site, seq }, past, Point { x: 0, y: 0 }, form, 0)
+}
+
+/// An operation that makes a box.
+pub(crate) fn op(site: u8, seq: u32, past: [u32; 8]) -> Op {
+    create(site, seq, past, Form::Rect(1, 1))
+}
+
+/// An operation that gives the object n of site 1 a value.
+pub(crate) fn set(site: u8, seq: u32, past: [u32; 8], n: u32, value: Value) -> Op {
+    Op {
+        id: OpId { site, seq },
+        past: Clock(past),
+        change: Change::Set {
+            object: ObjectId(OpId { site: 1, seq: n }),
+            value,
+        },
+    }
 }
 
 #[test]
@@ -62,7 +76,7 @@ fn keeps_limits(rt: HostRuntime) {
 }
 
 /// A polygon of so many points, all but this last one at its place.
-fn polygon(alloc: Global, count: u32, last: Point) -> Result<Form, AllocError> {
+pub(crate) fn polygon(alloc: Global, count: u32, last: Point) -> Result<Form, AllocError> {
     let mut points = Vec::new(alloc);
     for _ in 1..count {
         points.push(Point { x: 0, y: 0 })?;
@@ -113,6 +127,74 @@ fn keeps_the_limits_of_polygons(rt: HostRuntime) -> Result<(), Fail> {
 }
 
 #[test]
+fn keeps_the_limits_of_changes(rt: HostRuntime) {
+    for (site, seq, value, want) in [
+        (1, 1, Value::Layer(0), true),
+        (8, 10_000, Value::Layer(9_999), true),
+        (0, 1, Value::Layer(0), false),
+        (9, 1, Value::Layer(0), false),
+        (1, 0, Value::Layer(0), false),
+        (1, 10_001, Value::Layer(0), false),
+        (1, 1, Value::Layer(10_000), false),
+        (1, 1, Value::Size(1, 1_000_000), true),
+        (1, 1, Value::Size(0, 1), false),
+        (1, 1, Value::Size(1, 1_000_001), false),
+        (
+            1,
+            1,
+            Value::Place(Point {
+                x: 1_000_000,
+                y: -1_000_000,
+            }),
+            true,
+        ),
+        (1, 1, Value::Place(Point { x: 1_000_001, y: 0 }), false),
+        (
+            1,
+            1,
+            Value::Place(Point {
+                x: 0,
+                y: -1_000_001,
+            }),
+            false,
+        ),
+        (
+            1,
+            1,
+            Value::Colour(Rgb {
+                r: 255,
+                g: 255,
+                b: 255,
+            }),
+            true,
+        ),
+        (1, 1, Value::Shown(false), true),
+    ] {
+        let object = ObjectId(OpId { site, seq });
+        let change = Change::Set { object, value };
+        assert_eq!(rt; change.in_range(), want, "of {change:?}");
+    }
+}
+
+#[test]
+fn keeps_the_limits_of_points_that_are_set(rt: HostRuntime) -> Result<(), Fail> {
+    for (count, x, want) in [
+        (2, 0, false),
+        (3, 0, true),
+        (64, 0, true),
+        (65, 0, false),
+        (3, 1_000_001, false),
+    ] {
+        let Form::Polygon(points) = polygon(rt.alloc(), count, Point { x, y: 0 })? else {
+            return Ok(());
+        };
+        let op = set(1, 1, [0; 8], 1, Value::Points(points));
+        assert_eq!(rt; op.in_range(), want, "of {count} points to {x}");
+    }
+    Ok(())
+}
+
+#[test]
 fn keeps_points_in_order(rt: HostRuntime) -> Result<(), Fail> {
     let [a, b, c] = [
         Point { x: 1, y: 2 },
@@ -146,76 +228,21 @@ fn orders_by_what_was_known(rt: HostRuntime) {
 }
 
 #[test]
-fn takes_the_next_operation_alone(rt: HostRuntime) -> Result<(), Fail> {
-    let mut history = History::new(rt.alloc());
-    assert!(rt; history.ops().is_empty());
-    let first = op(1, 1, [0; 8]);
-    assert!(rt; first.in_range());
-    history.add(first)?;
-    for (site, seq, past, want) in [
-        (1, 3, [1, 0, 0, 0, 0, 0, 0, 0], Err(OpFault::BadClock)),
-        (1, 2, [0, 0, 0, 0, 0, 0, 0, 0], Err(OpFault::BadClock)),
-        (1, 2, [1, 1, 0, 0, 0, 0, 0, 0], Err(OpFault::BadClock)),
-        (1, 2, [1, 0, 0, 0, 0, 0, 0, 1], Err(OpFault::BadClock)),
-        (1, 1, [0, 0, 0, 0, 0, 0, 0, 0], Err(OpFault::BadClock)),
-        (2, 1, [0, 0, 0, 0, 0, 0, 0, 0], Err(OpFault::BadClock)),
-        (1, 2, [1, 0, 0, 0, 0, 0, 0, 0], Ok(())),
-    ] {
-        let next = op(site, seq, past);
-        assert!(rt; next.in_range());
-        assert_eq!(rt; history.check(&next), want, "of {next:?}");
-    }
-    let gap = op(1, 3, [1, 0, 0, 0, 0, 0, 0, 0]);
-    assert!(rt; gap.in_range());
-    assert_eq!(rt; history.add(gap), Err(AddFault::Op(OpFault::BadClock)));
-    assert_eq!(rt; history.ops().len(), 1);
-    assert_eq!(rt; history.ops()[0].id, OpId { site: 1, seq: 1 });
-    Ok(())
-}
-
-#[test]
-fn finds_what_was_added(rt: HostRuntime) -> Result<(), Fail> {
-    let mut history = History::new(rt.alloc());
-    for (seq, known) in [(1, 0), (2, 1)] {
-        let next = op(1, seq, [known, 0, 0, 0, 0, 0, 0, 0]);
-        assert!(rt; next.in_range());
-        history.room()?;
-        history.add(next)?;
-    }
-    assert_eq!(rt; history.count(1), 2);
-    assert_eq!(rt; history.count(2), 0);
-    for (site, seq, want) in [
-        (1, 1, true),
-        (1, 2, true),
-        (1, 3, false),
-        (0, 0, false),
-        (2, 1, false),
-    ] {
-        let id = OpId { site, seq };
-        assert_eq!(rt;
-            history.get(id).map(|op| op.id),
-            want.then_some(id),
-            "at {id:?}"
-        );
-    }
-    assert_eq!(rt; history.ops().len(), 2);
-    assert_eq!(rt; history.ops()[0].id, OpId { site: 1, seq: 1 });
-    assert_eq!(rt; history.ops()[1].id, OpId { site: 1, seq: 2 });
-    Ok(())
-}
-
-#[test]
 fn names_read_as_site_and_number(rt: HostRuntime) -> Result<(), Fail> {
     let id = OpId { site: 3, seq: 41 };
     assert_eq!(rt; format!(in rt.alloc(); "{id}")?.as_str(), "3.41");
-    assert_eq!(rt;
-        format!(in rt.alloc(); "{}", OpFault::BadClock)?.as_str(),
-        "BadClock"
-    );
-    let rows = [
-        (AddFault::Op(OpFault::BadClock), "BadClock"),
-        (AddFault::OutOfMemory, "out of memory"),
-    ];
+    for (fault, text) in [
+        (OpFault::BadClock, "BadClock"),
+        (OpFault::NoObject, "NoObject"),
+        (OpFault::WrongKind, "WrongKind"),
+    ] {
+        assert_eq!(rt; format!(in rt.alloc(); "{fault}")?.as_str(), text);
+        assert_eq!(rt;
+            format!(in rt.alloc(); "{}", AddFault::Op(fault))?.as_str(),
+            text
+        );
+    }
+    let rows = [(AddFault::OutOfMemory, "out of memory")];
     for (fault, text) in rows {
         assert_eq!(rt; format!(in rt.alloc(); "{fault}")?.as_str(), text);
     }
