@@ -1,0 +1,5 @@
+pub mod SameLemmas
+pub mod ListLemmas
+pub mod HeldLemmas
+pub mod StandingLemmas
+pub mod ReadyLemmas

@@ -1,0 +1,24 @@
+use Rattle.std.specs.Prelude.{Contains}
+use Rattle.std.specs.Map.{values_of}
+use Rattle.gf_causal.proofs.HeldLemmas.{lookup-removed, Adds-remove, IsKept-remove}
+use Rattle.gf_causal.proofs.buffer.Buffer.take_ready.Goals as goal
+
+pub invariant_of-self : goal.invariant_of-self
+invariant_of-self c =
+    let first = c.in_ok-id.ensures.found in
+    IsKept-remove _ c.self.invariant c.in_ok-id.field-0.now (rw c.self.view_is first.contained) _ c.remove.ensures.entries c.remove.ensures.ordered
+
+pub returns-clause-found : goal.returns-clause-found
+returns-clause-found c =
+    let first = c.in_ok-id.ensures.found in
+    let held : Contains (values_of c.self.inside.ops.entries) c.in_ok-id.field-0.now = rw c.self.view_is first.contained in
+    rw (lookup-removed _ c.self.invariant c.in_ok-id.field-0.now held c.remove.result c.remove.ensures.value) (
+      first,
+      c.self.invariant.held.in_range c.in_ok-id.field-0.now held,
+      rw (← c.self.view_is) (Adds-remove _ c.self.invariant c.in_ok-id.field-0.now held _ c.remove.ensures.entries),
+    )
+
+pub returns-clause-none : goal.returns-clause-none
+returns-clause-none c =
+    let first = c.in_ok-id.ensures.found in
+    rw (lookup-removed _ c.self.invariant c.in_ok-id.field-0.now (rw c.self.view_is first.contained) c.remove.result c.remove.ensures.value) tt

@@ -1,0 +1,170 @@
+//! Operations that wait for what they know.
+
+ghost use Rattle.std.specs.Prelude.{◌≡◌, ◌≢◌, ◌↔◌, [], length, Contains, Ok, Err, IfSome, IfNone, OnOk, OnErr, IsOk};
+ghost use Rattle.gf_ops.specs.declared.op.Op.{Op};
+ghost use Rattle.gf_ops.specs.Limits.{IsInRange};
+ghost use Rattle.gf_causal.specs.declared.buffer.Offered.{Offered};
+ghost use Rattle.gf_causal.specs.declared.faults.OfferFault.{OfferFault};
+ghost use Rattle.gf_causal.specs.HeldOperations.{AreHeld, IsFree, IsClash, IsKnown, IsNew, Adds, IsFirstReady};
+ghost use Rattle.gf_causal.specs.Keeping.{Among, Stands};
+ghost use Rattle.gf_causal.specs.Ready.{IsReady};
+
+use crate::OfferFault;
+use crate::ready::knows_no_more;
+use crate::standing::{Standing, compare, in_history, join};
+use gf_ops::{History, Op, OpId};
+use gf_shape::OutOfMemory;
+use std::alloc::Global;
+use std::collections::BTreeMap;
+use std::marker::Model;
+
+/// What an offer that was not refused came to.
+#[derive(Clone, Copy, Debug, PartialEq, Eq)]
+pub enum Offered {
+    /// The same operation is held, or in the history.
+    Already,
+    /// It is held from now on.
+    Held,
+}
+
+/// Operations that wait until a history has what they know, seen as their list, rising by id.
+#[derive(Debug, Drop)]
+pub struct Buffer {
+    ops: BTreeMap<OpId, Op>,
+}
+
+impl Model for Buffer {
+    ghost use Rattle.std.specs.Prelude.{List};
+    ghost use Rattle.std.specs.BTreeMap.{values};
+    ghost use Rattle.gf_ops.specs.declared.op.Op.{Op};
+    ghost use Rattle.gf_causal.specs.Keeping.{IsKept};
+
+    ghost Value = { List Op };
+
+    ghost view = { λ s. values s.ops };
+
+    ghost invariant = { λ s. IsKept s.ops.entries };
+}
+
+impl Buffer {
+    /// The empty buffer.
+    pub fn new(alloc: Global) -> Buffer
+        ensures { result ≡ [] }
+    {
+        Buffer {
+            ops: BTreeMap::new(alloc),
+        }
+    }
+
+    /// Holds an operation that is neither held nor in the history.
+    pub fn offer(&mut self, op: Op, history: &History) -> Result<Offered, OfferFault>
+        ensures range { result ≡ Err OfferFault.Range ↔ (¬ (IsInRange op)) }
+        ensures clash { result ≡ Err OfferFault.Clash ↔ (IsInRange op × IsClash self.old history.now.ops op) }
+        ensures already { result ≡ Ok Offered.Already ↔ (IsInRange op × IsKnown self.old history.now.ops op) }
+        ensures held { result ≡ Ok Offered.Held → IsInRange op × IsNew self.old history.now.ops op × Adds self.old op self.new }
+        ensures out_of_memory { result ≡ Err OfferFault.OutOfMemory → IsInRange op × IsNew self.old history.now.ops op }
+        ensures same { result ≢ Ok Offered.Held → self.new ≡ self.old }
+    {
+        if !op.in_range() {
+            return Err(OfferFault::Range);
+        }
+        match self.standing(&op, history) {
+            Standing::Other => Err(OfferFault::Clash),
+            Standing::Same => Ok(Offered::Already),
+            Standing::Free => {
+                if self.hold(op).is_err() {
+                    return Err(OfferFault::OutOfMemory);
+                }
+                Ok(Offered::Held)
+            }
+        }
+    }
+
+    /// The held operation that is ready, with the least id of those. It looks at no more than the
+    /// next number of each site.
+    pub fn first_ready(&self, history: &History) -> Option<&Op>
+        ensures found { IfSome result (λ op. IsFirstReady self.now history.now.ops op.now) }
+        ensures none { IfNone result ((a : Op) → Contains self.now a → ¬ (IsReady history.now.ops a)) }
+    {
+        let _ = &self.ops;
+        for site in 1..9 {
+            if let Some(op) = self.ready_of(site, history) {
+                return Some(op);
+            }
+        }
+        None
+    }
+
+    /// Takes it out.
+    pub fn take_ready(&mut self, history: &History) -> Option<Op>
+        ensures found { IfSome result (λ op. IsFirstReady self.old history.now.ops op × IsInRange op × Adds self.new op self.old) }
+        ensures none { IfNone result ((a : Op) → Contains self.old a → ¬ (IsReady history.now.ops a)) }
+        ensures same { IfNone result (self.new ≡ self.old) }
+    {
+        let id = self.first_ready(history)?.id;
+        self.ops.remove(&id)
+    }
+
+    /// How many operations are held.
+    pub fn held(&self) -> usize
+        ensures held { result ≡ length self.now }
+        ensures rising { AreHeld self.now }
+    {
+        self.ops.len()
+    }
+
+    /// The held operation under this id.
+    fn find(&self, id: OpId) -> Option<&Op>
+        ensures found { IfSome result (λ op. Contains self.now op.now × (op.now.id ≡ id)) }
+        ensures none { IfNone result (IsFree self.now id) }
+    {
+        self.ops.get(&id)
+    }
+
+    /// What is held under the id of the operation.
+    fn among_held(&self, op: &Op) -> Standing
+        ensures { Among self.now op.now result }
+    {
+        let _ = &self.ops;
+        compare(self.find(op.id), op)
+    }
+
+    /// What is held or in the history under the id of the operation.
+    fn standing(&self, op: &Op, history: &History) -> Standing
+        ensures { Stands self.now history.now.ops op.now result }
+    {
+        join(self.among_held(op), in_history(history, op))
+    }
+
+    /// Puts an operation at its place.
+    fn hold(&mut self, op: Op) -> Result<(), OutOfMemory>
+        requires range { IsInRange op }
+        requires free { IsFree self.old op.id }
+        ensures ok { OnOk result (Adds self.old op self.new) }
+        ensures err { OnErr result (self.new ≡ self.old) }
+    {
+        if self.ops.insert(op.id, op).is_err() {
+            return Err(OutOfMemory);
+        }
+        Ok(())
+    }
+
+    /// The held operation of this site that is ready.
+    fn ready_of(&self, site: u8, history: &History) -> Option<&Op>
+        ensures found { IfSome result (λ op. Contains self.now op.now × IsReady history.now.ops op.now × (op.now.id.site ≡ site)) }
+        ensures none { IfNone result ((a : Op) → Contains self.now a → a.id.site ≡ site → ¬ (IsReady history.now.ops a)) }
+    {
+        let seq = history.count(site).saturating_add(1);
+        let _ = &self.ops;
+        match self.find(OpId { site, seq }) {
+            None => None,
+            Some(op) => {
+                if knows_no_more(op, history) {
+                    Some(op)
+                } else {
+                    None
+                }
+            }
+        }
+    }
+}

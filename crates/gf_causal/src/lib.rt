@@ -1,0 +1,14 @@
+//! Operations that came before what they know, and the order in which they may be added.
+//!
+//! - [`Buffer`]: operations that wait until a history has what they know.
+//! - [`Offered`], [`OfferFault`]: what an offer to a buffer came to.
+#![tactic(auto)]
+
+mod buffer;
+mod faults;
+mod ready;
+mod same;
+mod standing;
+
+pub use buffer::{Buffer, Offered};
+pub use faults::OfferFault;
