@@ -3,3 +3,4 @@ pub mod ListLemmas
 pub mod HeldLemmas
 pub mod StandingLemmas
 pub mod ReadyLemmas
+pub mod CourseLemmas

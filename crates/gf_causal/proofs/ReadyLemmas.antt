@@ -11,7 +11,7 @@ use Rattle.gf_ops.specs.Limits.{is_id, is_clock, is_change, IsInRange}
 use Rattle.gf_ops.specs.OperationOrder.{IsSite, entry, count_of, id_cmp}
 use Rattle.gf_causal.specs.Ready.{IsReady}
 use Rattle.gf_causal.specs.HeldOperations.{AreHeld, IsFree}
-use Rattle.gf_causal.proofs.StandingLemmas.{AreOneById}
+use Rattle.gf_causal.specs.DeliveredPart.{AreOneById}
 
 -- the first of three tests
 first_of : (p q r : Bool) → IsTrue (p && q && r) → IsTrue p

@@ -7,13 +7,10 @@ use Rattle.gf_ops.specs.declared.op.Op.{Op}
 use Rattle.gf_causal.specs.declared.standing.Standing.{Standing}
 use Rattle.gf_causal.specs.declared.standing.Standing.TheVariants.{Free, Same, Other}
 use Rattle.gf_causal.specs.HeldOperations.{IsFree, IsClash, IsKnown, IsNew}
+use Rattle.gf_causal.specs.DeliveredPart.{AreOneById}
 use Rattle.gf_causal.specs.Keeping.{Compares, Among, Stands, joined}
 
--- the operations of ops under one id are one
-abbrev pub AreOneById : List Op → Type 0
-AreOneById ops = (a b : Op) → Contains ops a → Contains ops b → a.id ≡ b.id → a ≡ b
-
--- so it is where ids differ pairwise
+-- operations whose ids differ pairwise are one by id
 pub one_of_pairs : (h : List Op) → AllPairs (λ a b. a.id ≢ b.id) h → AreOneById h
 one_of_pairs h d a b (i, l, e) (j, m, f) q =
     let g : get_or h j a ≡ b = get_or_default h j a b m ∙ f in

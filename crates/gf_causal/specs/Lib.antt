@@ -1,3 +1,4 @@
 pub mod Ready
 pub mod HeldOperations
+pub mod DeliveredPart
 pub mod Keeping

@@ -6,9 +6,11 @@
 
 mod buffer;
 mod faults;
+mod laws;
 mod ready;
 mod same;
 mod standing;
 
 pub use buffer::{Buffer, Offered};
 pub use faults::OfferFault;
+pub use laws::a_delivery_that_cannot_go_on_has_the_delivered_part;

@@ -1,0 +1,111 @@
+-- What holds of operations each of which is ready behind those before it.
+use Rattle.std.proofs.Common.{◌≡◌, ◌≢◌, ℕ, ◌+◌, ◌≤◌, cond, nat_eq, List, [], ◌∷◌, ◌++◌, inl, inr, refl, ap, subst, ◌∙◌, arith}
+use Rattle.std.specs.Prelude.{◌↔◌, Contains}
+use Rattle.std.proofs.lemmas.Bool.{cases_lt, cases_eq, eq-eqb}
+use Rattle.std.proofs.lemmas.Bool.Decides.{eqb_tells}
+use Rattle.std.proofs.lemmas.List.Sums.{sum_by-append}
+use Rattle.std.proofs.lemmas.List.Elements.{Contains-append_left, Contains-push, Contains-push_cases}
+use Rattle.gf_ops.specs.declared.op.Op.{Op}
+use Rattle.gf_ops.specs.declared.op.OpId.{OpId}
+use Rattle.gf_ops.specs.OperationOrder.{count_of}
+use Rattle.gf_causal.specs.Ready.{IsReady}
+use Rattle.gf_causal.specs.DeliveredPart.{AreOneById, AreReady, none, next, IsDelivery, CannotGoOn, IsDelivered}
+use Rattle.gf_causal.proofs.ListLemmas.{not_Contains-nil}
+
+-- one operation counts at its own site
+count_one : (a : Op) (s : ℕ) → a.id.site ≡ s → count_of (a ∷ []) s ≡ 1
+count_one a s e = rw (eq-eqb a.id.site s e) refl
+
+count_none : (a : Op) (s : ℕ) → a.id.site ≢ s → count_of (a ∷ []) s ≡ 0
+count_none a s n = elim (eqb_tells a.id.site s) [ inl p ↦ let q = p.1 in absurd (n (omega arith)) | inr p ↦ rw p.0 refl ]
+
+pub count_push_same : (h : List Op) (a : Op) (s : ℕ) → a.id.site ≡ s → count_of (h ++ a ∷ []) s ≡ count_of h s + 1
+count_push_same h a s e = sum_by-append (λ (x : Op). cond (nat_eq x.id.site s) 1 0) h (a ∷ []) ∙ ap (λ n. count_of h s + n) (count_one a s e)
+
+pub count_push_other : (h : List Op) (a : Op) (s : ℕ) → a.id.site ≢ s → count_of (h ++ a ∷ []) s ≡ count_of h s
+count_push_other h a s n = sum_by-append (λ (x : Op). cond (nat_eq x.id.site s) 1 0) h (a ∷ []) ∙ ap (λ n. count_of h s + n) (count_none a s n) ∙ omega arith
+
+-- h has an operation under the id i
+pub record Has (h : List Op) (i : OpId) : Type 0 where
+  pub op : Op
+  pub contained : Contains h op
+  pub site : op.id.site ≡ i.site
+  pub seq : op.id.seq ≡ i.seq
+
+Has-push : (h : List Op) (a : Op) (i : OpId) → Has h i → Has (h ++ a ∷ []) i
+Has-push h a i t = record { op = t.op; contained = Contains-append_left h (a ∷ []) t.op t.contained; site = t.site; seq = t.seq }
+
+-- each number up to the count is there
+pub has_counted : {h : List Op} → AreReady h → (i : OpId) → 1 ≤ i.seq → i.seq ≤ count_of h i.site → Has h i
+has_counted none i f l = absurd (omega arith)
+has_counted (next {h} {a} r q) i f l = elim (cases_eq a.id.site i.site) [
+  | inl e ↦
+      let n = rw (count_push_same h a i.site e) at l in
+      elim (cases_lt (count_of h i.site) i.seq) [
+        | inl m ↦
+            let s = subst (λ t. a.id.seq ≡ count_of h t + 1) e q.seq in
+            record { op = a; contained = Contains-push h a; site = e; seq = omega arith }
+        | inr m ↦ Has-push h a i (has_counted r i f m)
+      ]
+  | inr d ↦ Has-push h a i (has_counted r i f (rw (← count_push_other h a i.site d) l))
+]
+
+-- no number is above the count
+pub number_counted : {h : List Op} → AreReady h → (a : Op) → Contains h a → a.id.seq ≤ count_of h a.id.site
+number_counted none a c = absurd (not_Contains-nil a c)
+number_counted (next {h} {a = b} r q) a c = elim (Contains-push_cases h b a c) [
+  | inl k ↦
+      let i = number_counted r a k in
+      elim (cases_eq b.id.site a.id.site) [
+        | inl e ↦ rw (count_push_same h b a.id.site e) (omega arith)
+        | inr d ↦ rw (count_push_other h b a.id.site d) i
+      ]
+  | inr e ↦ subst (λ (x : Op). x.id.seq ≤ count_of (h ++ b ∷ []) x.id.site) e (rw (count_push_same h b b.id.site refl) (let s = q.seq in omega arith))
+]
+
+-- a course whose operations are in another has no more of any site
+count_within : {h k : List Op} → AreReady h → AreReady k → ((a : Op) → Contains h a → Contains k a) → (s : ℕ) → count_of h s ≤ count_of k s
+count_within {h} {k} r q within s = elim (cases_lt 0 (count_of h s)) [
+  | inl m ↦
+      let t = has_counted r (record { site = s; seq = count_of h s }) m (omega arith) in
+      let l = number_counted q t.op (within t.op t.contained) in
+      let n = subst (λ s. t.op.id.seq ≤ count_of k s) t.site l in
+      let e = t.seq in omega arith
+  | inr m ↦ omega arith
+]
+
+same_id : (a b : Op) → a.id.site ≡ b.id.site → a.id.seq ≡ b.id.seq → a.id ≡ b.id
+same_id a b s n j = record { site = s j; seq = n j }
+
+-- an operation that is ready behind a part of a delivery that cannot go on is in that delivery
+pub has_ready : (offered course h : List Op) (b : Op) → AreOneById offered → IsDelivery offered course → CannotGoOn offered course → Contains offered b →
+    ((s : ℕ) → count_of h s ≤ count_of course s) → IsReady h b → Contains course b
+has_ready offered course h b one d stop c le q = elim (cases_lt (count_of course b.id.site) b.id.seq) [
+  | inl m ↦
+      let n = q.seq in
+      let l = le b.id.site in
+      absurd (stop b c (record { seq = omega arith; others = λ s i k. let o = q.others s i k in let w = le s in omega arith }))
+  | inr m ↦
+      let n = q.seq in
+      let t = has_counted d.in_turn b.id (omega arith) m in
+      subst (Contains course) (one t.op b (d.from_offered t.op t.contained) c (same_id t.op b t.site t.seq)) t.contained
+]
+
+-- so each delivery is within one that cannot go on
+within_last : (offered course : List Op) → AreOneById offered → IsDelivery offered course → CannotGoOn offered course →
+    {h : List Op} → AreReady h → ((a : Op) → Contains h a → Contains offered a) → (a : Op) → Contains h a → Contains course a
+within_last offered course one d stop none from a c = absurd (not_Contains-nil a c)
+within_last offered course one d stop (next {h} {a = b} r q) from a c =
+    let before = within_last offered course one d stop r (λ x k. from x (Contains-append_left h (b ∷ []) x k)) in
+    elim (Contains-push_cases h b a c) [
+      | inl k ↦ before a k
+      | inr e ↦
+          let o = from b (Contains-push h b) in
+          subst (Contains course) e (has_ready offered course h b one d stop o (count_within r d.in_turn before) q)
+    ]
+
+pub delivered_part : (offered course : List Op) → AreOneById offered → IsDelivery offered course → CannotGoOn offered course →
+    (a : Op) → Contains course a ↔ IsDelivered offered a
+delivered_part offered course one d stop a = (
+  λ c. record { course = course; delivery = d; contained = c },
+  λ t. within_last offered course one d stop t.delivery.in_turn t.delivery.from_offered a t.contained)

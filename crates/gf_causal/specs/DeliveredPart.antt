@@ -1,0 +1,37 @@
+-- The operations that can be delivered from a list of offered ones (this project's choice, over causal delivery).
+use Rattle.std.specs.Prelude.{◌≡◌, ◌≢◌, ◌↔◌, List, [], ◌∷◌, ◌++◌, AllPairs, Contains}
+use Rattle.gf_ops.specs.declared.op.Op.{Op}
+use Rattle.gf_causal.specs.Ready.{IsReady}
+
+-- equal ids are equal operations
+abbrev pub AreOneById : List Op → Type 0
+AreOneById ops = (a b : Op) → Contains ops a → Contains ops b → a.id ≡ b.id → a ≡ b
+
+-- no two of the operations have one id
+abbrev pub HaveOwnIds : List Op → Type 0
+HaveOwnIds ops = AllPairs (λ a b. a.id ≢ b.id) ops
+
+-- operations each of which is ready behind those before it
+pub data AreReady : List Op → Type 0 where
+  none : AreReady []
+  next : {h : List Op} {a : Op} → AreReady h → IsReady h a → AreReady (h ++ a ∷ [])
+
+-- the course has offered operations without repeats, and each is ready behind those before it
+pub record IsDelivery (offered course : List Op) : Type 0 where
+  pub from_offered : (a : Op) → Contains course a → Contains offered a
+  pub once : HaveOwnIds course
+  pub in_turn : AreReady course
+
+-- no offered operation is ready behind the course
+abbrev pub CannotGoOn : List Op → List Op → Type 0
+CannotGoOn offered course = (a : Op) → Contains offered a → ¬ (IsReady course a)
+
+-- a is in the delivered part of the offered operations: it stands in a delivery of them
+pub record IsDelivered (offered : List Op) (a : Op) : Type 0 where
+  pub course : List Op
+  pub delivery : IsDelivery offered course
+  pub contained : Contains course a
+
+-- both lists have the same operations
+abbrev pub HaveSame : List Op → List Op → Type 0
+HaveSame ops others = (a : Op) → Contains ops a ↔ Contains others a
