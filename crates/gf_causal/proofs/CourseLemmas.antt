@@ -108,4 +108,5 @@ pub delivered_part : (offered course : List Op) → AreOneById offered → IsDel
     (a : Op) → Contains course a ↔ IsDelivered offered a
 delivered_part offered course one d stop a = (
   λ c. record { course = course; delivery = d; contained = c },
-  λ t. within_last offered course one d stop t.delivery.in_turn t.delivery.from_offered a t.contained)
+  λ t. within_last offered course one d stop t.delivery.in_turn t.delivery.from_offered a t.contained,
+)
