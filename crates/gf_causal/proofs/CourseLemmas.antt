@@ -26,17 +26,17 @@ pub count_push_other : (h : List Op) (a : Op) (s : ℕ) → a.id.site ≢ s → 
 count_push_other h a s n = sum_by-append (λ (x : Op). cond (nat_eq x.id.site s) 1 0) h (a ∷ []) ∙ ap (λ n. count_of h s + n) (count_none a s n) ∙ omega arith
 
 -- h has an operation under the id i
-pub record Has (h : List Op) (i : OpId) : Type 0 where
+pub record HasId (h : List Op) (i : OpId) : Type 0 where
   pub op : Op
   pub contained : Contains h op
   pub site : op.id.site ≡ i.site
   pub seq : op.id.seq ≡ i.seq
 
-Has-push : (h : List Op) (a : Op) (i : OpId) → Has h i → Has (h ++ a ∷ []) i
-Has-push h a i t = record { op = t.op; contained = Contains-append_left h (a ∷ []) t.op t.contained; site = t.site; seq = t.seq }
+HasId-push : (h : List Op) (a : Op) (i : OpId) → HasId h i → HasId (h ++ a ∷ []) i
+HasId-push h a i t = record { op = t.op; contained = Contains-append_left h (a ∷ []) t.op t.contained; site = t.site; seq = t.seq }
 
 -- each number up to the count is there
-pub has_counted : {h : List Op} → AreReady h → (i : OpId) → 1 ≤ i.seq → i.seq ≤ count_of h i.site → Has h i
+pub has_counted : {h : List Op} → AreReady h → (i : OpId) → 1 ≤ i.seq → i.seq ≤ count_of h i.site → HasId h i
 has_counted none i f l = absurd (omega arith)
 has_counted (next {h} {a} r q) i f l = elim (cases_eq a.id.site i.site) [
   | inl e ↦
@@ -45,9 +45,9 @@ has_counted (next {h} {a} r q) i f l = elim (cases_eq a.id.site i.site) [
         | inl m ↦
             let s = subst (λ t. a.id.seq ≡ count_of h t + 1) e q.seq in
             record { op = a; contained = Contains-push h a; site = e; seq = omega arith }
-        | inr m ↦ Has-push h a i (has_counted r i f m)
+        | inr m ↦ HasId-push h a i (has_counted r i f m)
       ]
-  | inr d ↦ Has-push h a i (has_counted r i f (rw (← count_push_other h a i.site d) l))
+  | inr d ↦ HasId-push h a i (has_counted r i f (rw (← count_push_other h a i.site d) l))
 ]
 
 -- no number is above the count
@@ -74,7 +74,7 @@ count_within {h} {k} r q within s = elim (cases_lt 0 (count_of h s)) [
   | inr m ↦ omega arith
 ]
 
-same_id : (a b : Op) → a.id.site ≡ b.id.site → a.id.seq ≡ b.id.seq → a.id ≡ b.id
+pub same_id : (a b : Op) → a.id.site ≡ b.id.site → a.id.seq ≡ b.id.seq → a.id ≡ b.id
 same_id a b s n j = record { site = s j; seq = n j }
 
 -- an operation that is ready behind a part of a delivery that cannot go on is in that delivery

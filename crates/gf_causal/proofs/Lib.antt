@@ -4,3 +4,5 @@ pub mod HeldLemmas
 pub mod StandingLemmas
 pub mod ReadyLemmas
 pub mod CourseLemmas
+pub mod FinishLemmas
+pub mod WholeLemmas

@@ -42,3 +42,6 @@ Contains-between xs y ys a h = elim (Contains-append_cases xs ys a h) [
   | inl l ↦ Contains-append_left xs (y ∷ ys) a l
   | inr r ↦ Contains-append_right xs (y ∷ ys) a (Contains-cons_tail y ys a r)
 ]
+
+pub Contains-between_itself : {X : Type 0} (xs : List X) (y : X) (ys : List X) → Contains (xs ++ y ∷ ys) y
+Contains-between_itself xs y ys = Contains-append_right xs (y ∷ ys) y (Contains-cons_head y ys)

@@ -26,6 +26,12 @@ pub record IsDelivery (offered course : List Op) : Type 0 where
 abbrev pub CannotGoOn : List Op → List Op → Type 0
 CannotGoOn offered course = (a : Op) → Contains offered a → ¬ (IsReady course a)
 
+-- the offered operations have a delivery that cannot go on
+pub record HasLastDelivery (offered : List Op) : Type 0 where
+  pub course : List Op
+  pub delivery : IsDelivery offered course
+  pub last : CannotGoOn offered course
+
 -- a is in the delivered part of the offered operations: it stands in a delivery of them
 pub record IsDelivered (offered : List Op) (a : Op) : Type 0 where
   pub course : List Op

@@ -1,0 +1,82 @@
+-- All of a valid history is delivered: by induction over how much an operation knows.
+use Rattle.std.proofs.Common.{ℕ, zero, suc, ◌+◌, ◌<◌, ◌≤◌, List, inl, inr, ap, subst, arith}
+use Rattle.std.specs.Prelude.{◌↔◌, Contains}
+use Rattle.std.proofs.lemmas.Bool.{cases_lt, cases_eq}
+use Rattle.gf_ops.specs.declared.op.Op.{Op}
+use Rattle.gf_ops.specs.declared.op.OpId.{OpId}
+use Rattle.gf_ops.specs.declared.op.Clock.{Clock}
+use Rattle.gf_ops.specs.OperationOrder.{IsSite, entry, count_of}
+use Rattle.gf_ops.specs.ValidHistory.{IsWithin, IsValid}
+use Rattle.gf_causal.specs.DeliveredPart.{IsDelivery, CannotGoOn, IsDelivered, HaveSame}
+use Rattle.gf_causal.proofs.StandingLemmas.{one_of_pairs}
+use Rattle.gf_causal.proofs.ReadyLemmas.{site_within}
+use Rattle.gf_causal.proofs.CourseLemmas.{has_counted, number_counted, same_id}
+use Rattle.gf_causal.proofs.FinishLemmas.{last_delivery}
+
+-- f 1 + .. + f n
+abbrev sum_to : (ℕ → ℕ) → ℕ → ℕ
+sum_to f zero = 0
+sum_to f (suc n) = f (suc n) + sum_to f n
+
+sum_to-le : (f g : ℕ → ℕ) (n : ℕ) → ((s : ℕ) → 1 ≤ s → s ≤ n → f s ≤ g s) → sum_to f n ≤ sum_to g n
+sum_to-le f g zero le = omega arith
+sum_to-le f g (suc n) le =
+    let i = sum_to-le f g n (λ s l m. le s l (omega arith)) in
+    let k = le (suc n) (omega arith) (omega arith) in omega arith
+
+sum_to-lt : (f g : ℕ → ℕ) (n t : ℕ) → ((s : ℕ) → 1 ≤ s → s ≤ n → f s ≤ g s) → 1 ≤ t → t ≤ n → f t < g t → sum_to f n < sum_to g n
+sum_to-lt f g zero t le a b l = absurd (omega arith)
+sum_to-lt f g (suc n) t le a b l = elim (cases_eq t (suc n)) [
+  | inl e ↦
+      let i = sum_to-le f g n (λ s l m. le s l (omega arith)) in
+      let k = subst (λ s. f s < g s) e l in omega arith
+  | inr d ↦
+      let i = sum_to-lt f g n t (λ s l m. le s l (omega arith)) a (omega arith) l in
+      let k = le (suc n) (omega arith) (omega arith) in omega arith
+]
+
+-- how much a clock knows
+abbrev known : Clock → ℕ
+known c = sum_to (entry c) 8
+
+module _ (offered h course : List Op) (valid : IsValid h) (same : HaveSame offered h) (d : IsDelivery offered course) (last : CannotGoOn offered course) where
+  -- an operation whose known ones are all delivered is delivered
+  delivered_next : (a : Op) → Contains h a → ((s : ℕ) → IsSite s → entry a.past s ≤ count_of course s) → Contains course a
+  delivered_next a c le =
+      let own = valid.own a c in
+      let l = le a.id.site (site_within a (valid.in_range a c)) in
+      elim (cases_lt (count_of course a.id.site) a.id.seq) [
+        | inl m ↦ absurd (last a ((same a).1 c) (record { seq = omega arith; others = λ s i n. le s i }))
+        | inr m ↦
+            let t = has_counted d.in_turn a.id (omega arith) m in
+            let k = (same t.op).0 (d.from_offered t.op t.contained) in
+            subst (Contains course) (one_of_pairs h valid.distinct t.op a k c (same_id t.op a t.site t.seq)) t.contained
+      ]
+
+  -- an operation that a knows knew less
+  knew_less : (a b : Op) → Contains h b → IsWithin b.past a.past → b.id.seq ≤ entry a.past b.id.site → known b.past < known a.past
+  knew_less a b c w l =
+      let own = valid.own b c in
+      let s = site_within b (valid.in_range b c) in
+      sum_to-lt (entry b.past) (entry a.past) 8 b.id.site (λ t f m. w t (f, m)) s.0 s.1 (omega arith)
+
+  all_delivered : (n : ℕ) (a : Op) → Contains h a → known a.past < n → Contains course a
+  all_delivered zero a c l = absurd (omega arith)
+  all_delivered (suc n) a c l = delivered_next a c (λ s i. elim (cases_lt 0 (entry a.past s)) [
+    | inl m ↦
+        let t = valid.closed a c (record { site = s; seq = entry a.past s }) (record { site = i; first = m; last = omega arith }) in
+        let q = ap (λ (j : OpId). j.seq) t.id in
+        let p = ap (λ (j : OpId). j.site) t.id in
+        let e : t.op.id.seq ≤ entry a.past t.op.id.site = rw p (omega arith) in
+        let k = knew_less a t.op t.contained t.past e in
+        let x = number_counted d.in_turn t.op (all_delivered n t.op t.contained (omega arith)) in
+        let y = subst (λ s. t.op.id.seq ≤ count_of course s) p x in omega arith
+    | inr m ↦ omega arith
+  ])
+
+pub whole_delivered : (offered h : List Op) → IsValid h → HaveSame offered h → (a : Op) → IsDelivered offered a ↔ Contains h a
+whole_delivered offered h valid same a = (
+  λ t. (same a).0 (t.delivery.from_offered a t.contained),
+  λ c.
+    let f = last_delivery offered in
+    record { course = f.course; delivery = f.delivery; contained = all_delivered offered h f.course valid same f.delivery f.last (known a.past + 1) a c (omega arith) })
