@@ -1,6 +1,6 @@
 -- What holds of operations each of which is ready behind those before it.
 use Rattle.std.proofs.Common.{◌≡◌, ◌≢◌, ℕ, ◌+◌, ◌≤◌, cond, nat_eq, List, [], ◌∷◌, ◌++◌, inl, inr, refl, ap, subst, ◌∙◌, arith}
-use Rattle.std.specs.Prelude.{◌↔◌, Contains}
+use Rattle.std.specs.Prelude.{Contains}
 use Rattle.std.proofs.lemmas.Bool.{cases_lt, cases_eq, eq-eqb}
 use Rattle.std.proofs.lemmas.Bool.Decides.{eqb_tells}
 use Rattle.std.proofs.lemmas.List.Sums.{sum_by-append}
@@ -9,7 +9,7 @@ use Rattle.gf_ops.specs.declared.op.Op.{Op}
 use Rattle.gf_ops.specs.declared.op.OpId.{OpId}
 use Rattle.gf_ops.specs.OperationOrder.{count_of}
 use Rattle.gf_causal.specs.Ready.{IsReady}
-use Rattle.gf_causal.specs.DeliveredPart.{AreOneById, AreReady, none, next, IsDelivery, CannotGoOn, IsDelivered}
+use Rattle.gf_causal.specs.DeliveredPart.{AreOneById, AreReady, none, next, IsDelivery, IsLastDelivery, IsDeliveredPart, HaveSame}
 use Rattle.gf_causal.proofs.ListLemmas.{not_Contains-nil}
 
 -- one operation counts at its own site
@@ -77,36 +77,45 @@ count_within {h} {k} r q within s = elim (cases_lt 0 (count_of h s)) [
 pub same_id : (a b : Op) → a.id.site ≡ b.id.site → a.id.seq ≡ b.id.seq → a.id ≡ b.id
 same_id a b s n j = record { site = s j; seq = n j }
 
--- an operation that is ready behind a part of a delivery that cannot go on is in that delivery
-pub has_ready : (offered course h : List Op) (b : Op) → AreOneById offered → IsDelivery offered course → CannotGoOn offered course → Contains offered b →
-    ((s : ℕ) → count_of h s ≤ count_of course s) → IsReady h b → Contains course b
-has_ready offered course h b one d stop c le q = elim (cases_lt (count_of course b.id.site) b.id.seq) [
-  | inl m ↦
-      let n = q.seq in
-      let l = le b.id.site in
-      absurd (stop b c (record { seq = omega arith; others = λ s i k. let o = q.others s i k in let w = le s in omega arith }))
-  | inr m ↦
-      let n = q.seq in
-      let t = has_counted d.in_turn b.id (omega arith) m in
-      subst (Contains course) (one t.op b (d.from_offered t.op t.contained) c (same_id t.op b t.site t.seq)) t.contained
-]
+module _ (offered course : List Op) (one : AreOneById offered) (l : IsLastDelivery offered course) where
+  -- an operation that is ready behind a part of a last delivery is in it
+  has_ready : (h : List Op) (b : Op) → Contains offered b → ((s : ℕ) → count_of h s ≤ count_of course s) → IsReady h b → Contains course b
+  has_ready h b c le q = elim (cases_lt (count_of course b.id.site) b.id.seq) [
+    | inl m ↦
+        let n = q.seq in
+        let w = le b.id.site in
+        absurd (l.last b c (record { seq = omega arith; others = λ s i k. let o = q.others s i k in let w = le s in omega arith }))
+    | inr m ↦
+        let n = q.seq in
+        let t = has_counted l.delivery.in_turn b.id (omega arith) m in
+        subst (Contains course) (one t.op b (l.delivery.from_offered t.op t.contained) c (same_id t.op b t.site t.seq)) t.contained
+  ]
 
--- so each delivery is within one that cannot go on
-within_last : (offered course : List Op) → AreOneById offered → IsDelivery offered course → CannotGoOn offered course →
-    {h : List Op} → AreReady h → ((a : Op) → Contains h a → Contains offered a) → (a : Op) → Contains h a → Contains course a
-within_last offered course one d stop none from a c = absurd (not_Contains-nil a c)
-within_last offered course one d stop (next {h} {a = b} r q) from a c =
-    let before = within_last offered course one d stop r (λ x k. from x (Contains-append_left h (b ∷ []) x k)) in
-    elim (Contains-push_cases h b a c) [
-      | inl k ↦ before a k
-      | inr e ↦
-          let o = from b (Contains-push h b) in
-          subst (Contains course) e (has_ready offered course h b one d stop o (count_within r d.in_turn before) q)
-    ]
+  -- so each delivery is within a last one
+  within_last : {h : List Op} → AreReady h → ((a : Op) → Contains h a → Contains offered a) → (a : Op) → Contains h a → Contains course a
+  within_last none from a c = absurd (not_Contains-nil a c)
+  within_last (next {h} {a = b} r q) from a c =
+      let before = within_last r (λ x k. from x (Contains-append_left h (b ∷ []) x k)) in
+      elim (Contains-push_cases h b a c) [
+        | inl k ↦ before a k
+        | inr e ↦ subst (Contains course) e (has_ready h b (from b (Contains-push h b)) (count_within r l.delivery.in_turn before) q)
+      ]
 
-pub delivered_part : (offered course : List Op) → AreOneById offered → IsDelivery offered course → CannotGoOn offered course →
-    (a : Op) → Contains course a ↔ IsDelivered offered a
-delivered_part offered course one d stop a = (
-  λ c. record { course = course; delivery = d; contained = c },
-  λ t. within_last offered course one d stop t.delivery.in_turn t.delivery.from_offered a t.contained,
-)
+  pub delivered_part : IsDeliveredPart offered course
+  delivered_part a = (
+    λ c. record { course = course; delivery = l.delivery; contained = c },
+    λ t. within_last t.delivery.in_turn t.delivery.from_offered a t.contained,
+  )
+
+-- a delivery of the same operations
+delivery_of_same : (offered others course : List Op) → HaveSame offered others → IsDelivery others course → IsDelivery offered course
+delivery_of_same offered others course same d = record { from_offered = λ a c. (same a).1 (d.from_offered a c); once = d.once; in_turn = d.in_turn }
+
+last_of_same : (offered others course : List Op) → HaveSame offered others → IsLastDelivery others course → IsLastDelivery offered course
+last_of_same offered others course same l = record { delivery = delivery_of_same offered others course same l.delivery; last = λ a c. l.last a ((same a).0 c) }
+
+pub same_delivered : (offered others c d : List Op) → AreOneById offered → HaveSame offered others → IsLastDelivery offered c → IsLastDelivery others d → HaveSame c d
+same_delivered offered others c d one same l m a =
+    let p = delivered_part offered c one l a in
+    let q = delivered_part offered d one (last_of_same offered others d same m) a in
+    (λ k. q.1 (p.0 k), λ k. p.1 (q.0 k))

@@ -6,7 +6,7 @@ use Rattle.std.proofs.lemmas.List.Elements.{Contains-get_or, Contains-append_lef
 use Rattle.std.proofs.lemmas.List.Quantifiers.{all_pairs_push}
 use Rattle.gf_ops.specs.declared.op.Op.{Op}
 use Rattle.gf_ops.specs.OperationOrder.{entry, count_of}
-use Rattle.gf_causal.specs.Ready.{IsReady}
+use Rattle.gf_causal.specs.Ready.{IsReady, NoneIsReady}
 use Rattle.gf_causal.specs.DeliveredPart.{none, next, IsDelivery, HasLastDelivery}
 use Rattle.gf_causal.proofs.ListLemmas.{not_Contains-nil, Contains-cons_cases, Contains-between, Contains-between_itself, Contains-between_cases}
 use Rattle.gf_causal.proofs.ReadyLemmas.{KnowsNoMore}
@@ -43,7 +43,7 @@ record HasReady (h xs : List Op) : Type 0 where
   is : xs ≡ before ++ op ∷ after
   ready : IsReady h op
 
-some_ready : (h xs : List Op) → HasReady h xs ⊎ ((a : Op) → Contains xs a → ¬ (IsReady h a))
+some_ready : (h xs : List Op) → HasReady h xs ⊎ NoneIsReady h xs
 some_ready h [] = inr (λ a c r. not_Contains-nil a c)
 some_ready h (x ∷ xs) = elim (ready_or_not h x) [
   | inl r ↦ inl (record { before = []; op = x; after = xs; is = refl; ready = r })
@@ -62,19 +62,18 @@ delivery-push : (offered course : List Op) (a : Op) → IsDelivery offered cours
 delivery-push offered course a d c r = record {
   from_offered = λ b k. elim (Contains-push_cases course a b k) [ inl m ↦ d.from_offered b m | inr e ↦ subst (Contains offered) e c ];
   once = all_pairs_push (λ x y. x.id ≢ y.id) course a d.once (λ k e l q.
-    let m = number_counted d.in_turn (get_or course k e) (Contains-get_or course k e l) in
-    let w = subst (λ i. i.seq ≤ count_of course i.site) q m in
-    let s = r.seq in absurd (omega arith));
+      let m = number_counted d.in_turn (get_or course k e) (Contains-get_or course k e l) in
+      let w = subst (λ i. i.seq ≤ count_of course i.site) q m in
+      let s = r.seq in absurd (omega arith));
   in_turn = next d.in_turn r;
 }
 
 -- where what is left has no ready operation, none of the offered is ready
 finished : (offered course left : List Op) → IsDelivery offered course → ((a : Op) → Contains offered a → Contains left a ⊎ Contains course a) →
-    ((a : Op) → Contains left a → ¬ (IsReady course a)) → HasLastDelivery offered
+    NoneIsReady course left → HasLastDelivery offered
 finished offered course left d all none_left = record {
   course = course;
-  delivery = d;
-  last = λ a c. elim (all a c) [ inl k ↦ none_left a k | inr k ↦ not_again offered course d a k ];
+  is_last = record { delivery = d; last = λ a c. elim (all a c) [ inl k ↦ none_left a k | inr k ↦ not_again offered course d a k ] };
 }
 
 go_on : (n : ℕ) (offered course left : List Op) → length left ≤ n → IsDelivery offered course → ((a : Op) → Contains left a → Contains offered a) →
@@ -85,19 +84,19 @@ go_on (suc n) offered course left l d from all = elim (some_ready course left) [
   | inl t ↦
       let at : Contains left t.op = subst (λ r. Contains r t.op) (sym t.is) (Contains-between_itself t.before t.op t.after) in
       go_on n offered (course ++ t.op ∷ []) (t.before ++ t.after)
-        (let e = ap length t.is in omega (arith, length-append t.before (t.op ∷ t.after), length-append t.before t.after))
-        (delivery-push offered course t.op d (from t.op at) t.ready)
-        (λ a c. from a (subst (λ r. Contains r a) (sym t.is) (Contains-between t.before t.op t.after a c)))
-        (λ a c. elim (all a c) [
-          | inl k ↦ elim (Contains-between_cases t.before t.op t.after a (subst (λ r. Contains r a) t.is k)) [
-            | inl e ↦ inr (subst (Contains (course ++ t.op ∷ [])) (sym e) (Contains-push course t.op))
-            | inr m ↦ inl m
-          ]
-          | inr k ↦ inr (Contains-append_left course (t.op ∷ []) a k)
-        ])
+      (let e = ap length t.is in omega (arith, length-append t.before (t.op ∷ t.after), length-append t.before t.after))
+      (delivery-push offered course t.op d (from t.op at) t.ready)
+      (λ a c. from a (subst (λ r. Contains r a) (sym t.is) (Contains-between t.before t.op t.after a c)))
+      (λ a c. elim (all a c) [
+        | inl k ↦ elim (Contains-between_cases t.before t.op t.after a (subst (λ r. Contains r a) t.is k)) [
+          | inl e ↦ inr (subst (Contains (course ++ t.op ∷ [])) (sym e) (Contains-push course t.op))
+          | inr m ↦ inl m
+        ]
+        | inr k ↦ inr (Contains-append_left course (t.op ∷ []) a k)
+      ])
 ]
 
 pub last_delivery : (offered : List Op) → HasLastDelivery offered
 last_delivery offered = go_on (length offered) offered [] offered (omega arith)
-  (record { from_offered = λ a c. absurd (not_Contains-nil a c); once = λ i j d l m. absurd (omega arith); in_turn = none })
-  (λ a c. c) (λ a c. inl c)
+    (record { from_offered = λ a c. absurd (not_Contains-nil a c); once = λ i j d l m. absurd (omega arith); in_turn = none })
+    (λ a c. c) (λ a c. inl c)

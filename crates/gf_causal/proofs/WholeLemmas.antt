@@ -1,13 +1,13 @@
 -- All of a valid history is delivered: by induction over how much an operation knows.
 use Rattle.std.proofs.Common.{ℕ, zero, suc, ◌+◌, ◌<◌, ◌≤◌, List, inl, inr, ap, subst, arith}
-use Rattle.std.specs.Prelude.{◌↔◌, Contains}
+use Rattle.std.specs.Prelude.{Contains}
 use Rattle.std.proofs.lemmas.Bool.{cases_lt, cases_eq}
 use Rattle.gf_ops.specs.declared.op.Op.{Op}
 use Rattle.gf_ops.specs.declared.op.OpId.{OpId}
 use Rattle.gf_ops.specs.declared.op.Clock.{Clock}
 use Rattle.gf_ops.specs.OperationOrder.{IsSite, entry, count_of}
 use Rattle.gf_ops.specs.ValidHistory.{IsWithin, IsValid}
-use Rattle.gf_causal.specs.DeliveredPart.{IsDelivery, CannotGoOn, IsDelivered, HaveSame}
+use Rattle.gf_causal.specs.DeliveredPart.{IsLastDelivery, IsDeliveredPart, HaveSame}
 use Rattle.gf_causal.proofs.StandingLemmas.{one_of_pairs}
 use Rattle.gf_causal.proofs.ReadyLemmas.{site_within}
 use Rattle.gf_causal.proofs.CourseLemmas.{has_counted, number_counted, same_id}
@@ -39,17 +39,17 @@ sum_to-lt f g (suc n) t le a b l = elim (cases_eq t (suc n)) [
 abbrev known : Clock → ℕ
 known c = sum_to (entry c) 8
 
-module _ (offered h course : List Op) (valid : IsValid h) (same : HaveSame offered h) (d : IsDelivery offered course) (last : CannotGoOn offered course) where
+module _ (offered h course : List Op) (valid : IsValid h) (same : HaveSame offered h) (l : IsLastDelivery offered course) where
   -- an operation whose known ones are all delivered is delivered
   delivered_next : (a : Op) → Contains h a → ((s : ℕ) → IsSite s → entry a.past s ≤ count_of course s) → Contains course a
   delivered_next a c le =
       let own = valid.own a c in
-      let l = le a.id.site (site_within a (valid.in_range a c)) in
+      let w = le a.id.site (site_within a (valid.in_range a c)) in
       elim (cases_lt (count_of course a.id.site) a.id.seq) [
-        | inl m ↦ absurd (last a ((same a).1 c) (record { seq = omega arith; others = λ s i n. le s i }))
+        | inl m ↦ absurd (l.last a ((same a).1 c) (record { seq = omega arith; others = λ s i n. le s i }))
         | inr m ↦
-            let t = has_counted d.in_turn a.id (omega arith) m in
-            let k = (same t.op).0 (d.from_offered t.op t.contained) in
+            let t = has_counted l.delivery.in_turn a.id (omega arith) m in
+            let k = (same t.op).0 (l.delivery.from_offered t.op t.contained) in
             subst (Contains course) (one_of_pairs h valid.distinct t.op a k c (same_id t.op a t.site t.seq)) t.contained
       ]
 
@@ -61,22 +61,23 @@ module _ (offered h course : List Op) (valid : IsValid h) (same : HaveSame offer
       sum_to-lt (entry b.past) (entry a.past) 8 b.id.site (λ t f m. w t (f, m)) s.0 s.1 (omega arith)
 
   all_delivered : (n : ℕ) (a : Op) → Contains h a → known a.past < n → Contains course a
-  all_delivered zero a c l = absurd (omega arith)
-  all_delivered (suc n) a c l = delivered_next a c (λ s i. elim (cases_lt 0 (entry a.past s)) [
+  all_delivered zero a c k = absurd (omega arith)
+  all_delivered (suc n) a c k = delivered_next a c (λ s i. elim (cases_lt 0 (entry a.past s)) [
     | inl m ↦
         let t = valid.closed a c (record { site = s; seq = entry a.past s }) (record { site = i; first = m; last = omega arith }) in
         let q = ap (λ (j : OpId). j.seq) t.id in
         let p = ap (λ (j : OpId). j.site) t.id in
         let e : t.op.id.seq ≤ entry a.past t.op.id.site = rw p (omega arith) in
-        let k = knew_less a t.op t.contained t.past e in
-        let x = number_counted d.in_turn t.op (all_delivered n t.op t.contained (omega arith)) in
+        let w = knew_less a t.op t.contained t.past e in
+        let x = number_counted l.delivery.in_turn t.op (all_delivered n t.op t.contained (omega arith)) in
         let y = subst (λ s. t.op.id.seq ≤ count_of course s) p x in omega arith
     | inr m ↦ omega arith
   ])
 
-pub whole_delivered : (offered h : List Op) → IsValid h → HaveSame offered h → (a : Op) → IsDelivered offered a ↔ Contains h a
+pub whole_delivered : (offered h : List Op) → IsValid h → HaveSame offered h → IsDeliveredPart offered h
 whole_delivered offered h valid same a = (
-  λ t. (same a).0 (t.delivery.from_offered a t.contained),
   λ c.
-    let f = last_delivery offered in
-    record { course = f.course; delivery = f.delivery; contained = all_delivered offered h f.course valid same f.delivery f.last (known a.past + 1) a c (omega arith) })
+      let f = last_delivery offered in
+      record { course = f.course; delivery = f.is_last.delivery; contained = all_delivered offered h f.course valid same f.is_last (known a.past + 1) a c (omega arith) },
+  λ t. (same a).0 (t.delivery.from_offered a t.contained),
+)

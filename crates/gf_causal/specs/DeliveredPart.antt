@@ -1,7 +1,7 @@
 -- The operations that can be delivered from a list of offered ones (this project's choice, over causal delivery).
 use Rattle.std.specs.Prelude.{◌≡◌, ◌≢◌, ◌↔◌, List, [], ◌∷◌, ◌++◌, AllPairs, Contains}
 use Rattle.gf_ops.specs.declared.op.Op.{Op}
-use Rattle.gf_causal.specs.Ready.{IsReady}
+use Rattle.gf_causal.specs.Ready.{IsReady, NoneIsReady}
 
 -- equal ids are equal operations
 abbrev pub AreOneById : List Op → Type 0
@@ -22,21 +22,25 @@ pub record IsDelivery (offered course : List Op) : Type 0 where
   pub once : HaveOwnIds course
   pub in_turn : AreReady course
 
--- no offered operation is ready behind the course
-abbrev pub CannotGoOn : List Op → List Op → Type 0
-CannotGoOn offered course = (a : Op) → Contains offered a → ¬ (IsReady course a)
+-- behind this delivery no offered operation is ready
+pub record IsLastDelivery (offered course : List Op) : Type 0 where
+  pub delivery : IsDelivery offered course
+  pub last : NoneIsReady course offered
 
--- the offered operations have a delivery that cannot go on
+-- the offered operations have such a delivery
 pub record HasLastDelivery (offered : List Op) : Type 0 where
   pub course : List Op
-  pub delivery : IsDelivery offered course
-  pub last : CannotGoOn offered course
+  pub is_last : IsLastDelivery offered course
 
--- a is in the delivered part of the offered operations: it stands in a delivery of them
+-- a stands in a delivery of the offered operations
 pub record IsDelivered (offered : List Op) (a : Op) : Type 0 where
   pub course : List Op
   pub delivery : IsDelivery offered course
   pub contained : Contains course a
+
+-- the list has the delivered part of the offered operations: those that stand in some delivery, and no others
+abbrev pub IsDeliveredPart : List Op → List Op → Type 0
+IsDeliveredPart offered ops = (a : Op) → Contains ops a ↔ IsDelivered offered a
 
 -- both lists have the same operations
 abbrev pub HaveSame : List Op → List Op → Type 0

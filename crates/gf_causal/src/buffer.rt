@@ -7,7 +7,7 @@ ghost use Rattle.gf_causal.specs.declared.buffer.Offered.{Offered};
 ghost use Rattle.gf_causal.specs.declared.faults.OfferFault.{OfferFault};
 ghost use Rattle.gf_causal.specs.HeldOperations.{AreHeld, IsFree, IsClash, IsKnown, IsNew, Adds, IsFirstReady};
 ghost use Rattle.gf_causal.specs.Keeping.{Among, Stands};
-ghost use Rattle.gf_causal.specs.Ready.{IsReady};
+ghost use Rattle.gf_causal.specs.Ready.{IsReady, NoneIsReady};
 
 use crate::OfferFault;
 use crate::ready::knows_no_more;
@@ -84,8 +84,9 @@ impl Buffer {
     /// next number of each site.
     pub fn first_ready(&self, history: &History) -> Option<&Op>
         ensures found { IfSome result (λ op. IsFirstReady self.now history.now.ops op.now) }
-        ensures none { IfNone result ((a : Op) → Contains self.now a → ¬ (IsReady history.now.ops a)) }
+        ensures none { IfNone result (NoneIsReady history.now.ops self.now) }
     {
+        // Each held operation is in range.
         let _ = &self.ops;
         for site in 1..9 {
             if let Some(op) = self.ready_of(site, history) {
@@ -95,10 +96,12 @@ impl Buffer {
         None
     }
 
-    /// Takes it out.
+    /// Takes out what `first_ready` gives, and nothing else.
     pub fn take_ready(&mut self, history: &History) -> Option<Op>
-        ensures found { IfSome result (λ op. IsFirstReady self.old history.now.ops op × IsInRange op × Adds self.new op self.old) }
-        ensures none { IfNone result ((a : Op) → Contains self.old a → ¬ (IsReady history.now.ops a)) }
+        ensures found { IfSome result (IsFirstReady self.old history.now.ops) }
+        ensures in_range { IfSome result IsInRange }
+        ensures taken { IfSome result (λ op. Adds self.new op self.old) }
+        ensures none { IfNone result (NoneIsReady history.now.ops self.old) }
         ensures same { IfNone result (self.new ≡ self.old) }
     {
         let id = self.first_ready(history)?.id;
@@ -108,7 +111,7 @@ impl Buffer {
     /// How many operations are held.
     pub fn held(&self) -> usize
         ensures held { result ≡ length self.now }
-        ensures rising { AreHeld self.now }
+        ensures valid { AreHeld self.now }
     {
         self.ops.len()
     }
@@ -125,6 +128,7 @@ impl Buffer {
     fn among_held(&self, op: &Op) -> Standing
         ensures { Among self.now op.now result }
     {
+        // Its ids are distinct.
         let _ = &self.ops;
         compare(self.find(op.id), op)
     }

@@ -1,23 +1,23 @@
 //! Laws of deliveries, each the contract of a function that does nothing.
 
-ghost use Rattle.std.specs.Prelude.{◌↔◌, List, Contains};
+ghost use Rattle.std.specs.Prelude.{List};
 ghost use Rattle.gf_ops.specs.declared.op.Op.{Op};
 ghost use Rattle.gf_ops.specs.ValidHistory.{IsValid};
-ghost use Rattle.gf_causal.specs.DeliveredPart.{AreOneById, IsDelivery, CannotGoOn, HasLastDelivery, IsDelivered, HaveSame};
+ghost use Rattle.gf_causal.specs.DeliveredPart.{AreOneById, IsLastDelivery, HasLastDelivery, IsDeliveredPart, HaveSame};
 
-/// Whatever the order in which ready operations were taken from what was offered: as soon as none
-/// of it is ready, exactly the delivered part was taken.
-pub fn a_delivery_that_cannot_go_on_has_the_delivered_part()
-    ensures { (offered course : List Op) → AreOneById offered → IsDelivery offered course → CannotGoOn offered course → (a : Op) → Contains course a ↔ IsDelivered offered a }
+/// However ready operations were chosen: as soon as none of those offered is ready, exactly the
+/// delivered part was taken, whatever the order of the offers.
+pub fn a_last_delivery_has_the_delivered_part()
+    ensures part { (offered course : List Op) → AreOneById offered → IsLastDelivery offered course → IsDeliveredPart offered course }
+    ensures same { (offered others c d : List Op) → AreOneById offered → HaveSame offered others → IsLastDelivery offered c → IsLastDelivery others d → HaveSame c d }
 {}
 
-/// Of each list there is such a delivery.
-pub fn a_list_has_a_delivery_that_cannot_go_on()
+/// Whatever is offered, there is such a delivery.
+pub fn each_list_has_a_last_delivery()
     ensures { (offered : List Op) → HasLastDelivery offered }
 {}
 
-/// Of the operations of a valid history, and nothing else, all are delivered, in whatever order
-/// and however often they were offered.
+/// Of the operations of a valid history, and no others, all are delivered.
 pub fn the_delivered_part_of_a_valid_history_is_all_of_it()
-    ensures { (offered h : List Op) → IsValid h → HaveSame offered h → (a : Op) → IsDelivered offered a ↔ Contains h a }
+    ensures { (offered h : List Op) → IsValid h → HaveSame offered h → IsDeliveredPart offered h }
 {}

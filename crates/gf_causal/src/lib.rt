@@ -15,4 +15,7 @@ mod tests;
 
 pub use buffer::{Buffer, Offered};
 pub use faults::OfferFault;
-pub use laws::{a_delivery_that_cannot_go_on_has_the_delivered_part, a_list_has_a_delivery_that_cannot_go_on, the_delivered_part_of_a_valid_history_is_all_of_it};
+pub use laws::{
+    a_last_delivery_has_the_delivered_part, each_list_has_a_last_delivery,
+    the_delivered_part_of_a_valid_history_is_all_of_it,
+};

@@ -12,11 +12,20 @@ pub returns-clause-found : goal.returns-clause-found
 returns-clause-found c =
     let first = c.in_ok-id.ensures.found in
     let held : Contains (values_of c.self.inside.ops.entries) c.in_ok-id.field-0.now = rw c.self.view_is first.contained in
-    rw (lookup-removed _ c.self.invariant c.in_ok-id.field-0.now held c.remove.result c.remove.ensures.value) (
-      first,
-      c.self.invariant.held.in_range c.in_ok-id.field-0.now held,
-      rw (← c.self.view_is) (Adds-remove _ c.self.invariant c.in_ok-id.field-0.now held _ c.remove.ensures.entries),
-    )
+    rw (lookup-removed _ c.self.invariant c.in_ok-id.field-0.now held c.remove.result c.remove.ensures.value) first
+
+pub returns-clause-in_range : goal.returns-clause-in_range
+returns-clause-in_range c =
+    let first = c.in_ok-id.ensures.found in
+    let held : Contains (values_of c.self.inside.ops.entries) c.in_ok-id.field-0.now = rw c.self.view_is first.contained in
+    rw (lookup-removed _ c.self.invariant c.in_ok-id.field-0.now held c.remove.result c.remove.ensures.value) (c.self.invariant.held.in_range c.in_ok-id.field-0.now held)
+
+pub returns-clause-taken : goal.returns-clause-taken
+returns-clause-taken c =
+    let first = c.in_ok-id.ensures.found in
+    let held : Contains (values_of c.self.inside.ops.entries) c.in_ok-id.field-0.now = rw c.self.view_is first.contained in
+    rw (lookup-removed _ c.self.invariant c.in_ok-id.field-0.now held c.remove.result c.remove.ensures.value, ← c.self.view_is)
+    (Adds-remove _ c.self.invariant c.in_ok-id.field-0.now held _ c.remove.ensures.entries)
 
 pub returns-clause-none : goal.returns-clause-none
 returns-clause-none c =
