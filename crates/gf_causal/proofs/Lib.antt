@@ -1,4 +1,3 @@
-pub mod SameLemmas
 pub mod ListLemmas
 pub mod HeldLemmas
 pub mod StandingLemmas

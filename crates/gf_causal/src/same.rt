@@ -78,7 +78,7 @@ fn same_value(a: &Value, b: &Value) -> bool
     }
 }
 
-#[tactic(auto, using(crate::proofs::SameLemmas::points_decides))]
+#[tactic(auto, using(gf_ops::proofs::SameLemmas::points_decides))]
 fn same_points(a: &Points, b: &Points) -> bool
     ensures { IsTrue result ↔ a.now ≡ b.now }
 {
