@@ -6,10 +6,9 @@ use Rattle.std.proofs.lemmas.List.Elements.{Contains-get_or, Contains-append_lef
 use Rattle.std.proofs.lemmas.List.Quantifiers.{all_pairs_push}
 use Rattle.gf_ops.specs.declared.op.Op.{Op}
 use Rattle.gf_ops.specs.OperationOrder.{entry, count_of}
-use Rattle.gf_causal.specs.Ready.{IsReady, NoneIsReady}
+use Rattle.gf_causal.specs.Ready.{KnowsNoMore, IsReady, NoneIsReady}
 use Rattle.gf_causal.specs.DeliveredPart.{none, next, IsDelivery, HasLastDelivery}
 use Rattle.gf_causal.proofs.ListLemmas.{not_Contains-nil, Contains-cons_cases, Contains-between, Contains-between_itself, Contains-between_cases}
-use Rattle.gf_causal.proofs.ReadyLemmas.{KnowsNoMore}
 use Rattle.gf_causal.proofs.CourseLemmas.{number_counted}
 
 -- what a knows of the sites 1 to n is tested one by one

@@ -8,8 +8,8 @@ use Rattle.std.proofs.lemmas.Cmp.{ranked}
 use Rattle.gf_ops.specs.declared.op.Op.{Op}
 use Rattle.gf_ops.specs.declared.op.OpId.{OpId}
 use Rattle.gf_ops.specs.Limits.{is_id, is_clock, is_change, IsInRange}
-use Rattle.gf_ops.specs.OperationOrder.{IsSite, entry, count_of, id_cmp}
-use Rattle.gf_causal.specs.Ready.{IsReady}
+use Rattle.gf_ops.specs.OperationOrder.{IsSite, count_of, id_cmp}
+use Rattle.gf_causal.specs.Ready.{KnowsNoMore, IsReady}
 use Rattle.gf_causal.specs.HeldOperations.{AreHeld, IsFree}
 use Rattle.gf_causal.specs.DeliveredPart.{AreOneById}
 
@@ -29,10 +29,6 @@ site_within a r = site_of_id a.id (first_of (is_id a.id) (is_clock a.past) (is_c
 
 number_within : (a : Op) → IsInRange a → a.id.seq ≤ 10000
 number_within a r = number_of_id a.id (first_of (is_id a.id) (is_clock a.past) (is_change a.change) r)
-
--- what an operation that is ready may know of the other sites
-abbrev pub KnowsNoMore : List Op → Op → Type 0
-KnowsNoMore h a = (s : ℕ) → IsSite s → s ≢ a.id.site → entry a.past s ≤ count_of h s
 
 module _ (held h : List Op) (are_held : AreHeld held) (s n : ℕ) (next : n ≡ min (count_of h s + 1) (2 ^ 32 - 1)) where
   -- a ready operation of the site s has the number n

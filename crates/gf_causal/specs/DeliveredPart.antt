@@ -11,7 +11,7 @@ AreOneById ops = (a b : Op) → Contains ops a → Contains ops b → a.id ≡ b
 abbrev pub HaveOwnIds : List Op → Type 0
 HaveOwnIds ops = AllPairs (λ a b. a.id ≢ b.id) ops
 
--- operations each of which is ready behind those before it
+-- each of the operations is ready behind those before it
 pub data AreReady : List Op → Type 0 where
   none : AreReady []
   next : {h : List Op} {a : Op} → AreReady h → IsReady h a → AreReady (h ++ a ∷ [])

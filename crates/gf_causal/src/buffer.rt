@@ -158,8 +158,9 @@ impl Buffer {
         ensures found { IfSome result (λ op. Contains self.now op.now × IsReady history.now.ops op.now × (op.now.id.site ≡ site)) }
         ensures none { IfNone result ((a : Op) → Contains self.now a → a.id.site ≡ site → ¬ (IsReady history.now.ops a)) }
     {
-        let seq = history.count(site).saturating_add(1);
+        // Each held operation is in range, so no number is lost.
         let _ = &self.ops;
+        let seq = history.count(site).saturating_add(1);
         match self.find(OpId { site, seq }) {
             None => None,
             Some(op) => {

@@ -2,6 +2,7 @@
 //!
 //! - [`Buffer`]: operations that wait until a history has what they know.
 //! - [`Offered`], [`OfferFault`]: what an offer to a buffer came to.
+//! - [`a_last_delivery_has_the_delivered_part`]: why the order of offers and takings does not matter.
 #![tactic(auto)]
 
 mod buffer;
