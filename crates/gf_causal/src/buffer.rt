@@ -1,6 +1,6 @@
 //! Operations that wait for what they know.
 
-ghost use Rattle.std.specs.Prelude.{◌≡◌, ◌≢◌, ◌↔◌, [], length, Contains, Ok, Err, IfSome, IfNone, OnOk, OnErr, IsOk};
+ghost use Rattle.std.specs.Prelude.{◌≡◌, ◌≢◌, ◌↔◌, [], length, Contains, Ok, Err, IfSome, IfNone, OnOk, OnErr};
 ghost use Rattle.gf_ops.specs.declared.op.Op.{Op};
 ghost use Rattle.gf_ops.specs.Limits.{IsInRange};
 ghost use Rattle.gf_causal.specs.declared.buffer.Offered.{Offered};
