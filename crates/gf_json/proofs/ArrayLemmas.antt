@@ -5,7 +5,8 @@ use Rattle.serde_json.specs.Data.{Data}
 use Rattle.serde_json.specs.declared.value.Value.{Value}
 use Rattle.serde_json.specs.View.{view, items_view}
 use Rattle.gf_json.specs.declared.line_error.LineError.TheVariants as fault
-use Rattle.gf_json.specs.LineValues.{Got, mapped, ◌&◌, each, elements, two_of, clock, entry, and_then, whole}
+use Rattle.gf_json.specs.LineValues.{Got, mapped, ◌&◌, each, elements, two_of, and_then, whole}
+use Rattle.gf_json.specs.LineLimits.{clock, entry}
 use Rattle.gf_ops.specs.declared.op.Clock.{Clock}
 use Rattle.gf_ops.specs.Limits.{is_clock}
 use Rattle.std.specs.Prelude.{IfOk, IsTrue}

@@ -11,7 +11,8 @@ use Rattle.serde_json.specs.declared.value.Value.{Value}
 use Rattle.serde_json.specs.View.{view, items_view}
 use Rattle.gf_json.specs.declared.line_error.LineError.{LineError}
 use Rattle.gf_json.specs.declared.line_error.LineError.TheVariants as fault
-use Rattle.gf_json.specs.LineValues.{Got, mapped, and_then, ◌&◌, each, elements, two, coordinate, whole, point, counted, points_of}
+use Rattle.gf_json.specs.LineValues.{Got, mapped, and_then, ◌&◌, each, elements, two, whole}
+use Rattle.gf_json.specs.LineLimits.{coordinate, point, counted, points_of}
 use Rattle.gf_json.specs.CheckedPoints.{checked, checked_point}
 use Rattle.gf_json.proofs.ArrayLemmas.{mapped-parts, beside-parts, beside-mapped, each-all, length-elements}
 

@@ -2,7 +2,8 @@
 use Rattle.std.specs.Prelude.{pos, Ok, Err, ⊤}
 use Rattle.gf_shape.specs.declared.point.Point.{Point}
 use Rattle.serde_json.specs.Data.{Data}
-use Rattle.gf_json.specs.LineValues.{Got, mapped, point}
+use Rattle.gf_json.specs.LineValues.{Got, mapped}
+use Rattle.gf_json.specs.LineLimits.{point}
 
 -- whether all is read, or the fault
 abbrev pub checked : {A : Type 0} → Got A → Got ⊤

@@ -1,5 +1,10 @@
 pub mod LineValues
+pub mod LineLimits
+pub mod LineColours
 pub mod LineFields
+pub mod LineKeys
+pub mod LineChanges
 pub mod OperationLines
+pub mod ScriptLines
 pub mod CheckedPoints
 pub mod LineExamples

@@ -1,16 +1,19 @@
--- The keys of a line, and what stands at each (RFC 8259 by serde_json's value; keys and limits are this project's choice).
-use Rattle.std.specs.Prelude.{ℕ, Bool, List, option_and_then, codes}
+-- What stands at each key of a line (RFC 8259 by serde_json's value; keys are this project's choice).
+use Rattle.std.specs.Prelude.{ℕ, Bool, List, codes}
 use Rattle.std.specs.Option.{ok_or}
 use Rattle.gf_shape.specs.declared.point.Point.{Point}
 use Rattle.gf_shape.specs.declared.colour.Rgb.{Rgb}
 use Rattle.gf_ops.specs.declared.op.OpId.{OpId}
+use Rattle.gf_ops.specs.declared.op.ObjectId.{ObjectId}
 use Rattle.gf_ops.specs.declared.op.Clock.{Clock}
 use Rattle.gf_ops.specs.declared.change.Form.{Form}
 use Rattle.gf_ops.specs.declared.change.Form.TheVariants.{Rect, Polygon, Circle}
 use Rattle.gf_json.specs.declared.line_error.LineError.TheVariants as fault
 use Rattle.serde_json.specs.Data.{Data}
-use Rattle.serde_json.specs.Find.{get, as_str, as_bool}
-use Rattle.gf_json.specs.LineValues.{Got, mapped, and_then, array, two, pair, natural, side, side_twice, clock, point, points_of, rgb}
+use Rattle.serde_json.specs.Find.{get}
+use Rattle.gf_json.specs.LineValues.{Got, mapped, and_then, array, truth}
+use Rattle.gf_json.specs.LineLimits.{natural, name, size, radius, level, clock, point, points}
+use Rattle.gf_json.specs.LineColours.{hex_colour}
 
 -- the value at a key
 abbrev pub value_at : List ℕ → Data → Got Data
@@ -20,13 +23,21 @@ value_at key d = ok_or (get key d) fault.Field
 abbrev pub at : {A : Type 0} → List ℕ → (Data → Got A) → Data → Got A
 at key form d = and_then form (value_at key d)
 
--- the name of the operation: its site, 1 to 8, and its number there, 1 to 10,000
+-- the name of the operation
 abbrev pub id : Data → Got OpId
-id d = at (codes "id") (λ v. mapped (λ p. record { site = p.0; seq = p.1 }) (pair (natural 1 8) (natural 1 10000) v)) d
+id d = at (codes "id") name d
 
 -- what its site knew before it
 abbrev pub past : Data → Got Clock
 past d = at (codes "past") (λ v. and_then clock (array v)) d
+
+-- the site of a command
+abbrev pub site : Data → Got ℕ
+site d = at (codes "site") (natural 1 8) d
+
+-- the object whose attribute is set
+abbrev pub object : Data → Got ObjectId
+object d = mapped (λ i. record { 0 = i }) (at (codes "object") name d)
 
 -- where the new object is
 abbrev pub place : Data → Got Point
@@ -34,24 +45,24 @@ place d = at (codes "place") point d
 
 -- a box, by its width and its height
 abbrev pub box_size : Data → Got Form
-box_size d = at (codes "size") (λ v. mapped (λ p. Rect p.0 p.1) (pair side side v)) d
+box_size d = mapped (λ p. Rect p.0 p.1) (at (codes "size") size d)
 
 -- a circle, by its radius twice
 abbrev pub circle_size : Data → Got Form
-circle_size d = at (codes "size") (λ v. mapped Circle (and_then (λ p. side_twice p.0 p.1) (two v))) d
+circle_size d = mapped Circle (at (codes "size") radius d)
 
 -- a polygon, by its points
 abbrev pub polygon_points : Data → Got Form
-polygon_points d = at (codes "points") (λ v. mapped Polygon (and_then points_of (array v))) d
+polygon_points d = mapped Polygon (at (codes "points") points d)
 
--- a string of six hexadecimal digits
+-- the colour of the new object
 abbrev pub colour : Data → Got Rgb
-colour d = at (codes "colour") (λ v. ok_or (option_and_then rgb (as_str v)) fault.Field) d
+colour d = at (codes "colour") hex_colour d
 
--- 0 to 9,999
+-- its layer
 abbrev pub layer : Data → Got ℕ
-layer d = at (codes "layer") (natural 0 9999) d
+layer d = at (codes "layer") level d
 
--- true or false
+-- whether it is shown
 abbrev pub shown : Data → Got Bool
-shown d = at (codes "shown") (λ v. ok_or (as_bool v) fault.Field) d
+shown d = at (codes "shown") truth d

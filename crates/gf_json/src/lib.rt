@@ -1,16 +1,23 @@
-//! Operations as lines of JSON.
+//! Operations and commands as lines of JSON.
 //!
 //! - [`read_op`]: the operation that a line denotes, or its first fault.
-//! - [`LineError`]: why a line is no operation.
+//! - [`read_script`], [`ScriptLine`], [`Command`]: the command that a line of a script denotes, or
+//!   its first fault.
+//! - [`LineError`]: why a line is no operation and no command.
 #![tactic(auto)]
 
+mod line_changes;
+mod line_colours;
 mod line_error;
 mod line_fields;
+mod line_keys;
 mod line_points;
 #[cfg(test)]
 mod line_tests;
 mod line_values;
 mod lines;
+mod script_line;
 
 pub use line_error::LineError;
-pub use lines::read_op;
+pub use lines::{read_op, read_script};
+pub use script_line::{Command, ScriptLine};

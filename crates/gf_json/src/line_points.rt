@@ -3,19 +3,28 @@
 ghost use Rattle.std.specs.Prelude.{◌≡◌, ◌⊎◌, Err, IfOk, IsTrue, length, map};
 ghost use Rattle.serde_json.specs.View.{view, items_view};
 ghost use Rattle.gf_ops.specs.Limits.{is_polygon};
-ghost use Rattle.gf_json.specs.LineValues.{◌&◌, elements, each, point, counted, points_of};
+ghost use Rattle.gf_json.specs.LineValues.{◌&◌, elements, each};
+ghost use Rattle.gf_json.specs.LineLimits.{point, counted, points, points_of};
 ghost use Rattle.gf_json.specs.CheckedPoints.{checked, checked_point};
 
 use crate::LineError;
-use crate::line_values::{both, point};
+use crate::line_values::{both, elements, point};
 use gf_ops::Points;
 use gf_shape::Point;
 use serde_json::Value;
 use std::alloc::{AllocError, Global};
 
+/// The points of a polygon.
+pub(crate) fn points(alloc: Global, value: &Value) -> Result<Points, LineError>
+    ensures value { (result ≡ Err LineError.OutOfMemory) ⊎ (result ≡ points (view value.now)) }
+    ensures in_range { IfOk result (λ ps. IsTrue (is_polygon ps)) }
+{
+    points_of(alloc, elements(value)?)
+}
+
 /// The points of the elements of an array.
 #[tactic(auto, using(crate::proofs::PointLemmas::reads))]
-pub(crate) fn points_of(alloc: Global, values: &[Value]) -> Result<Points, LineError>
+fn points_of(alloc: Global, values: &[Value]) -> Result<Points, LineError>
     ensures value { (result ≡ Err LineError.OutOfMemory) ⊎ (result ≡ points_of (elements (items_view values.now))) }
     ensures in_range { IfOk result (λ ps. IsTrue (is_polygon ps)) }
 {

@@ -1,13 +1,14 @@
-//! The values of a line: forms, limits and colours.
+//! The values of a line: forms and limits.
 
-ghost use Rattle.std.specs.Prelude.{◌≡◌, ◌≤◌, ◌<◌, ◌&&◌, pos, negsuc, int_le, IsTrue, Ok, IfOk, IfSome};
+ghost use Rattle.std.specs.Prelude.{◌≡◌, ◌≤◌, ◌&&◌, pos, negsuc, int_le, IsTrue, Ok, IfOk};
 ghost use Rattle.serde_json.specs.View.{view, items_view};
-ghost use Rattle.gf_ops.specs.Limits.{is_near, is_size};
-ghost use Rattle.gf_json.specs.LineValues.{◌&◌, mapped, whole, elements, array, two, integer, natural, coordinate, side, side_twice, entry, point, clock, hex_digit, hex_byte, rgb};
+ghost use Rattle.gf_ops.specs.Limits.{is_id, is_near, is_size, is_layer};
+ghost use Rattle.gf_json.specs.LineValues.{◌&◌, mapped, whole, elements, array, two, truth};
+ghost use Rattle.gf_json.specs.LineLimits.{integer, natural, coordinate, side, side_twice, entry, name, size, radius, level, point, clock};
 
 use crate::LineError;
-use gf_ops::Clock;
-use gf_shape::{Point, Rgb};
+use gf_ops::{Clock, OpId};
+use gf_shape::Point;
 use serde_json::Value;
 
 /// Both of two parts. Field in either comes before Range in either.
@@ -88,6 +89,51 @@ fn entry(value: &Value) -> Result<u32, LineError>
     natural(value, 0, 10_000)
 }
 
+/// A name: a site and a number there.
+pub(crate) fn name(value: &Value) -> Result<OpId, LineError>
+    ensures value { result ≡ name (view value.now) }
+    ensures in_range { IfOk result (λ i. IsTrue (is_id i)) }
+{
+    let (site, seq) = two(value)?;
+    let (site, seq) = both(natural(site, 1, 8), natural(seq, 1, 10_000))?;
+    Ok(OpId {
+        site: site as u8,
+        seq,
+    })
+}
+
+/// A width and a height.
+pub(crate) fn size(value: &Value) -> Result<(u32, u32), LineError>
+    ensures value { result ≡ size (view value.now) }
+    ensures within { IfOk result (λ s. IsTrue (is_size s.0 && is_size s.1)) }
+{
+    let (width, height) = two(value)?;
+    both(side(width), side(height))
+}
+
+/// A radius, standing twice.
+pub(crate) fn radius(value: &Value) -> Result<u32, LineError>
+    ensures value { result ≡ radius (view value.now) }
+    ensures within { IfOk result (λ n. IsTrue (is_size n)) }
+{
+    let (width, height) = two(value)?;
+    side_twice(width, height)
+}
+
+pub(crate) fn level(value: &Value) -> Result<u16, LineError>
+    ensures value { result ≡ level (view value.now) }
+    ensures within { IfOk result (λ n. IsTrue (is_layer n)) }
+{
+    let level = natural(value, 0, 9_999)?;
+    Ok(level as u16)
+}
+
+pub(crate) fn truth(value: &Value) -> Result<bool, LineError>
+    ensures { result ≡ truth (view value.now) }
+{
+    value.as_bool().ok_or(LineError::Field)
+}
+
 /// The elements of an array.
 pub(crate) fn elements(value: &Value) -> Result<&[Value], LineError>
     ensures { mapped (λ vs. elements (items_view vs.now)) result ≡ array (view value.now) }
@@ -132,37 +178,4 @@ pub(crate) fn clock(values: &[Value]) -> Result<Clock, LineError>
         Ok((a, (b, (c, (d, (e, (f, (g, h)))))))) => Ok(Clock([a, b, c, d, e, f, g, h])),
         Err(fault) => Err(fault),
     }
-}
-
-/// What a hexadecimal digit of either case is worth.
-fn hex_digit(byte: u8) -> Option<u8>
-    ensures value { result ≡ hex_digit byte }
-    ensures within { IfSome result (λ n. n < 16) }
-{
-    match byte {
-        b'0'..=b'9' => Some(byte - b'0'),
-        b'a'..=b'f' => Some(byte - b'a' + 10),
-        b'A'..=b'F' => Some(byte - b'A' + 10),
-        _ => None,
-    }
-}
-
-fn hex_byte(high: u8, low: u8) -> Option<u8>
-    ensures { result ≡ hex_byte high low }
-{
-    let high = hex_digit(high)?;
-    let low = hex_digit(low)?;
-    Some(high * 16 + low)
-}
-
-pub(crate) fn rgb(text: &[u8]) -> Option<Rgb>
-    ensures { result ≡ rgb text.now }
-{
-    let [a, b, c, d, e, f] = text else {
-        return None;
-    };
-    let r = hex_byte(*a, *b)?;
-    let g = hex_byte(*c, *d)?;
-    let b = hex_byte(*e, *f)?;
-    Some(Rgb { r, g, b })
 }

@@ -1,6 +1,7 @@
 use Rattle.std.proofs.Common.{◌≡◌, ◌≤◌, drop, length}
 use Rattle.serde_json.specs.View.{items_view}
-use Rattle.gf_json.specs.LineValues.{each, elements, point}
+use Rattle.gf_json.specs.LineValues.{each, elements}
+use Rattle.gf_json.specs.LineLimits.{point}
 use Rattle.gf_json.specs.CheckedPoints.{checked}
 use Rattle.gf_json.proofs.line_points.are_points.Given as goal
 

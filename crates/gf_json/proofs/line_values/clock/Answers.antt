@@ -1,6 +1,7 @@
 use Rattle.std.proofs.Common.{◌≡◌, refl}
 use Rattle.serde_json.specs.View.{view}
-use Rattle.gf_json.specs.LineValues.{entry, ◌&◌}
+use Rattle.gf_json.specs.LineValues.{◌&◌}
+use Rattle.gf_json.specs.LineLimits.{entry}
 use Rattle.gf_json.proofs.ArrayLemmas.{clock_of_eight}
 use Rattle.gf_json.proofs.line_values.clock.Goals as goal
 

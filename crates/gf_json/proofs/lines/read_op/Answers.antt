@@ -1,11 +1,13 @@
-use Rattle.std.proofs.Common.{rules, inr, sym}
-use Rattle.gf_json.proofs.KeyLemmas.{denoted-or, denoted-refused}
+use Rattle.std.proofs.Common.{refl}
+use Rattle.serde_json.specs.View.{view}
+use Rattle.gf_json.specs.OperationLines.{op_of}
+use Rattle.gf_json.proofs.KeyLemmas.{denoted_by, denoted_fault}
 use Rattle.gf_json.proofs.lines.read_op.Goals as goal
 
 pub returns-in-Ok-clause-denoted : goal.returns-in-Ok-clause-denoted
 returns-in-Ok-clause-denoted c =
-    denoted-or c.args.line.now _ _ c.in-Ok.ensures.ok.0 c.in-Ok.ensures.ok.1 c.op_of.ensures.value
+    denoted_by op_of c.args.line.now (view c.in-Ok.value) c.in-Ok.value _ _ refl c.in-Ok.ensures c.op_of.ensures.value
 
-pub returns-else-is_memory-clause-denoted : goal.returns-else-is_memory-clause-denoted
-returns-else-is_memory-clause-denoted c =
-    inr (sym (denoted-refused c.args.line.now (c.in-Err.ensures.err (search rules))))
+pub returns-in-Err-clause-denoted : goal.returns-in-Err-clause-denoted
+returns-in-Err-clause-denoted c =
+    denoted_fault op_of c.args.line.now c.in-Err.fault _ _ refl refl c.in-Err.ensures
