@@ -1,3 +1,4 @@
 pub mod ArrayLemmas
 pub mod KeyLemmas
 pub mod PointLemmas
+pub mod WrittenLemmas

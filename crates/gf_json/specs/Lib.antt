@@ -6,5 +6,7 @@ pub mod LineKeys
 pub mod LineChanges
 pub mod OperationLines
 pub mod ScriptLines
+pub mod WrittenValues
+pub mod WrittenLines
 pub mod CheckedPoints
 pub mod LineExamples

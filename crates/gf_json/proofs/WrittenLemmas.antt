@@ -1,0 +1,92 @@
+-- What is written for an operation: integers only, and few levels.
+use Rattle.std.proofs.Common.{◌≡◌, ℕ, ◌≤◌, List, [], ◌∷◌, map, refl, arith, false, ◌||◌, pos, negsuc, ℤ, max}
+use Rattle.gf_shape.specs.declared.point.Point.{Point}
+use Rattle.gf_ops.specs.declared.op.Op.{Op}
+use Rattle.gf_ops.specs.declared.op.OpId.{OpId}
+use Rattle.gf_ops.specs.declared.op.Clock.{Clock}
+use Rattle.gf_ops.specs.declared.op.ObjectId.{ObjectId}
+use Rattle.gf_ops.specs.declared.change.Form.{Form}
+use Rattle.gf_ops.specs.declared.change.Form.TheVariants.{Rect, Polygon, Circle}
+use Rattle.gf_ops.specs.declared.change.Start.{Start}
+use Rattle.gf_ops.specs.declared.change.Change.{Change}
+use Rattle.gf_ops.specs.declared.change.Change.TheVariants.{Create, Set}
+use Rattle.gf_ops.specs.declared.change.Value.{Value}
+use Rattle.gf_ops.specs.declared.change.Value.TheVariants as value
+use Rattle.serde_json.specs.Data.{Data, depth, items_depth}
+use Rattle.serde_json.specs.Find.{of_integer, is_float}
+use Rattle.serde_json.specs.Read.{max_depth}
+use Rattle.serde_json.specs.View.{items_of}
+use Rattle.serde_json.specs.Written.{has_float, items_have_float}
+use Rattle.gf_json.specs.WrittenValues.{natural_data, integer_data, name_data, clock_data, point_data, points_data, size_data, value_data}
+use Rattle.gf_json.specs.WrittenLines.{creation_data, setting_data, change_data, data_of}
+
+-- ---- no float
+
+is_float-of_integer : (z : ℤ) → is_float (of_integer z) ≡ false
+is_float-of_integer (pos n) = refl
+is_float-of_integer (negsuc n) = refl
+
+has_float-point_data : (p : Point) → has_float (point_data p) ≡ false
+has_float-point_data p = rw (is_float-of_integer p.x, is_float-of_integer p.y) refl
+
+items_have_float-map : {A : Type 0} (f : A → Data) → ((a : A) → has_float (f a) ≡ false) → (xs : List A) → items_have_float (items_of (map f xs)) ≡ false
+items_have_float-map f h [] = refl
+items_have_float-map f h (x ∷ xs) = rw (h x) (items_have_float-map f h xs)
+
+has_float-clock_data : (c : Clock) → has_float (clock_data c) ≡ false
+has_float-clock_data c = items_have_float-map natural_data (λ n. refl) c.0
+
+has_float-points_data : (ps : List Point) → has_float (points_data ps) ≡ false
+has_float-points_data ps = items_have_float-map point_data has_float-point_data ps
+
+has_float-value_data : (v : Value) → has_float (value_data v) ≡ false
+has_float-value_data (value.Place p) = has_float-point_data p
+has_float-value_data (value.Points ps) = has_float-points_data ps
+has_float-value_data (value.Size width height) = refl
+has_float-value_data (value.Colour c) = refl
+has_float-value_data (value.Layer n) = refl
+has_float-value_data (value.Shown b) = refl
+
+has_float-creation_data : (i : OpId) (c : Clock) (s : Start) (f : Form) → has_float (creation_data (name_data i) (clock_data c) s f) ≡ false
+has_float-creation_data i c s (Rect width height) = rw (has_float-clock_data c, has_float-point_data s.place) refl
+has_float-creation_data i c s (Polygon ps) = rw (has_float-clock_data c, has_float-point_data s.place, has_float-points_data ps) refl
+has_float-creation_data i c s (Circle radius) = rw (has_float-clock_data c, has_float-point_data s.place) refl
+
+has_float-change_data : (i : OpId) (c : Clock) (d : Change) → has_float (change_data (name_data i) (clock_data c) d) ≡ false
+has_float-change_data i c (Create s) = has_float-creation_data i c s s.form
+has_float-change_data i c (Set o v) = rw (has_float-clock_data c, has_float-value_data v) refl
+
+pub has_float-data_of : (a : Op) → has_float (data_of a) ≡ false
+has_float-data_of a = has_float-change_data a.id a.past a.change
+
+-- ---- few levels
+
+items_depth-map : {A : Type 0} (f : A → Data) (n : ℕ) → ((a : A) → depth (f a) ≤ n) → (xs : List A) → items_depth (items_of (map f xs)) ≤ n
+items_depth-map f n h [] = omega arith
+items_depth-map f n h (x ∷ xs) = let k = h x in let l = items_depth-map f n h xs in omega (arith, k, l)
+
+depth-clock_data : (c : Clock) → depth (clock_data c) ≤ 1
+depth-clock_data c = let k = items_depth-map natural_data 0 (λ n. omega arith) c.0 in omega (arith, k)
+
+depth-points_data : (ps : List Point) → depth (points_data ps) ≤ 2
+depth-points_data ps = let k = items_depth-map point_data 1 (λ p. omega arith) ps in omega (arith, k)
+
+depth-value_data : (v : Value) → depth (value_data v) ≤ 2
+depth-value_data (value.Place p) = omega arith
+depth-value_data (value.Points ps) = depth-points_data ps
+depth-value_data (value.Size width height) = omega arith
+depth-value_data (value.Colour c) = omega arith
+depth-value_data (value.Layer n) = omega arith
+depth-value_data (value.Shown b) = omega arith
+
+depth-creation_data : (i : OpId) (c : Clock) (s : Start) (f : Form) → depth (creation_data (name_data i) (clock_data c) s f) ≤ 3
+depth-creation_data i c s (Rect width height) = let k = depth-clock_data c in omega (arith, k)
+depth-creation_data i c s (Polygon ps) = let k = depth-clock_data c in let l = depth-points_data ps in omega (arith, k, l)
+depth-creation_data i c s (Circle radius) = let k = depth-clock_data c in omega (arith, k)
+
+depth-change_data : (i : OpId) (c : Clock) (d : Change) → depth (change_data (name_data i) (clock_data c) d) ≤ 3
+depth-change_data i c (Create s) = depth-creation_data i c s s.form
+depth-change_data i c (Set o v) = let k = depth-clock_data c in let l = depth-value_data v in omega (arith, k, l)
+
+pub depth-data_of : (a : Op) → depth (data_of a) ≤ max_depth
+depth-data_of a = let k = depth-change_data a.id a.past a.change in omega (arith, k)
