@@ -2,3 +2,5 @@ pub mod ArrayLemmas
 pub mod KeyLemmas
 pub mod PointLemmas
 pub mod WrittenLemmas
+pub mod AgainLemmas
+pub mod OpAgainLemmas

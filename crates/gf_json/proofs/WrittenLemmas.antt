@@ -1,10 +1,9 @@
 -- What is written for an operation: integers only, and few levels.
-use Rattle.std.proofs.Common.{◌≡◌, ℕ, ◌≤◌, List, [], ◌∷◌, map, refl, arith, false, ◌||◌, pos, negsuc, ℤ, max}
+use Rattle.std.proofs.Common.{◌≡◌, ℕ, ◌≤◌, List, [], ◌∷◌, map, refl, arith, false, pos, negsuc, ℤ}
 use Rattle.gf_shape.specs.declared.point.Point.{Point}
 use Rattle.gf_ops.specs.declared.op.Op.{Op}
 use Rattle.gf_ops.specs.declared.op.OpId.{OpId}
 use Rattle.gf_ops.specs.declared.op.Clock.{Clock}
-use Rattle.gf_ops.specs.declared.op.ObjectId.{ObjectId}
 use Rattle.gf_ops.specs.declared.change.Form.{Form}
 use Rattle.gf_ops.specs.declared.change.Form.TheVariants.{Rect, Polygon, Circle}
 use Rattle.gf_ops.specs.declared.change.Start.{Start}
@@ -17,8 +16,8 @@ use Rattle.serde_json.specs.Find.{of_integer, is_float}
 use Rattle.serde_json.specs.Read.{max_depth}
 use Rattle.serde_json.specs.View.{items_of}
 use Rattle.serde_json.specs.Written.{has_float, items_have_float}
-use Rattle.gf_json.specs.WrittenValues.{natural_data, integer_data, name_data, clock_data, point_data, points_data, size_data, value_data}
-use Rattle.gf_json.specs.WrittenLines.{creation_data, setting_data, change_data, data_of}
+use Rattle.gf_json.specs.WrittenValues.{natural_data, name_data, clock_data, point_data, points_data, value_data}
+use Rattle.gf_json.specs.WrittenLines.{creation_data, change_data, data_of}
 
 -- ---- no float
 

@@ -9,4 +9,5 @@ pub mod ScriptLines
 pub mod WrittenValues
 pub mod WrittenLines
 pub mod CheckedPoints
+pub mod ColourBytes
 pub mod LineExamples

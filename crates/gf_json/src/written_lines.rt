@@ -1,9 +1,11 @@
 //! Operations as lines.
 
-ghost use Rattle.std.specs.Prelude.{◌≡◌, [], ◌∷◌, Ok, IfOk, string_bytes, codes};
+ghost use Rattle.std.specs.Prelude.{◌≡◌, [], ◌∷◌, Ok, IfOk, OnOk, length, string_bytes, codes};
 ghost use Rattle.serde_json.specs.Data.{boolean};
 ghost use Rattle.serde_json.specs.View.{view};
-ghost use Rattle.gf_json.specs.OperationLines.{json};
+ghost use Rattle.gf_ops.specs.Limits.{IsInRange};
+ghost use Rattle.gf_json.specs.ColourBytes.{HasBytes, ValueHasBytes, ChangeHasBytes};
+ghost use Rattle.gf_json.specs.OperationLines.{denoted};
 ghost use Rattle.gf_json.specs.WrittenLines.{created, with_size, with_points, creation_data, setting_data, attribute_word, data_of, op_text};
 
 use crate::written_values::{clock_data, colour_data, name_data, point_data, points_data, size_data, value_data};
@@ -15,6 +17,7 @@ use std::alloc::{AllocError, Global};
 /// The line of an operation, with no newline.
 pub fn op_line(alloc: Global, op: &Op) -> Result<String, OutOfMemory>
     ensures text { IfOk result (λ line. string_bytes line ≡ op_text op.now) }
+    ensures again { IfOk result (λ line. IsInRange op.now → denoted (string_bytes line) ≡ Ok op.now) }
 {
     match line(alloc, op) {
         Ok(line) => Ok(line),
@@ -24,14 +27,17 @@ pub fn op_line(alloc: Global, op: &Op) -> Result<String, OutOfMemory>
 
 fn line(alloc: Global, op: &Op) -> Result<String, AllocError>
     ensures text { IfOk result (λ line. string_bytes line ≡ op_text op.now) }
-    ensures read { IfOk result (λ line. json (string_bytes line) ≡ Ok (data_of op.now)) }
+    ensures again { IfOk result (λ line. IsInRange op.now → denoted (string_bytes line) ≡ Ok op.now) }
 {
     let value = data_of(alloc, op)?;
-    value.to_string(alloc)
+    let line = value.to_string(alloc)?;
+    Ok(line)
 }
 
 fn data_of(alloc: Global, op: &Op) -> Result<Value, AllocError>
-    ensures { IfOk result (λ v. view v ≡ data_of op.now) }
+    ensures value { IfOk result (λ v. view v ≡ data_of op.now) }
+    ensures eight { OnOk result (length op.now.past.0 ≡ 8) }
+    ensures bytes { OnOk result (ChangeHasBytes op.now.change) }
 {
     let id = name_data(alloc, op.id)?;
     let past = clock_data(alloc, &op.past)?;
@@ -47,7 +53,8 @@ fn creation_data(
     past: Value,
     start: &Start,
 ) -> Result<Value, AllocError>
-    ensures { IfOk result (λ v. view v ≡ creation_data (view id) (view past) start.now start.now.form) }
+    ensures value { IfOk result (λ v. view v ≡ creation_data (view id) (view past) start.now start.now.form) }
+    ensures bytes { OnOk result (HasBytes start.now.colour) }
 {
     match &start.form {
         Form::Rect(width, height) => {
@@ -71,7 +78,8 @@ fn sized(
     kind: &str,
     size: Value,
 ) -> Result<Value, AllocError>
-    ensures { IfOk result (λ v. view v ≡ created (view id) (view past) start.now kind.now ((codes "shown", boolean start.now.shown) ∷ (codes "size", view size) ∷ [])) }
+    ensures value { IfOk result (λ v. view v ≡ created (view id) (view past) start.now kind.now ((codes "shown", boolean start.now.shown) ∷ (codes "size", view size) ∷ [])) }
+    ensures bytes { OnOk result (HasBytes start.now.colour) }
 {
     let colour = colour_data(alloc, start.colour)?;
     let place = point_data(alloc, start.place)?;
@@ -96,7 +104,8 @@ fn polygon(
     start: &Start,
     points: &Points,
 ) -> Result<Value, AllocError>
-    ensures { IfOk result (λ v. view v ≡ created (view id) (view past) start.now (codes "polygon") (with_points start.now points.now)) }
+    ensures value { IfOk result (λ v. view v ≡ created (view id) (view past) start.now (codes "polygon") (with_points start.now points.now)) }
+    ensures bytes { OnOk result (HasBytes start.now.colour) }
 {
     let colour = colour_data(alloc, start.colour)?;
     let place = point_data(alloc, start.place)?;
@@ -122,7 +131,8 @@ fn setting_data(
     object: ObjectId,
     value: &gf_ops::Value,
 ) -> Result<Value, AllocError>
-    ensures { IfOk result (λ v. view v ≡ setting_data (view id) (view past) object value.now) }
+    ensures value { IfOk result (λ v. view v ≡ setting_data (view id) (view past) object value.now) }
+    ensures bytes { OnOk result (ValueHasBytes value.now) }
 {
     let ObjectId(name) = object;
     let object = name_data(alloc, name)?;

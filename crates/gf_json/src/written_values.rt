@@ -1,7 +1,8 @@
 //! The values of a written line.
 
-ghost use Rattle.std.specs.Prelude.{◌≡◌, ◌++◌, IfOk, map, string_bytes};
+ghost use Rattle.std.specs.Prelude.{◌≡◌, ◌++◌, IfOk, OnOk, length, map, string_bytes};
 ghost use Rattle.serde_json.specs.View.{view};
+ghost use Rattle.gf_json.specs.ColourBytes.{HasBytes, ValueHasBytes};
 ghost use Rattle.gf_json.specs.WrittenValues.{natural_data, pair_data, name_data, clock_data, point_data, points_data, size_data, hex_text, colour_data, value_data};
 
 use gf_ops::{Clock, OpId, Points};
@@ -16,7 +17,8 @@ pub(crate) fn name_data(alloc: Global, name: OpId) -> Result<Value, AllocError>
 }
 
 pub(crate) fn clock_data(alloc: Global, clock: &Clock) -> Result<Value, AllocError>
-    ensures { IfOk result (λ v. view v ≡ clock_data clock.now) }
+    ensures value { IfOk result (λ v. view v ≡ clock_data clock.now) }
+    ensures eight { OnOk result (length clock.now.0 ≡ 8) }
 {
     let entries = entries(alloc, &clock.0)?;
     Ok(Value::Array(entries))
@@ -62,7 +64,8 @@ pub(crate) fn size_data(alloc: Global, width: u32, height: u32) -> Result<Value,
 }
 
 pub(crate) fn colour_data(alloc: Global, colour: Rgb) -> Result<Value, AllocError>
-    ensures { IfOk result (λ v. view v ≡ colour_data colour) }
+    ensures value { IfOk result (λ v. view v ≡ colour_data colour) }
+    ensures bytes { HasBytes colour }
 {
     let text = hex_text(alloc, colour)?;
     Ok(Value::String(text))
@@ -78,7 +81,8 @@ fn hex_text(alloc: Global, colour: Rgb) -> Result<String, AllocError>
 
 /// The value in the form of its attribute.
 pub(crate) fn value_data(alloc: Global, value: &gf_ops::Value) -> Result<Value, AllocError>
-    ensures { IfOk result (λ v. view v ≡ value_data value.now) }
+    ensures value { IfOk result (λ v. view v ≡ value_data value.now) }
+    ensures bytes { ValueHasBytes value.now }
 {
     match value {
         gf_ops::Value::Place(point) => point_data(alloc, *point),
