@@ -18,7 +18,13 @@ mod line_tests;
 mod line_values;
 mod lines;
 mod script_line;
+#[cfg(test)]
+mod script_tests;
+#[cfg(test)]
+mod set_tests;
 mod written_lines;
+#[cfg(test)]
+mod written_tests;
 mod written_values;
 
 pub use line_error::LineError;

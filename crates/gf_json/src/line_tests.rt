@@ -1,6 +1,6 @@
 //! Tests of what the clauses mean: lines with the answers that the format asks for.
 
-use crate::{LineError, read_op};
+use crate::{LineError, read_op, read_script};
 use gf_ops::{Change, Clock, Form, Op, OpId, Points, Start};
 use gf_shape::{Point, Rgb};
 use std::alloc::{AllocError, Global};
@@ -20,17 +20,7 @@ fn changed(alloc: Global, part: &str, new: &str) -> Result<Vec<u8>, AllocError> 
 }
 
 fn red_box() -> Op {
-    Op {
-        id: OpId { site: 1, seq: 1 },
-        past: Clock([0; 8]),
-        change: Change::Create(Start {
-            form: Form::Rect(300, 400),
-            place: Point { x: 100, y: 200 },
-            colour: Rgb { r: 255, g: 0, b: 0 },
-            layer: 0,
-            shown: true,
-        }),
-    }
+    red(Form::Rect(300, 400))
 }
 
 #[test]
@@ -100,6 +90,7 @@ fn names_the_first_fault(rt: HostRuntime) -> Result<(), Fail> {
         ),
         ("\"layer\":0", "\"layer\":\"0\"", LineError::Field),
         ("\"layer\":0", "\"layer\":0,\"extra\":0", LineError::Field),
+        ("\"layer\":0", "\"layer\":-1,\"extra\":0", LineError::Field),
         ("\"layer\":0,", "", LineError::Field),
         ("\"layer\"", "\"Layer\"", LineError::Field),
         ("\"create\"", "\"set\"", LineError::Field),
@@ -115,6 +106,7 @@ fn names_the_first_fault(rt: HostRuntime) -> Result<(), Fail> {
         ("ff0000", "ff000", LineError::Field),
         ("ff0000", "ff00000", LineError::Field),
         ("ff0000", "ff000g", LineError::Field),
+        ("ff0000", "gg0000", LineError::Field),
         ("true", "1", LineError::Field),
         (
             "[1,1],\"kind\":\"box\",\"layer\":0",
@@ -162,8 +154,10 @@ fn refuses_what_is_no_line(rt: HostRuntime) {
         (b"{}", LineError::Field),
         (b"[]", LineError::Field),
         (b"null", LineError::Field),
+        (&[b'['; 200], LineError::Json),
     ] {
         assert_eq!(rt; read_op(rt.alloc(), line).err(), Some(want));
+        assert_eq!(rt; read_script(rt.alloc(), line).err(), Some(want));
     }
 }
 
@@ -211,7 +205,12 @@ const SHAPE: usize = 5;
 const LAYER: usize = 7;
 
 /// The line of these members with others in place of one.
-fn with(alloc: Global, members: [&str; 9], at: usize, new: &str) -> Result<Vec<u8>, AllocError> {
+pub(crate) fn with(
+    alloc: Global,
+    members: &[&str],
+    at: usize,
+    new: &str,
+) -> Result<Vec<u8>, AllocError> {
     let mut line = Vec::new(alloc);
     line.extend_from_slice(b"{")?;
     for (n, member) in members.iter().enumerate() {
@@ -228,7 +227,7 @@ fn with(alloc: Global, members: [&str; 9], at: usize, new: &str) -> Result<Vec<u
 /// The fault of the line of these members with others in place of one.
 fn fault(
     alloc: Global,
-    members: [&str; 9],
+    members: &[&str],
     at: usize,
     new: &str,
 ) -> Result<Option<LineError>, AllocError> {
@@ -236,17 +235,18 @@ fn fault(
     Ok(read_op(alloc, &line).err())
 }
 
-/// The red box in another form.
+/// A red object of this form.
 fn red(form: Form) -> Op {
-    let Op {
-        id,
-        past,
-        change: Change::Create(start),
-    } = red_box();
     Op {
-        id,
-        past,
-        change: Change::Create(Start { form, ..start }),
+        id: OpId { site: 1, seq: 1 },
+        past: Clock([0; 8]),
+        change: Change::Create(Start {
+            form,
+            place: Point { x: 100, y: 200 },
+            colour: Rgb { r: 255, g: 0, b: 0 },
+            layer: 0,
+            shown: true,
+        }),
     }
 }
 
@@ -258,7 +258,7 @@ fn reads_each_kind(rt: HostRuntime) -> Result<(), Fail> {
         ("\"size\":[1,1]", 1),
         ("\"size\":[1000000,1000000]", 1_000_000),
     ] {
-        let line = with(alloc, CIRCLE, SHAPE, size)?;
+        let line = with(alloc, &CIRCLE, SHAPE, size)?;
         assert_eq!(rt;
             read_op(alloc, &line),
             Ok(red(Form::Circle(radius))),
@@ -273,12 +273,12 @@ fn reads_each_kind(rt: HostRuntime) -> Result<(), Fail> {
             y: 1_000_000
         },
     ]?;
-    let line = with(alloc, POLYGON, LAYER, POLYGON[LAYER])?;
+    let line = with(alloc, &POLYGON, LAYER, POLYGON[LAYER])?;
     assert_eq!(rt;
         read_op(alloc, &line),
         Ok(red(Form::Polygon(Points::new(points))))
     );
-    let line = with(alloc, BOX, LAYER, BOX[LAYER])?;
+    let line = with(alloc, &BOX, LAYER, BOX[LAYER])?;
     assert_eq!(rt; read_op(alloc, &line), Ok(red_box()));
     Ok(())
 }
@@ -287,7 +287,7 @@ fn reads_each_kind(rt: HostRuntime) -> Result<(), Fail> {
 fn misses_each_key(rt: HostRuntime) -> Result<(), Fail> {
     for members in [BOX, CIRCLE, POLYGON] {
         for at in 0..9 {
-            let found = fault(rt.alloc(), members, at, "")?;
+            let found = fault(rt.alloc(), &members, at, "")?;
             assert_eq!(rt;
                 found,
                 Some(LineError::Field),
@@ -310,7 +310,7 @@ fn knows_three_kinds(rt: HostRuntime) -> Result<(), Fail> {
         (LAYER, "\"layer\":0,\"points\":[[0,0],[1,0],[0,1]]"),
         (LAYER, "\"layer\":0,\"extra\":0"),
     ] {
-        let found = fault(rt.alloc(), BOX, at, new)?;
+        let found = fault(rt.alloc(), &BOX, at, new)?;
         assert_eq!(rt; found, Some(LineError::Field), "with {new}");
     }
     Ok(())
@@ -335,7 +335,7 @@ fn names_the_fault_of_a_circle(rt: HostRuntime) -> Result<(), Fail> {
         (SHAPE, "\"size\":[-7,-7]", LineError::Range),
         (SHAPE, "\"size\":[1000001,1000001]", LineError::Range),
     ] {
-        let found = fault(rt.alloc(), CIRCLE, at, new)?;
+        let found = fault(rt.alloc(), &CIRCLE, at, new)?;
         assert_eq!(rt; found, Some(want), "with {new}");
     }
     Ok(())
@@ -362,7 +362,7 @@ fn names_the_fault_of_a_polygon(rt: HostRuntime) -> Result<(), Fail> {
         (LAYER, "\"layer\":null,\"points\":[]", LineError::Field),
         (SHAPE, "\"points\":[]", LineError::Range),
     ] {
-        let found = fault(rt.alloc(), POLYGON, at, new)?;
+        let found = fault(rt.alloc(), &POLYGON, at, new)?;
         assert_eq!(rt; found, Some(want), "with {new}");
     }
     Ok(())
@@ -404,7 +404,7 @@ fn counts_the_points(rt: HostRuntime) -> Result<(), Fail> {
         (65, "[0]", Some(LineError::Field)),
     ] {
         let text = points(rt.alloc(), count, last)?;
-        let found = fault(rt.alloc(), POLYGON, SHAPE, &text)?;
+        let found = fault(rt.alloc(), &POLYGON, SHAPE, &text)?;
         assert_eq!(rt; found, want, "of {count} points to {last}");
     }
     Ok(())

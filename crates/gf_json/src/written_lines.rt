@@ -8,7 +8,9 @@ ghost use Rattle.gf_json.specs.ColourBytes.{HasBytes, ValueHasBytes, ChangeHasBy
 ghost use Rattle.gf_json.specs.OperationLines.{denoted};
 ghost use Rattle.gf_json.specs.WrittenLines.{created, with_size, with_points, creation_data, setting_data, attribute_word, data_of, op_text};
 
-use crate::written_values::{clock_data, colour_data, name_data, point_data, points_data, size_data, value_data};
+use crate::written_values::{
+    clock_data, colour_data, name_data, point_data, points_data, size_data, value_data,
+};
 use gf_ops::{Change, Form, ObjectId, Op, Points, Start};
 use gf_shape::OutOfMemory;
 use serde_json::{Value, json};
@@ -17,17 +19,14 @@ use std::alloc::{AllocError, Global};
 /// The line of an operation, with no newline.
 pub fn op_line(alloc: Global, op: &Op) -> Result<String, OutOfMemory>
     ensures text { IfOk result (λ line. string_bytes line ≡ op_text op.now) }
-    ensures again { IfOk result (λ line. IsInRange op.now → denoted (string_bytes line) ≡ Ok op.now) }
+    ensures read_again { IfOk result (λ line. IsInRange op.now → denoted (string_bytes line) ≡ Ok op.now) }
 {
-    match line(alloc, op) {
-        Ok(line) => Ok(line),
-        Err(AllocError) => Err(OutOfMemory),
-    }
+    Ok(line(alloc, op)?)
 }
 
 fn line(alloc: Global, op: &Op) -> Result<String, AllocError>
     ensures text { IfOk result (λ line. string_bytes line ≡ op_text op.now) }
-    ensures again { IfOk result (λ line. IsInRange op.now → denoted (string_bytes line) ≡ Ok op.now) }
+    ensures read_again { IfOk result (λ line. IsInRange op.now → denoted (string_bytes line) ≡ Ok op.now) }
 {
     let value = data_of(alloc, op)?;
     let line = value.to_string(alloc)?;
@@ -47,12 +46,7 @@ fn data_of(alloc: Global, op: &Op) -> Result<Value, AllocError>
     }
 }
 
-fn creation_data(
-    alloc: Global,
-    id: Value,
-    past: Value,
-    start: &Start,
-) -> Result<Value, AllocError>
+fn creation_data(alloc: Global, id: Value, past: Value, start: &Start) -> Result<Value, AllocError>
     ensures value { IfOk result (λ v. view v ≡ creation_data (view id) (view past) start.now start.now.form) }
     ensures bytes { OnOk result (HasBytes start.now.colour) }
 {
