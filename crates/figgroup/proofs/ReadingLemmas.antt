@@ -1,5 +1,5 @@
 -- How the operations of the lines grow, and what a refused line says of the text.
-use Rattle.std.specs.Prelude.{IsSome}
+use Rattle.std.specs.Prelude.{IfSome, IsSome, None, Option, Some}
 use Rattle.std.proofs.lemmas.List.Elements.{Contains-push_cases}
 use Rattle.gf_ops.specs.Attribute.{made_kind}
 use Rattle.gf_versions.specs.Creations.{AreCreations}
@@ -66,3 +66,8 @@ RefusesText-line bytes n line left ops read valid studio.ReadFailed refused = ab
 RefusesText-line bytes n line left ops read valid studio.TooLong refused = absurd refused
 RefusesText-line bytes n line left ops read valid (studio.Compile fault) refused = absurd refused
 RefusesText-line bytes n line left ops read valid studio.WriteFailed refused = absurd refused
+
+-- what holds of the bytes that were read holds of those that were left before
+pub of_left : (left : Option (List ℕ)) (bytes : List ℕ) (P : List ℕ → Type 0) → IfSome left (λ all. bytes ≡ all) → P bytes → IfSome left P
+of_left None bytes P e held = tt
+of_left (Some all) bytes P e held = subst P e held

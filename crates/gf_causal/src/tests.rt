@@ -1,7 +1,9 @@
 //! Tests of what the clauses mean: values from the rules of offers and of causal delivery, by hand.
 
 use crate::{Buffer, OfferFault, Offered};
-use gf_ops::{AddFault, Change, Clock, Form, History, Op, OpFault, OpId, Start};
+use gf_ops::{
+    AddFault, Change, Clock, Form, History, ObjectId, Op, OpFault, OpId, Start, Value,
+};
 use gf_shape::{Point, Rgb};
 use std::test::Fail;
 
@@ -23,6 +25,18 @@ fn circle(site: u8, seq: u32, past: [u32; 8], radius: u32) -> Op {
 
 fn op(site: u8, seq: u32, past: [u32; 8]) -> Op {
     circle(site, seq, past, 1)
+}
+
+/// An operation of site 2 that recolours the first object of site 1.
+fn recolour(past: [u32; 8]) -> Op {
+    Op {
+        id: OpId { site: 2, seq: 1 },
+        past: Clock(past),
+        change: Change::Set {
+            object: ObjectId(OpId { site: 1, seq: 1 }),
+            value: Value::Colour(Rgb { r: 0, g: 0, b: 255 }),
+        },
+    }
 }
 
 #[test]
@@ -163,7 +177,7 @@ fn waits_for_what_it_knows(rt: HostRuntime) -> Result<(), Fail> {
     let mut history = History::new(rt.alloc());
     let mut buffer = Buffer::new(rt.alloc());
     let known = [1, 0, 0, 0, 0, 0, 0, 0];
-    let held = buffer.offer(op(2, 1, known), &history);
+    let held = buffer.offer(recolour(known), &history);
     assert_eq!(rt; held, Ok(Offered::Held));
     assert_eq!(rt; buffer.take_ready(&history), None);
     let held = buffer.offer(op(1, 1, [0; 8]), &history);
@@ -177,7 +191,7 @@ fn waits_for_what_it_knows(rt: HostRuntime) -> Result<(), Fail> {
     }
     assert_eq!(rt; buffer.take_ready(&history), None);
     for _ in 0..2 {
-        let again = buffer.offer(op(2, 1, known), &history);
+        let again = buffer.offer(recolour(known), &history);
         assert_eq!(rt; again, Ok(Offered::Already));
         assert_eq!(rt; buffer.held(), 0);
     }
