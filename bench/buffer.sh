@@ -13,4 +13,4 @@ instructions() {
 few=$(instructions 1000)
 many=$(instructions 10000)
 echo "8,000 operations: $few instructions"
-echo "80,000 operations: $many instructions, $((many / few)).$((many * 10 / few % 10)) times as many"
+echo "80,000 operations: $many instructions, $((many / few)).$((many * 10 / few % 10)) times as many (cut, not rounded)"

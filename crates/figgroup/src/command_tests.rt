@@ -18,6 +18,13 @@ const RED_BOX_FIG: &str =
 const RED_OVER_BLUE: &str =
     "{\"colour\":\"ff0000\",\"id\":[1,1],\"kind\":\"box\",\"layer\":5,\"op\":\"create\",\"past\":[0,0,0,0,0,0,0,0],\"place\":[0,0],\"shown\":true,\"size\":[10,10]}\n{\"colour\":\"0000ff\",\"id\":[1,2],\"kind\":\"box\",\"layer\":0,\"op\":\"create\",\"past\":[1,0,0,0,0,0,0,0],\"place\":[0,0],\"shown\":true,\"size\":[10,10]}\n";
 
+// The blue box is another site's, which didn't know the red one.
+const RED_OVER_BLUE_OF_TWO_SITES: &str =
+    "{\"colour\":\"0000ff\",\"id\":[2,1],\"kind\":\"box\",\"layer\":0,\"op\":\"create\",\"past\":[0,0,0,0,0,0,0,0],\"place\":[0,0],\"shown\":true,\"size\":[10,10]}\n{\"colour\":\"ff0000\",\"id\":[1,1],\"kind\":\"box\",\"layer\":5,\"op\":\"create\",\"past\":[0,0,0,0,0,0,0,0],\"place\":[0,0],\"shown\":true,\"size\":[10,10]}\n";
+
+const RECOLOUR: &str =
+    "{\"id\":[2,1],\"object\":[1,1],\"op\":\"set\",\"past\":[1,0,0,0,0,0,0,0],\"set\":\"colour\",\"to\":\"0000ff\"}\n";
+
 // The keys in another order, upper-case digits, blank lines, CRLF, and no last newline.
 const RED_OVER_BLUE_OTHERWISE: &str =
     "\r\n\n{\"size\":[10,10],\"shown\":true,\"place\":[0,0],\"past\":[0,0,0,0,0,0,0,0],\"op\":\"create\",\"layer\":5,\"kind\":\"box\",\"id\":[1,1],\"colour\":\"FF0000\"}\r\n\r\n  \t\n { \"id\" : [1, 2], \"op\" : \"create\", \"kind\" : \"box\", \"past\" : [1,0,0,0,0,0,0,0], \"place\" : [0,0], \"size\" : [10,10], \"shown\" : true, \"layer\" : 0, \"colour\" : \"0000Ff\" }";
@@ -63,6 +70,7 @@ fn lines_become_fig_text(rt: HostRuntime) -> Result<(), Fail> {
         (RED_BOX, RED_BOX_FIG),
         (RED_OVER_BLUE, RED_OVER_BLUE_FIG),
         (RED_OVER_BLUE_OTHERWISE, RED_OVER_BLUE_FIG),
+        (RED_OVER_BLUE_OF_TWO_SITES, RED_OVER_BLUE_FIG),
         (UNIT_CIRCLE, UNIT_CIRCLE_FIG),
         (FAR_TRIANGLE, FAR_TRIANGLE_FIG),
     ];
@@ -86,6 +94,8 @@ fn refusals_are_told(rt: HostRuntime) -> Result<(), Fail> {
     let other_kind = RED_BOX.replace(rt.alloc(), "box", "star")?;
     let unequal = RED_BOX.replace(rt.alloc(), "box", "circle")?;
     let two_points = FAR_TRIANGLE.replace(rt.alloc(), ",[0,-1000000]", "")?;
+    let change = format!(in rt.alloc(); "{RED_BOX}{RECOLOUR}")?;
+    let unknown = RED_BOX.replace(rt.alloc(), "[0,0,0,0,0,0,0,0]", "[0,1,0,0,0,0,0,0]")?;
     let rows = [
         ("{", "figgroup: line 1: Json\n"),
         (bad_line.as_str(), "figgroup: line 3: Json\n"),
@@ -94,7 +104,12 @@ fn refusals_are_told(rt: HostRuntime) -> Result<(), Fail> {
         (unequal.as_str(), "figgroup: line 1: Field\n"),
         (two_points.as_str(), "figgroup: line 1: Range\n"),
         (range.as_str(), "figgroup: line 1: Range\n"),
+        (change.as_str(), "figgroup: line 2: Field\n"),
         (gap.as_str(), "figgroup: operation 1.3 dropped: BadClock\n"),
+        (
+            unknown.as_str(),
+            "figgroup: operation 1.1 dropped: BadClock\n",
+        ),
         (
             past_gap.as_str(),
             "figgroup: operation 1.3 dropped: BadClock\n",

@@ -8,7 +8,8 @@ use Rattle.gf_ops.specs.declared.op.Op.{Op}
 use Rattle.gf_ops.specs.OperationOrder.{entry, count_of}
 use Rattle.gf_causal.specs.Ready.{KnowsNoMore, IsReady, NoneIsReady}
 use Rattle.gf_causal.specs.DeliveredPart.{none, next, IsDelivery, HasLastDelivery}
-use Rattle.gf_causal.proofs.ListLemmas.{not_Contains-nil, Contains-cons_cases, Contains-between, Contains-between_itself, Contains-between_cases}
+use Rattle.gf_ops.proofs.ListLemmas.{not_Contains-nil, Contains-cons_cases}
+use Rattle.gf_causal.proofs.ListLemmas.{Contains-between, Contains-between_itself, Contains-between_cases}
 use Rattle.gf_causal.proofs.CourseLemmas.{number_counted}
 
 -- what a knows of the sites 1 to n is tested one by one

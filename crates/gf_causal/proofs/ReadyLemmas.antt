@@ -1,40 +1,23 @@
 -- Which held operation is ready, and which of two ids is less.
-use Rattle.std.proofs.Common.{◌≡◌, ◌≢◌, ℕ, ◌+◌, ◌-◌, ◌<◌, ◌≤◌, min, Bool, true, false, List, ◌&&◌, inl, inr, refl, ap, subst, sym, ◌∙◌, arith, rules}
-use Rattle.std.specs.Prelude.{◌⊎◌, ◌^◌, Contains, IsTrue}
+use Rattle.std.proofs.Common.{◌≡◌, ◌≢◌, ℕ, ◌+◌, ◌-◌, ◌<◌, ◌≤◌, min, List, inl, inr, refl, ap, subst, sym, ◌∙◌, arith}
+use Rattle.std.specs.Prelude.{◌⊎◌, ◌^◌, Contains}
 use Rattle.std.specs.declared.cmp.Ordering.{Ordering}
 use Rattle.std.specs.declared.cmp.Ordering.TheVariants.{Less, Equal, Greater}
 use Rattle.std.specs.Ordering.{MatchOrdering, nat_cmp, ordering_then}
 use Rattle.std.proofs.lemmas.Cmp.{ranked}
 use Rattle.gf_ops.specs.declared.op.Op.{Op}
 use Rattle.gf_ops.specs.declared.op.OpId.{OpId}
-use Rattle.gf_ops.specs.Limits.{is_id, is_clock, is_change, IsInRange}
-use Rattle.gf_ops.specs.OperationOrder.{IsSite, count_of, id_cmp}
+use Rattle.gf_ops.specs.OperationOrder.{count_of, id_cmp}
+use Rattle.gf_ops.proofs.HistoryLemmas.{seq_in_range}
 use Rattle.gf_causal.specs.Ready.{KnowsNoMore, IsReady}
 use Rattle.gf_causal.specs.HeldOperations.{AreHeld, IsFree}
 use Rattle.gf_causal.specs.DeliveredPart.{AreOneById}
-
--- the first of three tests
-first_of : (p q r : Bool) → IsTrue (p && q && r) → IsTrue p
-first_of true q r t = refl
-first_of false q r t = absurd cc
-
-number_of_id : (i : OpId) → IsTrue (is_id i) → i.seq ≤ 10000
-number_of_id i t = search rules
-
-site_of_id : (i : OpId) → IsTrue (is_id i) → IsSite i.site
-site_of_id i t = (search rules, search rules)
-
-pub site_within : (a : Op) → IsInRange a → IsSite a.id.site
-site_within a r = site_of_id a.id (first_of (is_id a.id) (is_clock a.past) (is_change a.change) r)
-
-number_within : (a : Op) → IsInRange a → a.id.seq ≤ 10000
-number_within a r = number_of_id a.id (first_of (is_id a.id) (is_clock a.past) (is_change a.change) r)
 
 module _ (held h : List Op) (are_held : AreHeld held) (s n : ℕ) (next : n ≡ min (count_of h s + 1) (2 ^ 32 - 1)) where
   -- a ready operation of the site s has the number n
   number_of_ready : (a : Op) → Contains held a → a.id.site ≡ s → IsReady h a → a.id.seq ≡ n
   number_of_ready a c e r =
-      let l = number_within a (are_held.in_range a c) in
+      let l = (seq_in_range a (are_held.in_range a c)).1 in
       let q = subst (λ t. a.id.seq ≡ count_of h t + 1) e r.seq in
       omega arith
 
@@ -50,7 +33,7 @@ module _ (held h : List Op) (are_held : AreHeld held) (s n : ℕ) (next : n ≡ 
 
     pub ready_found : KnowsNoMore h op → IsReady h op
     ready_found k =
-        let l = number_within op (are_held.in_range op contained) in
+        let l = (seq_in_range op (are_held.in_range op contained)).1 in
         let q : op.id.seq ≡ n = ap (λ (i : OpId). i.seq) id in
         record { seq = subst (λ t. op.id.seq ≡ count_of h t + 1) (sym site_found) (let m : op.id.seq ≡ count_of h s + 1 = omega arith in m); others = k }
 

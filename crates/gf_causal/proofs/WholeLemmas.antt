@@ -9,7 +9,7 @@ use Rattle.gf_ops.specs.OperationOrder.{IsSite, entry, count_of}
 use Rattle.gf_ops.specs.ValidHistory.{IsWithin, IsValid}
 use Rattle.gf_causal.specs.DeliveredPart.{IsLastDelivery, IsDeliveredPart, HaveSame}
 use Rattle.gf_causal.proofs.StandingLemmas.{one_of_pairs}
-use Rattle.gf_causal.proofs.ReadyLemmas.{site_within}
+use Rattle.gf_ops.proofs.HistoryLemmas.{site_in_range}
 use Rattle.gf_causal.proofs.CourseLemmas.{has_counted, number_counted, same_id}
 use Rattle.gf_causal.proofs.FinishLemmas.{last_delivery}
 
@@ -44,7 +44,7 @@ module _ (offered h course : List Op) (valid : IsValid h) (same : HaveSame offer
   delivered_next : (a : Op) → Contains h a → ((s : ℕ) → IsSite s → entry a.past s ≤ count_of course s) → Contains course a
   delivered_next a c le =
       let own = valid.own a c in
-      let w = le a.id.site (site_within a (valid.in_range a c)) in
+      let w = le a.id.site (site_in_range a (valid.in_range a c)) in
       elim (cases_lt (count_of course a.id.site) a.id.seq) [
         | inl m ↦ absurd (l.last a ((same a).1 c) (record { seq = omega arith; others = λ s i n. le s i }))
         | inr m ↦
@@ -57,7 +57,7 @@ module _ (offered h course : List Op) (valid : IsValid h) (same : HaveSame offer
   knew_less : (a b : Op) → Contains h b → IsWithin b.past a.past → b.id.seq ≤ entry a.past b.id.site → known b.past < known a.past
   knew_less a b c w l =
       let own = valid.own b c in
-      let s = site_within b (valid.in_range b c) in
+      let s = site_in_range b (valid.in_range b c) in
       sum_to-lt (entry b.past) (entry a.past) 8 b.id.site (λ t f m. w t (f, m)) s.0 s.1 (omega arith)
 
   all_delivered : (n : ℕ) (a : Op) → Contains h a → known a.past < n → Contains course a

@@ -1,9 +1,7 @@
 //! Tests of what the clauses mean: values from the rules of offers and of causal delivery, by hand.
 
 use crate::{Buffer, OfferFault, Offered};
-use gf_ops::{
-    AddFault, Change, Clock, Form, History, ObjectId, Op, OpFault, OpId, Start, Value,
-};
+use gf_ops::{AddFault, Change, Clock, Form, History, ObjectId, Op, OpFault, OpId, Start, Value};
 use gf_shape::{Point, Rgb};
 use std::test::Fail;
 

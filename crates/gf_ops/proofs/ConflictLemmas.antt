@@ -1,13 +1,6 @@
 -- The tests of conflicts tell conflicts, and conflicts are symmetric.
-use Rattle.std.proofs.Common.{◌≡◌, ◌≢◌, true, ◌&&◌, ◌==◌, Some, None, Option, refl, sym, ap, subst, ◌∙◌, true≢false, inl, inr}
-use Rattle.std.specs.Bool.{Decides}
-use Rattle.std.specs.Cmp.{booleans_Decides}
-use Rattle.std.specs.Ordering.{int_eq}
-use Rattle.std.proofs.lemmas.Bool.{and_parts, cases_Bool}
-use Rattle.std.proofs.lemmas.Bool.Decides.{Decides-eqb, Decides-int_eq}
-use Rattle.std.proofs.lemmas.Slice.Eq.{slice_eq-Decides}
-use Rattle.gf_shape.specs.declared.point.Point.{Point}
-use Rattle.gf_shape.specs.declared.colour.Rgb.{Rgb}
+use Rattle.std.proofs.Common.{◌≡◌, ◌≢◌, true, Some, None, Option, refl, sym, ap, ◌∙◌, inl, inr}
+use Rattle.std.proofs.lemmas.Bool.{cases_Bool}
 use Rattle.gf_ops.specs.declared.op.Op.{Op}
 use Rattle.gf_ops.specs.declared.op.OpId.{OpId}
 use Rattle.gf_ops.specs.declared.op.ObjectId.{ObjectId}
@@ -19,7 +12,7 @@ use Rattle.gf_ops.specs.declared.change.Value.TheVariants.{Place, Points, Size, 
 use Rattle.gf_ops.specs.declared.change.Attr.TheVariants as attr
 use Rattle.gf_ops.specs.Attribute.{attribute_of, change_value, set_value, object_of, changed_object}
 use Rattle.gf_ops.specs.Conflict.{SetApart, Conflict}
-use Rattle.gf_ops.specs.ConflictTests.{point_eq, colour_eq, value_eq, is_another, sets_another, are_apart}
+use Rattle.gf_ops.specs.ConflictTests.{value_eq, is_another, sets_another, are_apart}
 use Rattle.gf_ops.specs.OperationOrder.{IsConcurrent}
 use Rattle.gf_ops.proofs.SameLemmas.{value_eq-same, value_eq-true}
 

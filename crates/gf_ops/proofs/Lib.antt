@@ -1,3 +1,4 @@
+pub mod ListLemmas
 pub mod SameLemmas
 pub mod ValidityLemmas
 pub mod HistoryLemmas

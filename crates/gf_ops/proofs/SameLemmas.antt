@@ -1,5 +1,5 @@
 -- The tests of points, colours and values tell whether two are one.
-use Rattle.std.proofs.Common.{◌≡◌, Bool, true, ◌&&◌, ◌==◌, List, refl, sym, ap, subst, true≢false}
+use Rattle.std.proofs.Common.{◌≡◌, true, ◌&&◌, ◌==◌, List, refl, sym, ap, subst, true≢false}
 use Rattle.std.specs.Bool.{Decides}
 use Rattle.std.specs.Cmp.{booleans_Decides}
 use Rattle.std.specs.Ordering.{int_eq}

@@ -1,11 +1,12 @@
 use Rattle.gf_causal.specs.HeldOperations.{AreHeld}
 use Rattle.std.proofs.Common.{◌≢◌, ◌≤◌, rules, arith}
-use Rattle.gf_causal.proofs.ReadyLemmas.{site_within, least_ready}
+use Rattle.gf_ops.proofs.HistoryLemmas.{site_in_range}
+use Rattle.gf_causal.proofs.ReadyLemmas.{least_ready}
 use Rattle.gf_causal.proofs.buffer.Buffer.first_ready.Goals as goal
 
 pub loop-site-init : goal.loop-site-init
 loop-site-init c = λ a h r.
-    let held : AreHeld c.args.self.now = rw (← c.self.view_is) c.self.invariant.held in (site_within a (held.in_range a h)).0
+    let held : AreHeld c.args.self.now = rw (← c.self.view_is) c.self.invariant.held in (site_in_range a (held.in_range a h)).0
 
 pub returns-in-Some-clause-found : goal.returns-in-Some-clause-found
 returns-in-Some-clause-found c =
@@ -25,5 +26,5 @@ pub returns-clause-none : goal.returns-clause-none
 returns-clause-none c = λ a h r.
     let i = c.loop-site.invariant a h r in
     let held : AreHeld c.args.self.now = rw (← c.self.view_is) c.self.invariant.held in
-    let w = (site_within a (held.in_range a h)).1 in
+    let w = (site_in_range a (held.in_range a h)).1 in
     let t : 9 ≤ c.loop-site.site = search rules in absurd (omega arith)
