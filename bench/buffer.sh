@@ -3,6 +3,7 @@
 # 8,000 and for 80,000 operations, and prints how they grow. It wants valgrind.
 set -eu
 root=$(cd "$(dirname "$0")/.." && pwd)
+command -v valgrind > /dev/null || { echo "bench/buffer.sh wants valgrind" >&2; exit 1; }
 (cd "$root/crates/bench_buffer" && rt run -- 1 > /dev/null)
 
 instructions() {
@@ -12,5 +13,6 @@ instructions() {
 
 few=$(instructions 1000)
 many=$(instructions 10000)
+tenths=$(((many * 10 + few / 2) / few))
 echo "8,000 operations: $few instructions"
-echo "80,000 operations: $many instructions, $((many / few)).$((many * 10 / few % 10)) times as many (cut, not rounded)"
+echo "80,000 operations: $many instructions, $((tenths / 10)).$((tenths % 10)) times as many"

@@ -60,7 +60,7 @@ pub RefusesText-line : (bytes : List ℕ) (n : ℕ) (line : List ℕ) (left : Li
 RefusesText-line bytes n line left ops read valid (studio.Line m why) refused =
     record { line = line; at = at_line bytes m line left ops (subst (λ k. HasRead bytes ((k, line) ∷ left) ops) (sym refused.0) read) valid; fault = refused.1 }
 RefusesText-line bytes n line left ops read valid (studio.Dropped id fault) refused =
-    record { number = n; line = line; at = at_line bytes n line left ops read valid; op = refused.op; denotes = refused.denotes; named = refused.named; unfit = refused.unfit }
+    record { number = n; line = line; at = at_line bytes n line left ops read valid; op = refused.op; denotes = refused.denotes; named = refused.named; refused = refused.refused }
 RefusesText-line bytes n line left ops read valid studio.OutOfMemory refused = tt
 RefusesText-line bytes n line left ops read valid studio.ReadFailed refused = absurd refused
 RefusesText-line bytes n line left ops read valid studio.TooLong refused = absurd refused

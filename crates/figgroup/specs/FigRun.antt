@@ -5,7 +5,8 @@ use Rattle.gf_shape.specs.declared.any_shape.AnyShape.{AnyShape}
 use Rattle.gf_shape.specs.Outlines.{any_outline}
 use Rattle.gf_ops.specs.declared.op.Op.{Op}
 use Rattle.gf_ops.specs.declared.op.OpId.{OpId}
-use Rattle.gf_ops.specs.Accepted.{IsAccepted, AreAccepted}
+use Rattle.gf_ops.specs.declared.faults.OpFault.{OpFault}
+use Rattle.gf_ops.specs.Accepted.{IsRefused, AreAccepted}
 use Rattle.gf_ops.specs.ValidHistory.{IsValid}
 use Rattle.gf_versions.specs.declared.placed.Placed.{Placed}
 use Rattle.gf_versions.specs.Ranking.{AreRanked}
@@ -52,15 +53,15 @@ pub record HasFault (bytes : List ℕ) (n : ℕ) (cause : LineCause) : Type 0 wh
   pub at : IsAt bytes n line
   pub fault : creation line ≡ Err (line_fault cause)
 
--- the operation under this id is the first that cannot be added behind those of the lines before it
-pub record Drops (bytes : List ℕ) (id : OpId) : Type 0 where
+-- the operation under this id is the first that cannot be added behind those of the lines before it, for this fault
+pub record Drops (bytes : List ℕ) (id : OpId) (fault : OpFault) : Type 0 where
   pub number : ℕ
   pub line : List ℕ
   pub at : IsAt bytes number line
   pub op : Op
   pub denotes : creation line ≡ Ok op
   pub named : op.id ≡ id
-  pub unfit : ¬ (IsAccepted at.history op)
+  pub refused : IsRefused at.history op fault
 
 -- the bytes denote a history with a canonical drawing, which has at every point the colour that the history means there,
 -- by its shapes and by the outlines that FIG draws of them

@@ -3,7 +3,8 @@ use Rattle.std.specs.Prelude.{◌≡◌, ℕ, List, [], ◌∷◌, ◌++◌, Ok,
 use Rattle.gf_ops.specs.declared.op.Op.{Op}
 use Rattle.gf_ops.specs.declared.op.OpId.{OpId}
 use Rattle.gf_ops.specs.Attribute.{made_kind}
-use Rattle.gf_ops.specs.Accepted.{IsAccepted, AreAccepted}
+use Rattle.gf_ops.specs.declared.faults.OpFault.{OpFault}
+use Rattle.gf_ops.specs.Accepted.{IsAccepted, IsRefused, AreAccepted}
 use Rattle.gf_versions.specs.Creations.{AreCreations}
 use Rattle.gf_json.specs.declared.line_error.LineError.{LineError}
 use Rattle.gf_json.specs.declared.line_error.LineError.TheVariants as line
@@ -38,31 +39,31 @@ pub record AddsLine (bytes : List ℕ) (old new : List Op) : Type 0 where
   pub accepted : IsAccepted old op
   pub added : new ≡ old ++ op ∷ []
 
--- the line denotes an operation under this id that cannot be added behind h
-pub record Unfit (bytes : List ℕ) (h : List Op) (id : OpId) : Type 0 where
+-- the line denotes an operation under this id that cannot be added behind h, for this fault
+pub record Unfit (bytes : List ℕ) (h : List Op) (id : OpId) (fault : OpFault) : Type 0 where
   pub op : Op
   pub denotes : creation bytes ≡ Ok op
   pub named : op.id ≡ id
-  pub unfit : ¬ (IsAccepted h op)
+  pub refused : IsRefused h op fault
 
 -- why line n is not added behind h
 abbrev pub RefusesLine : ℕ → List ℕ → List Op → StudioError → Type 0
 RefusesLine n bytes h (studio.Line m why) = (m ≡ n) × (creation bytes ≡ Err (line_fault why))
-RefusesLine n bytes h (studio.Dropped id fault) = Unfit bytes h id
+RefusesLine n bytes h (studio.Dropped id fault) = Unfit bytes h id fault
 RefusesLine n bytes h studio.OutOfMemory = ⊤
 RefusesLine n bytes h other = ⊥
 
 -- why a text is no history
 abbrev pub RefusesText : List ℕ → StudioError → Type 0
 RefusesText bytes (studio.Line n why) = HasFault bytes n why
-RefusesText bytes (studio.Dropped id fault) = Drops bytes id
+RefusesText bytes (studio.Dropped id fault) = Drops bytes id fault
 RefusesText bytes studio.OutOfMemory = ⊤
 RefusesText bytes other = ⊥
 
 -- why a text has no drawing
 abbrev pub RefusesDrawing : List ℕ → StudioError → Type 0
 RefusesDrawing bytes (studio.Line n why) = HasFault bytes n why
-RefusesDrawing bytes (studio.Dropped id fault) = Drops bytes id
+RefusesDrawing bytes (studio.Dropped id fault) = Drops bytes id fault
 RefusesDrawing bytes (studio.Compile fault) = RefusesCompiling bytes fault
 RefusesDrawing bytes studio.OutOfMemory = ⊤
 RefusesDrawing bytes other = ⊥

@@ -38,7 +38,7 @@ pub fn fig_run<R: Source, W: Sink>(
 
     // The first line that is at fault.
     ensures line { (n : ℕ) (cause : LineCause) → result ≡ Err (StudioError.Line n cause) → IfSome (R.left source.old) (λ bytes. HasFault bytes n cause) }
-    ensures dropped { (id : OpId) (fault : OpFault) → result ≡ Err (StudioError.Dropped id fault) → IfSome (R.left source.old) (λ bytes. Drops bytes id) }
+    ensures dropped { (id : OpId) (fault : OpFault) → result ≡ Err (StudioError.Dropped id fault) → IfSome (R.left source.old) (λ bytes. Drops bytes id fault) }
 
     // The history has no drawing.
     ensures compile { (fault : CompileFault) → result ≡ Err (StudioError.Compile fault) → IfSome (R.left source.old) (λ bytes. RefusesCompiling bytes fault) }

@@ -5,8 +5,9 @@ ghost use Rattle.gf_ops.specs.declared.op.Op.{Op};
 ghost use Rattle.gf_ops.specs.ValidHistory.{IsValid};
 ghost use Rattle.gf_causal.specs.DeliveredPart.{AreOneById, IsLastDelivery, HasLastDelivery, IsDeliveredPart, HaveSame};
 
-/// However ready operations were chosen: as soon as none of those offered is ready, exactly the
-/// delivered part was taken, whatever the order of the offers.
+/// Of offers in which equal ids are equal operations: however ready ones are chosen, where each is
+/// added behind those before it, as soon as none of them is ready exactly the delivered part was
+/// added, whatever the order of the offers.
 pub fn a_last_delivery_has_the_delivered_part()
     ensures part { (offered course : List Op) → AreOneById offered → IsLastDelivery offered course → IsDeliveredPart offered course }
     ensures same { (offered others c d : List Op) → AreOneById offered → HaveSame offered others → IsLastDelivery offered c → IsLastDelivery others d → HaveSame c d }

@@ -1,7 +1,9 @@
-//! Operations that came before what they know, and the order in which they may be added.
+//! Operations that wait for what they know, and the order in which they may be added.
 //!
 //! - [`Buffer`]: operations that wait until a history has what they know.
 //! - [`Offered`], [`OfferFault`]: what an offer to a buffer came to.
+//! - [`a_last_delivery_has_the_delivered_part`], [`each_list_has_a_last_delivery`],
+//!   [`the_delivered_part_of_a_valid_history_is_all_of_it`]: the laws.
 //! - [`a_last_delivery_has_the_delivered_part`]: why the order of offers and takings does not matter.
 #![tactic(auto)]
 

@@ -1,8 +1,8 @@
-//! Why a line is no operation.
+//! Why a line is no operation and no command.
 
 use thiserror::Error;
 
-/// Why a line is no operation, in the order of the checks.
+/// Why a line is no operation and no command, in the order of the checks.
 #[derive(Clone, Copy, Debug, PartialEq, Eq, Error)]
 pub enum LineError {
     /// It is no JSON.

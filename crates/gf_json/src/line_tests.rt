@@ -1,5 +1,6 @@
 //! Tests of what the clauses mean: lines with the answers that the format asks for.
 
+use crate::set_tests::read_with;
 use crate::{LineError, read_op, read_script};
 use gf_ops::{Change, Clock, Form, Op, OpId, Points, Start};
 use gf_shape::{Point, Rgb};
@@ -134,9 +135,14 @@ fn names_the_first_fault(rt: HostRuntime) -> Result<(), Fail> {
             "[0,0,0,0,0,0,0,10001]",
             LineError::Range,
         ),
+        ("[0,0,0,0,0,0,0,0]", "[-1,0,0,0,0,0,0,0]", LineError::Range),
         ("[300,400]", "[0,400]", LineError::Range),
+        ("[300,400]", "[300,0]", LineError::Range),
+        ("[300,400]", "[1000001,400]", LineError::Range),
         ("[300,400]", "[300,1000001]", LineError::Range),
         ("[100,200]", "[1000001,200]", LineError::Range),
+        ("[100,200]", "[-1000001,200]", LineError::Range),
+        ("[100,200]", "[100,1000001]", LineError::Range),
         ("[100,200]", "[100,-1000001]", LineError::Range),
     ] {
         let line = changed(rt.alloc(), part, new)?;
@@ -406,6 +412,9 @@ fn counts_the_points(rt: HostRuntime) -> Result<(), Fail> {
         let text = points(rt.alloc(), count, last)?;
         let found = fault(rt.alloc(), &POLYGON, SHAPE, &text)?;
         assert_eq!(rt; found, want, "of {count} points to {last}");
+        let set = text.replace(rt.alloc(), "\"points\":", "\"set\":\"points\",\"to\":")?;
+        let found = read_with(rt.alloc(), &set)?.err();
+        assert_eq!(rt; found, want, "of {count} points to {last}, set");
     }
     Ok(())
 }

@@ -22,7 +22,7 @@ const OBJECT: usize = 3;
 const TO: usize = 5;
 
 /// What the line reads as whose members from "set" on are these.
-fn read_with(alloc: Global, last: &str) -> Result<Result<Op, LineError>, AllocError> {
+pub(crate) fn read_with(alloc: Global, last: &str) -> Result<Result<Op, LineError>, AllocError> {
     let line = with(alloc, &SET[..5], 4, last)?;
     Ok(read_op(alloc, &line))
 }

@@ -2,7 +2,9 @@
 use Rattle.std.specs.Prelude.{◌≡◌, ℕ, ◌+◌, ◌≤◌, List, [], ◌∷◌, ◌++◌, Contains}
 use Rattle.gf_ops.specs.declared.op.Op.{Op}
 use Rattle.gf_ops.specs.declared.op.Clock.{Clock}
-use Rattle.gf_ops.specs.KnownObject.{IsSuited}
+use Rattle.gf_ops.specs.declared.faults.OpFault.{OpFault}
+use Rattle.gf_ops.specs.declared.faults.OpFault.TheVariants as fault
+use Rattle.gf_ops.specs.KnownObject.{IsFounded, IsSuited}
 use Rattle.gf_ops.specs.OperationOrder.{IsSite, entry, count_of, Precedes}
 use Rattle.gf_ops.specs.ValidHistory.{IsWithin}
 
@@ -15,11 +17,11 @@ pub record IsNumbered (h : List Op) (a : Op) : Type 0 where
   pub seq : a.id.seq ≡ count_of h a.id.site + 1
   pub own : entry a.past a.id.site + 1 ≡ a.id.seq
 
--- a knows all that those operations of h knew that it knows
+-- a knows all that the operations of h that it knows knew
 abbrev pub IsClosed : List Op → Op → Type 0
 IsClosed h a = (b : Op) → Contains h b → Precedes b a → IsWithin b.past a.past
 
--- a is the next operation of its site behind h: it has the next number, knows no more than h has, and all that those knew
+-- a is the next operation of its site behind h: it has the next number, knows no more than h has, and all that the operations that it knows knew
 pub record IsNext (h : List Op) (a : Op) : Type 0 where
   pub numbered : IsNumbered h a
   pub known : CountsAtMost a.past h
@@ -29,6 +31,12 @@ pub record IsNext (h : List Op) (a : Op) : Type 0 where
 pub record IsAccepted (h : List Op) (a : Op) : Type 0 where
   pub next : IsNext h a
   pub suited : IsSuited h a a.change
+
+-- a may not be added behind h, for the first of these faults
+abbrev pub IsRefused : List Op → Op → OpFault → Type 0
+IsRefused h a fault.BadClock = ¬ (IsNext h a)
+IsRefused h a fault.NoObject = IsNext h a × (¬ (IsFounded h a a.change))
+IsRefused h a fault.WrongKind = IsNext h a × IsFounded h a a.change × (¬ (IsSuited h a a.change))
 
 -- operations each of which was accepted behind those before it
 pub data AreAccepted : List Op → Type 0 where

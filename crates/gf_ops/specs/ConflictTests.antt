@@ -1,4 +1,4 @@
--- Tests that tell conflicts. No public clause cites this module.
+-- The code's tests for a conflict. No public clause cites this module.
 use Rattle.std.specs.Prelude.{Bool, false, not, ◌&&◌, ◌==◌, Option, Some, None}
 use Rattle.std.specs.Bool.{beq}
 use Rattle.std.specs.Ordering.{on, int_eq, eq_of_both}

@@ -22,7 +22,7 @@ count_of h s = count_by (λ a. nat_eq a.id.site s) h
 abbrev pub Precedes : Op → Op → Type 0
 Precedes a b = a.id.seq ≤ entry b.past a.id.site
 
--- a and b are two, and neither comes before the other
+-- a and b have different ids, and neither comes before the other
 pub record IsConcurrent (a b : Op) : Type 0 where
   pub different : a.id ≢ b.id
   pub not_before : ¬ (Precedes a b)

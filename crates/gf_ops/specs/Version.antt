@@ -1,5 +1,5 @@
 -- The versions of an object (maximal compatible groups, Sun and Chen, ACM TOCHI 9(1), 2002).
-use Rattle.std.specs.Prelude.{◌≡◌, List, Contains, Some}
+use Rattle.std.specs.Prelude.{◌≡◌, List, Contains, Some, IsSome}
 use Rattle.std.specs.List.Sorted.{IsStrictlySortedBy}
 use Rattle.gf_ops.specs.declared.op.Op.{Op}
 use Rattle.gf_ops.specs.declared.op.OpId.{OpId}
@@ -33,11 +33,12 @@ pub record Clashes (h : List Op) (g : List OpId) (a : Op) : Type 0 where
   pub is_member : IsMember h g member
   pub conflict : Conflict a member
 
--- the rising ids g are a group of operations of h on the object o, whose Create is in h;
+-- the rising ids g are a group of operations of h on the object o, whose creation is in h;
 -- no two of them conflict, and each other operation on o conflicts with one of them
 pub record IsVersion (h : List Op) (o : ObjectId) (g : List OpId) : Type 0 where
   pub rising : IsStrictlySortedBy id_cmp g
   pub created : HasOn h o o.0
+  pub makes : IsSome (made_kind created.op.change)
   pub members : (i : OpId) → Contains g i → HasOn h o i
   pub compatible : (a b : Op) → IsMember h g a → IsMember h g b → ¬ (Conflict a b)
   pub largest : (a : Op) → Contains h a → object_of a ≡ o → ¬ (Contains g a.id) → Clashes h g a

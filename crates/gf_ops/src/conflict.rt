@@ -56,7 +56,9 @@ fn is_another(own: &Value, value: &Value) -> bool
     match (own, value) {
         (Value::Place(own), Value::Place(place)) => own != place,
         (Value::Points(own), Value::Points(points)) => own != points,
-        (Value::Size(own, deep), Value::Size(width, height)) => !(own == width && deep == height),
+        (Value::Size(own_width, own_height), Value::Size(width, height)) => {
+            !(own_width == width && own_height == height)
+        }
         (Value::Colour(own), Value::Colour(colour)) => own != colour,
         (Value::Layer(own), Value::Layer(layer)) => own != layer,
         (Value::Shown(own), Value::Shown(shown)) => own != shown,
@@ -74,7 +76,7 @@ fn begins_with_another(start: &Start, value: &Value) -> bool
             Form::Rect(_, _) | Form::Circle(_) => false,
         },
         Value::Size(width, height) => match &start.form {
-            Form::Rect(own, deep) => !(own == width && deep == height),
+            Form::Rect(own_width, own_height) => !(own_width == width && own_height == height),
             Form::Circle(radius) => !(radius == width && radius == height),
             Form::Polygon(_) => false,
         },

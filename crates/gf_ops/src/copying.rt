@@ -20,8 +20,7 @@ impl Op {
 }
 
 impl Change {
-    /// The same change once more.
-    pub fn copy(&self, alloc: Global) -> Result<Change, OutOfMemory>
+    fn copy(&self, alloc: Global) -> Result<Change, OutOfMemory>
         ensures { IfOk result (λ change. change ≡ self.now) }
     {
         match self {
@@ -47,8 +46,7 @@ fn copy_start(start: &Start, alloc: Global) -> Result<Start, OutOfMemory>
 }
 
 impl Form {
-    /// The same form once more.
-    pub fn copy(&self, alloc: Global) -> Result<Form, OutOfMemory>
+    fn copy(&self, alloc: Global) -> Result<Form, OutOfMemory>
         ensures { IfOk result (λ form. form ≡ self.now) }
     {
         match self {
@@ -60,8 +58,7 @@ impl Form {
 }
 
 impl Value {
-    /// The same value once more.
-    pub fn copy(&self, alloc: Global) -> Result<Value, OutOfMemory>
+    fn copy(&self, alloc: Global) -> Result<Value, OutOfMemory>
         ensures { IfOk result (λ value. value ≡ self.now) }
     {
         match self {
@@ -76,8 +73,7 @@ impl Value {
 }
 
 impl Points {
-    /// The same points once more.
-    pub fn copy(&self, alloc: Global) -> Result<Points, OutOfMemory>
+    fn copy(&self, alloc: Global) -> Result<Points, OutOfMemory>
         ensures { IfOk result (λ points. points ≡ self.now) }
     {
         let mut points = Vec::new(alloc);

@@ -6,7 +6,8 @@ use thiserror::Error;
 #[derive(Clone, Copy, Debug, PartialEq, Eq, Error)]
 pub enum OpFault {
     /// Its number is not the next of its site, or it knows another number of its own site's
-    /// operations, or more of another site's than there are, or less than one that it knows.
+    /// operations, or more of another site's than there are, or less of some site than an operation
+    /// that it knows knew.
     #[error("BadClock")]
     BadClock,
     /// It changes an object whose creation it doesn't know.

@@ -3,7 +3,7 @@
 ghost use Rattle.std.specs.Prelude.{◌≡◌, ◌≢◌, ◌<◌, ◌↔◌, ◌++◌, ◌∷◌, [], Contains, IsTrue, Ok, Err, IsOk, IfSome, IfNone, OnOk, OnErr};
 ghost use Rattle.gf_ops.specs.declared.op.Op.{Op};
 ghost use Rattle.gf_ops.specs.declared.history.History.{History};
-ghost use Rattle.gf_ops.specs.Accepted.{CountsAtMost, IsNumbered, IsClosed, IsNext, IsAccepted};
+ghost use Rattle.gf_ops.specs.Accepted.{CountsAtMost, IsNumbered, IsClosed, IsNext, IsAccepted, IsRefused};
 ghost use Rattle.gf_ops.specs.Attribute.{kind_of, suits};
 ghost use Rattle.gf_ops.specs.KnownObject.{Knows, KnowsSome, IsFounded, IsSuited};
 ghost use Rattle.gf_ops.specs.Limits.{IsInRange};
@@ -83,13 +83,14 @@ impl History {
     }
 
     /// Whether the operation may be added now, with the first of its faults. It takes a look at the
-    /// last operation of each site that it knows.
+    /// last operation of each site that it knows, and one at the creation of the object that it
+    /// changes.
     pub fn check(&self, op: &Op) -> Result<(), OpFault>
         requires { IsInRange op.now }
         ensures ok { IsOk result ↔ IsAccepted self.now.ops op.now }
-        ensures bad_clock { result ≡ Err OpFault.BadClock ↔ (¬ IsNext self.now.ops op.now) }
-        ensures no_object { result ≡ Err OpFault.NoObject ↔ (IsNext self.now.ops op.now × (¬ IsFounded self.now.ops op.now op.now.change)) }
-        ensures wrong_kind { result ≡ Err OpFault.WrongKind ↔ (IsNext self.now.ops op.now × IsFounded self.now.ops op.now op.now.change × (¬ IsSuited self.now.ops op.now op.now.change)) }
+        ensures bad_clock { result ≡ Err OpFault.BadClock ↔ IsRefused self.now.ops op.now OpFault.BadClock }
+        ensures no_object { result ≡ Err OpFault.NoObject ↔ IsRefused self.now.ops op.now OpFault.NoObject }
+        ensures wrong_kind { result ≡ Err OpFault.WrongKind ↔ IsRefused self.now.ops op.now OpFault.WrongKind }
     {
         if self.is_next(op) {
             self.check_change(op)
@@ -192,9 +193,9 @@ impl History {
     pub fn add(&mut self, op: Op) -> Result<(), AddFault>
         requires { IsInRange op }
         ensures ok { OnOk result (IsAccepted self.old.ops op × (self.new.ops ≡ self.old.ops ++ op ∷ [])) }
-        ensures bad_clock { result ≡ Err (AddFault.Op OpFault.BadClock) ↔ (¬ IsNext self.old.ops op) }
-        ensures no_object { result ≡ Err (AddFault.Op OpFault.NoObject) ↔ (IsNext self.old.ops op × (¬ IsFounded self.old.ops op op.change)) }
-        ensures wrong_kind { result ≡ Err (AddFault.Op OpFault.WrongKind) ↔ (IsNext self.old.ops op × IsFounded self.old.ops op op.change × (¬ IsSuited self.old.ops op op.change)) }
+        ensures bad_clock { result ≡ Err (AddFault.Op OpFault.BadClock) ↔ IsRefused self.old.ops op OpFault.BadClock }
+        ensures no_object { result ≡ Err (AddFault.Op OpFault.NoObject) ↔ IsRefused self.old.ops op OpFault.NoObject }
+        ensures wrong_kind { result ≡ Err (AddFault.Op OpFault.WrongKind) ↔ IsRefused self.old.ops op OpFault.WrongKind }
         ensures out_of_memory { result ≡ Err AddFault.OutOfMemory → IsAccepted self.old.ops op × (self.old.room ≡ 0) }
         ensures err { OnErr result (self.new ≡ self.old) }
         ensures valid { IsValid self.new.ops }

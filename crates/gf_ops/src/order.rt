@@ -15,7 +15,7 @@ pub fn before(a: &Op, b: &Op) -> bool
     a.id.seq <= b.past.0[usize::from(a.id.site) - 1]
 }
 
-/// Whether they are two operations, and neither was made at a site that knew the other.
+/// Whether their ids differ, and neither was made at a site that knew the other.
 pub fn concurrent(a: &Op, b: &Op) -> bool
     requires a { IsInRange a.now }
     requires b { IsInRange b.now }

@@ -102,6 +102,7 @@ module _ (h : List Op) (valid : IsValid h) (creations : AreCreations h) where
       record {
         rising = (tt, tt);
         created = record { op = a; contained = x; id = sym (makes_its_own a.id a.change (creations a x)); object = refl };
+        makes = creations a x;
         members = λ i c. record { op = a; contained = x; id = sym (elim (Contains-cons_cases a.id [] i c) [ inl k ↦ k | inr k ↦ absurd (not_Contains-nil i k) ]); object = refl };
         compatible = λ b c m n conflict. conflict.concurrent.different (ap (λ (d : Op). d.id) (one b m ∙ sym (one c n)));
         largest = λ b y e out. absurd (out (subst (λ i. Contains (a.id ∷ []) i) (sym (makes_its_own a.id a.change (creations a x)) ∙ sym (only_on (object_of a) b (creations b y) e)) (Contains-cons_head a.id [])));

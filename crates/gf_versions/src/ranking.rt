@@ -35,7 +35,7 @@ fn sort(items: &mut Vec<Placed<AnyShape>>) -> Result<(), OutOfMemory>
     Ok(())
 }
 
-/// The visible versions of these operations at their places, each of which makes an object.
+/// The versions that the shown creations among these operations make, at their places.
 fn shown(alloc: Global, ops: &[Op]) -> Result<Vec<Placed<AnyShape>>, OutOfMemory>
     requires { (op : Op) → Contains ops.now op → IsInRange op }
     ensures { IfOk result (λ items. items.items ≡ map placed_version (shown_of ops.now)) }

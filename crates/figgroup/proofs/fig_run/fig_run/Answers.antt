@@ -10,5 +10,5 @@ pub returns-in_err-drawing-clause-dropped : goal.returns-in_err-drawing-clause-d
 returns-in_err-drawing-clause-dropped g c = λ id fault e.
     let p = err_from_is_err_and c.from_residual-in_err-drawing.result c.from_residual-in_err-drawing.ensures.1 in
     let same : c.in_err-drawing.field-0.0 ≡ studio.Dropped id fault = let q = sym p.1 ∙ e in cc in
-    let drops : Drops c.deref.result.now id = subst (RefusesDrawing c.deref.result.now) same c.in_err-drawing.ensures.err in
-    of_left _ c.in_ok-bytes.bytes.items (λ bytes. Drops bytes id) c.in_ok-bytes.ensures.ok (subst (λ bytes. Drops bytes id) c.deref.ensures.value drops)
+    let drops : Drops c.deref.result.now id fault = subst (RefusesDrawing c.deref.result.now) same c.in_err-drawing.ensures.err in
+    of_left _ c.in_ok-bytes.bytes.items (λ bytes. Drops bytes id fault) c.in_ok-bytes.ensures.ok (subst (λ bytes. Drops bytes id fault) c.deref.ensures.value drops)
