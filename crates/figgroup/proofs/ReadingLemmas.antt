@@ -12,7 +12,7 @@ use Rattle.figgroup.specs.declared.studio_error.StudioError.{StudioError}
 use Rattle.figgroup.specs.declared.studio_error.StudioError.TheVariants as studio
 use Rattle.figgroup.specs.FigRun.{Denotes, IsAt, denotes_op}
 use Rattle.figgroup.specs.LineSteps.{HasRead, AddsLine, RefusesLine, RefusesText}
-use Rattle.figgroup.specs.Creations.{creation}
+use Rattle.figgroup.specs.Creations.{denoted_creation}
 use Rattle.figgroup.specs.TextLines.{numbered_lines}
 
 -- before the first line none is read
@@ -32,8 +32,8 @@ HasRead-line bytes n line left old new read adds = record {
   before = read.before ++ (n, line) ∷ [];
   whole = read.whole ∙ sym (append_assoc read.before ((n, line) ∷ []) left);
   lines =
-      map-append (λ (l : ℕ × List ℕ). creation l.1) read.before ((n, line) ∷ [])
-      ∙ (ap (λ r. r ++ creation line ∷ []) read.lines
+      map-append (λ (l : ℕ × List ℕ). denoted_creation l.1) read.before ((n, line) ∷ [])
+      ∙ (ap (λ r. r ++ denoted_creation line ∷ []) read.lines
       ∙ (ap (λ r. map denotes_op old ++ r ∷ []) adds.denotes
       ∙ (sym (map-append denotes_op old (adds.op ∷ [])) ∙ ap (map denotes_op) (sym adds.added))));
   accepted = subst AreAccepted (sym adds.added) (next read.accepted adds.accepted);
@@ -46,7 +46,7 @@ HasRead-line bytes n line left old new read adds = record {
 -- with no line left, all are read
 pub Denotes-read : (bytes : List ℕ) (ops : List Op) → HasRead bytes [] ops → IsValid ops → Denotes bytes ops
 Denotes-read bytes ops read valid = record {
-  lines = ap (map (λ (l : ℕ × List ℕ). creation l.1)) (read.whole ∙ append-nil read.before) ∙ read.lines;
+  lines = ap (map (λ (l : ℕ × List ℕ). denoted_creation l.1)) (read.whole ∙ append-nil read.before) ∙ read.lines;
   accepted = read.accepted;
   valid = valid;
 }

@@ -13,5 +13,5 @@ creating a (Create start) = Ok a
 creating a (Set object v) = Err fault.Field
 
 -- the creation that a line denotes, or its first fault; a line that changes an object has a fault of form
-abbrev pub creation : List ℕ → Got Op
-creation line = and_then (λ a. creating a a.change) (denoted line)
+abbrev pub denoted_creation : List ℕ → Got Op
+denoted_creation line = and_then (λ a. creating a a.change) (denoted line)

@@ -20,7 +20,7 @@ use Rattle.gf_fig_write.specs.FigText.{fig_text}
 use Rattle.figgroup.specs.declared.studio_error.LineCause.{LineCause}
 use Rattle.gf_json.specs.LineValues.{Got}
 use Rattle.figgroup.specs.Refusals.{line_fault}
-use Rattle.figgroup.specs.Creations.{creation}
+use Rattle.figgroup.specs.Creations.{denoted_creation}
 use Rattle.figgroup.specs.TextLines.{numbered_lines}
 
 -- a line that denotes this creation
@@ -29,7 +29,7 @@ denotes_op op = Ok op
 
 -- each of the lines denotes a creation, and these are the operations in order
 abbrev pub AreLinesOf : List (ℕ × List ℕ) → List Op → Type 0
-AreLinesOf lines ops = map (λ (line : ℕ × List ℕ). creation line.1) lines ≡ map denotes_op ops
+AreLinesOf lines ops = map (λ (line : ℕ × List ℕ). denoted_creation line.1) lines ≡ map denotes_op ops
 
 -- the bytes denote these creations, each accepted behind those before it, and together a valid history
 pub record Denotes (bytes : List ℕ) (history : List Op) : Type 0 where
@@ -51,7 +51,7 @@ pub record IsAt (bytes : List ℕ) (n : ℕ) (line : List ℕ) : Type 0 where
 pub record HasFault (bytes : List ℕ) (n : ℕ) (cause : LineCause) : Type 0 where
   pub line : List ℕ
   pub at : IsAt bytes n line
-  pub fault : creation line ≡ Err (line_fault cause)
+  pub fault : denoted_creation line ≡ Err (line_fault cause)
 
 -- the operation under this id is the first that cannot be added behind those of the lines before it, for this fault
 pub record Drops (bytes : List ℕ) (id : OpId) (fault : OpFault) : Type 0 where
@@ -59,7 +59,7 @@ pub record Drops (bytes : List ℕ) (id : OpId) (fault : OpFault) : Type 0 where
   pub line : List ℕ
   pub at : IsAt bytes number line
   pub op : Op
-  pub denotes : creation line ≡ Ok op
+  pub denotes : denoted_creation line ≡ Ok op
   pub named : op.id ≡ id
   pub refused : IsRefused at.history op fault
 

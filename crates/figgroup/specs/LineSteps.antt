@@ -13,7 +13,7 @@ use Rattle.figgroup.specs.declared.studio_error.StudioError.{StudioError}
 use Rattle.figgroup.specs.declared.studio_error.StudioError.TheVariants as studio
 use Rattle.figgroup.specs.FigRun.{AreLinesOf, HasFault, Drops, RefusesCompiling}
 use Rattle.figgroup.specs.Refusals.{line_fault}
-use Rattle.figgroup.specs.Creations.{creation}
+use Rattle.figgroup.specs.Creations.{denoted_creation}
 use Rattle.figgroup.specs.TextLines.{numbered_lines}
 
 -- line n has this fault
@@ -34,7 +34,7 @@ pub record HasRead (bytes : List ℕ) (left : List (ℕ × List ℕ)) (ops : Lis
 -- the history grows from old to new by the operation that the line denotes
 pub record AddsLine (bytes : List ℕ) (old new : List Op) : Type 0 where
   pub op : Op
-  pub denotes : creation bytes ≡ Ok op
+  pub denotes : denoted_creation bytes ≡ Ok op
   pub created : IsSome (made_kind op.change)
   pub accepted : IsAccepted old op
   pub added : new ≡ old ++ op ∷ []
@@ -42,13 +42,13 @@ pub record AddsLine (bytes : List ℕ) (old new : List Op) : Type 0 where
 -- the line denotes an operation under this id that cannot be added behind h, for this fault
 pub record Unfit (bytes : List ℕ) (h : List Op) (id : OpId) (fault : OpFault) : Type 0 where
   pub op : Op
-  pub denotes : creation bytes ≡ Ok op
+  pub denotes : denoted_creation bytes ≡ Ok op
   pub named : op.id ≡ id
   pub refused : IsRefused h op fault
 
 -- why line n is not added behind h
 abbrev pub RefusesLine : ℕ → List ℕ → List Op → StudioError → Type 0
-RefusesLine n bytes h (studio.Line m why) = (m ≡ n) × (creation bytes ≡ Err (line_fault why))
+RefusesLine n bytes h (studio.Line m why) = (m ≡ n) × (denoted_creation bytes ≡ Err (line_fault why))
 RefusesLine n bytes h (studio.Dropped id fault) = Unfit bytes h id fault
 RefusesLine n bytes h studio.OutOfMemory = ⊤
 RefusesLine n bytes h other = ⊥

@@ -5,7 +5,7 @@ ghost use Rattle.gf_ops.specs.ValidHistory.{IsValid};
 ghost use Rattle.gf_ops.specs.Attribute.{made_kind};
 ghost use Rattle.gf_ops.specs.Limits.{IsInRange};
 ghost use Rattle.gf_versions.specs.Creations.{AreCreations};
-ghost use Rattle.figgroup.specs.Creations.{creation};
+ghost use Rattle.figgroup.specs.Creations.{denoted_creation};
 ghost use Rattle.figgroup.specs.FigRun.{Denotes};
 ghost use Rattle.figgroup.specs.LineSteps.{AddsLine, RefusesLine, RefusesText, of_line};
 
@@ -53,7 +53,7 @@ fn add_line(
 
 /// The operation of a line that creates an object. So far the change of one is a fault of form.
 fn read_creation(alloc: Global, line: &[u8]) -> Result<Op, LineError>
-    ensures denoted { (result ≡ Err LineError.OutOfMemory) ⊎ (result ≡ creation line.now) }
+    ensures denoted { (result ≡ Err LineError.OutOfMemory) ⊎ (result ≡ denoted_creation line.now) }
     ensures in_range { IfOk result (λ op. IsInRange op) }
     ensures created { IfOk result (λ op. IsSome (made_kind op.change)) }
 {
