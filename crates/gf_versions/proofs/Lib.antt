@@ -4,3 +4,4 @@ pub mod ListLemmas
 pub mod RankingLemmas
 pub mod ShapeLemmas
 pub mod TopLemmas
+pub mod CreationLemmas

@@ -3,11 +3,13 @@
 //! - [`Version`] with its [`VersionKey`]: what an object looks like in one group of compatible
 //!   operations; [`Ids`] lists the group.
 //! - [`Ranked`], a list of [`Placed`]: the visible versions, topmost first.
-//! - [`ranked`]: makes that list.
+//! - [`ranked`]: makes that list, so far of a history that creations alone make; [`are_creations`]
+//!   tells whether it is one.
 //! - [`versions_are_in_a_total_order`], [`one_colour_at_a_point`], [`the_first_that_holds_is_on_top`]:
 //!   the laws.
 #![tactic(auto)]
 
+mod creations;
 mod ids;
 mod key;
 mod laws;
@@ -17,6 +19,7 @@ mod shaping;
 #[cfg(test)]
 mod tests;
 
+pub use creations::are_creations;
 pub use ids::Ids;
 pub use key::{Version, VersionKey};
 pub use laws::{

@@ -1,6 +1,6 @@
 //! Worked examples: who is above whom.
 
-use crate::ranked;
+use crate::{are_creations, ranked};
 use gf_ops::{Change, Clock, Form, History, ObjectId, Op, OpId, Points, Start};
 use gf_shape::{Bounds, Point, Rgb, Shape};
 use std::test::Fail;
@@ -56,6 +56,7 @@ fn higher_layers_and_later_objects_are_above(rt: HostRuntime) -> Result<(), Fail
             assert!(rt; op.in_range());
             history.add(op)?;
         }
+        assert!(rt; are_creations(&history));
         let ranked = ranked(alloc, &history)?;
         assert_eq!(rt; ranked.len(), falling.len());
         assert_eq!(rt; ranked.is_empty(), falling.is_empty());
@@ -83,6 +84,7 @@ fn a_version_stands_at_its_place(rt: HostRuntime) -> Result<(), Fail> {
         let op = created(1, form, 7, BLUE, true);
         assert!(rt; op.in_range());
         history.add(op)?;
+        assert!(rt; are_creations(&history));
         let ranked = ranked(alloc, &history)?;
         assert_eq!(rt; ranked.len(), 1);
         let item = &ranked.items[0];
