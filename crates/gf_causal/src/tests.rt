@@ -209,16 +209,17 @@ fn gives_out_what_does_not_know_enough(rt: HostRuntime) -> Result<(), Fail> {
         assert_eq!(rt; held, Ok(Offered::Held));
     }
     // 3.1 knows 1.1, and not 2.1, which 1.1 knew: it is ready, and the history refuses it.
-    for (site, want) in [
-        (2, Ok(())),
-        (1, Ok(())),
-        (3, Err(AddFault::Op(OpFault::BadClock))),
-    ] {
+    for (site, want) in [(2, Ok(())), (1, Ok(())), (3, Err(OpFault::BadClock))] {
         let Some(next) = buffer.take_ready(&history) else {
             return Err(Fail::new("nothing is ready"));
         };
         assert_eq!(rt; next.id, OpId { site, seq: 1 });
-        assert_eq!(rt; history.add(next), want, "of {site}.1");
+        assert_eq!(rt; history.check(&next), want, "of {site}.1");
+        assert_eq!(rt;
+            history.add(next),
+            want.map_err(AddFault::Op),
+            "of {site}.1"
+        );
     }
     let clash = buffer.offer(circle(1, 1, [0; 8], 2), &history);
     assert_eq!(rt; clash, Err(OfferFault::Clash));

@@ -14,14 +14,12 @@ mod line_fields;
 mod line_keys;
 mod line_points;
 #[cfg(test)]
+mod line_table_tests;
+#[cfg(test)]
 mod line_tests;
 mod line_values;
 mod lines;
 mod script_line;
-#[cfg(test)]
-mod script_tests;
-#[cfg(test)]
-mod set_tests;
 mod written_lines;
 #[cfg(test)]
 mod written_tests;
