@@ -1,0 +1,4 @@
+pub mod ConflictTestLemmas
+pub mod IdLemmas
+pub mod ListLemmas
+pub mod RisingLemmas

@@ -1,0 +1,45 @@
+//! Groups of operations.
+
+ghost use Rattle.std.specs.Prelude.{◌≡◌};
+
+use crate::Ids;
+use gf_ops::ObjectId;
+use std::marker::Model;
+
+/// The operations of one version of an object, their ids rising.
+#[derive(Debug, Drop)]
+pub struct Group {
+    pub object: ObjectId,
+    pub ops: Ids,
+}
+
+/// Versions, seen as their list.
+#[derive(Debug, Drop)]
+pub struct Groups {
+    groups: Vec<Group>,
+}
+
+impl Model for Groups {
+    ghost use Rattle.std.specs.Prelude.{List};
+    ghost use Rattle.gf_groups.specs.declared.group.Group.{Group};
+
+    ghost Value = { List Group };
+
+    ghost view = { λ s. s.groups.items };
+}
+
+impl Groups {
+    /// These groups.
+    pub(crate) fn new(groups: Vec<Group>) -> Groups
+        ensures { result ≡ groups.items }
+    {
+        Groups { groups }
+    }
+
+    /// The groups in their order.
+    pub fn as_slice(&self) -> &[Group]
+        ensures { result.now ≡ self.now }
+    {
+        &self.groups
+    }
+}

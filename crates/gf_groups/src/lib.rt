@@ -1,0 +1,18 @@
+//! The versions of objects as groups of operations: largest sets of operations on one object, no two
+//! of which conflict.
+//!
+//! - [`groups_of`]: the versions of one object, as [`Groups`], a list of [`Group`]; [`Ids`] lists the
+//!   operations of one.
+//! - [`all_groups`]: those of all objects of a history.
+//! - [`GroupFault`]: why there is no such list.
+#![tactic(auto)]
+
+mod faults;
+mod group;
+mod groups;
+mod ids;
+
+pub use faults::GroupFault;
+pub use group::{Group, Groups};
+pub use groups::{all_groups, groups_of};
+pub use ids::Ids;
