@@ -19,7 +19,7 @@ module _ {X : Type 0} (R : X → X → Ordering) (total : IsTotalOrder R) where
   rising_cons x xs l s = (recursion_from_All (λ y. R x y ≡ Less) xs l, s)
 
   -- nothing is below itself, and of two only one is below the other
-  never_both : {G : Type 0} (x y : X) → R x y ≡ Less → R y x ≡ Less → G
+  pub never_both : {G : Type 0} (x y : X) → R x y ≡ Less → R y x ≡ Less → G
   never_both x y h k = let t = total.trans x y x h k in let e = tied_itself total x in absurd cc
 
   same_head : (x y : X) (xs ys : List X) → IsStrictlySortedBy R (x ∷ xs) → IsStrictlySortedBy R (y ∷ ys) → Contains (y ∷ ys) x → Contains (x ∷ xs) y → x ≡ y

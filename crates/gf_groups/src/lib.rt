@@ -5,14 +5,17 @@
 //!   operations of one.
 //! - [`all_groups`]: those of all objects of a history.
 //! - [`GroupFault`]: why there is no such list.
+//! - [`the_versions_are_a_list_that_computes`]: the law.
 #![tactic(auto)]
 
 mod faults;
 mod group;
 mod groups;
 mod ids;
+mod laws;
 
 pub use faults::GroupFault;
 pub use group::{Group, Groups};
 pub use groups::{all_groups, groups_of};
 pub use ids::Ids;
+pub use laws::the_versions_are_a_list_that_computes;
