@@ -27,9 +27,9 @@ use Rattle.gf_versions.specs.Created.{created, made, shown_of}
 use Rattle.gf_versions.specs.Creations.{AreCreations}
 use Rattle.gf_versions.specs.VersionOf.{IsVersionOf}
 use Rattle.gf_versions.specs.Visible.{IsVisible}
-use Rattle.gf_versions.proofs.KeyLemmas.{id_cmp_total}
+use Rattle.gf_groups.proofs.IdLemmas.{id_cmp_total}
 use Rattle.gf_ops.proofs.ListLemmas.{Contains-cons_cases, Contains-cons_head, Contains-cons_tail, not_Contains-nil, Contains-map, Contains-map_from}
-use Rattle.gf_versions.proofs.ListLemmas.{Contains-filter}
+use Rattle.gf_groups.proofs.ListLemmas.{Contains-filter}
 
 -- the object that a change makes is named by its operation
 makes_its_own : (id : OpId) (change : Change) → IsSome (made_kind change) → (changed_object id change).0 ≡ id

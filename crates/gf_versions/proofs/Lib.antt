@@ -1,6 +1,5 @@
 pub mod CreatedLemmas
 pub mod KeyLemmas
-pub mod ListLemmas
 pub mod RankingLemmas
 pub mod ShapeLemmas
 pub mod TopLemmas

@@ -25,7 +25,7 @@ use Rattle.gf_versions.specs.Ranking.{AreRanked, placed_version}
 use Rattle.gf_versions.proofs.CreatedLemmas.{visible_exactly, made_object}
 use Rattle.gf_versions.proofs.KeyLemmas.{key_cmp_total, key_cmp_exact}
 use Rattle.gf_ops.proofs.ListLemmas.{Contains-map, Contains-map_from}
-use Rattle.gf_versions.proofs.ListLemmas.{Contains-filter}
+use Rattle.gf_groups.proofs.ListLemmas.{Contains-filter}
 
 pub falls_by_order : {S : Type 0} → IsStrictWeakOrder (falls_by {S = S})
 falls_by_order {S} = IsStrictWeakOrder-flip _ (ranks_by key_cmp_total (λ (i : Placed S). i.key))

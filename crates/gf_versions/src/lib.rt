@@ -1,7 +1,7 @@
 //! The versions of the objects of a history, and the colour that a history means at a point.
 //!
 //! - [`Version`] with its [`VersionKey`]: what an object looks like in one group of compatible
-//!   operations; [`Ids`] lists the group.
+//!   operations.
 //! - [`Ranked`], a list of [`Placed`]: the visible versions, topmost first.
 //! - [`ranked`]: makes that list, so far of a history that creations alone make; [`are_creations`]
 //!   tells whether it is one.
@@ -10,7 +10,6 @@
 #![tactic(auto)]
 
 mod creations;
-mod ids;
 mod key;
 mod laws;
 mod placed;
@@ -20,7 +19,6 @@ mod shaping;
 mod tests;
 
 pub use creations::are_creations;
-pub use ids::Ids;
 pub use key::{Version, VersionKey};
 pub use laws::{
     one_colour_at_a_point, the_first_that_holds_is_on_top, versions_are_in_a_total_order,

@@ -11,7 +11,8 @@ ghost use Rattle.std.specs.List.Sorted.{IsPermutation, IsSortedBy};
 
 use crate::key::compare;
 use crate::shaping::shape_at;
-use crate::{Ids, Placed, Ranked, VersionKey};
+use crate::{Placed, Ranked, VersionKey};
+use gf_groups::Ids;
 use gf_ops::{Change, History, ObjectId, Op, OpId, Start};
 use gf_shape::{AnyShape, OutOfMemory};
 use std::alloc::Global;
