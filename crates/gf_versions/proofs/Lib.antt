@@ -1,6 +1,9 @@
 pub mod CreatedLemmas
 pub mod KeyLemmas
+pub mod MakerLemmas
 pub mod RankingLemmas
+pub mod SettlingLemmas
 pub mod ShapeLemmas
 pub mod TopLemmas
+pub mod VersionLemmas
 pub mod CreationLemmas

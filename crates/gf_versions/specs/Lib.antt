@@ -6,3 +6,4 @@ pub mod Ranking
 pub mod Creations
 pub mod Created
 pub mod Falling
+pub mod Settling

@@ -6,7 +6,13 @@ ghost use Rattle.gf_shape.specs.declared.colour.Rgb.{Rgb};
 ghost use Rattle.gf_shape.specs.declared.any_shape.AnyShape.{AnyShape};
 ghost use Rattle.gf_shape.specs.ShapeMeaning.{any_holds};
 ghost use Rattle.gf_ops.specs.declared.op.Op.{Op};
+ghost use Rattle.gf_ops.specs.declared.op.OpId.{OpId};
+ghost use Rattle.gf_ops.specs.declared.op.ObjectId.{ObjectId};
+ghost use Rattle.gf_ops.specs.declared.change.Attr.{Attr};
+ghost use Rattle.gf_ops.specs.declared.change.Value.{Value};
+ghost use Rattle.gf_ops.specs.SettledValue.{IsSettled};
 ghost use Rattle.gf_ops.specs.ValidHistory.{IsValid};
+ghost use Rattle.gf_ops.specs.Version.{IsVersion};
 ghost use Rattle.gf_versions.specs.declared.key.Version.{Version};
 ghost use Rattle.gf_versions.specs.declared.key.VersionKey.{VersionKey};
 ghost use Rattle.gf_versions.specs.declared.placed.Placed.{Placed};
@@ -21,6 +27,11 @@ ghost use Rattle.gf_versions.specs.VersionOf.{IsVersionOf};
 pub fn versions_are_in_a_total_order()
     ensures transitive { (k l m : VersionKey) → IsAbove k l → IsAbove l m → IsAbove k m }
     ensures total { (h : List Op) → IsValid h → AreCreations h → (v w : Version) → IsVersionOf h v → IsVersionOf h w → AreOrdered v w }
+{}
+
+/// A version of a valid history settles each attribute to one value.
+pub fn a_version_settles_each_attribute_once()
+    ensures { (h : List Op) → IsValid h → (o : ObjectId) → (g : List OpId) → IsVersion h o g → (t : Attr) → (v w : Value) → IsSettled h g t v → IsSettled h g t w → v ≡ w }
 {}
 
 /// A valid history of creations means one colour at each point.

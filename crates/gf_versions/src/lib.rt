@@ -14,6 +14,7 @@ mod key;
 mod laws;
 mod placed;
 mod ranking;
+mod settling;
 mod shaping;
 #[cfg(test)]
 mod tests;
@@ -21,7 +22,9 @@ mod tests;
 pub use creations::are_creations;
 pub use key::{Version, VersionKey};
 pub use laws::{
-    one_colour_at_a_point, the_first_that_holds_is_on_top, versions_are_in_a_total_order,
+    a_version_settles_each_attribute_once, one_colour_at_a_point, the_first_that_holds_is_on_top,
+    versions_are_in_a_total_order,
 };
 pub use placed::{Placed, Ranked};
 pub use ranking::ranked;
+pub use settling::settle;
