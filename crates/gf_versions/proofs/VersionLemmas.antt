@@ -1,6 +1,6 @@
 -- A group of operations that is a version has settled values, and only one version of a valid history has that group.
 use Rattle.std.proofs.Common.{◌≡◌, ℕ, List, [], ◌∷◌, refl, subst, sym, ap, inl, inr}
-use Rattle.std.specs.Prelude.{Bool, Contains, Some}
+use Rattle.std.specs.Prelude.{◌↔◌, Bool, Contains, Some}
 use Rattle.gf_shape.specs.declared.point.Point.{Point}
 use Rattle.gf_shape.specs.declared.colour.Rgb.{Rgb}
 use Rattle.gf_ops.specs.declared.op.Op.{Op}
@@ -20,10 +20,13 @@ use Rattle.gf_ops.specs.ValidHistory.{IsValid}
 use Rattle.gf_ops.specs.Version.{IsOfKind, IsVersion}
 use Rattle.gf_ops.proofs.ListLemmas.{Contains-cons_cases, Contains-cons_head, Contains-cons_tail, Contains-map_from, not_Contains-nil}
 use Rattle.gf_groups.specs.declared.group.Group.{Group}
-use Rattle.gf_groups.specs.Versions.{IsVersionGroup, AreAllVersions}
+use Rattle.gf_groups.specs.Versions.{IsVersionGroup}
+use Rattle.gf_groups.proofs.ListLemmas.{Contains-filter}
+use Rattle.gf_groups.proofs.VersionListLemmas.{all_listed}
 use Rattle.gf_versions.specs.declared.key.Version.{Version}
-use Rattle.gf_versions.specs.Settling.{IsFormOf, HasAttribute, AreSettled, group_of}
+use Rattle.gf_versions.specs.Settling.{IsFormOf, HasAttribute, AreSettled, group_of, shown_of}
 use Rattle.gf_versions.specs.VersionOf.{IsVersionOf}
+use Rattle.gf_versions.specs.Visible.{IsVisible}
 use Rattle.gf_versions.proofs.MakerLemmas.{has_attribute, member_object, one_kind, round_size, version_kind}
 use Rattle.gf_versions.proofs.SettlingLemmas.{settled_once, settles}
 
@@ -163,10 +166,28 @@ module _ (h : List Op) (valid : IsValid h) where
         },
       )
 
-  -- which has each version of h, if the groups are all
-  pub settled_has : (groups : List Group) (vs : List Version) → AreAllVersions h groups → AreSettled h groups vs → (v : Version) → IsVersionOf h v → Contains vs v
-  settled_has groups vs all settled v is =
-      let known = subst (λ ks. Contains ks (group_of v)) (sym settled.grouped) ((all.exactly (group_of v)).1 is.version) in
-      let from = Contains-map_from group_of vs (group_of v) known in
-      let one = one_of_group v from.0 is (settled.versions from.0 from.1) (ap (λ (g : Group). g.object) from.2) (ap (λ (g : Group). g.ops) from.2) in
-      subst (Contains vs) (sym one) from.1
+  -- which are all versions of h, if the groups are
+  pub settled_exactly : (groups : List Group) (vs : List Version) → ((g : Group) → Contains groups g ↔ IsVersionGroup h g) → AreSettled h groups vs → (v : Version) → Contains vs v ↔ IsVersionOf h v
+  settled_exactly groups vs exactly settled v = (
+    settled.versions v,
+    λ is.
+        let known = subst (λ ks. Contains ks (group_of v)) (sym settled.grouped) ((exactly (group_of v)).1 is.version) in
+        let from = Contains-map_from group_of vs (group_of v) known in
+        let one = one_of_group v from.0 is (settled.versions from.0 from.1) (ap (λ (g : Group). g.object) from.2) (ap (λ (g : Group). g.ops) from.2) in
+        subst (Contains vs) (sym one) from.1,
+  )
+
+  -- a history has a list of its versions
+  pub versions_listed : (vs : List Version) × ((v : Version) → Contains vs v ↔ IsVersionOf h v)
+  versions_listed =
+      let all = all_listed h in
+      let list = all_settled all.0 (λ g c. (all.1 g).0 c) in
+      (list.0, settled_exactly all.0 list.0 all.1 list.1)
+
+  -- whose visible versions are those that are shown
+  pub visible_exactly : (vs : List Version) → ((v : Version) → Contains vs v ↔ IsVersionOf h v) → (v : Version) → IsVisible h v ↔ Contains (shown_of vs) v
+  visible_exactly vs exactly v =
+      let kept = Contains-filter (λ (w : Version). w.shown) vs v in (
+        λ seen. kept.1 ((exactly v).1 seen.version, seen.shown),
+        λ c. let parts = kept.0 c in record { version = (exactly v).0 parts.0; shown = parts.1 },
+      )

@@ -3,13 +3,11 @@
 //! - [`Version`] with its [`VersionKey`]: what an object looks like in one group of compatible
 //!   operations.
 //! - [`Ranked`], a list of [`Placed`]: the visible versions, topmost first.
-//! - [`ranked`]: makes that list, so far of a history that creations alone make; [`are_creations`]
-//!   tells whether it is one.
-//! - [`versions_are_in_a_total_order`], [`one_colour_at_a_point`], [`the_first_that_holds_is_on_top`]:
-//!   the laws.
+//! - [`settle`]: makes the version of a group; [`ranked`]: makes that list.
+//! - [`a_version_settles_each_attribute_once`], [`versions_are_in_a_total_order`],
+//!   [`one_colour_at_a_point`], [`the_first_that_holds_is_on_top`]: the laws.
 #![tactic(auto)]
 
-mod creations;
 mod key;
 mod laws;
 mod placed;
@@ -19,7 +17,6 @@ mod shaping;
 #[cfg(test)]
 mod tests;
 
-pub use creations::are_creations;
 pub use key::{Version, VersionKey};
 pub use laws::{
     a_version_settles_each_attribute_once, one_colour_at_a_point, the_first_that_holds_is_on_top,
