@@ -7,24 +7,10 @@ use Rattle.std.specs.Ordering.{ordering_then, nat_cmp, ordering_reverse}
 use Rattle.std.specs.Cmp.Lexicographic.{slice_cmp}
 use Rattle.std.specs.FinMap.{IsAntisymmetric, nat_cmp-IsAntisymmetric, slice_cmp-IsAntisymmetric}
 use Rattle.std.proofs.lemmas.Cmp.{nat_cmp_total, on_total, then_total, lists_total}
-use Rattle.gf_ops.specs.declared.op.OpId.{OpId}
 use Rattle.gf_ops.specs.OperationOrder.{id_cmp}
+use Rattle.gf_groups.proofs.IdLemmas.{id_cmp_total, id_cmp_exact, both_tied}
 use Rattle.gf_versions.specs.declared.key.VersionKey.{VersionKey}
 use Rattle.gf_versions.specs.Above.{key_cmp, IsAbove}
-
-pub id_cmp_total : IsTotalOrder id_cmp
-id_cmp_total = then_total (on_total (λ (i : OpId). i.site) nat_cmp_total) (on_total (λ (i : OpId). i.seq) nat_cmp_total)
-
--- what two orders in turn leave equal, each leaves equal
-both_tied : (o p : Ordering) → ordering_then o p ≡ Equal → (o ≡ Equal) × (p ≡ Equal)
-both_tied Less p e = absurd cc
-both_tied Equal p e = (refl, e)
-both_tied Greater p e = absurd cc
-
-id_cmp_exact : IsAntisymmetric id_cmp
-id_cmp_exact i j e =
-    let t = both_tied (nat_cmp i.site j.site) (nat_cmp i.seq j.seq) e in
-    λ k. record { site = nat_cmp-IsAntisymmetric i.site j.site t.0 k; seq = nat_cmp-IsAntisymmetric i.seq j.seq t.1 k }
 
 pub key_cmp_total : IsTotalOrder key_cmp
 key_cmp_total = then_total (on_total (λ (k : VersionKey). k.layer) nat_cmp_total)

@@ -1,7 +1,8 @@
-pub mod CreatedLemmas
 pub mod KeyLemmas
-pub mod ListLemmas
+pub mod LimitLemmas
+pub mod MakerLemmas
 pub mod RankingLemmas
+pub mod SettlingLemmas
 pub mod ShapeLemmas
 pub mod TopLemmas
-pub mod CreationLemmas
+pub mod VersionLemmas

@@ -1,6 +1,6 @@
--- The versions that the operations make, once sorted, are ranked.
-use Rattle.std.proofs.Common.{◌≡◌, ◌≢◌, suc, Bool, true, false, List, [], ◌∷◌, map, refl, sym, subst, ap, ◌∙◌, inl, inr, arith}
-use Rattle.std.specs.Prelude.{AllPairs, Contains}
+-- The visible versions of all groups, once sorted, are ranked.
+use Rattle.std.proofs.Common.{◌≡◌, ◌≢◌, suc, Bool, true, false, List, [], ◌∷◌, ◌++◌, map, refl, sym, subst, ap, ◌∙◌, inl, inr, arith}
+use Rattle.std.specs.Prelude.{◌↔◌, AllPairs, Contains}
 use Rattle.std.specs.declared.cmp.Ordering.{Ordering}
 use Rattle.std.specs.declared.cmp.Ordering.TheVariants.{Less, Equal, Greater}
 use Rattle.std.specs.Cmp.{IsStrictWeakOrder}
@@ -8,24 +8,27 @@ use Rattle.std.specs.List.{IsDistinct}
 use Rattle.std.specs.List.Sorted.{IsPermutation, IsSortedBy}
 use Rattle.std.specs.Ordering.{is_lt, is_eq, ordering_reverse}
 use Rattle.std.proofs.lemmas.Bool.{cases_Bool, cond-true, cond-false}
-use Rattle.std.proofs.lemmas.List.Elements.{All-weaker, All-contains_itself, recursion_from_All}
+use Rattle.std.proofs.lemmas.List.Elements.{All-weaker, All-contains_itself, Contains-push_cases, filter-append, recursion_from_All}
+use Rattle.std.proofs.lemmas.List.{append-nil, get_or-map, length-map, map-append}
 use Rattle.std.proofs.lemmas.List.Sorted.{ranks_by, IsStrictWeakOrder-flip, sorted_far, Contains-permutation, IsPermutation-sym}
 use Rattle.std.proofs.lemmas.Map.Keys.{IsDistinct-cons, IsDistinct-IsPermutation, apart_from_distinct}
 use Rattle.gf_ops.specs.declared.op.Op.{Op}
 use Rattle.gf_ops.specs.ValidHistory.{IsValid}
 use Rattle.gf_versions.specs.declared.key.Version.{Version}
-use Rattle.gf_versions.specs.declared.key.VersionKey.{VersionKey}
 use Rattle.gf_shape.specs.declared.any_shape.AnyShape.{AnyShape}
 use Rattle.gf_versions.specs.declared.placed.Placed.{Placed}
 use Rattle.gf_versions.specs.Above.{IsAbove, key_cmp}
-use Rattle.gf_versions.specs.Created.{created, shown_of}
-use Rattle.gf_versions.specs.Creations.{AreCreations}
+use Rattle.gf_versions.specs.Settling.{AreSettled, AreShown, group_of, shown_of}
+use Rattle.gf_versions.specs.VersionOf.{IsVersionOf}
+use Rattle.gf_versions.specs.Visible.{IsVisible}
 use Rattle.gf_versions.specs.Falling.{falls_by}
 use Rattle.gf_versions.specs.Ranking.{AreRanked, placed_version}
-use Rattle.gf_versions.proofs.CreatedLemmas.{visible_exactly, made_object}
+use Rattle.gf_groups.specs.declared.group.Group.{Group}
+use Rattle.gf_groups.specs.Versions.{AreAllVersions}
+use Rattle.gf_versions.proofs.VersionLemmas.{settled_exactly, visible_exactly}
 use Rattle.gf_versions.proofs.KeyLemmas.{key_cmp_total, key_cmp_exact}
-use Rattle.gf_ops.proofs.ListLemmas.{Contains-map, Contains-map_from}
-use Rattle.gf_versions.proofs.ListLemmas.{Contains-filter}
+use Rattle.gf_ops.proofs.ListLemmas.{Contains-map, Contains-map_from, not_Contains-nil}
+use Rattle.gf_groups.proofs.ListLemmas.{Contains-filter}
 
 pub falls_by_order : {S : Type 0} → IsStrictWeakOrder (falls_by {S = S})
 falls_by_order {S} = IsStrictWeakOrder-flip _ (ranks_by key_cmp_total (λ (i : Placed S). i.key))
@@ -56,57 +59,99 @@ falling_from_sorted : (items : List (Placed AnyShape)) → IsSortedBy falls_by i
 falling_from_sorted items sorted distinct i j d before inside =
     greater_left _ (sorted_far falls_by falls_by_order items sorted i j d (omega arith) inside) (apart_from_distinct same_key items i j d distinct before inside)
 
-abbrev items_of : List Op → List (Placed AnyShape)
-items_of ops = map placed_version (shown_of ops)
+abbrev items_of : List Version → List (Placed AnyShape)
+items_of vs = map placed_version (shown_of vs)
 
--- each item is what some operation makes
-made_by : (ops : List Op) (i : Placed AnyShape) → Contains (items_of ops) i → (a : Op) × Contains ops a × (i ≡ placed_version (created a))
-made_by ops i c =
-    let from = Contains-map_from placed_version (shown_of ops) i c in
-    let parts = (Contains-filter (λ (v : Version). v.shown) (map created ops) from.0).0 from.1 in
-    let op = Contains-map_from created ops from.0 parts.0 in
-    (op.0, op.1, from.2 ∙ ap placed_version op.2)
+-- each item is one of the versions at its place
+item_version : (vs : List Version) (i : Placed AnyShape) → Contains (items_of vs) i → (v : Version) × Contains vs v × (i ≡ placed_version v)
+item_version vs i c =
+    let from = Contains-map_from placed_version (shown_of vs) i c in
+    (from.0, ((Contains-filter (λ (v : Version). v.shown) vs from.0).0 from.1).0, from.2)
 
--- what two operations make has two keys
-keys_apart : (a b : Op) → a.id ≢ b.id → same_key (placed_version (created a)) (placed_version (created b)) ≡ false
-keys_apart a b different = elim (cases_Bool (same_key (placed_version (created a)) (placed_version (created b)))) [
+-- versions of two groups have two keys
+keys_apart : (v w : Version) → group_of v ≢ group_of w → same_key (placed_version v) (placed_version w) ≡ false
+keys_apart v w different = elim (cases_Bool (same_key (placed_version v) (placed_version w))) [
   | inl t ↦
-      let key = key_cmp_exact (created a).key (created b).key (equal_left _ t) in
-      absurd (different (sym (made_object a.id a.change) ∙ (ap (λ (k : VersionKey). k.object.0) key ∙ made_object b.id b.change)))
+      let key = key_cmp_exact v.key w.key (equal_left _ t) in
+      absurd (different (λ n. record { object = (key n).object; ops = (key n).ops }))
   | inr t ↦ t
 ]
 
--- the first operation makes another key than each later one
-head_apart : (a : Op) (ops : List Op) → AllPairs (λ x y. x.id ≢ y.id) (a ∷ ops) → (i : Placed AnyShape) → Contains (items_of ops) i → same_key (placed_version (created a)) i ≡ false
-head_apart a ops apart i c =
-    let m = made_by ops i c in
+-- the first version has another key than each later one
+head_apart : (v : Version) (vs : List Version) → AllPairs (λ u w. group_of u ≢ group_of w) (v ∷ vs) → (i : Placed AnyShape) → Contains (items_of vs) i → same_key (placed_version v) i ≡ false
+head_apart v vs apart i c =
+    let m = item_version vs i c in
     let (k, inside, e) = m.1 in
-    let different : a.id ≢ m.0.id = subst (λ (b : Op). a.id ≢ b.id) e (apart 0 (suc k) m.0 (omega arith) (omega arith)) in
-    subst (λ j. same_key (placed_version (created a)) j ≡ false) (sym m.2) (keys_apart a m.0 different)
+    let different : group_of v ≢ group_of m.0 = subst (λ (w : Version). group_of v ≢ group_of w) e (apart 0 (suc k) m.0 (omega arith) (omega arith)) in
+    subst (λ j. same_key (placed_version v) j ≡ false) (sym m.2) (keys_apart v m.0 different)
 
-items_distinct : (ops : List Op) → AllPairs (λ a b. a.id ≢ b.id) ops → IsDistinct same_key (items_of ops)
+items_distinct : (vs : List Version) → AllPairs (λ u w. group_of u ≢ group_of w) vs → IsDistinct same_key (items_of vs)
 unfolding IsDistinct
 items_distinct [] apart = tt
-items_distinct (a ∷ ops) apart =
-    let rest = items_distinct ops (λ i j d before inside. apart (suc i) (suc j) d (omega arith) (omega arith)) in
-    elim (cases_Bool (created a).shown) [
-      | inl t ↦ rw (cond-true (created a).shown (created a ∷ shown_of ops) (shown_of ops) t)
-          (IsDistinct-cons same_key (placed_version (created a)) (items_of ops)
-          (recursion_from_All _ _ (All-weaker (Contains (items_of ops)) (λ i. same_key (placed_version (created a)) i ≡ false) (head_apart a ops apart) (items_of ops) (All-contains_itself (items_of ops)))) rest)
-      | inr t ↦ rw (cond-false (created a).shown (created a ∷ shown_of ops) (shown_of ops) t) rest
+items_distinct (v ∷ vs) apart =
+    let rest = items_distinct vs (λ i j d before inside. apart (suc i) (suc j) d (omega arith) (omega arith)) in
+    elim (cases_Bool v.shown) [
+      | inl t ↦ rw (cond-true v.shown (v ∷ shown_of vs) (shown_of vs) t)
+          (IsDistinct-cons same_key (placed_version v) (items_of vs)
+          (recursion_from_All _ _ (All-weaker (Contains (items_of vs)) (λ i. same_key (placed_version v) i ≡ false) (head_apart v vs apart) (items_of vs) (All-contains_itself (items_of vs)))) rest)
+      | inr t ↦ rw (cond-false v.shown (v ∷ shown_of vs) (shown_of vs) t) rest
     ]
 
--- the shown versions of a valid history, sorted, are its ranking
-pub ranked_from_sorted : (h : List Op) (items : List (Placed AnyShape)) → IsValid h → AreCreations h → IsPermutation (items_of h) items → IsSortedBy falls_by items → AreRanked h items
-ranked_from_sorted h items valid creations moved sorted = record {
+-- versions of distinct groups are of distinct groups
+groups_apart : (groups : List Group) (vs : List Version) → map group_of vs ≡ groups → AllPairs (λ g k. g ≢ k) groups → AllPairs (λ u w. group_of u ≢ group_of w) vs
+groups_apart groups vs e once i j d before inside f =
+    let same = length-map vs group_of in
+    let apart = subst (λ ks. AllPairs (λ g k. g ≢ k) ks) (sym e) once i j (group_of d) before (omega arith) in
+    apart (get_or-map group_of vs i d (group_of d) (omega arith) ∙ (f ∙ sym (get_or-map group_of vs j d (group_of d) inside)))
+
+-- ---- one group more
+
+module _ (h : List Op) (groups : List Group) (items : List (Placed AnyShape)) (so_far : AreShown h groups items) (g : Group) (v : Version) (is : IsVersionOf h v) (e : group_of v ≡ g) where
+  one_more : AreSettled h (groups ++ g ∷ []) (so_far.versions ++ v ∷ [])
+  one_more = record {
+    grouped = map-append group_of so_far.versions (v ∷ []) ∙ (λ n. so_far.settled.grouped n ++ e n ∷ []);
+    versions = λ w c. elim (Contains-push_cases so_far.versions v w c) [ inl k ↦ so_far.settled.versions w k | inr s ↦ subst (IsVersionOf h) s is ];
+  }
+
+  pub shown_more : v.shown ≡ true → AreShown h (groups ++ g ∷ []) (items ++ placed_version v ∷ [])
+  shown_more t = record {
+    versions = so_far.versions ++ v ∷ [];
+    settled = one_more;
+    placed = rw (filter-append (λ (w : Version). w.shown) so_far.versions (v ∷ []), cond-true v.shown (v ∷ []) [] t, map-append placed_version (shown_of so_far.versions) (v ∷ [])) (λ n. so_far.placed n ++ placed_version v ∷ []);
+  }
+
+  pub hidden_more : v.shown ≡ false → AreShown h (groups ++ g ∷ []) items
+  hidden_more t = record {
+    versions = so_far.versions ++ v ∷ [];
+    settled = one_more;
+    placed = rw (filter-append (λ (w : Version). w.shown) so_far.versions (v ∷ []), cond-false v.shown (v ∷ []) [] t, append-nil) so_far.placed;
+  }
+
+pub shown_none : (h : List Op) → AreShown h [] []
+shown_none h = record { versions = []; settled = record { grouped = refl; versions = λ v c. absurd (not_Contains-nil v c) }; placed = refl }
+
+-- ---- the ranking
+
+-- the shown versions of all groups of a valid history, sorted, are its ranking
+pub ranked_from_sorted : (h : List Op) (groups : List Group) (made items : List (Placed AnyShape)) → IsValid h → AreAllVersions h groups → AreShown h groups made → IsPermutation made items → IsSortedBy falls_by items → AreRanked h items
+ranked_from_sorted h groups made items valid all shown moved sorted = record {
   exactly = λ i. (
     λ is.
         let v = is.version in
-        Contains-permutation (items_of h) items i moved
-        (subst (λ j. Contains (items_of h) j) (sym is.placed) (Contains-map placed_version (shown_of h) v ((visible_exactly h valid creations v).0 is.visible))),
+        Contains-permutation (items_of vs) items i turned
+        (subst (λ j. Contains (items_of vs) j) (sym is.placed) (Contains-map placed_version (shown_of vs) v ((seen v).0 is.visible))),
     λ c.
-        let from = Contains-map_from placed_version (shown_of h) i (Contains-permutation items (items_of h) i (IsPermutation-sym _ _ moved) c) in
-        record { version = from.0; visible = (visible_exactly h valid creations from.0).1 from.1; placed = from.2 },
+        let from = Contains-map_from placed_version (shown_of vs) i (Contains-permutation items (items_of vs) i (IsPermutation-sym _ _ turned) c) in
+        record { version = from.0; visible = (seen from.0).1 from.1; placed = from.2 },
   );
-  falling = falling_from_sorted items sorted (IsDistinct-IsPermutation same_key same_key-flips (items_of h) items moved (items_distinct h valid.distinct));
+  falling = falling_from_sorted items sorted (IsDistinct-IsPermutation same_key same_key-flips (items_of vs) items turned (items_distinct vs (groups_apart groups vs shown.settled.grouped all.once)));
 }
+  where
+    vs : List Version
+    vs = shown.versions
+
+    turned : IsPermutation (items_of vs) items
+    turned = subst (λ from. IsPermutation from items) shown.placed moved
+
+    seen : (v : Version) → IsVisible h v ↔ Contains (shown_of vs) v
+    seen = visible_exactly h valid vs (settled_exactly h valid groups vs all.exactly shown.settled)

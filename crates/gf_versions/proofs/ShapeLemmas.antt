@@ -1,5 +1,5 @@
 -- The shape of a form: what it holds, and that it is lawful and can be moved where its form and its place keep their limits.
-use Rattle.std.specs.Prelude.{◌≡◌, ◌&&◌, ℕ, ℤ, pos, negsuc, ◌+ℤ◌, ◌-ℤ◌, int_le, IsTrue, List, [], ◌∷◌, refl}
+use Rattle.std.specs.Prelude.{◌≡◌, ℕ, ℤ, pos, negsuc, ◌+ℤ◌, ◌-ℤ◌, int_le, IsTrue, List, [], ◌∷◌, refl}
 use Rattle.std.specs.List.{list_all}
 use Rattle.std.proofs.Common.{ap, arith, sym, ◌∙◌}
 use Rattle.std.proofs.lemmas.Bool.{and_parts, and_from}
@@ -15,10 +15,7 @@ use Rattle.gf_shape.specs.ShapeMeaning.{any_holds, box_holds, circle_holds}
 use Rattle.gf_shape.specs.ShapeMoves.{any_movable}
 use Rattle.gf_shape.specs.Laws.Moved.{plus-minus}
 use Rattle.gf_shape.specs.Laws.Shapes.{any_moves}
-use Rattle.gf_ops.specs.Limits.{IsInRange, is_change, is_clock, is_form, is_id, is_layer, is_near, is_polygon, is_size}
-use Rattle.gf_ops.specs.declared.op.Op.{Op}
-use Rattle.gf_ops.specs.declared.change.Change.TheVariants.{Create}
-use Rattle.gf_ops.specs.declared.change.Start.{Start}
+use Rattle.gf_ops.specs.Limits.{is_form, is_near, is_polygon, is_size}
 use Rattle.gf_ops.specs.declared.change.Form.{Form}
 use Rattle.gf_ops.specs.declared.change.Form.TheVariants.{Rect, Circle, Polygon}
 use Rattle.gf_versions.specs.Ranking.{form_at, origin, shape_of}
@@ -100,10 +97,3 @@ pub shape_movable : (form : Form) (d : Point) → IsTrue (is_form form) → IsTr
 shape_movable (Rect width height) d fits near = let sizes = and_parts _ _ fits in rect_movable-near width height d sizes.0 sizes.1 near
 shape_movable (Circle radius) d fits near = origin_movable-near d near
 shape_movable (Polygon ps) d fits near = all_movable-near ps d (and_parts _ (list_all is_near ps) fits).1 near
-
--- the form and the place of a creation in range are in range
-pub start_in_range : (a : Op) (s : Start) → IsInRange a → a.change ≡ Create s → IsTrue (is_form s.form && is_near s.place)
-start_in_range a s range e =
-    let change = (and_parts (is_id a.id && is_clock a.past) (is_change a.change) range).1 in
-    let start = rw e at change in
-    (and_parts (is_form s.form && is_near s.place) (is_layer s.layer) start).0

@@ -1,6 +1,6 @@
 -- The first version of a falling list that holds a point is the top one there.
 use Rattle.std.proofs.Common.{◌≡◌, suc, Bool, true, List, [], ◌∷◌, refl, sym, subst, ap, ◌∙◌, inl, inr, arith}
-use Rattle.std.specs.Prelude.{AllPairs, Contains, find, Option, Some, None, option_map, unwrap_or, ◌⊎◌}
+use Rattle.std.specs.Prelude.{AllPairs, Contains, find, Option, Some, None, option_map, unwrap_or, ◌⊎◌, ◌↔◌}
 use Rattle.std.specs.declared.cmp.Ordering.{Ordering}
 use Rattle.std.specs.declared.cmp.Ordering.TheVariants.{Less, Equal, Greater}
 use Rattle.std.specs.Ordering.{ordering_reverse}
@@ -14,14 +14,13 @@ use Rattle.gf_versions.specs.declared.key.VersionKey.{VersionKey}
 use Rattle.gf_shape.specs.declared.any_shape.AnyShape.{AnyShape}
 use Rattle.gf_versions.specs.declared.placed.Placed.{Placed}
 use Rattle.gf_shape.specs.ShapeMeaning.{any_holds}
-use Rattle.gf_versions.specs.Creations.{AreCreations}
 use Rattle.gf_versions.specs.Above.{IsAbove, AreOrdered, same, first_above, second_above, key_cmp}
-use Rattle.gf_versions.specs.Created.{shown_of}
+use Rattle.gf_versions.specs.Settling.{shown_of}
 use Rattle.gf_versions.specs.HistoryColour.{HistoryColour, HasOneColour, IsSeenAt, IsTopAt, top, blank, white}
 use Rattle.gf_versions.specs.Ranking.{AreRanked, first_colour, placed_version}
 use Rattle.gf_versions.specs.VersionOf.{IsVersionOf}
 use Rattle.gf_versions.specs.Visible.{IsVisible, version_holds}
-use Rattle.gf_versions.proofs.CreatedLemmas.{one_of_object, visible_exactly}
+use Rattle.gf_versions.proofs.VersionLemmas.{one_of_group, versions_listed, visible_exactly}
 use Rattle.gf_versions.proofs.KeyLemmas.{above_one_way, above_transitive, neither_above, key_cmp_total, key_cmp_exact}
 use Rattle.gf_ops.proofs.ListLemmas.{Contains-cons_cases, Contains-cons_head, Contains-cons_tail, not_Contains-nil}
 use Rattle.gf_versions.proofs.ShapeLemmas.{shape_holds}
@@ -103,13 +102,17 @@ taken_apart : {h : List Op} {p : Point} {c : Rgb} → HistoryColour h p c → ((
 taken_apart (top v t) = inl (v, t, refl)
 taken_apart (blank n) = inr (n, refl)
 
+-- two versions with one key are one
+one_of_key : (h : List Op) → IsValid h → (v w : Version) → IsVersionOf h v → IsVersionOf h w → v.key ≡ w.key → v ≡ w
+one_of_key h valid v w x y e = one_of_group h valid v w x y (ap (λ (k : VersionKey). k.object) e) (ap (λ (k : VersionKey). k.ops) e)
+
 -- a history has one colour at a point
-pub one_colour : (h : List Op) (p : Point) (c d : Rgb) → IsValid h → AreCreations h → HistoryColour h p c → HistoryColour h p d → c ≡ d
-one_colour h p c d valid creations x y = elim (taken_apart x) [
+pub one_colour : (h : List Op) (p : Point) (c d : Rgb) → IsValid h → HistoryColour h p c → HistoryColour h p d → c ≡ d
+one_colour h p c d valid x y = elim (taken_apart x) [
   | inl s ↦ elim (taken_apart y) [
     | inl r ↦
         let k = neither_above s.0.key r.0.key (r.1.top s.0 s.1.seen) (s.1.top r.0 r.1.seen) in
-        let e = one_of_object h valid creations s.0 r.0 s.1.seen.visible.version r.1.seen.visible.version (ap (λ (j : VersionKey). j.object) k) in
+        let e = one_of_key h valid s.0 r.0 s.1.seen.visible.version r.1.seen.visible.version k in
         s.2 ∙ (ap (λ (v : Version). v.colour) e ∙ sym r.2)
     | inr n ↦ absurd (n.0 s.0 s.1.seen)
   ]
@@ -184,29 +187,35 @@ highest_or_none test (x ∷ vs) = elim (cases_Bool (test x)) [
     )
 
 -- a valid history has a colour at a point
-pub some_colour : (h : List Op) (p : Point) → IsValid h → AreCreations h → (c : Rgb) × HistoryColour h p c
-some_colour h p valid creations = elim (highest_or_none (λ v. version_holds v p) (shown_of h)) [
+pub some_colour : (h : List Op) (p : Point) → IsValid h → (c : Rgb) × HistoryColour h p c
+some_colour h p valid = elim (highest_or_none (λ v. version_holds v p) (shown_of all.0)) [
   | inl f ↦ (
     f.0.colour,
     top f.0 (record {
-      seen = record { visible = (visible_exactly h valid creations f.0).1 f.1.known; holds = f.1.passes };
-      top = λ w s. f.1.highest w ((visible_exactly h valid creations w).0 s.visible) s.holds;
+      seen = record { visible = (seen f.0).1 f.1.known; holds = f.1.passes };
+      top = λ w s. f.1.highest w ((seen w).0 s.visible) s.holds;
     }),
   )
-  | inr n ↦ (white, blank (λ v s. n v ((visible_exactly h valid creations v).0 s.visible) s.holds))
+  | inr n ↦ (white, blank (λ v s. n v ((seen v).0 s.visible) s.holds))
 ]
+  where
+    all : (vs : List Version) × ((v : Version) → Contains vs v ↔ IsVersionOf h v)
+    all = versions_listed h valid
+
+    seen : (v : Version) → IsVisible h v ↔ Contains (shown_of all.0) v
+    seen = visible_exactly h valid all.0 all.1
 
 -- exactly one
-pub has_one_colour : (h : List Op) (p : Point) → IsValid h → AreCreations h → HasOneColour h p
-has_one_colour h p valid creations =
-    let some = some_colour h p valid creations in
-    record { colour = some.0; meant = some.1; only = λ c meant. one_colour h p c some.0 valid creations meant some.1 }
+pub has_one_colour : (h : List Op) (p : Point) → IsValid h → HasOneColour h p
+has_one_colour h p valid =
+    let some = some_colour h p valid in
+    record { colour = some.0; meant = some.1; only = λ c meant. one_colour h p c some.0 valid meant some.1 }
 
 -- two versions of a valid history are one, or one is above the other
-pub are_ordered : (h : List Op) (v w : Version) → IsValid h → AreCreations h → IsVersionOf h v → IsVersionOf h w → AreOrdered v w
-are_ordered h v w valid creations x y = by_answer (key_cmp v.key w.key) refl
+pub are_ordered : (h : List Op) (v w : Version) → IsValid h → IsVersionOf h v → IsVersionOf h w → AreOrdered v w
+are_ordered h v w valid x y = by_answer (key_cmp v.key w.key) refl
   where
     by_answer : (o : Ordering) → key_cmp v.key w.key ≡ o → AreOrdered v w
     by_answer Less e = let above : IsAbove w.key v.key = key_cmp_total.antisymm w.key v.key ∙ ap ordering_reverse e in second_above above (above_one_way w.key v.key above)
-    by_answer Equal e = same (one_of_object h valid creations v w x y (ap (λ (k : VersionKey). k.object) (key_cmp_exact v.key w.key e)))
+    by_answer Equal e = same (one_of_key h valid v w x y (key_cmp_exact v.key w.key e))
     by_answer Greater e = first_above e (above_one_way v.key w.key e)

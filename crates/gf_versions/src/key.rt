@@ -3,7 +3,7 @@
 ghost use Rattle.std.specs.Prelude.{◌≡◌};
 ghost use Rattle.gf_versions.specs.Above.{key_cmp};
 
-use crate::Ids;
+use gf_groups::Ids;
 use gf_ops::{Form, ObjectId};
 use gf_shape::{Point, Rgb};
 use std::cmp::Ordering;

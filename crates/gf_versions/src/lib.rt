@@ -1,29 +1,27 @@
 //! The versions of the objects of a history, and the colour that a history means at a point.
 //!
 //! - [`Version`] with its [`VersionKey`]: what an object looks like in one group of compatible
-//!   operations; [`Ids`] lists the group.
+//!   operations.
 //! - [`Ranked`], a list of [`Placed`]: the visible versions, topmost first.
-//! - [`ranked`]: makes that list, so far of a history that creations alone make; [`are_creations`]
-//!   tells whether it is one.
-//! - [`versions_are_in_a_total_order`], [`one_colour_at_a_point`], [`the_first_that_holds_is_on_top`]:
-//!   the laws.
+//! - [`settle`]: makes the version of a group; [`ranked`]: makes that list.
+//! - [`a_version_settles_each_attribute_once`], [`versions_are_in_a_total_order`],
+//!   [`one_colour_at_a_point`], [`the_first_that_holds_is_on_top`]: the laws.
 #![tactic(auto)]
 
-mod creations;
-mod ids;
 mod key;
 mod laws;
 mod placed;
 mod ranking;
+mod settling;
 mod shaping;
 #[cfg(test)]
 mod tests;
 
-pub use creations::are_creations;
-pub use ids::Ids;
 pub use key::{Version, VersionKey};
 pub use laws::{
-    one_colour_at_a_point, the_first_that_holds_is_on_top, versions_are_in_a_total_order,
+    a_version_settles_each_attribute_once, one_colour_at_a_point, the_first_that_holds_is_on_top,
+    versions_are_in_a_total_order,
 };
 pub use placed::{Placed, Ranked};
 pub use ranking::ranked;
+pub use settling::settle;

@@ -1,27 +1,29 @@
 //! The visible versions of a history, made and sorted.
 
-ghost use Rattle.std.specs.Prelude.{◌≡◌, ◌&&◌, IsTrue, IfOk, OnOk, Contains, map};
-ghost use Rattle.gf_ops.specs.declared.op.Op.{Op};
-ghost use Rattle.gf_ops.specs.Limits.{IsInRange, is_form, is_near};
-ghost use Rattle.gf_versions.specs.Created.{made, shown_of};
-ghost use Rattle.gf_versions.specs.Creations.{AreCreations};
-ghost use Rattle.gf_versions.specs.Ranking.{AreRanked, placed_version};
-ghost use Rattle.gf_versions.specs.Falling.{falls_by};
+ghost use Rattle.std.specs.Prelude.{◌≡◌, ◌&&◌, IsTrue, IfOk, OnOk, Contains};
 ghost use Rattle.std.specs.List.Sorted.{IsPermutation, IsSortedBy};
+ghost use Rattle.gf_ops.specs.Limits.{is_form, is_near};
+ghost use Rattle.gf_ops.specs.ValidHistory.{IsValid};
+ghost use Rattle.gf_groups.specs.declared.group.Group.{Group};
+ghost use Rattle.gf_groups.specs.Versions.{IsVersionGroup};
+ghost use Rattle.gf_versions.specs.Falling.{falls_by};
+ghost use Rattle.gf_versions.specs.Ranking.{AreRanked, placed_version};
+ghost use Rattle.gf_versions.specs.Settling.{AreShown};
 
 use crate::key::compare;
 use crate::shaping::shape_at;
-use crate::{Ids, Placed, Ranked, VersionKey};
-use gf_ops::{Change, History, ObjectId, Op, OpId, Start};
+use crate::{Placed, Ranked, Version, settle};
+use gf_groups::{Group, all_groups};
+use gf_ops::History;
 use gf_shape::{AnyShape, OutOfMemory};
 use std::alloc::Global;
 
 /// The visible versions of a history, topmost first.
 pub fn ranked(alloc: Global, history: &History) -> Result<Ranked<AnyShape>, OutOfMemory>
-    requires { AreCreations history.now.ops }
     ensures { IfOk result (λ ranked. AreRanked history.now.ops ranked.items.items) }
 {
-    let mut items = shown(alloc, history.ops())?;
+    let groups = all_groups(alloc, history)?;
+    let mut items = shown(alloc, history, groups.as_slice())?;
     sort(&mut items)?;
     Ok(Ranked { items })
 }
@@ -35,35 +37,35 @@ fn sort(items: &mut Vec<Placed<AnyShape>>) -> Result<(), OutOfMemory>
     Ok(())
 }
 
-/// The versions that the shown creations among these operations make, at their places.
-fn shown(alloc: Global, ops: &[Op]) -> Result<Vec<Placed<AnyShape>>, OutOfMemory>
-    requires { (op : Op) → Contains ops.now op → IsInRange op }
-    ensures { IfOk result (λ items. items.items ≡ map placed_version (shown_of ops.now)) }
+/// Those of the versions with these groups that are shown, at their places.
+fn shown(
+    alloc: Global,
+    history: &History,
+    groups: &[Group],
+) -> Result<Vec<Placed<AnyShape>>, OutOfMemory>
+    requires { (g : Group) → Contains groups.now g → IsVersionGroup history.now.ops g }
+    ensures shown { IfOk result (λ items. AreShown history.now.ops groups.now items.items) }
+    ensures valid { IsValid history.now.ops }
 {
+    let _ = history.ops();
     let mut items = Vec::new(alloc);
-    for op in ops {
-        if let Change::Create(start) = &op.change {
-            if start.shown {
-                items.push(placed(alloc, op.id, start)?)?;
-            }
+    for group in groups {
+        let version = settle(alloc, history, group)?;
+        if version.shown {
+            items.push(placed(alloc, version)?)?;
         }
     }
     Ok(items)
 }
 
-/// The version that the creation of this id alone makes, at its place.
-fn placed(alloc: Global, id: OpId, start: &Start) -> Result<Placed<AnyShape>, OutOfMemory>
-    requires { IsTrue (is_form start.now.form && is_near start.now.place) }
-    ensures { IfOk result (λ item. item ≡ placed_version (made id (Change.Create start.now))) }
+/// The version at its place.
+fn placed(alloc: Global, version: Version) -> Result<Placed<AnyShape>, OutOfMemory>
+    requires { IsTrue (is_form version.form && is_near version.place) }
+    ensures { IfOk result (λ item. item ≡ placed_version version) }
 {
-    let ops = Ids::new(Vec::from_array(alloc, [id])?);
     Ok(Placed {
-        key: VersionKey {
-            layer: start.layer,
-            object: ObjectId(id),
-            ops,
-        },
-        shape: shape_at(alloc, &start.form, start.place)?,
-        colour: start.colour,
+        shape: shape_at(alloc, &version.form, version.place)?,
+        key: version.key,
+        colour: version.colour,
     })
 }

@@ -6,4 +6,4 @@ pub returns-clause-transitive : goal.returns-clause-transitive
 returns-clause-transitive c = λ k l m h i. above_transitive k l m h i
 
 pub returns-clause-total : goal.returns-clause-total
-returns-clause-total c = λ h valid creations v w x y. are_ordered h v w valid creations x y
+returns-clause-total c = λ h valid v w x y. are_ordered h v w valid x y

@@ -1,0 +1,67 @@
+-- How the values of a version are found. No public clause cites this module.
+use Rattle.std.specs.Prelude.{◌≡◌, Bool, true, false, not, List, Contains, map, filter, IsSome, IsTrue}
+use Rattle.gf_ops.specs.declared.op.Op.{Op}
+use Rattle.gf_ops.specs.declared.op.OpId.{OpId}
+use Rattle.gf_ops.specs.declared.op.ObjectId.{ObjectId}
+use Rattle.gf_ops.specs.declared.change.Attr.{Attr}
+use Rattle.gf_ops.specs.declared.change.Attr.TheVariants.{Points, Size}
+use Rattle.gf_ops.specs.declared.change.Form.{Form}
+use Rattle.gf_ops.specs.Attribute.{Kind, Polygon, form_attribute, form_value, given, kind_of}
+use Rattle.gf_ops.specs.OperationOrder.{Precedes}
+use Rattle.gf_ops.specs.SettledValue.{IsSettled}
+use Rattle.gf_ops.specs.Version.{IsMember, IsOfKind}
+use Rattle.gf_groups.specs.declared.group.Group.{Group}
+use Rattle.gf_versions.specs.declared.key.Version.{Version}
+use Rattle.gf_shape.specs.declared.any_shape.AnyShape.{AnyShape}
+use Rattle.gf_versions.specs.declared.placed.Placed.{Placed}
+use Rattle.gf_versions.specs.Ranking.{placed_version}
+use Rattle.gf_versions.specs.VersionOf.{IsVersionOf}
+
+-- k is the kind of polygons
+abbrev pub are_polygons : Kind → Bool
+are_polygons Polygon = true
+are_polygons k = false
+
+-- objects of the kind k have the attribute t
+abbrev pub has : Kind → Attr → Bool
+has k Points = are_polygons k
+has k Size = not (are_polygons k)
+has k t = true
+
+-- the object o of h, of whatever kind, has the attribute t
+abbrev pub HasAttribute : List Op → ObjectId → Attr → Type 0
+HasAttribute h o t = (k : Kind) → IsOfKind h o k → IsTrue (has k t)
+
+-- in the group g the operation a sets t, and no operation of these ids that sets t comes after it
+pub record IsLastOf (h : List Op) (g ids : List OpId) (t : Attr) (a : Op) : Type 0 where
+  pub member : IsMember h g a
+  pub sets : IsSome (given a t)
+  pub last : (b : Op) → IsMember h ids b → IsSome (given b t) → ¬ (Precedes a b)
+
+-- a is a last operation of the group g that sets t
+abbrev pub IsLastSetter : List Op → List OpId → Attr → Op → Type 0
+IsLastSetter h g t a = IsLastOf h g g t a
+
+-- f is the form that the object of the group g has in that version
+pub record IsFormOf (h : List Op) (g : Group) (f : Form) : Type 0 where
+  pub kind : IsOfKind h g.object (kind_of f)
+  pub settled : IsSettled h g.ops (form_attribute f) (form_value f)
+
+-- the group of operations of the version v
+abbrev pub group_of : Version → Group
+group_of v = record { object = v.key.object; ops = v.key.ops }
+
+-- the versions vs are those of h with these groups, in their order
+pub record AreSettled (h : List Op) (groups : List Group) (vs : List Version) : Type 0 where
+  pub grouped : map group_of vs ≡ groups
+  pub versions : (v : Version) → Contains vs v → IsVersionOf h v
+
+-- those of the versions that are shown
+abbrev pub shown_of : List Version → List Version
+shown_of vs = filter (λ v. v.shown) vs
+
+-- the items are the versions of h with these groups that are shown, at their places
+pub record AreShown (h : List Op) (groups : List Group) (items : List (Placed AnyShape)) : Type 0 where
+  pub versions : List Version
+  pub settled : AreSettled h groups versions
+  pub placed : items ≡ map placed_version (shown_of versions)
