@@ -6,3 +6,4 @@ pub mod LargestLemmas
 pub mod ExtendingLemmas
 pub mod TakingLemmas
 pub mod GrowingLemmas
+pub mod PlaceLemmas

@@ -7,10 +7,13 @@
 //! - [`GroupFault`]: why there is no such list.
 #![tactic(auto)]
 
+mod conflict;
 mod faults;
 mod group;
 mod groups;
+mod growth;
 mod ids;
+mod places;
 
 pub use faults::GroupFault;
 pub use group::{Group, Groups};
