@@ -51,3 +51,12 @@ module _ (c : ℕ → ℕ → Bool) where
   -- the groups with x, of the places us, of which x is the last
   abbrev pub next : List ℕ → ℕ → List (List ℕ) → List (List ℕ)
   next us x gs = fold (take_up same_group (is_largest us)) (map (step x) gs) (parts x gs)
+
+  -- the groups gs of the places us, after xs came too
+  abbrev pub grown : List ℕ → List ℕ → List (List ℕ) → List (List ℕ)
+  grown us [] gs = gs
+  grown us (x ∷ xs) gs = grown (us ++ x ∷ []) xs (next (us ++ x ∷ []) x gs)
+
+  -- the groups of the places xs
+  abbrev pub groups_at : List ℕ → List (List ℕ)
+  groups_at xs = grown [] xs ([] ∷ [])

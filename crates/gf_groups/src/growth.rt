@@ -2,7 +2,7 @@
 
 ghost use Rattle.std.specs.Prelude.{◌≡◌, IfOk, OnOk, map};
 ghost use Rattle.std.specs.List.{list_any, fold};
-ghost use Rattle.gf_groups.specs.Growing.{conflict_at, same_group, take_up, clashes, step, part, parts, is_covered, is_largest, next};
+ghost use Rattle.gf_groups.specs.Growing.{conflict_at, same_group, take_up, clashes, step, part, parts, is_covered, is_largest, next, groups_at};
 
 use crate::conflict::conflict_at;
 use crate::places::{Places, same_group};
@@ -114,4 +114,19 @@ fn grow(
         take_up(history, places, part, groups)?;
     }
     Ok(())
+}
+
+/// The largest groups of the operations at these places.
+pub(crate) fn groups_at(
+    alloc: Global,
+    history: &History,
+    places: &[usize],
+) -> Result<Vec<Places>, OutOfMemory>
+    ensures { IfOk result (λ groups. groups.items ≡ groups_at (conflict_at history.now.ops) places.now) }
+{
+    let mut groups = Vec::from_array(alloc, [Places::new(alloc)])?;
+    for (index, place) in places.iter().enumerate() {
+        grow(alloc, history, &places[..index + 1], *place, &mut groups)?;
+    }
+    Ok(groups)
 }
