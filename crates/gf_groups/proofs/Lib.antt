@@ -7,3 +7,4 @@ pub mod ExtendingLemmas
 pub mod TakingLemmas
 pub mod GrowingLemmas
 pub mod PlaceLemmas
+pub mod TableLemmas
