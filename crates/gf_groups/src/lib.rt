@@ -13,6 +13,7 @@ mod group;
 mod groups;
 mod growth;
 mod ids;
+mod listing;
 mod places;
 
 pub use faults::GroupFault;
