@@ -8,3 +8,4 @@ pub mod TakingLemmas
 pub mod GrowingLemmas
 pub mod PlaceLemmas
 pub mod TableLemmas
+pub mod SortedLemmas
