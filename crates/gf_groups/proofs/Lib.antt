@@ -9,3 +9,4 @@ pub mod GrowingLemmas
 pub mod PlaceLemmas
 pub mod TableLemmas
 pub mod SortedLemmas
+pub mod IdPlaceLemmas

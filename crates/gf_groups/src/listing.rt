@@ -5,10 +5,9 @@ ghost use Rattle.std.specs.List.Sorted.{IsStrictlySortedBy};
 ghost use Rattle.std.specs.Ordering.{nat_cmp};
 ghost use Rattle.gf_groups.specs.GroupedPlaces.{places_below, id_at, ids_at, rising_ids, groups_on};
 
-use crate::conflict::op_at;
 use crate::growth::groups_at;
 use crate::{Group, Ids};
-use gf_ops::{History, ObjectId, OpId};
+use gf_ops::{History, ObjectId, Op, OpId};
 use gf_shape::OutOfMemory;
 use std::alloc::Global;
 
@@ -26,17 +25,17 @@ pub(crate) fn places_on(alloc: Global, history: &History, object: ObjectId) -> R
 }
 
 /// The id of the operation at this place.
-fn id_at(history: &History, place: usize) -> Option<OpId>
-    ensures { result ≡ id_at history.now.ops place }
+fn id_at(ops: &[Op], place: usize) -> Option<OpId>
+    ensures { result ≡ id_at ops.now place }
 {
-    op_at(history, place).map(|op| op.id)
+    ops.get(place).map(|op| op.id)
 }
 
 /// The ids of the operations at these places.
-fn ids_at(alloc: Global, history: &History, places: &[usize]) -> Result<Vec<OpId>, OutOfMemory>
-    ensures { IfOk result (λ ids. ids.items ≡ ids_at history.now.ops places.now) }
+fn ids_at(alloc: Global, ops: &[Op], places: &[usize]) -> Result<Vec<OpId>, OutOfMemory>
+    ensures { IfOk result (λ ids. ids.items ≡ ids_at ops.now places.now) }
 {
-    Ok(places.iter().filter_map(|place| id_at(history, *place)).collect(alloc)?)
+    Ok(places.iter().filter_map(|place| id_at(ops, *place)).collect(alloc)?)
 }
 
 /// Those ids, rising.
@@ -44,7 +43,7 @@ fn rising_ids(alloc: Global, history: &History, places: &[usize]) -> Result<Ids,
     requires { IsStrictlySortedBy nat_cmp places.now }
     ensures { IfOk result (λ ids. ids ≡ rising_ids history.now.ops places.now) }
 {
-    let mut ids = ids_at(alloc, history, places)?;
+    let mut ids = ids_at(alloc, history.ops(), places)?;
     ids.sort()?;
     Ok(Ids::new(ids))
 }
