@@ -1,2 +1,4 @@
 pub mod Versions
 pub mod VersionList
+pub mod Growing
+pub mod GroupedPlaces

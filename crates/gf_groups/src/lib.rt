@@ -8,11 +8,15 @@
 //! - [`the_versions_are_a_list_that_computes`]: the law.
 #![tactic(auto)]
 
+mod conflict;
 mod faults;
 mod group;
 mod groups;
+mod growth;
 mod ids;
 mod laws;
+mod listing;
+mod places;
 
 pub use faults::GroupFault;
 pub use group::{Group, Groups};

@@ -1,0 +1,62 @@
+-- The groups of an object's operations, as lists of places in the history, when one operation comes. No public clause cites this module.
+use Rattle.std.specs.Prelude.{ℕ, Bool, true, false, cond, not, ◌&&◌, ◌||◌, ◌==◌, List, [], ◌∷◌, ◌++◌, filter, map, Option, Some, None, slice_get}
+use Rattle.std.specs.List.{list_any, list_all, fold}
+use Rattle.std.specs.Cmp.Lexicographic.{pointwise}
+use Rattle.gf_ops.specs.declared.op.Op.{Op}
+use Rattle.gf_groups.specs.VersionList.{in_conflict}
+
+-- both operations are there, and conflict
+abbrev pub both_conflict : Option Op → Option Op → Bool
+both_conflict (Some a) (Some b) = in_conflict a b
+both_conflict a b = false
+
+-- the operations of h at the places i and j conflict
+abbrev pub conflict_at : List Op → ℕ → ℕ → Bool
+conflict_at h i j = both_conflict (slice_get h i) (slice_get h j)
+
+-- two groups are one
+abbrev pub same_group : List ℕ → List ℕ → Bool
+same_group g k = pointwise (λ i j. i == j) g k
+
+-- ys, and z if it passes the test and ys lacks it
+abbrev pub take_up : {Y : Type 0} → (Y → Y → Bool) → (Y → Bool) → List Y → Y → List Y
+take_up same test ys z = cond (test z && not (list_any (same z) ys)) (ys ++ z ∷ []) ys
+
+-- c tells whether the operations at two places conflict
+module _ (c : ℕ → ℕ → Bool) where
+  -- x conflicts with one of the group
+  abbrev pub clashes : ℕ → List ℕ → Bool
+  clashes x g = list_any (c x) g
+
+  -- a group that is compatible with x gets x, another stays
+  abbrev pub step : ℕ → List ℕ → List ℕ
+  step x g = cond (clashes x g) g (g ++ x ∷ [])
+
+  -- those of a group that are compatible with x, and x
+  abbrev pub part : ℕ → List ℕ → List ℕ
+  part x g = filter (λ a. not (c a x)) g ++ x ∷ []
+
+  -- the parts that the groups which conflict with x give
+  abbrev pub parts : ℕ → List (List ℕ) → List (List ℕ)
+  parts x gs = map (part x) (filter (clashes x) gs)
+
+  -- a is in the group or conflicts with one of it
+  abbrev pub is_covered : List ℕ → ℕ → Bool
+  is_covered g a = list_any (λ b. a == b || c a b) g
+
+  -- each of us is in the group or conflicts with one of it
+  abbrev pub is_largest : List ℕ → List ℕ → Bool
+  is_largest us g = list_all (is_covered g) us
+
+  -- the groups with x, of the places us, of which x is the last
+  abbrev pub next : List ℕ → ℕ → List (List ℕ) → List (List ℕ)
+  next us x gs = fold (take_up same_group (is_largest us)) (map (step x) gs) (parts x gs)
+
+  -- the groups gs of the places us, after xs came too
+  abbrev pub grown : List ℕ → List ℕ → List (List ℕ) → List (List ℕ)
+  grown us [] gs = gs
+  grown us (x ∷ xs) gs = grown (us ++ x ∷ []) xs (next (us ++ x ∷ []) x gs)
+
+  -- the groups of the places xs
+  abbrev pub groups_at : List ℕ → List (List ℕ)
+  groups_at xs = grown [] xs ([] ∷ [])

@@ -1,0 +1,43 @@
+//! Conflicts of operations, told by their places in a history.
+
+ghost use Rattle.std.specs.Prelude.{◌≡◌, Some, IfSome, option_copied, slice_get};
+ghost use Rattle.gf_ops.specs.Limits.{IsInRange};
+ghost use Rattle.gf_groups.specs.Growing.{both_conflict, conflict_at};
+ghost use Rattle.gf_groups.specs.VersionList.{in_conflict};
+
+use gf_ops::{History, Op, conflicts};
+
+/// The operation at this place.
+pub(crate) fn op_at(history: &History, place: usize) -> Option<&Op>
+    ensures value { option_copied result ≡ slice_get history.now.ops place }
+    ensures in_range { IfSome result (λ op. IsInRange op.now) }
+{
+    history.ops().get(place)
+}
+
+/// Whether the operations at two places conflict.
+pub(crate) fn conflict_at(history: &History, i: usize, j: usize) -> bool
+    ensures { result ≡ conflict_at history.now.ops i j }
+{
+    both_conflict(op_at(history, i), op_at(history, j))
+}
+
+/// Whether both operations are there, and conflict.
+fn both_conflict(a: Option<&Op>, b: Option<&Op>) -> bool
+    requires a { IfSome a (λ op. IsInRange op.now) }
+    requires b { IfSome b (λ op. IsInRange op.now) }
+    ensures { result ≡ both_conflict (option_copied a.entry) (option_copied b.entry) }
+{
+    match (a, b) {
+        (Some(a), Some(b)) => in_conflict(a, b),
+        _ => false,
+    }
+}
+
+fn in_conflict(a: &Op, b: &Op) -> bool
+    requires a { IsInRange a.now }
+    requires b { IsInRange b.now }
+    ensures { result ≡ in_conflict a.now b.now }
+{
+    conflicts(a, b)
+}
