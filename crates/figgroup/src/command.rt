@@ -1,12 +1,12 @@
 //! The command line.
 
 ghost use Rattle.std.specs.Prelude.{◌≡◌, ◌≤◌, ◌⊎◌, IfSome, IsTrue};
-ghost use Rattle.figgroup.specs.FigRun.{Exports, ExportsFront};
+ghost use Rattle.gf_studio.specs.FigRun.{Exports, ExportsFront};
 
-use crate::{Source, StudioError, fig_run};
 use clap::error::ErrorKind;
 use clap::{Command, Error};
 use gf_drawing::{Sink, write_whole};
+use gf_studio::{Source, StudioError, fig_run};
 use std::alloc::Global;
 use std::io;
 

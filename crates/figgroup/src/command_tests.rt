@@ -1,8 +1,9 @@
 //! The command line, over sources and sinks in memory.
 
 use crate::command::refuse_words;
-use crate::{MOST_INPUT_BYTES, Reel, command};
+use crate::command;
 use gf_drawing::Tape;
+use gf_studio::{MOST_INPUT_BYTES, Reel};
 use std::alloc::{AllocError, Global};
 use std::io;
 use std::test::Fail;

@@ -1,0 +1,36 @@
+-- What the errors of a run's parts become (this project's choice).
+use Rattle.gf_drawing.specs.declared.compiling.CompileFault.{CompileFault}
+use Rattle.gf_drawing.specs.declared.compiling.CompileFault.TheVariants as compile
+use Rattle.gf_drawing.specs.declared.refusals.WriteError.{WriteError}
+use Rattle.gf_drawing.specs.declared.refusals.WriteError.TheVariants as write
+use Rattle.gf_json.specs.declared.line_error.LineError.{LineError}
+use Rattle.gf_json.specs.declared.line_error.LineError.TheVariants as line
+use Rattle.gf_studio.specs.declared.source.InputError.{InputError}
+use Rattle.gf_studio.specs.declared.source.InputError.TheVariants as input
+use Rattle.gf_studio.specs.declared.studio_error.LineCause.{LineCause}
+use Rattle.gf_studio.specs.declared.studio_error.LineCause.TheVariants as cause
+use Rattle.gf_studio.specs.declared.studio_error.StudioError.{StudioError}
+use Rattle.gf_studio.specs.declared.studio_error.StudioError.TheVariants as studio
+
+-- an input that was not read
+abbrev pub of_input : InputError → StudioError
+of_input input.ReadFailed = studio.ReadFailed
+of_input input.TooLong = studio.TooLong
+of_input input.OutOfMemory = studio.OutOfMemory
+
+-- a history with no drawing
+abbrev pub of_compile : CompileFault → StudioError
+of_compile compile.TooManyVersions = studio.Compile compile.TooManyVersions
+of_compile compile.TooManyColours = studio.Compile compile.TooManyColours
+of_compile compile.OutOfMemory = studio.OutOfMemory
+
+-- a drawing that was not written
+abbrev pub of_write : WriteError → StudioError
+of_write write.OutOfMemory = studio.OutOfMemory
+of_write write.WriteFailed = studio.WriteFailed
+
+-- the fault of a line for this cause
+abbrev pub line_fault : LineCause → LineError
+line_fault cause.Json = line.Json
+line_fault cause.Field = line.Field
+line_fault cause.Range = line.Range

@@ -1,0 +1,85 @@
+//! Why a run was refused.
+
+ghost use Rattle.std.specs.Prelude.{◌≡◌};
+ghost use Rattle.gf_studio.specs.Refusals.{of_input, of_compile, of_write};
+
+use crate::InputError;
+use gf_drawing::{CompileFault, WriteError};
+use gf_ops::{OpFault, OpId};
+use thiserror::Error;
+
+/// What is wrong with a line.
+#[derive(Clone, Copy, Debug, PartialEq, Eq, Error)]
+pub enum LineCause {
+    /// It is no JSON.
+    #[error("Json")]
+    Json,
+    /// A key is missing or unknown, or a value has another form.
+    #[error("Field")]
+    Field,
+    /// A value is outside its limits.
+    #[error("Range")]
+    Range,
+}
+
+/// Why a run was refused.
+#[derive(Clone, Copy, Debug, PartialEq, Eq, Error)]
+pub enum StudioError {
+    /// The source failed before its end was seen.
+    #[error("read failed")]
+    ReadFailed,
+    /// The input has more than 16,777,216 bytes.
+    #[error("input too long")]
+    TooLong,
+    /// The line of this number, counted from 1, is no operation.
+    #[error("line {0}: {1}")]
+    Line(u64, LineCause),
+    /// The operation of this id doesn't fit behind those of the lines before it.
+    #[error("operation {0} dropped: {1}")]
+    Dropped(OpId, OpFault),
+    /// The history has no drawing.
+    #[error("export refused: {0}")]
+    Compile(CompileFault),
+    /// The sink failed before it had all the bytes, or as it was flushed.
+    #[error("write failed")]
+    WriteFailed,
+    /// A growth of memory was refused.
+    #[error("out of memory")]
+    OutOfMemory,
+}
+
+impl From<InputError> for StudioError {
+    ghost from_gives = { λ fault e. e ≡ of_input fault };
+
+    fn from(fault: InputError) -> StudioError {
+        match fault {
+            InputError::ReadFailed => StudioError::ReadFailed,
+            InputError::TooLong => StudioError::TooLong,
+            InputError::OutOfMemory => StudioError::OutOfMemory,
+        }
+    }
+}
+
+impl From<CompileFault> for StudioError {
+    ghost from_gives = { λ fault e. e ≡ of_compile fault };
+
+    fn from(fault: CompileFault) -> StudioError {
+        match fault {
+            CompileFault::OutOfMemory => StudioError::OutOfMemory,
+            CompileFault::TooManyVersions | CompileFault::TooManyColours => {
+                StudioError::Compile(fault)
+            }
+        }
+    }
+}
+
+impl From<WriteError> for StudioError {
+    ghost from_gives = { λ fault e. e ≡ of_write fault };
+
+    fn from(fault: WriteError) -> StudioError {
+        match fault {
+            WriteError::OutOfMemory => StudioError::OutOfMemory,
+            WriteError::WriteFailed => StudioError::WriteFailed,
+        }
+    }
+}
