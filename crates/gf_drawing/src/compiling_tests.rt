@@ -1,9 +1,10 @@
 //! Worked examples: from histories to drawings.
 
 use crate::{CompileFault, compile};
+use gf_groups::Ids;
 use gf_ops::{Change, Clock, Form, History, ObjectId, Op, OpId, Start};
 use gf_shape::{AnyShape, Bounds, Circle, Outline, Point, Rgb, Shape};
-use gf_versions::{Ids, Placed, Ranked, VersionKey, are_creations, ranked};
+use gf_versions::{Placed, Ranked, VersionKey, ranked};
 use std::alloc::Global;
 use std::process::Abort;
 use std::test::Fail;
@@ -64,7 +65,6 @@ fn boxes(
         let last = i == count - 1;
         create(rt, &mut history, 0, colour, !last || last_shown)?;
     }
-    assert!(rt; are_creations(&history));
     Ok(ranked(alloc, &history)?)
 }
 
@@ -76,7 +76,6 @@ fn versions_are_numbered_from_the_top(rt: HostRuntime) -> Result<(), Fail> {
     create(&rt, &mut history, 9, Rgb { r: 1, g: 2, b: 3 }, false)?;
     create(&rt, &mut history, 0, BLUE, true)?;
     create(&rt, &mut history, 4, RED, true)?;
-    assert!(rt; are_creations(&history));
     let drawing = compile(alloc, ranked(alloc, &history)?)?;
     let rows = [(32, 0), (32, 1), (33, 2)];
     let bounds = Bounds {

@@ -1,3 +1,4 @@
 pub mod ReadsLemmas
 pub mod CuttingLemmas
 pub mod ReadingLemmas
+pub mod TakingLemmas

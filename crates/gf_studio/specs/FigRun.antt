@@ -1,13 +1,16 @@
--- What a run makes of the bytes that it reads (this project's own).
-use Rattle.std.specs.Prelude.{◌≡◌, ◌<◌, ◌≤◌, ℕ, List, ◌∷◌, ◌++◌, length, map, Option, Ok, Err}
+-- What a run makes of the bytes that it reads (this project's own, over causal delivery).
+use Rattle.std.specs.Prelude.{◌≡◌, ◌<◌, ◌≤◌, ℕ, List, [], ◌∷◌, ◌++◌, length, map, Contains, Option, Ok, Err}
 use Rattle.std.specs.Io.KnownBytes.{Appends}
 use Rattle.gf_shape.specs.declared.any_shape.AnyShape.{AnyShape}
 use Rattle.gf_shape.specs.Outlines.{any_outline}
 use Rattle.gf_ops.specs.declared.op.Op.{Op}
 use Rattle.gf_ops.specs.declared.op.OpId.{OpId}
 use Rattle.gf_ops.specs.declared.faults.OpFault.{OpFault}
-use Rattle.gf_ops.specs.Accepted.{IsRefused, AreAccepted}
+use Rattle.gf_ops.specs.Accepted.{IsRefused}
 use Rattle.gf_ops.specs.ValidHistory.{IsValid}
+use Rattle.gf_causal.specs.DeliveredPart.{AreOneById, IsDelivered, IsDeliveredPart}
+use Rattle.gf_causal.specs.HeldOperations.{HasOther}
+use Rattle.gf_causal.specs.Ready.{IsReady}
 use Rattle.gf_versions.specs.declared.placed.Placed.{Placed}
 use Rattle.gf_versions.specs.Ranking.{AreRanked}
 use Rattle.gf_drawing.specs.declared.compiling.CompileFault.{CompileFault}
@@ -17,51 +20,79 @@ use Rattle.gf_drawing.specs.DrawingState.{DrawingState}
 use Rattle.gf_drawing.specs.Outlined.{PaintsAsFig, outlined}
 use Rattle.gf_drawing.specs.Taken.{AppendsFront}
 use Rattle.gf_fig_write.specs.FigText.{fig_text}
-use Rattle.gf_studio.specs.declared.studio_error.LineCause.{LineCause}
+use Rattle.gf_json.specs.declared.line_error.LineError.TheVariants as line
 use Rattle.gf_json.specs.LineValues.{Got}
-use Rattle.gf_studio.specs.Refusals.{line_fault}
-use Rattle.gf_studio.specs.Creations.{denoted_creation}
+use Rattle.gf_json.specs.OperationLines.{denoted}
+use Rattle.gf_studio.specs.declared.studio_error.LineCause.{LineCause}
+use Rattle.gf_studio.specs.declared.studio_error.LineCause.TheVariants as cause
 use Rattle.gf_studio.specs.TextLines.{numbered_lines}
 
--- a line that denotes this creation
+-- a line that denotes this operation
 abbrev pub denotes_op : Op → Got Op
 denotes_op op = Ok op
 
--- each of the lines denotes a creation, and these are the operations in order
+-- each of the lines denotes an operation, and these are they in order
 abbrev pub AreLinesOf : List (ℕ × List ℕ) → List Op → Type 0
-AreLinesOf lines ops = map (λ (line : ℕ × List ℕ). denoted_creation line.1) lines ≡ map denotes_op ops
+AreLinesOf lines ops = map (λ (line : ℕ × List ℕ). denoted line.1) lines ≡ map denotes_op ops
 
--- the bytes denote these creations, each accepted behind those before it, and together a valid history
-pub record Denotes (bytes : List ℕ) (history : List Op) : Type 0 where
-  pub lines : AreLinesOf (numbered_lines bytes) history
-  pub accepted : AreAccepted history
+-- of the operations equal ids are equal operations, and their delivered part is this valid history
+pub record Delivers (ops history : List Op) : Type 0 where
+  pub one : AreOneById ops
+  pub delivered : IsDeliveredPart ops history
   pub valid : IsValid history
 
--- the lines of the bytes before line number n denote creations that are accepted one by one, and this is line n
+-- the lines of the bytes denote operations, and these deliver this history
+pub record Denotes (bytes : List ℕ) (history : List Op) : Type 0 where
+  pub ops : List Op
+  pub lines : AreLinesOf (numbered_lines bytes) ops
+  pub delivers : Delivers ops history
+
+-- the lines of the bytes before line number n denote operations that deliver a history, and this is line n
 pub record IsAt (bytes : List ℕ) (n : ℕ) (line : List ℕ) : Type 0 where
   pub before : List (ℕ × List ℕ)
   pub behind : List (ℕ × List ℕ)
   pub whole : numbered_lines bytes ≡ before ++ (n, line) ∷ behind
+  pub ops : List Op
+  pub lines : AreLinesOf before ops
   pub history : List Op
-  pub lines : AreLinesOf before history
-  pub accepted : AreAccepted history
-  pub valid : IsValid history
+  pub delivers : Delivers ops history
 
--- line n is the first that denotes no creation, for this cause
+-- the line denotes another operation under the id of one of these
+pub record IsClashing (ops : List Op) (line : List ℕ) : Type 0 where
+  pub op : Op
+  pub denotes : denoted line ≡ Ok op
+  pub other : HasOther ops op
+
+-- what is wrong with a line behind those of these operations
+abbrev pub IsFault : List Op → List ℕ → LineCause → Type 0
+IsFault ops bytes cause.Json = denoted bytes ≡ Err line.Json
+IsFault ops bytes cause.Field = denoted bytes ≡ Err line.Field
+IsFault ops bytes cause.Range = denoted bytes ≡ Err line.Range
+IsFault ops bytes cause.Clash = IsClashing ops bytes
+
+-- line n is the first that denotes no operation, or another one under the id of an earlier one, for this cause
 pub record HasFault (bytes : List ℕ) (n : ℕ) (cause : LineCause) : Type 0 where
   pub line : List ℕ
   pub at : IsAt bytes n line
-  pub fault : denoted_creation line ≡ Err (line_fault cause)
+  pub fault : IsFault at.ops line cause
 
--- the operation under this id is the first that cannot be added behind those of the lines before it, for this fault
+-- with some line the operation under this id is delivered, behind a valid history of delivered operations where it is
+-- ready and cannot be added, for this fault; with the lines before that one none is such
 pub record Drops (bytes : List ℕ) (id : OpId) (fault : OpFault) : Type 0 where
   pub number : ℕ
   pub line : List ℕ
   pub at : IsAt bytes number line
+  pub last : Op
+  pub denotes : denoted line ≡ Ok last
+  pub one : AreOneById (at.ops ++ last ∷ [])
+  pub history : List Op
+  pub valid : IsValid history
+  pub from : (a : Op) → Contains history a → IsDelivered (at.ops ++ last ∷ []) a
   pub op : Op
-  pub denotes : denoted_creation line ≡ Ok op
+  pub delivered : IsDelivered (at.ops ++ last ∷ []) op
   pub named : op.id ≡ id
-  pub refused : IsRefused at.history op fault
+  pub ready : IsReady history op
+  pub refused : IsRefused history op fault
 
 -- the bytes denote a history with a canonical drawing, which has at every point the colour that the history means there,
 -- by its shapes and by the outlines that FIG draws of them

@@ -4,6 +4,5 @@ pub mod TextLines
 pub mod LineCutting
 pub mod TextLinesExamples
 pub mod Refusals
-pub mod Creations
 pub mod FigRun
 pub mod LineSteps

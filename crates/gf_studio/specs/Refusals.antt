@@ -3,12 +3,8 @@ use Rattle.gf_drawing.specs.declared.compiling.CompileFault.{CompileFault}
 use Rattle.gf_drawing.specs.declared.compiling.CompileFault.TheVariants as compile
 use Rattle.gf_drawing.specs.declared.refusals.WriteError.{WriteError}
 use Rattle.gf_drawing.specs.declared.refusals.WriteError.TheVariants as write
-use Rattle.gf_json.specs.declared.line_error.LineError.{LineError}
-use Rattle.gf_json.specs.declared.line_error.LineError.TheVariants as line
 use Rattle.gf_studio.specs.declared.source.InputError.{InputError}
 use Rattle.gf_studio.specs.declared.source.InputError.TheVariants as input
-use Rattle.gf_studio.specs.declared.studio_error.LineCause.{LineCause}
-use Rattle.gf_studio.specs.declared.studio_error.LineCause.TheVariants as cause
 use Rattle.gf_studio.specs.declared.studio_error.StudioError.{StudioError}
 use Rattle.gf_studio.specs.declared.studio_error.StudioError.TheVariants as studio
 
@@ -28,9 +24,3 @@ of_compile compile.OutOfMemory = studio.OutOfMemory
 abbrev pub of_write : WriteError → StudioError
 of_write write.OutOfMemory = studio.OutOfMemory
 of_write write.WriteFailed = studio.WriteFailed
-
--- the fault of a line for this cause
-abbrev pub line_fault : LineCause → LineError
-line_fault cause.Json = line.Json
-line_fault cause.Field = line.Field
-line_fault cause.Range = line.Range

@@ -1,67 +1,74 @@
 //! From the bytes of an input to a history.
 
-ghost use Rattle.std.specs.Prelude.{◌≡◌, ◌⊎◌, Err, IfOk, IfErr, OnOk, IsSome};
+ghost use Rattle.std.specs.Prelude.{◌≡◌, IfOk, IfErr, OnOk};
 ghost use Rattle.gf_ops.specs.ValidHistory.{IsValid};
-ghost use Rattle.gf_ops.specs.Attribute.{made_kind};
-ghost use Rattle.gf_ops.specs.Limits.{IsInRange};
-ghost use Rattle.gf_versions.specs.Creations.{AreCreations};
-ghost use Rattle.gf_studio.specs.Creations.{denoted_creation};
 ghost use Rattle.gf_studio.specs.FigRun.{Denotes};
-ghost use Rattle.gf_studio.specs.LineSteps.{AddsLine, RefusesLine, RefusesText, of_line};
+ghost use Rattle.gf_causal.specs.Ready.{NoneIsReady};
+ghost use Rattle.gf_studio.specs.LineSteps.{Moves, TakesLine, RefusesLine, RefusesReady, RefusesText, of_line};
 
 use crate::{LineCause, StudioError, TextLines};
+use gf_causal::{Buffer, OfferFault};
 use gf_json::{LineError, read_op};
-use gf_ops::{AddFault, Change, History, Op};
+use gf_ops::{AddFault, History};
 use std::alloc::Global;
 
-/// The history of the operations that the lines of a text denote, taken in order.
+/// The history of the operations that the lines of a text denote. Each is held until all that it
+/// knows is there; what is held at the end is no part of it.
 pub(crate) fn read_history(alloc: Global, text: &[u8]) -> Result<History, StudioError>
     ensures ok { IfOk result (λ history. Denotes text.now history.ops) }
-    ensures creations { IfOk result (λ history. AreCreations history.ops) }
     ensures err { IfErr result (RefusesText text.now) }
 {
     let mut history = History::new(alloc);
+    let mut buffer = Buffer::new(alloc);
     let mut lines = TextLines::new(text);
     while let Some((number, line)) = lines.next() {
-        add_line(alloc, &mut history, number, line)?;
+        take_line(alloc, &mut history, &mut buffer, number, line)?;
     }
     Ok(history)
 }
 
-/// Adds the operation that a line denotes.
-fn add_line(
+/// Takes the operation that a line denotes, and adds what is ready then.
+fn take_line(
     alloc: Global,
     history: &mut History,
+    buffer: &mut Buffer,
     number: u64,
     line: &[u8],
 ) -> Result<(), StudioError>
-    ensures ok { OnOk result (AddsLine line.now history.old.ops history.new.ops) }
-    ensures err { IfErr result (RefusesLine number line.now history.old.ops) }
+    ensures ok { OnOk result (TakesLine line.now buffer.old history.old.ops buffer.new history.new.ops) }
+    ensures err { IfErr result (RefusesLine number line.now buffer.old history.old.ops) }
     ensures valid { OnOk result (IsValid history.new.ops) }
 {
-    let op = match read_creation(alloc, line) {
+    let op = match read_op(alloc, line) {
         Ok(op) => op,
         Err(fault) => return Err(line_refusal(number, fault)),
     };
-    let id = op.id;
-    match history.add(op) {
-        Ok(()) => Ok(()),
-        Err(AddFault::Op(fault)) => Err(StudioError::Dropped(id, fault)),
-        Err(AddFault::OutOfMemory) => Err(StudioError::OutOfMemory),
+    match buffer.offer(op, history) {
+        Ok(_) => add_ready(history, buffer),
+        Err(OfferFault::Clash) => Err(StudioError::Line(number, LineCause::Clash)),
+        Err(OfferFault::Range) => unreachable!(),
+        Err(OfferFault::OutOfMemory) => Err(StudioError::OutOfMemory),
     }
 }
 
-/// The operation of a line that creates an object. So far the change of one is a fault of form.
-fn read_creation(alloc: Global, line: &[u8]) -> Result<Op, LineError>
-    ensures denoted { (result ≡ Err LineError.OutOfMemory) ⊎ (result ≡ denoted_creation line.now) }
-    ensures in_range { IfOk result (λ op. IsInRange op) }
-    ensures created { IfOk result (λ op. IsSome (made_kind op.change)) }
+/// Adds what is ready until nothing is.
+fn add_ready(history: &mut History, buffer: &mut Buffer) -> Result<(), StudioError>
+    ensures moves { OnOk result (Moves buffer.old history.old.ops buffer.new history.new.ops) }
+    ensures none { OnOk result (NoneIsReady history.new.ops buffer.new) }
+    ensures err { IfErr result (RefusesReady buffer.old history.old.ops) }
+    ensures valid { OnOk result (IsValid history.new.ops) }
 {
-    let op = read_op(alloc, line)?;
-    match op.change {
-        Change::Create(_) => Ok(op),
-        Change::Set { .. } => Err(LineError::Field),
+    // What the history has is valid.
+    let _ = history.ops();
+    while let Some(op) = buffer.take_ready(history) {
+        let id = op.id;
+        match history.add(op) {
+            Ok(()) => {}
+            Err(AddFault::Op(fault)) => return Err(StudioError::Dropped(id, fault)),
+            Err(AddFault::OutOfMemory) => return Err(StudioError::OutOfMemory),
+        }
     }
+    Ok(())
 }
 
 fn line_refusal(number: u64, fault: LineError) -> StudioError

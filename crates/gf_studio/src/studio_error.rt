@@ -20,6 +20,9 @@ pub enum LineCause {
     /// A value is outside its limits.
     #[error("Range")]
     Range,
+    /// It is another operation under the id of an earlier line's.
+    #[error("Clash")]
+    Clash,
 }
 
 /// Why a run was refused.
@@ -31,10 +34,10 @@ pub enum StudioError {
     /// The input has more than 16,777,216 bytes.
     #[error("input too long")]
     TooLong,
-    /// The line of this number, counted from 1, is no operation.
+    /// The line of this number, counted from 1, is no operation, or another one under an earlier id.
     #[error("line {0}: {1}")]
     Line(u64, LineCause),
-    /// The operation of this id doesn't fit behind those of the lines before it.
+    /// The operation of this id came in its turn and doesn't fit behind those before it.
     #[error("operation {0} dropped: {1}")]
     Dropped(OpId, OpFault),
     /// The history has no drawing.

@@ -8,6 +8,7 @@
 //!   [`one_colour_at_a_point`], [`the_first_that_holds_is_on_top`]: the laws.
 #![tactic(auto)]
 
+mod giving;
 mod key;
 mod laws;
 mod placed;

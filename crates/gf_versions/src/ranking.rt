@@ -47,6 +47,7 @@ fn shown(
     ensures shown { IfOk result (λ items. AreShown history.now.ops groups.now items.items) }
     ensures valid { IsValid history.now.ops }
 {
+    // Its clause says that the history is valid.
     let _ = history.ops();
     let mut items = Vec::new(alloc);
     for group in groups {

@@ -1,18 +1,16 @@
 //! The settled values of versions.
 
-ghost use Rattle.std.specs.Prelude.{◌≡◌, Contains, IfOk, IsSome, Some, is_some};
-ghost use Rattle.gf_ops.specs.declared.change.Attr.{Attr};
-ghost use Rattle.gf_ops.specs.declared.change.Value.{Value};
-ghost use Rattle.gf_ops.specs.Attribute.{change_value};
+ghost use Rattle.std.specs.Prelude.{◌≡◌, Contains, IfOk};
 ghost use Rattle.gf_ops.specs.ValidHistory.{IsValid};
 ghost use Rattle.gf_groups.specs.Versions.{IsVersionGroup};
 ghost use Rattle.gf_versions.specs.Settling.{HasAttribute, IsFormOf, IsLastSetter};
 ghost use Rattle.gf_versions.specs.VersionOf.{IsVersionOf};
 
+use crate::giving::{colour, layer, place, points, sets, shown, size};
 use crate::{Version, VersionKey};
 use gf_groups::{Group, Ids};
-use gf_ops::{Attr, Change, Form, History, Op, OpId, Points, Start, Value, before};
-use gf_shape::{OutOfMemory, Point, Rgb};
+use gf_ops::{Attr, Change, Form, History, Op, OpId, Points, before};
+use gf_shape::{OutOfMemory, Point};
 use std::alloc::Global;
 
 /// The version of this group, each attribute with the value that its last setter gives it.
@@ -24,14 +22,14 @@ pub fn settle(alloc: Global, history: &History, group: &Group) -> Result<Version
 {
     Ok(Version {
         key: VersionKey {
-            layer: layer(&last_setter(history, group, Attr::Layer).change),
+            layer: layer(last_setter(history, group, Attr::Layer)),
             object: group.object,
             ops: copied(alloc, group.ops.as_slice())?,
         },
         form: settled_form(alloc, history, group)?,
-        place: place(&last_setter(history, group, Attr::Place).change),
-        colour: colour(&last_setter(history, group, Attr::Colour).change),
-        shown: shown(&last_setter(history, group, Attr::Shown).change),
+        place: place(last_setter(history, group, Attr::Place)),
+        colour: colour(last_setter(history, group, Attr::Colour)),
+        shown: shown(last_setter(history, group, Attr::Shown)),
     })
 }
 
@@ -45,15 +43,15 @@ fn settled_form(alloc: Global, history: &History, group: &Group) -> Result<Form,
     };
     match &start.form {
         Form::Rect(_, _) => {
-            let (width, height) = size(&last_setter(history, group, Attr::Size).change);
+            let (width, height) = size(last_setter(history, group, Attr::Size));
             Ok(Form::Rect(width, height))
         }
         Form::Circle(_) => {
-            let (radius, _) = size(&last_setter(history, group, Attr::Size).change);
+            let (radius, _) = size(last_setter(history, group, Attr::Size));
             Ok(Form::Circle(radius))
         }
         Form::Polygon(_) => {
-            let points = points(&last_setter(history, group, Attr::Points).change);
+            let points = points(last_setter(history, group, Attr::Points));
             Ok(Form::Polygon(copied_points(alloc, points.as_slice())?))
         }
     }
@@ -68,7 +66,7 @@ fn last_setter<'a>(history: &'a History, group: &Group, attribute: Attr) -> &'a 
     let mut last = maker(history, group);
     for id in group.ops.as_slice() {
         if let Some(op) = history.get(*id) {
-            if sets(&op.change, attribute) && before(last, op) {
+            if sets(op, attribute) && before(last, op) {
                 last = op;
             }
         }
@@ -83,124 +81,11 @@ fn maker<'a>(history: &'a History, group: &Group) -> &'a Op
     ensures id { result.now.id ≡ group.now.object.0 }
     ensures valid { IsValid history.now.ops }
 {
+    // Its clause says that the history is valid.
     let _ = history.ops();
     match history.get(group.object.0) {
         Some(op) => op,
         None => unreachable!(),
-    }
-}
-
-/// Whether the change gives the attribute a value.
-fn sets(change: &Change, attribute: Attr) -> bool
-    ensures { result ≡ is_some (change_value change.now attribute) }
-{
-    match change {
-        Change::Create(start) => match (attribute, &start.form) {
-            (Attr::Points, Form::Polygon(_)) => true,
-            (Attr::Points, _) => false,
-            (Attr::Size, Form::Polygon(_)) => false,
-            _ => true,
-        },
-        Change::Set { value, .. } => value.attribute() == attribute,
-    }
-}
-
-/// The place that the change gives.
-fn place(change: &Change) -> Point
-    requires { IsSome (change_value change.now Attr.Place) }
-    ensures { change_value change.now Attr.Place ≡ Some (Value.Place result) }
-{
-    match change {
-        Change::Create(start) => start.place,
-        Change::Set {
-            value: Value::Place(place),
-            ..
-        } => *place,
-        Change::Set { .. } => unreachable!(),
-    }
-}
-
-/// The points that the change gives.
-fn points(change: &Change) -> &Points
-    requires { IsSome (change_value change.now Attr.Points) }
-    ensures { change_value change.now Attr.Points ≡ Some (Value.Points result.now) }
-{
-    match change {
-        Change::Create(
-            Start {
-                form: Form::Polygon(points),
-                ..
-            },
-        ) => points,
-        Change::Set {
-            value: Value::Points(points),
-            ..
-        } => points,
-        _ => unreachable!(),
-    }
-}
-
-/// The size that the change gives.
-fn size(change: &Change) -> (u32, u32)
-    requires { IsSome (change_value change.now Attr.Size) }
-    ensures { change_value change.now Attr.Size ≡ Some (Value.Size result.0 result.1) }
-{
-    match change {
-        Change::Create(start) => match &start.form {
-            Form::Rect(width, height) => (*width, *height),
-            Form::Circle(radius) => (*radius, *radius),
-            Form::Polygon(_) => unreachable!(),
-        },
-        Change::Set {
-            value: Value::Size(width, height),
-            ..
-        } => (*width, *height),
-        Change::Set { .. } => unreachable!(),
-    }
-}
-
-/// The colour that the change gives.
-fn colour(change: &Change) -> Rgb
-    requires { IsSome (change_value change.now Attr.Colour) }
-    ensures { change_value change.now Attr.Colour ≡ Some (Value.Colour result) }
-{
-    match change {
-        Change::Create(start) => start.colour,
-        Change::Set {
-            value: Value::Colour(colour),
-            ..
-        } => *colour,
-        Change::Set { .. } => unreachable!(),
-    }
-}
-
-/// The layer that the change gives.
-fn layer(change: &Change) -> u16
-    requires { IsSome (change_value change.now Attr.Layer) }
-    ensures { change_value change.now Attr.Layer ≡ Some (Value.Layer result) }
-{
-    match change {
-        Change::Create(start) => start.layer,
-        Change::Set {
-            value: Value::Layer(layer),
-            ..
-        } => *layer,
-        Change::Set { .. } => unreachable!(),
-    }
-}
-
-/// Whether the object is shown from the change on.
-fn shown(change: &Change) -> bool
-    requires { IsSome (change_value change.now Attr.Shown) }
-    ensures { change_value change.now Attr.Shown ≡ Some (Value.Shown result) }
-{
-    match change {
-        Change::Create(start) => start.shown,
-        Change::Set {
-            value: Value::Shown(shown),
-            ..
-        } => *shown,
-        Change::Set { .. } => unreachable!(),
     }
 }
 

@@ -1,13 +1,26 @@
-//! Worked examples: who is above whom.
+//! Worked examples: what versions look like, and who is above whom.
 
-use crate::{are_creations, ranked};
-use gf_ops::{Change, Clock, Form, History, ObjectId, Op, OpId, Points, Start};
+use crate::ranked;
+use gf_ops::{Change, Clock, Form, History, ObjectId, Op, OpId, Points, Start, Value};
 use gf_shape::{Bounds, Point, Rgb, Shape};
 use std::test::Fail;
 
 const RED: Rgb = Rgb { r: 255, g: 0, b: 0 };
 
+const GREEN: Rgb = Rgb { r: 0, g: 255, b: 0 };
+
 const BLUE: Rgb = Rgb { r: 0, g: 0, b: 255 };
+
+/// The operations of sites 1 and 2; the first makes the object that the others change.
+const MADE: OpId = OpId { site: 1, seq: 1 };
+
+const SECOND: OpId = OpId { site: 1, seq: 2 };
+
+const THIRD: OpId = OpId { site: 1, seq: 3 };
+
+const FOURTH: OpId = OpId { site: 1, seq: 4 };
+
+const OTHER: OpId = OpId { site: 2, seq: 1 };
 
 /// The object 1.seq of this form at (seq, 0).
 fn created(seq: u16, form: Form, layer: u16, colour: Rgb, shown: bool) -> Op {
@@ -28,6 +41,18 @@ fn created(seq: u16, form: Form, layer: u16, colour: Rgb, shown: bool) -> Op {
         },
         past: Clock([u32::from(seq.saturating_sub(1)), 0, 0, 0, 0, 0, 0, 0]),
         change: Change::Create(start),
+    }
+}
+
+/// A change of the object 1.1 by a site that knows so many operations of sites 1 and 2.
+fn changed(id: OpId, known: [u32; 2], value: Value) -> Op {
+    Op {
+        id,
+        past: Clock([known[0], known[1], 0, 0, 0, 0, 0, 0]),
+        change: Change::Set {
+            object: ObjectId(MADE),
+            value,
+        },
     }
 }
 
@@ -56,7 +81,6 @@ fn higher_layers_and_later_objects_are_above(rt: HostRuntime) -> Result<(), Fail
             assert!(rt; op.in_range());
             history.add(op)?;
         }
-        assert!(rt; are_creations(&history));
         let ranked = ranked(alloc, &history)?;
         assert_eq!(rt; ranked.len(), falling.len());
         assert_eq!(rt; ranked.is_empty(), falling.is_empty());
@@ -70,29 +94,159 @@ fn higher_layers_and_later_objects_are_above(rt: HostRuntime) -> Result<(), Fail
 }
 
 #[test]
-fn a_version_stands_at_its_place(rt: HostRuntime) -> Result<(), Fail> {
+fn versions_have_their_settled_values(rt: HostRuntime) -> Result<(), Fail> {
     let alloc = rt.alloc();
-    let triangle = [at(0, 0), at(10, 0), at(0, 10)];
-    let triangle = Points::new(Vec::from_array(alloc, triangle)?);
+    let blue = || changed(SECOND, [1, 0], Value::Colour(BLUE));
+    let green = || changed(OTHER, [1, 0], Value::Colour(GREEN));
+    // The changes of a red box on layer 0 at (1, 0), and its visible versions from above.
     let rows = [
-        (Form::Rect(10, 20), at(1, 0), at(11, 20)),
-        (Form::Circle(10), at(-9, -10), at(11, 10)),
-        (Form::Polygon(triangle), at(1, 0), at(11, 10)),
+        // Two colours at once make two versions.
+        (
+            Vec::from_array(alloc, [blue(), green()])?,
+            [
+                ([MADE, OTHER].as_slice(), 0, GREEN, at(1, 0)),
+                ([MADE, SECOND].as_slice(), 0, BLUE, at(1, 0)),
+            ]
+            .as_slice(),
+        ),
+        // Changes of two attributes make one.
+        (
+            Vec::from_array(alloc, [blue(), changed(OTHER, [1, 0], Value::Layer(3))])?,
+            [([MADE, SECOND, OTHER].as_slice(), 3, BLUE, at(1, 0))].as_slice(),
+        ),
+        // A change after both is in both, and the last change of a site counts.
+        (
+            Vec::from_array(
+                alloc,
+                [
+                    blue(),
+                    green(),
+                    changed(THIRD, [2, 1], Value::Place(at(100, 0))),
+                    changed(FOURTH, [3, 1], Value::Place(at(200, 0))),
+                ],
+            )?,
+            [
+                (
+                    [MADE, THIRD, FOURTH, OTHER].as_slice(),
+                    0,
+                    GREEN,
+                    at(200, 0),
+                ),
+                (
+                    [MADE, SECOND, THIRD, FOURTH].as_slice(),
+                    0,
+                    BLUE,
+                    at(200, 0),
+                ),
+            ]
+            .as_slice(),
+        ),
+        // The later of two counts, not the one with the greater id.
+        (
+            Vec::from_array(
+                alloc,
+                [green(), changed(SECOND, [1, 1], Value::Colour(BLUE))],
+            )?,
+            [([MADE, SECOND, OTHER].as_slice(), 0, BLUE, at(1, 0))].as_slice(),
+        ),
+        // A hidden version is not ranked, the other one is.
+        (
+            Vec::from_array(
+                alloc,
+                [
+                    changed(SECOND, [1, 0], Value::Shown(false)),
+                    changed(OTHER, [1, 0], Value::Shown(true)),
+                ],
+            )?,
+            [([MADE, OTHER].as_slice(), 0, RED, at(1, 0))].as_slice(),
+        ),
+        (
+            Vec::from_array(alloc, [changed(SECOND, [1, 0], Value::Shown(false))])?,
+            [].as_slice(),
+        ),
     ];
-    for (form, low, high) in rows {
+    for (changes, want) in rows {
         let mut history = History::new(alloc);
-        let op = created(1, form, 7, BLUE, true);
-        assert!(rt; op.in_range());
-        history.add(op)?;
-        assert!(rt; are_creations(&history));
+        let made = created(1, Form::Rect(10, 20), 0, RED, true);
+        assert!(rt; made.in_range());
+        history.add(made)?;
+        for op in changes {
+            assert!(rt; op.in_range());
+            history.add(op)?;
+        }
         let ranked = ranked(alloc, &history)?;
-        assert_eq!(rt; ranked.len(), 1);
-        let item = &ranked.items[0];
+        assert_eq!(rt; ranked.len(), want.len());
+        for (item, (ops, layer, colour, low)) in ranked.items.iter().zip(want) {
+            assert_eq!(rt; item.key.ops.as_slice(), *ops);
+            assert_eq!(rt; item.key.layer, *layer, "of {ops:?}");
+            assert_eq!(rt; item.colour, *colour, "of {ops:?}");
+            assert_eq!(rt; item.shape.bounds().low, *low, "of {ops:?}");
+        }
+    }
+    Ok(())
+}
+
+#[test]
+fn a_version_stands_at_its_place_in_its_size(rt: HostRuntime) -> Result<(), Fail> {
+    let alloc = rt.alloc();
+    let small = [at(0, 0), at(10, 0), at(0, 10)];
+    let small = Points::new(Vec::from_array(alloc, small)?);
+    let large = [at(0, 0), at(30, 0), at(0, 20)];
+    let large = Points::new(Vec::from_array(alloc, large)?);
+    let grown = Value::Size(30, 20);
+    // A form at (1, 0), and the bounds before and after the change.
+    let rows = [
+        (
+            Form::Rect(10, 20),
+            grown,
+            at(1, 0),
+            at(11, 20),
+            at(1, 0),
+            at(31, 20),
+        ),
+        (
+            Form::Circle(10),
+            Value::Size(30, 30),
+            at(-9, -10),
+            at(11, 10),
+            at(-29, -30),
+            at(31, 30),
+        ),
+        (
+            Form::Polygon(small),
+            Value::Points(large),
+            at(1, 0),
+            at(11, 10),
+            at(1, 0),
+            at(31, 20),
+        ),
+    ];
+    for (form, value, low, high, least, greatest) in rows {
+        let mut history = History::new(alloc);
+        let made = created(1, form, 7, BLUE, true);
+        assert!(rt; made.in_range());
+        history.add(made)?;
+        let first = ranked(alloc, &history)?;
+        assert_eq!(rt; first.len(), 1);
+        let item = &first.items[0];
         assert_eq!(rt; item.key.layer, 7);
         assert_eq!(rt; item.colour, BLUE);
         assert_eq!(rt; item.shape.bounds(), Bounds { low, high });
         assert!(rt; !item.shape.holds(at(12, 0)));
         assert!(rt; item.shape.holds(at(11, 0)));
+        let change = changed(SECOND, [1, 0], value);
+        assert!(rt; change.in_range());
+        history.add(change)?;
+        let second = ranked(alloc, &history)?;
+        assert_eq!(rt; second.len(), 1);
+        let bounds = second.items[0].shape.bounds();
+        assert_eq!(rt;
+            bounds,
+            Bounds {
+                low: least,
+                high: greatest
+            }
+        );
     }
     Ok(())
 }

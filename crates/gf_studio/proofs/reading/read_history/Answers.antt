@@ -6,21 +6,21 @@ use Rattle.gf_studio.proofs.reading.read_history.Goals as goal
 
 pub loop-number-init : goal.loop-number-init
 loop-number-init c = record {
-  read = HasRead-none c.args.text.now _ _ c.new-lines.ensures c.new-history.ensures;
+  read = HasRead-none c.args.text.now _ _ _ c.new-lines.ensures c.new-buffer.ensures c.new-history.ensures;
   valid = search rules;
 }
 
 pub loop-number-preserved : goal.loop-number-preserved
 loop-number-preserved c = record {
-  read = HasRead-line c.args.text.now _ _ _ _ _ (rw c.in-Some.ensures.some at c.loop-number.invariant.read) c.in_ok-add_line.ensures.ok;
-  valid = c.in_ok-add_line.ensures.valid;
+  read = HasRead-line c.args.text.now _ _ _ _ _ _ _ (rw c.in-Some.ensures.some at c.loop-number.invariant.read) c.in_ok-take_line.ensures.ok;
+  valid = c.in_ok-take_line.ensures.valid;
 }
 
-pub returns-in_err-add_line-clause-err : goal.returns-in_err-add_line-clause-err
-returns-in_err-add_line-clause-err c =
+pub returns-in_err-take_line-clause-err : goal.returns-in_err-take_line-clause-err
+returns-in_err-take_line-clause-err c =
     let p = err_from_is_err_and c.from_residual.result c.from_residual.ensures.1 in
-    rw p.1 (RefusesText-line c.args.text.now _ _ _ _ (rw c.in-Some.ensures.some at c.loop-number.invariant.read) c.loop-number.invariant.valid _
-    (subst (λ e. RefusesLine c.in-Some.number c.in-Some.line.now c.loop-number.history.ops e) (sym p.2) c.in_err-add_line.ensures.err))
+    rw p.1 (RefusesText-line c.args.text.now _ _ _ _ _ (rw c.in-Some.ensures.some at c.loop-number.invariant.read) c.loop-number.invariant.valid _
+    (subst (λ e. RefusesLine c.in-Some.number c.in-Some.line.now c.loop-number.buffer c.loop-number.history.ops e) (sym p.2) c.in_err-take_line.ensures.err))
 
 pub returns-clause-ok : goal.returns-clause-ok
-returns-clause-ok c = Denotes-read c.args.text.now _ (rw c.in_default.ensures.none.0 at c.loop-number.invariant.read) c.loop-number.invariant.valid
+returns-clause-ok c = Denotes-read c.args.text.now _ _ (rw c.in_default.ensures.none.0 at c.loop-number.invariant.read) c.loop-number.invariant.valid
