@@ -26,7 +26,8 @@ use Rattle.gf_versions.specs.Ranking.{AreRanked, placed_version}
 use Rattle.gf_groups.specs.declared.group.Group.{Group}
 use Rattle.gf_groups.specs.Versions.{AreAllVersions}
 use Rattle.gf_versions.proofs.VersionLemmas.{settled_exactly, visible_exactly}
-use Rattle.gf_versions.proofs.KeyLemmas.{key_cmp_total, key_cmp_exact}
+use Rattle.gf_versions.specs.KeyOrder.{key_cmp_total}
+use Rattle.gf_versions.proofs.KeyLemmas.{key_cmp_exact}
 use Rattle.gf_ops.proofs.ListLemmas.{Contains-map, Contains-map_from, not_Contains-nil}
 use Rattle.gf_groups.proofs.ListLemmas.{Contains-filter}
 

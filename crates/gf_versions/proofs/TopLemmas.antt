@@ -21,7 +21,8 @@ use Rattle.gf_versions.specs.Ranking.{AreRanked, first_colour, placed_version}
 use Rattle.gf_versions.specs.VersionOf.{IsVersionOf}
 use Rattle.gf_versions.specs.Visible.{IsVisible, version_holds}
 use Rattle.gf_versions.proofs.VersionLemmas.{one_of_group, versions_listed, visible_exactly}
-use Rattle.gf_versions.proofs.KeyLemmas.{above_one_way, above_transitive, neither_above, key_cmp_total, key_cmp_exact}
+use Rattle.gf_versions.specs.KeyOrder.{key_cmp_total}
+use Rattle.gf_versions.proofs.KeyLemmas.{above_one_way, above_transitive, neither_above, key_cmp_exact}
 use Rattle.gf_ops.proofs.ListLemmas.{Contains-cons_cases, Contains-cons_head, Contains-cons_tail, not_Contains-nil}
 use Rattle.gf_versions.proofs.ShapeLemmas.{shape_holds}
 

@@ -1,4 +1,5 @@
 pub mod Above
+pub mod KeyOrder
 pub mod VersionOf
 pub mod Visible
 pub mod HistoryColour

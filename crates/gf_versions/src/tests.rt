@@ -183,6 +183,7 @@ fn versions_have_their_settled_values(rt: HostRuntime) -> Result<(), Fail> {
         assert_eq!(rt; ranked.len(), count);
         assert!(rt; rank < ranked.len());
         let item = &ranked.items[rank];
+        assert!(rt; rank == 0 || ranked.items[0].key > item.key);
         assert_eq!(rt; item.key.ops.as_slice(), ops);
         assert_eq!(rt; item.key.layer, layer, "of {ops:?}");
         assert_eq!(rt; item.colour, colour, "of {ops:?}");
