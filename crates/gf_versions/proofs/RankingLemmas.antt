@@ -18,7 +18,7 @@ use Rattle.gf_versions.specs.declared.key.Version.{Version}
 use Rattle.gf_shape.specs.declared.any_shape.AnyShape.{AnyShape}
 use Rattle.gf_versions.specs.declared.placed.Placed.{Placed}
 use Rattle.gf_versions.specs.Above.{IsAbove, key_cmp}
-use Rattle.gf_versions.specs.Settling.{AreSettled, AreShown, group_of, shown_of}
+use Rattle.gf_versions.specs.ListedVersions.{AreSettled, AreShown, group_of, shown_of}
 use Rattle.gf_versions.specs.VersionOf.{IsVersionOf}
 use Rattle.gf_versions.specs.Visible.{IsVisible}
 use Rattle.gf_versions.specs.Falling.{falls_by}

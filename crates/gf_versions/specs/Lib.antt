@@ -6,3 +6,4 @@ pub mod HistoryColour
 pub mod Ranking
 pub mod Falling
 pub mod Settling
+pub mod ListedVersions

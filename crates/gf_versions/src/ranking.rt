@@ -8,7 +8,7 @@ ghost use Rattle.gf_groups.specs.declared.group.Group.{Group};
 ghost use Rattle.gf_groups.specs.Versions.{IsVersionGroup};
 ghost use Rattle.gf_versions.specs.Falling.{falls_by};
 ghost use Rattle.gf_versions.specs.Ranking.{AreRanked, placed_version};
-ghost use Rattle.gf_versions.specs.Settling.{AreShown};
+ghost use Rattle.gf_versions.specs.ListedVersions.{AreShown};
 
 use crate::shaping::shape_at;
 use crate::{Placed, Ranked, Version, settle};
