@@ -1,20 +1,15 @@
--- The order of versions is total, and only one key ties with another: itself.
+-- Only one key ties with another: itself; and above is one way and transitive.
 use Rattle.std.proofs.Common.{◌≡◌, ◌∙◌, refl, ap}
-use Rattle.std.specs.Cmp.{IsTotalOrder}
 use Rattle.std.specs.declared.cmp.Ordering.{Ordering}
 use Rattle.std.specs.declared.cmp.Ordering.TheVariants.{Less, Equal, Greater}
 use Rattle.std.specs.Ordering.{ordering_then, nat_cmp, ordering_reverse}
 use Rattle.std.specs.Cmp.Lexicographic.{slice_cmp}
 use Rattle.std.specs.FinMap.{IsAntisymmetric, nat_cmp-IsAntisymmetric, slice_cmp-IsAntisymmetric}
-use Rattle.std.proofs.lemmas.Cmp.{nat_cmp_total, on_total, then_total, lists_total}
 use Rattle.gf_ops.specs.OperationOrder.{id_cmp}
-use Rattle.gf_groups.proofs.IdLemmas.{id_cmp_total, id_cmp_exact, both_tied}
+use Rattle.gf_groups.proofs.IdLemmas.{id_cmp_exact, both_tied}
 use Rattle.gf_versions.specs.declared.key.VersionKey.{VersionKey}
 use Rattle.gf_versions.specs.Above.{key_cmp, IsAbove}
-
-pub key_cmp_total : IsTotalOrder key_cmp
-key_cmp_total = then_total (on_total (λ (k : VersionKey). k.layer) nat_cmp_total)
-    (then_total (on_total (λ (k : VersionKey). k.object.0) id_cmp_total) (on_total (λ (k : VersionKey). k.ops) (lists_total id_cmp_total)))
+use Rattle.gf_versions.specs.KeyOrder.{key_cmp_total}
 
 pub key_cmp_exact : IsAntisymmetric key_cmp
 key_cmp_exact a b e =

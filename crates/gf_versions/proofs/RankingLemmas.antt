@@ -18,7 +18,7 @@ use Rattle.gf_versions.specs.declared.key.Version.{Version}
 use Rattle.gf_shape.specs.declared.any_shape.AnyShape.{AnyShape}
 use Rattle.gf_versions.specs.declared.placed.Placed.{Placed}
 use Rattle.gf_versions.specs.Above.{IsAbove, key_cmp}
-use Rattle.gf_versions.specs.Settling.{AreSettled, AreShown, group_of, shown_of}
+use Rattle.gf_versions.specs.ListedVersions.{AreSettled, AreShown, group_of, shown_of}
 use Rattle.gf_versions.specs.VersionOf.{IsVersionOf}
 use Rattle.gf_versions.specs.Visible.{IsVisible}
 use Rattle.gf_versions.specs.Falling.{falls_by}
@@ -26,7 +26,8 @@ use Rattle.gf_versions.specs.Ranking.{AreRanked, placed_version}
 use Rattle.gf_groups.specs.declared.group.Group.{Group}
 use Rattle.gf_groups.specs.Versions.{AreAllVersions}
 use Rattle.gf_versions.proofs.VersionLemmas.{settled_exactly, visible_exactly}
-use Rattle.gf_versions.proofs.KeyLemmas.{key_cmp_total, key_cmp_exact}
+use Rattle.gf_versions.specs.KeyOrder.{key_cmp_total}
+use Rattle.gf_versions.proofs.KeyLemmas.{key_cmp_exact}
 use Rattle.gf_ops.proofs.ListLemmas.{Contains-map, Contains-map_from, not_Contains-nil}
 use Rattle.gf_groups.proofs.ListLemmas.{Contains-filter}
 

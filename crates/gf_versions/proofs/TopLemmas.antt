@@ -15,13 +15,14 @@ use Rattle.gf_shape.specs.declared.any_shape.AnyShape.{AnyShape}
 use Rattle.gf_versions.specs.declared.placed.Placed.{Placed}
 use Rattle.gf_shape.specs.ShapeMeaning.{any_holds}
 use Rattle.gf_versions.specs.Above.{IsAbove, AreOrdered, same, first_above, second_above, key_cmp}
-use Rattle.gf_versions.specs.Settling.{shown_of}
+use Rattle.gf_versions.specs.ListedVersions.{shown_of}
 use Rattle.gf_versions.specs.HistoryColour.{HistoryColour, HasOneColour, IsSeenAt, IsTopAt, top, blank, white}
 use Rattle.gf_versions.specs.Ranking.{AreRanked, first_colour, placed_version}
 use Rattle.gf_versions.specs.VersionOf.{IsVersionOf}
 use Rattle.gf_versions.specs.Visible.{IsVisible, version_holds}
 use Rattle.gf_versions.proofs.VersionLemmas.{one_of_group, versions_listed, visible_exactly}
-use Rattle.gf_versions.proofs.KeyLemmas.{above_one_way, above_transitive, neither_above, key_cmp_total, key_cmp_exact}
+use Rattle.gf_versions.specs.KeyOrder.{key_cmp_total}
+use Rattle.gf_versions.proofs.KeyLemmas.{above_one_way, above_transitive, neither_above, key_cmp_exact}
 use Rattle.gf_ops.proofs.ListLemmas.{Contains-cons_cases, Contains-cons_head, Contains-cons_tail, not_Contains-nil}
 use Rattle.gf_versions.proofs.ShapeLemmas.{shape_holds}
 

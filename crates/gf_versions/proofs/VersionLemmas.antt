@@ -24,7 +24,8 @@ use Rattle.gf_groups.specs.Versions.{IsVersionGroup}
 use Rattle.gf_groups.proofs.ListLemmas.{Contains-filter}
 use Rattle.gf_groups.proofs.VersionListLemmas.{all_listed}
 use Rattle.gf_versions.specs.declared.key.Version.{Version}
-use Rattle.gf_versions.specs.Settling.{IsFormOf, HasAttribute, AreSettled, group_of, shown_of}
+use Rattle.gf_versions.specs.ListedVersions.{AreSettled, group_of, shown_of}
+use Rattle.gf_versions.specs.Settling.{IsFormOf, HasAttribute}
 use Rattle.gf_versions.specs.VersionOf.{IsVersionOf}
 use Rattle.gf_versions.specs.Visible.{IsVisible}
 use Rattle.gf_versions.proofs.MakerLemmas.{has_attribute, member_object, one_kind, round_size, version_kind}
@@ -42,7 +43,7 @@ colour_given (Create s) v e = (s.colour, (cc))
 colour_given (Set o (Colour d)) v e = (d, (cc))
 colour_given (Set o w) v e = absurd cc
 
-layer_given : (c : Change) (v : Value) → change_value c attr.Layer ≡ Some v → (n : _) × (v ≡ Layer n)
+layer_given : (c : Change) (v : Value) → change_value c attr.Layer ≡ Some v → (n : ℕ) × (v ≡ Layer n)
 layer_given (Create s) v e = (s.layer, (cc))
 layer_given (Set o (Layer n)) v e = (n, (cc))
 layer_given (Set o w) v e = absurd cc

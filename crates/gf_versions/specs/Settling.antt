@@ -1,5 +1,5 @@
 -- How the values of a version are found. No public clause cites this module.
-use Rattle.std.specs.Prelude.{◌≡◌, Bool, true, false, not, List, Contains, map, filter, IsSome, IsTrue}
+use Rattle.std.specs.Prelude.{Bool, true, false, not, List, IsSome, IsTrue}
 use Rattle.gf_ops.specs.declared.op.Op.{Op}
 use Rattle.gf_ops.specs.declared.op.OpId.{OpId}
 use Rattle.gf_ops.specs.declared.op.ObjectId.{ObjectId}
@@ -11,11 +11,6 @@ use Rattle.gf_ops.specs.OperationOrder.{Precedes}
 use Rattle.gf_ops.specs.SettledValue.{IsSettled}
 use Rattle.gf_ops.specs.Version.{IsMember, IsOfKind}
 use Rattle.gf_groups.specs.declared.group.Group.{Group}
-use Rattle.gf_versions.specs.declared.key.Version.{Version}
-use Rattle.gf_shape.specs.declared.any_shape.AnyShape.{AnyShape}
-use Rattle.gf_versions.specs.declared.placed.Placed.{Placed}
-use Rattle.gf_versions.specs.Ranking.{placed_version}
-use Rattle.gf_versions.specs.VersionOf.{IsVersionOf}
 
 -- k is the kind of polygons
 abbrev pub are_polygons : Kind → Bool
@@ -46,22 +41,3 @@ IsLastSetter h g t a = IsLastOf h g g t a
 pub record IsFormOf (h : List Op) (g : Group) (f : Form) : Type 0 where
   pub kind : IsOfKind h g.object (kind_of f)
   pub settled : IsSettled h g.ops (form_attribute f) (form_value f)
-
--- the group of operations of the version v
-abbrev pub group_of : Version → Group
-group_of v = record { object = v.key.object; ops = v.key.ops }
-
--- the versions vs are those of h with these groups, in their order
-pub record AreSettled (h : List Op) (groups : List Group) (vs : List Version) : Type 0 where
-  pub grouped : map group_of vs ≡ groups
-  pub versions : (v : Version) → Contains vs v → IsVersionOf h v
-
--- those of the versions that are shown
-abbrev pub shown_of : List Version → List Version
-shown_of vs = filter (λ v. v.shown) vs
-
--- the items are the versions of h with these groups that are shown, at their places
-pub record AreShown (h : List Op) (groups : List Group) (items : List (Placed AnyShape)) : Type 0 where
-  pub versions : List Version
-  pub settled : AreSettled h groups versions
-  pub placed : items ≡ map placed_version (shown_of versions)

@@ -1,14 +1,19 @@
 //! Versions, and what their order goes by.
 
-ghost use Rattle.std.specs.Prelude.{◌≡◌};
+ghost use Rattle.std.specs.Prelude.{refl};
+ghost use Rattle.std.specs.Cmp.{partial_equiv_from_equiv, partial_order_from_total};
+ghost use Rattle.std.specs.Ordering.{as_partial_cmp, eq_by_cmp};
+ghost use Rattle.std.proofs.lemmas.Cmp.{eq_by_cmp_equiv};
 ghost use Rattle.gf_versions.specs.Above.{key_cmp};
+ghost use Rattle.gf_versions.specs.KeyOrder.{key_cmp_total};
 
 use gf_groups::Ids;
 use gf_ops::{Form, ObjectId};
 use gf_shape::{Point, Rgb};
 use std::cmp::Ordering;
 
-/// What the order of versions goes by: the layer, then the object, then the group's ids.
+/// What the order of versions goes by: the layer, then the object, then the group's ids. The greater of
+/// two keys is above the other.
 #[derive(Debug, Drop)]
 pub struct VersionKey {
     pub layer: u16,
@@ -26,11 +31,42 @@ pub struct Version {
     pub shown: bool,
 }
 
-/// Which of two keys is above: `Greater` where the first is.
-pub(crate) fn compare(a: &VersionKey, b: &VersionKey) -> Ordering
-    ensures { result ≡ key_cmp a.now b.now }
-{
-    let objects = a.object.cmp(&b.object);
-    let ops = a.ops.as_slice().cmp(b.ops.as_slice());
-    a.layer.cmp(&b.layer).then(objects.then(ops))
+impl PartialEq for VersionKey {
+    ghost eq = { eq_by_cmp key_cmp };
+
+    ghost laws = { partial_equiv_from_equiv (eq_by_cmp_equiv key_cmp_total) };
+
+    fn eq(&self, other: &VersionKey) -> bool {
+        self.cmp(other) == Ordering::Equal
+    }
+}
+
+impl Eq for VersionKey {
+    ghost laws = { eq_by_cmp_equiv key_cmp_total };
+}
+
+impl PartialOrd for VersionKey {
+    ghost partial_cmp = { as_partial_cmp key_cmp };
+
+    ghost laws = { partial_order_from_total key_cmp_total };
+
+    fn partial_cmp(&self, other: &VersionKey) -> Option<Ordering> {
+        Some(self.cmp(other))
+    }
+}
+
+impl Ord for VersionKey {
+    ghost cmp = { key_cmp };
+
+    ghost total = { key_cmp_total };
+
+    ghost matches_partial_cmp = { λ k l. refl };
+
+    ghost matches_eq = { λ k l. refl };
+
+    fn cmp(&self, other: &VersionKey) -> Ordering {
+        let objects = self.object.cmp(&other.object);
+        let ops = self.ops.as_slice().cmp(other.ops.as_slice());
+        self.layer.cmp(&other.layer).then(objects.then(ops))
+    }
 }

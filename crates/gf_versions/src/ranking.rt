@@ -8,9 +8,8 @@ ghost use Rattle.gf_groups.specs.declared.group.Group.{Group};
 ghost use Rattle.gf_groups.specs.Versions.{IsVersionGroup};
 ghost use Rattle.gf_versions.specs.Falling.{falls_by};
 ghost use Rattle.gf_versions.specs.Ranking.{AreRanked, placed_version};
-ghost use Rattle.gf_versions.specs.Settling.{AreShown};
+ghost use Rattle.gf_versions.specs.ListedVersions.{AreShown};
 
-use crate::key::compare;
 use crate::shaping::shape_at;
 use crate::{Placed, Ranked, Version, settle};
 use gf_groups::{Group, all_groups};
@@ -33,7 +32,7 @@ fn sort(items: &mut Vec<Placed<AnyShape>>) -> Result<(), OutOfMemory>
     ensures moved { IsPermutation items.old.items items.new.items }
     ensures sorted { OnOk result (IsSortedBy falls_by items.new.items) }
 {
-    items.sort_by(|a, b| compare(&b.key, &a.key))?;
+    items.sort_by(|a, b| b.key.cmp(&a.key))?;
     Ok(())
 }
 

@@ -2,7 +2,8 @@
 
 use crate::ranked;
 use gf_ops::{Change, Clock, Form, History, ObjectId, Op, OpId, Points, Start, Value};
-use gf_shape::{Bounds, Point, Rgb, Shape};
+use gf_shape::{Bounds, OutOfMemory, Point, Rgb, Shape};
+use std::alloc::Global;
 use std::test::Fail;
 
 const RED: Rgb = Rgb { r: 255, g: 0, b: 0 };
@@ -93,79 +94,83 @@ fn higher_layers_and_later_objects_are_above(rt: HostRuntime) -> Result<(), Fail
     Ok(())
 }
 
+/// 1.2 makes the box blue.
+fn blue() -> Op {
+    changed(SECOND, [1, 0], Value::Colour(BLUE))
+}
+
+/// 2.1 makes it green.
+fn green() -> Op {
+    changed(OTHER, [1, 0], Value::Colour(GREEN))
+}
+
+/// Two colours at once, which make two versions.
+fn coloured(alloc: Global) -> Result<Vec<Op>, OutOfMemory> {
+    Ok(Vec::from_array(alloc, [blue(), green()])?)
+}
+
+/// And then two moves that know both, which are in both versions.
+fn moved(alloc: Global) -> Result<Vec<Op>, OutOfMemory> {
+    let first = changed(THIRD, [2, 1], Value::Place(at(100, 0)));
+    let second = changed(FOURTH, [3, 1], Value::Place(at(200, 0)));
+    Ok(Vec::from_array(alloc, [blue(), green(), first, second])?)
+}
+
 #[test]
 fn versions_have_their_settled_values(rt: HostRuntime) -> Result<(), Fail> {
     let alloc = rt.alloc();
-    let blue = || changed(SECOND, [1, 0], Value::Colour(BLUE));
-    let green = || changed(OTHER, [1, 0], Value::Colour(GREEN));
-    // The changes of a red box on layer 0 at (1, 0), and its visible versions from above.
+    // Changes of two attributes make one version.
+    let raised = Vec::from_array(alloc, [blue(), changed(OTHER, [1, 0], Value::Layer(3))])?;
+    // The later counts, not the one with the greater id.
+    let later = changed(SECOND, [1, 1], Value::Colour(BLUE));
+    let later = Vec::from_array(alloc, [green(), later])?;
+    // A hidden version is not ranked.
+    let hidden = changed(SECOND, [1, 0], Value::Shown(false));
+    let hidden = Vec::from_array(alloc, [hidden, changed(OTHER, [1, 0], Value::Shown(true))])?;
+    // The changes of a red box on layer 0 at (1, 0), how many versions are ranked, which of them from above,
+    // and its operations, its layer, its colour and its left side.
     let rows = [
-        // Two colours at once make two versions.
         (
-            Vec::from_array(alloc, [blue(), green()])?,
-            [
-                ([MADE, OTHER].as_slice(), 0, GREEN, at(1, 0)),
-                ([MADE, SECOND].as_slice(), 0, BLUE, at(1, 0)),
-            ]
-            .as_slice(),
-        ),
-        // Changes of two attributes make one.
-        (
-            Vec::from_array(alloc, [blue(), changed(OTHER, [1, 0], Value::Layer(3))])?,
-            [([MADE, SECOND, OTHER].as_slice(), 3, BLUE, at(1, 0))].as_slice(),
-        ),
-        // A change after both is in both, and the last change of a site counts.
-        (
-            Vec::from_array(
-                alloc,
-                [
-                    blue(),
-                    green(),
-                    changed(THIRD, [2, 1], Value::Place(at(100, 0))),
-                    changed(FOURTH, [3, 1], Value::Place(at(200, 0))),
-                ],
-            )?,
-            [
-                (
-                    [MADE, THIRD, FOURTH, OTHER].as_slice(),
-                    0,
-                    GREEN,
-                    at(200, 0),
-                ),
-                (
-                    [MADE, SECOND, THIRD, FOURTH].as_slice(),
-                    0,
-                    BLUE,
-                    at(200, 0),
-                ),
-            ]
-            .as_slice(),
-        ),
-        // The later of two counts, not the one with the greater id.
-        (
-            Vec::from_array(
-                alloc,
-                [green(), changed(SECOND, [1, 1], Value::Colour(BLUE))],
-            )?,
-            [([MADE, SECOND, OTHER].as_slice(), 0, BLUE, at(1, 0))].as_slice(),
-        ),
-        // A hidden version is not ranked, the other one is.
-        (
-            Vec::from_array(
-                alloc,
-                [
-                    changed(SECOND, [1, 0], Value::Shown(false)),
-                    changed(OTHER, [1, 0], Value::Shown(true)),
-                ],
-            )?,
-            [([MADE, OTHER].as_slice(), 0, RED, at(1, 0))].as_slice(),
+            coloured(alloc)?,
+            2,
+            0,
+            [MADE, OTHER].as_slice(),
+            0,
+            GREEN,
+            1,
         ),
         (
-            Vec::from_array(alloc, [changed(SECOND, [1, 0], Value::Shown(false))])?,
-            [].as_slice(),
+            coloured(alloc)?,
+            2,
+            1,
+            [MADE, SECOND].as_slice(),
+            0,
+            BLUE,
+            1,
         ),
+        (raised, 1, 0, [MADE, SECOND, OTHER].as_slice(), 3, BLUE, 1),
+        (
+            moved(alloc)?,
+            2,
+            0,
+            [MADE, THIRD, FOURTH, OTHER].as_slice(),
+            0,
+            GREEN,
+            200,
+        ),
+        (
+            moved(alloc)?,
+            2,
+            1,
+            [MADE, SECOND, THIRD, FOURTH].as_slice(),
+            0,
+            BLUE,
+            200,
+        ),
+        (later, 1, 0, [MADE, SECOND, OTHER].as_slice(), 0, BLUE, 1),
+        (hidden, 1, 0, [MADE, OTHER].as_slice(), 0, RED, 1),
     ];
-    for (changes, want) in rows {
+    for (changes, count, rank, ops, layer, colour, left) in rows {
         let mut history = History::new(alloc);
         let made = created(1, Form::Rect(10, 20), 0, RED, true);
         assert!(rt; made.in_range());
@@ -175,13 +180,14 @@ fn versions_have_their_settled_values(rt: HostRuntime) -> Result<(), Fail> {
             history.add(op)?;
         }
         let ranked = ranked(alloc, &history)?;
-        assert_eq!(rt; ranked.len(), want.len());
-        for (item, (ops, layer, colour, low)) in ranked.items.iter().zip(want) {
-            assert_eq!(rt; item.key.ops.as_slice(), *ops);
-            assert_eq!(rt; item.key.layer, *layer, "of {ops:?}");
-            assert_eq!(rt; item.colour, *colour, "of {ops:?}");
-            assert_eq!(rt; item.shape.bounds().low, *low, "of {ops:?}");
-        }
+        assert_eq!(rt; ranked.len(), count);
+        assert!(rt; rank < ranked.len());
+        let item = &ranked.items[rank];
+        assert!(rt; rank == 0 || ranked.items[0].key > item.key);
+        assert_eq!(rt; item.key.ops.as_slice(), ops);
+        assert_eq!(rt; item.key.layer, layer, "of {ops:?}");
+        assert_eq!(rt; item.colour, colour, "of {ops:?}");
+        assert_eq!(rt; item.shape.bounds().low, at(left, 0), "of {ops:?}");
     }
     Ok(())
 }

@@ -1,5 +1,5 @@
 use Rattle.std.proofs.Common.{take}
-use Rattle.gf_versions.specs.Settling.{AreShown}
+use Rattle.gf_versions.specs.ListedVersions.{AreShown}
 use Rattle.gf_versions.proofs.ranking.shown.Given as goal
 
 abbrev pub invariant-loop-group : goal.invariant-loop-group
