@@ -10,3 +10,5 @@ pub mod PlaceLemmas
 pub mod TableLemmas
 pub mod SortedLemmas
 pub mod IdPlaceLemmas
+pub mod OnPlaceLemmas
+pub mod VersionLemmas
