@@ -12,3 +12,4 @@ pub mod SortedLemmas
 pub mod IdPlaceLemmas
 pub mod OnPlaceLemmas
 pub mod VersionLemmas
+pub mod GroupLemmas

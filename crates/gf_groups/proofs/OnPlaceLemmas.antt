@@ -1,5 +1,5 @@
 -- Operations at places of a history: whether they are on an object, and whether they conflict.
-use Rattle.std.proofs.Common.{◌≡◌, ℕ, ◌<◌, true, List, length, refl, sym, ap, ◌∙◌, arith}
+use Rattle.std.proofs.Common.{◌≡◌, ℕ, true, List, length, refl, sym, ap}
 use Rattle.std.specs.Prelude.{◌↔◌, Contains, Option, Some, None, slice_get}
 use Rattle.std.proofs.lemmas.Option.{slice_get_read, slice_get_within, get_or_from_slice_get}
 use Rattle.gf_ops.specs.declared.op.Op.{Op}
@@ -10,7 +10,7 @@ use Rattle.gf_ops.specs.declared.change.Change.TheVariants.{Create, Set}
 use Rattle.gf_ops.specs.Attribute.{Kind, made_kind, object_of, changed_object}
 use Rattle.gf_ops.specs.Conflict.{Conflict}
 use Rattle.gf_groups.specs.GroupedPlaces.{is_on, places_below}
-use Rattle.gf_groups.specs.Growing.{both_conflict, conflict_at}
+use Rattle.gf_groups.specs.Growing.{both_conflict}
 use Rattle.gf_groups.proofs.ConflictTestLemmas.{id_decided, conflict_decided}
 use Rattle.gf_groups.proofs.PlaceLemmas.{Contains-places_below}
 

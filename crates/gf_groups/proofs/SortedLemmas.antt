@@ -1,5 +1,5 @@
 -- Rising lists made by insertion, and sorted lists of different elements.
-use Rattle.std.proofs.Common.{◌≡◌, ◌≢◌, ◌<◌, ◌+◌, ℕ, Bool, true, false, List, [], ◌∷◌, get_or, refl, sym, subst, ap, ◌∙◌, inl, inr, arith}
+use Rattle.std.proofs.Common.{◌≡◌, ◌≢◌, ◌+◌, Bool, true, false, List, [], ◌∷◌, get_or, refl, sym, subst, ap, ◌∙◌, inl, inr, arith}
 use Rattle.std.specs.Prelude.{AllPairs, Contains, ◌↔◌, ◌⊎◌}
 use Rattle.std.specs.Cmp.{IsTotalOrder}
 use Rattle.std.specs.FinMap.{IsAntisymmetric}
@@ -17,7 +17,7 @@ use Rattle.std.proofs.lemmas.Map.Views.{All-insert_key}
 use Rattle.gf_ops.proofs.ListLemmas.{Contains-cons_cases, Contains-cons_head, Contains-cons_tail, not_Contains-nil}
 use Rattle.gf_groups.proofs.RisingLemmas.{one_rising, rising_cons, rising_nil}
 
-equal_left : (o : Ordering) → is_eq o ≡ true → o ≡ Equal
+pub equal_left : (o : Ordering) → is_eq o ≡ true → o ≡ Equal
 equal_left Less e = absurd cc
 equal_left Equal e = refl
 equal_left Greater e = absurd cc
