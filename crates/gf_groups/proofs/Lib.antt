@@ -13,3 +13,5 @@ pub mod IdPlaceLemmas
 pub mod OnPlaceLemmas
 pub mod VersionLemmas
 pub mod GroupLemmas
+pub mod PartingLemmas
+pub mod AllGroupLemmas

@@ -14,6 +14,7 @@ mod groups;
 mod growth;
 mod ids;
 mod listing;
+mod parting;
 mod places;
 
 pub use faults::GroupFault;
