@@ -1,6 +1,6 @@
 -- The groups of all objects with their places are all versions, each once.
-use Rattle.std.proofs.Common.{◌≡◌, ◌≢◌, ℕ, zero, suc, ◌<◌, List, [], ◌∷◌, ◌++◌, length, get_or, map, refl, sym, ap, subst, ◌∙◌, inl, inr, arith}
-use Rattle.std.specs.Prelude.{All, AllPairs, Contains, Some, IsSome, slice_get}
+use Rattle.std.proofs.Common.{◌≡◌, ◌≢◌, ℕ, zero, suc, true, List, [], ◌∷◌, ◌++◌, length, get_or, refl, sym, ap, subst, ◌∙◌, inl, inr, arith}
+use Rattle.std.specs.Prelude.{◌↔◌, All, AllPairs, Contains, slice_get}
 use Rattle.std.specs.BTreeMap.{BTreeMap, IsOrdered}
 use Rattle.std.specs.List.{flat_map}
 use Rattle.std.specs.List.Sorted.{IsStrictlySortedBy}
@@ -10,7 +10,6 @@ use Rattle.std.proofs.lemmas.List.Elements.{All-append, All-contains, All-tail, 
 use Rattle.std.proofs.lemmas.List.Kept.{AllPairs-cons}
 use Rattle.std.proofs.lemmas.Map.Keys.{sorted_tail}
 use Rattle.gf_ops.specs.declared.op.Op.{Op}
-use Rattle.gf_ops.specs.declared.op.OpId.{OpId}
 use Rattle.gf_ops.specs.declared.op.ObjectId.{ObjectId}
 use Rattle.gf_ops.specs.declared.change.Change.{Change}
 use Rattle.gf_ops.specs.declared.change.Change.TheVariants.{Create, Set}
@@ -24,7 +23,7 @@ use Rattle.gf_groups.specs.GroupedPlaces.{is_on, places_below, groups_on}
 use Rattle.gf_groups.specs.Parting.{object_cmp, ArePartsBelow, IsPart, groups_of_parts}
 use Rattle.gf_groups.proofs.GroupLemmas.{groups_once, group_on, groups_exactly}
 use Rattle.gf_groups.proofs.OnPlaceLemmas.{on_op, on_to, all_places, contained_at, place_of_op}
-use Rattle.gf_groups.proofs.PartingLemmas.{object_cmp_total, entries_parts, entry_of}
+use Rattle.gf_groups.proofs.PartingLemmas.{object_cmp_total, entries_parts, entry_place, entry_of}
 use Rattle.gf_groups.proofs.PlaceLemmas.{places_below-rising}
 use Rattle.gf_groups.proofs.RisingLemmas.{below_tail}
 
@@ -86,21 +85,33 @@ module _ (h : List Op) (valid : IsValid h) where
   parts_once (e ∷ es) form all =
       let rest = All-tail (IsPart h) e es all in
       AllPairs-append (λ g k. g ≢ k) (parted e) (groups_of_parts h es) (part_once e (all zero e (omega arith))) (parts_once es (sorted_tail object_cmp e.0 (keys_of es) form) rest) (λ g k c d same.
-          let w = Contains-flat_map_from parted es k d in
-          let x = part_object e g (all zero e (omega arith)) c in
-          let y = part_object w.0 k (All-contains (IsPart h) es w.0 rest w.1) w.2 in
-          let less = below_tail object_cmp object_cmp_total e.0 (keys_of es) form w.0.0 (Contains-map (λ (p : ObjectId × List ℕ). p.0) es w.0 w.1) in
-          let one : e.0 ≡ w.0.0 = sym x ∙ (ap (λ (z : Group). z.object) same ∙ y) in
-          let tie = ap (object_cmp e.0) one in
-          let itself = tied_itself object_cmp_total e.0 in absurd cc)
+      let w = Contains-flat_map_from parted es k d in
+      let x = part_object e g (all zero e (omega arith)) c in
+      let y = part_object w.0 k (All-contains (IsPart h) es w.0 rest w.1) w.2 in
+      let less = below_tail object_cmp object_cmp_total e.0 (keys_of es) form w.0.0 (Contains-map (λ (p : ObjectId × List ℕ). p.0) es w.0 w.1) in
+      let one : e.0 ≡ w.0.0 = sym x ∙ (ap (λ (z : Group). z.object) same ∙ y) in
+      let tie = ap (object_cmp e.0) one in
+      let itself = tied_itself object_cmp_total e.0 in absurd cc)
+
+  exactly : (o : ObjectId) (i : ℕ) → Contains (places o) i → (g : Group) → Contains (groups o) g ↔ ((g.object ≡ o) × IsVersionGroup h g)
+  exactly o i c g = groups_exactly h valid o (places o) (all_places h o) (places_below-rising h o (length h)) (made_at o i c) g
 
   pub all_versions : (m : BTreeMap ObjectId (List ℕ)) → IsOrdered object_cmp m → ArePartsBelow h (length h) m → AreAllVersions h (groups_of_parts h m.entries)
   all_versions m ordered parts =
       let all = entries_parts h m parts ordered in
       record {
         exactly = λ g. (
-          λ c. ?,
-          λ v. ?,
+          λ c.
+              let w = Contains-flat_map_from parted m.entries g c in
+              let i = entry_place h m parts ordered w.0 w.1 in
+              let part = All-contains (IsPart h) m.entries w.0 all w.1 in
+              ((exactly w.0.0 i.0 i.1 g).0 (subst (λ us. Contains (groups_on h w.0.0 us) g) part w.2)).1,
+          λ v.
+              let made = v.created in
+              let i = place_of_op h made.op made.contained in
+              let on : is_on g.object (slice_get h i.0) ≡ true = rw i.1 (on_to g.object made.op made.object) in
+              let at = (all_places h g.object i.0).1 on in
+              Contains-flat_map parted m.entries (g.object, places g.object) g (entry_of h m parts g.object i.0 at) ((exactly g.object i.0 at g).1 (refl, v)),
         );
         once = parts_once m.entries ordered all;
       }

@@ -5,9 +5,8 @@ use Rattle.std.specs.BTreeMap.{BTreeMap, IsOrdered, is_at}
 use Rattle.std.specs.Cmp.{IsTotalOrder}
 use Rattle.std.specs.Ordering.{is_eq}
 use Rattle.std.proofs.lemmas.Bool.{cases_Bool, cond-true, cond-false}
-use Rattle.std.proofs.lemmas.Bool.Decides.{not_from_Decides}
 use Rattle.std.proofs.lemmas.Cmp.{on_total, tied_itself}
-use Rattle.std.proofs.lemmas.List.Elements.{All-contains, All-weaker, All-contains_itself}
+use Rattle.std.proofs.lemmas.List.Elements.{All-contains, All-weaker}
 use Rattle.std.proofs.lemmas.Map.Lookups.{CmpEqualImpliesEq}
 use Rattle.std.proofs.lemmas.Map.Views.{All-found, Contains-from_lookup, tells_apart}
 use Rattle.gf_ops.specs.declared.op.Op.{Op}
@@ -21,7 +20,7 @@ use Rattle.gf_groups.proofs.ConflictTestLemmas.{id_decided}
 use Rattle.gf_groups.proofs.IdLemmas.{id_cmp_total, id_cmp_exact}
 use Rattle.gf_groups.proofs.PlaceLemmas.{places_with, places_without}
 use Rattle.gf_groups.proofs.SortedLemmas.{equal_left}
-use Rattle.gf_ops.proofs.ListLemmas.{not_Contains-nil}
+use Rattle.gf_ops.proofs.ListLemmas.{not_Contains-nil, Contains-cons_head}
 
 pub object_cmp_total : IsTotalOrder object_cmp
 object_cmp_total = on_total (λ (o : ObjectId). o.0) id_cmp_total
@@ -48,6 +47,10 @@ nonempty-told (x ∷ xs) ys e = cc
 nonempty-some : (xs : List ℕ) (i : ℕ) → Contains xs i → nonempty xs ≡ Some xs
 nonempty-some [] i c = absurd (not_Contains-nil i c)
 nonempty-some (x ∷ xs) i c = refl
+
+nonempty_first : (xs ys : List ℕ) → nonempty xs ≡ Some ys → (i : ℕ) × Contains xs i
+nonempty_first [] ys e = absurd cc
+nonempty_first (x ∷ xs) ys e = (x, Contains-cons_head x xs)
 
 -- with the next operation's place the map has all places below the one after it
 pub parts_more : (h : List Op) (n : ℕ) (a : Op) (m new : BTreeMap ObjectId (List ℕ)) → n < length h → a ≡ get_or h n a → ArePartsBelow h n m → AddsPlace m (object_of a) n new → ArePartsBelow h (n + 1) new
@@ -76,6 +79,10 @@ module _ (h : List Op) (m : BTreeMap ObjectId (List ℕ)) (parts : ArePartsBelow
   -- each entry has the places of its object
   pub entries_parts : IsOrdered object_cmp m → All (IsPart h) m.entries
   entries_parts ordered = All-weaker (λ e. part_at m e.0 ≡ Some e.1) (IsPart h) (λ e found. nonempty-told (places_below h e.0 (length h)) e.1 (sym (parts e.0) ∙ found)) m.entries (All-found object_cmp_total m ordered)
+
+  -- of which there is one
+  pub entry_place : IsOrdered object_cmp m → (e : ObjectId × List ℕ) → Contains m.entries e → (i : ℕ) × Contains (places_below h e.0 (length h)) i
+  entry_place ordered e c = nonempty_first (places_below h e.0 (length h)) e.1 (sym (parts e.0) ∙ All-contains (λ (d : ObjectId × List ℕ). part_at m d.0 ≡ Some d.1) m.entries e (All-found object_cmp_total m ordered) c)
 
   -- and each object with a place has an entry
   pub entry_of : (o : ObjectId) (i : ℕ) → Contains (places_below h o (length h)) i → Contains m.entries (o, places_below h o (length h))

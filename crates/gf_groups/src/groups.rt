@@ -6,6 +6,7 @@ ghost use Rattle.gf_groups.specs.declared.faults.GroupFault.{GroupFault};
 ghost use Rattle.gf_groups.specs.Versions.{IsMade, AreVersions, AreAllVersions, group_cmp};
 
 use crate::listing::{add_groups, places_on};
+use crate::parting::parted;
 use crate::{Group, GroupFault, Groups};
 use gf_ops::{Change, History, ObjectId};
 use gf_shape::OutOfMemory;
@@ -31,7 +32,12 @@ pub fn groups_of(alloc: Global, history: &History, object: ObjectId) -> Result<G
 pub fn all_groups(alloc: Global, history: &History) -> Result<Groups, OutOfMemory>
     ensures { IfOk result (λ groups. AreAllVersions history.now.ops groups) }
 {
-    Err(OutOfMemory)
+    let parts = parted(alloc, history.ops())?;
+    let mut groups = Vec::new(alloc);
+    for (object, places) in &parts {
+        add_groups(alloc, history, *object, places.as_slice(), &mut groups)?;
+    }
+    Ok(Groups::new(groups))
 }
 
 /// Whether the history has an operation that made the object.

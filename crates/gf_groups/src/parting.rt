@@ -21,7 +21,12 @@ pub(crate) fn parted(alloc: Global, ops: &[Op]) -> Result<BTreeMap<ObjectId, Pla
 }
 
 /// Adds a place behind those of an object.
-fn add_place(alloc: Global, parts: &mut BTreeMap<ObjectId, Places>, object: ObjectId, place: usize) -> Result<(), OutOfMemory>
+fn add_place(
+    alloc: Global,
+    parts: &mut BTreeMap<ObjectId, Places>,
+    object: ObjectId,
+    place: usize,
+) -> Result<(), OutOfMemory>
     ensures { OnOk result (AddsPlace parts.old object place parts.new) }
 {
     if let Some(places) = parts.get_mut(&object) {
