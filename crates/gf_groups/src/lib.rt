@@ -16,6 +16,8 @@ mod ids;
 mod listing;
 mod parting;
 mod places;
+#[cfg(test)]
+mod tests;
 
 pub use faults::GroupFault;
 pub use group::{Group, Groups};
