@@ -3,3 +3,4 @@ pub mod VersionList
 pub mod Growing
 pub mod GroupedPlaces
 pub mod Parting
+pub mod Taken

@@ -16,6 +16,7 @@ mod ids;
 mod listing;
 mod parting;
 mod places;
+mod taken;
 #[cfg(test)]
 mod tests;
 
