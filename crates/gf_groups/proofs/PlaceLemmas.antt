@@ -1,5 +1,5 @@
 -- What stands at a place of a list, and the places of the operations on an object.
-use Rattle.std.proofs.Common.{◌≡◌, ℕ, zero, suc, ◌+◌, ◌<◌, ◌≤◌, Bool, true, false, List, [], ◌∷◌, ◌++◌, length, get_or, add-one, inl, inr, sym, subst, refl, arith, Bor}
+use Rattle.std.proofs.Common.{◌≡◌, ℕ, zero, suc, ◌+◌, ◌<◌, ◌≤◌, true, false, List, [], ◌∷◌, ◌++◌, length, get_or, add-one, inl, inr, sym, subst, refl, arith, Bor}
 use Rattle.std.specs.Prelude.{Option, Some, None, MatchOption, IfSome, Contains, ◌↔◌, option_copied, slice_get}
 use Rattle.std.specs.Cmp.{nat_cmp_is}
 use Rattle.std.specs.List.{HoldsAt}

@@ -1,11 +1,12 @@
 -- The groups of rising places are all largest groups of them, each once.
-use Rattle.std.proofs.Common.{◌≡◌, ℕ, ◌<◌, Bool, false, List, [], ◌∷◌, ◌++◌, append_assoc, inl, inr, refl, subst, sym}
-use Rattle.std.specs.Prelude.{Contains, Option, Some, None, slice_get}
+use Rattle.std.proofs.Common.{◌≡◌, ℕ, ◌<◌, Bool, false, List, [], ◌∷◌, ◌++◌, append_assoc, refl, subst}
+use Rattle.std.specs.Prelude.{All, Contains, Option, Some, None, slice_get}
 use Rattle.std.specs.Ordering.{nat_cmp, MatchOrdering}
 use Rattle.std.specs.declared.cmp.Ordering.{Ordering}
 use Rattle.std.specs.declared.cmp.Ordering.TheVariants.{Less}
 use Rattle.std.proofs.lemmas.Cmp.{nat_cmp_total, ranked}
 use Rattle.std.proofs.lemmas.List.{append-nil}
+use Rattle.std.proofs.lemmas.List.Elements.{All-weaker, All-contains_itself}
 use Rattle.gf_ops.specs.declared.op.Op.{Op}
 use Rattle.gf_groups.specs.Growing.{both_conflict, conflict_at, next, grown, groups_at}
 use Rattle.gf_groups.proofs.ConflictTestLemmas.{in_conflict-sym, in_conflict-alone}
@@ -44,3 +45,8 @@ module _ (c : ℕ → ℕ → Bool) (s : IsConflict c) where
 
   pub table_groups : (xs : List ℕ) → IsRising xs → IsTable c xs (groups_at c xs)
   table_groups xs form = table_grown [] xs ([] ∷ []) (table_first c) form
+
+pub groups_rise : (h : List Op) (xs : List ℕ) → IsRising xs → All IsRising (groups_at (conflict_at h) xs)
+groups_rise h xs form =
+    let table = table_groups (conflict_at h) (conflict_at_test h) xs form in
+    All-weaker (Contains (groups_at (conflict_at h) xs)) IsRising (λ g i. ((table.each g).0 i).0) (groups_at (conflict_at h) xs) (All-contains_itself (groups_at (conflict_at h) xs))

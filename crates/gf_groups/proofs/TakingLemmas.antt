@@ -1,5 +1,5 @@
 -- A list that takes up what passes a test and is new, and different elements under a map.
-use Rattle.std.proofs.Common.{◌≡◌, ◌≢◌, ◌<◌, Bool, true, false, cond, List, [], ◌∷◌, ◌++◌, map, length, get_or, inl, inr, refl, subst, sym, arith, ◌∙◌}
+use Rattle.std.proofs.Common.{◌≡◌, ◌≢◌, ◌<◌, Bool, true, false, List, [], ◌∷◌, ◌++◌, map, length, get_or, inl, inr, refl, subst, sym, arith, ◌∙◌}
 use Rattle.std.specs.Prelude.{◌⊎◌, AllPairs, Contains, not, ◌&&◌}
 use Rattle.std.specs.List.{list_any, fold}
 use Rattle.std.specs.Bool.{Decides}

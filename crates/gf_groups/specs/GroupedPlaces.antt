@@ -1,5 +1,5 @@
 -- The places of the operations on an object, and what groups of places stand for. No public clause cites this module.
-use Rattle.std.specs.Prelude.{ℕ, zero, suc, Bool, true, false, cond, List, [], ◌∷◌, ◌++◌, map, filter_map, option_map, Option, Some, None, slice_get}
+use Rattle.std.specs.Prelude.{ℕ, zero, suc, Bool, false, cond, List, [], ◌∷◌, ◌++◌, map, filter_map, option_map, Option, Some, None, slice_get}
 use Rattle.std.specs.List.{fold}
 use Rattle.std.specs.BTreeSet.{insert_key}
 use Rattle.gf_ops.specs.declared.op.Op.{Op}

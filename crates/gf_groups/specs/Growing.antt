@@ -1,5 +1,5 @@
 -- The groups of an object's operations, as lists of places in the history, when one operation comes. No public clause cites this module.
-use Rattle.std.specs.Prelude.{ℕ, Bool, true, false, cond, not, ◌&&◌, ◌||◌, ◌==◌, List, [], ◌∷◌, ◌++◌, filter, map, Option, Some, None, slice_get}
+use Rattle.std.specs.Prelude.{ℕ, Bool, false, cond, not, ◌&&◌, ◌||◌, ◌==◌, List, [], ◌∷◌, ◌++◌, filter, map, Option, Some, slice_get}
 use Rattle.std.specs.List.{list_any, list_all, fold}
 use Rattle.std.specs.Cmp.Lexicographic.{pointwise}
 use Rattle.gf_ops.specs.declared.op.Op.{Op}

@@ -2,3 +2,5 @@ pub mod Versions
 pub mod VersionList
 pub mod Growing
 pub mod GroupedPlaces
+pub mod Parting
+pub mod Taken

@@ -16,7 +16,11 @@ mod growth;
 mod ids;
 mod laws;
 mod listing;
+mod parting;
 mod places;
+mod taken;
+#[cfg(test)]
+mod tests;
 
 pub use faults::GroupFault;
 pub use group::{Group, Groups};

@@ -12,11 +12,15 @@ use gf_shape::OutOfMemory;
 use std::alloc::Global;
 
 /// The places of the operations on the object.
-pub(crate) fn places_on(alloc: Global, history: &History, object: ObjectId) -> Result<Vec<usize>, OutOfMemory>
-    ensures { IfOk result (λ places. places.items ≡ places_below history.now.ops object (length history.now.ops)) }
+pub(crate) fn places_on(
+    alloc: Global,
+    ops: &[Op],
+    object: ObjectId,
+) -> Result<Vec<usize>, OutOfMemory>
+    ensures { IfOk result (λ places. places.items ≡ places_below ops.now object (length ops.now)) }
 {
     let mut places = Vec::new(alloc);
-    for (place, op) in history.ops().iter().enumerate() {
+    for (place, op) in ops.iter().enumerate() {
         if op.object() == object {
             places.push(place)?;
         }
@@ -35,7 +39,12 @@ fn id_at(ops: &[Op], place: usize) -> Option<OpId>
 fn ids_at(alloc: Global, ops: &[Op], places: &[usize]) -> Result<Vec<OpId>, OutOfMemory>
     ensures { IfOk result (λ ids. ids.items ≡ ids_at ops.now places.now) }
 {
-    Ok(places.iter().filter_map(|place| id_at(ops, *place)).collect(alloc)?)
+    Ok(
+        places
+            .iter()
+            .filter_map(|place| id_at(ops, *place))
+            .collect(alloc)?,
+    )
 }
 
 /// Those ids, rising.
@@ -49,7 +58,13 @@ fn rising_ids(alloc: Global, history: &History, places: &[usize]) -> Result<Ids,
 }
 
 /// Adds the versions of the object that has its operations at these places.
-pub(crate) fn add_groups(alloc: Global, history: &History, object: ObjectId, places: &[usize], groups: &mut Vec<Group>) -> Result<(), OutOfMemory>
+pub(crate) fn add_groups(
+    alloc: Global,
+    history: &History,
+    object: ObjectId,
+    places: &[usize],
+    groups: &mut Vec<Group>,
+) -> Result<(), OutOfMemory>
     requires { IsStrictlySortedBy nat_cmp places.now }
     ensures { OnOk result (groups.new.items ≡ groups.old.items ++ groups_on history.now.ops object places.now) }
 {

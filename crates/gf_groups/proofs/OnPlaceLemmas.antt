@@ -1,0 +1,56 @@
+-- Operations at places of a history: whether they are on an object, and whether they conflict.
+use Rattle.std.proofs.Common.{◌≡◌, ℕ, true, List, length, refl, sym, ap}
+use Rattle.std.specs.Prelude.{◌↔◌, Contains, Option, Some, None, slice_get}
+use Rattle.std.proofs.lemmas.Option.{slice_get_read, slice_get_within, get_or_from_slice_get}
+use Rattle.gf_ops.specs.declared.op.Op.{Op}
+use Rattle.gf_ops.specs.declared.op.OpId.{OpId}
+use Rattle.gf_ops.specs.declared.op.ObjectId.{ObjectId}
+use Rattle.gf_ops.specs.declared.change.Change.{Change}
+use Rattle.gf_ops.specs.declared.change.Change.TheVariants.{Create, Set}
+use Rattle.gf_ops.specs.Attribute.{Kind, made_kind, object_of, changed_object}
+use Rattle.gf_ops.specs.Conflict.{Conflict}
+use Rattle.gf_groups.specs.GroupedPlaces.{is_on, places_below}
+use Rattle.gf_groups.specs.Growing.{both_conflict}
+use Rattle.gf_groups.proofs.ConflictTestLemmas.{id_decided, conflict_decided}
+use Rattle.gf_groups.proofs.PlaceLemmas.{Contains-places_below}
+
+-- an operation that makes an object is on it
+pub made_object : (i : OpId) (c : Change) (k : Kind) → made_kind c ≡ Some k → (changed_object i c).0 ≡ i
+made_object i (Create start) k e = refl
+made_object i (Set o v) k e = absurd cc
+
+module _ (o : ObjectId) where
+  pub on_from : (a : Op) → is_on o (Some a) ≡ true → object_of a ≡ o
+  on_from a t = let e = (id_decided (object_of a).0 o.0).0 t in λ i. record { 0 = e i }
+
+  pub on_to : (a : Op) → object_of a ≡ o → is_on o (Some a) ≡ true
+  on_to a e = (id_decided (object_of a).0 o.0).1 (ap (λ (x : ObjectId). x.0) e)
+
+  -- what is on the object is an operation
+  pub on_op : (r : Option Op) → is_on o r ≡ true → (a : Op) × (r ≡ Some a) × (object_of a ≡ o)
+  on_op (Some a) t = (a, refl, on_from a t)
+  on_op None t = absurd cc
+
+-- two places conflict where their operations do
+pub conflict_from : (r s : Option Op) (a b : Op) → r ≡ Some a → s ≡ Some b → Conflict a b → both_conflict r s ≡ true
+conflict_from r s a b e f k = rw (e, f) ((conflict_decided a b).1 k)
+
+pub conflict_with : (r s : Option Op) (a : Op) → r ≡ Some a → both_conflict r s ≡ true → (b : Op) × (s ≡ Some b) × Conflict a b
+conflict_with (Some x) (Some b) a e t = (b, refl, let q : x ≡ a = cc in let k = (conflict_decided x b).0 t in rw q at k)
+conflict_with (Some x) None a e t = absurd cc
+conflict_with None s a e t = absurd cc
+
+module _ (h : List Op) where
+  -- an operation of h has a place
+  pub place_of_op : (a : Op) → Contains h a → (i : ℕ) × (slice_get h i ≡ Some a)
+  place_of_op a (i, l, e) = (i, slice_get_read h (length h) i a refl l (sym e))
+
+  pub contained_at : (i : ℕ) (a : Op) → slice_get h i ≡ Some a → Contains h a
+  contained_at i a e = (i, slice_get_within h i a e, get_or_from_slice_get h i a a e)
+
+  -- the places below the length are all places of operations on the object
+  pub all_places : (o : ObjectId) (i : ℕ) → Contains (places_below h o (length h)) i ↔ (is_on o (slice_get h i) ≡ true)
+  all_places o i = (
+    λ c. ((Contains-places_below h o (length h) i).0 c).1,
+    λ t. let w = on_op o (slice_get h i) t in (Contains-places_below h o (length h) i).1 (slice_get_within h i w.0 w.1, t),
+  )

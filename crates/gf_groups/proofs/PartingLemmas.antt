@@ -1,0 +1,89 @@
+-- A map from objects to places: what it has after one more operation, and what its entries are.
+use Rattle.std.proofs.Common.{◌≡◌, ℕ, ◌+◌, ◌<◌, Bool, true, false, cond, List, [], ◌∷◌, ◌++◌, length, get_or, refl, sym, ap, subst, ◌∙◌, inl, inr}
+use Rattle.std.specs.Prelude.{All, Contains, Option, Some, None, unwrap_or}
+use Rattle.std.specs.BTreeMap.{BTreeMap, IsOrdered, is_at}
+use Rattle.std.specs.Cmp.{IsTotalOrder}
+use Rattle.std.specs.Ordering.{is_eq}
+use Rattle.std.proofs.lemmas.Bool.{cases_Bool, cond-true, cond-false}
+use Rattle.std.proofs.lemmas.Cmp.{on_total, tied_itself}
+use Rattle.std.proofs.lemmas.List.Elements.{All-contains, All-weaker}
+use Rattle.std.proofs.lemmas.Map.Lookups.{CmpEqualImpliesEq}
+use Rattle.std.proofs.lemmas.Map.Views.{All-found, Contains-from_lookup, tells_apart}
+use Rattle.gf_ops.specs.declared.op.Op.{Op}
+use Rattle.gf_ops.specs.declared.op.ObjectId.{ObjectId}
+use Rattle.gf_ops.specs.Attribute.{object_of}
+use Rattle.gf_ops.specs.OperationOrder.{id_cmp}
+use Rattle.gf_groups.specs.GroupedPlaces.{places_below}
+use Rattle.gf_groups.specs.Parting.{object_cmp, part_at, AddsPlace, nonempty, ArePartsBelow, IsPart}
+use Rattle.gf_groups.specs.VersionList.{id_eq}
+use Rattle.gf_groups.proofs.ConflictTestLemmas.{id_decided}
+use Rattle.gf_groups.proofs.IdLemmas.{id_cmp_total, id_cmp_exact}
+use Rattle.gf_groups.proofs.PlaceLemmas.{places_with, places_without}
+use Rattle.gf_groups.proofs.SortedLemmas.{equal_left}
+use Rattle.gf_ops.proofs.ListLemmas.{not_Contains-nil, Contains-cons_head}
+
+pub object_cmp_total : IsTotalOrder object_cmp
+object_cmp_total = on_total (λ (o : ObjectId). o.0) id_cmp_total
+
+object_cmp_exact : CmpEqualImpliesEq object_cmp
+object_cmp_exact o p e = let q = id_cmp_exact o.0 p.0 e in λ i. record { 0 = q i }
+
+-- a place goes behind those that the map had, or is the first
+pub with_place : (r s t : Option (List ℕ)) (b : Bool) (xs : List ℕ) (k : ℕ) → s ≡ None → xs ≡ k ∷ [] → r ≡ cond b (Some xs) t → r ≡ cond b (Some (unwrap_or s [] ++ k ∷ [])) t
+with_place r s t b xs k e f u = rw e (rw f at u)
+
+unwrap_or-nonempty : (xs : List ℕ) → unwrap_or (nonempty xs) [] ≡ xs
+unwrap_or-nonempty [] = refl
+unwrap_or-nonempty (x ∷ xs) = refl
+
+nonempty-push : (xs : List ℕ) (x : ℕ) → nonempty (xs ++ x ∷ []) ≡ Some (xs ++ x ∷ [])
+nonempty-push [] x = refl
+nonempty-push (y ∷ xs) x = refl
+
+nonempty-told : (xs ys : List ℕ) → nonempty xs ≡ Some ys → ys ≡ xs
+nonempty-told [] ys e = absurd cc
+nonempty-told (x ∷ xs) ys e = cc
+
+nonempty-some : (xs : List ℕ) (i : ℕ) → Contains xs i → nonempty xs ≡ Some xs
+nonempty-some [] i c = absurd (not_Contains-nil i c)
+nonempty-some (x ∷ xs) i c = refl
+
+nonempty_first : (xs ys : List ℕ) → nonempty xs ≡ Some ys → (i : ℕ) × Contains xs i
+nonempty_first [] ys e = absurd cc
+nonempty_first (x ∷ xs) ys e = (x, Contains-cons_head x xs)
+
+-- with the next operation's place the map has all places below the one after it
+pub parts_more : (h : List Op) (n : ℕ) (a : Op) (m new : BTreeMap ObjectId (List ℕ)) → n < length h → a ≡ get_or h n a → ArePartsBelow h n m → AddsPlace m (object_of a) n new → ArePartsBelow h (n + 1) new
+parts_more h n a m new l e parts adds o = elim (cases_Bool (is_at (object_cmp (object_of a)) o)) [
+  | inl t ↦
+      let same : object_of a ≡ o = object_cmp_exact (object_of a) o (equal_left (object_cmp (object_of a) o) t) in
+      let here : part_at m (object_of a) ≡ nonempty (places_below h o n) = subst (λ (p : ObjectId). part_at m (object_of a) ≡ nonempty (places_below h p n)) same (parts (object_of a)) in
+      let more = places_with h o n a l e ((id_decided (object_of a).0 o.0).1 (ap (λ (p : ObjectId). p.0) same)) in
+      adds o ∙ (cond-true (is_at (object_cmp (object_of a)) o) (Some (unwrap_or (part_at m (object_of a)) [] ++ n ∷ [])) (part_at m o) t
+      ∙ (ap (λ r. Some (unwrap_or r [] ++ n ∷ [])) here
+      ∙ (ap (λ xs. Some (xs ++ n ∷ [])) (unwrap_or-nonempty (places_below h o n))
+      ∙ (sym (nonempty-push (places_below h o n) n) ∙ ap nonempty (sym more)))))
+  | inr t ↦
+      let other : id_eq (object_of a).0 o.0 ≡ false = elim (cases_Bool (id_eq (object_of a).0 o.0)) [
+        | inl k ↦
+            let same = (id_decided (object_of a).0 o.0).0 k in
+            let tie : object_cmp (object_of a) o ≡ object_cmp o o = ap (λ i. id_cmp i o.0) same in
+            let q : is_eq (object_cmp (object_of a) o) ≡ true = ap is_eq (tie ∙ tied_itself object_cmp_total o) in absurd cc
+        | inr k ↦ k
+      ] in
+      adds o ∙ (cond-false (is_at (object_cmp (object_of a)) o) (Some (unwrap_or (part_at m (object_of a)) [] ++ n ∷ [])) (part_at m o) t
+      ∙ (parts o ∙ ap nonempty (sym (places_without h o n a l e other))))
+]
+
+module _ (h : List Op) (m : BTreeMap ObjectId (List ℕ)) (parts : ArePartsBelow h (length h) m) where
+  -- each entry has the places of its object
+  pub entries_parts : IsOrdered object_cmp m → All (IsPart h) m.entries
+  entries_parts ordered = All-weaker (λ e. part_at m e.0 ≡ Some e.1) (IsPart h) (λ e found. nonempty-told (places_below h e.0 (length h)) e.1 (sym (parts e.0) ∙ found)) m.entries (All-found object_cmp_total m ordered)
+
+  -- of which there is one
+  pub entry_place : IsOrdered object_cmp m → (e : ObjectId × List ℕ) → Contains m.entries e → (i : ℕ) × Contains (places_below h e.0 (length h)) i
+  entry_place ordered e c = nonempty_first (places_below h e.0 (length h)) e.1 (sym (parts e.0) ∙ All-contains (λ (d : ObjectId × List ℕ). part_at m d.0 ≡ Some d.1) m.entries e (All-found object_cmp_total m ordered) c)
+
+  -- and each object with a place has an entry
+  pub entry_of : (o : ObjectId) (i : ℕ) → Contains (places_below h o (length h)) i → Contains m.entries (o, places_below h o (length h))
+  entry_of o i c = Contains-from_lookup (tells_apart object_cmp_exact) o (places_below h o (length h)) m.entries (parts o ∙ nonempty-some (places_below h o (length h)) i c)

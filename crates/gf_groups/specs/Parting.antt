@@ -1,0 +1,39 @@
+-- A map from objects to the places of their operations. No public clause cites this module.
+use Rattle.std.specs.Prelude.{◌≡◌, ℕ, cond, List, [], ◌∷◌, ◌++◌, length, Option, Some, None, unwrap_or}
+use Rattle.std.specs.List.{flat_map}
+use Rattle.std.specs.declared.cmp.Ordering.{Ordering}
+use Rattle.std.specs.BTreeMap.{BTreeMap, get, is_at}
+use Rattle.gf_ops.specs.declared.op.Op.{Op}
+use Rattle.gf_ops.specs.declared.op.ObjectId.{ObjectId}
+use Rattle.gf_ops.specs.OperationOrder.{id_cmp}
+use Rattle.gf_groups.specs.declared.group.Group.{Group}
+use Rattle.gf_groups.specs.GroupedPlaces.{places_below, groups_on}
+
+-- objects are ordered by their ids
+abbrev pub object_cmp : ObjectId → ObjectId → Ordering
+object_cmp o p = id_cmp o.0 p.0
+
+-- the places that the map has for the object o
+abbrev pub part_at : BTreeMap ObjectId (List ℕ) → ObjectId → Option (List ℕ)
+part_at m o = get object_cmp m o
+
+-- the map n is m with the place k behind those of the object o
+abbrev pub AddsPlace : BTreeMap ObjectId (List ℕ) → ObjectId → ℕ → BTreeMap ObjectId (List ℕ) → Type 0
+AddsPlace m o k n = (p : ObjectId) → part_at n p ≡ cond (is_at (object_cmp o) p) (Some (unwrap_or (part_at m o) [] ++ k ∷ [])) (part_at m p)
+
+-- the list, if it has an element
+abbrev pub nonempty : List ℕ → Option (List ℕ)
+nonempty [] = None
+nonempty (x ∷ xs) = Some (x ∷ xs)
+
+-- the map has the places below n of the operations of h on each object that has some
+abbrev pub ArePartsBelow : List Op → ℕ → BTreeMap ObjectId (List ℕ) → Type 0
+ArePartsBelow h n m = (o : ObjectId) → part_at m o ≡ nonempty (places_below h o n)
+
+-- the groups of the objects with their places
+abbrev pub groups_of_parts : List Op → List (ObjectId × List ℕ) → List Group
+groups_of_parts h es = flat_map (λ e. groups_on h e.0 e.1) es
+
+-- the entry has the places of all operations of h on its object
+abbrev pub IsPart : List Op → ObjectId × List ℕ → Type 0
+IsPart h e = e.1 ≡ places_below h e.0 (length h)

@@ -1,0 +1,51 @@
+//! What the operations taken so far count, to tell at once an operation that knows them all.
+
+ghost use Rattle.std.specs.Prelude.{◌↔◌, ◌≤◌, IsTrue};
+ghost use Rattle.gf_ops.specs.Limits.{IsInRange};
+ghost use Rattle.gf_ops.specs.OperationOrder.{entry};
+ghost use Rattle.gf_ops.specs.ValidHistory.{IsWithin};
+ghost use Rattle.gf_groups.specs.Taken.{KnowsAll, CountsMore};
+
+use crate::conflict::op_at;
+use gf_ops::{Clock, History, Op};
+
+/// Whether the operation at this place knows all that the clock counts.
+pub(crate) fn knows_all(history: &History, place: usize, taken: &Clock) -> bool
+    ensures { IsTrue result ↔ KnowsAll history.now.ops place taken.now }
+{
+    match op_at(history, place) {
+        Some(op) => is_within(taken, &op.past),
+        None => false,
+    }
+}
+
+/// Counts the operation at this place too.
+pub(crate) fn take(history: &History, place: usize, taken: &mut Clock)
+    ensures { CountsMore history.now.ops place taken.old taken.new }
+{
+    if let Some(op) = op_at(history, place) {
+        count(op, taken);
+    }
+}
+
+/// Counts an operation too.
+fn count(op: &Op, taken: &mut Clock)
+    requires { IsInRange op.now }
+    ensures own { op.now.id.seq ≤ entry taken.new op.now.id.site }
+    ensures more { IsWithin taken.old taken.new }
+{
+    let site = usize::from(op.id.site) - 1;
+    taken.0[site] = taken.0[site].max(op.id.seq);
+}
+
+/// Whether no entry of `taken` is above that of `past`.
+fn is_within(taken: &Clock, past: &Clock) -> bool
+    ensures { IsTrue result ↔ IsWithin taken.now past.now }
+{
+    for site in 0..8 {
+        if past.0[site] < taken.0[site] {
+            return false;
+        }
+    }
+    true
+}
