@@ -4,7 +4,6 @@ pub mod ExtendingLemmas
 pub mod GroupLemmas
 pub mod GrowingLemmas
 pub mod IdLemmas
-pub mod IdListLemmas
 pub mod IdPlaceLemmas
 pub mod LargestLemmas
 pub mod ListLemmas

@@ -1,11 +1,11 @@
 -- The sublists of a rising list: what they hold, and the order in which they stand.
-use Rattle.std.proofs.Common.{◌≡◌, zero, suc, ◌<◌, Bool, List, [], ◌∷◌, ◌++◌, map, length, get_or, inl, inr, refl, subst, sym, ap, ◌∙◌, arith}
+use Rattle.std.proofs.Common.{◌≡◌, ◌<◌, Bool, List, [], ◌∷◌, ◌++◌, map, length, get_or, inl, inr, refl, subst, sym, arith}
 use Rattle.std.specs.Prelude.{⊤, ◌⊎◌, Contains, filter}
 use Rattle.std.specs.Cmp.{IsTotalOrder}
 use Rattle.std.specs.Cmp.Lexicographic.{slice_cmp}
 use Rattle.std.specs.List.Sorted.{IsStrictlySortedBy}
 use Rattle.std.specs.declared.cmp.Ordering.{Ordering}
-use Rattle.std.specs.declared.cmp.Ordering.TheVariants.{Less, Equal}
+use Rattle.std.specs.declared.cmp.Ordering.TheVariants.{Less}
 use Rattle.std.proofs.lemmas.Bool.{cases_Bool, cond-true, cond-false}
 use Rattle.std.proofs.lemmas.Cmp.{tied_itself}
 use Rattle.std.proofs.lemmas.List.Elements.{Contains-append_left, Contains-append_right, Contains-append_cases, Contains-get_or}
@@ -13,7 +13,7 @@ use Rattle.std.proofs.lemmas.Map.Keys.{sorted_tail}
 use Rattle.gf_ops.proofs.ListLemmas.{Contains-cons_cases, Contains-cons_head, Contains-cons_tail, not_Contains-nil, Contains-map, Contains-map_from}
 use Rattle.gf_groups.specs.VersionList.{sublists}
 use Rattle.gf_groups.proofs.ListLemmas.{Contains-filter}
-use Rattle.gf_groups.proofs.RisingLemmas.{below_tail, rising_cons, never_both}
+use Rattle.gf_groups.proofs.RisingLemmas.{below_tail, rising_cons}
 
 -- ---- each element stands to all later ones as R says
 

@@ -1,21 +1,17 @@
 -- The list that computes has exactly the versions of an object, in rising order. The crates above cite it.
-use Rattle.std.proofs.Common.{◌≡◌, Bool, true, false, List, [], ◌∷◌, ◌++◌, map, inl, inr, refl, subst, sym, ap, ◌∙◌, arith, Option, Some, None}
-use Rattle.std.specs.Prelude.{◌↔◌, ◌&&◌, ◌||◌, not, Contains, filter, length, IsSome}
+use Rattle.std.proofs.Common.{◌≡◌, true, List, [], ◌∷◌, ◌++◌, map, inl, inr, refl, subst, sym, ap, ◌∙◌, arith, Option, Some, None}
+use Rattle.std.specs.Prelude.{◌↔◌, ◌&&◌, ◌||◌, not, Contains, length, IsSome}
 use Rattle.std.specs.Cmp.Lexicographic.{slice_cmp}
-use Rattle.std.specs.List.{list_any, list_all, fold}
+use Rattle.std.specs.List.{list_any, list_all}
 use Rattle.std.specs.List.Sorted.{IsStrictlySortedBy}
-use Rattle.std.specs.BTreeSet.{insert_key}
 use Rattle.std.specs.declared.cmp.Ordering.TheVariants.{Less}
 use Rattle.std.proofs.lemmas.Bool.{cases_Bool, and_parts, and_from, or_cases, or_left, or_right, not_from_false, not-true}
-use Rattle.std.proofs.lemmas.Cmp.{lists_total, on_total}
+use Rattle.std.proofs.lemmas.Cmp.{lists_total}
 use Rattle.std.proofs.lemmas.List.Elements.{Contains-append_left, Contains-append_right, Contains-append_cases}
-use Rattle.std.specs.Cmp.{IsTotalOrder}
 use Rattle.gf_ops.specs.declared.op.Op.{Op}
 use Rattle.gf_ops.specs.declared.op.OpId.{OpId}
 use Rattle.gf_ops.specs.declared.op.ObjectId.{ObjectId}
-use Rattle.gf_ops.specs.declared.change.Change.{Change}
-use Rattle.gf_ops.specs.declared.change.Change.TheVariants.{Create, Set}
-use Rattle.gf_ops.specs.Attribute.{Kind, made_kind, object_of, changed_object}
+use Rattle.gf_ops.specs.Attribute.{Kind, made_kind, object_of}
 use Rattle.gf_ops.specs.Conflict.{Conflict}
 use Rattle.gf_ops.specs.OperationOrder.{id_cmp}
 use Rattle.gf_ops.specs.Version.{HasOn, IsMember, Clashes, IsVersion}
@@ -25,18 +21,12 @@ use Rattle.gf_groups.specs.Versions.{IsMade, IsVersionGroup, AreVersions, group_
 use Rattle.gf_groups.specs.VersionList.{id_eq, in_conflict, is_in, ops_on, members, is_compatible, is_largest, sublists, ids_on, versions_of}
 use Rattle.gf_groups.proofs.ConflictTestLemmas.{id_decided, conflict_decided}
 use Rattle.gf_groups.proofs.IdLemmas.{id_cmp_total, id_cmp_exact}
-use Rattle.gf_groups.proofs.IdListLemmas.{filled_rising, filled_holds}
 use Rattle.gf_groups.proofs.ListLemmas.{Contains-filter, list_any_true, list_any_from, list_all_true, list_all_from}
+use Rattle.gf_groups.proofs.GroupLemmas.{group_cmp_total}
+use Rattle.gf_groups.proofs.OnPlaceLemmas.{made_object}
 use Rattle.gf_groups.proofs.RisingLemmas.{one_rising}
+use Rattle.gf_groups.proofs.SortedLemmas.{inserted_all, holds_all}
 use Rattle.gf_groups.proofs.SublistLemmas.{Pairs-filter, Pairs-from, Pairs-map, Pairs_from_rising, StandsBefore, rising_from_Pairs, rising_sublist, sublist_rising, sublist_within, sublists_in_order}
-
--- the change that makes an object makes the one under its own id
-made_object : (i : OpId) (c : Change) (k : Kind) → made_kind c ≡ Some k → changed_object i c ≡ record { 0 = i }
-made_object i (Create start) k e = refl
-made_object i (Set o v) k e = absurd cc
-
-pub groups_total : IsTotalOrder group_cmp
-groups_total = on_total (λ (g : Group). g.ops) (lists_total id_cmp_total)
 
 module _ (h : List Op) (o : ObjectId) where
   in_group : (g : List OpId) (a : Op) → (is_in g a ≡ true) ↔ Contains g a.id
@@ -59,11 +49,11 @@ module _ (h : List Op) (o : ObjectId) where
 
   ids_rise : IsStrictlySortedBy id_cmp (ids_on h o)
   unfolding IsStrictlySortedBy
-  ids_rise = filled_rising id_cmp id_cmp_total id_cmp_exact [] (map (λ (a : Op). a.id) (ops_on h o)) tt
+  ids_rise = inserted_all id_cmp id_cmp_total id_cmp_exact (map (λ (a : Op). a.id) (ops_on h o)) [] tt
 
   ids_held : (i : OpId) → Contains (ids_on h o) i ↔ HasOn h o i
   ids_held i =
-      let all = filled_holds id_cmp id_cmp_total id_cmp_exact [] (map (λ (a : Op). a.id) (ops_on h o)) i in (
+      let all = holds_all id_cmp id_cmp_total id_cmp_exact (map (λ (a : Op). a.id) (ops_on h o)) [] i in (
         λ c. elim (all.0 c) [
           | inl n ↦ absurd (not_Contains-nil i n)
           | inr m ↦ let w = Contains-map_from (λ (a : Op). a.id) (ops_on h o) i m in let p = (on_object w.0).0 w.1 in record { op = w.0; contained = p.0; id = sym w.2; object = p.1 }
@@ -110,7 +100,7 @@ module _ (h : List Op) (o : ObjectId) where
         λ c.
             let p = passing.0 c in let tests = and_parts (is_compatible h g) (is_largest h o g) p.1 in let m = made.made in record {
               rising = sublist_rising id_cmp id_cmp_total (ids_on h o) g ids_rise p.0;
-              created = record { op = m.maker; contained = m.contained; id = m.id; object = made_object m.maker.id m.maker.change made.kind m.kind ∙ (λ k. record { 0 = m.id k }) };
+              created = record { op = m.maker; contained = m.contained; id = m.id; object = λ k. record { 0 = (made_object m.maker.id m.maker.change made.kind m.kind ∙ m.id) k } };
               makes = subst IsSome (sym m.kind) refl;
               members = λ i j. (ids_held i).0 (sublist_within (ids_on h o) g p.0 i j);
               compatible = apart g tests.0;
@@ -161,14 +151,14 @@ module _ (h : List Op) (o : ObjectId) where
       λ p. let same : group_on g.ops ≡ g = λ i. record { object = sym p.0 i; ops = g.ops } in
           subst (Contains (map group_on (versions_of h o))) same (Contains-map group_on (versions_of h o) g.ops ((listed made g.ops).1 (subst (λ x. IsVersion h x g.ops) p.0 p.1))),
     );
-    rising = rising_from_Pairs group_cmp groups_total (map group_on (versions_of h o))
+    rising = rising_from_Pairs group_cmp group_cmp_total (map group_on (versions_of h o))
         (Pairs-map (λ g k. slice_cmp id_cmp g k ≡ Less) (λ g k. group_cmp g k ≡ Less) group_on (versions_of h o) (λ g k l. l)
         (Pairs_from_rising (slice_cmp id_cmp) (lists_total id_cmp_total) (versions_of h o) (list_rises made)));
   }
 
   -- and there is one such list
   pub one_list : (groups others : List Group) → AreVersions h o groups → AreVersions h o others → groups ≡ others
-  one_list groups others a b = one_rising group_cmp groups_total groups others a.rising b.rising (λ g. (λ c. (b.exactly g).1 ((a.exactly g).0 c), λ c. (a.exactly g).1 ((b.exactly g).0 c)))
+  one_list groups others a b = one_rising group_cmp group_cmp_total groups others a.rising b.rising (λ g. (λ c. (b.exactly g).1 ((a.exactly g).0 c), λ c. (a.exactly g).1 ((b.exactly g).0 c)))
 
 -- ---- the versions of all objects
 
