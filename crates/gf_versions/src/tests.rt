@@ -1,6 +1,7 @@
 //! Worked examples: what versions look like, and who is above whom.
 
-use crate::ranked;
+use crate::{ranked, settle};
+use gf_groups::all_groups;
 use gf_ops::{Change, Clock, Form, History, ObjectId, Op, OpId, Points, Start, Value};
 use gf_shape::{Bounds, OutOfMemory, Point, Rgb, Shape};
 use std::alloc::Global;
@@ -189,6 +190,31 @@ fn versions_have_their_settled_values(rt: HostRuntime) -> Result<(), Fail> {
         assert_eq!(rt; item.colour, colour, "of {ops:?}");
         assert_eq!(rt; item.shape.bounds().low, at(left, 0), "of {ops:?}");
     }
+    Ok(())
+}
+
+#[test]
+fn a_hidden_version_is_settled_too(rt: HostRuntime) -> Result<(), Fail> {
+    let alloc = rt.alloc();
+    let mut history = History::new(alloc);
+    let made = created(1, Form::Circle(10), 4, RED, true);
+    assert!(rt; made.in_range());
+    history.add(made)?;
+    let hidden = changed(SECOND, [1, 0], Value::Shown(false));
+    assert!(rt; hidden.in_range());
+    history.add(hidden)?;
+    let groups = all_groups(alloc, &history)?;
+    let groups = groups.as_slice();
+    assert_eq!(rt; groups.len(), 1);
+    let version = settle(alloc, &history, &groups[0])?;
+    assert_eq!(rt; version.key.object, ObjectId(MADE));
+    assert_eq!(rt; version.key.ops.as_slice(), [MADE, SECOND].as_slice());
+    assert_eq!(rt; version.key.layer, 4);
+    assert_eq!(rt; version.form, Form::Circle(10));
+    assert_eq!(rt; version.place, at(1, 0));
+    assert_eq!(rt; version.colour, RED);
+    assert!(rt; !version.shown);
+    assert!(rt; ranked(alloc, &history)?.is_empty());
     Ok(())
 }
 
