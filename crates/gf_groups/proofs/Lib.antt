@@ -15,3 +15,4 @@ pub mod VersionLemmas
 pub mod GroupLemmas
 pub mod PartingLemmas
 pub mod AllGroupLemmas
+pub mod TakenLemmas

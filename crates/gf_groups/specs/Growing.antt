@@ -22,6 +22,10 @@ same_group g k = pointwise (λ i j. i == j) g k
 abbrev pub take_up : {Y : Type 0} → (Y → Y → Bool) → (Y → Bool) → List Y → Y → List Y
 take_up same test ys z = cond (test z && not (list_any (same z) ys)) (ys ++ z ∷ []) ys
 
+-- each group with x
+abbrev pub pushed : ℕ → List (List ℕ) → List (List ℕ)
+pushed x gs = map (λ g. g ++ x ∷ []) gs
+
 -- c tells whether the operations at two places conflict
 module _ (c : ℕ → ℕ → Bool) where
   -- x conflicts with one of the group

@@ -2,11 +2,14 @@
 
 ghost use Rattle.std.specs.Prelude.{◌≡◌, IfOk, OnOk, map};
 ghost use Rattle.std.specs.List.{list_any, fold};
-ghost use Rattle.gf_groups.specs.Growing.{conflict_at, same_group, take_up, clashes, step, part, parts, is_covered, is_largest, next, groups_at};
+ghost use Rattle.std.specs.List.Sorted.{IsStrictlySortedBy};
+ghost use Rattle.std.specs.Ordering.{nat_cmp};
+ghost use Rattle.gf_groups.specs.Growing.{conflict_at, same_group, take_up, clashes, step, part, parts, is_covered, is_largest, next, pushed, groups_at};
 
 use crate::conflict::conflict_at;
 use crate::places::{Places, same_group};
-use gf_ops::History;
+use crate::taken::{knows_all, take};
+use gf_ops::{Clock, History};
 use gf_shape::OutOfMemory;
 use std::alloc::Global;
 
@@ -116,17 +119,37 @@ fn grow(
     Ok(())
 }
 
+/// Adds a place to each group.
+fn push_to_all(place: usize, groups: &mut Vec<Places>) -> Result<(), OutOfMemory>
+    ensures { OnOk result (groups.new.items ≡ pushed place groups.old.items) }
+{
+    for group in groups.iter_mut() {
+        group.push(place)?;
+    }
+    Ok(())
+}
+
 /// The largest groups of the operations at these places.
+///
+/// An operation that knows all those before it conflicts with none of them, so it joins each group
+/// without a look at what they have.
 pub(crate) fn groups_at(
     alloc: Global,
     history: &History,
     places: &[usize],
 ) -> Result<Vec<Places>, OutOfMemory>
+    requires { IsStrictlySortedBy nat_cmp places.now }
     ensures { IfOk result (λ groups. groups.items ≡ groups_at (conflict_at history.now.ops) places.now) }
 {
     let mut groups = Vec::from_array(alloc, [Places::new(alloc)])?;
+    let mut taken = Clock([0; 8]);
     for (index, place) in places.iter().enumerate() {
-        grow(alloc, history, &places[..index + 1], *place, &mut groups)?;
+        if knows_all(history, *place, &taken) {
+            push_to_all(*place, &mut groups)?;
+        } else {
+            grow(alloc, history, &places[..index + 1], *place, &mut groups)?;
+        }
+        take(history, *place, &mut taken);
     }
     Ok(groups)
 }
