@@ -9,7 +9,7 @@ ghost use Rattle.gf_groups.specs.Growing.{conflict_at, same_group, clashes, part
 
 use crate::conflict::conflict_at;
 use crate::places::{Places, same_group};
-use crate::taken::{knows_all, take};
+use crate::taken::{count_at, knows_all};
 use gf_ops::{Clock, History};
 use gf_shape::OutOfMemory;
 use std::alloc::Global;
@@ -150,7 +150,7 @@ pub(crate) fn groups_at(
         } else {
             grow(alloc, history, &places[..index + 1], *place, &mut groups)?;
         }
-        take(history, *place, &mut taken);
+        count_at(history, *place, &mut taken);
     }
     Ok(groups)
 }

@@ -19,7 +19,7 @@ pub(crate) fn knows_all(history: &History, place: usize, taken: &Clock) -> bool
 }
 
 /// Counts the operation at this place too.
-pub(crate) fn take(history: &History, place: usize, taken: &mut Clock)
+pub(crate) fn count_at(history: &History, place: usize, taken: &mut Clock)
     ensures { CountsMore history.now.ops place taken.old taken.new }
 {
     if let Some(op) = op_at(history, place) {

@@ -26,5 +26,5 @@ loop-index-preserved c =
             let grown : w.grow.new.groups.items ≡ next (conflict_at h) (take (c.loop-index.index + 1) c.args.places.now) x c.loop-index.groups.items = grind (arith, common_steps, w.in_ok-grow.ensures) in
             rw w.groups-is (grown ∙ (rw (all, c.loop-index.invariant.groups) (sym (groups_at-push (conflict_at h) us x))))
       ]);
-      counted = rw all (counts_more h us x c.loop-index.taken c.loop-index.invariant.counted c.take.new.taken c.take.ensures);
+      counted = rw all (counts_more h us x c.loop-index.taken c.loop-index.invariant.counted c.count_at.new.taken c.count_at.ensures);
     }
