@@ -14,6 +14,7 @@ pub mod RisingLemmas
 pub mod SortedLemmas
 pub mod SublistLemmas
 pub mod TableLemmas
+pub mod TakenLemmas
 pub mod TakingLemmas
 pub mod VersionLemmas
 pub mod VersionListLemmas

@@ -22,6 +22,10 @@ same_group g k = pointwise (λ i j. i == j) g k
 abbrev pub take_up : {Y : Type 0} → (Y → Y → Bool) → (Y → Bool) → List Y → Y → List Y
 take_up same test ys z = cond (test z && not (list_any (same z) ys)) (ys ++ z ∷ []) ys
 
+-- each group with x
+abbrev pub pushed : ℕ → List (List ℕ) → List (List ℕ)
+pushed x gs = map (λ g. g ++ x ∷ []) gs
+
 -- c tells whether the operations at two places conflict
 module _ (c : ℕ → ℕ → Bool) where
   -- x conflicts with one of the group
@@ -60,3 +64,23 @@ module _ (c : ℕ → ℕ → Bool) where
   -- the groups of the places xs
   abbrev pub groups_at : List ℕ → List (List ℕ)
   groups_at xs = grown [] xs ([] ∷ [])
+
+-- the groups gs, and a part of one if it is largest among the places us and new
+abbrev pub taken_up : List Op → List ℕ → List (List ℕ) → List ℕ → List (List ℕ)
+taken_up h us gs g = take_up same_group (is_largest (conflict_at h) us) gs g
+
+-- the groups gs, with x in each that its operation does not conflict with
+abbrev pub joined : List Op → ℕ → List (List ℕ) → List (List ℕ)
+joined h x gs = map (step (conflict_at h) x) gs
+
+-- the parts that the groups which conflict with the operation at x give
+abbrev pub parts_of : List Op → ℕ → List (List ℕ) → List (List ℕ)
+parts_of h x gs = parts (conflict_at h) x gs
+
+-- the largest groups of the places us from those of all but x, the last of them
+abbrev pub grown_by : List Op → List ℕ → ℕ → List (List ℕ) → List (List ℕ)
+grown_by h us x gs = next (conflict_at h) us x gs
+
+-- the largest groups of the places us
+abbrev pub largest_groups : List Op → List ℕ → List (List ℕ)
+largest_groups h us = groups_at (conflict_at h) us

@@ -1,12 +1,16 @@
 //! The largest groups without a conflict, grown one operation at a time.
 
-ghost use Rattle.std.specs.Prelude.{◌≡◌, IfOk, OnOk, map};
-ghost use Rattle.std.specs.List.{list_any, fold};
-ghost use Rattle.gf_groups.specs.Growing.{conflict_at, same_group, take_up, clashes, step, part, parts, is_covered, is_largest, next, groups_at};
+ghost use Rattle.std.specs.Prelude.{◌≡◌, IfOk, OnOk};
+ghost use Rattle.std.specs.List.{list_any};
+ghost use Rattle.std.specs.List.Sorted.{IsStrictlySortedBy};
+ghost use Rattle.std.specs.Ordering.{nat_cmp};
+ghost use Rattle.gf_groups.specs.Growing.{taken_up, joined, parts_of, grown_by, largest_groups};
+ghost use Rattle.gf_groups.specs.Growing.{conflict_at, same_group, clashes, part, is_covered, is_largest, pushed};
 
 use crate::conflict::conflict_at;
 use crate::places::{Places, same_group};
-use gf_ops::History;
+use crate::taken::{count_at, knows_all};
+use gf_ops::{Clock, History};
 use gf_shape::OutOfMemory;
 use std::alloc::Global;
 
@@ -70,7 +74,7 @@ fn take_up(
     part: Places,
     groups: &mut Vec<Places>,
 ) -> Result<(), OutOfMemory>
-    ensures { OnOk result (groups.new.items ≡ take_up same_group (is_largest (conflict_at history.now.ops) places.now) groups.old.items part) }
+    ensures { OnOk result (groups.new.items ≡ taken_up history.now.ops places.now groups.old.items part) }
 {
     if is_largest(history, places, part.as_slice()) && !contains(groups, part.as_slice()) {
         groups.push(part)?;
@@ -86,8 +90,8 @@ fn join(
     place: usize,
     groups: &mut Vec<Places>,
 ) -> Result<Vec<Places>, OutOfMemory>
-    ensures groups { OnOk result (groups.new.items ≡ map (step (conflict_at history.now.ops) place) groups.old.items) }
-    ensures parts { IfOk result (λ made. made.items ≡ parts (conflict_at history.now.ops) place groups.old.items) }
+    ensures groups { OnOk result (groups.new.items ≡ joined history.now.ops place groups.old.items) }
+    ensures parts { IfOk result (λ made. made.items ≡ parts_of history.now.ops place groups.old.items) }
 {
     let mut parts = Vec::new(alloc);
     for group in groups.iter_mut() {
@@ -108,7 +112,7 @@ fn grow(
     place: usize,
     groups: &mut Vec<Places>,
 ) -> Result<(), OutOfMemory>
-    ensures { OnOk result (groups.new.items ≡ next (conflict_at history.now.ops) places.now place groups.old.items) }
+    ensures { OnOk result (groups.new.items ≡ grown_by history.now.ops places.now place groups.old.items) }
 {
     for part in join(alloc, history, place, groups)? {
         take_up(history, places, part, groups)?;
@@ -116,17 +120,37 @@ fn grow(
     Ok(())
 }
 
+/// Adds a place to each group.
+fn push_to_all(place: usize, groups: &mut Vec<Places>) -> Result<(), OutOfMemory>
+    ensures { OnOk result (groups.new.items ≡ pushed place groups.old.items) }
+{
+    for group in groups.iter_mut() {
+        group.push(place)?;
+    }
+    Ok(())
+}
+
 /// The largest groups of the operations at these places.
+///
+/// An operation that knows all those before it conflicts with none of them, so it joins each group
+/// without a look at what they have.
 pub(crate) fn groups_at(
     alloc: Global,
     history: &History,
     places: &[usize],
 ) -> Result<Vec<Places>, OutOfMemory>
-    ensures { IfOk result (λ groups. groups.items ≡ groups_at (conflict_at history.now.ops) places.now) }
+    requires { IsStrictlySortedBy nat_cmp places.now }
+    ensures { IfOk result (λ groups. groups.items ≡ largest_groups history.now.ops places.now) }
 {
     let mut groups = Vec::from_array(alloc, [Places::new(alloc)])?;
+    let mut taken = Clock([0; 8]);
     for (index, place) in places.iter().enumerate() {
-        grow(alloc, history, &places[..index + 1], *place, &mut groups)?;
+        if knows_all(history, *place, &taken) {
+            push_to_all(*place, &mut groups)?;
+        } else {
+            grow(alloc, history, &places[..index + 1], *place, &mut groups)?;
+        }
+        count_at(history, *place, &mut taken);
     }
     Ok(groups)
 }

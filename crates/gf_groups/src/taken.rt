@@ -1,9 +1,8 @@
 //! What the operations taken so far count, to tell at once an operation that knows them all.
 
-ghost use Rattle.std.specs.Prelude.{◌↔◌, ◌≤◌, IsTrue};
+ghost use Rattle.std.specs.Prelude.{◌↔◌, IsTrue};
 ghost use Rattle.gf_ops.specs.Limits.{IsInRange};
-ghost use Rattle.gf_ops.specs.OperationOrder.{entry};
-ghost use Rattle.gf_ops.specs.ValidHistory.{IsWithin};
+ghost use Rattle.gf_ops.specs.ValidHistory.{IsWithin, Counts};
 ghost use Rattle.gf_groups.specs.Taken.{KnowsAll, CountsMore};
 
 use crate::conflict::op_at;
@@ -20,7 +19,7 @@ pub(crate) fn knows_all(history: &History, place: usize, taken: &Clock) -> bool
 }
 
 /// Counts the operation at this place too.
-pub(crate) fn take(history: &History, place: usize, taken: &mut Clock)
+pub(crate) fn count_at(history: &History, place: usize, taken: &mut Clock)
     ensures { CountsMore history.now.ops place taken.old taken.new }
 {
     if let Some(op) = op_at(history, place) {
@@ -31,7 +30,7 @@ pub(crate) fn take(history: &History, place: usize, taken: &mut Clock)
 /// Counts an operation too.
 fn count(op: &Op, taken: &mut Clock)
     requires { IsInRange op.now }
-    ensures own { op.now.id.seq ≤ entry taken.new op.now.id.site }
+    ensures own { Counts taken.new op.now.id }
     ensures more { IsWithin taken.old taken.new }
 {
     let site = usize::from(op.id.site) - 1;
