@@ -1,14 +1,15 @@
 //! The command line, over sources and sinks in memory.
 
-use crate::command::refuse_words;
 use crate::command;
+use crate::command::refuse_words;
 use gf_drawing::Tape;
 use gf_studio::{MOST_INPUT_BYTES, Reel};
 use std::alloc::{AllocError, Global};
 use std::io;
 use std::test::Fail;
 
-const EMPTY: &str = "#FIG 3.2\nLandscape\nCenter\nMetric\nA4\n100.00\nSingle\n-2\n1200 2\n";
+pub(crate) const EMPTY: &str =
+    "#FIG 3.2\nLandscape\nCenter\nMetric\nA4\n100.00\nSingle\n-2\n1200 2\n";
 
 const RED_BOX: &str =
     "{\"colour\":\"ff0000\",\"id\":[1,1],\"kind\":\"box\",\"layer\":0,\"op\":\"create\",\"past\":[0,0,0,0,0,0,0,0],\"place\":[100,200],\"shown\":true,\"size\":[300,400]}\n";
@@ -22,9 +23,6 @@ const RED_OVER_BLUE: &str =
 // The blue box is another site's, which didn't know the red one.
 const RED_OVER_BLUE_OF_TWO_SITES: &str =
     "{\"colour\":\"0000ff\",\"id\":[2,1],\"kind\":\"box\",\"layer\":0,\"op\":\"create\",\"past\":[0,0,0,0,0,0,0,0],\"place\":[0,0],\"shown\":true,\"size\":[10,10]}\n{\"colour\":\"ff0000\",\"id\":[1,1],\"kind\":\"box\",\"layer\":5,\"op\":\"create\",\"past\":[0,0,0,0,0,0,0,0],\"place\":[0,0],\"shown\":true,\"size\":[10,10]}\n";
-
-const RECOLOUR: &str =
-    "{\"id\":[2,1],\"object\":[1,1],\"op\":\"set\",\"past\":[1,0,0,0,0,0,0,0],\"set\":\"colour\",\"to\":\"0000ff\"}\n";
 
 // The keys in another order, upper-case digits, blank lines, CRLF, and no last newline.
 const RED_OVER_BLUE_OTHERWISE: &str =
@@ -54,7 +52,11 @@ fn words(alloc: Global, texts: &[&str]) -> Result<Vec<String>, AllocError> {
 }
 
 /// A run over this source: its status, its output, and its faults.
-fn run(rt: &HostRuntime, texts: &[&str], source: &mut Reel) -> Result<(u8, Tape, Tape), Fail> {
+pub(crate) fn run(
+    rt: &HostRuntime,
+    texts: &[&str],
+    source: &mut Reel,
+) -> Result<(u8, Tape, Tape), Fail> {
     let alloc = rt.alloc();
     let words = words(alloc, texts)?;
     let mut output = Tape::new(alloc, None);
@@ -88,15 +90,11 @@ fn lines_become_fig_text(rt: HostRuntime) -> Result<(), Fail> {
 
 #[test]
 fn refusals_are_told(rt: HostRuntime) -> Result<(), Fail> {
-    let gap = RED_BOX.replace(rt.alloc(), "[1,1]", "[1,3]")?;
-    let past_gap = format!(in rt.alloc(); "{RED_BOX}{gap}")?;
     let range = RED_BOX.replace(rt.alloc(), ":0,", ":10000,")?;
     let bad_line = format!(in rt.alloc(); "{RED_BOX}\n{{\n")?;
     let other_kind = RED_BOX.replace(rt.alloc(), "box", "star")?;
     let unequal = RED_BOX.replace(rt.alloc(), "box", "circle")?;
     let two_points = FAR_TRIANGLE.replace(rt.alloc(), ",[0,-1000000]", "")?;
-    let change = format!(in rt.alloc(); "{RED_BOX}{RECOLOUR}")?;
-    let unknown = RED_BOX.replace(rt.alloc(), "[0,0,0,0,0,0,0,0]", "[0,1,0,0,0,0,0,0]")?;
     let rows = [
         ("{", "figgroup: line 1: Json\n"),
         (bad_line.as_str(), "figgroup: line 3: Json\n"),
@@ -105,16 +103,6 @@ fn refusals_are_told(rt: HostRuntime) -> Result<(), Fail> {
         (unequal.as_str(), "figgroup: line 1: Field\n"),
         (two_points.as_str(), "figgroup: line 1: Range\n"),
         (range.as_str(), "figgroup: line 1: Range\n"),
-        (change.as_str(), "figgroup: line 2: Field\n"),
-        (gap.as_str(), "figgroup: operation 1.3 dropped: BadClock\n"),
-        (
-            unknown.as_str(),
-            "figgroup: operation 1.1 dropped: BadClock\n",
-        ),
-        (
-            past_gap.as_str(),
-            "figgroup: operation 1.3 dropped: BadClock\n",
-        ),
     ];
     for (input, want) in rows {
         let mut source = Reel::new(input.as_bytes(), None);

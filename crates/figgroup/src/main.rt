@@ -4,6 +4,8 @@
 mod command;
 #[cfg(test)]
 mod command_tests;
+#[cfg(test)]
+mod edited_tests;
 
 pub use command::command;
 use command::refuse_words;

@@ -14,6 +14,9 @@ const FIRST: OpId = OpId { site: 1, seq: 1 };
 fn runs_answer_the_first_fault(rt: HostRuntime) -> Result<(), AllocError> {
     let alloc = rt.alloc();
     let again = format!(in alloc; "{RED_BOX}{RED_BOX}{{")?;
+    let green = RED_BOX.replace(alloc, "ff0000", "00ff00")?;
+    let clash = format!(in alloc; "{RED_BOX}{green}")?;
+    let own = RED_BOX.replace(alloc, "[0,0,0,0,0,0,0,0]", "[1,0,0,0,0,0,0,0]")?;
     let rows = [
         ("", None, None, Ok(()), 60),
         (RED_BOX, None, None, Ok(()), 156),
@@ -29,6 +32,20 @@ fn runs_answer_the_first_fault(rt: HostRuntime) -> Result<(), AllocError> {
         ),
         (
             again.as_str(),
+            None,
+            None,
+            Err(StudioError::Line(3, LineCause::Json)),
+            0,
+        ),
+        (
+            clash.as_str(),
+            None,
+            None,
+            Err(StudioError::Line(2, LineCause::Clash)),
+            0,
+        ),
+        (
+            own.as_str(),
             None,
             None,
             Err(StudioError::Dropped(FIRST, OpFault::BadClock)),
@@ -52,6 +69,7 @@ fn refusals_have_their_texts(rt: HostRuntime) -> Result<(), AllocError> {
         (StudioError::Line(3, LineCause::Json), "line 3: Json"),
         (StudioError::Line(3, LineCause::Field), "line 3: Field"),
         (StudioError::Line(3, LineCause::Range), "line 3: Range"),
+        (StudioError::Line(3, LineCause::Clash), "line 3: Clash"),
         (
             StudioError::Dropped(OpId { site: 3, seq: 1 }, OpFault::BadClock),
             "operation 3.1 dropped: BadClock",
