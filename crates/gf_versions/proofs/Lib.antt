@@ -2,6 +2,7 @@ pub mod KeyLemmas
 pub mod LimitLemmas
 pub mod MakerLemmas
 pub mod RankingLemmas
+pub mod SameHistoryLemmas
 pub mod SettlingLemmas
 pub mod ShapeLemmas
 pub mod TopLemmas

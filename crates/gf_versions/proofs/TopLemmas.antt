@@ -26,18 +26,20 @@ use Rattle.gf_versions.proofs.KeyLemmas.{above_one_way, above_transitive, neithe
 use Rattle.gf_ops.proofs.ListLemmas.{Contains-cons_cases, Contains-cons_head, Contains-cons_tail, not_Contains-nil}
 use Rattle.gf_versions.proofs.ShapeLemmas.{shape_holds}
 
+module _ {X : Type 0} (Above : X → X → Type 0) where
+  -- in a falling list the head is above each later element, and the rest falls
+  pub head_above : (x : X) (xs : List X) → AllPairs Above (x ∷ xs) → (w : X) → Contains xs w → Above x w
+  head_above x xs o w (k, h, e) = subst (Above x) e (o 0 (suc k) w (omega arith) (omega arith))
+
+  pub tail_falls : (x : X) (xs : List X) → AllPairs Above (x ∷ xs) → AllPairs Above xs
+  tail_falls x xs o i j d l m = o (suc i) (suc j) d (omega arith) (omega arith)
+
 module _ {X : Type 0} (Above : X → X → Type 0) (one_way : (a b : X) → Above a b → ¬ (Above b a)) (test : X → Bool) where
   -- v passes, and no element above it does
   pub record IsFirst (xs : List X) (v : X) : Type 0 where
     pub known : Contains xs v
     pub passes : test v ≡ true
     pub highest : (w : X) → Contains xs w → test w ≡ true → ¬ (Above w v)
-
-  head_above : (x : X) (xs : List X) → AllPairs Above (x ∷ xs) → (w : X) → Contains xs w → Above x w
-  head_above x xs o w (k, h, e) = subst (Above x) e (o 0 (suc k) w (omega arith) (omega arith))
-
-  tail_falls : (x : X) (xs : List X) → AllPairs Above (x ∷ xs) → AllPairs Above xs
-  tail_falls x xs o i j d l m = o (suc i) (suc j) d (omega arith) (omega arith)
 
   -- in a falling list the first that passes is above each other that passes
   pub find_first : (xs : List X) (v : X) → AllPairs Above xs → find test xs ≡ Some v → IsFirst xs v
@@ -49,10 +51,10 @@ module _ {X : Type 0} (Above : X → X → Type 0) (one_way : (a b : X) → Abov
           passes = t;
           highest = λ w h k a. elim (Contains-cons_cases x xs w h) [
             | inl q ↦ let b = subst (λ (z : X). Above z x) q a in one_way x x b b
-            | inr r ↦ one_way w x a (head_above x xs o w r)
+            | inr r ↦ one_way w x a (head_above Above x xs o w r)
           ];
         })
-    | inr t ↦ let f = find_first xs v (tail_falls x xs o) (sym (cond-false (test x) (Some x) (find test xs) t) ∙ e) in record {
+    | inr t ↦ let f = find_first xs v (tail_falls Above x xs o) (sym (cond-false (test x) (Some x) (find test xs) t) ∙ e) in record {
       known = Contains-cons_tail x xs v f.known;
       passes = f.passes;
       highest = λ w h k. elim (Contains-cons_cases x xs w h) [

@@ -1,6 +1,6 @@
 //! Laws of versions and of the history's colour, each the contract of a function that does nothing.
 
-ghost use Rattle.std.specs.Prelude.{◌≡◌, ◌⊎◌, List};
+ghost use Rattle.std.specs.Prelude.{◌≡◌, ◌⊎◌, ◌↔◌, List, Contains};
 ghost use Rattle.gf_shape.specs.declared.point.Point.{Point};
 ghost use Rattle.gf_shape.specs.declared.colour.Rgb.{Rgb};
 ghost use Rattle.gf_shape.specs.declared.any_shape.AnyShape.{AnyShape};
@@ -41,4 +41,9 @@ pub fn one_colour_at_a_point()
 /// The first of the ranked versions that holds a point has the colour that the history means there.
 pub fn the_first_that_holds_is_on_top()
     ensures { (h : List Op) (items : List (Placed AnyShape)) → AreRanked h items → (p : Point) → HistoryColour h p (first_colour any_holds items p) }
+{}
+
+/// Histories of the same operations have the same ranked list: the order of the operations says nothing.
+pub fn the_same_operations_rank_alike()
+    ensures { (h k : List Op) → ((a : Op) → Contains h a ↔ Contains k a) → (items others : List (Placed AnyShape)) → AreRanked h items → AreRanked k others → items ≡ others }
 {}

@@ -6,6 +6,7 @@
 //! - [`settle`]: makes the version of a group; [`ranked`]: makes that list.
 //! - [`a_version_settles_each_attribute_once`], [`versions_are_in_a_total_order`],
 //!   [`one_colour_at_a_point`], [`the_first_that_holds_is_on_top`]: the laws.
+//! - [`the_same_operations_rank_alike`]: the law that the order of a history says nothing.
 #![tactic(auto)]
 
 mod giving;
@@ -21,7 +22,7 @@ mod tests;
 pub use key::{Version, VersionKey};
 pub use laws::{
     a_version_settles_each_attribute_once, one_colour_at_a_point, the_first_that_holds_is_on_top,
-    versions_are_in_a_total_order,
+    the_same_operations_rank_alike, versions_are_in_a_total_order,
 };
 pub use placed::{Placed, Ranked};
 pub use ranking::ranked;
