@@ -8,7 +8,7 @@ use Rattle.gf_ops.specs.declared.op.OpId.{OpId}
 use Rattle.gf_ops.specs.declared.faults.OpFault.{OpFault}
 use Rattle.gf_ops.specs.Accepted.{IsRefused}
 use Rattle.gf_ops.specs.ValidHistory.{IsValid}
-use Rattle.gf_causal.specs.DeliveredPart.{AreOneById, IsDelivered, IsDeliveredPart}
+use Rattle.gf_causal.specs.DeliveredPart.{AreOneById, HaveSame, IsDelivered, IsDeliveredPart}
 use Rattle.gf_causal.specs.HeldOperations.{HasOther}
 use Rattle.gf_causal.specs.Ready.{IsReady}
 use Rattle.gf_versions.specs.declared.placed.Placed.{Placed}
@@ -46,6 +46,14 @@ pub record Denotes (bytes : List ℕ) (history : List Op) : Type 0 where
   pub ops : List Op
   pub lines : AreLinesOf (numbered_lines bytes) ops
   pub delivers : Delivers ops history
+
+-- the lines of both denote operations, and these are the same, in whatever order and however often
+pub record HaveSameOperations (bytes others : List ℕ) : Type 0 where
+  pub ops : List Op
+  pub lines : AreLinesOf (numbered_lines bytes) ops
+  pub other_ops : List Op
+  pub other_lines : AreLinesOf (numbered_lines others) other_ops
+  pub same : HaveSame ops other_ops
 
 -- the lines of the bytes before line number n denote operations that deliver a history, and this is line n
 pub record IsAt (bytes : List ℕ) (n : ℕ) (line : List ℕ) : Type 0 where
