@@ -1,39 +1,27 @@
 -- The canonical drawing grows by one figure with each version.
-use Rattle.std.proofs.Common.{◌≡◌, ℕ, ◌+◌, ◌<◌, ◌≤◌, Bool, true, false, cond, List, [], ◌∷◌, ◌++◌, map, length, suc, refl, sym, ap, subst, ◌∙◌, inl, inr, arith, length-append, append_assoc}
-use Rattle.std.specs.Prelude.{nat_lt, not, ◌&&◌, ◌||◌, ◌==◌, filter, unwrap_or, position, All}
+use Rattle.std.proofs.Common.{◌≡◌, ℕ, ◌+◌, ◌<◌, ◌≤◌, Bool, true, false, List, [], ◌∷◌, ◌++◌, map, length, suc, refl, sym, ap, subst, ◌∙◌, inl, inr, arith, length-append, append_assoc}
+use Rattle.std.specs.Prelude.{not, ◌&&◌, ◌||◌, ◌==◌, filter, All}
 use Rattle.std.specs.Bool.{Decides}
 use Rattle.std.specs.List.{position_or_len, enumerate_from, list_any}
 use Rattle.std.proofs.lemmas.Bool.{cases_Bool, or_parts}
-use Rattle.std.proofs.lemmas.Bool.Decides.{nat_tests, Decides-eqb, Decides-and, Decides-like}
+use Rattle.std.proofs.lemmas.Bool.Decides.{Decides-eqb, Decides-and, Decides-like}
 use Rattle.std.proofs.lemmas.List.{append-nil, map-append, length-map}
 use Rattle.std.proofs.lemmas.List.Elements.{filter-append, All-nil, All-cons, All-head, All-tail, All-weaker}
 use Rattle.std.proofs.lemmas.List.FromFn.{length-enumerate_from}
 use Rattle.gf_shape.specs.declared.colour.Rgb.{Rgb}
 use Rattle.gf_versions.specs.declared.placed.Placed.{Placed}
-use Rattle.gf_drawing.specs.CanonicalDrawing.{rgb_eq, first_seen, colours_of, number_of, canonical_figure, canonical_table, canonical_figures, canonical_drawing}
-use Rattle.gf_drawing.specs.Compiling.{place_in, with_colour, with_item}
+use Rattle.gf_drawing.specs.CanonicalDrawing.{rgb_eq, first_seen, colours_of, number_of, canonical_figure, canonical_figures, canonical_drawing}
+use Rattle.gf_drawing.specs.Compiling.{with_item, with_new}
 
--- the place of the first that passes is at most the length
-pub position_or_len-within : {X : Type 0} (p : X → Bool) (xs : List X) → position_or_len p xs ≤ length xs
-position_or_len-within p [] = omega arith
-position_or_len-within p (x ∷ xs) = elim (cases_Bool (p x)) [ inl t ↦ rw t (omega arith) | inr t ↦ rw t (let r = position_or_len-within p xs in omega arith) ]
-
--- what `position` does not find has the length for its place
-pub position_or_len_from_position : {X : Type 0} (p : X → Bool) (xs : List X) → unwrap_or (position p xs) (length xs) ≡ position_or_len p xs
-position_or_len_from_position p xs =
-    elim (cases_Bool (nat_lt (position_or_len p xs) (length xs))) [
-      | inl t ↦ rw t
-      | inr t ↦ rw t (let w = position_or_len-within p xs in grind (arith, nat_tests))
-    ]
+-- where none passes, the place is the length
+pub position_or_len-absent : {X : Type 0} (p : X → Bool) (xs : List X) → list_any p xs ≡ false → position_or_len p xs ≡ length xs
+position_or_len-absent p [] e = refl
+position_or_len-absent p (x ∷ xs) e = let parts = or_parts (p x) (list_any p xs) e in let rest = position_or_len-absent p xs parts.1 in rw parts.0 (omega arith)
 
 -- the test of colours tells whether they are one
 pub rgb_decided : (c d : Rgb) → Decides (rgb_eq c d) (c ≡ d)
 rgb_decided c d = Decides-like (rgb_eq c d) (λ h k. record { r = h.0.0 k; g = h.0.1 k; b = h.1 k }) (λ e. ((ap (λ (x : Rgb). x.r) e, ap (λ (x : Rgb). x.g) e), ap (λ (x : Rgb). x.b) e))
     (Decides-and (c.r == d.r && c.g == d.g) (c.b == d.b) (Decides-and (c.r == d.r) (c.g == d.g) (Decides-eqb c.r d.r) (Decides-eqb c.g d.g)) (Decides-eqb c.b d.b))
-
--- the distinct colours with c among them
-abbrev pub with_new : List Rgb → Rgb → List Rgb
-with_new cs c = cond (list_any (rgb_eq c) cs) cs (cs ++ c ∷ [])
 
 rgb_false : (c d : Rgb) → rgb_eq d c ≡ false → rgb_eq c d ≡ false
 rgb_false c d e = elim (cases_Bool (rgb_eq c d)) [
@@ -75,32 +63,11 @@ first_seen-push (d ∷ cs) c = ap (λ xs. d ∷ filter (λ x. not (rgb_eq d x)) 
 pub colours_of-push : {S : Type 0} → (items : List (Placed S)) (i : Placed S) → colours_of (items ++ i ∷ []) ≡ with_new (colours_of items) i.colour
 colours_of-push {S} items i = ap first_seen (map-append (λ (j : Placed S). j.colour) items (i ∷ [])) ∙ first_seen-push (map (λ (j : Placed S). j.colour) items) i.colour
 
--- what is there has a place
-place_found : {X : Type 0} (p : X → Bool) (xs : List X) → list_any p xs ≡ nat_lt (position_or_len p xs) (length xs)
-place_found p [] = refl
-place_found p (x ∷ xs) = elim (cases_Bool (p x)) [
-  | inl t ↦ rw t (grind (arith, nat_tests))
-  | inr t ↦ rw (t, place_found p xs) (grind (arith, nat_tests))
-]
-
-pub place_in-enumerate : (n : ℕ) (cs : List Rgb) (c : Rgb) → place_in (enumerate_from n cs) c ≡ position_or_len (rgb_eq c) cs
-place_in-enumerate n [] c = refl
-place_in-enumerate n (d ∷ cs) c = rw (place_in-enumerate (n + 1) cs c)
-
-enumerate_from-push : {X : Type 0} (n : ℕ) (xs : List X) (x : X) → enumerate_from n (xs ++ x ∷ []) ≡ enumerate_from n xs ++ (n + length xs, x) ∷ []
+pub enumerate_from-push : {X : Type 0} (n : ℕ) (xs : List X) (x : X) → enumerate_from n (xs ++ x ∷ []) ≡ enumerate_from n xs ++ (n + length xs, x) ∷ []
 enumerate_from-push n [] x = let e : n ≡ n + 0 = omega arith in ap (λ k. (k, x) ∷ []) e
 enumerate_from-push n (y ∷ xs) x =
     let e : n + 1 + length xs ≡ n + suc (length xs) = omega arith in
     ap (λ ys. (n, y) ∷ ys) (enumerate_from-push (n + 1) xs x ∙ ap (λ k. enumerate_from (n + 1) xs ++ (k, x) ∷ []) e)
-
-pub with_colour-enumerate : (cs : List Rgb) (c : Rgb) → with_colour (enumerate_from 32 cs) c ≡ enumerate_from 32 (with_new cs c)
-with_colour-enumerate cs c = rw (place_in-enumerate 32 cs c, length-enumerate_from 32 cs, ← place_found (rgb_eq c) cs) (elim (cases_Bool (list_any (rgb_eq c) cs)) [
-  | inl there ↦ rw there
-  | inr new ↦ rw (new, enumerate_from-push 32 cs c)
-])
-
-pub canonical_table-push : {S : Type 0} → (items : List (Placed S)) (i : Placed S) → canonical_table (items ++ i ∷ []) ≡ with_colour (canonical_table items) i.colour
-canonical_table-push items i = ap (enumerate_from 32) (colours_of-push items i) ∙ sym (with_colour-enumerate (colours_of items) i.colour)
 
 -- a colour keeps its place as others are added
 position-with_new : (cs : List Rgb) (c d : Rgb) → list_any (rgb_eq c) cs ≡ true → position_or_len (rgb_eq c) (with_new cs d) ≡ position_or_len (rgb_eq c) cs
@@ -155,7 +122,7 @@ figures_same {S} cs ds n (i ∷ items) h =
 pub length-canonical_figures : {S : Type 0} → (items : List (Placed S)) → length (canonical_figures items) ≡ length items
 length-canonical_figures items = length-map (enumerate_from 0 items) (canonical_figure (colours_of items)) ∙ length-enumerate_from 0 items
 
-canonical_figures-push : {S : Type 0} → (items : List (Placed S)) (i : Placed S) → canonical_figures (items ++ i ∷ []) ≡ (with_item (canonical_drawing items) i).figures
+canonical_figures-push : {S : Type 0} → (items : List (Placed S)) (i : Placed S) → canonical_figures (items ++ i ∷ []) ≡ (with_item (colours_of items) (canonical_drawing items) i).figures
 canonical_figures-push {S} items i =
     let cs = colours_of items in
     let ds = colours_of (items ++ i ∷ []) in
@@ -163,18 +130,18 @@ canonical_figures-push {S} items i =
     let before : map (canonical_figure ds) (enumerate_from 0 items) ≡ canonical_figures items =
     figures_same ds cs 0 items (All-weaker (λ (j : Placed S). list_any (rgb_eq j.colour) cs ≡ true) (λ (j : Placed S). number_of ds j.colour ≡ number_of cs j.colour)
     (λ j e. ap (λ xs. number_of xs j.colour) grown ∙ ap (λ n. 32 + n) (position-with_new cs j.colour i.colour e)) items (own_colour items)) in
-    let number : number_of ds i.colour ≡ 32 + place_in (canonical_table items) i.colour =
-    ap (λ xs. number_of xs i.colour) grown ∙ ap (λ n. 32 + n) (position-own cs i.colour ∙ sym (place_in-enumerate 32 cs i.colour)) in
+    let number : number_of ds i.colour ≡ number_of cs i.colour =
+    ap (λ xs. number_of xs i.colour) grown ∙ ap (λ n. 32 + n) (position-own cs i.colour) in
     let depth : 0 + length items ≡ length (canonical_figures items) = let e = length-canonical_figures items in omega arith in
-    let last : canonical_figure ds (0 + length items, i) ≡ record { shape = i.shape; colour = 32 + place_in (canonical_table items) i.colour; depth = length (canonical_figures items) } =
+    let last : canonical_figure ds (0 + length items, i) ≡ record { shape = i.shape; colour = number_of cs i.colour; depth = length (canonical_figures items) } =
     λ k. record { shape = i.shape; colour = number k; depth = depth k } in
     ap (map (canonical_figure ds)) (enumerate_from-push 0 items i)
     ∙ (map-append (canonical_figure ds) (enumerate_from 0 items) ((0 + length items, i) ∷ [])
     ∙ (ap (λ fs. fs ++ canonical_figure ds (0 + length items, i) ∷ []) before ∙ ap (λ f. canonical_figures items ++ f ∷ []) last))
 
 -- one more version at the back is one step more
-pub canonical_drawing-push : {S : Type 0} → (items : List (Placed S)) (i : Placed S) → canonical_drawing (items ++ i ∷ []) ≡ with_item (canonical_drawing items) i
-canonical_drawing-push items i = λ k. record { table = canonical_table-push items i k; figures = canonical_figures-push items i k }
+pub canonical_drawing-push : {S : Type 0} → (items : List (Placed S)) (i : Placed S) → canonical_drawing (items ++ i ∷ []) ≡ with_item (colours_of items) (canonical_drawing items) i
+canonical_drawing-push items i = λ k. record { table = enumerate_from 32 (colours_of-push items i k); figures = canonical_figures-push items i k }
 
 -- more versions have no fewer colours
 colours_of-more : {S : Type 0} → (items rest : List (Placed S)) → length (colours_of items) ≤ length (colours_of (items ++ rest))
@@ -188,12 +155,11 @@ colours_of-more items (i ∷ rest) =
     with_new-long : (cs : List Rgb) (c : Rgb) → length cs ≤ length (with_new cs c)
     with_new-long cs c = elim (cases_Bool (list_any (rgb_eq c) cs)) [ inl t ↦ rw t (omega arith) | inr t ↦ rw (t, length-append cs (c ∷ [])) (omega arith) ]
 
--- where the table of the first versions has no room for the next one's colour, all have too many
-pub full_table : {S : Type 0} → (seen : List (Placed S)) (i : Placed S) (rest : List (Placed S)) → 512 < length (with_colour (canonical_table seen) i.colour) →
+-- where the colours of the first versions leave no room for the next one's, all have too many
+pub full_table : {S : Type 0} → (seen : List (Placed S)) (i : Placed S) (rest : List (Placed S)) → 512 < length (with_new (colours_of seen) i.colour) →
     512 < length (colours_of (seen ++ i ∷ rest))
 full_table seen i rest full =
-    let long : length (with_colour (canonical_table seen) i.colour) ≡ length (colours_of (seen ++ i ∷ [])) =
-    ap length (sym (canonical_table-push seen i)) ∙ length-enumerate_from 32 (colours_of (seen ++ i ∷ [])) in
+    let long = ap length (colours_of-push seen i) in
     let more = colours_of-more (seen ++ i ∷ []) rest in
     let whole : length (colours_of ((seen ++ i ∷ []) ++ rest)) ≡ length (colours_of (seen ++ i ∷ rest)) = ap (λ xs. length (colours_of xs)) (append_assoc seen (i ∷ []) rest) in
     omega arith
@@ -204,7 +170,3 @@ canonical_room seen i rest few =
     let figures = length-canonical_figures seen in
     let long = length-append seen (i ∷ rest) in
     omega arith
-
--- the table has as many entries as there are colours
-pub length-canonical_table : {S : Type 0} → (items : List (Placed S)) → length (canonical_table items) ≡ length (colours_of items)
-length-canonical_table items = length-enumerate_from 32 (colours_of items)

@@ -6,3 +6,4 @@ pub mod CompilingLemmas
 pub mod NumberLemmas
 pub mod CanonicalColour
 pub mod OutlinedLemmas
+pub mod TableLemmas

@@ -1,5 +1,5 @@
 -- The numbers of a compiled table: the next one is free, and each colour is found under its own.
-use Rattle.std.proofs.Common.{◌≡◌, ℕ, ◌+◌, ◌<◌, ◌≤◌, Bool, true, cond, List, [], ◌∷◌, ◌++◌, map, length, eqb, refl, sym, ap, ◌∙◌, inl, inr, arith}
+use Rattle.std.proofs.Common.{◌≡◌, ℕ, ◌+◌, ◌<◌, ◌≤◌, Bool, true, false, cond, List, [], ◌∷◌, ◌++◌, length, eqb, refl, sym, ap, ◌∙◌, inl, inr, arith}
 use Rattle.std.specs.Prelude.{not, find, option_map, Option, Some, None, is_none, is_some, nat_le, All}
 use Rattle.std.specs.Option.{option_or}
 use Rattle.std.specs.List.{position_or_len, enumerate_from, list_any}
@@ -7,14 +7,12 @@ use Rattle.std.proofs.lemmas.Bool.{cases_Bool, and_from, cond-true, cond-false, 
 use Rattle.std.proofs.lemmas.Bool.Decides.{nat_tests}
 use Rattle.std.proofs.lemmas.List.Elements.{All-head, All-tail, All-nil, All-cons, All-from_recursion}
 use Rattle.std.proofs.lemmas.List.Folds.{find-append}
-use Rattle.std.proofs.lemmas.List.FromFn.{length-enumerate_from}
 use Rattle.gf_shape.specs.declared.colour.Rgb.{Rgb}
-use Rattle.gf_versions.specs.declared.placed.Placed.{Placed}
-use Rattle.gf_drawing.specs.CanonicalDrawing.{rgb_eq, colours_of, canonical_table}
+use Rattle.gf_drawing.specs.CanonicalDrawing.{number_of, rgb_eq}
 use Rattle.gf_drawing.specs.Colours.{Table, colour_in, rgb_of, standard_colours}
-use Rattle.gf_drawing.specs.Compiling.{place_in, with_colour, IsNumbered}
+use Rattle.gf_drawing.specs.Compiling.{with_new}
 use Rattle.gf_drawing.specs.DrawingState.{IsFreeNumber, IsLawfulFigure, is_table_number}
-use Rattle.gf_drawing.proofs.CompilingLemmas.{rgb_decided, with_new, with_colour-enumerate, place_in-enumerate, position-own}
+use Rattle.gf_drawing.proofs.CompilingLemmas.{rgb_decided, position-own, position_or_len-absent, enumerate_from-push}
 
 abbrev is_number : ℕ → ℕ × Rgb → Bool
 is_number n e = eqb e.0 n
@@ -36,15 +34,34 @@ enumerated_below m n (c ∷ cs) h = All-cons (Below n) (m, c) (enumerate_from (m
 in_table : (n : ℕ) → 32 ≤ n → n ≤ 543 → is_table_number n ≡ true
 in_table n h l = grind (arith, nat_tests)
 
--- the next number is free
-pub free_next : (table : Table) → IsNumbered table → length table < 512 → IsFreeNumber table (32 + length table)
-free_next table numbered few =
-    let cs = map (λ (e : ℕ × Rgb). e.1) table in
-    let long : length cs ≡ length table = sym (length-enumerate_from 32 cs) ∙ ap length (sym numbered) in
-    let none : find (is_number (32 + length table)) table ≡ None =
-    ap (find (is_number (32 + length table))) numbered ∙ none_below (32 + length table) (enumerate_from 32 cs) (enumerated_below 32 (32 + length table) cs (omega arith)) in
-    let free : is_none (colour_in table (32 + length table)) ≡ true = rw none refl in
-    and_from _ _ (in_table (32 + length table) (omega arith) (omega arith)) free
+absent : (c : Rgb) (cs : List Rgb) → not (list_any (rgb_eq c) cs) ≡ true → list_any (rgb_eq c) cs ≡ false
+absent c cs new = elim (cases_Bool (list_any (rgb_eq c) cs)) [
+  | inl t ↦ let n = rw t at new in absurd cc
+  | inr t ↦ t
+]
+
+-- the table numbers the colours cs, and c is none of them
+module _ (table : Table) (cs : List Rgb) (c : Rgb) (place : ℕ) (numbered : table ≡ enumerate_from 32 cs) (found : place ≡ position_or_len (rgb_eq c) cs) (new : not (list_any (rgb_eq c) cs) ≡ true) where
+  -- its number is the next one
+  next : place ≡ length cs
+  next = found ∙ position_or_len-absent (rgb_eq c) cs (absent c cs new)
+
+  -- which is free
+  pub free_next : place < 512 → IsFreeNumber table (32 + place)
+  free_next few =
+      let n = 32 + place in
+      let none : find (is_number n) table ≡ None =
+      ap (find (is_number n)) numbered ∙ none_below n (enumerate_from 32 cs) (enumerated_below 32 n cs (let e = next in omega arith)) in
+      let free : is_none (colour_in table n) ≡ true = rw none refl in
+      and_from _ _ (in_table n (omega arith) (omega arith)) free
+
+  -- and the table with it numbers them all
+  pub table_next : table ++ (32 + place, c) ∷ [] ≡ enumerate_from 32 (with_new cs c)
+  table_next =
+      ap (λ t. t ++ (32 + place, c) ∷ []) numbered
+      ∙ (ap (λ k. enumerate_from 32 cs ++ (32 + k, c) ∷ []) next
+      ∙ (sym (enumerate_from-push 32 cs c)
+      ∙ ap (enumerate_from 32) (sym (rw (absent c cs new) refl))))
 
 -- the colour under the number of a place is the one that stands there
 at_place : (p : Rgb → Bool) (m : ℕ) (cs : List Rgb) → colour_in (enumerate_from m cs) (m + position_or_len p cs) ≡ find p cs
@@ -96,22 +113,11 @@ in_depth : (n : ℕ) → n < 1000 → nat_le n 999 ≡ true
 in_depth n h = grind (arith, nat_tests)
 
 -- the figure of the next version is lawful
-pub lawful_next : {S : Type 0} → (table grown : Table) (c : Rgb) (shape : S) (number depth : ℕ) → IsNumbered table → grown ≡ with_colour table c → number ≡ 32 + place_in table c → depth < 1000 →
-    IsLawfulFigure grown (record { shape = shape; colour = number; depth = depth })
-lawful_next table grown c shape number depth numbered added under room =
-    let cs = map (λ (e : ℕ × Rgb). e.1) table in
-    let new : grown ≡ enumerate_from 32 (with_new cs c) = added ∙ (ap (λ t. with_colour t c) numbered ∙ with_colour-enumerate cs c) in
-    let place : number ≡ 32 + position_or_len (rgb_eq c) (with_new cs c) =
-    under ∙ ap (λ n. 32 + n) (ap (λ t. place_in t c) numbered ∙ (place_in-enumerate 32 cs c ∙ sym (position-own cs c))) in
-    let given : rgb_of grown number ≡ Some c =
-    ap (λ t. rgb_of t number) new ∙ (ap (λ n. rgb_of (enumerate_from 32 (with_new cs c)) n) place ∙ number_gives c (with_new cs c) (own_new cs c)) in
-    let coloured : is_some (rgb_of grown number) ≡ true = ap is_some given in
+pub lawful_next : {S : Type 0} → (cs : List Rgb) (table : Table) (c : Rgb) (shape : S) (number depth : ℕ) → table ≡ enumerate_from 32 (with_new cs c) → number ≡ number_of cs c → depth < 1000 →
+    IsLawfulFigure table (record { shape = shape; colour = number; depth = depth })
+lawful_next cs table c shape number depth grown under room =
+    let place : number ≡ number_of (with_new cs c) c = under ∙ ap (λ n. 32 + n) (sym (position-own cs c)) in
+    let given : rgb_of table number ≡ Some c =
+    ap (λ t. rgb_of t number) grown ∙ (ap (λ n. rgb_of (enumerate_from 32 (with_new cs c)) n) place ∙ number_gives c (with_new cs c) (own_new cs c)) in
+    let coloured : is_some (rgb_of table number) ≡ true = ap is_some given in
     and_from _ _ coloured (in_depth depth room)
-
--- the canonical table is numbered
-enumerated_numbered : (m : ℕ) (cs : List Rgb) → map (λ (e : ℕ × Rgb). e.1) (enumerate_from m cs) ≡ cs
-enumerated_numbered m [] = refl
-enumerated_numbered m (c ∷ cs) = ap (λ ds. c ∷ ds) (enumerated_numbered (m + 1) cs)
-
-pub canonical_numbered : {S : Type 0} → (items : List (Placed S)) → IsNumbered (canonical_table items)
-canonical_numbered items = sym (ap (enumerate_from 32) (enumerated_numbered 32 (colours_of items)))

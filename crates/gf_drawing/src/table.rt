@@ -1,11 +1,11 @@
 //! Colour tables.
 
-ghost use Rattle.std.specs.Prelude.{◌≡◌, [], ◌∷◌, ◌++◌, length, slice_get, OnOk, OnErr, nat_eq, position};
+ghost use Rattle.std.specs.Prelude.{◌≡◌, [], ◌∷◌, ◌++◌, length, slice_get, OnOk, OnErr, nat_eq};
 ghost use Rattle.gf_drawing.specs.Colours.{colour_in};
-ghost use Rattle.gf_drawing.specs.CanonicalDrawing.{rgb_eq};
-ghost use Rattle.gf_drawing.specs.Compiling.{place_in};
+ghost use Rattle.gf_drawing.specs.DrawingState.{IsFreeNumber};
 
 use gf_shape::{OutOfMemory, Rgb};
+use indexmap::IndexMap;
 use std::alloc::Global;
 use std::marker::Model;
 
@@ -13,7 +13,7 @@ use std::marker::Model;
 /// adding.
 #[derive(Debug, Drop)]
 pub struct ColourTable {
-    entries: Vec<(u16, Rgb)>,
+    entries: IndexMap<u16, Rgb>,
 }
 
 impl Model for ColourTable {
@@ -21,7 +21,7 @@ impl Model for ColourTable {
 
     ghost Value = { Table };
 
-    ghost view = { λ t. t.entries.items };
+    ghost view = { λ t. t.entries.entries };
 }
 
 impl ColourTable {
@@ -30,7 +30,7 @@ impl ColourTable {
         ensures { result ≡ [] }
     {
         ColourTable {
-            entries: Vec::new(alloc),
+            entries: IndexMap::new(alloc),
         }
     }
 
@@ -52,44 +52,25 @@ impl ColourTable {
     pub fn at(&self, i: usize) -> Option<(u16, Rgb)>
         ensures { result ≡ slice_get self.now i }
     {
-        self.entries.get(i).copied()
+        let (number, colour) = self.entries.get_index(i)?;
+        Some((*number, *colour))
     }
 
     /// The colour under a number.
+    #[tactic(auto, using(crate::proofs::TableLemmas::lookup_by_number))]
     pub(crate) fn colour(&self, number: u16) -> Option<Rgb>
         ensures { result ≡ colour_in self.now number }
     {
-        colour_among(&self.entries, number)
-    }
-
-    /// The first place of a colour, or the table's length.
-    #[tactic(auto, using(crate::proofs::CompilingLemmas::position_or_len_from_position))]
-    pub(crate) fn place(&self, colour: Rgb) -> usize
-        ensures { result ≡ place_in self.now colour }
-    {
-        place_among(&self.entries, colour).unwrap_or(self.entries.len())
+        self.entries.get(&number).copied()
     }
 
     /// Adds a colour at the end.
     pub(crate) fn add(&mut self, number: u16, colour: Rgb) -> Result<(), OutOfMemory>
+        requires { IsFreeNumber self.old number }
         ensures ok { OnOk result (self.new ≡ self.old ++ (number, colour) ∷ []) }
         ensures err { OnErr result (self.new ≡ self.old) }
     {
-        self.entries.push((number, colour))?;
+        self.entries.insert(number, colour)?;
         Ok(())
     }
-}
-
-/// The colour of the first entry with this number.
-fn colour_among(entries: &[(u16, Rgb)], number: u16) -> Option<Rgb>
-    ensures { result ≡ colour_in entries.now number }
-{
-    entries.iter().find(|e| e.0 == number).map(|e| e.1)
-}
-
-/// The place of the first entry with this colour.
-fn place_among(entries: &[(u16, Rgb)], colour: Rgb) -> Option<usize>
-    ensures { result ≡ position (λ e. rgb_eq colour e.1) entries.now }
-{
-    entries.iter().position(|e| colour == e.1)
 }
