@@ -114,14 +114,14 @@ fn refusals_are_told(rt: HostRuntime) -> Result<(), Fail> {
     Ok(())
 }
 
-/// Lines of so many boxes, of so many colours in turn.
+/// Lines of so many boxes, the n-th at (n, 0), of so many colours in turn.
 fn boxes(alloc: Global, count: u32, colours: u32) -> Result<String, AllocError> {
     let mut text = String::new(alloc);
     for n in 1..=count {
         let colour = n % colours.max(1);
         let before = n - 1;
         let line = format!(in alloc;
-            "{{\"op\":\"create\",\"id\":[1,{n}],\"past\":[{before},0,0,0,0,0,0,0],\"kind\":\"box\",\"place\":[0,0],\"size\":[10,10],\"colour\":\"{colour:06x}\",\"layer\":0,\"shown\":true}}\n"
+            "{{\"op\":\"create\",\"id\":[1,{n}],\"past\":[{before},0,0,0,0,0,0,0],\"kind\":\"box\",\"place\":[{n},0],\"size\":[10,10],\"colour\":\"{colour:06x}\",\"layer\":0,\"shown\":true}}\n"
         )?;
         text.push_str(line.as_str())?;
     }
@@ -133,19 +133,60 @@ fn the_limits_of_a_drawing_are_told(rt: HostRuntime) -> Result<(), Fail> {
     let too_many_versions = "figgroup: export refused: TooManyVersions\n";
     let too_many_colours = "figgroup: export refused: TooManyColours\n";
     let rows = [
-        (1_000, 1, 0, ""),
-        (1_001, 1, 1, too_many_versions),
-        (1_001, 513, 1, too_many_versions),
-        (512, 512, 0, ""),
-        (513, 513, 1, too_many_colours),
+        (1_001, 1, too_many_versions),
+        (1_001, 513, too_many_versions),
+        (513, 513, too_many_colours),
     ];
-    for (row, (count, colours, status, want)) in rows.iter().enumerate() {
+    for (row, (count, colours, want)) in rows.iter().enumerate() {
         let input = boxes(rt.alloc(), *count, *colours)?;
         let mut source = Reel::new(input.as_bytes(), None);
-        let (answer, output, faults) = run(&rt, &["figgroup", "fig"], &mut source)?;
-        assert_eq!(rt; answer, *status, "row {row}");
-        assert_eq!(rt; output.bytes().is_empty(), *status == 1, "row {row}");
+        let (status, output, faults) = run(&rt, &["figgroup", "fig"], &mut source)?;
+        assert_eq!(rt; status, 1, "row {row}");
+        assert!(rt; output.bytes().is_empty(), "row {row}");
         assert_eq!(rt; faults.bytes(), want.as_bytes(), "row {row}");
+    }
+    Ok(())
+}
+
+// The 514th operation hides the first of 513 boxes.
+const HIDES_THE_FIRST: &str =
+    "{\"id\":[1,514],\"object\":[1,1],\"op\":\"set\",\"past\":[513,0,0,0,0,0,0,0],\"set\":\"shown\",\"to\":false}\n";
+
+#[test]
+fn drawings_reach_their_limits(rt: HostRuntime) -> Result<(), Fail> {
+    let rows = [
+        (
+            1_000,
+            1,
+            "",
+            "0 32 #000000\n2 2 0 0 32 32 0 ",
+            "\n2 2 0 0 32 32 999 -1 20 0.000 0 0 -1 0 0 5\n\t 1 0 11 0 11 10 1 10 1 0\n",
+        ),
+        (
+            512,
+            512,
+            "",
+            "\n0 543 #000001\n2 2 0 0 32 32 0 ",
+            "\n2 2 0 0 543 543 511 -1 20 0.000 0 0 -1 0 0 5\n\t 1 0 11 0 11 10 1 10 1 0\n",
+        ),
+        (
+            513,
+            513,
+            HIDES_THE_FIRST,
+            "\n0 543 #000002\n2 2 0 0 32 32 0 ",
+            "\n2 2 0 0 543 543 511 -1 20 0.000 0 0 -1 0 0 5\n\t 2 0 12 0 12 10 2 10 2 0\n",
+        ),
+    ];
+    for (row, (count, colours, more, inside, end)) in rows.iter().enumerate() {
+        let alloc = rt.alloc();
+        let mut input = boxes(alloc, *count, *colours)?;
+        input.push_str(more)?;
+        let mut source = Reel::new(input.as_bytes(), None);
+        let (status, output, _) = run(&rt, &["figgroup", "fig"], &mut source)?;
+        assert_eq!(rt; status, 0, "row {row}");
+        let text = std::str::from_utf8(output.bytes())?;
+        assert!(rt; text.contains(*inside), "row {row}");
+        assert!(rt; text.ends_with(*end), "row {row}");
     }
     Ok(())
 }
