@@ -9,7 +9,8 @@ baseline=$root/crates/bench_lines/out/bench_lines
 folder=$(mktemp -d)
 trap 'rm -rf "$folder"' EXIT
 
-LONGEST_SECONDS=60
+LONGEST_SECONDS=30
+WITHOUT_REP=glibc.cpu.x86_rep_stosb_threshold=1073741824:glibc.cpu.x86_rep_movsb_threshold=1073741824
 declare -A seconds kib count
 
 "$root/figgroup" --version > /dev/null
@@ -19,37 +20,42 @@ if ! built=$(cd "$root/crates/bench_lines" && rt run 2>&1 < /dev/null); then
 fi
 python3 "$root/bench/fig_inputs.py" "$folder"
 
-# The wall time in seconds and the greatest memory in KiB, of the best of three runs.
-best() {
-    local input=$1
-    shift
-    for _ in 1 2 3; do
-        /usr/bin/time -o "$folder/times" -a -f '%e %M' "$@" < "$input" > "$folder/output"
-    done
-    sort -n "$folder/times" | head -n 1
-    rm "$folder/times"
+# Runs a program on an input, and notes its wall time in seconds and its greatest memory in KiB.
+run() {
+    local name=$1 input=$folder/$2.jsonl
+    shift 2
+    /usr/bin/time -o "$folder/$name.times" -a -f '%e %M' "$@" < "$input" > "$folder/$name.output"
 }
 
-# The instructions, or 0 where valgrind is not there.
+# The instructions, or 0 where valgrind is not there. It counts a `rep stosb` as one for each byte, so
+# the C library is told not to use it.
 instructions() {
     local input=$1
     shift
     if command -v valgrind > /dev/null; then
-        valgrind --tool=callgrind --callgrind-out-file=/dev/null "$@" 2>&1 > /dev/null < "$input" |
+        GLIBC_TUNABLES=$WITHOUT_REP valgrind --tool=callgrind --callgrind-out-file=/dev/null "$@" 2>&1 > /dev/null < "$input" |
             sed -n 's/.*Collected : //p'
     else
         echo 0
     fi
 }
 
-# Prints the figures of a run under a name, and keeps them for the ratios.
-measure() {
+# Prints the figures of the fastest of the runs of a name, and keeps them for the ratios.
+tell() {
     local name=$1 input=$folder/$2.jsonl
     shift 2
-    read -r "seconds[$name]" "kib[$name]" < <(best "$input" "$@")
+    read -r "seconds[$name]" "kib[$name]" < <(sort -n "$folder/$name.times" | head -n 1)
     count[$name]=$(instructions "$input" "$@")
     printf '%-10s %6d lines %6s s %15d instructions %7d KiB\n' \
         "$name" "$(wc -l < "$input")" "${seconds[$name]}" "${count[$name]}" "${kib[$name]}"
+}
+
+# Does this with each program and input in turn, so that a load of the machine meets all alike.
+each() {
+    for name in causal shuffled backwards few pairs; do
+        "$1" "$name" "$name" "$program" fig
+    done
+    "$1" baseline causal "$baseline"
 }
 
 # Prints how two runs compare, and what is wanted.
@@ -65,15 +71,13 @@ quotient() {
     awk -v a="$1" -v b="$2" 'BEGIN { printf b == 0 ? "?" : "%.2f", b == 0 ? 0 : a / b }'
 }
 
-for name in causal shuffled backwards; do
-    measure "$name" "$name" "$program" fig
-    mv "$folder/output" "$folder/$name.fig"
-    cmp "$folder/causal.fig" "$folder/$name.fig"
+for _ in 1 2 3; do
+    each run
 done
+cmp "$folder/causal.output" "$folder/shuffled.output"
+cmp "$folder/causal.output" "$folder/backwards.output"
 echo "the three orders give the same bytes"
-measure few few "$program" fig
-measure pairs pairs "$program" fig
-measure baseline causal "$baseline"
+each tell
 
 compare shuffled causal 1.3
 compare backwards causal 1.3
