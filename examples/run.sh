@@ -6,14 +6,30 @@ output=$(mktemp)
 trap 'rm -f "$output"' EXIT
 
 failed=0
-for example in "$examples"/*/; do
-    name=$(basename "$example")
-    if "$examples/../figgroup" fig < "$example/input.jsonl" > "$output" &&
-        cmp "$output" "$example/expected.fig"; then
+
+# Runs the lines of these files, and compares with what is expected beside them.
+compare() {
+    name=$1
+    expected=$2
+    shift 2
+    if cat "$@" | "$examples/../figgroup" fig > "$output" && cmp "$output" "$expected"; then
         echo "$name: as expected"
     else
         echo "$name: differs" >&2
         failed=1
+    fi
+}
+
+for example in "$examples"/*/; do
+    example=${example%/}
+    name=$(basename "$example")
+    set -- "$example"/*.jsonl
+    compare "$name" "$example/expected.fig" "$@"
+    # A file for each site: the lines of the others wait for the first site's.
+    if [ $# -gt 1 ]; then
+        first=$1
+        shift
+        compare "$name, first site last" "$example/expected.fig" "$@" "$first"
     fi
 done
 exit "$failed"

@@ -1,0 +1,108 @@
+#!/bin/bash
+# Measures whole runs of `figgroup fig` on the inputs of bench/fig_inputs.py: wall time, memory and,
+# where valgrind is there, instructions; checks that order does not change the text; and tries an
+# input that wants more memory than there is.
+set -euo pipefail
+root=$(cd "$(dirname "$0")/.." && pwd)
+program=$root/crates/figgroup/out/figgroup
+baseline=$root/crates/bench_lines/out/bench_lines
+folder=$(mktemp -d)
+trap 'rm -rf "$folder"' EXIT
+
+LONGEST_SECONDS=30
+WITHOUT_REP=glibc.cpu.x86_rep_stosb_threshold=1073741824:glibc.cpu.x86_rep_movsb_threshold=1073741824
+declare -A seconds kib count
+
+"$root/figgroup" --version > /dev/null
+if ! built=$(cd "$root/crates/bench_lines" && rt run 2>&1 < /dev/null); then
+    printf '%s\n' "$built" >&2
+    exit 1
+fi
+python3 "$root/bench/fig_inputs.py" "$folder"
+
+# Runs a program on an input, and notes its wall time in seconds and its greatest memory in KiB.
+run() {
+    local name=$1 input=$folder/$2.jsonl
+    shift 2
+    /usr/bin/time -o "$folder/$name.times" -a -f '%e %M' "$@" < "$input" > "$folder/$name.output"
+}
+
+# The instructions, or 0 where valgrind is not there. It counts a `rep stosb` as one for each byte, so
+# the C library is told not to use it.
+instructions() {
+    local input=$1
+    shift
+    if command -v valgrind > /dev/null; then
+        GLIBC_TUNABLES=$WITHOUT_REP valgrind --tool=callgrind --callgrind-out-file=/dev/null "$@" 2>&1 > /dev/null < "$input" |
+            sed -n 's/.*Collected : //p'
+    else
+        echo 0
+    fi
+}
+
+# Prints the figures of the fastest of the runs of a name, and keeps them for the ratios.
+tell() {
+    local name=$1 input=$folder/$2.jsonl
+    shift 2
+    read -r "seconds[$name]" "kib[$name]" < <(sort -n "$folder/$name.times" | head -n 1)
+    count[$name]=$(instructions "$input" "$@")
+    printf '%-10s %6d lines %6s s %15d instructions %7d KiB\n' \
+        "$name" "$(wc -l < "$input")" "${seconds[$name]}" "${count[$name]}" "${kib[$name]}"
+}
+
+# Does this with each program and input in turn, so that a load of the machine meets all alike.
+each() {
+    for name in causal shuffled backwards few pairs; do
+        "$1" "$name" "$name" "$program" fig
+    done
+    "$1" baseline causal "$baseline"
+}
+
+# Prints how two runs compare, and what is wanted.
+compare() {
+    printf '%s to %s: %s by time' "$1" "$2" "$(quotient "${seconds[$1]}" "${seconds[$2]}")"
+    if [ "${count[$2]}" != 0 ]; then
+        printf ', %s by instructions' "$(quotient "${count[$1]}" "${count[$2]}")"
+    fi
+    printf ' (goal %s)\n' "$3"
+}
+
+quotient() {
+    awk -v a="$1" -v b="$2" 'BEGIN { printf b == 0 ? "?" : "%.2f", b == 0 ? 0 : a / b }'
+}
+
+for _ in 1 2 3; do
+    each run
+done
+cmp "$folder/causal.output" "$folder/shuffled.output"
+cmp "$folder/causal.output" "$folder/backwards.output"
+echo "the three orders give the same bytes"
+each tell
+
+compare shuffled causal 1.3
+compare backwards causal 1.3
+compare causal few 11
+for name in causal shuffled backwards; do
+    compare "$name" baseline 2.5
+done
+for name in causal shuffled backwards; do
+    echo "memory of $name to its input: $(quotient $((kib[$name] * 1024)) "$(stat -c %s "$folder/$name.jsonl")") (goal 3)"
+done
+
+status=0
+before=$EPOCHREALTIME
+(
+    ulimit -v 2097152
+    exec timeout "$LONGEST_SECONDS" "$program" fig
+) < "$folder/rounds.jsonl" > "$folder/output" 2> "$folder/faults" || status=$?
+after=$EPOCHREALTIME
+passed=$(awk -v a="$before" -v b="$after" 'BEGIN { printf "%.1f", b - a }')
+if [ "$status" = 1 ] && [ ! -s "$folder/output" ] && [ "$(cat "$folder/faults")" = "figgroup: out of memory" ]; then
+    echo "30 rounds in 2 GiB: out of memory after $passed s"
+elif [ "$status" = 124 ]; then
+    echo "30 rounds in 2 GiB: no answer within $LONGEST_SECONDS s (goal: out of memory within seconds)"
+else
+    echo "30 rounds in 2 GiB: status $status after $passed s, and not out of memory" >&2
+    cat "$folder/faults" >&2
+    exit 1
+fi
