@@ -104,38 +104,37 @@ fn what_does_not_fit_is_told(rt: HostRuntime) -> Result<(), Fail> {
     let first = BOX.replace(alloc, "[0,0,0,0,0,0,0,0]", "[0,1,0,0,0,0,0,0]")?;
     let third = BOX.replace(alloc, "[1,1]", "[3,1]")?;
     let third = third.replace(alloc, "[0,0,0,0,0,0,0,0]", "[1,0,0,0,0,0,0,0]")?;
+    let clock = format!(in alloc; "{second}\n{first}\n{third}\n")?;
     let green = BOX.replace(alloc, "ff0000", "00ff00")?;
+    let clash = format!(in alloc; "{BOX}\n{green}\n")?;
+    let other = BLUE.replace(alloc, "0000ff", "00ff00")?;
+    let waiting = format!(in alloc; "{BLUE}\n\n{other}\n")?;
     let own = BOX.replace(alloc, "[0,0,0,0,0,0,0,0]", "[1,0,0,0,0,0,0,0]")?;
     let unknown = GREEN.replace(alloc, "[1,0,0,0,0,0,0,0]", "[0,0,0,0,0,0,0,0]")?;
+    let unknown = format!(in alloc; "{BOX}\n{unknown}\n")?;
     let points = GREEN.replace(
         alloc,
         r#""colour","to":"00ff00""#,
         r#""points","to":[[0,0],[1,0],[0,1]]"#,
     )?;
-    for (lines, want) in [
+    let points = format!(in alloc; "{BOX}\n{points}\n")?;
+    for (input, want) in [
         (
-            [second.as_str(), &first, &third].as_slice(),
+            clock.as_str(),
             "figgroup: operation 3.1 dropped: BadClock\n",
         ),
-        ([BOX, &green].as_slice(), "figgroup: line 2: Clash\n"),
+        (clash.as_str(), "figgroup: line 2: Clash\n"),
+        (waiting.as_str(), "figgroup: line 3: Clash\n"),
+        (own.as_str(), "figgroup: operation 1.1 dropped: BadClock\n"),
         (
-            [BLUE, "", &BLUE.replace(alloc, "0000ff", "00ff00")?].as_slice(),
-            "figgroup: line 3: Clash\n",
-        ),
-        (
-            [own.as_str()].as_slice(),
-            "figgroup: operation 1.1 dropped: BadClock\n",
-        ),
-        (
-            [BOX, &unknown].as_slice(),
+            unknown.as_str(),
             "figgroup: operation 2.1 dropped: NoObject\n",
         ),
         (
-            [BOX, &points].as_slice(),
+            points.as_str(),
             "figgroup: operation 2.1 dropped: WrongKind\n",
         ),
     ] {
-        let input = joined(alloc, lines)?;
         let mut source = Reel::new(input.as_bytes(), None);
         let (status, output, faults) = run(&rt, &["figgroup", "fig"], &mut source)?;
         assert_eq!(rt; status, 1, "{want}");
@@ -145,12 +144,12 @@ fn what_does_not_fit_is_told(rt: HostRuntime) -> Result<(), Fail> {
     Ok(())
 }
 
-/// The box and so many rounds in which two sites give it two colours at once.
-fn rounds(alloc: Global, count: u32) -> Result<String, AllocError> {
+/// The box and rounds in which two sites give it two colours at once, up to this operation of site 1.
+fn rounds(alloc: Global, last: u32) -> Result<String, AllocError> {
     let mut text = joined(alloc, &[BOX])?;
-    for round in 1..=count {
-        let before = round - 1;
-        let next = before + 2;
+    for next in 2..=last {
+        let round = next - 1;
+        let before = next - 2;
         let lines = format!(in alloc;
             "{{\"op\":\"set\",\"id\":[1,{next}],\"past\":[{round},{before},0,0,0,0,0,0],\"object\":[1,1],\"set\":\"colour\",\"to\":\"0000ff\"}}\n{{\"op\":\"set\",\"id\":[2,{round}],\"past\":[{round},{before},0,0,0,0,0,0],\"object\":[1,1],\"set\":\"colour\",\"to\":\"00ff00\"}}\n"
         )?;
@@ -161,16 +160,16 @@ fn rounds(alloc: Global, count: u32) -> Result<String, AllocError> {
 
 #[test]
 fn each_round_doubles_the_figures(rt: HostRuntime) -> Result<(), Fail> {
-    for (count, figures) in [(0, 1), (1, 2), (2, 4), (9, 512)] {
-        let input = rounds(rt.alloc(), count)?;
+    for (last, figures) in [(1, 1), (2, 2), (3, 4), (10, 512)] {
+        let input = rounds(rt.alloc(), last)?;
         let mut source = Reel::new(input.as_bytes(), None);
         let (status, output, _) = run(&rt, &["figgroup", "fig"], &mut source)?;
-        assert_eq!(rt; status, 0, "{count}");
+        assert_eq!(rt; status, 0, "{last}");
         let lines = output.bytes().split(|byte| *byte == b'\n');
         let drawn = lines.filter(|line| line.starts_with(b"2 2 ")).count();
-        assert_eq!(rt; drawn, figures, "{count}");
+        assert_eq!(rt; drawn, figures, "{last}");
     }
-    let input = rounds(rt.alloc(), 10)?;
+    let input = rounds(rt.alloc(), 11)?;
     let mut source = Reel::new(input.as_bytes(), None);
     let (status, output, faults) = run(&rt, &["figgroup", "fig"], &mut source)?;
     assert_eq!(rt; status, 1);
