@@ -4,7 +4,6 @@
 //! - [`Offered`], [`OfferFault`]: what an offer to a buffer came to.
 //! - [`a_last_delivery_has_the_delivered_part`], [`each_list_has_a_last_delivery`],
 //!   [`the_delivered_part_of_a_valid_history_is_all_of_it`]: the laws.
-//! - [`a_last_delivery_has_the_delivered_part`]: why the order of offers and takings does not matter.
 #![tactic(auto)]
 
 mod buffer;

@@ -1,6 +1,6 @@
 -- The versions of an object as a list that computes: the sublists of its ids that are compatible and largest
 -- (maximal compatible groups, Sun and Chen, ACM TOCHI 9(1), 2002).
-use Rattle.std.specs.Prelude.{Bool, true, false, not, ◌&&◌, ◌||◌, ◌==◌, nat_le, List, [], ◌∷◌, ◌++◌, filter, map}
+use Rattle.std.specs.Prelude.{Bool, not, ◌&&◌, ◌||◌, ◌==◌, nat_le, List, [], ◌∷◌, ◌++◌, filter, map}
 use Rattle.std.specs.List.{list_any, list_all, fold}
 use Rattle.std.specs.BTreeSet.{insert_key}
 use Rattle.gf_ops.specs.declared.op.Op.{Op}

@@ -1,4 +1,4 @@
--- The code's tests for a conflict. No public clause cites this module.
+-- Tests for a conflict: whether two changes of one object give an attribute different values (after Sun and Chen, ACM TOCHI 9(1), 2002).
 use Rattle.std.specs.Prelude.{Bool, false, not, ◌&&◌, ◌==◌, Option, Some, None}
 use Rattle.std.specs.Bool.{beq}
 use Rattle.std.specs.Ordering.{on, int_eq, eq_of_both}

@@ -84,8 +84,8 @@ pub record HasFault (bytes : List ℕ) (n : ℕ) (cause : LineCause) : Type 0 wh
   pub at : IsAt bytes n line
   pub fault : IsFault at.ops line cause
 
--- with some line the operation under this id is delivered, behind a valid history of delivered operations where it is
--- ready and cannot be added, for this fault; with the lines before that one none is such
+-- what the lines before some line deliver is a valid history; with that line the operation under this id is delivered too,
+-- and it is ready behind a valid history of delivered operations, where it cannot be added, for this fault
 pub record Drops (bytes : List ℕ) (id : OpId) (fault : OpFault) : Type 0 where
   pub number : ℕ
   pub line : List ℕ
