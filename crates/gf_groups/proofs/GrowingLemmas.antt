@@ -1,24 +1,24 @@
 -- The list of all largest compatible groups, each once, grows by one place.
 use Rattle.std.proofs.Common.{◌≡◌, ◌≢◌, ℕ, ◌<◌, Bool, true, false, List, [], ◌∷◌, ◌++◌, map, inl, inr, refl, subst, sym, ◌∙◌, arith}
-use Rattle.std.specs.Prelude.{◌⊎◌, ◌↔◌, AllPairs, Contains, filter, not, ◌||◌, ◌==◌}
+use Rattle.std.specs.Prelude.{◌⊎◌, ◌↔◌, AllPairs, Contains, filter, not, ◌&&◌, ◌||◌, ◌==◌}
 use Rattle.std.specs.List.{list_any}
 use Rattle.std.specs.List.Sorted.{IsStrictlySortedBy}
 use Rattle.std.specs.Bool.{Decides}
 use Rattle.std.specs.Cmp.{nat_cmp_is}
 use Rattle.std.specs.Ordering.{nat_cmp}
 use Rattle.std.specs.declared.cmp.Ordering.TheVariants.{Less}
-use Rattle.std.proofs.lemmas.Bool.{cases_Bool, cond-true, cond-false, not-true, not_from_false, or_cases, or_left, or_right}
+use Rattle.std.proofs.lemmas.Bool.{cases_Bool, and_from, cond-true, cond-false, not-true, not_from_false, or_cases, or_left, or_right}
 use Rattle.std.proofs.lemmas.Bool.Decides.{Decides-eqb}
 use Rattle.std.proofs.lemmas.Cmp.{nat_cmp_total}
-use Rattle.std.proofs.lemmas.List.Elements.{Contains-append_left, Contains-push, Contains-push_cases}
+use Rattle.std.proofs.lemmas.List.Elements.{Contains-append_cases, Contains-append_left, Contains-append_right, Contains-push, Contains-push_cases}
 use Rattle.std.proofs.lemmas.List.Kept.{IsStrictlySortedBy-filter}
 use Rattle.std.proofs.lemmas.Slice.Eq.{slice_eq-Decides}
 use Rattle.gf_ops.proofs.ListLemmas.{Contains-cons_cases, Contains-cons_head, not_Contains-nil, Contains-map, Contains-map_from}
-use Rattle.gf_groups.specs.Growing.{same_group, clashes, step, part, parts, is_covered, is_largest, next}
+use Rattle.gf_groups.specs.Growing.{same_group, clashes, step, part, parts, is_covered, covers, rivals, exposed, largest_of, next}
 use Rattle.gf_groups.proofs.LargestLemmas.{Hits, With, Part, IsLargest, IsConflict, largest_with, largest_stays, largest_was, largest_is_part, compatible_part, largest_alike}
 use Rattle.gf_groups.proofs.ListLemmas.{Contains-filter, list_any_true, list_any_false, list_any_from, list_all_true, list_all_from}
 use Rattle.gf_groups.proofs.RisingLemmas.{one_rising, rising_nil, rising_push}
-use Rattle.gf_groups.proofs.TakingLemmas.{AllPairs-map, taken_up, IsTakenUp}
+use Rattle.gf_groups.proofs.TakingLemmas.{AllPairs-append, AllPairs-map, taken_up, IsTakenUp}
 use Rattle.gf_groups.proofs.ExtendingLemmas.{extended}
 
 abbrev pub IsRising : List ℕ → Type 0
@@ -125,7 +125,7 @@ module _ (c : ℕ → ℕ → Bool) (s : IsConflict c) (us : List ℕ) (x : ℕ)
   part_form g m = pushed (filter (λ b. not (c b x)) g) (filtered (λ b. not (c b x)) g m.0)
       (λ a h. m.1.within a ((Contains-filter (λ b. not (c b x)) g a).0 h).0)
 
-  tested : (vs g : List ℕ) → is_largest c vs g ≡ true → (a : ℕ) → Contains vs a → Contains g a ⊎ Hits c (Contains g) a
+  tested : (vs g : List ℕ) → covers c vs g ≡ true → (a : ℕ) → Contains vs a → Contains g a ⊎ Hits c (Contains g) a
   tested vs g t a h =
       let w = list_any_true (λ b. a == b || c a b) g (list_all_true (is_covered c g) vs t a h) in
       elim (or_cases (a == w.0) (c a w.0) w.2) [
@@ -133,21 +133,69 @@ module _ (c : ℕ → ℕ → Bool) (s : IsConflict c) (us : List ℕ) (x : ℕ)
         | inr e ↦ inr (w.0, w.1, e)
       ]
 
-  passes : (vs g : List ℕ) → ((a : ℕ) → Contains vs a → Contains g a ⊎ Hits c (Contains g) a) → is_largest c vs g ≡ true
+  passes : (vs g : List ℕ) → ((a : ℕ) → Contains vs a → Contains g a ⊎ Hits c (Contains g) a) → covers c vs g ≡ true
   passes vs g k = list_all_from (is_covered c g) vs (λ a h. elim (k a h) [
     | inl i ↦ list_any_from (λ b. a == b || c a b) g a i (or_left (a == a) (c a a) ((Decides-eqb a a).1 refl))
     | inr w ↦ list_any_from (λ b. a == b || c a b) g w.0 w.1 (or_right (a == w.0) (c a w.0) w.2)
   ])
 
-  part_group : (g : List ℕ) → IsGroup us g → is_largest c all (part c x g) ≡ true → IsGroup all (part c x g)
+  step_keeps : (g : List ℕ) (a : ℕ) → Contains g a → Contains (step c x g) a
+  step_keeps g a h = elim (cases_Bool (clashes c x g)) [
+    | inl t ↦ rw (cond-true (clashes c x g) g (g ++ x ∷ []) t) h
+    | inr n ↦ rw (cond-false (clashes c x g) g (g ++ x ∷ []) n) ((holds g a).1 (inl h))
+  ]
+
+  -- what conflicts with a rival of x alone is exposed
+  is_exposed : (a b : ℕ) → Contains us a → Contains us b → c a x ≡ false → c b x ≡ true → c a b ≡ true → Contains (exposed c us x) a
+  is_exposed a b h i k r t =
+      let rival = (Contains-filter (c x) us b).1 (i, s.symmetric x b ∙ r) in
+      (Contains-filter (λ z. not (c z x) && clashes c z (rivals c us x)) us a).1 (
+        h,
+        and_from (not (c a x)) (clashes c a (rivals c us x)) (not_from_false (c a x) k) (list_any_from (c a) (rivals c us x) b rival t),
+      )
+
+  -- a part of a largest group that covers the exposed is largest
+  part_covers : (g : List ℕ) → IsGroup us g → covers c (exposed c us x) (part c x g) ≡ true → (a : ℕ) → Contains all a → Contains (part c x g) a ⊎ Hits c (Contains (part c x g)) a
+  part_covers g m t a h = elim ((holds us a).0 h) [
+    | inl u ↦ elim (cases_Bool (c a x)) [
+      | inl k ↦ inr (x, (part_holds g x).1 (inr refl), k)
+      | inr k ↦ elim (m.1.largest a u) [
+        | inl i ↦ inl ((part_holds g a).1 (inl (i, k)))
+        | inr w ↦ elim (cases_Bool (c w.0 x)) [
+          | inl r ↦ tested (exposed c us x) (part c x g) t a (is_exposed a w.0 u (m.1.within w.0 w.1) k r w.2)
+          | inr n ↦ inr (w.0, (part_holds g w.0).1 (inl (w.1, n)), w.2)
+        ]
+      ]
+    ]
+    | inr e ↦ inl ((part_holds g a).1 (inr e))
+  ]
+
+  part_group : (g : List ℕ) → IsGroup us g → covers c (exposed c us x) (part c x g) ≡ true → IsGroup all (part c x g)
   part_group g m t = (
     part_form g m,
     record {
       within = λ a h. (holds us a).1 (elim ((part_holds g a).0 h) [ inl i ↦ inl (m.1.within a i.0) | inr e ↦ inr e ]);
       compatible = λ a b h i. compatible_part c s (Contains g) x m.1.compatible a b ((part_holds g a).0 h) ((part_holds g b).0 i);
-      largest = tested all (part c x g) t;
+      largest = part_covers g m t;
     },
   )
+
+  -- no part is an old group with x
+  not_a_part : (g h : List ℕ) → IsGroup us g → IsGroup us h → clashes c x h ≡ true → step c x g ≢ part c x h
+  not_a_part g h m n t e =
+      let same : (a : ℕ) → Contains (step c x g) a → Contains (part c x h) a = λ a i. subst (λ z. Contains z a) e i in
+      let here : Contains (step c x g) x = subst (λ z. Contains z x) (sym e) ((part_holds h x).1 (inr refl)) in
+      let lost = list_any_true (c x) h t in
+      elim (cases_Bool (clashes c x g)) [
+        | inl k ↦ missing g m (rw (cond-true (clashes c x g) g (g ++ x ∷ []) k) at here)
+        | inr k ↦ elim (m.1.largest lost.0 (n.1.within lost.0 lost.1)) [
+          | inl i ↦ let yes = s.symmetric x lost.0 in let no = all_compatible g k lost.0 i in let hit = lost.2 in absurd cc
+          | inr w ↦ elim ((part_holds h w.0).0 (same w.0 (step_keeps g w.0 w.1))) [
+            | inl i ↦ let no = n.1.compatible lost.0 w.0 lost.1 i.0 in let hit = w.2 in absurd cc
+            | inr d ↦ missing g m (subst (Contains g) d w.1)
+          ]
+        ]
+      ]
 
   abbrev is_in : List ℕ → ℕ → Bool
   is_in g a = list_any (λ b. a == b) g
@@ -202,12 +250,6 @@ module _ (c : ℕ → ℕ → Bool) (s : IsConflict c) (us : List ℕ) (x : ℕ)
             ))),
       )
 
-  step_keeps : (g : List ℕ) (a : ℕ) → Contains g a → Contains (step c x g) a
-  step_keeps g a h = elim (cases_Bool (clashes c x g)) [
-    | inl t ↦ rw (cond-true (clashes c x g) g (g ++ x ∷ []) t) h
-    | inr n ↦ rw (cond-false (clashes c x g) g (g ++ x ∷ []) n) ((holds g a).1 (inl h))
-  ]
-
   step_from : (g : List ℕ) (a : ℕ) → Contains (step c x g) a → Contains g a ⊎ (a ≡ x)
   step_from g a h = elim (cases_Bool (clashes c x g)) [
     | inl t ↦ inl (rw (cond-true (clashes c x g) g (g ++ x ∷ []) t) at h)
@@ -221,45 +263,72 @@ module _ (c : ℕ → ℕ → Bool) (s : IsConflict c) (us : List ℕ) (x : ℕ)
   ]
 
   module _ (gs : List (List ℕ)) (table : IsTable c us gs) where
-    taking : IsTakenUp same_group equal_groups (is_largest c all) (map (step c x) gs) (parts c x gs) (next c all x gs)
-    taking = taken_up same_group equal_groups (is_largest c all) (map (step c x) gs) (parts c x gs)
+    abbrev steps : List (List ℕ)
+    steps = map (step c x) gs
 
-    sound : (g : List ℕ) → Contains (next c all x gs) g → IsGroup all g
-    sound g h = elim (taking.from g h) [
-      | inl i ↦ let w = Contains-map_from (step c x) gs g i in subst (IsGroup all) (sym w.2) (step_group w.0 ((table.each w.0).0 w.1))
-      | inr i ↦ let w = Contains-map_from (part c x) (filter (clashes c x) gs) g i.0 in
-          let m = (table.each w.0).0 ((Contains-filter (clashes c x) gs w.0).0 w.1).0 in
-          subst (IsGroup all) (sym w.2) (part_group w.0 m (subst (λ z. is_largest c all z ≡ true) w.2 i.1))
+    abbrev news : List (List ℕ)
+    news = largest_of c (exposed c us x) (parts c x gs)
+
+    taking : IsTakenUp same_group equal_groups (covers c (exposed c us x)) [] (parts c x gs) news
+    taking = taken_up same_group equal_groups (covers c (exposed c us x)) [] (parts c x gs)
+
+    -- an old group with x where it has its place
+    stepped : (q : List ℕ) → Contains steps q → (g : List ℕ) × IsGroup us g × (q ≡ step c x g)
+    stepped q i = let w = Contains-map_from (step c x) gs q i in (w.0, (table.each w.0).0 w.1, w.2)
+
+    -- a part of an old group that conflicts with x
+    parted : (q : List ℕ) → Contains news q → (g : List ℕ) × IsGroup us g × (clashes c x g ≡ true) × (q ≡ part c x g) × (covers c (exposed c us x) q ≡ true)
+    parted q i = elim (taking.from q i) [
+      | inl n ↦ absurd (not_Contains-nil q n)
+      | inr j ↦
+          let w = Contains-map_from (part c x) (filter (clashes c x) gs) q j.0 in
+          let k = (Contains-filter (clashes c x) gs w.0).0 w.1 in (w.0, (table.each w.0).0 k.0, k.1, w.2, j.1)
+    ]
+
+    sound : (q : List ℕ) → Contains (next c us x gs) q → IsGroup all q
+    sound q h = elim (Contains-append_cases steps news q h) [
+      | inl i ↦ let w = stepped q i in subst (IsGroup all) (sym w.2) (step_group w.0 w.1)
+      | inr i ↦ let w = parted q i in subst (IsGroup all) (sym w.3) (part_group w.0 w.1 (subst (λ z. covers c (exposed c us x) z ≡ true) w.3 w.4))
     ]
 
     -- a group of all that conflicts with x was there, and stays
-    stayed : (q : List ℕ) → IsGroup all q → Hits c (Contains q) x → Contains (next c all x gs) q
+    stayed : (q : List ℕ) → IsGroup all q → Hits c (Contains q) x → Contains (next c us x gs) q
     stayed q m w =
         let n : IsLargest c (With c (Contains us) x) (Contains q) = largest_alike c (Contains all) (With c (Contains us) x) (Contains q) (Contains q) (λ a. holds us a) (λ a. (λ h. h, λ h. h)) m.1 in
         let i = (table.each q).1 (m.0, largest_was c s (Contains us) (Contains q) x n w) in
         let t : clashes c x q ≡ true = list_any_from (c x) q w.0 w.1 w.2 in
-        taking.old q (subst (Contains (map (step c x) gs)) (cond-true (clashes c x q) q (q ++ x ∷ []) t) (Contains-map (step c x) gs q i))
+        Contains-append_left steps news q (subst (Contains steps) (cond-true (clashes c x q) q (q ++ x ∷ []) t) (Contains-map (step c x) gs q i))
 
     -- one that holds x came from an old one
-    came : (q : List ℕ) → IsGroup all q → Contains q x → Contains (next c all x gs) q
+    came : (q : List ℕ) → IsGroup all q → Contains q x → Contains (next c us x gs) q
     came q m here =
         let r = came_from q m here in
         let i = (table.each r.0).1 r.1 in
         let e : part c x r.0 ≡ q = one (part c x r.0) q (part_form r.0 r.1) m.0 (λ a. (λ h. (r.2 a).1 ((part_holds r.0 a).0 h), λ h. (part_holds r.0 a).1 ((r.2 a).0 h))) in
         elim (cases_Bool (clashes c x r.0)) [
-          | inl t ↦ taking.new q (subst (Contains (parts c x gs)) e (Contains-map (part c x) (filter (clashes c x) gs) r.0 ((Contains-filter (clashes c x) gs r.0).1 (i, t))))
-              (passes all q m.1.largest)
+          | inl t ↦
+              let within : (a : ℕ) → Contains (exposed c us x) a → Contains us a = λ a h. ((Contains-filter (λ z. not (c z x) && clashes c z (rivals c us x)) us a).0 h).0 in
+              let of_parts : Contains (parts c x gs) q = subst (Contains (parts c x gs)) e (Contains-map (part c x) (filter (clashes c x) gs) r.0 ((Contains-filter (clashes c x) gs r.0).1 (i, t))) in
+              Contains-append_right steps news q (taking.new q of_parts (passes (exposed c us x) q (λ a h. m.1.largest a ((holds us a).1 (inl (within a h))))))
           | inr n ↦ let d : step c x r.0 ≡ q = cond-false (clashes c x r.0) r.0 (r.0 ++ x ∷ []) n ∙ one (r.0 ++ x ∷ []) q (pushed r.0 r.1.0 r.1.1.within) m.0 (λ a. (
             λ h. (r.2 a).1 (elim ((holds r.0 a).0 h) [ inl j ↦ inl (j, all_compatible r.0 n a j) | inr d ↦ inr d ]),
             λ h. (holds r.0 a).1 (elim ((r.2 a).0 h) [ inl j ↦ inl j.0 | inr d ↦ inr d ]),
           )) in
-              taking.old q (subst (Contains (map (step c x) gs)) d (Contains-map (step c x) gs r.0 i))
+              Contains-append_left steps news q (subst (Contains steps) d (Contains-map (step c x) gs r.0 i))
         ]
 
-    pub table_next : IsTable c all (next c all x gs)
+    apart : (q r : List ℕ) → Contains steps q → Contains news r → q ≢ r
+    apart q r h i e =
+        let v = stepped q h in let w = parted r i in
+        not_a_part v.0 w.0 v.1 w.1 w.2 (sym v.2 ∙ (e ∙ w.3))
+
+    pub table_next : IsTable c all (next c us x gs)
     table_next = record {
       each = λ q. (sound q, λ m. elim (m.1.largest x ((holds us x).1 (inr refl))) [ inl here ↦ came q m here | inr w ↦ stayed q m w ]);
-      once = taking.once (AllPairs-map (step c x) gs (λ g h i j e.
+      once = AllPairs-append steps news
+          (AllPairs-map (step c x) gs (λ g h i j e.
           let m = (table.each g).0 i in let n = (table.each h).0 j in
-          one g h m.0 n.0 (λ a. (step_back g h m e a, step_back h g n (sym e) a))) table.once);
+          one g h m.0 n.0 (λ a. (step_back g h m e a, step_back h g n (sym e) a))) table.once)
+          (taking.once (λ i j d l k. absurd (omega arith)))
+          apart;
     }

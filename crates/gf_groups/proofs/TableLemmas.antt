@@ -40,7 +40,7 @@ module _ (c : ℕ → ℕ → Bool) (s : IsConflict c) where
       let all : (us ++ x ∷ []) ++ xs ≡ us ++ x ∷ xs = append_assoc us (x ∷ []) xs in
       let above : (a : ℕ) → Contains us a → a < x = λ a i. below_from_less a x (rising_below nat_cmp nat_cmp_total us x xs form a i) in
       let more = table_next c s us x (rising_front nat_cmp nat_cmp_total us (x ∷ xs) form) above gs table in
-      let step = table_grown (us ++ x ∷ []) xs (next c (us ++ x ∷ []) x gs) more (rw all form) in
+      let step = table_grown (us ++ x ∷ []) xs (next c us x gs) more (rw all form) in
       rw (← all) step
 
   pub table_groups : (xs : List ℕ) → IsRising xs → IsTable c xs (groups_at c xs)

@@ -1,13 +1,13 @@
 -- An operation that knows all that were taken conflicts with none of them, and joins each group.
 use Rattle.std.proofs.Common.{◌≡◌, ℕ, Bool, false, List, [], ◌∷◌, ◌++◌, map, append_assoc, refl, sym, ap, subst, ◌∙◌, inl, inr, arith}
 use Rattle.std.specs.Prelude.{Contains, Some, filter, slice_get}
-use Rattle.std.specs.List.{fold}
 use Rattle.std.proofs.lemmas.Bool.{cases_Bool, cond-false}
+use Rattle.std.proofs.lemmas.List.{append-nil}
 use Rattle.std.proofs.lemmas.List.Elements.{Contains-push_cases}
 use Rattle.gf_ops.specs.declared.op.Op.{Op}
 use Rattle.gf_ops.specs.declared.op.Clock.{Clock}
 use Rattle.gf_ops.proofs.ListLemmas.{Contains-cons_head, Contains-cons_tail}
-use Rattle.gf_groups.specs.Growing.{conflict_at, same_group, take_up, clashes, step, part, is_largest, next, pushed, grown, groups_at}
+use Rattle.gf_groups.specs.Growing.{conflict_at, clashes, step, part, exposed, largest_of, next, pushed, grown, groups_at}
 use Rattle.gf_groups.specs.Taken.{KnowsAll, CountsMore, CountsAll}
 use Rattle.gf_groups.proofs.GrowingLemmas.{IsRising}
 use Rattle.gf_groups.proofs.ListLemmas.{list_any_true}
@@ -15,14 +15,14 @@ use Rattle.gf_groups.proofs.OnPlaceLemmas.{conflict_with}
 use Rattle.gf_groups.proofs.TableLemmas.{conflict_at_test, table_groups}
 
 module _ (c : ℕ → ℕ → Bool) where
-  grown-push : (us xs : List ℕ) (x : ℕ) (gs : List (List ℕ)) → grown c us (xs ++ x ∷ []) gs ≡ next c (us ++ (xs ++ x ∷ [])) x (grown c us xs gs)
-  grown-push us [] x gs = refl
+  grown-push : (us xs : List ℕ) (x : ℕ) (gs : List (List ℕ)) → grown c us (xs ++ x ∷ []) gs ≡ next c (us ++ xs) x (grown c us xs gs)
+  grown-push us [] x gs = ap (λ vs. next c vs x gs) (sym (append-nil us))
   grown-push us (y ∷ xs) x gs =
-      grown-push (us ++ y ∷ []) xs x (next c (us ++ y ∷ []) y gs)
-      ∙ ap (λ vs. next c vs x (grown c (us ++ y ∷ []) xs (next c (us ++ y ∷ []) y gs))) (append_assoc us (y ∷ []) (xs ++ x ∷ []))
+      grown-push (us ++ y ∷ []) xs x (next c us y gs)
+      ∙ ap (λ vs. next c vs x (grown c (us ++ y ∷ []) xs (next c us y gs))) (append_assoc us (y ∷ []) xs)
 
   -- the groups of one place more
-  pub groups_at-push : (us : List ℕ) (x : ℕ) → groups_at c (us ++ x ∷ []) ≡ next c (us ++ x ∷ []) x (groups_at c us)
+  pub groups_at-push : (us : List ℕ) (x : ℕ) → groups_at c (us ++ x ∷ []) ≡ next c us x (groups_at c us)
   groups_at-push us x = grown-push [] us x ([] ∷ [])
 
   module _ (x : ℕ) where
@@ -44,7 +44,9 @@ module _ (c : ℕ → ℕ → Bool) where
     none_clash (g ∷ gs) f = cond-false (clashes c x g) (g ∷ filter (clashes c x) gs) (filter (clashes c x) gs) (f g (Contains-cons_head g gs)) ∙ none_clash gs (apart_tail g gs f)
 
     next_apart : (us : List ℕ) (gs : List (List ℕ)) → AreApart gs → next c us x gs ≡ pushed x gs
-    next_apart us gs f = ap (λ zs. fold (take_up same_group (is_largest c us)) (map (step c x) gs) (map (part c x) zs)) (none_clash gs f) ∙ steps_apart gs f
+    next_apart us gs f =
+        ap (λ zs. map (step c x) gs ++ largest_of c (exposed c us x) (map (part c x) zs)) (none_clash gs f)
+        ∙ (append-nil (map (step c x) gs) ∙ steps_apart gs f)
 
 module _ (h : List Op) (us : List ℕ) (x : ℕ) (c : Clock) (counted : CountsAll h us c) where
   -- one that knows all of them conflicts with none
@@ -63,7 +65,7 @@ module _ (h : List Op) (us : List ℕ) (x : ℕ) (c : Clock) (counted : CountsAl
   groups_known form k =
       let table = table_groups (conflict_at h) (conflict_at_test h) us form in
       groups_at-push (conflict_at h) us x
-      ∙ next_apart (conflict_at h) x (us ++ x ∷ []) (groups_at (conflict_at h) us) (λ g m. elim (cases_Bool (clashes (conflict_at h) x g)) [
+      ∙ next_apart (conflict_at h) x us (groups_at (conflict_at h) us) (λ g m. elim (cases_Bool (clashes (conflict_at h) x g)) [
         | inl t ↦
             let w = list_any_true (conflict_at h x) g t in
             let none = known_apart k w.0 (((table.each g).0 m).1.within w.0 w.1) in

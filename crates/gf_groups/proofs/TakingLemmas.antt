@@ -1,10 +1,11 @@
--- A list that takes up what passes a test and is new, and different elements under a map.
-use Rattle.std.proofs.Common.{◌≡◌, ◌≢◌, ◌<◌, Bool, true, false, List, [], ◌∷◌, ◌++◌, map, length, get_or, inl, inr, refl, subst, sym, arith, ◌∙◌}
+-- A list that takes up what passes a test and is new, and different elements under a map and behind others.
+use Rattle.std.proofs.Common.{◌≡◌, ◌≢◌, ◌<◌, suc, Bool, true, false, List, [], ◌∷◌, ◌++◌, map, length, get_or, inl, inr, refl, subst, sym, arith, ◌∙◌}
 use Rattle.std.specs.Prelude.{◌⊎◌, AllPairs, Contains, not, ◌&&◌}
 use Rattle.std.specs.List.{list_any, fold}
 use Rattle.std.specs.Bool.{Decides}
 use Rattle.std.proofs.lemmas.Bool.{cases_Bool, cond-true, cond-false, and_parts, not-true, not-false, and_cases}
-use Rattle.std.proofs.lemmas.List.Elements.{Contains-append_left, Contains-append_right, Contains-push_cases, Contains-get_or}
+use Rattle.std.proofs.lemmas.List.Elements.{All-contains_itself, All-weaker, Contains-append_cases, Contains-append_left, Contains-append_right, Contains-push_cases, Contains-get_or}
+use Rattle.std.proofs.lemmas.List.Kept.{AllPairs-cons}
 use Rattle.std.proofs.lemmas.List.Quantifiers.{all_pairs_push}
 use Rattle.std.proofs.lemmas.List.{length-map, get_or-map}
 use Rattle.gf_ops.proofs.ListLemmas.{Contains-cons_cases, Contains-cons_head, Contains-cons_tail, not_Contains-nil}
@@ -19,6 +20,17 @@ AllPairs-map f (y ∷ ys) one o i j d l m e =
     let k : i < length (y ∷ ys) = omega arith in
     o i j y l n (one (get_or (y ∷ ys) i y) (get_or (y ∷ ys) j y) (Contains-get_or (y ∷ ys) i y k) (Contains-get_or (y ∷ ys) j y n)
     (sym (get_or-map f (y ∷ ys) i y d k) ∙ (e ∙ get_or-map f (y ∷ ys) j y d n)))
+
+-- different elements of two lists that have none in common
+pub AllPairs-append : {Y : Type 0} (xs ys : List Y) → AllPairs (λ a b. a ≢ b) xs → AllPairs (λ a b. a ≢ b) ys → ((a b : Y) → Contains xs a → Contains ys b → a ≢ b) → AllPairs (λ a b. a ≢ b) (xs ++ ys)
+AllPairs-append [] ys one two apart = two
+AllPairs-append (x ∷ xs) ys one two apart =
+    let new : (y : _) → Contains (xs ++ ys) y → x ≢ y = λ y h. elim (Contains-append_cases xs ys y h) [
+      | inl w ↦ λ e. let k = w.1 in one 0 (suc w.0) y (omega arith) (omega arith) (e ∙ sym w.2)
+      | inr i ↦ apart x y (Contains-cons_head x xs) i
+    ] in
+    AllPairs-cons (λ a b. a ≢ b) x (xs ++ ys) (All-weaker (Contains (xs ++ ys)) (λ y. x ≢ y) new (xs ++ ys) (All-contains_itself (xs ++ ys)))
+    (AllPairs-append xs ys (λ i j d l m. one (suc i) (suc j) d (omega arith) (omega arith)) two (λ a b h i. apart a b (Contains-cons_tail x xs a h) i))
 
 -- ---- a list that takes up what passes the test and is new
 

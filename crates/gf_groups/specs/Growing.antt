@@ -49,25 +49,45 @@ module _ (c : ℕ → ℕ → Bool) where
   is_covered g a = list_any (λ b. a == b || c a b) g
 
   -- each of us is in the group or conflicts with one of it
-  abbrev pub is_largest : List ℕ → List ℕ → Bool
-  is_largest us g = list_all (is_covered g) us
+  abbrev pub covers : List ℕ → List ℕ → Bool
+  covers us g = list_all (is_covered g) us
 
-  -- the groups with x, of the places us, of which x is the last
+  -- those of us that conflict with x
+  abbrev pub rivals : List ℕ → ℕ → List ℕ
+  rivals us x = filter (c x) us
+
+  -- those of us that conflict with a rival of x, and not with x: all that a part may leave uncovered
+  abbrev pub exposed : List ℕ → ℕ → List ℕ
+  exposed us x = filter (λ a. not (c a x) && clashes a (rivals us x)) us
+
+  -- the largest of some parts, each once
+  abbrev pub largest_of : List ℕ → List (List ℕ) → List (List ℕ)
+  largest_of exposed parts = fold (take_up same_group (covers exposed)) [] parts
+
+  -- the groups gs of the places us, after x came too
   abbrev pub next : List ℕ → ℕ → List (List ℕ) → List (List ℕ)
-  next us x gs = fold (take_up same_group (is_largest us)) (map (step x) gs) (parts x gs)
+  next us x gs = map (step x) gs ++ largest_of (exposed us x) (parts x gs)
 
   -- the groups gs of the places us, after xs came too
   abbrev pub grown : List ℕ → List ℕ → List (List ℕ) → List (List ℕ)
   grown us [] gs = gs
-  grown us (x ∷ xs) gs = grown (us ++ x ∷ []) xs (next (us ++ x ∷ []) x gs)
+  grown us (x ∷ xs) gs = grown (us ++ x ∷ []) xs (next us x gs)
 
   -- the groups of the places xs
   abbrev pub groups_at : List ℕ → List (List ℕ)
   groups_at xs = grown [] xs ([] ∷ [])
 
--- the groups gs, and a part of one if it is largest among the places us and new
+-- the parts ps, and one more if it covers the places us and is new
 abbrev pub taken_up : List Op → List ℕ → List (List ℕ) → List ℕ → List (List ℕ)
-taken_up h us gs g = take_up same_group (is_largest (conflict_at h) us) gs g
+taken_up h us ps g = take_up same_group (covers (conflict_at h) us) ps g
+
+-- the places of us that a part may leave uncovered when x comes
+abbrev pub exposed_to : List Op → List ℕ → ℕ → List ℕ
+exposed_to h us x = exposed (conflict_at h) us x
+
+-- those of the parts that cover the places us, each once
+abbrev pub largest_parts : List Op → List ℕ → List (List ℕ) → List (List ℕ)
+largest_parts h us ps = largest_of (conflict_at h) us ps
 
 -- the groups gs, with x in each that its operation does not conflict with
 abbrev pub joined : List Op → ℕ → List (List ℕ) → List (List ℕ)
@@ -77,7 +97,7 @@ joined h x gs = map (step (conflict_at h) x) gs
 abbrev pub parts_of : List Op → ℕ → List (List ℕ) → List (List ℕ)
 parts_of h x gs = parts (conflict_at h) x gs
 
--- the largest groups of the places us from those of all but x, the last of them
+-- the largest groups of the places us and x, from those of us
 abbrev pub grown_by : List Op → List ℕ → ℕ → List (List ℕ) → List (List ℕ)
 grown_by h us x gs = next (conflict_at h) us x gs
 

@@ -1,17 +1,17 @@
 //! The largest groups without a conflict, grown one operation at a time.
 
 ghost use Rattle.std.specs.Prelude.{◌≡◌, IfOk, OnOk};
-ghost use Rattle.std.specs.List.{list_any};
 ghost use Rattle.std.specs.List.Sorted.{IsStrictlySortedBy};
 ghost use Rattle.std.specs.Ordering.{nat_cmp};
-ghost use Rattle.gf_groups.specs.Growing.{taken_up, joined, parts_of, grown_by, largest_groups};
-ghost use Rattle.gf_groups.specs.Growing.{conflict_at, same_group, clashes, part, is_covered, is_largest, pushed};
+ghost use Rattle.gf_groups.specs.Growing.{taken_up, exposed_to, largest_parts, joined, parts_of, grown_by, largest_groups};
+ghost use Rattle.gf_groups.specs.Growing.{conflict_at, clashes, part, rivals, is_covered, covers, pushed};
 
 use crate::conflict::conflict_at;
-use crate::places::{Places, same_group};
+use crate::places::Places;
 use crate::taken::{count_at, knows_all};
 use gf_ops::{Clock, History};
 use gf_shape::OutOfMemory;
+use indexmap::IndexSet;
 use std::alloc::Global;
 
 /// Whether the operation at this place conflicts with one of the group.
@@ -50,36 +50,81 @@ fn is_covered(history: &History, group: &[usize], place: usize) -> bool
 }
 
 /// Whether that holds of each of these places.
-fn is_largest(history: &History, places: &[usize], group: &[usize]) -> bool
-    ensures { result ≡ is_largest (conflict_at history.now.ops) places.now group.now }
+fn covers(history: &History, places: &[usize], group: &[usize]) -> bool
+    ensures { result ≡ covers (conflict_at history.now.ops) places.now group.now }
 {
     places
         .iter()
         .all(|place| is_covered(history, group, *place))
 }
 
-/// Whether the group is one of these.
-fn contains(groups: &[Places], group: &[usize]) -> bool
-    ensures { result ≡ list_any (same_group group.now) groups.now }
-{
-    groups
-        .iter()
-        .any(|other| same_group(group, other.as_slice()))
-}
-
-/// Takes up a part that is largest among these places and new.
-fn take_up(
+/// Those of these places whose operations conflict with the one at a place.
+fn rivals(
+    alloc: Global,
     history: &History,
     places: &[usize],
-    part: Places,
-    groups: &mut Vec<Places>,
-) -> Result<(), OutOfMemory>
-    ensures { OnOk result (groups.new.items ≡ taken_up history.now.ops places.now groups.old.items part) }
+    place: usize,
+) -> Result<Vec<usize>, OutOfMemory>
+    ensures { IfOk result (λ found. found.items ≡ rivals (conflict_at history.now.ops) places.now place) }
 {
-    if is_largest(history, places, part.as_slice()) && !contains(groups, part.as_slice()) {
-        groups.push(part)?;
+    let mut rivals = Vec::new(alloc);
+    for other in places {
+        if conflict_at(history, place, *other) {
+            rivals.push(*other)?;
+        }
+    }
+    Ok(rivals)
+}
+
+/// All of these places that a part may leave uncovered: those whose operations conflict with a rival
+/// of the one at a place, and not with that one.
+fn exposed(
+    alloc: Global,
+    history: &History,
+    places: &[usize],
+    place: usize,
+) -> Result<Vec<usize>, OutOfMemory>
+    ensures { IfOk result (λ found. found.items ≡ exposed_to history.now.ops places.now place) }
+{
+    let rivals = rivals(alloc, history, places, place)?;
+    let mut exposed = Vec::new(alloc);
+    for other in places {
+        if !conflict_at(history, *other, place) && clashes(history, *other, &rivals) {
+            exposed.push(*other)?;
+        }
+    }
+    Ok(exposed)
+}
+
+/// Takes up a part that covers these places, unless it is there.
+fn take_up(
+    history: &History,
+    exposed: &[usize],
+    part: Places,
+    parts: &mut IndexSet<Places>,
+) -> Result<(), OutOfMemory>
+    ensures { OnOk result (parts.new.keys ≡ taken_up history.now.ops exposed.now parts.old.keys part) }
+{
+    if covers(history, exposed, part.as_slice()) {
+        parts.insert(part)?;
     }
     Ok(())
+}
+
+/// Those of the parts that cover these places, each once.
+fn largest_of(
+    alloc: Global,
+    history: &History,
+    exposed: &[usize],
+    parts: Vec<Places>,
+) -> Result<IndexSet<Places>, OutOfMemory>
+    ensures { IfOk result (λ largest. largest.keys ≡ largest_parts history.now.ops exposed.now parts.items) }
+{
+    let mut largest = IndexSet::new(alloc);
+    for part in parts {
+        take_up(history, exposed, part, &mut largest)?;
+    }
+    Ok(largest)
 }
 
 /// Adds a place to each group that its operation does not conflict with; the parts that the others
@@ -104,7 +149,7 @@ fn join(
     Ok(parts)
 }
 
-/// Adds the last of these places to the largest groups of those before it.
+/// Adds a place to the largest groups of these places, which come before it.
 fn grow(
     alloc: Global,
     history: &History,
@@ -114,8 +159,10 @@ fn grow(
 ) -> Result<(), OutOfMemory>
     ensures { OnOk result (groups.new.items ≡ grown_by history.now.ops places.now place groups.old.items) }
 {
-    for part in join(alloc, history, place, groups)? {
-        take_up(history, places, part, groups)?;
+    let exposed = exposed(alloc, history, places, place)?;
+    let parts = join(alloc, history, place, groups)?;
+    for part in largest_of(alloc, history, &exposed, parts)? {
+        groups.push(part)?;
     }
     Ok(())
 }
@@ -148,7 +195,7 @@ pub(crate) fn groups_at(
         if knows_all(history, *place, &taken) {
             push_to_all(*place, &mut groups)?;
         } else {
-            grow(alloc, history, &places[..index + 1], *place, &mut groups)?;
+            grow(alloc, history, &places[..index], *place, &mut groups)?;
         }
         count_at(history, *place, &mut taken);
     }

@@ -1,10 +1,16 @@
 //! Groups in the making: places of operations in a history.
 
 ghost use Rattle.std.specs.Prelude.{◌≡◌, ◌∷◌, [], ◌++◌, OnOk};
+ghost use Rattle.std.specs.Cmp.Rules.{comparing};
+ghost use Rattle.std.specs.Hash as fed;
+ghost use Rattle.std.proofs.Common.{ap, refl, rules};
+ghost use Rattle.std.proofs.lemmas.Bool.Decides.{Decides-eqb};
+ghost use Rattle.std.proofs.lemmas.Slice.Eq.{slice_eq-Decides};
 ghost use Rattle.gf_groups.specs.Growing.{same_group};
 
 use gf_shape::OutOfMemory;
 use std::alloc::Global;
+use std::hash::{Hash, Hasher};
 use std::marker::Model;
 
 /// Places in a history, seen as their list.
@@ -47,9 +53,26 @@ impl Places {
     }
 }
 
-/// Whether two groups are one.
-pub(crate) fn same_group(a: &[usize], b: &[usize]) -> bool
-    ensures { result ≡ same_group a.now b.now }
-{
-    a == b
+impl PartialEq for Places {
+    ghost eq = { same_group };
+
+    ghost laws = { Prim.search (comparing, rules) };
+
+    fn eq(&self, other: &Places) -> bool {
+        self.places == other.places
+    }
+}
+
+impl Eq for Places {
+    ghost laws = { Prim.search (comparing, rules) };
+}
+
+impl Hash for Places {
+    ghost hash_input = { fed.slice fed.usize };
+
+    ghost respects_eq = { λ a b same. ap (fed.slice fed.usize) ((slice_eq-Decides Decides-eqb a b (same_group a b) refl).0 same) };
+
+    fn hash<H: Hasher>(&self, state: &mut H) {
+        self.places.hash(state);
+    }
 }

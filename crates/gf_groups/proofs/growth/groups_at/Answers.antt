@@ -23,8 +23,8 @@ loop-index-preserved c =
         | then-knows_all+in_ok-push_to_all w ↦
             rw (w.groups-is, w.in_ok-push_to_all.ensures, c.loop-index.invariant.groups) (sym (groups_known h us x c.loop-index.taken c.loop-index.invariant.counted form (c.knows_all.ensures.0 w.if-knows_all.true)))
         | else-knows_all+in_ok-grow w ↦
-            let grown : w.grow.new.groups.items ≡ next (conflict_at h) (take (c.loop-index.index + 1) c.args.places.now) x c.loop-index.groups.items = grind (arith, common_steps, w.in_ok-grow.ensures) in
-            rw w.groups-is (grown ∙ (rw (all, c.loop-index.invariant.groups) (sym (groups_at-push (conflict_at h) us x))))
+            let grown : w.grow.new.groups.items ≡ next (conflict_at h) us x c.loop-index.groups.items = grind (arith, common_steps, w.in_ok-grow.ensures) in
+            rw w.groups-is (grown ∙ (rw c.loop-index.invariant.groups (sym (groups_at-push (conflict_at h) us x))))
       ]);
       counted = rw all (counts_more h us x c.loop-index.taken c.loop-index.invariant.counted c.count_at.new.taken c.count_at.ensures);
     }

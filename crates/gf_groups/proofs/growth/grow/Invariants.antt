@@ -1,10 +1,5 @@
-use Rattle.std.proofs.Common.{◌≡◌}
-use Rattle.std.specs.List.{fold}
-use Rattle.std.specs.Vec.Iter.{into_iter_items}
-use Rattle.gf_groups.specs.Growing.{conflict_at, same_group, take_up, is_largest}
+use Rattle.std.proofs.Common.{◌≡◌, ◌++◌}
 use Rattle.gf_groups.proofs.growth.grow.Given as goal
 
 abbrev pub invariant-loop-part : goal.invariant-loop-part
-invariant-loop-part l =
-    fold (take_up same_group (is_largest (conflict_at l.history.ops) l.places)) l.groups.items (into_iter_items l.part-iterator)
-    ≡ fold (take_up same_group (is_largest (conflict_at l.history.ops) l.places)) l.initial.groups.items (into_iter_items l.initial.part-iterator)
+invariant-loop-part l = l.groups.items ++ l.part-iterator ≡ l.initial.groups.items ++ l.initial.part-iterator
