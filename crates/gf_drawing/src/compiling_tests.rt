@@ -74,10 +74,11 @@ fn versions_are_numbered_from_the_top(rt: HostRuntime) -> Result<(), Fail> {
     let mut history = History::new(alloc);
     create(&rt, &mut history, 5, RED, true)?;
     create(&rt, &mut history, 9, Rgb { r: 1, g: 2, b: 3 }, false)?;
-    create(&rt, &mut history, 0, BLUE, true)?;
-    create(&rt, &mut history, 4, RED, true)?;
+    create(&rt, &mut history, 4, BLUE, true)?;
+    create(&rt, &mut history, 0, RED, true)?;
     let drawing = compile(alloc, ranked(alloc, &history)?)?;
-    let rows = [(32, 0), (32, 1), (33, 2)];
+    // By the first sight, not the last, red comes before blue.
+    let rows = [(32, 0), (33, 1), (32, 2)];
     let bounds = Bounds {
         low: Point { x: 0, y: 0 },
         high: Point { x: 10, y: 10 },

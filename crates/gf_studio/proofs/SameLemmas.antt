@@ -1,12 +1,14 @@
--- Inputs with the same operations have one drawing.
-use Rattle.std.proofs.Common.{◌≡◌, ℕ, List, [], ◌∷◌, map, refl, sym, subst, ap, ◌∙◌}
-use Rattle.std.specs.Prelude.{◌↔◌, Contains, Ok}
+-- Inputs with the same operations have one drawing and one text.
+use Rattle.std.proofs.Common.{◌≡◌, ℕ, List, [], ◌∷◌, ◌++◌, map, refl, sym, subst, ap, ◌∙◌}
+use Rattle.std.specs.Prelude.{◌↔◌, Contains, Ok, Some}
 use Rattle.gf_shape.specs.declared.any_shape.AnyShape.{AnyShape}
+use Rattle.gf_shape.specs.Outlines.{any_outline}
 use Rattle.gf_ops.specs.declared.op.Op.{Op}
 use Rattle.gf_causal.specs.DeliveredPart.{HaveSame, IsDelivered, IsDeliveredPart}
 use Rattle.gf_drawing.specs.CanonicalDrawing.{canonical_drawing}
 use Rattle.gf_drawing.specs.DrawingState.{DrawingState}
-use Rattle.gf_studio.specs.FigRun.{Draws, HaveSameOperations, denotes_op}
+use Rattle.gf_fig_write.specs.FigText.{fig_text}
+use Rattle.gf_studio.specs.FigRun.{Draws, Exports, HaveSameOperations, denotes_op}
 use Rattle.gf_versions.proofs.SameHistoryLemmas.{ranked_alike}
 
 -- lines denote one list of operations
@@ -46,3 +48,7 @@ draw_alike bytes others have drawing other d e =
     let histories = same_part d.denoted.ops e.denoted.ops d.history e.history same d.denoted.delivers.delivered e.denoted.delivers.delivered in
     let items = ranked_alike d.history e.history histories d.canonical.items e.canonical.items d.canonical.ranked e.canonical.ranked in
     d.canonical.drawing ∙ (ap canonical_drawing items ∙ sym e.canonical.drawing)
+
+pub write_alike : (bytes others : List ℕ) → HaveSameOperations bytes others → (taken text other : List ℕ) → Exports bytes (Some taken) (Some text) → Exports others (Some taken) (Some other) → text ≡ other
+write_alike bytes others have taken text other d e =
+    d.written ∙ (ap (λ drawing. taken ++ fig_text any_outline drawing) (draw_alike bytes others have d.drawing e.drawing d.drawn e.drawn) ∙ sym e.written)

@@ -1,5 +1,8 @@
-use Rattle.gf_studio.proofs.SameLemmas.{draw_alike}
+use Rattle.gf_studio.proofs.SameLemmas.{draw_alike, write_alike}
 use Rattle.gf_studio.proofs.laws.the_same_operations_draw_alike.Goals as goal
 
-pub returns : goal.returns
-returns c = λ bytes others have drawing other d e. draw_alike bytes others have drawing other d e
+pub returns-clause-drawing : goal.returns-clause-drawing
+returns-clause-drawing c = λ bytes others have drawing other d e. draw_alike bytes others have drawing other d e
+
+pub returns-clause-text : goal.returns-clause-text
+returns-clause-text c = λ bytes others have taken text other d e. write_alike bytes others have taken text other d e
