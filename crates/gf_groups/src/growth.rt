@@ -1,10 +1,10 @@
 //! The largest groups without a conflict, grown one operation at a time.
 
-ghost use Rattle.std.specs.Prelude.{◌≡◌, IfOk, OnOk};
+ghost use Rattle.std.specs.Prelude.{◌≡◌, map, IfOk, OnOk};
 ghost use Rattle.std.specs.List.Sorted.{IsStrictlySortedBy};
 ghost use Rattle.std.specs.Ordering.{nat_cmp};
-ghost use Rattle.gf_groups.specs.Growing.{taken_up, exposed_to, largest_parts, joined, parts_of, grown_by, largest_groups};
-ghost use Rattle.gf_groups.specs.Growing.{conflict_at, clashes, part, rivals, is_covered, covers, pushed};
+ghost use Rattle.gf_groups.specs.Growing.{conflict_at, same_group, take_up, pushed, clashes, step, part, parts, is_covered, covers};
+ghost use Rattle.gf_groups.specs.Growing.{rivals, exposed, largest_of, next, groups_at};
 
 use crate::conflict::conflict_at;
 use crate::places::Places;
@@ -84,7 +84,7 @@ fn exposed(
     places: &[usize],
     place: usize,
 ) -> Result<Vec<usize>, OutOfMemory>
-    ensures { IfOk result (λ found. found.items ≡ exposed_to history.now.ops places.now place) }
+    ensures { IfOk result (λ found. found.items ≡ exposed (conflict_at history.now.ops) places.now place) }
 {
     let rivals = rivals(alloc, history, places, place)?;
     let mut exposed = Vec::new(alloc);
@@ -103,7 +103,7 @@ fn take_up(
     part: Places,
     parts: &mut IndexSet<Places>,
 ) -> Result<(), OutOfMemory>
-    ensures { OnOk result (parts.new.keys ≡ taken_up history.now.ops exposed.now parts.old.keys part) }
+    ensures { OnOk result (parts.new.keys ≡ take_up same_group (covers (conflict_at history.now.ops) exposed.now) parts.old.keys part) }
 {
     if covers(history, exposed, part.as_slice()) {
         parts.insert(part)?;
@@ -118,7 +118,7 @@ fn largest_of(
     exposed: &[usize],
     parts: Vec<Places>,
 ) -> Result<IndexSet<Places>, OutOfMemory>
-    ensures { IfOk result (λ largest. largest.keys ≡ largest_parts history.now.ops exposed.now parts.items) }
+    ensures { IfOk result (λ largest. largest.keys ≡ largest_of (conflict_at history.now.ops) exposed.now parts.items) }
 {
     let mut largest = IndexSet::new(alloc);
     for part in parts {
@@ -135,8 +135,8 @@ fn join(
     place: usize,
     groups: &mut Vec<Places>,
 ) -> Result<Vec<Places>, OutOfMemory>
-    ensures groups { OnOk result (groups.new.items ≡ joined history.now.ops place groups.old.items) }
-    ensures parts { IfOk result (λ made. made.items ≡ parts_of history.now.ops place groups.old.items) }
+    ensures groups { OnOk result (groups.new.items ≡ map (step (conflict_at history.now.ops) place) groups.old.items) }
+    ensures parts { IfOk result (λ made. made.items ≡ parts (conflict_at history.now.ops) place groups.old.items) }
 {
     let mut parts = Vec::new(alloc);
     for group in groups.iter_mut() {
@@ -157,7 +157,7 @@ fn grow(
     place: usize,
     groups: &mut Vec<Places>,
 ) -> Result<(), OutOfMemory>
-    ensures { OnOk result (groups.new.items ≡ grown_by history.now.ops places.now place groups.old.items) }
+    ensures { OnOk result (groups.new.items ≡ next (conflict_at history.now.ops) places.now place groups.old.items) }
 {
     let exposed = exposed(alloc, history, places, place)?;
     let parts = join(alloc, history, place, groups)?;
@@ -187,7 +187,7 @@ pub(crate) fn groups_at(
     places: &[usize],
 ) -> Result<Vec<Places>, OutOfMemory>
     requires { IsStrictlySortedBy nat_cmp places.now }
-    ensures { IfOk result (λ groups. groups.items ≡ largest_groups history.now.ops places.now) }
+    ensures { IfOk result (λ groups. groups.items ≡ groups_at (conflict_at history.now.ops) places.now) }
 {
     let mut groups = Vec::from_array(alloc, [Places::new(alloc)])?;
     let mut taken = Clock([0; 8]);
