@@ -13,7 +13,7 @@ pub(crate) fn knows_all(history: &History, place: usize, taken: &Clock) -> bool
     ensures { IsTrue result ↔ KnowsAll history.now.ops place taken.now }
 {
     match op_at(history, place) {
-        Some(op) => is_within(taken, &op.past),
+        Some(op) => taken.is_within(&op.past),
         None => false,
     }
 }
@@ -35,16 +35,4 @@ fn count(op: &Op, taken: &mut Clock)
 {
     let site = usize::from(op.id.site) - 1;
     taken.0[site] = taken.0[site].max(op.id.seq);
-}
-
-/// Whether no entry of `taken` is above that of `past`.
-fn is_within(taken: &Clock, past: &Clock) -> bool
-    ensures { IsTrue result ↔ IsWithin taken.now past.now }
-{
-    for site in 0..8 {
-        if past.0[site] < taken.0[site] {
-            return false;
-        }
-    }
-    true
 }

@@ -120,7 +120,7 @@ impl History {
     fn has_known(&self, clock: &Clock) -> bool
         ensures { IsTrue result ↔ CountsAtMost clock.now self.now.ops }
     {
-        is_within(clock, &self.counts)
+        clock.is_within(&self.counts)
     }
 
     /// Whether it knows all that the operations that it knows knew. The pasts of a site only grow, so
@@ -133,7 +133,7 @@ impl History {
         for site in 1..9 {
             let seq = op.past.0[usize::from(site) - 1];
             if let Some(last) = self.get(OpId { site, seq }) {
-                if !is_within(&last.past, &op.past) {
+                if !last.past.is_within(&op.past) {
                     return false;
                 }
             }
@@ -228,18 +228,6 @@ impl History {
         self.counts.0[site] = op.id.seq;
         self.ops.push_reserved(op);
     }
-}
-
-/// Whether no entry of `past` is above that of `clock`.
-fn is_within(past: &Clock, clock: &Clock) -> bool
-    ensures { IsTrue result ↔ IsWithin past.now clock.now }
-{
-    for site in 0..8 {
-        if clock.0[site] < past.0[site] {
-            return false;
-        }
-    }
-    true
 }
 
 /// Whether objects of this form have such a value.

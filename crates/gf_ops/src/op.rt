@@ -1,5 +1,8 @@
 //! Operations and their names.
 
+ghost use Rattle.std.specs.Prelude.{◌↔◌, IsTrue};
+ghost use Rattle.gf_ops.specs.ValidHistory.{IsWithin};
+
 use crate::Change;
 use std::fmt;
 
@@ -23,6 +26,20 @@ pub struct ObjectId(pub OpId);
 /// How many operations of each site were known; the entry of site s stands at `s - 1`.
 #[derive(Clone, Copy, Debug, PartialEq, Eq)]
 pub struct Clock(pub [u32; 8]);
+
+impl Clock {
+    /// Whether none of its entries is above that of the other clock.
+    pub fn is_within(&self, other: &Clock) -> bool
+        ensures { IsTrue result ↔ IsWithin self.now other.now }
+    {
+        for site in 0..8 {
+            if other.0[site] < self.0[site] {
+                return false;
+            }
+        }
+        true
+    }
+}
 
 /// One edit: its name, what its site knew before it, and what it changes.
 #[derive(Debug, PartialEq, Eq, Drop)]

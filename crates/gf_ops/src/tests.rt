@@ -228,6 +228,19 @@ fn orders_by_what_was_known(rt: HostRuntime) {
 }
 
 #[test]
+fn clocks_lie_within_others(rt: HostRuntime) {
+    for (clock, other, within) in [
+        ([0, 0, 0, 0, 0, 0, 0, 0], [0, 0, 0, 0, 0, 0, 0, 0], true),
+        ([1, 0, 0, 0, 0, 0, 0, 3], [1, 2, 0, 0, 0, 0, 0, 3], true),
+        ([2, 0, 0, 0, 0, 0, 0, 0], [1, 9, 9, 9, 9, 9, 9, 9], false),
+        ([0, 0, 0, 0, 0, 0, 0, 4], [9, 9, 9, 9, 9, 9, 9, 3], false),
+    ] {
+        let found = Clock(clock).is_within(&Clock(other));
+        assert_eq!(rt; found, within, "{clock:?} within {other:?}");
+    }
+}
+
+#[test]
 fn names_read_as_site_and_number(rt: HostRuntime) -> Result<(), Fail> {
     let id = OpId { site: 3, seq: 41 };
     assert_eq!(rt; format!(in rt.alloc(); "{id}")?.as_str(), "3.41");
