@@ -20,7 +20,7 @@ use Rattle.gf_ops.proofs.ListLemmas.{Contains-cons_cases, Contains-cons_head, Co
 use Rattle.gf_groups.specs.declared.group.Group.{Group}
 use Rattle.gf_groups.specs.Versions.{IsMade, IsVersionGroup, AreAllVersions}
 use Rattle.gf_groups.specs.GroupedPlaces.{is_on, places_below, groups_on}
-use Rattle.gf_groups.specs.Parting.{object_cmp, ArePartsBelow, IsPart, groups_of_parts}
+use Rattle.gf_groups.specs.Parting.{object_cmp, HasPlacesBelow, HasAllPlaces, groups_of_entries}
 use Rattle.gf_groups.proofs.GroupLemmas.{groups_once, group_on, groups_exactly}
 use Rattle.gf_groups.proofs.OnPlaceLemmas.{on_op, on_to, all_places, contained_at, place_of_op}
 use Rattle.gf_groups.proofs.PartingLemmas.{object_cmp_total, entries_parts, entry_place, entry_of}
@@ -73,21 +73,21 @@ module _ (h : List Op) (valid : IsValid h) where
   made_at : (o : ObjectId) (i : ℕ) → Contains (places o) i → IsMade h o
   made_at o i c = let a = on_op o (slice_get h i) ((all_places h o i).0 c) in subst (IsMade h) a.2 (made_by_op h valid a.0 (contained_at h i a.0 a.1))
 
-  part_object : (e : ObjectId × List ℕ) (g : Group) → IsPart h e → Contains (parted e) g → g.object ≡ e.0
+  part_object : (e : ObjectId × List ℕ) (g : Group) → HasAllPlaces h e → Contains (parted e) g → g.object ≡ e.0
   part_object e g p c = group_on h valid e.0 (places e.0) (all_places h e.0) (places_below-rising h e.0 (length h)) g (subst (λ us. Contains (groups_on h e.0 us) g) p c)
 
-  part_once : (e : ObjectId × List ℕ) → IsPart h e → AllPairs (λ g k. g ≢ k) (parted e)
+  part_once : (e : ObjectId × List ℕ) → HasAllPlaces h e → AllPairs (λ g k. g ≢ k) (parted e)
   part_once e p = subst (λ us. AllPairs (λ g k. g ≢ k) (groups_on h e.0 us)) (sym p) (groups_once h valid e.0 (places e.0) (all_places h e.0) (places_below-rising h e.0 (length h)))
 
   -- the objects of two entries differ, so do their groups
-  parts_once : (es : List (ObjectId × List ℕ)) → IsStrictlySortedBy object_cmp (keys_of es) → All (IsPart h) es → AllPairs (λ g k. g ≢ k) (groups_of_parts h es)
+  parts_once : (es : List (ObjectId × List ℕ)) → IsStrictlySortedBy object_cmp (keys_of es) → All (HasAllPlaces h) es → AllPairs (λ g k. g ≢ k) (groups_of_entries h es)
   parts_once [] form all = λ i j d l m. absurd (omega arith)
   parts_once (e ∷ es) form all =
-      let rest = All-tail (IsPart h) e es all in
-      AllPairs-append (λ g k. g ≢ k) (parted e) (groups_of_parts h es) (part_once e (all zero e (omega arith))) (parts_once es (sorted_tail object_cmp e.0 (keys_of es) form) rest) (λ g k c d same.
+      let rest = All-tail (HasAllPlaces h) e es all in
+      AllPairs-append (λ g k. g ≢ k) (parted e) (groups_of_entries h es) (part_once e (all zero e (omega arith))) (parts_once es (sorted_tail object_cmp e.0 (keys_of es) form) rest) (λ g k c d same.
       let w = Contains-flat_map_from parted es k d in
       let x = part_object e g (all zero e (omega arith)) c in
-      let y = part_object w.0 k (All-contains (IsPart h) es w.0 rest w.1) w.2 in
+      let y = part_object w.0 k (All-contains (HasAllPlaces h) es w.0 rest w.1) w.2 in
       let less = below_tail object_cmp object_cmp_total e.0 (keys_of es) form w.0.0 (Contains-map (λ (p : ObjectId × List ℕ). p.0) es w.0 w.1) in
       let one : e.0 ≡ w.0.0 = sym x ∙ (ap (λ (z : Group). z.object) same ∙ y) in
       let tie = ap (object_cmp e.0) one in
@@ -96,7 +96,7 @@ module _ (h : List Op) (valid : IsValid h) where
   exactly : (o : ObjectId) (i : ℕ) → Contains (places o) i → (g : Group) → Contains (groups o) g ↔ ((g.object ≡ o) × IsVersionGroup h g)
   exactly o i c g = groups_exactly h valid o (places o) (all_places h o) (places_below-rising h o (length h)) (made_at o i c) g
 
-  pub all_versions : (m : BTreeMap ObjectId (List ℕ)) → IsOrdered object_cmp m → ArePartsBelow h (length h) m → AreAllVersions h (groups_of_parts h m.entries)
+  pub all_versions : (m : BTreeMap ObjectId (List ℕ)) → IsOrdered object_cmp m → HasPlacesBelow h (length h) m → AreAllVersions h (groups_of_entries h m.entries)
   all_versions m ordered parts =
       let all = entries_parts h m parts ordered in
       record {
@@ -104,7 +104,7 @@ module _ (h : List Op) (valid : IsValid h) where
           λ c.
               let w = Contains-flat_map_from parted m.entries g c in
               let i = entry_place h m parts ordered w.0 w.1 in
-              let part = All-contains (IsPart h) m.entries w.0 all w.1 in
+              let part = All-contains (HasAllPlaces h) m.entries w.0 all w.1 in
               ((exactly w.0.0 i.0 i.1 g).0 (subst (λ us. Contains (groups_on h w.0.0 us) g) part w.2)).1,
           λ v.
               let made = v.created in

@@ -14,7 +14,7 @@ use Rattle.gf_ops.specs.declared.op.ObjectId.{ObjectId}
 use Rattle.gf_ops.specs.Attribute.{object_of}
 use Rattle.gf_ops.specs.OperationOrder.{id_cmp}
 use Rattle.gf_groups.specs.GroupedPlaces.{places_below}
-use Rattle.gf_groups.specs.Parting.{object_cmp, part_at, AddsPlace, nonempty, ArePartsBelow, IsPart}
+use Rattle.gf_groups.specs.Parting.{object_cmp, places_of, AddsPlace, nonempty, HasPlacesBelow, HasAllPlaces}
 use Rattle.gf_groups.specs.VersionList.{id_eq}
 use Rattle.gf_groups.proofs.ConflictTestLemmas.{id_decided}
 use Rattle.gf_groups.proofs.IdLemmas.{id_cmp_total, id_cmp_exact}
@@ -53,13 +53,13 @@ nonempty_first [] ys e = absurd cc
 nonempty_first (x ∷ xs) ys e = (x, Contains-cons_head x xs)
 
 -- with the next operation's place the map has all places below the one after it
-pub parts_more : (h : List Op) (n : ℕ) (a : Op) (m new : BTreeMap ObjectId (List ℕ)) → n < length h → a ≡ get_or h n a → ArePartsBelow h n m → AddsPlace m (object_of a) n new → ArePartsBelow h (n + 1) new
+pub parts_more : (h : List Op) (n : ℕ) (a : Op) (m new : BTreeMap ObjectId (List ℕ)) → n < length h → a ≡ get_or h n a → HasPlacesBelow h n m → AddsPlace m (object_of a) n new → HasPlacesBelow h (n + 1) new
 parts_more h n a m new l e parts adds o = elim (cases_Bool (is_at (object_cmp (object_of a)) o)) [
   | inl t ↦
       let same : object_of a ≡ o = object_cmp_exact (object_of a) o (equal_left (object_cmp (object_of a) o) t) in
-      let here : part_at m (object_of a) ≡ nonempty (places_below h o n) = subst (λ (p : ObjectId). part_at m (object_of a) ≡ nonempty (places_below h p n)) same (parts (object_of a)) in
+      let here : places_of m (object_of a) ≡ nonempty (places_below h o n) = subst (λ (p : ObjectId). places_of m (object_of a) ≡ nonempty (places_below h p n)) same (parts (object_of a)) in
       let more = places_with h o n a l e ((id_decided (object_of a).0 o.0).1 (ap (λ (p : ObjectId). p.0) same)) in
-      adds o ∙ (cond-true (is_at (object_cmp (object_of a)) o) (Some (unwrap_or (part_at m (object_of a)) [] ++ n ∷ [])) (part_at m o) t
+      adds o ∙ (cond-true (is_at (object_cmp (object_of a)) o) (Some (unwrap_or (places_of m (object_of a)) [] ++ n ∷ [])) (places_of m o) t
       ∙ (ap (λ r. Some (unwrap_or r [] ++ n ∷ [])) here
       ∙ (ap (λ xs. Some (xs ++ n ∷ [])) (unwrap_or-nonempty (places_below h o n))
       ∙ (sym (nonempty-push (places_below h o n) n) ∙ ap nonempty (sym more)))))
@@ -71,18 +71,18 @@ parts_more h n a m new l e parts adds o = elim (cases_Bool (is_at (object_cmp (o
             let q : is_eq (object_cmp (object_of a) o) ≡ true = ap is_eq (tie ∙ tied_itself object_cmp_total o) in absurd cc
         | inr k ↦ k
       ] in
-      adds o ∙ (cond-false (is_at (object_cmp (object_of a)) o) (Some (unwrap_or (part_at m (object_of a)) [] ++ n ∷ [])) (part_at m o) t
+      adds o ∙ (cond-false (is_at (object_cmp (object_of a)) o) (Some (unwrap_or (places_of m (object_of a)) [] ++ n ∷ [])) (places_of m o) t
       ∙ (parts o ∙ ap nonempty (sym (places_without h o n a l e other))))
 ]
 
-module _ (h : List Op) (m : BTreeMap ObjectId (List ℕ)) (parts : ArePartsBelow h (length h) m) where
+module _ (h : List Op) (m : BTreeMap ObjectId (List ℕ)) (parts : HasPlacesBelow h (length h) m) where
   -- each entry has the places of its object
-  pub entries_parts : IsOrdered object_cmp m → All (IsPart h) m.entries
-  entries_parts ordered = All-weaker (λ e. part_at m e.0 ≡ Some e.1) (IsPart h) (λ e found. nonempty-told (places_below h e.0 (length h)) e.1 (sym (parts e.0) ∙ found)) m.entries (All-found object_cmp_total m ordered)
+  pub entries_parts : IsOrdered object_cmp m → All (HasAllPlaces h) m.entries
+  entries_parts ordered = All-weaker (λ e. places_of m e.0 ≡ Some e.1) (HasAllPlaces h) (λ e found. nonempty-told (places_below h e.0 (length h)) e.1 (sym (parts e.0) ∙ found)) m.entries (All-found object_cmp_total m ordered)
 
   -- of which there is one
   pub entry_place : IsOrdered object_cmp m → (e : ObjectId × List ℕ) → Contains m.entries e → (i : ℕ) × Contains (places_below h e.0 (length h)) i
-  entry_place ordered e c = nonempty_first (places_below h e.0 (length h)) e.1 (sym (parts e.0) ∙ All-contains (λ (d : ObjectId × List ℕ). part_at m d.0 ≡ Some d.1) m.entries e (All-found object_cmp_total m ordered) c)
+  entry_place ordered e c = nonempty_first (places_below h e.0 (length h)) e.1 (sym (parts e.0) ∙ All-contains (λ (d : ObjectId × List ℕ). places_of m d.0 ≡ Some d.1) m.entries e (All-found object_cmp_total m ordered) c)
 
   -- and each object with a place has an entry
   pub entry_of : (o : ObjectId) (i : ℕ) → Contains (places_below h o (length h)) i → Contains m.entries (o, places_below h o (length h))

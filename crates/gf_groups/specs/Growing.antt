@@ -60,9 +60,9 @@ module _ (c : ℕ → ℕ → Bool) where
   abbrev pub exposed : List ℕ → ℕ → List ℕ
   exposed us x = filter (λ a. not (c a x) && clashes a (rivals us x)) us
 
-  -- the largest of some parts, each once
+  -- those of the groups gs that cover the places us, each once
   abbrev pub largest_of : List ℕ → List (List ℕ) → List (List ℕ)
-  largest_of exposed parts = fold (take_up same_group (covers exposed)) [] parts
+  largest_of us gs = fold (take_up same_group (covers us)) [] gs
 
   -- the groups gs of the places us, after x came too
   abbrev pub next : List ℕ → ℕ → List (List ℕ) → List (List ℕ)

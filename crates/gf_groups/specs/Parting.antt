@@ -14,12 +14,12 @@ abbrev pub object_cmp : ObjectId → ObjectId → Ordering
 object_cmp o p = id_cmp o.0 p.0
 
 -- the places that the map has for the object o
-abbrev pub part_at : BTreeMap ObjectId (List ℕ) → ObjectId → Option (List ℕ)
-part_at m o = get object_cmp m o
+abbrev pub places_of : BTreeMap ObjectId (List ℕ) → ObjectId → Option (List ℕ)
+places_of m o = get object_cmp m o
 
 -- the map n is m with the place k behind those of the object o
 abbrev pub AddsPlace : BTreeMap ObjectId (List ℕ) → ObjectId → ℕ → BTreeMap ObjectId (List ℕ) → Type 0
-AddsPlace m o k n = (p : ObjectId) → part_at n p ≡ cond (is_at (object_cmp o) p) (Some (unwrap_or (part_at m o) [] ++ k ∷ [])) (part_at m p)
+AddsPlace m o k n = (p : ObjectId) → places_of n p ≡ cond (is_at (object_cmp o) p) (Some (unwrap_or (places_of m o) [] ++ k ∷ [])) (places_of m p)
 
 -- the list, if it has an element
 abbrev pub nonempty : List ℕ → Option (List ℕ)
@@ -27,13 +27,13 @@ nonempty [] = None
 nonempty (x ∷ xs) = Some (x ∷ xs)
 
 -- the map has the places below n of the operations of h on each object that has some
-abbrev pub ArePartsBelow : List Op → ℕ → BTreeMap ObjectId (List ℕ) → Type 0
-ArePartsBelow h n m = (o : ObjectId) → part_at m o ≡ nonempty (places_below h o n)
+abbrev pub HasPlacesBelow : List Op → ℕ → BTreeMap ObjectId (List ℕ) → Type 0
+HasPlacesBelow h n m = (o : ObjectId) → places_of m o ≡ nonempty (places_below h o n)
 
 -- the groups of the objects with their places
-abbrev pub groups_of_parts : List Op → List (ObjectId × List ℕ) → List Group
-groups_of_parts h es = flat_map (λ e. groups_on h e.0 e.1) es
+abbrev pub groups_of_entries : List Op → List (ObjectId × List ℕ) → List Group
+groups_of_entries h es = flat_map (λ e. groups_on h e.0 e.1) es
 
 -- the entry has the places of all operations of h on its object
-abbrev pub IsPart : List Op → ObjectId × List ℕ → Type 0
-IsPart h e = e.1 ≡ places_below h e.0 (length h)
+abbrev pub HasAllPlaces : List Op → ObjectId × List ℕ → Type 0
+HasAllPlaces h e = e.1 ≡ places_below h e.0 (length h)

@@ -13,7 +13,7 @@ pub struct Group {
     pub ops: Ids,
 }
 
-/// Versions, seen as their list.
+/// Groups, seen as their list.
 #[derive(Debug, Drop)]
 pub struct Groups {
     groups: Vec<Group>,

@@ -14,7 +14,7 @@ use std::alloc::Global;
 
 /// The versions of an object, each once, rising by their ids as a dictionary orders them.
 ///
-/// They are built from the whole history, an operation at a time.
+/// One pass over the history finds the operations on the object; they are taken one at a time.
 pub fn groups_of(alloc: Global, history: &History, object: ObjectId) -> Result<Groups, GroupFault>
     ensures groups { IfOk result (λ groups. AreVersions history.now.ops object groups) }
     ensures no_object { result ≡ Err GroupFault.NoObject ↔ (¬ IsMade history.now.ops object) }
@@ -44,7 +44,7 @@ pub fn all_groups(alloc: Global, history: &History) -> Result<Groups, OutOfMemor
 fn is_made(history: &History, object: ObjectId) -> bool
     ensures { IsTrue result ↔ IsMade history.now.ops object }
 {
-    // No two of its operations have one id.
+    // Its clause says that the history is valid.
     let _ = history.ops();
     match history.get(object.0) {
         Some(maker) => matches!(maker.change, Change::Create(_)),

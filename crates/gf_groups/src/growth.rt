@@ -42,14 +42,14 @@ fn part(
     Ok(part)
 }
 
-/// Whether the operation at this place is of the group or conflicts with one of it.
+/// Whether this place is of the group, or its operation conflicts with one of it.
 fn is_covered(history: &History, group: &[usize], place: usize) -> bool
     ensures { result ≡ is_covered (conflict_at history.now.ops) group.now place }
 {
     group.iter().any(|other| place == *other || conflict_at(history, place, *other))
 }
 
-/// Whether that holds of each of these places.
+/// Whether each of these places is of the group, or its operation conflicts with one of it.
 fn covers(history: &History, places: &[usize], group: &[usize]) -> bool
     ensures { result ≡ covers (conflict_at history.now.ops) places.now group.now }
 {
@@ -149,7 +149,7 @@ fn join(
     Ok(parts)
 }
 
-/// Adds a place to the largest groups of these places, which come before it.
+/// Turns the largest groups of these places into those of these and one more, which comes after them.
 fn grow(
     alloc: Global,
     history: &History,

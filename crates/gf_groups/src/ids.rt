@@ -21,7 +21,7 @@ impl Model for Ids {
 }
 
 impl Ids {
-    /// The group of these ids.
+    /// These ids in their order.
     pub fn new(ids: Vec<OpId>) -> Ids
         ensures { result ≡ ids.items }
     {

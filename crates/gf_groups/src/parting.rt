@@ -1,7 +1,7 @@
 //! The operations of a history, parted by their objects.
 
 ghost use Rattle.std.specs.Prelude.{length, IfOk, OnOk};
-ghost use Rattle.gf_groups.specs.Parting.{AddsPlace, ArePartsBelow};
+ghost use Rattle.gf_groups.specs.Parting.{AddsPlace, HasPlacesBelow};
 
 use crate::places::Places;
 use gf_ops::{ObjectId, Op};
@@ -11,7 +11,7 @@ use std::collections::BTreeMap;
 
 /// The places of the operations on each object.
 pub(crate) fn parted(alloc: Global, ops: &[Op]) -> Result<BTreeMap<ObjectId, Places>, OutOfMemory>
-    ensures { IfOk result (λ parts. ArePartsBelow ops.now (length ops.now) parts) }
+    ensures { IfOk result (λ parts. HasPlacesBelow ops.now (length ops.now) parts) }
 {
     let mut parts = BTreeMap::new(alloc);
     for (place, op) in ops.iter().enumerate() {

@@ -1,4 +1,4 @@
-//! Groups in the making: places of operations in a history.
+//! Places of operations in a history: those of a group in the making, or of an object.
 
 ghost use Rattle.std.specs.Prelude.{◌≡◌, ◌∷◌, [], ◌++◌, OnOk};
 ghost use Rattle.std.specs.Cmp.Rules.{comparing};

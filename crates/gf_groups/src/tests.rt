@@ -1,5 +1,5 @@
-//! Worked examples: the groups of histories, from the rules of conflicts by hand; and all small
-//! histories against the definition.
+//! Worked examples: the groups of histories, from the rules of conflicts by hand; and all histories
+//! of at most four changes by two sites against the definition.
 
 use crate::{GroupFault, Groups, all_groups, groups_of};
 use gf_ops::{Change, Clock, Form, History, ObjectId, Op, OpId, Start, Value, conflicts};
@@ -115,6 +115,16 @@ fn conflicts_make_versions(rt: HostRuntime) -> Result<(), Fail> {
             ]
             .as_slice(),
             "[ 1.1 1.2 ][ 1.1 2.1 ]",
+        ),
+        (
+            "a second colour of one site",
+            [
+                (1, 2, [1, 0, 0], 1, To::Blue),
+                (2, 1, [1, 0, 0], 1, To::Green),
+                (1, 3, [2, 0, 0], 1, To::Blue),
+            ]
+            .as_slice(),
+            "[ 1.1 1.2 1.3 ][ 1.1 2.1 ]",
         ),
         (
             "equal setters",
@@ -331,7 +341,7 @@ fn agrees(alloc: Global, history: &History) -> Result<bool, Fail> {
 #[test]
 fn small_histories_have_the_versions_of_the_definition(rt: HostRuntime) -> Result<(), Fail> {
     let alloc = rt.alloc();
-    let mut largest = 0;
+    let mut most = 0;
     for first in 0..20 {
         let Some(history) = small(alloc, &[first])? else {
             continue;
@@ -351,13 +361,13 @@ fn small_histories_have_the_versions_of_the_definition(rt: HostRuntime) -> Resul
                     let codes = [first, second, third, fourth];
                     if let Some(history) = small(alloc, &codes)? {
                         assert!(rt; agrees(alloc, &history)?, "{codes:?}");
-                        largest = history.ops().len();
+                        most = most.max(history.ops().len());
                     }
                 }
             }
         }
     }
-    assert_eq!(rt; largest, 5);
+    assert_eq!(rt; most, 5);
     Ok(())
 }
 

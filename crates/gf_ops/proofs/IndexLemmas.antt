@@ -10,7 +10,7 @@ use Rattle.gf_ops.specs.declared.op.Op.{Op}
 use Rattle.gf_ops.specs.declared.op.OpId.{OpId}
 use Rattle.gf_ops.specs.declared.op.Clock.{Clock}
 use Rattle.gf_ops.specs.Accepted.{IsAccepted}
-use Rattle.gf_ops.specs.HistoryIndex.{place, IsPlaced, IsHistory}
+use Rattle.gf_ops.specs.HistoryIndex.{place, IsIndexed, IsHistory}
 use Rattle.gf_ops.specs.Limits.{IsInRange}
 use Rattle.gf_ops.specs.OperationOrder.{IsSite, count_of}
 use Rattle.gf_ops.proofs.HistoryLemmas.{site_in_range, has_counted}
@@ -81,13 +81,13 @@ module _ (h : List Op) (rows : List (List ℕ)) (counts : Clock) (a : Op) (row :
   row_wide = rw (sym row_told) (t.wide (a.id.seq - 1) l)
 
   -- the operation is at the end
-  last_placed : (i : OpId) → i ≡ a.id → IsPlaced (h ++ a ∷ []) grown i
+  last_placed : (i : OpId) → i ≡ a.id → IsIndexed (h ++ a ∷ []) grown i
   last_placed i q =
       let site = site_in_range a r in let most = site.1 in let least = site.0 in let w = row_wide in
       let at : place grown a.id ≡ length h = place_same rows row a.id (length h) l (omega arith) in
       let longer = length-append h (a ∷ []) in
       let wider = length-set rows (a.id.seq - 1) (set row (a.id.site - 1) (length h)) in
-      subst (IsPlaced (h ++ a ∷ []) grown) (sym q) (record {
+      subst (IsIndexed (h ++ a ∷ []) grown) (sym q) (record {
         row = omega arith;
         op = a;
         within = rw at (omega arith);
@@ -96,7 +96,7 @@ module _ (h : List Op) (rows : List (List ℕ)) (counts : Clock) (a : Op) (row :
       })
 
   -- and the others stay
-  still_placed : (i : OpId) → IsPlaced h rows i → (i.seq - 1 ≢ a.id.seq - 1) ⊎ (i.site - 1 ≢ a.id.site - 1) → IsPlaced (h ++ a ∷ []) grown i
+  still_placed : (i : OpId) → IsIndexed h rows i → (i.seq - 1 ≢ a.id.seq - 1) ⊎ (i.site - 1 ≢ a.id.site - 1) → IsIndexed (h ++ a ∷ []) grown i
   still_placed i q d =
       let at : place grown i ≡ place rows i = place_other rows row a.id i (length h) l e d in
       let longer = length-append h (a ∷ []) in
@@ -110,7 +110,7 @@ module _ (h : List Op) (rows : List (List ℕ)) (counts : Clock) (a : Op) (row :
         id = q.id;
       }
 
-  all_placed : (i : OpId) → IsSite i.site → 1 ≤ i.seq → i.seq ≤ count_of (h ++ a ∷ []) i.site → IsPlaced (h ++ a ∷ []) grown i
+  all_placed : (i : OpId) → IsSite i.site → 1 ≤ i.seq → i.seq ≤ count_of (h ++ a ∷ []) i.site → IsIndexed (h ++ a ∷ []) grown i
   all_placed i s f c =
       let site = site_in_range a r in let least = site.0 in let low = s.0 in let seq = p.next.numbered.seq in
       elim (cases_eq i.site a.id.site) [

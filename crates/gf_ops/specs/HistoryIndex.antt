@@ -10,8 +10,8 @@ use Rattle.gf_ops.specs.ValidHistory.{IsValid}
 abbrev pub place : List (List ℕ) → OpId → ℕ
 place rows i = slice_index (slice_index_or rows (i.seq - 1) []) (i.site - 1)
 
--- it is the place in h of the operation under i
-pub record IsPlaced (h : List Op) (rows : List (List ℕ)) (i : OpId) : Type 0 where
+-- the rows tell the place in h of the operation under i
+pub record IsIndexed (h : List Op) (rows : List (List ℕ)) (i : OpId) : Type 0 where
   pub row : i.seq - 1 < length rows
   pub op : Op
   pub within : place rows i < length h
@@ -25,4 +25,4 @@ pub record IsHistory (h : List Op) (rows : List (List ℕ)) (counts : Clock) : T
   pub counted : (s : ℕ) → IsSite s → entry counts s ≡ count_of h s
   pub reached : (a : Op) → Contains h a → a.id.seq ≤ count_of h a.id.site
   pub wide : (k : ℕ) → k < length rows → length (slice_index_or rows k []) ≡ 8
-  pub placed : (i : OpId) → IsSite i.site → 1 ≤ i.seq → i.seq ≤ count_of h i.site → IsPlaced h rows i
+  pub placed : (i : OpId) → IsSite i.site → 1 ≤ i.seq → i.seq ≤ count_of h i.site → IsIndexed h rows i

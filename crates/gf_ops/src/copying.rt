@@ -73,7 +73,8 @@ impl Value {
 }
 
 impl Points {
-    fn copy(&self, alloc: Global) -> Result<Points, OutOfMemory>
+    /// The same points once more.
+    pub fn copy(&self, alloc: Global) -> Result<Points, OutOfMemory>
         ensures { IfOk result (λ points. points ≡ self.now) }
     {
         let mut points = Vec::new(alloc);

@@ -58,7 +58,7 @@ fn add_ready(history: &mut History, buffer: &mut Buffer) -> Result<(), StudioErr
     ensures err { IfErr result (RefusesReady buffer.old history.old.ops) }
     ensures valid { OnOk result (IsValid history.new.ops) }
 {
-    // What the history has is valid.
+    // Its clause says that the history is valid.
     let _ = history.ops();
     while let Some(op) = buffer.take_ready(history) {
         let id = op.id;

@@ -4,7 +4,7 @@ use Rattle.std.proofs.lemmas.List.{append-nil}
 use Rattle.std.proofs.lemmas.List.Elements.{All-head, All-rest}
 use Rattle.gf_ops.specs.declared.op.ObjectId.{ObjectId}
 use Rattle.gf_groups.specs.GroupedPlaces.{groups_on}
-use Rattle.gf_groups.specs.Parting.{ArePartsBelow, IsPart, groups_of_parts}
+use Rattle.gf_groups.specs.Parting.{HasPlacesBelow, HasAllPlaces, groups_of_entries}
 use Rattle.gf_groups.proofs.AllGroupLemmas.{all_versions}
 use Rattle.gf_groups.proofs.PartingLemmas.{entries_parts}
 use Rattle.gf_groups.proofs.PlaceLemmas.{places_below-rising}
@@ -18,16 +18,16 @@ pub loop-object-init : goal.loop-object-init
 loop-object-init c =
     let h = c.args.history.now.ops in
     let gives = c.into_iter-object-iterator.ensures.into_iter_gives in
-    let parts : ArePartsBelow h (length h) c.in_ok-parts.parts = rw c.ops.ensures.ops at c.in_ok-parts.ensures in
+    let parts : HasPlacesBelow h (length h) c.in_ok-parts.parts = rw c.ops.ensures.ops at c.in_ok-parts.ensures in
     record {
-      rest = ap (λ groups. groups ++ groups_of_parts h c.into_iter-object-iterator.result) c.new-groups.ensures.items;
+      rest = ap (λ groups. groups ++ groups_of_entries h c.into_iter-object-iterator.result) c.new-groups.ensures.items;
       parts = rw gives.0 (entries_parts h c.in_ok-parts.parts parts gives.5);
     }
 
 pub add_groups-requires : goal.add_groups-requires
 add_groups-requires c =
     let h = c.args.history.now.ops in
-    let part = All-head (IsPart h) (c.in-Some.object.now, c.in-Some.places.now) c.next.new.self (rw c.in-Some.ensures.steps at c.loop-object.invariant.parts) in
+    let part = All-head (HasAllPlaces h) (c.in-Some.object.now, c.in-Some.places.now) c.next.new.self (rw c.in-Some.ensures.steps at c.loop-object.invariant.parts) in
     rw (c.as_slice.ensures, part) (places_below-rising h c.in-Some.object.now (length h))
 
 pub loop-object-preserved : goal.loop-object-preserved
@@ -37,7 +37,7 @@ loop-object-preserved c =
     let added : c.add_groups.new.groups.items ≡ c.loop-object.groups.items ++ groups_on h e.0 e.1 = rw c.as_slice.ensures at c.in_ok-add_groups.ensures in
     record {
       rest = more (λ (d : ObjectId × List ℕ). groups_on h d.0 d.1) c.loop-object.groups.items c.add_groups.new.groups.items _ e c.next.new.self c.loop-object.object-iterator added c.in-Some.ensures.steps c.loop-object.invariant.rest;
-      parts = All-rest (IsPart h) e c.next.new.self c.loop-object.object-iterator c.in-Some.ensures.steps c.loop-object.invariant.parts;
+      parts = All-rest (HasAllPlaces h) e c.next.new.self c.loop-object.object-iterator c.in-Some.ensures.steps c.loop-object.invariant.parts;
     }
 
 pub returns : goal.returns
@@ -45,6 +45,6 @@ returns c =
     let h = c.args.history.now.ops in
     let m = c.in_ok-parts.parts in
     let gives = c.into_iter-object-iterator.ensures.into_iter_gives in
-    let parts : ArePartsBelow h (length h) m = rw c.ops.ensures.ops at c.in_ok-parts.ensures in
-    let all : c.loop-object.groups.items ++ [] ≡ groups_of_parts h m.entries = rw (c.in-None.ensures.steps.0, gives.0) at c.loop-object.invariant.rest in
+    let parts : HasPlacesBelow h (length h) m = rw c.ops.ensures.ops at c.in_ok-parts.ensures in
+    let all : c.loop-object.groups.items ++ [] ≡ groups_of_entries h m.entries = rw (c.in-None.ensures.steps.0, gives.0) at c.loop-object.invariant.rest in
     rw (c.new.ensures, ← append-nil c.loop-object.groups.items, all) (all_versions h c.ops.ensures.valid m gives.5 parts)

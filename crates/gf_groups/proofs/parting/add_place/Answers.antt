@@ -1,6 +1,6 @@
 use Rattle.std.proofs.Common.{◌≡◌, [], ◌∷◌, ◌++◌, None, ap, sym, ◌∙◌}
 use Rattle.std.specs.BTreeMap.{is_at}
-use Rattle.gf_groups.specs.Parting.{object_cmp, part_at}
+use Rattle.gf_groups.specs.Parting.{object_cmp, places_of}
 use Rattle.gf_groups.proofs.PartingLemmas.{with_place}
 use Rattle.gf_groups.proofs.parting.add_place.Goals as goal
 
@@ -8,6 +8,6 @@ pub returns-in-Ok : goal.returns-in-Ok
 returns-in-Ok c = λ p.
     let old = c.args.parts.now in
     let updates = rw c.get_mut.follows.holds-at-none at c.in-Ok.ensures.updates in
-    let none : part_at old c.args.object ≡ None = sym c.in_default.ensures.value in
+    let none : places_of old c.args.object ≡ None = sym c.in_default.ensures.value in
     let one = c.in_ok-push.ensures ∙ ap (λ places. places ++ c.args.place ∷ []) c.new-places.ensures in
-    with_place (part_at c.insert.new.self p) (part_at old c.args.object) (part_at old p) (is_at (object_cmp c.args.object) p) c.push-2.new.self c.args.place none one (updates.0 p)
+    with_place (places_of c.insert.new.self p) (places_of old c.args.object) (places_of old p) (is_at (object_cmp c.args.object) p) c.push-2.new.self c.args.place none one (updates.0 p)

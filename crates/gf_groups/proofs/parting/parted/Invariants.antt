@@ -1,5 +1,5 @@
-use Rattle.gf_groups.specs.Parting.{ArePartsBelow}
+use Rattle.gf_groups.specs.Parting.{HasPlacesBelow}
 use Rattle.gf_groups.proofs.parting.parted.Given as goal
 
 abbrev pub invariant-loop-place : goal.invariant-loop-place
-invariant-loop-place l = ArePartsBelow l.ops l.place l.parts
+invariant-loop-place l = HasPlacesBelow l.ops l.place l.parts
