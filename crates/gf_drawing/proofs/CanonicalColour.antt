@@ -16,7 +16,8 @@ use Rattle.gf_versions.specs.HistoryColour.{HistoryColour, white}
 use Rattle.gf_versions.specs.Ranking.{first_colour}
 use Rattle.gf_versions.proofs.TopLemmas.{first_gives}
 use Rattle.gf_drawing.specs.declared.figure.Figure.{Figure}
-use Rattle.gf_drawing.specs.CanonicalDrawing.{IsCanonical, Paints, rgb_eq, colours_of, canonical_figure, canonical_figures, canonical_table, canonical_drawing}
+use Rattle.gf_ops.specs.ConflictTests.{colour_eq}
+use Rattle.gf_drawing.specs.CanonicalDrawing.{IsCanonical, Paints, colours_of, canonical_figure, canonical_figures, canonical_table, canonical_drawing}
 use Rattle.gf_drawing.specs.DrawingColour.{drawing_colour, figure_colour}
 use Rattle.gf_drawing.specs.DrawingState.{DrawingState}
 use Rattle.gf_drawing.specs.Outlined.{PaintsAsFig, outlined}
@@ -32,12 +33,12 @@ counted cs n (i ∷ items) = ap (λ r. n ∷ r) (counted cs (n + 1) items)
 
 module _ {S : Type 0} (holds : S → Point → Bool) where
   -- the first figure that holds p has the colour of the first item that does
-  first_figure : (cs : List Rgb) (n : ℕ) (items : List (Placed S)) (p : Point) → All (λ (i : Placed S). list_any (rgb_eq i.colour) cs ≡ true) items →
+  first_figure : (cs : List Rgb) (n : ℕ) (items : List (Placed S)) (p : Point) → All (λ (i : Placed S). list_any (colour_eq i.colour) cs ≡ true) items →
       unwrap_or (option_map (figure_colour (enumerate_from 32 cs)) (find (λ (f : Figure S). holds f.shape p) (map (canonical_figure cs) (enumerate_from n items)))) white
       ≡ first_colour holds items p
   first_figure cs n [] p h = refl
   first_figure cs n (i ∷ items) p h =
-      let Known : Placed S → Type 0 = λ j. list_any (rgb_eq j.colour) cs ≡ true in
+      let Known : Placed S → Type 0 = λ j. list_any (colour_eq j.colour) cs ≡ true in
       elim (cases_Bool (holds i.shape p)) [
         | inl t ↦ rw t (ap (λ r. unwrap_or r white) (number_gives i.colour cs (All-head Known i items h)))
         | inr t ↦ rw t (first_figure cs (n + 1) items p (All-tail Known i items h))

@@ -10,7 +10,8 @@ use Rattle.std.proofs.lemmas.List.Elements.{filter-append, All-nil, All-cons, Al
 use Rattle.std.proofs.lemmas.List.FromFn.{length-enumerate_from}
 use Rattle.gf_shape.specs.declared.colour.Rgb.{Rgb}
 use Rattle.gf_versions.specs.declared.placed.Placed.{Placed}
-use Rattle.gf_drawing.specs.CanonicalDrawing.{rgb_eq, first_seen, colours_of, number_of, canonical_figure, canonical_figures, canonical_drawing}
+use Rattle.gf_ops.specs.ConflictTests.{colour_eq}
+use Rattle.gf_drawing.specs.CanonicalDrawing.{first_seen, colours_of, number_of, canonical_figure, canonical_figures, canonical_drawing}
 use Rattle.gf_drawing.specs.Compiling.{with_item, with_new}
 
 -- where none passes, the place is the length
@@ -19,46 +20,46 @@ position_or_len-absent p [] e = refl
 position_or_len-absent p (x ∷ xs) e = let parts = or_parts (p x) (list_any p xs) e in let rest = position_or_len-absent p xs parts.1 in rw parts.0 (omega arith)
 
 -- the test of colours tells whether they are one
-pub rgb_decided : (c d : Rgb) → Decides (rgb_eq c d) (c ≡ d)
-rgb_decided c d = Decides-like (rgb_eq c d) (λ h k. record { r = h.0.0 k; g = h.0.1 k; b = h.1 k }) (λ e. ((ap (λ (x : Rgb). x.r) e, ap (λ (x : Rgb). x.g) e), ap (λ (x : Rgb). x.b) e))
+pub rgb_decided : (c d : Rgb) → Decides (colour_eq c d) (c ≡ d)
+rgb_decided c d = Decides-like (colour_eq c d) (λ h k. record { r = h.0.0 k; g = h.0.1 k; b = h.1 k }) (λ e. ((ap (λ (x : Rgb). x.r) e, ap (λ (x : Rgb). x.g) e), ap (λ (x : Rgb). x.b) e))
     (Decides-and (c.r == d.r && c.g == d.g) (c.b == d.b) (Decides-and (c.r == d.r) (c.g == d.g) (Decides-eqb c.r d.r) (Decides-eqb c.g d.g)) (Decides-eqb c.b d.b))
 
-rgb_false : (c d : Rgb) → rgb_eq d c ≡ false → rgb_eq c d ≡ false
-rgb_false c d e = elim (cases_Bool (rgb_eq c d)) [
+rgb_false : (c d : Rgb) → colour_eq d c ≡ false → colour_eq c d ≡ false
+rgb_false c d e = elim (cases_Bool (colour_eq c d)) [
   | inl t ↦ let k = (rgb_decided d c).1 (sym ((rgb_decided c d).0 t)) in absurd cc
   | inr t ↦ t
 ]
 
 -- whether c is there is the same where d is taken out
-list_any-filter : (c d : Rgb) (cs : List Rgb) → rgb_eq d c ≡ false → list_any (rgb_eq c) (filter (λ x. not (rgb_eq d x)) cs) ≡ list_any (rgb_eq c) cs
+list_any-filter : (c d : Rgb) (cs : List Rgb) → colour_eq d c ≡ false → list_any (colour_eq c) (filter (λ x. not (colour_eq d x)) cs) ≡ list_any (colour_eq c) cs
 list_any-filter c d [] e = refl
-list_any-filter c d (x ∷ cs) e = elim (cases_Bool (rgb_eq d x)) [
+list_any-filter c d (x ∷ cs) e = elim (cases_Bool (colour_eq d x)) [
   | inl t ↦
       let k : d ≡ x = (rgb_decided d x).0 t in
-      let n : rgb_eq c x ≡ false = subst (λ y. rgb_eq c y ≡ false) k (rgb_false c d e) in
+      let n : colour_eq c x ≡ false = subst (λ y. colour_eq c y ≡ false) k (rgb_false c d e) in
       rw (t, n) (list_any-filter c d cs e)
-  | inr t ↦ rw t (ap (λ b. rgb_eq c x || b) (list_any-filter c d cs e))
+  | inr t ↦ rw t (ap (λ b. colour_eq c x || b) (list_any-filter c d cs e))
 ]
 
 -- taking out d behind c: c stays unless it is d
-filter-with_new : (c d : Rgb) (cs : List Rgb) → d ∷ filter (λ x. not (rgb_eq d x)) (with_new cs c) ≡ with_new (d ∷ filter (λ x. not (rgb_eq d x)) cs) c
-filter-with_new c d cs = elim (cases_Bool (rgb_eq d c)) [
+filter-with_new : (c d : Rgb) (cs : List Rgb) → d ∷ filter (λ x. not (colour_eq d x)) (with_new cs c) ≡ with_new (d ∷ filter (λ x. not (colour_eq d x)) cs) c
+filter-with_new c d cs = elim (cases_Bool (colour_eq d c)) [
   | inl t ↦
-      let k : rgb_eq c d ≡ true = (rgb_decided c d).1 (sym ((rgb_decided d c).0 t)) in
-      rw k (elim (cases_Bool (list_any (rgb_eq c) cs)) [
+      let k : colour_eq c d ≡ true = (rgb_decided c d).1 (sym ((rgb_decided d c).0 t)) in
+      rw k (elim (cases_Bool (list_any (colour_eq c) cs)) [
         | inl there ↦ rw there
-        | inr new ↦ rw (new, filter-append (λ x. not (rgb_eq d x)) cs (c ∷ []), t, append-nil)
+        | inr new ↦ rw (new, filter-append (λ x. not (colour_eq d x)) cs (c ∷ []), t, append-nil)
       ])
   | inr t ↦
-      rw (rgb_false c d t, list_any-filter c d cs t) (elim (cases_Bool (list_any (rgb_eq c) cs)) [
+      rw (rgb_false c d t, list_any-filter c d cs t) (elim (cases_Bool (list_any (colour_eq c) cs)) [
         | inl there ↦ rw there
-        | inr new ↦ rw (new, filter-append (λ x. not (rgb_eq d x)) cs (c ∷ []), t)
+        | inr new ↦ rw (new, filter-append (λ x. not (colour_eq d x)) cs (c ∷ []), t)
       ])
 ]
 
 first_seen-push : (cs : List Rgb) (c : Rgb) → first_seen (cs ++ c ∷ []) ≡ with_new (first_seen cs) c
 first_seen-push [] c = refl
-first_seen-push (d ∷ cs) c = ap (λ xs. d ∷ filter (λ x. not (rgb_eq d x)) xs) (first_seen-push cs c) ∙ filter-with_new c d (first_seen cs)
+first_seen-push (d ∷ cs) c = ap (λ xs. d ∷ filter (λ x. not (colour_eq d x)) xs) (first_seen-push cs c) ∙ filter-with_new c d (first_seen cs)
 
 pub colours_of-push : {S : Type 0} → (items : List (Placed S)) (i : Placed S) → colours_of (items ++ i ∷ []) ≡ with_new (colours_of items) i.colour
 colours_of-push {S} items i = ap first_seen (map-append (λ (j : Placed S). j.colour) items (i ∷ [])) ∙ first_seen-push (map (λ (j : Placed S). j.colour) items) i.colour
@@ -70,10 +71,10 @@ enumerate_from-push n (y ∷ xs) x =
     ap (λ ys. (n, y) ∷ ys) (enumerate_from-push (n + 1) xs x ∙ ap (λ k. enumerate_from (n + 1) xs ++ (k, x) ∷ []) e)
 
 -- a colour keeps its place as others are added
-position-with_new : (cs : List Rgb) (c d : Rgb) → list_any (rgb_eq c) cs ≡ true → position_or_len (rgb_eq c) (with_new cs d) ≡ position_or_len (rgb_eq c) cs
-position-with_new cs c d there = elim (cases_Bool (list_any (rgb_eq d) cs)) [
+position-with_new : (cs : List Rgb) (c d : Rgb) → list_any (colour_eq c) cs ≡ true → position_or_len (colour_eq c) (with_new cs d) ≡ position_or_len (colour_eq c) cs
+position-with_new cs c d there = elim (cases_Bool (list_any (colour_eq d) cs)) [
   | inl t ↦ rw t
-  | inr t ↦ rw t (position-append (rgb_eq c) cs (d ∷ []) there)
+  | inr t ↦ rw t (position-append (colour_eq c) cs (d ∷ []) there)
 ]
   where
     position-append : {X : Type 0} (p : X → Bool) (xs ys : List X) → list_any p xs ≡ true → position_or_len p (xs ++ ys) ≡ position_or_len p xs
@@ -84,28 +85,28 @@ position-with_new cs c d there = elim (cases_Bool (list_any (rgb_eq d) cs)) [
     ]
 
 -- the place of c is the same before and after it is added
-pub position-own : (cs : List Rgb) (c : Rgb) → position_or_len (rgb_eq c) (with_new cs c) ≡ position_or_len (rgb_eq c) cs
-position-own cs c = elim (cases_Bool (list_any (rgb_eq c) cs)) [
+pub position-own : (cs : List Rgb) (c : Rgb) → position_or_len (colour_eq c) (with_new cs c) ≡ position_or_len (colour_eq c) cs
+position-own cs c = elim (cases_Bool (list_any (colour_eq c) cs)) [
   | inl t ↦ rw t
   | inr t ↦ rw t (at_end cs t)
 ]
   where
-    at_end : (ds : List Rgb) → list_any (rgb_eq c) ds ≡ false → position_or_len (rgb_eq c) (ds ++ c ∷ []) ≡ position_or_len (rgb_eq c) ds
+    at_end : (ds : List Rgb) → list_any (colour_eq c) ds ≡ false → position_or_len (colour_eq c) (ds ++ c ∷ []) ≡ position_or_len (colour_eq c) ds
     at_end [] e = rw ((rgb_decided c c).1 refl)
-    at_end (d ∷ ds) e = let parts = or_parts (rgb_eq c d) (list_any (rgb_eq c) ds) e in rw parts.0 (ap (λ n. 1 + n) (at_end ds parts.1))
+    at_end (d ∷ ds) e = let parts = or_parts (colour_eq c d) (list_any (colour_eq c) ds) e in rw parts.0 (ap (λ n. 1 + n) (at_end ds parts.1))
 
 -- what was seen stays seen behind another colour
-seen-cons : (c d : Rgb) (cs : List Rgb) → list_any (rgb_eq c) (first_seen cs) ≡ true → list_any (rgb_eq c) (first_seen (d ∷ cs)) ≡ true
-seen-cons c d cs e = elim (cases_Bool (rgb_eq c d)) [
+seen-cons : (c d : Rgb) (cs : List Rgb) → list_any (colour_eq c) (first_seen cs) ≡ true → list_any (colour_eq c) (first_seen (d ∷ cs)) ≡ true
+seen-cons c d cs e = elim (cases_Bool (colour_eq c d)) [
   | inl t ↦ rw t
   | inr t ↦ rw (t, list_any-filter c d (first_seen cs) (rgb_false d c t)) e
 ]
 
 -- each item's colour is among those of the items
-pub own_colour : {S : Type 0} → (items : List (Placed S)) → All (λ (i : Placed S). list_any (rgb_eq i.colour) (colours_of items) ≡ true) items
+pub own_colour : {S : Type 0} → (items : List (Placed S)) → All (λ (i : Placed S). list_any (colour_eq i.colour) (colours_of items) ≡ true) items
 own_colour {S} [] = All-nil _
 own_colour {S} (i ∷ items) =
-    let Seen : List (Placed S) → Placed S → Type 0 = λ all j. list_any (rgb_eq j.colour) (colours_of all) ≡ true in
+    let Seen : List (Placed S) → Placed S → Type 0 = λ all j. list_any (colour_eq j.colour) (colours_of all) ≡ true in
     All-cons (Seen (i ∷ items)) i items (rw ((rgb_decided i.colour i.colour).1 refl))
     (All-weaker (Seen items) (Seen (i ∷ items)) (λ j e. seen-cons j.colour i.colour (map (λ (k : Placed S). k.colour) items) e) items (own_colour items))
 
@@ -128,7 +129,7 @@ canonical_figures-push {S} items i =
     let ds = colours_of (items ++ i ∷ []) in
     let grown : ds ≡ with_new cs i.colour = colours_of-push items i in
     let before : map (canonical_figure ds) (enumerate_from 0 items) ≡ canonical_figures items =
-    figures_same ds cs 0 items (All-weaker (λ (j : Placed S). list_any (rgb_eq j.colour) cs ≡ true) (λ (j : Placed S). number_of ds j.colour ≡ number_of cs j.colour)
+    figures_same ds cs 0 items (All-weaker (λ (j : Placed S). list_any (colour_eq j.colour) cs ≡ true) (λ (j : Placed S). number_of ds j.colour ≡ number_of cs j.colour)
     (λ j e. ap (λ xs. number_of xs j.colour) grown ∙ ap (λ n. 32 + n) (position-with_new cs j.colour i.colour e)) items (own_colour items)) in
     let number : number_of ds i.colour ≡ number_of cs i.colour =
     ap (λ xs. number_of xs i.colour) grown ∙ ap (λ n. 32 + n) (position-own cs i.colour) in
@@ -153,7 +154,7 @@ colours_of-more items (i ∷ rest) =
     omega arith
   where
     with_new-long : (cs : List Rgb) (c : Rgb) → length cs ≤ length (with_new cs c)
-    with_new-long cs c = elim (cases_Bool (list_any (rgb_eq c) cs)) [ inl t ↦ rw t (omega arith) | inr t ↦ rw (t, length-append cs (c ∷ [])) (omega arith) ]
+    with_new-long cs c = elim (cases_Bool (list_any (colour_eq c) cs)) [ inl t ↦ rw t (omega arith) | inr t ↦ rw (t, length-append cs (c ∷ [])) (omega arith) ]
 
 -- where the colours of the first versions leave no room for the next one's, all have too many
 pub full_table : {S : Type 0} → (seen : List (Placed S)) (i : Placed S) (rest : List (Placed S)) → 512 < length (with_new (colours_of seen) i.colour) →

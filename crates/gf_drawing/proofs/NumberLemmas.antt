@@ -8,7 +8,8 @@ use Rattle.std.proofs.lemmas.Bool.Decides.{nat_tests}
 use Rattle.std.proofs.lemmas.List.Elements.{All-head, All-tail, All-nil, All-cons, All-from_recursion}
 use Rattle.std.proofs.lemmas.List.Folds.{find-append}
 use Rattle.gf_shape.specs.declared.colour.Rgb.{Rgb}
-use Rattle.gf_drawing.specs.CanonicalDrawing.{number_of, rgb_eq}
+use Rattle.gf_ops.specs.ConflictTests.{colour_eq}
+use Rattle.gf_drawing.specs.CanonicalDrawing.{number_of}
 use Rattle.gf_drawing.specs.Colours.{Table, colour_in, rgb_of, standard_colours}
 use Rattle.gf_drawing.specs.Compiling.{with_new}
 use Rattle.gf_drawing.specs.DrawingState.{IsFreeNumber, IsLawfulFigure, is_table_number}
@@ -34,17 +35,17 @@ enumerated_below m n (c ∷ cs) h = All-cons (Below n) (m, c) (enumerate_from (m
 in_table : (n : ℕ) → 32 ≤ n → n ≤ 543 → is_table_number n ≡ true
 in_table n h l = grind (arith, nat_tests)
 
-absent : (c : Rgb) (cs : List Rgb) → not (list_any (rgb_eq c) cs) ≡ true → list_any (rgb_eq c) cs ≡ false
-absent c cs new = elim (cases_Bool (list_any (rgb_eq c) cs)) [
+absent : (c : Rgb) (cs : List Rgb) → not (list_any (colour_eq c) cs) ≡ true → list_any (colour_eq c) cs ≡ false
+absent c cs new = elim (cases_Bool (list_any (colour_eq c) cs)) [
   | inl t ↦ let n = rw t at new in absurd cc
   | inr t ↦ t
 ]
 
 -- the table numbers the colours cs, and c is none of them
-module _ (table : Table) (cs : List Rgb) (c : Rgb) (place : ℕ) (numbered : table ≡ enumerate_from 32 cs) (found : place ≡ position_or_len (rgb_eq c) cs) (new : not (list_any (rgb_eq c) cs) ≡ true) where
+module _ (table : Table) (cs : List Rgb) (c : Rgb) (place : ℕ) (numbered : table ≡ enumerate_from 32 cs) (found : place ≡ position_or_len (colour_eq c) cs) (new : not (list_any (colour_eq c) cs) ≡ true) where
   -- its number is the next one
   next : place ≡ length cs
-  next = found ∙ position_or_len-absent (rgb_eq c) cs (absent c cs new)
+  next = found ∙ position_or_len-absent (colour_eq c) cs (absent c cs new)
 
   -- which is free
   pub free_next : place < 512 → IsFreeNumber table (32 + place)
@@ -80,34 +81,34 @@ at_place p m (c ∷ cs) =
     ]
 
 -- the colour is found where it is there
-find_own : (c : Rgb) (cs : List Rgb) → list_any (rgb_eq c) cs ≡ true → find (rgb_eq c) cs ≡ Some c
+find_own : (c : Rgb) (cs : List Rgb) → list_any (colour_eq c) cs ≡ true → find (colour_eq c) cs ≡ Some c
 find_own c [] h = absurd cc
-find_own c (d ∷ cs) h = elim (cases_Bool (rgb_eq c d)) [
-  | inl t ↦ cond-true (rgb_eq c d) (Some d) (find (rgb_eq c) cs) t ∙ ap (λ (x : Rgb). Some x) (sym ((rgb_decided c d).0 t))
-  | inr t ↦ cond-false (rgb_eq c d) (Some d) (find (rgb_eq c) cs) t ∙ find_own c cs (rw t at h)
+find_own c (d ∷ cs) h = elim (cases_Bool (colour_eq c d)) [
+  | inl t ↦ cond-true (colour_eq c d) (Some d) (find (colour_eq c) cs) t ∙ ap (λ (x : Rgb). Some x) (sym ((rgb_decided c d).0 t))
+  | inr t ↦ cond-false (colour_eq c d) (Some d) (find (colour_eq c) cs) t ∙ find_own c cs (rw t at h)
 ]
 
 standard_below : (n : ℕ) → 32 ≤ n → All (Below n) standard_colours
 standard_below n l = All-from_recursion (Below n) standard_colours (omega arith, (omega arith, (omega arith, (omega arith, (omega arith, (omega arith, (omega arith, (omega arith, tt))))))))
 
 -- a table numbered from 32 gives each of its colours under its number
-pub number_gives : (c : Rgb) (cs : List Rgb) → list_any (rgb_eq c) cs ≡ true → rgb_of (enumerate_from 32 cs) (32 + position_or_len (rgb_eq c) cs) ≡ Some c
+pub number_gives : (c : Rgb) (cs : List Rgb) → list_any (colour_eq c) cs ≡ true → rgb_of (enumerate_from 32 cs) (32 + position_or_len (colour_eq c) cs) ≡ Some c
 number_gives c cs h =
-    let n = 32 + position_or_len (rgb_eq c) cs in
+    let n = 32 + position_or_len (colour_eq c) cs in
     ap (option_map (λ (e : ℕ × Rgb). e.1)) (find-append (is_number n) standard_colours (enumerate_from 32 cs)
     ∙ ap (λ (r : Option (ℕ × Rgb)). option_or r (find (is_number n) (enumerate_from 32 cs))) (none_below n standard_colours (standard_below n (omega arith))))
-    ∙ (at_place (rgb_eq c) 32 cs ∙ find_own c cs h)
+    ∙ (at_place (colour_eq c) 32 cs ∙ find_own c cs h)
 
 -- a colour is there once it is added
-own_new : (cs : List Rgb) (c : Rgb) → list_any (rgb_eq c) (with_new cs c) ≡ true
-own_new cs c = elim (cases_Bool (list_any (rgb_eq c) cs)) [
+own_new : (cs : List Rgb) (c : Rgb) → list_any (colour_eq c) (with_new cs c) ≡ true
+own_new cs c = elim (cases_Bool (list_any (colour_eq c) cs)) [
   | inl t ↦ rw t t
   | inr t ↦ rw t (at_end cs)
 ]
   where
-    at_end : (ds : List Rgb) → list_any (rgb_eq c) (ds ++ c ∷ []) ≡ true
+    at_end : (ds : List Rgb) → list_any (colour_eq c) (ds ++ c ∷ []) ≡ true
     at_end [] = rw ((rgb_decided c c).1 refl)
-    at_end (d ∷ ds) = elim (cases_Bool (rgb_eq c d)) [ inl t ↦ rw t | inr t ↦ rw t (at_end ds) ]
+    at_end (d ∷ ds) = elim (cases_Bool (colour_eq c d)) [ inl t ↦ rw t | inr t ↦ rw t (at_end ds) ]
 
 in_depth : (n : ℕ) → n < 1000 → nat_le n 999 ≡ true
 in_depth n h = grind (arith, nat_tests)

@@ -1,11 +1,12 @@
 -- The drawing that a history means (this project's choice of depths and colour numbers, within Xfig's FIG Format 3.2).
-use Rattle.std.specs.Prelude.{◌≡◌, ℕ, ◌+◌, ◌≤◌, Bool, not, ◌&&◌, ◌==◌, List, [], ◌∷◌, length, map, filter}
+use Rattle.std.specs.Prelude.{◌≡◌, ℕ, ◌+◌, ◌≤◌, not, List, [], ◌∷◌, length, map, filter}
 use Rattle.std.specs.List.{enumerate_from, position_or_len}
 use Rattle.gf_shape.specs.declared.colour.Rgb.{Rgb}
 use Rattle.gf_shape.specs.declared.point.Point.{Point}
 use Rattle.gf_shape.specs.declared.any_shape.AnyShape.{AnyShape}
 use Rattle.gf_shape.specs.ShapeMeaning.{any_holds}
 use Rattle.gf_ops.specs.declared.op.Op.{Op}
+use Rattle.gf_ops.specs.ConflictTests.{colour_eq}
 use Rattle.gf_versions.specs.declared.placed.Placed.{Placed}
 use Rattle.gf_versions.specs.HistoryColour.{HistoryColour}
 use Rattle.gf_versions.specs.Ranking.{AreRanked}
@@ -14,18 +15,14 @@ use Rattle.gf_drawing.specs.Colours.{Table}
 use Rattle.gf_drawing.specs.DrawingColour.{drawing_colour}
 use Rattle.gf_drawing.specs.DrawingState.{DrawingState}
 
--- c and d are one colour
-abbrev pub rgb_eq : Rgb → Rgb → Bool
-rgb_eq c d = c.r == d.r && c.g == d.g && c.b == d.b
-
 -- each colour once, as it is first seen
 abbrev pub first_seen : List Rgb → List Rgb
 first_seen [] = []
-first_seen (c ∷ cs) = c ∷ filter (λ d. not (rgb_eq c d)) (first_seen cs)
+first_seen (c ∷ cs) = c ∷ filter (λ d. not (colour_eq c d)) (first_seen cs)
 
 -- 32, and how many of the distinct colours cs come before c
 abbrev pub number_of : List Rgb → Rgb → ℕ
-number_of cs c = 32 + position_or_len (rgb_eq c) cs
+number_of cs c = 32 + position_or_len (colour_eq c) cs
 
 -- the items are versions at their places, of shapes of type S
 module _ {S : Type 0} where

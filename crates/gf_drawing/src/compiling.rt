@@ -2,7 +2,8 @@
 
 ghost use Rattle.std.specs.Prelude.{◌≡◌, ◌≢◌, ◌⊎◌, ◌<◌, ◌≤◌, ◌↔◌, not, length, Err, IfOk, OnOk};
 ghost use Rattle.std.specs.List.{enumerate_from, list_any, position_or_len};
-ghost use Rattle.gf_drawing.specs.CanonicalDrawing.{Fits, canonical_drawing, colours_of, number_of, rgb_eq};
+ghost use Rattle.gf_ops.specs.ConflictTests.{colour_eq};
+ghost use Rattle.gf_drawing.specs.CanonicalDrawing.{Fits, canonical_drawing, colours_of, number_of};
 ghost use Rattle.gf_drawing.specs.Compiling.{with_item, with_new};
 
 use crate::{Drawing, Figure};
@@ -116,8 +117,8 @@ fn number<S: Shape>(
 
 /// The place of a colour among the distinct ones as they are first seen, and whether it is new.
 fn place(colours: &mut IndexSet<Rgb>, colour: Rgb) -> Result<(usize, bool), CompileFault>
-    ensures place { IfOk result (λ found. found.0 ≡ position_or_len (rgb_eq colour) colours.old.keys) }
-    ensures new { IfOk result (λ found. found.1 ≡ not (list_any (rgb_eq colour) colours.old.keys)) }
+    ensures place { IfOk result (λ found. found.0 ≡ position_or_len (colour_eq colour) colours.old.keys) }
+    ensures new { IfOk result (λ found. found.1 ≡ not (list_any (colour_eq colour) colours.old.keys)) }
     ensures within { IfOk result (λ found. found.0 < 512) }
     ensures colours { OnOk result ((colours.new.keys ≡ with_new colours.old.keys colour) × (length colours.new.keys ≤ 512)) }
     ensures full { result ≡ Err CompileFault.TooManyColours → 512 < length (with_new colours.old.keys colour) }

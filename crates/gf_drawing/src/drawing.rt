@@ -1,6 +1,6 @@
 //! Drawings.
 
-ghost use Rattle.std.specs.Prelude.{◌≡◌, None, [], ◌∷◌, ◌++◌, OnOk, OnErr, fold, option_copied};
+ghost use Rattle.std.specs.Prelude.{◌≡◌, None, [], ◌∷◌, ◌++◌, OnOk, OnErr, option_copied};
 ghost use Rattle.gf_drawing.specs.Colours.{colour_in, rgb_of, standard_colours};
 ghost use Rattle.gf_drawing.specs.DrawingState.{IsFreeNumber, IsLawfulDrawing, IsLawfulFigure};
 ghost use Rattle.gf_drawing.specs.DrawingColour.{drawing_colour};

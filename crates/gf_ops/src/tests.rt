@@ -204,6 +204,7 @@ fn keeps_points_in_order(rt: HostRuntime) -> Result<(), Fail> {
     let points = Points::new(vec![in rt.alloc(); a, b, c]?);
     assert_eq!(rt; points.as_slice(), &[a, b, c][..]);
     assert_eq!(rt; points, Points::new(vec![in rt.alloc(); a, b, c]?));
+    assert_eq!(rt; points.copy(rt.alloc())?, points);
     assert!(rt; points != Points::new(vec![in rt.alloc(); b, a, c]?));
     assert!(rt; points != Points::new(vec![in rt.alloc(); a, b, a]?));
     assert!(rt; points != Points::new(vec![in rt.alloc(); a, b]?));

@@ -27,7 +27,7 @@ use Rattle.gf_studio.specs.declared.studio_error.LineCause.{LineCause}
 use Rattle.gf_studio.specs.declared.studio_error.LineCause.TheVariants as cause
 use Rattle.gf_studio.specs.TextLines.{numbered_lines}
 
--- a line that denotes this operation
+-- what a line that denotes this operation reads as
 abbrev pub denotes_op : Op → Got Op
 denotes_op op = Ok op
 
@@ -73,10 +73,10 @@ pub record IsClashing (ops : List Op) (line : List ℕ) : Type 0 where
 
 -- what is wrong with a line behind those of these operations
 abbrev pub IsFault : List Op → List ℕ → LineCause → Type 0
-IsFault ops bytes cause.Json = denoted bytes ≡ Err line.Json
-IsFault ops bytes cause.Field = denoted bytes ≡ Err line.Field
-IsFault ops bytes cause.Range = denoted bytes ≡ Err line.Range
-IsFault ops bytes cause.Clash = IsClashing ops bytes
+IsFault ops text cause.Json = denoted text ≡ Err line.Json
+IsFault ops text cause.Field = denoted text ≡ Err line.Field
+IsFault ops text cause.Range = denoted text ≡ Err line.Range
+IsFault ops text cause.Clash = IsClashing ops text
 
 -- line n is the first that denotes no operation, or another one under the id of an earlier one, for this cause
 pub record HasFault (bytes : List ℕ) (n : ℕ) (cause : LineCause) : Type 0 where

@@ -17,6 +17,8 @@ fn runs_answer_the_first_fault(rt: HostRuntime) -> Result<(), AllocError> {
     let green = RED_BOX.replace(alloc, "ff0000", "00ff00")?;
     let clash = format!(in alloc; "{RED_BOX}{green}")?;
     let own = RED_BOX.replace(alloc, "[0,0,0,0,0,0,0,0]", "[1,0,0,0,0,0,0,0]")?;
+    let drop_first = format!(in alloc; "{own}{{")?;
+    let line_first = format!(in alloc; "{{\n{own}")?;
     let rows = [
         ("", None, None, Ok(()), 60),
         (RED_BOX, None, None, Ok(()), 156),
@@ -49,6 +51,20 @@ fn runs_answer_the_first_fault(rt: HostRuntime) -> Result<(), AllocError> {
             None,
             None,
             Err(StudioError::Dropped(FIRST, OpFault::BadClock)),
+            0,
+        ),
+        (
+            drop_first.as_str(),
+            None,
+            None,
+            Err(StudioError::Dropped(FIRST, OpFault::BadClock)),
+            0,
+        ),
+        (
+            line_first.as_str(),
+            None,
+            None,
+            Err(StudioError::Line(1, LineCause::Json)),
             0,
         ),
     ];

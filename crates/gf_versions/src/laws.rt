@@ -1,8 +1,7 @@
 //! Laws of versions and of the history's colour, each the contract of a function that does nothing.
 
-ghost use Rattle.std.specs.Prelude.{◌≡◌, ◌⊎◌, ◌↔◌, List, Contains};
+ghost use Rattle.std.specs.Prelude.{◌≡◌, ◌↔◌, List, Contains};
 ghost use Rattle.gf_shape.specs.declared.point.Point.{Point};
-ghost use Rattle.gf_shape.specs.declared.colour.Rgb.{Rgb};
 ghost use Rattle.gf_shape.specs.declared.any_shape.AnyShape.{AnyShape};
 ghost use Rattle.gf_shape.specs.ShapeMeaning.{any_holds};
 ghost use Rattle.gf_ops.specs.declared.op.Op.{Op};
@@ -24,6 +23,7 @@ ghost use Rattle.gf_versions.specs.VersionOf.{IsVersionOf};
 /// Above is a total order of the versions of a valid history: of two that are not one, exactly one is above
 /// the other.
 pub fn versions_are_in_a_total_order()
+    ensures irreflexive { (k : VersionKey) → ¬ (IsAbove k k) }
     ensures transitive { (k l m : VersionKey) → IsAbove k l → IsAbove l m → IsAbove k m }
     ensures total { (h : List Op) → IsValid h → (v w : Version) → IsVersionOf h v → IsVersionOf h w → AreOrdered v w }
 {}

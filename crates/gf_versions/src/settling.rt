@@ -9,8 +9,8 @@ ghost use Rattle.gf_versions.specs.VersionOf.{IsVersionOf};
 use crate::giving::{colour, layer, place, points, sets, shown, size};
 use crate::{Version, VersionKey};
 use gf_groups::{Group, Ids};
-use gf_ops::{Attr, Change, Form, History, Op, OpId, Points, before};
-use gf_shape::{OutOfMemory, Point};
+use gf_ops::{Attr, Change, Form, History, Op, OpId, before};
+use gf_shape::OutOfMemory;
 use std::alloc::Global;
 
 /// The version of this group, each attribute with the value that its last setter gives it.
@@ -52,7 +52,7 @@ fn settled_form(alloc: Global, history: &History, group: &Group) -> Result<Form,
         }
         Form::Polygon(_) => {
             let points = points(last_setter(history, group, Attr::Points));
-            Ok(Form::Polygon(copied_points(alloc, points.as_slice())?))
+            Ok(Form::Polygon(points.copy(alloc)?))
         }
     }
 }
@@ -96,13 +96,4 @@ fn copied(alloc: Global, ids: &[OpId]) -> Result<Ids, OutOfMemory>
     let mut copy = Vec::new(alloc);
     copy.extend_from_slice(ids)?;
     Ok(Ids::new(copy))
-}
-
-/// The same points once more.
-fn copied_points(alloc: Global, points: &[Point]) -> Result<Points, OutOfMemory>
-    ensures { IfOk result (λ copy. copy ≡ points.now) }
-{
-    let mut copy = Vec::new(alloc);
-    copy.extend_from_slice(points)?;
-    Ok(Points::new(copy))
 }

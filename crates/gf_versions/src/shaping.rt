@@ -1,6 +1,6 @@
 //! The shapes of forms.
 
-ghost use Rattle.std.specs.Prelude.{◌≡◌, IfOk, IsTrue, pos};
+ghost use Rattle.std.specs.Prelude.{◌≡◌, IfOk, IsTrue};
 ghost use Rattle.gf_ops.specs.Limits.{is_form, is_near, is_polygon, is_size};
 ghost use Rattle.gf_versions.specs.Ranking.{form_at, origin, shape_of};
 

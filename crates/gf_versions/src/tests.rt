@@ -95,6 +95,25 @@ fn higher_layers_and_later_objects_are_above(rt: HostRuntime) -> Result<(), Fail
     Ok(())
 }
 
+#[test]
+fn objects_of_later_sites_are_above(rt: HostRuntime) -> Result<(), Fail> {
+    let alloc = rt.alloc();
+    let mut history = History::new(alloc);
+    for (site, seq) in [(2, 1), (1, 1), (1, 2)] {
+        let mut op = created(seq, Form::Rect(10, 10), 0, RED, true);
+        op.id.site = site;
+        assert!(rt; op.in_range());
+        history.add(op)?;
+    }
+    let falling = [(2, 1), (1, 2), (1, 1)];
+    let ranked = ranked(alloc, &history)?;
+    assert_eq!(rt; ranked.len(), falling.len());
+    for (item, (site, seq)) in ranked.items.iter().zip(falling) {
+        assert_eq!(rt; item.key.object, ObjectId(OpId { site, seq }));
+    }
+    Ok(())
+}
+
 /// 1.2 makes the box blue.
 fn blue() -> Op {
     changed(SECOND, [1, 0], Value::Colour(BLUE))
