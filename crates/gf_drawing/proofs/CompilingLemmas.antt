@@ -1,16 +1,15 @@
 -- The canonical drawing grows by one figure with each version.
 use Rattle.std.proofs.Common.{◌≡◌, ℕ, ◌+◌, ◌<◌, ◌≤◌, Bool, true, false, List, [], ◌∷◌, ◌++◌, map, length, suc, refl, sym, ap, subst, ◌∙◌, inl, inr, arith, length-append, append_assoc}
-use Rattle.std.specs.Prelude.{not, ◌&&◌, ◌||◌, ◌==◌, filter, All}
-use Rattle.std.specs.Bool.{Decides}
+use Rattle.std.specs.Prelude.{not, ◌||◌, filter, All}
 use Rattle.std.specs.List.{position_or_len, enumerate_from, list_any}
 use Rattle.std.proofs.lemmas.Bool.{cases_Bool, or_parts}
-use Rattle.std.proofs.lemmas.Bool.Decides.{Decides-eqb, Decides-and, Decides-like}
 use Rattle.std.proofs.lemmas.List.{append-nil, map-append, length-map}
 use Rattle.std.proofs.lemmas.List.Elements.{filter-append, All-nil, All-cons, All-head, All-tail, All-weaker}
 use Rattle.std.proofs.lemmas.List.FromFn.{length-enumerate_from}
 use Rattle.gf_shape.specs.declared.colour.Rgb.{Rgb}
 use Rattle.gf_versions.specs.declared.placed.Placed.{Placed}
 use Rattle.gf_ops.specs.ConflictTests.{colour_eq}
+use Rattle.gf_ops.proofs.SameLemmas.{colours_told}
 use Rattle.gf_drawing.specs.CanonicalDrawing.{first_seen, colours_of, number_of, canonical_figure, canonical_figures, canonical_drawing}
 use Rattle.gf_drawing.specs.Compiling.{with_item, with_new}
 
@@ -19,14 +18,9 @@ pub position_or_len-absent : {X : Type 0} (p : X → Bool) (xs : List X) → lis
 position_or_len-absent p [] e = refl
 position_or_len-absent p (x ∷ xs) e = let parts = or_parts (p x) (list_any p xs) e in let rest = position_or_len-absent p xs parts.1 in rw parts.0 (omega arith)
 
--- the test of colours tells whether they are one
-pub rgb_decided : (c d : Rgb) → Decides (colour_eq c d) (c ≡ d)
-rgb_decided c d = Decides-like (colour_eq c d) (λ h k. record { r = h.0.0 k; g = h.0.1 k; b = h.1 k }) (λ e. ((ap (λ (x : Rgb). x.r) e, ap (λ (x : Rgb). x.g) e), ap (λ (x : Rgb). x.b) e))
-    (Decides-and (c.r == d.r && c.g == d.g) (c.b == d.b) (Decides-and (c.r == d.r) (c.g == d.g) (Decides-eqb c.r d.r) (Decides-eqb c.g d.g)) (Decides-eqb c.b d.b))
-
 rgb_false : (c d : Rgb) → colour_eq d c ≡ false → colour_eq c d ≡ false
 rgb_false c d e = elim (cases_Bool (colour_eq c d)) [
-  | inl t ↦ let k = (rgb_decided d c).1 (sym ((rgb_decided c d).0 t)) in absurd cc
+  | inl t ↦ let k = (colours_told d c).1 (sym ((colours_told c d).0 t)) in absurd cc
   | inr t ↦ t
 ]
 
@@ -35,7 +29,7 @@ list_any-filter : (c d : Rgb) (cs : List Rgb) → colour_eq d c ≡ false → li
 list_any-filter c d [] e = refl
 list_any-filter c d (x ∷ cs) e = elim (cases_Bool (colour_eq d x)) [
   | inl t ↦
-      let k : d ≡ x = (rgb_decided d x).0 t in
+      let k : d ≡ x = (colours_told d x).0 t in
       let n : colour_eq c x ≡ false = subst (λ y. colour_eq c y ≡ false) k (rgb_false c d e) in
       rw (t, n) (list_any-filter c d cs e)
   | inr t ↦ rw t (ap (λ b. colour_eq c x || b) (list_any-filter c d cs e))
@@ -45,7 +39,7 @@ list_any-filter c d (x ∷ cs) e = elim (cases_Bool (colour_eq d x)) [
 filter-with_new : (c d : Rgb) (cs : List Rgb) → d ∷ filter (λ x. not (colour_eq d x)) (with_new cs c) ≡ with_new (d ∷ filter (λ x. not (colour_eq d x)) cs) c
 filter-with_new c d cs = elim (cases_Bool (colour_eq d c)) [
   | inl t ↦
-      let k : colour_eq c d ≡ true = (rgb_decided c d).1 (sym ((rgb_decided d c).0 t)) in
+      let k : colour_eq c d ≡ true = (colours_told c d).1 (sym ((colours_told d c).0 t)) in
       rw k (elim (cases_Bool (list_any (colour_eq c) cs)) [
         | inl there ↦ rw there
         | inr new ↦ rw (new, filter-append (λ x. not (colour_eq d x)) cs (c ∷ []), t, append-nil)
@@ -92,7 +86,7 @@ position-own cs c = elim (cases_Bool (list_any (colour_eq c) cs)) [
 ]
   where
     at_end : (ds : List Rgb) → list_any (colour_eq c) ds ≡ false → position_or_len (colour_eq c) (ds ++ c ∷ []) ≡ position_or_len (colour_eq c) ds
-    at_end [] e = rw ((rgb_decided c c).1 refl)
+    at_end [] e = rw ((colours_told c c).1 refl)
     at_end (d ∷ ds) e = let parts = or_parts (colour_eq c d) (list_any (colour_eq c) ds) e in rw parts.0 (ap (λ n. 1 + n) (at_end ds parts.1))
 
 -- what was seen stays seen behind another colour
@@ -107,7 +101,7 @@ pub own_colour : {S : Type 0} → (items : List (Placed S)) → All (λ (i : Pla
 own_colour {S} [] = All-nil _
 own_colour {S} (i ∷ items) =
     let Seen : List (Placed S) → Placed S → Type 0 = λ all j. list_any (colour_eq j.colour) (colours_of all) ≡ true in
-    All-cons (Seen (i ∷ items)) i items (rw ((rgb_decided i.colour i.colour).1 refl))
+    All-cons (Seen (i ∷ items)) i items (rw ((colours_told i.colour i.colour).1 refl))
     (All-weaker (Seen items) (Seen (i ∷ items)) (λ j e. seen-cons j.colour i.colour (map (λ (k : Placed S). k.colour) items) e) items (own_colour items))
 
 -- figures with their colours numbered by cs and by ds are the same where the numbers are

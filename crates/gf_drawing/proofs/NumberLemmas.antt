@@ -9,11 +9,12 @@ use Rattle.std.proofs.lemmas.List.Elements.{All-head, All-tail, All-nil, All-con
 use Rattle.std.proofs.lemmas.List.Folds.{find-append}
 use Rattle.gf_shape.specs.declared.colour.Rgb.{Rgb}
 use Rattle.gf_ops.specs.ConflictTests.{colour_eq}
+use Rattle.gf_ops.proofs.SameLemmas.{colours_told}
 use Rattle.gf_drawing.specs.CanonicalDrawing.{number_of}
 use Rattle.gf_drawing.specs.Colours.{Table, colour_in, rgb_of, standard_colours}
 use Rattle.gf_drawing.specs.Compiling.{with_new}
 use Rattle.gf_drawing.specs.DrawingState.{IsFreeNumber, IsLawfulFigure, is_table_number}
-use Rattle.gf_drawing.proofs.CompilingLemmas.{rgb_decided, position-own, position_or_len-absent, enumerate_from-push}
+use Rattle.gf_drawing.proofs.CompilingLemmas.{position-own, position_or_len-absent, enumerate_from-push}
 
 abbrev is_number : ℕ → ℕ × Rgb → Bool
 is_number n e = eqb e.0 n
@@ -84,7 +85,7 @@ at_place p m (c ∷ cs) =
 find_own : (c : Rgb) (cs : List Rgb) → list_any (colour_eq c) cs ≡ true → find (colour_eq c) cs ≡ Some c
 find_own c [] h = absurd cc
 find_own c (d ∷ cs) h = elim (cases_Bool (colour_eq c d)) [
-  | inl t ↦ cond-true (colour_eq c d) (Some d) (find (colour_eq c) cs) t ∙ ap (λ (x : Rgb). Some x) (sym ((rgb_decided c d).0 t))
+  | inl t ↦ cond-true (colour_eq c d) (Some d) (find (colour_eq c) cs) t ∙ ap (λ (x : Rgb). Some x) (sym ((colours_told c d).0 t))
   | inr t ↦ cond-false (colour_eq c d) (Some d) (find (colour_eq c) cs) t ∙ find_own c cs (rw t at h)
 ]
 
@@ -107,7 +108,7 @@ own_new cs c = elim (cases_Bool (list_any (colour_eq c) cs)) [
 ]
   where
     at_end : (ds : List Rgb) → list_any (colour_eq c) (ds ++ c ∷ []) ≡ true
-    at_end [] = rw ((rgb_decided c c).1 refl)
+    at_end [] = rw ((colours_told c c).1 refl)
     at_end (d ∷ ds) = elim (cases_Bool (colour_eq c d)) [ inl t ↦ rw t | inr t ↦ rw t (at_end ds) ]
 
 in_depth : (n : ℕ) → n < 1000 → nat_le n 999 ≡ true

@@ -6,8 +6,7 @@ use Rattle.std.specs.List.{flat_map}
 use Rattle.std.specs.List.Sorted.{IsStrictlySortedBy}
 use Rattle.std.specs.Map.{keys_of}
 use Rattle.std.proofs.lemmas.Cmp.{tied_itself}
-use Rattle.std.proofs.lemmas.List.Elements.{All-append, All-contains, All-tail, Contains-append_left, Contains-append_right, Contains-append_cases, Contains-get_or}
-use Rattle.std.proofs.lemmas.List.Kept.{AllPairs-cons}
+use Rattle.std.proofs.lemmas.List.Elements.{All-contains, All-tail, Contains-append_left, Contains-append_right, Contains-append_cases}
 use Rattle.std.proofs.lemmas.Map.Keys.{sorted_tail}
 use Rattle.gf_ops.specs.declared.op.Op.{Op}
 use Rattle.gf_ops.specs.declared.op.ObjectId.{ObjectId}
@@ -26,6 +25,7 @@ use Rattle.gf_groups.proofs.OnPlaceLemmas.{on_op, on_to, all_places, contained_a
 use Rattle.gf_groups.proofs.PartingLemmas.{object_cmp_total, entries_parts, entry_place, entry_of}
 use Rattle.gf_groups.proofs.PlaceLemmas.{places_below-rising}
 use Rattle.gf_groups.proofs.RisingLemmas.{below_tail}
+use Rattle.gf_groups.proofs.TakingLemmas.{AllPairs-append}
 
 -- ---- lists in a row
 
@@ -42,14 +42,6 @@ Contains-flat_map f (x ∷ xs) a b i c = elim (Contains-cons_cases x xs a i) [
   | inl e ↦ Contains-append_left (f x) (flat_map f xs) b (subst (λ z. Contains (f z) b) e c)
   | inr j ↦ Contains-append_right (f x) (flat_map f xs) b (Contains-flat_map f xs a b j c)
 ]
-
-AllPairs-append : {X : Type 0} (R : X → X → Type 0) (xs ys : List X) → AllPairs R xs → AllPairs R ys → ((a b : X) → Contains xs a → Contains ys b → R a b) → AllPairs R (xs ++ ys)
-AllPairs-append R [] ys p q f = q
-AllPairs-append R (x ∷ xs) ys p q f =
-    let head : All (R x) xs = λ k d l. p zero (suc k) d (omega arith) (omega arith) in
-    let cross : All (R x) ys = λ k d l. f x (get_or ys k d) (Contains-cons_head x xs) (Contains-get_or ys k d l) in
-    AllPairs-cons R x (xs ++ ys) (All-append (R x) xs ys head cross)
-    (AllPairs-append R xs ys (λ i j d l m. p (suc i) (suc j) d (omega arith) (omega arith)) q (λ a b i j. f a b (Contains-cons_tail x xs a i) j))
 
 -- ---- an object with an operation was made
 

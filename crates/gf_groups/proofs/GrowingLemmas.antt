@@ -325,7 +325,7 @@ module _ (c : ℕ → ℕ → Bool) (s : IsConflict c) (us : List ℕ) (x : ℕ)
     pub table_next : IsTable c all (next c us x gs)
     table_next = record {
       each = λ q. (sound q, λ m. elim (m.1.largest x ((holds us x).1 (inr refl))) [ inl here ↦ came q m here | inr w ↦ stayed q m w ]);
-      once = AllPairs-append steps news
+      once = AllPairs-append (λ g h. g ≢ h) steps news
           (AllPairs-map (step c x) gs (λ g h i j e.
           let m = (table.each g).0 i in let n = (table.each h).0 j in
           one g h m.0 n.0 (λ a. (step_back g h m e a, step_back h g n (sym e) a))) table.once)

@@ -1,10 +1,10 @@
--- A list that takes up what passes a test and is new, and different elements under a map and behind others.
-use Rattle.std.proofs.Common.{◌≡◌, ◌≢◌, ◌<◌, suc, Bool, true, false, List, [], ◌∷◌, ◌++◌, map, length, get_or, inl, inr, refl, subst, sym, arith, ◌∙◌}
-use Rattle.std.specs.Prelude.{◌⊎◌, AllPairs, Contains, not, ◌&&◌}
+-- A list that takes up what passes a test and is new, different elements under a map, and pairs of two lists in a row.
+use Rattle.std.proofs.Common.{◌≡◌, ◌≢◌, ◌<◌, zero, suc, Bool, true, false, List, [], ◌∷◌, ◌++◌, map, length, get_or, inl, inr, refl, subst, sym, arith, ◌∙◌}
+use Rattle.std.specs.Prelude.{◌⊎◌, All, AllPairs, Contains, not, ◌&&◌}
 use Rattle.std.specs.List.{list_any, fold}
 use Rattle.std.specs.Bool.{Decides}
 use Rattle.std.proofs.lemmas.Bool.{cases_Bool, cond-true, cond-false, and_parts, not-true, not-false, and_cases}
-use Rattle.std.proofs.lemmas.List.Elements.{All-contains_itself, All-weaker, Contains-append_cases, Contains-append_left, Contains-append_right, Contains-push_cases, Contains-get_or}
+use Rattle.std.proofs.lemmas.List.Elements.{All-append, Contains-append_left, Contains-append_right, Contains-push_cases, Contains-get_or}
 use Rattle.std.proofs.lemmas.List.Kept.{AllPairs-cons}
 use Rattle.std.proofs.lemmas.List.Quantifiers.{all_pairs_push}
 use Rattle.std.proofs.lemmas.List.{length-map, get_or-map}
@@ -21,16 +21,14 @@ AllPairs-map f (y ∷ ys) one o i j d l m e =
     o i j y l n (one (get_or (y ∷ ys) i y) (get_or (y ∷ ys) j y) (Contains-get_or (y ∷ ys) i y k) (Contains-get_or (y ∷ ys) j y n)
     (sym (get_or-map f (y ∷ ys) i y d k) ∙ (e ∙ get_or-map f (y ∷ ys) j y d n)))
 
--- different elements of two lists that have none in common
-pub AllPairs-append : {Y : Type 0} (xs ys : List Y) → AllPairs (λ a b. a ≢ b) xs → AllPairs (λ a b. a ≢ b) ys → ((a b : Y) → Contains xs a → Contains ys b → a ≢ b) → AllPairs (λ a b. a ≢ b) (xs ++ ys)
-AllPairs-append [] ys one two apart = two
-AllPairs-append (x ∷ xs) ys one two apart =
-    let new : (y : _) → Contains (xs ++ ys) y → x ≢ y = λ y h. elim (Contains-append_cases xs ys y h) [
-      | inl w ↦ λ e. let k = w.1 in one 0 (suc w.0) y (omega arith) (omega arith) (e ∙ sym w.2)
-      | inr i ↦ apart x y (Contains-cons_head x xs) i
-    ] in
-    AllPairs-cons (λ a b. a ≢ b) x (xs ++ ys) (All-weaker (Contains (xs ++ ys)) (λ y. x ≢ y) new (xs ++ ys) (All-contains_itself (xs ++ ys)))
-    (AllPairs-append xs ys (λ i j d l m. one (suc i) (suc j) d (omega arith) (omega arith)) two (λ a b h i. apart a b (Contains-cons_tail x xs a h) i))
+-- what holds of all pairs of two lists, one behind the other
+pub AllPairs-append : {X : Type 0} (R : X → X → Type 0) (xs ys : List X) → AllPairs R xs → AllPairs R ys → ((a b : X) → Contains xs a → Contains ys b → R a b) → AllPairs R (xs ++ ys)
+AllPairs-append R [] ys p q f = q
+AllPairs-append R (x ∷ xs) ys p q f =
+    let head : All (R x) xs = λ k d l. p zero (suc k) d (omega arith) (omega arith) in
+    let cross : All (R x) ys = λ k d l. f x (get_or ys k d) (Contains-cons_head x xs) (Contains-get_or ys k d l) in
+    AllPairs-cons R x (xs ++ ys) (All-append (R x) xs ys head cross)
+    (AllPairs-append R xs ys (λ i j d l m. p (suc i) (suc j) d (omega arith) (omega arith)) q (λ a b i j. f a b (Contains-cons_tail x xs a i) j))
 
 -- ---- a list that takes up what passes the test and is new
 

@@ -23,7 +23,7 @@ points_told p q = (
   λ e. subst (λ r. point_eq p r ≡ true) e (rw ((Decides-int_eq p.x p.x).1 refl, (Decides-int_eq p.y p.y).1 refl) refl),
 )
 
-colours_told : (c d : Rgb) → Decides (colour_eq c d) (c ≡ d)
+pub colours_told : (c d : Rgb) → Decides (colour_eq c d) (c ≡ d)
 colours_told c d = (
   λ t.
       let b = and_parts (c.r == d.r && c.g == d.g) (c.b == d.b) t in

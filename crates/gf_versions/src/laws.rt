@@ -20,8 +20,8 @@ ghost use Rattle.gf_versions.specs.HistoryColour.{HistoryColour, HasOneColour};
 ghost use Rattle.gf_versions.specs.Ranking.{AreRanked, first_colour};
 ghost use Rattle.gf_versions.specs.VersionOf.{IsVersionOf};
 
-/// Above is a total order of the versions of a valid history: of two that are not one, exactly one is above
-/// the other.
+/// Above is a strict total order of the versions of a valid history: of two that are not one, exactly one
+/// is above the other.
 pub fn versions_are_in_a_total_order()
     ensures irreflexive { (k : VersionKey) → ¬ (IsAbove k k) }
     ensures transitive { (k l m : VersionKey) → IsAbove k l → IsAbove l m → IsAbove k m }
