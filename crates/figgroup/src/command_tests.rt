@@ -2,20 +2,12 @@
 
 use crate::command;
 use crate::command::refuse_words;
+use example_parts::{EMPTY_FIG, RED_BOX, RED_BOX_FIG};
 use gf_drawing::Tape;
 use gf_studio::{MOST_INPUT_BYTES, Reel};
 use std::alloc::{AllocError, Global};
 use std::io;
 use std::test::Fail;
-
-pub(crate) const EMPTY: &str =
-    "#FIG 3.2\nLandscape\nCenter\nMetric\nA4\n100.00\nSingle\n-2\n1200 2\n";
-
-const RED_BOX: &str =
-    "{\"colour\":\"ff0000\",\"id\":[1,1],\"kind\":\"box\",\"layer\":0,\"op\":\"create\",\"past\":[0,0,0,0,0,0,0,0],\"place\":[100,200],\"shown\":true,\"size\":[300,400]}\n";
-
-const RED_BOX_FIG: &str =
-    "#FIG 3.2\nLandscape\nCenter\nMetric\nA4\n100.00\nSingle\n-2\n1200 2\n0 32 #ff0000\n2 2 0 0 32 32 0 -1 20 0.000 0 0 -1 0 0 5\n\t 100 200 400 200 400 600 100 600 100 200\n";
 
 const RED_OVER_BLUE: &str =
     "{\"colour\":\"ff0000\",\"id\":[1,1],\"kind\":\"box\",\"layer\":5,\"op\":\"create\",\"past\":[0,0,0,0,0,0,0,0],\"place\":[0,0],\"shown\":true,\"size\":[10,10]}\n{\"colour\":\"0000ff\",\"id\":[1,2],\"kind\":\"box\",\"layer\":0,\"op\":\"create\",\"past\":[1,0,0,0,0,0,0,0],\"place\":[0,0],\"shown\":true,\"size\":[10,10]}\n";
@@ -68,8 +60,8 @@ pub(crate) fn run(
 #[test]
 fn lines_become_fig_text(rt: HostRuntime) -> Result<(), Fail> {
     let rows = [
-        ("", EMPTY),
-        ("\n \r\n", EMPTY),
+        ("", EMPTY_FIG),
+        ("\n \r\n", EMPTY_FIG),
         (RED_BOX, RED_BOX_FIG),
         (RED_OVER_BLUE, RED_OVER_BLUE_FIG),
         (RED_OVER_BLUE_OTHERWISE, RED_OVER_BLUE_FIG),
@@ -84,14 +76,14 @@ fn lines_become_fig_text(rt: HostRuntime) -> Result<(), Fail> {
         assert_eq!(rt; output.bytes(), want.as_bytes(), "row {row}");
         assert!(rt; faults.bytes().is_empty(), "row {row}");
     }
-    assert_eq!(rt; (EMPTY.len(), RED_BOX_FIG.len()), (60, 156));
+    assert_eq!(rt; (EMPTY_FIG.len(), RED_BOX_FIG.len()), (60, 156));
     Ok(())
 }
 
 #[test]
 fn refusals_are_told(rt: HostRuntime) -> Result<(), Fail> {
     let range = RED_BOX.replace(rt.alloc(), ":0,", ":10000,")?;
-    let bad_line = format!(in rt.alloc(); "{RED_BOX}\n{{\n")?;
+    let bad_line = format!(in rt.alloc(); "{RED_BOX}\n\n{{\n")?;
     let other_kind = RED_BOX.replace(rt.alloc(), "box", "star")?;
     let unequal = RED_BOX.replace(rt.alloc(), "box", "circle")?;
     let two_points = FAR_TRIANGLE.replace(rt.alloc(), ",[0,-1000000]", "")?;
@@ -211,7 +203,7 @@ fn unread_input_is_told(rt: HostRuntime) -> Result<(), Fail> {
     let mut source = Reel::new(&long[1..], None);
     let (status, output, _) = run(&rt, &["figgroup", "fig"], &mut source)?;
     assert_eq!(rt; status, 0);
-    assert_eq!(rt; output.bytes(), EMPTY.as_bytes());
+    assert_eq!(rt; output.bytes(), EMPTY_FIG.as_bytes());
     Ok(())
 }
 

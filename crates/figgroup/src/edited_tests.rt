@@ -1,6 +1,7 @@
 //! Drawings that several sites edit: worked examples of conflicts, orders and repeats.
 
-use crate::command_tests::{EMPTY, run};
+use crate::command_tests::run;
+use example_parts::EMPTY_FIG;
 use gf_studio::Reel;
 use std::alloc::{AllocError, Global};
 use std::test::Fail;
@@ -89,7 +90,7 @@ fn every_order_draws_the_same(rt: HostRuntime) -> Result<(), Fail> {
         let input = joined(alloc, lines)?;
         let mut source = Reel::new(input.as_bytes(), None);
         let (status, output, faults) = run(&rt, &["figgroup", "fig"], &mut source)?;
-        let want = format!(in alloc; "{EMPTY}{want}")?;
+        let want = format!(in alloc; "{EMPTY_FIG}{want}")?;
         assert_eq!(rt; status, 0, "{input}");
         assert_eq!(rt; output.bytes(), want.as_bytes(), "{input}");
         assert!(rt; faults.bytes().is_empty(), "{input}");

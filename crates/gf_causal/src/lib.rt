@@ -12,8 +12,6 @@ mod laws;
 mod ready;
 mod same;
 mod standing;
-#[cfg(test)]
-mod tests;
 
 pub use buffer::{Buffer, Offered};
 pub use faults::OfferFault;

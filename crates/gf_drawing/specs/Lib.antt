@@ -2,7 +2,6 @@ pub mod Colours
 pub mod DrawingState
 pub mod DrawingColour
 pub mod FrontMost
-pub mod WorkedExamples
 pub mod Counts
 pub mod Taken
 pub mod TapeState

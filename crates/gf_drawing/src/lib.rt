@@ -11,18 +11,12 @@
 #![tactic(auto)]
 
 mod compiling;
-#[cfg(test)]
-mod compiling_tests;
 mod drawing;
-#[cfg(test)]
-mod drawing_tests;
 mod figure;
 mod laws;
 mod out;
 mod refusals;
 mod sink;
-#[cfg(test)]
-mod sink_tests;
 mod table;
 mod tape;
 

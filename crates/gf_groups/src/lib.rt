@@ -19,8 +19,6 @@ mod listing;
 mod parting;
 mod places;
 mod taken;
-#[cfg(test)]
-mod tests;
 
 pub use faults::GroupFault;
 pub use group::{Group, Groups};

@@ -10,8 +10,3 @@ pub mod WrittenValues
 pub mod WrittenLines
 pub mod CheckedPoints
 pub mod ColourBytes
-pub mod LineExamples
-pub mod KindExamples
-pub mod SetExamples
-pub mod ScriptExamples
-pub mod WrittenExamples

@@ -13,16 +13,10 @@ mod line_error;
 mod line_fields;
 mod line_keys;
 mod line_points;
-#[cfg(test)]
-mod line_table_tests;
-#[cfg(test)]
-mod line_tests;
 mod line_values;
 mod lines;
 mod script_line;
 mod written_lines;
-#[cfg(test)]
-mod written_tests;
 mod written_values;
 
 pub use line_error::LineError;

@@ -12,20 +12,14 @@
 
 mod change;
 mod conflict;
-#[cfg(test)]
-mod conflict_tests;
 mod copying;
 mod faults;
 mod history;
-#[cfg(test)]
-mod history_tests;
 mod laws;
 mod limits;
 mod op;
 mod order;
 mod points;
-#[cfg(test)]
-mod tests;
 
 pub use change::{Attr, Change, Form, Start, Value};
 pub use conflict::conflicts;

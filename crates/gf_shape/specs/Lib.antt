@@ -13,4 +13,3 @@ pub mod ShapeLaws
 pub mod BoundsOf
 pub mod Opened
 pub mod Laws
-pub mod WorkedExamples

@@ -18,18 +18,10 @@ mod outline;
 mod point;
 mod points;
 mod polygon;
-#[cfg(test)]
-mod polygon_tests;
 mod products;
 mod rect;
 mod refusals;
-#[cfg(test)]
-mod round_tests;
 mod shape;
-#[cfg(test)]
-mod shape_tests;
-#[cfg(test)]
-mod tests;
 
 pub use any_shape::AnyShape;
 pub use bounds::{Bounds, Span};

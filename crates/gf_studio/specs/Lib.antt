@@ -2,7 +2,6 @@ pub mod Reads
 pub mod ReelState
 pub mod TextLines
 pub mod LineCutting
-pub mod TextLinesExamples
 pub mod Refusals
 pub mod FigRun
 pub mod LineSteps

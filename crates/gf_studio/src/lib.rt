@@ -13,15 +13,9 @@ mod laws;
 mod reading;
 mod reel;
 mod runs;
-#[cfg(test)]
-mod runs_tests;
 mod source;
-#[cfg(test)]
-mod source_tests;
 mod studio_error;
 mod text_lines;
-#[cfg(test)]
-mod text_lines_tests;
 
 pub use input::In;
 pub use laws::the_same_operations_draw_alike;

@@ -16,8 +16,6 @@ mod placed;
 mod ranking;
 mod settling;
 mod shaping;
-#[cfg(test)]
-mod tests;
 
 pub use key::{Version, VersionKey};
 pub use laws::{

@@ -1,0 +1,9 @@
+pub mod Shapes
+pub mod BoxLines
+pub mod KindLines
+pub mod SetLines
+pub mod ScriptLines
+pub mod WrittenLines
+pub mod TextLines
+pub mod Drawings
+pub mod FigTexts

@@ -1,0 +1,118 @@
+//! Worked examples of the FIG text and of its writing.
+
+use crate::figures::figure;
+use example_parts::{EMPTY_FIG, GREEN, RED, BLUE, RED_BOX_FIG, at};
+use gf_drawing::{Drawing, Tape, WriteError};
+use gf_fig_write::{fig_bytes, write_fig};
+use gf_shape::{AnyShape, Chain, Circle, Disc, Outline, Polygon, Rect, Shape};
+use std::alloc::Global;
+use std::test::Fail;
+
+const TWO_BOXES: &[u8] =
+    b"#FIG 3.2\nLandscape\nCenter\nMetric\nA4\n100.00\nSingle\n-2\n1200 2\n0 32 #ff0000\n0 33 #0000ff\n2 2 0 0 32 32 0 -1 20 0.000 0 0 -1 0 0 5\n\t 0 0 10 0 10 10 0 10 0 0\n2 2 0 0 33 33 1 -1 20 0.000 0 0 -1 0 0 5\n\t 0 0 10 0 10 10 0 10 0 0\n";
+
+fn red_box(rt: &HostRuntime) -> Result<Drawing<Rect>, Fail> {
+    let mut drawing = Drawing::new(rt.alloc());
+    drawing.add_colour(32, RED)?;
+    drawing.add_figure(figure(Rect::new(at(100, 200), 300, 400)?, 32, 0))?;
+    Ok(drawing)
+}
+
+#[test]
+fn drawings_have_their_text(rt: HostRuntime) -> Result<(), Fail> {
+    let alloc = rt.alloc();
+    assert_eq!(rt;
+        fig_bytes(alloc, &Drawing::<Rect>::new(alloc))?.as_slice(),
+        EMPTY_FIG.as_bytes()
+    );
+    assert_eq!(rt; fig_bytes(alloc, &red_box(&rt)?)?.as_slice(), RED_BOX_FIG.as_bytes());
+    assert_eq!(rt; RED_BOX_FIG.len(), 156);
+    let shape = Rect::new(at(0, 0), 10, 10)?;
+    let mut drawing = Drawing::new(alloc);
+    drawing.add_colour(32, RED)?;
+    drawing.add_colour(33, BLUE)?;
+    drawing.add_figure(figure(shape, 32, 0))?;
+    drawing.add_figure(figure(shape, 33, 1))?;
+    assert_eq!(rt; fig_bytes(alloc, &drawing)?.as_slice(), TWO_BOXES);
+    Ok(())
+}
+
+const THREE_KINDS: &[u8] =
+    b"#FIG 3.2\nLandscape\nCenter\nMetric\nA4\n100.00\nSingle\n-2\n1200 2\n0 32 #00ff00\n1 3 0 0 32 32 0 -1 20 0.000 1 0.0000 0 0 1 1 0 0 1 0\n2 3 0 0 32 32 1 -1 20 0.000 0 0 -1 0 0 4\n\t 0 0 -1000000 0 0 -1000000 0 0\n2 2 0 0 32 32 2 -1 20 0.000 0 0 -1 0 0 5\n\t 0 0 10 0 10 10 0 10 0 0\n";
+
+/// The first before the second before the third, all in green.
+fn in_turn<S: Shape>(alloc: Global, first: S, second: S, third: S) -> Result<Drawing<S>, Fail> {
+    let mut drawing = Drawing::new(alloc);
+    drawing.add_colour(32, GREEN)?;
+    drawing.add_figure(figure(first, 32, 0))?;
+    drawing.add_figure(figure(second, 32, 1))?;
+    drawing.add_figure(figure(third, 32, 2))?;
+    Ok(drawing)
+}
+
+#[test]
+fn shapes_are_written_as_their_outlines(rt: HostRuntime) -> Result<(), Fail> {
+    let alloc = rt.alloc();
+    let corners = [at(0, 0), at(-1_000_000, 0), at(0, -1_000_000)];
+    let circle = AnyShape::Circle(Circle::new(at(0, 0), 1)?);
+    let polygon = AnyShape::Polygon(Polygon::new(alloc, &corners)?);
+    let rect = AnyShape::Rect(Rect::new(at(0, 0), 10, 10)?);
+    let outlines: Drawing<Outline> = in_turn(
+        alloc,
+        circle.outline(alloc)?,
+        polygon.outline(alloc)?,
+        rect.outline(alloc)?,
+    )?;
+    let shapes = in_turn(alloc, circle, polygon, rect)?;
+    assert_eq!(rt; fig_bytes(alloc, &shapes)?.as_slice(), THREE_KINDS);
+    assert_eq!(rt; fig_bytes(alloc, &outlines)?.as_slice(), THREE_KINDS);
+    let mut tape = Tape::new(alloc, None);
+    write_fig(alloc, &outlines, &mut tape)?;
+    assert_eq!(rt; tape.bytes(), THREE_KINDS);
+    Ok(())
+}
+
+#[tactic(auto, unfolding(gf_shape::specs::Reach::is_reached))]
+#[test]
+fn outlines_have_their_lines(rt: HostRuntime) -> Result<(), Fail> {
+    let alloc = rt.alloc();
+    let near = at(-1_000_000, -1_000_000);
+    let points = [
+        near,
+        at(-2_000_000, -1_000_000),
+        at(-1_000_000, -2_000_000),
+        near,
+    ];
+    let chain = Chain::new(false, Vec::from_array(alloc, points)?);
+    let mut drawing = Drawing::new(alloc);
+    drawing.add_colour(543, RED)?;
+    drawing.add_figure(figure(Outline::Disc(Disc::new(at(-7, 40), 1_000)), 543, 999))?;
+    drawing.add_figure(figure(Outline::Chain(chain), 4, 0))?;
+    let want =
+        "0 543 #ff0000\n1 3 0 0 543 543 999 -1 20 0.000 1 0.0000 -7 40 1000 1000 -7 40 993 40\n2 3 0 0 4 4 0 -1 20 0.000 0 0 -1 0 0 4\n\t -1000000 -1000000 -2000000 -1000000 -1000000 -2000000 -1000000 -1000000\n";
+    let want = format!(in alloc; "{EMPTY_FIG}{want}")?;
+    assert_eq!(rt; fig_bytes(alloc, &drawing)?.as_slice(), want.as_bytes());
+    Ok(())
+}
+
+#[test]
+fn what_a_sink_takes_is_a_front(rt: HostRuntime) -> Result<(), Fail> {
+    let alloc = rt.alloc();
+    let mut short = Tape::new(alloc, Some(20));
+    let written = write_fig(alloc, &Drawing::<Rect>::new(alloc), &mut short);
+    assert_eq!(rt; written, Err(WriteError::WriteFailed));
+    assert_eq!(rt; short.bytes(), b"#FIG 3.2\nLandscape\nC".as_slice());
+    let drawing = red_box(&rt)?;
+    for limit in 0..=156u64 {
+        let mut tape = Tape::new(alloc, Some(limit));
+        let written = write_fig(alloc, &drawing, &mut tape);
+        let want = if limit < 156 {
+            Err(WriteError::WriteFailed)
+        } else {
+            Ok(())
+        };
+        assert_eq!(rt; written, want, "limit {limit}");
+        assert_eq!(rt; tape.bytes(), &RED_BOX_FIG.as_bytes()[..limit as usize], "limit {limit}");
+    }
+    Ok(())
+}

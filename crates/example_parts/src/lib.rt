@@ -1,0 +1,11 @@
+//! What the worked examples are made of: points and colours, operations, and the red box as a line
+//! and as FIG text.
+#![tactic(auto)]
+
+mod operations;
+mod texts;
+mod values;
+
+pub use operations::{changed, create, created, plain, polygon, set, unit_box};
+pub use texts::{EMPTY_FIG, RED_BOX, RED_BOX_FIG};
+pub use values::{BLUE, GREEN, RED, at};

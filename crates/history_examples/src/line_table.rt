@@ -1,0 +1,525 @@
+//! One table of lines with the answers that the formats ask for.
+
+use gf_json::{read_op, read_script};
+use std::test::Fail;
+
+/// Each row: the answer, a line by its name, a part of that line, and what stands in its place.
+const ROWS: &str = r#"
+// Each line as it stands, and without one of its keys.
+ok    | box        |                      |
+Field | box        | "op":"create",       |
+Field | box        | "id":[1,1],          |
+Field | box        | "past":[0,0,0,0,0,0,0,0], |
+Field | box        | "kind":"box",        |
+Field | box        | "place":[100,200],   |
+Field | box        | "size":[300,400],    |
+Field | box        | "colour":"ff0000",   |
+Field | box        | "layer":0,           |
+Field | box        | ,"shown":true        |
+ok    | circle     |                      |
+Field | circle     | "op":"create",       |
+Field | circle     | "id":[1,1],          |
+Field | circle     | "past":[0,0,0,0,0,0,0,0], |
+Field | circle     | "kind":"circle",     |
+Field | circle     | "place":[100,200],   |
+Field | circle     | "size":[7,7],        |
+Field | circle     | "colour":"ff0000",   |
+Field | circle     | "layer":0,           |
+Field | circle     | ,"shown":true        |
+ok    | polygon    |                      |
+Field | polygon    | "op":"create",       |
+Field | polygon    | "id":[1,1],          |
+Field | polygon    | "past":[0,0,0,0,0,0,0,0], |
+Field | polygon    | "kind":"polygon",    |
+Field | polygon    | "place":[100,200],   |
+Field | polygon    | "points":[[0,0],[10,-20],[0,30]], |
+Field | polygon    | "colour":"ff0000",   |
+Field | polygon    | "layer":0,           |
+Field | polygon    | ,"shown":true        |
+ok    | set        |                      |
+Field | set        | "op":"set",          |
+Field | set        | "id":[1,2],          |
+Field | set        | "past":[1,0,0,0,0,0,0,0], |
+Field | set        | "object":[1,1],      |
+Field | set        | "set":"colour",      |
+Field | set        | ,"to":"0000ff"       |
+ok    | do create  |                      |
+Field | do create  | "site":1,            |
+Field | do create  | "do":"create",       |
+Field | do create  | "kind":"box",        |
+Field | do create  | "place":[0,0],       |
+Field | do create  | "size":[10,10],      |
+Field | do create  | "colour":"ff0000",   |
+Field | do create  | "layer":0,           |
+Field | do create  | ,"shown":true        |
+ok    | do set     |                      |
+Field | do set     | "site":2,            |
+Field | do set     | "do":"set",          |
+Field | do set     | "object":[1,1],      |
+Field | do set     | "set":"colour",      |
+Field | do set     | ,"to":"0000ff"       |
+ok    | do await   |                      |
+Field | do await   | "site":2,            |
+Field | do await   | "do":"await",        |
+Field | do await   | ,"id":[1,9]          |
+
+// One key more: each that another line has, and one that none has.
+Field | box        | }                    | ,"site":1}
+Field | box        | }                    | ,"do":"create"}
+Field | box        | }                    | ,"points":[[0,0],[1,0],[0,1]]}
+Field | box        | }                    | ,"object":[1,1]}
+Field | box        | }                    | ,"set":"layer"}
+Field | box        | }                    | ,"to":0}
+Field | box        | }                    | ,"extra":0}
+Field | circle     | }                    | ,"site":1}
+Field | circle     | }                    | ,"do":"create"}
+Field | circle     | }                    | ,"points":[[0,0],[1,0],[0,1]]}
+Field | circle     | }                    | ,"object":[1,1]}
+Field | circle     | }                    | ,"set":"layer"}
+Field | circle     | }                    | ,"to":0}
+Field | circle     | }                    | ,"extra":0}
+Field | polygon    | }                    | ,"site":1}
+Field | polygon    | }                    | ,"do":"create"}
+Field | polygon    | }                    | ,"size":[7,7]}
+Field | polygon    | }                    | ,"object":[1,1]}
+Field | polygon    | }                    | ,"set":"layer"}
+Field | polygon    | }                    | ,"to":0}
+Field | polygon    | }                    | ,"extra":0}
+Field | set        | }                    | ,"site":1}
+Field | set        | }                    | ,"do":"create"}
+Field | set        | }                    | ,"kind":"box"}
+Field | set        | }                    | ,"place":[0,0]}
+Field | set        | }                    | ,"size":[7,7]}
+Field | set        | }                    | ,"points":[[0,0],[1,0],[0,1]]}
+Field | set        | }                    | ,"colour":"ff0000"}
+Field | set        | }                    | ,"layer":0}
+Field | set        | }                    | ,"shown":true}
+Field | set        | }                    | ,"extra":0}
+Field | do create  | }                    | ,"op":"create"}
+Field | do create  | }                    | ,"id":[1,1]}
+Field | do create  | }                    | ,"past":[0,0,0,0,0,0,0,0]}
+Field | do create  | }                    | ,"points":[[0,0],[1,0],[0,1]]}
+Field | do create  | }                    | ,"object":[1,1]}
+Field | do create  | }                    | ,"set":"layer"}
+Field | do create  | }                    | ,"to":0}
+Field | do create  | }                    | ,"extra":0}
+Field | do set     | }                    | ,"op":"create"}
+Field | do set     | }                    | ,"id":[1,1]}
+Field | do set     | }                    | ,"past":[0,0,0,0,0,0,0,0]}
+Field | do set     | }                    | ,"kind":"box"}
+Field | do set     | }                    | ,"place":[0,0]}
+Field | do set     | }                    | ,"size":[7,7]}
+Field | do set     | }                    | ,"points":[[0,0],[1,0],[0,1]]}
+Field | do set     | }                    | ,"colour":"ff0000"}
+Field | do set     | }                    | ,"layer":0}
+Field | do set     | }                    | ,"shown":true}
+Field | do set     | }                    | ,"extra":0}
+Field | do await   | }                    | ,"op":"create"}
+Field | do await   | }                    | ,"past":[0,0,0,0,0,0,0,0]}
+Field | do await   | }                    | ,"kind":"box"}
+Field | do await   | }                    | ,"place":[0,0]}
+Field | do await   | }                    | ,"size":[7,7]}
+Field | do await   | }                    | ,"points":[[0,0],[1,0],[0,1]]}
+Field | do await   | }                    | ,"colour":"ff0000"}
+Field | do await   | }                    | ,"layer":0}
+Field | do await   | }                    | ,"shown":true}
+Field | do await   | }                    | ,"object":[1,1]}
+Field | do await   | }                    | ,"set":"layer"}
+Field | do await   | }                    | ,"to":0}
+Field | do await   | }                    | ,"extra":0}
+
+// What is no JSON.
+Json  | box        | }                    |
+Json  | box        | }                    | }}
+Json  | box        | "layer":0            | "layer":01
+Json  | box        | "colour"             | colour
+Json  | set        | "to"                 | "to
+Json  | do await   | "id":                | "id"
+
+// The kind, and what the line does.
+Field | box        | "create"             | "set"
+Field | box        | "create"             | "await"
+Field | box        | "create"             | "Create"
+Field | box        | "create"             | 1
+Field | box        | "box"                | "circle"
+Field | box        | "box"                | "polygon"
+Field | box        | "box"                | "ellipse"
+Field | box        | "box"                | "Box"
+Field | box        | "box"                | 3
+ok    | circle     | "circle"             | "box"
+Field | circle     | "circle"             | "polygon"
+Field | polygon    | "polygon"            | "box"
+Field | polygon    | "polygon"            | "circle"
+Field | box        | "size":[300,400]     | "points":[[0,0],[1,0],[0,1]]
+Field | polygon    | "points":[[0,0],[10,-20],[0,30]] | "size":[7,7]
+Field | set        | "op":"set"           | "op":"create"
+Field | set        | "op":"set"           | "op":"await"
+Field | set        | "op":"set"           | "do":"set"
+Field | do create  | "do":"create"        | "do":"set"
+Field | do create  | "do":"create"        | "do":"await"
+Field | do create  | "do":"create"        | "op":"create"
+Field | do create  | "do":"create"        | "do":"wait"
+Field | do create  | "do":"create"        | "do":0
+ok    | do create  | "box"                | "circle"
+Field | do create  | "size":[10,10]       | "points":[[0,0],[1,0],[0,1]]
+Field | do set     | "do":"set"           | "op":"set"
+Field | do set     | "do":"set"           | "do":"wait"
+Field | do await   | "do":"await"         | "op":"await"
+Field | do await   | "do":"await"         | "do":"wait"
+
+// The site of a command.
+ok    | do create  | "site":1             | "site":1
+ok    | do create  | "site":1             | "site":8
+Range | do create  | "site":1             | "site":0
+Range | do create  | "site":1             | "site":9
+Range | do create  | "site":1             | "site":-1
+Field | do create  | "site":1             | "site":1.5
+Field | do create  | "site":1             | "site":"1"
+Field | do create  | "site":1             | "site":[1]
+ok    | do set     | "site":2             | "site":1
+ok    | do set     | "site":2             | "site":8
+Range | do set     | "site":2             | "site":0
+Range | do set     | "site":2             | "site":9
+Range | do set     | "site":2             | "site":-1
+Field | do set     | "site":2             | "site":1.5
+Field | do set     | "site":2             | "site":"1"
+Field | do set     | "site":2             | "site":[1]
+ok    | do await   | "site":2             | "site":1
+ok    | do await   | "site":2             | "site":8
+Range | do await   | "site":2             | "site":0
+Range | do await   | "site":2             | "site":9
+Range | do await   | "site":2             | "site":-1
+Field | do await   | "site":2             | "site":1.5
+Field | do await   | "site":2             | "site":"1"
+Field | do await   | "site":2             | "site":[1]
+
+// The id.
+ok    | box        | "id":[1,1]           | "id":[8,1]
+ok    | box        | "id":[1,1]           | "id":[1,10000]
+Range | box        | "id":[1,1]           | "id":[0,1]
+Range | box        | "id":[1,1]           | "id":[9,1]
+Range | box        | "id":[1,1]           | "id":[1,0]
+Range | box        | "id":[1,1]           | "id":[1,10001]
+Field | box        | "id":[1,1]           | "id":[1]
+Field | box        | "id":[1,1]           | "id":[1,1,1]
+Field | box        | "id":[1,1]           | "id":[9,null]
+Field | box        | "id":[1,1]           | "id":"1.1"
+ok    | set        | "id":[1,2]           | "id":[8,1]
+ok    | set        | "id":[1,2]           | "id":[1,10000]
+Range | set        | "id":[1,2]           | "id":[0,1]
+Range | set        | "id":[1,2]           | "id":[9,1]
+Range | set        | "id":[1,2]           | "id":[1,0]
+Range | set        | "id":[1,2]           | "id":[1,10001]
+Field | set        | "id":[1,2]           | "id":[1]
+Field | set        | "id":[1,2]           | "id":[1,1,1]
+Field | set        | "id":[1,2]           | "id":[9,null]
+Field | set        | "id":[1,2]           | "id":"1.1"
+ok    | do await   | "id":[1,9]           | "id":[8,1]
+ok    | do await   | "id":[1,9]           | "id":[1,10000]
+Range | do await   | "id":[1,9]           | "id":[0,1]
+Range | do await   | "id":[1,9]           | "id":[9,1]
+Range | do await   | "id":[1,9]           | "id":[1,0]
+Range | do await   | "id":[1,9]           | "id":[1,10001]
+Field | do await   | "id":[1,9]           | "id":[1]
+Field | do await   | "id":[1,9]           | "id":[1,1,1]
+Field | do await   | "id":[1,9]           | "id":[9,null]
+Field | do await   | "id":[1,9]           | "id":"1.1"
+ok    | set        | "object":[1,1]       | "object":[8,1]
+ok    | set        | "object":[1,1]       | "object":[1,10000]
+Range | set        | "object":[1,1]       | "object":[0,1]
+Range | set        | "object":[1,1]       | "object":[9,1]
+Range | set        | "object":[1,1]       | "object":[1,0]
+Range | set        | "object":[1,1]       | "object":[1,10001]
+Field | set        | "object":[1,1]       | "object":[1]
+Field | set        | "object":[1,1]       | "object":[1,1,1]
+Field | set        | "object":[1,1]       | "object":[9,null]
+Field | set        | "object":[1,1]       | "object":"1.1"
+ok    | do set     | "object":[1,1]       | "object":[8,1]
+ok    | do set     | "object":[1,1]       | "object":[1,10000]
+Range | do set     | "object":[1,1]       | "object":[0,1]
+Range | do set     | "object":[1,1]       | "object":[9,1]
+Range | do set     | "object":[1,1]       | "object":[1,0]
+Range | do set     | "object":[1,1]       | "object":[1,10001]
+Field | do set     | "object":[1,1]       | "object":[1]
+Field | do set     | "object":[1,1]       | "object":[1,1,1]
+Field | do set     | "object":[1,1]       | "object":[9,null]
+Field | do set     | "object":[1,1]       | "object":"1.1"
+
+// The past.
+ok    | box        | [0,0,0,0,0,0,0,0]    | [10000,0,0,0,0,0,0,10000]
+Range | box        | [0,0,0,0,0,0,0,0]    | [0,0,0,0,0,0,0,10001]
+Range | box        | [0,0,0,0,0,0,0,0]    | [10001,0,0,0,0,0,0,0]
+Range | box        | [0,0,0,0,0,0,0,0]    | [-1,0,0,0,0,0,0,0]
+Field | box        | [0,0,0,0,0,0,0,0]    | [0,0,0,0,0,0,0]
+Field | box        | [0,0,0,0,0,0,0,0]    | [0,0,0,0,0,0,0,0,0]
+Field | box        | [0,0,0,0,0,0,0,0]    | [10001,0,0,0,0,0,0,null]
+Field | box        | [0,0,0,0,0,0,0,0]    | 0
+ok    | set        | [1,0,0,0,0,0,0,0]    | [10000,0,0,0,0,0,0,10000]
+Range | set        | [1,0,0,0,0,0,0,0]    | [0,0,0,0,0,0,0,10001]
+Range | set        | [1,0,0,0,0,0,0,0]    | [10001,0,0,0,0,0,0,0]
+Range | set        | [1,0,0,0,0,0,0,0]    | [-1,0,0,0,0,0,0,0]
+Field | set        | [1,0,0,0,0,0,0,0]    | [0,0,0,0,0,0,0]
+Field | set        | [1,0,0,0,0,0,0,0]    | [0,0,0,0,0,0,0,0,0]
+Field | set        | [1,0,0,0,0,0,0,0]    | [10001,0,0,0,0,0,0,null]
+Field | set        | [1,0,0,0,0,0,0,0]    | 0
+
+// The place.
+ok    | box        | "place":[100,200]    | "place":[-1000000,1000000]
+ok    | box        | "place":[100,200]    | "place":[1000000,-1000000]
+Range | box        | "place":[100,200]    | "place":[1000001,0]
+Range | box        | "place":[100,200]    | "place":[-1000001,0]
+Range | box        | "place":[100,200]    | "place":[0,1000001]
+Range | box        | "place":[100,200]    | "place":[0,-1000001]
+Field | box        | "place":[100,200]    | "place":[0]
+Field | box        | "place":[100,200]    | "place":[0,0,0]
+Field | box        | "place":[100,200]    | "place":[0,1.0]
+Field | box        | "place":[100,200]    | "place":[1000001,null]
+Field | box        | "place":[100,200]    | "place":"00"
+ok    | set        | "set":"colour","to":"0000ff" | "set":"place","to":[-1000000,1000000]
+ok    | set        | "set":"colour","to":"0000ff" | "set":"place","to":[1000000,-1000000]
+Range | set        | "set":"colour","to":"0000ff" | "set":"place","to":[1000001,0]
+Range | set        | "set":"colour","to":"0000ff" | "set":"place","to":[-1000001,0]
+Range | set        | "set":"colour","to":"0000ff" | "set":"place","to":[0,1000001]
+Range | set        | "set":"colour","to":"0000ff" | "set":"place","to":[0,-1000001]
+Field | set        | "set":"colour","to":"0000ff" | "set":"place","to":[0]
+Field | set        | "set":"colour","to":"0000ff" | "set":"place","to":[0,0,0]
+Field | set        | "set":"colour","to":"0000ff" | "set":"place","to":[0,1.0]
+Field | set        | "set":"colour","to":"0000ff" | "set":"place","to":[1000001,null]
+Field | set        | "set":"colour","to":"0000ff" | "set":"place","to":"00"
+
+// The size.
+ok    | box        | "size":[300,400]     | "size":[1,1000000]
+ok    | box        | "size":[300,400]     | "size":[1000000,1]
+Range | box        | "size":[300,400]     | "size":[0,1]
+Range | box        | "size":[300,400]     | "size":[1,0]
+Range | box        | "size":[300,400]     | "size":[1000001,1]
+Range | box        | "size":[300,400]     | "size":[1,1000001]
+Range | box        | "size":[300,400]     | "size":[-1,1]
+Field | box        | "size":[300,400]     | "size":[1]
+Field | box        | "size":[300,400]     | "size":[1,1,1]
+Field | box        | "size":[300,400]     | "size":[0,true]
+Field | box        | "size":[300,400]     | "size":7
+ok    | set        | "set":"colour","to":"0000ff" | "set":"size","to":[1,1000000]
+ok    | set        | "set":"colour","to":"0000ff" | "set":"size","to":[1000000,1]
+Range | set        | "set":"colour","to":"0000ff" | "set":"size","to":[0,1]
+Range | set        | "set":"colour","to":"0000ff" | "set":"size","to":[1,0]
+Range | set        | "set":"colour","to":"0000ff" | "set":"size","to":[1000001,1]
+Range | set        | "set":"colour","to":"0000ff" | "set":"size","to":[1,1000001]
+Range | set        | "set":"colour","to":"0000ff" | "set":"size","to":[-1,1]
+Field | set        | "set":"colour","to":"0000ff" | "set":"size","to":[1]
+Field | set        | "set":"colour","to":"0000ff" | "set":"size","to":[1,1,1]
+Field | set        | "set":"colour","to":"0000ff" | "set":"size","to":[0,true]
+Field | set        | "set":"colour","to":"0000ff" | "set":"size","to":7
+
+// The size of a circle.
+ok    | circle     | "size":[7,7]         | "size":[1,1]
+ok    | circle     | "size":[7,7]         | "size":[1000000,1000000]
+Range | circle     | "size":[7,7]         | "size":[0,0]
+Range | circle     | "size":[7,7]         | "size":[-7,-7]
+Range | circle     | "size":[7,7]         | "size":[1000001,1000001]
+Field | circle     | "size":[7,7]         | "size":[7,8]
+Field | circle     | "size":[7,7]         | "size":[8,7]
+Field | circle     | "size":[7,7]         | "size":[0,7]
+Field | circle     | "size":[7,7]         | "size":[7,1000001]
+Field | circle     | "size":[7,7]         | "size":[1000001,1000002]
+Field | circle     | "size":[7,7]         | "size":[7]
+Field | circle     | "size":[7,7]         | "size":[7,7,7]
+Field | circle     | "size":[7,7]         | "size":[7,7.0]
+Field | circle     | "size":[7,7]         | "size":7
+ok    | set        | "set":"colour","to":"0000ff" | "set":"size","to":[7,7]
+
+// The points.
+Range | polygon    | "points":[[0,0],[10,-20],[0,30]] | "points":[[0,0]]
+Range | polygon    | "points":[[0,0],[10,-20],[0,30]] | "points":[[5,6],[0,0]]
+ok    | polygon    | "points":[[0,0],[10,-20],[0,30]] | "points":[[5,6],[5,6],[0,0]]
+ok    | polygon    | "points":[[0,0],[10,-20],[0,30]] | "points":[[5,6],[5,6],[5,6],[5,6],[5,6],[5,6],[5,6],[5,6],[5,6],[5,6],[5,6],[5,6],[5,6],[5,6],[5,6],[5,6],[5,6],[5,6],[5,6],[5,6],[5,6],[5,6],[5,6],[5,6],[5,6],[5,6],[5,6],[5,6],[5,6],[5,6],[5,6],[5,6],[5,6],[5,6],[5,6],[5,6],[5,6],[5,6],[5,6],[5,6],[5,6],[5,6],[5,6],[5,6],[5,6],[5,6],[5,6],[5,6],[5,6],[5,6],[5,6],[5,6],[5,6],[5,6],[5,6],[5,6],[5,6],[5,6],[5,6],[5,6],[5,6],[5,6],[5,6],[0,0]]
+Range | polygon    | "points":[[0,0],[10,-20],[0,30]] | "points":[[5,6],[5,6],[5,6],[5,6],[5,6],[5,6],[5,6],[5,6],[5,6],[5,6],[5,6],[5,6],[5,6],[5,6],[5,6],[5,6],[5,6],[5,6],[5,6],[5,6],[5,6],[5,6],[5,6],[5,6],[5,6],[5,6],[5,6],[5,6],[5,6],[5,6],[5,6],[5,6],[5,6],[5,6],[5,6],[5,6],[5,6],[5,6],[5,6],[5,6],[5,6],[5,6],[5,6],[5,6],[5,6],[5,6],[5,6],[5,6],[5,6],[5,6],[5,6],[5,6],[5,6],[5,6],[5,6],[5,6],[5,6],[5,6],[5,6],[5,6],[5,6],[5,6],[5,6],[5,6],[0,0]]
+ok    | polygon    | "points":[[0,0],[10,-20],[0,30]] | "points":[[5,6],[5,6],[1000000,-1000000]]
+ok    | polygon    | "points":[[0,0],[10,-20],[0,30]] | "points":[[5,6],[5,6],[-1000000,1000000]]
+Range | polygon    | "points":[[0,0],[10,-20],[0,30]] | "points":[[5,6],[5,6],[1000001,0]]
+Range | polygon    | "points":[[0,0],[10,-20],[0,30]] | "points":[[5,6],[5,6],[-1000001,0]]
+Range | polygon    | "points":[[0,0],[10,-20],[0,30]] | "points":[[5,6],[5,6],[0,1000001]]
+Range | polygon    | "points":[[0,0],[10,-20],[0,30]] | "points":[[5,6],[5,6],[0,-1000001]]
+Field | polygon    | "points":[[0,0],[10,-20],[0,30]] | "points":[[5,6],[0]]
+Field | polygon    | "points":[[0,0],[10,-20],[0,30]] | "points":[[5,6],null]
+Field | polygon    | "points":[[0,0],[10,-20],[0,30]] | "points":[[5,6],[5,6],[0,0,0]]
+Field | polygon    | "points":[[0,0],[10,-20],[0,30]] | "points":[[5,6],[5,6],[1000001,null]]
+Field | polygon    | "points":[[0,0],[10,-20],[0,30]] | "points":[[5,6],[5,6],[0,1.5]]
+Field | polygon    | "points":[[0,0],[10,-20],[0,30]] | "points":[[5,6],[5,6],{}]
+Field | polygon    | "points":[[0,0],[10,-20],[0,30]] | "points":[[5,6],[5,6],["0",0]]
+Field | polygon    | "points":[[0,0],[10,-20],[0,30]] | "points":[[5,6],[5,6],[5,6],[5,6],[5,6],[5,6],[5,6],[5,6],[5,6],[5,6],[5,6],[5,6],[5,6],[5,6],[5,6],[5,6],[5,6],[5,6],[5,6],[5,6],[5,6],[5,6],[5,6],[5,6],[5,6],[5,6],[5,6],[5,6],[5,6],[5,6],[5,6],[5,6],[5,6],[5,6],[5,6],[5,6],[5,6],[5,6],[5,6],[5,6],[5,6],[5,6],[5,6],[5,6],[5,6],[5,6],[5,6],[5,6],[5,6],[5,6],[5,6],[5,6],[5,6],[5,6],[5,6],[5,6],[5,6],[5,6],[5,6],[5,6],[5,6],[5,6],[5,6],[5,6],[0]]
+Range | polygon    | "points":[[0,0],[10,-20],[0,30]] | "points":[]
+Field | polygon    | "points":[[0,0],[10,-20],[0,30]] | "points":{}
+Field | polygon    | "points":[[0,0],[10,-20],[0,30]] | "points":[0,0,1,0,0,1]
+Field | polygon    | "points":[[0,0],[10,-20],[0,30]] | "points":[null,[0,0],[1000001,0]]
+Range | set        | "set":"colour","to":"0000ff" | "set":"points","to":[[0,0]]
+Range | set        | "set":"colour","to":"0000ff" | "set":"points","to":[[5,6],[0,0]]
+ok    | set        | "set":"colour","to":"0000ff" | "set":"points","to":[[5,6],[5,6],[0,0]]
+ok    | set        | "set":"colour","to":"0000ff" | "set":"points","to":[[5,6],[5,6],[5,6],[5,6],[5,6],[5,6],[5,6],[5,6],[5,6],[5,6],[5,6],[5,6],[5,6],[5,6],[5,6],[5,6],[5,6],[5,6],[5,6],[5,6],[5,6],[5,6],[5,6],[5,6],[5,6],[5,6],[5,6],[5,6],[5,6],[5,6],[5,6],[5,6],[5,6],[5,6],[5,6],[5,6],[5,6],[5,6],[5,6],[5,6],[5,6],[5,6],[5,6],[5,6],[5,6],[5,6],[5,6],[5,6],[5,6],[5,6],[5,6],[5,6],[5,6],[5,6],[5,6],[5,6],[5,6],[5,6],[5,6],[5,6],[5,6],[5,6],[5,6],[0,0]]
+Range | set        | "set":"colour","to":"0000ff" | "set":"points","to":[[5,6],[5,6],[5,6],[5,6],[5,6],[5,6],[5,6],[5,6],[5,6],[5,6],[5,6],[5,6],[5,6],[5,6],[5,6],[5,6],[5,6],[5,6],[5,6],[5,6],[5,6],[5,6],[5,6],[5,6],[5,6],[5,6],[5,6],[5,6],[5,6],[5,6],[5,6],[5,6],[5,6],[5,6],[5,6],[5,6],[5,6],[5,6],[5,6],[5,6],[5,6],[5,6],[5,6],[5,6],[5,6],[5,6],[5,6],[5,6],[5,6],[5,6],[5,6],[5,6],[5,6],[5,6],[5,6],[5,6],[5,6],[5,6],[5,6],[5,6],[5,6],[5,6],[5,6],[5,6],[0,0]]
+ok    | set        | "set":"colour","to":"0000ff" | "set":"points","to":[[5,6],[5,6],[1000000,-1000000]]
+ok    | set        | "set":"colour","to":"0000ff" | "set":"points","to":[[5,6],[5,6],[-1000000,1000000]]
+Range | set        | "set":"colour","to":"0000ff" | "set":"points","to":[[5,6],[5,6],[1000001,0]]
+Range | set        | "set":"colour","to":"0000ff" | "set":"points","to":[[5,6],[5,6],[-1000001,0]]
+Range | set        | "set":"colour","to":"0000ff" | "set":"points","to":[[5,6],[5,6],[0,1000001]]
+Range | set        | "set":"colour","to":"0000ff" | "set":"points","to":[[5,6],[5,6],[0,-1000001]]
+Field | set        | "set":"colour","to":"0000ff" | "set":"points","to":[[5,6],[0]]
+Field | set        | "set":"colour","to":"0000ff" | "set":"points","to":[[5,6],null]
+Field | set        | "set":"colour","to":"0000ff" | "set":"points","to":[[5,6],[5,6],[0,0,0]]
+Field | set        | "set":"colour","to":"0000ff" | "set":"points","to":[[5,6],[5,6],[1000001,null]]
+Field | set        | "set":"colour","to":"0000ff" | "set":"points","to":[[5,6],[5,6],[0,1.5]]
+Field | set        | "set":"colour","to":"0000ff" | "set":"points","to":[[5,6],[5,6],{}]
+Field | set        | "set":"colour","to":"0000ff" | "set":"points","to":[[5,6],[5,6],["0",0]]
+Field | set        | "set":"colour","to":"0000ff" | "set":"points","to":[[5,6],[5,6],[5,6],[5,6],[5,6],[5,6],[5,6],[5,6],[5,6],[5,6],[5,6],[5,6],[5,6],[5,6],[5,6],[5,6],[5,6],[5,6],[5,6],[5,6],[5,6],[5,6],[5,6],[5,6],[5,6],[5,6],[5,6],[5,6],[5,6],[5,6],[5,6],[5,6],[5,6],[5,6],[5,6],[5,6],[5,6],[5,6],[5,6],[5,6],[5,6],[5,6],[5,6],[5,6],[5,6],[5,6],[5,6],[5,6],[5,6],[5,6],[5,6],[5,6],[5,6],[5,6],[5,6],[5,6],[5,6],[5,6],[5,6],[5,6],[5,6],[5,6],[5,6],[5,6],[0]]
+Range | set        | "set":"colour","to":"0000ff" | "set":"points","to":[]
+Field | set        | "set":"colour","to":"0000ff" | "set":"points","to":{}
+Field | set        | "set":"colour","to":"0000ff" | "set":"points","to":[0,0,1,0,0,1]
+Field | set        | "set":"colour","to":"0000ff" | "set":"points","to":[null,[0,0],[1000001,0]]
+
+// The colour.
+ok    | box        | "colour":"ff0000"    | "colour":"000000"
+ok    | box        | "colour":"ff0000"    | "colour":"ffffff"
+ok    | box        | "colour":"ff0000"    | "colour":"09AFaf"
+Field | box        | "colour":"ff0000"    | "colour":"gg0000"
+Field | box        | "colour":"ff0000"    | "colour":"ff000g"
+Field | box        | "colour":"ff0000"    | "colour":"ff000"
+Field | box        | "colour":"ff0000"    | "colour":"ff00000"
+Field | box        | "colour":"ff0000"    | "colour":255
+ok    | set        | "set":"colour","to":"0000ff" | "set":"colour","to":"000000"
+ok    | set        | "set":"colour","to":"0000ff" | "set":"colour","to":"ffffff"
+ok    | set        | "set":"colour","to":"0000ff" | "set":"colour","to":"09AFaf"
+Field | set        | "set":"colour","to":"0000ff" | "set":"colour","to":"gg0000"
+Field | set        | "set":"colour","to":"0000ff" | "set":"colour","to":"ff000g"
+Field | set        | "set":"colour","to":"0000ff" | "set":"colour","to":"ff000"
+Field | set        | "set":"colour","to":"0000ff" | "set":"colour","to":"ff00000"
+Field | set        | "set":"colour","to":"0000ff" | "set":"colour","to":255
+
+// The layer.
+ok    | box        | "layer":0            | "layer":0
+ok    | box        | "layer":0            | "layer":9999
+Range | box        | "layer":0            | "layer":10000
+Range | box        | "layer":0            | "layer":-1
+Range | box        | "layer":0            | "layer":9223372036854775807
+Field | box        | "layer":0            | "layer":9223372036854775808
+Field | box        | "layer":0            | "layer":-0
+Field | box        | "layer":0            | "layer":1.5
+Field | box        | "layer":0            | "layer":1e3
+Field | box        | "layer":0            | "layer":"0"
+Field | box        | "layer":0            | "layer":true
+ok    | do create  | "layer":0            | "layer":0
+ok    | do create  | "layer":0            | "layer":9999
+Range | do create  | "layer":0            | "layer":10000
+Range | do create  | "layer":0            | "layer":-1
+Range | do create  | "layer":0            | "layer":9223372036854775807
+Field | do create  | "layer":0            | "layer":9223372036854775808
+Field | do create  | "layer":0            | "layer":-0
+Field | do create  | "layer":0            | "layer":1.5
+Field | do create  | "layer":0            | "layer":1e3
+Field | do create  | "layer":0            | "layer":"0"
+Field | do create  | "layer":0            | "layer":true
+ok    | set        | "set":"colour","to":"0000ff" | "set":"layer","to":0
+ok    | set        | "set":"colour","to":"0000ff" | "set":"layer","to":9999
+Range | set        | "set":"colour","to":"0000ff" | "set":"layer","to":10000
+Range | set        | "set":"colour","to":"0000ff" | "set":"layer","to":-1
+Range | set        | "set":"colour","to":"0000ff" | "set":"layer","to":9223372036854775807
+Field | set        | "set":"colour","to":"0000ff" | "set":"layer","to":9223372036854775808
+Field | set        | "set":"colour","to":"0000ff" | "set":"layer","to":-0
+Field | set        | "set":"colour","to":"0000ff" | "set":"layer","to":1.5
+Field | set        | "set":"colour","to":"0000ff" | "set":"layer","to":1e3
+Field | set        | "set":"colour","to":"0000ff" | "set":"layer","to":"0"
+Field | set        | "set":"colour","to":"0000ff" | "set":"layer","to":true
+
+// Whether it is shown.
+ok    | box        | "shown":true         | "shown":true
+ok    | box        | "shown":true         | "shown":false
+Field | box        | "shown":true         | "shown":1
+Field | box        | "shown":true         | "shown":"true"
+Field | box        | "shown":true         | "shown":null
+ok    | set        | "set":"colour","to":"0000ff" | "set":"shown","to":true
+ok    | set        | "set":"colour","to":"0000ff" | "set":"shown","to":false
+Field | set        | "set":"colour","to":"0000ff" | "set":"shown","to":1
+Field | set        | "set":"colour","to":"0000ff" | "set":"shown","to":"true"
+Field | set        | "set":"colour","to":"0000ff" | "set":"shown","to":null
+
+// The attribute.
+Field | set        | "set":"colour","to":"0000ff" | "set":"kind","to":"box"
+Field | do set     | "set":"colour","to":"0000ff" | "set":"kind","to":"box"
+Field | set        | "set":"colour","to":"0000ff" | "set":"Layer","to":0
+Field | do set     | "set":"colour","to":"0000ff" | "set":"Layer","to":0
+Field | set        | "set":"colour","to":"0000ff" | "set":0,"to":0
+Field | do set     | "set":"colour","to":"0000ff" | "set":0,"to":0
+Field | set        | "set":"colour","to":"0000ff" | "set":"layer","layer":0
+Field | do set     | "set":"colour","to":"0000ff" | "set":"layer","layer":0
+Field | set        | "set":"colour","to":"0000ff" | "set":"size","to":"0000ff"
+Field | do set     | "set":"colour","to":"0000ff" | "set":"size","to":"0000ff"
+Field | do set     | "to":"0000ff"        | "to":null
+Range | do set     | "set":"colour","to":"0000ff" | "set":"layer","to":10000
+
+// A fault of form comes before one of range.
+Field | box        | "layer":0            | "layer":-1,"extra":0
+Field | box        | "layer":0            | "layer":null,"id":[9,1]
+Field | box        | "layer":0            | "layer":10000,"object":[1,1]
+Field | box        | "layer":0            | "layer":10000,"size":[0]
+Field | box        | "op":"create"        | "op":"set","layer":10000
+Field | circle     | "layer":0            | "layer":10000,"size":[7,8]
+Field | polygon    | "layer":0            | "layer":null,"points":[]
+Field | set        | "object":[1,1]       | "object":[9,1],"extra":0
+Field | do create  | "layer":0            | "layer":10000,"id":[1,1]
+Field | do set     | "site":2             | "site":9,"id":[1,1]
+Field | do await   | "id":[1,9]           | "id":[9,1],"object":[1,1]
+"#;
+
+/// The line of this name.
+fn named(name: &str) -> Option<&'static str> {
+    match name {
+        "box" => Some(
+            r#"{"op":"create","id":[1,1],"past":[0,0,0,0,0,0,0,0],"kind":"box","place":[100,200],"size":[300,400],"colour":"ff0000","layer":0,"shown":true}"#,
+        ),
+        "circle" => Some(
+            r#"{"op":"create","id":[1,1],"past":[0,0,0,0,0,0,0,0],"kind":"circle","place":[100,200],"size":[7,7],"colour":"ff0000","layer":0,"shown":true}"#,
+        ),
+        "polygon" => Some(
+            r#"{"op":"create","id":[1,1],"past":[0,0,0,0,0,0,0,0],"kind":"polygon","place":[100,200],"points":[[0,0],[10,-20],[0,30]],"colour":"ff0000","layer":0,"shown":true}"#,
+        ),
+        "set" => Some(
+            r#"{"op":"set","id":[1,2],"past":[1,0,0,0,0,0,0,0],"object":[1,1],"set":"colour","to":"0000ff"}"#,
+        ),
+        "do create" => Some(
+            r#"{"site":1,"do":"create","kind":"box","place":[0,0],"size":[10,10],"colour":"ff0000","layer":0,"shown":true}"#,
+        ),
+        "do set" => Some(r#"{"site":2,"do":"set","object":[1,1],"set":"colour","to":"0000ff"}"#),
+        "do await" => Some(r#"{"site":2,"do":"await","id":[1,9]}"#),
+        _ => None,
+    }
+}
+
+#[test]
+fn answers_each_line(rt: HostRuntime) -> Result<(), Fail> {
+    let alloc = rt.alloc();
+    for row in ROWS.lines() {
+        let mut cells = row.split('|').map(str::trim);
+        let (Some(want), Some(name), Some(part), Some(new)) = (
+            cells.next(),
+            cells.next(),
+            cells.next(),
+            cells.next(),
+        ) else {
+            continue;
+        };
+        let Some(line) = named(name) else {
+            return Err(Fail::new("a line has no name"));
+        };
+        let line = line.replacen(alloc, part, new, 1)?;
+        let fault = if name.starts_with("do ") {
+            read_script(alloc, line.as_bytes()).err()
+        } else {
+            read_op(alloc, line.as_bytes()).err()
+        };
+        let answer = match fault {
+            Some(fault) => format!(in alloc; "{fault}")?,
+            None => format!(in alloc; "ok")?,
+        };
+        assert_eq!(rt; answer.as_str(), want, "to {row}");
+    }
+    Ok(())
+}
