@@ -74,7 +74,8 @@ fn same_value(a: &Value, b: &Value) -> bool
         (Value::Colour(colour), Value::Colour(colour_b)) => *colour == *colour_b,
         (Value::Layer(layer), Value::Layer(layer_b)) => *layer == *layer_b,
         (Value::Shown(shown), Value::Shown(shown_b)) => *shown == *shown_b,
-        _ => false,
+        (Value::Place(_) | Value::Points(_) | Value::Size(..), _) => false,
+        (Value::Colour(_) | Value::Layer(_) | Value::Shown(_), _) => false,
     }
 }
 

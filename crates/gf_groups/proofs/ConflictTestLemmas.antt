@@ -40,5 +40,9 @@ conflict_decided a b = Decides-like (in_conflict a b)
 pub in_conflict-sym : (a b : Op) → in_conflict a b ≡ in_conflict b a
 in_conflict-sym a b = same_from_decides (in_conflict a b) (in_conflict b a) (conflict_decided a b) (Decides-like (in_conflict b a) (conflict-sym b a) (conflict-sym a b) (conflict_decided b a))
 
+-- what has one id does not conflict
+pub in_conflict-same : (a b : Op) → a.id ≡ b.id → in_conflict a b ≡ false
+in_conflict-same a b e = elim (cases_Bool (in_conflict a b)) [ inl t ↦ absurd (((conflict_decided a b).0 t).concurrent.different e) | inr t ↦ t ]
+
 pub in_conflict-alone : (a : Op) → in_conflict a a ≡ false
-in_conflict-alone a = elim (cases_Bool (in_conflict a a)) [ inl t ↦ absurd (((conflict_decided a a).0 t).concurrent.different refl) | inr t ↦ t ]
+in_conflict-alone a = in_conflict-same a a refl

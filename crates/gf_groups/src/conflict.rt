@@ -39,5 +39,5 @@ fn in_conflict(a: &Op, b: &Op) -> bool
     requires b { IsInRange b.now }
     ensures { result ≡ in_conflict a.now b.now }
 {
-    conflicts(a, b)
+    a.id != b.id && conflicts(a, b)
 }

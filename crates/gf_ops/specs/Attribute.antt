@@ -32,11 +32,16 @@ made_kind (Set object v) = None
 
 -- whether objects of the kind have such a value; the two numbers of a circle's size are its radius
 abbrev pub suits : Kind → Value → Bool
+suits kind (value.Place p) = true
+suits kind (value.Colour c) = true
+suits kind (value.Layer n) = true
+suits kind (value.Shown b) = true
 suits Box (value.Points ps) = false
 suits Circle (value.Points ps) = false
+suits Polygon (value.Points ps) = true
+suits Box (value.Size width height) = true
 suits Circle (value.Size width height) = width == height
 suits Polygon (value.Size width height) = false
-suits kind v = true
 
 -- the attribute that v is a value of
 abbrev pub attribute_of : Value → Attr
@@ -62,12 +67,20 @@ form_value (form.Circle radius) = value.Size radius radius
 -- the value v, if it is a size
 abbrev pub size_in : Value → Option Value
 size_in (value.Size width height) = Some (value.Size width height)
-size_in v = None
+size_in (value.Place p) = None
+size_in (value.Points ps) = None
+size_in (value.Colour c) = None
+size_in (value.Layer n) = None
+size_in (value.Shown b) = None
 
 -- the value v, if it is a list of points
 abbrev pub points_in : Value → Option Value
 points_in (value.Points ps) = Some (value.Points ps)
-points_in v = None
+points_in (value.Place p) = None
+points_in (value.Size width height) = None
+points_in (value.Colour c) = None
+points_in (value.Layer n) = None
+points_in (value.Shown b) = None
 
 -- the value of the attribute t that an object begins with, if its kind has t; s is what it begins with
 abbrev pub start_value : Start → Attr → Option Value
@@ -86,7 +99,12 @@ set_value (value.Size width height) Size = Some (value.Size width height)
 set_value (value.Colour c) Colour = Some (value.Colour c)
 set_value (value.Layer n) Layer = Some (value.Layer n)
 set_value (value.Shown b) Shown = Some (value.Shown b)
-set_value v t = None
+set_value (value.Place p) t = None
+set_value (value.Points ps) t = None
+set_value (value.Size width height) t = None
+set_value (value.Colour c) t = None
+set_value (value.Layer n) t = None
+set_value (value.Shown b) t = None
 
 -- the value that the change c gives to the attribute t, if it sets it
 abbrev pub change_value : Change → Attr → Option Value

@@ -27,7 +27,12 @@ value_eq (Size v j) (Size w k) = v == w && j == k
 value_eq (Colour c) (Colour d) = colour_eq c d
 value_eq (Layer m) (Layer n) = m == n
 value_eq (Shown b) (Shown c) = beq b c
-value_eq v w = false
+value_eq (Place p) w = false
+value_eq (Points ps) w = false
+value_eq (Size v j) w = false
+value_eq (Colour c) w = false
+value_eq (Layer m) w = false
+value_eq (Shown b) w = false
 
 -- a value is given, and it is not w
 abbrev pub is_another : Option Value → Value → Bool

@@ -5,13 +5,16 @@ ghost use Rattle.gf_ops.specs.Attribute.{attribute_of, start_value, set_value, o
 ghost use Rattle.gf_ops.specs.Conflict.{Conflict};
 ghost use Rattle.gf_ops.specs.ConflictTests.{is_another, sets_another, are_apart};
 ghost use Rattle.gf_ops.specs.Limits.{IsInRange};
+ghost use Rattle.gf_ops.specs.OperationOrder.{IsOneById};
 
 use crate::{Change, Form, ObjectId, Op, Start, Value, concurrent};
 
-/// Whether they are concurrent, concern one object and set one attribute to different values.
+/// Whether they are concurrent, concern one object and set one attribute to different values. What
+/// has one id is to be one operation, as in a history.
 pub fn conflicts(a: &Op, b: &Op) -> bool
     requires a { IsInRange a.now }
     requires b { IsInRange b.now }
+    requires one { IsOneById a.now b.now }
     ensures { IsTrue result ↔ Conflict a.now b.now }
 {
     concurrent(a, b) && a.object() == b.object() && are_apart(&a.change, &b.change)
@@ -62,7 +65,8 @@ fn is_another(own: &Value, value: &Value) -> bool
         (Value::Colour(own), Value::Colour(colour)) => own != colour,
         (Value::Layer(own), Value::Layer(layer)) => own != layer,
         (Value::Shown(own), Value::Shown(shown)) => own != shown,
-        _ => false,
+        (Value::Place(_) | Value::Points(_) | Value::Size(_, _), _) => false,
+        (Value::Colour(_) | Value::Layer(_) | Value::Shown(_), _) => false,
     }
 }
 

@@ -234,10 +234,16 @@ impl History {
 fn suits(form: &Form, value: &Value) -> bool
     ensures { result ≡ suits (kind_of form.now) value.now }
 {
-    match (form, value) {
-        (Form::Rect(_, _) | Form::Circle(_), Value::Points(_)) => false,
-        (Form::Polygon(_), Value::Size(_, _)) => false,
-        (Form::Circle(_), Value::Size(width, height)) => width == height,
-        _ => true,
+    match value {
+        Value::Place(_) | Value::Colour(_) | Value::Layer(_) | Value::Shown(_) => true,
+        Value::Points(_) => match form {
+            Form::Polygon(_) => true,
+            Form::Rect(_, _) | Form::Circle(_) => false,
+        },
+        Value::Size(width, height) => match form {
+            Form::Rect(_, _) => true,
+            Form::Circle(_) => width == height,
+            Form::Polygon(_) => false,
+        },
     }
 }

@@ -2,7 +2,7 @@
 
 ghost use Rattle.std.specs.Prelude.{◌≡◌, ◌↔◌, IsTrue};
 ghost use Rattle.gf_ops.specs.Limits.{IsInRange};
-ghost use Rattle.gf_ops.specs.OperationOrder.{Precedes, IsConcurrent};
+ghost use Rattle.gf_ops.specs.OperationOrder.{Precedes, IsOneById, IsConcurrent};
 
 use crate::Op;
 
@@ -15,10 +15,12 @@ pub fn before(a: &Op, b: &Op) -> bool
     a.id.seq <= b.past.0[usize::from(a.id.site) - 1]
 }
 
-/// Whether their ids differ, and neither was made at a site that knew the other.
+/// Whether they are two operations, and neither was made at a site that knew the other. What has
+/// one id is to be one operation, as in a history.
 pub fn concurrent(a: &Op, b: &Op) -> bool
     requires a { IsInRange a.now }
     requires b { IsInRange b.now }
+    requires one { IsOneById a.now b.now }
     ensures { IsTrue result ↔ IsConcurrent a.now b.now }
 {
     a.id != b.id && !before(a, b) && !before(b, a)

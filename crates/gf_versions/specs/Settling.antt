@@ -4,9 +4,9 @@ use Rattle.gf_ops.specs.declared.op.Op.{Op}
 use Rattle.gf_ops.specs.declared.op.OpId.{OpId}
 use Rattle.gf_ops.specs.declared.op.ObjectId.{ObjectId}
 use Rattle.gf_ops.specs.declared.change.Attr.{Attr}
-use Rattle.gf_ops.specs.declared.change.Attr.TheVariants.{Points, Size}
+use Rattle.gf_ops.specs.declared.change.Attr.TheVariants.{Place, Points, Size, Colour, Layer, Shown}
 use Rattle.gf_ops.specs.declared.change.Form.{Form}
-use Rattle.gf_ops.specs.Attribute.{Kind, Polygon, form_attribute, form_value, given, kind_of}
+use Rattle.gf_ops.specs.Attribute.{Kind, Box, Circle, Polygon, form_attribute, form_value, given, kind_of}
 use Rattle.gf_ops.specs.OperationOrder.{Precedes}
 use Rattle.gf_ops.specs.SettledValue.{IsSettled}
 use Rattle.gf_ops.specs.Version.{IsMember, IsOfKind}
@@ -15,13 +15,17 @@ use Rattle.gf_groups.specs.declared.group.Group.{Group}
 -- k is the kind of polygons
 abbrev pub are_polygons : Kind → Bool
 are_polygons Polygon = true
-are_polygons k = false
+are_polygons Box = false
+are_polygons Circle = false
 
 -- objects of the kind k have the attribute t
 abbrev pub has : Kind → Attr → Bool
 has k Points = are_polygons k
 has k Size = not (are_polygons k)
-has k t = true
+has k Place = true
+has k Colour = true
+has k Layer = true
+has k Shown = true
 
 -- the object o of h, of whatever kind, has the attribute t
 abbrev pub HasAttribute : List Op → ObjectId → Attr → Type 0

@@ -14,9 +14,11 @@ pub(crate) fn sets(op: &Op, attribute: Attr) -> bool
 {
     match &op.change {
         Change::Create(start) => match (attribute, &start.form) {
+            (Attr::Place | Attr::Colour | Attr::Layer | Attr::Shown, _) => true,
+            (Attr::Points, Form::Polygon(_)) => true,
             (Attr::Points, Form::Rect(_, _) | Form::Circle(_)) => false,
+            (Attr::Size, Form::Rect(_, _) | Form::Circle(_)) => true,
             (Attr::Size, Form::Polygon(_)) => false,
-            _ => true,
         },
         Change::Set { value, .. } => value.attribute() == attribute,
     }
