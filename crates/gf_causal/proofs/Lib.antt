@@ -5,3 +5,4 @@ pub mod ReadyLemmas
 pub mod CourseLemmas
 pub mod FinishLemmas
 pub mod WholeLemmas
+pub mod PartLemmas

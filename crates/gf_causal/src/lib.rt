@@ -3,7 +3,8 @@
 //! - [`Buffer`]: operations that wait until a history has what they know.
 //! - [`Offered`], [`OfferFault`]: what an offer to a buffer came to.
 //! - [`a_last_delivery_has_the_delivered_part`], [`each_list_has_a_last_delivery`],
-//!   [`the_delivered_part_of_a_valid_history_is_all_of_it`]: the laws.
+//!   [`the_delivered_part_of_a_valid_history_is_all_of_it`],
+//!   [`what_is_ready_in_a_valid_history_is_accepted`]: the laws.
 #![tactic(auto)]
 
 mod buffer;
@@ -18,4 +19,5 @@ pub use faults::OfferFault;
 pub use laws::{
     a_last_delivery_has_the_delivered_part, each_list_has_a_last_delivery,
     the_delivered_part_of_a_valid_history_is_all_of_it,
+    what_is_ready_in_a_valid_history_is_accepted,
 };

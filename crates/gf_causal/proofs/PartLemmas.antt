@@ -1,0 +1,58 @@
+-- What is ready behind a part of a valid history, and in that history, is accepted behind the part.
+use Rattle.std.proofs.Common.{◌≡◌, ◌≢◌, ℕ, ◌+◌, ◌≤◌, List, inl, inr, subst, arith}
+use Rattle.std.specs.Prelude.{Contains}
+use Rattle.std.proofs.lemmas.Bool.{cases_eq}
+use Rattle.gf_ops.specs.declared.op.Op.{Op}
+use Rattle.gf_ops.specs.declared.change.Change.{Change}
+use Rattle.gf_ops.specs.declared.change.Change.TheVariants.{Create, Set}
+use Rattle.gf_ops.specs.OperationOrder.{IsSite, entry, count_of}
+use Rattle.gf_ops.specs.ValidHistory.{IsValid}
+use Rattle.gf_ops.specs.KnownObject.{IsSuited}
+use Rattle.gf_ops.specs.Accepted.{CountsAtMost, IsClosed, IsAccepted}
+use Rattle.gf_ops.proofs.HistoryLemmas.{site_in_range, seq_in_range}
+use Rattle.gf_ops.proofs.ValidityLemmas.{same_op}
+use Rattle.gf_causal.specs.Ready.{IsReady}
+use Rattle.gf_causal.specs.DeliveredPart.{AreReady}
+use Rattle.gf_causal.proofs.CourseLemmas.{has_counted, same_id}
+
+module _ (h part : List Op) (valid : IsValid h) (within : (a : Op) → Contains part a → Contains h a) (in_turn : AreReady part) (a : Op) (there : Contains h a) (ready : IsReady part a) where
+  -- of its own site it knows all before it, as in h
+  counts_known : CountsAtMost a.past part
+  counts_known s i = elim (cases_eq s a.id.site) [
+    | inl e ↦ let own = valid.own a there in let seq = ready.seq in rw e (omega arith)
+    | inr d ↦ ready.others s i d
+  ]
+
+  -- what it knows knew in h no more than it
+  knew_within : IsClosed part a
+  knew_within b c known s i =
+      let r = valid.in_range b (within b c) in
+      let t = valid.closed a there b.id (record { site = site_in_range b r; first = (seq_in_range b r).0; last = known }) in
+      subst (λ (x : Op). entry x.past s ≤ entry a.past s) (same_op h valid t.op b t.contained (within b c) t.id) (t.past s i)
+
+  -- the creation that it knows in h is in the part, which has each number up to its count
+  suited_within : (c : Change) → IsSuited h a c → IsSuited part a c
+  suited_within (Create start) s = tt
+  suited_within (Set o v) s =
+      let k = s.known in
+      let known = k.before in
+      let r = valid.in_range k.maker k.contained in
+      let first = (seq_in_range k.maker r).0 in
+      let most = counts_known k.maker.id.site (site_in_range k.maker r) in
+      let t = has_counted in_turn k.maker.id first (omega arith) in
+      let same = same_op h valid t.op k.maker (within t.op t.contained) k.contained (same_id t.op k.maker t.site t.seq) in
+      record {
+        kind = s.kind;
+        known = record { maker = k.maker; contained = subst (Contains part) same t.contained; id = k.id; kind = k.kind; before = k.before };
+        suited = s.suited;
+      }
+
+  pub part_accepts : IsAccepted part a
+  part_accepts = record {
+    next = record {
+      numbered = record { seq = ready.seq; own = valid.own a there };
+      known = counts_known;
+      closed = knew_within;
+    };
+    suited = suited_within a.change (valid.suited a there);
+  }
