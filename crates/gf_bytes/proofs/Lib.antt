@@ -1,0 +1,3 @@
+pub mod TakenLemmas
+pub mod ReadsLemmas
+pub mod CuttingLemmas
