@@ -1,7 +1,6 @@
 pub mod Painting
 pub mod DrawingLaw
 pub mod LawfulLemmas
-pub mod TakenLemmas
 pub mod CompilingLemmas
 pub mod NumberLemmas
 pub mod CanonicalColour

@@ -2,9 +2,6 @@ pub mod Colours
 pub mod DrawingState
 pub mod DrawingColour
 pub mod FrontMost
-pub mod Counts
-pub mod Taken
-pub mod TapeState
 pub mod CanonicalDrawing
 pub mod Outlined
 pub mod Compiling
