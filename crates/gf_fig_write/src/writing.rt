@@ -2,12 +2,13 @@
 
 ghost use Rattle.std.specs.Prelude.{◌≡◌, IsTrue, OnOk, Err};
 ghost use Rattle.std.specs.Io.KnownBytes.{Appends};
-ghost use Rattle.gf_drawing.specs.Counts.{Rises};
-ghost use Rattle.gf_drawing.specs.Taken.{AppendsFront};
+ghost use Rattle.gf_bytes.specs.Counts.{Rises};
+ghost use Rattle.gf_bytes.specs.Taken.{AppendsFront};
 ghost use Rattle.gf_fig_write.specs.FigText.{fig_text};
 
 use crate::fig_bytes;
-use gf_drawing::{Drawing, Sink, WriteError, write_whole};
+use gf_bytes::{Sink, WriteError, write_whole};
+use gf_drawing::Drawing;
 use gf_shape::Shape;
 use std::alloc::Global;
 
