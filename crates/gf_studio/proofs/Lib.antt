@@ -1,5 +1,3 @@
-pub mod ReadsLemmas
-pub mod CuttingLemmas
 pub mod ReadingLemmas
 pub mod TakingLemmas
 pub mod SameLemmas

@@ -1,6 +1,6 @@
 -- How the operations of the lines grow, and what a refused line says of the text.
-use Rattle.std.specs.Prelude.{Contains, IfSome, None, Ok, Option, Some}
-use Rattle.std.proofs.Common.{◌≡◌, ℕ, List, [], ◌∷◌, ◌++◌, arith, map, refl, sym, ap, subst, ◌∙◌, append_assoc, inl, inr}
+use Rattle.std.specs.Prelude.{Contains, IfSome, None, Option, Some}
+use Rattle.std.proofs.Common.{◌≡◌, ℕ, List, [], ◌∷◌, ◌++◌, map, refl, sym, ap, subst, ◌∙◌, append_assoc, inl, inr}
 use Rattle.std.proofs.lemmas.List.{map-append, append-nil}
 use Rattle.gf_ops.specs.declared.op.Op.{Op}
 use Rattle.gf_ops.specs.declared.op.OpId.{OpId}
@@ -9,7 +9,6 @@ use Rattle.gf_ops.specs.ValidHistory.{IsValid}
 use Rattle.gf_ops.proofs.ListLemmas.{not_Contains-nil}
 use Rattle.gf_causal.specs.DeliveredPart.{AreReady}
 use Rattle.gf_causal.specs.DeliveredPart.AreReady.{none}
-use Rattle.gf_causal.specs.Ready.{NoneIsReady}
 use Rattle.gf_json.specs.OperationLines.{denoted}
 use Rattle.gf_studio.specs.declared.studio_error.LineCause.{LineCause}
 use Rattle.gf_studio.specs.declared.studio_error.LineCause.TheVariants as cause
@@ -17,7 +16,7 @@ use Rattle.gf_studio.specs.declared.studio_error.StudioError.{StudioError}
 use Rattle.gf_studio.specs.declared.studio_error.StudioError.TheVariants as studio
 use Rattle.gf_studio.specs.FigRun.{Denotes, Drops, HasFault, IsAt, IsFault, denotes_op}
 use Rattle.gf_studio.specs.LineSteps.{DropsLine, HasRead, IsLineFault, TakesLine, RefusesLine, RefusesText}
-use Rattle.gf_studio.specs.TextLines.{numbered_lines}
+use Rattle.gf_bytes.specs.TextLines.{numbered_lines}
 use Rattle.gf_studio.proofs.TakingLemmas.{HasTaken-moves, HasTaken-offer, added_delivered, delivers, other_taken, ready_delivered}
 
 -- before the first line nothing is taken

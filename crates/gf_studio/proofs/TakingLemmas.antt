@@ -1,7 +1,7 @@
 -- What offers and the adding of ready operations make of the operations that were taken.
 use Rattle.std.specs.Prelude.{ℕ, ◌⊎◌, ◌↔◌, ◌<◌, Contains, Ok, Err, IfErr, OnOk, Result, ⊤, length}
-use Rattle.std.proofs.Common.{◌≡◌, ◌≢◌, List, [], ◌∷◌, ◌++◌, get_or, refl, sym, subst, ap, ◌∙◌, inl, inr, arith}
-use Rattle.std.proofs.lemmas.List.Elements.{Contains-append_left, Contains-append_right, Contains-push, Contains-push_cases, Contains-get_or}
+use Rattle.std.proofs.Common.{◌≡◌, ◌≢◌, List, [], ◌∷◌, ◌++◌, get_or, sym, subst, ap, ◌∙◌, inl, inr, arith}
+use Rattle.std.proofs.lemmas.List.Elements.{Contains-append_left, Contains-push, Contains-push_cases, Contains-get_or}
 use Rattle.std.proofs.lemmas.List.{length-append}
 use Rattle.std.proofs.lemmas.List.Quantifiers.{all_pairs_push}
 use Rattle.gf_ops.specs.declared.op.Op.{Op}
@@ -27,7 +27,7 @@ use Rattle.gf_json.specs.declared.line_error.LineError.TheVariants as line
 use Rattle.gf_studio.specs.declared.studio_error.StudioError.{StudioError}
 use Rattle.gf_studio.specs.declared.studio_error.StudioError.TheVariants as studio
 use Rattle.gf_studio.specs.FigRun.{Delivers}
-use Rattle.gf_studio.specs.LineSteps.{IsThere, Offers, again, new, Moves, DropsReady, HasTaken, TakesLine, RefusesLine, RefusesReady}
+use Rattle.gf_studio.specs.LineSteps.{IsThere, Offers, again, new, Moves, HasTaken, TakesLine, RefusesLine, RefusesReady}
 
 -- ---- one operation more
 

@@ -18,14 +18,14 @@ use Rattle.gf_drawing.specs.declared.compiling.CompileFault.TheVariants as compi
 use Rattle.gf_drawing.specs.CanonicalDrawing.{IsCanonical, Paints, colours_of}
 use Rattle.gf_drawing.specs.DrawingState.{DrawingState}
 use Rattle.gf_drawing.specs.Outlined.{PaintsAsFig, outlined}
-use Rattle.gf_drawing.specs.Taken.{AppendsFront}
+use Rattle.gf_bytes.specs.Taken.{AppendsFront}
 use Rattle.gf_fig_write.specs.FigText.{fig_text}
 use Rattle.gf_json.specs.declared.line_error.LineError.TheVariants as line
 use Rattle.gf_json.specs.LineValues.{Got}
 use Rattle.gf_json.specs.OperationLines.{denoted}
 use Rattle.gf_studio.specs.declared.studio_error.LineCause.{LineCause}
 use Rattle.gf_studio.specs.declared.studio_error.LineCause.TheVariants as cause
-use Rattle.gf_studio.specs.TextLines.{numbered_lines}
+use Rattle.gf_bytes.specs.TextLines.{numbered_lines}
 
 -- what a line that denotes this operation reads as
 abbrev pub denotes_op : Op → Got Op

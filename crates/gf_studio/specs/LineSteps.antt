@@ -16,7 +16,7 @@ use Rattle.gf_studio.specs.declared.studio_error.LineCause.TheVariants as cause
 use Rattle.gf_studio.specs.declared.studio_error.StudioError.{StudioError}
 use Rattle.gf_studio.specs.declared.studio_error.StudioError.TheVariants as studio
 use Rattle.gf_studio.specs.FigRun.{AreLinesOf, HasFault, Drops, RefusesCompiling}
-use Rattle.gf_studio.specs.TextLines.{numbered_lines}
+use Rattle.gf_bytes.specs.TextLines.{numbered_lines}
 
 -- line n has this fault
 abbrev pub of_line : ℕ → LineError → StudioError

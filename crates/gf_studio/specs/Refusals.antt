@@ -1,10 +1,10 @@
 -- What the errors of a run's parts become (this project's choice).
 use Rattle.gf_drawing.specs.declared.compiling.CompileFault.{CompileFault}
 use Rattle.gf_drawing.specs.declared.compiling.CompileFault.TheVariants as compile
-use Rattle.gf_drawing.specs.declared.refusals.WriteError.{WriteError}
-use Rattle.gf_drawing.specs.declared.refusals.WriteError.TheVariants as write
-use Rattle.gf_studio.specs.declared.source.InputError.{InputError}
-use Rattle.gf_studio.specs.declared.source.InputError.TheVariants as input
+use Rattle.gf_bytes.specs.declared.write_error.WriteError.{WriteError}
+use Rattle.gf_bytes.specs.declared.write_error.WriteError.TheVariants as write
+use Rattle.gf_bytes.specs.declared.source.InputError.{InputError}
+use Rattle.gf_bytes.specs.declared.source.InputError.TheVariants as input
 use Rattle.gf_studio.specs.declared.studio_error.StudioError.{StudioError}
 use Rattle.gf_studio.specs.declared.studio_error.StudioError.TheVariants as studio
 

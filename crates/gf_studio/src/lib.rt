@@ -3,24 +3,19 @@
 //! - [`fig_run`]: reads operation lines and writes the FIG text of their drawing; [`StudioError`] with
 //!   [`LineCause`] tells why not.
 //! - [`the_same_operations_draw_alike`]: the law that neither order nor repeats change a drawing.
-//! - [`Source`], [`read_input`]: where bytes come from, with [`SourceFault`] and [`InputError`]; [`In`]
-//!   makes a source of a reader, [`Reel`] of bytes in memory.
-//! - [`TextLines`]: the lines of a text with their numbers.
+//!
+//! [`Source`], [`read_input`], [`MOST_INPUT_BYTES`], [`In`], [`Reel`], [`SourceFault`],
+//! [`InputError`] and [`TextLines`] are those of `gf_bytes`.
 #![tactic(auto)]
 
-mod input;
 mod laws;
 mod reading;
-mod reel;
 mod runs;
-mod source;
 mod studio_error;
-mod text_lines;
 
-pub use input::In;
+pub use gf_bytes::{
+    In, InputError, MOST_INPUT_BYTES, Reel, Source, SourceFault, TextLines, read_input,
+};
 pub use laws::the_same_operations_draw_alike;
-pub use reel::Reel;
 pub use runs::fig_run;
-pub use source::{InputError, MOST_INPUT_BYTES, Source, SourceFault, read_input};
 pub use studio_error::{LineCause, StudioError};
-pub use text_lines::TextLines;

@@ -6,7 +6,8 @@ ghost use Rattle.gf_studio.specs.FigRun.{Denotes};
 ghost use Rattle.gf_causal.specs.Ready.{NoneIsReady};
 ghost use Rattle.gf_studio.specs.LineSteps.{Moves, TakesLine, RefusesLine, RefusesReady, RefusesText, of_line};
 
-use crate::{LineCause, StudioError, TextLines};
+use crate::{LineCause, StudioError};
+use gf_bytes::TextLines;
 use gf_causal::{Buffer, OfferFault};
 use gf_json::{LineError, read_op};
 use gf_ops::{AddFault, History};

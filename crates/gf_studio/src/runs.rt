@@ -1,18 +1,19 @@
 //! A whole run: from the bytes of operation lines to FIG text.
 
 ghost use Rattle.std.specs.Prelude.{◌≡◌, ◌+◌, ◌≤◌, ◌<◌, ◌⊎◌, ℕ, length, Err, IfSome, IfOk, IfErr, OnOk, IsTrue};
-ghost use Rattle.gf_drawing.specs.Counts.{Rises};
+ghost use Rattle.gf_bytes.specs.Counts.{CountsFailureAt, Rises};
 ghost use Rattle.gf_ops.specs.declared.op.OpId.{OpId};
 ghost use Rattle.gf_studio.specs.declared.studio_error.LineCause.{LineCause};
 ghost use Rattle.gf_ops.specs.declared.faults.OpFault.{OpFault};
 ghost use Rattle.gf_drawing.specs.declared.compiling.CompileFault.{CompileFault};
 ghost use Rattle.gf_studio.specs.FigRun.{Draws, Exports, ExportsFront, HasFault, Drops, RefusesCompiling};
 ghost use Rattle.gf_studio.specs.LineSteps.{RefusesDrawing};
-ghost use Rattle.gf_studio.specs.Reads.{CamePast, ConsumesAtMost};
+ghost use Rattle.gf_bytes.specs.Reads.{CamePast, ConsumesAtMost, ConsumesExactly};
 
+use crate::StudioError;
 use crate::reading::read_history;
-use crate::{MOST_INPUT_BYTES, Source, StudioError, read_input};
-use gf_drawing::{Drawing, Sink, compile};
+use gf_bytes::{MOST_INPUT_BYTES, Sink, Source, read_input};
+use gf_drawing::{Drawing, compile};
 use gf_fig_write::write_fig;
 use gf_shape::AnyShape;
 use gf_versions::ranked;
@@ -30,9 +31,12 @@ pub fn fig_run<R: Source, W: Sink>(
     ensures exports { OnOk result (IfSome (R.left source.old) (λ bytes. Exports bytes (W.taken sink.old) (W.taken sink.new))) }
     ensures flushed { OnOk result (IsTrue (W.flushed sink.new)) }
 
-    // The input was not read.
+    // The input was not read: the source failed, exactly once then and else not, or one byte past the
+    // longest input came.
     ensures read_failed { result ≡ Err StudioError.ReadFailed → Rises (R.failures source.old) (R.failures source.new) }
+    ensures counts { CountsFailureAt StudioError.ReadFailed (R.failures source.old) (R.failures source.new) result }
     ensures too_long { result ≡ Err StudioError.TooLong → IfSome (R.left source.old) (λ bytes. MOST_INPUT_BYTES < length bytes) }
+    ensures one_more { result ≡ Err StudioError.TooLong → ConsumesExactly (MOST_INPUT_BYTES + 1) (R.left source.old) (R.left source.new) }
     ensures beyond { IfSome (R.left source.old) (λ bytes. MOST_INPUT_BYTES < length bytes → (result ≡ Err StudioError.TooLong) ⊎ (result ≡ Err StudioError.ReadFailed) ⊎ (result ≡ Err StudioError.OutOfMemory)) }
     ensures longer { CamePast MOST_INPUT_BYTES (R.left source.old) (R.left source.new) → (result ≡ Err StudioError.TooLong) ⊎ (result ≡ Err StudioError.OutOfMemory) }
 

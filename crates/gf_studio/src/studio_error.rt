@@ -3,8 +3,8 @@
 ghost use Rattle.std.specs.Prelude.{◌≡◌};
 ghost use Rattle.gf_studio.specs.Refusals.{of_input, of_compile, of_write};
 
-use crate::InputError;
-use gf_drawing::{CompileFault, WriteError};
+use gf_bytes::{InputError, WriteError};
+use gf_drawing::CompileFault;
 use gf_ops::{OpFault, OpId};
 use thiserror::Error;
 
