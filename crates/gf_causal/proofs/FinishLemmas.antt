@@ -58,7 +58,7 @@ not_again : (offered course : List Op) → IsDelivery offered course → (a : Op
 not_again offered course d a c r = let l = number_counted d.in_turn a c in let s = r.seq in absurd (omega arith)
 
 -- a ready operation goes behind the course
-delivery-push : (offered course : List Op) (a : Op) → IsDelivery offered course → Contains offered a → IsReady course a → IsDelivery offered (course ++ a ∷ [])
+pub delivery-push : (offered course : List Op) (a : Op) → IsDelivery offered course → Contains offered a → IsReady course a → IsDelivery offered (course ++ a ∷ [])
 delivery-push offered course a d c r = record {
   from_offered = λ b k. elim (Contains-push_cases course a b k) [ inl m ↦ d.from_offered b m | inr e ↦ subst (Contains offered) e c ];
   once = all_pairs_push (λ x y. x.id ≢ y.id) course a d.once (λ k e l q.

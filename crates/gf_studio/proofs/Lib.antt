@@ -1,3 +1,4 @@
 pub mod ReadingLemmas
 pub mod TakingLemmas
 pub mod SameLemmas
+pub mod RefusalLemmas

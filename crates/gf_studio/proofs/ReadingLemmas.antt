@@ -17,7 +17,7 @@ use Rattle.gf_studio.specs.declared.studio_error.StudioError.TheVariants as stud
 use Rattle.gf_studio.specs.FigRun.{Denotes, Drops, HasFault, IsAt, IsFault, denotes_op}
 use Rattle.gf_studio.specs.LineSteps.{DropsLine, HasRead, IsLineFault, TakesLine, RefusesLine, RefusesText}
 use Rattle.gf_bytes.specs.TextLines.{numbered_lines}
-use Rattle.gf_studio.proofs.TakingLemmas.{HasTaken-moves, HasTaken-offer, added_delivered, delivers, other_taken, ready_delivered}
+use Rattle.gf_studio.proofs.TakingLemmas.{HasTaken-moves, HasTaken-offer, added_delivery, delivers, other_taken}
 
 -- before the first line nothing is taken
 pub HasRead-none : (bytes : List ℕ) (left : List (ℕ × List ℕ)) (held h : List Op) → left ≡ numbered_lines bytes → held ≡ [] → h ≡ [] → HasRead bytes left held h
@@ -90,10 +90,10 @@ module _ (bytes : List ℕ) (n : ℕ) (line : List ℕ) (left : List (ℕ × Lis
         denotes = d.denotes;
         one = offered.one;
         history = d.drops.grown;
+        delivery = added_delivery ops d.drops.kept d.drops.grown moved d.drops.valid;
         valid = d.drops.valid;
-        from = added_delivered ops d.drops.kept d.drops.grown moved d.drops.valid;
         op = d.drops.op;
-        delivered = ready_delivered ops d.drops.kept d.drops.grown moved d.drops.valid d.drops.op (offered.taken d.drops.op (inl d.drops.waiting)) d.drops.ready;
+        there = offered.taken d.drops.op (inl d.drops.waiting);
         named = d.drops.named;
         ready = d.drops.ready;
         refused = d.drops.refused;

@@ -1,4 +1,4 @@
--- Inputs with the same operations have one drawing and one text.
+-- Inputs with the same operations, and those that denote histories of the same operations, have one drawing and one text.
 use Rattle.std.proofs.Common.{◌≡◌, ℕ, List, [], ◌∷◌, ◌++◌, map, refl, sym, subst, ap, ◌∙◌}
 use Rattle.std.specs.Prelude.{Some}
 use Rattle.gf_shape.specs.declared.any_shape.AnyShape.{AnyShape}
@@ -8,7 +8,7 @@ use Rattle.gf_causal.specs.DeliveredPart.{HaveSame, IsDelivered, IsDeliveredPart
 use Rattle.gf_drawing.specs.CanonicalDrawing.{canonical_drawing}
 use Rattle.gf_drawing.specs.DrawingState.{DrawingState}
 use Rattle.gf_fig_write.specs.FigText.{fig_text}
-use Rattle.gf_studio.specs.FigRun.{Draws, Exports, HaveSameOperations, denotes_op}
+use Rattle.gf_studio.specs.FigRun.{Denotes, Draws, Exports, HaveSameOperations, denotes_op}
 use Rattle.gf_versions.proofs.SameHistoryLemmas.{ranked_alike}
 
 -- lines denote one list of operations
@@ -40,15 +40,54 @@ same_part ops others h k same one other a = (
   λ i. (one a).1 (delivered_of_same others ops (turned ops others same) a ((other a).0 i)),
 )
 
+-- one input denotes one history, in whatever order
+pub one_history : (bytes : List ℕ) (h k : List Op) → Denotes bytes h → Denotes bytes k → HaveSame h k
+one_history bytes h k d e =
+    let same = one_denoted d.ops e.ops (sym d.lines ∙ e.lines) in
+    same_part d.ops e.ops h k (subst (HaveSame d.ops) same (λ a. (λ i. i, λ i. i))) d.delivers.delivered e.delivers.delivered
+
+-- where one of two inputs with the same operations denotes a history, the other does
+pub denote_alike : (bytes others : List ℕ) → HaveSameOperations bytes others → (h : List Op) → Denotes bytes h → Denotes others h
+denote_alike bytes others have h d =
+    let ops = one_denoted d.ops have.ops (sym d.lines ∙ have.lines) in
+    let same : HaveSame d.ops have.other_ops = subst (λ x. HaveSame x have.other_ops) (sym ops) have.same in
+    record {
+      ops = have.other_ops;
+      lines = have.other_lines;
+      delivers = record {
+        one = λ a b i j. d.delivers.one a b ((same a).1 i) ((same b).1 j);
+        delivered = λ a. (
+          λ i. delivered_of_same d.ops have.other_ops same a ((d.delivers.delivered a).0 i),
+          λ i. (d.delivers.delivered a).1 (delivered_of_same have.other_ops d.ops (turned d.ops have.other_ops same) a i),
+        );
+        valid = d.delivers.valid;
+      };
+    }
+
+-- inputs that denote histories of the same operations have one drawing
+module _ (bytes others : List ℕ) (h k : List Op) (d : Denotes bytes h) (e : Denotes others k) (same : HaveSame h k) where
+  histories_alike : (drawing other : DrawingState AnyShape) (x : Draws bytes drawing) (y : Draws others other) → HaveSame x.history y.history
+  histories_alike drawing other x y a =
+      let first = one_history bytes x.history h x.denoted d a in
+      let second = one_history others k y.history e y.denoted a in
+      (λ i. second.0 ((same a).0 (first.0 i)), λ i. first.1 ((same a).1 (second.1 i)))
+
+  pub histories_draw : (drawing other : DrawingState AnyShape) → Draws bytes drawing → Draws others other → drawing ≡ other
+  histories_draw drawing other x y =
+      let items = ranked_alike x.history y.history (histories_alike drawing other x y) x.canonical.items y.canonical.items x.canonical.ranked y.canonical.ranked in
+      x.canonical.drawing ∙ (ap canonical_drawing items ∙ sym y.canonical.drawing)
+
+  -- and one text
+  pub histories_write : (taken text other : List ℕ) → Exports bytes (Some taken) (Some text) → Exports others (Some taken) (Some other) → text ≡ other
+  histories_write taken text other x y =
+      x.written ∙ (ap (λ drawing. taken ++ fig_text any_outline drawing) (histories_draw x.drawing y.drawing x.drawn y.drawn) ∙ sym y.written)
+
+-- so do inputs with the same operations
 pub draw_alike : (bytes others : List ℕ) → HaveSameOperations bytes others → (drawing other : DrawingState AnyShape) → Draws bytes drawing → Draws others other → drawing ≡ other
 draw_alike bytes others have drawing other d e =
-    let first = one_denoted d.denoted.ops have.ops (sym d.denoted.lines ∙ have.lines) in
-    let second = one_denoted e.denoted.ops have.other_ops (sym e.denoted.lines ∙ have.other_lines) in
-    let same : HaveSame d.denoted.ops e.denoted.ops = subst (λ ops. HaveSame ops e.denoted.ops) (sym first) (subst (λ ops. HaveSame have.ops ops) (sym second) have.same) in
-    let histories = same_part d.denoted.ops e.denoted.ops d.history e.history same d.denoted.delivers.delivered e.denoted.delivers.delivered in
-    let items = ranked_alike d.history e.history histories d.canonical.items e.canonical.items d.canonical.ranked e.canonical.ranked in
-    d.canonical.drawing ∙ (ap canonical_drawing items ∙ sym e.canonical.drawing)
+    histories_draw bytes others d.history d.history d.denoted (denote_alike bytes others have d.history d.denoted) (λ a. (λ i. i, λ i. i)) drawing other d e
 
 pub write_alike : (bytes others : List ℕ) → HaveSameOperations bytes others → (taken text other : List ℕ) → Exports bytes (Some taken) (Some text) → Exports others (Some taken) (Some other) → text ≡ other
 write_alike bytes others have taken text other d e =
-    d.written ∙ (ap (λ drawing. taken ++ fig_text any_outline drawing) (draw_alike bytes others have d.drawing e.drawing d.drawn e.drawn) ∙ sym e.written)
+    let h = d.drawn.history in
+    histories_write bytes others h h d.drawn.denoted (denote_alike bytes others have h d.drawn.denoted) (λ a. (λ i. i, λ i. i)) taken text other d e

@@ -16,7 +16,7 @@ use Rattle.gf_ops.specs.ValidHistory.{IsValid}
 use Rattle.gf_causal.specs.declared.buffer.Offered.{Offered}
 use Rattle.gf_causal.specs.declared.buffer.Offered.TheVariants as offer
 use Rattle.gf_causal.specs.declared.faults.OfferFault.{OfferFault}
-use Rattle.gf_causal.specs.DeliveredPart.{AreOneById, AreReady, next, IsDelivered, IsLastDelivery}
+use Rattle.gf_causal.specs.DeliveredPart.{AreOneById, AreReady, next, IsDelivery, IsLastDelivery}
 use Rattle.gf_causal.specs.HeldOperations.{Adds, IsClash, IsKnown, IsNew, HasOther}
 use Rattle.gf_causal.specs.Ready.{IsReady, NoneIsReady}
 use Rattle.gf_causal.proofs.ListLemmas.{Contains-between, Contains-between_cases, Contains-between_itself}
@@ -141,38 +141,22 @@ Moves-one held h kept grown left longer a moves adds ready same = record {
 
 -- ---- delivering
 
+-- a valid history of what was taken is a delivery of what was taken
+pub added_delivery : (ops held h : List Op) → HasTaken ops held h → IsValid h → IsDelivery ops h
+added_delivery ops held h t valid = record { from_offered = λ a i. t.taken a (inr i); once = valid.distinct; in_turn = t.in_turn }
+
 -- where no held operation is ready, the history is the delivered part of what was taken
 pub delivers : (ops held h : List Op) → HasTaken ops held h → NoneIsReady h held → IsValid h → Delivers ops h
 delivers ops held h t none valid = record { one = t.one; delivered = delivered_part ops h t.one last; valid = valid }
   where
     last : IsLastDelivery ops h
     last = record {
-      delivery = record { from_offered = λ a i. t.taken a (inr i); once = valid.distinct; in_turn = t.in_turn };
+      delivery = added_delivery ops held h t valid;
       last = λ a i ready. elim (t.there a i) [
         | inl j ↦ none a j ready
         | inr j ↦ let known = number_counted t.in_turn a j in let seq = ready.seq in absurd (omega arith)
       ];
     }
-
--- each operation of such a history is delivered
-pub added_delivered : (ops held h : List Op) → HasTaken ops held h → IsValid h → (a : Op) → Contains h a → IsDelivered ops a
-added_delivered ops held h t valid a i = record { course = h; delivery = record { from_offered = λ b j. t.taken b (inr j); once = valid.distinct; in_turn = t.in_turn }; contained = i }
-
--- and one that is ready behind it
-pub ready_delivered : (ops held h : List Op) → HasTaken ops held h → IsValid h → (a : Op) → Contains ops a → IsReady h a → IsDelivered ops a
-ready_delivered ops held h t valid a i ready = record {
-  course = h ++ a ∷ [];
-  delivery = record {
-    from_offered = λ b j. elim (Contains-push_cases h a b j) [ inl k ↦ t.taken b (inr k) | inr e ↦ subst (Contains ops) e i ];
-    once = all_pairs_push (λ x y. x.id ≢ y.id) h a valid.distinct (λ k d l. fresh (get_or h k d) (Contains-get_or h k d l));
-    in_turn = next t.in_turn ready;
-  };
-  contained = Contains-push h a;
-}
-  where
-    fresh : (b : Op) → Contains h b → b.id ≢ a.id
-    fresh b j e = let known = number_counted t.in_turn b j in let seq = ready.seq in let site = ap (λ (x : OpId). x.site) e in let number = ap (λ (x : OpId). x.seq) e in
-        let same = rw site at known in absurd (omega arith)
 
 -- ---- one step of adding
 

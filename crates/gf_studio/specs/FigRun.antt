@@ -8,7 +8,7 @@ use Rattle.gf_ops.specs.declared.op.OpId.{OpId}
 use Rattle.gf_ops.specs.declared.faults.OpFault.{OpFault}
 use Rattle.gf_ops.specs.Accepted.{IsRefused}
 use Rattle.gf_ops.specs.ValidHistory.{IsValid}
-use Rattle.gf_causal.specs.DeliveredPart.{AreOneById, HaveSame, IsDelivered, IsDeliveredPart}
+use Rattle.gf_causal.specs.DeliveredPart.{AreOneById, HaveSame, IsDelivery, IsDeliveredPart}
 use Rattle.gf_causal.specs.HeldOperations.{HasOther}
 use Rattle.gf_causal.specs.Ready.{IsReady}
 use Rattle.gf_versions.specs.declared.placed.Placed.{Placed}
@@ -84,8 +84,8 @@ pub record HasFault (bytes : List ℕ) (n : ℕ) (cause : LineCause) : Type 0 wh
   pub at : IsAt bytes n line
   pub fault : IsFault at.ops line cause
 
--- what the lines before some line deliver is a valid history; with that line the operation under this id is delivered too,
--- and it is ready behind a valid history of delivered operations, where it cannot be added, for this fault
+-- what the lines before some line deliver is a valid history; with that line the operation under this id is there, and it is
+-- ready behind a delivery of the operations so far, a valid history to which it cannot be added, for this fault
 pub record Drops (bytes : List ℕ) (id : OpId) (fault : OpFault) : Type 0 where
   pub number : ℕ
   pub line : List ℕ
@@ -94,10 +94,10 @@ pub record Drops (bytes : List ℕ) (id : OpId) (fault : OpFault) : Type 0 where
   pub denotes : denoted line ≡ Ok last
   pub one : AreOneById (at.ops ++ last ∷ [])
   pub history : List Op
+  pub delivery : IsDelivery (at.ops ++ last ∷ []) history
   pub valid : IsValid history
-  pub from : (a : Op) → Contains history a → IsDelivered (at.ops ++ last ∷ []) a
   pub op : Op
-  pub delivered : IsDelivered (at.ops ++ last ∷ []) op
+  pub there : Contains (at.ops ++ last ∷ []) op
   pub named : op.id ≡ id
   pub ready : IsReady history op
   pub refused : IsRefused history op fault

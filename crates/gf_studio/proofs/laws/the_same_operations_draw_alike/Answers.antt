@@ -1,5 +1,8 @@
-use Rattle.gf_studio.proofs.SameLemmas.{draw_alike, write_alike}
+use Rattle.gf_studio.proofs.SameLemmas.{denote_alike, draw_alike, write_alike}
 use Rattle.gf_studio.proofs.laws.the_same_operations_draw_alike.Goals as goal
+
+pub returns-clause-denotes : goal.returns-clause-denotes
+returns-clause-denotes c = λ bytes others have h d. denote_alike bytes others have h d
 
 pub returns-clause-drawing : goal.returns-clause-drawing
 returns-clause-drawing c = λ bytes others have drawing other d e. draw_alike bytes others have drawing other d e
