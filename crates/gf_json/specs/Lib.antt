@@ -8,5 +8,6 @@ pub mod OperationLines
 pub mod ScriptLines
 pub mod WrittenValues
 pub mod WrittenLines
+pub mod WrittenMembers
 pub mod CheckedPoints
 pub mod ColourBytes

@@ -19,7 +19,7 @@ pub(crate) fn id(line: &Value) -> Result<OpId, LineError>
     ensures value { result ≡ id (view line.now) }
     ensures in_range { IfOk result (λ i. IsTrue (is_id i)) }
 {
-    name(value_at(line, "id")?)
+    value_at(line, "id").and_then(name)
 }
 
 pub(crate) fn past(line: &Value) -> Result<Clock, LineError>
@@ -41,15 +41,14 @@ pub(crate) fn object(line: &Value) -> Result<ObjectId, LineError>
     ensures value { result ≡ object (view line.now) }
     ensures in_range { IfOk result (λ o. IsTrue (is_id o.0)) }
 {
-    let id = name(value_at(line, "object")?)?;
-    Ok(ObjectId(id))
+    value_at(line, "object").and_then(name).map(ObjectId)
 }
 
 pub(crate) fn place(line: &Value) -> Result<Point, LineError>
     ensures value { result ≡ place (view line.now) }
     ensures in_range { IfOk result (λ p. IsTrue (is_near p)) }
 {
-    point(value_at(line, "place")?)
+    value_at(line, "place").and_then(point)
 }
 
 pub(crate) fn box_size(line: &Value) -> Result<Form, LineError>
@@ -64,8 +63,7 @@ pub(crate) fn circle_size(line: &Value) -> Result<Form, LineError>
     ensures value { result ≡ circle_size (view line.now) }
     ensures in_range { IfOk result (λ f. IsTrue (is_form f)) }
 {
-    let radius = radius(value_at(line, "size")?)?;
-    Ok(Form::Circle(radius))
+    value_at(line, "size").and_then(radius).map(Form::Circle)
 }
 
 pub(crate) fn polygon_points(alloc: Global, line: &Value) -> Result<Form, LineError>
@@ -79,20 +77,20 @@ pub(crate) fn polygon_points(alloc: Global, line: &Value) -> Result<Form, LineEr
 pub(crate) fn colour(line: &Value) -> Result<Rgb, LineError>
     ensures { result ≡ colour (view line.now) }
 {
-    hex_colour(value_at(line, "colour")?)
+    value_at(line, "colour").and_then(hex_colour)
 }
 
 pub(crate) fn layer(line: &Value) -> Result<u16, LineError>
     ensures value { result ≡ layer (view line.now) }
     ensures in_range { IfOk result (λ n. IsTrue (is_layer n)) }
 {
-    level(value_at(line, "layer")?)
+    value_at(line, "layer").and_then(level)
 }
 
 pub(crate) fn shown(line: &Value) -> Result<bool, LineError>
     ensures { result ≡ shown (view line.now) }
 {
-    truth(value_at(line, "shown")?)
+    value_at(line, "shown").and_then(truth)
 }
 
 /// The value at a key.

@@ -13,7 +13,7 @@ use std::alloc::{AllocError, Global};
 pub(crate) fn name_data(alloc: Global, name: OpId) -> Result<Value, AllocError>
     ensures { IfOk result (λ v. view v ≡ name_data name) }
 {
-    json!(in alloc; [name.site, name.seq])
+    pair_data(alloc, Value::from(name.site), Value::from(name.seq))
 }
 
 pub(crate) fn clock_data(alloc: Global, clock: &Clock) -> Result<Value, AllocError>
@@ -37,7 +37,7 @@ fn entries(alloc: Global, numbers: &[u32]) -> Result<Vec<Value>, AllocError>
 pub(crate) fn point_data(alloc: Global, point: Point) -> Result<Value, AllocError>
     ensures { IfOk result (λ v. view v ≡ point_data point) }
 {
-    json!(in alloc; [point.x, point.y])
+    pair_data(alloc, Value::from(point.x), Value::from(point.y))
 }
 
 pub(crate) fn points_data(alloc: Global, points: &Points) -> Result<Value, AllocError>
@@ -60,7 +60,14 @@ fn point_values(alloc: Global, points: &[Point]) -> Result<Vec<Value>, AllocErro
 pub(crate) fn size_data(alloc: Global, width: u32, height: u32) -> Result<Value, AllocError>
     ensures { IfOk result (λ v. view v ≡ size_data width height) }
 {
-    json!(in alloc; [width, height])
+    pair_data(alloc, Value::from(width), Value::from(height))
+}
+
+/// An array of two.
+fn pair_data(alloc: Global, first: Value, second: Value) -> Result<Value, AllocError>
+    ensures { IfOk result (λ v. view v ≡ pair_data (view first) (view second)) }
+{
+    json!(in alloc; [first, second])
 }
 
 pub(crate) fn colour_data(alloc: Global, colour: Rgb) -> Result<Value, AllocError>

@@ -1,0 +1,40 @@
+-- The members of a written line, part by part. No public clause cites this module.
+use Rattle.std.specs.Prelude.{ℕ, List, [], ◌∷◌, codes}
+use Rattle.gf_ops.specs.declared.op.Op.{Op}
+use Rattle.gf_ops.specs.declared.change.Form.{Form}
+use Rattle.gf_ops.specs.declared.change.Form.TheVariants.{Rect, Polygon, Circle}
+use Rattle.gf_ops.specs.declared.change.Start.{Start}
+use Rattle.serde_json.specs.Data.{Data, boolean, string, Members, no_members, put}
+use Rattle.gf_json.specs.WrittenValues.{natural_data, name_data, clock_data, point_data, points_data, size_data, colour_data}
+
+-- ms, with these members put one after the other
+abbrev pub put_all : List (List ℕ × Data) → Members → Members
+put_all [] ms = ms
+put_all ((key, d) ∷ rest) ms = put_all rest (put key d ms)
+
+-- what each line has: the operation a, which does what the word says
+abbrev pub begun : Op → List ℕ → Members
+begun a word = put_all (
+    (codes "id", name_data a.id)
+    ∷ (codes "op", string word)
+    ∷ (codes "past", clock_data a.past)
+    ∷ []) no_members
+
+-- what the line of each new object has
+abbrev pub look_members : Start → List (List ℕ × Data)
+look_members s =
+    (codes "colour", colour_data s.colour)
+    ∷ (codes "layer", natural_data s.layer)
+    ∷ (codes "place", point_data s.place)
+    ∷ (codes "shown", boolean s.shown)
+    ∷ []
+
+-- a kind, and the form of the new object at its key
+abbrev pub shape_members : List ℕ → List ℕ → Data → List (List ℕ × Data)
+shape_members kind key d = (codes "kind", string kind) ∷ (key, d) ∷ []
+
+-- the same of a form
+abbrev pub form_members : Form → List (List ℕ × Data)
+form_members (Rect width height) = shape_members (codes "box") (codes "size") (size_data width height)
+form_members (Polygon ps) = shape_members (codes "polygon") (codes "points") (points_data ps)
+form_members (Circle radius) = shape_members (codes "circle") (codes "size") (size_data radius radius)
