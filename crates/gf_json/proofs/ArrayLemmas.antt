@@ -9,7 +9,7 @@ use Rattle.gf_json.specs.LineValues.{Got, mapped, ◌&◌, each, elements, two_o
 use Rattle.gf_json.specs.LineLimits.{clock, entry}
 use Rattle.gf_ops.specs.declared.op.Clock.{Clock}
 use Rattle.gf_ops.specs.Limits.{is_clock}
-use Rattle.std.specs.Prelude.{IfOk, IsTrue}
+use Rattle.std.specs.Prelude.{IsTrue}
 
 -- fewer than two
 pub two_of-short : (vs : List Value) → length vs < 2 → two_of (elements (items_view vs)) ≡ Err fault.Field
@@ -114,21 +114,13 @@ each-all p form t (d ∷ ds) found h =
     let parts = beside-parts (form d) (each form ds) q b in
     rw (← e, t d q.0 parts.0) (each-all p form t ds q.1 parts.1)
 
--- what holds of each value that is read
-IfOk-from : {A : Type 0} (P : A → Type 0) (x : Got A) → ((a : A) → x ≡ Ok a → P a) → IfOk x P
-IfOk-from P (Ok a) t = t a refl
-IfOk-from P (Err e) t = tt
-
 -- where the test fails, nothing is read
 passed : {A : Type 0} (test : Bool) (x : Got A) (a : A) → (if test then x else Err fault.Field) ≡ Ok a → x ≡ Ok a
 passed true x a h = h
 passed false x a h = absurd cc
 
 -- a clock that is read keeps its limits
-clock-within : (ds : List Data) (c : Clock) → clock ds ≡ Ok c → IsTrue (is_clock c)
+pub clock-within : (ds : List Data) (c : Clock) → clock ds ≡ Ok c → IsTrue (is_clock c)
 clock-within ds c h =
     let (ns, e, g) = mapped-parts {A = List ℕ} {B = Clock} (λ ns. record { 0 = ns }) (each entry ds) c (passed (length ds == 8) _ c h) in
     let all = each-all (λ n. nat_le n 10000) entry entry-within ds ns e in rw (← g) all
-
-pub clock-in_range : (ds : List Data) → IfOk (clock ds) (λ c. IsTrue (is_clock c))
-clock-in_range ds = IfOk-from (λ c. IsTrue (is_clock c)) (clock ds) (clock-within ds)

@@ -26,7 +26,7 @@ pub(crate) fn past(line: &Value) -> Result<Clock, LineError>
     ensures value { result ≡ past (view line.now) }
     ensures in_range { IfOk result (λ c. IsTrue (is_clock c)) }
 {
-    clock(elements(value_at(line, "past")?)?)
+    value_at(line, "past").and_then(elements).and_then(clock)
 }
 
 pub(crate) fn site(line: &Value) -> Result<u8, LineError>
@@ -55,7 +55,7 @@ pub(crate) fn box_size(line: &Value) -> Result<Form, LineError>
     ensures value { result ≡ box_size (view line.now) }
     ensures in_range { IfOk result (λ f. IsTrue (is_form f)) }
 {
-    let (width, height) = size(value_at(line, "size")?)?;
+    let (width, height) = value_at(line, "size").and_then(size)?;
     Ok(Form::Rect(width, height))
 }
 

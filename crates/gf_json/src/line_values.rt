@@ -2,7 +2,7 @@
 
 ghost use Rattle.std.specs.Prelude.{◌≡◌, ◌≤◌, ◌&&◌, pos, negsuc, int_le, IsTrue, Ok, IfOk};
 ghost use Rattle.serde_json.specs.View.{view, items_view};
-ghost use Rattle.gf_ops.specs.Limits.{is_id, is_near, is_size, is_layer};
+ghost use Rattle.gf_ops.specs.Limits.{is_id, is_clock, is_near, is_size, is_layer};
 ghost use Rattle.gf_json.specs.LineValues.{◌&◌, mapped, whole, elements, array, two, truth};
 ghost use Rattle.gf_json.specs.LineLimits.{integer, natural, coordinate, side, side_twice, entry, name, size, radius, level, point, clock};
 
@@ -167,7 +167,8 @@ pub(crate) fn point(value: &Value) -> Result<Point, LineError>
 
 #[tactic(auto, using(crate::proofs::ArrayLemmas::not_eight))]
 pub(crate) fn clock(values: &[Value]) -> Result<Clock, LineError>
-    ensures { result ≡ clock (elements (items_view values.now)) }
+    ensures value { result ≡ clock (elements (items_view values.now)) }
+    ensures in_range { IfOk result (λ c. IsTrue (is_clock c)) }
 {
     let [a, b, c, d, e, f, g, h] = values else {
         return Err(LineError::Field);
