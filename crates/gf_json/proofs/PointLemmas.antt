@@ -128,4 +128,4 @@ pub checked-within : (vs : List Value) (p : ℕ × ⊤) → (counted (length vs)
     → IsTrue (is_polygon (map (λ v. checked_point (view v)) vs))
 checked-within vs p h = points_of-within (elements (items_view vs)) _ (points_of-read vs p h)
 
-pub ruleset reads = (points_of-read, points_of-refused, checked-within)
+pub ruleset refusals = (points_of-refused)

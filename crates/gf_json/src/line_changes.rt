@@ -122,18 +122,18 @@ fn named_value(alloc: Global, line: &Value, value: &Value) -> Result<gf_ops::Val
     ensures in_range { IfOk result (λ v. IsTrue (is_value v)) }
 {
     if says(line, "set", "place") {
-        Ok(gf_ops::Value::Place(point(value)?))
+        point(value).map(gf_ops::Value::Place)
     } else if says(line, "set", "points") {
-        Ok(gf_ops::Value::Points(points(alloc, value)?))
+        points(alloc, value).map(gf_ops::Value::Points)
     } else if says(line, "set", "size") {
         let (width, height) = size(value)?;
         Ok(gf_ops::Value::Size(width, height))
     } else if says(line, "set", "colour") {
-        Ok(gf_ops::Value::Colour(hex_colour(value)?))
+        hex_colour(value).map(gf_ops::Value::Colour)
     } else if says(line, "set", "layer") {
-        Ok(gf_ops::Value::Layer(level(value)?))
+        level(value).map(gf_ops::Value::Layer)
     } else if says(line, "set", "shown") {
-        Ok(gf_ops::Value::Shown(truth(value)?))
+        truth(value).map(gf_ops::Value::Shown)
     } else {
         Err(LineError::Field)
     }

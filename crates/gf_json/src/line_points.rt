@@ -23,7 +23,7 @@ pub(crate) fn points(alloc: Global, value: &Value) -> Result<Points, LineError>
 }
 
 /// The points of the elements of an array.
-#[tactic(auto, using(crate::proofs::PointLemmas::reads))]
+#[tactic(auto, using(crate::proofs::PointLemmas::refusals))]
 fn points_of(alloc: Global, values: &[Value]) -> Result<Points, LineError>
     ensures value { (result ≡ Err LineError.OutOfMemory) ⊎ (result ≡ points_of (elements (items_view values.now))) }
     ensures in_range { IfOk result (λ ps. IsTrue (is_polygon ps)) }
@@ -69,11 +69,7 @@ fn beside(first: Result<Point, LineError>, others: Result<(), LineError>) -> Res
 fn checked_points(alloc: Global, values: &[Value]) -> Result<Vec<Point>, AllocError>
     ensures { IfOk result (λ ps. ps.items ≡ map (λ v. checked_point (view v)) values.now) }
 {
-    let mut points = Vec::new(alloc);
-    for value in values {
-        points.push(checked_point(value))?;
-    }
-    Ok(points)
+    values.iter().map(checked_point).collect(alloc)
 }
 
 fn checked_point(value: &Value) -> Point
