@@ -4,8 +4,9 @@ use Rattle.gf_ops.specs.declared.op.Op.{Op}
 use Rattle.gf_ops.specs.declared.change.Form.{Form}
 use Rattle.gf_ops.specs.declared.change.Form.TheVariants.{Rect, Polygon, Circle}
 use Rattle.gf_ops.specs.declared.change.Start.{Start}
-use Rattle.serde_json.specs.Data.{Data, boolean, string, Members, no_members, put}
+use Rattle.serde_json.specs.Data.{Data, boolean, string, Members, put}
 use Rattle.gf_json.specs.WrittenValues.{natural_data, name_data, clock_data, point_data, points_data, size_data, colour_data}
+use Rattle.gf_json.specs.WrittenLines.{in_order}
 
 -- ms, with these members put one after the other
 abbrev pub put_all : List (List ℕ × Data) → Members → Members
@@ -14,11 +15,11 @@ put_all ((key, d) ∷ rest) ms = put_all rest (put key d ms)
 
 -- what each line has: the operation a, which does what the word says
 abbrev pub begun : Op → List ℕ → Members
-begun a word = put_all (
+begun a word = in_order (
     (codes "id", name_data a.id)
     ∷ (codes "op", string word)
     ∷ (codes "past", clock_data a.past)
-    ∷ []) no_members
+    ∷ [])
 
 -- what the line of each new object has
 abbrev pub look_members : Start → List (List ℕ × Data)

@@ -84,11 +84,7 @@ fn put_look(
     put(members, alloc, "shown", Value::from(start.shown))
 }
 
-fn put_form(
-    alloc: Global,
-    members: &mut Map<String, Value>,
-    form: &Form,
-) -> Result<(), AllocError>
+fn put_form(alloc: Global, members: &mut Map<String, Value>, form: &Form) -> Result<(), AllocError>
     ensures { OnOk result (members_view members.new.entries ≡ put_all (form_members form.now) (members_view members.old.entries)) }
 {
     match form {
@@ -133,7 +129,12 @@ fn setting_data(
 {
     let mut members = begun(alloc, op, "set")?;
     put(&mut members, alloc, "object", name_data(alloc, object.0)?)?;
-    put(&mut members, alloc, "set", Value::try_from_str(alloc, attribute_word(value))?)?;
+    put(
+        &mut members,
+        alloc,
+        "set",
+        Value::try_from_str(alloc, attribute_word(value))?,
+    )?;
     put(&mut members, alloc, "to", value_data(alloc, value)?)?;
     Ok(Value::Object(members))
 }
