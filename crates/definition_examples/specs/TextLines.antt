@@ -1,6 +1,6 @@
 -- Worked examples of the lines of a text, checked by computing.
 use Rattle.std.specs.Prelude.{◌≡◌, [], ◌∷◌, refl, codes}
-use Rattle.gf_studio.specs.TextLines.{numbered_lines}
+use Rattle.gf_bytes.specs.TextLines.{numbered_lines}
 
 -- blank lines are counted and not given, and the last LF may be missing
 pub lines_of_a_text : numbered_lines (codes "a\n\n \t\r\n b\r\nc") ≡ (1, codes "a") ∷ (4, codes " b\r") ∷ (5, codes "c") ∷ []
