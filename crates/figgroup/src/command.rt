@@ -5,8 +5,8 @@ ghost use Rattle.gf_studio.specs.FigRun.{Exports, ExportsFront};
 
 use clap::error::ErrorKind;
 use clap::{Command, Error};
-use gf_drawing::{Sink, write_whole};
-use gf_studio::{Source, StudioError, fig_run};
+use gf_bytes::{Sink, Source, write_whole};
+use gf_studio::{StudioError, fig_run};
 use std::alloc::Global;
 use std::io;
 

@@ -3,8 +3,7 @@
 use crate::command;
 use crate::command::refuse_words;
 use example_parts::{EMPTY_FIG, RED_BOX, RED_BOX_FIG};
-use gf_drawing::Tape;
-use gf_studio::{MOST_INPUT_BYTES, Reel};
+use gf_bytes::{MOST_INPUT_BYTES, Reel, Tape};
 use std::alloc::{AllocError, Global};
 use std::io;
 use std::test::Fail;

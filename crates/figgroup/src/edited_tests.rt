@@ -2,7 +2,7 @@
 
 use crate::command_tests::run;
 use example_parts::EMPTY_FIG;
-use gf_studio::Reel;
+use gf_bytes::Reel;
 use std::alloc::{AllocError, Global};
 use std::test::Fail;
 

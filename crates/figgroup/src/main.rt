@@ -9,8 +9,7 @@ mod edited_tests;
 
 pub use command::command;
 use command::refuse_words;
-use gf_drawing::Out;
-use gf_studio::In;
+use gf_bytes::{In, Out};
 use std::io;
 use std::process::ExitCode;
 
