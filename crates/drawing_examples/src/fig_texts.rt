@@ -1,8 +1,9 @@
 //! Worked examples of the FIG text and of its writing.
 
 use crate::figures::figure;
-use example_parts::{EMPTY_FIG, GREEN, RED, BLUE, RED_BOX_FIG, at};
-use gf_drawing::{Drawing, Tape, WriteError};
+use example_parts::{BLUE, EMPTY_FIG, GREEN, RED, RED_BOX_FIG, at};
+use gf_bytes::{Tape, WriteError};
+use gf_drawing::Drawing;
 use gf_fig_write::{fig_bytes, write_fig};
 use gf_shape::{AnyShape, Chain, Circle, Disc, Outline, Polygon, Rect, Shape};
 use std::alloc::Global;
@@ -25,7 +26,10 @@ fn drawings_have_their_text(rt: HostRuntime) -> Result<(), Fail> {
         fig_bytes(alloc, &Drawing::<Rect>::new(alloc))?.as_slice(),
         EMPTY_FIG.as_bytes()
     );
-    assert_eq!(rt; fig_bytes(alloc, &red_box(&rt)?)?.as_slice(), RED_BOX_FIG.as_bytes());
+    assert_eq!(rt;
+        fig_bytes(alloc, &red_box(&rt)?)?.as_slice(),
+        RED_BOX_FIG.as_bytes()
+    );
     assert_eq!(rt; RED_BOX_FIG.len(), 156);
     let shape = Rect::new(at(0, 0), 10, 10)?;
     let mut drawing = Drawing::new(alloc);
@@ -50,22 +54,46 @@ fn in_turn<S: Shape>(alloc: Global, first: S, second: S, third: S) -> Result<Dra
     Ok(drawing)
 }
 
+/// A triangle that lies far out.
+fn far_triangle(alloc: Global) -> Result<Polygon, Fail> {
+    let corners = [at(0, 0), at(-1_000_000, 0), at(0, -1_000_000)];
+    Ok(Polygon::new(alloc, &corners)?)
+}
+
+/// The unit circle before the triangle before a box.
+fn three_kinds(alloc: Global) -> Result<Drawing<AnyShape>, Fail> {
+    let circle = Circle::new(at(0, 0), 1)?;
+    let rect = Rect::new(at(0, 0), 10, 10)?;
+    let triangle = far_triangle(alloc)?;
+    in_turn(
+        alloc,
+        AnyShape::Circle(circle),
+        AnyShape::Polygon(triangle),
+        AnyShape::Rect(rect),
+    )
+}
+
+/// Their outlines.
+fn three_outlines(alloc: Global) -> Result<Drawing<Outline>, Fail> {
+    let circle = Circle::new(at(0, 0), 1)?;
+    let rect = Rect::new(at(0, 0), 10, 10)?;
+    let triangle = far_triangle(alloc)?.outline(alloc)?;
+    in_turn(
+        alloc,
+        circle.outline(alloc)?,
+        triangle,
+        rect.outline(alloc)?,
+    )
+}
+
 #[test]
 fn shapes_are_written_as_their_outlines(rt: HostRuntime) -> Result<(), Fail> {
     let alloc = rt.alloc();
-    let corners = [at(0, 0), at(-1_000_000, 0), at(0, -1_000_000)];
-    let circle = AnyShape::Circle(Circle::new(at(0, 0), 1)?);
-    let polygon = AnyShape::Polygon(Polygon::new(alloc, &corners)?);
-    let rect = AnyShape::Rect(Rect::new(at(0, 0), 10, 10)?);
-    let outlines: Drawing<Outline> = in_turn(
-        alloc,
-        circle.outline(alloc)?,
-        polygon.outline(alloc)?,
-        rect.outline(alloc)?,
-    )?;
-    let shapes = in_turn(alloc, circle, polygon, rect)?;
-    assert_eq!(rt; fig_bytes(alloc, &shapes)?.as_slice(), THREE_KINDS);
-    assert_eq!(rt; fig_bytes(alloc, &outlines)?.as_slice(), THREE_KINDS);
+    let text = fig_bytes(alloc, &three_kinds(alloc)?)?;
+    assert_eq!(rt; text.as_slice(), THREE_KINDS);
+    let outlines = three_outlines(alloc)?;
+    let text = fig_bytes(alloc, &outlines)?;
+    assert_eq!(rt; text.as_slice(), THREE_KINDS);
     let mut tape = Tape::new(alloc, None);
     write_fig(alloc, &outlines, &mut tape)?;
     assert_eq!(rt; tape.bytes(), THREE_KINDS);
@@ -112,7 +140,11 @@ fn what_a_sink_takes_is_a_front(rt: HostRuntime) -> Result<(), Fail> {
             Ok(())
         };
         assert_eq!(rt; written, want, "limit {limit}");
-        assert_eq!(rt; tape.bytes(), &RED_BOX_FIG.as_bytes()[..limit as usize], "limit {limit}");
+        assert_eq!(rt;
+            tape.bytes(),
+            &RED_BOX_FIG.as_bytes()[..limit as usize],
+            "limit {limit}"
+        );
     }
     Ok(())
 }

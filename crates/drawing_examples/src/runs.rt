@@ -1,9 +1,10 @@
 //! Runs over sources and sinks in memory, and the texts of their refusals.
 
 use example_parts::RED_BOX;
-use gf_drawing::{CompileFault, Tape};
+use gf_bytes::{Reel, Tape};
+use gf_drawing::CompileFault;
 use gf_ops::{OpFault, OpId};
-use gf_studio::{LineCause, Reel, StudioError, fig_run};
+use gf_studio::{LineCause, StudioError, fig_run};
 use std::alloc::AllocError;
 
 const FIRST: OpId = OpId { site: 1, seq: 1 };

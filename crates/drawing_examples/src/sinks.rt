@@ -2,7 +2,7 @@
 
 ghost use Rattle.std.specs.Prelude.{◌≡◌, IfErr};
 
-use gf_drawing::{Out, Sink, SinkFault, Tape, WriteError, write_whole};
+use gf_bytes::{Out, Sink, SinkFault, Tape, WriteError, write_all, write_whole};
 use std::alloc::AllocError;
 use std::io;
 use std::io::Write;
@@ -107,6 +107,19 @@ fn whole_writes_to_writers(rt: HostRuntime) -> Result<(), AllocError> {
     assert_eq!(rt; write_whole(&mut Out::new(&mut written), b"abcdef"), Ok(()));
     assert_eq!(rt; written.as_slice(), b"abcdef".as_slice());
     Ok(())
+}
+
+#[test]
+fn pieces_are_not_flushed(rt: HostRuntime) {
+    let mut fake = Fake::new(4, 4, false);
+    let mut out = Out::new(&mut fake);
+    assert_eq!(rt; write_all(&mut out, b"abcdef"), Ok(()));
+    assert_eq!(rt; write_all(&mut out, b""), Ok(()));
+    assert_eq!(rt; write_all(&mut out, b"gh"), Ok(()));
+    assert_eq!(rt; write_all(&mut out, b"ij"), Err(SinkFault));
+    assert_eq!(rt; fake.calls(), (8, 4, 0));
+    assert_eq!(rt; write_whole(&mut Out::new(&mut fake), b"ij"), Ok(()));
+    assert_eq!(rt; fake.calls(), (10, 5, 1));
 }
 
 #[test]

@@ -1,6 +1,6 @@
 //! What no clause says: printed texts, that calls succeed, and how often a reader is read.
 
-use gf_studio::{In, InputError, MOST_INPUT_BYTES, Reel, Source, SourceFault, read_input};
+use gf_bytes::{In, InputError, MOST_INPUT_BYTES, Reel, Source, SourceFault, read_input};
 use std::alloc::AllocError;
 use std::io;
 use std::io::Read;

@@ -1,9 +1,9 @@
 //! Tests of what the clauses mean: texts with the lines that the format asks for.
 
 ghost use Rattle.std.specs.Prelude.{◌≡◌, IfOk, map};
-ghost use Rattle.gf_studio.specs.TextLines.{numbered_lines};
+ghost use Rattle.gf_bytes.specs.TextLines.{numbered_lines};
 
-use gf_studio::TextLines;
+use gf_bytes::TextLines;
 use std::alloc::{AllocError, Global};
 use std::test::Fail;
 

@@ -1,5 +1,5 @@
 use Rattle.std.proofs.Common.{◌≡◌, ◌++◌, map, length}
-use Rattle.gf_studio.specs.TextLines.{numbered_lines}
+use Rattle.gf_bytes.specs.TextLines.{numbered_lines}
 use Rattle.drawing_examples.proofs.text_lines.all_lines.Given as goal
 
 -- what was given, then what is left
