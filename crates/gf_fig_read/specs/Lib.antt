@@ -1,0 +1,9 @@
+pub mod Layout
+pub mod Forms
+pub mod Fields
+pub mod Styles
+pub mod Outlines
+pub mod Objects
+pub mod FigGrammar
+pub mod Stepping
+pub mod Computed

@@ -1,0 +1,92 @@
+//! The outlines of polylines and ellipses.
+
+ghost use Rattle.std.specs.Prelude.{◌≡◌, ◌≤◌, true, length, All, Some, IfOk, IsTrue};
+ghost use Rattle.gf_shape.specs.Reach.{is_within_reach};
+ghost use Rattle.gf_fig_read.specs.Fields.{points};
+ghost use Rattle.gf_fig_read.specs.Outlines.{same_point, is_closed, count, chain, disc};
+ghost use Rattle.gf_fig_read.specs.Stepping.{Steps, Recalls};
+
+use crate::FigFault;
+use crate::tokens::Tokens;
+use gf_shape::{Chain, Disc, Outline, Point};
+use std::alloc::Global;
+
+/// The fields of an ellipse behind its style.
+#[tactic(auto, unfolding(crate::specs::Outlines::disc))]
+pub(crate) fn disc(tokens: &mut Tokens<'_>) -> Result<Outline, FigFault>
+    ensures { Steps result tokens.new (disc tokens.old) }
+{
+    tokens.whole()?;
+    tokens.decimal()?;
+    let centre = tokens.point()?;
+    let radius = tokens.natural(1, 10_000_000, FigFault::Radius)?;
+    tokens.natural(radius, radius, FigFault::Radius)?;
+    tokens.whole()?;
+    tokens.whole()?;
+    tokens.whole()?;
+    tokens.whole()?;
+    Ok(Outline::Disc(Disc::new(centre, radius)))
+}
+
+/// The fields of a polyline from its join style on: how many points follow.
+#[tactic(auto, unfolding(crate::specs::Outlines::count))]
+fn count(tokens: &mut Tokens<'_>, boxed: bool) -> Result<u32, FigFault>
+    ensures read { Steps result tokens.new (count boxed tokens.old) }
+    ensures least { IfOk result (λ n. 4 ≤ n) }
+    ensures most { IfOk result (λ n. n ≤ 65536) }
+    ensures five { IfOk result (λ n. boxed ≡ true → n ≡ 5) }
+{
+    let (least, most) = if boxed { (5, 5) } else { (4, 65_536) };
+    tokens.whole()?;
+    tokens.whole()?;
+    tokens.whole()?;
+    tokens.natural(0, 0, FigFault::Arrow)?;
+    tokens.natural(0, 0, FigFault::Arrow)?;
+    tokens.natural(least, most, FigFault::Count)
+}
+
+fn points(alloc: Global, tokens: &mut Tokens<'_>, count: u32) -> Result<Vec<Point>, FigFault>
+    ensures read { Recalls (λ v. v.items) result tokens.new (points count tokens.old) }
+    ensures len { IfOk result (λ v. length v.items ≡ count) }
+    ensures within { IfOk result (λ v. All (λ p. IsTrue (is_within_reach p)) v.items) }
+{
+    let mut points = Vec::new(alloc);
+    for _ in 0..count {
+        let point = tokens.point()?;
+        points.push(point)?;
+    }
+    Ok(points)
+}
+
+/// Whether the last point is the first.
+fn is_closed(points: &[Point]) -> bool
+    ensures { result ≡ is_closed points.now }
+{
+    match (points.last(), points.first()) {
+        (Some(last), Some(first)) => is_same(*last, *first),
+        _ => false,
+    }
+}
+
+fn is_same(p: Point, q: Point) -> bool
+    ensures { result ≡ same_point (Some p) (Some q) }
+{
+    p.x == q.x && p.y == q.y
+}
+
+#[tactic(auto, using(crate::proofs::RingLemmas::ring_from), unfolding(crate::specs::Outlines::chain))]
+pub(crate) fn chain(
+    alloc: Global,
+    tokens: &mut Tokens<'_>,
+    boxed: bool,
+) -> Result<Outline, FigFault>
+    ensures { Recalls (λ o. o) result tokens.new (chain boxed tokens.old) }
+{
+    let count = count(tokens, boxed)?;
+    let points = points(alloc, tokens, count)?;
+    if is_closed(&points) {
+        Ok(Outline::Chain(Chain::new(boxed, points)))
+    } else {
+        Err(FigFault::Open)
+    }
+}
