@@ -1,7 +1,8 @@
 //! The lines of colours.
 
-ghost use Rattle.std.specs.Prelude.{◌≡◌, ◌<◌, false, [], ◌++◌, OnOk, flat_map, slice_get, option_map, unwrap_or};
+ghost use Rattle.std.specs.Prelude.{◌≡◌, ◌<◌, false, [], ◌++◌, OnOk, IfSome, All, flat_map, slice_get, option_map, unwrap_or};
 ghost use Rattle.std.specs.Fmt.{digit_glyph};
+ghost use Rattle.gf_fig_write.specs.ColourBytes.{IsByteRgb};
 ghost use Rattle.gf_fig_write.specs.FigText.{hex_byte, colour_line};
 
 use crate::fields::push_number;
@@ -12,7 +13,8 @@ use std::alloc::AllocError;
 /// Appends a line for each colour.
 #[tactic(auto, using(std::proofs::lemmas::Grind::common_steps, crate::proofs::TableLemmas::flat_map_next))]
 pub(crate) fn push_table(out: &mut Vec<u8>, table: &ColourTable) -> Result<(), AllocError>
-    ensures { OnOk result (out.new.items ≡ out.old.items ++ flat_map colour_line table.now) }
+    ensures text { OnOk result (out.new.items ≡ out.old.items ++ flat_map colour_line table.now) }
+    ensures bytes { OnOk result (All (λ e. IsByteRgb e.1) table.now) }
 {
     for i in 0..table.len() {
         push_entry(out, table, i)?;
@@ -22,7 +24,8 @@ pub(crate) fn push_table(out: &mut Vec<u8>, table: &ColourTable) -> Result<(), A
 
 /// Appends the line of the colour at place `i`, if there is one.
 fn push_entry(out: &mut Vec<u8>, table: &ColourTable, i: usize) -> Result<(), AllocError>
-    ensures { OnOk result (out.new.items ≡ out.old.items ++ unwrap_or (option_map colour_line (slice_get table.now i)) []) }
+    ensures text { OnOk result (out.new.items ≡ out.old.items ++ unwrap_or (option_map colour_line (slice_get table.now i)) []) }
+    ensures bytes { IfSome (slice_get table.now i) (λ e. IsByteRgb e.1) }
 {
     match table.at(i) {
         Some(entry) => push_colour_line(out, entry),
@@ -31,7 +34,8 @@ fn push_entry(out: &mut Vec<u8>, table: &ColourTable, i: usize) -> Result<(), Al
 }
 
 fn push_colour_line(out: &mut Vec<u8>, entry: (u16, Rgb)) -> Result<(), AllocError>
-    ensures { OnOk result (out.new.items ≡ out.old.items ++ colour_line entry) }
+    ensures text { OnOk result (out.new.items ≡ out.old.items ++ colour_line entry) }
+    ensures bytes { IsByteRgb entry.1 }
 {
     let (number, colour) = entry;
     out.extend_from_slice(b"0 ")?;

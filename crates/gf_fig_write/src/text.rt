@@ -1,6 +1,9 @@
 //! The FIG text of a drawing.
 
-ghost use Rattle.std.specs.Prelude.{◌≡◌, ◌++◌, IfOk, OnOk, flat_map};
+ghost use Rattle.std.specs.Prelude.{◌≡◌, ◌++◌, All, IfOk, OnOk, flat_map};
+ghost use Rattle.gf_shape.specs.ShapeLaws.{IsLawful};
+ghost use Rattle.gf_drawing.specs.Outlined.{outlined};
+ghost use Rattle.gf_fig_read.specs.FigGrammar.{Reads};
 ghost use Rattle.gf_fig_write.specs.FigText.{fig_text, figure_lines};
 
 use crate::colours::push_table;
@@ -14,7 +17,8 @@ const HEADER: &[u8] = b"#FIG 3.2\nLandscape\nCenter\nMetric\nA4\n100.00\nSingle\
 
 /// The FIG text of a drawing, in time linear in its length.
 pub fn fig_bytes<S: Shape>(alloc: Global, drawing: &Drawing<S>) -> Result<Vec<u8>, OutOfMemory>
-    ensures { IfOk result (λ bytes. bytes.items ≡ fig_text S.outline drawing.now) }
+    ensures text { IfOk result (λ bytes. bytes.items ≡ fig_text S.outline drawing.now) }
+    ensures reads { IfOk result (λ bytes. Reads bytes.items (outlined S.outline drawing.now)) }
 {
     let mut out = Vec::from_slice(alloc, HEADER)?;
     push_table(&mut out, drawing.colours())?;
@@ -28,7 +32,8 @@ fn push_figures<S: Shape>(
     out: &mut Vec<u8>,
     figures: &[Figure<S>],
 ) -> Result<(), OutOfMemory>
-    ensures { OnOk result (out.new.items ≡ out.old.items ++ flat_map (figure_lines S.outline) figures.now) }
+    ensures text { OnOk result (out.new.items ≡ out.old.items ++ flat_map (figure_lines S.outline) figures.now) }
+    ensures lawful { OnOk result (All (λ f. IsLawful (S.outline f.shape)) figures.now) }
 {
     for figure in figures {
         push_figure(alloc, out, figure)?;
@@ -41,7 +46,8 @@ fn push_figure<S: Shape>(
     out: &mut Vec<u8>,
     figure: &Figure<S>,
 ) -> Result<(), OutOfMemory>
-    ensures { OnOk result (out.new.items ≡ out.old.items ++ figure_lines S.outline figure.now) }
+    ensures text { OnOk result (out.new.items ≡ out.old.items ++ figure_lines S.outline figure.now) }
+    ensures lawful { OnOk result (IsLawful (S.outline figure.now.shape)) }
 {
     let outline = figure.shape.outline(alloc)?;
     push_outline(out, figure.colour, figure.depth, &outline)?;

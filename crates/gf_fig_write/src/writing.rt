@@ -4,6 +4,8 @@ ghost use Rattle.std.specs.Prelude.{◌≡◌, IsTrue, OnOk, Err};
 ghost use Rattle.std.specs.Io.KnownBytes.{Appends};
 ghost use Rattle.gf_bytes.specs.Counts.{Rises};
 ghost use Rattle.gf_bytes.specs.Taken.{AppendsFront};
+ghost use Rattle.gf_drawing.specs.Outlined.{outlined};
+ghost use Rattle.gf_fig_read.specs.FigGrammar.{Reads};
 ghost use Rattle.gf_fig_write.specs.FigText.{fig_text};
 
 use crate::fig_bytes;
@@ -20,6 +22,7 @@ pub fn write_fig<S: Shape, W: Sink>(
     sink: &mut W,
 ) -> Result<(), WriteError>
     ensures whole { OnOk result (Appends (W.taken sink.old) (W.taken sink.new) (fig_text S.outline drawing.now)) }
+    ensures denotes { OnOk result (Reads (fig_text S.outline drawing.now) (outlined S.outline drawing.now)) }
     ensures flushed { OnOk result (IsTrue (W.flushed sink.new)) }
     ensures unfailed { OnOk result (W.failures sink.new ≡ W.failures sink.old) }
     ensures memory { result ≡ Err WriteError.OutOfMemory → sink.new ≡ sink.old }
