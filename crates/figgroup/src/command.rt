@@ -1,7 +1,7 @@
 //! The command line.
 
 ghost use Rattle.std.specs.Prelude.{◌≡◌, ◌≤◌, ◌⊎◌, IfSome, IsTrue};
-ghost use Rattle.gf_studio.specs.FigRun.{Exports, ExportsFront};
+ghost use Rattle.gf_studio.specs.FigRun.{Exports, WritesFront};
 
 use clap::error::ErrorKind;
 use clap::{Command, Error};
@@ -29,7 +29,7 @@ pub fn command<R: Source, W: Sink, E: Sink>(
     ensures done { result ≡ 0 → (source.new ≡ source.old) ⊎ IfSome (R.left source.old) (λ bytes. Exports bytes (W.taken output.old) (W.taken output.new)) }
     ensures flushed { result ≡ 0 → (source.new ≡ source.old) ⊎ IsTrue (W.flushed output.new) }
     // A refusal leaves the output as it was, or with a front of the text.
-    ensures refused { result ≡ 1 → (output.new ≡ output.old) ⊎ IfSome (R.left source.old) (λ bytes. ExportsFront bytes (W.taken output.old) (W.taken output.new)) }
+    ensures refused { result ≡ 1 → (output.new ≡ output.old) ⊎ IfSome (R.left source.old) (λ bytes. WritesFront bytes (W.taken output.old) (W.taken output.new)) }
     ensures mistake { result ≡ 2 → (source.new ≡ source.old) × (output.new ≡ output.old) }
 {
     match parse(alloc, words) {

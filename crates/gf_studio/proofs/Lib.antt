@@ -2,3 +2,4 @@ pub mod ReadingLemmas
 pub mod TakingLemmas
 pub mod SameLemmas
 pub mod RefusalLemmas
+pub mod ExportLemmas

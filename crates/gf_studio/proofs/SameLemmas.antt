@@ -8,7 +8,7 @@ use Rattle.gf_causal.specs.DeliveredPart.{HaveSame, IsDelivered, IsDeliveredPart
 use Rattle.gf_drawing.specs.CanonicalDrawing.{canonical_drawing}
 use Rattle.gf_drawing.specs.DrawingState.{DrawingState}
 use Rattle.gf_fig_write.specs.FigText.{fig_text}
-use Rattle.gf_studio.specs.FigRun.{Denotes, Draws, Exports, HaveSameOperations, denotes_op}
+use Rattle.gf_studio.specs.FigRun.{Denotes, Draws, HaveSameOperations, Writes, denotes_op}
 use Rattle.gf_versions.proofs.SameHistoryLemmas.{ranked_alike}
 
 -- lines denote one list of operations
@@ -78,7 +78,7 @@ module _ (bytes others : List ℕ) (h k : List Op) (d : Denotes bytes h) (e : De
       x.canonical.drawing ∙ (ap canonical_drawing items ∙ sym y.canonical.drawing)
 
   -- and one text
-  pub histories_write : (taken text other : List ℕ) → Exports bytes (Some taken) (Some text) → Exports others (Some taken) (Some other) → text ≡ other
+  pub histories_write : (taken text other : List ℕ) → Writes bytes (Some taken) (Some text) → Writes others (Some taken) (Some other) → text ≡ other
   histories_write taken text other x y =
       x.written ∙ (ap (λ drawing. taken ++ fig_text any_outline drawing) (histories_draw x.drawing y.drawing x.drawn y.drawn) ∙ sym y.written)
 
@@ -87,7 +87,7 @@ pub draw_alike : (bytes others : List ℕ) → HaveSameOperations bytes others �
 draw_alike bytes others have drawing other d e =
     histories_draw bytes others d.history d.history d.denoted (denote_alike bytes others have d.history d.denoted) (λ a. (λ i. i, λ i. i)) drawing other d e
 
-pub write_alike : (bytes others : List ℕ) → HaveSameOperations bytes others → (taken text other : List ℕ) → Exports bytes (Some taken) (Some text) → Exports others (Some taken) (Some other) → text ≡ other
+pub write_alike : (bytes others : List ℕ) → HaveSameOperations bytes others → (taken text other : List ℕ) → Writes bytes (Some taken) (Some text) → Writes others (Some taken) (Some other) → text ≡ other
 write_alike bytes others have taken text other d e =
     let h = d.drawn.history in
     histories_write bytes others h h d.drawn.denoted (denote_alike bytes others have h d.drawn.denoted) (λ a. (λ i. i, λ i. i)) taken text other d e

@@ -19,6 +19,8 @@ use Rattle.gf_drawing.specs.CanonicalDrawing.{IsCanonical, Paints, colours_of}
 use Rattle.gf_drawing.specs.DrawingState.{DrawingState}
 use Rattle.gf_drawing.specs.Outlined.{PaintsAsFig, outlined}
 use Rattle.gf_bytes.specs.Taken.{AppendsFront}
+use Rattle.gf_fig_read.specs.FigGrammar.{Reads}
+use Rattle.gf_fig_read.specs.Objects.{Drawn}
 use Rattle.gf_fig_write.specs.FigText.{fig_text}
 use Rattle.gf_json.specs.declared.line_error.LineError.TheVariants as line
 use Rattle.gf_json.specs.LineValues.{Got}
@@ -111,14 +113,28 @@ pub record Draws (bytes : List ℕ) (drawing : DrawingState AnyShape) : Type 0 w
   pub colours : Paints history drawing
   pub figures : PaintsAsFig history (outlined any_outline drawing)
 
--- known bytes grow from old to new by the FIG text of what the bytes draw
+-- the text reads as a drawing, and each drawing that it reads as has at every point of the grid the colour that h means there
+pub record Shows (text : List ℕ) (h : List Op) : Type 0 where
+  pub drawing : Drawn
+  pub reads : Reads text drawing
+  pub colours : (d : Drawn) → Reads text d → PaintsAsFig h d
+
+-- known bytes grow from old to new by a text that shows the history that the bytes denote
 pub record Exports (bytes : List ℕ) (old new : Option (List ℕ)) : Type 0 where
+  pub history : List Op
+  pub denoted : Denotes bytes history
+  pub text : List ℕ
+  pub written : Appends old new text
+  pub shown : Shows text history
+
+-- known bytes grow from old to new by the one FIG text of what the bytes draw
+pub record Writes (bytes : List ℕ) (old new : Option (List ℕ)) : Type 0 where
   pub drawing : DrawingState AnyShape
   pub drawn : Draws bytes drawing
   pub written : Appends old new (fig_text any_outline drawing)
 
 -- known bytes grow from old to new by a front of that text, which may be none or all of it
-pub record ExportsFront (bytes : List ℕ) (old new : Option (List ℕ)) : Type 0 where
+pub record WritesFront (bytes : List ℕ) (old new : Option (List ℕ)) : Type 0 where
   pub drawing : DrawingState AnyShape
   pub drawn : Draws bytes drawing
   pub written : AppendsFront old new (fig_text any_outline drawing)

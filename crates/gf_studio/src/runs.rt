@@ -6,7 +6,7 @@ ghost use Rattle.gf_ops.specs.declared.op.OpId.{OpId};
 ghost use Rattle.gf_studio.specs.declared.studio_error.LineCause.{LineCause};
 ghost use Rattle.gf_ops.specs.declared.faults.OpFault.{OpFault};
 ghost use Rattle.gf_drawing.specs.declared.compiling.CompileFault.{CompileFault};
-ghost use Rattle.gf_studio.specs.FigRun.{Draws, Exports, ExportsFront, HasFault, Drops, RefusesCompiling};
+ghost use Rattle.gf_studio.specs.FigRun.{Draws, Exports, Writes, WritesFront, HasFault, Drops, RefusesCompiling};
 ghost use Rattle.gf_studio.specs.LineSteps.{RefusesDrawing};
 ghost use Rattle.gf_bytes.specs.Reads.{CamePast, ConsumesAtMost, ConsumesExactly};
 
@@ -26,9 +26,11 @@ pub fn fig_run<R: Source, W: Sink>(
     source: &mut R,
     sink: &mut W,
 ) -> Result<(), StudioError>
-    // What is written is the FIG text of the canonical drawing of the history that the bytes denote,
-    // and that drawing has at every point the colour that the history means there.
+    // What is written reads, by the FIG grammar, as a drawing that has at every point of the grid the
+    // colour that the history means there which the bytes denote; to the byte it is the one text of
+    // that history's canonical drawing.
     ensures exports { OnOk result (IfSome (R.left source.old) (λ bytes. Exports bytes (W.taken sink.old) (W.taken sink.new))) }
+    ensures text { OnOk result (IfSome (R.left source.old) (λ bytes. Writes bytes (W.taken sink.old) (W.taken sink.new))) }
     ensures flushed { OnOk result (IsTrue (W.flushed sink.new)) }
 
     // The input was not read: the source failed, exactly once then and else not, or one byte past the
@@ -48,7 +50,7 @@ pub fn fig_run<R: Source, W: Sink>(
     ensures compile { (fault : CompileFault) → result ≡ Err (StudioError.Compile fault) → IfSome (R.left source.old) (λ bytes. RefusesCompiling bytes fault) }
 
     // A front of the text is written at most, and that only where the sink failed.
-    ensures front { result ≡ Err StudioError.WriteFailed → IfSome (R.left source.old) (λ bytes. ExportsFront bytes (W.taken sink.old) (W.taken sink.new)) }
+    ensures front { result ≡ Err StudioError.WriteFailed → IfSome (R.left source.old) (λ bytes. WritesFront bytes (W.taken sink.old) (W.taken sink.new)) }
     ensures failed { result ≡ Err StudioError.WriteFailed → Rises (W.failures sink.old) (W.failures sink.new) }
     ensures unwritten { IfErr result (λ e. (sink.new ≡ sink.old) ⊎ (e ≡ StudioError.WriteFailed)) }
 
