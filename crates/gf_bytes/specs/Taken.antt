@@ -18,7 +18,7 @@ Unflushes old new result = MatchResult result (λ n. UnflushedBy n old new) (λ 
 abbrev pub Flushes : {T E : Type 0} → Bool → Bool → Result T E → Type 0
 Flushes old new result = MatchResult result (λ _. new ≡ true) (λ _. new ≡ old)
 
--- a front of bytes that is not all of them was taken: known bytes grow by it from old to new, and whether they are flushed goes from was to is
+-- not all of the bytes were taken, but a front of them: known bytes grow by it from old to new, and whether that is flushed goes from was to is
 pub record TakesPart (bytes : List ℕ) (old new : Option (List ℕ)) (was is : Bool) : Type 0 where
   pub count : ℕ
   pub fewer : count < length bytes

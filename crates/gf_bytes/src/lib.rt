@@ -1,11 +1,12 @@
-//! Streams of bytes: where bytes go and where they come from, each as a trait whose failures are
-//! told, and how all of the bytes get there.
+//! Streams of bytes: where bytes go and where they come from, as traits that tell each failure, and
+//! the lines of a text.
 //!
-//! - [`Sink`], [`write_all`], [`write_whole`]: where bytes go, how all of them get there, and are
-//!   flushed; [`Out`] is a sink over a writer of std, [`Tape`] one in memory.
+//! - [`Sink`]: where bytes go; [`Out`] makes a sink of a writer of std, [`Tape`] is one in memory.
+//! - [`write_all`], [`write_whole`]: the write of all of some bytes, and that with a flush behind it.
 //! - [`SinkFault`], [`WriteError`]: why a write was refused.
-//! - [`Source`], [`read_input`]: where bytes come from, and how all of them are read, up to
-//!   [`MOST_INPUT_BYTES`]; [`In`] is a source over a reader of std, [`Reel`] one in memory.
+//! - [`Source`]: where bytes come from; [`In`] makes a source of a reader of std, [`Reel`] is one in
+//!   memory.
+//! - [`read_input`]: the read of all bytes of a source, which are at most [`MOST_INPUT_BYTES`].
 //! - [`SourceFault`], [`InputError`]: why a read was refused.
 //! - [`TextLines`]: the lines of a text with their numbers.
 #![tactic(auto)]
