@@ -7,3 +7,4 @@ pub mod WrittenLines
 pub mod TextLines
 pub mod Drawings
 pub mod FigTexts
+pub mod FigReading
