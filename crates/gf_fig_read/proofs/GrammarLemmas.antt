@@ -9,6 +9,7 @@ use Rattle.gf_fig_read.specs.Fields.{Read, natural}
 use Rattle.gf_fig_read.specs.Objects.{Drawn, object}
 use Rattle.gf_fig_read.specs.FigGrammar.{Leads, none, more, nothing, Reads, StopsAt, Fails}
 use Rattle.gf_fig_read.specs.Computed.{Outcome, ComesTo, next_number, objects_of, outcome_of_tokens, outcome_of}
+use Rattle.gf_fig_read.proofs.FaultLemmas.{fault_or}
 use Rattle.gf_fig_read.proofs.ObjectLemmas.{leads_on, object_takes}
 
 -- ---- to one
@@ -24,10 +25,6 @@ drawn d (Err f) = d
 abbrev rest : Read Drawn → List Token
 rest (Ok x) = x.1
 rest (Err f) = []
-
-abbrev fault_or : {A : Type 0} → FigFault → Result A FigFault → FigFault
-fault_or f (Ok a) = f
-fault_or f (Err g) = g
 
 abbrev ok_or : {A : Type 0} → A → Result A FigFault → A
 ok_or a (Ok b) = b

@@ -4,4 +4,5 @@ pub mod LayoutLemmas
 pub mod RingLemmas
 pub mod NumberLemmas
 pub mod ObjectLemmas
+pub mod FaultLemmas
 pub mod GrammarLemmas

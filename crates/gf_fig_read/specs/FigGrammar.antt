@@ -1,8 +1,9 @@
 -- The FIG grammar: which drawing a text reads as, and with which fault of which object it fails (Xfig, FIG Format 3.2); the profile is this project's: filled closed chains and circles without outline or arrows.
-use Rattle.std.specs.Prelude.{◌≡◌, ◌≢◌, ◌⊎◌, ℕ, ◌+◌, List, [], length, Ok, Err}
+use Rattle.std.specs.Prelude.{◌≡◌, ◌≢◌, ◌⊎◌, ℕ, ◌+◌, Bool, true, false, List, [], length, Ok, Err}
 use Rattle.gf_fig_read.specs.Layout.{Token, object_tokens}
 use Rattle.gf_fig_read.specs.Objects.{Drawn, object}
 use Rattle.gf_fig_read.specs.declared.faults.FigFault.{FigFault}
+use Rattle.gf_fig_read.specs.declared.faults.FigFault.TheVariants as fault
 
 -- the drawing before the first object: no colours, no figures
 abbrev pub nothing : Drawn
@@ -27,6 +28,13 @@ pub record StopsAt (all : List Token) (f : FigFault) (n : ℕ) : Type 0 where
   pub further : left ≢ []
   pub wrong : object before left ≡ Err f
   pub number : n ≡ length before.table + length before.figures + 1
+
+-- f is a fault before the objects
+abbrev pub is_of_front : FigFault → Bool
+is_of_front fault.Version = true
+is_of_front fault.Header = true
+is_of_front fault.Resolution = true
+is_of_front f = false
 
 -- the text reads as no drawing: f is its first fault, and n the number of its object, 0 for a fault before the objects
 abbrev pub Fails : List ℕ → FigFault → ℕ → Type 0

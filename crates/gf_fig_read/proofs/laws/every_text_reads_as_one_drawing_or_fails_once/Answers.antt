@@ -1,4 +1,5 @@
 use Rattle.gf_fig_read.proofs.GrammarLemmas.{either, one_drawing, one_fault, not_both}
+use Rattle.gf_fig_read.proofs.FaultLemmas.{front_has_no_object, memory_is_no_fault}
 use Rattle.gf_fig_read.proofs.laws.every_text_reads_as_one_drawing_or_fails_once.Goals as goal
 
 pub returns-clause-either : goal.returns-clause-either
@@ -12,3 +13,9 @@ returns-clause-one_fault c = one_fault
 
 pub returns-clause-not_both : goal.returns-clause-not_both
 returns-clause-not_both c = not_both
+
+pub returns-clause-front : goal.returns-clause-front
+returns-clause-front c = front_has_no_object
+
+pub returns-clause-memory : goal.returns-clause-memory
+returns-clause-memory c = memory_is_no_fault
