@@ -1,19 +1,29 @@
 #!/bin/sh
-# Runs each example and compares its output with what is expected of it.
+# Runs each example and compares its output with what is expected of it: the lines by figgroup, and
+# each FIG text by bench_fig, which reads it and writes what it read.
 set -eu
 examples=$(cd "$(dirname "$0")" && pwd)
+reader=$examples/../crates/bench_fig/out/bench_fig
 output=$(mktemp)
 trap 'rm -f "$output"' EXIT
 
 passed=0
 failed=0
 
-# Runs the lines of these files, and compares with what is expected beside them.
+drawn() {
+    cat "$@" | "$examples/../figgroup" fig
+}
+
+again() {
+    "$reader" again < "$1"
+}
+
+# Compares what the words behind the first two put out with what is expected of it.
 compare() {
     name=$1
     expected=$2
     shift 2
-    if cat "$@" | "$examples/../figgroup" fig > "$output" && cmp "$output" "$expected"; then
+    if "$@" > "$output" && cmp "$output" "$expected"; then
         echo "$name: as expected"
         passed=$((passed + 1))
     else
@@ -22,17 +32,32 @@ compare() {
     fi
 }
 
-for example in "$examples"/*/; do
-    example=${example%/}
-    name=$(basename "$example")
-    set -- "$example"/*.jsonl
-    compare "$name" "$example/expected.fig" "$@"
+# The lines of all files.
+compare_lines() {
+    compare "$(basename "$example")" "$example/expected.fig" drawn "$@"
     # A file for each site: the lines of the others wait for the first site's.
     if [ $# -gt 1 ]; then
         first=$1
         shift
-        compare "$name, first site last" "$example/expected.fig" "$@" "$first"
+        compare "$(basename "$example"), first site last" "$example/expected.fig" drawn "$@" "$first"
     fi
+}
+
+# Proved and built where it is missing or older than its sources.
+if ! said=$(cd "$examples/../crates/bench_fig" && rt run -- scan 2>&1 < /dev/null); then
+    printf '%s\nbench_fig: not built\n' "$said" >&2
+    failed=$((failed + 1))
+fi
+
+for example in "$examples"/*/; do
+    example=${example%/}
+    set -- "$example"/*.jsonl
+    if [ -e "$1" ]; then
+        compare_lines "$@"
+    fi
+    for text in "$example"/*.fig; do
+        compare "$(basename "$example"), $(basename "$text") again" "$example/expected.fig" again "$text"
+    done
 done
 echo "$passed passed, $failed failed"
 [ "$failed" = 0 ]
