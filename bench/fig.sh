@@ -4,20 +4,16 @@
 # input that wants more memory than there is.
 set -euo pipefail
 root=$(cd "$(dirname "$0")/.." && pwd)
+source "$root/bench/measures.sh"
 program=$root/crates/figgroup/out/figgroup
 baseline=$root/crates/bench_lines/out/bench_lines
 folder=$(mktemp -d)
 trap 'rm -rf "$folder"' EXIT
 
 LONGEST_SECONDS=30
-WITHOUT_REP=glibc.cpu.x86_rep_stosb_threshold=1073741824:glibc.cpu.x86_rep_movsb_threshold=1073741824
-declare -A seconds kib count
 
 "$root/figgroup" --version > /dev/null
-if ! built=$(cd "$root/crates/bench_lines" && rt run 2>&1 < /dev/null); then
-    printf '%s\n' "$built" >&2
-    exit 1
-fi
+build bench_lines
 python3 "$root/bench/fig_inputs.py" "$folder"
 
 # Runs a program on an input, and notes its wall time in seconds and its greatest memory in KiB.
@@ -25,19 +21,6 @@ run() {
     local name=$1 input=$folder/$2.jsonl
     shift 2
     /usr/bin/time -o "$folder/$name.times" -a -f '%e %M' "$@" < "$input" > "$folder/$name.output"
-}
-
-# The instructions, or 0 where valgrind is not there. It counts a `rep stosb` as one for each byte, so
-# the C library is told not to use it.
-instructions() {
-    local input=$1
-    shift
-    if command -v valgrind > /dev/null; then
-        GLIBC_TUNABLES=$WITHOUT_REP valgrind --tool=callgrind --callgrind-out-file=/dev/null "$@" 2>&1 > /dev/null < "$input" |
-            sed -n 's/.*Collected : //p'
-    else
-        echo 0
-    fi
 }
 
 # Prints the figures of the fastest of the runs of a name, and keeps them for the ratios.
@@ -56,19 +39,6 @@ each() {
         "$1" "$name" "$name" "$program" fig
     done
     "$1" baseline causal "$baseline"
-}
-
-# Prints how two runs compare, and what is wanted.
-compare() {
-    printf '%s to %s: %s by time' "$1" "$2" "$(quotient "${seconds[$1]}" "${seconds[$2]}")"
-    if [ "${count[$2]}" != 0 ]; then
-        printf ', %s by instructions' "$(quotient "${count[$1]}" "${count[$2]}")"
-    fi
-    printf ' (goal %s)\n' "$3"
-}
-
-quotient() {
-    awk -v a="$1" -v b="$2" 'BEGIN { printf b == 0 ? "?" : "%.2f", b == 0 ? 0 : a / b }'
 }
 
 for _ in 1 2 3; do
