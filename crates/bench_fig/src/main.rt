@@ -4,7 +4,7 @@
 use gf_bytes::{In, InputError, Out, Sink, Source, WriteError, read_input, write_whole};
 use gf_fig_read::{FigError, read_fig};
 use gf_fig_write::write_fig;
-use std::alloc::Global;
+use std::alloc::{AllocError, Global};
 use std::process::ExitCode;
 use thiserror::Error;
 
@@ -66,8 +66,7 @@ fn count_tokens(text: &[u8]) -> u64 {
 fn scan<R: Source, W: Sink>(alloc: Global, source: &mut R, output: &mut W) -> Result<(), Fault> {
     let text = read_input(alloc, source)?;
     let count = count_tokens(&text);
-    let told = format!(in alloc; "{count} tokens\n").map_err(WriteError::from)?;
-    write_whole(output, told.as_bytes()).map_err(WriteError::from)?;
+    tell(output, format!(in alloc; "{count} tokens\n"))?;
     Ok(())
 }
 
@@ -76,10 +75,10 @@ fn read<R: Source, W: Sink>(alloc: Global, source: &mut R, output: &mut W) -> Re
     let text = read_input(alloc, source)?;
     let drawing = read_fig(alloc, &text)?;
     let (colours, figures) = (drawing.colours().len(), drawing.figures().len());
-    let told = format!(in alloc; "{colours} colours, {figures} figures\n").map_err(
-        WriteError::from,
+    tell(
+        output,
+        format!(in alloc; "{colours} colours, {figures} figures\n"),
     )?;
-    write_whole(output, told.as_bytes()).map_err(WriteError::from)?;
     Ok(())
 }
 
@@ -88,6 +87,13 @@ fn again<R: Source, W: Sink>(alloc: Global, source: &mut R, output: &mut W) -> R
     let text = read_input(alloc, source)?;
     let drawing = read_fig(alloc, &text)?;
     write_fig(alloc, &drawing, output)?;
+    Ok(())
+}
+
+/// Writes a line, if there was memory for it.
+fn tell<W: Sink>(output: &mut W, line: Result<String, AllocError>) -> Result<(), WriteError> {
+    let line = line?;
+    write_whole(output, line.as_bytes())?;
     Ok(())
 }
 
