@@ -20,8 +20,10 @@ instructions() {
     local input=$1
     shift
     if command -v valgrind > /dev/null; then
-        { GLIBC_TUNABLES=$WITHOUT_REP valgrind --tool=callgrind --callgrind-out-file=/dev/null "$@" 2>&1 > /dev/null < "$input" || [ $? = 1 ]; } |
-            sed -n 's/.*Collected : //p'
+        {
+            GLIBC_TUNABLES=$WITHOUT_REP valgrind --tool=callgrind --callgrind-out-file=/dev/null "$@" \
+                2>&1 > /dev/null < "$input" || [ $? = 1 ]
+        } | sed -n 's/.*Collected : //p'
     else
         echo 0
     fi
