@@ -4,70 +4,63 @@ ghost use Rattle.std.specs.Prelude.{◌≡◌};
 ghost use Rattle.gf_fig_read.specs.declared.faults.FigFault.TheVariants.{OutOfMemory};
 
 use std::alloc::{AllocError, AllocFailed};
+use std::fmt;
 use thiserror::Error;
 
 /// The first fault of a FIG text, its fields taken in their order. As text each is its name.
-#[derive(Clone, Copy, Debug, PartialEq, Eq, Error)]
+#[derive(Clone, Copy, Debug, PartialEq, Eq)]
 pub enum FigFault {
     /// The text does not begin with `#FIG 3.2`.
-    #[error("Version")]
     Version,
     /// Fewer than seven lines that are no comments follow the first line.
-    #[error("Header")]
     Header,
     /// The first two tokens behind the header are not `1200` and `2`.
-    #[error("Resolution")]
     Resolution,
     /// A token has not the form of its field.
-    #[error("Token")]
     Token,
     /// The text ends within an object.
-    #[error("Cut")]
     Cut,
     /// An object code is not 0, 1 or 2: a colour, an ellipse or a polyline.
-    #[error("Object")]
     Object,
     /// The sub type of a polyline is not 2 or 3, a box or a polygon, or that of an ellipse is not 3
     /// or 4, a circle.
-    #[error("SubType")]
     SubType,
     /// The thickness of a figure's outline is not 0.
-    #[error("Outline")]
     Outline,
     /// The area fill of a figure is not 20, its full colour.
-    #[error("Fill")]
     Fill,
     /// A polyline has an arrow.
-    #[error("Arrow")]
     Arrow,
     /// The count of a box's points is not 5, or that of a polygon's not 4 to 65,536.
-    #[error("Count")]
     Count,
     /// The last point of a polyline is not its first.
-    #[error("Open")]
     Open,
     /// The first radius of an ellipse is not 1 to 10,000,000, or the second is not the first.
-    #[error("Radius")]
     Radius,
     /// A coordinate is not within 10,000,000 of 0, or the number of a colour is not 32 to 543.
-    #[error("Range")]
     Range,
     /// A colour stands behind a figure.
-    #[error("LateColour")]
     LateColour,
     /// A colour has the number of one before it.
-    #[error("ColourTwice")]
     ColourTwice,
     /// A figure is filled in a colour that is neither a standard one, 0 to 7, nor one before it.
-    #[error("NoColour")]
     NoColour,
     /// A depth is not 0 to 999.
-    #[error("Depth")]
     Depth,
     /// Memory was refused; of the text it says nothing.
-    #[error("out of memory")]
     OutOfMemory,
 }
+
+impl fmt::Display for FigFault {
+    fn fmt<W: fmt::Write>(&self, f: &mut fmt::Formatter<W>) -> fmt::Result {
+        match self {
+            FigFault::OutOfMemory => f.write_str("out of memory"),
+            named => fmt::Debug::fmt(named, f),
+        }
+    }
+}
+
+impl std::error::Error for FigFault {}
 
 impl From<AllocError> for FigFault {
     ghost from_gives = { λ _ e. e ≡ OutOfMemory };
