@@ -2,107 +2,50 @@
 
 use crate::command;
 use crate::command::refuse_words;
-use example_parts::{EMPTY_FIG, RED_BOX, RED_BOX_FIG};
+use example_parts::RED_BOX;
 use gf_bytes::{MOST_INPUT_BYTES, Reel, Tape};
 use std::alloc::{AllocError, Global};
 use std::io;
 use std::test::Fail;
 
-const RED_OVER_BLUE: &str =
-    "{\"colour\":\"ff0000\",\"id\":[1,1],\"kind\":\"box\",\"layer\":5,\"op\":\"create\",\"past\":[0,0,0,0,0,0,0,0],\"place\":[0,0],\"shown\":true,\"size\":[10,10]}\n{\"colour\":\"0000ff\",\"id\":[1,2],\"kind\":\"box\",\"layer\":0,\"op\":\"create\",\"past\":[1,0,0,0,0,0,0,0],\"place\":[0,0],\"shown\":true,\"size\":[10,10]}\n";
-
-// The blue box is another site's, which didn't know the red one.
-const RED_OVER_BLUE_OF_TWO_SITES: &str =
-    "{\"colour\":\"0000ff\",\"id\":[2,1],\"kind\":\"box\",\"layer\":0,\"op\":\"create\",\"past\":[0,0,0,0,0,0,0,0],\"place\":[0,0],\"shown\":true,\"size\":[10,10]}\n{\"colour\":\"ff0000\",\"id\":[1,1],\"kind\":\"box\",\"layer\":5,\"op\":\"create\",\"past\":[0,0,0,0,0,0,0,0],\"place\":[0,0],\"shown\":true,\"size\":[10,10]}\n";
-
-// The keys in another order, upper-case digits, blank lines, CRLF, and no last newline.
-const RED_OVER_BLUE_OTHERWISE: &str =
-    "\r\n\n{\"size\":[10,10],\"shown\":true,\"place\":[0,0],\"past\":[0,0,0,0,0,0,0,0],\"op\":\"create\",\"layer\":5,\"kind\":\"box\",\"id\":[1,1],\"colour\":\"FF0000\"}\r\n\r\n  \t\n { \"id\" : [1, 2], \"op\" : \"create\", \"kind\" : \"box\", \"past\" : [1,0,0,0,0,0,0,0], \"place\" : [0,0], \"size\" : [10,10], \"shown\" : true, \"layer\" : 0, \"colour\" : \"0000Ff\" }";
-
-const RED_OVER_BLUE_FIG: &str =
-    "#FIG 3.2\nLandscape\nCenter\nMetric\nA4\n100.00\nSingle\n-2\n1200 2\n0 32 #ff0000\n0 33 #0000ff\n2 2 0 0 32 32 0 -1 20 0.000 0 0 -1 0 0 5\n\t 0 0 10 0 10 10 0 10 0 0\n2 2 0 0 33 33 1 -1 20 0.000 0 0 -1 0 0 5\n\t 0 0 10 0 10 10 0 10 0 0\n";
-
-const UNIT_CIRCLE: &str =
-    "{\"colour\":\"00ff00\",\"id\":[1,1],\"kind\":\"circle\",\"layer\":0,\"op\":\"create\",\"past\":[0,0,0,0,0,0,0,0],\"place\":[0,0],\"shown\":true,\"size\":[1,1]}\n";
-
-const UNIT_CIRCLE_FIG: &str =
-    "#FIG 3.2\nLandscape\nCenter\nMetric\nA4\n100.00\nSingle\n-2\n1200 2\n0 32 #00ff00\n1 3 0 0 32 32 0 -1 20 0.000 1 0.0000 0 0 1 1 0 0 1 0\n";
-
-const FAR_TRIANGLE: &str =
-    "{\"colour\":\"ff0000\",\"id\":[1,1],\"kind\":\"polygon\",\"layer\":0,\"op\":\"create\",\"past\":[0,0,0,0,0,0,0,0],\"place\":[-1000000,-1000000],\"points\":[[0,0],[-1000000,0],[0,-1000000]],\"shown\":true}\n";
-
-const FAR_TRIANGLE_FIG: &str =
-    "#FIG 3.2\nLandscape\nCenter\nMetric\nA4\n100.00\nSingle\n-2\n1200 2\n0 32 #ff0000\n2 3 0 0 32 32 0 -1 20 0.000 0 0 -1 0 0 4\n\t -1000000 -1000000 -2000000 -1000000 -1000000 -2000000 -1000000 -1000000\n";
-
-fn words(alloc: Global, texts: &[&str]) -> Result<Vec<String>, AllocError> {
+fn words(alloc: Global, text: &str) -> Result<Vec<String>, AllocError> {
     let mut words = Vec::new(alloc);
-    for text in texts {
-        words.push(String::from_str(alloc, text)?)?;
+    for word in text.split_whitespace() {
+        words.push(String::from_str(alloc, word)?)?;
     }
     Ok(words)
 }
 
-/// A run over this source: its status, its output, and its faults.
-pub(crate) fn run(
+/// A run over this source, with so much room for its output and its faults: the status, the output,
+/// a line of dashes, and the faults.
+fn run(
     rt: &HostRuntime,
-    texts: &[&str],
+    text: &str,
     source: &mut Reel,
-) -> Result<(u8, Tape, Tape), Fail> {
+    room: (Option<u64>, Option<u64>),
+) -> Result<String, Fail> {
     let alloc = rt.alloc();
-    let words = words(alloc, texts)?;
-    let mut output = Tape::new(alloc, None);
-    let mut faults = Tape::new(alloc, None);
+    let words = words(alloc, text)?;
+    let mut output = Tape::new(alloc, room.0);
+    let mut faults = Tape::new(alloc, room.1);
     let status = command(rt, alloc, &words, source, &mut output, &mut faults);
-    Ok((status, output, faults))
+    told(alloc, status, output.bytes(), faults.bytes())
 }
 
-#[test]
-fn lines_become_fig_text(rt: HostRuntime) -> Result<(), Fail> {
-    let rows = [
-        ("", EMPTY_FIG),
-        ("\n \r\n", EMPTY_FIG),
-        (RED_BOX, RED_BOX_FIG),
-        (RED_OVER_BLUE, RED_OVER_BLUE_FIG),
-        (RED_OVER_BLUE_OTHERWISE, RED_OVER_BLUE_FIG),
-        (RED_OVER_BLUE_OF_TWO_SITES, RED_OVER_BLUE_FIG),
-        (UNIT_CIRCLE, UNIT_CIRCLE_FIG),
-        (FAR_TRIANGLE, FAR_TRIANGLE_FIG),
-    ];
-    for (row, (input, want)) in rows.iter().enumerate() {
-        let mut source = Reel::new(input.as_bytes(), None);
-        let (status, output, faults) = run(&rt, &["figgroup", "fig"], &mut source)?;
-        assert_eq!(rt; status, 0, "row {row}");
-        assert_eq!(rt; output.bytes(), want.as_bytes(), "row {row}");
-        assert!(rt; faults.bytes().is_empty(), "row {row}");
-    }
-    assert_eq!(rt; (EMPTY_FIG.len(), RED_BOX_FIG.len()), (60, 156));
-    Ok(())
+fn told(alloc: Global, status: u8, output: &[u8], faults: &[u8]) -> Result<String, Fail> {
+    let output = std::str::from_utf8(output)?;
+    let faults = std::str::from_utf8(faults)?;
+    Ok(format!(in alloc; "{status}\n{output}--\n{faults}")?)
 }
 
-#[test]
-fn refusals_are_told(rt: HostRuntime) -> Result<(), Fail> {
-    let range = RED_BOX.replace(rt.alloc(), ":0,", ":10000,")?;
-    let bad_line = format!(in rt.alloc(); "{RED_BOX}\n\n{{\n")?;
-    let other_kind = RED_BOX.replace(rt.alloc(), "box", "star")?;
-    let unequal = RED_BOX.replace(rt.alloc(), "box", "circle")?;
-    let two_points = FAR_TRIANGLE.replace(rt.alloc(), ",[0,-1000000]", "")?;
-    let rows = [
-        ("{", "figgroup: line 1: Json\n"),
-        (bad_line.as_str(), "figgroup: line 3: Json\n"),
-        ("{}", "figgroup: line 1: Field\n"),
-        (other_kind.as_str(), "figgroup: line 1: Field\n"),
-        (unequal.as_str(), "figgroup: line 1: Field\n"),
-        (two_points.as_str(), "figgroup: line 1: Range\n"),
-        (range.as_str(), "figgroup: line 1: Range\n"),
-    ];
-    for (input, want) in rows {
-        let mut source = Reel::new(input.as_bytes(), None);
-        let (status, output, faults) = run(&rt, &["figgroup", "fig"], &mut source)?;
-        assert_eq!(rt; status, 1, "{want}");
-        assert!(rt; output.bytes().is_empty(), "{want}");
-        assert_eq!(rt; faults.bytes(), want.as_bytes());
-    }
-    Ok(())
+/// A run of `figgroup fig` over this text, with room for all.
+pub(crate) fn fig(rt: &HostRuntime, input: &str) -> Result<String, Fail> {
+    run(
+        rt,
+        "figgroup fig",
+        &mut Reel::new(input.as_bytes(), None),
+        (None, None),
+    )
 }
 
 /// Lines of so many boxes, the n-th at (n, 0), of so many colours in turn.
@@ -119,22 +62,26 @@ fn boxes(alloc: Global, count: u32, colours: u32) -> Result<String, AllocError> 
     Ok(text)
 }
 
+const TOO_MANY_VERSIONS: &str = "1\n--\nfiggroup: export refused: TooManyVersions\n";
+
+const TOO_MANY_COLOURS: &str = "1\n--\nfiggroup: export refused: TooManyColours\n";
+
+/// A run over lines of so many boxes, of so many colours in turn, and more.
+fn fig_of_boxes(rt: &HostRuntime, count: u32, colours: u32, more: &str) -> Result<String, Fail> {
+    let mut input = boxes(rt.alloc(), count, colours)?;
+    input.push_str(more)?;
+    fig(rt, input.as_str())
+}
+
 #[test]
 fn the_limits_of_a_drawing_are_told(rt: HostRuntime) -> Result<(), Fail> {
-    let too_many_versions = "figgroup: export refused: TooManyVersions\n";
-    let too_many_colours = "figgroup: export refused: TooManyColours\n";
-    let rows = [
-        (1_001, 1, too_many_versions),
-        (1_001, 513, too_many_versions),
-        (513, 513, too_many_colours),
-    ];
-    for (row, (count, colours, want)) in rows.iter().enumerate() {
-        let input = boxes(rt.alloc(), *count, *colours)?;
-        let mut source = Reel::new(input.as_bytes(), None);
-        let (status, output, faults) = run(&rt, &["figgroup", "fig"], &mut source)?;
-        assert_eq!(rt; status, 1, "row {row}");
-        assert!(rt; output.bytes().is_empty(), "row {row}");
-        assert_eq!(rt; faults.bytes(), want.as_bytes(), "row {row}");
+    for (count, colours, want) in [
+        (1_001, 1, TOO_MANY_VERSIONS),
+        (1_001, 513, TOO_MANY_VERSIONS),
+        (513, 513, TOO_MANY_COLOURS),
+    ] {
+        let answer = fig_of_boxes(&rt, count, colours, "")?;
+        assert_eq!(rt; answer.as_str(), want, "{count} of {colours}");
     }
     Ok(())
 }
@@ -145,133 +92,174 @@ const HIDES_THE_FIRST: &str =
 
 #[test]
 fn drawings_reach_their_limits(rt: HostRuntime) -> Result<(), Fail> {
-    let rows = [
+    for (count, colours, more, inside, end) in [
         (
             1_000,
             1,
             "",
             "0 32 #000000\n2 2 0 0 32 32 0 ",
-            "\n2 2 0 0 32 32 999 -1 20 0.000 0 0 -1 0 0 5\n\t 1 0 11 0 11 10 1 10 1 0\n",
+            "\n2 2 0 0 32 32 999 -1 20 0.000 0 0 -1 0 0 5\n\t 1 0 11 0 11 10 1 10 1 0\n--\n",
         ),
         (
             512,
             512,
             "",
             "\n0 543 #000001\n2 2 0 0 32 32 0 ",
-            "\n2 2 0 0 543 543 511 -1 20 0.000 0 0 -1 0 0 5\n\t 1 0 11 0 11 10 1 10 1 0\n",
+            "\n2 2 0 0 543 543 511 -1 20 0.000 0 0 -1 0 0 5\n\t 1 0 11 0 11 10 1 10 1 0\n--\n",
         ),
         (
             513,
             513,
             HIDES_THE_FIRST,
             "\n0 543 #000002\n2 2 0 0 32 32 0 ",
-            "\n2 2 0 0 543 543 511 -1 20 0.000 0 0 -1 0 0 5\n\t 2 0 12 0 12 10 2 10 2 0\n",
+            "\n2 2 0 0 543 543 511 -1 20 0.000 0 0 -1 0 0 5\n\t 2 0 12 0 12 10 2 10 2 0\n--\n",
         ),
-    ];
-    for (row, (count, colours, more, inside, end)) in rows.iter().enumerate() {
-        let alloc = rt.alloc();
-        let mut input = boxes(alloc, *count, *colours)?;
-        input.push_str(more)?;
-        let mut source = Reel::new(input.as_bytes(), None);
-        let (status, output, _) = run(&rt, &["figgroup", "fig"], &mut source)?;
-        assert_eq!(rt; status, 0, "row {row}");
-        let text = std::str::from_utf8(output.bytes())?;
-        assert!(rt; text.contains(*inside), "row {row}");
-        assert!(rt; text.ends_with(*end), "row {row}");
+    ] {
+        let answer = fig_of_boxes(&rt, count, colours, more)?;
+        let answer = answer.as_str();
+        let is_told = answer.starts_with("0\n") && answer.contains(inside) && answer.ends_with(end);
+        assert!(rt; is_told, "{count} of {colours}");
     }
     Ok(())
 }
 
+/// The red box from the origin, 10 by 10, and rounds in which two sites give it two colours at once,
+/// up to this operation of site 1.
+fn rounds(alloc: Global, last: u32) -> Result<String, AllocError> {
+    let mut text = String::from_str(
+        alloc,
+        "{\"op\":\"create\",\"id\":[1,1],\"past\":[0,0,0,0,0,0,0,0],\"kind\":\"box\",\"place\":[0,0],\"size\":[10,10],\"colour\":\"ff0000\",\"layer\":0,\"shown\":true}\n",
+    )?;
+    for next in 2..=last {
+        let round = next - 1;
+        let before = next - 2;
+        let lines = format!(in alloc;
+            "{{\"op\":\"set\",\"id\":[1,{next}],\"past\":[{round},{before},0,0,0,0,0,0],\"object\":[1,1],\"set\":\"colour\",\"to\":\"0000ff\"}}\n{{\"op\":\"set\",\"id\":[2,{round}],\"past\":[{round},{before},0,0,0,0,0,0],\"object\":[1,1],\"set\":\"colour\",\"to\":\"00ff00\"}}\n"
+        )?;
+        text.push_str(lines.as_str())?;
+    }
+    Ok(text)
+}
+
+/// A run over these rounds.
+fn fig_of_rounds(rt: &HostRuntime, last: u32) -> Result<String, Fail> {
+    fig(rt, rounds(rt.alloc(), last)?.as_str())
+}
+
+/// How many figures a run drew, where its status is 0.
+fn drawn(answer: &str) -> Option<usize> {
+    if !answer.starts_with("0\n") {
+        return None;
+    }
+    Some(
+        answer
+            .lines()
+            .filter(|line| line.starts_with("2 2 "))
+            .count(),
+    )
+}
+
 #[test]
-fn unread_input_is_told(rt: HostRuntime) -> Result<(), Fail> {
+fn each_round_doubles_the_figures(rt: HostRuntime) -> Result<(), Fail> {
+    for (last, figures) in [(1, 1), (2, 2), (3, 4), (10, 512)] {
+        let answer = fig_of_rounds(&rt, last)?;
+        assert_eq!(rt; drawn(answer.as_str()), Some(figures), "{last}");
+    }
+    let answer = fig_of_rounds(&rt, 11)?;
+    assert_eq!(rt; answer.as_str(), TOO_MANY_VERSIONS);
+    Ok(())
+}
+
+const EMPTY_RUN: &str =
+    "0\n#FIG 3.2\nLandscape\nCenter\nMetric\nA4\n100.00\nSingle\n-2\n1200 2\n--\n";
+
+// The first 100 bytes of the red box's text.
+const CUT_RUN: &str =
+    "1\n#FIG 3.2\nLandscape\nCenter\nMetric\nA4\n100.00\nSingle\n-2\n1200 2\n0 32 #ff0000\n2 2 0 0 32 32 0 -1 20 0.000--\nfiggroup: write failed\n";
+
+#[test]
+fn unread_input_and_a_full_output_are_told(rt: HostRuntime) -> Result<(), Fail> {
     let mut long = Vec::new(rt.alloc());
     long.resize(MOST_INPUT_BYTES + 1, b' ')?;
-    let rows = [
-        (Reel::new(&long, None), "figgroup: input too long\n"),
+    let red_box = RED_BOX.as_bytes();
+    for (input, fail_after, room, want) in [
+        // unread_input_is_told
         (
-            Reel::new(RED_BOX.as_bytes(), Some(5)),
-            "figgroup: read failed\n",
+            &long[..],
+            None,
+            (None, None),
+            "1\n--\nfiggroup: input too long\n",
         ),
-    ];
-    for (mut source, want) in rows {
-        let (status, output, faults) = run(&rt, &["figgroup", "fig"], &mut source)?;
-        assert_eq!(rt; status, 1, "{want}");
-        assert!(rt; output.bytes().is_empty(), "{want}");
-        assert_eq!(rt; faults.bytes(), want.as_bytes());
+        (&long[1..], None, (None, None), EMPTY_RUN),
+        (
+            red_box,
+            Some(5),
+            (None, None),
+            "1\n--\nfiggroup: read failed\n",
+        ),
+        // a_full_output_is_told
+        (red_box, None, (Some(100), None), CUT_RUN),
+        // Where no fault can be told either, the status stays.
+        (b"{", None, (Some(0), Some(0)), "1\n--\n"),
+    ] {
+        let answer = run(&rt, "figgroup fig", &mut Reel::new(input, fail_after), room)?;
+        assert_eq!(rt; answer.as_str(), want);
     }
-    let mut source = Reel::new(&long[1..], None);
-    let (status, output, _) = run(&rt, &["figgroup", "fig"], &mut source)?;
-    assert_eq!(rt; status, 0);
-    assert_eq!(rt; output.bytes(), EMPTY_FIG.as_bytes());
     Ok(())
 }
 
-#[test]
-fn a_full_output_is_told(rt: HostRuntime) -> Result<(), Fail> {
-    let alloc = rt.alloc();
-    let words = words(alloc, &["figgroup", "fig"])?;
-    let mut output = Tape::new(alloc, Some(100));
+/// The answer to words that can't be read.
+fn refusal(alloc: Global, kind: io::ErrorKind) -> Result<String, Fail> {
     let mut faults = Tape::new(alloc, None);
-    let mut source = Reel::new(RED_BOX.as_bytes(), None);
-    let status = command(&rt, alloc, &words, &mut source, &mut output, &mut faults);
-    assert_eq!(rt; status, 1);
-    assert_eq!(rt; output.bytes(), &RED_BOX_FIG.as_bytes()[..100]);
-    assert_eq!(rt; faults.bytes(), b"figgroup: write failed\n".as_slice());
-
-    // Where no fault can be told either, the status stays.
-    let mut nowhere = Tape::new(alloc, Some(0));
-    let mut source = Reel::new(b"{", None);
-    let status = command(&rt, alloc, &words, &mut source, &mut output, &mut nowhere);
-    assert_eq!(rt; status, 1);
-    Ok(())
+    let status = refuse_words(&io::Error::from(kind), &mut faults);
+    told(alloc, status, b"", faults.bytes())
 }
 
 #[test]
-fn unread_words_are_told(rt: HostRuntime) {
-    let rows = [
+fn unread_words_are_told(rt: HostRuntime) -> Result<(), Fail> {
+    for (kind, want) in [
         (
             io::ErrorKind::InvalidData,
-            2,
-            "figgroup: a word is no UTF-8\n",
+            "2\n--\nfiggroup: a word is no UTF-8\n",
         ),
-        (io::ErrorKind::OutOfMemory, 1, "figgroup: out of memory\n"),
-    ];
-    for (kind, status, want) in rows {
-        let mut faults = Tape::new(rt.alloc(), None);
-        let answer = refuse_words(&io::Error::from(kind), &mut faults);
-        assert_eq!(rt; answer, status, "{want}");
-        assert_eq!(rt; faults.bytes(), want.as_bytes());
+        (
+            io::ErrorKind::OutOfMemory,
+            "1\n--\nfiggroup: out of memory\n",
+        ),
+    ] {
+        assert_eq!(rt; refusal(rt.alloc(), kind)?.as_str(), want);
     }
+    Ok(())
+}
+
+/// A run that asks for these words, over a source that can't be read.
+fn run_of_words(rt: &HostRuntime, words: &str) -> Result<String, Fail> {
+    run(
+        rt,
+        words,
+        &mut Reel::new(RED_BOX.as_bytes(), Some(0)),
+        (None, None),
+    )
 }
 
 #[test]
 fn words_are_read_first(rt: HostRuntime) -> Result<(), Fail> {
-    let mistakes: [&[&str]; 5] = [
-        &["figgroup"],
-        &["figgroup", "paint"],
-        &["figgroup", "fig", "input"],
-        &["figgroup", "--colour"],
-        &[],
-    ];
-    for (row, texts) in mistakes.iter().enumerate() {
-        let mut source = Reel::new(RED_BOX.as_bytes(), Some(0));
-        let (status, output, faults) = run(&rt, texts, &mut source)?;
-        assert_eq!(rt; status, 2, "row {row}");
-        assert!(rt; output.bytes().is_empty(), "row {row}");
-        assert!(rt; !faults.bytes().is_empty(), "row {row}");
-    }
-    let helps: [(&[&str], &[u8]); 4] = [
-        (&["figgroup", "--help"], b"Figures drawn by a group"),
-        (&["figgroup", "help"], b"Figures drawn by a group"),
-        (&["figgroup", "fig", "--help"], b"Read operation lines"),
-        (&["figgroup", "--version"], b"figgroup 0.1.0\n"),
-    ];
-    for (row, (texts, want)) in helps.iter().enumerate() {
-        let mut source = Reel::new(RED_BOX.as_bytes(), Some(0));
-        let (status, output, faults) = run(&rt, texts, &mut source)?;
-        assert_eq!(rt; status, 0, "row {row}");
-        assert!(rt; output.bytes().starts_with(want), "row {row}");
-        assert!(rt; faults.bytes().is_empty(), "row {row}");
+    // After a mistake the output is empty, and only then there are faults.
+    for (words, start, is_mistake) in [
+        ("figgroup", "2\n--\n", true),
+        ("figgroup paint", "2\n--\n", true),
+        ("figgroup fig input", "2\n--\n", true),
+        ("figgroup --colour", "2\n--\n", true),
+        ("", "2\n--\n", true),
+        ("figgroup --help", "0\nFigures drawn by a group", false),
+        ("figgroup help", "0\nFigures drawn by a group", false),
+        ("figgroup fig --help", "0\nRead operation lines", false),
+        ("figgroup --version", "0\nfiggroup 0.1.0\n", false),
+    ] {
+        let answer = run_of_words(&rt, words)?;
+        let answer = answer.as_str();
+        let is_told = answer.starts_with(start) && answer.ends_with("--\n") != is_mistake;
+        assert!(rt; is_told, "of {words}");
     }
     Ok(())
 }

@@ -5,7 +5,7 @@ mod command;
 #[cfg(test)]
 mod command_tests;
 #[cfg(test)]
-mod edited_tests;
+mod run_table;
 
 pub use command::command;
 use command::refuse_words;

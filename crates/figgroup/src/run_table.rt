@@ -1,0 +1,162 @@
+//! One table of runs, with the answers that the formats and the faults ask for.
+
+use crate::command_tests::fig;
+use example_parts::{EMPTY_FIG, RED_BOX, RED_BOX_FIG};
+use std::alloc::Global;
+use std::test::Fail;
+
+/// Each row: the status, the pieces of the input, and the pieces of the output or, at status 1,
+/// the fault.
+const RUNS: &str = r#"
+// lines_become_fig_text
+0 |                                              | empty_fig
+0 | / space_cr /                                 | empty_fig
+0 | red_box                                      | red_box_fig
+0 | red / blue_behind /                          | empty_fig red_over_blue_fig
+// The keys in another order, upper-case digits, blank lines, CRLF, and no last newline.
+0 | cr / / red_otherwise cr / cr / blank / blue_otherwise | empty_fig red_over_blue_fig
+// The blue box is another site's, which didn't know the red one.
+0 | blue_of_site_2 / red /                       | empty_fig red_over_blue_fig
+0 | unit_circle /                                | empty_fig unit_circle_fig
+0 | far_triangle /                               | empty_fig far_triangle_fig
+
+// refusals_are_told
+1 | {                                            | line 1: Json
+1 | red_box / / { /                              | line 3: Json
+1 | {}                                           | line 1: Field
+1 | star                                         | line 1: Field
+1 | unequal_circle                               | line 1: Field
+1 | two_points /                                 | line 1: Range
+1 | far_layer                                    | line 1: Range
+
+// every_order_draws_the_same
+0 | box / blue / green /                         | empty_fig two_colours_fig
+0 | green / blue / box /                         | empty_fig two_colours_fig
+0 | box / blue / blue_too / green /              | empty_fig two_colours_fig
+0 | blue_too / green / blue / box /              | empty_fig two_colours_fig
+0 | box / blue / raised /                        | empty_fig one_blue_fig
+0 | box / blue / green / moved / moved_again /   | empty_fig both_moved_fig
+0 | moved_again / moved / green / blue / box /   | empty_fig both_moved_fig
+0 | green / moved / green / box / moved_again / moved / blue / box / green / | empty_fig both_moved_fig
+0 | box / box /                                  | empty_fig one_red_fig
+0 | blue /                                       | empty_fig
+0 | box / moved_again /                          | empty_fig one_red_fig
+
+// what_does_not_fit_is_told
+1 | box_of_site_2 / box_after_site_2 / box_of_site_3 / | operation 3.1 dropped: BadClock
+1 | box / green_box /                            | line 2: Clash
+1 | blue / / green_as_blue /                     | line 3: Clash
+1 | box_after_itself /                           | operation 1.1 dropped: BadClock
+1 | box / green_too_early /                      | operation 2.1 dropped: NoObject
+1 | box / points_of_a_box /                      | operation 2.1 dropped: WrongKind
+"#;
+
+/// Each row: the name of a piece, and the piece, with its ends of lines and tabs spelt `\n` and `\t`.
+const PIECES: &str = r#"
+/ \n
+
+// Lines that draw something, or are refused.
+red {"colour":"ff0000","id":[1,1],"kind":"box","layer":5,"op":"create","past":[0,0,0,0,0,0,0,0],"place":[0,0],"shown":true,"size":[10,10]}
+blue_behind {"colour":"0000ff","id":[1,2],"kind":"box","layer":0,"op":"create","past":[1,0,0,0,0,0,0,0],"place":[0,0],"shown":true,"size":[10,10]}
+blue_of_site_2 {"colour":"0000ff","id":[2,1],"kind":"box","layer":0,"op":"create","past":[0,0,0,0,0,0,0,0],"place":[0,0],"shown":true,"size":[10,10]}
+red_otherwise {"size":[10,10],"shown":true,"place":[0,0],"past":[0,0,0,0,0,0,0,0],"op":"create","layer":5,"kind":"box","id":[1,1],"colour":"FF0000"}
+blue_otherwise  { "id" : [1, 2], "op" : "create", "kind" : "box", "past" : [1,0,0,0,0,0,0,0], "place" : [0,0], "size" : [10,10], "shown" : true, "layer" : 0, "colour" : "0000Ff" }
+unit_circle {"colour":"00ff00","id":[1,1],"kind":"circle","layer":0,"op":"create","past":[0,0,0,0,0,0,0,0],"place":[0,0],"shown":true,"size":[1,1]}
+far_triangle {"colour":"ff0000","id":[1,1],"kind":"polygon","layer":0,"op":"create","past":[0,0,0,0,0,0,0,0],"place":[-1000000,-1000000],"points":[[0,0],[-1000000,0],[0,-1000000]],"shown":true}
+two_points {"colour":"ff0000","id":[1,1],"kind":"polygon","layer":0,"op":"create","past":[0,0,0,0,0,0,0,0],"place":[-1000000,-1000000],"points":[[0,0],[-1000000,0]],"shown":true}
+far_layer {"colour":"ff0000","id":[1,1],"kind":"box","layer":10000,"op":"create","past":[0,0,0,0,0,0,0,0],"place":[100,200],"shown":true,"size":[300,400]}
+star {"colour":"ff0000","id":[1,1],"kind":"star","layer":0,"op":"create","past":[0,0,0,0,0,0,0,0],"place":[100,200],"shown":true,"size":[300,400]}
+unequal_circle {"colour":"ff0000","id":[1,1],"kind":"circle","layer":0,"op":"create","past":[0,0,0,0,0,0,0,0],"place":[100,200],"shown":true,"size":[300,400]}
+{ {
+{} {}
+
+// Lines of a box that several sites edit, and of what does not fit to it.
+box {"op":"create","id":[1,1],"past":[0,0,0,0,0,0,0,0],"kind":"box","place":[0,0],"size":[10,10],"colour":"ff0000","layer":0,"shown":true}
+blue {"op":"set","id":[1,2],"past":[1,0,0,0,0,0,0,0],"object":[1,1],"set":"colour","to":"0000ff"}
+green {"op":"set","id":[2,1],"past":[1,0,0,0,0,0,0,0],"object":[1,1],"set":"colour","to":"00ff00"}
+// Site 3 makes the box blue, as site 1 does.
+blue_too {"op":"set","id":[3,1],"past":[1,0,0,0,0,0,0,0],"object":[1,1],"set":"colour","to":"0000ff"}
+raised {"op":"set","id":[2,1],"past":[1,0,0,0,0,0,0,0],"object":[1,1],"set":"layer","to":3}
+// Site 1 moves both versions, twice.
+moved {"op":"set","id":[1,3],"past":[2,1,0,0,0,0,0,0],"object":[1,1],"set":"place","to":[100,0]}
+moved_again {"op":"set","id":[1,4],"past":[3,1,0,0,0,0,0,0],"object":[1,1],"set":"place","to":[200,0]}
+box_of_site_2 {"op":"create","id":[2,1],"past":[0,0,0,0,0,0,0,0],"kind":"box","place":[0,0],"size":[10,10],"colour":"ff0000","layer":0,"shown":true}
+box_after_site_2 {"op":"create","id":[1,1],"past":[0,1,0,0,0,0,0,0],"kind":"box","place":[0,0],"size":[10,10],"colour":"ff0000","layer":0,"shown":true}
+box_of_site_3 {"op":"create","id":[3,1],"past":[1,0,0,0,0,0,0,0],"kind":"box","place":[0,0],"size":[10,10],"colour":"ff0000","layer":0,"shown":true}
+green_box {"op":"create","id":[1,1],"past":[0,0,0,0,0,0,0,0],"kind":"box","place":[0,0],"size":[10,10],"colour":"00ff00","layer":0,"shown":true}
+green_as_blue {"op":"set","id":[1,2],"past":[1,0,0,0,0,0,0,0],"object":[1,1],"set":"colour","to":"00ff00"}
+box_after_itself {"op":"create","id":[1,1],"past":[1,0,0,0,0,0,0,0],"kind":"box","place":[0,0],"size":[10,10],"colour":"ff0000","layer":0,"shown":true}
+green_too_early {"op":"set","id":[2,1],"past":[0,0,0,0,0,0,0,0],"object":[1,1],"set":"colour","to":"00ff00"}
+points_of_a_box {"op":"set","id":[2,1],"past":[1,0,0,0,0,0,0,0],"object":[1,1],"set":"points","to":[[0,0],[1,0],[0,1]]}
+
+// What stands behind the text of the drawing of nothing.
+red_over_blue_fig 0 32 #ff0000\n0 33 #0000ff\n2 2 0 0 32 32 0 -1 20 0.000 0 0 -1 0 0 5\n\t 0 0 10 0 10 10 0 10 0 0\n2 2 0 0 33 33 1 -1 20 0.000 0 0 -1 0 0 5\n\t 0 0 10 0 10 10 0 10 0 0\n
+unit_circle_fig 0 32 #00ff00\n1 3 0 0 32 32 0 -1 20 0.000 1 0.0000 0 0 1 1 0 0 1 0\n
+far_triangle_fig 0 32 #ff0000\n2 3 0 0 32 32 0 -1 20 0.000 0 0 -1 0 0 4\n\t -1000000 -1000000 -2000000 -1000000 -1000000 -2000000 -1000000 -1000000\n
+two_colours_fig 0 32 #00ff00\n0 33 #0000ff\n2 2 0 0 32 32 0 -1 20 0.000 0 0 -1 0 0 5\n\t 0 0 10 0 10 10 0 10 0 0\n2 2 0 0 33 33 1 -1 20 0.000 0 0 -1 0 0 5\n\t 0 0 10 0 10 10 0 10 0 0\n
+both_moved_fig 0 32 #00ff00\n0 33 #0000ff\n2 2 0 0 32 32 0 -1 20 0.000 0 0 -1 0 0 5\n\t 200 0 210 0 210 10 200 10 200 0\n2 2 0 0 33 33 1 -1 20 0.000 0 0 -1 0 0 5\n\t 200 0 210 0 210 10 200 10 200 0\n
+one_blue_fig 0 32 #0000ff\n2 2 0 0 32 32 0 -1 20 0.000 0 0 -1 0 0 5\n\t 0 0 10 0 10 10 0 10 0 0\n
+one_red_fig 0 32 #ff0000\n2 2 0 0 32 32 0 -1 20 0.000 0 0 -1 0 0 5\n\t 0 0 10 0 10 10 0 10 0 0\n
+"#;
+
+/// The piece of this name.
+fn piece(name: &str) -> Result<&'static str, Fail> {
+    match name {
+        "cr" => return Ok("\r"),
+        "space_cr" => return Ok(" \r"),
+        "blank" => return Ok("  \t"),
+        "empty_fig" => return Ok(EMPTY_FIG),
+        "red_box" => return Ok(RED_BOX),
+        "red_box_fig" => return Ok(RED_BOX_FIG),
+        _ => (),
+    }
+    for row in PIECES.lines() {
+        if let Some((known, piece)) = row.split_once(' ')
+            && known == name
+        {
+            return Ok(piece);
+        }
+    }
+    Err(Fail::new("no piece has this name"))
+}
+
+/// The pieces of these names, with nothing between them.
+fn joined(alloc: Global, names: &str) -> Result<String, Fail> {
+    let mut text = String::new(alloc);
+    for name in names.split_whitespace() {
+        text.push_str(piece(name)?)?;
+    }
+    let text = text.replace(alloc, r"\n", "\n")?;
+    Ok(text.replace(alloc, r"\t", "\t")?)
+}
+
+/// The run that a row asks for, as `run` tells it.
+fn wanted(alloc: Global, status: &str, cell: &str) -> Result<String, Fail> {
+    if status == "0" {
+        let output = joined(alloc, cell)?;
+        return Ok(format!(in alloc; "0\n{output}--\n")?);
+    }
+    Ok(format!(in alloc; "{status}\n--\nfiggroup: {cell}\n")?)
+}
+
+/// The run over the pieces of these names.
+fn answer(rt: &HostRuntime, names: &str) -> Result<String, Fail> {
+    fig(rt, joined(rt.alloc(), names)?.as_str())
+}
+
+#[test]
+fn answers_each_input(rt: HostRuntime) -> Result<(), Fail> {
+    assert_eq!(rt; (EMPTY_FIG.len(), RED_BOX_FIG.len()), (60, 156));
+    for row in RUNS.lines() {
+        let Some((status, rest)) = row.split_once('|') else {
+            continue;
+        };
+        let Some((input, cell)) = rest.split_once('|') else {
+            return Err(Fail::new("a row lacks a cell"));
+        };
+        let want = wanted(rt.alloc(), status.trim(), cell.trim())?;
+        let answer = answer(&rt, input)?;
+        assert_eq!(rt; answer.as_str(), want.as_str(), "of {row}");
+    }
+    Ok(())
+}
