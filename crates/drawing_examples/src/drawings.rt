@@ -1,22 +1,36 @@
-//! Worked examples.
+//! Worked examples of drawings.
 
-use crate::figures::figure;
+ghost use Rattle.std.specs.Prelude.{◌≤◌};
+
+use crate::figures::{figure, seen, table};
 use gf_drawing::{Drawing, outlines_paint_as_their_shapes};
 use gf_shape::{AnyShape, Circle, Outline, Point, Polygon, Rect, Rgb, Shape};
 use std::alloc::Global;
 use std::test::Fail;
 
+const ORIGIN: Point = Point { x: 0, y: 0 };
+
 fn colour(r: u8, g: u8, b: u8) -> Rgb {
     Rgb { r, g, b }
 }
 
-#[test]
-fn colours_have_their_numbers(rt: HostRuntime) -> Result<(), Fail> {
-    let mut drawing: Drawing<Rect> = Drawing::new(rt.alloc());
-    assert!(rt; drawing.colours().is_empty());
+/// Two colours in a table, the second number before the first.
+fn two_colours(alloc: Global) -> Result<Drawing<Rect>, Fail> {
+    let mut drawing = Drawing::new(alloc);
     drawing.add_colour(543, colour(1, 2, 3))?;
     drawing.add_colour(32, colour(1, 2, 3))?;
-    let rows = [
+    Ok(drawing)
+}
+
+/// The colour that this drawing has under a number.
+fn rgb(alloc: Global, number: u16) -> Result<Option<Rgb>, Fail> {
+    let drawing = two_colours(alloc)?;
+    Ok(drawing.rgb(number))
+}
+
+#[test]
+fn colours_have_their_numbers(rt: HostRuntime) -> Result<(), Fail> {
+    for (number, want) in [
         (0, Some(colour(0, 0, 0))),
         (1, Some(colour(0, 0, 255))),
         (2, Some(colour(0, 255, 0))),
@@ -31,42 +45,42 @@ fn colours_have_their_numbers(rt: HostRuntime) -> Result<(), Fail> {
         (33, None),
         (543, Some(colour(1, 2, 3))),
         (544, None),
-    ];
-    for (number, rgb) in rows {
-        assert_eq!(rt; drawing.rgb(number), rgb, "{number}");
+    ] {
+        assert_eq!(rt; rgb(rt.alloc(), number)?, want, "{number}");
     }
-    let table = drawing.colours();
-    assert_eq!(rt; table.len(), 2);
-    assert!(rt; !table.is_empty());
-    assert_eq!(rt; table.at(0), Some((543, colour(1, 2, 3))));
-    assert_eq!(rt; table.at(1), Some((32, colour(1, 2, 3))));
-    assert_eq!(rt; table.at(2), None);
     Ok(())
 }
 
 #[test]
+fn tables_keep_their_order(rt: HostRuntime) -> Result<(), Fail> {
+    let empty = table(Drawing::<Rect>::new(rt.alloc()));
+    assert_eq!(rt; empty, (0, true, [None, None, None]));
+    let first = Some((543, colour(1, 2, 3)));
+    let second = Some((32, colour(1, 2, 3)));
+    let table = table(two_colours(rt.alloc())?);
+    assert_eq!(rt; table, (2, false, [first, second, None]));
+    Ok(())
+}
+
+/// A great blue box in the file before a small green one, at these depths.
+fn two_boxes(alloc: Global, great: u16, small: u16) -> Result<Drawing<Rect>, Fail>
+    requires great { great ≤ 999 }
+    requires small { small ≤ 999 }
+{
+    let mut drawing = Drawing::new(alloc);
+    drawing.add_figure(figure(Rect::new(ORIGIN, 6, 6)?, 1, great))?;
+    drawing.add_figure(figure(Rect::new(ORIGIN, 3, 3)?, 2, small))?;
+    Ok(drawing)
+}
+
+#[test]
 fn the_front_is_seen(rt: HostRuntime) -> Result<(), Fail> {
-    let origin = Point { x: 0, y: 0 };
-    let small = Rect::new(origin, 3, 3)?;
-    let great = Rect::new(origin, 6, 6)?;
-    let mut same = Drawing::new(rt.alloc());
-    same.add_figure(figure(great, 1, 50))?;
-    same.add_figure(figure(small, 2, 50))?;
-    let mut apart = Drawing::new(rt.alloc());
-    apart.add_figure(figure(great, 1, 5))?;
-    apart.add_figure(figure(small, 2, 6))?;
-    let rows = [
-        (0, colour(0, 255, 0), colour(0, 0, 255)),
-        (3, colour(0, 255, 0), colour(0, 0, 255)),
-        (6, colour(0, 0, 255), colour(0, 0, 255)),
-        (7, colour(255, 255, 255), colour(255, 255, 255)),
-        (-1, colour(255, 255, 255), colour(255, 255, 255)),
-    ];
-    for (x, one_depth, two_depths) in rows {
-        let p = Point { x, y: x };
-        assert_eq!(rt; same.colour_at(p), one_depth, "{x}, one depth");
-        assert_eq!(rt; apart.colour_at(p), two_depths, "{x}, two depths");
-    }
+    let alloc = rt.alloc();
+    let points = "0 0, 3 3, 6 6, 7 7, -1 -1";
+    let same = seen(alloc, two_boxes(alloc, 50, 50)?, points)?;
+    assert_eq!(rt; same.as_str(), " 00ff00 00ff00 0000ff ffffff ffffff");
+    let apart = seen(alloc, two_boxes(alloc, 5, 6)?, points)?;
+    assert_eq!(rt; apart.as_str(), " 0000ff 0000ff 0000ff ffffff ffffff");
     Ok(())
 }
 
@@ -79,64 +93,78 @@ fn in_turn<S: Shape>(alloc: Global, first: S, second: S, third: S) -> Result<Dra
     Ok(drawing)
 }
 
-#[test]
-fn shapes_of_every_kind_are_seen(rt: HostRuntime) -> Result<(), Fail> {
-    let alloc = rt.alloc();
-    let origin = Point { x: 0, y: 0 };
-    let corners = [origin, Point { x: 4, y: 0 }, Point { x: 0, y: 4 }];
-    let polygon = AnyShape::Polygon(Polygon::new(alloc, &corners)?);
-    let circle = AnyShape::Circle(Circle::new(origin, 5)?);
-    let rect = AnyShape::Rect(Rect::new(origin, 6, 6)?);
-    let outlines: Drawing<Outline> = in_turn(
-        alloc,
-        polygon.outline(alloc)?,
-        circle.outline(alloc)?,
-        rect.outline(alloc)?,
-    )?;
-    let shapes = in_turn(alloc, polygon, circle, rect)?;
-    outlines_paint_as_their_shapes::<AnyShape>();
-    let rows = [
-        (0, 0, colour(255, 0, 0)),
-        (2, 2, colour(255, 0, 0)),
-        (3, 2, colour(0, 255, 0)),
-        (-5, 0, colour(0, 255, 0)),
-        (4, 4, colour(0, 0, 255)),
-        (6, 6, colour(0, 0, 255)),
-        (-4, -4, colour(255, 255, 255)),
-        (7, 0, colour(255, 255, 255)),
-    ];
-    for (x, y, rgb) in rows {
-        let p = Point { x, y };
-        assert_eq!(rt; shapes.colour_at(p), rgb, "{p:?}");
-        assert_eq!(rt; outlines.colour_at(p), rgb, "{p:?} of outlines");
-    }
-    Ok(())
+fn polygon(alloc: Global) -> Result<AnyShape, Fail> {
+    let corners = [ORIGIN, Point { x: 4, y: 0 }, Point { x: 0, y: 4 }];
+    Ok(AnyShape::Polygon(Polygon::new(alloc, &corners)?))
+}
+
+fn circle() -> Result<AnyShape, Fail> {
+    Ok(AnyShape::Circle(Circle::new(ORIGIN, 5)?))
+}
+
+fn rect() -> Result<AnyShape, Fail> {
+    Ok(AnyShape::Rect(Rect::new(ORIGIN, 6, 6)?))
+}
+
+fn shapes(alloc: Global) -> Result<Drawing<AnyShape>, Fail> {
+    let (circle, rect) = (circle()?, rect()?);
+    in_turn(alloc, polygon(alloc)?, circle, rect)
+}
+
+fn outlines(alloc: Global) -> Result<Drawing<Outline>, Fail> {
+    let polygon = polygon(alloc)?.outline(alloc)?;
+    let circle = circle()?.outline(alloc)?;
+    let rect = rect()?.outline(alloc)?;
+    in_turn(alloc, polygon, circle, rect)
 }
 
 #[test]
-fn what_lies_behind_is_hidden(rt: HostRuntime) -> Result<(), Fail> {
-    let origin = Point { x: 0, y: 0 };
-    let (behind, front) = (Rect::new(origin, 9, 9)?, Rect::new(origin, 3, 3)?);
-    let between = Rect::new(origin, 6, 6)?;
-    let mut drawing = Drawing::new(rt.alloc());
+fn shapes_of_every_kind_are_seen(rt: HostRuntime) -> Result<(), Fail> {
+    let alloc = rt.alloc();
+    outlines_paint_as_their_shapes::<AnyShape>();
+    let points = "0 0, 2 2, 3 2, -5 0, 4 4, 6 6, -4 -4, 7 0";
+    let want = " ff0000 ff0000 00ff00 00ff00 0000ff 0000ff ffffff ffffff";
+    let of_shapes = seen(alloc, shapes(alloc)?, points)?;
+    assert_eq!(rt; of_shapes.as_str(), want);
+    let of_outlines = seen(alloc, outlines(alloc)?, points)?;
+    assert_eq!(rt; of_outlines.as_str(), want);
+    Ok(())
+}
+
+/// A green box behind all, a red one before all, and one of a colour of the table between them.
+fn three_boxes(alloc: Global, boxes: [Rect; 3]) -> Result<Drawing<Rect>, Fail> {
+    let [behind, front, between] = boxes;
+    let mut drawing = Drawing::new(alloc);
     drawing.add_colour(32, colour(1, 2, 3))?;
     drawing.add_figure(figure(behind, 2, 999))?;
     drawing.add_figure(figure(front, 4, 0))?;
     drawing.add_figure(figure(between, 32, 500))?;
-    let figures = [(behind, 2, 999), (front, 4, 0), (between, 32, 500)];
-    assert_eq!(rt; drawing.figures().len(), figures.len());
-    for (figure, (shape, colour, depth)) in drawing.figures().iter().zip(figures) {
-        assert_eq!(rt; figure.shape, shape);
-        assert_eq!(rt; (figure.colour, figure.depth), (colour, depth));
+    Ok(drawing)
+}
+
+/// Whether the three figures are these boxes in file order, each in its colour at its depth.
+fn is_in_file_order(drawing: Drawing<Rect>, boxes: [Rect; 3]) -> bool {
+    match drawing.figures() {
+        [behind, front, between] => {
+            [behind.shape, front.shape, between.shape] == boxes
+                && (behind.colour, behind.depth) == (2, 999)
+                && (front.colour, front.depth) == (4, 0)
+                && (between.colour, between.depth) == (32, 500)
+        }
+        _ => false,
     }
-    let rows = [
-        (1, colour(255, 0, 0)),
-        (4, colour(1, 2, 3)),
-        (9, colour(0, 255, 0)),
-        (10, colour(255, 255, 255)),
+}
+
+#[test]
+fn what_lies_behind_is_hidden(rt: HostRuntime) -> Result<(), Fail> {
+    let alloc = rt.alloc();
+    let boxes = [
+        Rect::new(ORIGIN, 9, 9)?,
+        Rect::new(ORIGIN, 3, 3)?,
+        Rect::new(ORIGIN, 6, 6)?,
     ];
-    for (x, rgb) in rows {
-        assert_eq!(rt; drawing.colour_at(Point { x, y: 0 }), rgb, "{x}");
-    }
+    assert!(rt; is_in_file_order(three_boxes(alloc, boxes)?, boxes));
+    let colours = seen(alloc, three_boxes(alloc, boxes)?, "1 0, 4 0, 9 0, 10 0")?;
+    assert_eq!(rt; colours.as_str(), " ff0000 010203 00ff00 ffffff");
     Ok(())
 }

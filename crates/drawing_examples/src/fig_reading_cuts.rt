@@ -3,6 +3,7 @@
 use crate::readings::{TRIANGLE, fault_at, fault_of};
 use example_parts::{RED_BOX_FIG, at};
 use gf_fig_read::{FigError, FigFault, read_fig};
+use std::alloc::Global;
 use std::test::Fail;
 
 /// What the first `k` bytes of the red box's text have in place of a drawing.
@@ -32,21 +33,31 @@ fn counts_of_cut(k: usize) -> Option<(usize, usize)> {
     }
 }
 
+/// How many colours and figures a text has, where it reads as a drawing.
+fn counts(alloc: Global, text: &[u8]) -> Option<(usize, usize)> {
+    match read_fig(alloc, text) {
+        Ok(drawing) => Some((drawing.colours().len(), drawing.figures().len())),
+        Err(_) => None,
+    }
+}
+
 #[test]
-fn cut_texts_have_the_first_fault(rt: HostRuntime) -> Result<(), Fail> {
+fn cut_texts_have_the_first_fault(rt: HostRuntime) {
     let alloc = rt.alloc();
     let text = RED_BOX_FIG.as_bytes();
     assert_eq!(rt; text.len(), 156);
     for k in 0..=text.len() {
         let front = &text[..k];
         assert_eq!(rt; fault_of(alloc, front), fault_of_cut(k), "{k}");
-        let counts = match read_fig(alloc, front) {
-            Ok(drawing) => Some((drawing.colours().len(), drawing.figures().len())),
-            Err(_) => None,
-        };
-        assert_eq!(rt; counts, counts_of_cut(k), "{k}");
+        assert_eq!(rt; counts(alloc, front), counts_of_cut(k), "{k}");
     }
-    Ok(())
+}
+
+/// Reads a text, and asks for a colour where it is a drawing.
+fn try_text(alloc: Global, text: &[u8]) {
+    if let Ok(drawing) = read_fig(alloc, text) {
+        let _colour = drawing.colour_at(at(0, 0));
+    }
 }
 
 #[test]
@@ -54,11 +65,9 @@ fn texts_with_another_byte_are_answered(rt: HostRuntime) -> Result<(), Fail> {
     let alloc = rt.alloc();
     for byte in [0u8, b'#', b'-', b'9'] {
         for k in 0..TRIANGLE.len() {
-            let mut text = Vec::from_slice(alloc, TRIANGLE)?;
+            let mut text = Vec::from_slice(alloc, TRIANGLE.as_bytes())?;
             text[k] = byte;
-            if let Ok(drawing) = read_fig(alloc, &text) {
-                let _colour = drawing.colour_at(at(0, 0));
-            }
+            try_text(alloc, &text);
         }
     }
     Ok(())

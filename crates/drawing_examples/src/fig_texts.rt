@@ -12,32 +12,41 @@ use std::test::Fail;
 const TWO_BOXES: &[u8] =
     b"#FIG 3.2\nLandscape\nCenter\nMetric\nA4\n100.00\nSingle\n-2\n1200 2\n0 32 #ff0000\n0 33 #0000ff\n2 2 0 0 32 32 0 -1 20 0.000 0 0 -1 0 0 5\n\t 0 0 10 0 10 10 0 10 0 0\n2 2 0 0 33 33 1 -1 20 0.000 0 0 -1 0 0 5\n\t 0 0 10 0 10 10 0 10 0 0\n";
 
-fn red_box(rt: &HostRuntime) -> Result<Drawing<Rect>, Fail> {
-    let mut drawing = Drawing::new(rt.alloc());
+/// The text of a drawing.
+fn text_of<S: Shape>(alloc: Global, drawing: Drawing<S>) -> Result<Vec<u8>, Fail> {
+    Ok(fig_bytes(alloc, &drawing)?)
+}
+
+fn red_box(alloc: Global) -> Result<Drawing<Rect>, Fail> {
+    let shape = Rect::new(at(100, 200), 300, 400)?;
+    let mut drawing = Drawing::new(alloc);
     drawing.add_colour(32, RED)?;
-    drawing.add_figure(figure(Rect::new(at(100, 200), 300, 400)?, 32, 0))?;
+    drawing.add_figure(figure(shape, 32, 0))?;
     Ok(drawing)
 }
 
-#[test]
-fn drawings_have_their_text(rt: HostRuntime) -> Result<(), Fail> {
-    let alloc = rt.alloc();
-    assert_eq!(rt;
-        fig_bytes(alloc, &Drawing::<Rect>::new(alloc))?.as_slice(),
-        EMPTY_FIG.as_bytes()
-    );
-    assert_eq!(rt;
-        fig_bytes(alloc, &red_box(&rt)?)?.as_slice(),
-        RED_BOX_FIG.as_bytes()
-    );
-    assert_eq!(rt; RED_BOX_FIG.len(), 156);
+fn two_boxes(alloc: Global) -> Result<Drawing<Rect>, Fail> {
     let shape = Rect::new(at(0, 0), 10, 10)?;
     let mut drawing = Drawing::new(alloc);
     drawing.add_colour(32, RED)?;
     drawing.add_colour(33, BLUE)?;
     drawing.add_figure(figure(shape, 32, 0))?;
     drawing.add_figure(figure(shape, 33, 1))?;
-    assert_eq!(rt; fig_bytes(alloc, &drawing)?.as_slice(), TWO_BOXES);
+    Ok(drawing)
+}
+
+#[test]
+fn drawings_have_their_text(rt: HostRuntime) -> Result<(), Fail> {
+    let alloc = rt.alloc();
+    let text = text_of(alloc, Drawing::<Rect>::new(alloc))?;
+    assert_eq!(rt; text.as_slice(), EMPTY_FIG.as_bytes());
+    let text = text_of(alloc, red_box(alloc)?)?;
+    assert_eq!(rt;
+        (text.len(), text.as_slice()),
+        (156, RED_BOX_FIG.as_bytes())
+    );
+    let text = text_of(alloc, two_boxes(alloc)?)?;
+    assert_eq!(rt; text.as_slice(), TWO_BOXES);
     Ok(())
 }
 
@@ -89,21 +98,20 @@ fn three_outlines(alloc: Global) -> Result<Drawing<Outline>, Fail> {
 #[test]
 fn shapes_are_written_as_their_outlines(rt: HostRuntime) -> Result<(), Fail> {
     let alloc = rt.alloc();
-    let text = fig_bytes(alloc, &three_kinds(alloc)?)?;
+    let text = text_of(alloc, three_kinds(alloc)?)?;
     assert_eq!(rt; text.as_slice(), THREE_KINDS);
-    let outlines = three_outlines(alloc)?;
-    let text = fig_bytes(alloc, &outlines)?;
+    let text = text_of(alloc, three_outlines(alloc)?)?;
     assert_eq!(rt; text.as_slice(), THREE_KINDS);
-    let mut tape = Tape::new(alloc, None);
-    write_fig(alloc, &outlines, &mut tape)?;
-    assert_eq!(rt; tape.bytes(), THREE_KINDS);
+    let taken = taken(alloc, three_outlines(alloc)?, None, THREE_KINDS);
+    assert_eq!(rt; taken, (Ok(()), true));
     Ok(())
 }
 
+const FAR_OUTLINES: &[u8] =
+    b"#FIG 3.2\nLandscape\nCenter\nMetric\nA4\n100.00\nSingle\n-2\n1200 2\n0 543 #ff0000\n1 3 0 0 543 543 999 -1 20 0.000 1 0.0000 -7 40 1000 1000 -7 40 993 40\n2 3 0 0 4 4 0 -1 20 0.000 0 0 -1 0 0 4\n\t -1000000 -1000000 -2000000 -1000000 -1000000 -2000000 -1000000 -1000000\n";
+
 #[tactic(auto, unfolding(gf_shape::specs::Reach::is_reached))]
-#[test]
-fn outlines_have_their_lines(rt: HostRuntime) -> Result<(), Fail> {
-    let alloc = rt.alloc();
+fn far_chain(alloc: Global) -> Result<Outline, Fail> {
     let near = at(-1_000_000, -1_000_000);
     let points = [
         near,
@@ -111,40 +119,50 @@ fn outlines_have_their_lines(rt: HostRuntime) -> Result<(), Fail> {
         at(-1_000_000, -2_000_000),
         near,
     ];
-    let chain = Chain::new(false, Vec::from_array(alloc, points)?);
+    let points = Vec::from_array(alloc, points)?;
+    Ok(Outline::Chain(Chain::new(false, points)))
+}
+
+#[tactic(auto, unfolding(gf_shape::specs::Reach::is_reached))]
+fn far_outlines(alloc: Global) -> Result<Drawing<Outline>, Fail> {
     let mut drawing = Drawing::new(alloc);
     drawing.add_colour(543, RED)?;
     drawing.add_figure(figure(Outline::Disc(Disc::new(at(-7, 40), 1_000)), 543, 999))?;
-    drawing.add_figure(figure(Outline::Chain(chain), 4, 0))?;
-    let want =
-        "0 543 #ff0000\n1 3 0 0 543 543 999 -1 20 0.000 1 0.0000 -7 40 1000 1000 -7 40 993 40\n2 3 0 0 4 4 0 -1 20 0.000 0 0 -1 0 0 4\n\t -1000000 -1000000 -2000000 -1000000 -1000000 -2000000 -1000000 -1000000\n";
-    let want = format!(in alloc; "{EMPTY_FIG}{want}")?;
-    assert_eq!(rt; fig_bytes(alloc, &drawing)?.as_slice(), want.as_bytes());
+    drawing.add_figure(figure(far_chain(alloc)?, 4, 0))?;
+    Ok(drawing)
+}
+
+#[test]
+fn outlines_have_their_lines(rt: HostRuntime) -> Result<(), Fail> {
+    let text = text_of(rt.alloc(), far_outlines(rt.alloc())?)?;
+    assert_eq!(rt; text.as_slice(), FAR_OUTLINES);
     Ok(())
+}
+
+/// What the write onto a tape of this limit answers, and whether the tape then holds these bytes.
+fn taken<S: Shape>(
+    alloc: Global,
+    drawing: Drawing<S>,
+    limit: Option<u64>,
+    want: &[u8],
+) -> (Result<(), WriteError>, bool) {
+    let mut tape = Tape::new(alloc, limit);
+    let written = write_fig(alloc, &drawing, &mut tape);
+    (written, tape.bytes() == want)
 }
 
 #[test]
 fn what_a_sink_takes_is_a_front(rt: HostRuntime) -> Result<(), Fail> {
     let alloc = rt.alloc();
-    let mut short = Tape::new(alloc, Some(20));
-    let written = write_fig(alloc, &Drawing::<Rect>::new(alloc), &mut short);
-    assert_eq!(rt; written, Err(WriteError::WriteFailed));
-    assert_eq!(rt; short.bytes(), b"#FIG 3.2\nLandscape\nC".as_slice());
-    let drawing = red_box(&rt)?;
+    let failed = Err(WriteError::WriteFailed);
+    let empty = Drawing::<Rect>::new(alloc);
+    let taken_of_empty = taken(alloc, empty, Some(20), b"#FIG 3.2\nLandscape\nC");
+    assert_eq!(rt; taken_of_empty, (failed, true));
     for limit in 0..=156u64 {
-        let mut tape = Tape::new(alloc, Some(limit));
-        let written = write_fig(alloc, &drawing, &mut tape);
-        let want = if limit < 156 {
-            Err(WriteError::WriteFailed)
-        } else {
-            Ok(())
-        };
-        assert_eq!(rt; written, want, "limit {limit}");
-        assert_eq!(rt;
-            tape.bytes(),
-            &RED_BOX_FIG.as_bytes()[..limit as usize],
-            "limit {limit}"
-        );
+        let front = &RED_BOX_FIG.as_bytes()[..limit as usize];
+        let want = if limit < 156 { failed } else { Ok(()) };
+        let taken = taken(alloc, red_box(alloc)?, Some(limit), front);
+        assert_eq!(rt; taken, (want, true), "limit {limit}");
     }
     Ok(())
 }

@@ -1,5 +1,5 @@
-//! Worked examples of drawings and their formats, by public calls alone: sinks and sources, drawings,
-//! FIG text as written and as read, and runs.
+//! Worked examples of drawings and their formats, by public calls alone: drawings, FIG text as written
+//! and as read, and runs.
 #![tactic(auto)]
 
 #[cfg(test)]
@@ -17,12 +17,8 @@ mod fig_texts;
 #[cfg(test)]
 mod figures;
 #[cfg(test)]
+mod printing;
+#[cfg(test)]
 mod readings;
 #[cfg(test)]
 mod runs;
-#[cfg(test)]
-mod sinks;
-#[cfg(test)]
-mod sources;
-#[cfg(test)]
-mod text_lines;

@@ -1,108 +1,117 @@
 //! Runs over sources and sinks in memory, and the texts of their refusals.
 
+use crate::printing::printed;
 use example_parts::RED_BOX;
 use gf_bytes::{Reel, Tape};
 use gf_drawing::CompileFault;
 use gf_ops::{OpFault, OpId};
 use gf_studio::{LineCause, StudioError, fig_run};
-use std::alloc::AllocError;
+use std::alloc::{AllocError, Global};
+use std::test::Fail;
 
-const FIRST: OpId = OpId { site: 1, seq: 1 };
+/// Each row: the answer and how many bytes the sink took, which side fails after how many, and the
+/// pieces of the input.
+const RUNS: &str = r"
+// runs_answer_the_first_fault
+ok, 60                             |          |
+ok, 156                            |          | red_box
+ok, 156                            | sink 156 | red_box
+write failed, 155                  | sink 155 | red_box
+read failed, 0                     | source 5 | red_box
+line 2: Field, 0                   |          | / {} / {
+line 3: Json, 0                    |          | red_box / red_box / {
+line 2: Clash, 0                   |          | red_box / green_box
+operation 1.1 dropped: BadClock, 0 |          | box_after_itself
+operation 1.1 dropped: BadClock, 0 |          | box_after_itself / {
+line 1: Json, 0                    |          | { / box_after_itself
+";
+
+/// The piece of this name; `{` and `{}` name themselves.
+fn piece(name: &str) -> &str {
+    match name {
+        "/" => "\n",
+        "red_box" => RED_BOX,
+        "green_box" => {
+            r#"{"colour":"00ff00","id":[1,1],"kind":"box","layer":0,"op":"create","past":[0,0,0,0,0,0,0,0],"place":[100,200],"shown":true,"size":[300,400]}"#
+        }
+        "box_after_itself" => {
+            r#"{"colour":"ff0000","id":[1,1],"kind":"box","layer":0,"op":"create","past":[1,0,0,0,0,0,0,0],"place":[100,200],"shown":true,"size":[300,400]}"#
+        }
+        _ => name,
+    }
+}
+
+/// The pieces of these names, with nothing between them.
+fn joined(alloc: Global, names: &str) -> Result<String, AllocError> {
+    let mut text = String::new(alloc);
+    for name in names.split_whitespace() {
+        text.push_str(piece(name))?;
+    }
+    Ok(text)
+}
+
+/// After how many bytes this side fails, where the cell says so.
+fn limit(cell: &str, side: &str) -> Option<u64> {
+    match cell.split_once(' ') {
+        Some((known, count)) if known == side => count.parse::<u64>().ok(),
+        _ => None,
+    }
+}
+
+/// What a run answers, and how many bytes its sink takes.
+fn answer(alloc: Global, failing: &str, names: &str) -> Result<String, Fail> {
+    let input = joined(alloc, names)?;
+    let mut source = Reel::new(input.as_bytes(), limit(failing, "source"));
+    let mut sink = Tape::new(alloc, limit(failing, "sink"));
+    let result = fig_run(alloc, &mut source, &mut sink);
+    let taken = sink.bytes().len();
+    match result {
+        Ok(()) => Ok(format!(in alloc; "ok, {taken}")?),
+        Err(error) => Ok(format!(in alloc; "{error}, {taken}")?),
+    }
+}
 
 #[test]
-fn runs_answer_the_first_fault(rt: HostRuntime) -> Result<(), AllocError> {
-    let alloc = rt.alloc();
-    let again = format!(in alloc; "{RED_BOX}\n{RED_BOX}\n{{")?;
-    let green = RED_BOX.replace(alloc, "ff0000", "00ff00")?;
-    let clash = format!(in alloc; "{RED_BOX}\n{green}")?;
-    let own = RED_BOX.replace(alloc, "[0,0,0,0,0,0,0,0]", "[1,0,0,0,0,0,0,0]")?;
-    let drop_first = format!(in alloc; "{own}\n{{")?;
-    let line_first = format!(in alloc; "{{\n{own}")?;
-    let rows = [
-        ("", None, None, Ok(()), 60),
-        (RED_BOX, None, None, Ok(()), 156),
-        (RED_BOX, None, Some(156), Ok(()), 156),
-        (RED_BOX, None, Some(155), Err(StudioError::WriteFailed), 155),
-        (RED_BOX, Some(5), None, Err(StudioError::ReadFailed), 0),
-        (
-            "\n{}\n{",
-            None,
-            None,
-            Err(StudioError::Line(2, LineCause::Field)),
-            0,
-        ),
-        (
-            again.as_str(),
-            None,
-            None,
-            Err(StudioError::Line(3, LineCause::Json)),
-            0,
-        ),
-        (
-            clash.as_str(),
-            None,
-            None,
-            Err(StudioError::Line(2, LineCause::Clash)),
-            0,
-        ),
-        (
-            own.as_str(),
-            None,
-            None,
-            Err(StudioError::Dropped(FIRST, OpFault::BadClock)),
-            0,
-        ),
-        (
-            drop_first.as_str(),
-            None,
-            None,
-            Err(StudioError::Dropped(FIRST, OpFault::BadClock)),
-            0,
-        ),
-        (
-            line_first.as_str(),
-            None,
-            None,
-            Err(StudioError::Line(1, LineCause::Json)),
-            0,
-        ),
-    ];
-    for (row, (input, fail_after, limit, want, taken)) in rows.iter().enumerate() {
-        let mut source = Reel::new(input.as_bytes(), *fail_after);
-        let mut sink = Tape::new(alloc, *limit);
-        assert_eq!(rt; fig_run(alloc, &mut source, &mut sink), *want, "row {row}");
-        assert_eq!(rt; sink.bytes().len(), *taken, "row {row}");
+fn runs_answer_the_first_fault(rt: HostRuntime) -> Result<(), Fail> {
+    for row in RUNS.lines() {
+        let Some((want, rest)) = row.split_once('|') else {
+            continue;
+        };
+        let Some((failing, names)) = rest.split_once('|') else {
+            return Err(Fail::new("a row lacks a cell"));
+        };
+        let answer = answer(rt.alloc(), failing.trim(), names)?;
+        assert_eq!(rt; answer.as_str(), want.trim(), "of {row}");
     }
     Ok(())
 }
 
 #[test]
-fn refusals_have_their_texts(rt: HostRuntime) -> Result<(), AllocError> {
-    let rows = [
-        (StudioError::ReadFailed, "read failed"),
-        (StudioError::TooLong, "input too long"),
-        (StudioError::Line(3, LineCause::Json), "line 3: Json"),
-        (StudioError::Line(3, LineCause::Field), "line 3: Field"),
-        (StudioError::Line(3, LineCause::Range), "line 3: Range"),
-        (StudioError::Line(3, LineCause::Clash), "line 3: Clash"),
-        (
-            StudioError::Dropped(OpId { site: 3, seq: 1 }, OpFault::BadClock),
-            "operation 3.1 dropped: BadClock",
-        ),
-        (
-            StudioError::Compile(CompileFault::TooManyVersions),
-            "export refused: TooManyVersions",
-        ),
-        (
-            StudioError::Compile(CompileFault::TooManyColours),
-            "export refused: TooManyColours",
-        ),
-        (StudioError::WriteFailed, "write failed"),
-        (StudioError::OutOfMemory, "out of memory"),
+fn a_line_that_is_no_json_is_a_fault_of_its_own(rt: HostRuntime) {
+    let mut sink = Tape::new(rt.alloc(), None);
+    let result = fig_run(rt.alloc(), &mut Reel::new(b"{", None), &mut sink);
+    assert_eq!(rt; result, Err(StudioError::Line(1, LineCause::Json)));
+}
+
+#[test]
+fn refusals_have_their_texts(rt: HostRuntime) -> Result<(), Fail> {
+    let errors = [
+        StudioError::ReadFailed,
+        StudioError::TooLong,
+        StudioError::Line(3, LineCause::Json),
+        StudioError::Line(3, LineCause::Field),
+        StudioError::Line(3, LineCause::Range),
+        StudioError::Line(3, LineCause::Clash),
+        StudioError::Dropped(OpId { site: 3, seq: 1 }, OpFault::BadClock),
+        StudioError::Compile(CompileFault::TooManyVersions),
+        StudioError::Compile(CompileFault::TooManyColours),
+        StudioError::WriteFailed,
+        StudioError::OutOfMemory,
     ];
-    for (error, want) in rows {
-        let text = format!(in rt.alloc(); "{error}")?;
-        assert_eq!(rt; text.as_str(), want);
-    }
+    let text = printed(rt.alloc(), &errors)?;
+    assert_eq!(rt;
+        text.as_str(),
+        "read failed\ninput too long\nline 3: Json\nline 3: Field\nline 3: Range\nline 3: Clash\noperation 3.1 dropped: BadClock\nexport refused: TooManyVersions\nexport refused: TooManyColours\nwrite failed\nout of memory\n"
+    );
     Ok(())
 }

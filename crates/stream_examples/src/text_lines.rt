@@ -19,21 +19,28 @@ fn all_lines<'a>(alloc: Global, text: &'a [u8]) -> Result<Vec<(u64, &'a [u8])>, 
     Ok(found)
 }
 
+/// They as text: each with its number, and ended by a bar.
+fn told(alloc: Global, text: &str) -> Result<String, Fail> {
+    let mut told = String::new(alloc);
+    for (number, line) in all_lines(alloc, text.as_bytes())? {
+        let line = std::str::from_utf8(line)?;
+        let line = format!(in alloc; "{number}:{line}|")?;
+        told.push_str(line.as_str())?;
+    }
+    Ok(told)
+}
+
 #[test]
 fn numbers_the_lines(rt: HostRuntime) -> Result<(), Fail> {
-    let found = all_lines(rt.alloc(), b"\n{a}\r\n \t\r\nb \n\n\nc")?;
-    assert_eq!(rt; found.len(), 3);
-    assert_eq!(rt; found[0], (2, &b"{a}\r"[..]));
-    assert_eq!(rt; found[1], (4, &b"b "[..]));
-    assert_eq!(rt; found[2], (7, &b"c"[..]));
     for (text, want) in [
-        (&b""[..], 0),
-        (b"\n\n", 0),
-        (b"a\n", 1),
-        (b"a\n\r\n", 1),
-        (b"a", 1),
+        ("\n{a}\r\n \t\r\nb \n\n\nc", "2:{a}\r|4:b |7:c|"),
+        ("", ""),
+        ("\n\n", ""),
+        ("a\n", "1:a|"),
+        ("a\n\r\n", "1:a|"),
+        ("a", "1:a|"),
     ] {
-        assert_eq!(rt; all_lines(rt.alloc(), text)?.len(), want, "of {text:?}");
+        assert_eq!(rt; told(rt.alloc(), text)?.as_str(), want);
     }
     Ok(())
 }

@@ -1,6 +1,6 @@
 use Rattle.std.proofs.Common.{◌≡◌, ◌++◌, map, length}
 use Rattle.gf_bytes.specs.TextLines.{numbered_lines}
-use Rattle.drawing_examples.proofs.text_lines.all_lines.Given as goal
+use Rattle.stream_examples.proofs.text_lines.all_lines.Given as goal
 
 -- what was given, then what is left
 abbrev pub invariant-loop-line : goal.invariant-loop-line
