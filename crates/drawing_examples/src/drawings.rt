@@ -3,7 +3,7 @@
 ghost use Rattle.std.specs.Prelude.{◌≤◌};
 
 use crate::figures::{figure, seen, table};
-use gf_drawing::{Drawing, outlines_paint_as_their_shapes};
+use gf_drawing::{Drawing, Figure, outlines_paint_as_their_shapes};
 use gf_shape::{AnyShape, Circle, Outline, Point, Polygon, Rect, Rgb, Shape};
 use std::alloc::Global;
 use std::test::Fail;
@@ -143,8 +143,8 @@ fn three_boxes(alloc: Global, boxes: [Rect; 3]) -> Result<Drawing<Rect>, Fail> {
 }
 
 /// Whether the three figures are these boxes in file order, each in its colour at its depth.
-fn is_in_file_order(drawing: Drawing<Rect>, boxes: [Rect; 3]) -> bool {
-    match drawing.figures() {
+fn are_in_file_order(figures: &[Figure<Rect>], boxes: [Rect; 3]) -> bool {
+    match figures {
         [behind, front, between] => {
             [behind.shape, front.shape, between.shape] == boxes
                 && (behind.colour, behind.depth) == (2, 999)
@@ -155,6 +155,11 @@ fn is_in_file_order(drawing: Drawing<Rect>, boxes: [Rect; 3]) -> bool {
     }
 }
 
+fn is_in_file_order(alloc: Global, boxes: [Rect; 3]) -> Result<bool, Fail> {
+    let drawing = three_boxes(alloc, boxes)?;
+    Ok(are_in_file_order(drawing.figures(), boxes))
+}
+
 #[test]
 fn what_lies_behind_is_hidden(rt: HostRuntime) -> Result<(), Fail> {
     let alloc = rt.alloc();
@@ -163,7 +168,7 @@ fn what_lies_behind_is_hidden(rt: HostRuntime) -> Result<(), Fail> {
         Rect::new(ORIGIN, 3, 3)?,
         Rect::new(ORIGIN, 6, 6)?,
     ];
-    assert!(rt; is_in_file_order(three_boxes(alloc, boxes)?, boxes));
+    assert!(rt; is_in_file_order(alloc, boxes)?);
     let colours = seen(alloc, three_boxes(alloc, boxes)?, "1 0, 4 0, 9 0, 10 0")?;
     assert_eq!(rt; colours.as_str(), " ff0000 010203 00ff00 ffffff");
     Ok(())

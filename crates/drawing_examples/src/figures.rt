@@ -33,6 +33,10 @@ pub(crate) fn seen<S: Shape>(
     drawing: Drawing<S>,
     points: &str,
 ) -> Result<String, Fail> {
+    colours(alloc, &drawing, points)
+}
+
+fn colours<S: Shape>(alloc: Global, drawing: &Drawing<S>, points: &str) -> Result<String, Fail> {
     let mut text = String::new(alloc);
     for place in points.split(',') {
         let Rgb { r, g, b } = drawing.colour_at(point(place)?);
@@ -44,8 +48,12 @@ pub(crate) fn seen<S: Shape>(
 
 /// The figures in file order: each one's colour, depth and bounds.
 pub(crate) fn told<S: Shape>(alloc: Global, drawing: Drawing<S>) -> Result<String, AllocError> {
+    each_figure(alloc, drawing.figures())
+}
+
+fn each_figure<S: Shape>(alloc: Global, figures: &[Figure<S>]) -> Result<String, AllocError> {
     let mut text = String::new(alloc);
-    for figure in drawing.figures() {
+    for figure in figures {
         let (colour, depth) = (figure.colour, figure.depth);
         let Bounds { low, high } = figure.shape.bounds();
         let line = format!(in alloc;

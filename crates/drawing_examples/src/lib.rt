@@ -1,5 +1,5 @@
-//! Worked examples of drawings and their formats, by public calls alone: drawings, FIG text as written
-//! and as read, and runs.
+//! Worked examples of drawings and their formats, by public calls alone: drawings, FIG text as
+//! written and as read, and runs.
 #![tactic(auto)]
 
 #[cfg(test)]
