@@ -1,7 +1,8 @@
-//! What the worked examples are made of: points and colours, operations, and the red box as a line
-//! and as FIG text.
+//! What the worked examples are made of: points and colours, operations and how tables write them, and
+//! the red box as a line and as FIG text.
 #![tactic(auto)]
 
+pub mod notation;
 mod operations;
 mod texts;
 mod values;
