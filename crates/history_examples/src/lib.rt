@@ -1,13 +1,9 @@
-//! Worked examples of the history and its meaning, by public calls alone: shapes, operations, lines,
+//! Worked examples of the history and its meaning, by public calls alone: operations, lines,
 //! buffers, groups and versions.
 #![tactic(auto)]
 
 #[cfg(test)]
-mod boxes;
-#[cfg(test)]
 mod buffers;
-#[cfg(test)]
-mod circles;
 #[cfg(test)]
 mod conflicts;
 #[cfg(test)]
@@ -20,10 +16,6 @@ mod line_table;
 mod lines;
 #[cfg(test)]
 mod operations;
-#[cfg(test)]
-mod polygons;
-#[cfg(test)]
-mod shapes;
 #[cfg(test)]
 mod versions;
 #[cfg(test)]

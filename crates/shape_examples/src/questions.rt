@@ -1,0 +1,185 @@
+//! The reader of the tables. A line of a table is a shape, a question and, behind `|`, the answer; a
+//! line that begins with `//` says what the lines below it try.
+
+use example_parts::notation::{point, points};
+use gf_shape::{
+    AnyShape, Bounds, Circle, Outline, Point, Polygon, PolygonError, Range, Rect, Shape,
+};
+use std::alloc::Global;
+use std::process::Abort;
+use std::test::Fail;
+
+/// Each line of the table has its answer.
+pub(crate) fn answers(rt: &impl Abort, alloc: Global, rows: &str) -> Result<(), Fail> {
+    for row in rows.lines() {
+        if let Some((question, want)) = row.split_once('|') {
+            let answer = answer(alloc, question.trim())?;
+            assert_eq!(rt; answer.as_str(), want.trim(), "to {row}");
+        } else {
+            assert!(rt; row.is_empty() || row.starts_with("// "), "{row}");
+        }
+    }
+    Ok(())
+}
+
+fn answer(alloc: Global, text: &str) -> Result<String, Fail> {
+    match told(alloc, text) {
+        Some(answer) => Ok(answer),
+        None => Err(Fail::new("a question that has no answer")),
+    }
+}
+
+/// The first word of a text, and the rest.
+fn first(text: &str) -> (&str, &str) {
+    text.split_once(' ').unwrap_or((text, ""))
+}
+
+/// The answer that the shape of this kind gives.
+fn told(alloc: Global, text: &str) -> Option<String> {
+    let (front, question) = text.split_once(" ; ")?;
+    let (kind, shape) = first(front);
+    match kind {
+        "box" => of_box(alloc, rect(shape)?, question),
+        "circle" => of_circle(alloc, circle(shape)?, question),
+        "polygon" => of_polygon(alloc, polygon(alloc, shape)?, question),
+        "any" => of_moved(alloc, &any(alloc, shape)?, question),
+        "outline" => of_moved(alloc, &outline_of(alloc, shape)?, question),
+        _ => None,
+    }
+}
+
+/// `100,200 300 400`: the least corner, the width and the height.
+fn rect(text: &str) -> Option<Result<Rect, Range>> {
+    let (low, size) = first(text);
+    let (width, height) = first(size);
+    Some(Rect::new(point(low)?, width.parse().ok()?, height.parse().ok()?))
+}
+
+/// `3,4 5`: the centre and the radius.
+fn circle(text: &str) -> Option<Result<Circle, Range>> {
+    let (centre, radius) = first(text);
+    Some(Circle::new(point(centre)?, radius.parse().ok()?))
+}
+
+/// `0,0 8,0 0,8`: the corners.
+fn polygon(alloc: Global, text: &str) -> Option<Result<Polygon, PolygonError>> {
+    let corners = points(alloc, text)?;
+    Some(Polygon::new(alloc, corners.as_slice()))
+}
+
+fn any(alloc: Global, text: &str) -> Option<AnyShape> {
+    let (kind, shape) = first(text);
+    match kind {
+        "box" => Some(AnyShape::Rect(rect(shape)?.ok()?)),
+        "circle" => Some(AnyShape::Circle(circle(shape)?.ok()?)),
+        "polygon" => Some(AnyShape::Polygon(polygon(alloc, shape)?.ok()?)),
+        _ => None,
+    }
+}
+
+/// `of box 0,0 8 8`.
+fn outline_of(alloc: Global, text: &str) -> Option<Outline> {
+    any(alloc, text.strip_prefix("of ")?)?.outline(alloc).ok()
+}
+
+fn of_box(alloc: Global, made: Result<Rect, Range>, question: &str) -> Option<String> {
+    match (made, first(question)) {
+        (Err(fault), ("made", _)) => format!(in alloc; "{fault}").ok(),
+        (Ok(shape), ("moves", way)) => {
+            let (by, to) = way.split_once(" to ")?;
+            moves(alloc, &shape, point(by)?, &rect(to)?.ok()?)
+        }
+        (Ok(shape), _) => of_moved(alloc, &shape, question),
+        (Err(_), _) => None,
+    }
+}
+
+fn of_circle(alloc: Global, made: Result<Circle, Range>, question: &str) -> Option<String> {
+    match (made, first(question)) {
+        (Err(fault), ("made", _)) => format!(in alloc; "{fault}").ok(),
+        (Ok(shape), ("moves", way)) => {
+            let (by, to) = way.split_once(" to ")?;
+            moves(alloc, &shape, point(by)?, &circle(to)?.ok()?)
+        }
+        (Ok(shape), _) => of_moved(alloc, &shape, question),
+        (Err(_), _) => None,
+    }
+}
+
+fn of_polygon(
+    alloc: Global,
+    made: Result<Polygon, PolygonError>,
+    question: &str,
+) -> Option<String> {
+    match made {
+        Ok(shape) => of_moved(alloc, &shape, question),
+        Err(fault) if question == "made" => format!(in alloc; "{fault}").ok(),
+        Err(_) => None,
+    }
+}
+
+/// Whether the move takes one shape to the other.
+fn moves<S: Shape + PartialEq>(alloc: Global, shape: &S, d: Point, to: &S) -> Option<String> {
+    if !shape.movable(d) {
+        return None;
+    }
+    yes(alloc, shape.moved(alloc, d).ok()? == *to)
+}
+
+/// The answer of a shape, after a move where the question begins with one.
+fn of_moved<S: Shape>(alloc: Global, shape: &S, question: &str) -> Option<String> {
+    let Some(rest) = question.strip_prefix("moved ") else {
+        return of_shape(alloc, shape, question);
+    };
+    let (by, question) = first(rest);
+    let d = point(by)?;
+    if !shape.movable(d) {
+        return String::from_str(alloc, "fixed").ok();
+    }
+    of_shape(alloc, &shape.moved(alloc, d).ok()?, question)
+}
+
+fn of_shape<S: Shape>(alloc: Global, shape: &S, question: &str) -> Option<String> {
+    if let Some(p) = question.strip_prefix("outline holds ") {
+        return yes(alloc, shape.outline(alloc).ok()?.holds(point(p)?));
+    }
+    let (verb, p) = first(question);
+    match verb {
+        "made" => String::from_str(alloc, "ok").ok(),
+        "holds" => yes(alloc, shape.holds(point(p)?)),
+        "movable" => yes(alloc, shape.movable(point(p)?)),
+        "bounds" => bounds(alloc, shape.bounds()),
+        "outline" => drawn(alloc, &shape.outline(alloc).ok()?),
+        _ => None,
+    }
+}
+
+fn yes(alloc: Global, answer: bool) -> Option<String> {
+    String::from_str(alloc, if answer { "yes" } else { "no" }).ok()
+}
+
+fn bounds(alloc: Global, bounds: Bounds) -> Option<String> {
+    let Bounds { low, high } = bounds;
+    format!(in alloc; "{},{} to {},{}", low.x, low.y, high.x, high.y).ok()
+}
+
+/// An outline by its points.
+fn drawn(alloc: Global, outline: &Outline) -> Option<String> {
+    match outline {
+        Outline::Chain(chain) => corners(alloc, chain.boxed(), chain.points()),
+        Outline::Disc(disc) => {
+            let Point { x, y } = disc.centre();
+            format!(in alloc; "disc {x},{y} {}", disc.radius()).ok()
+        }
+    }
+}
+
+fn corners(alloc: Global, boxed: bool, points: &[Point]) -> Option<String> {
+    let front = if boxed { "boxed chain" } else { "chain" };
+    let mut text = String::from_str(alloc, front).ok()?;
+    for point in points {
+        let word = format!(in alloc; " {},{}", point.x, point.y).ok()?;
+        text.push_str(word.as_str()).ok()?;
+    }
+    Some(text)
+}
