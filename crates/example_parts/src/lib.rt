@@ -1,12 +1,14 @@
-//! What the worked examples are made of: points and colours, operations and how tables write them, and
-//! the red box as a line and as FIG text.
+//! What the worked examples share: points and colours, operations and how tables write them, the reader
+//! of tables, and the red box as a line and as FIG text.
 #![tactic(auto)]
 
 pub mod notation;
 mod operations;
+mod tables;
 mod texts;
 mod values;
 
 pub use operations::{changed, create, created, plain, polygon, set, unit_box};
+pub use tables::{Answers, ask, prints};
 pub use texts::{EMPTY_FIG, RED_BOX, RED_BOX_FIG};
 pub use values::{BLUE, GREEN, RED, at};
