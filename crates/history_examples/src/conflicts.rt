@@ -1,161 +1,68 @@
-//! Tests of conflicts and of copies.
+//! Conflicts of operations, their copies, and what they set.
 
-use example_parts::{BLUE, GREEN, create, polygon, set, unit_box};
-use gf_ops::{Attr, Form, ObjectId, Op, OpId, Value, concurrent, conflicts};
-use gf_shape::Point;
-use std::alloc::Global;
-use std::process::Abort;
+use crate::script::answers;
 use std::test::Fail;
 
-/// What a site that knows 1.1 alone has.
-const FIRST: [u32; 8] = [1, 0, 0, 0, 0, 0, 0, 0];
+const ROWS: &str = "
+// tells_conflicts_of_changes
+relation 1.2 after 1: 1.1 colour 0000ff ; 2.1 after 1: 1.1 colour 00ff00 | conflict
+relation 1.2 after 1: 1.1 colour 0000ff ; 2.1 after 1: 1.1 colour 0000ff | concurrent
+relation 1.2 after 1: 1.1 colour 0000ff ; 2.1 after 1: 1.1 layer 3     | concurrent
+relation 1.2 after 1: 1.1 layer 2 ; 2.1 after 1: 1.1 layer 3           | conflict
+relation 1.2 after 1: 1.1 shown true ; 2.1 after 1: 1.1 shown false    | conflict
+relation 1.2 after 1: 1.1 size 1 2 ; 2.1 after 1: 1.1 size 2 1         | conflict
+relation 1.2 after 1: 1.1 size 1 2 ; 2.1 after 1: 1.1 size 1 3         | conflict
+relation 1.2 after 1: 1.1 size 1 2 ; 2.1 after 1: 1.1 size 1 2         | concurrent
+relation 1.2 after 1: 1.1 place 1,2 ; 2.1 after 1: 1.1 place 1,3       | conflict
+relation 1.2 after 1: 1.1 place 1,2 ; 2.1 after 1: 1.1 place 1,2       | concurrent
+// The second changes another object, and comes after the first.
+relation 1.2 after 1: 1.1 colour 0000ff ; 2.1 after 1: 1.2 colour 00ff00 | concurrent
+relation 1.2 after 1: 1.1 colour 0000ff ; 2.1 after 2: 1.1 colour 00ff00 | ordered
 
-fn told(rt: &impl Abort, a: &Op, b: &Op) -> (bool, bool) {
-    assert!(rt; a.in_range() && b.in_range() && a.id != b.id);
-    assert_eq!(rt; concurrent(a, b), concurrent(b, a), "of {a:?} and {b:?}");
-    assert_eq!(rt; conflicts(a, b), conflicts(b, a), "of {a:?} and {b:?}");
-    (concurrent(a, b), conflicts(a, b))
-}
+// tells_conflicts_with_creations
+relation 1.1: box 3 4 ; 2.1: 1.1 size 3 4           | concurrent
+relation 1.1: box 3 4 ; 2.1: 1.1 size 4 3           | conflict
+relation 1.1: circle 3 ; 2.1: 1.1 size 3 3          | concurrent
+relation 1.1: circle 3 ; 2.1: 1.1 size 3 4          | conflict
+relation 1.1: polygon 0,0*3 5,5 ; 2.1: 1.1 size 3 4 | concurrent
+relation 1.1: box 3 4 ; 2.1: 1.1 layer 0            | concurrent
+relation 1.1: box 3 4 ; 2.1: 1.1 layer 1            | conflict
+relation 1.1: box 3 4 ; 2.1: 1.1 shown false        | conflict
+relation 1.1: box 3 4 ; 2.1: 1.1 colour 0000ff      | conflict
+relation 1.1: box 3 4 ; 2.1: 1.1 place 0,1          | conflict
+// Two creations are of two objects, and no operation is concurrent with itself.
+relation 1.1: box 1 1 ; 2.1: box 1 1 | concurrent
+itself 1.1: box 1 1                  | ordered
 
-#[test]
-fn tells_conflicts_of_changes(rt: HostRuntime) {
-    for (first, second, past, object, conflict) in [
-        (Value::Colour(BLUE), Value::Colour(GREEN), FIRST, 1, true),
-        (Value::Colour(BLUE), Value::Colour(BLUE), FIRST, 1, false),
-        (Value::Colour(BLUE), Value::Layer(3), FIRST, 1, false),
-        (Value::Layer(2), Value::Layer(3), FIRST, 1, true),
-        (Value::Shown(true), Value::Shown(false), FIRST, 1, true),
-        (Value::Size(1, 2), Value::Size(2, 1), FIRST, 1, true),
-        (Value::Size(1, 2), Value::Size(1, 3), FIRST, 1, true),
-        (Value::Size(1, 2), Value::Size(1, 2), FIRST, 1, false),
-        (
-            Value::Place(Point { x: 1, y: 2 }),
-            Value::Place(Point { x: 1, y: 3 }),
-            FIRST,
-            1,
-            true,
-        ),
-        (
-            Value::Place(Point { x: 1, y: 2 }),
-            Value::Place(Point { x: 1, y: 2 }),
-            FIRST,
-            1,
-            false,
-        ),
-        // Another object, and one that comes after.
-        (Value::Colour(BLUE), Value::Colour(GREEN), FIRST, 2, false),
-        (
-            Value::Colour(BLUE),
-            Value::Colour(GREEN),
-            [2, 0, 0, 0, 0, 0, 0, 0],
-            1,
-            false,
-        ),
-    ] {
-        let a = set(1, 2, FIRST, 1, first);
-        let b = set(2, 1, past, object, second);
-        assert_eq!(rt;
-            told(&rt, &a, &b),
-            (past == FIRST, conflict),
-            "of {a:?} and {b:?}"
-        );
-    }
-}
+// tells_conflicts_of_points
+relation 1.2 after 1: 1.1 points 0,0*2 1,1 ; 2.1 after 1: 1.1 points 0,0*2 1,1 | concurrent
+relation 1.1: polygon 0,0*2 1,1 ; 2.1: 1.1 points 0,0*2 1,1            | concurrent
+relation 1.2 after 1: 1.1 points 0,0*2 1,1 ; 2.1 after 1: 1.1 points 0,0*2 1,2 | conflict
+relation 1.1: polygon 0,0*2 1,1 ; 2.1: 1.1 points 0,0*2 1,2            | conflict
 
-#[test]
-fn tells_conflicts_with_creations(rt: HostRuntime) -> Result<(), Fail> {
-    let other = polygon(rt.alloc(), 4, Point { x: 5, y: 5 })?;
-    for (form, value, conflict) in [
-        (Form::Rect(3, 4), Value::Size(3, 4), false),
-        (Form::Rect(3, 4), Value::Size(4, 3), true),
-        (Form::Circle(3), Value::Size(3, 3), false),
-        (Form::Circle(3), Value::Size(3, 4), true),
-        (other, Value::Size(3, 4), false),
-        (Form::Rect(3, 4), Value::Layer(0), false),
-        (Form::Rect(3, 4), Value::Layer(1), true),
-        (Form::Rect(3, 4), Value::Shown(false), true),
-        (Form::Rect(3, 4), Value::Colour(BLUE), true),
-        (Form::Rect(3, 4), Value::Place(Point { x: 0, y: 1 }), true),
-    ] {
-        let made = create(1, 1, [0; 8], form);
-        let changed = set(2, 1, [0; 8], 1, value);
-        assert_eq!(rt;
-            told(&rt, &made, &changed),
-            (true, conflict),
-            "of {made:?} and {changed:?}"
-        );
-    }
-    // Two creations are of two objects.
-    assert_eq!(rt;
-        told(&rt, &unit_box(1, 1, [0; 8]), &unit_box(2, 1, [0; 8])),
-        (true, false)
-    );
-    // No operation is concurrent with itself.
-    let alone = unit_box(1, 1, [0; 8]);
-    assert!(rt; alone.in_range());
-    assert!(rt; !concurrent(&alone, &alone));
-    assert!(rt; !conflicts(&alone, &alone));
-    Ok(())
-}
+// a_copy_equals_its_source
+copy 1.1: box 3 4                        | yes
+copy 8.9 after 1 2 3 4 5 6 7 8: circle 5 | yes
+copy 1.2 after 1: polygon 0,0*2 7,-7     | yes
+copy 1.2 after 1: 1.1 place 7,-7         | yes
+copy 1.2 after 1: 1.1 points 0,0*2 7,-7  | yes
+copy 1.2 after 1: 1.1 size 3 4           | yes
+copy 1.2 after 1: 1.1 colour 0000ff      | yes
+copy 1.2 after 1: 1.1 layer 9            | yes
+copy 1.2 after 1: 1.1 shown false        | yes
 
-fn points(alloc: Global, last: Point) -> Result<Value, Fail> {
-    match polygon(alloc, 3, last)? {
-        Form::Polygon(points) => Ok(Value::Points(points)),
-        Form::Rect(_, _) | Form::Circle(_) => Ok(Value::Shown(true)),
-    }
-}
+// tells_what_is_set
+attribute place 0,0                 | place
+attribute points 0,0*3              | points
+attribute size 1 1                  | size
+attribute colour 0000ff             | colour
+attribute layer 0                   | layer
+attribute shown true                | shown
+object 3.4 after 0 0 3: box 1 1     | 3.4
+object 3.5 after 1 0 4: 1.1 layer 1 | 1.1
+";
 
 #[test]
-fn tells_conflicts_of_points(rt: HostRuntime) -> Result<(), Fail> {
-    let near = Point { x: 1, y: 1 };
-    for (last, conflict) in [(near, false), (Point { x: 1, y: 2 }, true)] {
-        let a = set(1, 2, FIRST, 1, points(rt.alloc(), near)?);
-        let b = set(2, 1, FIRST, 1, points(rt.alloc(), last)?);
-        assert_eq!(rt; told(&rt, &a, &b), (true, conflict));
-        let form = polygon(rt.alloc(), 3, near)?;
-        let made = create(1, 1, [0; 8], form);
-        let changed = set(2, 1, [0; 8], 1, points(rt.alloc(), last)?);
-        assert_eq!(rt; told(&rt, &made, &changed), (true, conflict));
-    }
-    Ok(())
-}
-
-#[test]
-fn a_copy_equals_its_source(rt: HostRuntime) -> Result<(), Fail> {
-    let last = Point { x: 7, y: -7 };
-    let triangle = polygon(rt.alloc(), 3, last)?;
-    for source in [
-        create(1, 1, [0; 8], Form::Rect(3, 4)),
-        create(8, 9, [1, 2, 3, 4, 5, 6, 7, 8], Form::Circle(5)),
-        create(1, 2, FIRST, triangle),
-        set(1, 2, FIRST, 1, Value::Place(last)),
-        set(1, 2, FIRST, 1, points(rt.alloc(), last)?),
-        set(1, 2, FIRST, 1, Value::Size(3, 4)),
-        set(1, 2, FIRST, 1, Value::Colour(BLUE)),
-        set(1, 2, FIRST, 1, Value::Layer(9)),
-        set(1, 2, FIRST, 1, Value::Shown(false)),
-    ] {
-        assert_eq!(rt; source.copy(rt.alloc())?, source);
-    }
-    Ok(())
-}
-
-#[test]
-fn tells_what_is_set(rt: HostRuntime) -> Result<(), Fail> {
-    let place = Point { x: 0, y: 0 };
-    for (value, want) in [
-        (Value::Place(place), Attr::Place),
-        (points(rt.alloc(), place)?, Attr::Points),
-        (Value::Size(1, 1), Attr::Size),
-        (Value::Colour(BLUE), Attr::Colour),
-        (Value::Layer(0), Attr::Layer),
-        (Value::Shown(true), Attr::Shown),
-    ] {
-        assert_eq!(rt; value.attribute(), want);
-    }
-    let made = unit_box(3, 4, [0, 0, 3, 0, 0, 0, 0, 0]);
-    assert_eq!(rt; made.object(), ObjectId(OpId { site: 3, seq: 4 }));
-    let changed = set(3, 5, [1, 0, 4, 0, 0, 0, 0, 0], 1, Value::Layer(1));
-    assert_eq!(rt; changed.object(), ObjectId(OpId { site: 1, seq: 1 }));
-    Ok(())
+fn operations_conflict(rt: HostRuntime) -> Result<(), Fail> {
+    answers(rt.alloc(), ROWS)
 }

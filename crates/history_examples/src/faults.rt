@@ -1,0 +1,26 @@
+//! How faults are printed.
+
+use example_parts::prints;
+use gf_causal::OfferFault;
+use gf_groups::GroupFault;
+use gf_ops::{AddFault, OpFault};
+use std::test::Fail;
+
+#[test]
+fn faults_read_as_their_names(rt: HostRuntime) -> Result<(), Fail> {
+    let alloc = rt.alloc();
+    for (fault, text) in [
+        (OpFault::BadClock, "BadClock"),
+        (OpFault::NoObject, "NoObject"),
+        (OpFault::WrongKind, "WrongKind"),
+    ] {
+        prints(alloc, fault, text)?;
+        prints(alloc, AddFault::Op(fault), text)?;
+    }
+    prints(alloc, AddFault::OutOfMemory, "out of memory")?;
+    prints(alloc, OfferFault::Range, "Range")?;
+    prints(alloc, OfferFault::Clash, "Clash")?;
+    prints(alloc, OfferFault::OutOfMemory, "out of memory")?;
+    prints(alloc, GroupFault::NoObject, "NoObject")?;
+    prints(alloc, GroupFault::OutOfMemory, "out of memory")
+}

@@ -1,0 +1,10 @@
+//! Worked examples of lines of JSON, by public calls alone: what lines denote, what is refused, and
+//! how operations are written.
+#![tactic(auto)]
+
+#[cfg(test)]
+mod line_table;
+#[cfg(test)]
+mod lines;
+#[cfg(test)]
+mod written_lines;
