@@ -46,5 +46,5 @@ box 100,200 300 400 ; outline | boxed chain 100,200 400,200 400,600 100,600 100,
 
 #[test]
 fn boxes_hold_and_move(rt: HostRuntime) -> Result<(), Fail> {
-    answers(&rt, rt.alloc(), ROWS)
+    answers(rt.alloc(), ROWS)
 }

@@ -40,7 +40,7 @@ circle 3,4 5 ; outline | disc 3,4 5
 
 #[test]
 fn circles_hold_and_move(rt: HostRuntime) -> Result<(), Fail> {
-    answers(&rt, rt.alloc(), ROWS)
+    answers(rt.alloc(), ROWS)
 }
 
 #[tactic(auto, unfolding(gf_shape::specs::Reach::is_reached))]

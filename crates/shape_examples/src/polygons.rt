@@ -60,7 +60,7 @@ polygon 0,0 -1000000,0 0,-1000000 ; moved -1000000,-1000000 outline | chain -100
 
 #[test]
 fn polygons_hold_and_move(rt: HostRuntime) -> Result<(), Fail> {
-    answers(&rt, rt.alloc(), ROWS)
+    answers(rt.alloc(), ROWS)
 }
 
 #[tactic(auto, unfolding(gf_shape::specs::Reach::is_reached))]

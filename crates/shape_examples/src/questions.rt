@@ -1,31 +1,25 @@
-//! The reader of the tables. A line of a table is a shape, a question and, behind `|`, the answer; a
-//! line that begins with `//` says what the lines below it try.
+//! The questions of the tables: a shape, `;`, and what is asked of it.
 
 use example_parts::notation::{point, points};
+use example_parts::{Answers, ask};
 use gf_shape::{
     AnyShape, Bounds, Circle, Outline, Point, Polygon, PolygonError, Range, Rect, Shape,
 };
 use std::alloc::Global;
-use std::process::Abort;
 use std::test::Fail;
 
-/// Each line of the table has its answer.
-pub(crate) fn answers(rt: &impl Abort, alloc: Global, rows: &str) -> Result<(), Fail> {
-    for row in rows.lines() {
-        if let Some((question, want)) = row.split_once('|') {
-            let answer = answer(alloc, question.trim())?;
-            assert_eq!(rt; answer.as_str(), want.trim(), "to {row}");
-        } else {
-            assert!(rt; row.is_empty() || row.starts_with("// "), "{row}");
-        }
-    }
-    Ok(())
+/// Each question of a table has its answer.
+pub(crate) fn answers(alloc: Global, rows: &str) -> Result<(), Fail> {
+    ask(alloc, rows, &mut Asked)
 }
 
-fn answer(alloc: Global, text: &str) -> Result<String, Fail> {
-    match told(alloc, text) {
-        Some(answer) => Ok(answer),
-        None => Err(Fail::new("a question that has no answer")),
+/// The shape that a question names.
+#[derive(Drop)]
+struct Asked;
+
+impl Answers for Asked {
+    fn answer(&mut self, alloc: Global, question: &str) -> Option<String> {
+        told(alloc, question)
     }
 }
 

@@ -75,5 +75,5 @@ any polygon 0,0 8,0 0,8 ; movable 2147483647,2147483647         | no
 
 #[test]
 fn shapes_hold_and_move(rt: HostRuntime) -> Result<(), Fail> {
-    answers(&rt, rt.alloc(), ROWS)
+    answers(rt.alloc(), ROWS)
 }
