@@ -1,10 +1,9 @@
 //! Commands about a buffer before a history.
 
-use crate::history_commands::{added, checked};
 use crate::script::Scene;
 use example_parts::notation::operation;
 use gf_causal::{Buffer, OfferFault, Offered};
-use gf_ops::{History, OpId};
+use gf_ops::{AddFault, History, OpId};
 use std::alloc::Global;
 
 /// What the buffer says to an operation, and how many it holds then.
@@ -21,15 +20,28 @@ fn said(alloc: Global, answer: Result<Offered, OfferFault>, held: usize) -> Opti
     }
 }
 
+/// How many it holds.
+pub(crate) fn held(alloc: Global, buffer: &Buffer) -> Option<String> {
+    format!(in alloc; "{}", buffer.held()).ok()
+}
+
 /// What is ready first, which is taken out, and how many stay.
 pub(crate) fn take(alloc: Global, buffer: &mut Buffer, history: &History) -> Option<String> {
-    let first = buffer.first_ready(history).map(|op| op.id);
-    let taken = buffer.take_ready(history).map(|op| op.id);
+    let first = first_id(buffer, history);
+    let taken = taken_id(buffer, history);
     if first == taken {
         left(alloc, taken, buffer.held())
     } else {
         None
     }
+}
+
+fn first_id(buffer: &Buffer, history: &History) -> Option<OpId> {
+    Some(buffer.first_ready(history)?.id)
+}
+
+fn taken_id(buffer: &mut Buffer, history: &History) -> Option<OpId> {
+    Some(buffer.take_ready(history)?.id)
 }
 
 fn left(alloc: Global, taken: Option<OpId>, held: usize) -> Option<String> {
@@ -39,24 +51,31 @@ fn left(alloc: Global, taken: Option<OpId>, held: usize) -> Option<String> {
     }
 }
 
-/// What is ready first, which is taken out, and what the history says to it.
-pub(crate) fn deliver(alloc: Global, scene: &mut Scene) -> Option<String> {
-    let next = scene.buffer.take_ready(&scene.history)?;
-    let id = next.id;
-    let checked = checked(alloc, scene.history.check(&next))?;
-    let added = added(alloc, scene.history.add(next))?;
-    if checked == added {
-        format!(in alloc; "{id} {added}").ok()
-    } else {
-        None
-    }
-}
-
 /// The same of a buffer that holds this operation alone.
 pub(crate) fn alone(alloc: Global, history: &History, text: &str) -> Option<String> {
     let mut buffer = Buffer::new(alloc);
     match buffer.offer(operation(alloc, text)?, history) {
         Ok(Offered::Held) => take(alloc, &mut buffer, history),
         Ok(Offered::Already) | Err(_) => None,
+    }
+}
+
+/// What is ready first, which is taken out, and what the history says to it.
+pub(crate) fn deliver(alloc: Global, scene: &mut Scene) -> Option<String> {
+    let next = scene.buffer.take_ready(&scene.history)?;
+    let id = next.id;
+    let checked = scene.history.check(&next).map_err(AddFault::Op);
+    let added = scene.history.add(next);
+    if checked == added {
+        delivered(alloc, id, added)
+    } else {
+        None
+    }
+}
+
+fn delivered(alloc: Global, id: OpId, answer: Result<(), AddFault>) -> Option<String> {
+    match answer {
+        Ok(()) => format!(in alloc; "{id} ok").ok(),
+        Err(fault) => format!(in alloc; "{id} {fault}").ok(),
     }
 }

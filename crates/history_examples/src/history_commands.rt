@@ -23,14 +23,14 @@ pub(crate) fn check(alloc: Global, history: &History, text: &str) -> Option<Stri
     checked(alloc, history.check(&op))
 }
 
-pub(crate) fn added(alloc: Global, answer: Result<(), AddFault>) -> Option<String> {
+fn added(alloc: Global, answer: Result<(), AddFault>) -> Option<String> {
     match answer {
         Ok(()) => String::from_str(alloc, "ok").ok(),
         Err(fault) => format!(in alloc; "{fault}").ok(),
     }
 }
 
-pub(crate) fn checked(alloc: Global, answer: Result<(), OpFault>) -> Option<String> {
+fn checked(alloc: Global, answer: Result<(), OpFault>) -> Option<String> {
     match answer {
         Ok(()) => String::from_str(alloc, "ok").ok(),
         Err(fault) => format!(in alloc; "{fault}").ok(),

@@ -1,17 +1,26 @@
 //! Commands about operations and their parts.
 
-use example_parts::notation::{change, clock, id, operation, points as points_of, value};
+use example_parts::notation::{change, clock, id, operation, points, value};
 use gf_ops::{Attr, Op, Points, before, concurrent, conflicts};
 use std::alloc::Global;
 
+pub(crate) fn answer(alloc: Global, verb: &str, text: &str) -> Option<String> {
+    match verb {
+        "object" => object(alloc, text),
+        "name" => name(alloc, text),
+        _ => String::from_str(alloc, word(alloc, verb, text)?).ok(),
+    }
+}
+
 /// The answers of one word.
-pub(crate) fn word(alloc: Global, verb: &str, text: &str) -> Option<&'static str> {
+fn word(alloc: Global, verb: &str, text: &str) -> Option<&'static str> {
     match verb {
         "range" | "itself" | "copy" => of_one(alloc, verb, &operation(alloc, text)?),
         "before" | "relation" => of_parts(alloc, verb, text),
         "within" => within(text),
         "change" => in_range(alloc, text),
         "attribute" => attribute_of(alloc, text),
+        "slice" => slice(alloc, text),
         "equal" => equal(alloc, text),
         _ => None,
     }
@@ -106,11 +115,18 @@ fn attribute(attribute: Attr) -> &'static str {
     }
 }
 
+/// Whether the points of the first list are held as the second.
+fn slice(alloc: Global, text: &str) -> Option<&'static str> {
+    let (first, second) = parts(text)?;
+    let held = Points::new(points(alloc, first)?);
+    Some(yes(held.as_slice() == points(alloc, second)?.as_slice()))
+}
+
 /// Whether two lists of points are equal, and so is the copy of the first.
 fn equal(alloc: Global, text: &str) -> Option<&'static str> {
     let (first, second) = parts(text)?;
-    let a = Points::new(points_of(alloc, first)?);
-    are_equal(alloc, &a, &Points::new(points_of(alloc, second)?))
+    let a = Points::new(points(alloc, first)?);
+    are_equal(alloc, &a, &Points::new(points(alloc, second)?))
 }
 
 fn are_equal(alloc: Global, a: &Points, b: &Points) -> Option<&'static str> {
@@ -122,24 +138,13 @@ fn are_equal(alloc: Global, a: &Points, b: &Points) -> Option<&'static str> {
     }
 }
 
-/// The points as they are held.
-pub(crate) fn points(alloc: Global, text: &str) -> Option<String> {
-    let points = Points::new(points_of(alloc, text)?);
-    let mut held = String::new(alloc);
-    for point in points.as_slice() {
-        let word = format!(in alloc; "{},{} ", point.x, point.y).ok()?;
-        held.push_str(word.as_str()).ok()?;
-    }
-    Some(held)
-}
-
 /// The object that an operation makes or changes.
-pub(crate) fn object(alloc: Global, text: &str) -> Option<String> {
+fn object(alloc: Global, text: &str) -> Option<String> {
     let object = operation(alloc, text)?.object();
     format!(in alloc; "{}", object.0).ok()
 }
 
 /// An id as it is printed.
-pub(crate) fn name(alloc: Global, text: &str) -> Option<String> {
+fn name(alloc: Global, text: &str) -> Option<String> {
     format!(in alloc; "{}", id(text)?).ok()
 }

@@ -38,31 +38,37 @@ pub(crate) fn answers(alloc: Global, rows: &str) -> Result<(), Fail> {
 /// The answer to the command of this verb.
 fn told(alloc: Global, scene: &mut Scene, verb: &str, text: &str) -> Option<String> {
     match verb {
-        "new" => {
-            *scene = Scene::new(alloc);
-            String::from_str(alloc, "ok").ok()
-        }
+        "new" => renew(alloc, scene),
         "add" => history_commands::add(alloc, &mut scene.history, text),
-        "check" => history_commands::check(alloc, &scene.history, text),
-        "operations" => history_commands::operations(alloc, &scene.history),
-        "count" => history_commands::count(alloc, &scene.history, text),
-        "get" => history_commands::get(alloc, &scene.history, text),
         "offer" => buffer_commands::offer(alloc, scene, text),
-        "held" => format!(in alloc; "{}", scene.buffer.held()).ok(),
+        "held" => buffer_commands::held(alloc, &scene.buffer),
         "take" => buffer_commands::take(alloc, &mut scene.buffer, &scene.history),
         "deliver" => buffer_commands::deliver(alloc, scene),
-        "alone" => buffer_commands::alone(alloc, &scene.history, text),
-        "groups" => version_commands::groups(alloc, &scene.history, text),
-        "all" => version_commands::all(alloc, &scene.history),
-        "total" => version_commands::total(alloc, &scene.history),
-        "versions" => version_commands::versions(alloc, &scene.history, text),
-        "ranked" => version_commands::ranking(alloc, &scene.history),
-        "looks" => version_commands::looks(alloc, &scene.history, text),
-        "covers" => version_commands::covers(alloc, &scene.history, text),
-        "settled" => version_commands::settled(alloc, &scene.history),
-        "object" => operation_commands::object(alloc, text),
-        "name" => operation_commands::name(alloc, text),
-        "points" => operation_commands::points(alloc, text),
-        _ => String::from_str(alloc, operation_commands::word(alloc, verb, text)?).ok(),
+        _ => told_of(alloc, &scene.history, verb, text),
+    }
+}
+
+fn renew(alloc: Global, scene: &mut Scene) -> Option<String> {
+    *scene = Scene::new(alloc);
+    String::from_str(alloc, "ok").ok()
+}
+
+/// The answer to a command that changes nothing.
+fn told_of(alloc: Global, history: &History, verb: &str, text: &str) -> Option<String> {
+    match verb {
+        "check" => history_commands::check(alloc, history, text),
+        "operations" => history_commands::operations(alloc, history),
+        "count" => history_commands::count(alloc, history, text),
+        "get" => history_commands::get(alloc, history, text),
+        "alone" => buffer_commands::alone(alloc, history, text),
+        "groups" => version_commands::groups(alloc, history, text),
+        "versions" => version_commands::versions(alloc, history, text),
+        "all" => version_commands::all(alloc, history),
+        "total" => version_commands::total(alloc, history),
+        "ranked" => version_commands::ranking(alloc, history),
+        "looks" => version_commands::looks(alloc, history, text),
+        "covers" => version_commands::covers(alloc, history, text),
+        "settled" => version_commands::settled(alloc, history),
+        _ => operation_commands::answer(alloc, verb, text),
     }
 }

@@ -55,15 +55,24 @@ fn holds(set: u32, index: usize) -> bool {
     (set >> (index % 32)) & 1 == 1
 }
 
+/// Whether the operation conflicts with one of the set.
+fn clashes(ops: &[Op], set: u32, op: &Op) -> bool {
+    for (index, member) in ops.iter().enumerate() {
+        if holds(set, index) && clash(op, member) {
+            return true;
+        }
+    }
+    false
+}
+
 /// Whether the set has exactly the operations that conflict with none of it.
 fn is_version(ops: &[Op], set: u32) -> bool {
-    ops.iter().enumerate().all(|(index, op)| {
-        let clashes = ops
-            .iter()
-            .enumerate()
-            .any(|(other, member)| holds(set, other) && clash(op, member));
-        holds(set, index) != clashes
-    })
+    for (index, op) in ops.iter().enumerate() {
+        if holds(set, index) == clashes(ops, set, op) {
+            return false;
+        }
+    }
+    true
 }
 
 /// The ids of the operations of a set, rising, as the text of a group.

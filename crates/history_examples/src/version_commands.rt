@@ -19,7 +19,12 @@ pub(crate) fn groups(alloc: Global, history: &History, text: &str) -> Option<Str
 }
 
 fn are_of(groups: &Groups, object: ObjectId) -> bool {
-    groups.as_slice().iter().all(|group| group.object == object)
+    for group in groups.as_slice() {
+        if group.object != object {
+            return false;
+        }
+    }
+    true
 }
 
 /// How many they are.
@@ -60,7 +65,7 @@ pub(crate) fn push_ids(alloc: Global, text: &mut String, ids: &[OpId]) -> Option
 /// The ranked versions by object and operations, topmost first, each above the next.
 pub(crate) fn ranking(alloc: Global, history: &History) -> Option<String> {
     let ranked = ranked(alloc, history).ok()?;
-    if !falls(&ranked) || ranked.is_empty() != (ranked.len() == 0) {
+    if !falls(&ranked) {
         return None;
     }
     let mut text = String::new(alloc);
@@ -73,12 +78,16 @@ pub(crate) fn ranking(alloc: Global, history: &History) -> Option<String> {
 /// Whether each item is above the next, and all are counted.
 fn falls(ranked: &Ranked<AnyShape>) -> bool {
     let items = ranked.items.as_slice();
-    let below = items.iter().skip(1);
-    items
-        .iter()
-        .zip(below)
-        .all(|(item, next)| item.key > next.key)
-        && items.len() == ranked.len()
+    let Some((mut above, below)) = items.split_first() else {
+        return ranked.is_empty() && ranked.len() == 0;
+    };
+    for item in below {
+        if above.key <= item.key {
+            return false;
+        }
+        above = item;
+    }
+    !ranked.is_empty() && ranked.len() == items.len()
 }
 
 fn push_key(alloc: Global, text: &mut String, key: &VersionKey) -> Option<()> {
@@ -95,14 +104,16 @@ pub(crate) fn looks(alloc: Global, history: &History, text: &str) -> Option<Stri
 }
 
 fn look(alloc: Global, item: &Placed<AnyShape>) -> Option<String> {
-    let Placed { key, shape, colour } = item;
-    let Bounds { low, high } = shape.bounds();
-    let [x, y, right, bottom] = [low.x, low.y, high.x, high.y];
-    let Rgb { r, g, b } = *colour;
-    let layer = key.layer;
-    format!(in alloc;
-        "layer {layer}, colour {r:02x}{g:02x}{b:02x}, from {x},{y} to {right},{bottom}"
-    ).ok()
+    let Bounds { low, high } = item.shape.bounds();
+    let mut text = paint(alloc, item.key.layer, item.colour)?;
+    let bounds = format!(in alloc; ", from {},{} to {},{}", low.x, low.y, high.x, high.y).ok()?;
+    text.push_str(bounds.as_str()).ok()?;
+    Some(text)
+}
+
+fn paint(alloc: Global, layer: u16, colour: Rgb) -> Option<String> {
+    let Rgb { r, g, b } = colour;
+    format!(in alloc; "layer {layer}, colour {r:02x}{g:02x}{b:02x}").ok()
 }
 
 /// Whether the topmost version holds a point.
@@ -128,9 +139,9 @@ fn first_version(alloc: Global, history: &History) -> Result<Option<Version>, Ou
 }
 
 fn settled_text(alloc: Global, version: &Version) -> Option<String> {
-    let mut text = String::new(alloc);
-    push_key(alloc, &mut text, &version.key)?;
+    let mut text = paint(alloc, version.key.layer, version.colour)?;
     push_values(alloc, &mut text, version)?;
+    push_key(alloc, &mut text, &version.key)?;
     Some(text)
 }
 
@@ -139,11 +150,7 @@ fn push_values(alloc: Global, text: &mut String, version: &Version) -> Option<()
         return None;
     };
     let Point { x, y } = version.place;
-    let Rgb { r, g, b } = version.colour;
-    let layer = version.key.layer;
     let shown = version.shown;
-    let values = format!(in alloc;
-        ": circle {radius}, place {x},{y}, colour {r:02x}{g:02x}{b:02x}, layer {layer}, shown {shown}"
-    ).ok()?;
+    let values = format!(in alloc; ", circle {radius}, place {x},{y}, shown {shown}: ").ok()?;
     text.push_str(values.as_str()).ok()
 }

@@ -79,7 +79,7 @@ new                                                   | ok
 add 1.1: circle 10, place 1,0, layer 4, colour ff0000 | ok
 add 1.2 after 1: 1.1 shown false                      | ok
 all                                                   | [ 1.1 1.2 ]
-settled                                               | 1.1[ 1.1 1.2 ]: circle 10, place 1,0, colour ff0000, layer 4, shown false
+settled                                               | layer 4, colour ff0000, circle 10, place 1,0, shown false: 1.1[ 1.1 1.2 ]
 ranked                                                |
 
 // a_version_stands_at_its_place_in_its_size
