@@ -20,7 +20,6 @@ fn word(alloc: Global, verb: &str, text: &str) -> Option<&'static str> {
         "within" => within(text),
         "change" => in_range(alloc, text),
         "attribute" => attribute_of(alloc, text),
-        "slice" => slice(alloc, text),
         "equal" => equal(alloc, text),
         _ => None,
     }
@@ -38,13 +37,24 @@ fn attribute_of(alloc: Global, text: &str) -> Option<&'static str> {
     Some(attribute(value(alloc, text)?.attribute()))
 }
 
-/// Whether an operation is in range, how it stands to itself, and whether its copy equals it.
+/// Whether an operation is in range, whether its copy equals it, and how it stands to itself.
 fn of_one(alloc: Global, verb: &str, op: &Op) -> Option<&'static str> {
     match verb {
         "range" => Some(yes(op.in_range())),
-        "copy" => Some(yes(op.copy(alloc).ok()? == *op)),
-        _ if op.in_range() => standing(concurrent(op, op), conflicts(op, op)),
-        _ => None,
+        "copy" => copy(alloc, op),
+        _ => itself(op),
+    }
+}
+
+fn copy(alloc: Global, op: &Op) -> Option<&'static str> {
+    Some(yes(op.copy(alloc).ok()? == *op))
+}
+
+fn itself(op: &Op) -> Option<&'static str> {
+    if op.in_range() {
+        standing(concurrent(op, op), conflicts(op, op))
+    } else {
+        None
     }
 }
 
@@ -56,7 +66,11 @@ fn parts(text: &str) -> Option<(&str, &str)> {
 /// How two operations stand to one another.
 fn of_parts(alloc: Global, verb: &str, text: &str) -> Option<&'static str> {
     let (first, second) = parts(text)?;
-    of_two(verb, &operation(alloc, first)?, &operation(alloc, second)?)
+    beside(alloc, verb, &operation(alloc, first)?, second)
+}
+
+fn beside(alloc: Global, verb: &str, a: &Op, second: &str) -> Option<&'static str> {
+    of_two(verb, a, &operation(alloc, second)?)
 }
 
 /// Whether the first was known where the second was made, or what both are to one another, from
@@ -115,27 +129,33 @@ fn attribute(attribute: Attr) -> &'static str {
     }
 }
 
-/// Whether the points of the first list are held as the second.
-fn slice(alloc: Global, text: &str) -> Option<&'static str> {
-    let (first, second) = parts(text)?;
-    let held = Points::new(points(alloc, first)?);
-    Some(yes(held.as_slice() == points(alloc, second)?.as_slice()))
-}
-
-/// Whether two lists of points are equal, and so is the copy of the first.
+/// Whether two lists of points are equal, each held as it was given.
 fn equal(alloc: Global, text: &str) -> Option<&'static str> {
     let (first, second) = parts(text)?;
-    let a = Points::new(points(alloc, first)?);
-    are_equal(alloc, &a, &Points::new(points(alloc, second)?))
+    equals(alloc, &Points::new(points(alloc, first)?), second)
 }
 
-fn are_equal(alloc: Global, a: &Points, b: &Points) -> Option<&'static str> {
-    let equal = a == b;
-    if (a.copy(alloc).ok()? == *b) == equal && (a != b) != equal {
-        Some(yes(equal))
+fn equals(alloc: Global, held: &Points, text: &str) -> Option<&'static str> {
+    let listed = points(alloc, text)?;
+    let same = held.as_slice() == listed.as_slice();
+    if are_equal(alloc, held, &Points::new(listed)) == Some(same) {
+        Some(yes(same))
     } else {
         None
     }
+}
+
+/// Whether two lists are equal, and so is the copy of the first.
+fn are_equal(alloc: Global, a: &Points, b: &Points) -> Option<bool> {
+    let equal = a == b;
+    if (a != b) == equal || is_copied(alloc, a, b)? != equal {
+        return None;
+    }
+    Some(equal)
+}
+
+fn is_copied(alloc: Global, a: &Points, b: &Points) -> Option<bool> {
+    Some(a.copy(alloc).ok()? == *b)
 }
 
 /// The object that an operation makes or changes.

@@ -69,7 +69,6 @@ range 1.1: 1.1 points 0,0*64 0,0      | no
 range 1.1: 1.1 points 0,0*2 1000001,0 | no
 
 // keeps_points_in_order
-slice 1,2 3,4 1,5 ; 1,2 3,4 1,5 | yes
 equal 1,2 3,4 1,5 ; 1,2 3,4 1,5 | yes
 equal 1,2 3,4 1,5 ; 3,4 1,2 1,5 | no
 equal 1,2 3,4 1,5 ; 1,2 3,4 1,2 | no
