@@ -8,7 +8,7 @@ mod tables;
 mod texts;
 mod values;
 
-pub use operations::{changed, create, created, plain, polygon, set, unit_box};
+pub use operations::{changed, create, created, plain};
 pub use tables::{Answers, ask, prints};
 pub use texts::{EMPTY_FIG, RED_BOX, RED_BOX_FIG};
 pub use values::{BLUE, GREEN, RED, at};

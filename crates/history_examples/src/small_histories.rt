@@ -3,7 +3,7 @@
 use crate::version_commands::{push_ids, text_of};
 use example_parts::{BLUE, GREEN, changed, create};
 use gf_groups::groups_of;
-use gf_ops::{Form, History, ObjectId, Op, OpId, Value, conflicts};
+use gf_ops::{AddFault, Form, History, ObjectId, Op, OpId, Value, conflicts};
 use std::alloc::Global;
 use std::test::Fail;
 
@@ -29,21 +29,25 @@ fn coded(code: u32, history: &History) -> Op {
 }
 
 /// Adds an operation, if it is valid.
-fn adds(history: &mut History, op: Op) -> bool {
-    op.in_range() && history.check(&op).is_ok() && history.add(op).is_ok()
+fn adds(history: &mut History, op: Op) -> Result<bool, AddFault> {
+    if !op.in_range() || history.check(&op).is_err() {
+        return Ok(false);
+    }
+    history.add(op)?;
+    Ok(true)
 }
 
 /// The history of the box 1.1 and the changes that the codes tell of, if it is valid.
-fn small(alloc: Global, codes: &[u32]) -> Option<History> {
+fn small(alloc: Global, codes: &[u32]) -> Result<Option<History>, AddFault> {
     let mut history = History::new(alloc);
-    adds(&mut history, create(1, 1, [0; 8], Form::Rect(10, 10)));
+    adds(&mut history, create(1, 1, [0; 8], Form::Rect(10, 10)))?;
     for code in codes {
         let op = coded(*code, &history);
-        if !adds(&mut history, op) {
-            return None;
+        if !adds(&mut history, op)? {
+            return Ok(None);
         }
     }
-    Some(history)
+    Ok(Some(history))
 }
 
 fn clash(a: &Op, b: &Op) -> bool {
@@ -115,7 +119,7 @@ fn agrees(alloc: Global, history: &History) -> Option<bool> {
 /// How many operations the history of these codes has, whose groups are its versions; 0 where there
 /// is no such history.
 fn tried(alloc: Global, codes: &[u32]) -> Result<usize, Fail> {
-    let Some(history) = small(alloc, codes) else {
+    let Some(history) = small(alloc, codes)? else {
         return Ok(0);
     };
     if agrees(alloc, &history) == Some(true) {
