@@ -1,0 +1,4 @@
+pub mod DivisionLemmas
+pub mod PairLemmas
+pub mod MergeLemmas
+pub mod JoinLemmas

@@ -1,0 +1,4 @@
+pub mod Spans
+pub mod Crossings
+pub mod Joining
+pub mod JoiningParts
