@@ -1,5 +1,5 @@
 -- What a polygon holds lies between the least and the greatest of its points.
-use Rattle.std.specs.Prelude.{◌≡◌, ℕ, zero, suc, ◌<◌, ◌≤◌, length, take, drop, Bool, true, false, cond, List, [], ◌∷◌, ◌++◌, zip, count_by, All, Contains, slice_index_or, ℤ, pos, ◌-ℤ◌, ◌≤ℤ◌, ◌<ℤ◌, int_le, int_lt, refl}
+use Rattle.std.specs.Prelude.{◌≡◌, ℕ, zero, suc, ◌<◌, ◌≤◌, length, take, drop, Bool, true, false, cond, List, [], ◌∷◌, ◌++◌, zip, count_by, All, Contains, slice_index_or, ℤ, pos, ◌≤ℤ◌, ◌<ℤ◌, int_le, int_lt, refl}
 use Rattle.std.specs.List.{list_any}
 use Rattle.std.proofs.Common.{arith, sym, ◌∙◌}
 use Rattle.std.proofs.Math.IntN.{*ℤ-zero}

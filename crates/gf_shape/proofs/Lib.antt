@@ -6,3 +6,6 @@ pub mod BoundsLemmas
 pub mod PolygonBounds
 pub mod RingLemmas
 pub mod ChainBounds
+pub mod RowEdges
+pub mod RowPaths
+pub mod RowShapes

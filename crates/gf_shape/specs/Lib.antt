@@ -1,3 +1,4 @@
+pub use Rattle.gf_rows.specs.Spans
 pub mod Moving
 pub mod Reach
 pub mod Area
@@ -10,6 +11,8 @@ pub mod ShapeMoves
 pub mod Outlines
 pub mod FigureMeaning
 pub mod ShapeLaws
+pub mod Rows
+pub mod RowParts
 pub mod BoundsOf
 pub mod Opened
 pub mod Laws

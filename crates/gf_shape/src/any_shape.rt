@@ -6,7 +6,7 @@ ghost use Rattle.gf_shape.specs.ShapeMoves.{any_movable, any_moved};
 ghost use Rattle.gf_shape.specs.Outlines.{any_outline};
 ghost use Rattle.gf_shape.specs.Laws.Shapes.{any_moves, any_outlines};
 
-use crate::{Bounds, Circle, OutOfMemory, Outline, Point, Polygon, Rect, Shape};
+use crate::{Bounds, Circle, OutOfMemory, Outline, Point, Polygon, Rect, Row, Shape};
 use std::alloc::Global;
 
 /// A shape of any kind that a designer draws.
@@ -63,6 +63,14 @@ impl Shape for AnyShape {
             AnyShape::Rect(rect) => rect.outline(alloc),
             AnyShape::Circle(circle) => circle.outline(alloc),
             AnyShape::Polygon(polygon) => polygon.outline(alloc),
+        }
+    }
+
+    fn row_into(&self, y: i32, row: &mut Row) -> Result<(), OutOfMemory> {
+        match self {
+            AnyShape::Rect(rect) => rect.row_into(y, row),
+            AnyShape::Circle(circle) => circle.row_into(y, row),
+            AnyShape::Polygon(polygon) => polygon.row_into(y, row),
         }
     }
 

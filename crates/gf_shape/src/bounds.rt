@@ -23,10 +23,3 @@ impl Bounds {
         }
     }
 }
-
-/// The numbers from `first` to `last`, both included.
-#[derive(Clone, Copy, Debug, PartialEq, Eq)]
-pub struct Span {
-    pub first: i32,
-    pub last: i32,
-}

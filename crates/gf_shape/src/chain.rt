@@ -1,14 +1,15 @@
 //! Closed chains of points.
 
-ghost use Rattle.std.specs.Prelude.{◌≡◌, IfOk, IsTrue};
+ghost use Rattle.std.specs.Prelude.{◌≡◌, IfOk, IsTrue, OnOk};
 ghost use Rattle.gf_shape.specs.FigureMeaning.{chain_holds};
 ghost use Rattle.gf_shape.specs.Ring.{IsRing};
+ghost use Rattle.gf_shape.specs.Rows.{IsRow};
 ghost use Rattle.gf_shape.specs.ShapeLaws.{IsBounds};
 ghost use Rattle.gf_shape.specs.ShapeMoves.{points_movable, ring_moved};
 
 use crate::edges::path_holds;
 use crate::points::{all_movable, all_moved, bounds_from};
-use crate::{Bounds, OutOfMemory, Point};
+use crate::{Bounds, OutOfMemory, Point, Row};
 use std::alloc::Global;
 use std::marker::Model;
 
@@ -68,6 +69,13 @@ impl Chain {
         ensures { IsBounds (chain_holds self.now.points) result }
     {
         bounds_from(self.points[0], &self.points[1..])
+    }
+
+    /// Makes `row` its row `y`.
+    pub(crate) fn row_into(&self, y: i32, row: &mut Row) -> Result<(), OutOfMemory>
+        ensures { OnOk result (IsRow (chain_holds self.now.points) y row.new) }
+    {
+        row.set_path(self.points[0], &self.points[1..], y)
     }
 
     /// Whether each of its points, moved by `d`, lies within reach.

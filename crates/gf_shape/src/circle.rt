@@ -9,7 +9,7 @@ ghost use Rattle.gf_shape.specs.ShapeMoves.{round_movable, round_moved};
 ghost use Rattle.gf_shape.specs.Laws.Shapes.{round_moves, round_outlines};
 
 use crate::disc::MOST_RADIUS;
-use crate::{Bounds, Disc, OutOfMemory, Outline, Point, Range, Shape};
+use crate::{Bounds, Disc, OutOfMemory, Outline, Point, Range, Row, Shape};
 use std::alloc::Global;
 use std::marker::Model;
 
@@ -83,6 +83,10 @@ impl Shape for Circle {
         ensures lawful { IfOk result IsLawful }
     {
         Ok(Outline::Disc(self.disc.copy()))
+    }
+
+    fn row_into(&self, y: i32, row: &mut Row) -> Result<(), OutOfMemory> {
+        self.disc.row_into(y, row)
     }
 
     ghost moves = { round_moves };

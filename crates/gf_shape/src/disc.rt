@@ -1,14 +1,15 @@
 //! Discs.
 
-ghost use Rattle.std.specs.Prelude.{◌≡◌, ◌+ℤ◌, ◌-ℤ◌, ◌*ℤ◌, ◌*◌, ◌≤◌, ◌^◌, pos, int_le, unsigned_abs, IsTrue};
+ghost use Rattle.std.specs.Prelude.{◌≡◌, ◌+ℤ◌, ◌-ℤ◌, ◌*ℤ◌, ◌*◌, ◌≤◌, ◌^◌, pos, int_le, unsigned_abs, IsTrue, OnOk, ◌+◌, ◌<◌};
 ghost use Rattle.gf_shape.specs.Reach.{is_reached, is_within_reach};
 ghost use Rattle.gf_shape.specs.Round.{is_round};
+ghost use Rattle.gf_shape.specs.Rows.{IsRow};
 ghost use Rattle.gf_shape.specs.ShapeLaws.{IsBounds};
 ghost use Rattle.gf_shape.specs.ShapeMeaning.{round_holds};
 ghost use Rattle.gf_shape.specs.ShapeMoves.{round_movable, round_moved};
 
 use crate::products::{gap, product};
-use crate::{Bounds, Point};
+use crate::{Bounds, OutOfMemory, Point, Row};
 use std::marker::Model;
 
 /// The greatest radius.
@@ -87,6 +88,20 @@ impl Disc {
         }
     }
 
+    /// Makes `row` its row `y`.
+    pub(crate) fn row_into(&self, y: i32, row: &mut Row) -> Result<(), OutOfMemory>
+        ensures { OnOk result (IsRow (round_holds self.now) y row.new) }
+    {
+        let past = apart(self.centre.y, y);
+        if past <= u64::from(self.radius) {
+            let half = half_width(self.radius, past);
+            row.set(less(self.centre.x, half), more(self.centre.x, half))?;
+        } else {
+            row.clear();
+        }
+        Ok(())
+    }
+
     /// Whether its centre, moved by `d`, lies within reach.
     pub(crate) fn movable(&self, d: Point) -> bool
         ensures { result ≡ round_movable self.now d }
@@ -114,6 +129,32 @@ fn is_within(x: i64, y: i64, radius: u32) -> bool
 {
     let radius = i64::from(radius);
     product(x, x) + product(y, y) <= product(radius, radius)
+}
+
+/// How far two coordinates are apart.
+fn apart(a: i32, b: i32) -> u64
+    ensures { result ≡ unsigned_abs (b -ℤ a) }
+{
+    gap(a, b).unsigned_abs()
+}
+
+/// How far a disc reaches to both sides at a height `past` its centre: a root, rounded down.
+fn half_width(radius: u32, past: u64) -> u32
+    requires radius { radius ≤ 10000000 }
+    requires past { past ≤ radius }
+    ensures low { result * result + past * past ≤ radius * radius }
+    ensures high { radius * radius < (result + 1) * (result + 1) + past * past }
+    ensures small { result ≤ 10000000 }
+{
+    let rest = square(u64::from(radius)) - square(past);
+    rest.isqrt() as u32
+}
+
+fn square(n: u64) -> u64
+    requires { n ≤ 10000000 }
+    ensures { result ≡ n * n }
+{
+    n * n
 }
 
 /// The point `n` before and above `p`.

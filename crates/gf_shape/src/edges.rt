@@ -40,7 +40,7 @@ fn crosses_left(d: Point, a: Point, b: Point) -> bool
 }
 
 #[tactic(auto, using(std::proofs::lemmas::Int::ints))]
-fn climbs_past(d: Point, a: Point, b: Point) -> bool
+pub(crate) fn climbs_past(d: Point, a: Point, b: Point) -> bool
     ensures { result ≡ climbs_past d (a, b) }
 {
     a.y <= d.y && !(b.y <= d.y)

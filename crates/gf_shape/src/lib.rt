@@ -1,6 +1,7 @@
 //! Shapes over grid points: what each holds, its bounds, its moves and its outline.
 //!
 //! - [`Point`], [`Rgb`], [`Bounds`], [`Span`]: plain values; [`REACH`]: how far points lie.
+//! - [`Row`]: the spans of a shape at one height, with memory for the next ones.
 //! - [`Shape`]: what every shape can do, and the laws that it keeps.
 //! - [`Rect`], [`Circle`], [`Polygon`] and [`AnyShape`], which is one of these: what a designer draws.
 //! - [`Outline`], which is a [`Chain`] or a [`Disc`]: what a FIG file draws.
@@ -15,23 +16,27 @@ mod colour;
 mod disc;
 mod edges;
 mod outline;
+mod passing;
 mod point;
 mod points;
 mod polygon;
 mod products;
 mod rect;
 mod refusals;
+mod rows;
 mod shape;
 
 pub use any_shape::AnyShape;
-pub use bounds::{Bounds, Span};
+pub use bounds::Bounds;
 pub use chain::Chain;
 pub use circle::Circle;
 pub use colour::Rgb;
 pub use disc::Disc;
+pub use gf_rows::Span;
 pub use outline::Outline;
 pub use point::{Point, REACH};
 pub use polygon::Polygon;
 pub use rect::Rect;
 pub use refusals::{OutOfMemory, PolygonError, Range};
+pub use rows::Row;
 pub use shape::Shape;

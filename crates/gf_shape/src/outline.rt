@@ -5,7 +5,7 @@ ghost use Rattle.gf_shape.specs.FigureMeaning.{outline_holds};
 ghost use Rattle.gf_shape.specs.ShapeMoves.{outline_movable, outline_moved};
 ghost use Rattle.gf_shape.specs.Laws.Shapes.{outline_moves};
 
-use crate::{Bounds, Chain, Disc, OutOfMemory, Point, Shape};
+use crate::{Bounds, Chain, Disc, OutOfMemory, Point, Row, Shape};
 use std::alloc::Global;
 
 /// The outline of a figure, filled.
@@ -57,6 +57,13 @@ impl Shape for Outline {
         match self {
             Outline::Chain(chain) => Ok(Outline::Chain(chain.copy(alloc)?)),
             Outline::Disc(disc) => Ok(Outline::Disc(disc.copy())),
+        }
+    }
+
+    fn row_into(&self, y: i32, row: &mut Row) -> Result<(), OutOfMemory> {
+        match self {
+            Outline::Chain(chain) => chain.row_into(y, row),
+            Outline::Disc(disc) => disc.row_into(y, row),
         }
     }
 

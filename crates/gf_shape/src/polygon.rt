@@ -12,7 +12,7 @@ ghost use Rattle.gf_shape.specs.ShapeMoves.{points_movable, points_moved};
 ghost use Rattle.gf_shape.specs.Laws.Shapes.{polygon_moves, polygon_outlines};
 
 use crate::points::all_within_reach;
-use crate::{Bounds, Chain, OutOfMemory, Outline, Point, PolygonError, Shape};
+use crate::{Bounds, Chain, OutOfMemory, Outline, Point, PolygonError, Row, Shape};
 use std::alloc::Global;
 use std::marker::Model;
 
@@ -99,6 +99,11 @@ impl Shape for Polygon {
     fn outline(&self, alloc: Global) -> Result<Outline, OutOfMemory> {
         let ring = self.ring.copy(alloc)?;
         Ok(Outline::Chain(ring))
+    }
+
+    fn row_into(&self, y: i32, row: &mut Row) -> Result<(), OutOfMemory> {
+        self.ring.row_into(y, row)?;
+        Ok(())
     }
 
     ghost moves = { polygon_moves };

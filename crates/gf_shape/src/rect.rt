@@ -1,13 +1,13 @@
 //! Boxes.
 
-ghost use Rattle.std.specs.Prelude.{◌≡◌, ◌↔◌, IsTrue, IsOk, IfOk, pos, true, ◌+ℤ◌, ◌-ℤ◌, ◌&&◌, int_le};
+ghost use Rattle.std.specs.Prelude.{◌≡◌, ◌↔◌, IsTrue, IsOk, IfOk, pos, true, ◌+ℤ◌, ◌-ℤ◌, ◌&&◌, int_le, OnOk, [], ◌∷◌};
 ghost use Rattle.gf_shape.specs.Area.{is_area, is_side, far_corner, corners_again};
 ghost use Rattle.gf_shape.specs.Outlines.{rect_outline};
 ghost use Rattle.gf_shape.specs.ShapeMeaning.{rect_holds};
 ghost use Rattle.gf_shape.specs.ShapeMoves.{rect_movable, rect_moved};
 ghost use Rattle.gf_shape.specs.Laws.Shapes.{rect_moves, rect_outlines};
 
-use crate::{Bounds, Chain, OutOfMemory, Outline, Point, REACH, Range, Shape};
+use crate::{Bounds, Chain, OutOfMemory, Outline, Point, REACH, Range, Row, Shape};
 use std::alloc::Global;
 use std::marker::Model;
 
@@ -112,6 +112,15 @@ impl Shape for Rect {
         Ok(Outline::Chain(Chain::new(true, points)))
     }
 
+    fn row_into(&self, y: i32, row: &mut Row) -> Result<(), OutOfMemory> {
+        if is_along(self.low.y, self.height, y) {
+            set_side(row, self.low.x, self.width)?;
+        } else {
+            row.clear();
+        }
+        Ok(())
+    }
+
     ghost moves = { rect_moves };
 
     ghost outlines = { rect_outlines };
@@ -133,6 +142,17 @@ fn end(low: i32, size: u32) -> i32
     ensures { result ≡ low +ℤ pos size }
 {
     (low as i64 + size as i64) as i32
+}
+
+/// Makes `row` the one span of a side.
+#[tactic(auto, using(std::proofs::lemmas::Int::ints))]
+fn set_side(row: &mut Row, low: i32, size: u32) -> Result<(), OutOfMemory>
+    requires { IsTrue (is_side low size) }
+    ensures { OnOk result (row.new ≡ record { first = low; last = low +ℤ pos size } ∷ []) }
+{
+    let last = end(low, size);
+    row.set(low, last)?;
+    Ok(())
 }
 
 /// Whether `at` lies between the ends of a side, or is one.

@@ -1,11 +1,12 @@
 //! What every shape can do, and the laws that it keeps.
 
-ghost use Rattle.std.specs.Prelude.{◌≡◌, Bool, IsTrue, IfOk};
+ghost use Rattle.std.specs.Prelude.{◌≡◌, Bool, IsTrue, IfOk, OnOk};
 ghost use Rattle.gf_shape.specs.declared.outline.Outline.{Outline};
 ghost use Rattle.gf_shape.specs.declared.point.Point.{Point};
+ghost use Rattle.gf_shape.specs.Rows.{IsRow};
 ghost use Rattle.gf_shape.specs.ShapeLaws.{IsBounds, IsLawful, IsMovedBy, IsOutlineOf};
 
-use crate::{Bounds, OutOfMemory, Outline, Point};
+use crate::{Bounds, OutOfMemory, Outline, Point, Row, Span};
 use std::alloc::Global;
 
 /// A set of grid points that a designer can draw.
@@ -43,6 +44,21 @@ pub trait Shape: Drop {
     fn outline(&self, alloc: Global) -> Result<Outline, OutOfMemory>
         ensures outline { IfOk result (λ o. o ≡ outline self.now) }
         ensures lawful { IfOk result IsLawful };
+
+    /// Makes `row` the row `y`, in the memory that `row` has, and more where that is too little. A box
+    /// and a disc are asked once, a disc with one root; a chain looks at each edge once, and sorts
+    /// those that meet the row.
+    fn row_into(&self, y: i32, row: &mut Row) -> Result<(), OutOfMemory>
+        ensures { OnOk result (IsRow (holds self.now) y row.new) };
+
+    /// The row `y`: the spans of x whose (x, y) it holds, rising, of which no two overlap or touch.
+    fn row(&self, alloc: Global, y: i32) -> Result<Vec<Span>, OutOfMemory>
+        ensures { IfOk result (λ spans. IsRow (holds self.now) y spans.items) }
+    {
+        let mut row = Row::new(alloc);
+        self.row_into(y, &mut row)?;
+        Ok(row.into_spans())
+    }
 
     /// Move law.
     ghost moves: { (s : Self) (d : Point) → IsMovedBy d (holds s) (holds (moved s d)) };

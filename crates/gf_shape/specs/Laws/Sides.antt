@@ -72,7 +72,7 @@ unfolding is_on_line
 is_on_line-from d a b e = (Decides-int_eq (side (a, b) d) (pos 0)).1 e
 
 -- on the line of an edge that passes its height, a point is on the edge
-on_edge_from_line : (d a b : Point) → side (a, b) d ≡ pos 0 → (int_le a.y d.y ≡ int_le b.y d.y → ⊥) → is_on_edge d (a, b) ≡ true
+pub on_edge_from_line : (d a b : Point) → side (a, b) d ≡ pos 0 → (int_le a.y d.y ≡ int_le b.y d.y → ⊥) → is_on_edge d (a, b) ≡ true
 on_edge_from_line d a b e ne =
     let line = is_on_line-from d a b e in
     elim (cases_Bool (int_le a.y d.y)) [

@@ -1,0 +1,136 @@
+//! Where edges meet a row: in a crossing, where they pass it, or in a contact, where they only
+//! touch it.
+
+ghost use Rattle.std.specs.Prelude.{◌≡◌, ◌++◌, ◌≤◌, ◌-ℤ◌, ◌≤ℤ◌, ◌<ℤ◌, pos, unsigned_abs, IsTrue, OnOk, All, true, Option};
+ghost use Rattle.gf_rows.specs.Crossings.{place};
+ghost use Rattle.gf_shape.specs.Reach.{is_reached, is_within_reach};
+ghost use Rattle.gf_shape.specs.RowParts.{contact, contacts_along, contacts_of, crossing, crossings_along, crossings_of, passes, span_between};
+
+use crate::edges::climbs_past;
+use crate::{OutOfMemory, Point, Span};
+use gf_rows::{Crossing, Meetings};
+
+/// Adds where the edges of a path meet a row.
+pub(crate) fn meet_along(
+    first: Point,
+    rest: &[Point],
+    y: i32,
+    meetings: &mut Meetings,
+) -> Result<(), OutOfMemory>
+    requires first { IsTrue (is_within_reach first) }
+    requires rest { All (λ p. IsTrue (is_within_reach p)) rest.now }
+    ensures crossings { OnOk result (meetings.new.crossings.items ≡ meetings.old.crossings.items ++ crossings_along y first rest.now) }
+    ensures contacts { OnOk result (meetings.new.contacts.items ≡ meetings.old.contacts.items ++ contacts_along y first rest.now) }
+{
+    let mut from = first;
+    for to in rest {
+        meet(from, *to, y, meetings)?;
+        from = *to;
+    }
+    Ok(())
+}
+
+/// Adds where an edge meets a row.
+fn meet(a: Point, b: Point, y: i32, meetings: &mut Meetings) -> Result<(), OutOfMemory>
+    requires a { IsTrue (is_within_reach a) }
+    requires b { IsTrue (is_within_reach b) }
+    ensures crossings { OnOk result (meetings.new.crossings.items ≡ meetings.old.crossings.items ++ crossings_of y (a, b)) }
+    ensures contacts { OnOk result (meetings.new.contacts.items ≡ meetings.old.contacts.items ++ contacts_of y (a, b)) }
+{
+    if passes(y, a, b) {
+        meetings.crossings.push(crossing(y, a, b))?;
+    } else if let Some(span) = contact(y, a, b) {
+        meetings.contacts.push(span)?;
+    }
+    Ok(())
+}
+
+fn passes(y: i32, a: Point, b: Point) -> bool
+    ensures { result ≡ passes y (a, b) }
+{
+    let on = Point { x: 0, y };
+    climbs_past(on, a, b) || climbs_past(on, b, a)
+}
+
+/// What an edge that doesn't pass a row has in it.
+#[tactic(auto, using(std::proofs::lemmas::Int::ints))]
+fn contact(y: i32, a: Point, b: Point) -> Option<Span>
+    ensures { result ≡ contact y (a, b) }
+{
+    if a.y == y && b.y == y {
+        Some(span_between(a.x, b.x))
+    } else if a.y == y {
+        Some(span_between(a.x, a.x))
+    } else if b.y == y {
+        Some(span_between(b.x, b.x))
+    } else {
+        None
+    }
+}
+
+fn span_between(m: i32, n: i32) -> Span
+    ensures { result ≡ span_between m n }
+{
+    Span {
+        first: m.min(n),
+        last: m.max(n),
+    }
+}
+
+/// Where an edge passes a row.
+#[tactic(auto, using(std::proofs::lemmas::Int::ints))]
+fn crossing(y: i32, a: Point, b: Point) -> Crossing
+    requires a { IsTrue (is_within_reach a) }
+    requires b { IsTrue (is_within_reach b) }
+    requires passes { passes y (a, b) ≡ true }
+    ensures { result ≡ crossing y (a, b) }
+{
+    if a.y <= y {
+        along(a.x, b.x, rise(a.y, y, b.y), run(a.y, b.y))
+    } else {
+        along(a.x, b.x, fall(a.y, y, b.y), run(b.y, a.y))
+    }
+}
+
+/// The place as far from one coordinate to another as `rise` is of `height`.
+#[tactic(auto, using(std::proofs::lemmas::Int::ints), unfolding(crate::specs::Reach::is_reached))]
+fn along(from: i32, to: i32, rise: i64, height: i64) -> Crossing
+    requires from { IsTrue (is_reached from) }
+    requires to { IsTrue (is_reached to) }
+    requires rise { (pos 0 ≤ℤ rise) × (rise ≤ℤ height) }
+    requires height { (pos 0 <ℤ height) × (unsigned_abs height ≤ 100000000) }
+    ensures { result ≡ place from (to -ℤ from) rise height }
+{
+    Crossing::along(from, run(from, to), rise, height)
+}
+
+/// How far `to` is past `from`, both within reach.
+#[tactic(auto, using(std::proofs::lemmas::Int::ints), unfolding(crate::specs::Reach::is_reached))]
+fn run(from: i32, to: i32) -> i64
+    requires from { IsTrue (is_reached from) }
+    requires to { IsTrue (is_reached to) }
+    ensures value { result ≡ to -ℤ from }
+    ensures small { unsigned_abs result ≤ 100000000 }
+{
+    to as i64 - from as i64
+}
+
+/// How far a row is past the lower end of a climbing edge.
+#[tactic(auto, using(std::proofs::lemmas::Int::ints))]
+fn rise(low: i32, y: i32, high: i32) -> i64
+    requires { (low ≤ℤ y) × (y <ℤ high) }
+    ensures value { result ≡ y -ℤ low }
+    ensures within { (pos 0 ≤ℤ result) × (result <ℤ (high -ℤ low)) }
+{
+    y as i64 - low as i64
+}
+
+/// How far a row is before the higher end of a falling edge.
+#[tactic(auto, using(std::proofs::lemmas::Int::ints))]
+fn fall(high: i32, y: i32, low: i32) -> i64
+    requires { (low ≤ℤ y) × (y <ℤ high) }
+    ensures value { result ≡ high -ℤ y }
+    ensures within { (pos 0 ≤ℤ result) × (result ≤ℤ (high -ℤ low)) × (pos 0 <ℤ (high -ℤ low)) }
+{
+    high as i64 - y as i64
+}
