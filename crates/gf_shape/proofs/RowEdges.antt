@@ -93,21 +93,28 @@ passing_edge d a b ne = elim (cases_Bool (int_eq (side (a, b) d) (pos 0))) [
   | inr e ↦ rw (line_is a b d, e) refl
 ]
 
+climbs : (p q : Bool) → ((p && not q) || (q && not p)) ≡ true → p ≡ true → q ≡ false
+climbs true true e h = sym e
+climbs p false e h = refl
+climbs false true e h = sym h
+
+falls : (p q : Bool) → ((p && not q) || (q && not p)) ≡ true → p ≡ false → q ≡ true
+falls p true e h = refl
+falls false false e h = e
+falls true false e h = sym h
+
+-- on which sides of the height y an edge that passes it begins and ends, from the heights a and b
+pub climbing_heights : (a b y : ℤ) → ((int_le a y && not (int_le b y)) || (int_le b y && not (int_le a y))) ≡ true → int_le a y ≡ true → (a ≤ℤ y) × (y <ℤ b)
+climbing_heights a b y e h = let k = climbs (int_le a y) (int_le b y) e h in (grind (arith, ints), grind (arith, ints))
+
+pub falling_heights : (a b y : ℤ) → ((int_le a y && not (int_le b y)) || (int_le b y && not (int_le a y))) ≡ true → int_le a y ≡ false → (b ≤ℤ y) × (y <ℤ a)
+falling_heights a b y e h = let k = falls (int_le a y) (int_le b y) e h in (grind (arith, ints), grind (arith, ints))
+
 pub passing : (a b : Point) (x y : ℤ) → passes y (a, b) ≡ true → (crosses_left (at x y) (a, b) ≡ is_before x (crossing y (a, b))) × (is_on_edge (at x y) (a, b) ≡ is_at x (crossing y (a, b)))
 passing a b x y h = elim (cases_Bool (int_le a.y y)) [
   | inl e ↦ let k = climbs (int_le a.y y) (int_le b.y y) h e in (climbing_crosses a b x y e k, passing_edge (at x y) a b (λ q. sym k ∙ (sym q ∙ e)) ∙ climbing_line a b x y e k)
   | inr e ↦ let k = falls (int_le a.y y) (int_le b.y y) h e in (falling_crosses a b x y e k, passing_edge (at x y) a b (λ q. sym e ∙ (q ∙ k)) ∙ falling_line a b x y e k)
 ]
-  where
-    climbs : (p q : Bool) → ((p && not q) || (q && not p)) ≡ true → p ≡ true → q ≡ false
-    climbs true true e h = sym e
-    climbs p false e h = refl
-    climbs false true e h = sym h
-
-    falls : (p q : Bool) → ((p && not q) || (q && not p)) ≡ true → p ≡ false → q ≡ true
-    falls p true e h = refl
-    falls false false e h = e
-    falls true false e h = sym h
 
 apart_crosses : (a b : Point) (x y : ℤ) → int_le a.y y ≡ int_le b.y y → crosses_left (at x y) (a, b) ≡ false
 apart_crosses a b x y e = rw e (none (int_le b.y y) _ _)

@@ -1,4 +1,5 @@
-//! Worked examples of shapes, by public calls alone: boxes, circles, polygons, and shapes of any kind.
+//! Worked examples of shapes, by public calls alone: boxes, circles, polygons, shapes of any kind, and
+//! the rows of all these.
 #![tactic(auto)]
 
 #[cfg(test)]
@@ -12,4 +13,8 @@ mod questions;
 #[cfg(test)]
 mod refusals;
 #[cfg(test)]
+mod rows;
+#[cfg(test)]
 mod shapes;
+#[cfg(test)]
+mod trials;
