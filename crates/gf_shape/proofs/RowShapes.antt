@@ -1,9 +1,8 @@
 -- The rows of boxes and discs.
 use Rattle.std.specs.Prelude.{◌≡◌, ℕ, ◌+◌, ◌-◌, ◌*◌, length, take, drop, slice_get, Some, unwrap_or, ◌<◌, ◌≤◌, Bool, true, false, ◌&&◌, ◌||◌, List, [], ◌∷◌, ℤ, pos, negsuc, ◌+ℤ◌, ◌-ℤ◌, ◌*ℤ◌, ◌≤ℤ◌, ◌<ℤ◌, int_le, refl, unsigned_abs}
-use Rattle.std.proofs.Common.{arith, ap, sym, inl, inr, subst, get_or, ◌∙◌}
+use Rattle.std.proofs.Common.{arith, ap, sym, subst, get_or, ◌∙◌}
 use Rattle.std.proofs.lemmas.List.{take_all}
 use Rattle.std.proofs.Math.Nat.{mul-le-mul}
-use Rattle.std.proofs.lemmas.Bool.{cases_lt}
 use Rattle.std.proofs.lemmas.Int.{ints, by_lt_z}
 use Rattle.gf_rows.specs.declared.span.Span.{Span}
 use Rattle.gf_shape.specs.declared.point.Point.{Point}
@@ -124,13 +123,3 @@ end_of-closed (a ∷ ps) x n e =
 pub end_of-ring : (r : Ring) (a : Point) (ps : List Point) → IsRing r → a ≡ get_or r.points 0 a → ps ≡ r.points → end_of a (take (length ps - 1) (drop 1 ps)) ≡ a
 end_of-ring r a ps h first whole =
     rw whole (subst (λ q. end_of q (take (length r.points - 1) (drop 1 r.points)) ≡ q) (sym first) (end_of-closed r.points a h.least h.closed))
-
--- a root is no greater than a number whose square is none less
-pub root_small : (n r : ℕ) → n * n ≤ r * r → n ≤ r
-root_small n r h = elim (cases_lt r n) [
-  | inl l ↦
-      let m : (r + 1) * (r + 1) ≤ n * n = mul-le-mul (omega arith) (omega arith) in
-      let e : (r + 1) * (r + 1) ≡ r * r + (2 * r + 1) = grind arith in
-      absurd (omega arith)
-  | inr l ↦ l
-]
