@@ -1,10 +1,11 @@
 -- The row law of a closed chain, from the crossings and the contacts of its edges.
-use Rattle.std.specs.Prelude.{◌≡◌, ℕ, ◌+◌, ◌%◌, Bool, true, false, not, cond, ◌&&◌, ◌||◌, List, [], ◌∷◌, ◌++◌, zip, length, count_by, Some, None, ℤ, int_le, refl, option_to_list}
+use Rattle.std.specs.Prelude.{drop, ◌<◌, ◌≡◌, ℕ, ◌+◌, ◌%◌, Bool, true, false, not, cond, ◌&&◌, ◌||◌, List, [], ◌∷◌, ◌++◌, zip, length, count_by, Some, None, ℤ, int_le, refl, option_to_list}
 use Rattle.std.specs.List.{list_any}
 use Rattle.std.specs.Ordering.{int_eq}
-use Rattle.std.proofs.Common.{arith, ap, sym, inl, inr, ◌∙◌}
+use Rattle.std.proofs.Common.{arith, ap, sym, inl, inr, get_or, ◌∙◌}
 use Rattle.std.proofs.lemmas.Bool.{cases_Bool}
 use Rattle.std.proofs.lemmas.Int.{ints, by_lt_z, clamps}
+use Rattle.std.proofs.lemmas.List.{append_assoc, at_drop_more}
 use Rattle.std.proofs.lemmas.List.Sums.{sum_by-cons, sum_by-append}
 use Rattle.gf_rows.specs.declared.crossing.Crossing.{Crossing}
 use Rattle.gf_rows.specs.declared.span.Span.{Span}
@@ -119,6 +120,14 @@ full_contacts_of y a b = elim (cases_Bool (passes y (a, b))) [
 pub full_contacts : (y : ℤ) (a : Point) (ps : List Point) → list_any is_empty (contacts_along y a ps) ≡ false
 full_contacts y a [] = refl
 full_contacts y a (b ∷ ps) = any_append is_empty (contacts_of y (a, b)) (contacts_along y b ps) ∙ rw (full_contacts_of y a b, full_contacts y b ps) refl
+
+-- one edge more of a walk that adds what each edge gives
+pub gathers_more : {X : Type 0} (f : Point → List Point → List X) (g : Point → Point → List X) → ((a b : Point) (ps : List Point) → f a (b ∷ ps) ≡ g a b ++ f b ps) → (old new whole : List X) (a d : Point) (ps : List Point) (i : ℕ) → i < length ps → new ≡ old ++ g a (get_or ps i d) → old ++ f a (drop i ps) ≡ whole → new ++ f (get_or ps i d) (drop (i + 1) ps) ≡ whole
+gathers_more f g one old new whole a d ps i h e is =
+    ap (λ l. l ++ f (get_or ps i d) (drop (i + 1) ps)) e
+    ∙ (append_assoc old (g a (get_or ps i d)) (f (get_or ps i d) (drop (i + 1) ps))
+    ∙ (ap (λ l. old ++ l) (sym (one a (get_or ps i d) (drop (i + 1) ps)))
+    ∙ (sym (at_drop_more (λ qs. old ++ f a qs) ps i d h) ∙ is)))
 
 pub path_row : (a : Point) (ps : List Point) (y : ℤ) (ss : List Span) → IsJoined (crossings_along y a ps) (contacts_along y a ps) ss → IsRow (chain_holds (a ∷ ps)) y ss
 path_row a ps y ss h = record {

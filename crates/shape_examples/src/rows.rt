@@ -1,108 +1,107 @@
-//! Worked examples: rows at given heights, each found by `row` and by `row_into` in one buffer.
+//! Worked examples: rows at given heights.
 
-use gf_shape::{Circle, Point, Polygon, PolygonError, Rect, Row, Shape};
-use std::alloc::{AllocError, Global};
+use gf_shape::{Circle, Point, Polygon, Rect, Row, Shape};
+use std::alloc::Global;
 use std::test::Fail;
 
-/// The row of a shape as pairs, or nothing where both calls differ.
-fn row_of<S: Shape>(
+/// Whether the row `y` of a shape is of these spans and no others, by both calls.
+fn has_row<S: Shape>(
     alloc: Global,
     shape: &S,
     y: i32,
-    row: &mut Row,
-) -> Result<Vec<(i32, i32)>, AllocError> {
-    if shape.row_into(y, row).is_err() {
-        return Err(AllocError);
-    }
-    match shape.row(alloc, y) {
-        Ok(spans) if spans.as_slice() == row.spans() => {
-            row.spans().iter().map(|s| (s.first, s.last)).collect(alloc)
-        }
-        _ => Err(AllocError),
+    one: Option<(i32, i32)>,
+    other: Option<(i32, i32)>,
+) -> Result<bool, Fail> {
+    let mut row = Row::new(alloc);
+    shape.row_into(y, &mut row)?;
+    let spans = row.spans();
+    let same = shape.row(alloc, y)?.as_slice() == spans;
+    let found = |k: usize| spans.get(k).map(|s| (s.first, s.last));
+    Ok(same && found(0) == one && found(1) == other && found(2).is_none())
+}
+
+fn corner(place: (i32, i32)) -> Point {
+    Point {
+        x: place.0,
+        y: place.1,
     }
 }
 
-fn polygon(alloc: Global, places: &[(i32, i32)]) -> Result<Polygon, PolygonError> {
-    let mut points = [Point { x: 0, y: 0 }; 64];
-    let mut count = 0;
-    for (x, y) in places {
-        if count < 64 {
-            points[count] = Point { x: *x, y: *y };
-            count += 1;
-        }
-    }
-    Polygon::new(alloc, &points[..count])
+/// The polygon of five points, of which the last ones may be the same.
+fn polygon(alloc: Global, places: [(i32, i32); 5]) -> Result<Polygon, Fail> {
+    let points = [
+        corner(places[0]),
+        corner(places[1]),
+        corner(places[2]),
+        corner(places[3]),
+        corner(places[4]),
+    ];
+    Ok(Polygon::new(alloc, &points)?)
 }
 
 #[test]
-fn boxes_and_circles_have_one_span(rt: HostRuntime) -> Result<(), Fail> {
-    let alloc = rt.alloc();
-    let origin = Point { x: 0, y: 0 };
-    let corner = Point {
-        x: -10_000_000,
-        y: -10_000_000,
-    };
-    let edge = Point {
-        x: 10_000_000,
-        y: 0,
-    };
-    let square = Rect::new(origin, 10, 10)?;
-    let plane = Rect::new(corner, 20_000_000, 20_000_000)?;
-    let small = Circle::new(origin, 5)?;
-    let far = Circle::new(edge, 10_000_000)?;
-    let mut row = Row::new(alloc);
-    let none = [];
-    for (y, spans) in [
-        (-1, none.as_slice()),
-        (0, [(0, 10)].as_slice()),
-        (10, [(0, 10)].as_slice()),
-        (11, none.as_slice()),
-        (i32::MIN, none.as_slice()),
-    ] {
-        assert_eq!(rt;
-            row_of(alloc, &square, y, &mut row)?.as_slice(),
-            spans,
-            "box {y}"
+fn boxes_have_one_span(rt: HostRuntime) -> Result<(), Fail> {
+    let rows = [
+        ((0, 0), 10, -1, None),
+        ((0, 0), 10, 0, Some((0, 10))),
+        ((0, 0), 10, 10, Some((0, 10))),
+        ((0, 0), 10, 11, None),
+        ((0, 0), 10, i32::MIN, None),
+        ((-10_000_000, -10_000_000), 20_000_000, -10_000_001, None),
+        (
+            (-10_000_000, -10_000_000),
+            20_000_000,
+            10_000_000,
+            Some((-10_000_000, 10_000_000)),
+        ),
+    ];
+    for (low, size, y, span) in rows {
+        let square = Rect::new(corner(low), size, size)?;
+        assert!(rt;
+            has_row(rt.alloc(), &square, y, span, None)?,
+            "{square:?} {y}"
         );
     }
-    for (y, spans) in [
-        (-10_000_000, [(-10_000_000, 10_000_000)].as_slice()),
-        (10_000_000, [(-10_000_000, 10_000_000)].as_slice()),
-        (10_000_001, none.as_slice()),
-    ] {
-        assert_eq!(rt;
-            row_of(alloc, &plane, y, &mut row)?.as_slice(),
-            spans,
-            "plane {y}"
-        );
-    }
-    for (y, spans) in [
-        (-6, none.as_slice()),
-        (-5, [(0, 0)].as_slice()),
-        (0, [(-5, 5)].as_slice()),
-        (3, [(-4, 4)].as_slice()),
-        (4, [(-3, 3)].as_slice()),
-        (5, [(0, 0)].as_slice()),
-        (6, none.as_slice()),
-        (i32::MAX, none.as_slice()),
-    ] {
-        assert_eq!(rt;
-            row_of(alloc, &small, y, &mut row)?.as_slice(),
-            spans,
-            "circle {y}"
-        );
-    }
-    for (y, spans) in [
-        (0, [(0, 20_000_000)].as_slice()),
-        (6_000_000, [(2_000_000, 18_000_000)].as_slice()),
-        (6_000_001, [(2_000_001, 17_999_999)].as_slice()),
-        (-10_000_000, [(10_000_000, 10_000_000)].as_slice()),
-        (10_000_001, none.as_slice()),
-    ] {
-        assert_eq!(rt;
-            row_of(alloc, &far, y, &mut row)?.as_slice(),
-            spans,
-            "far circle {y}"
+    Ok(())
+}
+
+#[test]
+fn circles_have_one_span(rt: HostRuntime) -> Result<(), Fail> {
+    let rows = [
+        ((0, 0), 5, -6, None),
+        ((0, 0), 5, -5, Some((0, 0))),
+        ((0, 0), 5, 0, Some((-5, 5))),
+        ((0, 0), 5, 3, Some((-4, 4))),
+        ((0, 0), 5, 4, Some((-3, 3))),
+        ((0, 0), 5, 5, Some((0, 0))),
+        ((0, 0), 5, 6, None),
+        ((0, 0), 5, i32::MAX, None),
+        ((10_000_000, 0), 10_000_000, 0, Some((0, 20_000_000))),
+        (
+            (10_000_000, 0),
+            10_000_000,
+            6_000_000,
+            Some((2_000_000, 18_000_000)),
+        ),
+        (
+            (10_000_000, 0),
+            10_000_000,
+            6_000_001,
+            Some((2_000_001, 17_999_999)),
+        ),
+        (
+            (10_000_000, 0),
+            10_000_000,
+            10_000_000,
+            Some((10_000_000, 10_000_000)),
+        ),
+        ((10_000_000, 0), 10_000_000, 10_000_001, None),
+    ];
+    for (centre, radius, y, span) in rows {
+        let circle = Circle::new(corner(centre), radius)?;
+        assert!(rt;
+            has_row(rt.alloc(), &circle, y, span, None)?,
+            "{circle:?} {y}"
         );
     }
     Ok(())
@@ -110,99 +109,97 @@ fn boxes_and_circles_have_one_span(rt: HostRuntime) -> Result<(), Fail> {
 
 #[test]
 fn polygons_have_the_rows_of_their_edges(rt: HostRuntime) -> Result<(), Fail> {
-    let alloc = rt.alloc();
+    let top = 10_000_000;
     let house = [(0, 0), (4, 0), (4, 4), (2, 6), (0, 4)];
     let star = [(0, -10), (6, 8), (-9, -3), (9, -3), (-6, 8)];
-    let bow = [(0, 0), (5, 4), (5, 0), (0, 4)];
-    let line = [(0, 0), (4, 2), (2, 1)];
-    let back = [(0, 0), (3, 1), (0, 0)];
-    let flat = [(0, 0), (5, 0), (2, 0)];
-    let dot = [(7, 7), (7, 7), (7, 7)];
-    let top = 10_000_000;
-    let far = [(-top, -top), (top, top - 1), (-top, top)];
-    let mut row = Row::new(alloc);
-    for (places, y, spans) in [
-        (house.as_slice(), -1, [].as_slice()),
-        (house.as_slice(), 0, [(0, 4)].as_slice()),
-        (house.as_slice(), 4, [(0, 4)].as_slice()),
-        (house.as_slice(), 5, [(1, 3)].as_slice()),
-        (house.as_slice(), 6, [(2, 2)].as_slice()),
-        (house.as_slice(), 7, [].as_slice()),
-        (star.as_slice(), -10, [(0, 0)].as_slice()),
-        (star.as_slice(), -3, [(-9, 9)].as_slice()),
-        (star.as_slice(), -2, [(-7, -3), (3, 7)].as_slice()),
-        (star.as_slice(), 0, [(-4, -4), (4, 4)].as_slice()),
-        (star.as_slice(), 8, [(-6, -6), (6, 6)].as_slice()),
-        (star.as_slice(), 9, [].as_slice()),
-        (bow.as_slice(), 0, [(0, 0), (5, 5)].as_slice()),
-        (bow.as_slice(), 1, [(0, 1), (4, 5)].as_slice()),
-        (bow.as_slice(), 2, [(0, 5)].as_slice()),
-        (line.as_slice(), 0, [(0, 0)].as_slice()),
-        (line.as_slice(), 1, [(2, 2)].as_slice()),
-        (line.as_slice(), 2, [(4, 4)].as_slice()),
-        (back.as_slice(), 0, [(0, 0)].as_slice()),
-        (back.as_slice(), 1, [(3, 3)].as_slice()),
-        (flat.as_slice(), 0, [(0, 5)].as_slice()),
-        (flat.as_slice(), 1, [].as_slice()),
-        (dot.as_slice(), 7, [(7, 7)].as_slice()),
-        (dot.as_slice(), 8, [].as_slice()),
-        (
-            far.as_slice(),
-            -9_999_999,
-            [(-10_000_000, -9_999_999)].as_slice(),
-        ),
-        (far.as_slice(), 0, [(-10_000_000, 0)].as_slice()),
-        (
-            far.as_slice(),
-            9_999_999,
-            [(-10_000_000, 10_000_000)].as_slice(),
-        ),
-        (
-            far.as_slice(),
-            10_000_000,
-            [(-10_000_000, -10_000_000)].as_slice(),
-        ),
-        (far.as_slice(), i32::MAX, [].as_slice()),
-    ] {
-        let polygon = polygon(alloc, places)?;
-        let found = row_of(alloc, &polygon, y, &mut row)?;
-        assert_eq!(rt; found.as_slice(), spans, "{polygon:?} {y}");
+    let bow = [(0, 0), (5, 4), (5, 0), (0, 4), (0, 4)];
+    let line = [(0, 0), (4, 2), (2, 1), (2, 1), (2, 1)];
+    let back = [(0, 0), (3, 1), (0, 0), (0, 0), (0, 0)];
+    let flat = [(0, 0), (5, 0), (2, 0), (2, 0), (2, 0)];
+    let dot = [(7, 7), (7, 7), (7, 7), (7, 7), (7, 7)];
+    let far = [
+        (-top, -top),
+        (top, top - 1),
+        (-top, top),
+        (-top, top),
+        (-top, top),
+    ];
+    let rows = [
+        (house, -1, None, None),
+        (house, 0, Some((0, 4)), None),
+        (house, 4, Some((0, 4)), None),
+        (house, 5, Some((1, 3)), None),
+        (house, 6, Some((2, 2)), None),
+        (house, 7, None, None),
+        (star, -10, Some((0, 0)), None),
+        (star, -3, Some((-9, 9)), None),
+        (star, -2, Some((-7, -3)), Some((3, 7))),
+        (star, 0, Some((-4, -4)), Some((4, 4))),
+        (star, 8, Some((-6, -6)), Some((6, 6))),
+        (star, 9, None, None),
+        (bow, 0, Some((0, 0)), Some((5, 5))),
+        (bow, 1, Some((0, 1)), Some((4, 5))),
+        (bow, 2, Some((0, 5)), None),
+        (line, 0, Some((0, 0)), None),
+        (line, 1, Some((2, 2)), None),
+        (line, 2, Some((4, 4)), None),
+        (back, 0, Some((0, 0)), None),
+        (back, 1, Some((3, 3)), None),
+        (flat, 0, Some((0, 5)), None),
+        (flat, 1, None, None),
+        (dot, 7, Some((7, 7)), None),
+        (dot, 8, None, None),
+        (far, -9_999_999, Some((-top, -9_999_999)), None),
+        (far, 0, Some((-top, 0)), None),
+        (far, 9_999_999, Some((-top, top)), None),
+        (far, 10_000_000, Some((-top, -top)), None),
+        (far, i32::MAX, None, None),
+    ];
+    for (places, y, one, other) in rows {
+        let shape = polygon(rt.alloc(), places)?;
+        assert!(rt;
+            has_row(rt.alloc(), &shape, y, one, other)?,
+            "{places:?} {y}"
+        );
     }
     Ok(())
 }
 
-/// 31 teeth, each 6 wide and 9 high, on a ground from 9 to 20.
-fn comb() -> [(i32, i32); 64] {
-    let mut places = [(0, 20); 64];
+/// 31 teeth, 6 wide and 9 high, on a ground from 9 to 20.
+fn comb(alloc: Global) -> Result<Polygon, Fail> {
+    let mut points = [corner((0, 20)); 64];
     for k in 0..31 {
         let x = 6 * k as i32;
-        places[2 * k] = (x, 0);
-        places[2 * k + 1] = (x + 3, 9);
+        points[2 * k] = corner((x, 0));
+        points[2 * k + 1] = corner((x + 3, 9));
     }
-    places[62] = (183, 20);
-    places
+    points[62] = corner((183, 20));
+    Ok(Polygon::new(alloc, &points)?)
+}
+
+/// Whether each tooth has a span in the row `y`, which reaches as far from its tip to both sides.
+fn has_teeth(comb: &Polygon, row: &mut Row, y: i32, reach: i32) -> Result<bool, Fail> {
+    comb.row_into(y, row)?;
+    let mut tip: i32 = 0;
+    for span in row.spans() {
+        let first = tip.saturating_sub(reach).max(0);
+        if span.first != first || span.last != tip.saturating_add(reach) {
+            return Ok(false);
+        }
+        tip = tip.saturating_add(6);
+    }
+    Ok(row.spans().len() == 31)
 }
 
 #[test]
 fn combs_have_a_span_each_tooth(rt: HostRuntime) -> Result<(), Fail> {
-    let alloc = rt.alloc();
-    let comb = polygon(alloc, &comb())?;
-    let mut row = Row::new(alloc);
+    let comb = comb(rt.alloc())?;
+    let mut row = Row::new(rt.alloc());
     for (y, reach) in [(0, 0), (3, 1), (8, 2)] {
-        let found = row_of(alloc, &comb, y, &mut row)?;
-        assert_eq!(rt; found.len(), 31, "{y}");
-        let mut tip = 0;
-        for (first, last) in &found {
-            assert_eq!(rt; (*first, *last), ((tip - reach).max(0), tip + reach), "{y}");
-            tip = tip.saturating_add(6);
-        }
+        assert!(rt; has_teeth(&comb, &mut row, y, reach)?, "{y}");
     }
     for y in [9, 20] {
-        assert_eq!(rt;
-            row_of(alloc, &comb, y, &mut row)?.as_slice(),
-            [(0, 183)].as_slice(),
-            "{y}"
-        );
+        assert!(rt; has_row(rt.alloc(), &comb, y, Some((0, 183)), None)?, "{y}");
     }
     Ok(())
 }

@@ -1,6 +1,7 @@
 //! Rows by trial: what a row holds is what the shape holds, point by point.
 
 use gf_shape::{AnyShape, OutOfMemory, Point, Polygon, Row, Shape};
+use std::alloc::Global;
 use std::test::Fail;
 
 /// The first point of a window about the grid that one of row and shape holds.
@@ -18,6 +19,16 @@ fn difference<S: Shape>(shape: &S, row: &mut Row) -> Result<Option<Point>, OutOf
     Ok(None)
 }
 
+/// The same of the polygon of these points, then of its outline.
+fn difference_of(alloc: Global, points: &[Point], row: &mut Row) -> Result<Option<Point>, Fail> {
+    let shape = AnyShape::Polygon(Polygon::new(alloc, points)?);
+    let outline = shape.outline(alloc)?;
+    match difference(&shape, row)? {
+        None => Ok(difference(&outline, row)?),
+        found => Ok(found),
+    }
+}
+
 /// The point at place `n` of a grid of 4 by 4.
 fn grid(n: i32) -> Point {
     Point {
@@ -27,36 +38,23 @@ fn grid(n: i32) -> Point {
 }
 
 #[test]
-fn triangles_hold_what_their_rows_hold(rt: HostRuntime) -> Result<(), Fail> {
-    let alloc = rt.alloc();
-    let mut row = Row::new(alloc);
-    for i in 0..16 {
-        for j in 0..16 {
-            for k in 0..16 {
-                let shape = Polygon::new(alloc, &[grid(i), grid(j), grid(k)])?;
-                assert_eq!(rt; difference(&shape, &mut row)?, None, "{shape:?}");
-            }
-        }
+fn polygons_hold_what_their_rows_hold(rt: HostRuntime) -> Result<(), Fail> {
+    let mut row = Row::new(rt.alloc());
+    for n in 0..4096 {
+        let triangle = [grid(n), grid(n / 16), grid(n / 256)];
+        let found = difference_of(rt.alloc(), &triangle, &mut row)?;
+        assert_eq!(rt; found, None, "{triangle:?}");
     }
-    Ok(())
-}
-
-#[test]
-fn figures_hold_what_their_rows_hold(rt: HostRuntime) -> Result<(), Fail> {
-    let alloc = rt.alloc();
-    let mut row = Row::new(alloc);
-    for n in 0..256 {
-        let points = [
+    for n in 0..1024 {
+        let figure = [
             grid(n),
-            grid(n / 3 + 5),
-            grid(n / 5),
+            grid(n / 3),
+            grid(n / 16),
             grid(n / 7 + 9),
             grid(n / 2),
         ];
-        let shape = AnyShape::Polygon(Polygon::new(alloc, &points)?);
-        assert_eq!(rt; difference(&shape, &mut row)?, None, "{shape:?}");
-        let outline = shape.outline(alloc)?;
-        assert_eq!(rt; difference(&outline, &mut row)?, None, "{outline:?}");
+        let found = difference_of(rt.alloc(), &figure, &mut row)?;
+        assert_eq!(rt; found, None, "{figure:?}");
     }
     Ok(())
 }
