@@ -2,6 +2,7 @@
 //! touch it.
 
 ghost use Rattle.std.specs.Prelude.{◌≡◌, ◌++◌, ◌≤◌, ◌-ℤ◌, ◌≤ℤ◌, ◌<ℤ◌, pos, unsigned_abs, IsTrue, OnOk, All, true, Option};
+ghost use Rattle.std.specs.Ordering.{int_eq};
 ghost use Rattle.gf_rows.specs.Crossings.{place};
 ghost use Rattle.gf_shape.specs.Reach.{is_reached, is_within_reach};
 ghost use Rattle.gf_shape.specs.RowParts.{contact, contacts_along, contacts_of, crossing, crossings_along, crossings_of, passes, span_between};
@@ -53,19 +54,25 @@ fn passes(y: i32, a: Point, b: Point) -> bool
 }
 
 /// What an edge that doesn't pass a row has in it.
-#[tactic(auto, using(std::proofs::lemmas::Int::ints))]
 fn contact(y: i32, a: Point, b: Point) -> Option<Span>
     ensures { result ≡ contact y (a, b) }
 {
-    if a.y == y && b.y == y {
+    if is_in_row(a, y) && is_in_row(b, y) {
         Some(span_between(a.x, b.x))
-    } else if a.y == y {
+    } else if is_in_row(a, y) {
         Some(span_between(a.x, a.x))
-    } else if b.y == y {
+    } else if is_in_row(b, y) {
         Some(span_between(b.x, b.x))
     } else {
         None
     }
+}
+
+#[tactic(auto, using(std::proofs::lemmas::Int::ints))]
+fn is_in_row(p: Point, y: i32) -> bool
+    ensures { result ≡ int_eq p.y y }
+{
+    p.y == y
 }
 
 fn span_between(m: i32, n: i32) -> Span

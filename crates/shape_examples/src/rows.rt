@@ -107,61 +107,93 @@ fn circles_have_one_span(rt: HostRuntime) -> Result<(), Fail> {
     Ok(())
 }
 
+/// A height, and the spans of its row, at most two.
+type Expected = (i32, Option<(i32, i32)>, Option<(i32, i32)>);
+
+/// The first height at which the polygon has another row.
+fn first_wrong(
+    alloc: Global,
+    places: [(i32, i32); 5],
+    rows: &[Expected],
+) -> Result<Option<i32>, Fail> {
+    let shape = polygon(alloc, places)?;
+    for (y, one, other) in rows {
+        if !has_row(alloc, &shape, *y, *one, *other)? {
+            return Ok(Some(*y));
+        }
+    }
+    Ok(None)
+}
+
 #[test]
 fn polygons_have_the_rows_of_their_edges(rt: HostRuntime) -> Result<(), Fail> {
-    let top = 10_000_000;
     let house = [(0, 0), (4, 0), (4, 4), (2, 6), (0, 4)];
+    let rows = [
+        (-1, None, None),
+        (0, Some((0, 4)), None),
+        (4, Some((0, 4)), None),
+        (5, Some((1, 3)), None),
+        (6, Some((2, 2)), None),
+        (7, None, None),
+    ];
+    assert_eq!(rt; first_wrong(rt.alloc(), house, &rows)?, None, "house");
     let star = [(0, -10), (6, 8), (-9, -3), (9, -3), (-6, 8)];
+    let rows = [
+        (-10, Some((0, 0)), None),
+        (-3, Some((-9, 9)), None),
+        (-2, Some((-7, -3)), Some((3, 7))),
+        (0, Some((-4, -4)), Some((4, 4))),
+        (8, Some((-6, -6)), Some((6, 6))),
+        (9, None, None),
+    ];
+    assert_eq!(rt; first_wrong(rt.alloc(), star, &rows)?, None, "star");
     let bow = [(0, 0), (5, 4), (5, 0), (0, 4), (0, 4)];
-    let line = [(0, 0), (4, 2), (2, 1), (2, 1), (2, 1)];
-    let back = [(0, 0), (3, 1), (0, 0), (0, 0), (0, 0)];
-    let flat = [(0, 0), (5, 0), (2, 0), (2, 0), (2, 0)];
-    let dot = [(7, 7), (7, 7), (7, 7), (7, 7), (7, 7)];
+    let rows = [
+        (0, Some((0, 0)), Some((5, 5))),
+        (1, Some((0, 1)), Some((4, 5))),
+        (2, Some((0, 5)), None),
+    ];
+    assert_eq!(rt; first_wrong(rt.alloc(), bow, &rows)?, None, "bow");
     let far = [
-        (-top, -top),
-        (top, top - 1),
-        (-top, top),
-        (-top, top),
-        (-top, top),
+        (-10_000_000, -10_000_000),
+        (10_000_000, 9_999_999),
+        (-10_000_000, 10_000_000),
+        (-10_000_000, 10_000_000),
+        (-10_000_000, 10_000_000),
     ];
     let rows = [
-        (house, -1, None, None),
-        (house, 0, Some((0, 4)), None),
-        (house, 4, Some((0, 4)), None),
-        (house, 5, Some((1, 3)), None),
-        (house, 6, Some((2, 2)), None),
-        (house, 7, None, None),
-        (star, -10, Some((0, 0)), None),
-        (star, -3, Some((-9, 9)), None),
-        (star, -2, Some((-7, -3)), Some((3, 7))),
-        (star, 0, Some((-4, -4)), Some((4, 4))),
-        (star, 8, Some((-6, -6)), Some((6, 6))),
-        (star, 9, None, None),
-        (bow, 0, Some((0, 0)), Some((5, 5))),
-        (bow, 1, Some((0, 1)), Some((4, 5))),
-        (bow, 2, Some((0, 5)), None),
-        (line, 0, Some((0, 0)), None),
-        (line, 1, Some((2, 2)), None),
-        (line, 2, Some((4, 4)), None),
-        (back, 0, Some((0, 0)), None),
-        (back, 1, Some((3, 3)), None),
-        (flat, 0, Some((0, 5)), None),
-        (flat, 1, None, None),
-        (dot, 7, Some((7, 7)), None),
-        (dot, 8, None, None),
-        (far, -9_999_999, Some((-top, -9_999_999)), None),
-        (far, 0, Some((-top, 0)), None),
-        (far, 9_999_999, Some((-top, top)), None),
-        (far, 10_000_000, Some((-top, -top)), None),
-        (far, i32::MAX, None, None),
+        (-9_999_999, Some((-10_000_000, -9_999_999)), None),
+        (0, Some((-10_000_000, 0)), None),
+        (9_999_999, Some((-10_000_000, 10_000_000)), None),
+        (10_000_000, Some((-10_000_000, -10_000_000)), None),
+        (i32::MAX, None, None),
     ];
-    for (places, y, one, other) in rows {
-        let shape = polygon(rt.alloc(), places)?;
-        assert!(rt;
-            has_row(rt.alloc(), &shape, y, one, other)?,
-            "{places:?} {y}"
-        );
-    }
+    assert_eq!(rt; first_wrong(rt.alloc(), far, &rows)?, None, "far");
+    Ok(())
+}
+
+#[test]
+fn flat_polygons_have_their_edges_alone(rt: HostRuntime) -> Result<(), Fail> {
+    let line = [(0, 0), (4, 2), (2, 1), (2, 1), (2, 1)];
+    let rows = [
+        (0, Some((0, 0)), None),
+        (1, Some((2, 2)), None),
+        (2, Some((4, 4)), None),
+    ];
+    assert_eq!(rt; first_wrong(rt.alloc(), line, &rows)?, None, "line");
+    let back = [(0, 0), (3, 1), (0, 0), (0, 0), (0, 0)];
+    let rows = [(0, Some((0, 0)), None), (1, Some((3, 3)), None)];
+    assert_eq!(rt;
+        first_wrong(rt.alloc(), back, &rows)?,
+        None,
+        "there and back"
+    );
+    let level = [(0, 0), (5, 0), (2, 0), (2, 0), (2, 0)];
+    let rows = [(0, Some((0, 5)), None), (1, None, None)];
+    assert_eq!(rt; first_wrong(rt.alloc(), level, &rows)?, None, "level");
+    let dot = [(7, 7), (7, 7), (7, 7), (7, 7), (7, 7)];
+    let rows = [(7, Some((7, 7)), None), (8, None, None)];
+    assert_eq!(rt; first_wrong(rt.alloc(), dot, &rows)?, None, "dot");
     Ok(())
 }
 
