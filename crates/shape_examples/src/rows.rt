@@ -107,93 +107,100 @@ fn circles_have_one_span(rt: HostRuntime) -> Result<(), Fail> {
     Ok(())
 }
 
-/// A height, and the spans of its row, at most two.
-type Expected = (i32, Option<(i32, i32)>, Option<(i32, i32)>);
-
-/// The first height at which the polygon has another row.
-fn first_wrong(
+/// Whether the rows `from` to `to` of the polygon are these spans, each behind its height.
+fn has_rows(
     alloc: Global,
     places: [(i32, i32); 5],
-    rows: &[Expected],
-) -> Result<Option<i32>, Fail> {
+    from: i32,
+    to: i32,
+    spans: &[(i32, i32, i32)],
+) -> Result<bool, Fail> {
     let shape = polygon(alloc, places)?;
-    for (y, one, other) in rows {
-        if !has_row(alloc, &shape, *y, *one, *other)? {
-            return Ok(Some(*y));
+    let mut row = Row::new(alloc);
+    let mut left = spans;
+    for y in from..=to {
+        shape.row_into(y, &mut row)?;
+        for span in row.spans() {
+            match left.split_first() {
+                Some((next, rest)) if *next == (y, span.first, span.last) => left = rest,
+                _ => return Ok(false),
+            }
         }
     }
-    Ok(None)
+    Ok(left.is_empty())
 }
 
 #[test]
 fn polygons_have_the_rows_of_their_edges(rt: HostRuntime) -> Result<(), Fail> {
+    let alloc = rt.alloc();
     let house = [(0, 0), (4, 0), (4, 4), (2, 6), (0, 4)];
-    let rows = [
-        (-1, None, None),
-        (0, Some((0, 4)), None),
-        (4, Some((0, 4)), None),
-        (5, Some((1, 3)), None),
-        (6, Some((2, 2)), None),
-        (7, None, None),
-    ];
-    assert_eq!(rt; first_wrong(rt.alloc(), house, &rows)?, None, "house");
+    let spans = [(3, 0, 4), (4, 0, 4), (5, 1, 3), (6, 2, 2)];
+    assert!(rt; has_rows(alloc, house, 3, 7, &spans)?, "house");
+    assert!(rt;
+        has_rows(alloc, house, -1, 0, &[(0, 0, 4)])?,
+        "house, above"
+    );
     let star = [(0, -10), (6, 8), (-9, -3), (9, -3), (-6, 8)];
-    let rows = [
-        (-10, Some((0, 0)), None),
-        (-3, Some((-9, 9)), None),
-        (-2, Some((-7, -3)), Some((3, 7))),
-        (0, Some((-4, -4)), Some((4, 4))),
-        (8, Some((-6, -6)), Some((6, 6))),
-        (9, None, None),
-    ];
-    assert_eq!(rt; first_wrong(rt.alloc(), star, &rows)?, None, "star");
+    let spans = [(-3, -9, 9), (-2, -7, -3), (-2, 3, 7)];
+    assert!(rt; has_rows(alloc, star, -3, -2, &spans)?, "star");
+    assert!(rt;
+        has_rows(alloc, star, 0, 0, &[(0, -4, -4), (0, 4, 4)])?,
+        "star, hollow"
+    );
+    assert!(rt;
+        has_rows(alloc, star, 8, 9, &[(8, -6, -6), (8, 6, 6)])?,
+        "star, below"
+    );
     let bow = [(0, 0), (5, 4), (5, 0), (0, 4), (0, 4)];
-    let rows = [
-        (0, Some((0, 0)), Some((5, 5))),
-        (1, Some((0, 1)), Some((4, 5))),
-        (2, Some((0, 5)), None),
-    ];
-    assert_eq!(rt; first_wrong(rt.alloc(), bow, &rows)?, None, "bow");
-    let far = [
-        (-10_000_000, -10_000_000),
-        (10_000_000, 9_999_999),
-        (-10_000_000, 10_000_000),
-        (-10_000_000, 10_000_000),
-        (-10_000_000, 10_000_000),
-    ];
-    let rows = [
-        (-9_999_999, Some((-10_000_000, -9_999_999)), None),
-        (0, Some((-10_000_000, 0)), None),
-        (9_999_999, Some((-10_000_000, 10_000_000)), None),
-        (10_000_000, Some((-10_000_000, -10_000_000)), None),
-        (i32::MAX, None, None),
-    ];
-    assert_eq!(rt; first_wrong(rt.alloc(), far, &rows)?, None, "far");
+    let spans = [(0, 0, 0), (0, 5, 5), (1, 0, 1), (1, 4, 5), (2, 0, 5)];
+    assert!(rt; has_rows(alloc, bow, -1, 2, &spans)?, "bow");
     Ok(())
 }
 
 #[test]
 fn flat_polygons_have_their_edges_alone(rt: HostRuntime) -> Result<(), Fail> {
+    let alloc = rt.alloc();
     let line = [(0, 0), (4, 2), (2, 1), (2, 1), (2, 1)];
-    let rows = [
-        (0, Some((0, 0)), None),
-        (1, Some((2, 2)), None),
-        (2, Some((4, 4)), None),
-    ];
-    assert_eq!(rt; first_wrong(rt.alloc(), line, &rows)?, None, "line");
+    let spans = [(0, 0, 0), (1, 2, 2), (2, 4, 4)];
+    assert!(rt; has_rows(alloc, line, -1, 3, &spans)?, "line");
     let back = [(0, 0), (3, 1), (0, 0), (0, 0), (0, 0)];
-    let rows = [(0, Some((0, 0)), None), (1, Some((3, 3)), None)];
-    assert_eq!(rt;
-        first_wrong(rt.alloc(), back, &rows)?,
-        None,
+    assert!(rt;
+        has_rows(alloc, back, -1, 2, &[(0, 0, 0), (1, 3, 3)])?,
         "there and back"
     );
     let level = [(0, 0), (5, 0), (2, 0), (2, 0), (2, 0)];
-    let rows = [(0, Some((0, 5)), None), (1, None, None)];
-    assert_eq!(rt; first_wrong(rt.alloc(), level, &rows)?, None, "level");
+    assert!(rt; has_rows(alloc, level, -1, 1, &[(0, 0, 5)])?, "level");
     let dot = [(7, 7), (7, 7), (7, 7), (7, 7), (7, 7)];
-    let rows = [(7, Some((7, 7)), None), (8, None, None)];
-    assert_eq!(rt; first_wrong(rt.alloc(), dot, &rows)?, None, "dot");
+    assert!(rt; has_rows(alloc, dot, 6, 8, &[(7, 7, 7)])?, "dot");
+    Ok(())
+}
+
+#[test]
+fn polygons_as_far_as_they_reach_have_rows(rt: HostRuntime) -> Result<(), Fail> {
+    let alloc = rt.alloc();
+    let top = 10_000_000;
+    let far = [
+        (-top, -top),
+        (top, 9_999_999),
+        (-top, top),
+        (-top, top),
+        (-top, top),
+    ];
+    let spans = [(9_999_999, -top, top), (top, -top, -top)];
+    assert!(rt;
+        has_rows(alloc, far, 9_999_999, 10_000_001, &spans)?,
+        "below"
+    );
+    let spans = [(-top, -top, -top), (-9_999_999, -top, -9_999_999)];
+    assert!(rt;
+        has_rows(alloc, far, -10_000_001, -9_999_999, &spans)?,
+        "above"
+    );
+    assert!(rt;
+        has_rows(alloc, far, 0, 0, &[(0, -top, 0)])?,
+        "in the middle"
+    );
+    assert!(rt; has_rows(alloc, far, i32::MAX, i32::MAX, &[])?, "far away");
     Ok(())
 }
 

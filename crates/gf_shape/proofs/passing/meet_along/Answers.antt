@@ -1,4 +1,4 @@
-use Rattle.std.proofs.Common.{refl, IsTrue, FitsSigned, w32, ℤ, pos}
+use Rattle.std.proofs.Common.{refl, IsTrue, pos}
 use Rattle.std.proofs.lemmas.Int.{to_z-of_z}
 use Rattle.std.proofs.lemmas.List.Elements.{All-get_or}
 use Rattle.gf_shape.specs.declared.point.Point.{Point}

@@ -1,5 +1,14 @@
+use Rattle.std.proofs.Common.{IsTrue, length, drop, ◌-◌}
+use Rattle.std.proofs.lemmas.List.Elements.{All-drop, All-take}
+use Rattle.gf_shape.specs.Reach.{is_within_reach}
 use Rattle.gf_shape.proofs.RowShapes.{end_of-ring}
 use Rattle.gf_shape.proofs.chain.Chain.row_into.Goals as goal
+
+pub set_path-requires-clause-rest : goal.set_path-requires-clause-rest
+set_path-requires-clause-rest c =
+    let points = c.self.inside.points.items in
+    let reach = All-take (λ p. IsTrue (is_within_reach p)) (length points - 1) (drop 1 points) (All-drop (λ p. IsTrue (is_within_reach p)) 1 points c.self.invariant.reach) in
+    rw c.deref.ensures.value reach
 
 pub set_path-requires-clause-closed : goal.set_path-requires-clause-closed
 set_path-requires-clause-closed c = end_of-ring _ _ _ c.self.invariant c.index.ensures c.deref.ensures.value
