@@ -1,10 +1,10 @@
 -- Chains round points: when they are lawful, and how they move.
-use Rattle.std.specs.Prelude.{◌≡◌, ◌-◌, ◌≤◌, length, take, Bool, true, false, nat_le, IsTrue, List, [], ◌∷◌, ◌++◌, All, slice_get, Some, refl, ◌&&◌}
+use Rattle.std.specs.Prelude.{◌≡◌, ℕ, ◌+◌, ◌-◌, ◌≤◌, ◌<◌, length, take, Bool, true, false, nat_le, IsTrue, List, [], ◌∷◌, ◌++◌, All, slice_get, Some, refl, ◌&&◌}
 use Rattle.std.specs.List.{list_all}
 use Rattle.std.proofs.Common.{arith, get_or, option_map, sym, ◌∙◌, ap, subst}
 use Rattle.std.proofs.lemmas.Bool.{and_parts, and_from, leb-true}
-use Rattle.std.proofs.lemmas.List.{length-append, length-map, map-append, take-map}
-use Rattle.std.proofs.lemmas.List.Elements.{All-append, All-cons, All-map, All-nil, All-take}
+use Rattle.std.proofs.lemmas.List.{length-append, length-map, map-append, take_all, take_more, take-map}
+use Rattle.std.proofs.lemmas.List.Elements.{All-append, All-cons, All-get_or, All-map, All-nil, All-take}
 use Rattle.std.proofs.lemmas.List.Folds.{list_all-append, list_all-map}
 use Rattle.std.proofs.lemmas.Option.{slice_get-map}
 use Rattle.gf_shape.specs.declared.point.Point.{Point}
@@ -30,6 +30,18 @@ counted ps h =
 All-from_list_all : (t : Point → Bool) (ps : List Point) → list_all t ps ≡ true → All (λ p. IsTrue (t p)) ps
 All-from_list_all t [] h = All-nil (λ p. IsTrue (t p))
 All-from_list_all t (p ∷ ps) h = let parts = and_parts (t p) (list_all t ps) h in All-cons (λ q. IsTrue (t q)) p ps parts.0 (All-from_list_all t ps parts.1)
+
+-- where points can be moved, each of them can
+pub movable_at : (ps : List Point) (i : ℕ) (p d : Point) → i < length ps → IsTrue (points_movable ps d) → IsTrue (is_within_reach (plus (get_or ps i p) d))
+movable_at ps i p d l h = All-get_or (λ q. IsTrue (is_within_reach (plus q d))) ps i p l (All-from_list_all (λ q. is_within_reach (plus q d)) ps h)
+
+-- points moved one after the other, and all of them
+pub moved_more : (old new : List Point) (m d p : Point) (ps : List Point) (i : ℕ) → i < length ps → new ≡ old ++ m ∷ [] → old ≡ points_moved (take i ps) d → m ≡ plus (get_or ps i p) d → new ≡ points_moved (take (i + 1) ps) d
+moved_more old new m d p ps i l e is one =
+    e ∙ (rw (is, one) (sym (ap (λ qs. points_moved qs d) (take_more ps i p l) ∙ map-append (λ q. plus q d) (take i ps) (get_or ps i p ∷ []))))
+
+pub moved_all : (ms ps : List Point) (d : Point) (i : ℕ) → length ps ≤ i → ms ≡ points_moved (take i ps) d → ms ≡ points_moved ps d
+moved_all ms ps d i l is = is ∙ ap (λ qs. points_moved qs d) (take_all i ps l)
 
 twice : (a b : Bool) → ((a && b) && (a && true)) ≡ (a && b)
 twice true true = refl

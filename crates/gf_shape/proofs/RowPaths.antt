@@ -1,11 +1,11 @@
 -- The row law of a closed chain, from the crossings and the contacts of its edges.
-use Rattle.std.specs.Prelude.{drop, ◌<◌, ◌≡◌, ℕ, ◌+◌, ◌%◌, Bool, true, false, not, cond, ◌&&◌, ◌||◌, List, [], ◌∷◌, ◌++◌, zip, length, count_by, Some, None, ℤ, int_le, refl, option_to_list}
+use Rattle.std.specs.Prelude.{drop, ◌<◌, ◌≡◌, ℕ, ◌+◌, ◌%◌, Bool, true, false, not, cond, ◌&&◌, ◌||◌, List, [], ◌∷◌, ◌++◌, zip, length, count_by, Option, Some, None, ℤ, int_le, refl, option_to_list}
 use Rattle.std.specs.List.{list_any}
 use Rattle.std.specs.Ordering.{int_eq}
 use Rattle.std.proofs.Common.{arith, ap, sym, inl, inr, get_or, ◌∙◌}
 use Rattle.std.proofs.lemmas.Bool.{cases_Bool}
 use Rattle.std.proofs.lemmas.Int.{ints, by_lt_z, clamps}
-use Rattle.std.proofs.lemmas.List.{append_assoc, at_drop_more}
+use Rattle.std.proofs.lemmas.List.{append-nil, append_assoc, at_drop_more}
 use Rattle.std.proofs.lemmas.List.Sums.{sum_by-cons, sum_by-append}
 use Rattle.gf_rows.specs.declared.crossing.Crossing.{Crossing}
 use Rattle.gf_rows.specs.declared.span.Span.{Span}
@@ -128,6 +128,13 @@ gathers_more f g one old new whole a d ps i h e is =
     ∙ (append_assoc old (g a (get_or ps i d)) (f (get_or ps i d) (drop (i + 1) ps))
     ∙ (ap (λ l. old ++ l) (sym (one a (get_or ps i d) (drop (i + 1) ps)))
     ∙ (sym (at_drop_more (λ qs. old ++ f a qs) ps i d h) ∙ is)))
+
+-- what an edge adds to the meetings, by whether it passes the height
+pub adds_crossing : (ks : List Crossing) (ss : List Span) (y : ℤ) (a b : Point) → passes y (a, b) ≡ true → (ks ++ crossing y (a, b) ∷ [] ≡ ks ++ crossings_of y (a, b)) × (ss ≡ ss ++ contacts_of y (a, b))
+adds_crossing ks ss y a b e = (rw e refl, rw e (sym (append-nil ss)))
+
+pub adds_contact : (ks : List Crossing) (ss : List Span) (y : ℤ) (a b : Point) (found : Option Span) → passes y (a, b) ≡ false → found ≡ contact y (a, b) → (ks ≡ ks ++ crossings_of y (a, b)) × (ss ++ option_to_list found ≡ ss ++ contacts_of y (a, b))
+adds_contact ks ss y a b found e is = (rw e (sym (append-nil ks)), rw (e, is) refl)
 
 pub path_row : (a : Point) (ps : List Point) (y : ℤ) (ss : List Span) → IsJoined (crossings_along y a ps) (contacts_along y a ps) ss → IsRow (chain_holds (a ∷ ps)) y ss
 path_row a ps y ss h = record {

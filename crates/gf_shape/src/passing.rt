@@ -8,6 +8,7 @@ ghost use Rattle.gf_shape.specs.Reach.{is_reached, is_within_reach};
 ghost use Rattle.gf_shape.specs.RowParts.{contact, contacts_along, contacts_of, crossing, crossings_along, crossings_of, passes, span_between};
 
 use crate::edges::climbs_past;
+use crate::products::gap;
 use crate::{OutOfMemory, Point, Span};
 use gf_rows::{Crossing, Meetings};
 
@@ -119,7 +120,7 @@ fn run(from: i32, to: i32) -> i64
     ensures value { result ≡ to -ℤ from }
     ensures small { unsigned_abs result ≤ 100000000 }
 {
-    to as i64 - from as i64
+    gap(from, to)
 }
 
 /// How far a row is past the lower end of a climbing edge.
@@ -127,9 +128,9 @@ fn run(from: i32, to: i32) -> i64
 fn rise(low: i32, y: i32, high: i32) -> i64
     requires { (low ≤ℤ y) × (y <ℤ high) }
     ensures value { result ≡ y -ℤ low }
-    ensures within { (pos 0 ≤ℤ result) × (result <ℤ (high -ℤ low)) }
+    ensures within { (pos 0 ≤ℤ result) × (result ≤ℤ (high -ℤ low)) × (pos 0 <ℤ (high -ℤ low)) }
 {
-    y as i64 - low as i64
+    gap(low, y)
 }
 
 /// How far a row is before the higher end of a falling edge.
@@ -139,5 +140,5 @@ fn fall(high: i32, y: i32, low: i32) -> i64
     ensures value { result ≡ high -ℤ y }
     ensures within { (pos 0 ≤ℤ result) × (result ≤ℤ (high -ℤ low)) × (pos 0 <ℤ (high -ℤ low)) }
 {
-    high as i64 - y as i64
+    gap(y, high)
 }

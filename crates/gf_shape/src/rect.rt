@@ -7,6 +7,7 @@ ghost use Rattle.gf_shape.specs.ShapeMeaning.{rect_holds};
 ghost use Rattle.gf_shape.specs.ShapeMoves.{rect_movable, rect_moved};
 ghost use Rattle.gf_shape.specs.Laws.Shapes.{rect_moves, rect_outlines};
 
+use crate::products::gap;
 use crate::{Bounds, Chain, OutOfMemory, Outline, Point, REACH, Range, Row, Shape};
 use std::alloc::Global;
 use std::marker::Model;
@@ -160,6 +161,6 @@ fn set_side(row: &mut Row, low: i32, size: u32) -> Result<(), OutOfMemory>
 fn is_along(low: i32, size: u32, at: i32) -> bool
     ensures { result ≡ (int_le (pos 0) (at -ℤ low) && int_le (at -ℤ low) (pos size)) }
 {
-    let past = at as i64 - low as i64;
+    let past = gap(low, at);
     0 <= past && past <= size as i64
 }
