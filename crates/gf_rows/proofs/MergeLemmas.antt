@@ -1,8 +1,9 @@
 -- Spans that begin no earlier than the one before them, those that meet made one: the same numbers, in spans that are apart.
-use Rattle.std.specs.Prelude.{◌≡◌, Bool, true, false, ◌||◌, List, [], ◌∷◌, ℤ, pos, ◌+ℤ◌, ◌-ℤ◌, ◌≤ℤ◌, ◌<ℤ◌, refl}
+use Rattle.std.specs.Prelude.{◌≡◌, ℕ, ◌+◌, ◌<◌, ◌≤◌, length, drop, Bool, true, false, ◌||◌, List, [], ◌∷◌, ◌++◌, ℤ, pos, ◌+ℤ◌, ◌-ℤ◌, ◌≤ℤ◌, ◌<ℤ◌, refl}
 use Rattle.std.specs.List.{list_any}
-use Rattle.std.proofs.Common.{arith, ap, ◌∙◌}
+use Rattle.std.proofs.Common.{arith, ap, get_or, sym, ◌∙◌}
 use Rattle.std.proofs.lemmas.Int.{ints, by_lt_z, clamps}
+use Rattle.std.proofs.lemmas.List.{at_drop_all, at_drop_more}
 use Rattle.gf_rows.specs.declared.span.Span.{Span}
 use Rattle.gf_rows.specs.JoiningParts.{meets, merged, widened}
 use Rattle.gf_rows.specs.Spans.{is_in_span, AreApart}
@@ -61,3 +62,10 @@ apart_from n (s ∷ t ∷ ss) h = (h.1, h.2.0, apart_from s.last (t ∷ ss) h.2)
 
 pub merged_apart : (c : Span) (ss : List Span) → c.first ≤ℤ c.last → BeginFrom c.first ss → AreApart (merged c ss)
 merged_apart c ss one h = apart_from (c.first -ℤ pos 2) (merged c ss) (merged_rise (c.first -ℤ pos 2) c ss (omega (arith, ints)) one h)
+
+-- spans merged one after the other, and the last one behind them
+pub merged_more : (old new whole : List Span) (c last d : Span) (ss : List Span) (i : ℕ) → i < length ss → new ++ merged last (drop (i + 1) ss) ≡ old ++ merged c (get_or ss i d ∷ drop (i + 1) ss) → old ++ merged c (drop i ss) ≡ whole → new ++ merged last (drop (i + 1) ss) ≡ whole
+merged_more old new whole c last d ss i l step is = step ∙ (sym (at_drop_more (λ ts. old ++ merged c ts) ss i d l) ∙ is)
+
+pub merged_end : (old new whole : List Span) (c : Span) (ss : List Span) (i : ℕ) → length ss ≤ i → new ≡ old ++ c ∷ [] → old ++ merged c (drop i ss) ≡ whole → new ≡ whole
+merged_end old new whole c ss i l e is = e ∙ (sym (at_drop_all (λ ts. old ++ merged c ts) ss i l) ∙ is)

@@ -1,12 +1,14 @@
 -- Places that rise, taken in pairs: between two of a pair, or at one, is what is at one of them or past an odd number.
-use Rattle.std.specs.Prelude.{◌≡◌, ℕ, ◌+◌, ◌%◌, nat_eq, Bool, true, false, not, cond, ◌&&◌, ◌||◌, List, [], ◌∷◌, ◌++◌, length, count_by, Some, None, option_to_list, ℤ, pos, ◌+ℤ◌, ◌≤ℤ◌, ◌<ℤ◌, int_le, int_lt, refl}
+use Rattle.std.specs.Prelude.{◌≡◌, ℕ, ◌+◌, ◌%◌, nat_eq, Bool, true, false, not, cond, ◌&&◌, ◌||◌, List, [], ◌∷◌, ◌++◌, length, count_by, Some, None, option_to_list, ℤ, pos, ◌+ℤ◌, ◌≤ℤ◌, ◌<ℤ◌, int_le, int_lt, refl, ◌<◌, ◌≤◌, drop, Option}
 use Rattle.std.specs.List.{list_any}
 use Rattle.std.specs.Ordering.{int_eq}
-use Rattle.std.proofs.Common.{arith, ap, sym, ◌∙◌}
+use Rattle.std.proofs.Common.{arith, ap, sym, ◌∙◌, get_or}
 use Rattle.std.proofs.lemmas.Bool.Decides.{nat_tests}
 use Rattle.std.proofs.lemmas.Int.{ints, by_lt_z}
 use Rattle.std.proofs.lemmas.List.Sums.{sum_by-cons}
+use Rattle.std.proofs.lemmas.List.{append-nil, at_drop_all, at_drop_more}
 use Rattle.gf_rows.specs.declared.crossing.Crossing.{Crossing}
+use Rattle.gf_rows.specs.declared.span.Span.{Span}
 use Rattle.gf_rows.specs.Crossings.{is_at, is_before}
 use Rattle.gf_rows.specs.JoiningParts.{start, spans_between, pairs_from}
 use Rattle.gf_rows.specs.Spans.{is_in_span}
@@ -148,3 +150,10 @@ pairs_any x (k ∷ l ∷ ks) =
     any_append (is_in_span x) (spans_between k l) (pairs_from None ks)
     ∙ (ap (λ b. b || list_any (is_in_span x) (pairs_from None ks)) (between_any x k l)
     ∙ ap (λ b. (int_le (start k) x && int_le x l.floor) || b) (pairs_any x ks))
+
+-- places paired one after the other, and all of them
+pub paired_more : (old new whole : List Span) (before after : Option Crossing) (d : Crossing) (ks : List Crossing) (i : ℕ) → i < length ks → new ++ pairs_from after (drop (i + 1) ks) ≡ old ++ pairs_from before (get_or ks i d ∷ drop (i + 1) ks) → old ++ pairs_from before (drop i ks) ≡ whole → new ++ pairs_from after (drop (i + 1) ks) ≡ whole
+paired_more old new whole before after d ks i l step is = step ∙ (sym (at_drop_more (λ ls. old ++ pairs_from before ls) ks i d l) ∙ is)
+
+pub paired_all : (found whole : List Span) (before : Option Crossing) (ks : List Crossing) (i : ℕ) → length ks ≤ i → found ++ pairs_from before (drop i ks) ≡ whole → found ≡ whole
+paired_all found whole before ks i l is = sym (append-nil found) ∙ (sym (at_drop_all (λ ls. found ++ pairs_from before ls) ks i l) ∙ is)

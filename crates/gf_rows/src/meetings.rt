@@ -3,6 +3,7 @@
 ghost use Rattle.std.specs.Prelude.{◌≡◌, ◌∷◌, ◌++◌, [], ◌%◌, false, int_le, length, IfOk, OnOk, List, None, Option};
 ghost use Rattle.std.specs.List.{list_any};
 ghost use Rattle.gf_rows.specs.declared.crossing.Crossing.{Crossing};
+ghost use Rattle.gf_rows.specs.declared.span.Span.{Span};
 ghost use Rattle.gf_rows.specs.Joining.{IsJoined};
 ghost use Rattle.gf_rows.specs.JoiningParts.{meets, merged, merged_all, pairs_from, span_between, spans_between, widened};
 ghost use Rattle.gf_rows.specs.Spans.{is_empty};
@@ -123,15 +124,21 @@ fn merge_from(first: Span, rest: &[Span], spans: &mut Vec<Span>) -> Result<(), A
 {
     let mut current = first;
     for span in rest {
-        if meets(current, *span) {
-            current = widened(current, *span);
-        } else {
-            spans.push(current)?;
-            current = *span;
-        }
+        current = merge_one(current, *span, spans)?;
     }
     spans.push(current)?;
     Ok(())
+}
+
+/// One more span, which widens the one before it or stands apart from it.
+fn merge_one(current: Span, span: Span, spans: &mut Vec<Span>) -> Result<Span, AllocError>
+    ensures { IfOk result (λ last. (ss : List Span) → spans.new.items ++ merged last ss ≡ spans.old.items ++ merged current (span ∷ ss)) }
+{
+    if meets(current, span) {
+        return Ok(widened(current, span));
+    }
+    spans.push(current)?;
+    Ok(span)
 }
 
 /// Whether a span overlaps an earlier one or begins right after it.
