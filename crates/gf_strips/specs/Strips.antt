@@ -1,0 +1,37 @@
+-- Some columns of a row, painted from the front to the back: each once, while it is free (this project's choice).
+use Rattle.std.specs.Prelude.{ℕ, ◌*◌, ◌≤◌, ◌≡◌, ◌<◌, Bool, ◌&&◌, nat_le, nat_lt, List, if◌then◌else◌}
+use Rattle.std.specs.List.{list_any}
+use Rattle.gf_shape.specs.declared.colour.Rgb.{Rgb}
+use Rattle.gf_strips.specs.declared.columns.Columns.{Columns}
+use Rattle.gf_strips.specs.Pixels.{pixels}
+
+-- k lies from a to before b
+abbrev pub is_between : ℕ → ℕ → ℕ → Bool
+is_between a b k = nat_le a k && nat_lt k b
+
+-- k is one of the columns
+abbrev pub is_among : Columns → ℕ → Bool
+is_among c k = is_between c.from c.to k
+
+-- k is one of the columns of a list
+abbrev pub is_free : List Columns → ℕ → Bool
+is_free free k = list_any (λ c. is_among c k) free
+
+-- the colour c where the test holds, else what was there
+abbrev pub over : (ℕ → Bool) → Rgb → (ℕ → Rgb) → ℕ → Rgb
+over test c f k = if test k then c else f k
+
+-- the columns lie within a row of so many bytes
+abbrev pub Fits : ℕ → Columns → Type 0
+Fits bytes c = 3 * c.to ≤ bytes
+
+-- a strip: its bytes, and which of its columns are still free
+pub record Shown : Type 0 where
+  pub bytes : List ℕ
+  pub free : List Columns
+
+-- a strip of n columns will show target, once its free columns show what lies behind
+pub record IsPainted (target behind : ℕ → Rgb) (n : ℕ) (strip : Shown) : Type 0 where
+  pub now : ℕ → Rgb
+  pub bytes : strip.bytes ≡ pixels now 0 n
+  pub shows : (k : ℕ) → k < n → target k ≡ (if is_free strip.free k then behind k else now k)

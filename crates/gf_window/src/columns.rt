@@ -1,0 +1,77 @@
+//! The columns of a window that a span covers.
+
+ghost use Rattle.std.specs.Prelude.{◌≡◌, ℕ, ◌+◌, ◌*◌, ◌≤◌, ◌<◌, nat_le, nat_lt, int_le, ◌+ℤ◌, ◌≤ℤ◌, pos};
+ghost use Rattle.gf_rows.specs.Spans.{is_in_span};
+ghost use Rattle.gf_strips.specs.Strips.{is_among};
+ghost use Rattle.gf_window.specs.Windows.{column};
+
+use crate::Window;
+use gf_shape::Span;
+use gf_strips::Columns;
+
+impl Window {
+    /// Which of `len` columns from `from` on a span covers, counted from `from`: those whose x lies in
+    /// it.
+    pub fn columns(&self, from: usize, len: usize, span: Span) -> Columns
+        ensures { (k : ℕ) → k < len → is_among result k ≡ is_in_span (column self.now (from + k)) span }
+    {
+        let x = self.x();
+        let step = self.step();
+        Columns {
+            from: before(x, step, from, len, span.first),
+            to: upto(x, step, from, len, span.last),
+        }
+    }
+}
+
+/// How many of the columns lie before a place.
+#[tactic(auto, using(crate::proofs::ColumnLemmas::before_none, crate::proofs::ColumnLemmas::before_some))]
+fn before(x: i32, step: u32, from: usize, len: usize, place: i32) -> usize
+    requires { 0 < step }
+    ensures { (k : ℕ) → k < len → nat_le result k ≡ int_le place (x +ℤ pos ((from + k) * step)) }
+{
+    if place <= x {
+        0
+    } else {
+        clamped(below(apart(place, x) - 1, step), from, len)
+    }
+}
+
+/// How many of the columns lie before a place or at it.
+#[tactic(auto, using(crate::proofs::ColumnLemmas::upto_none, crate::proofs::ColumnLemmas::upto_some))]
+fn upto(x: i32, step: u32, from: usize, len: usize, place: i32) -> usize
+    requires { 0 < step }
+    ensures { (k : ℕ) → k < len → nat_lt k result ≡ int_le (x +ℤ pos ((from + k) * step)) place }
+{
+    if place < x {
+        0
+    } else {
+        clamped(below(apart(place, x), step), from, len)
+    }
+}
+
+/// How many multiples of a step there are up to a distance, 0 among them.
+#[tactic(auto, using(crate::proofs::ColumnLemmas::below_quotient))]
+fn below(distance: u32, step: u32) -> usize
+    requires { 0 < step }
+    ensures { (i : ℕ) → nat_lt i result ≡ nat_le (i * step) distance }
+{
+    (distance / step) as usize + 1
+}
+
+/// Those of the first `count` columns that are among `len` from `from` on.
+#[tactic(auto, using(crate::proofs::ColumnLemmas::clamped))]
+fn clamped(count: usize, from: usize, len: usize) -> usize
+    ensures { (k : ℕ) → k < len → nat_lt k result ≡ nat_lt (from + k) count }
+{
+    count.saturating_sub(from).min(len)
+}
+
+/// How far `far` lies from `near`.
+#[tactic(auto, using(std::proofs::lemmas::Int::ints))]
+fn apart(far: i32, near: i32) -> u32
+    requires { near ≤ℤ far }
+    ensures { far ≡ near +ℤ pos result }
+{
+    far.abs_diff(near)
+}
