@@ -15,11 +15,11 @@ unfoldable pub is_corner : ℤ → Bool
 is_corner n = int_le (negsuc 1999999) n && int_le n (pos 2000000)
 
 -- n is 1 to 4,096
-unfoldable pub is_side : ℕ → Bool
+abbrev pub is_side : ℕ → Bool
 is_side n = nat_le 1 n && nat_le n 4096
 
 -- n is 1 to 10,000
-unfoldable pub is_step : ℕ → Bool
+abbrev pub is_step : ℕ → Bool
 is_step n = nat_le 1 n && nat_le n 10000
 
 -- the corner, the step and both sides lie within their limits

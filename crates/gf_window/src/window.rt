@@ -97,14 +97,12 @@ fn is_corner(n: i32) -> bool
     -2_000_000 <= n && n <= 2_000_000
 }
 
-#[tactic(auto, unfolding(crate::specs::Windows::is_side))]
 fn is_side(n: u32) -> bool
     ensures { result ≡ is_side n }
 {
     1 <= n && n <= 4_096
 }
 
-#[tactic(auto, unfolding(crate::specs::Windows::is_step))]
 fn is_step(n: u32) -> bool
     ensures { result ≡ is_step n }
 {
