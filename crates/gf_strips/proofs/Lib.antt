@@ -1,2 +1,3 @@
-pub mod PixelLemmas
 pub mod FreeLemmas
+pub mod PixelLemmas
+pub mod RangeLemmas

@@ -7,27 +7,14 @@ use Rattle.std.proofs.Math.Seq.{take-append_seam, drop-append_seam}
 use Rattle.gf_shape.specs.declared.colour.Rgb.{Rgb}
 use Rattle.gf_strips.specs.Pixels.{pixel, pixels}
 use Rattle.gf_strips.specs.Strips.{is_between, over}
+use Rattle.gf_strips.proofs.RangeLemmas.{ranged_more}
 
 zero_plus : (n : ℕ) → 0 + n ≡ n
 zero_plus n = omega arith
 
 -- n columns more
 pub pixels_more : (f : ℕ → Rgb) (i m n : ℕ) → pixels f i (m + n) ≡ pixels f i m ++ pixels f (i + m) n
-pixels_more f i zero n = ap (λ j. pixels f i j) (none n) ∙ ap (λ j. pixels f j n) (sym (last i))
-  where
-    none : (n : ℕ) → 0 + n ≡ n
-    none n = omega arith
-
-    last : (i : ℕ) → i + 0 ≡ i
-    last i = omega arith
-pixels_more f i (suc m) n =
-    ap (λ j. pixels f i j) (again m n) ∙ ap (λ xs. pixel (f i) ++ xs) (pixels_more f (i + 1) m n ∙ ap (λ j. pixels f (i + 1) m ++ pixels f j n) (moved i m))
-  where
-    moved : (i m : ℕ) → (i + 1) + m ≡ i + suc m
-    moved i m = omega arith
-
-    again : (m n : ℕ) → suc m + n ≡ suc (m + n)
-    again m n = omega arith
+pixels_more f i m n = ranged_more (λ k. pixel (f k)) i m n
 
 pub length_pixels : (f : ℕ → Rgb) (i n : ℕ) → length (pixels f i n) ≡ 3 * n
 length_pixels f i zero = refl
