@@ -1,0 +1,25 @@
+-- Layers over a white ground, the foremost first (this project's choice).
+use Rattle.std.specs.Prelude.{ℕ, ◌+◌, Bool, List, [], ◌∷◌, if◌then◌else◌}
+use Rattle.gf_shape.specs.declared.colour.Rgb.{Rgb}
+use Rattle.gf_shape.specs.declared.point.Point.{Point}
+use Rattle.gf_versions.specs.HistoryColour.{white}
+use Rattle.gf_window.specs.Windows.{View, sample}
+use Rattle.gf_layers.specs.declared.layer.Layer.{Layer}
+
+module _ {S : Type 0} (holds : S → Point → Bool) where
+  -- the colour at p where the layer l is painted over what lies below
+  abbrev pub painted : Point → Rgb → Layer S → Rgb
+  painted p below l = if holds l.shape.now p then l.brush else below
+
+  -- the colour at p: that of the foremost layer that holds p
+  abbrev pub layered : List (Layer S) → Point → Rgb
+  layered [] p = white
+  layered (l ∷ ls) p = painted p (layered ls p) l
+
+  -- the colours of row j from a column on
+  abbrev pub row_colours : List (Layer S) → View → ℕ → ℕ → ℕ → Rgb
+  row_colours ls w j from k = layered ls (sample w (from + k) j)
+
+  -- the colours there where the layer l is painted over others
+  abbrev pub layer_over : View → ℕ → ℕ → (ℕ → Rgb) → Layer S → ℕ → Rgb
+  layer_over w j from behind l k = painted (sample w (from + k) j) (behind k) l

@@ -1,0 +1,2 @@
+pub mod BandLemmas
+pub mod StripLemmas
