@@ -1,13 +1,13 @@
 -- Bands, row by row, and the shares of their workers.
-use Rattle.std.specs.Prelude.{ℕ, zero, suc, ◌≡◌, ◌≤◌, ◌<◌, ◌+◌, ◌-◌, ◌*◌, ◌/◌, ◌%◌, min, List, ◌++◌, flat_map, length, take, drop, refl}
+use Rattle.std.specs.Prelude.{ℕ, zero, suc, ◌≡◌, ◌≤◌, ◌<◌, ◌+◌, ◌-◌, ◌*◌, ◌/◌, ◌%◌, min, List, ◌++◌, flat_map, length, take, drop}
 use Rattle.std.specs.List.{range_with_len}
-use Rattle.std.proofs.Common.{arith, ap, sym, append-nil, ◌∙◌}
+use Rattle.std.proofs.Common.{arith, ap, append-nil, ◌∙◌}
 use Rattle.std.proofs.lemmas.Grind.{div_ceil_times}
 use Rattle.std.proofs.lemmas.List.{length-append}
 use Rattle.std.proofs.Math.Nat.{div-le_self}
 use Rattle.gf_shape.specs.declared.colour.Rgb.{Rgb}
 use Rattle.gf_shape.specs.declared.point.Point.{Point}
-use Rattle.gf_strips.proofs.PixelLemmas.{length_pixels, take_at, drop_at}
+use Rattle.gf_strips.proofs.PixelLemmas.{length_pixels, take_seam, drop_seam}
 use Rattle.gf_strips.proofs.RangeLemmas.{ranged_more}
 use Rattle.gf_layers.specs.Picture.{cells}
 use Rattle.gf_window.specs.Windows.{View}
@@ -15,7 +15,10 @@ use Rattle.gf_raster.specs.Strips.{strip, cut}
 
 -- lists of one length, made number by number
 pub length_ranged : {X : Type 0} (f : ℕ → List X) (m : ℕ) → ((j : ℕ) → length (f j) ≡ m) → (i n : ℕ) → length (flat_map f (range_with_len i n)) ≡ n * m
-length_ranged f m e i zero = refl
+length_ranged f m e i zero = none m
+  where
+    none : (m : ℕ) → 0 ≡ 0 * m
+    none m = omega arith
 length_ranged f m e i (suc n) =
     length-append (f i) (flat_map f (range_with_len (i + 1) n))
     ∙ (ap (λ k. k + length (flat_map f (range_with_len (i + 1) n))) (e i) ∙ (ap (λ k. m + k) (length_ranged f m e (i + 1) n) ∙ more n m))
@@ -28,10 +31,10 @@ pub ranged_at : {X : Type 0} (f : ℕ → List X) (m : ℕ) → ((j : ℕ) → l
 ranged_at f m e i n k l =
     let rest = flat_map f (range_with_len ((i + k) + 1) (n - k - 1)) in
     let parts : flat_map f (range_with_len i n) ≡ flat_map f (range_with_len i k) ++ (f (i + k) ++ rest) =
-      ap (λ j. flat_map f (range_with_len i j)) (split n k l) ∙ ranged_more f i k (suc (n - k - 1)) in
+    ap (λ j. flat_map f (range_with_len i j)) (split n k l) ∙ ranged_more f i k (suc (n - k - 1)) in
     ap (λ xs. take m (drop (k * m) xs)) parts
-    ∙ (ap (take m) (drop_at (k * m) (flat_map f (range_with_len i k)) (f (i + k) ++ rest) (length_ranged f m e i k))
-    ∙ take_at m (f (i + k)) rest (e (i + k)))
+    ∙ (ap (take m) (drop_seam (k * m) (flat_map f (range_with_len i k)) (f (i + k) ++ rest) (length_ranged f m e i k))
+    ∙ take_seam m (f (i + k)) rest (e (i + k)))
   where
     split : (n k : ℕ) → k < n → n ≡ k + suc (n - k - 1)
     split n k l = omega arith
@@ -59,6 +62,7 @@ shared width workers l =
   where
     turned : (q n : ℕ) → n * (q * 64) ≡ q * (64 * n)
     turned q n = omega arith
+
     least : (p r w : ℕ) → p ≡ r → w ≤ r → min p w ≡ w
     least p r w e h = omega arith
 

@@ -7,7 +7,7 @@ use Rattle.gf_shape.specs.declared.refusals.OutOfMemory.{OutOfMemory}
 use Rattle.gf_strips.proofs.PixelLemmas.{pixels_more}
 use Rattle.gf_layers.specs.Picture.{cells}
 use Rattle.gf_window.specs.Windows.{View}
-use Rattle.gf_raster.specs.Strips.{strip, cut, columns_of, part, AreParts}
+use Rattle.gf_raster.specs.Strips.{cut, columns_of, part, AreParts}
 use Rattle.gf_raster.proofs.BandLemmas.{length_strip, row_at}
 
 -- the strip that a worker gave

@@ -1,17 +1,12 @@
 //! Pictures of drawings as raw Netpbm PPM, painted band by band, by any number of workers.
 //!
-//! - [`paint`]: the raster of a window, as a [`Raster`].
-//! - [`ppm_to`]: the whole picture, written band after band.
 //! - [`Gate`], [`OpenGate`]: what a worker passes before each tile.
 #![tactic(auto)]
 
 mod bands;
 mod gate;
-mod paint;
-mod ppm;
 mod strips;
 
+pub use bands::band;
 pub use gate::{Gate, OpenGate};
 pub use gf_window::Window;
-pub use paint::{Raster, paint};
-pub use ppm::ppm_to;

@@ -59,7 +59,8 @@ fn part<S: Shape, G: Gate>(
     let from = k.saturating_mul(share).min(width);
     let columns = share.min(width - from);
     enter_all(gate, width, top, from, columns, k);
-    strip(alloc, layers, window, top, count, from, columns)
+    let bytes = strip(alloc, layers, window, top, count, from, columns)?;
+    Ok(bytes)
 }
 
 /// Passes the gate for each tile of a strip.
@@ -88,9 +89,12 @@ pub(crate) fn parts<S: Shape + Sync, G: Gate + Sync, R: Threads + Sync>(
     ensures len { IfOk result (λ ps. vec_len ps ≡ workers) }
     ensures each { IfOk result (λ ps. AreParts (layered S.holds layers.now) window top count share workers ps.items) }
 {
-    let all = thread::map_indices(rt, alloc, workers, &|k| {
-        part(alloc, layers, window, top, count, share, gate, k)
-    })?;
+    let all = thread::map_indices(
+        rt,
+        alloc,
+        workers,
+        &|k| { part(alloc, layers, window, top, count, share, gate, k) },
+    )?;
     Ok(all)
 }
 

@@ -32,16 +32,16 @@ pub pixels_one : (c : Rgb) (i j n : ℕ) → pixels (λ _. c) i n ≡ pixels (λ
 pixels_one c i j zero = refl
 pixels_one c i j (suc n) = ap (λ xs. pixel c ++ xs) (pixels_one c (i + 1) (j + 1) n)
 
-pub take_at : {X : Type 0} (k : ℕ) (xs ys : List X) → length xs ≡ k → take k (xs ++ ys) ≡ xs
-take_at k xs ys e = rw e at (take-append_seam xs ys)
+pub take_seam : {X : Type 0} (k : ℕ) (xs ys : List X) → length xs ≡ k → take k (xs ++ ys) ≡ xs
+take_seam k xs ys e = rw e at (take-append_seam xs ys)
 
-drop_at : {X : Type 0} (k : ℕ) (xs ys : List X) → length xs ≡ k → drop k (xs ++ ys) ≡ ys
-drop_at k xs ys e = rw e at (drop-append_seam xs ys)
+pub drop_seam : {X : Type 0} (k : ℕ) (xs ys : List X) → length xs ≡ k → drop k (xs ++ ys) ≡ ys
+drop_seam k xs ys e = rw e at (drop-append_seam xs ys)
 
 pub take_pixels : (f : ℕ → Rgb) (i m n : ℕ) → m ≤ n → take (3 * m) (pixels f i n) ≡ pixels f i m
 take_pixels f i m n l =
     ap (λ k. take (3 * m) (pixels f i k)) (parts m n l)
-    ∙ (ap (λ xs. take (3 * m) xs) (pixels_more f i m (n - m)) ∙ take_at (3 * m) (pixels f i m) (pixels f (i + m) (n - m)) (length_pixels f i m))
+    ∙ (ap (λ xs. take (3 * m) xs) (pixels_more f i m (n - m)) ∙ take_seam (3 * m) (pixels f i m) (pixels f (i + m) (n - m)) (length_pixels f i m))
   where
     parts : (m n : ℕ) → m ≤ n → n ≡ m + (n - m)
     parts m n l = omega arith
@@ -49,7 +49,7 @@ take_pixels f i m n l =
 pub drop_pixels : (f : ℕ → Rgb) (i m n : ℕ) → m ≤ n → drop (3 * m) (pixels f i n) ≡ pixels f (i + m) (n - m)
 drop_pixels f i m n l =
     ap (λ k. drop (3 * m) (pixels f i k)) (parts m n l)
-    ∙ (ap (λ xs. drop (3 * m) xs) (pixels_more f i m (n - m)) ∙ drop_at (3 * m) (pixels f i m) (pixels f (i + m) (n - m)) (length_pixels f i m))
+    ∙ (ap (λ xs. drop (3 * m) xs) (pixels_more f i m (n - m)) ∙ drop_seam (3 * m) (pixels f i m) (pixels f (i + m) (n - m)) (length_pixels f i m))
   where
     parts : (m n : ℕ) → m ≤ n → n ≡ m + (n - m)
     parts m n l = omega arith

@@ -1,3 +1,4 @@
+use Rattle.std.proofs.Common.{refl}
 use Rattle.gf_layers.specs.Layers.{layered}
 use Rattle.gf_raster.proofs.BandLemmas.{strip_next}
 use Rattle.gf_raster.proofs.strips.strip.Goals as goal

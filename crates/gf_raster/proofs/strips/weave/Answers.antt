@@ -1,4 +1,4 @@
-use Rattle.std.proofs.Common.{◌≡◌, ◌+◌, ◌<◌, length, rules, arith}
+use Rattle.std.proofs.Common.{◌≡◌, ◌<◌, length, rules, arith}
 use Rattle.gf_raster.proofs.StripLemmas.{part_is, woven}
 use Rattle.gf_raster.proofs.strips.weave.Goals as goal
 
