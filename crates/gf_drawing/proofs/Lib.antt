@@ -1,5 +1,6 @@
 pub mod Painting
 pub mod DrawingLaw
+pub mod FrontLemmas
 pub mod LawfulLemmas
 pub mod CompilingLemmas
 pub mod NumberLemmas

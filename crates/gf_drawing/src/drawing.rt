@@ -1,9 +1,10 @@
 //! Drawings.
 
-ghost use Rattle.std.specs.Prelude.{◌≡◌, None, [], ◌∷◌, ◌++◌, OnOk, OnErr, option_copied};
+ghost use Rattle.std.specs.Prelude.{◌≡◌, ℕ, None, [], ◌∷◌, ◌++◌, IfOk, OnOk, OnErr, map, reverse, option_copied};
+ghost use Rattle.std.specs.List.Sorted.{IsNonDecreasingBy};
 ghost use Rattle.gf_drawing.specs.Colours.{colour_in, rgb_of, standard_colours};
 ghost use Rattle.gf_drawing.specs.DrawingState.{IsFreeNumber, IsLawfulDrawing, IsLawfulFigure};
-ghost use Rattle.gf_drawing.specs.DrawingColour.{drawing_colour};
+ghost use Rattle.gf_drawing.specs.DrawingColour.{drawing_colour, figures_at};
 ghost use Rattle.gf_drawing.specs.FrontMost.{front_at, is_no_deeper, nearer_at};
 
 use crate::{ColourTable, Figure};
@@ -62,6 +63,16 @@ impl<S: Shape> Drawing<S> {
         ensures lawful { IsLawfulDrawing self.now }
     {
         &self.figures
+    }
+
+    /// Its figures from the front to the back: by their depths, and of one depth the last one first.
+    pub fn front_to_back(&self, alloc: Global) -> Result<Vec<&Figure<S>>, OutOfMemory>
+        ensures rises { IfOk result (λ figures. IsNonDecreasingBy (λ f. f.now.depth) figures.items) }
+        ensures ties { IfOk result (λ figures. (depth : ℕ) → figures_at (map (λ f. f.now) figures.items) depth ≡ reverse (figures_at self.now.figures depth)) }
+    {
+        let mut figures = reversed(alloc, &self.figures)?;
+        sort_by_depth(&mut figures)?;
+        Ok(figures)
     }
 
     /// The colour under a number: a standard one, or one of the table.
@@ -154,4 +165,21 @@ fn is_no_deeper<S>(depth: u16, front: Option<&Figure<S>>) -> bool
         Some(figure) => depth <= figure.depth,
         None => true,
     }
+}
+
+/// Figures, the last one first.
+fn reversed<S>(alloc: Global, figures: &[Figure<S>]) -> Result<Vec<&Figure<S>>, OutOfMemory>
+    ensures { IfOk result (λ v. map (λ f. f.now) v.items ≡ reverse figures.now) }
+{
+    let reversed = figures.iter().rev().collect(alloc)?;
+    Ok(reversed)
+}
+
+/// Sorts figures by their depths, and keeps the order of those of one depth.
+fn sort_by_depth<S>(figures: &mut Vec<&Figure<S>>) -> Result<(), OutOfMemory>
+    ensures sorted { OnOk result (IsNonDecreasingBy (λ f. f.now.depth) figures.new.items) }
+    ensures stable { (depth : ℕ) → OnOk result (figures_at (map (λ f. f.now) figures.new.items) depth ≡ figures_at (map (λ f. f.now) figures.old.items) depth) }
+{
+    figures.sort_by_key(|figure| figure.depth)?;
+    Ok(())
 }
