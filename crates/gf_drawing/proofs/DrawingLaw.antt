@@ -52,7 +52,7 @@ module _ {F : Type 0} (depth : F → ℕ) where
     first_shows colour fs k c e l =
         front_shows depth holds colour fs k c (All-below 0 k fs e (omega arith)) ∙ ap (shown depth holds colour c) (front_first 0 fs e)
 
-lawful_depth : {S : Type 0} → (table : Table) (f : Figure S) → IsLawfulFigure table f → f.depth < 1000
+pub lawful_depth : {S : Type 0} → (table : Table) (f : Figure S) → IsLawfulFigure table f → f.depth < 1000
 lawful_depth table f h = grind (arith, nat_tests)
 
 module _ {S : Type 0} (holds : S → Point → Bool) where

@@ -16,7 +16,7 @@ use Rattle.gf_drawing.specs.FrontMost.{nearer}
 
 module _ {F : Type 0} (depth : F → ℕ) where
   -- those of fs at depth d
-  abbrev at : List F → ℕ → List F
+  abbrev pub at : List F → ℕ → List F
   at fs d = filter (λ f. eqb (depth f) d) fs
 
   -- those at k depths from m on, the deepest first
@@ -35,7 +35,7 @@ module _ {F : Type 0} (depth : F → ℕ) where
     over c f = cond (holds f) (colour f) c
 
     -- those at k depths from m on are painted over c
-    abbrev paint : List F → ℕ → ℕ → C → C
+    abbrev pub paint : List F → ℕ → ℕ → C → C
     paint fs m k c = fold over c (back fs m k)
 
     paint_step : (fs : List F) (m k : ℕ) (c : C) → paint fs m (suc k) c ≡ fold over (paint fs (m + 1) k c) (at fs m)
@@ -61,7 +61,7 @@ module _ {F : Type 0} (depth : F → ℕ) where
     ]
 
     -- two lists look the same if they do at each depth
-    paint_same : (us vs : List F) (m k : ℕ) (c : C) → ((d : ℕ) (x : C) → fold over x (at us d) ≡ fold over x (at vs d)) → paint us m k c ≡ paint vs m k c
+    pub paint_same : (us vs : List F) (m k : ℕ) (c : C) → ((d : ℕ) (x : C) → fold over x (at us d) ≡ fold over x (at vs d)) → paint us m k c ≡ paint vs m k c
     paint_same us vs m zero c same = refl
     paint_same us vs m (suc k) c same =
         paint_step us m k c

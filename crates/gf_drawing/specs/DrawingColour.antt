@@ -1,5 +1,5 @@
 -- The colour of a drawing at a point (Xfig, FIG Format 3.2: depth); file order within a depth and the white ground are this project's choice.
-use Rattle.std.specs.Prelude.{ℕ, Bool, List, fold, filter, flat_map, reverse, ◌==◌, if◌then◌else◌, unwrap_or}
+use Rattle.std.specs.Prelude.{ℕ, Bool, List, fold, filter, find, flat_map, reverse, option_map, ◌==◌, if◌then◌else◌, unwrap_or}
 use Rattle.std.specs.List.{range_with_len}
 use Rattle.gf_shape.specs.declared.colour.Rgb.{Rgb}
 use Rattle.gf_shape.specs.declared.point.Point.{Point}
@@ -29,3 +29,7 @@ module _ {S : Type 0} where
     -- the colour at p: white, painted over by each figure from the back
     abbrev pub drawing_colour : Table → List (Figure S) → Point → Rgb
     drawing_colour table figures p = fold (painted table p) white (from_back figures)
+
+    -- the colour at p of figures from the front to the back: that of the first that holds p, white if none does
+    abbrev pub front_colour : Table → List (Figure S) → Point → Rgb
+    front_colour table figures p = unwrap_or (option_map (figure_colour table) (find (λ (f : Figure S). holds f.shape p) figures)) white

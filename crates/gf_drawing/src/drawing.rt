@@ -1,10 +1,11 @@
 //! Drawings.
 
-ghost use Rattle.std.specs.Prelude.{◌≡◌, ℕ, None, [], ◌∷◌, ◌++◌, IfOk, OnOk, OnErr, map, reverse, option_copied};
+ghost use Rattle.std.specs.Prelude.{◌≡◌, ℕ, None, [], ◌∷◌, ◌++◌, IfOk, OnOk, OnErr, map, reverse, option_copied, IsPermutation};
 ghost use Rattle.std.specs.List.Sorted.{IsNonDecreasingBy};
+ghost use Rattle.gf_shape.specs.declared.point.Point.{Point};
 ghost use Rattle.gf_drawing.specs.Colours.{colour_in, rgb_of, standard_colours};
 ghost use Rattle.gf_drawing.specs.DrawingState.{IsFreeNumber, IsLawfulDrawing, IsLawfulFigure};
-ghost use Rattle.gf_drawing.specs.DrawingColour.{drawing_colour, figures_at};
+ghost use Rattle.gf_drawing.specs.DrawingColour.{drawing_colour, figures_at, front_colour};
 ghost use Rattle.gf_drawing.specs.FrontMost.{front_at, is_no_deeper, nearer_at};
 
 use crate::{ColourTable, Figure};
@@ -67,8 +68,7 @@ impl<S: Shape> Drawing<S> {
 
     /// Its figures from the front to the back: by their depths, and of one depth the last one first.
     pub fn front_to_back(&self, alloc: Global) -> Result<Vec<&Figure<S>>, OutOfMemory>
-        ensures rises { IfOk result (λ figures. IsNonDecreasingBy (λ f. f.now.depth) figures.items) }
-        ensures ties { IfOk result (λ figures. (depth : ℕ) → figures_at (map (λ f. f.now) figures.items) depth ≡ reverse (figures_at self.now.figures depth)) }
+        ensures { IfOk result (λ figures. (p : Point) → front_colour S.holds self.now.table (map (λ f. f.now) figures.items) p ≡ drawing_colour S.holds self.now.table self.now.figures p) }
     {
         let mut figures = reversed(alloc, &self.figures)?;
         sort_by_depth(&mut figures)?;
@@ -178,6 +178,7 @@ fn reversed<S>(alloc: Global, figures: &[Figure<S>]) -> Result<Vec<&Figure<S>>, 
 /// Sorts figures by their depths, and keeps the order of those of one depth.
 fn sort_by_depth<S>(figures: &mut Vec<&Figure<S>>) -> Result<(), OutOfMemory>
     ensures sorted { OnOk result (IsNonDecreasingBy (λ f. f.now.depth) figures.new.items) }
+    ensures same { IsPermutation figures.old.items figures.new.items }
     ensures stable { (depth : ℕ) → OnOk result (figures_at (map (λ f. f.now) figures.new.items) depth ≡ figures_at (map (λ f. f.now) figures.old.items) depth) }
 {
     figures.sort_by_key(|figure| figure.depth)?;
