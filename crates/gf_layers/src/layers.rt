@@ -1,9 +1,13 @@
 //! The layers of a drawing.
 
-ghost use Rattle.std.specs.Prelude.{◌≡◌, IfOk};
+ghost use Rattle.std.specs.Prelude.{◌≡◌, IfOk, map};
 ghost use Rattle.gf_shape.specs.declared.point.Point.{Point};
+ghost use Rattle.gf_drawing.specs.DrawingColour.{drawing_colour, figure_colour};
+ghost use Rattle.gf_layers.specs.Layers.{layered};
+ghost use Rattle.gf_layers.specs.Seen.{seen, seen_figure};
 
 use crate::Layer;
+use gf_drawing::{Drawing, Figure};
 use gf_shape::{OutOfMemory, Rgb, Shape};
 use gf_strips::Brush;
 use std::alloc::Global;
@@ -33,4 +37,47 @@ impl<'a, S> Model for Layers<'a, S> {
     ghost view = { λ l. l.layers.items };
 
     ghost invariant = { λ l. l.ground ≡ white };
+}
+
+impl<'a, S: Shape> Layers<'a, S> {
+    /// The layers of a drawing, one for each figure.
+    pub fn new(alloc: Global, drawing: &'a Drawing<S>) -> Result<Layers<'a, S>, OutOfMemory>
+        ensures { IfOk result (λ ls. (p : Point) → layered S.holds ls p ≡ drawing_colour S.holds drawing.now.table drawing.now.figures p) }
+    {
+        let figures = drawing.front_to_back(alloc)?;
+        let layers = layers_of(alloc, drawing, &figures)?;
+        let ground = Brush::new(alloc, WHITE)?;
+        Ok(Layers { layers, ground })
+    }
+}
+
+/// A layer for each figure, in their order.
+fn layers_of<'a, S: Shape>(
+    alloc: Global,
+    drawing: &'a Drawing<S>,
+    figures: &[&'a Figure<S>],
+) -> Result<Vec<Layer<'a, S>>, OutOfMemory>
+    ensures { IfOk result (λ ls. map seen ls.items ≡ map (λ f. seen_figure drawing.now.table f.now) figures.now) }
+{
+    let mut layers = Vec::new(alloc);
+    for figure in figures {
+        let layer = layer(alloc, drawing, figure)?;
+        layers.push(layer)?;
+    }
+    Ok(layers)
+}
+
+fn layer<'a, S: Shape>(
+    alloc: Global,
+    drawing: &'a Drawing<S>,
+    figure: &'a Figure<S>,
+) -> Result<Layer<'a, S>, OutOfMemory>
+    ensures { IfOk result (λ l. seen l ≡ seen_figure drawing.now.table figure.now) }
+{
+    let colour = drawing.rgb(figure.colour).unwrap_or(WHITE);
+    let brush = Brush::new(alloc, colour)?;
+    Ok(Layer {
+        shape: &figure.shape,
+        brush,
+    })
 }
