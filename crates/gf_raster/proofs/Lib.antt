@@ -1,2 +1,3 @@
 pub mod BandLemmas
+pub mod PictureLemmas
 pub mod StripLemmas

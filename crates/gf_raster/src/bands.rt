@@ -17,7 +17,7 @@ use std::thread::Threads;
 pub(crate) const TILE: usize = 64;
 
 /// Adds the bytes of `count` rows from `top` on, painted by so many workers.
-pub fn band<S: Shape + Sync, G: Gate + Sync, R: Threads + Sync>(
+pub(crate) fn band<S: Shape + Sync, G: Gate + Sync, R: Threads + Sync>(
     rt: &R,
     alloc: Global,
     layers: &Layers<'_, S>,

@@ -1,12 +1,18 @@
 //! Pictures of drawings as raw Netpbm PPM, painted band by band, by any number of workers.
 //!
+//! - [`Window`]: which part of the plane a picture shows.
+//! - [`paint`]: the pixels of a window, as a [`Raster`].
+//! - [`ppm_to`]: the whole picture, written band after band.
 //! - [`Gate`], [`OpenGate`]: what a worker passes before each tile.
 #![tactic(auto)]
 
 mod bands;
 mod gate;
+mod painting;
+mod ppm;
 mod strips;
 
-pub use bands::band;
 pub use gate::{Gate, OpenGate};
 pub use gf_window::Window;
+pub use painting::{Raster, paint};
+pub use ppm::ppm_to;

@@ -1,0 +1,85 @@
+//! The pixels of a window.
+
+ghost use Rattle.std.specs.Prelude.{◌≡◌, ◌≤◌, IfOk};
+ghost use Rattle.gf_drawing.specs.DrawingColour.{drawing_colour};
+ghost use Rattle.gf_layers.specs.Layers.{layered};
+ghost use Rattle.gf_layers.specs.Picture.{raster};
+
+use crate::Gate;
+use crate::bands::{TILE, band};
+use gf_drawing::Drawing;
+use gf_layers::Layers;
+use gf_shape::{OutOfMemory, Shape};
+use gf_window::Window;
+use std::alloc::Global;
+use std::marker::Model;
+use std::thread::Threads;
+
+/// The pixels of a window: its rows from the top, of each its points from the left, of each the
+/// bytes of red, green and blue.
+#[derive(Debug, Drop)]
+pub struct Raster {
+    bytes: Vec<u8>,
+}
+
+impl Model for Raster {
+    ghost use Rattle.std.specs.Prelude.{ℕ, List};
+
+    ghost Value = { List ℕ };
+
+    ghost view = { λ r. r.bytes.items };
+}
+
+impl Raster {
+    /// Its bytes.
+    pub fn bytes(&self) -> &[u8]
+        ensures { result.now ≡ self.now }
+    {
+        &self.bytes
+    }
+}
+
+/// Paints a window of a drawing, one band of 64 rows after another, each shared by 1 to 16 workers:
+/// pixel (i, j) has the drawing's colour at the point (x + i * step, y + j * step).
+///
+/// Worker `who` passes `gate` for each tile of its part of a band before it paints there. Where a
+/// thread can't be started, the caller's paints its part.
+pub fn paint<S: Shape + Sync, G: Gate + Sync, R: Threads + Sync>(
+    rt: &R,
+    alloc: Global,
+    drawing: &Drawing<S>,
+    window: Window,
+    workers: u8,
+    gate: &G,
+) -> Result<Raster, OutOfMemory>
+    requires { (1 ≤ workers) × (workers ≤ 16) }
+    ensures { IfOk result (λ pixels. pixels ≡ raster (drawing_colour S.holds drawing.now.table drawing.now.figures) window) }
+{
+    let layers = Layers::new(alloc, drawing)?;
+    let bytes = paint_all(rt, alloc, &layers, window, usize::from(workers), gate)?;
+    Ok(Raster { bytes })
+}
+
+/// Paints all bands.
+fn paint_all<S: Shape + Sync, G: Gate + Sync, R: Threads + Sync>(
+    rt: &R,
+    alloc: Global,
+    layers: &Layers<'_, S>,
+    window: Window,
+    workers: usize,
+    gate: &G,
+) -> Result<Vec<u8>, OutOfMemory>
+    requires { (1 ≤ workers) × (workers ≤ 16) }
+    ensures { IfOk result (λ bytes. bytes.items ≡ raster (layered S.holds layers.now) window) }
+{
+    let mut bytes = Vec::new(alloc);
+    let height = window.height() as usize;
+    for index in 0..height.div_ceil(TILE) {
+        let top = TILE * index;
+        let count = TILE.min(height - top);
+        band(
+            rt, alloc, layers, window, top, count, workers, gate, &mut bytes,
+        )?;
+    }
+    Ok(bytes)
+}
