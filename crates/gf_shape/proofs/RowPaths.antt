@@ -1,11 +1,11 @@
 -- The row law of a closed chain, from the crossings and the contacts of its edges.
-use Rattle.std.specs.Prelude.{drop, ◌<◌, ◌≡◌, ℕ, ◌+◌, ◌%◌, Bool, true, false, not, cond, ◌&&◌, ◌||◌, List, [], ◌∷◌, ◌++◌, zip, length, count_by, Option, Some, None, ℤ, int_le, refl, option_to_list}
+use Rattle.std.specs.Prelude.{drop, ◌<◌, ◌≤◌, ◌≡◌, ℕ, ◌+◌, ◌%◌, Bool, true, false, not, cond, ◌&&◌, ◌||◌, List, [], ◌∷◌, ◌++◌, zip, length, count_by, Option, Some, None, ℤ, int_le, refl, option_to_list}
 use Rattle.std.specs.List.{list_any}
 use Rattle.std.specs.Ordering.{int_eq}
 use Rattle.std.proofs.Common.{arith, ap, sym, inl, inr, get_or, ◌∙◌}
 use Rattle.std.proofs.lemmas.Bool.{cases_Bool}
 use Rattle.std.proofs.lemmas.Int.{ints, by_lt_z, clamps}
-use Rattle.std.proofs.lemmas.List.{append-nil, append_assoc, at_drop_more}
+use Rattle.std.proofs.lemmas.List.{append-nil, append_assoc, at_drop_all, at_drop_more}
 use Rattle.std.proofs.lemmas.List.Sums.{sum_by-cons, sum_by-append}
 use Rattle.gf_rows.specs.declared.crossing.Crossing.{Crossing}
 use Rattle.gf_rows.specs.declared.span.Span.{Span}
@@ -128,6 +128,12 @@ gathers_more f g one old new whole a d ps i h e is =
     ∙ (append_assoc old (g a (get_or ps i d)) (f (get_or ps i d) (drop (i + 1) ps))
     ∙ (ap (λ l. old ++ l) (sym (one a (get_or ps i d) (drop (i + 1) ps)))
     ∙ (sym (at_drop_more (λ qs. old ++ f a qs) ps i d h) ∙ is)))
+
+pub gathers_all : {X : Type 0} (f : Point → List Point → List X) → ((a : Point) → f a [] ≡ []) → (found whole : List X) (a : Point) (ps : List Point) (i : ℕ) → length ps ≤ i → found ++ f a (drop i ps) ≡ whole → found ≡ whole
+gathers_all f none found whole a ps i l is =
+    sym (append-nil found)
+    ∙ (ap (λ l. found ++ l) (sym (none a))
+    ∙ (sym (at_drop_all (λ qs. found ++ f a qs) ps i l) ∙ is))
 
 -- what an edge adds to the meetings, by whether it passes the height
 pub adds_crossing : (ks : List Crossing) (ss : List Span) (y : ℤ) (a b : Point) → passes y (a, b) ≡ true → (ks ++ crossing y (a, b) ∷ [] ≡ ks ++ crossings_of y (a, b)) × (ss ≡ ss ++ contacts_of y (a, b))
