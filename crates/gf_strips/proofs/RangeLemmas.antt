@@ -9,12 +9,14 @@ range_more i zero n = ap (λ k. range_with_len i k) (none n) ∙ ap (λ j. range
   where
     none : (n : ℕ) → 0 + n ≡ n
     none n = omega arith
+
     last : (i : ℕ) → i + 0 ≡ i
     last i = omega arith
 range_more i (suc m) n = ap (λ k. range_with_len i k) (again m n) ∙ ap (λ xs. i ∷ xs) (range_more (i + 1) m n ∙ ap (λ j. range_with_len (i + 1) m ++ range_with_len j n) (moved i m))
   where
     moved : (i m : ℕ) → (i + 1) + m ≡ i + suc m
     moved i m = omega arith
+
     again : (m n : ℕ) → suc m + n ≡ suc (m + n)
     again m n = omega arith
 
