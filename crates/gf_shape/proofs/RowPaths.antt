@@ -110,7 +110,7 @@ full_contact y a b = by_cases (int_eq a.y y) (int_eq b.y y)
     by_cases false true = one (full_between b.x b.x)
     by_cases false false = refl
 
-full_contacts_of : (y : ℤ) (a b : Point) → list_any is_empty (contacts_of y (a, b)) ≡ false
+pub full_contacts_of : (y : ℤ) (a b : Point) → list_any is_empty (contacts_of y (a, b)) ≡ false
 full_contacts_of y a b = elim (cases_Bool (passes y (a, b))) [
   | inl e ↦ rw e refl
   | inr e ↦ rw e (full_contact y a b)

@@ -1,7 +1,8 @@
 //! Shapes over grid points: what each holds, its bounds, its moves and its outline.
 //!
 //! - [`Point`], [`Rgb`], [`Bounds`], [`Span`]: plain values; [`REACH`]: how far points lie.
-//! - [`Row`]: the spans of a shape at one height, with memory for the next ones.
+//! - [`Row`]: the spans of a shape at one height, with memory for the next ones; [`meet`]: where an
+//!   edge meets it.
 //! - [`Shape`]: what every shape can do, and the laws that it keeps.
 //! - [`Rect`], [`Circle`], [`Polygon`] and [`AnyShape`], which is one of these: what a designer draws.
 //! - [`Outline`], which is a [`Chain`] or a [`Disc`]: what a FIG file draws.
@@ -34,6 +35,7 @@ pub use colour::Rgb;
 pub use disc::Disc;
 pub use gf_rows::Span;
 pub use outline::Outline;
+pub use passing::meet;
 pub use point::{Point, REACH};
 pub use polygon::Polygon;
 pub use rect::Rect;

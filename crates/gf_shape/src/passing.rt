@@ -32,8 +32,9 @@ pub(crate) fn meet_along(
     Ok(())
 }
 
-/// Adds where an edge meets a row.
-fn meet(a: Point, b: Point, y: i32, meetings: &mut Meetings) -> Result<(), OutOfMemory>
+/// Adds where the edge between two points meets the row `y`: a crossing where it passes it, or else
+/// what it has in it.
+pub fn meet(a: Point, b: Point, y: i32, meetings: &mut Meetings) -> Result<(), OutOfMemory>
     requires a { IsTrue (is_within_reach a) }
     requires b { IsTrue (is_within_reach b) }
     ensures crossings { OnOk result (meetings.new.crossings.items ≡ meetings.old.crossings.items ++ crossings_of y (a, b)) }
