@@ -1,5 +1,5 @@
 -- What painting leaves free.
-use Rattle.std.specs.Prelude.{ℕ, ◌≡◌, ◌≤◌, ◌<◌, ◌+◌, ◌*◌, min, max, Bool, true, false, ◌&&◌, ◌||◌, not, List, [], ◌∷◌, ◌++◌, take, length, if◌then◌else◌, refl}
+use Rattle.std.specs.Prelude.{ℕ, ◌≡◌, ◌⊎◌, ◌≤◌, ◌<◌, ◌+◌, ◌*◌, min, max, Bool, true, false, ◌&&◌, ◌||◌, not, List, [], ◌∷◌, ◌++◌, take, length, if◌then◌else◌, refl}
 use Rattle.std.proofs.Common.{arith, ap, sym, inl, inr, get_or, ◌∙◌}
 use Rattle.std.proofs.lemmas.Bool.{cases_Bool}
 use Rattle.std.proofs.lemmas.Bool.Decides.{nat_tests}
@@ -7,7 +7,7 @@ use Rattle.std.proofs.lemmas.List.Folds.{list_any-append, list_any_more}
 use Rattle.gf_shape.specs.declared.colour.Rgb.{Rgb}
 use Rattle.gf_strips.specs.declared.columns.Columns.{Columns}
 use Rattle.gf_strips.specs.Pixels.{pixels}
-use Rattle.gf_strips.specs.Strips.{is_between, is_among, is_free, over, Shown, IsPainted}
+use Rattle.gf_strips.specs.Strips.{AreSameOutside, is_between, is_among, is_free, over, Shown, IsPainted}
 use Rattle.gf_strips.proofs.PixelLemmas.{pixels_same, length_pixels}
 
 or_false : (p : Bool) → (p || false) ≡ p
@@ -88,6 +88,18 @@ painted_behind target behind other n strip none h = record {
 }
 
 -- nothing is painted yet
+-- what lies behind columns of which none is free is not seen
+pub painted_unseen : (target behind other : ℕ → Rgb) (c : Columns) (n : ℕ) (strip : Shown) → ((k : ℕ) → (is_free strip.free k && is_among c k) ≡ false) → AreSameOutside c n behind other → IsPainted target behind n strip → IsPainted target other n strip
+painted_unseen target behind other c n strip none same h = record {
+  now = h.now;
+  bytes = h.bytes;
+  shows = λ k l. h.shows k l ∙ pick k l (cases_Bool (is_free strip.free k));
+}
+  where
+    pick : (k : ℕ) → k < n → (is_free strip.free k ≡ true) ⊎ (is_free strip.free k ≡ false) → (if is_free strip.free k then behind k else h.now k) ≡ (if is_free strip.free k then other k else h.now k)
+    pick k l (inl e) = rw e (same k l (rw e at (none k)))
+    pick k l (inr e) = rw e refl
+
 pub painted_none : (target now : ℕ → Rgb) (n : ℕ) (strip : Shown) → strip.bytes ≡ pixels now 0 n → strip.free ≡ record { from = 0; to = n } ∷ [] → IsPainted target target n strip
 painted_none target now n strip r g = record {
   now = now;

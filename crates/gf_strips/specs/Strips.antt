@@ -1,5 +1,5 @@
 -- Some columns of a row, painted from the front to the back: each once, while it is free (this project's choice).
-use Rattle.std.specs.Prelude.{ℕ, ◌*◌, ◌≤◌, ◌≡◌, ◌<◌, Bool, ◌&&◌, nat_le, nat_lt, List, if◌then◌else◌}
+use Rattle.std.specs.Prelude.{ℕ, ◌*◌, ◌≤◌, ◌≡◌, ◌<◌, Bool, false, ◌&&◌, nat_le, nat_lt, List, if◌then◌else◌}
 use Rattle.std.specs.List.{list_any}
 use Rattle.gf_shape.specs.declared.colour.Rgb.{Rgb}
 use Rattle.gf_strips.specs.declared.columns.Columns.{Columns}
@@ -20,6 +20,10 @@ is_free free k = list_any (λ c. is_among c k) free
 -- the colour c where the test holds, else what was there
 abbrev pub over : (ℕ → Bool) → Rgb → (ℕ → Rgb) → ℕ → Rgb
 over test c f k = if test k then c else f k
+
+-- of n columns, those that are not among c have the same colours
+abbrev pub AreSameOutside : Columns → ℕ → (ℕ → Rgb) → (ℕ → Rgb) → Type 0
+AreSameOutside c n f g = (k : ℕ) → k < n → is_among c k ≡ false → f k ≡ g k
 
 -- the columns lie within a row of so many bytes
 abbrev pub Fits : ℕ → Columns → Type 0

@@ -1,9 +1,9 @@
 //! Some columns of a row, painted from the front to the back.
 
-ghost use Rattle.std.specs.Prelude.{◌≡◌, ℕ, ◌*◌, ◌≤◌, Bool, ◌&&◌, ◌||◌, not, IsTrue, OnOk, IfOk, [], ◌∷◌, All, length, replicate};
+ghost use Rattle.std.specs.Prelude.{◌≡◌, ℕ, ◌*◌, ◌≤◌, Bool, false, ◌&&◌, ◌||◌, not, IsTrue, OnOk, IfOk, [], ◌∷◌, All, length, replicate};
 ghost use Rattle.gf_shape.specs.declared.colour.Rgb.{Rgb};
 ghost use Rattle.gf_strips.specs.Pixels.{pixels};
-ghost use Rattle.gf_strips.specs.Strips.{Fits, is_between, is_among, is_free, over, IsPainted};
+ghost use Rattle.gf_strips.specs.Strips.{AreSameOutside, Fits, is_between, is_among, is_free, over, IsPainted};
 
 use crate::{Brush, Columns};
 use gf_shape::OutOfMemory;
@@ -64,6 +64,13 @@ impl Strip {
         self.free.is_empty()
     }
 
+    /// Whether one of the columns is still free. Where none is, what lies behind them is not seen.
+    pub fn has_free(&self, columns: Columns) -> bool
+        ensures { result ≡ false → (target behind other : ℕ → Rgb) (n : ℕ) → AreSameOutside columns n behind other → IsPainted target behind n self.now → IsPainted target other n self.now }
+    {
+        is_any_free(&self.free, columns)
+    }
+
     /// Paints those of the columns that are still free.
     pub fn paint(&mut self, columns: Columns, brush: &Brush) -> Result<(), OutOfMemory>
         ensures free { OnOk result ((k : ℕ) → is_free self.new.free k ≡ (is_free self.old.free k && not (is_among columns k))) }
@@ -92,6 +99,24 @@ impl Strip {
         self.paint(all, ground)?;
         Ok(&self.bytes)
     }
+}
+
+/// Whether one of the columns is among free ones.
+fn is_any_free(free: &[Columns], columns: Columns) -> bool
+    ensures { result ≡ false → (k : ℕ) → (is_free free.now k && is_among columns k) ≡ false }
+{
+    for some in free {
+        if overlap(*some, columns) {
+            return true;
+        }
+    }
+    false
+}
+
+fn overlap(a: Columns, b: Columns) -> bool
+    ensures { result ≡ false → (k : ℕ) → (is_among a k && is_among b k) ≡ false }
+{
+    a.from.max(b.from) < a.to.min(b.to)
 }
 
 /// Makes it so many zero bytes.
