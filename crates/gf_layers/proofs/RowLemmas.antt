@@ -1,4 +1,4 @@
--- Rows painted span by span and layer by layer.
+-- Rows painted span by span and piece by piece.
 use Rattle.std.specs.Prelude.{ℕ, ◌≡◌, ◌≤◌, ◌<◌, ◌+◌, zero, suc, Bool, true, false, ◌&&◌, ◌||◌, int_le, ◌≤ℤ◌, List, ◌++◌, drop, length, if◌then◌else◌, ℤ, refl}
 use Rattle.std.specs.List.{list_any}
 use Rattle.std.proofs.Common.{arith, ap, sym, inl, inr, get_or, ◌∙◌}
@@ -18,7 +18,9 @@ use Rattle.gf_strips.specs.Strips.{Shown, is_free, over, IsPainted}
 use Rattle.gf_versions.specs.HistoryColour.{white}
 use Rattle.gf_window.specs.Windows.{View, column, line, sample}
 use Rattle.gf_layers.specs.declared.layer.Layer.{Layer}
+use Rattle.gf_layers.specs.declared.piece.Piece.{Piece}
 use Rattle.gf_layers.specs.Layers.{layer_over, layered, row_colours}
+use Rattle.gf_layers.specs.Pieces.{layers_of}
 
 -- what lies behind may be said in other words
 pub painted_same : (target behind other : ℕ → Rgb) (n : ℕ) (strip : Shown) → ((k : ℕ) → k < n → behind k ≡ other k) → IsPainted target behind n strip → IsPainted target other n strip
@@ -63,13 +65,13 @@ module _ {S : Type 0} (holds : S → Point → Bool) where
       true_not_false : true ≡ false → ⊥
       true_not_false e = grind arith
 
-  -- the next layer
-  pub layers_next : (w : View) (j from : ℕ) (ls : List (Layer S)) (i : ℕ) (d : Layer S) (k : ℕ) → i < length ls → row_colours holds (drop i ls) w j from k ≡ layer_over holds w j from (row_colours holds (drop (i + 1) ls) w j from) (get_or ls i d) k
-  layers_next w j from ls i d k l = at_drop_more (λ (xs : List (Layer S)). layered holds xs (sample w (from + k) j)) ls i d l
+  -- the next piece
+  pub pieces_next : (w : View) (j from : ℕ) (ps : List (Piece S)) (i : ℕ) (d : Piece S) (k : ℕ) → i < length ps → row_colours holds (layers_of (drop i ps)) w j from k ≡ layer_over holds w j from (row_colours holds (layers_of (drop (i + 1) ps)) w j from) (get_or ps i d).layer.now k
+  pieces_next w j from ps i d k l = at_drop_more (λ (xs : List (Piece S)). layered holds (layers_of xs) (sample w (from + k) j)) ps i d l
 
-  -- no layer is left
-  pub layers_done : (target : ℕ → Rgb) (w : View) (j from : ℕ) (ls : List (Layer S)) (i n : ℕ) (strip : Shown) → length ls ≤ i → IsPainted target (row_colours holds (drop i ls) w j from) n strip → IsPainted target (λ _. white) n strip
-  layers_done target w j from ls i n strip l h = painted_same target (row_colours holds (drop i ls) w j from) (λ _. white) n strip (λ k m. rw (drop_of_length-le ls l) refl) h
+  -- no piece is left
+  pub pieces_done : (target : ℕ → Rgb) (w : View) (j from : ℕ) (ps : List (Piece S)) (i n : ℕ) (strip : Shown) → length ps ≤ i → IsPainted target (row_colours holds (layers_of (drop i ps)) w j from) n strip → IsPainted target (λ _. white) n strip
+  pieces_done target w j from ps i n strip l h = painted_same target (row_colours holds (layers_of (drop i ps)) w j from) (λ _. white) n strip (λ k m. rw (drop_of_length-le ps l) refl) h
 
 -- the columns from one on
 pub shifted : (f : ℕ → Rgb) (m i n : ℕ) → pixels (λ k. f (m + k)) i n ≡ pixels f (m + i) n

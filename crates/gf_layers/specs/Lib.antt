@@ -1,3 +1,5 @@
 pub mod Layers
+pub mod Parts
 pub mod Picture
+pub mod Pieces
 pub mod Seen

@@ -5,7 +5,12 @@
 
 mod layer;
 mod layers;
+mod part;
+mod piece;
 mod row;
+mod workspace;
 
 pub use layer::Layer;
 pub use layers::Layers;
+pub use part::Part;
+pub use workspace::Workspace;

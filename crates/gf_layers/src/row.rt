@@ -1,84 +1,67 @@
-//! A row of layers, painted from the front.
+//! A row of pieces, painted from the front.
 
-ghost use Rattle.std.specs.Prelude.{◌≡◌, ℕ, ◌+◌, ◌≤◌, ◌<◌, ◌&&◌, int_le, OnOk, IfOk};
+ghost use Rattle.std.specs.Prelude.{◌≡◌, ℕ, ◌+◌, ◌<◌, ◌&&◌, int_le, OnOk, All};
 ghost use Rattle.std.specs.List.{list_any};
 ghost use Rattle.gf_rows.specs.Spans.{is_in_span};
 ghost use Rattle.gf_shape.specs.declared.colour.Rgb.{Rgb};
 ghost use Rattle.gf_strips.specs.Strips.{IsPainted, over};
 ghost use Rattle.gf_versions.specs.HistoryColour.{white};
 ghost use Rattle.gf_window.specs.Windows.{column};
-ghost use Rattle.gf_layers.specs.Layers.{layer_over, layered, row_colours};
-ghost use Rattle.gf_layers.specs.Picture.{cells};
+ghost use Rattle.gf_layers.specs.Layers.{layer_over, row_colours};
+ghost use Rattle.gf_layers.specs.Pieces.{IsPiece, layers_of};
 
-use crate::{Layer, Layers};
-use gf_shape::{Bounds, OutOfMemory, Row, Shape, Span};
+use crate::Workspace;
+use crate::piece::{Piece, spans};
+use gf_shape::{Bounds, OutOfMemory, Shape, Span};
 use gf_strips::{Brush, Strip};
 use gf_window::Window;
 
-impl<'l, S: Shape> Layers<'l, S> {
-    /// The bytes of row `j` of a window, of `len` columns from `from` on: each pixel is painted once,
-    /// in the colour of the foremost layer that holds its point.
-    ///
-    /// `strip` and `row` lend their memory.
-    pub fn paint_row<'a>(
-        &self,
-        window: Window,
-        j: usize,
-        from: usize,
-        len: usize,
-        strip: &'a mut Strip,
-        row: &mut Row,
-    ) -> Result<&'a [u8], OutOfMemory>
-        requires row { j < window.height }
-        requires columns { len ≤ 4096 }
-        ensures { IfOk result (λ bytes. bytes.now ≡ cells (layered S.holds self.now) window j from len) }
-    {
-        strip.begin(len)?;
-        paint_layers(&self.layers, window, j, from, len, strip, row)?;
-        let bytes = strip.finish(&self.ground)?;
-        Ok(bytes)
-    }
-}
-
-/// Paints the layers of row `j`, until no column is free.
-fn paint_layers<S: Shape>(
-    layers: &[Layer<'_, S>],
+/// Paints the pieces of row `j`, until no column is free.
+pub(crate) fn paint_pieces<S: Shape>(
+    pieces: &[Piece<'_, '_, S>],
     window: Window,
     j: usize,
     from: usize,
     len: usize,
     strip: &mut Strip,
-    row: &mut Row,
+    space: &mut Workspace,
 ) -> Result<(), OutOfMemory>
-    requires { j < window.height }
-    ensures { OnOk result ((target : ℕ → Rgb) → IsPainted target (row_colours S.holds layers.now window j from) len strip.old → IsPainted target (λ _. white) len strip.new) }
+    requires row { j < window.height }
+    requires pieces { All (IsPiece S.holds window j from len) pieces.now }
+    ensures { OnOk result ((target : ℕ → Rgb) → IsPainted target (row_colours S.holds (layers_of pieces.now) window j from) len strip.old → IsPainted target (λ _. white) len strip.new) }
 {
-    for layer in layers {
+    for piece in pieces {
         if strip.is_covered() {
             return Ok(());
         }
-        paint_layer(layer, window, j, from, len, strip, row)?;
+        paint_piece(piece, window, j, from, len, strip, space)?;
     }
     Ok(())
 }
 
-fn paint_layer<S: Shape>(
-    layer: &Layer<'_, S>,
+/// Paints a piece, where one of its columns is free.
+fn paint_piece<S: Shape>(
+    piece: &Piece<'_, '_, S>,
     window: Window,
     j: usize,
     from: usize,
     len: usize,
     strip: &mut Strip,
-    row: &mut Row,
+    space: &mut Workspace,
 ) -> Result<(), OutOfMemory>
-    requires { j < window.height }
-    ensures { OnOk result ((target behind : ℕ → Rgb) → IsPainted target (layer_over S.holds window j from behind layer.now) len strip.old → IsPainted target behind len strip.new) }
+    requires row { j < window.height }
+    requires piece { IsPiece S.holds window j from len piece.now }
+    ensures { OnOk result ((target behind : ℕ → Rgb) → IsPainted target (layer_over S.holds window j from behind piece.now.layer.now) len strip.old → IsPainted target behind len strip.new) }
 {
     let y = window.line(j);
-    if meets(layer.shape.bounds(), y) {
-        layer.shape.row_into(y, row)?;
-        paint_spans(row.spans(), window, from, len, &layer.brush, strip)?;
+    if !meets(piece.bounds, y) {
+        return Ok(());
     }
+    if !strip.has_free(piece.columns) {
+        return Ok(());
+    }
+    let spans = spans(piece, y, space)?;
+    paint_spans(spans, window, from, len, &piece.layer.brush, strip)?;
     Ok(())
 }
 

@@ -1,0 +1,108 @@
+-- What a part of a window shows of layers.
+use Rattle.std.specs.Prelude.{ℕ, ◌≡◌, ◌≤◌, ◌<◌, ◌+◌, ◌*◌, ◌-◌, Bool, true, false, IfSome, Option, None, Some, ◌≤ℤ◌, List, [], ◌∷◌, ◌++◌, if◌then◌else◌, ℤ, refl}
+use Rattle.std.proofs.Common.{arith, ap, sym, inl, inr, ◌∙◌}
+use Rattle.std.proofs.lemmas.Bool.{cases_Bool}
+use Rattle.std.proofs.lemmas.Bool.Decides.{nat_tests}
+use Rattle.std.proofs.lemmas.Int.{ints}
+use Rattle.std.proofs.Math.Nat.{mul-le-mul}
+use Rattle.gf_rows.specs.Spans.{is_in_span}
+use Rattle.gf_shape.specs.declared.bounds.Bounds.{Bounds}
+use Rattle.gf_shape.specs.declared.colour.Rgb.{Rgb}
+use Rattle.gf_shape.specs.declared.point.Point.{Point}
+use Rattle.gf_shape.specs.ShapeLaws.{IsBounds}
+use Rattle.gf_strips.specs.declared.columns.Columns.{Columns}
+use Rattle.gf_strips.specs.Strips.{AreSameOutside, is_among}
+use Rattle.gf_window.specs.Windows.{View, column, line, sample}
+use Rattle.gf_edges.specs.declared.edge.Edge.{Edge}
+use Rattle.gf_edges.specs.Telling.{TellsRow}
+use Rattle.gf_layers.specs.declared.layer.Layer.{Layer}
+use Rattle.gf_layers.specs.declared.piece.Piece.{Piece}
+use Rattle.gf_layers.specs.Layers.{layer_over, layered, row_colours}
+use Rattle.gf_layers.specs.Pieces.{AreSeen, IsPiece, IsUnseen, layers_of, reaches}
+
+true_not_false : true ≡ false → ⊥
+true_not_false e = grind arith
+
+-- later rows lie further down
+pub line_later : (w : View) (i j : ℕ) → i ≤ j → line w i ≤ℤ line w j
+line_later w i j l = let m : i * w.step ≤ j * w.step = mul-le-mul l (omega arith) in omega (arith, ints)
+
+-- the same row from another set of the same points
+pub tells_same : (f g : Point → Bool) (y : ℤ) (es : List Edge) → ((p : Point) → f p ≡ g p) → TellsRow f y es → TellsRow g y es
+tells_same f g y es same h = record { even = h.even; exact = λ x. h.exact x ∙ same (record { x = x; y = y }) }
+
+pub no_some : {X : Type 0} (o : Option X) → ((x : X) → o ≡ Some x → ⊥) → o ≡ None
+no_some None h = refl
+no_some (Some x) h = absurd (h x refl)
+
+-- edges that tell the rows between two heights tell one of these
+pub tell_row : (f : Point → Bool) (found : Option (List Edge)) (low high y : ℤ) → low ≤ℤ y → y ≤ℤ high → IfSome found (λ es. (y : ℤ) → low ≤ℤ y → y ≤ℤ high → TellsRow f y es) → IfSome found (λ es. TellsRow f y es)
+tell_row f None low high y a b h = h
+tell_row f (Some es) low high y a b h = h y a b
+
+module _ {S : Type 0} (holds : S → Point → Bool) (w : View) where
+  -- a layer that reaches no row of the part
+  pub unseen_beside : (top count from len : ℕ) (l : Layer S) (b : Bounds) → 1 ≤ count → IsBounds (holds l.shape.now) b → reaches (line w top) (line w (top + count - 1)) b ≡ false → IsUnseen holds w top count from len l
+  unseen_beside top count from len l b one bounds out = λ j k low high in_it. elim (cases_Bool (holds l.shape.now (sample w (from + k) j))) [
+    | inl t ↦
+        let it = bounds.within (sample w (from + k) j) t in
+        let above = line_later w top j low in
+        let below = line_later w j (top + count - 1) (omega arith) in
+        let up : b.low.y ≤ℤ line w j = it.top in
+        let down : line w j ≤ℤ b.high.y = it.bottom in
+        absurd (true_not_false (sym (meet b (line w top) (line w j) (line w (top + count - 1)) above below up down) ∙ out))
+    | inr t ↦ t
+  ]
+    where
+      meet : (b : Bounds) (low y high : ℤ) → low ≤ℤ y → y ≤ℤ high → b.low.y ≤ℤ y → y ≤ℤ b.high.y → reaches low high b ≡ true
+      meet b low y high f g h i = grind (arith, ints)
+
+  -- a layer whose bounds cover no column
+  pub unseen_narrow : (top count from len : ℕ) (l : Layer S) (b : Bounds) (c : Columns) → IsBounds (holds l.shape.now) b → ((k : ℕ) → k < len → is_among c k ≡ is_in_span (column w (from + k)) (record { first = b.low.x; last = b.high.x })) → c.to ≤ c.from → IsUnseen holds w top count from len l
+  unseen_narrow top count from len l b c bounds covers none = λ j k low high in_it. elim (cases_Bool (holds l.shape.now (sample w (from + k) j))) [
+    | inl t ↦
+        let it = bounds.within (sample w (from + k) j) t in
+        let left : b.low.x ≤ℤ column w (from + k) = it.left in
+        let right : column w (from + k) ≤ℤ b.high.x = it.right in
+        let e : is_in_span (column w (from + k)) (record { first = b.low.x; last = b.high.x }) ≡ true = both (column w (from + k)) b left right in
+        absurd (true_not_false (sym (covers k in_it ∙ e) ∙ empty c k none))
+    | inr t ↦ t
+  ]
+    where
+      both : (x : ℤ) (b : Bounds) → b.low.x ≤ℤ x → x ≤ℤ b.high.x → is_in_span x (record { first = b.low.x; last = b.high.x }) ≡ true
+      both x b l r = grind (arith, ints)
+
+      empty : (c : Columns) (k : ℕ) → c.to ≤ c.from → is_among c k ≡ false
+      empty c k l = grind (arith, nat_tests)
+
+  -- a piece changes its columns alone
+  pub piece_columns : (j from len : ℕ) (p : Piece S) (behind : ℕ → Rgb) → IsPiece holds w j from len p → AreSameOutside p.columns len (layer_over holds w j from behind p.layer.now) behind
+  piece_columns j from len p behind h = λ k l out. elim (cases_Bool (holds p.layer.now.shape.now (sample w (from + k) j))) [
+    | inl t ↦
+        let it = h.bounds.within (sample w (from + k) j) t in
+        let left : p.bounds.low.x ≤ℤ column w (from + k) = it.left in
+        let right : column w (from + k) ≤ℤ p.bounds.high.x = it.right in
+        let e : is_in_span (column w (from + k)) (record { first = p.bounds.low.x; last = p.bounds.high.x }) ≡ true = both (column w (from + k)) p.bounds left right in
+        absurd (true_not_false (sym (h.columns k l ∙ e) ∙ out))
+    | inr t ↦ rw t refl
+  ]
+    where
+      both : (x : ℤ) (b : Bounds) → b.low.x ≤ℤ x → x ≤ℤ b.high.x → is_in_span x (record { first = b.low.x; last = b.high.x }) ≡ true
+      both x b l r = grind (arith, ints)
+
+  -- a layer that does not hold a point changes no colour there
+  unseen_at : (xs rest : List (Layer S)) (l : Layer S) (p : Point) → holds l.shape.now p ≡ false → layered holds (xs ++ rest) p ≡ layered holds (xs ++ l ∷ rest) p
+  unseen_at [] rest l p e = rw e refl
+  unseen_at (x ∷ xs) rest l p e = ap (λ c. if holds x.shape.now p then x.brush else c) (unseen_at xs rest l p e)
+
+  -- a layer that is not seen in the part may be left out
+  pub seen_without : (top count from len : ℕ) (xs rest : List (Layer S)) (l : Layer S) → IsUnseen holds w top count from len l → AreSeen holds w top count from len (xs ++ l ∷ rest) (xs ++ rest)
+  seen_without top count from len xs rest l h = λ j k low high in_it. unseen_at xs rest l (sample w (from + k) j) (h j k low high in_it)
+
+  -- a layer that is kept
+  pub seen_with : (top count from len : ℕ) (ps : List (Piece S)) (p : Piece S) (rest : List (Layer S)) (l : Layer S) → p.layer.now ≡ l → AreSeen holds w top count from len (layers_of ps ++ l ∷ rest) (layers_of (ps ++ p ∷ []) ++ rest)
+  seen_with top count from len ps p rest l e = λ j k low high in_it. ap (λ (ls : List (Layer S)). row_colours holds ls w j from k) (moved ps p rest l e)
+    where
+      moved : (ps : List (Piece S)) (p : Piece S) (rest : List (Layer S)) (l : Layer S) → p.layer.now ≡ l → layers_of (ps ++ p ∷ []) ++ rest ≡ layers_of ps ++ l ∷ rest
+      moved [] p rest l e = ap (λ x. x ∷ rest) e
+      moved (q ∷ ps) p rest l e = ap (λ xs. q.layer.now ∷ xs) (moved ps p rest l e)

@@ -1,0 +1,23 @@
+use Rattle.std.proofs.Common.{◌+◌, ◌<◌, ◌++◌, ◌∷◌, drop, length, rules, ap, sym, ◌∙◌}
+use Rattle.std.proofs.lemmas.List.{at_drop_more}
+use Rattle.std.specs.Prelude.{List}
+use Rattle.gf_shape.specs.declared.colour.Rgb.{Rgb}
+use Rattle.gf_layers.specs.declared.layer.Layer.{Layer}
+use Rattle.gf_layers.specs.Layers.{row_colours}
+use Rattle.gf_layers.specs.Pieces.{layers_of}
+use Rattle.gf_layers.proofs.part.pieces_of.Goals as goal
+
+pub loop-layer-preserved : goal.loop-layer-preserved
+loop-layer-preserved g c =
+    let ls = c.args.layers.now in
+    let i = c.loop-layer.layer-index in
+    let l : i < length ls = search rules in
+    record {
+      pieces = λ j low high. c.in_ok-add_piece.ensures.pieces j low high (c.loop-layer.invariant.pieces j low high);
+      seen = λ j k low high in_it.
+          let colours : List (Layer g.row.S.Denot) → Rgb = λ rest. row_colours g.S.Shape.holds (layers_of c.loop-layer.pieces.items ++ rest) c.args.window j c.args.from k in
+          c.in_ok-add_piece.ensures.seen (drop (i + 1) ls) j k low high in_it
+          ∙ (ap (λ x. colours (x ∷ drop (i + 1) ls)) c.layer-item.is
+          ∙ (sym (at_drop_more colours ls i c.layer-item.result l)
+          ∙ c.loop-layer.invariant.seen j k low high in_it));
+    }

@@ -1,0 +1,35 @@
+-- What a part of a window has of layers: some columns of some rows (this project's choice).
+use Rattle.std.specs.Prelude.{◌≡◌, ℕ, ℤ, ◌+◌, ◌≤◌, ◌<◌, ◌&&◌, Bool, false, int_le, List, map, IfSome}
+use Rattle.gf_rows.specs.Spans.{is_in_span}
+use Rattle.gf_shape.specs.declared.bounds.Bounds.{Bounds}
+use Rattle.gf_shape.specs.declared.point.Point.{Point}
+use Rattle.gf_shape.specs.ShapeLaws.{IsBounds}
+use Rattle.gf_strips.specs.Strips.{is_among}
+use Rattle.gf_window.specs.Windows.{View, column, line, sample}
+use Rattle.gf_edges.specs.Telling.{TellsRow}
+use Rattle.gf_layers.specs.declared.layer.Layer.{Layer}
+use Rattle.gf_layers.specs.declared.piece.Piece.{Piece}
+use Rattle.gf_layers.specs.Layers.{row_colours}
+
+-- bounds reach a height from low to high
+abbrev pub reaches : ℤ → ℤ → Bounds → Bool
+reaches low high b = int_le b.low.y high && int_le low b.high.y
+
+-- the layers of pieces
+abbrev pub layers_of : {S : Type 0} → List (Piece S) → List (Layer S)
+layers_of ps = map (λ p. p.layer.now) ps
+
+module _ {S : Type 0} (holds : S → Point → Bool) (w : View) where
+  -- the piece's bounds are its layer's, its columns those of the bounds, and its edges tell the row j
+  pub record IsPiece (j from len : ℕ) (p : Piece S) : Type 0 where
+    pub bounds : IsBounds (holds p.layer.now.shape.now) p.bounds
+    pub columns : (k : ℕ) → k < len → is_among p.columns k ≡ is_in_span (column w (from + k)) (record { first = p.bounds.low.x; last = p.bounds.high.x })
+    pub edges : IfSome p.edges (λ es. TellsRow (holds p.layer.now.shape.now) (line w j) es)
+
+  -- the layer holds no point of the part
+  abbrev pub IsUnseen : ℕ → ℕ → ℕ → ℕ → Layer S → Type 0
+  IsUnseen top count from len l = (j k : ℕ) → top ≤ j → j < top + count → k < len → holds l.shape.now (sample w (from + k) j) ≡ false
+
+  -- some layers have, in the part, the colours of all
+  abbrev pub AreSeen : ℕ → ℕ → ℕ → ℕ → List (Layer S) → List (Layer S) → Type 0
+  AreSeen top count from len all some = (j k : ℕ) → top ≤ j → j < top + count → k < len → row_colours holds some w j from k ≡ row_colours holds all w j from k

@@ -1,0 +1,111 @@
+//! Pieces: what a part of a window has of a layer.
+
+ghost use Rattle.std.specs.Prelude.{◌≡◌, ℕ, ℤ, ◌+◌, ◌≤◌, ◌<◌, ◌≤ℤ◌, ◌&&◌, int_le, IfOk, IfSome, None};
+ghost use Rattle.gf_edges.specs.Telling.{TellsRow};
+ghost use Rattle.gf_shape.specs.Rows.{IsRow};
+ghost use Rattle.gf_layers.specs.Pieces.{IsPiece, IsUnseen, reaches};
+
+use crate::{Layer, Workspace};
+use gf_edges::Edges;
+use gf_shape::{Bounds, OutOfMemory, Outline, Shape, Span};
+use gf_strips::Columns;
+use gf_window::Window;
+use std::alloc::Global;
+
+/// What a part of a window has of a layer: its bounds, the columns that they cover, and of a polygon
+/// the edges that come between the rows.
+#[derive(Drop)]
+pub(crate) struct Piece<'l, 'a, S> {
+    pub layer: &'l Layer<'a, S>,
+    pub bounds: Bounds,
+    pub columns: Columns,
+    pub edges: Option<Edges>,
+}
+
+/// What the rows from `top` on, `count` of them, have of a layer in `len` columns from `from` on.
+pub(crate) fn piece_of<'l, 'a, S: Shape>(
+    alloc: Global,
+    layer: &'l Layer<'a, S>,
+    window: Window,
+    top: usize,
+    count: usize,
+    from: usize,
+    len: usize,
+) -> Result<Option<Piece<'l, 'a, S>>, OutOfMemory>
+    requires { (1 ≤ count) × (top + count ≤ window.height) }
+    ensures layer { IfOk result (λ found. IfSome found (λ p. p.layer.now ≡ layer.now)) }
+    ensures some { IfOk result (λ found. IfSome found (λ p. (j : ℕ) → top ≤ j → j < top + count → IsPiece S.holds window j from len p)) }
+    ensures none { IfOk result (λ found. found ≡ None → IsUnseen S.holds window top count from len layer.now) }
+{
+    let bounds = layer.shape.bounds();
+    let low = window.line(top);
+    let high = window.line(top + count - 1);
+    if !reaches(bounds, low, high) {
+        return Ok(None);
+    }
+    let columns = window.columns(from, len, across(bounds));
+    if columns.to <= columns.from {
+        return Ok(None);
+    }
+    let edges = edges(alloc, layer.shape, low, high)?;
+    Ok(Some(Piece {
+        layer,
+        bounds,
+        columns,
+        edges,
+    }))
+}
+
+/// Whether bounds reach a height from `low` to `high`.
+#[tactic(auto, using(std::proofs::lemmas::Int::ints))]
+fn reaches(bounds: Bounds, low: i32, high: i32) -> bool
+    ensures { result ≡ reaches low high bounds }
+{
+    bounds.low.y <= high && low <= bounds.high.y
+}
+
+/// From the left of bounds to their right.
+fn across(bounds: Bounds) -> Span
+    ensures { result ≡ record { first = bounds.low.x; last = bounds.high.x } }
+{
+    Span {
+        first: bounds.low.x,
+        last: bounds.high.x,
+    }
+}
+
+/// Of a polygon, the edges that come between two heights.
+fn edges<S: Shape>(
+    alloc: Global,
+    shape: &S,
+    low: i32,
+    high: i32,
+) -> Result<Option<Edges>, OutOfMemory>
+    ensures { IfOk result (λ found. IfSome found (λ es. (y : ℤ) → low ≤ℤ y → y ≤ℤ high → TellsRow (S.holds shape.now) y es)) }
+{
+    let outline = shape.outline(alloc)?;
+    match &outline {
+        Outline::Chain(chain) if !chain.boxed() => {
+            let edges = Edges::between(alloc, chain, low, high)?;
+            Ok(Some(edges))
+        }
+        Outline::Chain(_) | Outline::Disc(_) => Ok(None),
+    }
+}
+
+/// The spans of a piece in the row `y`.
+pub(crate) fn spans<'r, S: Shape>(
+    piece: &Piece<'_, '_, S>,
+    y: i32,
+    space: &'r mut Workspace,
+) -> Result<&'r [Span], OutOfMemory>
+    requires { IfSome piece.now.edges (λ es. TellsRow (S.holds piece.now.layer.now.shape.now) y es) }
+    ensures { IfOk result (λ spans. IsRow (S.holds piece.now.layer.now.shape.now) y spans.now) }
+{
+    if let Some(edges) = &piece.edges {
+        edges.row_into(y, &mut space.told)?;
+        return Ok(space.told.spans());
+    }
+    piece.layer.shape.row_into(y, &mut space.found)?;
+    Ok(space.found.spans())
+}
