@@ -28,7 +28,7 @@ pub(crate) fn band<S: Shape + Sync, G: Gate + Sync, R: Threads + Sync>(
     gate: &G,
     bytes: &mut Vec<u8>,
 ) -> Result<(), OutOfMemory>
-    requires rows { top + count ≤ window.height }
+    requires rows { (1 ≤ count) × (top + count ≤ window.height) }
     requires workers { (1 ≤ workers) × (workers ≤ 16) }
     ensures { OnOk result (bytes.new.items ≡ bytes.old.items ++ rows (layered S.holds layers.now) window top count) }
 {

@@ -115,7 +115,7 @@ fn write_band<S: Shape + Sync, G: Gate + Sync, R: Threads + Sync, W: Sink>(
     bytes: &mut Vec<u8>,
     sink: &mut W,
 ) -> Result<(), WriteError>
-    requires rows { top + count ≤ window.height }
+    requires rows { (1 ≤ count) × (top + count ≤ window.height) }
     requires workers { (1 ≤ workers) × (workers ≤ 16) }
     requires empty { bytes.old.items ≡ [] }
     ensures whole { OnOk result (Appends (W.taken sink.old) (W.taken sink.new) (rows (layered S.holds layers.now) window top count)) }

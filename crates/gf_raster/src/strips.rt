@@ -9,8 +9,8 @@ ghost use Rattle.gf_layers.specs.Picture.{cells};
 ghost use Rattle.gf_raster.specs.Strips.{cut, strip, part, AreParts};
 
 use crate::Gate;
-use gf_layers::Layers;
-use gf_shape::{OutOfMemory, Row, Shape};
+use gf_layers::{Layers, Workspace};
+use gf_shape::{OutOfMemory, Shape};
 use gf_strips::Strip;
 use gf_window::Window;
 use std::alloc::Global;
@@ -27,15 +27,16 @@ fn strip<S: Shape>(
     from: usize,
     columns: usize,
 ) -> Result<Vec<u8>, OutOfMemory>
-    requires rows { top + count ≤ window.height }
+    requires rows { (1 ≤ count) × (top + count ≤ window.height) }
     requires columns { columns ≤ 4096 }
     ensures { IfOk result (λ bytes. bytes.items ≡ strip (layered S.holds layers.now) window top count from columns) }
 {
+    let part = layers.part(alloc, window, top, count, from, columns)?;
     let mut painted = Strip::new(alloc);
-    let mut row = Row::new(alloc);
+    let mut space = Workspace::new(alloc);
     let mut bytes = Vec::new(alloc);
     for i in 0..count {
-        let line = layers.paint_row(window, top + i, from, columns, &mut painted, &mut row)?;
+        let line = part.paint_row(top + i, &mut painted, &mut space)?;
         bytes.extend_from_slice(line)?;
     }
     Ok(bytes)
@@ -52,7 +53,7 @@ fn part<S: Shape, G: Gate>(
     gate: &G,
     k: usize,
 ) -> Result<Vec<u8>, OutOfMemory>
-    requires rows { top + count ≤ window.height }
+    requires rows { (1 ≤ count) × (top + count ≤ window.height) }
     ensures { IfOk result (λ bytes. bytes.items ≡ part (layered S.holds layers.now) window top count share k) }
 {
     let width = window.width() as usize;
@@ -85,7 +86,7 @@ pub(crate) fn parts<S: Shape + Sync, G: Gate + Sync, R: Threads + Sync>(
     workers: usize,
     gate: &G,
 ) -> Result<Vec<Result<Vec<u8>, OutOfMemory>>, OutOfMemory>
-    requires rows { top + count ≤ window.height }
+    requires rows { (1 ≤ count) × (top + count ≤ window.height) }
     ensures len { IfOk result (λ ps. vec_len ps ≡ workers) }
     ensures each { IfOk result (λ ps. AreParts (layered S.holds layers.now) window top count share workers ps.items) }
 {
