@@ -9,6 +9,6 @@ mod texts;
 mod values;
 
 pub use operations::{changed, create, created, plain};
-pub use tables::{Answers, ask, prints};
+pub use tables::{Answers, ask, is_answer, prints};
 pub use texts::{EMPTY_FIG, RED_BOX, RED_BOX_FIG};
 pub use values::{BLUE, GREEN, RED, at};

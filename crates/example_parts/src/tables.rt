@@ -23,7 +23,8 @@ pub fn ask<A: Answers>(alloc: Global, rows: &str, asked: &mut A) -> Result<(), F
     Ok(())
 }
 
-fn is_answer(row: &str, want: &str, answer: Option<String>) -> Result<(), Fail> {
+/// That the answer to the question of a row is what is to be answered.
+pub fn is_answer(row: &str, want: &str, answer: Option<String>) -> Result<(), Fail> {
     match answer {
         Some(answer) => is_text(row, want, answer.as_str().trim()),
         None => Err(Fail::new(format_args!("no question: {row}"))),

@@ -68,6 +68,9 @@ fn part<S: Shape, G: Gate>(
 fn enter_all<G: Gate>(gate: &G, width: usize, top: usize, from: usize, columns: usize, k: usize)
     requires { (width ≤ 4096) × (top ≤ 4096) × (from ≤ 4096) × (columns ≤ 4096) }
 {
+    if columns == 0 {
+        return;
+    }
     let tiles = width.div_ceil(64);
     for t in from / 64..(from + columns).div_ceil(64) {
         gate.enter((k % 255 + 1) as u8, (top / 64 * tiles + t) as u32);

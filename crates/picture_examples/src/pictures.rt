@@ -1,0 +1,59 @@
+//! Worked examples of pixels and pictures.
+
+use crate::questions::answers;
+use gf_raster::OpenGate;
+use std::test::Fail;
+
+const RASTERS: &str = "\
+nothing ; 0 0 1 1 1 1 | 1 ffffff
+circle ; -1 -1 1 3 3 1 | 1 ffffff 1 00ff00 1 ffffff 3 00ff00 1 ffffff 1 00ff00 1 ffffff
+corner ; 0 0 1 3 2 1 | 2 ff0000 1 ffffff 2 ff0000 1 ffffff
+house ; 0 4 1 5 3 1 | 5 ff0000 1 ffffff 3 ff0000 3 ffffff 1 ff0000 2 ffffff
+// The foremost figure is seen: the later one of its depth, and the lesser depth.
+level ; 0 0 1 4 1 1 | 1 ff0000 2 0000ff 1 ffffff
+overlaid ; 0 0 1 4 1 1 | 1 ff0000 2 0000ff 1 ffffff
+// Any number of workers paints the same, over seams of tiles and bands.
+seam ; 0 0 1 65 2 1 | 63 ffffff 2 ff0000 63 ffffff 2 ff0000
+seam ; 0 0 1 65 2 3 | 63 ffffff 2 ff0000 63 ffffff 2 ff0000
+seam ; 0 0 1 65 2 16 | 63 ffffff 2 ff0000 63 ffffff 2 ff0000
+box ; 0 0 1 3 130 1 | 33 ff0000 357 ffffff
+box ; 0 0 1 3 130 3 | 33 ff0000 357 ffffff
+box ; 0 0 1 3 130 16 | 33 ff0000 357 ffffff
+// Steps pass over figures or meet them.
+box ; 0 0 5 4 4 1 | 3 ff0000 1 ffffff 3 ff0000 1 ffffff 3 ff0000 5 ffffff
+box ; -3 -3 20 2 2 1 | 4 ffffff
+box ; 0 0 10000 2 2 1 | 1 ff0000 3 ffffff
+house ; -1 5 2 4 1 2 | 1 ffffff 2 ff0000 1 ffffff
+// The limits of a window.
+box ; 2000000 -2000000 10000 2 2 2 | 4 ffffff
+box ; 0 0 0 1 1 1 | Range
+box ; 0 0 10001 1 1 1 | Range
+box ; 0 0 1 0 1 1 | Range
+box ; 0 0 1 4097 1 1 | Range
+box ; 0 0 1 1 0 1 | Range
+box ; 0 0 1 1 4097 1 | Range
+box ; -2000001 0 1 1 1 1 | Range
+box ; 0 2000001 1 1 1 1 | Range
+";
+
+#[test]
+fn pixels_have_the_colours_of_the_drawing(rt: HostRuntime) -> Result<(), Fail> {
+    answers(&rt, rt.alloc(), &OpenGate, RASTERS)
+}
+
+const PICTURES: &str = "\
+100 nothing ; 0 0 1 1 1 1 | written 14 P6 1 1 255
+100 corner ; 0 0 1 3 2 1 | written 29 P6 3 2 255
+2000 box ; 0 0 1 3 130 1 | written 1183 P6 3 130 255
+2000 box ; 0 0 1 3 130 3 | written 1183 P6 3 130 255
+2000 box ; 0 0 1 3 130 16 | written 1183 P6 3 130 255
+// A sink without room has a front.
+600 box ; 0 0 1 3 130 1 | write failed 600 P6 3 130 255
+5 box ; 0 0 1 3 130 1 | write failed 5 P6 3
+0 box ; 0 0 1 3 130 1 | write failed 0
+";
+
+#[test]
+fn pictures_are_header_and_pixels(rt: HostRuntime) -> Result<(), Fail> {
+    answers(&rt, rt.alloc(), &OpenGate, PICTURES)
+}

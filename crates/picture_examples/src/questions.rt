@@ -1,0 +1,176 @@
+//! The questions of the tables: a drawing, `;`, a window, and how many workers paint it.
+
+use example_parts::{EMPTY_FIG, is_answer};
+use gf_bytes::{Tape, WriteError};
+use gf_drawing::Drawing;
+use gf_fig_read::read_fig;
+use gf_raster::{Gate, Window, paint, ppm_to};
+use gf_shape::{Outline, Range};
+use std::alloc::Global;
+use std::test::Fail;
+use std::thread::Threads;
+
+/// Each question of a table has its answer, painted behind a gate.
+pub(crate) fn answers<R: Threads + Sync, G: Gate + Sync>(
+    rt: &R,
+    alloc: Global,
+    gate: &G,
+    rows: &str,
+) -> Result<(), Fail> {
+    for row in rows.lines() {
+        if let Some((question, want)) = row.split_once('|') {
+            is_answer(row, want.trim(), told(rt, alloc, gate, question.trim()))?;
+        }
+    }
+    Ok(())
+}
+
+/// `box ; 0 0 1 3 2 1`: the pixels, or `600 box ; 0 0 1 3 2 1`: the PPM, into so much room.
+fn told<R: Threads + Sync, G: Gate + Sync>(
+    rt: &R,
+    alloc: Global,
+    gate: &G,
+    question: &str,
+) -> Option<String> {
+    let (front, window) = question.split_once(" ; ")?;
+    let (window, workers) = window.rsplit_once(' ')?;
+    let workers = workers.parse().ok()?;
+    let window = match window_of(window)? {
+        Ok(window) => window,
+        Err(Range) => return format!(in alloc; "Range").ok(),
+    };
+    match front.split_once(' ') {
+        Some((room, name)) => {
+            let drawing = drawing(alloc, name)?;
+            written(
+                rt,
+                alloc,
+                gate,
+                &drawing,
+                window,
+                workers,
+                room.parse().ok()?,
+            )
+        }
+        None => painted(rt, alloc, gate, &drawing(alloc, front)?, window, workers),
+    }
+}
+
+/// `-5 0 1 3 2`: x, y, step, width and height.
+fn window_of(text: &str) -> Option<Result<Window, Range>> {
+    let (x, rest) = text.split_once(' ')?;
+    let (y, rest) = rest.split_once(' ')?;
+    let (step, size) = rest.split_once(' ')?;
+    let (width, height) = size.split_once(' ')?;
+    Some(Window::new(
+        x.parse().ok()?,
+        y.parse().ok()?,
+        step.parse().ok()?,
+        width.parse().ok()?,
+        height.parse().ok()?,
+    ))
+}
+
+/// The drawing of this name.
+fn drawing(alloc: Global, name: &str) -> Option<Drawing<Outline>> {
+    let text = format!(in alloc; "{EMPTY_FIG}{}", figures(name)?).ok()?;
+    read_fig(alloc, text.as_bytes()).ok()
+}
+
+/// Its figures, as FIG has them.
+fn figures(name: &str) -> Option<&'static str> {
+    match name {
+        "nothing" => Some(""),
+        "circle" => Some("1 3 0 0 2 2 0 -1 20 0.000 1 0.0000 0 0 1 1 0 0 1 0\n"),
+        "corner" => Some("2 2 0 0 4 4 0 -1 20 0.000 0 0 -1 0 0 5\n\t 0 0 1 0 1 1 0 1 0 0\n"),
+        "seam" => Some("2 2 0 0 4 4 0 -1 20 0.000 0 0 -1 0 0 5\n\t 63 0 64 0 64 1 63 1 63 0\n"),
+        "box" => Some("2 2 0 0 4 4 0 -1 20 0.000 0 0 -1 0 0 5\n\t 0 0 10 0 10 10 0 10 0 0\n"),
+        "house" => Some("2 3 0 0 4 4 0 -1 20 0.000 0 0 -1 0 0 6\n\t 0 0 4 0 4 4 2 6 0 4 0 0\n"),
+        // The later one of a depth lies on top, and so does the lesser depth.
+        "level" => Some(
+            "2 2 0 0 4 4 7 -1 20 0.000 0 0 -1 0 0 5\n\t 0 0 2 0 2 2 0 2 0 0\n2 2 0 0 1 1 7 -1 20 0.000 0 0 -1 0 0 5\n\t 1 0 2 0 2 2 1 2 1 0\n",
+        ),
+        "overlaid" => Some(
+            "2 2 0 0 1 1 7 -1 20 0.000 0 0 -1 0 0 5\n\t 1 0 2 0 2 2 1 2 1 0\n2 2 0 0 4 4 9 -1 20 0.000 0 0 -1 0 0 5\n\t 0 0 2 0 2 2 0 2 0 0\n",
+        ),
+        _ => None,
+    }
+}
+
+/// The pixels of a window as runs of one colour.
+fn painted<R: Threads + Sync, G: Gate + Sync>(
+    rt: &R,
+    alloc: Global,
+    gate: &G,
+    drawing: &Drawing<Outline>,
+    window: Window,
+    workers: u8,
+) -> Option<String> {
+    let raster = paint(rt, alloc, drawing, window, workers.clamp(1, 16), gate).ok()?;
+    runs(alloc, raster.bytes())
+}
+
+/// Runs of equal pixels, as `2 ff0000 1 ffffff`.
+fn runs(alloc: Global, bytes: &[u8]) -> Option<String> {
+    let mut text = String::new(alloc);
+    let mut last = [0, 0, 0];
+    let mut count = 0u64;
+    for pixel in bytes.chunks_exact(3) {
+        let pixel = [pixel[0], pixel[1], pixel[2]];
+        if count != 0 && pixel != last {
+            push_run(alloc, count, last, &mut text)?;
+            count = 0;
+        }
+        last = pixel;
+        count = count.saturating_add(1);
+    }
+    push_run(alloc, count, last, &mut text)?;
+    Some(text)
+}
+
+fn push_run(alloc: Global, count: u64, pixel: [u8; 3], text: &mut String) -> Option<()> {
+    let [r, g, b] = pixel;
+    let run = format!(in alloc; " {count} {r:02x}{g:02x}{b:02x}").ok()?;
+    text.push_str(run.as_str()).ok()
+}
+
+/// How the picture was written, how many bytes, and its header.
+fn written<R: Threads + Sync, G: Gate + Sync>(
+    rt: &R,
+    alloc: Global,
+    gate: &G,
+    drawing: &Drawing<Outline>,
+    window: Window,
+    workers: u8,
+    room: u64,
+) -> Option<String> {
+    let mut tape = Tape::new(alloc, Some(room));
+    let how = match ppm_to(
+        rt,
+        alloc,
+        drawing,
+        window,
+        workers.clamp(1, 16),
+        gate,
+        &mut tape,
+    ) {
+        Ok(()) => "written",
+        Err(WriteError::WriteFailed) => "write failed",
+        Err(WriteError::OutOfMemory) => "out of memory",
+    };
+    let bytes = tape.bytes();
+    format!(in alloc; "{how} {}{}", bytes.len(), header(alloc, bytes)?).ok()
+}
+
+/// The lines before the pixels, each behind a blank.
+fn header(alloc: Global, bytes: &[u8]) -> Option<String> {
+    let mut text = String::new(alloc);
+    for line in bytes[..bytes.len().min(14)].split(|b| *b == b'\n') {
+        if line.is_ascii() {
+            let line = std::str::from_utf8(line).ok()?;
+            text.push_str(" ").ok()?;
+            text.push_str(line).ok()?;
+        }
+    }
+    Some(text)
+}
