@@ -3,3 +3,4 @@ pub mod TakingLemmas
 pub mod SameLemmas
 pub mod RefusalLemmas
 pub mod ExportLemmas
+pub mod PaintingLemmas

@@ -106,6 +106,7 @@ module _ (bytes : List ℕ) (n : ℕ) (line : List ℕ) (left : List (ℕ × Lis
   RefusesText-line studio.OutOfMemory refused = tt
   RefusesText-line studio.ReadFailed refused = absurd refused
   RefusesText-line studio.TooLong refused = absurd refused
+  RefusesText-line (studio.Fig e) refused = absurd refused
   RefusesText-line (studio.Compile fault) refused = absurd refused
   RefusesText-line studio.WriteFailed refused = absurd refused
 

@@ -1,4 +1,4 @@
--- Inputs with the same operations, and those that denote histories of the same operations, have one drawing and one text.
+-- Inputs with the same operations, and those that denote histories of the same operations, have one drawing, one text and one picture.
 use Rattle.std.proofs.Common.{◌≡◌, ℕ, List, [], ◌∷◌, ◌++◌, map, refl, sym, subst, ap, ◌∙◌}
 use Rattle.std.specs.Prelude.{Some}
 use Rattle.gf_shape.specs.declared.any_shape.AnyShape.{AnyShape}
@@ -8,7 +8,10 @@ use Rattle.gf_causal.specs.DeliveredPart.{HaveSame, IsDelivered, IsDeliveredPart
 use Rattle.gf_drawing.specs.CanonicalDrawing.{canonical_drawing}
 use Rattle.gf_drawing.specs.DrawingState.{DrawingState}
 use Rattle.gf_fig_write.specs.FigText.{fig_text}
+use Rattle.gf_window.specs.Windows.{View}
 use Rattle.gf_studio.specs.FigRun.{Denotes, Draws, HaveSameOperations, Writes, denotes_op}
+use Rattle.gf_studio.specs.PaintRun.{IsMeant, WritesPicture}
+use Rattle.gf_studio.proofs.PaintingLemmas.{drawn_colours, one_picture}
 use Rattle.gf_versions.proofs.SameHistoryLemmas.{ranked_alike}
 
 -- lines denote one list of operations
@@ -82,6 +85,13 @@ module _ (bytes others : List ℕ) (h k : List Op) (d : Denotes bytes h) (e : De
   histories_write taken text other x y =
       x.written ∙ (ap (λ drawing. taken ++ fig_text any_outline drawing) (histories_draw x.drawing y.drawing x.drawn y.drawn) ∙ sym y.written)
 
+  -- and one picture
+  pub histories_paint : (w : View) (taken painted other : List ℕ) → WritesPicture (IsMeant bytes) w (Some taken) (Some painted) → WritesPicture (IsMeant others) w (Some taken) (Some other) → painted ≡ other
+  histories_paint w taken painted other x y =
+      let same = histories_draw x.shown.drawing y.shown.drawing x.shown.drawn y.shown.drawn in
+      let colours = drawn_colours bytes others x.colour y.colour x.shown y.shown same in
+      x.written ∙ (ap (λ bytes. taken ++ bytes) (one_picture w x.colour y.colour colours) ∙ sym y.written)
+
 -- so do inputs with the same operations
 pub draw_alike : (bytes others : List ℕ) → HaveSameOperations bytes others → (drawing other : DrawingState AnyShape) → Draws bytes drawing → Draws others other → drawing ≡ other
 draw_alike bytes others have drawing other d e =
@@ -91,3 +101,8 @@ pub write_alike : (bytes others : List ℕ) → HaveSameOperations bytes others 
 write_alike bytes others have taken text other d e =
     let h = d.drawn.history in
     histories_write bytes others h h d.drawn.denoted (denote_alike bytes others have h d.drawn.denoted) (λ a. (λ i. i, λ i. i)) taken text other d e
+
+pub paint_alike : (bytes others : List ℕ) → HaveSameOperations bytes others → (w : View) (taken painted other : List ℕ) → WritesPicture (IsMeant bytes) w (Some taken) (Some painted) → WritesPicture (IsMeant others) w (Some taken) (Some other) → painted ≡ other
+paint_alike bytes others have w taken painted other d e =
+    let x = d.shown.drawn in
+    histories_paint bytes others x.history x.history x.denoted (denote_alike bytes others have x.history x.denoted) (λ a. (λ i. i, λ i. i)) w taken painted other d e

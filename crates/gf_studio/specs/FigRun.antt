@@ -127,11 +127,12 @@ pub record Exports (bytes : List ℕ) (old new : Option (List ℕ)) : Type 0 whe
   pub written : Appends old new text
   pub shown : Shows text history
 
--- known bytes grow from old to new by the one FIG text of what the bytes draw
+-- known bytes grow from old to new by the one FIG text of what the bytes draw, which reads as the drawing of its outlines
 pub record Writes (bytes : List ℕ) (old new : Option (List ℕ)) : Type 0 where
   pub drawing : DrawingState AnyShape
   pub drawn : Draws bytes drawing
   pub written : Appends old new (fig_text any_outline drawing)
+  pub reads : Reads (fig_text any_outline drawing) (outlined any_outline drawing)
 
 -- known bytes grow from old to new by a front of that text, which may be none or all of it
 pub record WritesFront (bytes : List ℕ) (old new : Option (List ℕ)) : Type 0 where

@@ -1,3 +1,5 @@
 pub mod Refusals
 pub mod FigRun
+pub mod PaintRun
+pub mod RunAnswers
 pub mod LineSteps

@@ -15,6 +15,7 @@ use Rattle.gf_studio.specs.declared.studio_error.LineCause.{LineCause}
 use Rattle.gf_studio.specs.declared.studio_error.LineCause.TheVariants as cause
 use Rattle.gf_studio.specs.declared.studio_error.StudioError.{StudioError}
 use Rattle.gf_studio.specs.declared.studio_error.StudioError.TheVariants as studio
+use Rattle.gf_fig_read.specs.FigGrammar.{Fails}
 use Rattle.gf_studio.specs.FigRun.{AreLinesOf, HasFault, Drops, RefusesCompiling}
 use Rattle.gf_bytes.specs.TextLines.{numbered_lines}
 
@@ -130,3 +131,16 @@ RefusesDrawing bytes (studio.Dropped id fault) = Drops bytes id fault
 RefusesDrawing bytes (studio.Compile fault) = RefusesCompiling bytes fault
 RefusesDrawing bytes studio.OutOfMemory = ⊤
 RefusesDrawing bytes other = ⊥
+
+-- why a text has no outlines
+abbrev pub RefusesOutlines : List ℕ → StudioError → Type 0
+RefusesOutlines text (studio.Fig e) = Fails text e.fault e.object
+RefusesOutlines text studio.OutOfMemory = ⊤
+RefusesOutlines text other = ⊥
+
+-- why the bytes of a source did not come
+abbrev pub IsOfInput : StudioError → Type 0
+IsOfInput studio.ReadFailed = ⊤
+IsOfInput studio.TooLong = ⊤
+IsOfInput studio.OutOfMemory = ⊤
+IsOfInput other = ⊥

@@ -5,6 +5,9 @@ use Rattle.gf_bytes.specs.declared.write_error.WriteError.{WriteError}
 use Rattle.gf_bytes.specs.declared.write_error.WriteError.TheVariants as write
 use Rattle.gf_bytes.specs.declared.source.InputError.{InputError}
 use Rattle.gf_bytes.specs.declared.source.InputError.TheVariants as input
+use Rattle.gf_fig_read.specs.declared.faults.FigError.{FigError}
+use Rattle.gf_fig_read.specs.declared.faults.FigFault.{FigFault}
+use Rattle.gf_fig_read.specs.declared.faults.FigFault.TheVariants as fig
 use Rattle.gf_studio.specs.declared.studio_error.StudioError.{StudioError}
 use Rattle.gf_studio.specs.declared.studio_error.StudioError.TheVariants as studio
 
@@ -24,3 +27,12 @@ of_compile compile.OutOfMemory = studio.OutOfMemory
 abbrev pub of_write : WriteError → StudioError
 of_write write.OutOfMemory = studio.OutOfMemory
 of_write write.WriteFailed = studio.WriteFailed
+
+-- a text that was not read, for this fault
+abbrev pub of_fault : FigFault → FigError → StudioError
+of_fault fig.OutOfMemory e = studio.OutOfMemory
+of_fault fault e = studio.Fig e
+
+-- a text that was not read
+abbrev pub of_fig : FigError → StudioError
+of_fig e = of_fault e.fault e

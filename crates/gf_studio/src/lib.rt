@@ -1,15 +1,22 @@
-//! Whole runs over bytes: from the lines of an input to a history, its drawing and the drawing's text.
+//! Whole runs over bytes: from the lines of an input to a history, its drawing, and the drawing's text
+//! or picture, and from FIG text to a picture.
 //!
 //! - [`fig_run`]: reads operation lines and writes the FIG text of their drawing; [`StudioError`] with
 //!   [`LineCause`] tells why not.
+//! - [`paint_run`]: reads operation lines and writes the picture of their drawing in a [`Window`].
+//! - [`repaint_run`]: reads a FIG text and writes the picture of the drawing that it reads as.
 //! - [`the_same_operations_draw_alike`], [`the_same_histories_draw_alike`]: the laws that neither order
 //!   nor repeats change a drawing.
 //! - [`what_denotes_a_history_is_not_refused`]: the law that a success rules a refusal out.
+//! - [`a_text_is_repainted_as_its_history_is_painted`]: the law that ties a repainted text to its
+//!   history.
 //!
 //! [`Source`], [`read_input`], [`MOST_INPUT_BYTES`], [`In`], [`Reel`], [`SourceFault`],
-//! [`InputError`] and [`TextLines`] are those of `gf_bytes`.
+//! [`InputError`] and [`TextLines`] are those of `gf_bytes`; [`Window`], [`Gate`] and [`OpenGate`]
+//! are those of `gf_raster`.
 #![tactic(auto)]
 
+mod drawings;
 mod laws;
 mod reading;
 mod runs;
@@ -18,9 +25,10 @@ mod studio_error;
 pub use gf_bytes::{
     In, InputError, MOST_INPUT_BYTES, Reel, Source, SourceFault, TextLines, read_input,
 };
+pub use gf_raster::{Gate, OpenGate, Window};
 pub use laws::{
-    the_same_histories_draw_alike, the_same_operations_draw_alike,
-    what_denotes_a_history_is_not_refused,
+    a_text_is_repainted_as_its_history_is_painted, the_same_histories_draw_alike,
+    the_same_operations_draw_alike, what_denotes_a_history_is_not_refused,
 };
-pub use runs::fig_run;
+pub use runs::{fig_run, paint_run, repaint_run};
 pub use studio_error::{LineCause, StudioError};

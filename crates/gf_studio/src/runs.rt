@@ -1,26 +1,24 @@
-//! A whole run: from the bytes of operation lines to FIG text.
+//! Whole runs: from the bytes of operation lines to FIG text or a picture, and from FIG text to a
+//! picture.
 
-ghost use Rattle.std.specs.Prelude.{◌≡◌, ◌+◌, ◌≤◌, ◌<◌, ◌⊎◌, ℕ, length, Err, IfSome, IfOk, IfErr, OnOk, IsTrue};
-ghost use Rattle.gf_bytes.specs.Counts.{CountsFailureAt, Rises};
-ghost use Rattle.gf_ops.specs.declared.op.OpId.{OpId};
-ghost use Rattle.gf_studio.specs.declared.studio_error.LineCause.{LineCause};
-ghost use Rattle.gf_ops.specs.declared.faults.OpFault.{OpFault};
-ghost use Rattle.gf_drawing.specs.declared.compiling.CompileFault.{CompileFault};
-ghost use Rattle.gf_studio.specs.FigRun.{Draws, Exports, Writes, WritesFront, HasFault, Drops, RefusesCompiling};
-ghost use Rattle.gf_studio.specs.LineSteps.{RefusesDrawing};
-ghost use Rattle.gf_bytes.specs.Reads.{CamePast, ConsumesAtMost, ConsumesExactly};
+ghost use Rattle.std.specs.Prelude.{◌≡◌, ◌+◌, ◌≤◌, ◌⊎◌, Err, IfSome, IfErr, OnOk, IsTrue};
+ghost use Rattle.gf_bytes.specs.Counts.{Rises};
+ghost use Rattle.gf_bytes.specs.Reads.{ConsumesAtMost};
+ghost use Rattle.gf_studio.specs.FigRun.{Exports, Writes, WritesFront};
+ghost use Rattle.gf_studio.specs.PaintRun.{IsDenoted, IsMeant, WritesBands, WritesPicture, WritesPictureFront};
+ghost use Rattle.gf_studio.specs.RunAnswers.{ReadsFor, RefusesFig, RefusesLines};
 
 use crate::StudioError;
-use crate::reading::read_history;
-use gf_bytes::{MOST_INPUT_BYTES, Sink, Source, read_input};
-use gf_drawing::{Drawing, compile};
+use crate::drawings::{drawing_of_fig, drawing_of_lines};
+use gf_bytes::{MOST_INPUT_BYTES, Sink, Source};
 use gf_fig_write::write_fig;
-use gf_shape::AnyShape;
-use gf_versions::ranked;
+use gf_raster::{Gate, Window, ppm_to};
 use std::alloc::Global;
+use std::thread::Threads;
 
 /// Reads operation lines to their end, and writes the FIG text of the drawing that their history
 /// means. It reads all before the first write.
+#[tactic(auto, using(crate::proofs::ExportLemmas::exported))]
 pub fn fig_run<R: Source, W: Sink>(
     alloc: Global,
     source: &mut R,
@@ -33,21 +31,10 @@ pub fn fig_run<R: Source, W: Sink>(
     ensures text { OnOk result (IfSome (R.left source.old) (λ bytes. Writes bytes (W.taken sink.old) (W.taken sink.new))) }
     ensures flushed { OnOk result (IsTrue (W.flushed sink.new)) }
 
-    // The input was not read: the source failed, exactly once then and else not, or one byte past the
-    // longest input came.
-    ensures read_failed { result ≡ Err StudioError.ReadFailed → Rises (R.failures source.old) (R.failures source.new) }
-    ensures counts { CountsFailureAt StudioError.ReadFailed (R.failures source.old) (R.failures source.new) result }
-    ensures too_long { result ≡ Err StudioError.TooLong → IfSome (R.left source.old) (λ bytes. MOST_INPUT_BYTES < length bytes) }
-    ensures one_more { result ≡ Err StudioError.TooLong → ConsumesExactly (MOST_INPUT_BYTES + 1) (R.left source.old) (R.left source.new) }
-    ensures beyond { IfSome (R.left source.old) (λ bytes. MOST_INPUT_BYTES < length bytes → (result ≡ Err StudioError.TooLong) ⊎ (result ≡ Err StudioError.ReadFailed) ⊎ (result ≡ Err StudioError.OutOfMemory)) }
-    ensures longer { CamePast MOST_INPUT_BYTES (R.left source.old) (R.left source.new) → (result ≡ Err StudioError.TooLong) ⊎ (result ≡ Err StudioError.OutOfMemory) }
-
-    // The first line that is at fault.
-    ensures line { (n : ℕ) (cause : LineCause) → result ≡ Err (StudioError.Line n cause) → IfSome (R.left source.old) (λ bytes. HasFault bytes n cause) }
-    ensures dropped { (id : OpId) (fault : OpFault) → result ≡ Err (StudioError.Dropped id fault) → IfSome (R.left source.old) (λ bytes. Drops bytes id fault) }
-
-    // The history has no drawing.
-    ensures compile { (fault : CompileFault) → result ≡ Err (StudioError.Compile fault) → IfSome (R.left source.old) (λ bytes. RefusesCompiling bytes fault) }
+    // The input was read whole, or the source failed, or had more than an input; the first line that
+    // is at fault, or the history has no drawing.
+    ensures source { ReadsFor MOST_INPUT_BYTES (R.left source.old) (R.left source.new) (R.failures source.old) (R.failures source.new) result }
+    ensures refused { IfErr result (λ e. IfSome (R.left source.old) (λ bytes. RefusesLines bytes e)) }
 
     // A front of the text is written at most, and that only where the sink failed.
     ensures front { result ≡ Err StudioError.WriteFailed → IfSome (R.left source.old) (λ bytes. WritesFront bytes (W.taken sink.old) (W.taken sink.new)) }
@@ -58,21 +45,78 @@ pub fn fig_run<R: Source, W: Sink>(
     ensures takes { ConsumesAtMost (MOST_INPUT_BYTES + 1) (R.left source.old) (R.left source.new) }
     ensures reads { R.reads source.new ≤ R.reads source.old + (MOST_INPUT_BYTES + 1) }
 {
-    let bytes = read_input(alloc, source)?;
-    let drawing = draw(alloc, &bytes)?;
+    let drawing = drawing_of_lines(alloc, source)?;
     write_fig(alloc, &drawing, sink)?;
     Ok(())
 }
 
-/// The drawing of the history that these bytes denote.
-fn draw(alloc: Global, bytes: &[u8]) -> Result<Drawing<AnyShape>, StudioError>
-    ensures ok { IfOk result (λ drawing. Draws bytes.now drawing) }
-    ensures err { IfErr result (RefusesDrawing bytes.now) }
+/// Reads operation lines to their end, and writes the picture, in a window, of the colours that their
+/// history means, painted by 1 to 16 workers. It reads all before the first write.
+#[tactic(auto, using(crate::proofs::PaintingLemmas::drawn_meant))]
+pub fn paint_run<T: Threads + Sync, R: Source, W: Sink, G: Gate + Sync>(
+    rt: &T,
+    alloc: Global,
+    source: &mut R,
+    sink: &mut W,
+    window: Window,
+    workers: u8,
+    gate: &G,
+) -> Result<(), StudioError>
+    requires { (1 ≤ workers) × (workers ≤ 16) }
+    // What is written is the picture of the colours that the history means which the bytes denote.
+    ensures paints { OnOk result (IfSome (R.left source.old) (λ bytes. WritesPicture (IsMeant bytes) window (W.taken sink.old) (W.taken sink.new))) }
+    ensures flushed { OnOk result (IsTrue (W.flushed sink.new)) }
+
+    // As of `fig_run`.
+    ensures source { ReadsFor MOST_INPUT_BYTES (R.left source.old) (R.left source.new) (R.failures source.old) (R.failures source.new) result }
+    ensures refused { IfErr result (λ e. IfSome (R.left source.old) (λ bytes. RefusesLines bytes e)) }
+
+    // A front of the picture is written where the sink failed, and for want of memory nothing, or the
+    // header and whole bands; else nothing.
+    ensures front { result ≡ Err StudioError.WriteFailed → IfSome (R.left source.old) (λ bytes. WritesPictureFront (IsMeant bytes) window (W.taken sink.old) (W.taken sink.new)) }
+    ensures failed { result ≡ Err StudioError.WriteFailed → Rises (W.failures sink.old) (W.failures sink.new) }
+    ensures memory { result ≡ Err StudioError.OutOfMemory → (sink.new ≡ sink.old) ⊎ IfSome (R.left source.old) (λ bytes. WritesBands (IsMeant bytes) window (W.taken sink.old) (W.taken sink.new)) }
+    ensures unwritten { IfErr result (λ e. (sink.new ≡ sink.old) ⊎ (e ≡ StudioError.WriteFailed) ⊎ (e ≡ StudioError.OutOfMemory)) }
+
+    ensures takes { ConsumesAtMost (MOST_INPUT_BYTES + 1) (R.left source.old) (R.left source.new) }
+    ensures reads { R.reads source.new ≤ R.reads source.old + (MOST_INPUT_BYTES + 1) }
 {
-    let history = read_history(alloc, bytes)?;
-    let Ok(ranked) = ranked(alloc, &history) else {
-        return Err(StudioError::OutOfMemory);
-    };
-    let drawing = compile(alloc, ranked)?;
-    Ok(drawing)
+    let meant = drawing_of_lines(alloc, source)?;
+    ppm_to(rt, alloc, &meant, window, workers, gate, sink)?;
+    Ok(())
+}
+
+/// Reads a FIG text to its end, and writes the picture, in a window, of the drawing that it reads as,
+/// painted by 1 to 16 workers. It reads all before the first write.
+pub fn repaint_run<T: Threads + Sync, R: Source, W: Sink, G: Gate + Sync>(
+    rt: &T,
+    alloc: Global,
+    source: &mut R,
+    sink: &mut W,
+    window: Window,
+    workers: u8,
+    gate: &G,
+) -> Result<(), StudioError>
+    requires { (1 ≤ workers) × (workers ≤ 16) }
+    // What is written is the picture of the colours of the drawing that the text reads as.
+    ensures paints { OnOk result (IfSome (R.left source.old) (λ text. WritesPicture (IsDenoted text) window (W.taken sink.old) (W.taken sink.new))) }
+    ensures flushed { OnOk result (IsTrue (W.flushed sink.new)) }
+
+    // The text was read whole, or the source failed, or had more than an input; and it reads as no
+    // drawing, for this fault of this object.
+    ensures source { ReadsFor MOST_INPUT_BYTES (R.left source.old) (R.left source.new) (R.failures source.old) (R.failures source.new) result }
+    ensures refused { IfErr result (λ e. IfSome (R.left source.old) (λ text. RefusesFig text e)) }
+
+    // As of `paint_run`.
+    ensures front { result ≡ Err StudioError.WriteFailed → IfSome (R.left source.old) (λ text. WritesPictureFront (IsDenoted text) window (W.taken sink.old) (W.taken sink.new)) }
+    ensures failed { result ≡ Err StudioError.WriteFailed → Rises (W.failures sink.old) (W.failures sink.new) }
+    ensures memory { result ≡ Err StudioError.OutOfMemory → (sink.new ≡ sink.old) ⊎ IfSome (R.left source.old) (λ text. WritesBands (IsDenoted text) window (W.taken sink.old) (W.taken sink.new)) }
+    ensures unwritten { IfErr result (λ e. (sink.new ≡ sink.old) ⊎ (e ≡ StudioError.WriteFailed) ⊎ (e ≡ StudioError.OutOfMemory)) }
+
+    ensures takes { ConsumesAtMost (MOST_INPUT_BYTES + 1) (R.left source.old) (R.left source.new) }
+    ensures reads { R.reads source.new ≤ R.reads source.old + (MOST_INPUT_BYTES + 1) }
+{
+    let denoted = drawing_of_fig(alloc, source)?;
+    ppm_to(rt, alloc, &denoted, window, workers, gate, sink)?;
+    Ok(())
 }

@@ -1,10 +1,11 @@
 //! Why a run was refused.
 
 ghost use Rattle.std.specs.Prelude.{◌≡◌};
-ghost use Rattle.gf_studio.specs.Refusals.{of_input, of_compile, of_write};
+ghost use Rattle.gf_studio.specs.Refusals.{of_input, of_compile, of_fig, of_write};
 
 use gf_bytes::{InputError, WriteError};
 use gf_drawing::CompileFault;
+use gf_fig_read::{FigError, FigFault};
 use gf_ops::{OpFault, OpId};
 use thiserror::Error;
 
@@ -40,6 +41,9 @@ pub enum StudioError {
     /// The operation of this id came in its turn and doesn't fit behind those before it.
     #[error("operation {0} dropped: {1}")]
     Dropped(OpId, OpFault),
+    /// The FIG text reads as no drawing.
+    #[error("{0}")]
+    Fig(FigError),
     /// The history has no drawing.
     #[error("export refused: {0}")]
     Compile(CompileFault),
@@ -59,6 +63,17 @@ impl From<InputError> for StudioError {
             InputError::ReadFailed => StudioError::ReadFailed,
             InputError::TooLong => StudioError::TooLong,
             InputError::OutOfMemory => StudioError::OutOfMemory,
+        }
+    }
+}
+
+impl From<FigError> for StudioError {
+    ghost from_gives = { λ fault e. e ≡ of_fig fault };
+
+    fn from(fault: FigError) -> StudioError {
+        match fault.fault {
+            FigFault::OutOfMemory => StudioError::OutOfMemory,
+            _ => StudioError::Fig(fault),
         }
     }
 }

@@ -1,4 +1,4 @@
-use Rattle.gf_studio.proofs.SameLemmas.{histories_draw, histories_write}
+use Rattle.gf_studio.proofs.SameLemmas.{histories_draw, histories_paint, histories_write}
 use Rattle.gf_studio.proofs.laws.the_same_histories_draw_alike.Goals as goal
 
 pub returns-clause-drawing : goal.returns-clause-drawing
@@ -6,3 +6,6 @@ returns-clause-drawing c = λ bytes others h k d e same drawing other x y. histo
 
 pub returns-clause-text : goal.returns-clause-text
 returns-clause-text c = λ bytes others h k d e same taken text other x y. histories_write bytes others h k d e same taken text other x y
+
+pub returns-clause-picture : goal.returns-clause-picture
+returns-clause-picture c = λ bytes others h k d e same w taken painted other x y. histories_paint bytes others h k d e same w taken painted other x y

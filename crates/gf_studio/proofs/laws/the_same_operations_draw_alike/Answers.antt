@@ -1,4 +1,4 @@
-use Rattle.gf_studio.proofs.SameLemmas.{denote_alike, draw_alike, write_alike}
+use Rattle.gf_studio.proofs.SameLemmas.{denote_alike, draw_alike, paint_alike, write_alike}
 use Rattle.gf_studio.proofs.laws.the_same_operations_draw_alike.Goals as goal
 
 pub returns-clause-denotes : goal.returns-clause-denotes
@@ -9,3 +9,6 @@ returns-clause-drawing c = λ bytes others have drawing other d e. draw_alike by
 
 pub returns-clause-text : goal.returns-clause-text
 returns-clause-text c = λ bytes others have taken text other d e. write_alike bytes others have taken text other d e
+
+pub returns-clause-picture : goal.returns-clause-picture
+returns-clause-picture c = λ bytes others have w taken painted other d e. paint_alike bytes others have w taken painted other d e

@@ -1,6 +1,6 @@
 use Rattle.gf_drawing.specs.CanonicalDrawing.{IsCanonical}
 use Rattle.gf_drawing.proofs.CanonicalColour.{canonical_colour, canonical_colour-outlined}
-use Rattle.gf_studio.proofs.runs.draw.Goals as goal
+use Rattle.gf_studio.proofs.drawings.draw.Goals as goal
 
 pub returns-clause-ok : goal.returns-clause-ok
 returns-clause-ok c =

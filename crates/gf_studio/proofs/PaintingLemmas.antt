@@ -1,0 +1,68 @@
+-- What some bytes draw is painted in the colours that they mean, and so is the FIG text of it.
+use Rattle.std.specs.Prelude.{Some}
+use Rattle.std.proofs.Common.{◌≡◌, ℕ, List, ◌++◌, sym, subst, ap, ◌∙◌}
+use Rattle.std.proofs.lemmas.List.{append_cancel_left}
+use Rattle.gf_shape.specs.declared.any_shape.AnyShape.{AnyShape}
+use Rattle.gf_shape.specs.declared.colour.Rgb.{Rgb}
+use Rattle.gf_shape.specs.declared.point.Point.{Point}
+use Rattle.gf_shape.specs.FigureMeaning.{outline_holds}
+use Rattle.gf_shape.specs.Laws.Shapes.{any_outlines}
+use Rattle.gf_shape.specs.Outlines.{any_outline}
+use Rattle.gf_shape.specs.ShapeMeaning.{any_holds}
+use Rattle.gf_versions.proofs.TopLemmas.{one_colour}
+use Rattle.gf_drawing.specs.DrawingColour.{drawing_colour}
+use Rattle.gf_drawing.specs.DrawingState.{DrawingState}
+use Rattle.gf_drawing.specs.Outlined.{outlined}
+use Rattle.gf_drawing.proofs.OutlinedLemmas.{drawing_colour-outlined}
+use Rattle.gf_fig_read.specs.FigGrammar.{Fails, Reads}
+use Rattle.gf_fig_read.specs.Objects.{Drawn}
+use Rattle.gf_fig_read.specs.declared.faults.FigFault.{FigFault}
+use Rattle.gf_fig_read.proofs.GrammarLemmas.{not_both, one_drawing}
+use Rattle.gf_fig_write.specs.FigText.{fig_text}
+use Rattle.gf_layers.specs.Picture.{picture}
+use Rattle.gf_window.specs.Windows.{View}
+use Rattle.gf_studio.specs.FigRun.{Draws, Writes}
+use Rattle.gf_studio.specs.PaintRun.{IsDenoted, IsMeant, WritesPicture}
+
+pub drawn_meant : (bytes : List ℕ) (drawing : DrawingState AnyShape) → Draws bytes drawing → IsMeant bytes (drawing_colour any_holds drawing.table drawing.figures)
+drawn_meant bytes drawing drawn = record { drawing = drawing; drawn = drawn; means = drawn.colours }
+
+-- colours that are one at every point make one picture
+pub one_picture : (w : View) (colour other : Point → Rgb) → ((p : Point) → colour p ≡ other p) → picture colour w ≡ picture other w
+one_picture w colour other same = let one : colour ≡ other = λ i p. same p i in ap (λ c. picture c w) one
+
+-- what is meant is what the drawing paints
+drawn_colour : (bytes : List ℕ) (colour : Point → Rgb) (x : IsMeant bytes colour) (p : Point) → colour p ≡ drawing_colour any_holds x.drawing.table x.drawing.figures p
+drawn_colour bytes colour x p =
+    one_colour x.drawn.history p (colour p) (drawing_colour any_holds x.drawing.table x.drawing.figures p) x.drawn.denoted.delivers.valid (x.means p) (x.drawn.colours p)
+
+-- inputs with one drawing mean one colour at every point
+pub drawn_colours : (bytes others : List ℕ) (colour other : Point → Rgb) (x : IsMeant bytes colour) (y : IsMeant others other) → x.drawing ≡ y.drawing → (p : Point) → colour p ≡ other p
+drawn_colours bytes others colour other x y same p =
+    drawn_colour bytes colour x p ∙ (ap (λ (d : DrawingState AnyShape). drawing_colour any_holds d.table d.figures p) same ∙ sym (drawn_colour others other y p))
+
+-- the text that was written behind what was taken before
+module _ (bytes before text : List ℕ) (x : Writes bytes (Some before) (Some (before ++ text))) where
+  text_reads : Reads text (outlined any_outline x.drawing)
+  text_reads =
+      let same : text ≡ fig_text any_outline x.drawing = append_cancel_left before text (fig_text any_outline x.drawing) x.written in
+      subst (λ t. Reads t (outlined any_outline x.drawing)) (sym same) x.reads
+
+  -- it does not fail
+  pub text_not_refused : (fault : FigFault) (n : ℕ) → ¬ (Fails text fault n)
+  text_not_refused fault n = not_both text (outlined any_outline x.drawing) fault n text_reads
+
+  -- it denotes the colours that the bytes mean
+  text_colours : (colour other : Point → Rgb) (y : IsMeant bytes colour) → x.drawing ≡ y.drawing → IsDenoted text other → (p : Point) → colour p ≡ other p
+  text_colours colour other y same z p =
+      let d = x.drawing in
+      let read : outlined any_outline d ≡ z.drawing = one_drawing text (outlined any_outline d) z.drawing text_reads z.reads in
+      drawn_colour bytes colour y p
+      ∙ (ap (λ (d : DrawingState AnyShape). drawing_colour any_holds d.table d.figures p) (sym same)
+      ∙ (sym (drawing_colour-outlined any_holds any_outline any_outlines d p)
+      ∙ (ap (λ (d : Drawn). drawing_colour outline_holds d.table d.figures p) read ∙ sym (z.paints p))))
+
+  pub text_repaints : (w : View) (taken painted repainted : List ℕ) (y : WritesPicture (IsMeant bytes) w (Some taken) (Some painted)) → x.drawing ≡ y.shown.drawing → WritesPicture (IsDenoted text) w (Some taken) (Some repainted) → painted ≡ repainted
+  text_repaints w taken painted repainted y same z =
+      let colours = text_colours y.colour z.colour y.shown same z.shown in
+      y.written ∙ (ap (λ bytes. taken ++ bytes) (one_picture w y.colour z.colour colours) ∙ sym z.written)

@@ -1,0 +1,83 @@
+//! From the bytes of a source to a drawing.
+
+ghost use Rattle.std.specs.Prelude.{◌≡◌, ◌≢◌, ◌+◌, ◌≤◌, IfSome, IfOk, IfErr};
+ghost use Rattle.gf_bytes.specs.Reads.{ConsumesAtMost};
+ghost use Rattle.gf_fig_read.specs.FigGrammar.{Reads};
+ghost use Rattle.gf_studio.specs.FigRun.{Draws};
+ghost use Rattle.gf_studio.specs.LineSteps.{IsOfInput, RefusesDrawing, RefusesOutlines};
+ghost use Rattle.gf_studio.specs.RunAnswers.{ReadsFor, RefusesFig, RefusesLines};
+
+use crate::StudioError;
+use crate::reading::read_history;
+use gf_bytes::{MOST_INPUT_BYTES, Source, read_input};
+use gf_drawing::{Drawing, compile};
+use gf_fig_read::read_fig;
+use gf_shape::{AnyShape, Outline};
+use gf_versions::ranked;
+use std::alloc::Global;
+
+/// The drawing of the history that the lines of a source denote.
+pub(crate) fn drawing_of_lines<R: Source>(
+    alloc: Global,
+    source: &mut R,
+) -> Result<Drawing<AnyShape>, StudioError>
+    ensures ok { IfOk result (λ drawing. IfSome (R.left source.old) (λ bytes. Draws bytes drawing)) }
+    ensures source { ReadsFor MOST_INPUT_BYTES (R.left source.old) (R.left source.new) (R.failures source.old) (R.failures source.new) result }
+    ensures refused { IfErr result (λ e. IfSome (R.left source.old) (λ bytes. RefusesLines bytes e)) }
+    ensures no_write { IfErr result (λ e. e ≢ StudioError.WriteFailed) }
+    ensures takes { ConsumesAtMost (MOST_INPUT_BYTES + 1) (R.left source.old) (R.left source.new) }
+    ensures reads { R.reads source.new ≤ R.reads source.old + (MOST_INPUT_BYTES + 1) }
+{
+    let bytes = input(alloc, source)?;
+    draw(alloc, &bytes)
+}
+
+/// The drawing that the FIG text of a source reads as.
+pub(crate) fn drawing_of_fig<R: Source>(
+    alloc: Global,
+    source: &mut R,
+) -> Result<Drawing<Outline>, StudioError>
+    ensures ok { IfOk result (λ drawing. IfSome (R.left source.old) (λ text. Reads text drawing)) }
+    ensures source { ReadsFor MOST_INPUT_BYTES (R.left source.old) (R.left source.new) (R.failures source.old) (R.failures source.new) result }
+    ensures refused { IfErr result (λ e. IfSome (R.left source.old) (λ text. RefusesFig text e)) }
+    ensures no_write { IfErr result (λ e. e ≢ StudioError.WriteFailed) }
+    ensures takes { ConsumesAtMost (MOST_INPUT_BYTES + 1) (R.left source.old) (R.left source.new) }
+    ensures reads { R.reads source.new ≤ R.reads source.old + (MOST_INPUT_BYTES + 1) }
+{
+    let text = input(alloc, source)?;
+    outlines(alloc, &text)
+}
+
+/// All bytes of a source.
+fn input<R: Source>(alloc: Global, source: &mut R) -> Result<Vec<u8>, StudioError>
+    ensures ok { IfOk result (λ bytes. IfSome (R.left source.old) (λ all. bytes.items ≡ all)) }
+    ensures source { ReadsFor MOST_INPUT_BYTES (R.left source.old) (R.left source.new) (R.failures source.old) (R.failures source.new) result }
+    ensures refused { IfErr result IsOfInput }
+    ensures takes { ConsumesAtMost (MOST_INPUT_BYTES + 1) (R.left source.old) (R.left source.new) }
+    ensures reads { R.reads source.new ≤ R.reads source.old + (MOST_INPUT_BYTES + 1) }
+{
+    let bytes = read_input(alloc, source)?;
+    Ok(bytes)
+}
+
+/// The drawing of the history that these bytes denote.
+fn draw(alloc: Global, bytes: &[u8]) -> Result<Drawing<AnyShape>, StudioError>
+    ensures ok { IfOk result (λ drawing. Draws bytes.now drawing) }
+    ensures err { IfErr result (RefusesDrawing bytes.now) }
+{
+    let history = read_history(alloc, bytes)?;
+    let Ok(ranked) = ranked(alloc, &history) else {
+        return Err(StudioError::OutOfMemory);
+    };
+    let drawing = compile(alloc, ranked)?;
+    Ok(drawing)
+}
+
+/// The drawing that this text reads as.
+fn outlines(alloc: Global, text: &[u8]) -> Result<Drawing<Outline>, StudioError>
+    ensures ok { IfOk result (λ drawing. Reads text.now drawing) }
+    ensures err { IfErr result (RefusesOutlines text.now) }
+{
+    let drawing = read_fig(alloc, text)?;
+    Ok(drawing)
+}
