@@ -1,6 +1,7 @@
 #!/bin/sh
 # Runs each example and compares its output with what is expected of it: the lines by figgroup, and
-# each FIG text by bench_fig, which reads it and writes what it read.
+# each FIG text by bench_fig, which reads it and writes what it read. Where there is a window, whose
+# words stand in the file of that name, the lines are painted in it and expected.fig is repainted.
 set -eu
 examples=$(cd "$(dirname "$0")" && pwd)
 root=$(dirname "$examples")
@@ -13,6 +14,17 @@ failed=0
 
 drawn() {
     cat "$@" | "$root/figgroup" fig
+}
+
+# The words are split at blanks.
+painted() {
+    words=$1
+    shift
+    cat "$@" | "$root/figgroup" paint $words
+}
+
+repainted() {
+    "$root/figgroup" repaint $1 < "$2"
 }
 
 again() {
@@ -44,6 +56,15 @@ compare_lines() {
     fi
 }
 
+# The picture in the example's window, painted by one worker and by three, and repainted.
+compare_pictures() {
+    window=$(cat "$example/window")
+    for words in "$window" "$window --workers 3"; do
+        compare "$(basename "$example"), painted $words" "$example/expected.ppm" painted "$words" "$@"
+    done
+    compare "$(basename "$example"), repainted" "$example/expected.ppm" repainted "$window" "$example/expected.fig"
+}
+
 is_current() {
     [ -x "$reader" ] || return 1
     newer=$(find "$root/crates.txt" "$root/crates" -name out -prune -o -type f -newer "$reader" -print | head -n 1)
@@ -64,6 +85,9 @@ for example in "$examples"/*/; do
     set -- "$example"/*.jsonl
     if [ -e "$1" ]; then
         compare_lines "$@"
+        if [ -e "$example/window" ]; then
+            compare_pictures "$@"
+        fi
     fi
     for text in "$example"/*.fig; do
         compare "$(basename "$example"), $(basename "$text") again" "$example/expected.fig" again "$text"

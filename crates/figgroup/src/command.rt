@@ -1,14 +1,17 @@
 //! The command line.
 
-ghost use Rattle.std.specs.Prelude.{◌≡◌, ◌≤◌, ◌⊎◌, IfSome, IsTrue};
-ghost use Rattle.gf_studio.specs.FigRun.{Exports, WritesFront};
+ghost use Rattle.std.specs.Prelude.{◌≡◌, ◌≤◌, ◌⊎◌, IfSome, IfErr, OnOk, IsTrue};
+ghost use Rattle.figgroup.specs.Outputs.{Answers, AnswersFront};
+ghost use Rattle.figgroup.specs.declared.asking.Run.{Run};
 
+use crate::asking::{Canvas, Run, parse};
+use clap::Error;
 use clap::error::ErrorKind;
-use clap::{Command, Error};
 use gf_bytes::{Sink, Source, write_whole};
-use gf_studio::{StudioError, fig_run};
+use gf_studio::{OpenGate, StudioError, fig_run, paint_run, repaint_run};
 use std::alloc::Global;
 use std::io;
+use std::thread::Threads;
 
 /// Runs what `words` ask for, the first of which is the program's name, and answers the status:
 /// 0 for success, 1 for a refusal, 2 for a mistake in the words.
@@ -16,8 +19,8 @@ use std::io;
 /// Faults go to `faults`, and so does the usage after a mistake; help and version go to `output`.
 /// The words are read before any input. A fault or a help text that can't be written changes no
 /// status.
-pub fn command<R: Source, W: Sink, E: Sink>(
-    _rt: &HostRuntime,
+pub fn command<T: Threads + Sync, R: Source, W: Sink, E: Sink>(
+    rt: &T,
     alloc: Global,
     words: &[String],
     source: &mut R,
@@ -25,15 +28,15 @@ pub fn command<R: Source, W: Sink, E: Sink>(
     faults: &mut E,
 ) -> u8
     ensures status { result ≤ 2 }
-    // A run with status 0 writes the FIG text of what its input denotes; help reads no input.
-    ensures done { result ≡ 0 → (source.new ≡ source.old) ⊎ IfSome (R.left source.old) (λ bytes. Exports bytes (W.taken output.old) (W.taken output.new)) }
+    // Status 0: a run wrote all that was asked for of its input, or help was, which reads no input.
+    ensures done { result ≡ 0 → (source.new ≡ source.old) ⊎ ((run : Run) × IfSome (R.left source.old) (λ bytes. Answers run bytes (W.taken output.old) (W.taken output.new))) }
     ensures flushed { result ≡ 0 → (source.new ≡ source.old) ⊎ IsTrue (W.flushed output.new) }
-    // A refusal leaves the output as it was, or with a front of the text.
-    ensures refused { result ≡ 1 → (output.new ≡ output.old) ⊎ IfSome (R.left source.old) (λ bytes. WritesFront bytes (W.taken output.old) (W.taken output.new)) }
+    // A refusal leaves the output as it was, or with a front of what was asked for.
+    ensures refused { result ≡ 1 → (output.new ≡ output.old) ⊎ ((run : Run) × IfSome (R.left source.old) (λ bytes. AnswersFront run bytes (W.taken output.old) (W.taken output.new))) }
     ensures mistake { result ≡ 2 → (source.new ≡ source.old) × (output.new ≡ output.old) }
 {
     match parse(alloc, words) {
-        Ok(()) => match fig_run(alloc, source, output) {
+        Ok(run) => match answer(rt, alloc, run, source, output) {
             Ok(()) => 0,
             Err(error) => refuse(alloc, error, faults),
         },
@@ -51,19 +54,29 @@ pub fn command<R: Source, W: Sink, E: Sink>(
     }
 }
 
-/// Reads the words. `fig` is the one run that they can ask for.
-fn parse(alloc: Global, words: &[String]) -> Result<(), Error> {
-    let fig = Command::new(alloc, "fig").about(
-        "Read operation lines from standard input and write the FIG text of their drawing",
-    );
-    let program = Command::new(alloc, "figgroup")
-        .version("0.1.0")
-        .about("Figures drawn by a group")
-        .subcommand_required(true)
-        .arg_required_else_help(true)
-        .subcommand(fig)?;
-    program.try_get_matches_from(words)?;
-    Ok(())
+/// Writes what a run asks for.
+fn answer<T: Threads + Sync, R: Source, W: Sink>(
+    rt: &T,
+    alloc: Global,
+    run: Run,
+    source: &mut R,
+    output: &mut W,
+) -> Result<(), StudioError>
+    ensures done { OnOk result (IfSome (R.left source.old) (λ bytes. Answers run bytes (W.taken output.old) (W.taken output.new))) }
+    ensures flushed { OnOk result (IsTrue (W.flushed output.new)) }
+    ensures refused { IfErr result (λ _. (output.new ≡ output.old) ⊎ IfSome (R.left source.old) (λ bytes. AnswersFront run bytes (W.taken output.old) (W.taken output.new))) }
+{
+    match run {
+        Run::Fig => fig_run(alloc, source, output),
+        Run::Paint(canvas) => {
+            let Canvas { window, workers } = canvas;
+            paint_run(rt, alloc, source, output, window, workers, &OpenGate)
+        }
+        Run::Repaint(canvas) => {
+            let Canvas { window, workers } = canvas;
+            repaint_run(rt, alloc, source, output, window, workers, &OpenGate)
+        }
+    }
 }
 
 /// Tells why the words were not read, and answers the status.

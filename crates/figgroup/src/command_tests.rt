@@ -7,8 +7,9 @@ use gf_bytes::{MOST_INPUT_BYTES, Reel, Tape};
 use std::alloc::{AllocError, Global};
 use std::io;
 use std::test::Fail;
+use std::thread::Threads;
 
-fn words(alloc: Global, text: &str) -> Result<Vec<String>, AllocError> {
+pub(crate) fn words(alloc: Global, text: &str) -> Result<Vec<String>, AllocError> {
     let mut words = Vec::new(alloc);
     for word in text.split_whitespace() {
         words.push(String::from_str(alloc, word)?)?;
@@ -18,8 +19,8 @@ fn words(alloc: Global, text: &str) -> Result<Vec<String>, AllocError> {
 
 /// A run over this source, with so much room for its output and its faults: the status, the output,
 /// a line of dashes, and the faults.
-fn run(
-    rt: &HostRuntime,
+fn run<T: AllocGlobal + Threads + Sync>(
+    rt: &T,
     text: &str,
     source: &mut Reel,
     room: (Option<u64>, Option<u64>),
@@ -39,7 +40,7 @@ fn told(alloc: Global, status: u8, output: &[u8], faults: &[u8]) -> Result<Strin
 }
 
 /// A run of `figgroup fig` over this text, with room for all.
-pub(crate) fn fig(rt: &HostRuntime, input: &str) -> Result<String, Fail> {
+pub(crate) fn fig<T: AllocGlobal + Threads + Sync>(rt: &T, input: &str) -> Result<String, Fail> {
     run(
         rt,
         "figgroup fig",
@@ -67,7 +68,12 @@ const TOO_MANY_VERSIONS: &str = "1\n--\nfiggroup: export refused: TooManyVersion
 const TOO_MANY_COLOURS: &str = "1\n--\nfiggroup: export refused: TooManyColours\n";
 
 /// A run over lines of so many boxes, of so many colours in turn, and more.
-fn fig_of_boxes(rt: &HostRuntime, count: u32, colours: u32, more: &str) -> Result<String, Fail> {
+fn fig_of_boxes<T: AllocGlobal + Threads + Sync>(
+    rt: &T,
+    count: u32,
+    colours: u32,
+    more: &str,
+) -> Result<String, Fail> {
     let mut input = boxes(rt.alloc(), count, colours)?;
     input.push_str(more)?;
     fig(rt, input.as_str())
@@ -142,7 +148,7 @@ fn rounds(alloc: Global, last: u32) -> Result<String, AllocError> {
 }
 
 /// A run over these rounds.
-fn fig_of_rounds(rt: &HostRuntime, last: u32) -> Result<String, Fail> {
+fn fig_of_rounds<T: AllocGlobal + Threads + Sync>(rt: &T, last: u32) -> Result<String, Fail> {
     fig(rt, rounds(rt.alloc(), last)?.as_str())
 }
 
@@ -233,7 +239,7 @@ fn unread_words_are_told(rt: HostRuntime) -> Result<(), Fail> {
 }
 
 /// A run that asks for these words, over a source that can't be read.
-fn run_of_words(rt: &HostRuntime, words: &str) -> Result<String, Fail> {
+fn run_of_words<T: AllocGlobal + Threads + Sync>(rt: &T, words: &str) -> Result<String, Fail> {
     run(
         rt,
         words,
@@ -247,19 +253,47 @@ fn words_are_read_first(rt: HostRuntime) -> Result<(), Fail> {
     // After a mistake the output is empty, and only then there are faults.
     for (words, start, is_mistake) in [
         ("figgroup", "2\n--\n", true),
-        ("figgroup paint", "2\n--\n", true),
+        ("figgroup draw", "2\n--\n", true),
+        ("figgroup paint --workers 17", "2\n--\n", true),
+        ("figgroup repaint --workers 0", "2\n--\n", true),
+        ("figgroup paint --step 10001", "2\n--\n", true),
+        ("figgroup repaint --step 0", "2\n--\n", true),
+        ("figgroup paint --width 4097", "2\n--\n", true),
+        ("figgroup repaint --height 0", "2\n--\n", true),
+        ("figgroup paint --x=2000001", "2\n--\n", true),
+        ("figgroup repaint --y=-2000001", "2\n--\n", true),
+        ("figgroup paint --x -5", "2\n--\n", true),
+        ("figgroup paint --step 2 --step 3", "2\n--\n", true),
+        ("figgroup fig --step 2", "2\n--\n", true),
         ("figgroup fig input", "2\n--\n", true),
         ("figgroup --colour", "2\n--\n", true),
         ("", "2\n--\n", true),
         ("figgroup --help", "0\nFigures drawn by a group", false),
         ("figgroup help", "0\nFigures drawn by a group", false),
         ("figgroup fig --help", "0\nRead operation lines", false),
+        ("figgroup paint --help", "0\nRead operation lines", false),
+        ("figgroup repaint --help", "0\nRead a FIG text", false),
         ("figgroup --version", "0\nfiggroup 0.1.0\n", false),
     ] {
         let answer = run_of_words(&rt, words)?;
         let answer = answer.as_str();
         let is_told = answer.starts_with(start) && answer.ends_with("--\n") != is_mistake;
         assert!(rt; is_told, "of {words}");
+    }
+    Ok(())
+}
+
+#[test]
+fn help_has_the_limits(rt: HostRuntime) -> Result<(), Fail> {
+    let answer = run_of_words(&rt, "figgroup repaint --help")?;
+    let answer = answer.as_str();
+    for text in [
+        "-2,000,000 to 2,000,000 [default: 0]",
+        "1 to 10,000 [default: 1]",
+        "1 to 4,096 [default: 64]",
+        "1 to 16 [default: 1]",
+    ] {
+        assert!(rt; answer.contains(text), "{text}");
     }
     Ok(())
 }

@@ -4,6 +4,7 @@ use crate::command_tests::fig;
 use example_parts::{EMPTY_FIG, RED_BOX, RED_BOX_FIG};
 use std::alloc::Global;
 use std::test::Fail;
+use std::thread::Threads;
 
 /// Each row: the status, the pieces of the input, and the pieces of the output or, at status 1,
 /// the fault.
@@ -97,6 +98,11 @@ two_colours_fig 0 32 #00ff00\n0 33 #0000ff\n2 2 0 0 32 32 0 -1 20 0.000 0 0 -1 0
 both_moved_fig 0 32 #00ff00\n0 33 #0000ff\n2 2 0 0 32 32 0 -1 20 0.000 0 0 -1 0 0 5\n\t 200 0 210 0 210 10 200 10 200 0\n2 2 0 0 33 33 1 -1 20 0.000 0 0 -1 0 0 5\n\t 200 0 210 0 210 10 200 10 200 0\n
 one_blue_fig 0 32 #0000ff\n2 2 0 0 32 32 0 -1 20 0.000 0 0 -1 0 0 5\n\t 0 0 10 0 10 10 0 10 0 0\n
 one_red_fig 0 32 #ff0000\n2 2 0 0 32 32 0 -1 20 0.000 0 0 -1 0 0 5\n\t 0 0 10 0 10 10 0 10 0 0\n
+
+// A text of another program, and what makes a text fail.
+foreign_triangle #FIG 3.2  Produced by xfig version 3.2.5\nLandscape\nCenter\nInches\nLetter  \n100.00\nSingle\n-2\n1200 2\n# a triangle\n2 3 0 0 4 4 50 -1 20 0.000 0 0 -1 0 0 4\n\t 0 0 1200 0\n\t 600 900 0 0\n
+open_polyline 2 1 0 0 4 4 50 -1 20 0.000 0 0 -1 0 0 4\n\t 0 0 1200 0 600 900 0 0\n
+late_colour 0 33 #00ff00\n
 "#;
 
 /// The piece of this name.
@@ -121,7 +127,7 @@ fn piece(name: &str) -> Result<&'static str, Fail> {
 }
 
 /// The pieces of these names, with nothing between them.
-fn joined(alloc: Global, names: &str) -> Result<String, Fail> {
+pub(crate) fn joined(alloc: Global, names: &str) -> Result<String, Fail> {
     let mut text = String::new(alloc);
     for name in names.split_whitespace() {
         text.push_str(piece(name)?)?;
@@ -140,7 +146,7 @@ fn wanted(alloc: Global, status: &str, cell: &str) -> Result<String, Fail> {
 }
 
 /// The run over the pieces of these names.
-fn answer(rt: &HostRuntime, names: &str) -> Result<String, Fail> {
+fn answer<T: AllocGlobal + Threads + Sync>(rt: &T, names: &str) -> Result<String, Fail> {
     fig(rt, joined(rt.alloc(), names)?.as_str())
 }
 

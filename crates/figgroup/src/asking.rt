@@ -1,0 +1,154 @@
+//! What the words of the command line ask for.
+
+ghost use Rattle.std.specs.Prelude.{◌≤◌};
+
+use clap::builder::ValueParser;
+use clap::error::ErrorKind;
+use clap::{Arg, ArgMatches, Command, Error};
+use gf_studio::Window;
+use std::alloc::{AllocError, Global};
+
+/// What the words ask for.
+#[derive(Clone, Copy)]
+pub enum Run {
+    /// The FIG text of operation lines.
+    Fig,
+    /// The picture of operation lines.
+    Paint(Canvas),
+    /// The picture of a FIG text.
+    Repaint(Canvas),
+}
+
+/// The window of a picture, and how many workers paint it.
+#[derive(Clone, Copy)]
+pub struct Canvas {
+    pub window: Window,
+    pub workers: u8,
+    ghost in_range: { (1 ≤ workers) × (workers ≤ 16) },
+}
+
+/// Reads the words, the first of which is the program's name.
+pub(crate) fn parse(alloc: Global, words: &[String]) -> Result<Run, Error> {
+    let matches = program(alloc)?.try_get_matches_from(words)?;
+    match asked(&matches) {
+        Some(run) => Ok(run),
+        None => Err(out_of_range(alloc)?),
+    }
+}
+
+/// What a command line that clap took asks for.
+fn asked(matches: &ArgMatches<'_>) -> Option<Run> {
+    let (name, matches) = matches.subcommand()?;
+    match name {
+        "fig" => Some(Run::Fig),
+        "paint" => canvas_of(matches).map(Run::Paint),
+        "repaint" => canvas_of(matches).map(Run::Repaint),
+        _ => None,
+    }
+}
+
+fn canvas_of(matches: &ArgMatches<'_>) -> Option<Canvas> {
+    let workers = matches.get_one::<u8>("workers")?;
+    if workers < 1 || 16 < workers {
+        return None;
+    }
+    let window = window_of(matches)?;
+    Some(Canvas { window, workers })
+}
+
+fn window_of(matches: &ArgMatches<'_>) -> Option<Window> {
+    let x = matches.get_one::<i32>("x")?;
+    let y = matches.get_one::<i32>("y")?;
+    let step = matches.get_one::<u32>("step")?;
+    let width = matches.get_one::<u32>("width")?;
+    let height = matches.get_one::<u32>("height")?;
+    Window::new(x, y, step, width, height).ok()
+}
+
+/// A mistake that clap's own checks of the options leave no room for.
+fn out_of_range(alloc: Global) -> Result<Error, AllocError> {
+    program(alloc)?.error(ErrorKind::ValueValidation, "an option is out of range")
+}
+
+fn program<'a>(alloc: Global) -> Result<Command<'a>, AllocError> {
+    let fig = Command::new(alloc, "fig").about(
+        "Read operation lines from standard input and write the FIG text of their drawing",
+    );
+    let paint = Command::new(alloc, "paint").about(
+        "Read operation lines from standard input and write a picture of their drawing, as raw PPM",
+    );
+    let repaint = Command::new(alloc, "repaint").about(
+        "Read a FIG text from standard input and write a picture of it, as raw PPM",
+    );
+    Command::new(alloc, "figgroup")
+        .version("0.1.0")
+        .about("Figures drawn by a group")
+        .subcommand_required(true)
+        .arg_required_else_help(true)
+        .subcommand(fig)?
+        .subcommand(with_canvas(alloc, paint)?)?
+        .subcommand(with_canvas(alloc, repaint)?)
+}
+
+/// The command with the options of a picture.
+fn with_canvas<'a>(alloc: Global, command: Command<'a>) -> Result<Command<'a>, AllocError> {
+    command
+        .arg(place(
+            alloc,
+            "x",
+            "The x of the first column, -2,000,000 to 2,000,000",
+        ))?
+        .arg(place(
+            alloc,
+            "y",
+            "The y of the first row, -2,000,000 to 2,000,000",
+        ))?
+        .arg(count(
+            alloc,
+            "step",
+            "1",
+            10_000,
+            "How far the points of neighbouring pixels are apart, 1 to 10,000",
+        ))?
+        .arg(count(
+            alloc,
+            "width",
+            "64",
+            4_096,
+            "How many columns the picture has, 1 to 4,096",
+        ))?
+        .arg(count(
+            alloc,
+            "height",
+            "64",
+            4_096,
+            "How many rows the picture has, 1 to 4,096",
+        ))?
+        .arg(count(
+            alloc,
+            "workers",
+            "1",
+            16,
+            "How many workers paint it, 1 to 16",
+        ))
+}
+
+/// An option for a coordinate, 0 where it is not given.
+fn place<'a>(alloc: Global, name: &'a str, help: &'a str) -> Arg<'a> {
+    Arg::new(alloc, name)
+        .long(name)
+        .value_name("N")
+        .help(help)
+        .default_value("0")
+        .value_parser(ValueParser::signed(-2_000_000, 2_000_000))
+}
+
+/// An option for a number from 1 to `most`.
+fn count<'a>(alloc: Global, name: &'a str, default: &'a str, most: u64, help: &'a str) -> Arg<'a> {
+    Arg::new(alloc, name)
+        .long(name)
+        .value_name("N")
+        .help(help)
+        .default_value(default)
+        .value_parser(ValueParser::unsigned(1, most))
+}

@@ -1,0 +1,76 @@
+//! A table of pictures: runs of `paint` and `repaint`, with the answers that the formats and the
+//! faults ask for.
+
+use crate::command;
+use crate::command_tests::words;
+use crate::run_table::joined;
+use gf_bytes::{Reel, Tape};
+use std::test::Fail;
+use std::thread::Threads;
+
+/// Each row: the words behind the program's name, the pieces of the input, and the status with the
+/// output and the fault, their bytes spelled as in a literal of Rust.
+const PICTURES: &str = r#"
+// what is painted: the ground, the circle of radius 1, the box with its edge, and the farthest corner of a triangle
+paint --width 1 --height 1 | | 0 P6\n1 1\n255\n\xff\xff\xff
+paint --x=-1 --y=-1 --width 3 --height 3 | unit_circle / | 0 P6\n3 3\n255\n\xff\xff\xff\x00\xff\x00\xff\xff\xff\x00\xff\x00\x00\xff\x00\x00\xff\x00\xff\xff\xff\x00\xff\x00\xff\xff\xff
+paint --width 3 --height 2 --step 10 | box / | 0 P6\n3 2\n255\n\xff\x00\x00\xff\x00\x00\xff\xff\xff\xff\x00\x00\xff\x00\x00\xff\xff\xff
+paint --x=-2000000 --y=-1000000 --step 10000 --width 1 --height 2 --workers 16 | far_triangle / | 0 P6\n1 2\n255\n\xff\x00\x00\xff\xff\xff
+
+// every order of the lines paints the same
+paint --x=199 --width 2 --height 1 | box / blue / green / moved / moved_again / | 0 P6\n2 1\n255\n\xff\xff\xff\x00\xff\x00
+paint --x=199 --width 2 --height 1 --workers 3 | moved_again / moved / green / blue / box / | 0 P6\n2 1\n255\n\xff\xff\xff\x00\xff\x00
+
+// what is repainted: another program's triangle, and what this one wrote
+repaint --x=600 --y=300 --width 1 --height 1 | foreign_triangle | 0 P6\n1 1\n255\n\xff\x00\x00
+repaint --y=900 --width 1 --height 1 | foreign_triangle | 0 P6\n1 1\n255\n\xff\xff\xff
+repaint --x=199 --width 2 --height 1 | empty_fig both_moved_fig | 0 P6\n2 1\n255\n\xff\xff\xff\x00\xff\x00
+
+// refusals are told
+paint | { | 1 figgroup: line 1: Json\n
+repaint | | 1 figgroup: figure object 0: Version\n
+repaint | empty_fig open_polyline | 1 figgroup: figure object 1: SubType\n
+repaint | red_box_fig late_colour | 1 figgroup: figure object 3: LateColour\n
+"#;
+
+/// What a run over this input answers: its status, its output and its faults.
+fn pictured<T: AllocGlobal + Threads + Sync>(
+    rt: &T,
+    text: &str,
+    input: &str,
+) -> Result<String, Fail> {
+    let alloc = rt.alloc();
+    let words = words(alloc, text)?;
+    let mut output = Tape::new(alloc, None);
+    let mut faults = Tape::new(alloc, None);
+    let mut source = Reel::new(input.as_bytes(), None);
+    let status = command(rt, alloc, &words, &mut source, &mut output, &mut faults);
+    let picture = output.bytes().escape_ascii();
+    let fault = faults.bytes().escape_ascii();
+    Ok(format!(in alloc; "{status} {picture}{fault}")?)
+}
+
+/// The run that a row asks for.
+fn answer<T: AllocGlobal + Threads + Sync>(
+    rt: &T,
+    words: &str,
+    pieces: &str,
+) -> Result<String, Fail> {
+    let words = format!(in rt.alloc(); "figgroup {words}")?;
+    pictured(rt, words.as_str(), joined(rt.alloc(), pieces)?.as_str())
+}
+
+#[test]
+fn paints_each_input(rt: HostRuntime) -> Result<(), Fail> {
+    for row in PICTURES.lines() {
+        let Some((words, rest)) = row.split_once('|') else {
+            continue;
+        };
+        let Some((pieces, want)) = rest.split_once('|') else {
+            return Err(Fail::new("a row lacks a cell"));
+        };
+        let answer = answer(&rt, words, pieces)?;
+        assert_eq!(rt; answer.as_str().trim(), want.trim(), "of {row}");
+    }
+    Ok(())
+}
