@@ -4,3 +4,4 @@ pub mod SameLemmas
 pub mod RefusalLemmas
 pub mod ExportLemmas
 pub mod PaintingLemmas
+pub mod AnswerLemmas

@@ -1,6 +1,6 @@
 -- What some bytes draw is painted in the colours that they mean, and so is the FIG text of it.
-use Rattle.std.specs.Prelude.{Some}
-use Rattle.std.proofs.Common.{◌≡◌, ℕ, List, ◌++◌, sym, subst, ap, ◌∙◌}
+use Rattle.std.specs.Prelude.{IfOk, IfSome, None, Option, Some}
+use Rattle.std.proofs.Common.{◌≡◌, ℕ, List, ◌++◌, Result, Ok, Err, sym, subst, ap, ◌∙◌}
 use Rattle.std.proofs.lemmas.List.{append_cancel_left}
 use Rattle.gf_shape.specs.declared.any_shape.AnyShape.{AnyShape}
 use Rattle.gf_shape.specs.declared.colour.Rgb.{Rgb}
@@ -21,11 +21,17 @@ use Rattle.gf_fig_read.proofs.GrammarLemmas.{not_both, one_drawing}
 use Rattle.gf_fig_write.specs.FigText.{fig_text}
 use Rattle.gf_layers.specs.Picture.{picture}
 use Rattle.gf_window.specs.Windows.{View}
+use Rattle.gf_studio.specs.declared.studio_error.StudioError.{StudioError}
 use Rattle.gf_studio.specs.FigRun.{Draws, Writes}
 use Rattle.gf_studio.specs.PaintRun.{IsDenoted, IsMeant, WritesPicture}
 
-pub drawn_meant : (bytes : List ℕ) (drawing : DrawingState AnyShape) → Draws bytes drawing → IsMeant bytes (drawing_colour any_holds drawing.table drawing.figures)
+drawn_meant : (bytes : List ℕ) (drawing : DrawingState AnyShape) → Draws bytes drawing → IsMeant bytes (drawing_colour any_holds drawing.table drawing.figures)
 drawn_meant bytes drawing drawn = record { drawing = drawing; drawn = drawn; means = drawn.colours }
+
+pub left_meant : (left : Option (List ℕ)) (r : Result (DrawingState AnyShape) StudioError) → IfOk r (λ d. IfSome left (λ bytes. Draws bytes d)) → IfOk r (λ d. IfSome left (λ bytes. IsMeant bytes (drawing_colour any_holds d.table d.figures)))
+left_meant None (Ok d) drawn = tt
+left_meant (Some bytes) (Ok d) drawn = drawn_meant bytes d drawn
+left_meant left (Err e) drawn = tt
 
 -- colours that are one at every point make one picture
 pub one_picture : (w : View) (colour other : Point → Rgb) → ((p : Point) → colour p ≡ other p) → picture colour w ≡ picture other w

@@ -2,9 +2,12 @@
 
 ghost use Rattle.std.specs.Prelude.{◌≡◌, ◌≢◌, ◌+◌, ◌≤◌, IfSome, IfOk, IfErr};
 ghost use Rattle.gf_bytes.specs.Reads.{ConsumesAtMost};
+ghost use Rattle.gf_shape.specs.ShapeMeaning.{any_holds};
+ghost use Rattle.gf_drawing.specs.DrawingColour.{drawing_colour};
 ghost use Rattle.gf_fig_read.specs.FigGrammar.{Reads};
 ghost use Rattle.gf_studio.specs.FigRun.{Draws};
 ghost use Rattle.gf_studio.specs.LineSteps.{IsOfInput, RefusesDrawing, RefusesOutlines};
+ghost use Rattle.gf_studio.specs.PaintRun.{IsMeant};
 ghost use Rattle.gf_studio.specs.RunAnswers.{ReadsFor, RefusesFig, RefusesLines};
 
 use crate::StudioError;
@@ -22,6 +25,7 @@ pub(crate) fn drawing_of_lines<R: Source>(
     source: &mut R,
 ) -> Result<Drawing<AnyShape>, StudioError>
     ensures ok { IfOk result (λ drawing. IfSome (R.left source.old) (λ bytes. Draws bytes drawing)) }
+    ensures meant { IfOk result (λ drawing. IfSome (R.left source.old) (λ bytes. IsMeant bytes (drawing_colour any_holds drawing.table drawing.figures))) }
     ensures source { ReadsFor MOST_INPUT_BYTES (R.left source.old) (R.left source.new) (R.failures source.old) (R.failures source.new) result }
     ensures refused { IfErr result (λ e. IfSome (R.left source.old) (λ bytes. RefusesLines bytes e)) }
     ensures no_write { IfErr result (λ e. e ≢ StudioError.WriteFailed) }

@@ -52,7 +52,6 @@ pub fn fig_run<R: Source, W: Sink>(
 
 /// Reads operation lines to their end, and writes the picture, in a window, of the colours that their
 /// history means, painted by 1 to 16 workers. It reads all before the first write.
-#[tactic(auto, using(crate::proofs::PaintingLemmas::drawn_meant))]
 pub fn paint_run<T: Threads + Sync, R: Source, W: Sink, G: Gate + Sync>(
     rt: &T,
     alloc: Global,
