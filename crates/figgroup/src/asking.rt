@@ -41,8 +41,8 @@ fn asked(matches: &ArgMatches<'_>) -> Option<Run> {
     let (name, matches) = matches.subcommand()?;
     match name {
         "fig" => Some(Run::Fig),
-        "paint" => canvas_of(matches).map(Run::Paint),
-        "repaint" => canvas_of(matches).map(Run::Repaint),
+        "paint" => Some(Run::Paint(canvas_of(matches)?)),
+        "repaint" => Some(Run::Repaint(canvas_of(matches)?)),
         _ => None,
     }
 }
@@ -71,23 +71,37 @@ fn out_of_range(alloc: Global) -> Result<Error, AllocError> {
 }
 
 fn program<'a>(alloc: Global) -> Result<Command<'a>, AllocError> {
-    let fig = Command::new(alloc, "fig").about(
-        "Read operation lines from standard input and write the FIG text of their drawing",
-    );
-    let paint = Command::new(alloc, "paint").about(
-        "Read operation lines from standard input and write a picture of their drawing, as raw PPM",
-    );
-    let repaint = Command::new(alloc, "repaint").about(
-        "Read a FIG text from standard input and write a picture of it, as raw PPM",
-    );
-    Command::new(alloc, "figgroup")
+    let program = Command::new(alloc, "figgroup")
         .version("0.1.0")
         .about("Figures drawn by a group")
         .subcommand_required(true)
-        .arg_required_else_help(true)
-        .subcommand(fig)?
-        .subcommand(with_canvas(alloc, paint)?)?
-        .subcommand(with_canvas(alloc, repaint)?)
+        .arg_required_else_help(true);
+    let program = program.subcommand(Command::new(alloc, "fig").about(
+        "Read operation lines from standard input and write the FIG text of their drawing",
+    ))?;
+    let program = with_picture(
+        alloc,
+        program,
+        "paint",
+        "Read operation lines from standard input and write a picture of their drawing, as raw PPM",
+    )?;
+    with_picture(
+        alloc,
+        program,
+        "repaint",
+        "Read a FIG text from standard input and write a picture of its drawing, as raw PPM",
+    )
+}
+
+/// The program with one command more, which writes a picture.
+fn with_picture<'a>(
+    alloc: Global,
+    program: Command<'a>,
+    name: &'a str,
+    about: &'a str,
+) -> Result<Command<'a>, AllocError> {
+    let command = with_canvas(alloc, Command::new(alloc, name).about(about))?;
+    program.subcommand(command)
 }
 
 /// The command with the options of a picture.
