@@ -4,10 +4,10 @@ use Rattle.gf_shape.specs.declared.point.Point.{Point}
 use Rattle.gf_shape.specs.declared.outline.Outline.TheVariants.{Chain, Disc}
 use Rattle.gf_shape.specs.Reach.{is_reached}
 use Rattle.gf_drawing.specs.Colours.{rgb}
-use Rattle.gf_fig_read.specs.declared.faults.FigFault.TheVariants as fault
-use Rattle.gf_fig_read.specs.Layout.{object_tokens}
-use Rattle.gf_fig_read.specs.Forms.{whole, decimal, colour}
-use Rattle.gf_fig_read.specs.Fields.{natural, point, points}
+use Rattle.gf_fig_text.specs.declared.faults.FigFault.TheVariants as fault
+use Rattle.gf_fig_text.specs.Layout.{object_tokens}
+use Rattle.gf_fig_text.specs.Forms.{whole, decimal, colour}
+use Rattle.gf_fig_text.specs.Fields.{natural, point, points}
 use Rattle.gf_fig_read.specs.Styles.{known_colour, filling, style}
 use Rattle.gf_fig_read.specs.Outlines.{count, chain, disc}
 use Rattle.gf_fig_read.specs.Objects.{Drawn, object, colour_object, ellipse_object, polyline_object}

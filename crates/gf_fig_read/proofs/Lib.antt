@@ -1,6 +1,4 @@
-pub mod Powers
 pub mod Loop
-pub mod LayoutLemmas
 pub mod RingLemmas
 pub mod NumberLemmas
 pub mod ObjectLemmas

@@ -1,9 +1,9 @@
 -- The FIG grammar: which drawing a text reads as, and with which fault of which object it fails (Xfig, FIG Format 3.2); the profile is this project's: filled closed chains and circles without outline or arrows.
 use Rattle.std.specs.Prelude.{◌≡◌, ◌≢◌, ◌⊎◌, ℕ, ◌+◌, Bool, true, false, List, [], length, Ok, Err}
-use Rattle.gf_fig_read.specs.Layout.{Token, object_tokens}
+use Rattle.gf_fig_text.specs.Layout.{Token, object_tokens}
 use Rattle.gf_fig_read.specs.Objects.{Drawn, object}
-use Rattle.gf_fig_read.specs.declared.faults.FigFault.{FigFault}
-use Rattle.gf_fig_read.specs.declared.faults.FigFault.TheVariants as fault
+use Rattle.gf_fig_text.specs.declared.faults.FigFault.{FigFault}
+use Rattle.gf_fig_text.specs.declared.faults.FigFault.TheVariants as fault
 
 -- the drawing before the first object: no colours, no figures
 abbrev pub nothing : Drawn

@@ -1,6 +1,3 @@
-pub mod Layout
-pub mod Forms
-pub mod Fields
 pub mod Styles
 pub mod Outlines
 pub mod Objects

@@ -4,9 +4,9 @@ use Rattle.std.specs.Ordering.{int_eq}
 use Rattle.gf_shape.specs.declared.point.Point.{Point}
 use Rattle.gf_shape.specs.declared.outline.Outline.{Outline}
 use Rattle.gf_shape.specs.declared.outline.Outline.TheVariants.{Chain, Disc}
-use Rattle.gf_fig_read.specs.Forms.{whole, decimal}
-use Rattle.gf_fig_read.specs.Fields.{Reader, ◌>>=◌, any, check, give, natural, point, points}
-use Rattle.gf_fig_read.specs.declared.faults.FigFault.TheVariants as fault
+use Rattle.gf_fig_text.specs.Forms.{whole, decimal}
+use Rattle.gf_fig_text.specs.Fields.{Reader, ◌>>=◌, any, check, give, natural, point, points}
+use Rattle.gf_fig_text.specs.declared.faults.FigFault.TheVariants as fault
 
 -- both are there and are one point
 abbrev pub same_point : Option Point → Option Point → Bool

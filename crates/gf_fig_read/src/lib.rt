@@ -7,15 +7,13 @@
 #![tactic(auto)]
 
 mod faults;
-mod forms;
 mod laws;
-mod layout;
 mod objects;
 mod outlines;
 mod reading;
 mod styles;
-mod tokens;
 
-pub use faults::{FigError, FigFault};
+pub use faults::FigError;
+pub use gf_fig_text::FigFault;
 pub use laws::every_text_reads_as_one_drawing_or_fails_once;
 pub use reading::read_fig;

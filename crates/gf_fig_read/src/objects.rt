@@ -3,14 +3,13 @@
 ghost use Rattle.std.specs.Prelude.{◌≡◌, ◌≤◌, ◌∷◌, OnOk, IfErr, IsTrue, is_some, is_none};
 ghost use Rattle.gf_drawing.specs.Colours.{colour_in, rgb_of};
 ghost use Rattle.gf_fig_read.specs.Objects.{with_figure, colour_object, ellipse_object, polyline_object, object};
-ghost use Rattle.gf_fig_read.specs.declared.faults.FigFault.TheVariants as fault;
+ghost use Rattle.gf_fig_text.specs.declared.faults.FigFault.TheVariants as fault;
 ghost use Rattle.gf_fig_read.specs.Stepping.{Draws};
 
 use crate::outlines::{chain, disc};
 use crate::styles::{Style, style_of};
-use crate::tokens::Tokens;
-use crate::{FigFault, forms};
 use gf_drawing::{Drawing, Figure};
+use gf_fig_text::{FigFault, Tokens, whole};
 use gf_shape::Outline;
 use std::alloc::Global;
 
@@ -81,7 +80,7 @@ fn add_polyline(
 }
 
 /// Adds the object that begins with the token `code`.
-#[tactic(auto, unfolding(crate::specs::Objects::object, crate::specs::Fields::natural))]
+#[tactic(auto, unfolding(crate::specs::Objects::object, gf_fig_text::specs::Fields::natural))]
 pub(crate) fn add_object(
     alloc: Global,
     code: &[u8],
@@ -90,7 +89,7 @@ pub(crate) fn add_object(
 ) -> Result<(), FigFault>
     ensures { Draws result drawing.new tokens.new (object drawing.old (code.now ∷ tokens.old)) }
 {
-    match forms::whole(code) {
+    match whole(code) {
         None => Err(FigFault::Token),
         Some(0) => add_colour(tokens, drawing),
         Some(1) => add_ellipse(tokens, drawing),

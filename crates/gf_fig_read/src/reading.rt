@@ -1,14 +1,14 @@
 //! The reading of a whole text.
 
-ghost use Rattle.std.specs.Prelude.{◌≡◌, ◌⊎◌, ◌<◌, ◌^◌, [], length, IfOk, IfErr};
+ghost use Rattle.std.specs.Prelude.{◌≡◌, ◌⊎◌, ◌<◌, ◌^◌, [], length, OnOk, IfOk, IfErr};
 ghost use Rattle.gf_fig_read.specs.FigGrammar.{Leads, Reads, Fails, StopsAt, nothing};
 ghost use Rattle.gf_fig_read.specs.Objects.{Drawn};
-ghost use Rattle.gf_fig_read.specs.declared.faults.FigFault.TheVariants as fault;
+ghost use Rattle.gf_fig_text.specs.declared.faults.FigFault.TheVariants as fault;
 
+use crate::FigError;
 use crate::objects::add_object;
-use crate::tokens::Tokens;
-use crate::{FigError, FigFault};
 use gf_drawing::Drawing;
+use gf_fig_text::{FigFault, Tokens};
 use gf_shape::Outline;
 use std::alloc::Global;
 
@@ -37,18 +37,33 @@ fn read_objects(alloc: Global, tokens: Tokens<'_>) -> Result<Drawing<Outline>, F
     ensures reads { IfOk result (λ d. Leads nothing tokens.entry d []) }
     ensures stops { IfErr result (λ e. ((e.fault ≡ fault.OutOfMemory) × (e.object ≡ 0)) ⊎ StopsAt tokens.entry e.fault e.object) }
 {
-    let mut left = tokens;
     let mut drawing = Drawing::new(alloc);
+    add_objects(alloc, tokens, &mut drawing)?;
+    Ok(drawing)
+}
+
+/// Adds the objects that the tokens hold to a drawing that has none.
+fn add_objects(
+    alloc: Global,
+    tokens: Tokens<'_>,
+    drawing: &mut Drawing<Outline>,
+) -> Result<(), FigError>
+    requires empty { drawing.old ≡ nothing }
+    requires few { length tokens < 2 ^ 64 }
+    ensures reads { OnOk result (Leads nothing tokens.entry drawing.new []) }
+    ensures stops { IfErr result (λ e. ((e.fault ≡ fault.OutOfMemory) × (e.object ≡ 0)) ⊎ StopsAt tokens.entry e.fault e.object) }
+{
+    let mut left = tokens;
     let mut object = 0u64;
-    while let Some(code) = left.next() {
+    while let Some(code) = left.next_token() {
         object += 1;
-        match add_object(alloc, code, &mut left, &mut drawing) {
+        match add_object(alloc, code, &mut left, drawing) {
             Ok(()) => {}
             Err(FigFault::OutOfMemory) => return Err(no_memory()),
             Err(fault) => return Err(FigError { fault, object }),
         }
     }
-    Ok(drawing)
+    Ok(())
 }
 
 fn no_memory() -> FigError

@@ -3,15 +3,14 @@
 ghost use Rattle.std.specs.Prelude.{◌≡◌, ◌≤◌, IfOk, IsTrue, is_some};
 ghost use Rattle.gf_drawing.specs.Colours.{rgb_of};
 ghost use Rattle.gf_fig_read.specs.Styles.{is_known, known_colour, filling, style};
-ghost use Rattle.gf_fig_read.specs.Stepping.{Steps};
+ghost use Rattle.gf_fig_text.specs.Fields.{Steps};
 
-use crate::FigFault;
-use crate::tokens::Tokens;
 use gf_drawing::Drawing;
+use gf_fig_text::{FigFault, Tokens};
 use gf_shape::Outline;
 
 /// What a polyline and an ellipse begin with.
-#[derive(Clone, Copy, Debug, PartialEq, Eq)]
+#[derive(Clone, Copy)]
 pub(crate) struct Style {
     pub(crate) sub_type: u32,
     pub(crate) colour: u16,

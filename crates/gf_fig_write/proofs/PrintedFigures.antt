@@ -9,8 +9,8 @@ use Rattle.gf_shape.specs.Round.{Round, is_round}
 use Rattle.gf_shape.specs.ShapeLaws.{IsLawful}
 use Rattle.gf_drawing.specs.declared.figure.Figure.{Figure}
 use Rattle.gf_drawing.specs.Colours.{rgb_of}
-use Rattle.gf_fig_read.specs.declared.faults.FigFault.TheVariants as fault
-use Rattle.gf_fig_read.specs.Layout.{Token}
+use Rattle.gf_fig_text.specs.declared.faults.FigFault.TheVariants as fault
+use Rattle.gf_fig_text.specs.Layout.{Token}
 use Rattle.gf_fig_read.specs.Objects.{Drawn, ellipse_object, polyline_object, object}
 use Rattle.gf_fig_write.proofs.PrintedNumbers.{whole_decimal}
 use Rattle.gf_fig_write.proofs.PrintedObjects.{natural_read, one_read, two_read, three_read, style_words, style_read, count_words, point_words, chain_read, disc_words, disc_read}

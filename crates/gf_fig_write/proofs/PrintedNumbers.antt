@@ -10,8 +10,8 @@ use Rattle.std.proofs.lemmas.List.Sums.{fold_push}
 use Rattle.std.proofs.lemmas.Fmt.{decimal_by_steps, length-decimal-le}
 use Rattle.std.proofs.Math.Nat.{div-add-mod}
 use Rattle.gf_shape.specs.declared.colour.Rgb.{Rgb}
-use Rattle.gf_fig_read.specs.Layout.{is_filled}
-use Rattle.gf_fig_read.specs.Forms.{is_digit, is_sign, digits_value, whole, hex_value, is_hex, byte_of, colour}
+use Rattle.gf_fig_text.specs.Layout.{is_filled}
+use Rattle.gf_fig_text.specs.Forms.{is_digit, is_sign, digits_value, whole, hex_value, is_hex, byte_of, colour}
 use Rattle.gf_fig_write.specs.ColourBytes.{IsByteRgb}
 use Rattle.gf_fig_write.proofs.PrintedLines.{is_dark, is_word}
 

@@ -14,11 +14,11 @@ use Rattle.gf_shape.specs.Ring.{Ring, IsRing}
 use Rattle.gf_shape.specs.Round.{Round, is_round}
 use Rattle.gf_drawing.specs.Colours.{Table, colour_in, rgb_of}
 use Rattle.gf_drawing.specs.DrawingState.{IsFreeNumber, is_table_number}
-use Rattle.gf_fig_read.specs.declared.faults.FigFault.{FigFault}
-use Rattle.gf_fig_read.specs.declared.faults.FigFault.TheVariants as fault
-use Rattle.gf_fig_read.specs.Layout.{Token}
-use Rattle.gf_fig_read.specs.Forms.{whole, decimal as decimal_form}
-use Rattle.gf_fig_read.specs.Fields.{is_in, natural, point, points}
+use Rattle.gf_fig_text.specs.declared.faults.FigFault.{FigFault}
+use Rattle.gf_fig_text.specs.declared.faults.FigFault.TheVariants as fault
+use Rattle.gf_fig_text.specs.Layout.{Token}
+use Rattle.gf_fig_text.specs.Forms.{whole, decimal as decimal_form}
+use Rattle.gf_fig_text.specs.Fields.{is_in, natural, point, points}
 use Rattle.gf_fig_read.specs.Styles.{known_colour, filling, style}
 use Rattle.gf_fig_read.specs.Outlines.{same_point, is_closed, count, chain, disc}
 use Rattle.gf_fig_read.specs.Objects.{Drawn, colour_object, object}

@@ -1,9 +1,9 @@
 -- A FIG text as first line, comment lines, header lines and tokens (Xfig, FIG Format 3.2). That comment lines are dropped everywhere from the second line on, and that header lines have any text, is this project's profile.
-use Rattle.std.specs.Prelude.{ℕ, Bool, true, false, not, ◌&&◌, ◌||◌, ◌==◌, nat_eq, nat_lt, List, [], ◌∷◌, length, filter, flat_map, drop, Result, Ok, Err, codes, if◌then◌else◌}
+use Rattle.std.specs.Prelude.{ℕ, Bool, true, false, not, ◌&&◌, ◌||◌, ◌==◌, nat_eq, nat_lt, List, [], ◌∷◌, ◌++◌, length, filter, flat_map, drop, Result, Ok, Err, codes, if◌then◌else◌}
 use Rattle.std.specs.List.{slice_split, onto_first, starts_with}
 use Rattle.std.specs.Cmp.Lexicographic.{pointwise}
-use Rattle.gf_fig_read.specs.declared.faults.FigFault.{FigFault}
-use Rattle.gf_fig_read.specs.declared.faults.FigFault.TheVariants as fault
+use Rattle.gf_fig_text.specs.declared.faults.FigFault.{FigFault}
+use Rattle.gf_fig_text.specs.declared.faults.FigFault.TheVariants as fault
 
 -- a word of the text, as its bytes
 abbrev pub Token : Type 0
@@ -50,6 +50,10 @@ plain_lines text = plain (drop 1 (lines text))
 -- the tokens of these lines
 abbrev pub tokens : List (List ℕ) → List Token
 tokens ls = flat_map words ls
+
+-- the tokens of what is left of a line, and of the text behind it
+abbrev pub tokens_left : List ℕ → List ℕ → List Token
+tokens_left line rest = words line ++ tokens (plain (lines rest))
 
 -- the tokens behind the first two, which are "1200" and "2" byte for byte
 abbrev pub after_resolution : List Token → Result (List Token) FigFault

@@ -4,26 +4,26 @@ ghost use Rattle.std.specs.Prelude.{◌≡◌, ◌≤◌, ◌<◌, [], ◌∷◌
 ghost use Rattle.std.specs.Option.{option_map_or};
 ghost use Rattle.std.specs.Cmp.Lexicographic.{pointwise};
 ghost use Rattle.gf_shape.specs.Reach.{is_reached, is_within_reach};
-ghost use Rattle.gf_fig_read.specs.Layout.{tokens, plain, lines, plain_lines, after_resolution, object_tokens};
-ghost use Rattle.gf_fig_read.specs.Forms.{whole, decimal, colour};
-ghost use Rattle.gf_fig_read.specs.Fields.{field, any, is_in, natural, coordinate, point};
-ghost use Rattle.gf_fig_read.specs.Stepping.{Steps, Takes};
+ghost use Rattle.gf_fig_text.specs.Layout.{tokens, plain, lines, plain_lines, after_resolution, object_tokens};
+ghost use Rattle.gf_fig_text.specs.Forms.{whole, decimal, colour};
+ghost use Rattle.gf_fig_text.specs.Fields.{Steps, any, natural, coordinate, point};
+ghost use Rattle.gf_fig_text.specs.Stepping.{Takes};
 
-use crate::layout::{cut_line, cut_plain_line, cut_token, is_version};
+use crate::layout::{cut_line, cut_plain_line, cut_word, is_version};
 use crate::{FigFault, forms};
 use gf_shape::{Point, Rgb};
 use std::marker::Model;
 
 /// What is left of a line, and what follows it; seen in clauses as the tokens that they hold.
 #[derive(Drop)]
-pub(crate) struct Tokens<'a> {
+pub struct Tokens<'a> {
     line: &'a [u8],
     rest: &'a [u8],
 }
 
 impl<'a> Model for Tokens<'a> {
     ghost use Rattle.std.specs.Prelude.{List, ℕ};
-    ghost use Rattle.gf_fig_read.specs.Stepping.{tokens_left};
+    ghost use Rattle.gf_fig_text.specs.Layout.{tokens_left};
 
     ghost Value = { List (List ℕ) };
 
@@ -33,7 +33,7 @@ impl<'a> Model for Tokens<'a> {
 impl<'a> Tokens<'a> {
     /// The tokens of the objects of a text.
     #[tactic(auto, unfolding(crate::specs::Layout::object_tokens))]
-    pub(crate) fn of_objects(text: &'a [u8]) -> Result<Tokens<'a>, FigFault>
+    pub fn of_objects(text: &'a [u8]) -> Result<Tokens<'a>, FigFault>
         ensures ok { IfOk result (λ tokens. object_tokens text.now ≡ Ok tokens) }
         ensures err { IfErr result (λ fault. object_tokens text.now ≡ Err fault) }
         ensures few { IfOk result (λ tokens. length tokens ≤ length text.now) }
@@ -41,7 +41,9 @@ impl<'a> Tokens<'a> {
         if !is_version(text) {
             return Err(FigFault::Version);
         }
-        let rest = after_header(text).ok_or(FigFault::Header)?;
+        let Some(rest) = after_header(text) else {
+            return Err(FigFault::Header);
+        };
         let mut tokens = Tokens::of_lines(rest);
         tokens.take_resolution()?;
         Ok(tokens)
@@ -63,8 +65,8 @@ impl<'a> Tokens<'a> {
         ensures read { Takes result self.new (after_resolution self.old) }
         ensures few { length self.new ≤ length self.old }
     {
-        let first = self.next();
-        let second = self.next();
+        let first = self.next_token();
+        let second = self.next_token();
         if is_text(first, b"1200") && is_text(second, b"2") {
             Ok(())
         } else {
@@ -73,39 +75,44 @@ impl<'a> Tokens<'a> {
     }
 
     /// The next token.
-    pub(crate) fn next(&mut self) -> Option<&'a [u8]>
+    pub fn next_token(&mut self) -> Option<&'a [u8]>
         ensures { MatchOption result ((self.old ≡ []) × (self.new ≡ [])) (λ token. self.old ≡ token.now ∷ self.new) }
     {
-        let (token, line, rest) = cut_token(self.line, self.rest)?;
-        self.line = line;
-        self.rest = rest;
-        Some(token)
+        loop {
+            if let Some((token, after)) = cut_word(self.line) {
+                self.line = after;
+                return Some(token);
+            }
+            let (line, rest) = cut_plain_line(self.rest)?;
+            self.line = line;
+            self.rest = rest;
+        }
     }
 
     /// A whole number of any value.
-    pub(crate) fn whole(&mut self) -> Result<i64, FigFault>
+    pub fn whole(&mut self) -> Result<i64, FigFault>
         ensures { Steps result self.new (any whole self.old) }
     {
-        match self.next() {
+        match self.next_token() {
             None => Err(FigFault::Cut),
             Some(token) => forms::whole(token).ok_or(FigFault::Token),
         }
     }
 
     /// A decimal of any value.
-    pub(crate) fn decimal(&mut self) -> Result<(), FigFault>
+    pub fn decimal(&mut self) -> Result<(), FigFault>
         ensures { Steps result self.new (any decimal self.old) }
     {
-        match self.next() {
+        match self.next_token() {
             None => Err(FigFault::Cut),
             Some(token) => forms::decimal(token).ok_or(FigFault::Token),
         }
     }
 
-    pub(crate) fn colour(&mut self) -> Result<Rgb, FigFault>
+    pub fn colour(&mut self) -> Result<Rgb, FigFault>
         ensures { Steps result self.new (any colour self.old) }
     {
-        match self.next() {
+        match self.next_token() {
             None => Err(FigFault::Cut),
             Some(token) => forms::colour(token).ok_or(FigFault::Token),
         }
@@ -113,7 +120,7 @@ impl<'a> Tokens<'a> {
 
     /// A whole number from `low` to `high`.
     #[tactic(auto, using(std::proofs::lemmas::Int::ints), unfolding(crate::specs::Fields::natural))]
-    pub(crate) fn natural(&mut self, low: u32, high: u32, wrong: FigFault) -> Result<u32, FigFault>
+    pub fn natural(&mut self, low: u32, high: u32, wrong: FigFault) -> Result<u32, FigFault>
         ensures read { Steps result self.new (natural low high wrong self.old) }
         ensures within { IfOk result (λ n. (low ≤ n) × (n ≤ high)) }
     {
@@ -127,7 +134,7 @@ impl<'a> Tokens<'a> {
 
     /// A coordinate within reach.
     #[tactic(auto, using(std::proofs::lemmas::Int::ints), unfolding(gf_shape::specs::Reach::is_reached))]
-    pub(crate) fn coordinate(&mut self) -> Result<i32, FigFault>
+    pub fn coordinate(&mut self) -> Result<i32, FigFault>
         ensures read { Steps result self.new (coordinate self.old) }
         ensures within { IfOk result (λ n. IsTrue (is_reached n)) }
     {
@@ -140,7 +147,7 @@ impl<'a> Tokens<'a> {
     }
 
     #[tactic(auto, unfolding(crate::specs::Fields::point))]
-    pub(crate) fn point(&mut self) -> Result<Point, FigFault>
+    pub fn point(&mut self) -> Result<Point, FigFault>
         ensures read { Steps result self.new (point self.old) }
         ensures within { IfOk result (λ p. IsTrue (is_within_reach p)) }
     {
@@ -166,11 +173,9 @@ fn after_header(text: &[u8]) -> Option<&[u8]>
     ensures few { IfSome result (λ rest. length rest.now ≤ length text.now) }
     ensures lines { MatchOption result (length (plain_lines text.now) < 7) (λ rest. (7 ≤ length (plain_lines text.now)) × (plain (lines rest.now) ≡ drop 7 (plain_lines text.now))) }
 {
-    let (_, rest) = cut_line(text)?;
-    let mut rest = rest;
+    let mut rest = cut_line(text)?.1;
     for _ in 0..7u32 {
-        let (_, after) = cut_plain_line(rest)?;
-        rest = after;
+        rest = cut_plain_line(rest)?.1;
     }
     Some(rest)
 }

@@ -1,7 +1,7 @@
 use Rattle.std.proofs.Common.{◌≡◌, ◌+◌, ◌≤◌, length}
 use Rattle.gf_fig_read.specs.FigGrammar.{Leads, nothing}
 use Rattle.gf_fig_read.proofs.ObjectLemmas.{made_of}
-use Rattle.gf_fig_read.proofs.reading.read_objects.Given as goal
+use Rattle.gf_fig_read.proofs.reading.add_objects.Given as goal
 
 abbrev pub invariant-loop-code : goal.invariant-loop-code
 invariant-loop-code l = record {

@@ -2,8 +2,8 @@
 
 ghost use Rattle.std.specs.Prelude.{◌≡◌, ◌<◌, ◌≤◌, [], ◌∷◌, not, length, drop, MatchOption, IfSome, Some, None};
 ghost use Rattle.std.specs.List.{position_from, position_or_len};
-ghost use Rattle.gf_fig_read.specs.Layout.{is_blank, is_line_feed, is_comment, is_version, lines, words, plain, plain_lines};
-ghost use Rattle.gf_fig_read.specs.Stepping.{tokens_left, after_blanks};
+ghost use Rattle.gf_fig_text.specs.Layout.{is_blank, is_line_feed, is_comment, is_version, lines, words, plain, plain_lines};
+ghost use Rattle.gf_fig_text.specs.Stepping.{after_blanks};
 
 fn is_blank(b: u8) -> bool
     ensures { result ≡ is_blank b }
@@ -123,7 +123,7 @@ pub(crate) fn cut_plain_line(text: &[u8]) -> Option<(&[u8], &[u8])>
 
 /// The first token of a line, and what follows it.
 #[tactic(auto, using(crate::proofs::LayoutLemmas::words_cut, crate::proofs::LayoutLemmas::words_done))]
-fn cut_word(line: &[u8]) -> Option<(&[u8], &[u8])>
+pub(crate) fn cut_word(line: &[u8]) -> Option<(&[u8], &[u8])>
     ensures { MatchOption result (words line.now ≡ []) (λ cut. words line.now ≡ cut.0.now ∷ words cut.1.now) }
 {
     let rest = after_blanks(line);
@@ -131,23 +131,4 @@ fn cut_word(line: &[u8]) -> Option<(&[u8], &[u8])>
         return None;
     }
     Some(rest.split_at(word_len(rest)))
-}
-
-/// The first token of what is left of a line and of the text behind it, and what is left then.
-pub(crate) fn cut_token<'a>(
-    line: &'a [u8],
-    rest: &'a [u8],
-) -> Option<(&'a [u8], &'a [u8], &'a [u8])>
-    ensures { MatchOption result (tokens_left line.now rest.now ≡ []) (λ cut. tokens_left line.now rest.now ≡ cut.0.now ∷ tokens_left cut.1.now cut.2.now) }
-{
-    let mut left = line;
-    let mut behind = rest;
-    loop {
-        if let Some((token, after)) = cut_word(left) {
-            return Some((token, after, behind));
-        }
-        let (next, after) = cut_plain_line(behind)?;
-        left = next;
-        behind = after;
-    }
 }

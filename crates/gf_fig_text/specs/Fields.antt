@@ -1,15 +1,20 @@
 -- Fields of objects, one after another: the value of each, or the first fault (Xfig, FIG Format 3.2: fields are told apart by their order alone); coordinates within reach are this project's profile.
-use Rattle.std.specs.Prelude.{ℕ, zero, suc, Bool, true, ◌&&◌, List, [], ◌∷◌, Option, Some, None, ⊤, Result, Ok, Err, if◌then◌else◌, ℤ, pos, nat_abs, int_le}
+use Rattle.std.specs.Prelude.{◌≡◌, ℕ, zero, suc, Bool, true, ◌&&◌, List, [], ◌∷◌, Option, Some, None, ⊤, Result, Ok, Err, if◌then◌else◌, ℤ, pos, nat_abs, int_le}
 use Rattle.gf_shape.specs.declared.point.Point.{Point}
 use Rattle.gf_shape.specs.Reach.{is_reached}
-use Rattle.gf_fig_read.specs.Layout.{Token}
-use Rattle.gf_fig_read.specs.Forms.{whole}
-use Rattle.gf_fig_read.specs.declared.faults.FigFault.{FigFault}
-use Rattle.gf_fig_read.specs.declared.faults.FigFault.TheVariants as fault
+use Rattle.gf_fig_text.specs.Layout.{Token}
+use Rattle.gf_fig_text.specs.Forms.{whole}
+use Rattle.gf_fig_text.specs.declared.faults.FigFault.{FigFault}
+use Rattle.gf_fig_text.specs.declared.faults.FigFault.TheVariants as fault
 
 -- a value of the first tokens with the tokens behind them, or the first fault
 abbrev pub Read : Type 0 → Type 0
 Read A = Result (A × List Token) FigFault
+
+-- a call's result and the tokens that it left are those that reading gives
+abbrev pub Steps : {A : Type 0} → Result A FigFault → List Token → Read A → Type 0
+Steps (Ok a) left read = read ≡ Ok (a, left)
+Steps (Err f) left read = read ≡ Err f
 
 -- what the tokens from here on begin with
 abbrev pub Reader : Type 0 → Type 0

@@ -6,8 +6,8 @@ use Rattle.std.proofs.lemmas.List.{length-drop}
 use Rattle.std.proofs.lemmas.List.Sums.{prefix_len-le-length}
 use Rattle.std.proofs.lemmas.Iterator.Adapters.{position_from-zero}
 use Rattle.std.specs.List.{slice_split, onto_first, position_from, position_or_len}
-use Rattle.gf_fig_read.specs.Layout.{is_line_feed, is_blank, is_filled, is_comment, lines, plain, words, tokens}
-use Rattle.gf_fig_read.specs.Stepping.{after_blanks}
+use Rattle.gf_fig_text.specs.Layout.{is_line_feed, is_blank, is_filled, is_comment, lines, plain, words, tokens}
+use Rattle.gf_fig_text.specs.Stepping.{after_blanks}
 
 -- ---- places
 

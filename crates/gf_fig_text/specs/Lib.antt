@@ -1,0 +1,4 @@
+pub mod Layout
+pub mod Forms
+pub mod Fields
+pub mod Stepping

@@ -1,0 +1,15 @@
+//! The text of a FIG drawing as tokens and fields (Xfig, FIG Format 3.2).
+//!
+//! - [`Tokens`]: the tokens of a text's objects, from which fields are read one after another.
+//! - [`whole`]: the number that a token stands for.
+//! - [`FigFault`]: why a FIG text reads as no drawing, the faults of objects among them.
+#![tactic(auto)]
+
+mod faults;
+mod forms;
+mod layout;
+mod tokens;
+
+pub use faults::FigFault;
+pub use forms::whole;
+pub use tokens::Tokens;
