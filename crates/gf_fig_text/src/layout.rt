@@ -2,7 +2,7 @@
 
 ghost use Rattle.std.specs.Prelude.{◌≡◌, ◌<◌, ◌≤◌, [], ◌∷◌, not, length, drop, MatchOption, IfSome, Some, None};
 ghost use Rattle.std.specs.List.{position_from, position_or_len};
-ghost use Rattle.gf_fig_text.specs.Layout.{is_blank, is_line_feed, is_comment, is_version, lines, words, plain, plain_lines};
+ghost use Rattle.gf_fig_text.specs.Layout.{is_blank, is_line_feed, is_comment, is_version, lines, words, plain};
 ghost use Rattle.gf_fig_text.specs.Stepping.{after_blanks};
 
 fn is_blank(b: u8) -> bool

@@ -1,6 +1,6 @@
 //! The tokens of a FIG text, and fields read from them one after another.
 
-ghost use Rattle.std.specs.Prelude.{◌≡◌, ◌≤◌, ◌<◌, [], ◌∷◌, pos, length, drop, nat_eq, MatchOption, IfSome, IfOk, IfErr, IsTrue, Ok, Err, option_copied, false};
+ghost use Rattle.std.specs.Prelude.{◌≡◌, ◌≤◌, ◌<◌, [], ◌∷◌, length, drop, nat_eq, MatchOption, IfSome, IfOk, IfErr, IsTrue, Ok, Err, option_copied, false};
 ghost use Rattle.std.specs.Option.{option_map_or};
 ghost use Rattle.std.specs.Cmp.Lexicographic.{pointwise};
 ghost use Rattle.gf_shape.specs.Reach.{is_reached, is_within_reach};
