@@ -1,25 +1,18 @@
 //! Conflicts of operations, told by their places in a history.
 
-ghost use Rattle.std.specs.Prelude.{◌≡◌, Some, IfSome, option_copied, slice_get};
+ghost use Rattle.std.specs.Prelude.{◌≡◌, IfSome, option_copied};
 ghost use Rattle.gf_ops.specs.Limits.{IsInRange};
 ghost use Rattle.gf_groups.specs.Growing.{both_conflict, conflict_at};
 ghost use Rattle.gf_groups.specs.VersionList.{in_conflict};
 
-use gf_ops::{History, Op, conflicts};
-
-/// The operation at this place.
-pub(crate) fn op_at(history: &History, place: usize) -> Option<&Op>
-    ensures value { option_copied result ≡ slice_get history.now.ops place }
-    ensures in_range { IfSome result (λ op. IsInRange op.now) }
-{
-    history.ops().get(place)
-}
+use crate::timeline::Timeline;
+use gf_ops::{Op, conflicts};
 
 /// Whether the operations at two places conflict.
-pub(crate) fn conflict_at(history: &History, i: usize, j: usize) -> bool
-    ensures { result ≡ conflict_at history.now.ops i j }
+pub fn conflict_at(timeline: &Timeline<'_>, i: usize, j: usize) -> bool
+    ensures { result ≡ conflict_at timeline.now i j }
 {
-    both_conflict(op_at(history, i), op_at(history, j))
+    both_conflict(timeline.get(i), timeline.get(j))
 }
 
 /// Whether both operations are there, and conflict.

@@ -9,32 +9,33 @@ ghost use Rattle.gf_groups.specs.Growing.{rivals, exposed, largest_of, next, gro
 use crate::conflict::conflict_at;
 use crate::places::Places;
 use crate::taken::{count_at, knows_all};
+use crate::timeline::Timeline;
 use gf_ops::{Clock, History};
 use gf_shape::OutOfMemory;
 use indexmap::IndexSet;
 use std::alloc::Global;
 
 /// Whether the operation at this place conflicts with one of the group.
-fn clashes(history: &History, place: usize, group: &[usize]) -> bool
-    ensures { result ≡ clashes (conflict_at history.now.ops) place group.now }
+fn clashes(timeline: &Timeline<'_>, place: usize, group: &[usize]) -> bool
+    ensures { result ≡ clashes (conflict_at timeline.now) place group.now }
 {
     group
         .iter()
-        .any(|other| conflict_at(history, place, *other))
+        .any(|other| conflict_at(timeline, place, *other))
 }
 
 /// Those of the group that do not conflict with the operation at this place, and that one.
 fn part(
     alloc: Global,
-    history: &History,
+    timeline: &Timeline<'_>,
     place: usize,
     group: &[usize],
 ) -> Result<Places, OutOfMemory>
-    ensures { IfOk result (λ places. places ≡ part (conflict_at history.now.ops) place group.now) }
+    ensures { IfOk result (λ places. places ≡ part (conflict_at timeline.now) place group.now) }
 {
     let mut part = Places::new(alloc);
     for other in group {
-        if !conflict_at(history, *other, place) {
+        if !conflict_at(timeline, *other, place) {
             part.push(*other)?;
         }
     }
@@ -43,33 +44,33 @@ fn part(
 }
 
 /// Whether this place is of the group, or its operation conflicts with one of it.
-fn is_covered(history: &History, group: &[usize], place: usize) -> bool
-    ensures { result ≡ is_covered (conflict_at history.now.ops) group.now place }
+fn is_covered(timeline: &Timeline<'_>, group: &[usize], place: usize) -> bool
+    ensures { result ≡ is_covered (conflict_at timeline.now) group.now place }
 {
-    group.iter().any(|other| place == *other || conflict_at(history, place, *other))
+    group.iter().any(|other| place == *other || conflict_at(timeline, place, *other))
 }
 
 /// Whether each of these places is of the group, or its operation conflicts with one of it.
-fn covers(history: &History, places: &[usize], group: &[usize]) -> bool
-    ensures { result ≡ covers (conflict_at history.now.ops) places.now group.now }
+fn covers(timeline: &Timeline<'_>, places: &[usize], group: &[usize]) -> bool
+    ensures { result ≡ covers (conflict_at timeline.now) places.now group.now }
 {
     places
         .iter()
-        .all(|place| is_covered(history, group, *place))
+        .all(|place| is_covered(timeline, group, *place))
 }
 
 /// Those of these places whose operations conflict with the one at a place.
 fn rivals(
     alloc: Global,
-    history: &History,
+    timeline: &Timeline<'_>,
     places: &[usize],
     place: usize,
 ) -> Result<Vec<usize>, OutOfMemory>
-    ensures { IfOk result (λ found. found.items ≡ rivals (conflict_at history.now.ops) places.now place) }
+    ensures { IfOk result (λ found. found.items ≡ rivals (conflict_at timeline.now) places.now place) }
 {
     let mut rivals = Vec::new(alloc);
     for other in places {
-        if conflict_at(history, place, *other) {
+        if conflict_at(timeline, place, *other) {
             rivals.push(*other)?;
         }
     }
@@ -80,16 +81,16 @@ fn rivals(
 /// of the one at a place, and not with that one.
 fn exposed(
     alloc: Global,
-    history: &History,
+    timeline: &Timeline<'_>,
     places: &[usize],
     place: usize,
 ) -> Result<Vec<usize>, OutOfMemory>
-    ensures { IfOk result (λ found. found.items ≡ exposed (conflict_at history.now.ops) places.now place) }
+    ensures { IfOk result (λ found. found.items ≡ exposed (conflict_at timeline.now) places.now place) }
 {
-    let rivals = rivals(alloc, history, places, place)?;
+    let rivals = rivals(alloc, timeline, places, place)?;
     let mut exposed = Vec::new(alloc);
     for other in places {
-        if !conflict_at(history, *other, place) && clashes(history, *other, &rivals) {
+        if !conflict_at(timeline, *other, place) && clashes(timeline, *other, &rivals) {
             exposed.push(*other)?;
         }
     }
@@ -98,14 +99,14 @@ fn exposed(
 
 /// Takes up a part that covers these places, unless it is there.
 fn take_up(
-    history: &History,
+    timeline: &Timeline<'_>,
     exposed: &[usize],
     part: Places,
     parts: &mut IndexSet<Places>,
 ) -> Result<(), OutOfMemory>
-    ensures { OnOk result (parts.new.keys ≡ take_up same_group (covers (conflict_at history.now.ops) exposed.now) parts.old.keys part) }
+    ensures { OnOk result (parts.new.keys ≡ take_up same_group (covers (conflict_at timeline.now) exposed.now) parts.old.keys part) }
 {
-    if covers(history, exposed, part.as_slice()) {
+    if covers(timeline, exposed, part.as_slice()) {
         parts.insert(part)?;
     }
     Ok(())
@@ -114,15 +115,15 @@ fn take_up(
 /// Those of the parts that cover these places, each once.
 fn largest_of(
     alloc: Global,
-    history: &History,
+    timeline: &Timeline<'_>,
     exposed: &[usize],
     parts: Vec<Places>,
 ) -> Result<IndexSet<Places>, OutOfMemory>
-    ensures { IfOk result (λ largest. largest.keys ≡ largest_of (conflict_at history.now.ops) exposed.now parts.items) }
+    ensures { IfOk result (λ largest. largest.keys ≡ largest_of (conflict_at timeline.now) exposed.now parts.items) }
 {
     let mut largest = IndexSet::new(alloc);
     for part in parts {
-        take_up(history, exposed, part, &mut largest)?;
+        take_up(timeline, exposed, part, &mut largest)?;
     }
     Ok(largest)
 }
@@ -131,17 +132,17 @@ fn largest_of(
 /// give.
 fn join(
     alloc: Global,
-    history: &History,
+    timeline: &Timeline<'_>,
     place: usize,
     groups: &mut Vec<Places>,
 ) -> Result<Vec<Places>, OutOfMemory>
-    ensures groups { OnOk result (groups.new.items ≡ map (step (conflict_at history.now.ops) place) groups.old.items) }
-    ensures parts { IfOk result (λ made. made.items ≡ parts (conflict_at history.now.ops) place groups.old.items) }
+    ensures groups { OnOk result (groups.new.items ≡ map (step (conflict_at timeline.now) place) groups.old.items) }
+    ensures parts { IfOk result (λ made. made.items ≡ parts (conflict_at timeline.now) place groups.old.items) }
 {
     let mut parts = Vec::new(alloc);
     for group in groups.iter_mut() {
-        if clashes(history, place, group.as_slice()) {
-            parts.push(part(alloc, history, place, group.as_slice())?)?;
+        if clashes(timeline, place, group.as_slice()) {
+            parts.push(part(alloc, timeline, place, group.as_slice())?)?;
         } else {
             group.push(place)?;
         }
@@ -152,16 +153,16 @@ fn join(
 /// Turns the largest groups of these places into those of these and one more, which comes after them.
 fn grow(
     alloc: Global,
-    history: &History,
+    timeline: &Timeline<'_>,
     places: &[usize],
     place: usize,
     groups: &mut Vec<Places>,
 ) -> Result<(), OutOfMemory>
-    ensures { OnOk result (groups.new.items ≡ next (conflict_at history.now.ops) places.now place groups.old.items) }
+    ensures { OnOk result (groups.new.items ≡ next (conflict_at timeline.now) places.now place groups.old.items) }
 {
-    let exposed = exposed(alloc, history, places, place)?;
-    let parts = join(alloc, history, place, groups)?;
-    for part in largest_of(alloc, history, &exposed, parts)? {
+    let exposed = exposed(alloc, timeline, places, place)?;
+    let parts = join(alloc, timeline, place, groups)?;
+    for part in largest_of(alloc, timeline, &exposed, parts)? {
         groups.push(part)?;
     }
     Ok(())
@@ -189,15 +190,16 @@ pub(crate) fn groups_at(
     requires { IsStrictlySortedBy nat_cmp places.now }
     ensures { IfOk result (λ groups. groups.items ≡ groups_at (conflict_at history.now.ops) places.now) }
 {
+    let timeline = Timeline::of(history);
     let mut groups = Vec::from_array(alloc, [Places::new(alloc)])?;
     let mut taken = Clock([0; 8]);
     for (index, place) in places.iter().enumerate() {
-        if knows_all(history, *place, &taken) {
+        if knows_all(&timeline, *place, &taken) {
             push_to_all(*place, &mut groups)?;
         } else {
-            grow(alloc, history, &places[..index], *place, &mut groups)?;
+            grow(alloc, &timeline, &places[..index], *place, &mut groups)?;
         }
-        count_at(history, *place, &mut taken);
+        count_at(&timeline, *place, &mut taken);
     }
     Ok(groups)
 }

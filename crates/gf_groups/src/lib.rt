@@ -19,6 +19,7 @@ mod listing;
 mod parting;
 mod places;
 mod taken;
+mod timeline;
 
 pub use faults::GroupFault;
 pub use group::{Group, Groups};

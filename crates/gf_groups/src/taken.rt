@@ -5,24 +5,24 @@ ghost use Rattle.gf_ops.specs.Limits.{IsInRange};
 ghost use Rattle.gf_ops.specs.ValidHistory.{IsWithin, Counts};
 ghost use Rattle.gf_groups.specs.Taken.{KnowsAll, CountsMore};
 
-use crate::conflict::op_at;
-use gf_ops::{Clock, History, Op};
+use crate::timeline::Timeline;
+use gf_ops::{Clock, Op};
 
 /// Whether the operation at this place knows all that the clock counts.
-pub(crate) fn knows_all(history: &History, place: usize, taken: &Clock) -> bool
-    ensures { IsTrue result ↔ KnowsAll history.now.ops place taken.now }
+pub(crate) fn knows_all(timeline: &Timeline<'_>, place: usize, taken: &Clock) -> bool
+    ensures { IsTrue result ↔ KnowsAll timeline.now place taken.now }
 {
-    match op_at(history, place) {
+    match timeline.get(place) {
         Some(op) => taken.is_within(&op.past),
         None => false,
     }
 }
 
 /// Counts the operation at this place too.
-pub(crate) fn count_at(history: &History, place: usize, taken: &mut Clock)
-    ensures { CountsMore history.now.ops place taken.old taken.new }
+pub(crate) fn count_at(timeline: &Timeline<'_>, place: usize, taken: &mut Clock)
+    ensures { CountsMore timeline.now place taken.old taken.new }
 {
-    if let Some(op) = op_at(history, place) {
+    if let Some(op) = timeline.get(place) {
         count(op, taken);
     }
 }

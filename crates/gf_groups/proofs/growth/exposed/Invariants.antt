@@ -4,4 +4,4 @@ use Rattle.gf_groups.specs.Growing.{conflict_at, clashes}
 use Rattle.gf_groups.proofs.growth.exposed.Given as goal
 
 abbrev pub invariant-loop-other : goal.invariant-loop-other
-invariant-loop-other l = l.exposed.items ≡ filter (λ a. not (conflict_at l.history.ops a l.place) && clashes (conflict_at l.history.ops) a l.rivals.items) (take l.other-index l.places)
+invariant-loop-other l = l.exposed.items ≡ filter (λ a. not (conflict_at l.timeline a l.place) && clashes (conflict_at l.timeline) a l.rivals.items) (take l.other-index l.places)

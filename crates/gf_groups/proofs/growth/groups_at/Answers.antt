@@ -12,7 +12,7 @@ use Rattle.gf_groups.proofs.growth.groups_at.Goals.{then-knows_all+in_ok-push_to
 
 pub loop-index-preserved : goal.loop-index-preserved
 loop-index-preserved c =
-    let h = c.args.history.now.ops in
+    let h = c.of-timeline.result in
     let us = take c.loop-index.index c.args.places.now in
     let x = get_or c.args.places.now c.loop-index.index 0 in
     let all : take (c.loop-index.index + 1) c.args.places.now ≡ us ++ x ∷ [] = take_more c.args.places.now c.loop-index.index 0 c.loop-index-test.true in

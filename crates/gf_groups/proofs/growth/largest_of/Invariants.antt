@@ -6,5 +6,5 @@ use Rattle.gf_groups.proofs.growth.largest_of.Given as goal
 
 abbrev pub invariant-loop-part : goal.invariant-loop-part
 invariant-loop-part l =
-    fold (take_up same_group (covers (conflict_at l.history.ops) l.exposed)) l.largest.keys (into_iter_items l.part-iterator)
-    ≡ fold (take_up same_group (covers (conflict_at l.history.ops) l.exposed)) l.initial.largest.keys (into_iter_items l.initial.part-iterator)
+    fold (take_up same_group (covers (conflict_at l.timeline) l.exposed)) l.largest.keys (into_iter_items l.part-iterator)
+    ≡ fold (take_up same_group (covers (conflict_at l.timeline) l.exposed)) l.initial.largest.keys (into_iter_items l.initial.part-iterator)
