@@ -1,5 +1,5 @@
 -- The groups of all objects with their places are all versions, each once.
-use Rattle.std.proofs.Common.{◌≡◌, ◌≢◌, ℕ, zero, suc, true, List, [], ◌∷◌, ◌++◌, length, get_or, refl, sym, ap, subst, ◌∙◌, inl, inr, arith}
+use Rattle.std.proofs.Common.{◌≡◌, ◌≢◌, ℕ, zero, true, List, [], ◌∷◌, length, refl, sym, ap, subst, ◌∙◌, inl, inr, arith}
 use Rattle.std.specs.Prelude.{◌↔◌, All, AllPairs, Contains, slice_get}
 use Rattle.std.specs.BTreeMap.{BTreeMap, IsOrdered}
 use Rattle.std.specs.List.{flat_map}
@@ -18,8 +18,11 @@ use Rattle.gf_ops.specs.ValidHistory.{IsValid}
 use Rattle.gf_ops.proofs.ListLemmas.{Contains-cons_cases, Contains-cons_head, Contains-cons_tail, Contains-map, not_Contains-nil}
 use Rattle.gf_groups.specs.declared.group.Group.{Group}
 use Rattle.gf_groups.specs.Versions.{IsMade, IsVersionGroup, AreAllVersions}
+use Rattle.gf_groups.specs.Growing.{conflict_at, groups_at}
+use Rattle.gf_groups.specs.Tables.{IsTable}
 use Rattle.gf_groups.specs.GroupedPlaces.{is_on, places_below, groups_on}
 use Rattle.gf_groups.specs.Parting.{object_cmp, HasPlacesBelow, HasAllPlaces, groups_of_entries}
+use Rattle.gf_groups.proofs.TableLemmas.{conflict_at_test, table_groups}
 use Rattle.gf_groups.proofs.GroupLemmas.{groups_once, group_on, groups_exactly}
 use Rattle.gf_groups.proofs.OnPlaceLemmas.{on_op, on_to, all_places, contained_at, place_of_op}
 use Rattle.gf_groups.proofs.PartingLemmas.{object_cmp_total, entries_parts, entry_place, entry_of}
@@ -62,14 +65,17 @@ module _ (h : List Op) (valid : IsValid h) where
   abbrev parted : ObjectId × List ℕ → List Group
   parted e = groups_on h e.0 e.1
 
+  table : (o : ObjectId) → IsTable (conflict_at h) (places o) (groups_at (conflict_at h) (places o))
+  table o = table_groups (conflict_at h) (conflict_at_test h) (places o) (places_below-rising h o (length h))
+
   made_at : (o : ObjectId) (i : ℕ) → Contains (places o) i → IsMade h o
   made_at o i c = let a = on_op o (slice_get h i) ((all_places h o i).0 c) in subst (IsMade h) a.2 (made_by_op h valid a.0 (contained_at h i a.0 a.1))
 
   part_object : (e : ObjectId × List ℕ) (g : Group) → HasAllPlaces h e → Contains (parted e) g → g.object ≡ e.0
-  part_object e g p c = group_on h valid e.0 (places e.0) (all_places h e.0) (places_below-rising h e.0 (length h)) g (subst (λ us. Contains (groups_on h e.0 us) g) p c)
+  part_object e g p c = group_on h valid e.0 (places e.0) (all_places h e.0) (places_below-rising h e.0 (length h)) (groups_at (conflict_at h) (places e.0)) (table e.0) g (subst (λ us. Contains (groups_on h e.0 us) g) p c)
 
   part_once : (e : ObjectId × List ℕ) → HasAllPlaces h e → AllPairs (λ g k. g ≢ k) (parted e)
-  part_once e p = subst (λ us. AllPairs (λ g k. g ≢ k) (groups_on h e.0 us)) (sym p) (groups_once h valid e.0 (places e.0) (all_places h e.0) (places_below-rising h e.0 (length h)))
+  part_once e p = subst (λ us. AllPairs (λ g k. g ≢ k) (groups_on h e.0 us)) (sym p) (groups_once h valid e.0 (places e.0) (all_places h e.0) (places_below-rising h e.0 (length h)) (groups_at (conflict_at h) (places e.0)) (table e.0))
 
   -- the objects of two entries differ, so do their groups
   parts_once : (es : List (ObjectId × List ℕ)) → IsStrictlySortedBy object_cmp (keys_of es) → All (HasAllPlaces h) es → AllPairs (λ g k. g ≢ k) (groups_of_entries h es)
@@ -86,7 +92,7 @@ module _ (h : List Op) (valid : IsValid h) where
       let itself = tied_itself object_cmp_total e.0 in absurd cc)
 
   exactly : (o : ObjectId) (i : ℕ) → Contains (places o) i → (g : Group) → Contains (groups o) g ↔ ((g.object ≡ o) × IsVersionGroup h g)
-  exactly o i c g = groups_exactly h valid o (places o) (all_places h o) (places_below-rising h o (length h)) (made_at o i c) g
+  exactly o i c g = groups_exactly h valid o (places o) (all_places h o) (places_below-rising h o (length h)) (groups_at (conflict_at h) (places o)) (table o) (made_at o i c) g
 
   pub all_versions : (m : BTreeMap ObjectId (List ℕ)) → IsOrdered object_cmp m → HasPlacesBelow h (length h) m → AreAllVersions h (groups_of_entries h m.entries)
   all_versions m ordered parts =

@@ -4,9 +4,10 @@ use Rattle.std.specs.Prelude.{◌⊎◌, Contains}
 use Rattle.std.specs.List.{list_any}
 use Rattle.std.proofs.lemmas.Bool.{cases_Bool}
 use Rattle.std.proofs.lemmas.List.Elements.{Contains-append_left, Contains-append_right, Contains-push_cases}
-use Rattle.gf_groups.proofs.LargestLemmas.{Hits, IsConflict}
+use Rattle.gf_groups.proofs.LargestLemmas.{IsConflict}
 use Rattle.gf_ops.proofs.ListLemmas.{Contains-cons_cases, Contains-cons_head, not_Contains-nil}
 use Rattle.gf_groups.proofs.ListLemmas.{list_any_true, list_any_false}
+use Rattle.gf_groups.specs.Tables.{Hits}
 
 module _ {X : Type 0} (c : X → X → Bool) (s : IsConflict c) where
   abbrev IsCompatible : List X → Type 0

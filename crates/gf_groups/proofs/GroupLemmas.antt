@@ -1,5 +1,5 @@
--- The groups that are made of an object's places are its versions, each once.
-use Rattle.std.proofs.Common.{◌≡◌, ◌≢◌, ℕ, true, false, List, get_or, refl, sym, ap, subst, ◌∙◌, inl, inr, arith}
+-- The groups of any table of an object's places are its versions, each once.
+use Rattle.std.proofs.Common.{◌≡◌, ◌≢◌, ℕ, true, false, List, map, get_or, refl, sym, ap, subst, ◌∙◌, inl, inr, arith}
 use Rattle.std.specs.Prelude.{◌↔◌, AllPairs, Contains, slice_get}
 use Rattle.std.specs.Cmp.{IsTotalOrder}
 use Rattle.std.specs.FinMap.{slice_cmp-IsAntisymmetric}
@@ -16,15 +16,14 @@ use Rattle.gf_ops.specs.Version.{IsVersion}
 use Rattle.gf_ops.proofs.ListLemmas.{Contains-map, Contains-map_from}
 use Rattle.gf_groups.specs.declared.group.Group.{Group}
 use Rattle.gf_groups.specs.Versions.{IsMade, IsVersionGroup, AreVersions, group_cmp}
-use Rattle.gf_groups.specs.Growing.{conflict_at, groups_at}
-use Rattle.gf_groups.specs.GroupedPlaces.{is_on, rising_ids, group_at, groups_on}
-use Rattle.gf_groups.proofs.GrowingLemmas.{IsRising, IsTable}
+use Rattle.gf_groups.specs.Growing.{conflict_at}
+use Rattle.gf_groups.specs.GroupedPlaces.{is_on, rising_ids, group_at}
+use Rattle.gf_groups.specs.Tables.{IsRising, IsTable}
 use Rattle.gf_groups.proofs.IdLemmas.{id_cmp_total, id_cmp_exact}
 use Rattle.gf_groups.proofs.IdPlaceLemmas.{Contains-rising_ids, same_place}
 use Rattle.gf_groups.proofs.OnPlaceLemmas.{on_op}
 use Rattle.gf_groups.proofs.RisingLemmas.{one_rising}
 use Rattle.gf_groups.proofs.SortedLemmas.{ties, equal_left, rising_sorted}
-use Rattle.gf_groups.proofs.TableLemmas.{conflict_at_test, table_groups}
 use Rattle.gf_groups.proofs.TakingLemmas.{AllPairs-map}
 use Rattle.gf_groups.proofs.VersionLemmas.{version_of_largest, largest_of_version, same_ids, places_in, places_in-rising}
 
@@ -32,9 +31,9 @@ pub group_cmp_total : IsTotalOrder group_cmp
 group_cmp_total = on_total (λ (g : Group). g.ops) (lists_total id_cmp_total)
 
 -- us are the places of all operations of h on the object o
-module _ (h : List Op) (valid : IsValid h) (o : ObjectId) (us : List ℕ) (all : (i : ℕ) → Contains us i ↔ (is_on o (slice_get h i) ≡ true)) (form : IsRising us) where
-  table : IsTable (conflict_at h) us (groups_at (conflict_at h) us)
-  table = table_groups (conflict_at h) (conflict_at_test h) us form
+module _ (h : List Op) (valid : IsValid h) (o : ObjectId) (us : List ℕ) (all : (i : ℕ) → Contains us i ↔ (is_on o (slice_get h i) ≡ true)) (form : IsRising us) (gs : List (List ℕ)) (table : IsTable (conflict_at h) us gs) where
+  abbrev groups : List Group
+  groups = map (group_at h o) gs
 
   -- two groups of places with the same ids have the same places
   same_places : (g k : List ℕ) → ((i : ℕ) → Contains g i → Contains us i) → rising_ids h g ≡ rising_ids h k → (i : ℕ) → Contains g i → Contains k i
@@ -44,22 +43,22 @@ module _ (h : List Op) (valid : IsValid h) (o : ObjectId) (us : List ℕ) (all :
       let t = (Contains-rising_ids h k a.0.id).0 (subst (λ ids. Contains ids a.0.id) e here) in
       subst (Contains k) (same_place h valid t.place i t.op a.0 t.at a.1 t.id) t.contained
 
-  same_group_at : (g k : List ℕ) → Contains (groups_at (conflict_at h) us) g → Contains (groups_at (conflict_at h) us) k → group_at h o g ≡ group_at h o k → g ≡ k
+  same_group_at : (g k : List ℕ) → Contains gs g → Contains gs k → group_at h o g ≡ group_at h o k → g ≡ k
   same_group_at g k x y e =
       let m = (table.each g).0 x in let n = (table.each k).0 y in
       let ids = ap (λ (z : Group). z.ops) e in
       one_rising nat_cmp nat_cmp_total g k m.0 n.0 (λ i. (same_places g k m.1.within ids i, same_places k g n.1.within (sym ids) i))
 
-  pub groups_once : AllPairs (λ g k. g ≢ k) (groups_on h o us)
-  groups_once = AllPairs-map (group_at h o) (groups_at (conflict_at h) us) same_group_at table.once
+  pub groups_once : AllPairs (λ g k. g ≢ k) (map (group_at h o) gs)
+  groups_once = AllPairs-map (group_at h o) gs same_group_at table.once
 
-  pub group_on : (g : Group) → Contains (groups_on h o us) g → g.object ≡ o
-  group_on g c = ap (λ (k : Group). k.object) ((Contains-map_from (group_at h o) (groups_at (conflict_at h) us) g c).2)
+  pub group_on : (g : Group) → Contains (map (group_at h o) gs) g → g.object ≡ o
+  group_on g c = ap (λ (k : Group). k.object) ((Contains-map_from (group_at h o) gs g c).2)
 
-  pub groups_exactly : IsMade h o → (g : Group) → Contains (groups_on h o us) g ↔ ((g.object ≡ o) × IsVersionGroup h g)
+  pub groups_exactly : IsMade h o → (g : Group) → Contains (map (group_at h o) gs) g ↔ ((g.object ≡ o) × IsVersionGroup h g)
   groups_exactly made g = (
     λ c.
-        let w = Contains-map_from (group_at h o) (groups_at (conflict_at h) us) g c in
+        let w = Contains-map_from (group_at h o) gs g c in
         let m = (table.each w.0).0 w.1 in
         (ap (λ (k : Group). k.object) w.2, subst (IsVersionGroup h) (sym w.2) (version_of_largest h valid o us all made w.0 m.1)),
     λ t.
@@ -68,14 +67,14 @@ module _ (h : List Op) (valid : IsValid h) (o : ObjectId) (us : List ℕ) (all :
         let in_table = (table.each places).1 (places_in-rising h valid o us all form g.ops, largest_of_version h valid o us all g.ops v) in
         let ids = same_ids h valid o us all g.ops v in
         let e : group_at h o places ≡ g = λ i. record { object = sym t.0 i; ops = ids i } in
-        subst (Contains (groups_on h o us)) e (Contains-map (group_at h o) (groups_at (conflict_at h) us) places in_table),
+        subst (Contains groups) e (Contains-map (group_at h o) gs places in_table),
   )
 
-  no_ties : AllPairs (λ g k. ties group_cmp group_cmp_total g k ≡ false) (groups_on h o us)
+  no_ties : AllPairs (λ g k. ties group_cmp group_cmp_total g k ≡ false) groups
   no_ties i j d below inside =
-      let a = get_or (groups_on h o us) i d in let b = get_or (groups_on h o us) j d in
-      let x = group_on a (Contains-get_or (groups_on h o us) i d (omega arith)) in
-      let y = group_on b (Contains-get_or (groups_on h o us) j d inside) in
+      let a = get_or groups i d in let b = get_or groups j d in
+      let x = group_on a (Contains-get_or groups i d (omega arith)) in
+      let y = group_on b (Contains-get_or groups j d inside) in
       elim (cases_Bool (ties group_cmp group_cmp_total a b)) [
         | inl t ↦
             let ops = slice_cmp-IsAntisymmetric id_cmp_exact a.ops b.ops (equal_left (group_cmp a b) t) in
@@ -86,11 +85,11 @@ module _ (h : List Op) (valid : IsValid h) (o : ObjectId) (us : List ℕ) (all :
       ]
 
   -- sorted, they are listed
-  pub versions_sorted : IsMade h o → (groups : List Group) → IsPermutation (groups_on h o us) groups → IsSorted group_cmp groups → AreVersions h o groups
-  versions_sorted made groups moved sorted = record {
+  pub versions_sorted : IsMade h o → (listed : List Group) → IsPermutation (map (group_at h o) gs) listed → IsSorted group_cmp listed → AreVersions h o listed
+  versions_sorted made listed moved sorted = record {
     exactly = λ g. (
-      λ c. (groups_exactly made g).0 (Contains-permutation groups (groups_on h o us) g (IsPermutation-sym (groups_on h o us) groups moved) c),
-      λ t. Contains-permutation (groups_on h o us) groups g moved ((groups_exactly made g).1 t),
+      λ c. (groups_exactly made g).0 (Contains-permutation listed groups g (IsPermutation-sym groups listed moved) c),
+      λ t. Contains-permutation groups listed g moved ((groups_exactly made g).1 t),
     );
-    rising = rising_sorted group_cmp group_cmp_total (groups_on h o us) groups no_ties moved sorted;
+    rising = rising_sorted group_cmp group_cmp_total groups listed no_ties moved sorted;
   }

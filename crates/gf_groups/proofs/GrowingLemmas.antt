@@ -1,8 +1,7 @@
 -- The list of all largest compatible groups, each once, grows by one place.
 use Rattle.std.proofs.Common.{◌≡◌, ◌≢◌, ℕ, ◌<◌, Bool, true, false, List, [], ◌∷◌, ◌++◌, map, inl, inr, refl, subst, sym, ◌∙◌, arith}
-use Rattle.std.specs.Prelude.{◌⊎◌, ◌↔◌, AllPairs, Contains, filter, not, ◌&&◌, ◌||◌, ◌==◌}
+use Rattle.std.specs.Prelude.{◌⊎◌, ◌↔◌, Contains, filter, not, ◌&&◌, ◌||◌, ◌==◌}
 use Rattle.std.specs.List.{list_any}
-use Rattle.std.specs.List.Sorted.{IsStrictlySortedBy}
 use Rattle.std.specs.Bool.{Decides}
 use Rattle.std.specs.Cmp.{nat_cmp_is}
 use Rattle.std.specs.Ordering.{nat_cmp}
@@ -15,19 +14,12 @@ use Rattle.std.proofs.lemmas.List.Kept.{IsStrictlySortedBy-filter}
 use Rattle.std.proofs.lemmas.Slice.Eq.{slice_eq-Decides}
 use Rattle.gf_ops.proofs.ListLemmas.{Contains-cons_cases, Contains-cons_head, not_Contains-nil, Contains-map, Contains-map_from}
 use Rattle.gf_groups.specs.Growing.{same_group, clashes, step, part, parts, is_covered, covers, rivals, exposed, largest_of, next}
-use Rattle.gf_groups.proofs.LargestLemmas.{Hits, With, Part, IsLargest, IsConflict, largest_with, largest_stays, largest_was, largest_is_part, compatible_part, largest_alike}
+use Rattle.gf_groups.specs.Tables.{Hits, IsLargest, IsRising, IsTable}
+use Rattle.gf_groups.proofs.LargestLemmas.{With, Part, IsConflict, largest_with, largest_stays, largest_was, largest_is_part, compatible_part, largest_alike}
 use Rattle.gf_groups.proofs.ListLemmas.{Contains-filter, list_any_true, list_any_false, list_any_from, list_all_true, list_all_from}
 use Rattle.gf_groups.proofs.RisingLemmas.{one_rising, rising_nil, rising_push}
 use Rattle.gf_groups.proofs.TakingLemmas.{AllPairs-append, AllPairs-map, taken_up, IsTakenUp}
 use Rattle.gf_groups.proofs.ExtendingLemmas.{extended}
-
-abbrev pub IsRising : List ℕ → Type 0
-IsRising g = IsStrictlySortedBy nat_cmp g
-
--- gs are the largest compatible groups of us, each once
-pub record IsTable (c : ℕ → ℕ → Bool) (us : List ℕ) (gs : List (List ℕ)) : Type 0 where
-  pub each : (g : List ℕ) → Contains gs g ↔ (IsRising g × IsLargest c (Contains us) (Contains g))
-  pub once : AllPairs (λ g h. g ≢ h) gs
 
 -- nothing has one group, the empty one
 pub table_first : (c : ℕ → ℕ → Bool) → IsTable c [] ([] ∷ [])

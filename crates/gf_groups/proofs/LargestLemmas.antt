@@ -1,18 +1,9 @@
 -- Largest compatible groups, as predicates, when the universe grows by one element.
 use Rattle.std.proofs.Common.{◌≡◌, Bool, true, false, inl, inr, subst, sym}
 use Rattle.std.specs.Prelude.{◌⊎◌, ◌↔◌}
+use Rattle.gf_groups.specs.Tables.{Hits, IsLargest}
 
 module _ {X : Type 0} (c : X → X → Bool) where
-  -- a conflicts with a member of p
-  abbrev pub Hits : (X → Type 0) → X → Type 0
-  Hits p a = (b : X) × p b × (c a b ≡ true)
-
-  -- p is a largest compatible part of U
-  pub record IsLargest (U p : X → Type 0) : Type 0 where
-    pub within : (a : X) → p a → U a
-    pub compatible : (a b : X) → p a → p b → c a b ≡ false
-    pub largest : (a : X) → U a → p a ⊎ Hits p a
-
   -- p and x
   abbrev pub With : (X → Type 0) → X → X → Type 0
   With p x a = p a ⊎ (a ≡ x)
@@ -35,7 +26,7 @@ module _ {X : Type 0} (c : X → X → Bool) where
   compatible_with s p x k f a b (inr e) (inr d) = let j = s.alone x in cc
 
   -- a group that is compatible with x gets x
-  pub largest_with : IsConflict → (U p : X → Type 0) (x : X) → IsLargest U p → ((a : X) → p a → c a x ≡ false) → IsLargest (With U x) (With p x)
+  pub largest_with : IsConflict → (U p : X → Type 0) (x : X) → IsLargest c U p → ((a : X) → p a → c a x ≡ false) → IsLargest c (With U x) (With p x)
   largest_with s U p x m f = record {
     within = λ a h. elim h [ inl g ↦ inl (m.within a g) | inr e ↦ inr e ];
     compatible = compatible_with s p x m.compatible f;
@@ -46,18 +37,18 @@ module _ {X : Type 0} (c : X → X → Bool) where
   }
 
   -- a group that conflicts with x stays
-  pub largest_stays : (U p : X → Type 0) (x : X) → IsLargest U p → Hits p x → IsLargest (With U x) p
+  pub largest_stays : (U p : X → Type 0) (x : X) → IsLargest c U p → Hits c p x → IsLargest c (With U x) p
   largest_stays U p x m hit = record {
     within = λ a h. inl (m.within a h);
     compatible = m.compatible;
     largest = λ a h. elim h [
       | inl u ↦ m.largest a u
-      | inr e ↦ inr (subst (Hits p) (sym e) hit)
+      | inr e ↦ inr (subst (Hits c p) (sym e) hit)
     ];
   }
 
   -- a largest group that conflicts with x was one before
-  pub largest_was : IsConflict → (U q : X → Type 0) (x : X) → IsLargest (With U x) q → Hits q x → IsLargest U q
+  pub largest_was : IsConflict → (U q : X → Type 0) (x : X) → IsLargest c (With U x) q → Hits c q x → IsLargest c U q
   largest_was s U q x m hit = record {
     within = λ a h. elim (m.within a h) [ inl u ↦ u | inr e ↦ let k = m.compatible a hit.0 h hit.1 in let i = hit.2 in cc ];
     compatible = m.compatible;
@@ -65,7 +56,7 @@ module _ {X : Type 0} (c : X → X → Bool) where
   }
 
   -- a largest group that holds x is the part of any larger old group, with x
-  pub largest_is_part : IsConflict → (U p q : X → Type 0) (x : X) → IsLargest (With U x) q → q x → IsLargest U p → ((a : X) → q a → U a → p a) → (a : X) → q a ↔ Part p x a
+  pub largest_is_part : IsConflict → (U p q : X → Type 0) (x : X) → IsLargest c (With U x) q → q x → IsLargest c U p → ((a : X) → q a → U a → p a) → (a : X) → q a ↔ Part p x a
   largest_is_part s U p q x m here old more a = (
     λ h. elim (m.within a h) [ inl u ↦ inl (more a h u, m.compatible a x h here) | inr e ↦ inr e ],
     λ h. elim h [
@@ -84,7 +75,7 @@ module _ {X : Type 0} (c : X → X → Bool) where
   compatible_part s p x k = compatible_with s (λ a. p a × (c a x ≡ false)) x (λ a b h g. k a b h.0 g.0) (λ a h. h.1)
 
   -- the same sets, told in other words
-  pub largest_alike : (U V p q : X → Type 0) → ((a : X) → U a ↔ V a) → ((a : X) → p a ↔ q a) → IsLargest U p → IsLargest V q
+  pub largest_alike : (U V p q : X → Type 0) → ((a : X) → U a ↔ V a) → ((a : X) → p a ↔ q a) → IsLargest c U p → IsLargest c V q
   largest_alike U V p q us ps m = record {
     within = λ a h. (us a).0 (m.within a ((ps a).1 h));
     compatible = λ a b h g. m.compatible a b ((ps a).1 h) ((ps b).1 g);

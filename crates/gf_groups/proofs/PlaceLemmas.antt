@@ -15,7 +15,7 @@ use Rattle.gf_ops.specs.declared.op.ObjectId.{ObjectId}
 use Rattle.gf_ops.specs.Attribute.{object_of}
 use Rattle.gf_groups.specs.GroupedPlaces.{is_on, places_below}
 use Rattle.gf_groups.specs.VersionList.{id_eq}
-use Rattle.gf_groups.proofs.GrowingLemmas.{IsRising}
+use Rattle.gf_groups.specs.Tables.{IsRising}
 use Rattle.gf_groups.proofs.RisingLemmas.{rising_nil, rising_push}
 
 -- what `get` gives

@@ -9,8 +9,9 @@ use Rattle.std.proofs.lemmas.List.{append-nil}
 use Rattle.std.proofs.lemmas.List.Elements.{All-weaker, All-contains_itself}
 use Rattle.gf_ops.specs.declared.op.Op.{Op}
 use Rattle.gf_groups.specs.Growing.{both_conflict, conflict_at, next, grown, groups_at}
+use Rattle.gf_groups.specs.Tables.{IsRising, IsTable}
 use Rattle.gf_groups.proofs.ConflictTestLemmas.{in_conflict-sym, in_conflict-alone}
-use Rattle.gf_groups.proofs.GrowingLemmas.{IsRising, IsTable, table_first, table_next}
+use Rattle.gf_groups.proofs.GrowingLemmas.{table_first, table_next}
 use Rattle.gf_groups.proofs.LargestLemmas.{IsConflict}
 use Rattle.gf_groups.proofs.RisingLemmas.{rising_front, rising_below}
 
@@ -46,7 +47,8 @@ module _ (c : ℕ → ℕ → Bool) (s : IsConflict c) where
   pub table_groups : (xs : List ℕ) → IsRising xs → IsTable c xs (groups_at c xs)
   table_groups xs form = table_grown [] xs ([] ∷ []) (table_first c) form
 
+pub table_rises : (c : ℕ → ℕ → Bool) (us : List ℕ) (gs : List (List ℕ)) → IsTable c us gs → All IsRising gs
+table_rises c us gs table = All-weaker (Contains gs) IsRising (λ g i. ((table.each g).0 i).0) gs (All-contains_itself gs)
+
 pub groups_rise : (h : List Op) (xs : List ℕ) → IsRising xs → All IsRising (groups_at (conflict_at h) xs)
-groups_rise h xs form =
-    let table = table_groups (conflict_at h) (conflict_at_test h) xs form in
-    All-weaker (Contains (groups_at (conflict_at h) xs)) IsRising (λ g i. ((table.each g).0 i).0) (groups_at (conflict_at h) xs) (All-contains_itself (groups_at (conflict_at h) xs))
+groups_rise h xs form = table_rises (conflict_at h) xs (groups_at (conflict_at h) xs) (table_groups (conflict_at h) (conflict_at_test h) xs form)

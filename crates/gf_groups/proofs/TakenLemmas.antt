@@ -9,7 +9,7 @@ use Rattle.gf_ops.specs.declared.op.Clock.{Clock}
 use Rattle.gf_ops.proofs.ListLemmas.{Contains-cons_head, Contains-cons_tail}
 use Rattle.gf_groups.specs.Growing.{conflict_at, clashes, step, part, exposed, largest_of, next, pushed, grown, groups_at}
 use Rattle.gf_groups.specs.Taken.{KnowsAll, CountsMore, CountsAll}
-use Rattle.gf_groups.proofs.GrowingLemmas.{IsRising}
+use Rattle.gf_groups.specs.Tables.{IsRising}
 use Rattle.gf_groups.proofs.ListLemmas.{list_any_true}
 use Rattle.gf_groups.proofs.OnPlaceLemmas.{conflict_with}
 use Rattle.gf_groups.proofs.TableLemmas.{conflict_at_test, table_groups}

@@ -4,3 +4,4 @@ pub mod Growing
 pub mod GroupedPlaces
 pub mod Parting
 pub mod Taken
+pub mod Tables

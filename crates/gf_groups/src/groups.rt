@@ -1,13 +1,17 @@
 //! The versions of one object of a history, and those of all.
 
-ghost use Rattle.std.specs.Prelude.{◌≡◌, ◌↔◌, Err, IfOk, IsTrue, OnOk};
+ghost use Rattle.std.specs.Prelude.{◌≡◌, ◌↔◌, length, Err, IfOk, IsTrue, OnOk};
 ghost use Rattle.std.specs.List.Sorted.{IsPermutation, IsSorted};
 ghost use Rattle.gf_groups.specs.declared.faults.GroupFault.{GroupFault};
+ghost use Rattle.gf_groups.specs.Growing.{conflict_at};
+ghost use Rattle.gf_groups.specs.GroupedPlaces.{places_below};
+ghost use Rattle.gf_groups.specs.Tables.{IsTable};
 ghost use Rattle.gf_groups.specs.Versions.{IsMade, AreVersions, AreAllVersions, group_cmp};
 
+use crate::growth::groups_at;
 use crate::listing::{add_groups, places_on};
 use crate::parting::parted;
-use crate::{Group, GroupFault, Groups};
+use crate::{Group, GroupFault, Groups, Places};
 use gf_ops::{Change, History, ObjectId};
 use gf_shape::OutOfMemory;
 use std::alloc::Global;
@@ -22,8 +26,8 @@ pub fn groups_of(alloc: Global, history: &History, object: ObjectId) -> Result<G
     if !is_made(history, object) {
         return Err(GroupFault::NoObject);
     }
-    match sorted_groups(alloc, history, object) {
-        Ok(groups) => Ok(Groups::new(groups)),
+    match made_groups(alloc, history, object) {
+        Ok(groups) => Ok(groups),
         Err(OutOfMemory) => Err(GroupFault::OutOfMemory),
     }
 }
@@ -35,13 +39,14 @@ pub fn all_groups(alloc: Global, history: &History) -> Result<Groups, OutOfMemor
     let parts = parted(alloc, history.ops())?;
     let mut groups = Vec::new(alloc);
     for (object, places) in &parts {
-        add_groups(alloc, history, *object, places.as_slice(), &mut groups)?;
+        let sets = groups_at(alloc, history, places.as_slice())?;
+        add_groups(alloc, history, *object, sets, &mut groups)?;
     }
     Ok(Groups::new(groups))
 }
 
 /// Whether the history has an operation that made the object.
-fn is_made(history: &History, object: ObjectId) -> bool
+pub fn is_made(history: &History, object: ObjectId) -> bool
     ensures { IsTrue result ↔ IsMade history.now.ops object }
 {
     // Its clause says that the history is valid.
@@ -52,20 +57,34 @@ fn is_made(history: &History, object: ObjectId) -> bool
     }
 }
 
-/// The versions of an object that the history made, rising by their ids.
-fn sorted_groups(
+/// The versions of an object that the history made.
+fn made_groups(alloc: Global, history: &History, object: ObjectId) -> Result<Groups, OutOfMemory>
+    requires { IsMade history.now.ops object }
+    ensures { IfOk result (λ groups. AreVersions history.now.ops object groups) }
+{
+    let places = places_on(alloc, history.ops(), object)?;
+    let sets = groups_at(alloc, history, &places)?;
+    groups_from(alloc, history, object, sets)
+}
+
+/// The versions of an object that the history made, from the largest compatible sets of the places
+/// of its operations.
+pub fn groups_from(
     alloc: Global,
     history: &History,
     object: ObjectId,
-) -> Result<Vec<Group>, OutOfMemory>
-    requires { IsMade history.now.ops object }
-    ensures { IfOk result (λ groups. AreVersions history.now.ops object groups.items) }
+    sets: Vec<Places>,
+) -> Result<Groups, OutOfMemory>
+    requires made { IsMade history.now.ops object }
+    requires table { IsTable (conflict_at history.now.ops) (places_below history.now.ops object (length history.now.ops)) sets.items }
+    ensures { IfOk result (λ groups. AreVersions history.now.ops object groups) }
 {
-    let places = places_on(alloc, history.ops(), object)?;
+    // Its clause says that the history is valid.
+    let _ = history.ops();
     let mut groups = Vec::new(alloc);
-    add_groups(alloc, history, object, &places, &mut groups)?;
+    add_groups(alloc, history, object, sets, &mut groups)?;
     sort(&mut groups)?;
-    Ok(groups)
+    Ok(Groups::new(groups))
 }
 
 /// Puts the groups in the order of their ids.

@@ -16,7 +16,7 @@ use indexmap::IndexSet;
 use std::alloc::Global;
 
 /// Whether the operation at this place conflicts with one of the group.
-fn clashes(timeline: &Timeline<'_>, place: usize, group: &[usize]) -> bool
+pub fn clashes(timeline: &Timeline<'_>, place: usize, group: &[usize]) -> bool
     ensures { result ≡ clashes (conflict_at timeline.now) place group.now }
 {
     group
@@ -60,7 +60,7 @@ fn covers(timeline: &Timeline<'_>, places: &[usize], group: &[usize]) -> bool
 }
 
 /// Those of these places whose operations conflict with the one at a place.
-fn rivals(
+pub fn rivals(
     alloc: Global,
     timeline: &Timeline<'_>,
     places: &[usize],
@@ -151,7 +151,7 @@ fn join(
 }
 
 /// Turns the largest groups of these places into those of these and one more, which comes after them.
-fn grow(
+pub fn grow(
     alloc: Global,
     timeline: &Timeline<'_>,
     places: &[usize],
@@ -182,7 +182,7 @@ fn push_to_all(place: usize, groups: &mut Vec<Places>) -> Result<(), OutOfMemory
 ///
 /// An operation that knows all those before it conflicts with none of them, so it joins each group
 /// without a look at what they have.
-pub(crate) fn groups_at(
+pub fn groups_at(
     alloc: Global,
     history: &History,
     places: &[usize],

@@ -6,6 +6,10 @@
 //! - [`all_groups`]: those of all objects of a history.
 //! - [`GroupFault`]: why there is no such list.
 //! - [`the_versions_are_a_list_that_computes`]: the law.
+//!
+//! What a table that grows is made of: [`Places`] of operations in a [`Timeline`], whether those of two
+//! [conflict](conflict_at), [`clashes`] and [`rivals`] of one, [`groups_at`] places and how they
+//! [`grow`], and the groups of an object [from](groups_from) its sets.
 #![tactic(auto)]
 
 mod conflict;
@@ -21,8 +25,12 @@ mod places;
 mod taken;
 mod timeline;
 
+pub use conflict::conflict_at;
 pub use faults::GroupFault;
 pub use group::{Group, Groups};
-pub use groups::{all_groups, groups_of};
+pub use groups::{all_groups, groups_from, groups_of, is_made};
+pub use growth::{clashes, groups_at, grow, rivals};
 pub use ids::Ids;
 pub use laws::the_versions_are_a_list_that_computes;
+pub use places::Places;
+pub use timeline::Timeline;

@@ -1,12 +1,12 @@
 //! The operations on an object by their places, and groups of places as groups of ids.
 
-ghost use Rattle.std.specs.Prelude.{◌≡◌, ◌++◌, length, IfOk, OnOk};
+ghost use Rattle.std.specs.Prelude.{◌≡◌, ◌++◌, All, length, map, IfOk, OnOk};
 ghost use Rattle.std.specs.List.Sorted.{IsStrictlySortedBy};
 ghost use Rattle.std.specs.Ordering.{nat_cmp};
-ghost use Rattle.gf_groups.specs.GroupedPlaces.{places_below, id_at, ids_at, rising_ids, groups_on};
+ghost use Rattle.gf_groups.specs.Tables.{IsRising};
+ghost use Rattle.gf_groups.specs.GroupedPlaces.{places_below, id_at, ids_at, rising_ids, group_at};
 
-use crate::growth::groups_at;
-use crate::{Group, Ids};
+use crate::{Group, Ids, Places};
 use gf_ops::{History, ObjectId, Op, OpId};
 use gf_shape::OutOfMemory;
 use std::alloc::Global;
@@ -57,19 +57,19 @@ fn rising_ids(alloc: Global, history: &History, places: &[usize]) -> Result<Ids,
     Ok(Ids::new(ids))
 }
 
-/// Adds the versions of the object that has its operations at these places.
+/// Adds the groups of the operations at the places of each set.
 pub(crate) fn add_groups(
     alloc: Global,
     history: &History,
     object: ObjectId,
-    places: &[usize],
+    sets: Vec<Places>,
     groups: &mut Vec<Group>,
 ) -> Result<(), OutOfMemory>
-    requires { IsStrictlySortedBy nat_cmp places.now }
-    ensures { OnOk result (groups.new.items ≡ groups.old.items ++ groups_on history.now.ops object places.now) }
+    requires { All IsRising sets.items }
+    ensures { OnOk result (groups.new.items ≡ groups.old.items ++ map (group_at history.now.ops object) sets.items) }
 {
-    for group in groups_at(alloc, history, places)? {
-        let ops = rising_ids(alloc, history, group.as_slice())?;
+    for set in sets {
+        let ops = rising_ids(alloc, history, set.as_slice())?;
         groups.push(Group { object, ops })?;
     }
     Ok(())

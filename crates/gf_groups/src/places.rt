@@ -1,6 +1,6 @@
 //! Places of operations in a history: those of a group in the making, or of an object.
 
-ghost use Rattle.std.specs.Prelude.{◌≡◌, ◌∷◌, [], ◌++◌, OnOk};
+ghost use Rattle.std.specs.Prelude.{◌≡◌, ◌∷◌, [], ◌++◌, OnOk, OnErr};
 ghost use Rattle.std.specs.Cmp.Rules.{comparing};
 ghost use Rattle.std.specs.Hash as fed;
 ghost use Rattle.std.proofs.Common.{ap, refl, rules};
@@ -15,7 +15,7 @@ use std::marker::Model;
 
 /// Places in a history, seen as their list.
 #[derive(Debug, Drop)]
-pub(crate) struct Places {
+pub struct Places {
     places: Vec<usize>,
 }
 
@@ -29,7 +29,7 @@ impl Model for Places {
 
 impl Places {
     /// No place.
-    pub(crate) fn new(alloc: Global) -> Places
+    pub fn new(alloc: Global) -> Places
         ensures { result ≡ [] }
     {
         Places {
@@ -37,16 +37,24 @@ impl Places {
         }
     }
 
+    /// These places.
+    pub fn of(places: Vec<usize>) -> Places
+        ensures { result ≡ places.items }
+    {
+        Places { places }
+    }
+
     /// The places in their order.
-    pub(crate) fn as_slice(&self) -> &[usize]
+    pub fn as_slice(&self) -> &[usize]
         ensures { result.now ≡ self.now }
     {
         &self.places
     }
 
     /// Adds a place behind the others.
-    pub(crate) fn push(&mut self, place: usize) -> Result<(), OutOfMemory>
-        ensures { OnOk result (self.new ≡ self.old ++ place ∷ []) }
+    pub fn push(&mut self, place: usize) -> Result<(), OutOfMemory>
+        ensures ok { OnOk result (self.new ≡ self.old ++ place ∷ []) }
+        ensures err { OnErr result (self.new ≡ self.old) }
     {
         self.places.push(place)?;
         Ok(())

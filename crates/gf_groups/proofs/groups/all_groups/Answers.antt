@@ -1,13 +1,17 @@
-use Rattle.std.proofs.Common.{◌≡◌, ℕ, List, [], ◌∷◌, ◌++◌, length, append_assoc, ap}
+use Rattle.std.proofs.Common.{◌≡◌, ℕ, List, [], ◌∷◌, ◌++◌, length, append_assoc, ap, map, ◌∙◌}
 use Rattle.std.specs.List.{flat_map}
 use Rattle.std.proofs.lemmas.List.{append-nil}
 use Rattle.std.proofs.lemmas.List.Elements.{All-head, All-rest}
+use Rattle.gf_ops.specs.declared.op.Op.{Op}
 use Rattle.gf_ops.specs.declared.op.ObjectId.{ObjectId}
-use Rattle.gf_groups.specs.GroupedPlaces.{groups_on}
+use Rattle.gf_groups.specs.Growing.{conflict_at, groups_at}
+use Rattle.gf_groups.specs.GroupedPlaces.{group_at, groups_on}
+use Rattle.gf_groups.specs.Tables.{IsRising}
 use Rattle.gf_groups.specs.Parting.{HasPlacesBelow, HasAllPlaces, groups_of_entries}
 use Rattle.gf_groups.proofs.AllGroupLemmas.{all_versions}
 use Rattle.gf_groups.proofs.PartingLemmas.{entries_parts}
 use Rattle.gf_groups.proofs.PlaceLemmas.{places_below-rising}
+use Rattle.gf_groups.proofs.TableLemmas.{groups_rise}
 use Rattle.gf_groups.proofs.groups.all_groups.Goals as goal
 
 -- the next entry's groups are behind the others
@@ -24,17 +28,27 @@ loop-object-init c =
       parts = rw gives.0 (entries_parts h c.in_ok-parts.parts parts gives.5);
     }
 
+entry_rises : (h : List Op) (e : ObjectId × List ℕ) (us : List ℕ) → us ≡ e.1 → HasAllPlaces h e → IsRising us
+entry_rises h e us same all = rw (same, all) (places_below-rising h e.0 (length h))
+
+pub groups_at-requires : goal.groups_at-requires
+groups_at-requires c =
+    let h = c.args.history.now.ops in
+    let e : ObjectId × List ℕ = (c.in-Some.object.now, c.in-Some.places.now) in
+    entry_rises h e c.as_slice.result.now c.as_slice.ensures (All-head (HasAllPlaces h) e c.next.new.self (rw c.in-Some.ensures.steps at c.loop-object.invariant.parts))
+
 pub add_groups-requires : goal.add_groups-requires
 add_groups-requires c =
     let h = c.args.history.now.ops in
-    let part = All-head (HasAllPlaces h) (c.in-Some.object.now, c.in-Some.places.now) c.next.new.self (rw c.in-Some.ensures.steps at c.loop-object.invariant.parts) in
-    rw (c.as_slice.ensures, part) (places_below-rising h c.in-Some.object.now (length h))
+    let e : ObjectId × List ℕ = (c.in-Some.object.now, c.in-Some.places.now) in
+    let rises = entry_rises h e c.as_slice.result.now c.as_slice.ensures (All-head (HasAllPlaces h) e c.next.new.self (rw c.in-Some.ensures.steps at c.loop-object.invariant.parts)) in
+    rw c.in_ok-sets.ensures (groups_rise h c.as_slice.result.now rises)
 
 pub loop-object-preserved : goal.loop-object-preserved
 loop-object-preserved c =
     let h = c.args.history.now.ops in
     let e : ObjectId × List ℕ = (c.in-Some.object.now, c.in-Some.places.now) in
-    let added : c.add_groups.new.groups.items ≡ c.loop-object.groups.items ++ groups_on h e.0 e.1 = rw c.as_slice.ensures at c.in_ok-add_groups.ensures in
+    let added : c.add_groups.new.groups.items ≡ c.loop-object.groups.items ++ groups_on h e.0 e.1 = c.in_ok-add_groups.ensures ∙ ap (λ gs. c.loop-object.groups.items ++ map (group_at h e.0) gs) (c.in_ok-sets.ensures ∙ ap (groups_at (conflict_at h)) c.as_slice.ensures) in
     record {
       rest = more (λ (d : ObjectId × List ℕ). groups_on h d.0 d.1) c.loop-object.groups.items c.add_groups.new.groups.items _ e c.next.new.self c.loop-object.object-iterator added c.in-Some.ensures.steps c.loop-object.invariant.rest;
       parts = All-rest (HasAllPlaces h) e c.next.new.self c.loop-object.object-iterator c.in-Some.ensures.steps c.loop-object.invariant.parts;

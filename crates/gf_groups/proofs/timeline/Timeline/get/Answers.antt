@@ -1,4 +1,3 @@
-use Rattle.std.specs.Prelude.{Contains, ◌++◌}
 use Rattle.std.proofs.lemmas.List.Elements.{Contains-append_right}
 use Rattle.gf_ops.specs.Limits.{IsInRange}
 use Rattle.gf_groups.proofs.PlaceLemmas.{got_all}

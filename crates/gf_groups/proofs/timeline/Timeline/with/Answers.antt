@@ -1,4 +1,4 @@
-use Rattle.std.proofs.Common.{◌≡◌, ◌∷◌, [], sym, subst, inl, inr}
+use Rattle.std.proofs.Common.{[], sym, subst, inl, inr}
 use Rattle.std.specs.Prelude.{Contains}
 use Rattle.std.proofs.lemmas.List.Elements.{Contains-append_cases}
 use Rattle.gf_ops.specs.Limits.{IsInRange}

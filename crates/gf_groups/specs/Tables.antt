@@ -1,0 +1,25 @@
+-- The largest compatible groups of places, listed.
+use Rattle.std.specs.Prelude.{◌≡◌, ◌≢◌, ◌↔◌, ◌⊎◌, ℕ, Bool, true, false, List, AllPairs, Contains}
+use Rattle.std.specs.List.Sorted.{IsStrictlySortedBy}
+use Rattle.std.specs.Ordering.{nat_cmp}
+
+-- c tells whether two conflict
+module _ {X : Type 0} (c : X → X → Bool) where
+  -- a conflicts with a member of p
+  abbrev pub Hits : (X → Type 0) → X → Type 0
+  Hits p a = (b : X) × p b × (c a b ≡ true)
+
+  -- p is a largest compatible part of U
+  pub record IsLargest (U p : X → Type 0) : Type 0 where
+    pub within : (a : X) → p a → U a
+    pub compatible : (a b : X) → p a → p b → c a b ≡ false
+    pub largest : (a : X) → U a → p a ⊎ Hits p a
+
+-- the places g rise
+abbrev pub IsRising : List ℕ → Type 0
+IsRising g = IsStrictlySortedBy nat_cmp g
+
+-- gs are the largest compatible groups of us, each once
+pub record IsTable (c : ℕ → ℕ → Bool) (us : List ℕ) (gs : List (List ℕ)) : Type 0 where
+  pub each : (g : List ℕ) → Contains gs g ↔ (IsRising g × IsLargest c (Contains us) (Contains g))
+  pub once : AllPairs (λ g h. g ≢ h) gs
