@@ -12,14 +12,11 @@ use Rattle.std.proofs.lemmas.List.Elements.{Contains-append_left, Contains-appen
 use Rattle.std.proofs.lemmas.Map.Keys.{sorted_tail}
 use Rattle.gf_ops.proofs.ListLemmas.{Contains-cons_cases, Contains-cons_head, Contains-cons_tail, not_Contains-nil, Contains-map, Contains-map_from}
 use Rattle.gf_groups.specs.VersionList.{sublists}
+use Rattle.gf_groups.specs.Pairs.{Pairs}
 use Rattle.gf_groups.proofs.ListLemmas.{Contains-filter}
 use Rattle.gf_groups.proofs.RisingLemmas.{below_tail, rising_cons}
 
 -- ---- each element stands to all later ones as R says
-
-abbrev pub Pairs : {X : Type 0} → (X → X → Type 0) → List X → Type 0
-Pairs R [] = ⊤
-Pairs R (x ∷ xs) = ((y : _) → Contains xs y → R x y) × Pairs R xs
 
 pub Pairs-append : {X : Type 0} (R : X → X → Type 0) (xs ys : List X) → Pairs R xs → Pairs R ys → ((x y : X) → Contains xs x → Contains ys y → R x y) → Pairs R (xs ++ ys)
 Pairs-append R [] ys p q r = q

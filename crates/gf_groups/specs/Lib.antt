@@ -5,3 +5,4 @@ pub mod GroupedPlaces
 pub mod Parting
 pub mod Taken
 pub mod Tables
+pub mod Pairs

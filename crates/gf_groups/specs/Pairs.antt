@@ -1,0 +1,6 @@
+-- A relation of each element of a list to all behind it.
+use Rattle.std.specs.Prelude.{List, [], ◌∷◌, Contains, ⊤}
+
+abbrev pub Pairs : {X : Type 0} → (X → X → Type 0) → List X → Type 0
+Pairs R [] = ⊤
+Pairs R (x ∷ xs) = ((y : _) → Contains xs y → R x y) × Pairs R xs

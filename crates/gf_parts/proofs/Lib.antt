@@ -1,0 +1,3 @@
+pub mod CountLemmas
+pub mod PartsLemmas
+pub mod ProductLemmas

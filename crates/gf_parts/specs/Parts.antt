@@ -1,0 +1,99 @@
+-- The operations on one object, by their places, in parts that no conflict connects.
+use Rattle.std.specs.Prelude.{ℕ, ◌*◌, Bool, cond, not, ◌&&◌, ◌||◌, ◌==◌, nat_le, List, [], ◌∷◌, ◌++◌, filter, map, length, Option, Some, None}
+use Rattle.std.specs.List.{list_any, fold, flat_map}
+use Rattle.std.specs.BTreeSet.{insert_key}
+use Rattle.std.specs.Ordering.{nat_cmp}
+use Rattle.gf_groups.specs.Growing.{clashes, next}
+
+-- a part keeps its sets while they are at most so many
+abbrev pub most_sets : ℕ
+most_sets = 1000
+
+-- places, and their largest compatible sets unless these are too many
+pub record PartState : Type 0 where
+  pub all : List ℕ
+  pub sets : Option (List (List ℕ))
+
+-- places that are in every version, and the parts of which each gives a version one set
+pub record PartsState : Type 0 where
+  pub free : List ℕ
+  pub parts : List PartState
+
+-- the sets gs, unless they are too many
+abbrev pub kept : List (List ℕ) → Option (List (List ℕ))
+kept gs = cond (nat_le (length gs) most_sets) (Some gs) None
+
+-- the elements of g and k, rising
+abbrev pub united : List ℕ → List ℕ → List ℕ
+united g k = fold (insert_key nat_cmp) (fold (insert_key nat_cmp) [] g) k
+
+-- each of gs with each of ks
+abbrev pub products : List (List ℕ) → List (List ℕ) → List (List ℕ)
+products gs ks = flat_map (λ g. map (united g) ks) gs
+
+-- the products, unless they are too many
+abbrev pub kept_products : List (List ℕ) → List (List ℕ) → Option (List (List ℕ))
+kept_products gs ks = cond (nat_le (length gs * length ks) most_sets) (Some (products gs ks)) None
+
+-- the products of what is kept
+abbrev pub times : Option (List (List ℕ)) → Option (List (List ℕ)) → Option (List (List ℕ))
+times (Some gs) (Some ks) = kept_products gs ks
+times r s = None
+
+-- two parts as one
+abbrev pub joined : PartState → PartState → PartState
+joined p q = record { all = united p.all q.all; sets = times p.sets q.sets }
+
+-- x is one of us
+abbrev pub holds : ℕ → List ℕ → Bool
+holds x us = list_any (λ a. x == a) us
+
+-- places as a part of one set
+abbrev pub alone : List ℕ → PartState
+alone us = record { all = us; sets = Some (us ∷ []) }
+
+-- all of it as one part
+abbrev pub whole : PartsState → PartState
+whole s = fold joined (alone s.free) s.parts
+
+-- c tells whether the operations at two places conflict
+module _ (c : ℕ → ℕ → Bool) where
+  -- x conflicts with one of the part
+  abbrev pub touches : ℕ → PartState → Bool
+  touches x p = clashes c x p.all
+
+  -- the sets of the places us after x came to them
+  abbrev pub grown_sets : List ℕ → ℕ → Option (List (List ℕ)) → Option (List (List ℕ))
+  grown_sets us x (Some gs) = kept (next c us x gs)
+  grown_sets us x None = None
+
+  -- the part after x came to it
+  abbrev pub grown_part : ℕ → PartState → PartState
+  grown_part x p = record { all = p.all ++ x ∷ []; sets = grown_sets p.all x p.sets }
+
+  -- all that is connected with x, as one part
+  abbrev pub touched : ℕ → PartsState → PartState
+  touched x s = fold joined (alone (filter (c x) s.free)) (filter (touches x) s.parts)
+
+  -- x conflicts with none
+  abbrev pub is_calm : ℕ → PartsState → Bool
+  is_calm x s = not (clashes c x s.free) && not (list_any (touches x) s.parts)
+
+  -- x came, and conflicts with none
+  abbrev pub with_free : ℕ → PartsState → PartsState
+  with_free x s = record { free = s.free ++ x ∷ []; parts = s.parts }
+
+  -- x is of the part, or conflicts with none of it
+  abbrev pub stays : ℕ → PartState → Bool
+  stays x p = holds x p.all || not (touches x p)
+
+  -- x came, and connects all that it conflicts with
+  abbrev pub with_part : ℕ → PartsState → PartsState
+  with_part x s = record {
+    free = filter (λ a. not (c x a)) s.free;
+    parts = filter (stays x) (s.parts ++ grown_part x (touched x s) ∷ []);
+  }
+
+  -- x came, behind all others
+  abbrev pub after : ℕ → PartsState → PartsState
+  after x s = cond (is_calm x s) (with_free x s) (with_part x s)

@@ -1,0 +1,200 @@
+//! The operations on one object in parts: what is in every version, and parts that no conflict
+//! connects, of which each gives a version one of its sets.
+
+ghost use Rattle.std.specs.Prelude.{◌≡◌, [], filter, not, IfOk, OnOk, OnErr};
+ghost use Rattle.std.specs.List.{list_any};
+ghost use Rattle.gf_groups.specs.Growing.{conflict_at};
+ghost use Rattle.gf_parts.specs.Parts.{joined, alone, holds, touches, grown_part, touched, is_calm, after, stays};
+
+use crate::sets::{Sets, united};
+use gf_groups::{Places, Timeline, clashes, conflict_at, rivals};
+use gf_shape::OutOfMemory;
+use std::alloc::Global;
+use std::marker::Model;
+
+/// Places that no conflict connects with others, and their largest compatible sets.
+#[derive(Debug, Drop)]
+pub(crate) struct Part {
+    pub(crate) all: Places,
+    pub(crate) sets: Sets,
+}
+
+impl Model for Part {
+    ghost use Rattle.gf_parts.specs.Parts.{PartState};
+
+    ghost Value = { PartState };
+
+    ghost view = { λ p. record { all = p.all; sets = p.sets } };
+}
+
+/// The places that are in every version, and the parts.
+#[derive(Debug, Drop)]
+pub(crate) struct Parts {
+    pub(crate) free: Places,
+    pub(crate) parts: Vec<Part>,
+}
+
+impl Model for Parts {
+    ghost use Rattle.gf_parts.specs.Parts.{PartsState};
+
+    ghost Value = { PartsState };
+
+    ghost view = { λ p. record { free = p.free; parts = p.parts.items } };
+}
+
+/// Whether the place is one of these.
+fn holds(place: usize, places: &[usize]) -> bool
+    ensures { result ≡ holds place places.now }
+{
+    places.iter().any(|other| place == *other)
+}
+
+/// Whether the operation at this place conflicts with one of the part.
+fn touches(timeline: &Timeline<'_>, place: usize, part: &Part) -> bool
+    ensures { result ≡ touches (conflict_at timeline.now) place part.now }
+{
+    clashes(timeline, place, part.all.as_slice())
+}
+
+/// Whether the place is of the part, or its operation conflicts with none of it.
+fn stays(timeline: &Timeline<'_>, place: usize, part: &Part) -> bool
+    ensures { result ≡ stays (conflict_at timeline.now) place part.now }
+{
+    holds(place, part.all.as_slice()) || !touches(timeline, place, part)
+}
+
+/// Two parts as one.
+fn joined(alloc: Global, part: &Part, other: &Part) -> Result<Part, OutOfMemory>
+    ensures { IfOk result (λ both. both ≡ joined part.now other.now) }
+{
+    let sets = part.sets.times(alloc, &other.sets)?;
+    let all = united(alloc, part.all.as_slice(), other.all.as_slice())?;
+    Ok(Part { all, sets })
+}
+
+/// The same places once more.
+fn copied(alloc: Global, places: &[usize]) -> Result<Places, OutOfMemory>
+    ensures { IfOk result (λ copy. copy ≡ places.now) }
+{
+    let mut copy = Vec::new(alloc);
+    copy.extend_from_slice(places)?;
+    Ok(Places::of(copy))
+}
+
+/// Places as a part of one set.
+fn alone(alloc: Global, places: Vec<usize>) -> Result<Part, OutOfMemory>
+    ensures { IfOk result (λ part. part ≡ alone places.items) }
+{
+    let set = copied(alloc, &places)?;
+    Ok(Part {
+        all: Places::of(places),
+        sets: Sets::of(Vec::from_array(alloc, [set])?),
+    })
+}
+
+/// All that the operation at this place connects, as one part.
+fn touched(
+    alloc: Global,
+    timeline: &Timeline<'_>,
+    place: usize,
+    parts: &Parts,
+) -> Result<Part, OutOfMemory>
+    ensures { IfOk result (λ part. part ≡ touched (conflict_at timeline.now) place parts.now) }
+{
+    let mut part = alone(alloc, rivals(alloc, timeline, parts.free.as_slice(), place)?)?;
+    for other in &parts.parts {
+        if touches(timeline, place, other) {
+            part = joined(alloc, &part, other)?;
+        }
+    }
+    Ok(part)
+}
+
+/// The part after the operation at this place came to it.
+fn grown_part(
+    alloc: Global,
+    timeline: &Timeline<'_>,
+    place: usize,
+    part: Part,
+) -> Result<Part, OutOfMemory>
+    ensures { IfOk result (λ grown. grown ≡ grown_part (conflict_at timeline.now) place part) }
+{
+    let Part { mut all, sets } = part;
+    let sets = sets.grown(alloc, timeline, all.as_slice(), place)?;
+    all.push(place)?;
+    Ok(Part { all, sets })
+}
+
+/// Those of the places whose operations do not conflict with the one at a place.
+fn calm_of(
+    alloc: Global,
+    timeline: &Timeline<'_>,
+    place: usize,
+    places: &[usize],
+) -> Result<Places, OutOfMemory>
+    ensures { IfOk result (λ found. found ≡ filter (λ a. not (conflict_at timeline.now place a)) places.now) }
+{
+    let mut calm = Places::new(alloc);
+    for other in places {
+        if !conflict_at(timeline, place, *other) {
+            calm.push(*other)?;
+        }
+    }
+    Ok(calm)
+}
+
+/// Whether the operation at this place conflicts with one of a part.
+fn touches_one(timeline: &Timeline<'_>, place: usize, parts: &[Part]) -> bool
+    ensures { result ≡ list_any (touches (conflict_at timeline.now) place) parts.now }
+{
+    parts.iter().any(|part| touches(timeline, place, part))
+}
+
+/// Whether the operation at this place conflicts with none.
+fn is_calm(timeline: &Timeline<'_>, place: usize, parts: &Parts) -> bool
+    ensures { result ≡ is_calm (conflict_at timeline.now) place parts.now }
+{
+    !clashes(timeline, place, parts.free.as_slice()) && !touches_one(timeline, place, &parts.parts)
+}
+
+/// Drops the parts that the operation at this place conflicts with and that do not have it.
+fn drop_touched(timeline: &Timeline<'_>, place: usize, parts: &mut Vec<Part>)
+    ensures { parts.new.items ≡ filter (stays (conflict_at timeline.now) place) parts.old.items }
+{
+    parts.retain(|part| stays(timeline, place, part));
+}
+
+impl Parts {
+    /// Of no operation.
+    pub(crate) fn new(alloc: Global) -> Parts
+        ensures { result ≡ record { free = []; parts = [] } }
+    {
+        Parts {
+            free: Places::new(alloc),
+            parts: Vec::new(alloc),
+        }
+    }
+
+    /// Adds the operation at this place, which comes after the others. It changes nothing before all
+    /// memory is there.
+    pub(crate) fn add(
+        &mut self,
+        alloc: Global,
+        timeline: &Timeline<'_>,
+        place: usize,
+    ) -> Result<(), OutOfMemory>
+        ensures ok { OnOk result (self.new ≡ after (conflict_at timeline.now) place self.old) }
+        ensures err { OnErr result (self.new ≡ self.old) }
+    {
+        if is_calm(timeline, place, self) {
+            return self.free.push(place);
+        }
+        let part = touched(alloc, timeline, place, self)?;
+        let part = grown_part(alloc, timeline, place, part)?;
+        let free = calm_of(alloc, timeline, place, self.free.as_slice())?;
+        self.parts.push(part)?;
+        drop_touched(timeline, place, &mut self.parts);
+        self.free = free;
+        Ok(())
+    }
+}

@@ -1,0 +1,154 @@
+//! The largest compatible sets of a part, kept while they are not too many.
+
+ghost use Rattle.std.specs.Prelude.{◌≡◌, ◌∷◌, [], ◌++◌, map, option_copied, IfOk, OnOk};
+ghost use Rattle.std.specs.List.{fold};
+ghost use Rattle.std.specs.BTreeSet.{insert_key};
+ghost use Rattle.std.specs.Ordering.{nat_cmp};
+ghost use Rattle.gf_groups.specs.Growing.{conflict_at};
+ghost use Rattle.gf_parts.specs.Parts.{kept, united, products, kept_products, times, grown_sets};
+
+use gf_groups::{Places, Timeline, grow};
+use gf_shape::OutOfMemory;
+use std::alloc::Global;
+use std::collections::BTreeSet;
+use std::marker::Model;
+
+/// A part keeps its sets while they are at most so many.
+pub const MOST_SETS: usize = 1_000;
+
+/// The sets, unless they are more than [`MOST_SETS`].
+#[derive(Debug, Drop)]
+pub(crate) struct Sets {
+    sets: Option<Vec<Places>>,
+}
+
+impl Model for Sets {
+    ghost use Rattle.std.specs.Prelude.{List, ℕ, Option, option_map};
+
+    ghost Value = { Option (List (List ℕ)) };
+
+    ghost view = { λ s. option_map (λ v. v.items) s.sets };
+}
+
+impl Sets {
+    /// These sets.
+    pub(crate) fn of(sets: Vec<Places>) -> Sets
+        ensures { result ≡ kept sets.items }
+    {
+        if sets.len() <= MOST_SETS {
+            Sets { sets: Some(sets) }
+        } else {
+            Sets { sets: None }
+        }
+    }
+
+    /// The sets, where they are not too many.
+    pub(crate) fn get(&self) -> Option<&[Places]>
+        ensures { option_copied result ≡ self.now }
+    {
+        match &self.sets {
+            Some(sets) => Some(sets),
+            None => None,
+        }
+    }
+
+    /// Each of them united with each of the others. Where these are too many, none is made.
+    pub(crate) fn times(&self, alloc: Global, others: &Sets) -> Result<Sets, OutOfMemory>
+        ensures { IfOk result (λ sets. sets ≡ times self.now others.now) }
+    {
+        match (&self.sets, &others.sets) {
+            (Some(sets), Some(others)) => kept_products(alloc, sets, others),
+            _ => Ok(Sets { sets: None }),
+        }
+    }
+
+    /// The sets of these places after one came behind them.
+    pub(crate) fn grown(
+        self,
+        alloc: Global,
+        timeline: &Timeline<'_>,
+        places: &[usize],
+        place: usize,
+    ) -> Result<Sets, OutOfMemory>
+        ensures { IfOk result (λ sets. sets ≡ grown_sets (conflict_at timeline.now) places.now place self) }
+    {
+        match self.sets {
+            Some(mut sets) => {
+                grow(alloc, timeline, places, place, &mut sets)?;
+                Ok(Sets::of(sets))
+            }
+            None => Ok(Sets { sets: None }),
+        }
+    }
+}
+
+/// Inserts these places too.
+fn insert_all(places: &[usize], set: &mut BTreeSet<usize>) -> Result<(), OutOfMemory>
+    ensures { OnOk result (set.new.keys ≡ fold (insert_key nat_cmp) set.old.keys places.now) }
+{
+    for place in places {
+        set.insert(*place)?;
+    }
+    Ok(())
+}
+
+/// All of these places, rising.
+pub(crate) fn united(
+    alloc: Global,
+    some: &[usize],
+    others: &[usize],
+) -> Result<Places, OutOfMemory>
+    ensures { IfOk result (λ places. places ≡ united some.now others.now) }
+{
+    let mut set = BTreeSet::new(alloc);
+    insert_all(some, &mut set)?;
+    insert_all(others, &mut set)?;
+    Ok(Places::of(set.into_iter().collect(alloc)?))
+}
+
+/// Each of the sets united with this one.
+fn add_products(
+    alloc: Global,
+    set: &[usize],
+    others: &[Places],
+    products: &mut Vec<Places>,
+) -> Result<(), OutOfMemory>
+    ensures { OnOk result (products.new.items ≡ products.old.items ++ map (united set.now) others.now) }
+{
+    for other in others {
+        products.push(united(alloc, set, other.as_slice())?)?;
+    }
+    Ok(())
+}
+
+/// Each of the sets united with each of the others.
+pub(crate) fn products(
+    alloc: Global,
+    sets: &[Places],
+    others: &[Places],
+) -> Result<Vec<Places>, OutOfMemory>
+    ensures { IfOk result (λ found. found.items ≡ products sets.now others.now) }
+{
+    let mut products = Vec::new(alloc);
+    for set in sets {
+        add_products(alloc, set.as_slice(), others, &mut products)?;
+    }
+    Ok(products)
+}
+
+/// The products, unless they are too many.
+fn kept_products(
+    alloc: Global,
+    sets: &[Places],
+    others: &[Places],
+) -> Result<Sets, OutOfMemory>
+    ensures { IfOk result (λ found. found ≡ kept_products sets.now others.now) }
+{
+    if sets.len().saturating_mul(others.len()) <= MOST_SETS {
+        Ok(Sets {
+            sets: Some(products(alloc, sets, others)?),
+        })
+    } else {
+        Ok(Sets { sets: None })
+    }
+}
