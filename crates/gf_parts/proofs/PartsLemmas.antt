@@ -1,6 +1,6 @@
 -- Parts that no conflict connects: their product has the largest groups of all, each once, and one more place keeps them so.
 use Rattle.std.proofs.Common.{◌≡◌, ◌≢◌, ℕ, ◌<◌, Bool, true, false, List, [], ◌∷◌, ◌++◌, map, inl, inr, refl, subst, sym, ap, ◌∙◌, arith}
-use Rattle.std.specs.Prelude.{◌⊎◌, ◌↔◌, ⊤, Contains, filter, cond, not, ◌&&◌, ◌||◌, ◌==◌}
+use Rattle.std.specs.Prelude.{◌⊎◌, ◌↔◌, ⊤, Contains, filter, cond, not, ◌&&◌, ◌||◌, ◌==◌, Option, Some, None, unwrap_or}
 use Rattle.std.specs.List.{list_any, fold}
 use Rattle.std.specs.Cmp.{nat_cmp_is}
 use Rattle.std.specs.Ordering.{nat_cmp}
@@ -12,8 +12,8 @@ use Rattle.std.proofs.lemmas.List.Elements.{Contains-append_cases, Contains-appe
 use Rattle.std.proofs.lemmas.List.Kept.{IsStrictlySortedBy-filter}
 use Rattle.std.proofs.lemmas.Map.Keys.{sorted_tail}
 use Rattle.gf_ops.proofs.ListLemmas.{Contains-cons_cases, Contains-cons_head, Contains-cons_tail, not_Contains-nil}
-use Rattle.gf_groups.specs.Growing.{clashes, next}
-use Rattle.gf_parts.specs.Parts.{PartState, PartsState, united, products, joined, alone, whole, touches, grown_part, touched, is_calm, with_free, with_part, after, holds, stays}
+use Rattle.gf_groups.specs.Growing.{clashes, next, groups_at}
+use Rattle.gf_parts.specs.Parts.{PartState, PartsState, united, products, joined, alone, whole, touches, grown_part, touched, is_calm, with_free, with_part, after, holds, stays, products, full, listed}
 use Rattle.gf_groups.specs.Tables.{Hits, IsLargest, IsRising, IsTable}
 use Rattle.gf_groups.proofs.GrowingLemmas.{table_next}
 use Rattle.gf_groups.proofs.LargestLemmas.{IsConflict}
@@ -24,7 +24,7 @@ use Rattle.gf_parts.proofs.CountLemmas.{kept_joined, kept_grown, kept_agree}
 use Rattle.gf_parts.proofs.ProductLemmas.{Contains-united, united_rises, table_product, table_alone, table_alike}
 use Rattle.gf_groups.proofs.RisingLemmas.{rising_push, rising_nil, below_tail}
 use Rattle.gf_groups.proofs.SublistLemmas.{Pairs-append, Pairs-filter, Pairs-from}
-use Rattle.gf_groups.proofs.TableLemmas.{below_from_less}
+use Rattle.gf_groups.proofs.TableLemmas.{table_groups}
 
 module _ (c : ℕ → ℕ → Bool) where
   abbrev AreApart : PartState → PartState → Type 0
@@ -92,6 +92,32 @@ module _ (c : ℕ → ℕ → Bool) where
     pub table_whole : (t : PartsState) → AreParts c t → IsPart c (whole t)
     table_whole t m = part_of_fold (alone t.free) t.parts (part_alone t.free m.rises m.calm) m.parts m.loose m.apart
 
+    -- all sets of a part
+    table_full : (p : PartState) → IsPart c p → IsTable c p.all (full c p)
+    table_full p m = table_kept p.all m.rises p.sets m.sets
+      where
+        table_kept : (us : List ℕ) → IsRising us → (r : Option (List (List ℕ))) → IsKept c us r → IsTable c us (unwrap_or r (groups_at c us))
+        table_kept us r (Some gs) k = k.0
+        table_kept us r None k = table_groups c s us r
+
+    table_fold : (p : PartState) (gs : List (List ℕ)) (ps : List PartState) → IsTable c p.all gs → ((q : PartState) → Contains ps q → IsPart c q) →
+        ((q : PartState) → Contains ps q → AreApart p q) → Pairs AreApart ps → IsTable c (fold joined p ps).all (fold (λ ks q. products ks (full c q)) gs ps)
+    table_fold p gs [] x ys ws zs = x
+    table_fold p gs (q ∷ ps) x ys ws zs =
+        let w = ws q (Contains-cons_head q ps) in
+        table_fold (joined p q) (products gs (full c q)) ps
+        (table_product c s p.all q.all w gs (full c q) x (table_full q (ys q (Contains-cons_head q ps))))
+        (λ r i. ys r (Contains-cons_tail q ps r i))
+        (λ r i a b h k. elim ((Contains-united p.all q.all a).0 h) [
+          | inl j ↦ ws r (Contains-cons_tail q ps r i) a b j k
+          | inr j ↦ zs.0 r i a b j k
+        ])
+        zs.1
+
+    -- THE VERSIONS, LISTED: what is free with one set of each part
+    pub table_listed : (t : PartsState) → AreParts c t → IsTable c (whole t).all (listed c t)
+    table_listed t m = table_fold (alone t.free) (t.free ∷ []) t.parts (table_alone c t.free m.rises m.calm) m.parts m.loose m.apart
+
     pub first_parts : AreParts c (record { free = []; parts = [] })
     first_parts = record {
       rises = rising_nil nat_cmp nat_cmp_total;
@@ -138,7 +164,7 @@ module _ (c : ℕ → ℕ → Bool) where
         ]
       ]
 
-      keeps_free : clashes c x t.free ≡ false → list_any (touches c x) t.parts ≡ false → AreParts c (with_free c x t)
+      keeps_free : clashes c x t.free ≡ false → list_any (touches c x) t.parts ≡ false → AreParts c (with_free x t)
       keeps_free n k = record {
         rises = pushed t.free m.rises free_below;
         calm = calm_free n;
@@ -306,14 +332,14 @@ module _ (c : ℕ → ℕ → Bool) where
       -- THE STEP
       pub parts_after : AreParts c (after c x t)
       parts_after = elim (cases_Bool (is_calm c x t)) [
-        | inl y ↦ rw (cond-true (is_calm c x t) (with_free c x t) (with_part c x t) y) (
+        | inl y ↦ rw (cond-true (is_calm c x t) (with_free x t) (with_part c x t) y) (
           let w = and_parts (not (clashes c x t.free)) (not (list_any (touches c x) t.parts)) y in
           keeps_free (not-true (clashes c x t.free) w.0) (not-true (list_any (touches c x) t.parts) w.1))
-        | inr n ↦ rw (cond-false (is_calm c x t) (with_free c x t) (with_part c x t) n) (subst (AreParts c) (sym same_part) keeps_part)
+        | inr n ↦ rw (cond-false (is_calm c x t) (with_free x t) (with_part c x t) n) (subst (AreParts c) (sym same_part) keeps_part)
       ]
 
       -- its places are those before, and x
-      all_free : (a : ℕ) → Contains (whole (with_free c x t)).all a ↔ (Contains (whole t).all a ⊎ (a ≡ x))
+      all_free : (a : ℕ) → Contains (whole (with_free x t)).all a ↔ (Contains (whole t).all a ⊎ (a ≡ x))
       all_free a = (
         λ h. elim ((all_of_fold (alone (t.free ++ x ∷ [])) t.parts a).0 h) [
           | inl i ↦ elim (Contains-push_cases t.free x a i) [ inl j ↦ inl (free_in a j) | inr e ↦ inr (sym e) ]
@@ -372,8 +398,8 @@ module _ (c : ℕ → ℕ → Bool) where
 
       pub all_after : (a : ℕ) → Contains (whole (after c x t)).all a ↔ (Contains (whole t).all a ⊎ (a ≡ x))
       all_after a = elim (cases_Bool (is_calm c x t)) [
-        | inl y ↦ rw (cond-true (is_calm c x t) (with_free c x t) (with_part c x t) y) (all_free a)
-        | inr n ↦ rw (cond-false (is_calm c x t) (with_free c x t) (with_part c x t) n) (subst (λ (z : PartsState). Contains (whole z).all a ↔ (Contains (whole t).all a ⊎ (a ≡ x))) (sym same_part) (all_part a))
+        | inl y ↦ rw (cond-true (is_calm c x t) (with_free x t) (with_part c x t) y) (all_free a)
+        | inr n ↦ rw (cond-false (is_calm c x t) (with_free x t) (with_part c x t) n) (subst (λ (z : PartsState). Contains (whole z).all a ↔ (Contains (whole t).all a ⊎ (a ≡ x))) (sym same_part) (all_part a))
       ]
 
 -- PARTS STAY: parts under another test that agrees on their places, as that of a longer history

@@ -1,9 +1,9 @@
 -- The operations on one object, by their places, in parts that no conflict connects.
-use Rattle.std.specs.Prelude.{ℕ, ◌*◌, Bool, cond, not, ◌&&◌, ◌||◌, ◌==◌, nat_le, List, [], ◌∷◌, ◌++◌, filter, map, length, Option, Some, None}
+use Rattle.std.specs.Prelude.{ℕ, ◌*◌, Bool, cond, not, ◌&&◌, ◌||◌, ◌==◌, nat_le, List, [], ◌∷◌, ◌++◌, filter, map, length, Option, Some, None, unwrap_or}
 use Rattle.std.specs.List.{list_any, fold, flat_map}
 use Rattle.std.specs.BTreeSet.{insert_key}
 use Rattle.std.specs.Ordering.{nat_cmp}
-use Rattle.gf_groups.specs.Growing.{clashes, next}
+use Rattle.gf_groups.specs.Growing.{clashes, next, groups_at}
 
 -- a part keeps its sets while they are at most so many
 abbrev pub most_sets : ℕ
@@ -56,6 +56,10 @@ alone us = record { all = us; sets = Some (us ∷ []) }
 abbrev pub whole : PartsState → PartState
 whole s = fold joined (alone s.free) s.parts
 
+-- x came, and conflicts with none
+abbrev pub with_free : ℕ → PartsState → PartsState
+with_free x s = record { free = s.free ++ x ∷ []; parts = s.parts }
+
 -- c tells whether the operations at two places conflict
 module _ (c : ℕ → ℕ → Bool) where
   -- x conflicts with one of the part
@@ -79,10 +83,6 @@ module _ (c : ℕ → ℕ → Bool) where
   abbrev pub is_calm : ℕ → PartsState → Bool
   is_calm x s = not (clashes c x s.free) && not (list_any (touches x) s.parts)
 
-  -- x came, and conflicts with none
-  abbrev pub with_free : ℕ → PartsState → PartsState
-  with_free x s = record { free = s.free ++ x ∷ []; parts = s.parts }
-
   -- x is of the part, or conflicts with none of it
   abbrev pub stays : ℕ → PartState → Bool
   stays x p = holds x p.all || not (touches x p)
@@ -97,3 +97,11 @@ module _ (c : ℕ → ℕ → Bool) where
   -- x came, behind all others
   abbrev pub after : ℕ → PartsState → PartsState
   after x s = cond (is_calm x s) (with_free x s) (with_part x s)
+
+  -- all sets of the part, counted anew where they are too many
+  abbrev pub full : PartState → List (List ℕ)
+  full p = unwrap_or p.sets (groups_at c p.all)
+
+  -- what is free with one set of each part
+  abbrev pub listed : PartsState → List (List ℕ)
+  listed s = fold (λ gs p. products gs (full p)) (s.free ∷ []) s.parts

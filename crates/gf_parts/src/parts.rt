@@ -2,21 +2,23 @@
 //! connects, of which each gives a version one of its sets.
 
 ghost use Rattle.std.specs.Prelude.{◌≡◌, [], filter, not, IfOk, OnOk, OnErr};
-ghost use Rattle.std.specs.List.{list_any};
 ghost use Rattle.gf_groups.specs.Growing.{conflict_at};
-ghost use Rattle.gf_parts.specs.Parts.{joined, alone, holds, touches, grown_part, touched, is_calm, after, stays};
+ghost use Rattle.gf_parts.specs.Parts.{joined, alone, holds, touches, grown_part, touched, with_free, with_part, stays, full, listed, products};
+ghost use Rattle.gf_groups.specs.Tables.{IsRising};
+ghost use Rattle.gf_parts.specs.Parted.{AreParts};
 
-use crate::sets::{Sets, united};
-use gf_groups::{Places, Timeline, clashes, conflict_at, rivals};
+use crate::sets::{Sets, products, united};
+use gf_groups::{Places, Timeline, clashes, conflict_at, groups_at, rivals};
+use gf_ops::History;
 use gf_shape::OutOfMemory;
 use std::alloc::Global;
 use std::marker::Model;
 
 /// Places that no conflict connects with others, and their largest compatible sets.
 #[derive(Debug, Drop)]
-pub(crate) struct Part {
-    pub(crate) all: Places,
-    pub(crate) sets: Sets,
+struct Part {
+    all: Places,
+    sets: Sets,
 }
 
 impl Model for Part {
@@ -29,9 +31,9 @@ impl Model for Part {
 
 /// The places that are in every version, and the parts.
 #[derive(Debug, Drop)]
-pub(crate) struct Parts {
-    pub(crate) free: Places,
-    pub(crate) parts: Vec<Part>,
+pub struct Parts {
+    free: Places,
+    parts: Vec<Part>,
 }
 
 impl Model for Parts {
@@ -143,20 +145,6 @@ fn calm_of(
     Ok(calm)
 }
 
-/// Whether the operation at this place conflicts with one of a part.
-fn touches_one(timeline: &Timeline<'_>, place: usize, parts: &[Part]) -> bool
-    ensures { result ≡ list_any (touches (conflict_at timeline.now) place) parts.now }
-{
-    parts.iter().any(|part| touches(timeline, place, part))
-}
-
-/// Whether the operation at this place conflicts with none.
-fn is_calm(timeline: &Timeline<'_>, place: usize, parts: &Parts) -> bool
-    ensures { result ≡ is_calm (conflict_at timeline.now) place parts.now }
-{
-    !clashes(timeline, place, parts.free.as_slice()) && !touches_one(timeline, place, &parts.parts)
-}
-
 /// Drops the parts that the operation at this place conflicts with and that do not have it.
 fn drop_touched(timeline: &Timeline<'_>, place: usize, parts: &mut Vec<Part>)
     ensures { parts.new.items ≡ filter (stays (conflict_at timeline.now) place) parts.old.items }
@@ -166,7 +154,7 @@ fn drop_touched(timeline: &Timeline<'_>, place: usize, parts: &mut Vec<Part>)
 
 impl Parts {
     /// Of no operation.
-    pub(crate) fn new(alloc: Global) -> Parts
+    pub fn new(alloc: Global) -> Parts
         ensures { result ≡ record { free = []; parts = [] } }
     {
         Parts {
@@ -175,20 +163,25 @@ impl Parts {
         }
     }
 
-    /// Adds the operation at this place, which comes after the others. It changes nothing before all
-    /// memory is there.
-    pub(crate) fn add(
+    /// Adds the operation at this place, which conflicts with none.
+    pub fn add_free(&mut self, place: usize) -> Result<(), OutOfMemory>
+        ensures ok { OnOk result (self.new ≡ with_free place self.old) }
+        ensures err { OnErr result (self.new ≡ self.old) }
+    {
+        self.free.push(place)
+    }
+
+    /// Adds the operation at this place, which comes after the others, and makes one part of all that
+    /// it connects. It changes nothing before all memory is there.
+    pub fn connect(
         &mut self,
         alloc: Global,
         timeline: &Timeline<'_>,
         place: usize,
     ) -> Result<(), OutOfMemory>
-        ensures ok { OnOk result (self.new ≡ after (conflict_at timeline.now) place self.old) }
+        ensures ok { OnOk result (self.new ≡ with_part (conflict_at timeline.now) place self.old) }
         ensures err { OnErr result (self.new ≡ self.old) }
     {
-        if is_calm(timeline, place, self) {
-            return self.free.push(place);
-        }
         let part = touched(alloc, timeline, place, self)?;
         let part = grown_part(alloc, timeline, place, part)?;
         let free = calm_of(alloc, timeline, place, self.free.as_slice())?;
@@ -196,5 +189,38 @@ impl Parts {
         drop_touched(timeline, place, &mut self.parts);
         self.free = free;
         Ok(())
+    }
+
+    /// What is free with one set of each part: all versions. The sets of a part with too many are
+    /// made anew.
+    pub fn listed(&self, alloc: Global, history: &History) -> Result<Vec<Places>, OutOfMemory>
+        requires { AreParts (conflict_at history.now.ops) self.now }
+        ensures { IfOk result (λ sets. sets.items ≡ listed (conflict_at history.now.ops) self.now) }
+    {
+        let free = copied(alloc, self.free.as_slice())?;
+        let mut sets = Vec::from_array(alloc, [free])?;
+        for part in &self.parts {
+            sets = multiplied(alloc, history, &sets, part)?;
+        }
+        Ok(sets)
+    }
+}
+
+/// Each of the sets with each of the part.
+fn multiplied(
+    alloc: Global,
+    history: &History,
+    sets: &[Places],
+    part: &Part,
+) -> Result<Vec<Places>, OutOfMemory>
+    requires { IsRising part.now.all }
+    ensures { IfOk result (λ found. found.items ≡ products sets.now (full (conflict_at history.now.ops) part.now)) }
+{
+    match part.sets.get() {
+        Some(own) => products(alloc, sets, own),
+        None => {
+            let own = groups_at(alloc, history, part.all.as_slice())?;
+            products(alloc, sets, &own)
+        }
     }
 }
