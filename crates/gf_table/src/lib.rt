@@ -1,0 +1,5 @@
+//! The versions of all objects of a history, in a table that grows by one operation at a time.
+#![tactic(auto)]
+
+mod object;
+mod tails;

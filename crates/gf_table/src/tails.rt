@@ -1,0 +1,175 @@
+//! What is kept of the setters of an attribute by one site, to tell at once whether an operation
+//! conflicts with one of them.
+
+ghost use Rattle.std.specs.Prelude.{◌≡◌, ◌<◌, ◌≤◌, filter, not, vec_len, vec_capacity, option_copied};
+ghost use Rattle.std.specs.List.{find};
+ghost use Rattle.gf_ops.specs.ConflictTests.{value_eq};
+ghost use Rattle.gf_groups.specs.Growing.{conflict_at};
+ghost use Rattle.gf_table.specs.Tails.{attr_eq, is_of, change_gives, op_gives, other_than, new_tail, noted, hits_other, hits, hits_one};
+
+use gf_groups::{Timeline, conflict_at};
+use gf_ops::{Attr, Change, Op, Value};
+
+/// The places of the last setter of an attribute by a site, and of its last one with another value
+/// than that.
+#[derive(Clone, Copy, Debug)]
+pub struct Tail {
+    pub attribute: Attr,
+    pub site: u8,
+    pub last: usize,
+    pub other: Option<usize>,
+}
+
+fn attr_eq(attribute: Attr, other: Attr) -> bool
+    ensures { result ≡ attr_eq attribute other }
+{
+    match (attribute, other) {
+        (Attr::Place, Attr::Place) => true,
+        (Attr::Points, Attr::Points) => true,
+        (Attr::Size, Attr::Size) => true,
+        (Attr::Colour, Attr::Colour) => true,
+        (Attr::Layer, Attr::Layer) => true,
+        (Attr::Shown, Attr::Shown) => true,
+        (Attr::Place | Attr::Points | Attr::Size, _) => false,
+        (Attr::Colour | Attr::Layer | Attr::Shown, _) => false,
+    }
+}
+
+/// Whether they are one value of one attribute.
+fn value_eq(value: &Value, other: &Value) -> bool
+    ensures { result ≡ value_eq value.now other.now }
+{
+    match (value, other) {
+        (Value::Place(place), Value::Place(other)) => place == other,
+        (Value::Points(points), Value::Points(other)) => points == other,
+        (Value::Size(width, height), Value::Size(other_width, other_height)) => {
+            width == other_width && height == other_height
+        }
+        (Value::Colour(colour), Value::Colour(other)) => colour == other,
+        (Value::Layer(layer), Value::Layer(other)) => layer == other,
+        (Value::Shown(shown), Value::Shown(other)) => shown == other,
+        (Value::Place(_) | Value::Points(_) | Value::Size(_, _), _) => false,
+        (Value::Colour(_) | Value::Layer(_) | Value::Shown(_), _) => false,
+    }
+}
+
+/// Whether the tail is that of the attribute and the site.
+fn is_of(attribute: Attr, site: u8, tail: &Tail) -> bool
+    ensures { result ≡ is_of attribute site tail.now }
+{
+    attr_eq(tail.attribute, attribute) && tail.site == site
+}
+
+/// The tail of the attribute and the site.
+fn found(attribute: Attr, site: u8, tails: &[Tail]) -> Option<&Tail>
+    ensures { option_copied result ≡ find (is_of attribute site) tails.now }
+{
+    tails.iter().find(|tail| is_of(attribute, site, tail))
+}
+
+/// Whether the change gives the value.
+fn change_gives(change: &Change, value: &Value) -> bool
+    ensures { result ≡ change_gives change.now value.now }
+{
+    match change {
+        Change::Set { value: own, .. } => value_eq(own, value),
+        Change::Create(_) => false,
+    }
+}
+
+/// Whether the operation is there and gives the value.
+fn op_gives(op: Option<&Op>, value: &Value) -> bool
+    ensures { result ≡ op_gives (option_copied op.entry) value.now }
+{
+    match op {
+        Some(op) => change_gives(&op.change, value),
+        None => false,
+    }
+}
+
+/// The last setter with another value than this, once this is the last.
+fn other_than(timeline: &Timeline<'_>, value: &Value, tail: Option<&Tail>) -> Option<usize>
+    ensures { result ≡ other_than timeline.now value.now (option_copied tail.entry) }
+{
+    match tail {
+        Some(tail) if op_gives(timeline.get(tail.last), value) => tail.other,
+        Some(tail) => Some(tail.last),
+        None => None,
+    }
+}
+
+/// The tail after a site gave the value at the place.
+fn new_tail(
+    timeline: &Timeline<'_>,
+    site: u8,
+    value: &Value,
+    place: usize,
+    tails: &[Tail],
+) -> Tail
+    ensures { result ≡ new_tail timeline.now site value.now place tails.now }
+{
+    let attribute = value.attribute();
+    Tail {
+        attribute,
+        site,
+        last: place,
+        other: other_than(timeline, value, found(attribute, site, tails)),
+    }
+}
+
+/// Drops the tail of the attribute and the site.
+fn drop_tail(attribute: Attr, site: u8, tails: &mut Vec<Tail>)
+    ensures items { tails.new.items ≡ filter (λ e. not (is_of attribute site e)) tails.old.items }
+    ensures len { vec_len tails.new ≤ vec_len tails.old }
+    ensures capacity { vec_capacity tails.new ≡ vec_capacity tails.old }
+{
+    tails.retain(|tail| !is_of(attribute, site, tail));
+}
+
+/// Notes that the site gave the value at the place.
+pub(crate) fn note(
+    timeline: &Timeline<'_>,
+    site: u8,
+    value: &Value,
+    place: usize,
+    tails: &mut Vec<Tail>,
+)
+    requires { vec_len tails.old < vec_capacity tails.old }
+    ensures { tails.new.items ≡ noted timeline.now site value.now place tails.old.items }
+{
+    let tail = new_tail(timeline, site, value, place, tails);
+    drop_tail(tail.attribute, site, tails);
+    tails.push_reserved(tail);
+}
+
+fn hits_other(timeline: &Timeline<'_>, place: usize, other: Option<usize>) -> bool
+    ensures { result ≡ hits_other (conflict_at timeline.now) place other }
+{
+    match other {
+        Some(other) => conflict_at(timeline, place, other),
+        None => false,
+    }
+}
+
+/// Whether the operation at this place, which sets the attribute, conflicts with one of the two.
+fn hits(timeline: &Timeline<'_>, attribute: Attr, place: usize, tail: &Tail) -> bool
+    ensures { result ≡ hits (conflict_at timeline.now) attribute place tail.now }
+{
+    attr_eq(tail.attribute, attribute)
+        && (conflict_at(timeline, place, tail.last) || hits_other(timeline, place, tail.other))
+}
+
+/// Whether the operation at this place, which sets the attribute, conflicts with one that the tails
+/// tell: two looks for each site that set the attribute.
+pub(crate) fn hits_one(
+    timeline: &Timeline<'_>,
+    attribute: Attr,
+    place: usize,
+    tails: &[Tail],
+) -> bool
+    ensures { result ≡ hits_one (conflict_at timeline.now) attribute place tails.now }
+{
+    tails
+        .iter()
+        .any(|tail| hits(timeline, attribute, place, tail))
+}
