@@ -25,7 +25,7 @@ module _ {X : Type 0} where
     pub shorter : length ks ≡ length rest + 1
     pub keeps : (y : X) → Contains ks y → (y ≡ x) ⊎ Contains rest y
 
-  without : (x : X) (ks : List X) → Contains ks x → Without x ks
+  pub without : (x : X) (ks : List X) → Contains ks x → Without x ks
   without x [] h = absurd (not_Contains-nil x h)
   without x (k ∷ ks) h = elim (Contains-cons_cases k ks x h) [
     | inl e ↦ record {

@@ -1,0 +1,3 @@
+pub mod LongerLemmas
+pub mod NextLemmas
+pub mod QuickLemmas

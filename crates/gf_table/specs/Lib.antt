@@ -1,2 +1,3 @@
 pub mod Tails
 pub mod ObjectState
+pub mod Standing

@@ -1,0 +1,59 @@
+-- A history that got longer: what stands at its places, their conflicts, and the places of the operations on an object.
+use Rattle.std.proofs.Common.{◌≡◌, ℕ, zero, suc, ◌+◌, ◌<◌, ◌≤◌, Bool, true, false, List, [], ◌∷◌, ◌++◌, length, get_or, add-one, refl, sym, ap, subst, ◌∙◌, arith}
+use Rattle.std.specs.Prelude.{Contains, cond, Option, Some, None, slice_get}
+use Rattle.std.proofs.lemmas.Bool.{cond-true, cond-false}
+use Rattle.std.proofs.lemmas.List.{get_or_append_left, length-append}
+use Rattle.std.proofs.lemmas.Option.{slice_get_read, slice_get_within, slice_get-get_or, get_or_from_slice_get}
+use Rattle.std.proofs.Math.Seq.{get_or-append_seam}
+use Rattle.gf_ops.specs.declared.op.Op.{Op}
+use Rattle.gf_ops.specs.declared.op.ObjectId.{ObjectId}
+use Rattle.gf_groups.specs.Growing.{both_conflict, conflict_at}
+use Rattle.gf_groups.specs.GroupedPlaces.{is_on, places_below}
+
+module _ (h : List Op) (a : Op) where
+  abbrev longer : List Op
+  longer = h ++ a ∷ []
+
+  pub length-longer : length longer ≡ suc (length h)
+  length-longer = length-append h (a ∷ []) ∙ add-one (length h)
+
+  pub got_last : slice_get longer (length h) ≡ Some a
+  got_last = slice_get_read longer (length longer) (length h) a refl (let e = length-longer in omega (arith, e)) (sym (get_or-append_seam h a [] a))
+
+  pub got_before : (i : ℕ) (b : Op) → slice_get h i ≡ Some b → slice_get longer i ≡ Some b
+  got_before i b e =
+      let l = slice_get_within h i b e in
+      slice_get_read longer (length longer) i b refl (let d = length-longer in omega (arith, d, l)) (sym (get_or_append_left h (a ∷ []) b i l ∙ get_or_from_slice_get h i b b e))
+
+  pub same_before : (i : ℕ) → i < length h → slice_get longer i ≡ slice_get h i
+  same_before i l = let e = slice_get-get_or h i a l in got_before i (get_or h i a) e ∙ sym e
+
+  pub same_conflict : (i j : ℕ) → i < length h → j < length h → conflict_at h i j ≡ conflict_at longer i j
+  same_conflict i j l m = rw (same_before i l, same_before j m) refl
+
+  -- the places of the operations before
+  pub places_before : (o : ObjectId) (n : ℕ) → n ≤ length h → places_below longer o n ≡ places_below h o n
+  places_before o zero l = refl
+  places_before o (suc n) l =
+      let r = places_before o n (omega (arith, l)) in
+      let e = same_before n (omega (arith, l)) in
+      ap (λ r. cond (is_on o r) (places_below longer o n ++ n ∷ []) (places_below longer o n)) e ∙ ap (λ us. cond (is_on o (slice_get h n)) (us ++ n ∷ []) us) r
+
+  abbrev last_places : ObjectId → List ℕ
+  last_places o = cond (is_on o (slice_get longer (length h))) (places_below longer o (length h) ++ length h ∷ []) (places_below longer o (length h))
+
+  all_places : (o : ObjectId) → places_below longer o (length longer) ≡ last_places o
+  all_places o = ap (places_below longer o) length-longer
+
+  same_places : (o : ObjectId) → last_places o ≡ cond (is_on o (Some a)) (places_below h o (length h) ++ length h ∷ []) (places_below h o (length h))
+  same_places o =
+      ap (λ r. cond (is_on o r) (places_below longer o (length h) ++ length h ∷ []) (places_below longer o (length h))) got_last
+      ∙ ap (λ us. cond (is_on o (Some a)) (us ++ length h ∷ []) us) (places_before o (length h) (omega arith))
+
+  -- one place more for its object
+  pub places_with_last : (o : ObjectId) → is_on o (Some a) ≡ true → places_below longer o (length longer) ≡ places_below h o (length h) ++ length h ∷ []
+  places_with_last o y = all_places o ∙ (same_places o ∙ cond-true (is_on o (Some a)) (places_below h o (length h) ++ length h ∷ []) (places_below h o (length h)) y)
+
+  -- and the same for another
+  pub places_without_last : (o : ObjectId) → is_on o (Some a) ≡ false → places_below longer o (length longer) ≡ places_below h o (length h)
+  places_without_last o n = all_places o ∙ (same_places o ∙ cond-false (is_on o (Some a)) (places_below h o (length h) ++ length h ∷ []) (places_below h o (length h)) n)
