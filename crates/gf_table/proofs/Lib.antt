@@ -1,3 +1,4 @@
 pub mod LongerLemmas
 pub mod NextLemmas
+pub mod NotedLemmas
 pub mod QuickLemmas
