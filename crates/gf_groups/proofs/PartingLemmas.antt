@@ -25,7 +25,7 @@ use Rattle.gf_ops.proofs.ListLemmas.{not_Contains-nil, Contains-cons_head}
 pub object_cmp_total : IsTotalOrder object_cmp
 object_cmp_total = on_total (λ (o : ObjectId). o.0) id_cmp_total
 
-object_cmp_exact : CmpEqualImpliesEq object_cmp
+pub object_cmp_exact : CmpEqualImpliesEq object_cmp
 object_cmp_exact o p e = let q = id_cmp_exact o.0 p.0 e in λ i. record { 0 = q i }
 
 -- a place goes behind those that the map had, or is the first

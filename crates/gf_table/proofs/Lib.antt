@@ -1,4 +1,6 @@
+pub mod KeptTailsLemmas
 pub mod LongerLemmas
 pub mod NextLemmas
 pub mod NotedLemmas
 pub mod QuickLemmas
+pub mod StateLemmas

@@ -1,10 +1,11 @@
 -- The tails after one more operation tell of it and of all before.
-use Rattle.std.proofs.Common.{◌≡◌, ◌≢◌, ℕ, ◌≤◌, Bool, true, false, List, [], ◌∷◌, ◌++◌, length, inl, inr, refl, subst, sym, ap, ◌∙◌, arith}
+use Rattle.std.proofs.Common.{◌≡◌, ◌≢◌, ℕ, ◌≤◌, ◌<◌, Bool, true, false, List, [], ◌∷◌, ◌++◌, length, inl, inr, refl, subst, sym, ap, ◌∙◌, arith}
 use Rattle.std.specs.Prelude.{◌⊎◌, ◌↔◌, Contains, filter, cond, not, Option, Some, None, slice_get, unwrap_or, ◌&&◌, ◌==◌}
 use Rattle.std.specs.List.{find}
 use Rattle.std.proofs.lemmas.Bool.{cases_Bool, cond-true, cond-false, and_from, not-true, not_from_false}
 use Rattle.std.proofs.lemmas.Bool.Decides.{Decides-eqb}
 use Rattle.std.proofs.lemmas.List.Elements.{Contains-append_left, Contains-push, Contains-push_cases}
+use Rattle.std.proofs.lemmas.Option.{slice_get_within}
 use Rattle.gf_ops.specs.declared.op.Op.{Op}
 use Rattle.gf_ops.specs.declared.op.ObjectId.{ObjectId}
 use Rattle.gf_ops.specs.declared.change.Change.{Change}
@@ -24,6 +25,7 @@ use Rattle.gf_groups.proofs.OnPlaceLemmas.{contained_at, on_op}
 use Rattle.gf_table.specs.declared.tails.Tail.{Tail}
 use Rattle.gf_table.specs.Standing.{IsSetter, HasSetter, IsOvertaken, IsTold, AreTails}
 use Rattle.gf_table.specs.Tails.{attr_eq, is_of, op_gives, other_than, new_tail, noted}
+use Rattle.gf_table.proofs.KeptTailsLemmas.{before, moved, still_told}
 use Rattle.gf_table.proofs.LongerLemmas.{got_last, got_before}
 use Rattle.gf_table.proofs.NextLemmas.{earlier}
 use Rattle.gf_table.proofs.QuickLemmas.{attr_same, of_told, one_op}
@@ -75,29 +77,8 @@ module _ (h : List Op) (valid : IsValid h) (a : Op) (in_range : IsInRange a) (ac
   abbrev last : Tail
   last = new_tail new a.id.site v (length h) es
 
-  -- what stood at the places stands there
-  before : (i : ℕ) (b : Op) → Contains us i → slice_get new i ≡ Some b → slice_get h i ≡ Some b
-  before i b m at =
-      let w = on_op (object_of a) (slice_get h i) ((all i).0 m) in
-      w.1 ∙ ap (λ (x : Op). Some x) (one_op (slice_get new i) w.0 b (got_before h a i w.0 w.1) at)
-
-  moved : (e f : Tail) (k n : ℕ) (u : Value) → e.attribute ≡ f.attribute → e.site ≡ f.site → HasSetter h e k n u → HasSetter new f k n u
-  moved e f k n u x y t = record {
-    op = t.op;
-    at = got_before h a k t.op t.at;
-    setter = record { object = t.setter.object; change = t.setter.change; attribute = t.setter.attribute ∙ x; site = t.setter.site ∙ y };
-    later = t.later;
-  }
-
-  still_told : (e : Tail) (n : ℕ) (w : Value) → IsTold h e n w → IsTold new e n w
-  still_told e n w t = record {
-    value = t.value;
-    last = moved e e e.last n t.value refl refl t.last;
-    kept = elim t.kept [
-      | inl k ↦ inl k
-      | inr k ↦ inr (record { place = k.place; value = k.value; kept = k.kept; there = moved e e k.place n k.value refl refl k.there; differs = k.differs })
-    ];
-  }
+  within : (i : ℕ) → Contains us i → i < length h
+  within i m = let w = on_op (object_of a) (slice_get h i) ((all i).0 m) in slice_get_within h i w.0 w.1
 
   of_old : (e : Tail) → Contains old_tails e → Contains es e × (own e ≡ false)
   of_old e m = let w = (Contains-filter (λ d. not (own d)) es e).0 m in (w.0, not-true (own e) w.1)
@@ -140,7 +121,7 @@ module _ (h : List Op) (valid : IsValid h) (a : Op) (in_range : IsInRange a) (ac
             place = k.place;
             value = k.value;
             kept = other_found f.0 f.1 ∙ (cond-true (op_gives (slice_get new f.0.last) v) f.0.other (Some f.0.last) (tells ∙ y) ∙ k.kept);
-            there = moved f.0 last k.place b.id.seq k.value of.0 of.1 k.there;
+            there = moved h a f.0 last k.place b.id.seq k.value of.0 of.1 k.there;
             differs = λ d. k.differs (d ∙ sym (value_eq-true told.value v y));
           }
         ]
@@ -148,7 +129,7 @@ module _ (h : List Op) (valid : IsValid h) (a : Op) (in_range : IsInRange a) (ac
           place = f.0.last;
           value = told.value;
           kept = other_found f.0 f.1 ∙ cond-false (op_gives (slice_get new f.0.last) v) f.0.other (Some f.0.last) (tells ∙ n);
-          there = moved f.0 last f.0.last b.id.seq told.value of.0 of.1 l;
+          there = moved h a f.0 last f.0.last b.id.seq told.value of.0 of.1 l;
           differs = λ d. let y : value_eq told.value v ≡ true = subst (λ z. value_eq told.value z ≡ true) d (value_eq-same told.value) in absurd cc;
         }
       ]
@@ -179,7 +160,7 @@ module _ (h : List Op) (valid : IsValid h) (a : Op) (in_range : IsInRange a) (ac
   some_tail : (i : ℕ) (b : Op) (t : Attr) (s : ℕ) (w : Value) → Contains (us ++ length h ∷ []) i → slice_get new i ≡ Some b → IsSetter b t s w → (e : Tail) × Contains (old_tails ++ last ∷ []) e × (is_of t s e ≡ true)
   some_tail i b t s w m at set = elim (Contains-push_cases us (length h) i m) [
     | inl j ↦
-        let e = tails.some i b t s w j (before i b j at) set in
+        let e = tails.some i b t s w j (before h a us within i b j at) set in
         let of = of_told t s e.0 e.2 in
         elim (cases_Bool (own e.0)) [
           | inl y ↦
@@ -195,7 +176,7 @@ module _ (h : List Op) (valid : IsValid h) (a : Op) (in_range : IsInRange a) (ac
   tail_tells : (i : ℕ) (b : Op) (t : Attr) (s : ℕ) (w : Value) (e : Tail) → Contains (us ++ length h ∷ []) i → slice_get new i ≡ Some b → IsSetter b t s w → Contains (old_tails ++ last ∷ []) e → is_of t s e ≡ true → IsTold new e b.id.seq w
   tail_tells i b t s w e m at set c y = elim (Contains-push_cases old_tails last e c) [
     | inl k ↦ let old = of_old e k in elim (Contains-push_cases us (length h) i m) [
-      | inl j ↦ still_told e b.id.seq w (tails.tell i b t s w e j (before i b j at) set old.0 y)
+      | inl j ↦ still_told h a e b.id.seq w (tails.tell i b t s w e j (before h a us within i b j at) set old.0 y)
       | inr d ↦
           let q = of_a b t s w (is_last i b d at) set in
           let of = of_told t s e y in
@@ -206,7 +187,7 @@ module _ (h : List Op) (valid : IsValid h) (a : Op) (in_range : IsInRange a) (ac
     | inr k ↦
         let of = of_told t s last (subst (λ (d : Tail). is_of t s d ≡ true) (sym k) y) in
         subst (λ (d : Tail). IsTold new d b.id.seq w) k (elim (Contains-push_cases us (length h) i m) [
-          | inl j ↦ told_by_last i b w j (before i b j at) (setter_moved b t s w (attribute_of v) a.id.site (sym of.0) (sym of.1) set)
+          | inl j ↦ told_by_last i b w j (before h a us within i b j at) (setter_moved b t s w (attribute_of v) a.id.site (sym of.0) (sym of.1) set)
           | inr d ↦
               let same = is_last i b d at in
               let q = of_a b t s w same set in

@@ -1,0 +1,170 @@
+-- The state of an object after one more operation, on it or on another one.
+use Rattle.std.proofs.Common.{◌≡◌, ℕ, ◌<◌, Bool, true, false, List, [], ◌∷◌, ◌++◌, length, inl, inr, refl, subst, sym, ap, ◌∙◌, arith}
+use Rattle.std.specs.Prelude.{◌⊎◌, ◌↔◌, Contains, cond, not, Some, slice_get}
+use Rattle.std.specs.List.{list_any}
+use Rattle.std.proofs.lemmas.Bool.{cases_Bool, cond-true, cond-false, and_from, and_parts, not-true, not_from_false}
+use Rattle.std.proofs.lemmas.List.Elements.{Contains-append_left, Contains-append_right, Contains-push, Contains-push_cases}
+use Rattle.std.proofs.lemmas.Option.{slice_get_within}
+use Rattle.gf_ops.specs.declared.op.Op.{Op}
+use Rattle.gf_ops.specs.declared.op.ObjectId.{ObjectId}
+use Rattle.gf_ops.specs.declared.change.Change.{Change}
+use Rattle.gf_ops.specs.declared.change.Change.TheVariants.{Create, Set}
+use Rattle.gf_ops.specs.declared.change.Value.{Value}
+use Rattle.gf_ops.specs.declared.change.Attr.{Attr}
+use Rattle.gf_ops.specs.Accepted.{IsAccepted}
+use Rattle.gf_ops.specs.Attribute.{attribute_of, object_of}
+use Rattle.gf_ops.specs.Limits.{IsInRange}
+use Rattle.gf_ops.specs.ValidHistory.{IsValid}
+use Rattle.gf_ops.proofs.ListLemmas.{not_Contains-nil}
+use Rattle.gf_groups.specs.Growing.{conflict_at, clashes}
+use Rattle.gf_groups.specs.GroupedPlaces.{is_on}
+use Rattle.gf_groups.proofs.ListLemmas.{list_any_true, list_any_from}
+use Rattle.gf_groups.proofs.OnPlaceLemmas.{on_op}
+use Rattle.gf_groups.proofs.TableLemmas.{conflict_at_test}
+use Rattle.gf_parts.specs.Parted.{AreParts}
+use Rattle.gf_parts.specs.Parts.{PartState, PartsState, alone, whole, touches, is_calm, with_free, with_part, after}
+use Rattle.gf_parts.proofs.PartsLemmas.{all_of_fold, first_parts, parts_agree, parts_after, all_after}
+use Rattle.gf_table.specs.declared.tails.Tail.{Tail}
+use Rattle.gf_table.specs.ObjectState.{ObjectState, nothing, with_change, with_op}
+use Rattle.gf_table.specs.Standing.{IsSetter, AreTails, IsStateOf}
+use Rattle.gf_table.specs.Tails.{hits_one}
+use Rattle.gf_table.proofs.KeptTailsLemmas.{before, tails_kept}
+use Rattle.gf_table.proofs.LongerLemmas.{got_last, same_conflict}
+use Rattle.gf_table.proofs.NotedLemmas.{tails_noted}
+use Rattle.gf_table.proofs.QuickLemmas.{made_none, one_op, quick}
+
+-- ---- whether the next one is calm, by a list of the places
+
+module _ (c : ℕ → ℕ → Bool) (t : PartsState) (us : List ℕ) (same : (i : ℕ) → Contains (whole t).all i ↔ Contains us i) (x : ℕ) where
+  free_in : (i : ℕ) → Contains t.free i → Contains us i
+  free_in i m = (same i).0 ((all_of_fold c (alone t.free) t.parts i).1 (inl m))
+
+  part_in : (p : PartState) → Contains t.parts p → (i : ℕ) → Contains p.all i → Contains us i
+  part_in p k i m = (same i).0 ((all_of_fold c (alone t.free) t.parts i).1 (inr (p, k, m)))
+
+  no_free : clashes c x us ≡ false → clashes c x t.free ≡ false
+  no_free n = elim (cases_Bool (clashes c x t.free)) [
+    | inl y ↦ let w = list_any_true (c x) t.free y in let z = list_any_from (c x) us w.0 (free_in w.0 w.1) w.2 in absurd cc
+    | inr f ↦ f
+  ]
+
+  no_part : clashes c x us ≡ false → list_any (touches c x) t.parts ≡ false
+  no_part n = elim (cases_Bool (list_any (touches c x) t.parts)) [
+    | inl y ↦
+        let p = list_any_true (touches c x) t.parts y in
+        let w = list_any_true (c x) p.0.all p.2 in
+        let z = list_any_from (c x) us w.0 (part_in p.0 p.1 w.0 w.1) w.2 in absurd cc
+    | inr f ↦ f
+  ]
+
+  calm_if : clashes c x us ≡ false → is_calm c x t ≡ true
+  calm_if n = and_from (not (clashes c x t.free)) (not (list_any (touches c x) t.parts)) (not_from_false (clashes c x t.free) (no_free n)) (not_from_false (list_any (touches c x) t.parts) (no_part n))
+
+  not_calm_if : clashes c x us ≡ true → is_calm c x t ≡ false
+  not_calm_if y = elim (cases_Bool (is_calm c x t)) [
+    | inl k ↦
+        let q = and_parts (not (clashes c x t.free)) (not (list_any (touches c x) t.parts)) k in
+        let free = not-true (clashes c x t.free) q.0 in
+        let part = not-true (list_any (touches c x) t.parts) q.1 in
+        let w = list_any_true (c x) us y in
+        elim ((all_of_fold c (alone t.free) t.parts w.0).0 ((same w.0).1 w.1)) [
+          | inl i ↦ let z = list_any_from (c x) t.free w.0 i w.2 in absurd cc
+          | inr p ↦
+              let z = list_any_from (touches c x) t.parts p.0 p.1 (list_any_from (c x) p.0.all w.0 p.2 w.2) in absurd cc
+        ]
+    | inr n ↦ n
+  ]
+
+  -- whoever tells what a look at each place tells, takes the right step
+  pub right_step : (b : Bool) → b ≡ clashes c x us → cond b (with_part c x t) (with_free x t) ≡ after c x t
+  right_step b e = elim (cases_Bool (clashes c x us)) [
+    | inl y ↦ cond-true b (with_part c x t) (with_free x t) (e ∙ y) ∙ sym (cond-false (is_calm c x t) (with_free x t) (with_part c x t) (not_calm_if y))
+    | inr n ↦ cond-false b (with_part c x t) (with_free x t) (e ∙ n) ∙ sym (cond-true (is_calm c x t) (with_free x t) (with_part c x t) (calm_if n))
+  ]
+
+-- ---- one more operation
+
+-- us are places of h
+module _ (h : List Op) (a : Op) (us : List ℕ) (within : (i : ℕ) → Contains us i → i < length h) (t : ObjectState) (state : IsStateOf h us t) where
+  abbrev c : ℕ → ℕ → Bool
+  c = conflict_at (h ++ a ∷ [])
+
+  below : (i : ℕ) → Contains (whole t.parts).all i → i < length h
+  below i m = within i ((state.places i).0 m)
+
+  still_parts : AreParts c t.parts
+  still_parts = parts_agree (conflict_at h) c (conflict_at_test h) (conflict_at_test (h ++ a ∷ [])) t.parts (λ i j k l. same_conflict h a i j (below i k) (below j l)) state.parts
+
+  -- it stays where the operation is on another object
+  pub state_kept : IsStateOf (h ++ a ∷ []) us t
+  state_kept = record { parts = still_parts; places = state.places; tails = tails_kept h a us within t.tails state.tails }
+
+  parts_more : AreParts c (after c (length h) t.parts)
+  parts_more = parts_after c (conflict_at_test (h ++ a ∷ [])) t.parts still_parts (length h) below
+
+  places_more : (i : ℕ) → Contains (whole (after c (length h) t.parts)).all i ↔ Contains (us ++ length h ∷ []) i
+  places_more i =
+      let w = all_after c (conflict_at_test (h ++ a ∷ [])) t.parts still_parts (length h) below i in (
+        λ m. elim (w.0 m) [ inl k ↦ Contains-append_left us (length h ∷ []) i ((state.places i).0 k) | inr e ↦ subst (Contains (us ++ length h ∷ [])) (sym e) (Contains-push us (length h)) ],
+        λ m. w.1 (elim (Contains-push_cases us (length h) i m) [ inl k ↦ inl ((state.places i).1 k) | inr e ↦ inr (sym e) ]),
+      )
+
+  -- with the right parts and tails it is the state with a
+  made_state : (s : ObjectState) → s.parts ≡ after c (length h) t.parts → AreTails (h ++ a ∷ []) (us ++ length h ∷ []) s.tails → IsStateOf (h ++ a ∷ []) (us ++ length h ∷ []) s
+  made_state s e tails = record {
+    parts = subst (AreParts c) (sym e) parts_more;
+    places = subst (λ (p : PartsState). (i : ℕ) → Contains (whole p).all i ↔ Contains (us ++ length h ∷ []) i) (sym e) places_more;
+    tails = tails;
+  }
+
+  module _ (valid : IsValid h) (in_range : IsInRange a) (accepted : IsAccepted h a) (all : (i : ℕ) → Contains us i ↔ (is_on (object_of a) (slice_get h i) ≡ true)) where
+    no_clash : ((i : ℕ) → ¬ (Contains us i)) → clashes c (length h) us ≡ false
+    no_clash none = elim (cases_Bool (clashes c (length h) us)) [
+      | inl y ↦ let w = list_any_true (c (length h)) us y in absurd (none w.0 w.1)
+      | inr n ↦ n
+    ]
+
+    -- a new object has no setter
+    first_tails : (start : _) → a.change ≡ Create start → AreTails (h ++ a ∷ []) (us ++ length h ∷ []) t.tails
+    first_tails start e = record {
+      last = λ d m. Contains-append_left us (length h ∷ []) d.last (state.tails.last d m);
+      other = λ d m k x. Contains-append_left us (length h ∷ []) k (state.tails.other d m k x);
+      some = λ i b u s v m at set. absurd (never i b u s v m at set);
+      tell = λ i b u s v d m at set k y. absurd (never i b u s v m at set);
+    }
+      where
+        creates : (k : Change) (o : ObjectId) (v : Value) → k ≡ Create start → ¬ (k ≡ Set o v)
+        creates k o v x y = cc
+
+        never : (i : ℕ) (b : Op) (u : Attr) (s : ℕ) (v : Value) → Contains (us ++ length h ∷ []) i → slice_get (h ++ a ∷ []) i ≡ Some b → ¬ (IsSetter b u s v)
+        never i b u s v m at set = elim (Contains-push_cases us (length h) i m) [
+          | inl k ↦ made_none h valid a in_range accepted us all start e i k
+          | inr d ↦
+              let same : b ≡ a = one_op (slice_get (h ++ a ∷ []) i) b a at (subst (λ j. slice_get (h ++ a ∷ []) j ≡ Some a) d (got_last h a)) in
+              creates a.change set.object v e (subst (λ (z : Op). z.change ≡ Set set.object v) same set.change)
+        ]
+
+    by_change : (k : Change) → a.change ≡ k → IsStateOf (h ++ a ∷ []) (us ++ length h ∷ []) (with_change (h ++ a ∷ []) a.id.site k (length h) t)
+    by_change (Create start) e = made_state (with_change (h ++ a ∷ []) a.id.site (Create start) (length h) t)
+        (right_step c t.parts us state.places (length h) false (sym (no_clash (made_none h valid a in_range accepted us all start e))))
+        (first_tails start e)
+    by_change (Set o v) e = made_state (with_change (h ++ a ∷ []) a.id.site (Set o v) (length h) t)
+        (right_step c t.parts us state.places (length h) (hits_one c (attribute_of v) (length h) t.tails) (quick h valid a in_range accepted us all o v e t.tails state.tails))
+        (tails_noted h valid a in_range accepted us all o v e t.tails state.tails)
+
+    -- THE STEP on its own object
+    pub state_more : IsStateOf (h ++ a ∷ []) (us ++ length h ∷ []) (with_op (h ++ a ∷ []) a (length h) t)
+    state_more = by_change a.change refl
+
+-- no place, nothing
+pub first_state : (h : List Op) → IsStateOf h [] nothing
+first_state h = record {
+  parts = first_parts (conflict_at h) (conflict_at_test h);
+  places = λ i. (λ m. m, λ m. m);
+  tails = record {
+    last = λ e m. absurd (not_Contains-nil e m);
+    other = λ e m. absurd (not_Contains-nil e m);
+    some = λ i b t s v m. absurd (not_Contains-nil i m);
+    tell = λ i b t s v e m. absurd (not_Contains-nil i m);
+  };
+}
