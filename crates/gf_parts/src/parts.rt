@@ -7,7 +7,7 @@ ghost use Rattle.gf_parts.specs.Parts.{joined, alone, holds, touches, grown_part
 ghost use Rattle.gf_groups.specs.Tables.{IsRising};
 ghost use Rattle.gf_parts.specs.Parted.{AreParts};
 
-use crate::sets::{Sets, products, united};
+use crate::sets::{Sets, copied, products, united};
 use gf_groups::{Places, Timeline, clashes, conflict_at, groups_at, rivals};
 use gf_ops::History;
 use gf_shape::OutOfMemory;
@@ -74,13 +74,24 @@ fn joined(alloc: Global, part: &Part, other: &Part) -> Result<Part, OutOfMemory>
     Ok(Part { all, sets })
 }
 
-/// The same places once more.
-fn copied(alloc: Global, places: &[usize]) -> Result<Places, OutOfMemory>
-    ensures { IfOk result (λ copy. copy ≡ places.now) }
+/// The same part once more.
+fn copied_part(alloc: Global, part: &Part) -> Result<Part, OutOfMemory>
+    ensures { IfOk result (λ copy. copy ≡ part.now) }
+{
+    let sets = part.sets.copy(alloc)?;
+    let all = copied(alloc, part.all.as_slice())?;
+    Ok(Part { all, sets })
+}
+
+/// The same parts once more.
+fn copied_parts(alloc: Global, parts: &[Part]) -> Result<Vec<Part>, OutOfMemory>
+    ensures { IfOk result (λ copy. copy.items ≡ parts.now) }
 {
     let mut copy = Vec::new(alloc);
-    copy.extend_from_slice(places)?;
-    Ok(Places::of(copy))
+    for part in parts {
+        copy.push(copied_part(alloc, part)?)?;
+    }
+    Ok(copy)
 }
 
 /// Places as a part of one set.
@@ -161,6 +172,15 @@ impl Parts {
             free: Places::new(alloc),
             parts: Vec::new(alloc),
         }
+    }
+
+    /// The same parts once more.
+    pub fn copy(&self, alloc: Global) -> Result<Parts, OutOfMemory>
+        ensures { IfOk result (λ copy. copy ≡ self.now) }
+    {
+        let free = copied(alloc, self.free.as_slice())?;
+        let parts = copied_parts(alloc, &self.parts)?;
+        Ok(Parts { free, parts })
     }
 
     /// Adds the operation at this place, which conflicts with none.

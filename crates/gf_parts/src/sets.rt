@@ -52,6 +52,18 @@ impl Sets {
         }
     }
 
+    /// The same sets once more.
+    pub(crate) fn copy(&self, alloc: Global) -> Result<Sets, OutOfMemory>
+        ensures { IfOk result (λ copy. copy ≡ self.now) }
+    {
+        match &self.sets {
+            Some(sets) => Ok(Sets {
+                sets: Some(copied_sets(alloc, sets)?),
+            }),
+            None => Ok(Sets { sets: None }),
+        }
+    }
+
     /// Each of them united with each of the others. Where these are too many, none is made.
     pub(crate) fn times(&self, alloc: Global, others: &Sets) -> Result<Sets, OutOfMemory>
         ensures { IfOk result (λ sets. sets ≡ times self.now others.now) }
@@ -80,6 +92,26 @@ impl Sets {
             None => Ok(Sets { sets: None }),
         }
     }
+}
+
+/// The same places once more.
+pub(crate) fn copied(alloc: Global, places: &[usize]) -> Result<Places, OutOfMemory>
+    ensures { IfOk result (λ copy. copy ≡ places.now) }
+{
+    let mut copy = Vec::new(alloc);
+    copy.extend_from_slice(places)?;
+    Ok(Places::of(copy))
+}
+
+/// The same sets once more.
+fn copied_sets(alloc: Global, sets: &[Places]) -> Result<Vec<Places>, OutOfMemory>
+    ensures { IfOk result (λ copy. copy.items ≡ sets.now) }
+{
+    let mut copy = Vec::new(alloc);
+    for set in sets {
+        copy.push(copied(alloc, set.as_slice())?)?;
+    }
+    Ok(copy)
 }
 
 /// Inserts these places too.

@@ -1,3 +1,4 @@
+pub mod CopyLemmas
 pub mod KeptTailsLemmas
 pub mod LongerLemmas
 pub mod NextLemmas

@@ -1,5 +1,5 @@
 -- A table after one more operation stands for the longer history, and lists the versions of an object.
-use Rattle.std.proofs.Common.{◌≡◌, ℕ, ◌<◌, Bool, true, false, List, [], ◌∷◌, ◌++◌, length, inl, inr, refl, subst, sym, ap, ◌∙◌}
+use Rattle.std.proofs.Common.{◌≡◌, ℕ, ◌<◌, Bool, true, false, List, [], ◌∷◌, ◌++◌, length, map, inl, inr, refl, subst, sym, ap, ◌∙◌}
 use Rattle.std.specs.Prelude.{◌↔◌, Contains, cond, Option, Some, None, unwrap_or, slice_get}
 use Rattle.std.specs.BTreeMap.{is_at}
 use Rattle.std.specs.Map.{lookup, set_value}
@@ -14,20 +14,22 @@ use Rattle.gf_ops.specs.Attribute.{object_of}
 use Rattle.gf_ops.specs.Limits.{IsInRange}
 use Rattle.gf_ops.specs.ValidHistory.{IsValid}
 use Rattle.gf_groups.specs.Growing.{conflict_at}
-use Rattle.gf_groups.specs.GroupedPlaces.{is_on, places_below}
+use Rattle.gf_groups.specs.GroupedPlaces.{is_on, places_below, group_at}
 use Rattle.gf_groups.specs.Parting.{object_cmp}
 use Rattle.gf_groups.specs.Tables.{IsTable}
+use Rattle.gf_groups.specs.Versions.{IsMade}
+use Rattle.gf_groups.proofs.GroupLemmas.{groups_exactly, groups_once}
 use Rattle.gf_groups.proofs.GrowingLemmas.{table_first}
 use Rattle.gf_groups.proofs.OnPlaceLemmas.{all_places, on_from, on_to}
 use Rattle.gf_groups.proofs.PartingLemmas.{object_cmp_exact, object_cmp_total}
-use Rattle.gf_groups.proofs.PlaceLemmas.{Contains-places_below}
+use Rattle.gf_groups.proofs.PlaceLemmas.{Contains-places_below, places_below-rising}
 use Rattle.gf_groups.proofs.SortedLemmas.{equal_left}
 use Rattle.gf_groups.proofs.TableLemmas.{conflict_at_test}
 use Rattle.gf_parts.specs.Parts.{whole, listed}
 use Rattle.gf_parts.proofs.PartsLemmas.{table_listed}
 use Rattle.gf_parts.proofs.ProductLemmas.{table_alike}
 use Rattle.gf_table.specs.ObjectState.{ObjectState, nothing, with_op}
-use Rattle.gf_table.specs.Standing.{IsStateOf, Stands, StandsFor, state_of}
+use Rattle.gf_table.specs.Standing.{IsStateOf, Stands, StandsFor, AreAllOf, state_of}
 use Rattle.gf_table.proofs.LongerLemmas.{places_with_last, places_without_last}
 use Rattle.gf_table.proofs.StateLemmas.{first_state, state_kept, state_more}
 
@@ -116,3 +118,15 @@ sets_listed h us t s = table_alike (conflict_at h) (whole t.parts).all us (liste
 -- and of one that has none
 pub sets_none : (h : List Op) (us : List ℕ) → us ≡ [] → IsTable (conflict_at h) us ([] ∷ [])
 sets_none h us e = subst (λ vs. IsTable (conflict_at h) vs ([] ∷ [])) (sym e) (table_first (conflict_at h))
+
+-- THE LAW: the versions of an object, each once
+pub versions_listed : (h : List Op) (t : List (ObjectId × ObjectState)) (o : ObjectId) (s : ObjectState) → IsValid h → StandsFor h t → IsMade h o → state_of t o ≡ Some s → AreAllOf h o (map (group_at h o) (listed (conflict_at h) s.parts))
+versions_listed h t o s valid stands made found =
+    let us = places_below h o (length h) in
+    let state : IsStateOf h us s = subst (Stands h us) found (stands o) in
+    let table = sets_listed h us s state in
+    let rises = places_below-rising h o (length h) in
+    record {
+      exactly = groups_exactly h valid o us (all_places h o) rises (listed (conflict_at h) s.parts) table made;
+      once = groups_once h valid o us (all_places h o) rises (listed (conflict_at h) s.parts) table;
+    }

@@ -1,5 +1,5 @@
 -- When a table stands for a history: for each object it has the parts of the object's operations, and the tails of their setters.
-use Rattle.std.specs.Prelude.{◌≡◌, ◌≢◌, ◌⊎◌, ◌↔◌, ℕ, ◌≤◌, true, List, [], Contains, length, Option, Some, None, slice_get}
+use Rattle.std.specs.Prelude.{◌≡◌, ◌≢◌, ◌⊎◌, ◌↔◌, ℕ, ◌≤◌, true, cond, List, [], AllPairs, Contains, length, Option, Some, None, slice_get}
 use Rattle.std.specs.BTreeMap.{is_at}
 use Rattle.std.specs.Map.{lookup}
 use Rattle.gf_ops.specs.declared.op.Op.{Op}
@@ -8,9 +8,11 @@ use Rattle.gf_ops.specs.declared.change.Change.TheVariants.{Set}
 use Rattle.gf_ops.specs.declared.change.Value.{Value}
 use Rattle.gf_ops.specs.declared.change.Attr.{Attr}
 use Rattle.gf_ops.specs.Attribute.{attribute_of}
+use Rattle.gf_groups.specs.declared.group.Group.{Group}
 use Rattle.gf_groups.specs.Growing.{conflict_at}
 use Rattle.gf_groups.specs.GroupedPlaces.{places_below}
 use Rattle.gf_groups.specs.Parting.{object_cmp}
+use Rattle.gf_groups.specs.Versions.{IsVersionGroup}
 use Rattle.gf_parts.specs.Parted.{AreParts}
 use Rattle.gf_parts.specs.Parts.{whole}
 use Rattle.gf_table.specs.declared.tails.Tail.{Tail}
@@ -67,6 +69,15 @@ Stands h us None = us ≡ []
 abbrev pub state_of : List (ObjectId × ObjectState) → ObjectId → Option ObjectState
 state_of t o = lookup (is_at (object_cmp o)) t
 
+-- the table s is t with this state of the object o
+abbrev pub Puts : List (ObjectId × ObjectState) → ObjectId → ObjectState → List (ObjectId × ObjectState) → Type 0
+Puts t o r s = (q : ObjectId) → state_of s q ≡ cond (is_at (object_cmp o) q) (Some r) (state_of t q)
+
 -- the table has for each object the state of its operations in h
 abbrev pub StandsFor : List Op → List (ObjectId × ObjectState) → Type 0
 StandsFor h t = (o : ObjectId) → Stands h (places_below h o (length h)) (state_of t o)
+
+-- the groups are the versions of the object o of h, each once
+pub record AreAllOf (h : List Op) (o : ObjectId) (groups : List Group) : Type 0 where
+  pub exactly : (g : Group) → Contains groups g ↔ ((g.object ≡ o) × IsVersionGroup h g)
+  pub once : AllPairs (λ g k. g ≢ k) groups

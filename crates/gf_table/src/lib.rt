@@ -2,10 +2,13 @@
 //!
 //! - [`GroupTable`]: stands for a history, takes the next operation, and lists the versions of an
 //!   object as `groups_of` does.
+//! - [`the_versions_are_what_is_free_with_one_set_of_each_part`]: the law.
 #![tactic(auto)]
 
+mod laws;
 mod object;
 mod table;
 mod tails;
 
+pub use laws::the_versions_are_what_is_free_with_one_set_of_each_part;
 pub use table::GroupTable;

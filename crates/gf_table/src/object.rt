@@ -1,6 +1,6 @@
 //! What the table has of one object.
 
-ghost use Rattle.std.specs.Prelude.{◌≡◌, cond, OnOk, OnErr};
+ghost use Rattle.std.specs.Prelude.{◌≡◌, cond, IfOk, OnOk, OnErr};
 ghost use Rattle.gf_groups.specs.Growing.{conflict_at};
 ghost use Rattle.gf_parts.specs.Parts.{with_free, with_part};
 ghost use Rattle.gf_table.specs.ObjectState.{nothing, with_setter, with_op};
@@ -37,6 +37,16 @@ impl ObjectTable {
             parts: Parts::new(alloc),
             tails: Vec::new(alloc),
         }
+    }
+
+    /// The same once more.
+    pub(crate) fn copy(&self, alloc: Global) -> Result<ObjectTable, OutOfMemory>
+        ensures { IfOk result (λ copy. copy ≡ self.now) }
+    {
+        let parts = self.parts.copy(alloc)?;
+        let mut tails = Vec::new(alloc);
+        tails.extend_from_slice(&self.tails)?;
+        Ok(ObjectTable { parts, tails })
     }
 
     /// Adds the operation at this place, which comes after the others.

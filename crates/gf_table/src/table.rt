@@ -1,14 +1,16 @@
 //! The versions of all objects of a history in parts, one operation at a time.
 
 ghost use Rattle.std.specs.Prelude.{◌≡◌, ◌↔◌, ◌∷◌, [], ◌++◌, length, Err, IfOk, OnOk, OnErr};
+ghost use Rattle.std.specs.BTreeMap.{insert_entry};
 ghost use Rattle.gf_ops.specs.Accepted.{IsAccepted};
 ghost use Rattle.gf_ops.specs.Limits.{IsInRange};
 ghost use Rattle.gf_groups.specs.declared.faults.GroupFault.{GroupFault};
 ghost use Rattle.gf_groups.specs.Growing.{conflict_at};
 ghost use Rattle.gf_groups.specs.GroupedPlaces.{places_below};
+ghost use Rattle.gf_groups.specs.Parting.{object_cmp};
 ghost use Rattle.gf_groups.specs.Tables.{IsTable};
 ghost use Rattle.gf_groups.specs.Versions.{IsMade, AreVersions};
-ghost use Rattle.gf_table.specs.Standing.{StandsFor};
+ghost use Rattle.gf_table.specs.Standing.{StandsFor, Puts};
 
 use crate::object::ObjectTable;
 use gf_groups::{GroupFault, Groups, Places, Timeline, groups_from, is_made};
@@ -47,6 +49,18 @@ impl GroupTable {
         }
     }
 
+    /// The same table once more.
+    pub fn copy(&self, alloc: Global) -> Result<GroupTable, OutOfMemory>
+        ensures { IfOk result (λ copy. copy ≡ self.now) }
+    {
+        let mut objects = BTreeMap::new(alloc);
+        for (object, state) in &self.objects {
+            let state = state.copy(alloc)?;
+            put(&mut objects, *object, state)?;
+        }
+        Ok(GroupTable { alloc, objects })
+    }
+
     /// Adds an operation that the history may add. One that conflicts with nothing is found so by two
     /// looks for each site that set its attribute of the object; another one looks at the parts of
     /// its object, and no more sets are made than a part may keep.
@@ -65,10 +79,7 @@ impl GroupTable {
         }
         let mut state = ObjectTable::new(self.alloc);
         state.add(self.alloc, &timeline, op, place)?;
-        match self.objects.insert(op.object(), state) {
-            Ok(_) => Ok(()),
-            Err(_) => Err(OutOfMemory),
-        }
+        put(&mut self.objects, op.object(), state)
     }
 
     /// The versions of an object, as `groups_of` gives them. The table has places, and the history of
@@ -121,5 +132,21 @@ impl GroupTable {
             Some(state) => state.parts.listed(alloc, history),
             None => Ok(Vec::from_array(alloc, [Places::new(alloc)])?),
         }
+    }
+}
+
+/// Puts the state under the object.
+fn put(
+    objects: &mut BTreeMap<ObjectId, ObjectTable>,
+    object: ObjectId,
+    state: ObjectTable,
+) -> Result<(), OutOfMemory>
+    ensures entries { OnOk result (objects.new.entries ≡ insert_entry object_cmp objects.old.entries object state) }
+    ensures states { OnOk result (Puts objects.old.entries object state objects.new.entries) }
+    ensures err { OnErr result (objects.new.entries ≡ objects.old.entries) }
+{
+    match objects.insert(object, state) {
+        Ok(_) => Ok(()),
+        Err(_) => Err(OutOfMemory),
     }
 }

@@ -30,18 +30,19 @@ returns-in-Some-clause-err c =
         let writes = c.get_mut.follows.holds c.add.new.self in
         writes.0 ∙ (written_again _ t c.add.new.self (found ∙ ap (λ (z : ObjectState). Some z) (sym same)) ∙ c.self.view_is)) c.add.ensures.err
 
-pub returns-in-Ok-clause-ok : goal.returns-in-Ok-clause-ok
-returns-in-Ok-clause-ok c =
+pub returns-clause-ok : goal.returns-clause-ok
+returns-clause-ok c =
     let h = c.args.history.now.ops in
     let a = c.args.op.now in
     let t = c.self.inside.objects.entries in
     let none : state_of t c.object.result ≡ None = sym c.in_default.ensures.value in
     let stands : StandsFor h t = subst (λ z. StandsFor h z) (sym c.self.view_is) c.requires.stands in
-    let updates = rw c.get_mut.follows.holds-at-none at c.in-Ok.ensures.updates in
+    let states = rw c.get_mut.follows.holds-at-none at c.put.ensures.states in
     let same : c.object-2.result ≡ c.object.result = c.object-2.ensures ∙ sym c.object.ensures in
     let old : unwrap_or (state_of t c.object-2.result) nothing ≡ nothing = ap (λ o. unwrap_or (state_of t o) nothing) same ∙ ap (λ r. unwrap_or r nothing) none in
     let w = c.add-2.new.self in
     let made = c.in_ok-add.ensures.ok ∙ ap (λ (z : ObjectState). with_op c.with-timeline.result a (length c.ops-place.result.now) z) c.new-state.ensures in
-    stands_after h c.ops-place.ensures.valid a c.requires.in_range c.requires.accepted t c.insert.new.self.entries stands
-    (adds_from h c.ops-place.ensures.valid a c.requires.in_range c.requires.accepted t c.insert.new.self.entries c.object-2.result nothing w c.with-timeline.result (length c.ops-place.result.now)
-        c.object-2.ensures old c.with-timeline.ensures (ap length c.ops-place.ensures.ops) made updates.0)
+    on_ok_weaker c.put.result (λ puts.
+        stands_after h c.ops-place.ensures.valid a c.requires.in_range c.requires.accepted t c.put.new.objects.entries stands
+        (adds_from h c.ops-place.ensures.valid a c.requires.in_range c.requires.accepted t c.put.new.objects.entries c.object-2.result nothing w c.with-timeline.result (length c.ops-place.result.now)
+            c.object-2.ensures old c.with-timeline.ensures (ap length c.ops-place.ensures.ops) made puts)) states
