@@ -1,6 +1,6 @@
 -- The sublists of a rising list: what they hold, and the order in which they stand.
 use Rattle.std.proofs.Common.{◌≡◌, ◌<◌, Bool, List, [], ◌∷◌, ◌++◌, map, length, get_or, inl, inr, refl, subst, sym, arith}
-use Rattle.std.specs.Prelude.{⊤, ◌⊎◌, Contains, filter}
+use Rattle.std.specs.Prelude.{◌⊎◌, Contains, filter}
 use Rattle.std.specs.Cmp.{IsTotalOrder}
 use Rattle.std.specs.Cmp.Lexicographic.{slice_cmp}
 use Rattle.std.specs.List.Sorted.{IsStrictlySortedBy}

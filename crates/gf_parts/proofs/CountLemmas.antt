@@ -1,6 +1,6 @@
 -- How many largest groups places have, and what is kept of them.
-use Rattle.std.proofs.Common.{◌≡◌, ◌≢◌, ℕ, zero, suc, ◌+◌, ◌*◌, ◌≤◌, ◌<◌, Bool, true, false, List, [], ◌∷◌, ◌++◌, map, length, inl, inr, refl, subst, sym, ap, ◌∙◌, arith}
-use Rattle.std.specs.Prelude.{◌⊎◌, ◌↔◌, All, AllPairs, Contains, Option, Some, None, cond, nat_le}
+use Rattle.std.proofs.Common.{◌≡◌, ◌≢◌, ℕ, zero, suc, ◌+◌, ◌*◌, ◌≤◌, ◌<◌, Bool, List, [], ◌∷◌, ◌++◌, map, length, inl, inr, refl, subst, sym, ◌∙◌, arith}
+use Rattle.std.specs.Prelude.{◌⊎◌, ◌↔◌, All, AllPairs, Contains, Option, Some, None, nat_le}
 use Rattle.std.proofs.Math.Nat.{mul-one, mul_comm, mul-le-mul_left, suc-mul, zero-mul}
 use Rattle.std.proofs.lemmas.Bool.{cases_Bool, cond-true, cond-false, leb-true, leb-false}
 use Rattle.std.proofs.lemmas.List.{length-append, length-map}
@@ -49,10 +49,10 @@ module _ {X : Type 0} where
       let w = without g ks (f g (Contains-cons_head g gs)) in
       let head : All (λ x. g ≢ x) gs = λ k d l. p zero (suc k) d (omega arith) (omega arith) in
       let r = no_longer gs w.rest (λ i j d l m. p (suc i) (suc j) d (omega arith) (omega arith))
-          (λ x i. elim (w.keeps x (f x (Contains-cons_tail g gs x i))) [
-            | inl e ↦ absurd (All-contains (λ z. g ≢ z) gs x head i (sym e))
-            | inr j ↦ j
-          ]) in
+      (λ x i. elim (w.keeps x (f x (Contains-cons_tail g gs x i))) [
+        | inl e ↦ absurd (All-contains (λ z. g ≢ z) gs x head i (sym e))
+        | inr j ↦ j
+      ]) in
       let s = w.shorter in
       omega arith
 
@@ -119,7 +119,7 @@ module _ (c : ℕ → ℕ → Bool) (s : IsConflict c) where
   number_joined : (us vs : List ℕ) → IsRising us → IsRising vs → Apart c us vs → number c (united us vs) ≡ number c us * number c vs
   number_joined us vs r q w =
       sym (number_of_table (united us vs) (products (groups_at c us) (groups_at c vs)) (united_rises us vs)
-          (table_product c s us vs w (groups_at c us) (groups_at c vs) (table_groups c s us r) (table_groups c s vs q)))
+      (table_product c s us vs w (groups_at c us) (groups_at c vs) (table_groups c s us r) (table_groups c s vs q)))
       ∙ length-products (groups_at c us) (groups_at c vs)
 
   -- ---- what is kept

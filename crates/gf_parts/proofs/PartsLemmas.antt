@@ -1,6 +1,6 @@
 -- Parts that no conflict connects: their product has the largest groups of all, each once, and one more place keeps them so.
-use Rattle.std.proofs.Common.{◌≡◌, ◌≢◌, ℕ, ◌<◌, Bool, true, false, List, [], ◌∷◌, ◌++◌, map, inl, inr, refl, subst, sym, ap, ◌∙◌, arith}
-use Rattle.std.specs.Prelude.{◌⊎◌, ◌↔◌, ⊤, Contains, filter, cond, not, ◌&&◌, ◌||◌, ◌==◌, Option, Some, None, unwrap_or}
+use Rattle.std.proofs.Common.{◌≡◌, ◌≢◌, ℕ, ◌<◌, Bool, true, false, List, [], ◌∷◌, ◌++◌, inl, inr, refl, subst, sym, ap, ◌∙◌, arith}
+use Rattle.std.specs.Prelude.{◌⊎◌, ◌↔◌, Contains, filter, not, ◌||◌, ◌==◌, Option, Some, None, unwrap_or}
 use Rattle.std.specs.List.{list_any, fold}
 use Rattle.std.specs.Cmp.{nat_cmp_is}
 use Rattle.std.specs.Ordering.{nat_cmp}
@@ -8,21 +8,19 @@ use Rattle.std.specs.declared.cmp.Ordering.TheVariants.{Less}
 use Rattle.std.proofs.lemmas.Bool.{cases_Bool, cond-true, cond-false, and_parts, not-true, not_from_false, or_left}
 use Rattle.std.proofs.lemmas.Bool.Decides.{Decides-eqb}
 use Rattle.std.proofs.lemmas.Cmp.{nat_cmp_total}
-use Rattle.std.proofs.lemmas.List.Elements.{Contains-append_cases, Contains-append_left, Contains-append_right, Contains-push, Contains-push_cases}
+use Rattle.std.proofs.lemmas.List.Elements.{Contains-append_cases, Contains-append_left, Contains-push, Contains-push_cases}
 use Rattle.std.proofs.lemmas.List.Kept.{IsStrictlySortedBy-filter}
-use Rattle.std.proofs.lemmas.Map.Keys.{sorted_tail}
 use Rattle.gf_ops.proofs.ListLemmas.{Contains-cons_cases, Contains-cons_head, Contains-cons_tail, not_Contains-nil}
-use Rattle.gf_groups.specs.Growing.{clashes, next, groups_at}
-use Rattle.gf_parts.specs.Parts.{PartState, PartsState, united, products, joined, alone, whole, touches, grown_part, touched, is_calm, with_free, with_part, after, holds, stays, products, full, listed}
-use Rattle.gf_groups.specs.Tables.{Hits, IsLargest, IsRising, IsTable}
-use Rattle.gf_groups.proofs.GrowingLemmas.{table_next}
+use Rattle.gf_groups.specs.Growing.{clashes, groups_at}
+use Rattle.gf_parts.specs.Parts.{PartState, PartsState, products, joined, alone, whole, touches, grown_part, touched, is_calm, with_free, with_part, after, holds, stays, products, full, listed}
+use Rattle.gf_groups.specs.Tables.{IsRising, IsTable}
 use Rattle.gf_groups.proofs.LargestLemmas.{IsConflict}
 use Rattle.gf_groups.specs.Pairs.{Pairs}
-use Rattle.gf_parts.specs.Parted.{Apart, IsKept, IsPart, AreParts, number}
+use Rattle.gf_parts.specs.Parted.{Apart, IsKept, IsPart, AreParts}
 use Rattle.gf_groups.proofs.ListLemmas.{Contains-filter, list_any_true, list_any_false, list_any_from}
 use Rattle.gf_parts.proofs.CountLemmas.{kept_joined, kept_grown, kept_agree}
-use Rattle.gf_parts.proofs.ProductLemmas.{Contains-united, united_rises, table_product, table_alone, table_alike}
-use Rattle.gf_groups.proofs.RisingLemmas.{rising_push, rising_nil, below_tail}
+use Rattle.gf_parts.proofs.ProductLemmas.{Contains-united, united_rises, table_product, table_alone}
+use Rattle.gf_groups.proofs.RisingLemmas.{rising_push, rising_nil}
 use Rattle.gf_groups.proofs.SublistLemmas.{Pairs-append, Pairs-filter, Pairs-from}
 use Rattle.gf_groups.proofs.TableLemmas.{table_groups}
 
@@ -333,8 +331,8 @@ module _ (c : ℕ → ℕ → Bool) where
       pub parts_after : AreParts c (after c x t)
       parts_after = elim (cases_Bool (is_calm c x t)) [
         | inl y ↦ rw (cond-true (is_calm c x t) (with_free x t) (with_part c x t) y) (
-          let w = and_parts (not (clashes c x t.free)) (not (list_any (touches c x) t.parts)) y in
-          keeps_free (not-true (clashes c x t.free) w.0) (not-true (list_any (touches c x) t.parts) w.1))
+            let w = and_parts (not (clashes c x t.free)) (not (list_any (touches c x) t.parts)) y in
+            keeps_free (not-true (clashes c x t.free) w.0) (not-true (list_any (touches c x) t.parts) w.1))
         | inr n ↦ rw (cond-false (is_calm c x t) (with_free x t) (with_part c x t) n) (subst (AreParts c) (sym same_part) keeps_part)
       ]
 

@@ -1,12 +1,10 @@
 -- The largest groups of two sets of places that no conflict connects are the unions of theirs.
-use Rattle.std.proofs.Common.{◌≡◌, ◌≢◌, ℕ, zero, suc, Bool, true, false, List, [], ◌∷◌, ◌++◌, map, inl, inr, refl, subst, sym, ◌∙◌, arith}
+use Rattle.std.proofs.Common.{◌≡◌, ◌≢◌, ℕ, zero, suc, Bool, true, false, List, [], ◌∷◌, map, inl, inr, refl, subst, sym, ◌∙◌, arith}
 use Rattle.std.specs.Prelude.{◌⊎◌, ◌↔◌, All, AllPairs, Contains, filter, ◌==◌}
-use Rattle.std.specs.List.{list_any, fold, flat_map}
+use Rattle.std.specs.List.{list_any, fold}
 use Rattle.std.specs.BTreeSet.{insert_key}
-use Rattle.std.specs.List.Sorted.{IsStrictlySortedBy}
 use Rattle.std.specs.Ordering.{nat_cmp}
 use Rattle.std.specs.FinMap.{IsAntisymmetric}
-use Rattle.std.specs.Cmp.{nat_cmp_is}
 use Rattle.std.proofs.lemmas.Bool.Decides.{Decides-eqb}
 use Rattle.std.proofs.lemmas.Cmp.{nat_cmp_total}
 use Rattle.std.proofs.lemmas.Map.Lookups.{exact_unsigned}
@@ -157,10 +155,10 @@ module _ (c : ℕ → ℕ → Bool) (s : IsConflict c) (us vs : List ℕ) (apart
       (AllPairs-map (united g) ks (λ k l i j e. second_same g k g l here (y k i) here (y l j) e) q)
       (products_once gs ks (λ h i. x h (Contains-cons_tail g gs h i)) y (λ i j d l m. p (suc i) (suc j) d (omega arith) (omega arith)) q)
       (λ a b i j e.
-          let v = Contains-map_from (united g) ks a i in
-          let w = Contains-products_from gs ks b j in
-          All-contains (λ h. g ≢ h) gs w.0 head w.2
-          (first_same g v.0 w.0 w.1 here (y v.0 v.1) (x w.0 (Contains-cons_tail g gs w.0 w.2)) (y w.1 w.3) (sym v.2 ∙ (e ∙ w.4))))
+      let v = Contains-map_from (united g) ks a i in
+      let w = Contains-products_from gs ks b j in
+      All-contains (λ h. g ≢ h) gs w.0 head w.2
+      (first_same g v.0 w.0 w.1 here (y v.0 v.1) (x w.0 (Contains-cons_tail g gs w.0 w.2)) (y w.1 w.3) (sym v.2 ∙ (e ∙ w.4))))
 
   module _ (gs ks : List (List ℕ)) (first : IsTable c us gs) (second : IsTable c vs ks) where
     none : (a b : ℕ) → Contains us a → Contains vs b → c a b ≡ false

@@ -114,7 +114,10 @@ fn touched(
 ) -> Result<Part, OutOfMemory>
     ensures { IfOk result (λ part. part ≡ touched (conflict_at timeline.now) place parts.now) }
 {
-    let mut part = alone(alloc, rivals(alloc, timeline, parts.free.as_slice(), place)?)?;
+    let mut part = alone(
+        alloc,
+        rivals(alloc, timeline, parts.free.as_slice(), place)?,
+    )?;
     for other in &parts.parts {
         if touches(timeline, place, other) {
             part = joined(alloc, &part, other)?;

@@ -125,11 +125,7 @@ fn insert_all(places: &[usize], set: &mut BTreeSet<usize>) -> Result<(), OutOfMe
 }
 
 /// All of these places, rising.
-pub(crate) fn united(
-    alloc: Global,
-    some: &[usize],
-    others: &[usize],
-) -> Result<Places, OutOfMemory>
+pub(crate) fn united(alloc: Global, some: &[usize], others: &[usize]) -> Result<Places, OutOfMemory>
     ensures { IfOk result (λ places. places ≡ united some.now others.now) }
 {
     let mut set = BTreeSet::new(alloc);
@@ -169,11 +165,7 @@ pub(crate) fn products(
 }
 
 /// The products, unless they are too many.
-fn kept_products(
-    alloc: Global,
-    sets: &[Places],
-    others: &[Places],
-) -> Result<Sets, OutOfMemory>
+fn kept_products(alloc: Global, sets: &[Places], others: &[Places]) -> Result<Sets, OutOfMemory>
     ensures { IfOk result (λ found. found ≡ kept_products sets.now others.now) }
 {
     if sets.len().saturating_mul(others.len()) <= MOST_SETS {

@@ -1,6 +1,6 @@
 -- The next operation of a valid history: no operation has its id, or knows it, and each of its site has a smaller number.
-use Rattle.std.proofs.Common.{◌≡◌, ◌≢◌, ℕ, zero, suc, ◌+◌, ◌≤◌, ◌<◌, true, List, map, length, refl, sym, ap, subst, ◌∙◌, inl, inr, arith}
-use Rattle.std.specs.Prelude.{◌⊎◌, Contains, filter, count_by, nat_eq}
+use Rattle.std.proofs.Common.{◌≡◌, ◌≢◌, ℕ, zero, suc, ◌≤◌, ◌<◌, List, map, length, refl, ap, subst, ◌∙◌, inl, inr, arith}
+use Rattle.std.specs.Prelude.{Contains, filter, nat_eq}
 use Rattle.std.proofs.lemmas.Bool.{cases_lt}
 use Rattle.std.proofs.lemmas.Bool.Decides.{Decides-eqb}
 use Rattle.std.proofs.lemmas.List.{length-map}
@@ -9,12 +9,12 @@ use Rattle.gf_ops.specs.declared.op.Op.{Op}
 use Rattle.gf_ops.specs.declared.op.OpId.{OpId}
 use Rattle.gf_ops.specs.Accepted.{IsAccepted}
 use Rattle.gf_ops.specs.Limits.{IsInRange}
-use Rattle.gf_ops.specs.OperationOrder.{IsSite, Precedes, count_of, entry}
-use Rattle.gf_ops.specs.ValidHistory.{Counts, Has, IsValid}
+use Rattle.gf_ops.specs.OperationOrder.{Precedes, count_of}
+use Rattle.gf_ops.specs.ValidHistory.{IsValid}
 use Rattle.gf_ops.proofs.HistoryLemmas.{site_in_range, seq_in_range}
 use Rattle.gf_ops.proofs.ListLemmas.{Contains-map}
 use Rattle.gf_groups.proofs.ListLemmas.{Contains-filter}
-use Rattle.gf_parts.proofs.CountLemmas.{Without, without}
+use Rattle.gf_parts.proofs.CountLemmas.{without}
 
 -- the id of the site's operation with the number k
 abbrev numbered : ℕ → ℕ → OpId

@@ -1,6 +1,6 @@
 -- The tails after one more operation tell of it and of all before.
 use Rattle.std.proofs.Common.{◌≡◌, ◌≢◌, ℕ, ◌≤◌, ◌<◌, Bool, true, false, List, [], ◌∷◌, ◌++◌, length, inl, inr, refl, subst, sym, ap, ◌∙◌, arith}
-use Rattle.std.specs.Prelude.{◌⊎◌, ◌↔◌, Contains, filter, cond, not, Option, Some, None, slice_get, unwrap_or, ◌&&◌, ◌==◌}
+use Rattle.std.specs.Prelude.{◌↔◌, Contains, filter, cond, not, Option, Some, None, slice_get, unwrap_or, ◌==◌}
 use Rattle.std.specs.List.{find}
 use Rattle.std.proofs.lemmas.Bool.{cases_Bool, cond-true, cond-false, and_from, not-true, not_from_false}
 use Rattle.std.proofs.lemmas.Bool.Decides.{Decides-eqb}
@@ -113,7 +113,7 @@ module _ (h : List Op) (valid : IsValid h) (a : Op) (in_range : IsInRange a) (ac
       let told = tails.tell i b (attribute_of v) a.id.site w f.0 m at set t.0 t.1 in
       let l = told.last in
       let tells : op_gives (slice_get new f.0.last) v ≡ value_eq told.value v =
-          ap (λ r. op_gives r v) (got_before h a f.0.last l.op l.at) ∙ ap (λ k. op_gives (Some (record { id = l.op.id; past = l.op.past; change = k })) v) l.setter.change in
+      ap (λ r. op_gives r v) (got_before h a f.0.last l.op l.at) ∙ ap (λ k. op_gives (Some (record { id = l.op.id; past = l.op.past; change = k })) v) l.setter.change in
       elim (cases_Bool (value_eq told.value v)) [
         | inl y ↦ elim told.kept [
           | inl k ↦ absurd (differ (k ∙ value_eq-true told.value v y))

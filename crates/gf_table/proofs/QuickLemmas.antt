@@ -1,6 +1,6 @@
 -- The tails of an object tell exactly whether the next operation conflicts with one on the object.
 use Rattle.std.proofs.Common.{◌≡◌, ◌≢◌, ℕ, ◌≤◌, Bool, true, false, List, [], ◌∷◌, ◌++◌, length, inl, inr, refl, subst, sym, ap, ◌∙◌, arith}
-use Rattle.std.specs.Prelude.{◌⊎◌, ◌↔◌, Contains, Option, Some, None, slice_get, unwrap_or, ◌&&◌, ◌||◌, ◌==◌}
+use Rattle.std.specs.Prelude.{◌↔◌, Contains, Option, Some, None, slice_get, unwrap_or, ◌||◌, ◌==◌}
 use Rattle.std.proofs.lemmas.Bool.{cases_Bool, and_parts, and_from, or_cases, or_left, or_right}
 use Rattle.std.proofs.lemmas.Bool.Decides.{Decides-eqb}
 use Rattle.gf_ops.specs.declared.op.Op.{Op}
@@ -26,7 +26,7 @@ use Rattle.gf_groups.specs.GroupedPlaces.{is_on}
 use Rattle.gf_groups.proofs.ListLemmas.{list_any_true, list_any_from}
 use Rattle.gf_groups.proofs.OnPlaceLemmas.{conflict_from, conflict_with, contained_at, on_op}
 use Rattle.gf_table.specs.declared.tails.Tail.{Tail}
-use Rattle.gf_table.specs.Standing.{IsSetter, HasSetter, IsOvertaken, IsTold, AreTails}
+use Rattle.gf_table.specs.Standing.{IsSetter, IsOvertaken, IsTold, AreTails}
 use Rattle.gf_table.specs.Tails.{attr_eq, is_of, hits_other, hits, hits_one}
 use Rattle.gf_table.proofs.LongerLemmas.{got_last, got_before}
 use Rattle.gf_table.proofs.NextLemmas.{fresh, unknown}
@@ -127,13 +127,13 @@ module _ (h : List Op) (valid : IsValid h) (a : Op) (in_range : IsInRange a) (ac
       told_hits : (e : Tail) → Contains es e → e.attribute ≡ attribute_of v → (n : ℕ) (w : Value) → w ≢ v → IsTold h e n w → ((b : Op) → b.id.site ≡ e.site → n ≤ b.id.seq → ¬ (Precedes b a)) → hits c (attribute_of v) (length h) e ≡ true
       told_hits e m same n w differ told later =
           and_from (attr_eq e.attribute (attribute_of v)) (c (length h) e.last || hits_other c (length h) e.other) (subst (λ t. attr_eq t (attribute_of v) ≡ true) (sym same) (attr_same (attribute_of v))) (
-            elim told.kept [
-              | inl k ↦ by_last (λ d. differ (k ∙ d))
-              | inr over ↦ elim (cases_Bool (value_eq told.value v)) [
-                | inl y ↦ or_right (c (length h) e.last) (hits_other c (length h) e.other) (by_other over (λ d. over.differs (d ∙ sym (value_eq-true told.value v y))))
-                | inr d ↦ by_last (λ k. let y : value_eq told.value v ≡ true = subst (λ z. value_eq told.value z ≡ true) k (value_eq-same told.value) in absurd cc)
-              ]
-            ])
+          elim told.kept [
+            | inl k ↦ by_last (λ d. differ (k ∙ d))
+            | inr over ↦ elim (cases_Bool (value_eq told.value v)) [
+              | inl y ↦ or_right (c (length h) e.last) (hits_other c (length h) e.other) (by_other over (λ d. over.differs (d ∙ sym (value_eq-true told.value v y))))
+              | inr d ↦ by_last (λ k. let y : value_eq told.value v ≡ true = subst (λ z. value_eq told.value z ≡ true) k (value_eq-same told.value) in absurd cc)
+            ]
+          ])
         where
           setter_of_v : (b : Op) (u : Value) → IsSetter b e.attribute e.site u → IsSetter b (attribute_of v) e.site u
           setter_of_v b u x = record { object = x.object; change = x.change; attribute = x.attribute ∙ same; site = x.site }
@@ -165,8 +165,8 @@ module _ (h : List Op) (valid : IsValid h) (a : Op) (in_range : IsInRange a) (ac
           let of = of_told (attribute_of v) b.id.site e.0 e.2 in
           let told = tails.tell i b (attribute_of v) b.id.site w e.0 m at set e.1 e.2 in
           list_any_from (hits c (attribute_of v) (length h)) es e.0 e.1
-              (told_hits e.0 e.1 of.0 b.id.seq w (λ k. d.differ (first.1 ∙ (sym k ∙ sym second.1))) told
-              (λ z s l y. x.concurrent.not_after (before b z (of.1 ∙ refl) s l y)))
+          (told_hits e.0 e.1 of.0 b.id.seq w (λ k. d.differ (first.1 ∙ (sym k ∙ sym second.1))) told
+          (λ z s l y. x.concurrent.not_after (before b z (of.1 ∙ refl) s l y)))
         where
           before : (b z : Op) {s : ℕ} → s ≡ b.id.site → z.id.site ≡ s → b.id.seq ≤ z.id.seq → Precedes z a → Precedes b a
           before b z e q l y =

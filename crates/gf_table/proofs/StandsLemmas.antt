@@ -6,7 +6,6 @@ use Rattle.std.specs.Map.{lookup, set_value}
 use Rattle.std.specs.Ordering.{is_eq}
 use Rattle.std.proofs.lemmas.Bool.{cases_Bool, cond-true, cond-false}
 use Rattle.std.proofs.lemmas.Cmp.{tied_itself}
-use Rattle.std.proofs.lemmas.Option.{slice_get_within}
 use Rattle.gf_ops.specs.declared.op.Op.{Op}
 use Rattle.gf_ops.specs.declared.op.ObjectId.{ObjectId}
 use Rattle.gf_ops.specs.Accepted.{IsAccepted}
@@ -87,7 +86,7 @@ module _ (h : List Op) (valid : IsValid h) (a : Op) (in_range : IsInRange a) (ac
             let more = state_more h a us (within q) (unwrap_or (state_of t o) nothing) (or_nothing us (state_of t o) own) valid in_range accepted all in
             let places = places_with_last h a q (on_to q a same) in
             let here : state_of s q ≡ Some (with_op new a (length h) (unwrap_or (state_of t o) nothing)) =
-                adds q ∙ cond-true (is_at (object_cmp o) q) (Some (with_op new a (length h) (unwrap_or (state_of t o) nothing))) (state_of t q) y in
+            adds q ∙ cond-true (is_at (object_cmp o) q) (Some (with_op new a (length h) (unwrap_or (state_of t o) nothing))) (state_of t q) y in
             rw (places, here) more
         | inr n ↦
             let off : is_on q (Some a) ≡ false = elim (cases_Bool (is_on q (Some a))) [
@@ -105,7 +104,7 @@ module _ (h : List Op) (valid : IsValid h) (a : Op) (in_range : IsInRange a) (ac
   adds_from t s k r w g n same was long last made f q =
       let old : r ≡ unwrap_or (state_of t (object_of a)) nothing = sym was ∙ ap (λ o. unwrap_or (state_of t o) nothing) same in
       let one : w ≡ with_op new a (length h) (unwrap_or (state_of t (object_of a)) nothing) =
-          made ∙ (ap (λ z. with_op z a n r) long ∙ (ap (λ z. with_op new a z r) last ∙ ap (λ (z : ObjectState). with_op new a (length h) z) old)) in
+      made ∙ (ap (λ z. with_op z a n r) long ∙ (ap (λ z. with_op new a z r) last ∙ ap (λ (z : ObjectState). with_op new a (length h) z) old)) in
       subst (λ o. state_of s q ≡ cond (is_at (object_cmp o) q) (Some w) (state_of t q)) same (f q)
       ∙ ap (λ (z : ObjectState). cond (is_at (object_cmp (object_of a)) q) (Some z) (state_of t q)) one
 

@@ -1,10 +1,9 @@
 -- The state of an object after one more operation, on it or on another one.
-use Rattle.std.proofs.Common.{◌≡◌, ℕ, ◌<◌, Bool, true, false, List, [], ◌∷◌, ◌++◌, length, inl, inr, refl, subst, sym, ap, ◌∙◌, arith}
-use Rattle.std.specs.Prelude.{◌⊎◌, ◌↔◌, Contains, cond, not, Some, slice_get}
+use Rattle.std.proofs.Common.{◌≡◌, ℕ, ◌<◌, Bool, true, false, List, [], ◌∷◌, ◌++◌, length, inl, inr, refl, subst, sym, ◌∙◌}
+use Rattle.std.specs.Prelude.{◌↔◌, Contains, cond, not, Some, slice_get}
 use Rattle.std.specs.List.{list_any}
 use Rattle.std.proofs.lemmas.Bool.{cases_Bool, cond-true, cond-false, and_from, and_parts, not-true, not_from_false}
-use Rattle.std.proofs.lemmas.List.Elements.{Contains-append_left, Contains-append_right, Contains-push, Contains-push_cases}
-use Rattle.std.proofs.lemmas.Option.{slice_get_within}
+use Rattle.std.proofs.lemmas.List.Elements.{Contains-append_left, Contains-push, Contains-push_cases}
 use Rattle.gf_ops.specs.declared.op.Op.{Op}
 use Rattle.gf_ops.specs.declared.op.ObjectId.{ObjectId}
 use Rattle.gf_ops.specs.declared.change.Change.{Change}
@@ -19,16 +18,14 @@ use Rattle.gf_ops.proofs.ListLemmas.{not_Contains-nil}
 use Rattle.gf_groups.specs.Growing.{conflict_at, clashes}
 use Rattle.gf_groups.specs.GroupedPlaces.{is_on}
 use Rattle.gf_groups.proofs.ListLemmas.{list_any_true, list_any_from}
-use Rattle.gf_groups.proofs.OnPlaceLemmas.{on_op}
 use Rattle.gf_groups.proofs.TableLemmas.{conflict_at_test}
 use Rattle.gf_parts.specs.Parted.{AreParts}
 use Rattle.gf_parts.specs.Parts.{PartState, PartsState, alone, whole, touches, is_calm, with_free, with_part, after}
 use Rattle.gf_parts.proofs.PartsLemmas.{all_of_fold, first_parts, parts_agree, parts_after, all_after}
-use Rattle.gf_table.specs.declared.tails.Tail.{Tail}
 use Rattle.gf_table.specs.ObjectState.{ObjectState, nothing, with_change, with_op}
 use Rattle.gf_table.specs.Standing.{IsSetter, AreTails, IsStateOf}
 use Rattle.gf_table.specs.Tails.{hits_one}
-use Rattle.gf_table.proofs.KeptTailsLemmas.{before, tails_kept}
+use Rattle.gf_table.proofs.KeptTailsLemmas.{tails_kept}
 use Rattle.gf_table.proofs.LongerLemmas.{got_last, same_conflict}
 use Rattle.gf_table.proofs.NotedLemmas.{tails_noted}
 use Rattle.gf_table.proofs.QuickLemmas.{made_none, one_op, quick}

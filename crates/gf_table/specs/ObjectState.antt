@@ -1,5 +1,5 @@
 -- What the table has of one object: the places of its operations in parts, and the tails of its setters.
-use Rattle.std.specs.Prelude.{ℕ, cond, List, [], Bool, Option, Some, None}
+use Rattle.std.specs.Prelude.{ℕ, cond, List, []}
 use Rattle.gf_ops.specs.declared.op.Op.{Op}
 use Rattle.gf_ops.specs.declared.change.Change.{Change}
 use Rattle.gf_ops.specs.declared.change.Change.TheVariants.{Create, Set}

@@ -9,7 +9,6 @@ use Rattle.gf_ops.specs.declared.change.Attr.{Attr}
 use Rattle.gf_ops.specs.declared.change.Attr.TheVariants.{Place, Points, Size, Colour, Layer, Shown}
 use Rattle.gf_ops.specs.Attribute.{attribute_of}
 use Rattle.gf_ops.specs.ConflictTests.{value_eq}
-use Rattle.gf_groups.specs.Growing.{conflict_at}
 use Rattle.gf_table.specs.declared.tails.Tail.{Tail}
 
 -- t and u are one attribute

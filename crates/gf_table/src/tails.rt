@@ -99,13 +99,7 @@ fn other_than(timeline: &Timeline<'_>, value: &Value, tail: Option<&Tail>) -> Op
 }
 
 /// The tail after a site gave the value at the place.
-fn new_tail(
-    timeline: &Timeline<'_>,
-    site: u8,
-    value: &Value,
-    place: usize,
-    tails: &[Tail],
-) -> Tail
+fn new_tail(timeline: &Timeline<'_>, site: u8, value: &Value, place: usize, tails: &[Tail]) -> Tail
     ensures { result ≡ new_tail timeline.now site value.now place tails.now }
 {
     let attribute = value.attribute();

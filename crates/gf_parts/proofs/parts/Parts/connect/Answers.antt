@@ -1,8 +1,7 @@
-use Rattle.std.proofs.Common.{◌≡◌, ◌∙◌, ap, sym, refl, ◌++◌, ◌∷◌, [], false, rules}
+use Rattle.std.proofs.Common.{◌∙◌, ap, ◌++◌, ◌∷◌, []}
 use Rattle.std.specs.Prelude.{not, filter}
-use Rattle.std.proofs.lemmas.Bool.{cond-false}
 use Rattle.gf_groups.specs.Growing.{conflict_at}
-use Rattle.gf_parts.specs.Parts.{PartsState, grown_part, touched, is_calm, with_free, with_part, after, stays}
+use Rattle.gf_parts.specs.Parts.{PartsState, grown_part, touched, stays}
 use Rattle.gf_parts.proofs.parts.Parts.connect.Goals as goal
 
 pub returns-clause-ok : goal.returns-clause-ok

@@ -1,8 +1,6 @@
-use Rattle.std.proofs.Common.{◌≡◌, [], ◌∷◌, ◌++◌, length, List, ap, subst, sym, refl, ◌∙◌, rules}
+use Rattle.std.proofs.Common.{◌≡◌, length, ap, subst, sym, ◌∙◌, rules}
 use Rattle.std.specs.Prelude.{Some, None, unwrap_or}
 use Rattle.std.proofs.lemmas.Result.{on_ok_weaker, on_err_weaker}
-use Rattle.gf_ops.specs.declared.op.ObjectId.{ObjectId}
-use Rattle.gf_ops.specs.Attribute.{object_of}
 use Rattle.gf_table.specs.ObjectState.{ObjectState, nothing, with_op}
 use Rattle.gf_table.specs.Standing.{StandsFor, state_of}
 use Rattle.gf_table.proofs.StandsLemmas.{adds_from, stands_after, written_again}
@@ -16,19 +14,19 @@ returns-in-Some-clause-ok c =
     let found : state_of t c.object.result ≡ Some c.in-Some.state.now = sym c.in-Some.ensures.value in
     let stands : StandsFor h t = subst (λ z. StandsFor h z) (sym c.self.view_is) c.requires.stands in
     on_ok_weaker c.add.result (λ made.
-        let w = c.add.new.self in
-        let writes = (c.get_mut.follows.holds w).3 (search rules) in
-        stands_after h c.ops-place.ensures.valid a c.requires.in_range c.requires.accepted t (c.get_mut.follows.lender w).entries stands
-        (adds_from h c.ops-place.ensures.valid a c.requires.in_range c.requires.accepted t (c.get_mut.follows.lender w).entries c.object.result c.in-Some.state.now w c.with-timeline.result (length c.ops-place.result.now)
-            c.object.ensures (ap (λ r. unwrap_or r nothing) found) c.with-timeline.ensures (ap length c.ops-place.ensures.ops) made writes.0)) c.add.ensures.ok
+    let w = c.add.new.self in
+    let writes = (c.get_mut.follows.holds w).3 (search rules) in
+    stands_after h c.ops-place.ensures.valid a c.requires.in_range c.requires.accepted t (c.get_mut.follows.lender w).entries stands
+    (adds_from h c.ops-place.ensures.valid a c.requires.in_range c.requires.accepted t (c.get_mut.follows.lender w).entries c.object.result c.in-Some.state.now w c.with-timeline.result (length c.ops-place.result.now)
+    c.object.ensures (ap (λ r. unwrap_or r nothing) found) c.with-timeline.ensures (ap length c.ops-place.ensures.ops) made writes.0)) c.add.ensures.ok
 
 pub returns-in-Some-clause-err : goal.returns-in-Some-clause-err
 returns-in-Some-clause-err c =
     let t = c.self.inside.objects.entries in
     let found : state_of t c.object.result ≡ Some c.in-Some.state.now = sym c.in-Some.ensures.value in
     on_err_weaker c.add.result (λ same.
-        let writes = c.get_mut.follows.holds c.add.new.self in
-        writes.0 ∙ (written_again _ t c.add.new.self (found ∙ ap (λ (z : ObjectState). Some z) (sym same)) ∙ c.self.view_is)) c.add.ensures.err
+    let writes = c.get_mut.follows.holds c.add.new.self in
+    writes.0 ∙ (written_again _ t c.add.new.self (found ∙ ap (λ (z : ObjectState). Some z) (sym same)) ∙ c.self.view_is)) c.add.ensures.err
 
 pub returns-clause-ok : goal.returns-clause-ok
 returns-clause-ok c =
@@ -43,6 +41,6 @@ returns-clause-ok c =
     let w = c.add-2.new.self in
     let made = c.in_ok-add.ensures.ok ∙ ap (λ (z : ObjectState). with_op c.with-timeline.result a (length c.ops-place.result.now) z) c.new-state.ensures in
     on_ok_weaker c.put.result (λ puts.
-        stands_after h c.ops-place.ensures.valid a c.requires.in_range c.requires.accepted t c.put.new.objects.entries stands
-        (adds_from h c.ops-place.ensures.valid a c.requires.in_range c.requires.accepted t c.put.new.objects.entries c.object-2.result nothing w c.with-timeline.result (length c.ops-place.result.now)
-            c.object-2.ensures old c.with-timeline.ensures (ap length c.ops-place.ensures.ops) made puts)) states
+    stands_after h c.ops-place.ensures.valid a c.requires.in_range c.requires.accepted t c.put.new.objects.entries stands
+    (adds_from h c.ops-place.ensures.valid a c.requires.in_range c.requires.accepted t c.put.new.objects.entries c.object-2.result nothing w c.with-timeline.result (length c.ops-place.result.now)
+    c.object-2.ensures old c.with-timeline.ensures (ap length c.ops-place.ensures.ops) made puts)) states

@@ -1,8 +1,7 @@
-use Rattle.std.proofs.Common.{◌≡◌, List, ap, ◌∙◌}
+use Rattle.std.proofs.Common.{ap, ◌∙◌}
 use Rattle.std.specs.BTreeMap.{insert_entry}
 use Rattle.std.specs.List.Sorted.{IsStrictlySortedBy}
 use Rattle.std.specs.Map.{keys_of}
-use Rattle.gf_ops.specs.declared.op.ObjectId.{ObjectId}
 use Rattle.gf_groups.specs.Parting.{object_cmp}
 use Rattle.gf_groups.proofs.PartingLemmas.{object_cmp_total}
 use Rattle.gf_table.specs.ObjectState.{ObjectState}
