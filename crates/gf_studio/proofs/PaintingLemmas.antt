@@ -16,7 +16,7 @@ use Rattle.gf_drawing.specs.Outlined.{outlined}
 use Rattle.gf_drawing.proofs.OutlinedLemmas.{drawing_colour-outlined}
 use Rattle.gf_fig_read.specs.FigGrammar.{Fails, Reads}
 use Rattle.gf_fig_read.specs.Objects.{Drawn}
-use Rattle.gf_fig_read.specs.declared.faults.FigFault.{FigFault}
+use Rattle.gf_fig_text.specs.declared.faults.FigFault.{FigFault}
 use Rattle.gf_fig_read.proofs.GrammarLemmas.{not_both, one_drawing}
 use Rattle.gf_fig_write.specs.FigText.{fig_text}
 use Rattle.gf_layers.specs.Picture.{picture}

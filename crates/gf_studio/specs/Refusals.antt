@@ -6,8 +6,8 @@ use Rattle.gf_bytes.specs.declared.write_error.WriteError.TheVariants as write
 use Rattle.gf_bytes.specs.declared.source.InputError.{InputError}
 use Rattle.gf_bytes.specs.declared.source.InputError.TheVariants as input
 use Rattle.gf_fig_read.specs.declared.faults.FigError.{FigError}
-use Rattle.gf_fig_read.specs.declared.faults.FigFault.{FigFault}
-use Rattle.gf_fig_read.specs.declared.faults.FigFault.TheVariants as fig
+use Rattle.gf_fig_text.specs.declared.faults.FigFault.{FigFault}
+use Rattle.gf_fig_text.specs.declared.faults.FigFault.TheVariants as fig
 use Rattle.gf_studio.specs.declared.studio_error.StudioError.{StudioError}
 use Rattle.gf_studio.specs.declared.studio_error.StudioError.TheVariants as studio
 

@@ -10,7 +10,7 @@ ghost use Rattle.gf_drawing.specs.declared.compiling.CompileFault.{CompileFault}
 ghost use Rattle.gf_drawing.specs.DrawingState.{DrawingState};
 ghost use Rattle.gf_studio.specs.declared.studio_error.LineCause.{LineCause};
 ghost use Rattle.gf_fig_read.specs.FigGrammar.{Fails};
-ghost use Rattle.gf_fig_read.specs.declared.faults.FigFault.{FigFault};
+ghost use Rattle.gf_fig_text.specs.declared.faults.FigFault.{FigFault};
 ghost use Rattle.gf_window.specs.Windows.{View};
 ghost use Rattle.gf_studio.specs.PaintRun.{IsDenoted, IsMeant, WritesPicture};
 ghost use Rattle.gf_studio.specs.FigRun.{Denotes, Draws, Drops, HasFault, HaveSameOperations, RefusesCompiling, Writes};
