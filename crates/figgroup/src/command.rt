@@ -29,10 +29,14 @@ pub fn command<T: Threads + Sync, R: Source, W: Sink, E: Sink>(
 ) -> u8
     ensures status { result ≤ 2 }
     // Status 0: a run wrote all that was asked for of its input, or help was, which reads no input.
-    ensures done { result ≡ 0 → (source.new ≡ source.old) ⊎ ((run : Run) × IfSome (R.left source.old) (λ bytes. Answers run bytes (W.taken output.old) (W.taken output.new))) }
+    ensures done { result ≡ 0 → (source.new ≡ source.old) ⊎ ((run : Run) ×
+        IfSome (R.left source.old) (λ bytes.
+        Answers run bytes (W.taken output.old) (W.taken output.new))) }
     ensures flushed { result ≡ 0 → (source.new ≡ source.old) ⊎ IsTrue (W.flushed output.new) }
     // A refusal leaves the output as it was, or with a front of what was asked for.
-    ensures refused { result ≡ 1 → (output.new ≡ output.old) ⊎ ((run : Run) × IfSome (R.left source.old) (λ bytes. AnswersFront run bytes (W.taken output.old) (W.taken output.new))) }
+    ensures refused { result ≡ 1 → (output.new ≡ output.old) ⊎ ((run : Run) ×
+        IfSome (R.left source.old) (λ bytes.
+        AnswersFront run bytes (W.taken output.old) (W.taken output.new))) }
     ensures mistake { result ≡ 2 → (source.new ≡ source.old) × (output.new ≡ output.old) }
 {
     match parse(alloc, words) {
@@ -62,9 +66,12 @@ fn answer<T: Threads + Sync, R: Source, W: Sink>(
     source: &mut R,
     output: &mut W,
 ) -> Result<(), StudioError>
-    ensures done { OnOk result (IfSome (R.left source.old) (λ bytes. Answers run bytes (W.taken output.old) (W.taken output.new))) }
+    ensures done { OnOk result (IfSome (R.left source.old) (λ bytes.
+        Answers run bytes (W.taken output.old) (W.taken output.new))) }
     ensures flushed { OnOk result (IsTrue (W.flushed output.new)) }
-    ensures refused { IfErr result (λ _. (output.new ≡ output.old) ⊎ IfSome (R.left source.old) (λ bytes. AnswersFront run bytes (W.taken output.old) (W.taken output.new))) }
+    ensures refused { IfErr result (λ _. (output.new ≡ output.old) ⊎
+        IfSome (R.left source.old) (λ bytes.
+        AnswersFront run bytes (W.taken output.old) (W.taken output.new))) }
 {
     match run {
         Run::Fig => fig_run(alloc, source, output),

@@ -60,17 +60,26 @@ fn answer<T: AllocGlobal + Threads + Sync>(
     pictured(rt, words.as_str(), joined(rt.alloc(), pieces)?.as_str())
 }
 
+/// That the run of a row answers what the row says; a line without cells is no row.
+fn is_as_told<T: AllocGlobal + Threads + Sync>(rt: &T, row: &str) -> Result<(), Fail> {
+    let Some((words, rest)) = row.split_once('|') else {
+        return Ok(());
+    };
+    let Some((pieces, want)) = rest.split_once('|') else {
+        return Err(Fail::new("a row lacks a cell"));
+    };
+    let answer = answer(rt, words, pieces)?;
+    if answer.as_str().trim() == want.trim() {
+        Ok(())
+    } else {
+        Err(Fail::new(format_args!("{answer}, and not as in {row}")))
+    }
+}
+
 #[test]
 fn paints_each_input(rt: HostRuntime) -> Result<(), Fail> {
     for row in PICTURES.lines() {
-        let Some((words, rest)) = row.split_once('|') else {
-            continue;
-        };
-        let Some((pieces, want)) = rest.split_once('|') else {
-            return Err(Fail::new("a row lacks a cell"));
-        };
-        let answer = answer(&rt, words, pieces)?;
-        assert_eq!(rt; answer.as_str().trim(), want.trim(), "of {row}");
+        is_as_told(&rt, row)?;
     }
     Ok(())
 }
