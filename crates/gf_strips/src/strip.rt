@@ -1,6 +1,6 @@
 //! Some columns of a row, painted from the front to the back.
 
-ghost use Rattle.std.specs.Prelude.{◌≡◌, ℕ, ◌*◌, ◌≤◌, Bool, false, ◌&&◌, ◌||◌, not, IsTrue, OnOk, IfOk, [], ◌∷◌, All, length, replicate};
+ghost use Rattle.std.specs.Prelude.{◌≡◌, ◌↔◌, ℕ, ◌*◌, ◌≤◌, Bool, false, ◌&&◌, ◌||◌, not, IsTrue, OnOk, IfOk, [], ◌∷◌, All, length, replicate};
 ghost use Rattle.gf_shape.specs.declared.colour.Rgb.{Rgb};
 ghost use Rattle.gf_strips.specs.Pixels.{pixels};
 ghost use Rattle.gf_strips.specs.Strips.{AreSameOutside, Fits, is_between, is_among, is_free, over, IsPainted};
@@ -59,14 +59,16 @@ impl Strip {
 
     /// Whether no column is free, so that nothing behind is seen.
     pub fn is_covered(&self) -> bool
-        ensures { IsTrue result → (target behind other : ℕ → Rgb) (n : ℕ) → IsPainted target behind n self.now → IsPainted target other n self.now }
+        ensures none { IsTrue result ↔ (self.now.free ≡ []) }
+        ensures unseen { IsTrue result → (target behind other : ℕ → Rgb) (n : ℕ) → IsPainted target behind n self.now → IsPainted target other n self.now }
     {
         self.free.is_empty()
     }
 
     /// Whether one of the columns is still free. Where none is, what lies behind them is not seen.
     pub fn has_free(&self, columns: Columns) -> bool
-        ensures { result ≡ false → (target behind other : ℕ → Rgb) (n : ℕ) → AreSameOutside columns n behind other → IsPainted target behind n self.now → IsPainted target other n self.now }
+        ensures some { IsTrue result → (k : ℕ) × IsTrue (is_free self.now.free k && is_among columns k) }
+        ensures unseen { result ≡ false → (target behind other : ℕ → Rgb) (n : ℕ) → AreSameOutside columns n behind other → IsPainted target behind n self.now → IsPainted target other n self.now }
     {
         is_any_free(&self.free, columns)
     }
@@ -103,7 +105,8 @@ impl Strip {
 
 /// Whether one of the columns is among free ones.
 fn is_any_free(free: &[Columns], columns: Columns) -> bool
-    ensures { result ≡ false → (k : ℕ) → (is_free free.now k && is_among columns k) ≡ false }
+    ensures some { IsTrue result → (k : ℕ) × IsTrue (is_free free.now k && is_among columns k) }
+    ensures none { result ≡ false → (k : ℕ) → (is_free free.now k && is_among columns k) ≡ false }
 {
     for some in free {
         if overlap(*some, columns) {
@@ -114,7 +117,8 @@ fn is_any_free(free: &[Columns], columns: Columns) -> bool
 }
 
 fn overlap(a: Columns, b: Columns) -> bool
-    ensures { result ≡ false → (k : ℕ) → (is_among a k && is_among b k) ≡ false }
+    ensures some { IsTrue result → (k : ℕ) × IsTrue (is_among a k && is_among b k) }
+    ensures none { result ≡ false → (k : ℕ) → (is_among a k && is_among b k) ≡ false }
 {
     a.from.max(b.from) < a.to.min(b.to)
 }

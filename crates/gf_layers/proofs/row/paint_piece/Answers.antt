@@ -18,7 +18,7 @@ returns-then-not-meets g c = λ target behind h.
 pub returns-then-not-has_free : goal.returns-then-not-has_free
 returns-then-not-has_free g c = λ target behind h.
     let layer = c.args.piece.now.layer.now in
-    c.has_free.ensures c.if-not-has_free.true target (layer_over g.S.Shape.holds c.args.window c.args.j c.args.from behind layer) behind c.args.len (piece_columns g.S.Shape.holds c.args.window c.args.j c.args.from c.args.len c.args.piece.now behind c.requires.piece) h
+    c.has_free.ensures.unseen c.if-not-has_free.true target (layer_over g.S.Shape.holds c.args.window c.args.j c.args.from behind layer) behind c.args.len (piece_columns g.S.Shape.holds c.args.window c.args.j c.args.from c.args.len c.args.piece.now behind c.requires.piece) h
 
 pub returns : goal.returns
 returns g c = λ target behind h.
