@@ -1,5 +1,5 @@
 -- The largest groups of two sets of places that no conflict connects are the unions of theirs.
-use Rattle.std.proofs.Common.{◌≡◌, ◌≢◌, ℕ, zero, suc, Bool, true, false, List, [], ◌∷◌, map, inl, inr, refl, subst, sym, ◌∙◌, arith}
+use Rattle.std.proofs.Common.{◌≡◌, ◌≢◌, ℕ, zero, suc, Bool, true, false, List, [], ◌∷◌, map, inl, inr, refl, subst, sym, ◌∙◌, arith, ◌++◌, append_assoc, ap}
 use Rattle.std.specs.Prelude.{◌⊎◌, ◌↔◌, All, AllPairs, Contains, filter, ◌==◌}
 use Rattle.std.specs.List.{list_any, fold}
 use Rattle.std.specs.BTreeSet.{insert_key}
@@ -8,6 +8,7 @@ use Rattle.std.specs.FinMap.{IsAntisymmetric}
 use Rattle.std.proofs.lemmas.Bool.Decides.{Decides-eqb}
 use Rattle.std.proofs.lemmas.Cmp.{nat_cmp_total}
 use Rattle.std.proofs.lemmas.Map.Lookups.{exact_unsigned}
+use Rattle.std.proofs.lemmas.List.{append-nil}
 use Rattle.std.proofs.lemmas.List.Elements.{All-contains, Contains-append_cases, Contains-append_left, Contains-append_right}
 use Rattle.std.proofs.lemmas.List.Kept.{IsStrictlySortedBy-filter}
 use Rattle.gf_ops.proofs.ListLemmas.{Contains-cons_cases, Contains-cons_head, Contains-cons_tail, not_Contains-nil, Contains-map, Contains-map_from}
@@ -109,6 +110,11 @@ Contains-products (f ∷ gs) ks g k h i = elim (Contains-cons_cases f gs g h) [
   | inl e ↦ subst (λ z. Contains (products (f ∷ gs) ks) (united z k)) (sym e) (Contains-append_left (map (united f) ks) (products gs ks) (united f k) (Contains-map (united f) ks k i))
   | inr j ↦ Contains-append_right (map (united f) ks) (products gs ks) (united g k) (Contains-products gs ks g k j i)
 ]
+
+-- one more set gives its products behind the others
+pub products-push : (gs : List (List ℕ)) (g : List ℕ) (ks : List (List ℕ)) → products (gs ++ g ∷ []) ks ≡ products gs ks ++ map (united g) ks
+products-push [] g ks = append-nil (map (united g) ks)
+products-push (f ∷ gs) g ks = ap (λ zs. map (united f) ks ++ zs) (products-push gs g ks) ∙ sym (append_assoc (map (united f) ks) (products gs ks) (map (united g) ks))
 
 is_in : List ℕ → ℕ → Bool
 is_in g a = list_any (λ b. a == b) g

@@ -1,7 +1,7 @@
 //! The operations on one object in parts: what is in every version, and parts that no conflict
 //! connects, of which each gives a version one of its sets.
 
-ghost use Rattle.std.specs.Prelude.{◌≡◌, [], filter, not, IfOk, OnOk, OnErr};
+ghost use Rattle.std.specs.Prelude.{◌≡◌, [], cond, filter, not, IfOk, OnOk, OnErr};
 ghost use Rattle.gf_groups.specs.Growing.{conflict_at};
 ghost use Rattle.gf_parts.specs.Parts.{joined, alone, holds, touches, grown_part, touched, with_free, with_part, stays, full, listed, products};
 ghost use Rattle.gf_groups.specs.Tables.{IsRising};
@@ -105,6 +105,23 @@ fn alone(alloc: Global, places: Vec<usize>) -> Result<Part, OutOfMemory>
     })
 }
 
+/// The part with another one, if the operation at this place conflicts with one of that.
+fn with_touched(
+    alloc: Global,
+    timeline: &Timeline<'_>,
+    place: usize,
+    part: Part,
+    other: &Part,
+) -> Result<Part, OutOfMemory>
+    ensures { IfOk result (λ both. both ≡ cond (touches (conflict_at timeline.now) place other.now) (joined part other.now) part) }
+{
+    if touches(timeline, place, other) {
+        joined(alloc, &part, other)
+    } else {
+        Ok(part)
+    }
+}
+
 /// All that the operation at this place connects, as one part.
 fn touched(
     alloc: Global,
@@ -114,16 +131,25 @@ fn touched(
 ) -> Result<Part, OutOfMemory>
     ensures { IfOk result (λ part. part ≡ touched (conflict_at timeline.now) place parts.now) }
 {
-    let mut part = alone(
-        alloc,
-        rivals(alloc, timeline, parts.free.as_slice(), place)?,
-    )?;
+    let rivals = rivals(alloc, timeline, parts.free.as_slice(), place)?;
+    let mut part = alone(alloc, rivals)?;
     for other in &parts.parts {
-        if touches(timeline, place, other) {
-            part = joined(alloc, &part, other)?;
-        }
+        part = with_touched(alloc, timeline, place, part, other)?;
     }
     Ok(part)
+}
+
+/// All that the operation at this place connects, and it, as one part.
+fn connected(
+    alloc: Global,
+    timeline: &Timeline<'_>,
+    place: usize,
+    parts: &Parts,
+) -> Result<Part, OutOfMemory>
+    ensures { IfOk result (λ part. part ≡ grown_part (conflict_at timeline.now) place (touched (conflict_at timeline.now) place parts.now)) }
+{
+    let part = touched(alloc, timeline, place, parts)?;
+    grown_part(alloc, timeline, place, part)
 }
 
 /// The part after the operation at this place came to it.
@@ -205,9 +231,8 @@ impl Parts {
         ensures ok { OnOk result (self.new ≡ with_part (conflict_at timeline.now) place self.old) }
         ensures err { OnErr result (self.new ≡ self.old) }
     {
-        let part = touched(alloc, timeline, place, self)?;
-        let part = grown_part(alloc, timeline, place, part)?;
         let free = calm_of(alloc, timeline, place, self.free.as_slice())?;
+        let part = connected(alloc, timeline, place, self)?;
         self.parts.push(part)?;
         drop_touched(timeline, place, &mut self.parts);
         self.free = free;

@@ -10,6 +10,6 @@ returns-clause-ok c =
     let x = c.args.place in
     let s : PartsState = c.args.self.now in
     let free = c.in_ok-free.ensures ∙ (ap (filter (λ a. not (k x a))) c.as_slice.ensures ∙ ap (λ (z : PartsState). filter (λ a. not (k x a)) z.free) c.self.view_is) in
-    let part = c.in_ok-part-2.ensures ∙ ap (grown_part k x) c.in_ok-part.ensures in
+    let part = c.in_ok-part.ensures in
     let parts = c.drop_touched.ensures ∙ (ap (filter (stays k x)) (c.in_ok-push.ensures.items ∙ ap (λ z. c.self.inside.parts.items ++ z ∷ []) part) ∙ ap (λ (z : PartsState). filter (stays k x) (z.parts ++ grown_part k x (touched k x s) ∷ [])) c.self.view_is) in
     λ i. record { free = free i; parts = parts i }
