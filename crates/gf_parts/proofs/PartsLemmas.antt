@@ -1,6 +1,6 @@
 -- Parts that no conflict connects: their product has the largest groups of all, each once, and one more place keeps them so.
 use Rattle.std.proofs.Common.{◌≡◌, ◌≢◌, ℕ, ◌<◌, Bool, true, false, List, [], ◌∷◌, ◌++◌, inl, inr, refl, subst, sym, ap, ◌∙◌, arith}
-use Rattle.std.specs.Prelude.{◌⊎◌, ◌↔◌, Contains, filter, not, ◌||◌, ◌==◌, Option, Some, None, unwrap_or}
+use Rattle.std.specs.Prelude.{cond, ◌⊎◌, ◌↔◌, Contains, filter, not, ◌||◌, ◌==◌, Option, Some, None, unwrap_or}
 use Rattle.std.specs.List.{list_any, fold}
 use Rattle.std.specs.Cmp.{nat_cmp_is}
 use Rattle.std.specs.Ordering.{nat_cmp}
@@ -9,6 +9,9 @@ use Rattle.std.proofs.lemmas.Bool.{cases_Bool, cond-true, cond-false, and_parts,
 use Rattle.std.proofs.lemmas.Bool.Decides.{Decides-eqb}
 use Rattle.std.proofs.lemmas.Cmp.{nat_cmp_total}
 use Rattle.std.proofs.lemmas.List.Elements.{Contains-append_cases, Contains-append_left, Contains-push, Contains-push_cases}
+use Rattle.std.proofs.lemmas.List.{append-nil}
+use Rattle.std.proofs.lemmas.List.Elements.{filter-append}
+use Rattle.std.proofs.lemmas.List.Sums.{fold_push}
 use Rattle.std.proofs.lemmas.List.Kept.{IsStrictlySortedBy-filter}
 use Rattle.gf_ops.proofs.ListLemmas.{Contains-cons_cases, Contains-cons_head, Contains-cons_tail, not_Contains-nil}
 use Rattle.gf_groups.specs.Growing.{clashes, groups_at}
@@ -23,6 +26,17 @@ use Rattle.gf_parts.proofs.ProductLemmas.{Contains-united, united_rises, table_p
 use Rattle.gf_groups.proofs.RisingLemmas.{rising_push, rising_nil}
 use Rattle.gf_groups.proofs.SublistLemmas.{Pairs-append, Pairs-filter, Pairs-from}
 use Rattle.gf_groups.proofs.TableLemmas.{table_groups}
+
+-- one more part joins if it passes
+pub joined_more : (P : PartState → Bool) (p : PartState) (ps : List PartState) (q : PartState) → fold joined p (filter P (ps ++ q ∷ [])) ≡ cond (P q) (joined (fold joined p (filter P ps)) q) (fold joined p (filter P ps))
+joined_more P p ps q = ap (fold joined p) (filter-append P ps (q ∷ [])) ∙ elim (cases_Bool (P q)) [
+  | inl y ↦
+      ap (λ zs. fold joined p (filter P ps ++ zs)) (cond-true (P q) (q ∷ []) [] y)
+      ∙ (fold_push joined p (filter P ps) q ∙ sym (cond-true (P q) (joined (fold joined p (filter P ps)) q) (fold joined p (filter P ps)) y))
+  | inr n ↦
+      ap (λ zs. fold joined p (filter P ps ++ zs)) (cond-false (P q) (q ∷ []) [] n)
+      ∙ (ap (fold joined p) (append-nil (filter P ps)) ∙ sym (cond-false (P q) (joined (fold joined p (filter P ps)) q) (fold joined p (filter P ps)) n))
+]
 
 module _ (c : ℕ → ℕ → Bool) where
   abbrev AreApart : PartState → PartState → Type 0
