@@ -1,12 +1,22 @@
 -- Layers over a white ground, the foremost first (this project's choice).
-use Rattle.std.specs.Prelude.{ℕ, ◌+◌, Bool, List, [], ◌∷◌, if◌then◌else◌}
+use Rattle.std.specs.Prelude.{◌≡◌, ℕ, ◌+◌, Bool, All, List, [], ◌∷◌, if◌then◌else◌}
 use Rattle.gf_shape.specs.declared.colour.Rgb.{Rgb}
 use Rattle.gf_shape.specs.declared.point.Point.{Point}
+use Rattle.gf_shape.specs.ShapeLaws.{IsBounds}
 use Rattle.gf_versions.specs.HistoryColour.{white}
 use Rattle.gf_window.specs.Windows.{View, sample}
 use Rattle.gf_layers.specs.declared.layer.Layer.{Layer}
 
 module _ {S : Type 0} (holds : S → Point → Bool) where
+  -- the bounds of a layer are its shape's
+  abbrev pub HasBounds : Layer S → Type 0
+  HasBounds l = IsBounds (holds l.shape.now) l.bounds
+
+  -- layers with their bounds, over a white ground
+  pub record AreLayers (ls : List (Layer S)) (ground : Rgb) : Type 0 where
+    pub bounds : All HasBounds ls
+    pub ground_is : ground ≡ white
+
   -- the colour at p where the layer l is painted over what lies below
   abbrev pub painted : Point → Rgb → Layer S → Rgb
   painted p below l = if holds l.shape.now p then l.brush else below

@@ -1,10 +1,12 @@
 //! Layers.
 
+use gf_shape::Bounds;
 use gf_strips::Brush;
 
-/// A shape in its colour.
+/// A shape in its colour, with its bounds.
 #[derive(Debug, Drop)]
 pub struct Layer<'a, S> {
     pub shape: &'a S,
     pub brush: Brush,
+    pub bounds: Bounds,
 }

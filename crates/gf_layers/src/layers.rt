@@ -1,9 +1,9 @@
 //! The layers of a drawing.
 
-ghost use Rattle.std.specs.Prelude.{◌≡◌, IfOk, map};
+ghost use Rattle.std.specs.Prelude.{◌≡◌, All, IfOk, map};
 ghost use Rattle.gf_shape.specs.declared.point.Point.{Point};
 ghost use Rattle.gf_drawing.specs.DrawingColour.{drawing_colour, figure_colour};
-ghost use Rattle.gf_layers.specs.Layers.{layered};
+ghost use Rattle.gf_layers.specs.Layers.{HasBounds, layered};
 ghost use Rattle.gf_layers.specs.Seen.{seen, seen_figure};
 
 use crate::Layer;
@@ -21,22 +21,22 @@ const WHITE: Rgb = Rgb {
 };
 
 /// Layers over a white ground, the foremost first.
-#[derive(Debug, Drop)]
-pub struct Layers<'a, S> {
+#[derive(Drop)]
+pub struct Layers<'a, S: Shape> {
     pub(crate) layers: Vec<Layer<'a, S>>,
     pub(crate) ground: Brush,
 }
 
-impl<'a, S> Model for Layers<'a, S> {
-    ghost use Rattle.std.specs.Prelude.{◌≡◌, List};
-    ghost use Rattle.gf_versions.specs.HistoryColour.{white};
+impl<'a, S: Shape> Model for Layers<'a, S> {
+    ghost use Rattle.std.specs.Prelude.{List};
     ghost use Rattle.gf_layers.specs.declared.layer.Layer.{Layer};
+    ghost use Rattle.gf_layers.specs.Layers.{AreLayers};
 
     ghost Value = { List (Layer S) };
 
     ghost view = { λ l. l.layers.items };
 
-    ghost invariant = { λ l. l.ground ≡ white };
+    ghost invariant = { λ l. AreLayers S.holds l.layers.items l.ground };
 }
 
 impl<'a, S: Shape> Layers<'a, S> {
@@ -57,7 +57,8 @@ fn layers_of<'a, S: Shape>(
     drawing: &'a Drawing<S>,
     figures: &[&'a Figure<S>],
 ) -> Result<Vec<Layer<'a, S>>, OutOfMemory>
-    ensures { IfOk result (λ ls. map seen ls.items ≡ map (λ f. seen_figure drawing.now.table f.now) figures.now) }
+    ensures seen { IfOk result (λ ls. map seen ls.items ≡ map (λ f. seen_figure drawing.now.table f.now) figures.now) }
+    ensures bounds { IfOk result (λ ls. All (HasBounds S.holds) ls.items) }
 {
     let mut layers = Vec::new(alloc);
     for figure in figures {
@@ -72,12 +73,14 @@ fn layer<'a, S: Shape>(
     drawing: &'a Drawing<S>,
     figure: &'a Figure<S>,
 ) -> Result<Layer<'a, S>, OutOfMemory>
-    ensures { IfOk result (λ l. seen l ≡ seen_figure drawing.now.table figure.now) }
+    ensures seen { IfOk result (λ l. seen l ≡ seen_figure drawing.now.table figure.now) }
+    ensures bounds { IfOk result (HasBounds S.holds) }
 {
     let colour = drawing.rgb(figure.colour).unwrap_or(WHITE);
     let brush = Brush::new(alloc, colour)?;
     Ok(Layer {
         shape: &figure.shape,
         brush,
+        bounds: figure.shape.bounds(),
     })
 }

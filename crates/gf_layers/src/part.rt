@@ -2,7 +2,7 @@
 
 ghost use Rattle.std.specs.Prelude.{◌≡◌, ℕ, ◌+◌, ◌≤◌, ◌<◌, ◌++◌, ◌∷◌, OnOk, IfOk, All, List};
 ghost use Rattle.gf_layers.specs.declared.layer.Layer.{Layer as TheLayer};
-ghost use Rattle.gf_layers.specs.Layers.{layered};
+ghost use Rattle.gf_layers.specs.Layers.{HasBounds, layered};
 ghost use Rattle.gf_layers.specs.Picture.{cells};
 ghost use Rattle.gf_layers.specs.Pieces.{AreSeen, IsPiece, layers_of};
 
@@ -107,7 +107,8 @@ fn pieces_of<'l, 'a, S: Shape>(
     from: usize,
     len: usize,
 ) -> Result<Vec<Piece<'l, 'a, S>>, OutOfMemory>
-    requires { (1 ≤ count) × (top + count ≤ window.height) }
+    requires rows { (1 ≤ count) × (top + count ≤ window.height) }
+    requires bounds { All (HasBounds S.holds) layers.now }
     ensures pieces { IfOk result (λ ps. (j : ℕ) → top ≤ j → j < top + count → All (IsPiece S.holds window j from len) ps.items) }
     ensures seen { IfOk result (λ ps. AreSeen S.holds window top count from len layers.now (layers_of ps.items)) }
 {
@@ -129,7 +130,8 @@ fn add_piece<'l, 'a, S: Shape>(
     len: usize,
     pieces: &mut Vec<Piece<'l, 'a, S>>,
 ) -> Result<(), OutOfMemory>
-    requires { (1 ≤ count) × (top + count ≤ window.height) }
+    requires rows { (1 ≤ count) × (top + count ≤ window.height) }
+    requires bounds { HasBounds S.holds layer.now }
     ensures pieces { OnOk result ((j : ℕ) → top ≤ j → j < top + count → All (IsPiece S.holds window j from len) pieces.old.items → All (IsPiece S.holds window j from len) pieces.new.items) }
     ensures seen { OnOk result ((rest : List (TheLayer S)) → AreSeen S.holds window top count from len (layers_of pieces.old.items ++ layer.now ∷ rest) (layers_of pieces.new.items ++ rest)) }
 {

@@ -3,6 +3,7 @@
 ghost use Rattle.std.specs.Prelude.{◌≡◌, ℕ, ℤ, ◌+◌, ◌≤◌, ◌<◌, ◌≤ℤ◌, ◌&&◌, int_le, IfOk, IfSome, None};
 ghost use Rattle.gf_edges.specs.Telling.{TellsRow};
 ghost use Rattle.gf_shape.specs.Rows.{IsRow};
+ghost use Rattle.gf_layers.specs.Layers.{HasBounds};
 ghost use Rattle.gf_layers.specs.Pieces.{IsPiece, IsUnseen, reaches};
 
 use crate::{Layer, Workspace};
@@ -32,12 +33,13 @@ pub(crate) fn piece_of<'l, 'a, S: Shape>(
     from: usize,
     len: usize,
 ) -> Result<Option<Piece<'l, 'a, S>>, OutOfMemory>
-    requires { (1 ≤ count) × (top + count ≤ window.height) }
+    requires rows { (1 ≤ count) × (top + count ≤ window.height) }
+    requires bounds { HasBounds S.holds layer.now }
     ensures layer { IfOk result (λ found. IfSome found (λ p. p.layer.now ≡ layer.now)) }
     ensures some { IfOk result (λ found. IfSome found (λ p. (j : ℕ) → top ≤ j → j < top + count → IsPiece S.holds window j from len p)) }
     ensures none { IfOk result (λ found. found ≡ None → IsUnseen S.holds window top count from len layer.now) }
 {
-    let bounds = layer.shape.bounds();
+    let bounds = layer.bounds;
     let low = window.line(top);
     let high = window.line(top + count - 1);
     if !reaches(bounds, low, high) {

@@ -57,3 +57,16 @@ const PICTURES: &str = "\
 fn pictures_are_header_and_pixels(rt: HostRuntime) -> Result<(), Fail> {
     answers(&rt, rt.alloc(), &OpenGate, PICTURES)
 }
+
+const ALIKE: &str = "\
+alike crowd ; -16 -16 1 33 33 1 | 0 of 1089
+alike crowd ; -16 -16 1 130 70 3 | 0 of 9100
+alike crowd ; -15 -13 3 11 9 2 | 0 of 99
+alike crowd ; -2000000 -2000000 10000 401 3 4 | 0 of 1203
+alike house ; -1 -1 1 7 9 1 | 0 of 63
+";
+
+#[test]
+fn pixels_are_the_colours_at_their_points(rt: HostRuntime) -> Result<(), Fail> {
+    answers(&rt, rt.alloc(), &OpenGate, ALIKE)
+}

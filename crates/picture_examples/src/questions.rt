@@ -5,7 +5,7 @@ use gf_bytes::{Tape, WriteError};
 use gf_drawing::Drawing;
 use gf_fig_read::read_fig;
 use gf_raster::{Gate, Window, paint, ppm_to};
-use gf_shape::{Outline, Range};
+use gf_shape::{Outline, Point, Range, Rgb};
 use std::alloc::Global;
 use std::test::Fail;
 use std::thread::Threads;
@@ -25,7 +25,8 @@ pub(crate) fn answers<R: Threads + Sync, G: Gate + Sync>(
     Ok(())
 }
 
-/// `box ; 0 0 1 3 2 1`: the pixels, or `600 box ; 0 0 1 3 2 1`: the PPM, into so much room.
+/// `box ; 0 0 1 3 2 1`: the pixels; `600 box ; 0 0 1 3 2 1`: the PPM, into so much room;
+/// `alike box ; 0 0 1 3 2 1`: how many pixels have another colour than the drawing at their point.
 fn told<R: Threads + Sync, G: Gate + Sync>(
     rt: &R,
     alloc: Global,
@@ -33,13 +34,18 @@ fn told<R: Threads + Sync, G: Gate + Sync>(
     question: &str,
 ) -> Option<String> {
     let (front, window) = question.split_once(" ; ")?;
-    let (window, workers) = window.rsplit_once(' ')?;
-    let workers = workers.parse().ok()?;
-    let window = match window_of(window)? {
+    let (window_text, workers) = window.rsplit_once(' ')?;
+    let workers: u8 = workers.parse().ok()?;
+    let window = match window_of(window_text)? {
         Ok(window) => window,
         Err(Range) => return format!(in alloc; "Range").ok(),
     };
     match front.split_once(' ') {
+        Some(("alike", name)) => {
+            let drawing = drawing(alloc, name)?;
+            let raster = paint(rt, alloc, &drawing, window, workers.clamp(1, 16), gate).ok()?;
+            unlike(alloc, &drawing, window_text, raster.bytes())
+        }
         Some((room, name)) => {
             let drawing = drawing(alloc, name)?;
             written(
@@ -93,6 +99,10 @@ fn figures(name: &str) -> Option<&'static str> {
         "overlaid" => Some(
             "2 2 0 0 1 1 7 -1 20 0.000 0 0 -1 0 0 5\n\t 1 0 2 0 2 2 1 2 1 0\n2 2 0 0 4 4 9 -1 20 0.000 0 0 -1 0 0 5\n\t 0 0 2 0 2 2 0 2 0 0\n",
         ),
+        // Discs and chains over one another: a star, a comb of slanted teeth, a line there and back.
+        "crowd" => Some(
+            "1 3 0 0 2 2 40 -1 20 0.000 1 0.0000 3 4 9 9 3 4 12 4\n2 3 0 0 4 4 30 -1 20 0.000 0 0 -1 0 0 6\n\t 0 -12 7 10 -11 -4 11 -4 -7 10 0 -12\n1 3 0 0 6 6 20 -1 20 0.000 1 0.0000 -8 -8 3 3 -8 -8 -5 -8\n2 3 0 0 1 1 10 -1 20 0.000 0 0 -1 0 0 10\n\t -14 14 -10 3 -8 14 -4 5 -2 14 2 7 4 14 8 9 10 14 -14 14\n2 3 0 0 5 5 5 -1 20 0.000 0 0 -1 0 0 4\n\t -13 0 13 2 -13 0 -13 0\n2 2 0 0 0 0 2 -1 20 0.000 0 0 -1 0 0 5\n\t 9 -9 13 -9 13 -5 9 -5 9 -9\n",
+        ),
         _ => None,
     }
 }
@@ -108,6 +118,52 @@ fn painted<R: Threads + Sync, G: Gate + Sync>(
 ) -> Option<String> {
     let raster = paint(rt, alloc, drawing, window, workers.clamp(1, 16), gate).ok()?;
     runs(alloc, raster.bytes())
+}
+
+/// How many pixels have another colour than the drawing at their point.
+fn unlike(alloc: Global, drawing: &Drawing<Outline>, window: &str, bytes: &[u8]) -> Option<String> {
+    let (x, rest) = window.split_once(' ')?;
+    let (y, rest) = rest.split_once(' ')?;
+    let (step, size) = rest.split_once(' ')?;
+    let (width, _) = size.split_once(' ')?;
+    let start = Point {
+        x: x.parse().ok()?,
+        y: y.parse().ok()?,
+    };
+    let count = count_unlike(
+        drawing,
+        start,
+        step.parse().ok()?,
+        width.parse().ok()?,
+        bytes,
+    );
+    format!(in alloc; "{count} of {}", bytes.len() / 3).ok()
+}
+
+fn count_unlike(
+    drawing: &Drawing<Outline>,
+    start: Point,
+    step: i32,
+    width: i32,
+    bytes: &[u8],
+) -> u64 {
+    let mut count = 0u64;
+    let mut column = 0i32;
+    let mut at = start;
+    for pixel in bytes.chunks_exact(3) {
+        let Rgb { r, g, b } = drawing.colour_at(at);
+        if [r, g, b] != [pixel[0], pixel[1], pixel[2]] {
+            count = count.saturating_add(1);
+        }
+        at.x = at.x.wrapping_add(step);
+        column = column.wrapping_add(1);
+        if column == width {
+            column = 0;
+            at.x = start.x;
+            at.y = at.y.wrapping_add(step);
+        }
+    }
+    count
 }
 
 /// Runs of equal pixels, as `2 ff0000 1 ffffff`.

@@ -1,9 +1,9 @@
-use Rattle.std.proofs.Common.{◌+◌, ◌<◌, ◌++◌, ◌∷◌, drop, length, rules, ap, sym, ◌∙◌}
+use Rattle.std.proofs.Common.{◌+◌, ◌<◌, ◌++◌, ◌∷◌, drop, length, rules, ap, subst, sym, ◌∙◌}
 use Rattle.std.proofs.lemmas.List.{at_drop_more}
 use Rattle.std.specs.Prelude.{List}
 use Rattle.gf_shape.specs.declared.colour.Rgb.{Rgb}
 use Rattle.gf_layers.specs.declared.layer.Layer.{Layer}
-use Rattle.gf_layers.specs.Layers.{row_colours}
+use Rattle.gf_layers.specs.Layers.{HasBounds, row_colours}
 use Rattle.gf_layers.specs.Pieces.{layers_of}
 use Rattle.gf_layers.proofs.part.pieces_of.Goals as goal
 
@@ -21,3 +21,8 @@ loop-layer-preserved g c =
           ∙ (sym (at_drop_more colours ls i c.layer-item.result l)
           ∙ c.loop-layer.invariant.seen j k low high in_it));
     }
+
+pub add_piece-requires-clause-bounds : goal.add_piece-requires-clause-bounds
+add_piece-requires-clause-bounds g c =
+    let l : c.loop-layer.layer-index < length c.args.layers.now = search rules in
+    subst (HasBounds g.S.Shape.holds) (sym c.layer-item.is) (c.requires.bounds c.loop-layer.layer-index c.layer-item.result l)

@@ -21,4 +21,4 @@ returns g c =
     let some = row_colours g.S.Shape.holds (layers_of p.pieces.items) p.window c.args.j p.from in
     let begun = painted_same all all some p.len c.begin.new.self (λ k l. sym (c.self.invariant.seen c.args.j k within.0 within.1 l)) (c.in_ok-begin.ensures all) in
     let painted = (rw c.deref.ensures.value at c.in_ok-paint_pieces.ensures) all begun in
-    rw (← c.self.view_is) (c.in_ok-bytes.ensures all p.len (rw c.layers.invariant painted) ∙ shifted_none (λ k. layered g.S.Shape.holds p.layers.now (sample p.window k c.args.j)) p.from p.len)
+    rw (← c.self.view_is) (c.in_ok-bytes.ensures all p.len (rw c.layers.invariant.ground_is painted) ∙ shifted_none (λ k. layered g.S.Shape.holds p.layers.now (sample p.window k c.args.j)) p.from p.len)
