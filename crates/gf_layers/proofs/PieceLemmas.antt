@@ -23,6 +23,10 @@ use Rattle.gf_layers.specs.Pieces.{AreSeen, IsPiece, IsUnseen, layers_of, reache
 true_not_false : true ≡ false → ⊥
 true_not_false e = grind arith
 
+-- a number from the left of bounds to their right
+in_bounds : (x : ℤ) (b : Bounds) → b.low.x ≤ℤ x → x ≤ℤ b.high.x → is_in_span x (record { first = b.low.x; last = b.high.x }) ≡ true
+in_bounds x b l r = grind (arith, ints)
+
 -- later rows lie further down
 pub line_later : (w : View) (i j : ℕ) → i ≤ j → line w i ≤ℤ line w j
 line_later w i j l = let m : i * w.step ≤ j * w.step = mul-le-mul l (omega arith) in omega (arith, ints)
@@ -64,14 +68,11 @@ module _ {S : Type 0} (holds : S → Point → Bool) (w : View) where
         let it = bounds.within (sample w (from + k) j) t in
         let left : b.low.x ≤ℤ column w (from + k) = it.left in
         let right : column w (from + k) ≤ℤ b.high.x = it.right in
-        let e : is_in_span (column w (from + k)) (record { first = b.low.x; last = b.high.x }) ≡ true = both (column w (from + k)) b left right in
+        let e : is_in_span (column w (from + k)) (record { first = b.low.x; last = b.high.x }) ≡ true = in_bounds (column w (from + k)) b left right in
         absurd (true_not_false (sym (covers k in_it ∙ e) ∙ empty c k none))
     | inr t ↦ t
   ]
     where
-      both : (x : ℤ) (b : Bounds) → b.low.x ≤ℤ x → x ≤ℤ b.high.x → is_in_span x (record { first = b.low.x; last = b.high.x }) ≡ true
-      both x b l r = grind (arith, ints)
-
       empty : (c : Columns) (k : ℕ) → c.to ≤ c.from → is_among c k ≡ false
       empty c k l = grind (arith, nat_tests)
 
@@ -82,13 +83,10 @@ module _ {S : Type 0} (holds : S → Point → Bool) (w : View) where
         let it = h.bounds.within (sample w (from + k) j) t in
         let left : p.bounds.low.x ≤ℤ column w (from + k) = it.left in
         let right : column w (from + k) ≤ℤ p.bounds.high.x = it.right in
-        let e : is_in_span (column w (from + k)) (record { first = p.bounds.low.x; last = p.bounds.high.x }) ≡ true = both (column w (from + k)) p.bounds left right in
+        let e : is_in_span (column w (from + k)) (record { first = p.bounds.low.x; last = p.bounds.high.x }) ≡ true = in_bounds (column w (from + k)) p.bounds left right in
         absurd (true_not_false (sym (h.columns k l ∙ e) ∙ out))
     | inr t ↦ rw t refl
   ]
-    where
-      both : (x : ℤ) (b : Bounds) → b.low.x ≤ℤ x → x ≤ℤ b.high.x → is_in_span x (record { first = b.low.x; last = b.high.x }) ≡ true
-      both x b l r = grind (arith, ints)
 
   -- a layer that does not hold a point changes no colour there
   unseen_at : (xs rest : List (Layer S)) (l : Layer S) (p : Point) → holds l.shape.now p ≡ false → layered holds (xs ++ rest) p ≡ layered holds (xs ++ l ∷ rest) p

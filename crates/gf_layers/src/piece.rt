@@ -60,7 +60,7 @@ pub(crate) fn piece_of<'l, 'a, S: Shape>(
 
 /// Whether bounds reach a height from `low` to `high`.
 #[tactic(auto, using(std::proofs::lemmas::Int::ints))]
-fn reaches(bounds: Bounds, low: i32, high: i32) -> bool
+pub(crate) fn reaches(bounds: Bounds, low: i32, high: i32) -> bool
     ensures { result ≡ reaches low high bounds }
 {
     bounds.low.y <= high && low <= bounds.high.y

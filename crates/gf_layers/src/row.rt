@@ -1,6 +1,6 @@
 //! A row of pieces, painted from the front.
 
-ghost use Rattle.std.specs.Prelude.{◌≡◌, ℕ, ◌+◌, ◌<◌, ◌&&◌, int_le, OnOk, All};
+ghost use Rattle.std.specs.Prelude.{◌≡◌, ℕ, ◌+◌, ◌<◌, OnOk, All};
 ghost use Rattle.std.specs.List.{list_any};
 ghost use Rattle.gf_rows.specs.Spans.{is_in_span};
 ghost use Rattle.gf_shape.specs.declared.colour.Rgb.{Rgb};
@@ -11,8 +11,8 @@ ghost use Rattle.gf_layers.specs.Layers.{layer_over, row_colours};
 ghost use Rattle.gf_layers.specs.Pieces.{IsPiece, layers_of};
 
 use crate::Workspace;
-use crate::piece::{Piece, spans};
-use gf_shape::{Bounds, OutOfMemory, Shape, Span};
+use crate::piece::{Piece, reaches, spans};
+use gf_shape::{OutOfMemory, Shape, Span};
 use gf_strips::{Brush, Strip};
 use gf_window::Window;
 
@@ -54,7 +54,7 @@ fn paint_piece<S: Shape>(
     ensures { OnOk result ((target behind : ℕ → Rgb) → IsPainted target (layer_over S.holds window j from behind piece.now.layer.now) len strip.old → IsPainted target behind len strip.new) }
 {
     let y = window.line(j);
-    if !meets(piece.bounds, y) {
+    if !reaches(piece.bounds, y, y) {
         return Ok(());
     }
     if !strip.has_free(piece.columns) {
@@ -63,14 +63,6 @@ fn paint_piece<S: Shape>(
     let spans = spans(piece, y, space)?;
     paint_spans(spans, window, from, len, &piece.layer.brush, strip)?;
     Ok(())
-}
-
-/// Whether bounds reach a line.
-#[tactic(auto, using(std::proofs::lemmas::Int::ints))]
-fn meets(bounds: Bounds, y: i32) -> bool
-    ensures { result ≡ (int_le bounds.low.y y && int_le y bounds.high.y) }
-{
-    bounds.low.y <= y && y <= bounds.high.y
 }
 
 /// Paints the columns that lie in spans.

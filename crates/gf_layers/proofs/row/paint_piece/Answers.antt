@@ -9,11 +9,11 @@ use Rattle.gf_layers.proofs.PieceLemmas.{piece_columns}
 use Rattle.gf_layers.proofs.RowLemmas.{painted_same, layer_row, layer_outside}
 use Rattle.gf_layers.proofs.row.paint_piece.Goals as goal
 
-pub returns-then-not-meets : goal.returns-then-not-meets
-returns-then-not-meets g c = λ target behind h.
+pub returns-then-not-reaches : goal.returns-then-not-reaches
+returns-then-not-reaches g c = λ target behind h.
     let f32 : FitsSigned w32 c.line-y.result = search rules in
     let layer = c.args.piece.now.layer.now in
-    painted_same target (layer_over g.S.Shape.holds c.args.window c.args.j c.args.from behind layer) behind c.args.len c.args.strip.now (λ k l. layer_outside g.S.Shape.holds c.args.window c.args.j c.args.from behind layer c.line-y.result c.args.piece.now.bounds c.line-y.ensures c.requires.piece.bounds (sym (simp to_z-of_z at c.meets.ensures) ∙ c.if-not-meets.true) k) h
+    painted_same target (layer_over g.S.Shape.holds c.args.window c.args.j c.args.from behind layer) behind c.args.len c.args.strip.now (λ k l. layer_outside g.S.Shape.holds c.args.window c.args.j c.args.from behind layer c.line-y.result c.args.piece.now.bounds c.line-y.ensures c.requires.piece.bounds (sym (simp to_z-of_z at c.reaches.ensures) ∙ c.if-not-reaches.true) k) h
 
 pub returns-then-not-has_free : goal.returns-then-not-has_free
 returns-then-not-has_free g c = λ target behind h.
