@@ -34,9 +34,9 @@ fn told<R: Threads + Sync, G: Gate + Sync>(
     question: &str,
 ) -> Option<String> {
     let (front, window) = question.split_once(" ; ")?;
-    let (window_text, workers) = window.rsplit_once(' ')?;
+    let (window, workers) = window.rsplit_once(' ')?;
     let workers: u8 = workers.parse().ok()?;
-    let window = match window_of(window_text)? {
+    let window = match window_of(window)? {
         Ok(window) => window,
         Err(Range) => return format!(in alloc; "Range").ok(),
     };
@@ -44,7 +44,7 @@ fn told<R: Threads + Sync, G: Gate + Sync>(
         Some(("alike", name)) => {
             let drawing = drawing(alloc, name)?;
             let raster = paint(rt, alloc, &drawing, window, workers.clamp(1, 16), gate).ok()?;
-            unlike(alloc, &drawing, window_text, raster.bytes())
+            unlike(alloc, &drawing, window, raster.bytes())
         }
         Some((room, name)) => {
             let drawing = drawing(alloc, name)?;
@@ -121,46 +121,36 @@ fn painted<R: Threads + Sync, G: Gate + Sync>(
 }
 
 /// How many pixels have another colour than the drawing at their point.
-fn unlike(alloc: Global, drawing: &Drawing<Outline>, window: &str, bytes: &[u8]) -> Option<String> {
-    let (x, rest) = window.split_once(' ')?;
-    let (y, rest) = rest.split_once(' ')?;
-    let (step, size) = rest.split_once(' ')?;
-    let (width, _) = size.split_once(' ')?;
-    let start = Point {
-        x: x.parse().ok()?,
-        y: y.parse().ok()?,
-    };
-    let count = count_unlike(
-        drawing,
-        start,
-        step.parse().ok()?,
-        width.parse().ok()?,
-        bytes,
-    );
+fn unlike(
+    alloc: Global,
+    drawing: &Drawing<Outline>,
+    window: Window,
+    bytes: &[u8],
+) -> Option<String> {
+    let count = count_unlike(drawing, window, bytes);
     format!(in alloc; "{count} of {}", bytes.len() / 3).ok()
 }
 
-fn count_unlike(
-    drawing: &Drawing<Outline>,
-    start: Point,
-    step: i32,
-    width: i32,
-    bytes: &[u8],
-) -> u64 {
-    let mut count = 0u64;
-    let mut column = 0i32;
+fn count_unlike(drawing: &Drawing<Outline>, window: Window, bytes: &[u8]) -> u64 {
+    let _ = window.height();
+    let start = Point {
+        x: window.x(),
+        y: window.line(0),
+    };
     let mut at = start;
+    let mut column = 0u32;
+    let mut count = 0u64;
     for pixel in bytes.chunks_exact(3) {
         let Rgb { r, g, b } = drawing.colour_at(at);
         if [r, g, b] != [pixel[0], pixel[1], pixel[2]] {
             count = count.saturating_add(1);
         }
-        at.x = at.x.wrapping_add(step);
+        at.x = at.x.wrapping_add(window.step() as i32);
         column = column.wrapping_add(1);
-        if column == width {
+        if column == window.width() {
             column = 0;
             at.x = start.x;
-            at.y = at.y.wrapping_add(step);
+            at.y = at.y.wrapping_add(window.step() as i32);
         }
     }
     count
