@@ -1,19 +1,8 @@
 //! figgroup: figures drawn by a group, exported as FIG text or as pictures.
 #![tactic(auto)]
 
-mod asking;
-mod command;
-#[cfg(test)]
-mod command_tests;
-#[cfg(test)]
-mod picture_table;
-#[cfg(test)]
-mod run_table;
-
-pub use asking::{Canvas, Run};
-pub use command::command;
-use command::refuse_words;
 use gf_bytes::{In, Out};
+use gf_command::{command, refuse_words};
 use std::io;
 use std::process::ExitCode;
 

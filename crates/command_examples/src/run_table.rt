@@ -1,6 +1,6 @@
 //! One table of runs, with the answers that the formats and the faults ask for.
 
-use crate::command_tests::fig;
+use crate::commands::fig;
 use example_parts::{EMPTY_FIG, RED_BOX, RED_BOX_FIG};
 use std::alloc::Global;
 use std::test::Fail;

@@ -1,10 +1,10 @@
 //! A table of pictures: runs of `paint` and `repaint`, with the answers that the formats and the
 //! faults ask for.
 
-use crate::command;
-use crate::command_tests::words;
+use crate::commands::words;
 use crate::run_table::joined;
 use gf_bytes::{Reel, Tape};
+use gf_command::command;
 use std::test::Fail;
 use std::thread::Threads;
 

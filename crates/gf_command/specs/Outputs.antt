@@ -2,8 +2,8 @@
 use Rattle.std.specs.Prelude.{◌⊎◌, ℕ, List, Option}
 use Rattle.gf_studio.specs.FigRun.{Exports, WritesFront}
 use Rattle.gf_studio.specs.PaintRun.{IsDenoted, IsMeant, WritesBands, WritesPicture, WritesPictureFront}
-use Rattle.figgroup.specs.declared.asking.Run.{Run}
-use Rattle.figgroup.specs.declared.asking.Run.TheVariants.{Fig, Paint, Repaint}
+use Rattle.gf_command.specs.declared.asking.Run.{Run}
+use Rattle.gf_command.specs.declared.asking.Run.TheVariants.{Fig, Paint, Repaint}
 
 -- known bytes grow from old to new by what the run asks for: the FIG text of what the bytes denote, a picture of the colours that they mean, or one of the drawing that they read as
 abbrev pub Answers : Run → List ℕ → Option (List ℕ) → Option (List ℕ) → Type 0

@@ -1,8 +1,8 @@
 //! The command line.
 
 ghost use Rattle.std.specs.Prelude.{◌≡◌, ◌≤◌, ◌⊎◌, IfSome, IfErr, OnOk, IsTrue};
-ghost use Rattle.figgroup.specs.Outputs.{Answers, AnswersFront};
-ghost use Rattle.figgroup.specs.declared.asking.Run.{Run};
+ghost use Rattle.gf_command.specs.Outputs.{Answers, AnswersFront};
+ghost use Rattle.gf_command.specs.declared.asking.Run.{Run};
 
 use crate::asking::{Canvas, Run, parse};
 use clap::Error;
@@ -86,8 +86,9 @@ fn answer<T: Threads + Sync, R: Source, W: Sink>(
     }
 }
 
-/// Tells why the words were not read, and answers the status.
-pub(crate) fn refuse_words<E: Sink>(fault: &io::Error, faults: &mut E) -> u8
+/// Tells why the words of the command line could not be read, and answers the status: 2 where a word
+/// is no UTF-8, and else 1.
+pub fn refuse_words<E: Sink>(fault: &io::Error, faults: &mut E) -> u8
     ensures { (result ≡ 1) ⊎ (result ≡ 2) }
 {
     if fault.kind() == io::ErrorKind::InvalidData {

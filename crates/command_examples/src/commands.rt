@@ -1,9 +1,8 @@
 //! The command line, over sources and sinks in memory.
 
-use crate::command;
-use crate::command::refuse_words;
 use example_parts::RED_BOX;
 use gf_bytes::{MOST_INPUT_BYTES, Reel, Tape};
+use gf_command::{command, refuse_words};
 use std::alloc::{AllocError, Global};
 use std::io;
 use std::test::Fail;

@@ -1,0 +1,9 @@
+//! Worked examples of whole commands, over sources and sinks in memory.
+#![tactic(auto)]
+
+#[cfg(test)]
+mod commands;
+#[cfg(test)]
+mod picture_table;
+#[cfg(test)]
+mod run_table;

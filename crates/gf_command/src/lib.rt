@@ -1,0 +1,8 @@
+//! The command line of figgroup, over any source and sinks.
+#![tactic(auto)]
+
+mod answering;
+mod asking;
+
+pub use answering::{command, refuse_words};
+pub use asking::{Canvas, Run};

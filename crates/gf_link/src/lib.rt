@@ -1,0 +1,16 @@
+//! One way from a site to another: a queue of messages with a seat at each end, in which what was
+//! sent is what was taken and then what the queue holds.
+//!
+//! - [`Link`], [`SendSeat`], [`TakeSeat`]: the queue and the rights to send and to take.
+//! - [`Message`]: an operation, or one of the two ends.
+//! - [`settle`], [`Settled`]: the comparison of both seats, once nobody sends or takes any more.
+#![tactic(auto)]
+
+mod link;
+mod message;
+mod rule;
+mod seats;
+
+pub use link::{Link, MOST_MESSAGES, Settled, settle};
+pub use message::Message;
+pub use seats::{SendSeat, TakeSeat};
