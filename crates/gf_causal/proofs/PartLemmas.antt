@@ -1,11 +1,11 @@
 -- What is ready behind a part of a valid history, and in that history, is accepted behind the part.
-use Rattle.std.proofs.Common.{◌≡◌, ◌≢◌, ℕ, ◌+◌, ◌≤◌, List, inl, inr, subst, arith}
+use Rattle.std.proofs.Common.{◌≤◌, List, inl, inr, subst, arith}
 use Rattle.std.specs.Prelude.{Contains}
 use Rattle.std.proofs.lemmas.Bool.{cases_eq}
 use Rattle.gf_ops.specs.declared.op.Op.{Op}
 use Rattle.gf_ops.specs.declared.change.Change.{Change}
 use Rattle.gf_ops.specs.declared.change.Change.TheVariants.{Create, Set}
-use Rattle.gf_ops.specs.OperationOrder.{IsSite, entry, count_of}
+use Rattle.gf_ops.specs.OperationOrder.{entry}
 use Rattle.gf_ops.specs.ValidHistory.{IsValid}
 use Rattle.gf_ops.specs.KnownObject.{IsSuited}
 use Rattle.gf_ops.specs.Accepted.{CountsAtMost, IsClosed, IsAccepted}

@@ -1,7 +1,9 @@
 //! Operations that wait for what they know.
 
-ghost use Rattle.std.specs.Prelude.{◌≡◌, ◌≢◌, ◌↔◌, [], length, Contains, Ok, Err, IfSome, IfNone, OnOk, OnErr};
+ghost use Rattle.std.specs.Prelude.{◌≡◌, ◌≢◌, ◌↔◌, [], length, Contains, Ok, Err, IfOk, IfSome, IfNone, OnOk, OnErr};
+ghost use Rattle.std.specs.BTreeMap.{insert_entry};
 ghost use Rattle.gf_ops.specs.declared.op.Op.{Op};
+ghost use Rattle.gf_ops.specs.OperationOrder.{id_cmp};
 ghost use Rattle.gf_ops.specs.Limits.{IsInRange};
 ghost use Rattle.gf_causal.specs.declared.buffer.Offered.{Offered};
 ghost use Rattle.gf_causal.specs.declared.faults.OfferFault.{OfferFault};
@@ -56,6 +58,18 @@ impl Buffer {
         }
     }
 
+    /// The same buffer once more.
+    pub fn copy(&self, alloc: Global) -> Result<Buffer, OutOfMemory>
+        ensures { IfOk result (λ copy. copy ≡ self.now) }
+    {
+        let mut ops = BTreeMap::new(alloc);
+        for (id, op) in &self.ops {
+            let op = op.copy(alloc)?;
+            put(&mut ops, *id, op)?;
+        }
+        Ok(Buffer { ops })
+    }
+
     /// Holds an operation that is neither held nor in the history.
     pub fn offer(&mut self, op: Op, history: &History) -> Result<Offered, OfferFault>
         ensures range { result ≡ Err OfferFault.Range ↔ (¬ (IsInRange op)) }
@@ -84,6 +98,7 @@ impl Buffer {
     /// next number of each site.
     pub fn first_ready(&self, history: &History) -> Option<&Op>
         ensures found { IfSome result (λ op. IsFirstReady self.now history.now.ops op.now) }
+        ensures in_range { IfSome result (λ op. IsInRange op.now) }
         ensures none { IfNone result (NoneIsReady history.now.ops self.now) }
     {
         // Each held operation is in range.
@@ -171,5 +186,15 @@ impl Buffer {
                 }
             }
         }
+    }
+}
+
+/// Puts the operation under the id.
+fn put(ops: &mut BTreeMap<OpId, Op>, id: OpId, op: Op) -> Result<(), OutOfMemory>
+    ensures { OnOk result (ops.new.entries ≡ insert_entry id_cmp ops.old.entries id op) }
+{
+    match ops.insert(id, op) {
+        Ok(_) => Ok(()),
+        Err(_) => Err(OutOfMemory),
     }
 }

@@ -4,3 +4,4 @@ pub mod ValidityLemmas
 pub mod HistoryLemmas
 pub mod IndexLemmas
 pub mod ConflictLemmas
+pub mod EntryLemmas

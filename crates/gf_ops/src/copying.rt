@@ -19,6 +19,17 @@ impl Op {
     }
 }
 
+/// The same operations once more, in their order.
+pub(crate) fn copy_ops(ops: &[Op], alloc: Global) -> Result<Vec<Op>, OutOfMemory>
+    ensures { IfOk result (λ copies. copies.items ≡ ops.now) }
+{
+    let mut copies = Vec::new(alloc);
+    for op in ops {
+        copies.push(op.copy(alloc)?)?;
+    }
+    Ok(copies)
+}
+
 impl Change {
     fn copy(&self, alloc: Global) -> Result<Change, OutOfMemory>
         ensures { IfOk result (λ change. change ≡ self.now) }

@@ -1,6 +1,6 @@
 //! The history of a site.
 
-ghost use Rattle.std.specs.Prelude.{◌≡◌, ◌≢◌, ◌<◌, ◌↔◌, ◌++◌, ◌∷◌, [], Contains, IsTrue, Ok, Err, IsOk, IfSome, IfNone, OnOk, OnErr};
+ghost use Rattle.std.specs.Prelude.{◌≡◌, ◌≢◌, ◌<◌, ◌↔◌, ◌++◌, ◌∷◌, [], Contains, IsTrue, Ok, Err, IsOk, IfOk, IfSome, IfNone, OnOk, OnErr};
 ghost use Rattle.gf_ops.specs.declared.op.Op.{Op};
 ghost use Rattle.gf_ops.specs.declared.history.History.{History};
 ghost use Rattle.gf_ops.specs.Accepted.{CountsAtMost, IsNumbered, IsClosed, IsNext, IsAccepted, IsRefused};
@@ -10,6 +10,7 @@ ghost use Rattle.gf_ops.specs.Limits.{IsInRange};
 ghost use Rattle.gf_ops.specs.OperationOrder.{count_of};
 ghost use Rattle.gf_ops.specs.ValidHistory.{IsWithin, IsValid};
 
+use crate::copying::copy_ops;
 use crate::{AddFault, Change, Clock, Form, ObjectId, Op, OpFault, OpId, Value, before};
 use gf_shape::OutOfMemory;
 use std::alloc::Global;
@@ -47,6 +48,20 @@ impl History {
             places: Vec::new(alloc),
             counts: Clock([0; 8]),
         }
+    }
+
+    /// The same history once more. It may have room for fewer operations.
+    pub fn copy(&self, alloc: Global) -> Result<History, OutOfMemory>
+        ensures { IfOk result (λ copy. copy.ops ≡ self.now.ops) }
+    {
+        let ops = copy_ops(&self.ops, alloc)?;
+        let mut places = Vec::new(alloc);
+        places.extend_from_slice(&self.places)?;
+        Ok(History {
+            ops,
+            places,
+            counts: self.counts,
+        })
     }
 
     /// How many operations of this site it has.

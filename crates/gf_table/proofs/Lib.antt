@@ -1,4 +1,3 @@
-pub mod CopyLemmas
 pub mod KeptTailsLemmas
 pub mod LongerLemmas
 pub mod NextLemmas

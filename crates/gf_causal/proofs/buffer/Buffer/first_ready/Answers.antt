@@ -28,3 +28,7 @@ returns-clause-none c = λ a h r.
     let held : AreHeld c.args.self.now = rw (← c.self.view_is) c.self.invariant.held in
     let w = (site_in_range a (held.in_range a h)).1 in
     let t : 9 ≤ c.loop-site.site = search rules in absurd (omega arith)
+
+pub returns-in-Some-clause-in_range : goal.returns-in-Some-clause-in_range
+returns-in-Some-clause-in_range c =
+    let held : AreHeld c.args.self.now = rw (← c.self.view_is) c.self.invariant.held in held.in_range c.in-Some.op.now c.in-Some.ensures.found.0

@@ -1,5 +1,5 @@
--- An entry whose key is above all others goes to the end of a map.
-use Rattle.std.proofs.Common.{◌≡◌, List, [], ◌∷◌, ◌++◌, append_assoc, refl, sym, ap, ◌∙◌}
+-- Entries in the order of their keys: one whose key is above all others goes to the end. The crates above cite it.
+use Rattle.std.proofs.Common.{◌≡◌, List, [], ◌∷◌, ◌++◌, append_assoc, append-nil, refl, sym, ap, ◌∙◌}
 use Rattle.std.specs.Prelude.{Contains}
 use Rattle.std.specs.BTreeMap.{insert_entry}
 use Rattle.std.specs.Cmp.{IsTotalOrder}
@@ -8,9 +8,9 @@ use Rattle.std.specs.Map.{keys_of}
 use Rattle.std.specs.Ordering.{match_ordering, ordering_reverse}
 use Rattle.std.specs.declared.cmp.Ordering.{Ordering}
 use Rattle.std.specs.declared.cmp.Ordering.TheVariants.{Less, Greater}
-use Rattle.std.proofs.lemmas.Map.Keys.{sorted_tail}
+use Rattle.std.proofs.lemmas.List.Elements.{All-contains, All-from_recursion}
+use Rattle.std.proofs.lemmas.Map.Keys.{sorted_head, sorted_tail}
 use Rattle.gf_ops.proofs.ListLemmas.{Contains-cons_head, Contains-cons_tail}
-use Rattle.gf_groups.proofs.RisingLemmas.{below_tail}
 
 module _ {K X : Type 0} (R : K → K → Ordering) (total : IsTotalOrder R) where
   in_keys : (es : List (K × X)) (k : K) (v : X) (rest : List (K × X)) → Contains (keys_of (es ++ (k, v) ∷ rest)) k
@@ -20,10 +20,11 @@ module _ {K X : Type 0} (R : K → K → Ordering) (total : IsTotalOrder R) wher
   insert_last : (es : List (K × X)) (k : K) (v : X) (rest : List (K × X)) → IsStrictlySortedBy R (keys_of (es ++ (k, v) ∷ rest)) → insert_entry R es k v ≡ es ++ (k, v) ∷ []
   insert_last [] k v rest s = refl
   insert_last (e ∷ es) k v rest s =
-      let l : R e.0 k ≡ Less = below_tail R total e.0 (keys_of (es ++ (k, v) ∷ rest)) s k (in_keys es k v rest) in
+      let keys = keys_of (es ++ (k, v) ∷ rest) in
+      let l : R e.0 k ≡ Less = All-contains (λ y. R e.0 y ≡ Less) keys k (All-from_recursion (λ y. R e.0 y ≡ Less) keys (sorted_head R e.0 keys s)) (in_keys es k v rest) in
       let g : R k e.0 ≡ Greater = total.antisymm k e.0 ∙ ap ordering_reverse l in
       ap (λ o. match_ordering o ((k, v) ∷ e ∷ es) ((e.0, v) ∷ es) (e ∷ insert_entry R es k v)) g
-      ∙ ap (λ xs. e ∷ xs) (insert_last es k v rest (sorted_tail R e.0 (keys_of (es ++ (k, v) ∷ rest)) s))
+      ∙ ap (λ xs. e ∷ xs) (insert_last es k v rest (sorted_tail R e.0 keys s))
 
   -- one more entry of all goes over
   pub copied_more : (old new all : List (K × X)) (k : K) (v : X) (rest left : List (K × X)) → IsStrictlySortedBy R (keys_of all) → new ≡ insert_entry R old k v → left ≡ (k, v) ∷ rest → old ++ left ≡ all → new ++ rest ≡ all
@@ -31,3 +32,7 @@ module _ {K X : Type 0} (R : K → K → Ordering) (total : IsTotalOrder R) wher
       let whole : old ++ (k, v) ∷ rest ≡ all = ap (λ xs. old ++ xs) (sym step) ∙ r in
       let last = insert_last old k v rest (rw whole sorted) in
       rw (made, last, append_assoc) whole
+
+-- once none is left, all went over
+pub copied_all : {X : Type 0} (new left all : List X) → left ≡ [] → new ++ left ≡ all → new ≡ all
+copied_all new left all e r = sym (append-nil new) ∙ ap (λ xs. new ++ xs) (sym e) ∙ r
