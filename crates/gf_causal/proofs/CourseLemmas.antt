@@ -64,7 +64,7 @@ number_counted (next {h} {a = b} r q) a c = elim (Contains-push_cases h b a c) [
 ]
 
 -- a course whose operations are in another has no more of any site
-count_within : {h k : List Op} → AreReady h → AreReady k → ((a : Op) → Contains h a → Contains k a) → (s : ℕ) → count_of h s ≤ count_of k s
+pub count_within : {h k : List Op} → AreReady h → AreReady k → ((a : Op) → Contains h a → Contains k a) → (s : ℕ) → count_of h s ≤ count_of k s
 count_within {h} {k} r q within s = elim (cases_lt 0 (count_of h s)) [
   | inl m ↦
       let t = has_counted r (record { site = s; seq = count_of h s }) m (omega arith) in

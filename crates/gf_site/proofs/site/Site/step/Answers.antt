@@ -1,0 +1,71 @@
+use Rattle.std.proofs.Common.{◌++◌, ◌∷◌, [], refl, sym, subst, ◌∙◌, ap}
+use Rattle.std.proofs.lemmas.Result.{err_from_is_err_and}
+use Rattle.gf_ops.specs.Limits.{IsInRange}
+use Rattle.gf_table.specs.Standing.{StandsFor}
+use Rattle.gf_site.proofs.StepLemmas.{run_more, refused_by, taken_first_none, taken_same, accepted_same, table_more, added}
+use Rattle.gf_site.proofs.site.Site.step.Goals as goal
+
+pub returns-in_default-clause-ok : goal.returns-in_default-clause-ok
+returns-in_default-clause-ok c = rw (← c.self.view_is) (c.in_default.ensures.none, refl)
+
+pub returns-in-Err-clause-ok : goal.returns-in-Err-clause-ok
+returns-in-Err-clause-ok c =
+    let a = c.in-Some.op.now in
+    let first = c.in-Some.ensures.found in
+    let refused = refused_by c.self.inside.history.ops a c.check.result c.in-Err.fault c.in-Err.is c.check.ensures.bad_clock c.check.ensures.no_object c.check.ensures.wrong_kind in
+    rw (← c.self.view_is) (record {
+      op = a;
+      id = refl;
+      takes = record { first = first; in_range = c.in-Some.ensures.in_range; taken = c.forget_first.ensures a first; number = refl };
+      refused = refused;
+      ops = refl;
+    })
+
+pub returns-in_err-grow-clause-out_of_memory : goal.returns-in_err-grow-clause-out_of_memory
+returns-in_err-grow-clause-out_of_memory c =
+    let p = err_from_is_err_and c.from_residual.result c.from_residual.ensures.1 in
+    rw (p.1, ← c.self.view_is) (record { op = c.in-Some.op.now; first = c.in-Some.ensures.found; accepted = c.in_default-check.ensures.ok.0 refl })
+
+pub unreachable-requires : goal.unreachable-requires
+unreachable-requires c = taken_first_none c.self.inside.buffer c.self.inside.history.ops c.grow.new.history.ops c.take_first.new.buffer c.in-Some.op.now c.take_first.result c.in-Some.ensures.found c.in_ok-grow.ensures.history c.take_first.ensures c.in_default-take_first.is
+
+pub add-requires : goal.add-requires
+add-requires c =
+    let t = taken_same c.self.inside.buffer c.self.inside.history.ops c.grow.new.history.ops c.take_first.new.buffer c.in-Some.op.now c.in-Some-take_first.op c.take_first.result c.in-Some.ensures.found c.in_ok-grow.ensures.history c.take_first.ensures c.in-Some-take_first.is in
+    subst IsInRange (sym t.0) c.in-Some.ensures.in_range
+
+pub unreachable-requires-in_default-add : goal.unreachable-requires-in_default-add
+unreachable-requires-in_default-add c =
+    let old = c.grow.new.history.ops in
+    let b = c.in-Some-take_first.op in
+    let t = taken_same c.self.inside.buffer c.self.inside.history.ops old c.take_first.new.buffer c.in-Some.op.now b c.take_first.result c.in-Some.ensures.found c.in_ok-grow.ensures.history c.take_first.ensures c.in-Some-take_first.is in
+    let accepted = accepted_same c.self.inside.history.ops old c.in-Some.op.now b c.in_ok-grow.ensures.history t.0 (c.in_default-check.ensures.ok.0 refl) in
+    added old b c.grow.new.history.room c.add.result c.in_default-add.field-0 accepted c.in_ok-grow.ensures.room c.in_default-add.is c.add.ensures.bad_clock c.add.ensures.no_object c.add.ensures.wrong_kind c.add.ensures.out_of_memory
+
+pub invariant_of-self-2 : goal.invariant_of-self-2
+invariant_of-self-2 c =
+    let h = c.self.inside.history.ops in
+    let old = c.grow.new.history.ops in
+    let new = c.add.new.self.ops in
+    let b = c.in-Some-take_first.op in
+    let same = c.in_ok-grow.ensures.history in
+    let more = c.in-Ok.ensures.ok in
+    let t = taken_same c.self.inside.buffer h old c.take_first.new.buffer c.in-Some.op.now b c.take_first.result c.in-Some.ensures.found same c.take_first.ensures c.in-Some-take_first.is in
+    let stands = subst (λ a. StandsFor (h ++ a ∷ []) c.grow.new.table) (sym t.0) c.in_ok-grow.ensures.table in
+    (c.self.invariant.0, run_more h old new b c.self.invariant.1 same more.0 more.1, table_more h old new b c.grow.new.table same more.1 stands)
+
+pub returns-clause-ok : goal.returns-clause-ok
+returns-clause-ok c =
+    let h = c.self.inside.history.ops in
+    let old = c.grow.new.history.ops in
+    let a = c.in-Some.op.now in
+    let first = c.in-Some.ensures.found in
+    let same = c.in_ok-grow.ensures.history in
+    let t = taken_same c.self.inside.buffer h old c.take_first.new.buffer a c.in-Some-take_first.op c.take_first.result first same c.take_first.ensures c.in-Some-take_first.is in
+    rw (← c.self.view_is) (record {
+      op = a;
+      id = refl;
+      takes = record { first = first; in_range = c.in-Some.ensures.in_range; taken = t.1; number = refl };
+      accepted = c.in_default-check.ensures.ok.0 refl;
+      ops = c.in-Ok.ensures.ok.1 ∙ ap (λ l. l ++ c.in-Some-take_first.op ∷ []) same ∙ ap (λ b. h ++ b ∷ []) t.0;
+    })

@@ -1,0 +1,72 @@
+-- What happens at one site: a change is made, an operation is offered, or the site steps (this project's choice).
+use Rattle.std.specs.Prelude.{◌≡◌, ◌<◌, ◌≤◌, ℕ, List, [], ◌∷◌, ◌++◌, IsTrue}
+use Rattle.gf_ops.specs.declared.op.Op.{Op}
+use Rattle.gf_ops.specs.declared.op.OpId.{OpId}
+use Rattle.gf_ops.specs.declared.change.Change.{Change}
+use Rattle.gf_ops.specs.declared.faults.OpFault.{OpFault}
+use Rattle.gf_ops.specs.Limits.{is_change, IsInRange}
+use Rattle.gf_ops.specs.OperationOrder.{count_of}
+use Rattle.gf_ops.specs.KnownObject.{IsFounded, IsSuited}
+use Rattle.gf_ops.specs.Accepted.{IsAccepted, IsRefused}
+use Rattle.gf_causal.specs.Ready.{NoneIsReady}
+use Rattle.gf_causal.specs.HeldOperations.{Adds, IsFirstReady}
+use Rattle.gf_site.specs.declared.faults.AuthorFault.{AuthorFault}
+use Rattle.gf_site.specs.declared.faults.AuthorFault.TheVariants as fault
+use Rattle.gf_site.specs.declared.site.Step.{Step}
+use Rattle.gf_site.specs.declared.site.Step.TheVariants as step
+use Rattle.gf_site.specs.SiteState.{SiteState, authored}
+
+-- site s with the history h may make an operation, and the change c keeps the limits
+pub record IsFit (s : ℕ) (h : List Op) (c : Change) : Type 0 where
+  pub room : count_of h s < 10000
+  pub in_range : IsTrue (is_change c)
+
+-- site s with the history h refuses the change c, for the first of these causes; want of memory may come where it refuses none
+abbrev pub Refuses : ℕ → List Op → Change → AuthorFault → Type 0
+Refuses s h c fault.Exhausted = 10000 ≤ count_of h s
+Refuses s h c fault.Range = (count_of h s < 10000) × (¬ (IsTrue (is_change c)))
+Refuses s h c fault.NoObject = IsFit s h c × (¬ (IsFounded h (authored s h c) c))
+Refuses s h c fault.WrongKind = IsFit s h c × IsFounded h (authored s h c) c × (¬ (IsSuited h (authored s h c) c))
+Refuses s h c fault.OutOfMemory = IsFit s h c × IsSuited h (authored s h c) c
+
+-- the site made the operation a of the change c, and had all that a knows
+pub record Authors (old : SiteState) (c : Change) (a : Op) (new : SiteState) : Type 0 where
+  pub is : a ≡ authored old.number old.ops c
+  pub in_range : IsInRange a
+  pub accepted : IsAccepted old.ops a
+  pub state : new ≡ record old { ops = old.ops ++ a ∷ [] }
+
+-- the site took out the held operation that was ready, with the least id of those
+pub record Takes (old : SiteState) (a : Op) (new : SiteState) : Type 0 where
+  pub first : IsFirstReady old.held old.ops a
+  pub in_range : IsInRange a
+  pub taken : Adds new.held a old.held
+  pub number : new.number ≡ old.number
+
+-- and added it
+pub record Applies (old : SiteState) (i : OpId) (new : SiteState) : Type 0 where
+  pub op : Op
+  pub id : op.id ≡ i
+  pub takes : Takes old op new
+  pub accepted : IsAccepted old.ops op
+  pub ops : new.ops ≡ old.ops ++ op ∷ []
+
+-- or forgot it, since its check failed
+pub record Drops (old : SiteState) (i : OpId) (f : OpFault) (new : SiteState) : Type 0 where
+  pub op : Op
+  pub id : op.id ≡ i
+  pub takes : Takes old op new
+  pub refused : IsRefused old.ops op f
+  pub ops : new.ops ≡ old.ops
+
+-- what a step did
+abbrev pub Steps : SiteState → Step → SiteState → Type 0
+Steps old (step.Applied i) new = Applies old i new
+Steps old (step.Dropped i f) new = Drops old i f new
+Steps old step.Idle new = NoneIsReady old.ops old.held × (new ≡ old)
+
+-- the site has a ready operation that its history accepts
+pub record HasNext (x : SiteState) : Type 0 where
+  pub op : Op
+  pub first : IsFirstReady x.held x.ops op
+  pub accepted : IsAccepted x.ops op

@@ -1,0 +1,257 @@
+//! A site: what one designer has, and what waits there.
+
+ghost use Rattle.std.specs.Prelude.{◌≡◌, ◌≢◌, ◌↔◌, ◌<◌, ◌++◌, ◌∷◌, [], length, IsTrue, Some, Ok, Err, IfOk, IfErr, OnOk, OnErr};
+ghost use Rattle.gf_ops.specs.declared.op.Op.{Op};
+ghost use Rattle.gf_ops.specs.Limits.{is_change, IsInRange};
+ghost use Rattle.gf_ops.specs.OperationOrder.{IsSite, count_of};
+ghost use Rattle.gf_ops.specs.Accepted.{IsNext, IsAccepted, AreAccepted};
+ghost use Rattle.gf_ops.specs.ValidHistory.{IsValid};
+ghost use Rattle.gf_causal.specs.declared.buffer.Offered.{Offered};
+ghost use Rattle.gf_causal.specs.declared.faults.OfferFault.{OfferFault};
+ghost use Rattle.gf_causal.specs.HeldOperations.{AreHeld, IsClash, IsKnown, IsNew, Adds, IsFirstReady};
+ghost use Rattle.gf_table.specs.Standing.{StandsFor};
+ghost use Rattle.gf_site.specs.SiteState.{new_site, clock_of, authored};
+ghost use Rattle.gf_site.specs.Events.{Refuses, Authors, Steps, HasNext};
+
+use crate::AuthorFault;
+use gf_causal::{Buffer, OfferFault, Offered};
+use gf_ops::{Change, Clock, History, Op, OpFault, OpId};
+use gf_shape::OutOfMemory;
+use gf_table::GroupTable;
+use std::alloc::Global;
+use std::marker::Model;
+
+/// What a step came to.
+#[derive(Clone, Copy, Debug, PartialEq, Eq)]
+pub enum Step {
+    /// The operation under this id was added to the history.
+    Applied(OpId),
+    /// The operation under this id did not fit behind the history, and is forgotten.
+    Dropped(OpId, OpFault),
+    /// No held operation is ready.
+    Idle,
+}
+
+/// A site of this number, with its history, the table of its versions, and the operations that it
+/// holds until they are ready.
+#[derive(Debug, Drop)]
+pub struct Site {
+    number: u8,
+    history: History,
+    // Stands for the history.
+    table: GroupTable,
+    buffer: Buffer,
+    alloc: Global,
+}
+
+impl Model for Site {
+    ghost use Rattle.gf_ops.specs.OperationOrder.{IsSite};
+    ghost use Rattle.gf_ops.specs.Accepted.{AreAccepted};
+    ghost use Rattle.gf_table.specs.Standing.{StandsFor};
+    ghost use Rattle.gf_site.specs.SiteState.{SiteState};
+
+    ghost Value = { SiteState };
+
+    ghost view = { λ s. record { number = s.number; ops = s.history.ops; held = s.buffer } };
+
+    ghost invariant = { λ s. IsSite s.number × AreAccepted s.history.ops × StandsFor s.history.ops s.table };
+}
+
+impl Site {
+    /// A site that has and holds nothing.
+    pub fn new(alloc: Global, number: u8) -> Site
+        requires { IsSite number }
+        ensures { result ≡ new_site number }
+    {
+        Site {
+            number,
+            history: History::new(alloc),
+            table: GroupTable::new(alloc),
+            buffer: Buffer::new(alloc),
+            alloc,
+        }
+    }
+
+    /// The same site once more.
+    pub fn copy(&self, alloc: Global) -> Result<Site, OutOfMemory>
+        ensures { IfOk result (λ copy. copy ≡ self.now) }
+    {
+        Ok(Site {
+            number: self.number,
+            history: self.history.copy(alloc)?,
+            table: self.table.copy(alloc)?,
+            buffer: self.buffer.copy(alloc)?,
+            alloc,
+        })
+    }
+
+    /// Its number.
+    pub fn number(&self) -> u8
+        ensures number { result ≡ self.now.number }
+        ensures site { IsSite self.now.number }
+    {
+        self.number
+    }
+
+    /// Its history.
+    pub fn history(&self) -> &History
+        ensures ops { result.now.ops ≡ self.now.ops }
+        ensures accepted { AreAccepted self.now.ops }
+        ensures valid { IsValid self.now.ops }
+    {
+        let _ = self.history.ops();
+        &self.history
+    }
+
+    /// The versions of all objects of its history.
+    pub fn table(&self) -> &GroupTable
+        ensures { StandsFor self.now.ops result.now }
+    {
+        &self.table
+    }
+
+    /// How many operations it holds.
+    pub fn held(&self) -> usize
+        ensures held { result ≡ length self.now.held }
+        ensures valid { AreHeld self.now.held }
+    {
+        self.buffer.held()
+    }
+
+    /// Makes an operation of the change, adds it to the history, and answers a copy. All memory is
+    /// there before it changes anything.
+    pub fn author(&mut self, change: Change) -> Result<Op, AuthorFault>
+        ensures ok { IfOk result (λ op. Authors self.old change op self.new) }
+        ensures err { IfErr result (Refuses self.old.number self.old.ops change) }
+        ensures same { OnErr result (self.new ≡ self.old) }
+    {
+        if 10_000 <= self.history.count(self.number) {
+            return Err(AuthorFault::Exhausted);
+        }
+        if !change.in_range() {
+            return Err(AuthorFault::Range);
+        }
+        let op = self.next_op(change);
+        match self.history.check(&op) {
+            Ok(()) => {}
+            Err(OpFault::BadClock) => unreachable!(),
+            Err(OpFault::NoObject) => return Err(AuthorFault::NoObject),
+            Err(OpFault::WrongKind) => return Err(AuthorFault::WrongKind),
+        }
+        let Ok(copy) = op.copy(self.alloc) else {
+            return Err(AuthorFault::OutOfMemory);
+        };
+        let Ok(()) = grow(&mut self.history, &mut self.table, &op) else {
+            return Err(AuthorFault::OutOfMemory);
+        };
+        let Ok(()) = self.history.add(op) else {
+            unreachable!();
+        };
+        Ok(copy)
+    }
+
+    /// Holds an operation that is neither held nor in the history.
+    pub fn receive(&mut self, op: Op) -> Result<Offered, OfferFault>
+        ensures range { result ≡ Err OfferFault.Range ↔ (¬ (IsInRange op)) }
+        ensures clash { result ≡ Err OfferFault.Clash ↔ (IsInRange op × IsClash self.old.held self.old.ops op) }
+        ensures already { result ≡ Ok Offered.Already ↔ (IsInRange op × IsKnown self.old.held self.old.ops op) }
+        ensures held { result ≡ Ok Offered.Held → IsInRange op × IsNew self.old.held self.old.ops op × Adds self.old.held op self.new.held }
+        ensures out_of_memory { result ≡ Err OfferFault.OutOfMemory → IsInRange op × IsNew self.old.held self.old.ops op }
+        ensures same { result ≢ Ok Offered.Held → self.new ≡ self.old }
+        ensures kept { self.new ≡ record self.old { held = self.new.held } }
+    {
+        self.buffer.offer(op, &self.history)
+    }
+
+    /// Moves the held operation that is ready, with the least id of those, to the history, or forgets
+    /// it where it doesn't fit. All memory is there before it changes anything.
+    pub fn step(&mut self) -> Result<Step, OutOfMemory>
+        ensures ok { IfOk result (λ step. Steps self.old step self.new) }
+        ensures out_of_memory { OnErr result (HasNext self.old) }
+        ensures same { OnErr result (self.new ≡ self.old) }
+    {
+        let Some(op) = self.buffer.first_ready(&self.history) else {
+            return Ok(Step::Idle);
+        };
+        let id = op.id;
+        if let Err(fault) = self.history.check(op) {
+            forget_first(&mut self.buffer, &self.history);
+            return Ok(Step::Dropped(id, fault));
+        }
+        grow(&mut self.history, &mut self.table, op)?;
+        let Some(op) = take_first(&mut self.buffer, &self.history) else {
+            unreachable!();
+        };
+        let Ok(()) = self.history.add(op) else {
+            unreachable!();
+        };
+        Ok(Step::Applied(id))
+    }
+
+    /// The operation that it would make of the change. Its history accepts it, where the object of
+    /// the change is known and suits.
+    fn next_op(&self, change: Change) -> Op
+        requires room { count_of self.now.ops self.now.number < 10000 }
+        requires in_range { IsTrue (is_change change) }
+        ensures is { result ≡ authored self.now.number self.now.ops change }
+        ensures in_range { IsInRange result }
+        ensures next { IsNext self.now.ops result }
+    {
+        let _ = self.history.ops();
+        Op {
+            id: OpId {
+                site: self.number,
+                seq: self.history.count(self.number) + 1,
+            },
+            past: self.clock(),
+            change,
+        }
+    }
+
+    /// The clock that counts its history.
+    fn clock(&self) -> Clock
+        ensures { result ≡ clock_of self.now.ops }
+    {
+        let history = &self.history;
+        Clock([
+            history.count(1),
+            history.count(2),
+            history.count(3),
+            history.count(4),
+            history.count(5),
+            history.count(6),
+            history.count(7),
+            history.count(8),
+        ])
+    }
+}
+
+/// Makes room in the history for an operation that it accepts, and notes it in the table.
+fn grow(history: &mut History, table: &mut GroupTable, op: &Op) -> Result<(), OutOfMemory>
+    requires in_range { IsInRange op.now }
+    requires accepted { IsAccepted history.old.ops op.now }
+    requires stands { StandsFor history.old.ops table.old }
+    ensures history { history.new.ops ≡ history.old.ops }
+    ensures room { OnOk result (0 < history.new.room) }
+    ensures table { OnOk result (StandsFor (history.old.ops ++ op.now ∷ []) table.new) }
+    ensures err { OnErr result (table.new ≡ table.old) }
+{
+    history.room()?;
+    table.add(history, op)
+}
+
+/// Takes out the operation that is ready first.
+fn take_first(buffer: &mut Buffer, history: &History) -> Option<Op>
+    ensures { (op : Op) → IsFirstReady buffer.old history.now.ops op → (result ≡ Some op) × Adds buffer.new op buffer.old }
+{
+    // Its clause says that each id is held once.
+    let _ = buffer.held();
+    buffer.take_ready(history)
+}
+
+/// Takes it out and forgets it.
+fn forget_first(buffer: &mut Buffer, history: &History)
+    ensures { (op : Op) → IsFirstReady buffer.old history.now.ops op → Adds buffer.new op buffer.old }
+{
+    let _ = take_first(buffer, history);
+}
