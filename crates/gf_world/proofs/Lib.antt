@@ -1,0 +1,5 @@
+pub mod SitesLemmas
+pub mod GrowingLemmas
+pub mod SoundLemmas
+pub mod HappenLemmas
+pub mod SettledLemmas

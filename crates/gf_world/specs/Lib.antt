@@ -1,0 +1,4 @@
+pub mod World
+pub mod Sound
+pub mod Settled
+pub mod Visits

@@ -1,0 +1,11 @@
+-- When a site of a world has nothing to wait for (this project's choice).
+use Rattle.std.specs.Prelude.{◌≢◌, ℕ, List, Contains}
+use Rattle.gf_ops.specs.declared.op.Op.{Op}
+use Rattle.gf_causal.specs.Ready.{NoneIsReady}
+use Rattle.gf_site.specs.SiteState.{SiteState}
+use Rattle.gf_world.specs.World.{WorldState}
+
+-- the site x of the number s was offered all messages of the others, and holds none that is ready
+pub record IsSettled (world : WorldState) (offers : List (ℕ × Op)) (s : ℕ) (x : SiteState) : Type 0 where
+  pub offered : (a : Op) → Contains world.messages a → a.id.site ≢ s → Contains offers (s, a)
+  pub idle : NoneIsReady x.ops x.held

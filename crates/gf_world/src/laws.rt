@@ -1,0 +1,36 @@
+//! Laws of worlds and of sites, each the contract of a function that does nothing.
+
+ghost use Rattle.std.specs.Prelude.{◌≡◌, ℕ, List, Some, Contains};
+ghost use Rattle.gf_ops.specs.declared.op.Op.{Op};
+ghost use Rattle.gf_ops.specs.declared.op.OpId.{OpId};
+ghost use Rattle.gf_ops.specs.declared.faults.OpFault.{OpFault};
+ghost use Rattle.gf_ops.specs.ValidHistory.{IsValid};
+ghost use Rattle.gf_causal.specs.Ready.{NoneIsReady};
+ghost use Rattle.gf_causal.specs.DeliveredPart.{HaveSame};
+ghost use Rattle.gf_site.specs.SiteState.{SiteState};
+ghost use Rattle.gf_site.specs.Events.{Drops};
+ghost use Rattle.gf_world.specs.declared.event.Event.{Event};
+ghost use Rattle.gf_world.specs.World.{WorldState, site_at, IsWorld};
+ghost use Rattle.gf_world.specs.Sound.{IsSound};
+ghost use Rattle.gf_world.specs.Settled.{IsSettled};
+ghost use Rattle.gf_world.specs.Visits.{IsOffered};
+
+/// The messages of a world are a valid history, and the list of each site is a course: each of its
+/// beginnings is a valid history, and an own operation knows all that stands before it. It has all
+/// that the site authored, and only messages.
+pub fn each_site_of_a_world_has_a_course()
+    ensures { (n : ℕ) (events : List Event) (offers : List (ℕ × Op)) (w : WorldState) → IsWorld n events offers w → IsSound w }
+{}
+
+/// A site that was offered all messages of the others, and holds none that is ready, has all
+/// messages: where each is such a site, all have the same.
+pub fn settled_sites_have_all_messages()
+    ensures { (n : ℕ) (events : List Event) (offers : List (ℕ × Op)) (w : WorldState) → IsWorld n events offers w → (s : ℕ) (x : SiteState) → site_at w.sites s ≡ Some x → IsSettled w offers s x → HaveSame x.ops w.messages }
+{}
+
+/// A new site that is offered the operations of a valid history, each at least once, in any order,
+/// and steps at any moments and at last until none is ready, has this history, and drops nothing.
+pub fn a_site_that_is_offered_a_history_has_it()
+    ensures same { (n : ℕ) (h offers : List Op) (x : SiteState) → IsValid h → IsOffered n h offers x → ((a : Op) → Contains h a → Contains offers a) → NoneIsReady x.ops x.held → HaveSame x.ops h }
+    ensures none_dropped { (n : ℕ) (h offers : List Op) (x : SiteState) → IsValid h → IsOffered n h offers x → (i : OpId) (f : OpFault) (y : SiteState) → ¬ (Drops x i f y) }
+{}

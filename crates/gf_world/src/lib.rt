@@ -1,0 +1,17 @@
+//! The world of replicas: sites that make changes, are offered what the others made, and step.
+//!
+//! - [`world_run`]: the [`World`] that new sites come to by [`Event`]s.
+//! - [`each_site_of_a_world_has_a_course`], [`settled_sites_have_all_messages`],
+//!   [`a_site_that_is_offered_a_history_has_it`]: the laws.
+#![tactic(auto)]
+
+mod event;
+mod laws;
+mod world;
+
+pub use event::Event;
+pub use laws::{
+    a_site_that_is_offered_a_history_has_it, each_site_of_a_world_has_a_course,
+    settled_sites_have_all_messages,
+};
+pub use world::{World, world_run};
