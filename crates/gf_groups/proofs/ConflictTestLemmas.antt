@@ -18,7 +18,7 @@ pub id_decided : (i j : OpId) → Decides (id_eq i j) (i ≡ j)
 id_decided i j = Decides-like (id_eq i j) (λ h k. record { site = h.0 k; seq = h.1 k }) (λ e. (ap (λ (k : OpId). k.site) e, ap (λ (k : OpId). k.seq) e))
     (Decides-and (i.site == j.site) (i.seq == j.seq) (Decides-eqb i.site j.site) (Decides-eqb i.seq j.seq))
 
-before_decided : (a b : Op) → Decides (is_before a b) (Precedes a b)
+pub before_decided : (a b : Op) → Decides (is_before a b) (Precedes a b)
 before_decided a b = (leb-true a.id.seq (entry b.past a.id.site), le-leb a.id.seq (entry b.past a.id.site))
 
 concurrent_decided : (a b : Op) → Decides (are_concurrent a b) (IsConcurrent a b)

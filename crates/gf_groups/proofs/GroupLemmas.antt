@@ -43,7 +43,7 @@ module _ (h : List Op) (valid : IsValid h) (o : ObjectId) (us : List ℕ) (all :
       let t = (Contains-rising_ids h k a.0.id).0 (subst (λ ids. Contains ids a.0.id) e here) in
       subst (Contains k) (same_place h valid t.place i t.op a.0 t.at a.1 t.id) t.contained
 
-  same_group_at : (g k : List ℕ) → Contains gs g → Contains gs k → group_at h o g ≡ group_at h o k → g ≡ k
+  pub same_group_at : (g k : List ℕ) → Contains gs g → Contains gs k → group_at h o g ≡ group_at h o k → g ≡ k
   same_group_at g k x y e =
       let m = (table.each g).0 x in let n = (table.each k).0 y in
       let ids = ap (λ (z : Group). z.ops) e in

@@ -9,7 +9,8 @@
 //!
 //! What a table that grows is made of: [`Places`] of operations in a [`Timeline`], whether those of two
 //! [conflict](conflict_at), [`clashes`] and [`rivals`] of one, [`groups_at`] places and how they
-//! [`grow`], and the groups of an object [from](groups_from) its sets.
+//! [`grow`], and the groups of an object [from](groups_from) its sets, or [added](add_groups) to
+//! others.
 #![tactic(auto)]
 
 mod conflict;
@@ -32,5 +33,6 @@ pub use groups::{all_groups, groups_from, groups_of, is_made};
 pub use growth::{clashes, groups_at, grow, rivals};
 pub use ids::Ids;
 pub use laws::the_versions_are_a_list_that_computes;
+pub use listing::add_groups;
 pub use places::Places;
 pub use timeline::Timeline;

@@ -58,7 +58,7 @@ fn rising_ids(alloc: Global, history: &History, places: &[usize]) -> Result<Ids,
 }
 
 /// Adds the groups of the operations at the places of each set.
-pub(crate) fn add_groups(
+pub fn add_groups(
     alloc: Global,
     history: &History,
     object: ObjectId,

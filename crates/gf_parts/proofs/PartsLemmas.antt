@@ -105,7 +105,7 @@ module _ (c : ℕ → ℕ → Bool) where
     table_whole t m = part_of_fold (alone t.free) t.parts (part_alone t.free m.rises m.calm) m.parts m.loose m.apart
 
     -- all sets of a part
-    table_full : (p : PartState) → IsPart c p → IsTable c p.all (full c p)
+    pub table_full : (p : PartState) → IsPart c p → IsTable c p.all (full c p)
     table_full p m = table_kept p.all m.rises p.sets m.sets
       where
         table_kept : (us : List ℕ) → IsRising us → (r : Option (List (List ℕ))) → IsKept c us r → IsTable c us (unwrap_or r (groups_at c us))

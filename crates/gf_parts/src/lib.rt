@@ -2,11 +2,14 @@
 //! only where they are listed.
 //!
 //! - [`Parts`]: the places of the operations on one object, those that are in every version and parts
-//!   that no conflict connects. A part keeps its sets while they are at most [`MOST_SETS`].
+//!   that no conflict connects. A [`Part`] keeps its sets while they are at most [`MOST_SETS`].
+//!
+//! What lists a choice of the parts is made of these: places [`alone`], two parts as [one](joined),
+//! the [`products`] of sets, and places [`copied`].
 #![tactic(auto)]
 
 mod parts;
 mod sets;
 
-pub use parts::Parts;
-pub use sets::MOST_SETS;
+pub use parts::{Part, Parts, alone, joined};
+pub use sets::{MOST_SETS, copied, products};

@@ -1,7 +1,7 @@
 //! The operations on one object in parts: what is in every version, and parts that no conflict
 //! connects, of which each gives a version one of its sets.
 
-ghost use Rattle.std.specs.Prelude.{◌≡◌, [], cond, filter, not, IfOk, OnOk, OnErr};
+ghost use Rattle.std.specs.Prelude.{◌≡◌, [], cond, filter, not, option_copied, IfOk, OnOk, OnErr};
 ghost use Rattle.gf_groups.specs.Growing.{conflict_at};
 ghost use Rattle.gf_parts.specs.Parts.{joined, alone, holds, touches, grown_part, touched, with_free, with_part, stays, full, listed, products};
 ghost use Rattle.gf_groups.specs.Tables.{IsRising};
@@ -16,7 +16,7 @@ use std::marker::Model;
 
 /// Places that no conflict connects with others, and their largest compatible sets.
 #[derive(Debug, Drop)]
-struct Part {
+pub struct Part {
     all: Places,
     sets: Sets,
 }
@@ -44,6 +44,22 @@ impl Model for Parts {
     ghost view = { λ p. record { free = p.free; parts = p.parts.items } };
 }
 
+impl Part {
+    /// Its places, rising.
+    pub fn all(&self) -> &[usize]
+        ensures { result.now ≡ self.now.all }
+    {
+        self.all.as_slice()
+    }
+
+    /// Its largest compatible sets, where they are at most [`MOST_SETS`](crate::MOST_SETS).
+    pub fn sets(&self) -> Option<&[Places]>
+        ensures { option_copied result ≡ self.now.sets }
+    {
+        self.sets.get()
+    }
+}
+
 /// Whether the place is one of these.
 fn holds(place: usize, places: &[usize]) -> bool
     ensures { result ≡ holds place places.now }
@@ -65,8 +81,8 @@ fn stays(timeline: &Timeline<'_>, place: usize, part: &Part) -> bool
     holds(place, part.all.as_slice()) || !touches(timeline, place, part)
 }
 
-/// Two parts as one.
-fn joined(alloc: Global, part: &Part, other: &Part) -> Result<Part, OutOfMemory>
+/// Two parts as one. Where the sets of both make too many, none is made.
+pub fn joined(alloc: Global, part: &Part, other: &Part) -> Result<Part, OutOfMemory>
     ensures { IfOk result (λ both. both ≡ joined part.now other.now) }
 {
     let sets = part.sets.times(alloc, &other.sets)?;
@@ -95,7 +111,7 @@ fn copied_parts(alloc: Global, parts: &[Part]) -> Result<Vec<Part>, OutOfMemory>
 }
 
 /// Places as a part of one set.
-fn alone(alloc: Global, places: Vec<usize>) -> Result<Part, OutOfMemory>
+pub fn alone(alloc: Global, places: Vec<usize>) -> Result<Part, OutOfMemory>
     ensures { IfOk result (λ part. part ≡ alone places.items) }
 {
     let set = copied(alloc, &places)?;
@@ -201,6 +217,20 @@ impl Parts {
             free: Places::new(alloc),
             parts: Vec::new(alloc),
         }
+    }
+
+    /// The places that are in every version.
+    pub fn free(&self) -> &[usize]
+        ensures { result.now ≡ self.now.free }
+    {
+        self.free.as_slice()
+    }
+
+    /// The parts that no conflict connects.
+    pub fn parts(&self) -> &[Part]
+        ensures { result.now ≡ self.now.parts }
+    {
+        &self.parts
     }
 
     /// The same parts once more.

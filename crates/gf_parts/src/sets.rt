@@ -95,7 +95,7 @@ impl Sets {
 }
 
 /// The same places once more.
-pub(crate) fn copied(alloc: Global, places: &[usize]) -> Result<Places, OutOfMemory>
+pub fn copied(alloc: Global, places: &[usize]) -> Result<Places, OutOfMemory>
     ensures { IfOk result (λ copy. copy ≡ places.now) }
 {
     let mut copy = Vec::new(alloc);
@@ -150,7 +150,7 @@ fn add_products(
 }
 
 /// Each of the sets united with each of the others.
-pub(crate) fn products(
+pub fn products(
     alloc: Global,
     sets: &[Places],
     others: &[Places],

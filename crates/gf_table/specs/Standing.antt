@@ -1,5 +1,5 @@
 -- When a table stands for a history: for each object it has the parts of the object's operations, and the tails of their setters.
-use Rattle.std.specs.Prelude.{◌≡◌, ◌≢◌, ◌⊎◌, ◌↔◌, ℕ, ◌≤◌, true, cond, List, [], AllPairs, Contains, length, Option, Some, None, slice_get}
+use Rattle.std.specs.Prelude.{◌≡◌, ◌≢◌, ◌⊎◌, ◌↔◌, ℕ, ◌≤◌, true, cond, List, [], AllPairs, Contains, length, Option, Some, None, option_map, slice_get}
 use Rattle.std.specs.BTreeMap.{is_at}
 use Rattle.std.specs.Map.{lookup}
 use Rattle.gf_ops.specs.declared.op.Op.{Op}
@@ -14,7 +14,7 @@ use Rattle.gf_groups.specs.GroupedPlaces.{places_below}
 use Rattle.gf_groups.specs.Parting.{object_cmp}
 use Rattle.gf_groups.specs.Versions.{IsVersionGroup}
 use Rattle.gf_parts.specs.Parted.{AreParts}
-use Rattle.gf_parts.specs.Parts.{whole}
+use Rattle.gf_parts.specs.Parts.{PartsState, whole}
 use Rattle.gf_table.specs.declared.tails.Tail.{Tail}
 use Rattle.gf_table.specs.ObjectState.{ObjectState}
 use Rattle.gf_table.specs.Tails.{is_of}
@@ -68,6 +68,10 @@ Stands h us None = us ≡ []
 -- what the table has for the object o
 abbrev pub state_of : List (ObjectId × ObjectState) → ObjectId → Option ObjectState
 state_of t o = lookup (is_at (object_cmp o)) t
+
+-- the parts that the table has for the object o
+abbrev pub parts_of : List (ObjectId × ObjectState) → ObjectId → Option PartsState
+parts_of t o = option_map (λ (s : ObjectState). s.parts) (state_of t o)
 
 -- the table s is t with this state of the object o
 abbrev pub Puts : List (ObjectId × ObjectState) → ObjectId → ObjectState → List (ObjectId × ObjectState) → Type 0

@@ -1,6 +1,6 @@
 //! The versions of all objects of a history in parts, one operation at a time.
 
-ghost use Rattle.std.specs.Prelude.{◌≡◌, ◌↔◌, ◌∷◌, [], ◌++◌, length, Err, IfOk, OnOk, OnErr};
+ghost use Rattle.std.specs.Prelude.{◌≡◌, ◌↔◌, ◌∷◌, [], ◌++◌, length, Err, option_copied, IfOk, OnOk, OnErr};
 ghost use Rattle.std.specs.BTreeMap.{insert_entry};
 ghost use Rattle.gf_ops.specs.Accepted.{IsAccepted};
 ghost use Rattle.gf_ops.specs.Limits.{IsInRange};
@@ -10,11 +10,12 @@ ghost use Rattle.gf_groups.specs.GroupedPlaces.{places_below};
 ghost use Rattle.gf_groups.specs.Parting.{object_cmp};
 ghost use Rattle.gf_groups.specs.Tables.{IsTable};
 ghost use Rattle.gf_groups.specs.Versions.{IsMade, AreVersions};
-ghost use Rattle.gf_table.specs.Standing.{StandsFor, Puts};
+ghost use Rattle.gf_table.specs.Standing.{StandsFor, Puts, parts_of};
 
 use crate::object::ObjectTable;
 use gf_groups::{GroupFault, Groups, Places, Timeline, groups_from, is_made};
 use gf_ops::{History, ObjectId, Op};
+use gf_parts::Parts;
 use gf_shape::OutOfMemory;
 use std::alloc::Global;
 use std::collections::BTreeMap;
@@ -80,6 +81,16 @@ impl GroupTable {
         let mut state = ObjectTable::new(self.alloc);
         state.add(self.alloc, &timeline, op, place)?;
         put(&mut self.objects, op.object(), state)
+    }
+
+    /// The operations on an object in parts, if it has some.
+    pub fn parts(&self, object: ObjectId) -> Option<&Parts>
+        ensures { option_copied result ≡ parts_of self.now object }
+    {
+        match self.objects.get(&object) {
+            Some(state) => Some(&state.parts),
+            None => None,
+        }
     }
 
     /// The versions of an object, as `groups_of` gives them. The table has places, and the history of

@@ -1,6 +1,7 @@
 pub mod KeyLemmas
 pub mod LimitLemmas
 pub mod MakerLemmas
+pub mod RankedLemmas
 pub mod RankingLemmas
 pub mod SameHistoryLemmas
 pub mod SettlingLemmas

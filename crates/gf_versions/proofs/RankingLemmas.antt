@@ -1,5 +1,5 @@
 -- The visible versions of all groups, once sorted, are ranked.
-use Rattle.std.proofs.Common.{◌≡◌, ◌≢◌, suc, Bool, true, false, List, [], ◌∷◌, ◌++◌, map, refl, sym, subst, ap, ◌∙◌, inl, inr, arith}
+use Rattle.std.proofs.Common.{◌≡◌, ◌≢◌, ◌≤◌, suc, length, Bool, true, false, List, [], ◌∷◌, ◌++◌, map, refl, sym, subst, ap, ◌∙◌, inl, inr, arith}
 use Rattle.std.specs.Prelude.{◌↔◌, AllPairs, Contains}
 use Rattle.std.specs.declared.cmp.Ordering.{Ordering}
 use Rattle.std.specs.declared.cmp.Ordering.TheVariants.{Less, Equal, Greater}
@@ -10,7 +10,7 @@ use Rattle.std.specs.Ordering.{is_lt, is_eq, ordering_reverse}
 use Rattle.std.proofs.lemmas.Bool.{cases_Bool, cond-true, cond-false}
 use Rattle.std.proofs.lemmas.List.Elements.{All-weaker, All-contains_itself, Contains-push_cases, filter-append, recursion_from_All}
 use Rattle.std.proofs.lemmas.List.{append-nil, get_or-map, length-map, map-append}
-use Rattle.std.proofs.lemmas.List.Sorted.{ranks_by, IsStrictWeakOrder-flip, sorted_far, Contains-permutation, IsPermutation-sym}
+use Rattle.std.proofs.lemmas.List.Sorted.{ranks_by, IsStrictWeakOrder-flip, sorted_far, Contains-permutation, IsPermutation-sym, length_permutation}
 use Rattle.std.proofs.lemmas.Map.Keys.{IsDistinct-cons, IsDistinct-IsPermutation, apart_from_distinct}
 use Rattle.gf_ops.specs.declared.op.Op.{Op}
 use Rattle.gf_ops.specs.ValidHistory.{IsValid}
@@ -18,14 +18,13 @@ use Rattle.gf_versions.specs.declared.key.Version.{Version}
 use Rattle.gf_shape.specs.declared.any_shape.AnyShape.{AnyShape}
 use Rattle.gf_versions.specs.declared.placed.Placed.{Placed}
 use Rattle.gf_versions.specs.Above.{IsAbove, key_cmp}
-use Rattle.gf_versions.specs.ListedVersions.{AreSettled, AreShown, group_of, shown_of}
+use Rattle.gf_versions.specs.ListedVersions.{AreSettled, AreShown, shown_of}
 use Rattle.gf_versions.specs.VersionOf.{IsVersionOf}
-use Rattle.gf_versions.specs.Visible.{IsVisible}
 use Rattle.gf_versions.specs.Falling.{falls_by}
-use Rattle.gf_versions.specs.Ranking.{AreRanked, placed_version}
+use Rattle.gf_versions.specs.Ranking.{AreRanked, AreRankedOf, group_of, placed_version}
 use Rattle.gf_groups.specs.declared.group.Group.{Group}
-use Rattle.gf_groups.specs.Versions.{AreAllVersions}
-use Rattle.gf_versions.proofs.VersionLemmas.{settled_exactly, visible_exactly}
+use Rattle.gf_groups.specs.Versions.{IsVersionGroup}
+use Rattle.gf_versions.proofs.VersionLemmas.{one_of_group}
 use Rattle.gf_versions.specs.KeyOrder.{key_cmp_total}
 use Rattle.gf_versions.proofs.KeyLemmas.{key_cmp_exact}
 use Rattle.gf_ops.proofs.ListLemmas.{Contains-map, Contains-map_from, not_Contains-nil}
@@ -133,19 +132,27 @@ shown_none h = record { versions = []; settled = record { grouped = refl; versio
 
 -- ---- the ranking
 
--- the shown versions of all groups of a valid history, sorted, are its ranking
-pub ranked_from_sorted : (h : List Op) (groups : List Group) (made items : List (Placed AnyShape)) → IsValid h → AreAllVersions h groups → AreShown h groups made → IsPermutation made items → IsSortedBy falls_by items → AreRanked h items
-ranked_from_sorted h groups made items valid all shown moved sorted = record {
+-- the shown versions of different groups, sorted, are ranked
+pub ranked_from_sorted : (h : List Op) (groups : List Group) (made items : List (Placed AnyShape)) → IsValid h → AllPairs (λ g k. g ≢ k) groups → AreShown h groups made → IsPermutation made items → IsSortedBy falls_by items → AreRankedOf h groups items
+ranked_from_sorted h groups made items valid once shown moved sorted = record {
   exactly = λ i. (
     λ is.
         let v = is.version in
-        Contains-permutation (items_of vs) items i turned
-        (subst (λ j. Contains (items_of vs) j) (sym is.placed) (Contains-map placed_version (shown_of vs) v ((seen v).0 is.visible))),
+        let from = Contains-map_from group_of vs (group_of v) (subst (λ ks. Contains ks (group_of v)) (sym shown.settled.grouped) is.grouped) in
+        let one : v ≡ from.0 = one_of_group h valid v from.0 is.visible.version (shown.settled.versions from.0 from.1) (ap (λ (g : Group). g.object) from.2) (ap (λ (g : Group). g.ops) from.2) in
+        let there : Contains (shown_of vs) v = (Contains-filter (λ (w : Version). w.shown) vs v).1 (subst (Contains vs) (sym one) from.1, is.visible.shown) in
+        Contains-permutation (items_of vs) items i turned (subst (λ j. Contains (items_of vs) j) (sym is.placed) (Contains-map placed_version (shown_of vs) v there)),
     λ c.
         let from = Contains-map_from placed_version (shown_of vs) i (Contains-permutation items (items_of vs) i (IsPermutation-sym _ _ turned) c) in
-        record { version = from.0; visible = (seen from.0).1 from.1; placed = from.2 },
+        let there = (Contains-filter (λ (w : Version). w.shown) vs from.0).0 from.1 in
+        record {
+          version = from.0;
+          visible = record { version = shown.settled.versions from.0 there.0; shown = there.1 };
+          grouped = subst (λ ks. Contains ks (group_of from.0)) shown.settled.grouped (Contains-map group_of vs from.0 there.0);
+          placed = from.2;
+        },
   );
-  falling = falling_from_sorted items sorted (IsDistinct-IsPermutation same_key same_key-flips (items_of vs) items turned (items_distinct vs (groups_apart groups vs shown.settled.grouped all.once)));
+  falling = falling_from_sorted items sorted (IsDistinct-IsPermutation same_key same_key-flips (items_of vs) items turned (items_distinct vs (groups_apart groups vs shown.settled.grouped once)));
 }
   where
     vs : List Version
@@ -154,5 +161,30 @@ ranked_from_sorted h groups made items valid all shown moved sorted = record {
     turned : IsPermutation (items_of vs) items
     turned = subst (λ from. IsPermutation from items) shown.placed moved
 
-    seen : (v : Version) → IsVisible h v ↔ Contains (shown_of vs) v
-    seen = visible_exactly h valid vs (settled_exactly h valid groups vs all.exactly shown.settled)
+-- the ranking of all groups is that of the history
+pub ranked_of_all : (h : List Op) (groups : List Group) (items : List (Placed AnyShape)) → ((g : Group) → IsVersionGroup h g → Contains groups g) → AreRankedOf h groups items → AreRanked h items
+ranked_of_all h groups items all ranked = record {
+  exactly = λ i. (
+    λ is. (ranked.exactly i).0 (record { version = is.version; visible = is.visible; grouped = all (group_of is.version) is.visible.version.version; placed = is.placed }),
+    λ c. let w = (ranked.exactly i).1 c in record { version = w.version; visible = w.visible; placed = w.placed },
+  );
+  falling = ranked.falling;
+}
+
+shown_fewer : (vs : List Version) → length (shown_of vs) ≤ length vs
+shown_fewer [] = omega arith
+shown_fewer (v ∷ vs) =
+    let r = shown_fewer vs in
+    elim (cases_Bool v.shown) [
+      | inl y ↦ rw (cond-true v.shown (v ∷ shown_of vs) (shown_of vs) y) (omega (arith, r))
+      | inr n ↦ rw (cond-false v.shown (v ∷ shown_of vs) (shown_of vs) n) (omega (arith, r))
+    ]
+
+-- there are no more items than groups
+pub no_more_items : (h : List Op) (groups : List Group) (made items : List (Placed AnyShape)) → AreShown h groups made → IsPermutation made items → length items ≤ length groups
+no_more_items h groups made items shown moved =
+    let a = length_permutation made items moved in
+    let b : length made ≡ length (shown_of shown.versions) = ap length shown.placed ∙ length-map (shown_of shown.versions) placed_version in
+    let d = shown_fewer shown.versions in
+    let e : length shown.versions ≡ length groups = sym (length-map shown.versions group_of) ∙ ap length shown.settled.grouped in
+    omega (arith, a, b, d, e)

@@ -24,7 +24,8 @@ use Rattle.gf_groups.specs.Versions.{IsVersionGroup}
 use Rattle.gf_groups.proofs.ListLemmas.{Contains-filter}
 use Rattle.gf_groups.proofs.VersionListLemmas.{all_listed}
 use Rattle.gf_versions.specs.declared.key.Version.{Version}
-use Rattle.gf_versions.specs.ListedVersions.{AreSettled, group_of, shown_of}
+use Rattle.gf_versions.specs.ListedVersions.{AreSettled, shown_of}
+use Rattle.gf_versions.specs.Ranking.{group_of}
 use Rattle.gf_versions.specs.Settling.{IsFormOf, HasAttribute}
 use Rattle.gf_versions.specs.VersionOf.{IsVersionOf}
 use Rattle.gf_versions.specs.Visible.{IsVisible}

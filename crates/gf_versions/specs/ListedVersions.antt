@@ -5,12 +5,8 @@ use Rattle.gf_ops.specs.declared.op.Op.{Op}
 use Rattle.gf_groups.specs.declared.group.Group.{Group}
 use Rattle.gf_versions.specs.declared.key.Version.{Version}
 use Rattle.gf_versions.specs.declared.placed.Placed.{Placed}
-use Rattle.gf_versions.specs.Ranking.{placed_version}
+use Rattle.gf_versions.specs.Ranking.{group_of, placed_version}
 use Rattle.gf_versions.specs.VersionOf.{IsVersionOf}
-
--- the group of operations of the version v
-abbrev pub group_of : Version → Group
-group_of v = record { object = v.key.object; ops = v.key.ops }
 
 -- the versions vs are those of h with these groups, in their order
 pub record AreSettled (h : List Op) (groups : List Group) (vs : List Version) : Type 0 where

@@ -8,6 +8,7 @@ use Rattle.gf_shape.specs.ShapeMoves.{any_moved}
 use Rattle.gf_ops.specs.declared.op.Op.{Op}
 use Rattle.gf_ops.specs.declared.change.Form.{Form}
 use Rattle.gf_ops.specs.declared.change.Form.TheVariants.{Rect, Circle, Polygon}
+use Rattle.gf_groups.specs.declared.group.Group.{Group}
 use Rattle.gf_versions.specs.declared.key.Version.{Version}
 use Rattle.gf_versions.specs.declared.placed.Placed.{Placed}
 use Rattle.gf_versions.specs.Above.{IsAbove}
@@ -41,6 +42,22 @@ pub record IsPlaced (h : List Op) (i : Placed AnyShape) : Type 0 where
 -- the items are the visible versions of h at their places, each above those after it
 pub record AreRanked (h : List Op) (items : List (Placed AnyShape)) : Type 0 where
   pub exactly : (i : Placed AnyShape) → IsPlaced h i ↔ Contains items i
+  pub falling : AllPairs (λ i j. IsAbove i.key j.key) items
+
+-- the group of operations of the version v
+abbrev pub group_of : Version → Group
+group_of v = record { object = v.key.object; ops = v.key.ops }
+
+-- i is a visible version of h at its place, with one of these groups
+pub record IsPlacedOf (h : List Op) (groups : List Group) (i : Placed AnyShape) : Type 0 where
+  pub version : Version
+  pub visible : IsVisible h version
+  pub grouped : Contains groups (group_of version)
+  pub placed : i ≡ placed_version version
+
+-- the items are the visible versions of h with these groups at their places, each above those after it
+pub record AreRankedOf (h : List Op) (groups : List Group) (items : List (Placed AnyShape)) : Type 0 where
+  pub exactly : (i : Placed AnyShape) → IsPlacedOf h groups i ↔ Contains items i
   pub falling : AllPairs (λ i j. IsAbove i.key j.key) items
 
 -- the colour of the first item whose shape holds p, or white

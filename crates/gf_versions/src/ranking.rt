@@ -1,13 +1,13 @@
 //! The visible versions of a history, made and sorted.
 
-ghost use Rattle.std.specs.Prelude.{◌≡◌, ◌&&◌, IsTrue, IfOk, OnOk, Contains};
+ghost use Rattle.std.specs.Prelude.{◌≡◌, ◌≢◌, ◌≤◌, ◌&&◌, AllPairs, IsTrue, IfOk, OnOk, Contains, length};
 ghost use Rattle.std.specs.List.Sorted.{IsPermutation, IsSortedBy};
 ghost use Rattle.gf_ops.specs.Limits.{is_form, is_near};
 ghost use Rattle.gf_ops.specs.ValidHistory.{IsValid};
 ghost use Rattle.gf_groups.specs.declared.group.Group.{Group};
 ghost use Rattle.gf_groups.specs.Versions.{IsVersionGroup};
 ghost use Rattle.gf_versions.specs.Falling.{falls_by};
-ghost use Rattle.gf_versions.specs.Ranking.{AreRanked, placed_version};
+ghost use Rattle.gf_versions.specs.Ranking.{AreRanked, AreRankedOf, placed_version};
 ghost use Rattle.gf_versions.specs.ListedVersions.{AreShown};
 
 use crate::shaping::shape_at;
@@ -22,7 +22,21 @@ pub fn ranked(alloc: Global, history: &History) -> Result<Ranked<AnyShape>, OutO
     ensures { IfOk result (λ ranked. AreRanked history.now.ops ranked.items.items) }
 {
     let groups = all_groups(alloc, history)?;
-    let mut items = shown(alloc, history, groups.as_slice())?;
+    ranked_of(alloc, history, groups.as_slice())
+}
+
+/// Those of the versions with these groups that are visible, topmost first.
+pub fn ranked_of(
+    alloc: Global,
+    history: &History,
+    groups: &[Group],
+) -> Result<Ranked<AnyShape>, OutOfMemory>
+    requires versions { (g : Group) → Contains groups.now g → IsVersionGroup history.now.ops g }
+    requires once { AllPairs (λ g k. g ≢ k) groups.now }
+    ensures ranked { IfOk result (λ ranked. AreRankedOf history.now.ops groups.now ranked.items.items) }
+    ensures few { IfOk result (λ ranked. length ranked.items.items ≤ length groups.now) }
+{
+    let mut items = shown(alloc, history, groups)?;
     sort(&mut items)?;
     Ok(Ranked { items })
 }

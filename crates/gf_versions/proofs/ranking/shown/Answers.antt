@@ -1,7 +1,7 @@
 use Rattle.std.proofs.Common.{◌≡◌, [], ◌∷◌, ◌++◌, rules, ap, sym, take, ◌∙◌}
 use Rattle.std.proofs.lemmas.List.{take_more}
 use Rattle.gf_groups.specs.declared.group.Group.{Group}
-use Rattle.gf_versions.specs.ListedVersions.{group_of}
+use Rattle.gf_versions.specs.Ranking.{group_of}
 use Rattle.gf_versions.proofs.LimitLemmas.{version_fits}
 use Rattle.gf_versions.proofs.RankingLemmas.{shown_none, shown_more, hidden_more}
 use Rattle.gf_versions.proofs.ranking.shown.Goals as goal
