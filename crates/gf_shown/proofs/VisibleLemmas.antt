@@ -1,0 +1,206 @@
+-- The groups of the visible versions of some objects, one object after another, and of all.
+use Rattle.std.proofs.Common.{◌≡◌, ◌≢◌, ℕ, ◌+◌, ◌-◌, ◌<◌, ◌≤◌, List, [], ◌∷◌, ◌++◌, length, map, take, get_or, inl, inr, refl, sym, ap, subst, ◌∙◌, arith}
+use Rattle.std.specs.Prelude.{◌⊎◌, ◌↔◌, AllPairs, Contains, IfNone, IfOk, IfSome, Option, Some, None, Result, Ok, Err, option_map}
+use Rattle.std.proofs.lemmas.List.{get_or-take, length-append, length-map, length-take}
+use Rattle.std.proofs.lemmas.List.Elements.{Contains-append_cases, Contains-append_left, Contains-append_right, Contains-push_cases}
+use Rattle.std.proofs.lemmas.Option.{slice_get_read}
+use Rattle.gf_shape.specs.declared.any_shape.AnyShape.{AnyShape}
+use Rattle.gf_ops.specs.declared.op.Op.{Op}
+use Rattle.gf_ops.specs.declared.op.ObjectId.{ObjectId}
+use Rattle.gf_ops.specs.declared.change.Change.{Change}
+use Rattle.gf_ops.specs.declared.change.Change.TheVariants.{Create, Set}
+use Rattle.gf_ops.specs.declared.change.Start.{Start}
+use Rattle.gf_ops.specs.Attribute.{Kind, kind_of, made_kind}
+use Rattle.gf_ops.specs.ValidHistory.{IsValid}
+use Rattle.gf_ops.proofs.ListLemmas.{Contains-cons_cases, Contains-cons_head, Contains-map, not_Contains-nil}
+use Rattle.gf_groups.specs.declared.group.Group.{Group}
+use Rattle.gf_groups.specs.Versions.{IsMade, IsVersionGroup}
+use Rattle.gf_groups.proofs.IdPlaceLemmas.{same_place}
+use Rattle.gf_groups.proofs.TakingLemmas.{AllPairs-append}
+use Rattle.gf_parts.proofs.CountLemmas.{no_longer}
+use Rattle.gf_shown.specs.ShownVersions.{IsVisibleGroup, AreVisibleOn, HasMoreOn, HasMoreVisible}
+use Rattle.gf_shown.specs.VisibleSoFar.{AreVisibleOf, HasMoreGroups, IsGroupListing}
+use Rattle.gf_versions.specs.declared.placed.Placed.{Placed}
+use Rattle.gf_versions.specs.Ranking.{AreRanked, AreRankedOf, group_of, placed_version}
+use Rattle.gf_versions.proofs.MakerLemmas.{version_kind}
+use Rattle.gf_versions.proofs.RankedLemmas.{some_ranked}
+use Rattle.gf_versions.proofs.RankingLemmas.{ranked_of_all}
+
+-- ---- who made an object
+
+made_weaker : (ks ops : List Op) (o : ObjectId) → ((a : Op) → Contains ks a → Contains ops a) → IsMade ks o → IsMade ops o
+made_weaker ks ops o f w = record { kind = w.kind; made = record { maker = w.made.maker; contained = f w.made.maker w.made.contained; id = w.made.id; kind = w.made.kind } }
+
+made_cases : (ks ops : List Op) (o : ObjectId) → IsMade (ks ++ ops) o → IsMade ks o ⊎ IsMade ops o
+made_cases ks ops o w = elim (Contains-append_cases ks ops w.made.maker w.made.contained) [
+  | inl i ↦ inl (record { kind = w.kind; made = record { maker = w.made.maker; contained = i; id = w.made.id; kind = w.made.kind } })
+  | inr i ↦ inr (record { kind = w.kind; made = record { maker = w.made.maker; contained = i; id = w.made.id; kind = w.made.kind } })
+]
+
+-- an operation that makes an object
+pub makes_one : (a : Op) (start : Start) → a.change ≡ Create start → (o : ObjectId) → o.0 ≡ a.id → IsMade (a ∷ []) o
+makes_one a start e o same = record {
+  kind = kind_of start.form;
+  made = record { maker = a; contained = Contains-cons_head a []; id = sym same; kind = ap (λ c. made_kind c) e };
+}
+
+pub made_in : (h : List Op) (a : Op) (o : ObjectId) → Contains h a → IsMade (a ∷ []) o → IsMade h o
+made_in h a o there w = made_weaker (a ∷ []) h o (λ b i. elim (Contains-cons_cases a [] b i) [ inl e ↦ subst (Contains h) (sym e) there | inr j ↦ absurd (not_Contains-nil b j) ]) w
+
+no_maker : (c : Change) (o : ObjectId) (v : _) (k : Kind) → c ≡ Set o v → made_kind c ≡ Some k → ⊥
+no_maker c o v k e f = let g : made_kind (Set o v) ≡ Some k = subst (λ d. made_kind d ≡ Some k) e f in cc
+
+-- the object of a visible version was made
+visible_made : (h : List Op) → IsValid h → (g : Group) → IsVisibleGroup h g → IsMade h g.object
+visible_made h valid g w =
+    let version : IsVersionGroup h g = subst (IsVersionGroup h) w.group w.visible.version.version in
+    let kind = version_kind h valid g.object g.ops version in
+    record { kind = kind.0; made = kind.1 }
+
+module _ (h : List Op) where
+  -- ---- of one operation
+
+  -- one that makes no object
+  pub none_of : (a : Op) (o : ObjectId) (v : _) → a.change ≡ Set o v → AreVisibleOf h (a ∷ []) []
+  none_of a o v e = record {
+    exactly = λ g. (
+      λ i. absurd (not_Contains-nil g i),
+      λ t. elim (Contains-cons_cases a [] t.1.made.maker t.1.made.contained) [
+        | inl d ↦ absurd (no_maker t.1.made.maker.change o v t.1.kind (ap (λ (b : Op). b.change) d ∙ e) t.1.made.kind)
+        | inr i ↦ absurd (not_Contains-nil t.1.made.maker i)
+      ],
+    );
+    once = λ i j d l m. absurd (omega arith);
+  }
+
+  -- and one that makes the object o
+  module _ (a : Op) (o : ObjectId) (same : o.0 ≡ a.id) (makes : IsMade (a ∷ []) o) where
+    object_of_made : (p : ObjectId) → IsMade (a ∷ []) p → p ≡ o
+    object_of_made p w = elim (Contains-cons_cases a [] w.made.maker w.made.contained) [
+      | inl d ↦ let e : p.0 ≡ o.0 = sym w.made.id ∙ (ap (λ (b : Op). b.id) d ∙ sym same) in λ i. record { 0 = e i }
+      | inr i ↦ absurd (not_Contains-nil w.made.maker i)
+    ]
+
+    pub of_one : (groups : List Group) → AreVisibleOn h o groups → AreVisibleOf h (a ∷ []) groups
+    of_one groups all = record {
+      exactly = λ g. (
+        λ i. let w = (all.exactly g).0 i in (w.1, subst (IsMade (a ∷ [])) (sym w.0) makes),
+        λ t. (all.exactly g).1 (object_of_made g.object t.1, t.0),
+      );
+      once = all.once;
+    }
+
+    pub more_of_one : (m : ℕ) → HasMoreOn h o m → HasMoreGroups h (a ∷ []) m
+    more_of_one m w = let all = of_one w.groups w.all in record { groups = w.groups; each = λ g. (all.exactly g).0; once = all.once; many = w.many }
+
+    pub found_of_one : {V E : Type 0} (items : V → List Group) (m : ℕ) (r : Result (Option V) E) → IfOk r (λ found. IfSome found (λ v. AreVisibleOn h o (items v))) → IfOk r (λ found. IfSome found (λ v. length (items v) ≤ m)) →
+        IfOk r (λ found. IfNone found (HasMoreOn h o m)) → IfOk r (λ found. IsGroupListing h (a ∷ []) m (option_map items found))
+    found_of_one items m (Ok (Some v)) x y z = (of_one (items v) x, y)
+    found_of_one items m (Ok None) x y z = more_of_one m z
+    found_of_one items m (Err e) x y z = tt
+
+  -- ---- of several
+
+  pub none_yet : AreVisibleOf h [] []
+  none_yet = record {
+    exactly = λ g. (λ i. absurd (not_Contains-nil g i), λ t. absurd (not_Contains-nil t.1.made.maker t.1.made.contained));
+    once = λ i j d l m. absurd (omega arith);
+  }
+
+  -- operations that made other objects
+  abbrev pub Fresh : List Op → List Op → Type 0
+  Fresh ks ops = (a b : Op) → Contains ks a → Contains ops b → a.id ≢ b.id
+
+  once_more : (ks ops : List Op) (groups more : List Group) → Fresh ks ops → ((g : Group) → Contains groups g → IsVisibleGroup h g × IsMade ks g.object) → ((g : Group) → Contains more g → IsVisibleGroup h g × IsMade ops g.object) →
+      AllPairs (λ g k. g ≢ k) groups → AllPairs (λ g k. g ≢ k) more → AllPairs (λ g k. g ≢ k) (groups ++ more)
+  once_more ks ops groups more fresh first second p q = AllPairs-append (λ g k. g ≢ k) groups more p q (λ g k x y e.
+      let v = (first g x).1 in
+      let w = (second k y).1 in
+      fresh v.made.maker w.made.maker v.made.contained w.made.contained
+      (v.made.id ∙ (ap (λ (z : Group). z.object.0) e ∙ sym w.made.id)))
+
+  pub visible_more : (ks ops : List Op) (groups more : List Group) → Fresh ks ops → AreVisibleOf h ks groups → AreVisibleOf h ops more → AreVisibleOf h (ks ++ ops) (groups ++ more)
+  visible_more ks ops groups more fresh first second = record {
+    exactly = λ g. (
+      λ i. elim (Contains-append_cases groups more g i) [
+        | inl j ↦ let w = (first.exactly g).0 j in (w.0, made_weaker ks (ks ++ ops) g.object (λ a. Contains-append_left ks ops a) w.1)
+        | inr j ↦ let w = (second.exactly g).0 j in (w.0, made_weaker ops (ks ++ ops) g.object (λ a. Contains-append_right ks ops a) w.1)
+      ],
+      λ t. elim (made_cases ks ops g.object t.1) [
+        | inl w ↦ Contains-append_left groups more g ((first.exactly g).1 (t.0, w))
+        | inr w ↦ Contains-append_right groups more g ((second.exactly g).1 (t.0, w))
+      ],
+    );
+    once = once_more ks ops groups more fresh (λ g. (first.exactly g).0) (λ g. (second.exactly g).0) first.once second.once;
+  }
+
+  -- more groups of later operations than were left
+  pub more_in_all : (ks ops all : List Op) (groups : List Group) (m : ℕ) → ((a : Op) → Contains (ks ++ ops) a → Contains all a) → Fresh ks ops → AreVisibleOf h ks groups → length groups ≤ m → HasMoreGroups h ops (m - length groups) → HasMoreGroups h all m
+  more_in_all ks ops all groups m within fresh first few w = record {
+    groups = groups ++ w.groups;
+    each = λ g i. elim (Contains-append_cases groups w.groups g i) [
+      | inl j ↦ let v = (first.exactly g).0 j in (v.0, made_weaker ks all g.object (λ a k. within a (Contains-append_left ks ops a k)) v.1)
+      | inr j ↦ let v = w.each g j in (v.0, made_weaker ops all g.object (λ a k. within a (Contains-append_right ks ops a k)) v.1)
+    ];
+    once = once_more ks ops groups w.groups fresh (λ g. (first.exactly g).0) w.each first.once w.once;
+    many = let e = length-append groups w.groups in let k = w.many in omega (arith, e, k, few);
+  }
+
+  -- ---- of all
+
+  pub all_versions : IsValid h → (groups : List Group) → AreVisibleOf h h groups → (g : Group) → Contains groups g → IsVersionGroup h g
+  all_versions valid groups all g i = let w = ((all.exactly g).0 i).0 in subst (IsVersionGroup h) w.group w.visible.version.version
+
+  -- ranked, they are the history's ranked list
+  pub ranked_all : IsValid h → (groups : List Group) → AreVisibleOf h h groups → (items : List (Placed AnyShape)) → AreRankedOf h groups items → AreRanked h items
+  ranked_all valid groups all items ranked = record {
+    exactly = λ i. (
+      λ is.
+          let g : IsVisibleGroup h (group_of is.version) = record { version = is.version; visible = is.visible; group = refl } in
+          (ranked.exactly i).0 (record { version = is.version; visible = is.visible; grouped = (all.exactly (group_of is.version)).1 (g, visible_made h valid (group_of is.version) g); placed = is.placed }),
+      λ c. let w = (ranked.exactly i).1 c in record { version = w.version; visible = w.visible; placed = w.placed },
+    );
+    falling = ranked.falling;
+  }
+
+  abbrev group_of_item : Placed AnyShape → Group
+  group_of_item i = record { object = i.key.object; ops = i.key.ops }
+
+  -- more groups than so many, so a longer ranked list
+  pub more_visible : IsValid h → (ops : List Op) (m : ℕ) → HasMoreGroups h ops m → HasMoreVisible h m
+  more_visible valid ops m w =
+      let all = some_ranked h valid in
+      let there : (g : Group) → Contains w.groups g → Contains (map group_of_item all.0) g = λ g i.
+      let v = (w.each g i).0 in
+      let item = (all.1.exactly (placed_version v.version)).0 (record { version = v.version; visible = v.visible; placed = refl }) in
+      subst (Contains (map group_of_item all.0)) v.group (Contains-map group_of_item all.0 (placed_version v.version) item) in
+      let long = no_longer w.groups (map group_of_item all.0) w.once there in
+      let same = length-map all.0 group_of_item in
+      let many = w.many in
+      record { items = all.0; ranked = all.1; many = omega (arith, long, same, many) }
+
+-- ---- the operations of a history, one after another
+
+module _ (h : List Op) where
+  pub in_front : (n : ℕ) (a : Op) → Contains (take n h) a → Contains h a
+  in_front n a (k, m, q) =
+      let l = length-take n h in
+      (k, omega (arith, m, l), sym (get_or-take n h k a (omega (arith, m, l))) ∙ q)
+
+  -- the next operation made none of the objects so far
+  pub fresh_next : IsValid h → (i : ℕ) (a : Op) → i < length h → a ≡ get_or h i a → Fresh h (take i h) (a ∷ [])
+  fresh_next valid i a l is b d (k, m, q) y e =
+      let len = length-take i h in
+      let below : k < i = omega (arith, m, len) in
+      let at_k = slice_get_read h (length h) k b refl (omega (arith, l, below)) (sym (sym (get_or-take i h k b below) ∙ q)) in
+      let at_i = slice_get_read h (length h) i a refl l is in
+      elim (Contains-cons_cases a [] d y) [
+        | inl f ↦ let same = same_place h valid k i b a at_k at_i (e ∙ ap (λ (z : Op). z.id) f) in absurd (omega (arith, same, below))
+        | inr j ↦ absurd (not_Contains-nil d j)
+      ]
+
+  pub next_in : (i : ℕ) (a : Op) → i < length h → a ≡ get_or h i a → (b : Op) → Contains (take i h ++ a ∷ []) b → Contains h b
+  next_in i a l is b m = elim (Contains-push_cases (take i h) a b m) [
+    | inl k ↦ in_front i b k
+    | inr e ↦ subst (Contains h) e (i, l, sym is)
+  ]

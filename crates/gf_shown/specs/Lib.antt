@@ -1,0 +1,5 @@
+pub mod Deciding
+pub mod ShownAt
+pub mod ShownSets
+pub mod ShownVersions
+pub mod VisibleSoFar

@@ -1,0 +1,23 @@
+-- The groups of the visible versions of some objects, gathered unless they are too many. No public clause cites this module.
+use Rattle.std.specs.Prelude.{◌≡◌, ◌≢◌, ◌↔◌, ℕ, ◌<◌, ◌≤◌, List, [], ◌∷◌, AllPairs, Contains, length, Option, Some, None}
+use Rattle.gf_ops.specs.declared.op.Op.{Op}
+use Rattle.gf_groups.specs.declared.group.Group.{Group}
+use Rattle.gf_groups.specs.Versions.{IsMade}
+use Rattle.gf_shown.specs.ShownVersions.{IsVisibleGroup}
+
+-- the groups are those of the visible versions of h whose objects these operations made, each once
+pub record AreVisibleOf (h ops : List Op) (groups : List Group) : Type 0 where
+  pub exactly : (g : Group) → Contains groups g ↔ (IsVisibleGroup h g × IsMade ops g.object)
+  pub once : AllPairs (λ g k. g ≢ k) groups
+
+-- there are more than m of these
+pub record HasMoreGroups (h ops : List Op) (m : ℕ) : Type 0 where
+  pub groups : List Group
+  pub each : (g : Group) → Contains groups g → IsVisibleGroup h g × IsMade ops g.object
+  pub once : AllPairs (λ g k. g ≢ k) groups
+  pub many : m < length groups
+
+-- the groups are those of the visible versions whose objects these operations made, and at most m; none, where they are more
+abbrev pub IsGroupListing : List Op → List Op → ℕ → Option (List Group) → Type 0
+IsGroupListing h ops m (Some groups) = AreVisibleOf h ops groups × (length groups ≤ m)
+IsGroupListing h ops m None = HasMoreGroups h ops m

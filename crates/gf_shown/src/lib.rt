@@ -1,0 +1,15 @@
+//! The visible versions of a history, listed within a bound from its table of versions: what is hidden
+//! is never multiplied out, and of what is too much no more than the bound.
+//!
+//! - [`visible_groups`]: the groups of the visible versions of one object.
+//! - [`ranked_within`]: the ranked list of the visible versions of a history.
+#![tactic(auto)]
+
+mod deciding;
+mod listing;
+mod objects;
+mod ranking;
+mod saying;
+
+pub use objects::visible_groups;
+pub use ranking::ranked_within;

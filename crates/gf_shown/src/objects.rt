@@ -1,0 +1,66 @@
+//! The groups of the visible versions of one object, listed unless they are too many.
+
+ghost use Rattle.std.specs.Prelude.{◌≤◌, ◌∷◌, [], length, Contains, IfNone, IfOk, IfSome, option_map};
+ghost use Rattle.gf_groups.specs.Versions.{IsMade};
+ghost use Rattle.gf_parts.specs.Parts.{most_sets};
+ghost use Rattle.gf_shown.specs.ShownVersions.{AreVisibleOn, HasMoreOn};
+ghost use Rattle.gf_shown.specs.VisibleSoFar.{IsGroupListing};
+ghost use Rattle.gf_table.specs.Standing.{StandsFor};
+
+use crate::listing::shown_sets;
+use gf_groups::{Group, add_groups};
+use gf_ops::{Change, History, ObjectId, Op};
+use gf_shape::OutOfMemory;
+use gf_table::GroupTable;
+use std::alloc::Global;
+
+/// The groups of the visible versions of an object that the history made, each once, if they are at
+/// most so many; None where they are more.
+///
+/// The choices that do not decide whether a version shows are counted, and multiplied out only where
+/// some version shows and all that show are at most so many. So it makes no more than 1,000 sets at a
+/// time, and an object that is hidden costs a look at its operations. Where what decides has more
+/// than 1,000 sets, that is `OutOfMemory`.
+pub fn visible_groups(
+    alloc: Global,
+    history: &History,
+    table: &GroupTable,
+    object: ObjectId,
+    most: usize,
+) -> Result<Option<Vec<Group>>, OutOfMemory>
+    requires stands { StandsFor history.now.ops table.now }
+    requires made { IsMade history.now.ops object }
+    requires most { most ≤ most_sets }
+    ensures groups { IfOk result (λ found. IfSome found (λ groups. AreVisibleOn history.now.ops object groups.items)) }
+    ensures few { IfOk result (λ found. IfSome found (λ groups. length groups.items ≤ most)) }
+    ensures more { IfOk result (λ found. IfNone found (HasMoreOn history.now.ops object most)) }
+{
+    // Its clause says that the history is valid.
+    let _ = history.ops();
+    let Some(sets) = shown_sets(alloc, history, table, object, most)? else {
+        return Ok(None);
+    };
+    let mut groups = Vec::new(alloc);
+    add_groups(alloc, history, object, sets, &mut groups)?;
+    Ok(Some(groups))
+}
+
+/// The groups of the visible versions of the object that an operation of the history made, if it
+/// made one.
+pub(crate) fn visible_made(
+    alloc: Global,
+    history: &History,
+    table: &GroupTable,
+    op: &Op,
+    most: usize,
+) -> Result<Option<Vec<Group>>, OutOfMemory>
+    requires stands { StandsFor history.now.ops table.now }
+    requires contained { Contains history.now.ops op.now }
+    requires most { most ≤ most_sets }
+    ensures { IfOk result (λ found. IsGroupListing history.now.ops (op.now ∷ []) most (option_map (λ v. v.items) found)) }
+{
+    match &op.change {
+        Change::Create(_) => visible_groups(alloc, history, table, ObjectId(op.id), most),
+        Change::Set { .. } => Ok(Some(Vec::new(alloc))),
+    }
+}

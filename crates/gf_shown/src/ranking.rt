@@ -1,0 +1,63 @@
+//! The visible versions of a history, ranked unless they are too many.
+
+ghost use Rattle.std.specs.Prelude.{◌≤◌, length, IfNone, IfOk, IfSome, option_map};
+ghost use Rattle.gf_parts.specs.Parts.{most_sets};
+ghost use Rattle.gf_shown.specs.ShownVersions.{HasMoreVisible};
+ghost use Rattle.gf_shown.specs.VisibleSoFar.{IsGroupListing};
+ghost use Rattle.gf_table.specs.Standing.{StandsFor};
+ghost use Rattle.gf_versions.specs.Ranking.{AreRanked};
+
+use crate::objects::visible_made;
+use gf_groups::Group;
+use gf_ops::History;
+use gf_shape::{AnyShape, OutOfMemory};
+use gf_table::GroupTable;
+use gf_versions::{Ranked, ranked_of};
+use std::alloc::Global;
+
+/// The visible versions of a history, topmost first, if they are at most so many; None where they are
+/// more. The table stands for the history.
+///
+/// It stops as soon as it has seen more, and it multiplies out no choice that is not listed, as
+/// [`visible_groups`](crate::visible_groups) tells.
+pub fn ranked_within(
+    alloc: Global,
+    history: &History,
+    table: &GroupTable,
+    most: usize,
+) -> Result<Option<Ranked<AnyShape>>, OutOfMemory>
+    requires stands { StandsFor history.now.ops table.now }
+    requires most { most ≤ most_sets }
+    ensures ranked { IfOk result (λ found. IfSome found (λ ranked. AreRanked history.now.ops ranked.items.items)) }
+    ensures few { IfOk result (λ found. IfSome found (λ ranked. length ranked.items.items ≤ most)) }
+    ensures more { IfOk result (λ found. IfNone found (HasMoreVisible history.now.ops most)) }
+{
+    // Its clause says that the history is valid.
+    let _ = history.ops();
+    let Some(groups) = all_visible(alloc, history, table, most)? else {
+        return Ok(None);
+    };
+    let ranked = ranked_of(alloc, history, &groups)?;
+    Ok(Some(ranked))
+}
+
+/// The groups of all visible versions, if they are at most so many.
+fn all_visible(
+    alloc: Global,
+    history: &History,
+    table: &GroupTable,
+    most: usize,
+) -> Result<Option<Vec<Group>>, OutOfMemory>
+    requires stands { StandsFor history.now.ops table.now }
+    requires most { most ≤ most_sets }
+    ensures { IfOk result (λ found. IsGroupListing history.now.ops history.now.ops most (option_map (λ v. v.items) found)) }
+{
+    let mut groups = Vec::new(alloc);
+    for op in history.ops() {
+        match visible_made(alloc, history, table, op, most - groups.len())? {
+            Some(mut more) => groups.append(&mut more)?,
+            None => return Ok(None),
+        }
+    }
+    Ok(Some(groups))
+}
