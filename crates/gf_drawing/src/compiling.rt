@@ -14,7 +14,7 @@ use std::alloc::Global;
 use thiserror::Error;
 
 /// The greatest number of visible versions, one for each depth of FIG.
-const MOST_VERSIONS: usize = 1_000;
+pub const MOST_VERSIONS: usize = 1_000;
 
 /// The number of the first colour that a drawing adds.
 const FIRST_NUMBER: u16 = 32;

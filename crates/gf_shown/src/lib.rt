@@ -3,13 +3,16 @@
 //!
 //! - [`visible_groups`]: the groups of the visible versions of one object.
 //! - [`ranked_within`]: the ranked list of the visible versions of a history.
+//! - [`GroupedHistory`]: a history with its table, grown together.
 #![tactic(auto)]
 
 mod deciding;
+mod grouped;
 mod listing;
 mod objects;
 mod ranking;
 mod saying;
 
+pub use grouped::GroupedHistory;
 pub use objects::visible_groups;
 pub use ranking::ranked_within;
