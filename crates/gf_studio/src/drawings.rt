@@ -13,10 +13,9 @@ ghost use Rattle.gf_studio.specs.RunAnswers.{ReadsFor, RefusesFig, RefusesLines}
 use crate::StudioError;
 use crate::reading::read_history;
 use gf_bytes::{MOST_INPUT_BYTES, Source, read_input};
-use gf_drawing::{Drawing, compile};
+use gf_drawing::{CompileFault, Drawing, MOST_VERSIONS, compile};
 use gf_fig_read::read_fig;
-use gf_shape::{AnyShape, Outline};
-use gf_versions::ranked;
+use gf_shape::{AnyShape, OutOfMemory, Outline};
 use std::alloc::Global;
 
 /// The drawing of the history that the lines of a source denote.
@@ -70,11 +69,14 @@ fn draw(alloc: Global, bytes: &[u8]) -> Result<Drawing<AnyShape>, StudioError>
     ensures err { IfErr result (RefusesDrawing bytes.now) }
 {
     let history = read_history(alloc, bytes)?;
-    let Ok(ranked) = ranked(alloc, &history) else {
-        return Err(StudioError::OutOfMemory);
-    };
-    let drawing = compile(alloc, ranked)?;
-    Ok(drawing)
+    match history.ranked_within(alloc, MOST_VERSIONS) {
+        Ok(Some(ranked)) => {
+            let drawing = compile(alloc, ranked)?;
+            Ok(drawing)
+        }
+        Ok(None) => Err(StudioError::Compile(CompileFault::TooManyVersions)),
+        Err(OutOfMemory) => Err(StudioError::OutOfMemory),
+    }
 }
 
 /// The drawing that this text reads as.

@@ -5,8 +5,8 @@ use Rattle.gf_studio.proofs.reading.add_ready.Given as goal
 
 abbrev pub invariant-loop-op : goal.invariant-loop-op
 invariant-loop-op l = record {
-  moves : Moves l.initial.buffer l.initial.history.ops l.buffer l.history.ops;
-  valid : IsValid l.history.ops;
+  moves : Moves l.initial.buffer l.initial.history l.buffer l.history;
+  valid : IsValid l.history;
 }
 
 abbrev pub decreases-loop-op : goal.decreases-loop-op

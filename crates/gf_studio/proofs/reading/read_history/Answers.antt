@@ -20,7 +20,7 @@ pub returns-in_err-take_line-clause-err : goal.returns-in_err-take_line-clause-e
 returns-in_err-take_line-clause-err c =
     let p = err_from_is_err_and c.from_residual.result c.from_residual.ensures.1 in
     rw p.1 (RefusesText-line c.args.text.now _ _ _ _ _ (rw c.in-Some.ensures.some at c.loop-number.invariant.read) c.loop-number.invariant.valid _
-    (subst (λ e. RefusesLine c.in-Some.number c.in-Some.line.now c.loop-number.buffer c.loop-number.history.ops e) (sym p.2) c.in_err-take_line.ensures.err))
+    (subst (λ e. RefusesLine c.in-Some.number c.in-Some.line.now c.loop-number.buffer c.loop-number.history e) (sym p.2) c.in_err-take_line.ensures.err))
 
 pub returns-clause-ok : goal.returns-clause-ok
 returns-clause-ok c = Denotes-read c.args.text.now _ _ (rw c.in_default.ensures.none.0 at c.loop-number.invariant.read) c.loop-number.invariant.valid

@@ -5,8 +5,8 @@ use Rattle.gf_studio.proofs.reading.read_history.Given as goal
 
 abbrev pub invariant-loop-number : goal.invariant-loop-number
 invariant-loop-number l = record {
-  read : HasRead l.text l.lines l.buffer l.history.ops;
-  valid : IsValid l.history.ops;
+  read : HasRead l.text l.lines l.buffer l.history;
+  valid : IsValid l.history;
 }
 
 abbrev pub decreases-loop-number : goal.decreases-loop-number
