@@ -1,0 +1,111 @@
+//! Commands about a table: the groups that it lists, and the visible versions within a bound.
+
+ghost use Rattle.std.specs.Prelude.{◌≤◌, IfSome};
+
+use example_parts::notation::id;
+use gf_drawing::{CompileFault, Drawing, compile};
+use gf_groups::{Group, GroupFault, Groups, is_made};
+use gf_ops::{ObjectId, OpId};
+use gf_shape::AnyShape;
+use gf_shown::{GroupedHistory, visible_groups};
+use gf_versions::Ranked;
+use std::alloc::Global;
+
+/// The groups of an object, by the table.
+pub(crate) fn groups(alloc: Global, history: &GroupedHistory, text: &str) -> Option<String> {
+    let object = ObjectId(id(text)?);
+    told(
+        alloc,
+        history.table().groups(alloc, history.history(), object),
+    )
+}
+
+/// The groups of an object, by a copy of the table.
+pub(crate) fn copied(alloc: Global, history: &GroupedHistory, text: &str) -> Option<String> {
+    let object = ObjectId(id(text)?);
+    let copy = history.table().copy(alloc).ok()?;
+    told(alloc, copy.groups(alloc, history.history(), object))
+}
+
+fn told(alloc: Global, groups: Result<Groups, GroupFault>) -> Option<String> {
+    match groups {
+        Ok(groups) => text_of(alloc, groups.as_slice()),
+        Err(fault) => format!(in alloc; "{fault}").ok(),
+    }
+}
+
+/// Each group in brackets, by the ids of its operations.
+fn text_of(alloc: Global, groups: &[Group]) -> Option<String> {
+    let mut text = String::new(alloc);
+    for group in groups {
+        push_ids(alloc, &mut text, group.ops.as_slice())?;
+    }
+    Some(text)
+}
+
+fn push_ids(alloc: Global, text: &mut String, ids: &[OpId]) -> Option<()> {
+    text.push_str("[").ok()?;
+    for id in ids {
+        let id = format!(in alloc; " {id}").ok()?;
+        text.push_str(id.as_str()).ok()?;
+    }
+    text.push_str(" ]").ok()
+}
+
+/// How many visible versions an object has, as `1.1 within 4`, or that they are more.
+pub(crate) fn visible(alloc: Global, history: &GroupedHistory, text: &str) -> Option<String> {
+    let (object, most) = text.split_once(" within ")?;
+    let object = ObjectId(id(object)?);
+    if !is_made(history.history(), object) {
+        return None;
+    }
+    let most = bound(most)?;
+    let found = visible_groups(alloc, history.history(), history.table(), object, most).ok()?;
+    counted(alloc, found.map(|groups| groups.len()))
+}
+
+/// A bound that a listing may have.
+fn bound(text: &str) -> Option<usize>
+    ensures { IfSome result (λ most. most ≤ 1000) }
+{
+    let most: usize = text.parse().ok()?;
+    if most <= 1_000 { Some(most) } else { None }
+}
+
+fn counted(alloc: Global, count: Option<usize>) -> Option<String> {
+    match count {
+        Some(count) => format!(in alloc; "{count}").ok(),
+        None => String::from_str(alloc, "more").ok(),
+    }
+}
+
+/// How many versions of all objects are visible, or that they are more than this.
+pub(crate) fn ranking(alloc: Global, history: &GroupedHistory, text: &str) -> Option<String> {
+    let found = history.ranked_within(alloc, bound(text)?).ok()?;
+    counted(alloc, found.map(|ranked| ranked.len()))
+}
+
+/// The figures of the drawing of at most so many versions, the last one's depth, and the colours.
+pub(crate) fn drawn(alloc: Global, history: &GroupedHistory, text: &str) -> Option<String> {
+    match history.ranked_within(alloc, bound(text)?).ok()? {
+        Some(ranked) => drawing(alloc, ranked),
+        None => String::from_str(alloc, "more").ok(),
+    }
+}
+
+fn drawing(alloc: Global, ranked: Ranked<AnyShape>) -> Option<String> {
+    match compile(alloc, ranked) {
+        Ok(drawing) => drawing_text(alloc, &drawing),
+        Err(fault) => format!(in alloc; "{fault}").ok(),
+    }
+}
+
+fn drawing_text(alloc: Global, drawing: &Drawing<AnyShape>) -> Option<String> {
+    let mut last = 0;
+    for figure in drawing.figures() {
+        last = figure.depth.max(last);
+    }
+    let figures = drawing.figures().len();
+    let colours = drawing.colours().len();
+    format!(in alloc; "{figures} figures to depth {last}, {colours} colours").ok()
+}

@@ -1,0 +1,14 @@
+//! Worked examples of tables of versions, by public calls alone: the groups that a table lists, and
+//! the visible versions within a bound, as tables of commands with their answers.
+#![tactic(auto)]
+
+#[cfg(test)]
+mod bounds;
+#[cfg(test)]
+mod commands;
+#[cfg(test)]
+mod rounds;
+#[cfg(test)]
+mod script;
+#[cfg(test)]
+mod tables;

@@ -1,0 +1,65 @@
+//! The commands of the tables, each with what it acts on.
+
+use crate::{commands, rounds};
+use example_parts::notation::operation;
+use example_parts::{Answers, ask};
+use gf_shown::GroupedHistory;
+use std::alloc::Global;
+use std::test::Fail;
+
+/// What commands act on.
+#[derive(Drop)]
+pub(crate) struct Scene {
+    history: GroupedHistory,
+}
+
+impl Answers for Scene {
+    fn answer(&mut self, alloc: Global, question: &str) -> Option<String> {
+        let (verb, text) = question.split_once(' ').unwrap_or((question, ""));
+        told(alloc, self, verb, text)
+    }
+}
+
+/// Each command of a table, which begins with nothing, has its answer.
+pub(crate) fn answers(alloc: Global, rows: &str) -> Result<(), Fail> {
+    let mut scene = Scene {
+        history: GroupedHistory::new(alloc),
+    };
+    ask(alloc, rows, &mut scene)
+}
+
+/// The answer to the command of this verb.
+fn told(alloc: Global, scene: &mut Scene, verb: &str, text: &str) -> Option<String> {
+    match verb {
+        "new" => {
+            scene.history = GroupedHistory::new(alloc);
+            said(alloc, Some(()))
+        }
+        "add" => {
+            let op = operation(alloc, text)?;
+            said(alloc, rounds::add(&mut scene.history, op))
+        }
+        "rounds" => {
+            let count: u32 = text.parse().ok()?;
+            said(alloc, rounds::rounds(&mut scene.history, count))
+        }
+        _ => told_of(alloc, &scene.history, verb, text),
+    }
+}
+
+fn said(alloc: Global, done: Option<()>) -> Option<String> {
+    done?;
+    String::from_str(alloc, "ok").ok()
+}
+
+/// The answer to a command that changes nothing.
+fn told_of(alloc: Global, history: &GroupedHistory, verb: &str, text: &str) -> Option<String> {
+    match verb {
+        "groups" => commands::groups(alloc, history, text),
+        "copied" => commands::copied(alloc, history, text),
+        "visible" => commands::visible(alloc, history, text),
+        "ranked" => commands::ranking(alloc, history, text),
+        "drawn" => commands::drawn(alloc, history, text),
+        _ => None,
+    }
+}

@@ -1,0 +1,77 @@
+//! The groups that a table lists after each operation, by hand from the rules of conflicts.
+
+use crate::script::answers;
+use std::test::Fail;
+
+const ROWS: &str = "
+// equal_setters_stand_in_one_group
+groups 1.1                         | NoObject
+add 1.1: box 10 10                 | ok
+groups 1.1                         | [ 1.1 ]
+add 1.2 after 1: 1.1 colour 0000ff | ok
+groups 1.1                         | [ 1.1 1.2 ]
+add 2.1 after 1: 1.1 colour 00ff00 | ok
+groups 1.1                         | [ 1.1 1.2 ][ 1.1 2.1 ]
+add 3.1 after 1: 1.1 colour 0000ff | ok
+groups 1.1                         | [ 1.1 1.2 3.1 ][ 1.1 2.1 ]
+copied 1.1                         | [ 1.1 1.2 3.1 ][ 1.1 2.1 ]
+groups 2.1                         | NoObject
+// The same with 2.1 before 1.2.
+new                                | ok
+add 1.1: box 10 10                 | ok
+add 2.1 after 1: 1.1 colour 00ff00 | ok
+groups 1.1                         | [ 1.1 2.1 ]
+add 1.2 after 1: 1.1 colour 0000ff | ok
+groups 1.1                         | [ 1.1 1.2 ][ 1.1 2.1 ]
+add 3.1 after 1: 1.1 colour 0000ff | ok
+groups 1.1                         | [ 1.1 1.2 3.1 ][ 1.1 2.1 ]
+copied 1.1                         | [ 1.1 1.2 3.1 ][ 1.1 2.1 ]
+
+// conflicts_on_two_attributes_are_two_parts
+new                                | ok
+add 1.1: box 10 10                 | ok
+add 1.2 after 1: 1.1 colour 0000ff | ok
+add 2.1 after 1: 1.1 colour 00ff00 | ok
+add 1.3 after 2: 1.1 layer 2       | ok
+groups 1.1                         | [ 1.1 1.2 1.3 ][ 1.1 1.3 2.1 ]
+add 2.2 after 1 1: 1.1 layer 3     | ok
+groups 1.1                         | [ 1.1 1.2 1.3 ][ 1.1 1.2 2.2 ][ 1.1 1.3 2.1 ][ 1.1 2.1 2.2 ]
+copied 1.1                         | [ 1.1 1.2 1.3 ][ 1.1 1.2 2.2 ][ 1.1 1.3 2.1 ][ 1.1 2.1 2.2 ]
+visible 1.1 within 4               | 4
+visible 1.1 within 3               | more
+
+// one_operation_joins_two_parts
+new                                   | ok
+add 1.1: box 10 10                    | ok
+rounds 2                              | ok
+groups 1.1                            | [ 1.1 1.2 1.3 ][ 1.1 1.2 2.2 ][ 1.1 1.3 2.1 ][ 1.1 2.1 2.2 ]
+// A third colour conflicts with all four.
+add 3.1 after 1: 1.1 colour ff0000    | ok
+groups 1.1                            | [ 1.1 1.2 1.3 ][ 1.1 1.2 2.2 ][ 1.1 1.3 2.1 ][ 1.1 2.1 2.2 ][ 1.1 3.1 ]
+visible 1.1 within 5                  | 5
+// The colour of site 1 conflicts with the two of site 2.
+new                                   | ok
+add 1.1: box 10 10                    | ok
+rounds 2                              | ok
+add 3.1 after 1: 1.1 colour 0000ff    | ok
+groups 1.1                            | [ 1.1 1.2 1.3 3.1 ][ 1.1 1.2 2.2 ][ 1.1 1.3 2.1 ][ 1.1 2.1 2.2 ]
+copied 1.1                            | [ 1.1 1.2 1.3 3.1 ][ 1.1 1.2 2.2 ][ 1.1 1.3 2.1 ][ 1.1 2.1 2.2 ]
+
+// objects_have_parts_of_their_own
+new                                  | ok
+add 1.1: box 10 10                   | ok
+add 2.1: box 10 10                   | ok
+add 1.2 after 1 1: 2.1 colour 0000ff | ok
+add 2.2 after 1 1: 1.1 colour 00ff00 | ok
+add 3.1 after 1 1: 2.1 colour 00ff00 | ok
+groups 1.1                           | [ 1.1 2.2 ]
+groups 2.1                           | [ 1.2 2.1 ][ 2.1 3.1 ]
+groups 1.2                           | NoObject
+ranked 3                             | 3
+ranked 2                             | more
+";
+
+#[test]
+fn a_table_lists_the_versions(rt: HostRuntime) -> Result<(), Fail> {
+    answers(rt.alloc(), ROWS)
+}
