@@ -1,14 +1,19 @@
 //! The edges of a chain between two heights.
 
-ghost use Rattle.std.specs.Prelude.{◌≡◌, ◌++◌, ◌%◌, ◌≤ℤ◌, ℤ, Bool, IsTrue, All, IfOk, OnOk, length};
+ghost use Rattle.std.specs.Prelude.{◌≡◌, ◌++◌, ◌%◌, ◌≤ℤ◌, ℤ, Bool, true, IsTrue, All, IfOk, OnOk, length};
+ghost use Rattle.gf_rows.specs.declared.span.Span.{Span as TheSpan};
+ghost use Rattle.gf_rows.specs.Spans.{is_in_span};
 ghost use Rattle.gf_shape.specs.declared.point.Point.{Point};
 ghost use Rattle.gf_shape.specs.FigureMeaning.{chain_holds};
 ghost use Rattle.gf_shape.specs.Reach.{is_within_reach};
 ghost use Rattle.gf_shape.specs.Rows.{IsRow};
+ghost use Rattle.gf_edges.specs.declared.edge.Edge.{Edge as TheEdge};
 ghost use Rattle.gf_edges.specs.Between.{between_along, between_of};
+ghost use Rattle.gf_edges.specs.Reaching.{IsAcross};
 ghost use Rattle.gf_edges.specs.Telling.{TellsRow, crossings_at};
 
 use crate::{Edge, EdgeRow};
+use gf_rows::Span;
 use gf_shape::{Chain, OutOfMemory, Point};
 use std::alloc::Global;
 use std::marker::Model;
@@ -40,6 +45,13 @@ impl Edges {
         let mut edges = Vec::new(alloc);
         add_along(points[0], &points[1..], low, high, &mut edges)?;
         Ok(Edges { edges })
+    }
+
+    /// From the leftmost of their points to the rightmost: what they tell a row of lies between these.
+    pub fn reach(&self) -> Span
+        ensures { (holds : Point → Bool) (x y : ℤ) → TellsRow holds y self.now → holds (record { x = x; y = y }) ≡ true → is_in_span x result ≡ true }
+    {
+        reach(&self.edges)
     }
 
     /// Makes `row` the row `y` of what they tell it of.
@@ -80,4 +92,43 @@ fn add(edge: Edge, low: i32, high: i32, edges: &mut Vec<Edge>) -> Result<(), Out
         edges.push(edge)?;
     }
     Ok(())
+}
+
+/// From the leftmost point of edges to the rightmost; where there are none, a span of no numbers.
+fn reach(edges: &[Edge]) -> Span
+    ensures { All (IsAcross result) edges.now }
+{
+    let mut all = Span {
+        first: i32::MAX,
+        last: i32::MIN,
+    };
+    for edge in edges {
+        all = across(all, *edge);
+    }
+    all
+}
+
+/// A span that an edge widens.
+fn across(span: Span, edge: Edge) -> Span
+    ensures edge { IsAcross result edge }
+    ensures wider { (result.first ≤ℤ span.first) × (span.last ≤ℤ result.last) }
+{
+    Span {
+        first: least(span.first, edge.from.x, edge.to.x),
+        last: greatest(span.last, edge.from.x, edge.to.x),
+    }
+}
+
+#[tactic(auto, using(std::proofs::lemmas::Int::ints, std::proofs::lemmas::Int::clamps))]
+fn least(a: i32, b: i32, c: i32) -> i32
+    ensures { (result ≤ℤ a) × (result ≤ℤ b) × (result ≤ℤ c) }
+{
+    a.min(b).min(c)
+}
+
+#[tactic(auto, using(std::proofs::lemmas::Int::ints, std::proofs::lemmas::Int::clamps))]
+fn greatest(a: i32, b: i32, c: i32) -> i32
+    ensures { (a ≤ℤ result) × (b ≤ℤ result) × (c ≤ℤ result) }
+{
+    a.max(b).max(c)
 }

@@ -5,6 +5,7 @@ use Rattle.std.proofs.lemmas.Bool.{cases_Bool}
 use Rattle.std.proofs.lemmas.Bool.Decides.{nat_tests}
 use Rattle.std.proofs.lemmas.Int.{ints}
 use Rattle.std.proofs.Math.Nat.{mul-le-mul}
+use Rattle.gf_rows.specs.declared.span.Span.{Span}
 use Rattle.gf_rows.specs.Spans.{is_in_span}
 use Rattle.gf_shape.specs.declared.bounds.Bounds.{Bounds}
 use Rattle.gf_shape.specs.declared.colour.Rgb.{Rgb}
@@ -44,6 +45,13 @@ pub tell_row : (f : Point → Bool) (found : Option (List Edge)) (low high y : �
 tell_row f None low high y a b h = h
 tell_row f (Some es) low high y a b h = h y a b
 
+-- beside the columns of a span that has all that is held in a row nothing is held there
+pub beside_columns : (f : Point → Bool) (w : View) (j from len : ℕ) (s : Span) (c : Columns) → ((x : ℤ) → f (record { x = x; y = line w j }) ≡ true → is_in_span x s ≡ true) → ((k : ℕ) → k < len → is_among c k ≡ is_in_span (column w (from + k)) s) → (k : ℕ) → k < len → is_among c k ≡ false → f (sample w (from + k) j) ≡ false
+beside_columns f w j from len s c reach covers k l out = elim (cases_Bool (f (sample w (from + k) j))) [
+  | inl t ↦ absurd (true_not_false (sym (covers k l ∙ reach (column w (from + k)) t) ∙ out))
+  | inr t ↦ t
+]
+
 module _ {S : Type 0} (holds : S → Point → Bool) (w : View) where
   -- a layer that reaches no row of the part
   pub unseen_beside : (top count from len : ℕ) (l : Layer S) (b : Bounds) → 1 ≤ count → IsBounds (holds l.shape.now) b → reaches (line w top) (line w (top + count - 1)) b ≡ false → IsUnseen holds w top count from len l
@@ -78,15 +86,7 @@ module _ {S : Type 0} (holds : S → Point → Bool) (w : View) where
 
   -- a piece changes its columns alone
   pub piece_columns : (j from len : ℕ) (p : Piece S) (behind : ℕ → Rgb) → IsPiece holds w j from len p → AreSameOutside p.columns len (layer_over holds w j from behind p.layer.now) behind
-  piece_columns j from len p behind h = λ k l out. elim (cases_Bool (holds p.layer.now.shape.now (sample w (from + k) j))) [
-    | inl t ↦
-        let it = h.bounds.within (sample w (from + k) j) t in
-        let left : p.bounds.low.x ≤ℤ column w (from + k) = it.left in
-        let right : column w (from + k) ≤ℤ p.bounds.high.x = it.right in
-        let e : is_in_span (column w (from + k)) (record { first = p.bounds.low.x; last = p.bounds.high.x }) ≡ true = in_bounds (column w (from + k)) p.bounds left right in
-        absurd (true_not_false (sym (h.columns k l ∙ e) ∙ out))
-    | inr t ↦ rw t refl
-  ]
+  piece_columns j from len p behind h = λ k l out. rw (h.columns k l out) refl
 
   -- a layer that does not hold a point changes no colour there
   unseen_at : (xs rest : List (Layer S)) (l : Layer S) (p : Point) → holds l.shape.now p ≡ false → layered holds (xs ++ rest) p ≡ layered holds (xs ++ l ∷ rest) p

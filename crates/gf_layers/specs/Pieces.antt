@@ -1,11 +1,10 @@
 -- What a part of a window has of layers: some columns of some rows (this project's choice).
 use Rattle.std.specs.Prelude.{◌≡◌, ℕ, ℤ, ◌+◌, ◌≤◌, ◌<◌, ◌&&◌, Bool, false, int_le, List, map, IfSome}
-use Rattle.gf_rows.specs.Spans.{is_in_span}
 use Rattle.gf_shape.specs.declared.bounds.Bounds.{Bounds}
 use Rattle.gf_shape.specs.declared.point.Point.{Point}
 use Rattle.gf_shape.specs.ShapeLaws.{IsBounds}
 use Rattle.gf_strips.specs.Strips.{is_among}
-use Rattle.gf_window.specs.Windows.{View, column, line, sample}
+use Rattle.gf_window.specs.Windows.{View, line, sample}
 use Rattle.gf_edges.specs.Telling.{TellsRow}
 use Rattle.gf_layers.specs.declared.layer.Layer.{Layer}
 use Rattle.gf_layers.specs.declared.piece.Piece.{Piece}
@@ -20,10 +19,10 @@ abbrev pub layers_of : {S : Type 0} → List (Piece S) → List (Layer S)
 layers_of ps = map (λ p. p.layer.now) ps
 
 module _ {S : Type 0} (holds : S → Point → Bool) (w : View) where
-  -- the piece's bounds are its layer's, its columns those of the bounds, and its edges tell the row j
+  -- the piece's bounds are its layer's, its columns have all that the layer holds in the row j, and its edges tell that row
   pub record IsPiece (j from len : ℕ) (p : Piece S) : Type 0 where
     pub bounds : IsBounds (holds p.layer.now.shape.now) p.bounds
-    pub columns : (k : ℕ) → k < len → is_among p.columns k ≡ is_in_span (column w (from + k)) (record { first = p.bounds.low.x; last = p.bounds.high.x })
+    pub columns : (k : ℕ) → k < len → is_among p.columns k ≡ false → holds p.layer.now.shape.now (sample w (from + k) j) ≡ false
     pub edges : IfSome p.edges (λ es. TellsRow (holds p.layer.now.shape.now) (line w j) es)
 
   -- the layer holds no point of the part

@@ -1,8 +1,11 @@
 //! Pieces: what a part of a window has of a layer.
 
-ghost use Rattle.std.specs.Prelude.{◌≡◌, ℕ, ℤ, ◌+◌, ◌≤◌, ◌<◌, ◌≤ℤ◌, ◌&&◌, int_le, IfOk, IfSome, None};
+ghost use Rattle.std.specs.Prelude.{◌≡◌, ℕ, ℤ, ◌+◌, ◌≤◌, ◌<◌, ◌≤ℤ◌, Bool, true, ◌&&◌, int_le, IfOk, IfSome, None};
 ghost use Rattle.gf_edges.specs.Telling.{TellsRow};
+ghost use Rattle.gf_rows.specs.Spans.{is_in_span};
+ghost use Rattle.gf_shape.specs.declared.point.Point.{Point};
 ghost use Rattle.gf_shape.specs.Rows.{IsRow};
+ghost use Rattle.gf_shape.specs.ShapeLaws.{IsBounds};
 ghost use Rattle.gf_layers.specs.Layers.{HasBounds};
 ghost use Rattle.gf_layers.specs.Pieces.{IsPiece, IsUnseen, reaches};
 
@@ -13,8 +16,8 @@ use gf_strips::Columns;
 use gf_window::Window;
 use std::alloc::Global;
 
-/// What a part of a window has of a layer: its bounds, the columns that they cover, and of a polygon
-/// the edges that come between the rows.
+/// What a part of a window has of a layer: its bounds, the columns that it may be seen in, and of a
+/// polygon the edges that come between the rows.
 #[derive(Drop)]
 pub(crate) struct Piece<'l, 'a, S> {
     pub layer: &'l Layer<'a, S>,
@@ -50,6 +53,7 @@ pub(crate) fn piece_of<'l, 'a, S: Shape>(
         return Ok(None);
     }
     let edges = edges(alloc, layer.shape, low, high)?;
+    let columns = window.columns(from, len, reach(bounds, &edges));
     Ok(Some(Piece {
         layer,
         bounds,
@@ -64,6 +68,17 @@ pub(crate) fn reaches(bounds: Bounds, low: i32, high: i32) -> bool
     ensures { result ≡ reaches low high bounds }
 {
     bounds.low.y <= high && low <= bounds.high.y
+}
+
+/// How far the points of a shape reach to the left and to the right, in a row that its edges tell,
+/// where it has some: no further than these, nor than its bounds.
+fn reach(bounds: Bounds, edges: &Option<Edges>) -> Span
+    ensures { (holds : Point → Bool) (x y : ℤ) → IsBounds holds bounds → IfSome edges.now (λ es. TellsRow holds y es) → holds (record { x = x; y = y }) ≡ true → is_in_span x result ≡ true }
+{
+    match edges {
+        Some(edges) => edges.reach(),
+        None => across(bounds),
+    }
 }
 
 /// From the left of bounds to their right.

@@ -1,6 +1,7 @@
 use Rattle.std.proofs.Common.{FitsSigned, w32, rules, sym, arith, ◌∙◌, ◌+◌, ◌-◌}
 use Rattle.std.proofs.lemmas.Int.{to_z-of_z}
-use Rattle.gf_layers.proofs.PieceLemmas.{line_later, tell_row, unseen_beside, unseen_narrow}
+use Rattle.gf_window.specs.Windows.{line}
+use Rattle.gf_layers.proofs.PieceLemmas.{beside_columns, line_later, tell_row, unseen_beside, unseen_narrow}
 use Rattle.gf_layers.proofs.piece.piece_of.Goals as goal
 
 pub returns-then-not-reaches-clause-none : goal.returns-then-not-reaches-clause-none
@@ -18,8 +19,11 @@ pub returns-clause-some : goal.returns-clause-some
 returns-clause-some g c = λ j low high.
     let f : FitsSigned w32 c.line-low.result = search rules in
     let h : FitsSigned w32 c.line-high.result = search rules in
+    let w = c.args.window in
+    let held = g.S.Shape.holds c.args.layer.now.shape.now in
+    let tells = tell_row held c.in_ok-edges.edges _ _ (line w j) (rw c.line-low.ensures (line_later w c.args.top j low)) (rw c.line-high.ensures (line_later w j (c.args.top + c.args.count - 1) (omega arith))) (simp to_z-of_z at c.in_ok-edges.ensures) in
     record {
       bounds = c.requires.bounds;
-      columns = rw c.across.ensures at c.columns-columns.ensures;
-      edges = tell_row (g.S.Shape.holds c.args.layer.now.shape.now) c.in_ok-edges.edges _ _ _ (rw c.line-low.ensures (line_later c.args.window c.args.top j low)) (rw c.line-high.ensures (line_later c.args.window j (c.args.top + c.args.count - 1) (omega arith))) (simp to_z-of_z at c.in_ok-edges.ensures);
+      columns = beside_columns held w j c.args.from c.args.len c.reach.result c.columns-columns-2.result (λ x t. c.reach.ensures held x (line w j) c.requires.bounds tells t) c.columns-columns-2.ensures;
+      edges = tells;
     }
