@@ -1,3 +1,2 @@
-pub mod BandLemmas
 pub mod PictureLemmas
-pub mod StripLemmas
+pub mod ShareLemmas

@@ -3,14 +3,15 @@
 //! - [`Window`]: which part of the plane a picture shows.
 //! - [`paint`]: the pixels of a window, as a [`Raster`].
 //! - [`ppm_to`]: the whole picture, written band after band.
-//! - [`Gate`], [`OpenGate`]: what a worker passes before each tile.
+//! - [`Gate`], [`OpenGate`]: what workers pass for each tile of a band before they paint it.
 #![tactic(auto)]
 
 mod bands;
 mod gate;
 mod painting;
 mod ppm;
-mod strips;
+mod shares;
+mod tiles;
 
 pub use gate::{Gate, OpenGate};
 pub use gf_window::Window;

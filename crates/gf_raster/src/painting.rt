@@ -6,7 +6,8 @@ ghost use Rattle.gf_layers.specs.Layers.{layered};
 ghost use Rattle.gf_layers.specs.Picture.{raster};
 
 use crate::Gate;
-use crate::bands::{TILE, band};
+use crate::bands::band;
+use crate::tiles::TILE;
 use gf_drawing::Drawing;
 use gf_layers::Layers;
 use gf_shape::{OutOfMemory, Shape};
@@ -42,8 +43,8 @@ impl Raster {
 /// Paints a window of a drawing, one band of 64 rows after another, each shared by 1 to 16 workers:
 /// pixel (i, j) has the drawing's colour at the point (x + i * step, y + j * step).
 ///
-/// Worker `who` passes `gate` for each tile of its part of a band before it paints there. Where a
-/// thread can't be started, the caller's paints its part.
+/// Each worker passes `gate` for a run of a band's tiles; once all have passed, each paints some of the
+/// band's rows. Where a thread can't be started, the caller's does its part.
 pub fn paint<S: Shape + Sync, G: Gate + Sync, R: Threads + Sync>(
     rt: &R,
     alloc: Global,

@@ -11,7 +11,8 @@ ghost use Rattle.gf_layers.specs.Picture.{header, picture, raster, rows};
 ghost use Rattle.gf_raster.specs.Bands.{HasBands};
 
 use crate::Gate;
-use crate::bands::{TILE, band};
+use crate::bands::band;
+use crate::tiles::TILE;
 use gf_bytes::{Sink, WriteError, write_all};
 use gf_drawing::Drawing;
 use gf_layers::Layers;
