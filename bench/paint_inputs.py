@@ -28,6 +28,14 @@ def ring(rng, size, spread, least=1.0):
     return points
 
 
+def comb(rng, teeth, width):
+    """The corners of a comb as high as the picture, whose teeth are this wide at its upper end."""
+    points = []
+    for x in sorted(rng.sample(range(SIDE), teeth)):
+        points += [(x, 0), (x + width // 2, SIDE), (x + width, 0)]
+    return points[:POINTS]
+
+
 def chain(kind, colour, depth, points):
     """The lines of a closed chain: 2 for a box, 3 for a polygon."""
     points = points + points[:1]
@@ -60,4 +68,5 @@ write("circles", drawing(1_000, lambda rng, colour, depth: disc(rng, colour, dep
 write("polygons", drawing(1_000, lambda rng, colour, depth: chain(3, colour, depth, ring(rng, 475, SIDE // 2))))
 write("large", drawing(1_000, lambda rng, colour, depth: chain(3, colour, depth, ring(rng, SIDE, 50))))
 write("stars", drawing(1_000, lambda rng, colour, depth: chain(3, colour, depth, ring(rng, SIDE, 50, 0.3))))
+write("combs", drawing(16, lambda rng, colour, depth: chain(3, colour, depth, comb(rng, 22, 8))))
 write("many", drawing(20_000, lambda rng, colour, depth: chain(3, colour, depth, ring(rng, 100, SIDE // 2))))

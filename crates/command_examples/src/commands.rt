@@ -182,32 +182,42 @@ const EMPTY_RUN: &str =
 const CUT_RUN: &str =
     "1\n#FIG 3.2\nLandscape\nCenter\nMetric\nA4\n100.00\nSingle\n-2\n1200 2\n0 32 #ff0000\n2 2 0 0 32 32 0 -1 20 0.000--\nfiggroup: write failed\n";
 
+const FIG: &str = "figgroup fig";
+
+const PAINT: &str = "figgroup paint --width 3 --height 130 --workers 3";
+
+// The header, and no band.
+const CUT_PICTURE: &str = "1\nP6\n3 130\n255\n--\nfiggroup: write failed\n";
+
 #[test]
 fn unread_input_and_a_full_output_are_told(rt: HostRuntime) -> Result<(), Fail> {
     let mut long = Vec::new(rt.alloc());
     long.resize(MOST_INPUT_BYTES + 1, b' ')?;
     let red_box = RED_BOX.as_bytes();
-    for (input, fail_after, room, want) in [
+    for (words, input, fail_after, room, want) in [
         // unread_input_is_told
         (
+            FIG,
             &long[..],
             None,
             (None, None),
             "1\n--\nfiggroup: input too long\n",
         ),
-        (&long[1..], None, (None, None), EMPTY_RUN),
+        (FIG, &long[1..], None, (None, None), EMPTY_RUN),
         (
+            FIG,
             red_box,
             Some(5),
             (None, None),
             "1\n--\nfiggroup: read failed\n",
         ),
         // a_full_output_is_told
-        (red_box, None, (Some(100), None), CUT_RUN),
+        (FIG, red_box, None, (Some(100), None), CUT_RUN),
+        (PAINT, red_box, None, (Some(13), None), CUT_PICTURE),
         // Where no fault can be told either, the status stays.
-        (b"{", None, (Some(0), Some(0)), "1\n--\n"),
+        (FIG, b"{", None, (Some(0), Some(0)), "1\n--\n"),
     ] {
-        let answer = run(&rt, "figgroup fig", &mut Reel::new(input, fail_after), room)?;
+        let answer = run(&rt, words, &mut Reel::new(input, fail_after), room)?;
         assert_eq!(rt; answer.as_str(), want);
     }
     Ok(())
