@@ -98,7 +98,7 @@ items_distinct (v ∷ vs) apart =
     ]
 
 -- versions of distinct groups are of distinct groups
-groups_apart : (groups : List Group) (vs : List Version) → map group_of vs ≡ groups → AllPairs (λ g k. g ≢ k) groups → AllPairs (λ u w. group_of u ≢ group_of w) vs
+pub groups_apart : (groups : List Group) (vs : List Version) → map group_of vs ≡ groups → AllPairs (λ g k. g ≢ k) groups → AllPairs (λ u w. group_of u ≢ group_of w) vs
 groups_apart groups vs e once i j d before inside f =
     let same = length-map vs group_of in
     let apart = subst (λ ks. AllPairs (λ g k. g ≢ k) ks) (sym e) once i j (group_of d) before (omega arith) in
@@ -106,12 +106,15 @@ groups_apart groups vs e once i j d before inside f =
 
 -- ---- one group more
 
+pub settled_more : (h : List Op) (groups : List Group) (vs : List Version) → AreSettled h groups vs → (g : Group) (v : Version) → IsVersionOf h v → group_of v ≡ g → AreSettled h (groups ++ g ∷ []) (vs ++ v ∷ [])
+settled_more h groups vs settled g v is e = record {
+  grouped = map-append group_of vs (v ∷ []) ∙ (λ n. settled.grouped n ++ e n ∷ []);
+  versions = λ w c. elim (Contains-push_cases vs v w c) [ inl k ↦ settled.versions w k | inr s ↦ subst (IsVersionOf h) s is ];
+}
+
 module _ (h : List Op) (groups : List Group) (items : List (Placed AnyShape)) (so_far : AreShown h groups items) (g : Group) (v : Version) (is : IsVersionOf h v) (e : group_of v ≡ g) where
   one_more : AreSettled h (groups ++ g ∷ []) (so_far.versions ++ v ∷ [])
-  one_more = record {
-    grouped = map-append group_of so_far.versions (v ∷ []) ∙ (λ n. so_far.settled.grouped n ++ e n ∷ []);
-    versions = λ w c. elim (Contains-push_cases so_far.versions v w c) [ inl k ↦ so_far.settled.versions w k | inr s ↦ subst (IsVersionOf h) s is ];
-  }
+  one_more = settled_more h groups so_far.versions so_far.settled g v is e
 
   pub shown_more : v.shown ≡ true → AreShown h (groups ++ g ∷ []) (items ++ placed_version v ∷ [])
   shown_more t = record {

@@ -75,30 +75,45 @@ module _ {X : Type 0} (test : X → Bool) where
     ]
   ]
 
--- the first item of a ranking that holds p has the history's colour
-pub first_gives : (h : List Op) (p : Point) (items : List (Placed AnyShape)) → AreRanked h items → HistoryColour h p (first_colour any_holds items p)
-first_gives h p items ranked = by_answer (find (λ (i : Placed AnyShape). any_holds i.shape p) items) refl
-  where
-    Over : Placed AnyShape → Placed AnyShape → Type 0
-    Over i j = IsAbove i.key j.key
+-- the items of a ranking, and what they hold at p
+module _ (h : List Op) (p : Point) (items : List (Placed AnyShape)) (ranked : AreRanked h items) where
+  abbrev is_there : Placed AnyShape → Bool
+  is_there i = any_holds i.shape p
 
-    placed : (v : Version) → IsVisible h v → Contains items (placed_version v)
-    placed v s = (ranked.exactly (placed_version v)).0 (record { version = v; visible = s; placed = refl })
+  placed : (v : Version) → IsVisible h v → Contains items (placed_version v)
+  placed v s = (ranked.exactly (placed_version v)).0 (record { version = v; visible = s; placed = refl })
 
-    by_answer : (r : Option (Placed AnyShape)) → find (λ (i : Placed AnyShape). any_holds i.shape p) items ≡ r → HistoryColour h p (unwrap_or (option_map (λ (i : Placed AnyShape). i.colour) r) white)
-    by_answer (Some i) e =
-        let first = find_first Over (λ j k. above_one_way j.key k.key) (λ (j : Placed AnyShape). any_holds j.shape p) items i ranked.falling e in
-        let member = (ranked.exactly i).1 first.known in
-        let v = member.version in
-        subst (HistoryColour h p) (sym (ap (λ (j : Placed AnyShape). j.colour) member.placed)) (top v (record {
+  -- the first that holds p is the version on top there
+  pub top_found : (i : Placed AnyShape) → find is_there items ≡ Some i → (v : Version) × IsTopAt h p v × (i ≡ placed_version v)
+  top_found i e =
+      let first = find_first (λ (j k : Placed AnyShape). IsAbove j.key k.key) (λ j k. above_one_way j.key k.key) is_there items i ranked.falling e in
+      let member = (ranked.exactly i).1 first.known in
+      let v = member.version in (
+        v,
+        record {
           seen = record {
             visible = member.visible;
             holds = sym (shape_holds v.form v.place p) ∙ (sym (ap (λ (j : Placed AnyShape). any_holds j.shape p) member.placed) ∙ first.passes);
           };
           top = λ w s above. first.highest (placed_version w) (placed w s.visible) (shape_holds w.form w.place p ∙ s.holds)
               (subst (λ (j : Placed AnyShape). IsAbove w.key j.key) (sym member.placed) above);
-        }))
-    by_answer None e = blank (λ v s. find_none (λ (i : Placed AnyShape). any_holds i.shape p) items e (placed_version v) (placed v s.visible) (shape_holds v.form v.place p ∙ s.holds))
+        },
+        member.placed,
+      )
+
+  -- where none holds p, none is seen there
+  pub none_found : find is_there items ≡ None → (v : Version) → ¬ (IsSeenAt h p v)
+  none_found e v s = find_none is_there items e (placed_version v) (placed v s.visible) (shape_holds v.form v.place p ∙ s.holds)
+
+-- the first item of a ranking that holds p has the history's colour
+pub first_gives : (h : List Op) (p : Point) (items : List (Placed AnyShape)) → AreRanked h items → HistoryColour h p (first_colour any_holds items p)
+first_gives h p items ranked = by_answer (find (λ (i : Placed AnyShape). any_holds i.shape p) items) refl
+  where
+    by_answer : (r : Option (Placed AnyShape)) → find (λ (i : Placed AnyShape). any_holds i.shape p) items ≡ r → HistoryColour h p (unwrap_or (option_map (λ (i : Placed AnyShape). i.colour) r) white)
+    by_answer (Some i) e =
+        let found = top_found h p items ranked i e in
+        subst (HistoryColour h p) (sym (ap (λ (j : Placed AnyShape). j.colour) found.2)) (top found.0 found.1)
+    by_answer None e = blank (none_found h p items ranked e)
 
 -- the colour with its reason
 taken_apart : {h : List Op} {p : Point} {c : Rgb} → HistoryColour h p c → ((v : Version) × IsTopAt h p v × (c ≡ v.colour)) ⊎ (((v : Version) → ¬ (IsSeenAt h p v)) × (c ≡ white))

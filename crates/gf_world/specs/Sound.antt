@@ -7,7 +7,6 @@ use Rattle.gf_site.specs.SiteState.{SiteState}
 use Rattle.gf_site.specs.Course.{IsCourse}
 use Rattle.gf_world.specs.World.{WorldState, site_at}
 
--- the sites and the messages of a world
 -- the site x of the number s has a course of messages, with all of its own, and holds messages
 pub record IsSiteOf (messages : List Op) (s : ℕ) (x : SiteState) : Type 0 where
   pub number : x.number ≡ s
