@@ -15,14 +15,14 @@ use Rattle.std.proofs.lemmas.List.Sums.{fold_push}
 use Rattle.std.proofs.lemmas.List.Kept.{IsStrictlySortedBy-filter}
 use Rattle.gf_ops.proofs.ListLemmas.{Contains-cons_cases, Contains-cons_head, Contains-cons_tail, not_Contains-nil}
 use Rattle.gf_groups.specs.Growing.{clashes, groups_at}
-use Rattle.gf_parts.specs.Parts.{PartState, PartsState, products, joined, alone, whole, touches, grown_part, touched, is_calm, with_free, with_part, after, holds, stays, products, full, listed}
+use Rattle.gf_parts.specs.Parts.{PartState, PartsState, united, both, joined_to, joined, alone, whole, touches, grown_part, touched, is_calm, with_free, with_part, after, holds, stays, products, full, listed}
 use Rattle.gf_groups.specs.Tables.{IsRising, IsTable}
 use Rattle.gf_groups.proofs.LargestLemmas.{IsConflict}
 use Rattle.gf_groups.specs.Pairs.{Pairs}
 use Rattle.gf_parts.specs.Parted.{Apart, IsKept, IsPart, AreParts}
 use Rattle.gf_groups.proofs.ListLemmas.{Contains-filter, list_any_true, list_any_false, list_any_from}
 use Rattle.gf_parts.proofs.CountLemmas.{kept_joined, kept_grown, kept_agree}
-use Rattle.gf_parts.proofs.ProductLemmas.{Contains-united, united_rises, table_product, table_alone}
+use Rattle.gf_parts.proofs.ProductLemmas.{Contains-united, united_rises, table_alike, table_product, table_alone}
 use Rattle.gf_groups.proofs.RisingLemmas.{rising_push, rising_nil}
 use Rattle.gf_groups.proofs.SublistLemmas.{Pairs-append, Pairs-filter, Pairs-from}
 use Rattle.gf_groups.proofs.TableLemmas.{table_groups}
@@ -37,6 +37,19 @@ joined_more P p ps q = ap (fold joined p) (filter-append P ps (q ∷ [])) ∙ el
       ap (λ zs. fold joined p (filter P ps ++ zs)) (cond-false (P q) (q ∷ []) [] n)
       ∙ (ap (fold joined p) (append-nil (filter P ps)) ∙ sym (cond-false (P q) (joined (fold joined p (filter P ps)) q) (fold joined p (filter P ps)) n))
 ]
+
+-- what holds of both holds of two as one, if it holds of the second where the first has no place
+joined_is : (p q : PartState) (P : PartState → Type 0) → (p.all ≡ [] → P q) → P (both p q) → P (joined p q)
+joined_is p q P f g = by_places p.all refl
+  where
+    by_places : (us : List ℕ) → p.all ≡ us → P (joined_to us p q)
+    by_places [] e = f e
+    by_places (x ∷ us) e = g
+
+all_of_joined : (p q : PartState) (a : ℕ) → Contains (joined p q).all a ↔ (Contains p.all a ⊎ Contains q.all a)
+all_of_joined p q a = joined_is p q (λ r. Contains r.all a ↔ (Contains p.all a ⊎ Contains q.all a))
+    (λ e. (λ h. inr h, λ h. elim h [ inl i ↦ absurd (not_Contains-nil a (subst (λ us. Contains us a) e i)) | inr i ↦ i ]))
+    (Contains-united p.all q.all a)
 
 module _ (c : ℕ → ℕ → Bool) where
   abbrev AreApart : PartState → PartState → Type 0
@@ -68,21 +81,21 @@ module _ (c : ℕ → ℕ → Bool) where
   all_of_fold p [] a = (λ h. inl h, λ h. elim h [ inl i ↦ i | inr w ↦ absurd (not_Contains-nil w.0 w.1) ])
   all_of_fold p (q ∷ ps) a = (
     λ h. elim ((all_of_fold (joined p q) ps a).0 h) [
-      | inl i ↦ elim ((Contains-united p.all q.all a).0 i) [ inl j ↦ inl j | inr j ↦ inr (in_head q ps a j) ]
+      | inl i ↦ elim ((all_of_joined p q a).0 i) [ inl j ↦ inl j | inr j ↦ inr (in_head q ps a j) ]
       | inr w ↦ inr (in_tail q ps a w)
     ],
     λ h. (all_of_fold (joined p q) ps a).1 (elim h [
-      | inl i ↦ inl ((Contains-united p.all q.all a).1 (inl i))
-      | inr w ↦ elim (in_cases q ps a w) [ inl j ↦ inl ((Contains-united p.all q.all a).1 (inr j)) | inr j ↦ inr j ]
+      | inl i ↦ inl ((all_of_joined p q a).1 (inl i))
+      | inr w ↦ elim (in_cases q ps a w) [ inl j ↦ inl ((all_of_joined p q a).1 (inr j)) | inr j ↦ inr j ]
     ]),
   )
 
   module _ (s : IsConflict c) where
     pub part_joined : (p q : PartState) → IsPart c p → IsPart c q → AreApart p q → IsPart c (joined p q)
-    part_joined p q x y w = record {
+    part_joined p q x y w = joined_is p q (λ r. IsPart c r) (λ e. y) (record {
       rises = united_rises p.all q.all;
       sets = kept_joined c s p.all q.all x.rises y.rises w p.sets q.sets x.sets y.sets;
-    }
+    })
 
     pub part_of_fold : (p : PartState) (ps : List PartState) → IsPart c p → ((q : PartState) → Contains ps q → IsPart c q) →
         ((q : PartState) → Contains ps q → AreApart p q) → Pairs AreApart ps → IsPart c (fold joined p ps)
@@ -91,7 +104,7 @@ module _ (c : ℕ → ℕ → Bool) where
         part_of_fold (joined p q) ps
         (part_joined p q x (ys q (Contains-cons_head q ps)) (ws q (Contains-cons_head q ps)))
         (λ r i. ys r (Contains-cons_tail q ps r i))
-        (λ r i a b h k. elim ((Contains-united p.all q.all a).0 h) [
+        (λ r i a b h k. elim ((all_of_joined p q a).0 h) [
           | inl j ↦ ws r (Contains-cons_tail q ps r i) a b j k
           | inr j ↦ zs.0 r i a b j k
         ])
@@ -118,9 +131,12 @@ module _ (c : ℕ → ℕ → Bool) where
     table_fold p gs (q ∷ ps) x ys ws zs =
         let w = ws q (Contains-cons_head q ps) in
         table_fold (joined p q) (products gs (full c q)) ps
-        (table_product c s p.all q.all w gs (full c q) x (table_full q (ys q (Contains-cons_head q ps))))
+        (table_alike c (united p.all q.all) (joined p q).all (products gs (full c q)) (λ a. (
+          λ h. (all_of_joined p q a).1 ((Contains-united p.all q.all a).0 h),
+          λ h. (Contains-united p.all q.all a).1 ((all_of_joined p q a).0 h),
+        )) (table_product c s p.all q.all w gs (full c q) x (table_full q (ys q (Contains-cons_head q ps)))))
         (λ r i. ys r (Contains-cons_tail q ps r i))
-        (λ r i a b h k. elim ((Contains-united p.all q.all a).0 h) [
+        (λ r i a b h k. elim ((all_of_joined p q a).0 h) [
           | inl j ↦ ws r (Contains-cons_tail q ps r i) a b j k
           | inr j ↦ zs.0 r i a b j k
         ])

@@ -40,9 +40,18 @@ abbrev pub times : Option (List (List ℕ)) → Option (List (List ℕ)) → Opt
 times (Some gs) (Some ks) = kept_products gs ks
 times r s = None
 
--- two parts as one
+-- all places of two parts, and their sets
+abbrev pub both : PartState → PartState → PartState
+both p q = record { all = united p.all q.all; sets = times p.sets q.sets }
+
+-- that of p with the places us, and of q
+abbrev pub joined_to : List ℕ → PartState → PartState → PartState
+joined_to [] p q = q
+joined_to (x ∷ us) p q = both p q
+
+-- two parts as one: the second alone, where the first has no place
 abbrev pub joined : PartState → PartState → PartState
-joined p q = record { all = united p.all q.all; sets = times p.sets q.sets }
+joined p q = joined_to p.all p q
 
 -- x is one of us
 abbrev pub holds : ℕ → List ℕ → Bool

@@ -81,10 +81,14 @@ fn stays(timeline: &Timeline<'_>, place: usize, part: &Part) -> bool
     holds(place, part.all.as_slice()) || !touches(timeline, place, part)
 }
 
-/// Two parts as one. Where the sets of both make too many, none is made.
+/// Two parts as one, a copy of the second where the first has no place. Where the sets of both make
+/// too many, none is made.
 pub fn joined(alloc: Global, part: &Part, other: &Part) -> Result<Part, OutOfMemory>
     ensures { IfOk result (λ both. both ≡ joined part.now other.now) }
 {
+    if part.all.as_slice().is_empty() {
+        return copied_part(alloc, other);
+    }
     let sets = part.sets.times(alloc, &other.sets)?;
     let all = united(alloc, part.all.as_slice(), other.all.as_slice())?;
     Ok(Part { all, sets })
