@@ -1,13 +1,13 @@
 -- The largest sets that show are those that what decides shows, each with every choice of the other parts.
-use Rattle.std.proofs.Common.{◌≡◌, ◌≢◌, ℕ, ◌*◌, ◌+◌, ◌≤◌, ◌<◌, suc, Bool, true, false, List, [], ◌∷◌, length, inl, inr, refl, subst, sym, ap, ◌∙◌, arith}
+use Rattle.std.proofs.Common.{◌≡◌, ◌≢◌, ℕ, ◌*◌, ◌≤◌, ◌<◌, Bool, true, false, List, [], ◌∷◌, length, inl, inr, refl, subst, sym, ◌∙◌, arith}
 use Rattle.std.specs.Prelude.{◌⊎◌, ◌↔◌, AllPairs, Contains, Option, Some, None, filter, not, nat_le, unwrap_or}
-use Rattle.std.specs.List.{list_any, list_all, fold}
+use Rattle.std.specs.List.{list_any, fold}
 use Rattle.std.specs.Ordering.{nat_cmp}
 use Rattle.std.proofs.Math.Nat.{mul-le-mul_right, one-mul}
 use Rattle.std.proofs.lemmas.Bool.{cases_Bool, cond-true, cond-false, and_cases, or_cases, not-true, not-false, not_from_false, leb-true, leb-false}
 use Rattle.std.proofs.lemmas.Cmp.{nat_cmp_total}
 use Rattle.std.proofs.lemmas.List.Kept.{AllPairs-filter}
-use Rattle.gf_ops.proofs.ListLemmas.{Contains-cons_cases, Contains-cons_head, Contains-cons_tail, not_Contains-nil}
+use Rattle.gf_ops.proofs.ListLemmas.{Contains-cons_cases, not_Contains-nil}
 use Rattle.gf_groups.specs.Growing.{groups_at}
 use Rattle.gf_groups.specs.Pairs.{Pairs}
 use Rattle.gf_groups.specs.Tables.{IsLargest, IsRising, IsTable}
@@ -15,13 +15,13 @@ use Rattle.gf_groups.proofs.LargestLemmas.{IsConflict}
 use Rattle.gf_groups.proofs.ListLemmas.{Contains-filter, list_any_true, list_any_false, list_all_true}
 use Rattle.gf_groups.proofs.RisingLemmas.{rising_nil}
 use Rattle.gf_groups.proofs.SublistLemmas.{Pairs-filter}
-use Rattle.gf_parts.specs.Parted.{Apart, number, IsKept, IsPart, AreParts}
-use Rattle.gf_parts.specs.Parts.{PartState, PartsState, most_sets, united, products, joined, alone, whole, full, listed}
+use Rattle.gf_parts.specs.Parted.{Apart, IsKept, AreParts}
+use Rattle.gf_parts.specs.Parts.{PartState, PartsState, most_sets, united, products, alone, whole, full, listed}
 use Rattle.gf_parts.proofs.CountLemmas.{length-products, number_of_table}
 use Rattle.gf_parts.proofs.PartsLemmas.{IsInParts, all_of_fold, table_whole, table_listed}
 use Rattle.gf_parts.proofs.ProductLemmas.{Contains-united, Contains-products_from, Contains-products, products_once, table_product, table_alike}
 use Rattle.gf_shown.specs.Deciding.{shows, each_later, always_later, overruled, may_be_last, decides, deciding, idle, at_most, with_idle, shown_within}
-use Rattle.gf_shown.proofs.LastLemmas.{IsLater, never, Shows, Agree, shows_to, shows_from, IsLate, still_shows, shows_still}
+use Rattle.gf_shown.proofs.LastLemmas.{IsLater, never, Agree, shows_to, shows_from, IsLate, still_shows, shows_still}
 
 -- ---- what each product has
 

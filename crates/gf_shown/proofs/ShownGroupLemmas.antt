@@ -1,10 +1,9 @@
 -- The sets of an object's places that show are the groups of its visible versions.
-use Rattle.std.proofs.Common.{◌≡◌, ◌≢◌, ℕ, Bool, true, false, List, length, map, refl, sym, ap, subst, ◌∙◌}
-use Rattle.std.specs.Prelude.{◌↔◌, All, AllPairs, Contains, slice_get}
+use Rattle.std.proofs.Common.{◌≡◌, ℕ, true, List, length, map, sym, ap, subst}
+use Rattle.std.specs.Prelude.{◌↔◌, All, Contains, slice_get}
 use Rattle.std.proofs.lemmas.List.{length-map}
 use Rattle.std.proofs.lemmas.List.Elements.{All-weaker, All-contains_itself}
 use Rattle.gf_ops.specs.declared.op.Op.{Op}
-use Rattle.gf_ops.specs.declared.op.OpId.{OpId}
 use Rattle.gf_ops.specs.declared.op.ObjectId.{ObjectId}
 use Rattle.gf_ops.specs.declared.change.Attr.TheVariants as attr
 use Rattle.gf_ops.specs.declared.change.Value.TheVariants as value
@@ -23,12 +22,10 @@ use Rattle.gf_groups.proofs.TableLemmas.{conflict_at_test, table_groups}
 use Rattle.gf_groups.proofs.TakingLemmas.{AllPairs-map}
 use Rattle.gf_groups.proofs.VersionLemmas.{version_of_largest}
 use Rattle.gf_shown.specs.ShownAt.{sets_at, shows_at, later_at}
-use Rattle.gf_shown.specs.ShownSets.{is_shown, IsShownSet, AreShownSets, HasMoreSets}
+use Rattle.gf_shown.specs.ShownSets.{IsShownSet, AreShownSets, HasMoreSets}
 use Rattle.gf_shown.specs.ShownVersions.{IsVisibleGroup, AreVisibleOn, HasMoreOn}
 use Rattle.gf_shown.proofs.LastLemmas.{shows_from, shows_to}
 use Rattle.gf_shown.proofs.ShownValueLemmas.{agree_at, from_settled, later_order, shown_once, to_settled}
-use Rattle.gf_versions.specs.declared.key.Version.{Version}
-use Rattle.gf_versions.specs.Ranking.{group_of}
 use Rattle.gf_versions.proofs.SettlingLemmas.{settled_once}
 use Rattle.gf_versions.proofs.VersionLemmas.{some_version}
 

@@ -1,6 +1,6 @@
 -- What the operations at places say of `Shown`: a strict order of setters, which agree where they are compatible, and the settled value.
 use Rattle.std.proofs.Common.{◌≡◌, ◌≢◌, ℕ, Bool, true, false, List, inl, inr, refl, subst, sym, ap, ◌∙◌}
-use Rattle.std.specs.Prelude.{◌⊎◌, ◌↔◌, Contains, Option, Some, None, IsSome, option_map, slice_get}
+use Rattle.std.specs.Prelude.{◌⊎◌, Contains, Option, Some, None, IsSome, option_map, slice_get}
 use Rattle.std.proofs.lemmas.Bool.{cases_Bool, and_parts, and_from}
 use Rattle.gf_ops.specs.declared.op.Op.{Op}
 use Rattle.gf_ops.specs.declared.op.ObjectId.{ObjectId}
@@ -9,7 +9,7 @@ use Rattle.gf_ops.specs.declared.change.Change.TheVariants.{Create, Set}
 use Rattle.gf_ops.specs.declared.change.Value.{Value}
 use Rattle.gf_ops.specs.declared.change.Value.TheVariants as value
 use Rattle.gf_ops.specs.declared.change.Attr.TheVariants as attr
-use Rattle.gf_ops.specs.Attribute.{change_value, given, object_of}
+use Rattle.gf_ops.specs.Attribute.{change_value}
 use Rattle.gf_ops.specs.Conflict.{Conflict}
 use Rattle.gf_ops.specs.OperationOrder.{Precedes}
 use Rattle.gf_ops.specs.SettledValue.{IsSettled}
@@ -23,7 +23,7 @@ use Rattle.gf_groups.specs.VersionList.{is_before}
 use Rattle.gf_groups.proofs.ConflictTestLemmas.{before_decided}
 use Rattle.gf_groups.proofs.IdPlaceLemmas.{Contains-rising_ids}
 use Rattle.gf_groups.proofs.OnPlaceLemmas.{conflict_from, contained_at, on_from}
-use Rattle.gf_shown.specs.ShownAt.{shown_by, shown_value, is_said, is_yes, op_sets, op_shows, op_later, sets_at, shows_at, later_at}
+use Rattle.gf_shown.specs.ShownAt.{shown_by, is_said, is_yes, op_sets, op_shows, op_later, sets_at, shows_at, later_at}
 use Rattle.gf_shown.proofs.LastLemmas.{IsLater, Shows}
 
 -- ---- one operation

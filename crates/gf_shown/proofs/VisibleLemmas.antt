@@ -1,6 +1,6 @@
 -- The groups of the visible versions of some objects, one object after another, and of all.
-use Rattle.std.proofs.Common.{◌≡◌, ◌≢◌, ℕ, ◌+◌, ◌-◌, ◌<◌, ◌≤◌, List, [], ◌∷◌, ◌++◌, length, map, take, get_or, inl, inr, refl, sym, ap, subst, ◌∙◌, arith}
-use Rattle.std.specs.Prelude.{◌⊎◌, ◌↔◌, AllPairs, Contains, IfNone, IfOk, IfSome, Option, Some, None, Result, Ok, Err, option_map}
+use Rattle.std.proofs.Common.{◌≡◌, ◌≢◌, ℕ, ◌-◌, ◌<◌, ◌≤◌, List, [], ◌∷◌, ◌++◌, length, map, take, get_or, inl, inr, refl, sym, ap, subst, ◌∙◌, arith}
+use Rattle.std.specs.Prelude.{◌⊎◌, AllPairs, Contains, IfNone, IfOk, IfSome, Option, Some, None, Result, Ok, Err, option_map}
 use Rattle.std.proofs.lemmas.List.{get_or-take, length-append, length-map, length-take}
 use Rattle.std.proofs.lemmas.List.Elements.{Contains-append_cases, Contains-append_left, Contains-append_right, Contains-push_cases}
 use Rattle.std.proofs.lemmas.Option.{slice_get_read}
@@ -24,7 +24,6 @@ use Rattle.gf_versions.specs.declared.placed.Placed.{Placed}
 use Rattle.gf_versions.specs.Ranking.{AreRanked, AreRankedOf, group_of, placed_version}
 use Rattle.gf_versions.proofs.MakerLemmas.{version_kind}
 use Rattle.gf_versions.proofs.RankedLemmas.{some_ranked}
-use Rattle.gf_versions.proofs.RankingLemmas.{ranked_of_all}
 
 -- ---- who made an object
 

@@ -1,5 +1,5 @@
 -- Which parts decide a value, and the versions that pass a test of their last setter, without multiplying out the others. No public clause cites this module.
-use Rattle.std.specs.Prelude.{ℕ, ◌*◌, Bool, true, false, cond, not, ◌&&◌, ◌||◌, nat_le, List, [], ◌∷◌, length, filter, Option, Some, None}
+use Rattle.std.specs.Prelude.{ℕ, ◌*◌, Bool, false, cond, not, ◌&&◌, ◌||◌, nat_le, List, [], ◌∷◌, length, filter, Option, Some, None}
 use Rattle.std.specs.List.{list_any, list_all, fold}
 use Rattle.gf_parts.specs.Parts.{PartState, PartsState, products, whole}
 

@@ -1,5 +1,5 @@
 use Rattle.std.proofs.Common.{refl}
-use Rattle.gf_shown.proofs.VisibleLemmas.{found_of_one, made_in, makes_one, none_of}
+use Rattle.gf_shown.proofs.VisibleLemmas.{found_of_one, made_in, makes_one}
 use Rattle.gf_shown.proofs.objects.visible_made.Goals as goal
 
 pub visible_groups-requires-clause-made : goal.visible_groups-requires-clause-made

@@ -1,6 +1,5 @@
-use Rattle.std.proofs.Common.{◌≡◌, length, sym, subst, arith}
+use Rattle.std.proofs.Common.{arith}
 use Rattle.gf_shown.proofs.VisibleLemmas.{all_versions, more_visible, ranked_all}
-use Rattle.gf_versions.specs.Ranking.{AreRankedOf}
 use Rattle.gf_shown.proofs.ranking.ranked_within.Goals as goal
 
 pub returns-in_default-clause-more : goal.returns-in_default-clause-more
