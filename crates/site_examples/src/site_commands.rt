@@ -10,10 +10,10 @@ use std::alloc::Global;
 
 /// The operation that the site makes of a change, or why it makes none.
 pub(crate) fn author(alloc: Global, site: &mut Site, text: &str) -> Option<String> {
-    said(alloc, site.author(change(alloc, text)?))
+    said(alloc, &site.author(change(alloc, text)?))
 }
 
-fn said(alloc: Global, answer: Result<Op, AuthorFault>) -> Option<String> {
+fn said(alloc: Global, answer: &Result<Op, AuthorFault>) -> Option<String> {
     match answer {
         Ok(op) => format!(in alloc; "{}", op.id).ok(),
         Err(fault) => format!(in alloc; "{fault}").ok(),
