@@ -1,5 +1,5 @@
 -- A valid history has a ranked list, whether or not it is made.
-use Rattle.std.proofs.Common.{◌≡◌, List, [], ◌∷◌, map, get_or, refl, sym, subst, inl, inr, arith}
+use Rattle.std.proofs.Common.{◌≡◌, List, [], ◌∷◌, map, get_or, sym, subst, inl, inr, arith}
 use Rattle.std.specs.Prelude.{◌⊎◌, ◌↔◌, AllPairs, Contains}
 use Rattle.std.proofs.lemmas.List.Elements.{Contains-get_or}
 use Rattle.std.proofs.lemmas.List.Kept.{AllPairs-cons}
