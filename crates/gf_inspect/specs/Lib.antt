@@ -1,0 +1,4 @@
+pub mod ObjectVersions
+pub mod TopVersion
+pub mod VersionLines
+pub mod Falling

@@ -1,0 +1,65 @@
+//! The versions of one object, topmost first.
+
+ghost use Rattle.std.specs.Prelude.{◌≡◌, ◌↔◌, Contains, Err, IfOk, OnOk};
+ghost use Rattle.std.specs.List.Sorted.{IsPermutation, IsSorted};
+ghost use Rattle.gf_groups.specs.declared.faults.GroupFault.{GroupFault};
+ghost use Rattle.gf_groups.specs.declared.group.Group.{Group};
+ghost use Rattle.gf_groups.specs.Versions.{IsMade, IsVersionGroup};
+ghost use Rattle.gf_versions.specs.ListedVersions.{AreSettled};
+ghost use Rattle.gf_inspect.specs.ObjectVersions.{AreVersionsOf};
+ghost use Rattle.gf_inspect.specs.Falling.{falling_cmp, IsSettledFalling};
+
+use gf_groups::{Group, GroupFault, groups_of};
+use gf_ops::{History, ObjectId};
+use gf_shape::OutOfMemory;
+use gf_versions::{Version, settle};
+use std::alloc::Global;
+
+/// All versions of an object with their settled values, hidden ones too, topmost first.
+pub fn versions(
+    alloc: Global,
+    history: &History,
+    object: ObjectId,
+) -> Result<Vec<Version>, GroupFault>
+    ensures versions { IfOk result (λ versions. AreVersionsOf history.now.ops object versions.items) }
+    ensures no_object { result ≡ Err GroupFault.NoObject ↔ (¬ IsMade history.now.ops object) }
+{
+    // Its clause says that the history is valid.
+    let _ = history.ops();
+    let groups = groups_of(alloc, history, object)?;
+    match settled(alloc, history, groups.as_slice()) {
+        Ok(versions) => Ok(versions),
+        Err(OutOfMemory) => Err(GroupFault::OutOfMemory),
+    }
+}
+
+/// The versions with these groups, each above those after it.
+fn settled(alloc: Global, history: &History, groups: &[Group]) -> Result<Vec<Version>, OutOfMemory>
+    requires { (g : Group) → Contains groups.now g → IsVersionGroup history.now.ops g }
+    ensures { IfOk result (λ versions. IsSettledFalling history.now.ops groups.now versions.items) }
+{
+    let mut versions = in_order(alloc, history, groups)?;
+    sort(&mut versions)?;
+    Ok(versions)
+}
+
+/// The versions with these groups, in the order of these.
+fn in_order(alloc: Global, history: &History, groups: &[Group]) -> Result<Vec<Version>, OutOfMemory>
+    requires { (g : Group) → Contains groups.now g → IsVersionGroup history.now.ops g }
+    ensures { IfOk result (λ versions. AreSettled history.now.ops groups.now versions.items) }
+{
+    let mut versions = Vec::new(alloc);
+    for group in groups {
+        versions.push(settle(alloc, history, group)?)?;
+    }
+    Ok(versions)
+}
+
+/// Puts each version above those after it.
+fn sort(versions: &mut Vec<Version>) -> Result<(), OutOfMemory>
+    ensures moved { IsPermutation versions.old.items versions.new.items }
+    ensures sorted { OnOk result (IsSorted falling_cmp versions.new.items) }
+{
+    versions.sort_by(|v, w| w.key.cmp(&v.key))?;
+    Ok(())
+}

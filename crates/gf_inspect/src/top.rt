@@ -1,0 +1,48 @@
+//! The version on top at a point.
+
+ghost use Rattle.std.specs.Prelude.{◌≡◌, IfOk, find, option_map};
+ghost use Rattle.gf_shape.specs.declared.any_shape.AnyShape.{AnyShape};
+ghost use Rattle.gf_shape.specs.ShapeMeaning.{any_holds};
+ghost use Rattle.gf_versions.specs.declared.placed.Placed.{Placed};
+ghost use Rattle.gf_inspect.specs.TopVersion.{NamesTop, name_of};
+
+use gf_groups::Ids;
+use gf_ops::{History, ObjectId};
+use gf_shape::{AnyShape, OutOfMemory, Point, Shape};
+use gf_versions::{Ranked, ranked};
+use std::alloc::Global;
+
+/// The name of a version: its object, and the ids of its operations, rising.
+#[derive(Debug, Drop)]
+pub struct VersionName {
+    pub object: ObjectId,
+    pub ops: Ids,
+}
+
+/// The name of the version that is on top at a point: a visible one that holds the point, above each other
+/// such one. None where no visible version holds it, and the history means white.
+pub fn top_at(
+    alloc: Global,
+    history: &History,
+    point: Point,
+) -> Result<Option<VersionName>, OutOfMemory>
+    ensures { IfOk result (λ name. NamesTop history.now.ops point name) }
+{
+    let ranked = ranked(alloc, history)?;
+    Ok(first_name(ranked, point))
+}
+
+/// The name of the first of the ranked versions that holds the point.
+fn first_name(ranked: Ranked<AnyShape>, point: Point) -> Option<VersionName>
+    ensures { result ≡ option_map name_of (find (λ (i : Placed AnyShape). any_holds i.shape point) ranked.items.items) }
+{
+    for item in ranked.items {
+        if item.shape.holds(point) {
+            return Some(VersionName {
+                object: item.key.object,
+                ops: item.key.ops,
+            });
+        }
+    }
+    None
+}
