@@ -1,7 +1,7 @@
 -- The FIG text of what some bytes draw shows the history that they denote.
 use Rattle.std.specs.Prelude.{Option}
 use Rattle.std.specs.Io.KnownBytes.{Appends}
-use Rattle.std.proofs.Common.{ℕ, List, sym, subst}
+use Rattle.std.proofs.Common.{ℕ, List, subst}
 use Rattle.gf_shape.specs.declared.any_shape.AnyShape.{AnyShape}
 use Rattle.gf_shape.specs.Outlines.{any_outline}
 use Rattle.gf_drawing.specs.DrawingState.{DrawingState}

@@ -108,6 +108,7 @@ module _ (bytes : List ℕ) (n : ℕ) (line : List ℕ) (left : List (ℕ × Lis
   RefusesText-line studio.TooLong refused = absurd refused
   RefusesText-line (studio.Fig e) refused = absurd refused
   RefusesText-line (studio.Compile fault) refused = absurd refused
+  RefusesText-line (studio.NoObject o) refused = absurd refused
   RefusesText-line studio.WriteFailed refused = absurd refused
 
 -- what holds of the bytes that were read holds of those that were left before

@@ -1,5 +1,5 @@
 -- An input that denotes a history has no line at fault and drops nothing, and one with a drawing is not refused.
-use Rattle.std.specs.Prelude.{Contains, Ok, Err}
+use Rattle.std.specs.Prelude.{Contains, Ok}
 use Rattle.std.proofs.Common.{◌≡◌, ℕ, List, [], ◌∷◌, ◌++◌, map, length, arith, refl, sym, ap, subst, ◌∙◌, append_assoc}
 use Rattle.std.proofs.lemmas.List.{map-append}
 use Rattle.std.proofs.lemmas.List.Elements.{Contains-append_left, Contains-push}

@@ -52,7 +52,7 @@ pub(crate) fn drawing_of_fig<R: Source>(
 }
 
 /// All bytes of a source.
-fn input<R: Source>(alloc: Global, source: &mut R) -> Result<Vec<u8>, StudioError>
+pub(crate) fn input<R: Source>(alloc: Global, source: &mut R) -> Result<Vec<u8>, StudioError>
     ensures ok { IfOk result (λ bytes. IfSome (R.left source.old) (λ all. bytes.items ≡ all)) }
     ensures source { ReadsFor MOST_INPUT_BYTES (R.left source.old) (R.left source.new) (R.failures source.old) (R.failures source.new) result }
     ensures refused { IfErr result IsOfInput }

@@ -1,10 +1,11 @@
 //! Whole runs over bytes: from the lines of an input to a history, its drawing, and the drawing's text
-//! or picture, and from FIG text to a picture.
+//! or picture, from such lines to the lines of versions, and from FIG text to a picture.
 //!
 //! - [`fig_run`]: reads operation lines and writes the FIG text of their drawing; [`StudioError`] with
 //!   [`LineCause`] tells why not.
 //! - [`paint_run`]: reads operation lines and writes the picture of their drawing in a [`Window`].
 //! - [`repaint_run`]: reads a FIG text and writes the picture of the drawing that it reads as.
+//! - [`inspect_run`]: reads operation lines and writes what their history answers to a [`Query`].
 //! - [`the_same_operations_draw_alike`], [`the_same_histories_draw_alike`]: the laws that neither order
 //!   nor repeats change a drawing.
 //! - [`what_denotes_a_history_is_not_refused`]: the law that a success rules a refusal out.
@@ -18,6 +19,7 @@
 
 mod drawings;
 mod laws;
+mod looks;
 mod reading;
 mod runs;
 mod studio_error;
@@ -30,5 +32,6 @@ pub use laws::{
     a_text_is_repainted_as_its_history_is_painted, the_same_histories_draw_alike,
     the_same_operations_draw_alike, what_denotes_a_history_is_not_refused,
 };
+pub use looks::{Query, inspect_run};
 pub use runs::{fig_run, paint_run, repaint_run};
 pub use studio_error::{LineCause, StudioError};

@@ -6,7 +6,7 @@ ghost use Rattle.gf_studio.specs.Refusals.{of_input, of_compile, of_fig, of_writ
 use gf_bytes::{InputError, WriteError};
 use gf_drawing::CompileFault;
 use gf_fig_read::{FigError, FigFault};
-use gf_ops::{OpFault, OpId};
+use gf_ops::{ObjectId, OpFault, OpId};
 use thiserror::Error;
 
 /// What is wrong with a line.
@@ -47,6 +47,9 @@ pub enum StudioError {
     /// The history has no drawing.
     #[error("export refused: {0}")]
     Compile(CompileFault),
+    /// The history has no such object.
+    #[error("no object {}", .0.0)]
+    NoObject(ObjectId),
     /// The sink failed before it had all the bytes, or as it was flushed.
     #[error("write failed")]
     WriteFailed,

@@ -1,0 +1,122 @@
+//! From the bytes of operation lines to the lines of versions.
+
+ghost use Rattle.std.specs.Prelude.{◌≡◌, ◌≢◌, ◌+◌, ◌≤◌, ◌⊎◌, Err, IfSome, IfOk, IfErr, OnOk, IsTrue};
+ghost use Rattle.gf_bytes.specs.Counts.{Rises};
+ghost use Rattle.gf_bytes.specs.Reads.{ConsumesAtMost};
+ghost use Rattle.gf_studio.specs.InspectRun.{Looks, Tells, TellsTop, TellsVersions, WritesLook, WritesLookFront};
+ghost use Rattle.gf_studio.specs.LineSteps.{RefusesAsking, RefusesQuery};
+ghost use Rattle.gf_studio.specs.RunAnswers.{ReadsFor, RefusesLook};
+
+use crate::StudioError;
+use crate::drawings::input;
+use crate::reading::read_history;
+use gf_bytes::{MOST_INPUT_BYTES, Sink, SinkFault, Source, write_whole};
+use gf_groups::GroupFault;
+use gf_inspect::{lines, top_at, top_line, versions};
+use gf_ops::{History, ObjectId};
+use gf_shape::{OutOfMemory, Point};
+use std::alloc::Global;
+
+/// What is asked of a history.
+#[derive(Clone, Copy, Debug, PartialEq, Eq)]
+pub enum Query {
+    /// The versions of this object, hidden ones too, topmost first.
+    Object(ObjectId),
+    /// The version on top at this point.
+    At(Point),
+}
+
+/// Reads operation lines to their end, and writes what their history answers to a query: a line for
+/// each version of an object, or the line of the version on top at a point. It reads all before the
+/// first write.
+pub fn inspect_run<R: Source, W: Sink>(
+    alloc: Global,
+    source: &mut R,
+    sink: &mut W,
+    query: Query,
+) -> Result<(), StudioError>
+    // What is written answers the query about the history that the bytes denote.
+    ensures tells { OnOk result (IfSome (R.left source.old) (λ bytes. WritesLook bytes query (W.taken sink.old) (W.taken sink.new))) }
+    ensures flushed { OnOk result (IsTrue (W.flushed sink.new)) }
+
+    // As of `fig_run`, with an object that the history has not in place of a drawing.
+    ensures source { ReadsFor MOST_INPUT_BYTES (R.left source.old) (R.left source.new) (R.failures source.old) (R.failures source.new) result }
+    ensures refused { IfErr result (λ e. IfSome (R.left source.old) (λ bytes. RefusesLook query bytes e)) }
+
+    // A front of the text is written at most, and that only where the sink failed.
+    ensures front { result ≡ Err StudioError.WriteFailed → IfSome (R.left source.old) (λ bytes. WritesLookFront bytes query (W.taken sink.old) (W.taken sink.new)) }
+    ensures failed { result ≡ Err StudioError.WriteFailed → Rises (W.failures sink.old) (W.failures sink.new) }
+    ensures unwritten { IfErr result (λ e. (sink.new ≡ sink.old) ⊎ (e ≡ StudioError.WriteFailed)) }
+
+    ensures takes { ConsumesAtMost (MOST_INPUT_BYTES + 1) (R.left source.old) (R.left source.new) }
+    ensures reads { R.reads source.new ≤ R.reads source.old + (MOST_INPUT_BYTES + 1) }
+{
+    let text = look_at_lines(alloc, source, query)?;
+    match write_whole(sink, &text) {
+        Ok(()) => Ok(()),
+        Err(SinkFault) => Err(StudioError::WriteFailed),
+    }
+}
+
+/// The text that answers a query about the history that the lines of a source denote.
+fn look_at_lines<R: Source>(
+    alloc: Global,
+    source: &mut R,
+    query: Query,
+) -> Result<Vec<u8>, StudioError>
+    ensures ok { IfOk result (λ text. IfSome (R.left source.old) (λ bytes. Looks bytes query text.items)) }
+    ensures source { ReadsFor MOST_INPUT_BYTES (R.left source.old) (R.left source.new) (R.failures source.old) (R.failures source.new) result }
+    ensures refused { IfErr result (λ e. IfSome (R.left source.old) (λ bytes. RefusesLook query bytes e)) }
+    ensures no_write { IfErr result (λ e. e ≢ StudioError.WriteFailed) }
+    ensures takes { ConsumesAtMost (MOST_INPUT_BYTES + 1) (R.left source.old) (R.left source.new) }
+    ensures reads { R.reads source.new ≤ R.reads source.old + (MOST_INPUT_BYTES + 1) }
+{
+    let bytes = input(alloc, source)?;
+    look(alloc, &bytes, query)
+}
+
+/// The text that answers a query about the history that these bytes denote.
+fn look(alloc: Global, bytes: &[u8], query: Query) -> Result<Vec<u8>, StudioError>
+    ensures ok { IfOk result (λ text. Looks bytes.now query text.items) }
+    ensures err { IfErr result (RefusesAsking query bytes.now) }
+{
+    let history = read_history(alloc, bytes)?;
+    tell(alloc, history.history(), query)
+}
+
+/// The text that answers a query about a history.
+fn tell(alloc: Global, history: &History, query: Query) -> Result<Vec<u8>, StudioError>
+    ensures ok { IfOk result (λ text. Tells history.now.ops query text.items) }
+    ensures err { IfErr result (RefusesQuery history.now.ops query) }
+{
+    match query {
+        Query::Object(object) => tell_versions(alloc, history, object),
+        Query::At(point) => match tell_top(alloc, history, point) {
+            Ok(text) => Ok(text),
+            Err(OutOfMemory) => Err(StudioError::OutOfMemory),
+        },
+    }
+}
+
+/// The lines of the versions of an object.
+fn tell_versions(alloc: Global, history: &History, object: ObjectId) -> Result<Vec<u8>, StudioError>
+    ensures ok { IfOk result (λ text. TellsVersions history.now.ops object text.items) }
+    ensures err { IfErr result (RefusesQuery history.now.ops (Query.Object object)) }
+{
+    match versions(alloc, history, object) {
+        Ok(versions) => match lines(alloc, versions.as_slice()) {
+            Ok(text) => Ok(text),
+            Err(OutOfMemory) => Err(StudioError::OutOfMemory),
+        },
+        Err(GroupFault::NoObject) => Err(StudioError::NoObject(object)),
+        Err(GroupFault::OutOfMemory) => Err(StudioError::OutOfMemory),
+    }
+}
+
+/// The line of the version on top at a point.
+fn tell_top(alloc: Global, history: &History, point: Point) -> Result<Vec<u8>, OutOfMemory>
+    ensures { IfOk result (λ text. TellsTop history.now.ops point text.items) }
+{
+    let name = top_at(alloc, history, point)?;
+    top_line(alloc, point, name.as_ref())
+}
