@@ -4,11 +4,11 @@ ghost use Rattle.std.specs.Prelude.{◌≡◌, ◌≤◌, ◌⊎◌, IfSome, IfE
 ghost use Rattle.gf_command.specs.Outputs.{Answers, AnswersFront};
 ghost use Rattle.gf_command.specs.declared.asking.Run.{Run};
 
-use crate::asking::{Canvas, Run, parse};
+use crate::asking::{Asked, Canvas, QueryFault, Run, parse};
 use clap::Error;
 use clap::error::ErrorKind;
 use gf_bytes::{Sink, Source, write_whole};
-use gf_studio::{OpenGate, StudioError, fig_run, paint_run, repaint_run};
+use gf_studio::{OpenGate, StudioError, fig_run, inspect_run, paint_run, repaint_run};
 use std::alloc::Global;
 use std::io;
 use std::thread::Threads;
@@ -40,10 +40,11 @@ pub fn command<T: Threads + Sync, R: Source, W: Sink, E: Sink>(
     ensures mistake { result ≡ 2 → (source.new ≡ source.old) × (output.new ≡ output.old) }
 {
     match parse(alloc, words) {
-        Ok(run) => match answer(rt, alloc, run, source, output) {
+        Ok(Asked::Run(run)) => match answer(rt, alloc, run, source, output) {
             Ok(()) => 0,
             Err(error) => refuse(alloc, error, faults),
         },
+        Ok(Asked::Mistake(fault)) => mistake(fault, faults),
         Err(error) if error.kind() == ErrorKind::OutOfMemory => {
             refuse(alloc, StudioError::OutOfMemory, faults)
         }
@@ -83,6 +84,7 @@ fn answer<T: Threads + Sync, R: Source, W: Sink>(
             let Canvas { window, workers } = canvas;
             repaint_run(rt, alloc, source, output, window, workers, &OpenGate)
         }
+        Run::Inspect(query) => inspect_run(alloc, source, output, query),
     }
 }
 
@@ -109,6 +111,17 @@ fn refuse<E: Sink>(alloc: Global, error: StudioError, faults: &mut E) -> u8
         Err(_) => write_whole(faults, b"figgroup: out of memory\n"),
     };
     1
+}
+
+/// Tells why the options ask for nothing, and answers the status.
+fn mistake<E: Sink>(fault: QueryFault, faults: &mut E) -> u8
+    ensures { result ≡ 2 }
+{
+    let _ = match fault {
+        QueryFault::NotOne => write_whole(faults, b"figgroup: give --object or --at\n"),
+        QueryFault::Unreadable => write_whole(faults, b"figgroup: bad object or point\n"),
+    };
+    2
 }
 
 /// Writes what clap says.

@@ -2,10 +2,11 @@
 
 ghost use Rattle.std.specs.Prelude.{◌≤◌};
 
+use crate::querying::{object_query, point_query};
 use clap::builder::ValueParser;
 use clap::error::ErrorKind;
 use clap::{Arg, ArgMatches, Command, Error};
-use gf_studio::Window;
+use gf_studio::{Query, Window};
 use std::alloc::{AllocError, Global};
 
 /// What the words ask for.
@@ -17,6 +18,23 @@ pub enum Run {
     Paint(Canvas),
     /// The picture of a FIG text.
     Repaint(Canvas),
+    /// What a history answers to a query.
+    Inspect(Query),
+}
+
+/// What a command line that clap took asks for.
+pub(crate) enum Asked {
+    Run(Run),
+    Mistake(QueryFault),
+}
+
+/// Why the options of `inspect` ask for nothing, in the order of the checks.
+#[derive(Clone, Copy)]
+pub(crate) enum QueryFault {
+    /// Neither an object nor a point is given, or both are.
+    NotOne,
+    /// The text is no object, or no point.
+    Unreadable,
 }
 
 /// The window of a picture, and how many workers paint it.
@@ -28,22 +46,35 @@ pub struct Canvas {
 }
 
 /// Reads the words, the first of which is the program's name.
-pub(crate) fn parse(alloc: Global, words: &[String]) -> Result<Run, Error> {
+pub(crate) fn parse(alloc: Global, words: &[String]) -> Result<Asked, Error> {
     let matches = program(alloc)?.try_get_matches_from(words)?;
-    match asked(&matches) {
-        Some(run) => Ok(run),
+    match read_matches(&matches) {
+        Some(asked) => Ok(asked),
         None => Err(out_of_range(alloc)?),
     }
 }
 
-/// What a command line that clap took asks for.
-fn asked(matches: &ArgMatches<'_>) -> Option<Run> {
+fn read_matches(matches: &ArgMatches<'_>) -> Option<Asked> {
     let (name, matches) = matches.subcommand()?;
     match name {
-        "fig" => Some(Run::Fig),
-        "paint" => Some(Run::Paint(canvas_of(matches)?)),
-        "repaint" => Some(Run::Repaint(canvas_of(matches)?)),
+        "fig" => Some(Asked::Run(Run::Fig)),
+        "paint" => Some(Asked::Run(Run::Paint(canvas_of(matches)?))),
+        "repaint" => Some(Asked::Run(Run::Repaint(canvas_of(matches)?))),
+        "inspect" => Some(inspected(matches.get_str("object"), matches.get_str("at"))),
         _ => None,
+    }
+}
+
+/// The query that one of the two options asks for.
+fn inspected(object: Option<&str>, at: Option<&str>) -> Asked {
+    let query = match (object, at) {
+        (Some(text), None) => object_query(text),
+        (None, Some(text)) => point_query(text),
+        _ => return Asked::Mistake(QueryFault::NotOne),
+    };
+    match query {
+        Some(query) => Asked::Run(Run::Inspect(query)),
+        None => Asked::Mistake(QueryFault::Unreadable),
     }
 }
 
@@ -85,12 +116,39 @@ fn program<'a>(alloc: Global) -> Result<Command<'a>, AllocError> {
         "paint",
         "Read operation lines from standard input and write a picture of their drawing, as raw PPM",
     )?;
-    with_picture(
+    let program = with_picture(
         alloc,
         program,
         "repaint",
         "Read a FIG text from standard input and write a picture of its drawing, as raw PPM",
-    )
+    )?;
+    with_inspect(alloc, program)
+}
+
+/// The program with the command that tells the versions of an object, or the one on top at a point.
+fn with_inspect<'a>(alloc: Global, program: Command<'a>) -> Result<Command<'a>, AllocError> {
+    let command = Command::new(alloc, "inspect").about(
+        "Read operation lines from standard input and write the versions of an object, or what is on top at a point",
+    );
+    let command = with_query(alloc, command)?;
+    program.subcommand(command)
+}
+
+/// The command with the options of a query.
+fn with_query<'a>(alloc: Global, command: Command<'a>) -> Result<Command<'a>, AllocError> {
+    command
+        .arg(text(
+            alloc,
+            "object",
+            "SITE.SEQ",
+            "Tell the versions of this object, hidden ones too, topmost first",
+        ))?
+        .arg(text(
+            alloc,
+            "at",
+            "X,Y",
+            "Tell the version on top at this point, as --at=-5,7",
+        ))
 }
 
 /// The program with one command more, which writes a picture.
@@ -165,4 +223,9 @@ fn count<'a>(alloc: Global, name: &'a str, default: &'a str, most: u64, help: &'
         .help(help)
         .default_value(default)
         .value_parser(ValueParser::unsigned(1, most))
+}
+
+/// An option for a text of this form.
+fn text<'a>(alloc: Global, name: &'a str, form: &'a str, help: &'a str) -> Arg<'a> {
+    Arg::new(alloc, name).long(name).value_name(form).help(help)
 }

@@ -3,6 +3,7 @@
 
 mod answering;
 mod asking;
+mod querying;
 
 pub use answering::{command, refuse_words};
 pub use asking::{Canvas, Run};
