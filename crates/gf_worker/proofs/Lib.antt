@@ -1,0 +1,11 @@
+pub mod PeerLemmas
+pub mod CourseLemmas
+pub mod TurnLemmas
+pub mod HearLemmas
+pub mod StepLemmas
+pub mod PlayLemmas
+pub mod TellLemmas
+pub mod AwaitLemmas
+pub mod AuthorLemmas
+pub mod ThroughLemmas
+pub mod EndLemmas

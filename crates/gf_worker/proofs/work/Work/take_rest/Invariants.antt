@@ -1,0 +1,5 @@
+use Rattle.gf_worker.specs.Working.{Continues}
+use Rattle.gf_worker.proofs.work.Work.take_rest.Given as goal
+
+abbrev pub invariant-loop : goal.invariant-loop
+invariant-loop g l = Continues l.initial.self l.self

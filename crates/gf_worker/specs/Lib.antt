@@ -1,0 +1,9 @@
+pub mod Messages
+pub mod Peers
+pub mod Coming
+pub mod Turns
+pub mod Played
+pub mod Ending
+pub mod Working
+pub mod Telling
+pub mod Playing

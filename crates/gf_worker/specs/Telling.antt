@@ -1,0 +1,27 @@
+-- No public clause cites this module. What a sending to all peers changes.
+use Rattle.std.specs.Prelude.{◌≡◌, ◌<◌, ◌≤◌, ℕ, Bool, true, List, ◌++◌, map, take, drop, length, Contains, IsFalse}
+use Rattle.gf_ops.specs.declared.op.Op.{Op}
+use Rattle.gf_link.specs.Ends.{is_ended}
+use Rattle.gf_link.specs.declared.message.Message.TheVariants as message
+use Rattle.gf_worker.specs.declared.peer.Peer.{Peer}
+use Rattle.gf_worker.specs.Peers.{with_message}
+
+-- the link to the peer takes one more message
+pub record IsOpen (p : Peer) : Type 0 where
+  pub still : IsFalse (is_ended p.send.sent)
+  pub room : length p.send.sent < 1024
+
+-- so for each of the peers
+abbrev pub AreOpen : List Peer → Type 0
+AreOpen peers = (p : Peer) → Contains peers p → IsOpen p
+
+-- the first n peers were sent the operation
+abbrev pub sent_first : Op → ℕ → List Peer → List Peer
+sent_first a n peers = map (with_message (message.Op a)) (take n peers) ++ drop n peers
+
+-- the first peers were sent the operation, and all of them if nothing was refused
+pub record Tells (a : Op) (all : Bool) (old new : List Peer) : Type 0 where
+  pub reached : ℕ
+  pub within : reached ≤ length old
+  pub now : new ≡ sent_first a reached old
+  pub whole : all ≡ true → reached ≡ length old

@@ -1,0 +1,41 @@
+//! What a worker answers to a command that waits.
+
+ghost use Rattle.std.specs.Prelude.{◌≡◌, false};
+ghost use Rattle.gf_ops.specs.Limits.{is_id};
+ghost use Rattle.gf_worker.specs.Peers.{ArePlaced};
+ghost use Rattle.gf_worker.specs.Working.{Continues, Judges};
+
+use crate::Cause;
+use crate::waiting::Waited;
+use crate::work::Work;
+use gf_link::Link;
+use gf_ops::OpId;
+use std::sync::Wait;
+
+/// Whether the id names one of the first 10,000 operations of a site.
+fn is_id(id: OpId) -> bool
+    ensures { result ≡ is_id id }
+{
+    (1..=8).contains(&id.site) && 1 <= id.seq && id.seq <= 10_000
+}
+
+impl Work {
+    /// Waits for the operation under the id, and tells why that is refused, if it is.
+    pub(crate) fn judge<R: Wait>(&mut self, rt: &R, links: &[Link], id: OpId) -> Option<Cause>
+        requires { ArePlaced links.now self.old.peers.items }
+        ensures continues { Continues self.old self.new }
+        ensures judges { self.new.short ≡ false → Judges id self.new result }
+    {
+        if !is_id(id) {
+            return Some(Cause::Range);
+        }
+        if id.site == self.site.number() {
+            return Some(Cause::OwnId);
+        }
+        match self.wait_for(rt, links, id) {
+            Waited::Came => return None,
+            Waited::Never => return Some(Cause::NeverComes),
+            Waited::Short => return None,
+        }
+    }
+}

@@ -1,0 +1,35 @@
+//! What a site's commands came to.
+
+use gf_ops::OpId;
+
+/// Why a command was refused, in the order of the checks. The first four are of an Author, Range and
+/// the last two of an Await.
+#[derive(Clone, Copy, Debug, PartialEq, Eq)]
+pub enum Cause {
+    /// The site made 10,000 operations.
+    Exhausted,
+    /// The change breaks a limit, or the id that was waited for does.
+    Range,
+    /// It changes an object that the site doesn't have.
+    NoObject,
+    /// Its value doesn't suit the object's kind.
+    WrongKind,
+    /// The site waited for an operation of its own.
+    OwnId,
+    /// Every peer ended, and the operation that was waited for had not come.
+    NeverComes,
+}
+
+/// A refused command, by its number from 1.
+#[derive(Clone, Copy, Debug, PartialEq, Eq)]
+pub struct Refused {
+    pub command: u32,
+    pub cause: Cause,
+}
+
+/// The ids of the operations that a site made, and its refused commands, both in order.
+#[derive(Debug, Drop)]
+pub struct Report {
+    pub accepted: Vec<OpId>,
+    pub refused: Vec<Refused>,
+}

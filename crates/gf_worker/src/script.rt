@@ -1,0 +1,7 @@
+//! What a site is to do.
+
+use gf_json::Command;
+
+/// The commands of one site, in turn.
+#[derive(Debug, Drop)]
+pub struct Script(pub Vec<Command>);
