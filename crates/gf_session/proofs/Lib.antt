@@ -1,0 +1,3 @@
+pub mod JoinedLemmas
+pub mod HalfLemmas
+pub mod SessionLemmas

@@ -1,0 +1,5 @@
+pub mod Outcome
+pub mod Joined
+pub mod Starting
+pub mod Session
+pub mod Pair

@@ -1,0 +1,20 @@
+-- What a session gives for its scripts (this project's choice).
+use Rattle.std.specs.Prelude.{◌≡◌, List, [], ◌∷◌, length}
+use Rattle.gf_worker.specs.declared.script.Script.{Script}
+use Rattle.gf_session.specs.declared.session.Done.{Done}
+use Rattle.gf_session.specs.Outcome.{Place, IsOutcome}
+
+-- a script with what its site came to
+abbrev pub place_of : Script → Done → Place
+place_of s d = record { number = d.site.number; script = s.0.items; ops = d.site.ops; report = d.report }
+
+-- each script with what its site came to
+abbrev pub places : List Script → List Done → List Place
+places [] ds = []
+places (s ∷ ss) [] = []
+places (s ∷ ss) (d ∷ ds) = place_of s d ∷ places ss ds
+
+-- for each script there is what its site came to, and all these are an outcome
+pub record IsSession (scripts : List Script) (dones : List Done) : Type 0 where
+  pub long : length dones ≡ length scripts
+  pub outcome : IsOutcome (places scripts dones)
