@@ -7,13 +7,12 @@
 #![tactic(auto)]
 
 mod bands;
-mod gate;
 mod painting;
 mod ppm;
 mod shares;
 mod tiles;
 
-pub use gate::{Gate, OpenGate};
+pub use gf_gate::{Gate, OpenGate};
 pub use gf_window::Window;
 pub use painting::{Raster, paint};
 pub use ppm::ppm_to;
