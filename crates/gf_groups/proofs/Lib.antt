@@ -1,5 +1,6 @@
 pub mod AllGroupLemmas
 pub mod ConflictTestLemmas
+pub mod ExposedLemmas
 pub mod ExtendingLemmas
 pub mod GroupLemmas
 pub mod GrowingLemmas

@@ -1,5 +1,5 @@
 -- The groups of an object's operations, as lists of places in the history, when one operation comes. No public clause cites this module.
-use Rattle.std.specs.Prelude.{ℕ, Bool, false, cond, not, ◌&&◌, ◌||◌, ◌==◌, List, [], ◌∷◌, ◌++◌, filter, map, Option, Some, slice_get}
+use Rattle.std.specs.Prelude.{ℕ, Bool, false, cond, not, ◌&&◌, ◌||◌, ◌==◌, List, [], ◌∷◌, ◌++◌, filter, map, Option, Some, None, slice_get}
 use Rattle.std.specs.List.{list_any, list_all, fold}
 use Rattle.std.specs.Cmp.Lexicographic.{pointwise}
 use Rattle.gf_ops.specs.declared.op.Op.{Op}
@@ -51,6 +51,11 @@ module _ (c : ℕ → ℕ → Bool) where
   -- each of us is in the group or conflicts with one of it
   abbrev pub covers : List ℕ → List ℕ → Bool
   covers us g = list_all (is_covered g) us
+
+  -- the group leaves this place, if there is one, uncovered
+  abbrev pub leaves : Option ℕ → List ℕ → Bool
+  leaves (Some a) g = not (is_covered g a)
+  leaves None g = false
 
   -- those of us that conflict with x
   abbrev pub rivals : List ℕ → ℕ → List ℕ

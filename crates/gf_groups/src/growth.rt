@@ -1,9 +1,10 @@
 //! The largest groups without a conflict, grown one operation at a time.
 
-ghost use Rattle.std.specs.Prelude.{◌≡◌, map, IfOk, OnOk};
+ghost use Rattle.std.specs.Prelude.{◌≡◌, ◌&&◌, map, filter, find, not, reverse, option_copied, Contains, IfOk, IfSome, OnOk};
+ghost use Rattle.std.specs.List.{list_any};
 ghost use Rattle.std.specs.List.Sorted.{IsStrictlySortedBy};
 ghost use Rattle.std.specs.Ordering.{nat_cmp};
-ghost use Rattle.gf_groups.specs.Growing.{conflict_at, same_group, take_up, pushed, clashes, step, part, parts, is_covered, covers};
+ghost use Rattle.gf_groups.specs.Growing.{conflict_at, same_group, take_up, pushed, clashes, step, part, parts, is_covered, covers, leaves};
 ghost use Rattle.gf_groups.specs.Growing.{rivals, exposed, largest_of, next, groups_at};
 
 use crate::conflict::conflict_at;
@@ -97,6 +98,58 @@ fn exposed(
     Ok(exposed)
 }
 
+/// The last of these places whose operation does not conflict with the one at a place.
+fn last_calm<'a>(timeline: &Timeline<'_>, places: &'a [usize], place: usize) -> Option<&'a usize>
+    ensures { option_copied result ≡ find (λ other. not (conflict_at timeline.now other place)) (reverse places.now) }
+{
+    places
+        .iter()
+        .rev()
+        .find(|other| !conflict_at(timeline, **other, place))
+}
+
+/// Whether the operation at a place conflicts with a rival of another one.
+fn meets_rival(timeline: &Timeline<'_>, places: &[usize], place: usize, other: usize) -> bool
+    ensures { result ≡ list_any (λ rival. conflict_at timeline.now place rival && conflict_at timeline.now other rival) places.now }
+{
+    places.iter().any(|rival| conflict_at(timeline, place, *rival)
+        && conflict_at(timeline, other, *rival))
+}
+
+/// One of those that a part may leave uncovered, if the last one that does not conflict with the
+/// operation at the place is one. Mostly it is what that one's site did before.
+fn last_exposed(timeline: &Timeline<'_>, places: &[usize], place: usize) -> Option<usize>
+    ensures { IfSome result (λ found. Contains (exposed (conflict_at timeline.now) places.now place) found) }
+{
+    match last_calm(timeline, places, place) {
+        Some(other) => {
+            if meets_rival(timeline, places, place, *other) {
+                Some(*other)
+            } else {
+                None
+            }
+        }
+        None => None,
+    }
+}
+
+/// Whether the part leaves this place uncovered, where there is one.
+fn leaves(timeline: &Timeline<'_>, one: Option<usize>, part: &[usize]) -> bool
+    ensures { result ≡ leaves (conflict_at timeline.now) one part.now }
+{
+    match one {
+        Some(place) => !is_covered(timeline, part, place),
+        None => false,
+    }
+}
+
+/// Drops the parts that leave this place uncovered, where there is one.
+fn drop_short(timeline: &Timeline<'_>, one: Option<usize>, parts: &mut Vec<Places>)
+    ensures { parts.new.items ≡ filter (λ g. not (leaves (conflict_at timeline.now) one g)) parts.old.items }
+{
+    parts.retain(|part| !leaves(timeline, one, part.as_slice()));
+}
+
 /// Takes up a part that covers these places, unless it is there.
 fn take_up(
     timeline: &Timeline<'_>,
@@ -150,6 +203,41 @@ fn join(
     Ok(parts)
 }
 
+/// Those of the parts that are largest groups of these places and one more, each once.
+fn largest_parts(
+    alloc: Global,
+    timeline: &Timeline<'_>,
+    places: &[usize],
+    place: usize,
+    parts: Vec<Places>,
+) -> Result<IndexSet<Places>, OutOfMemory>
+    ensures { IfOk result (λ largest. largest.keys ≡ largest_of (conflict_at timeline.now) (exposed (conflict_at timeline.now) places.now place) parts.items) }
+{
+    if parts.is_empty() {
+        return Ok(IndexSet::new(alloc));
+    }
+    let exposed = exposed(alloc, timeline, places, place)?;
+    largest_of(alloc, timeline, &exposed, parts)
+}
+
+/// Adds a place to each group that its operation does not conflict with; the groups that the others
+/// give. Only where a part covers the one place that is tried first, it looks at all.
+fn joined_parts(
+    alloc: Global,
+    timeline: &Timeline<'_>,
+    places: &[usize],
+    place: usize,
+    groups: &mut Vec<Places>,
+) -> Result<IndexSet<Places>, OutOfMemory>
+    ensures groups { OnOk result (groups.new.items ≡ map (step (conflict_at timeline.now) place) groups.old.items) }
+    ensures found { IfOk result (λ found. found.keys ≡ largest_of (conflict_at timeline.now) (exposed (conflict_at timeline.now) places.now place) (parts (conflict_at timeline.now) place groups.old.items)) }
+{
+    let one = last_exposed(timeline, places, place);
+    let mut parts = join(alloc, timeline, place, groups)?;
+    drop_short(timeline, one, &mut parts);
+    largest_parts(alloc, timeline, places, place, parts)
+}
+
 /// Turns the largest groups of these places into those of these and one more, which comes after them.
 pub fn grow(
     alloc: Global,
@@ -160,9 +248,7 @@ pub fn grow(
 ) -> Result<(), OutOfMemory>
     ensures { OnOk result (groups.new.items ≡ next (conflict_at timeline.now) places.now place groups.old.items) }
 {
-    let exposed = exposed(alloc, timeline, places, place)?;
-    let parts = join(alloc, timeline, place, groups)?;
-    for part in largest_of(alloc, timeline, &exposed, parts)? {
+    for part in joined_parts(alloc, timeline, places, place, groups)? {
         groups.push(part)?;
     }
     Ok(())
