@@ -36,6 +36,13 @@ impl Groups {
         Groups { groups }
     }
 
+    /// The same groups as a plain list.
+    pub fn into_vec(self) -> Vec<Group>
+        ensures { result.items ≡ self }
+    {
+        self.groups
+    }
+
     /// The groups in their order.
     pub fn as_slice(&self) -> &[Group]
         ensures { result.now ≡ self.now }

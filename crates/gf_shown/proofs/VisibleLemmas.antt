@@ -1,9 +1,18 @@
--- The groups of the visible versions of some objects, one object after another, and of all.
+-- The groups of the versions of some objects, one object after another, and of all; and those of the visible ones.
 use Rattle.std.proofs.Common.{◌≡◌, ◌≢◌, ℕ, ◌-◌, ◌<◌, ◌≤◌, List, [], ◌∷◌, ◌++◌, length, map, take, get_or, inl, inr, refl, sym, ap, subst, ◌∙◌, arith}
-use Rattle.std.specs.Prelude.{◌⊎◌, AllPairs, Contains, IfNone, IfOk, IfSome, Option, Some, None, Result, Ok, Err, option_map}
+use Rattle.std.specs.Prelude.{◌⊎◌, ◌↔◌, AllPairs, Contains, IfNone, IfOk, IfSome, Option, Some, None, Result, Ok, Err, option_map}
 use Rattle.std.proofs.lemmas.List.{get_or-take, length-append, length-map, length-take}
 use Rattle.std.proofs.lemmas.List.Elements.{Contains-append_cases, Contains-append_left, Contains-append_right, Contains-push_cases}
 use Rattle.std.proofs.lemmas.Option.{slice_get_read}
+use Rattle.std.specs.List.Sorted.{IsStrictlySortedBy}
+use Rattle.std.specs.declared.cmp.Ordering.TheVariants.{Less}
+use Rattle.std.proofs.lemmas.Cmp.{tied_itself}
+use Rattle.std.proofs.lemmas.List.Elements.{Contains-get_or}
+use Rattle.std.proofs.lemmas.List.Kept.{AllPairs-cons}
+use Rattle.std.proofs.lemmas.Map.Keys.{sorted_tail}
+use Rattle.gf_groups.proofs.GroupLemmas.{group_cmp_total}
+use Rattle.gf_groups.proofs.RisingLemmas.{below_tail}
+use Rattle.gf_versions.proofs.RankingLemmas.{ranked_of_all}
 use Rattle.gf_shape.specs.declared.any_shape.AnyShape.{AnyShape}
 use Rattle.gf_ops.specs.declared.op.Op.{Op}
 use Rattle.gf_ops.specs.declared.op.ObjectId.{ObjectId}
@@ -14,12 +23,12 @@ use Rattle.gf_ops.specs.Attribute.{Kind, kind_of, made_kind}
 use Rattle.gf_ops.specs.ValidHistory.{IsValid}
 use Rattle.gf_ops.proofs.ListLemmas.{Contains-cons_cases, Contains-cons_head, Contains-map, not_Contains-nil}
 use Rattle.gf_groups.specs.declared.group.Group.{Group}
-use Rattle.gf_groups.specs.Versions.{IsMade, IsVersionGroup}
+use Rattle.gf_groups.specs.Versions.{IsMade, IsVersionGroup, AreVersions, group_cmp}
 use Rattle.gf_groups.proofs.IdPlaceLemmas.{same_place}
 use Rattle.gf_groups.proofs.TakingLemmas.{AllPairs-append}
 use Rattle.gf_parts.proofs.CountLemmas.{no_longer}
 use Rattle.gf_shown.specs.ShownVersions.{IsVisibleGroup, AreVisibleOn, HasMoreOn, HasMoreVisible}
-use Rattle.gf_shown.specs.VisibleSoFar.{AreVisibleOf, HasMoreGroups, IsGroupListing}
+use Rattle.gf_shown.specs.VisibleSoFar.{AreGroupsOf, AreVersionsOf, AreVisibleOf, HasMoreGroups, IsGroupListing}
 use Rattle.gf_versions.specs.declared.placed.Placed.{Placed}
 use Rattle.gf_versions.specs.Ranking.{AreRanked, AreRankedOf, group_of, placed_version}
 use Rattle.gf_versions.proofs.MakerLemmas.{version_kind}
@@ -49,18 +58,36 @@ made_in h a o there w = made_weaker (a ∷ []) h o (λ b i. elim (Contains-cons_
 no_maker : (c : Change) (o : ObjectId) (v : _) (k : Kind) → c ≡ Set o v → made_kind c ≡ Some k → ⊥
 no_maker c o v k e f = let g : made_kind (Set o v) ≡ Some k = subst (λ d. made_kind d ≡ Some k) e f in cc
 
--- the object of a visible version was made
-visible_made : (h : List Op) → IsValid h → (g : Group) → IsVisibleGroup h g → IsMade h g.object
-visible_made h valid g w =
-    let version : IsVersionGroup h g = subst (IsVersionGroup h) w.group w.visible.version.version in
+-- the object of a version was made
+version_made : (h : List Op) → IsValid h → (g : Group) → IsVersionGroup h g → IsMade h g.object
+version_made h valid g version =
     let kind = version_kind h valid g.object g.ops version in
     record { kind = kind.0; made = kind.1 }
 
-module _ (h : List Op) where
+-- and that of a visible one
+visible_made : (h : List Op) → IsValid h → (g : Group) → IsVisibleGroup h g → IsMade h g.object
+visible_made h valid g w = version_made h valid g (subst (IsVersionGroup h) w.group w.visible.version.version)
+
+-- rising groups stand once each
+each_once : (groups : List Group) → IsStrictlySortedBy group_cmp groups → AllPairs (λ g k. g ≢ k) groups
+each_once [] rising = λ i j d l m. absurd (omega arith)
+each_once (g ∷ gs) rising = AllPairs-cons (λ k l. k ≢ l) g gs
+    (λ k d l e.
+    let less = below_tail group_cmp group_cmp_total g gs rising (get_or gs k d) (Contains-get_or gs k d l) in
+    let same : group_cmp g g ≡ Less = subst (λ z. group_cmp g z ≡ Less) (sym e) less in
+    let tied = tied_itself group_cmp_total g in
+    absurd cc)
+    (each_once gs (sorted_tail group_cmp g gs rising))
+
+-- operations that made other objects
+abbrev pub Fresh : List Op → List Op → Type 0
+Fresh ks ops = (a b : Op) → Contains ks a → Contains ops b → a.id ≢ b.id
+
+module _ (P : Group → Type 0) where
   -- ---- of one operation
 
   -- one that makes no object
-  pub none_of : (a : Op) (o : ObjectId) (v : _) → a.change ≡ Set o v → AreVisibleOf h (a ∷ []) []
+  pub none_of : (a : Op) (o : ObjectId) (v : _) → a.change ≡ Set o v → AreGroupsOf P (a ∷ []) []
   none_of a o v e = record {
     exactly = λ g. (
       λ i. absurd (not_Contains-nil g i),
@@ -80,37 +107,24 @@ module _ (h : List Op) where
       | inr i ↦ absurd (not_Contains-nil w.made.maker i)
     ]
 
-    pub of_one : (groups : List Group) → AreVisibleOn h o groups → AreVisibleOf h (a ∷ []) groups
-    of_one groups all = record {
+    pub of_one : (groups : List Group) → ((g : Group) → Contains groups g ↔ ((g.object ≡ o) × P g)) → AllPairs (λ g k. g ≢ k) groups → AreGroupsOf P (a ∷ []) groups
+    of_one groups exactly once = record {
       exactly = λ g. (
-        λ i. let w = (all.exactly g).0 i in (w.1, subst (IsMade (a ∷ [])) (sym w.0) makes),
-        λ t. (all.exactly g).1 (object_of_made g.object t.1, t.0),
+        λ i. let w = (exactly g).0 i in (w.1, subst (IsMade (a ∷ [])) (sym w.0) makes),
+        λ t. (exactly g).1 (object_of_made g.object t.1, t.0),
       );
-      once = all.once;
+      once = once;
     }
-
-    pub more_of_one : (m : ℕ) → HasMoreOn h o m → HasMoreGroups h (a ∷ []) m
-    more_of_one m w = let all = of_one w.groups w.all in record { groups = w.groups; each = λ g. (all.exactly g).0; once = all.once; many = w.many }
-
-    pub found_of_one : {V E : Type 0} (items : V → List Group) (m : ℕ) (r : Result (Option V) E) → IfOk r (λ found. IfSome found (λ v. AreVisibleOn h o (items v))) → IfOk r (λ found. IfSome found (λ v. length (items v) ≤ m)) →
-        IfOk r (λ found. IfNone found (HasMoreOn h o m)) → IfOk r (λ found. IsGroupListing h (a ∷ []) m (option_map items found))
-    found_of_one items m (Ok (Some v)) x y z = (of_one (items v) x, y)
-    found_of_one items m (Ok None) x y z = more_of_one m z
-    found_of_one items m (Err e) x y z = tt
 
   -- ---- of several
 
-  pub none_yet : AreVisibleOf h [] []
+  pub none_yet : AreGroupsOf P [] []
   none_yet = record {
     exactly = λ g. (λ i. absurd (not_Contains-nil g i), λ t. absurd (not_Contains-nil t.1.made.maker t.1.made.contained));
     once = λ i j d l m. absurd (omega arith);
   }
 
-  -- operations that made other objects
-  abbrev pub Fresh : List Op → List Op → Type 0
-  Fresh ks ops = (a b : Op) → Contains ks a → Contains ops b → a.id ≢ b.id
-
-  once_more : (ks ops : List Op) (groups more : List Group) → Fresh ks ops → ((g : Group) → Contains groups g → IsVisibleGroup h g × IsMade ks g.object) → ((g : Group) → Contains more g → IsVisibleGroup h g × IsMade ops g.object) →
+  once_more : (ks ops : List Op) (groups more : List Group) → Fresh ks ops → ((g : Group) → Contains groups g → P g × IsMade ks g.object) → ((g : Group) → Contains more g → P g × IsMade ops g.object) →
       AllPairs (λ g k. g ≢ k) groups → AllPairs (λ g k. g ≢ k) more → AllPairs (λ g k. g ≢ k) (groups ++ more)
   once_more ks ops groups more fresh first second p q = AllPairs-append (λ g k. g ≢ k) groups more p q (λ g k x y e.
       let v = (first g x).1 in
@@ -118,8 +132,8 @@ module _ (h : List Op) where
       fresh v.made.maker w.made.maker v.made.contained w.made.contained
       (v.made.id ∙ (ap (λ (z : Group). z.object.0) e ∙ sym w.made.id)))
 
-  pub visible_more : (ks ops : List Op) (groups more : List Group) → Fresh ks ops → AreVisibleOf h ks groups → AreVisibleOf h ops more → AreVisibleOf h (ks ++ ops) (groups ++ more)
-  visible_more ks ops groups more fresh first second = record {
+  pub groups_more : (ks ops : List Op) (groups more : List Group) → Fresh ks ops → AreGroupsOf P ks groups → AreGroupsOf P ops more → AreGroupsOf P (ks ++ ops) (groups ++ more)
+  groups_more ks ops groups more fresh first second = record {
     exactly = λ g. (
       λ i. elim (Contains-append_cases groups more g i) [
         | inl j ↦ let w = (first.exactly g).0 j in (w.0, made_weaker ks (ks ++ ops) g.object (λ a. Contains-append_left ks ops a) w.1)
@@ -133,6 +147,20 @@ module _ (h : List Op) where
     once = once_more ks ops groups more fresh (λ g. (first.exactly g).0) (λ g. (second.exactly g).0) first.once second.once;
   }
 
+-- ---- of visible versions
+
+module _ (h : List Op) where
+  -- of one operation that makes the object o
+  module _ (a : Op) (o : ObjectId) (same : o.0 ≡ a.id) (makes : IsMade (a ∷ []) o) where
+    pub more_of_one : (m : ℕ) → HasMoreOn h o m → HasMoreGroups h (a ∷ []) m
+    more_of_one m w = let all = of_one (IsVisibleGroup h) a o same makes w.groups w.all.exactly w.all.once in record { groups = w.groups; each = λ g. (all.exactly g).0; once = all.once; many = w.many }
+
+    pub found_of_one : {V E : Type 0} (items : V → List Group) (m : ℕ) (r : Result (Option V) E) → IfOk r (λ found. IfSome found (λ v. AreVisibleOn h o (items v))) → IfOk r (λ found. IfSome found (λ v. length (items v) ≤ m)) →
+        IfOk r (λ found. IfNone found (HasMoreOn h o m)) → IfOk r (λ found. IsGroupListing h (a ∷ []) m (option_map items found))
+    found_of_one items m (Ok (Some v)) x y z = (of_one (IsVisibleGroup h) a o same makes (items v) x.exactly x.once, y)
+    found_of_one items m (Ok None) x y z = more_of_one m z
+    found_of_one items m (Err e) x y z = tt
+
   -- more groups of later operations than were left
   pub more_in_all : (ks ops all : List Op) (groups : List Group) (m : ℕ) → ((a : Op) → Contains (ks ++ ops) a → Contains all a) → Fresh ks ops → AreVisibleOf h ks groups → length groups ≤ m → HasMoreGroups h ops (m - length groups) → HasMoreGroups h all m
   more_in_all ks ops all groups m within fresh first few w = record {
@@ -141,7 +169,7 @@ module _ (h : List Op) where
       | inl j ↦ let v = (first.exactly g).0 j in (v.0, made_weaker ks all g.object (λ a k. within a (Contains-append_left ks ops a k)) v.1)
       | inr j ↦ let v = w.each g j in (v.0, made_weaker ops all g.object (λ a k. within a (Contains-append_right ks ops a k)) v.1)
     ];
-    once = once_more ks ops groups w.groups fresh (λ g. (first.exactly g).0) w.each first.once w.once;
+    once = once_more (IsVisibleGroup h) ks ops groups w.groups fresh (λ g. (first.exactly g).0) w.each first.once w.once;
     many = let e = length-append groups w.groups in let k = w.many in omega (arith, e, k, few);
   }
 
@@ -178,6 +206,16 @@ module _ (h : List Op) where
       let many = w.many in
       record { items = all.0; ranked = all.1; many = omega (arith, long, same, many) }
 
+-- ---- of all versions
+
+-- ranked, they are the history's ranked list
+pub ranked_of_versions : (h : List Op) → IsValid h → (groups : List Group) → AreVersionsOf h h groups → (items : List (Placed AnyShape)) → AreRankedOf h groups items → AreRanked h items
+ranked_of_versions h valid groups all items ranked = ranked_of_all h groups items (λ g v. (all.exactly g).1 (v, version_made h valid g v)) ranked
+
+-- the versions of the object that an operation made
+pub versions_of_one : (h : List Op) (a : Op) (o : ObjectId) → o.0 ≡ a.id → IsMade (a ∷ []) o → (groups : List Group) → AreVersions h o groups → AreVersionsOf h (a ∷ []) groups
+versions_of_one h a o same makes groups all = of_one (IsVersionGroup h) a o same makes groups all.exactly (each_once groups all.rising)
+
 -- ---- the operations of a history, one after another
 
 module _ (h : List Op) where
@@ -187,7 +225,7 @@ module _ (h : List Op) where
       (k, omega (arith, m, l), sym (get_or-take n h k a (omega (arith, m, l))) ∙ q)
 
   -- the next operation made none of the objects so far
-  pub fresh_next : IsValid h → (i : ℕ) (a : Op) → i < length h → a ≡ get_or h i a → Fresh h (take i h) (a ∷ [])
+  pub fresh_next : IsValid h → (i : ℕ) (a : Op) → i < length h → a ≡ get_or h i a → Fresh (take i h) (a ∷ [])
   fresh_next valid i a l is b d (k, m, q) y e =
       let len = length-take i h in
       let below : k < i = omega (arith, m, len) in

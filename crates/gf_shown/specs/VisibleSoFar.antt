@@ -1,14 +1,22 @@
--- The groups of the visible versions of some objects, gathered unless they are too many. No public clause cites this module.
+-- The groups of the versions of some objects, and of those that are visible, gathered unless they are too many. No public clause cites this module.
 use Rattle.std.specs.Prelude.{◌≢◌, ◌↔◌, ℕ, ◌<◌, ◌≤◌, List, AllPairs, Contains, length, Option, Some, None}
 use Rattle.gf_ops.specs.declared.op.Op.{Op}
 use Rattle.gf_groups.specs.declared.group.Group.{Group}
-use Rattle.gf_groups.specs.Versions.{IsMade}
+use Rattle.gf_groups.specs.Versions.{IsMade, IsVersionGroup}
 use Rattle.gf_shown.specs.ShownVersions.{IsVisibleGroup}
 
--- the groups are those of the visible versions of h whose objects these operations made, each once
-pub record AreVisibleOf (h ops : List Op) (groups : List Group) : Type 0 where
-  pub exactly : (g : Group) → Contains groups g ↔ (IsVisibleGroup h g × IsMade ops g.object)
+-- the groups are those that P tells of, whose objects these operations made, each once
+pub record AreGroupsOf (P : Group → Type 0) (ops : List Op) (groups : List Group) : Type 0 where
+  pub exactly : (g : Group) → Contains groups g ↔ (P g × IsMade ops g.object)
   pub once : AllPairs (λ g k. g ≢ k) groups
+
+-- the groups are those of the versions of h whose objects these operations made
+abbrev pub AreVersionsOf : List Op → List Op → List Group → Type 0
+AreVersionsOf h ops groups = AreGroupsOf (IsVersionGroup h) ops groups
+
+-- the groups are those of the visible versions of h whose objects these operations made
+abbrev pub AreVisibleOf : List Op → List Op → List Group → Type 0
+AreVisibleOf h ops groups = AreGroupsOf (IsVisibleGroup h) ops groups
 
 -- there are more than m of these
 pub record HasMoreGroups (h ops : List Op) (m : ℕ) : Type 0 where

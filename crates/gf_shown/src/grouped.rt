@@ -11,7 +11,7 @@ ghost use Rattle.gf_shown.specs.ShownVersions.{HasMoreVisible};
 ghost use Rattle.gf_table.specs.Standing.{StandsFor};
 ghost use Rattle.gf_versions.specs.Ranking.{AreRanked};
 
-use crate::ranking::ranked_within;
+use crate::ranking::{ranked_with, ranked_within};
 use gf_ops::{AddFault, History, Op};
 use gf_shape::{AnyShape, OutOfMemory};
 use gf_table::GroupTable;
@@ -86,6 +86,13 @@ impl GroupedHistory {
             Ok(()) => self.history.add(op),
             Err(OutOfMemory) => Err(AddFault::OutOfMemory),
         }
+    }
+
+    /// Its visible versions, topmost first.
+    pub fn ranked(&self, alloc: Global) -> Result<Ranked<AnyShape>, OutOfMemory>
+        ensures { IfOk result (λ ranked. AreRanked self.now ranked.items.items) }
+    {
+        ranked_with(alloc, &self.history, &self.table)
     }
 
     /// Its visible versions, topmost first, if they are at most so many; None where they are more.

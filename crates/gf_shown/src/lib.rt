@@ -2,7 +2,8 @@
 //! is never multiplied out, and of what is too much no more than the bound.
 //!
 //! - [`visible_groups`]: the groups of the visible versions of one object.
-//! - [`ranked_within`]: the ranked list of the visible versions of a history.
+//! - [`ranked_within`]: the ranked list of the visible versions of a history; [`ranked_with`]: the same
+//!   with no bound, as `ranked` gives it.
 //! - [`GroupedHistory`]: a history with its table, grown together.
 #![tactic(auto)]
 
@@ -15,4 +16,4 @@ mod saying;
 
 pub use grouped::GroupedHistory;
 pub use objects::visible_groups;
-pub use ranking::ranked_within;
+pub use ranking::{ranked_with, ranked_within};

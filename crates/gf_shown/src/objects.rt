@@ -4,7 +4,7 @@ ghost use Rattle.std.specs.Prelude.{◌≤◌, ◌∷◌, [], length, Contains, 
 ghost use Rattle.gf_groups.specs.Versions.{IsMade};
 ghost use Rattle.gf_parts.specs.Parts.{most_sets};
 ghost use Rattle.gf_shown.specs.ShownVersions.{AreVisibleOn, HasMoreOn};
-ghost use Rattle.gf_shown.specs.VisibleSoFar.{IsGroupListing};
+ghost use Rattle.gf_shown.specs.VisibleSoFar.{AreVersionsOf, IsGroupListing};
 ghost use Rattle.gf_table.specs.Standing.{StandsFor};
 
 use crate::listing::shown_sets;
@@ -62,5 +62,24 @@ pub(crate) fn visible_made(
     match &op.change {
         Change::Create(_) => visible_groups(alloc, history, table, ObjectId(op.id), most),
         Change::Set { .. } => Ok(Some(Vec::new(alloc))),
+    }
+}
+
+/// The groups of the versions of the object that an operation of the history made, if it made one.
+pub(crate) fn versions_made(
+    alloc: Global,
+    history: &History,
+    table: &GroupTable,
+    op: &Op,
+) -> Result<Vec<Group>, OutOfMemory>
+    requires stands { StandsFor history.now.ops table.now }
+    ensures { IfOk result (λ groups. AreVersionsOf history.now.ops (op.now ∷ []) groups.items) }
+{
+    match &op.change {
+        Change::Create(_) => match table.groups(alloc, history, ObjectId(op.id)) {
+            Ok(groups) => Ok(groups.into_vec()),
+            Err(_) => Err(OutOfMemory),
+        },
+        Change::Set { .. } => Ok(Vec::new(alloc)),
     }
 }

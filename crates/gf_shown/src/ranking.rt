@@ -1,19 +1,54 @@
-//! The visible versions of a history, ranked unless they are too many.
+//! The visible versions of a history, ranked: all, or unless they are too many.
 
 ghost use Rattle.std.specs.Prelude.{◌≤◌, length, IfNone, IfOk, IfSome, option_map};
 ghost use Rattle.gf_parts.specs.Parts.{most_sets};
 ghost use Rattle.gf_shown.specs.ShownVersions.{HasMoreVisible};
-ghost use Rattle.gf_shown.specs.VisibleSoFar.{IsGroupListing};
+ghost use Rattle.gf_shown.specs.VisibleSoFar.{AreVersionsOf, IsGroupListing};
 ghost use Rattle.gf_table.specs.Standing.{StandsFor};
 ghost use Rattle.gf_versions.specs.Ranking.{AreRanked};
 
-use crate::objects::visible_made;
+use crate::objects::{versions_made, visible_made};
 use gf_groups::Group;
 use gf_ops::History;
 use gf_shape::{AnyShape, OutOfMemory};
 use gf_table::GroupTable;
 use gf_versions::{Ranked, ranked_of};
 use std::alloc::Global;
+
+/// The visible versions of a history, topmost first, as `ranked` gives them. The table stands for the
+/// history.
+///
+/// It lists all versions of each object, hidden ones too.
+pub fn ranked_with(
+    alloc: Global,
+    history: &History,
+    table: &GroupTable,
+) -> Result<Ranked<AnyShape>, OutOfMemory>
+    requires { StandsFor history.now.ops table.now }
+    ensures { IfOk result (λ ranked. AreRanked history.now.ops ranked.items.items) }
+{
+    // Its clause says that the history is valid.
+    let _ = history.ops();
+    let groups = all_versions(alloc, history, table)?;
+    ranked_of(alloc, history, &groups)
+}
+
+/// The groups of all versions.
+fn all_versions(
+    alloc: Global,
+    history: &History,
+    table: &GroupTable,
+) -> Result<Vec<Group>, OutOfMemory>
+    requires { StandsFor history.now.ops table.now }
+    ensures { IfOk result (λ groups. AreVersionsOf history.now.ops history.now.ops groups.items) }
+{
+    let mut groups = Vec::new(alloc);
+    for op in history.ops() {
+        let mut more = versions_made(alloc, history, table, op)?;
+        groups.append(&mut more)?;
+    }
+    Ok(groups)
+}
 
 /// The visible versions of a history, topmost first, if they are at most so many; None where they are
 /// more. The table stands for the history.

@@ -1,0 +1,8 @@
+use Rattle.std.proofs.Common.{refl}
+use Rattle.gf_shown.proofs.VisibleLemmas.{makes_one, versions_of_one}
+use Rattle.gf_shown.proofs.objects.versions_made.Goals as goal
+
+pub returns-in-Ok : goal.returns-in-Ok
+returns-in-Ok c =
+    let a = c.args.op.now in
+    versions_of_one c.args.history.now.ops a (record { 0 = a.id }) refl (makes_one a c.in-Create.field-0 c.in-Create.is (record { 0 = a.id }) refl) c.into_vec.result.items (rw c.into_vec.ensures c.in-Ok.ensures.groups)
