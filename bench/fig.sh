@@ -1,7 +1,6 @@
 #!/bin/bash
 # Measures whole runs of `figgroup fig` on the inputs of bench/fig_inputs.py: wall time, memory and,
-# where valgrind is there, instructions; checks that order does not change the text; and tries an
-# input that wants more memory than there is.
+# where valgrind is there, instructions; and checks that order does not change the text.
 set -euo pipefail
 root=$(cd "$(dirname "$0")/.." && pwd)
 source "$root/bench/measures.sh"
@@ -10,11 +9,9 @@ baseline=$root/crates/bench_lines/out/bench_lines
 folder=$(mktemp -d)
 trap 'rm -rf "$folder"' EXIT
 
-LONGEST_SECONDS=30
-
 "$root/figgroup" --version > /dev/null
 build bench_lines
-python3 "$root/bench/fig_inputs.py" "$folder"
+PYTHONDONTWRITEBYTECODE=1 python3 "$root/bench/fig_inputs.py" "$folder"
 
 # Runs a program on an input, and notes its wall time in seconds and its greatest memory in KiB.
 run() {
@@ -58,21 +55,3 @@ done
 for name in causal shuffled backwards; do
     echo "memory of $name to its input: $(quotient $((kib[$name] * 1024)) "$(stat -c %s "$folder/$name.jsonl")") (goal 3)"
 done
-
-status=0
-before=$EPOCHREALTIME
-(
-    ulimit -v 2097152
-    exec timeout "$LONGEST_SECONDS" "$program" fig
-) < "$folder/rounds.jsonl" > "$folder/output" 2> "$folder/faults" || status=$?
-after=$EPOCHREALTIME
-passed=$(awk -v a="$before" -v b="$after" 'BEGIN { printf "%.1f", b - a }')
-if [ "$status" = 1 ] && [ ! -s "$folder/output" ] && [ "$(cat "$folder/faults")" = "figgroup: out of memory" ]; then
-    echo "30 rounds in 2 GiB: out of memory after $passed s"
-elif [ "$status" = 124 ]; then
-    echo "30 rounds in 2 GiB: no answer within $LONGEST_SECONDS s (goal: out of memory within seconds)"
-else
-    echo "30 rounds in 2 GiB: status $status after $passed s, and not out of memory" >&2
-    cat "$folder/faults" >&2
-    exit 1
-fi

@@ -11,6 +11,7 @@ visible 1.1 within 511 | more
 visible 1.1 within 512 | 512
 ranked 511            | more
 ranked 512            | 512
+total                 | 512
 drawn 1000            | 512 figures to depth 511, 2 colours
 rounds 1              | ok
 ranked 1000           | more
@@ -40,6 +41,15 @@ add 4.1: circle 10                     | ok
 ranked 1                               | 1
 ranked 0                               | more
 
+// what_is_hidden_is_not_ranked
+new                                  | ok
+add 1.1: box 10 10                   | ok
+rounds 3                             | ok
+total                                | 8
+add 3.1 after 4 3: 1.1 shown false   | ok
+add 3.2 after 4 3 1: circle 10       | ok
+total                                | 1
+
 // one_operation_joins_thirty_parts
 new                                | ok
 add 1.1: box 10 10                 | ok
@@ -59,6 +69,7 @@ visible 1.1 within 1                 | 1
 visible 1.1 within 0                 | more
 // With five rounds, half of the versions show.
 rounds 5                             | ok
+total                                | 32
 visible 1.1 within 32                | 32
 visible 1.1 within 31                | more
 // A later round decides alone.

@@ -4,7 +4,7 @@ ghost use Rattle.std.specs.Prelude.{◌≤◌, IfSome};
 
 use example_parts::notation::id;
 use gf_drawing::{CompileFault, Drawing, compile};
-use gf_groups::{Group, GroupFault, Groups, is_made};
+use gf_groups::{Group, GroupFault, Groups, groups_of, is_made};
 use gf_ops::{ObjectId, OpId};
 use gf_shape::AnyShape;
 use gf_shown::{GroupedHistory, visible_groups};
@@ -18,6 +18,12 @@ pub(crate) fn groups(alloc: Global, history: &GroupedHistory, text: &str) -> Opt
         alloc,
         history.table().groups(alloc, history.history(), object),
     )
+}
+
+/// The groups of an object, by the plain call.
+pub(crate) fn plain_groups(alloc: Global, history: &GroupedHistory, text: &str) -> Option<String> {
+    let object = ObjectId(id(text)?);
+    told(alloc, groups_of(alloc, history.history(), object))
 }
 
 /// The groups of an object, by a copy of the table.
@@ -77,6 +83,12 @@ fn counted(alloc: Global, count: Option<usize>) -> Option<String> {
         Some(count) => format!(in alloc; "{count}").ok(),
         None => String::from_str(alloc, "more").ok(),
     }
+}
+
+/// How many versions of all objects are visible.
+pub(crate) fn total(alloc: Global, history: &GroupedHistory) -> Option<String> {
+    let ranked = history.ranked(alloc).ok()?;
+    counted(alloc, Some(ranked.len()))
 }
 
 /// How many versions of all objects are visible, or that they are more than this.

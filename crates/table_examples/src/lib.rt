@@ -11,4 +11,6 @@ mod rounds;
 #[cfg(test)]
 mod script;
 #[cfg(test)]
+mod small_histories;
+#[cfg(test)]
 mod tables;

@@ -56,9 +56,11 @@ fn said(alloc: Global, done: Option<()>) -> Option<String> {
 fn told_of(alloc: Global, history: &GroupedHistory, verb: &str, text: &str) -> Option<String> {
     match verb {
         "groups" => commands::groups(alloc, history, text),
+        "plain" => commands::plain_groups(alloc, history, text),
         "copied" => commands::copied(alloc, history, text),
         "visible" => commands::visible(alloc, history, text),
         "ranked" => commands::ranking(alloc, history, text),
+        "total" => commands::total(alloc, history),
         "drawn" => commands::drawn(alloc, history, text),
         _ => None,
     }

@@ -55,6 +55,7 @@ add 1.1: box 10 10                    | ok
 rounds 2                              | ok
 add 3.1 after 1: 1.1 colour 0000ff    | ok
 groups 1.1                            | [ 1.1 1.2 1.3 3.1 ][ 1.1 1.2 2.2 ][ 1.1 1.3 2.1 ][ 1.1 2.1 2.2 ]
+plain 1.1                             | [ 1.1 1.2 1.3 3.1 ][ 1.1 1.2 2.2 ][ 1.1 1.3 2.1 ][ 1.1 2.1 2.2 ]
 copied 1.1                            | [ 1.1 1.2 1.3 3.1 ][ 1.1 1.2 2.2 ][ 1.1 1.3 2.1 ][ 1.1 2.1 2.2 ]
 
 // objects_have_parts_of_their_own
@@ -67,6 +68,7 @@ add 3.1 after 1 1: 2.1 colour 00ff00 | ok
 groups 1.1                           | [ 1.1 2.2 ]
 groups 2.1                           | [ 1.2 2.1 ][ 2.1 3.1 ]
 groups 1.2                           | NoObject
+total                                | 3
 ranked 3                             | 3
 ranked 2                             | more
 ";

@@ -1,0 +1,49 @@
+"""Writes the inputs of bench/conflicts.sh to the folder that the word names."""
+
+import random
+import sys
+
+from lines import Lines, Object, SITES, value, write
+
+
+def rounds(count, hidden):
+    """One box, and so many rounds in which two sites give it two colours at once; then, if it is to
+    be hidden, a line that knows all and hides it."""
+    rng = random.Random(3)
+    lines = Lines()
+    box = Object(lines, rng, 0)
+    for _ in range(count):
+        box.colour_twice(lines, 0, "0000ff", "00ff00")
+    if hidden:
+        box.follow(lines, 2, "shown", False)
+    return lines.lines
+
+
+def changed(count, name, to, apart):
+    """One box that eight sites change, in turn, so many times each: by lines that know all before
+    them, or, if the sites are apart, only the box and those of their own site."""
+    rng = random.Random(5)
+    lines = Lines()
+    box = Object(lines, rng, 0)
+    made = box.knows
+    for number in range(count * SITES):
+        if apart:
+            box.knows = made
+        box.follow(lines, number % SITES, name, to(rng))
+    return lines.lines
+
+
+def write_orders(name, lines):
+    """The lines, and the same shuffled and backwards."""
+    write(folder, name, lines)
+    write(folder, name + "_shuffled", random.Random(4).sample(lines, len(lines)))
+    write(folder, name + "_backwards", reversed(lines))
+
+
+folder = sys.argv[1]
+for count in (30, 200):
+    write(folder, f"rounds_{count}", rounds(count, False))
+    write(folder, f"hidden_{count}", rounds(count, True))
+for apart, name in ((False, "causal"), (True, "apart")):
+    write_orders("equal_" + name, changed(9_875, "colour", lambda rng: "00ff00", apart))
+    write(folder, "moves_" + name, changed(2_000, "place", lambda rng: value(rng, "box", "place"), apart))
