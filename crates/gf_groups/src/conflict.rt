@@ -16,7 +16,8 @@ pub fn conflict_at(timeline: &Timeline<'_>, i: usize, j: usize) -> bool
 }
 
 /// Whether both operations are there, and conflict.
-fn both_conflict(a: Option<&Op>, b: Option<&Op>) -> bool
+#[inline(always)]
+pub(crate) fn both_conflict(a: Option<&Op>, b: Option<&Op>) -> bool
     requires a { IfSome a (λ op. IsInRange op.now) }
     requires b { IfSome b (λ op. IsInRange op.now) }
     ensures { result ≡ both_conflict (option_copied a.entry) (option_copied b.entry) }
@@ -27,6 +28,7 @@ fn both_conflict(a: Option<&Op>, b: Option<&Op>) -> bool
     }
 }
 
+#[inline(always)]
 fn in_conflict(a: &Op, b: &Op) -> bool
     requires a { IsInRange a.now }
     requires b { IsInRange b.now }

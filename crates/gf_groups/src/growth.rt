@@ -7,7 +7,7 @@ ghost use Rattle.std.specs.Ordering.{nat_cmp};
 ghost use Rattle.gf_groups.specs.Growing.{conflict_at, same_group, take_up, pushed, clashes, step, part, parts, is_covered, covers, leaves};
 ghost use Rattle.gf_groups.specs.Growing.{rivals, exposed, largest_of, next, groups_at};
 
-use crate::conflict::conflict_at;
+use crate::conflict::{both_conflict, conflict_at};
 use crate::places::Places;
 use crate::taken::{count_at, knows_all};
 use crate::timeline::Timeline;
@@ -34,9 +34,10 @@ fn part(
 ) -> Result<Places, OutOfMemory>
     ensures { IfOk result (λ places. places ≡ part (conflict_at timeline.now) place group.now) }
 {
+    let coming = timeline.get(place);
     let mut part = Places::new(alloc);
     for other in group {
-        if !conflict_at(timeline, *other, place) {
+        if !both_conflict(timeline.get(*other), coming) {
             part.push(*other)?;
         }
     }

@@ -33,6 +33,7 @@ impl Op {
 }
 
 /// Whether the changes of two operations on one object give an attribute different values.
+#[inline(always)]
 fn are_apart(a: &Change, b: &Change) -> bool
     ensures { result ≡ are_apart a.now b.now }
 {
@@ -44,6 +45,7 @@ fn are_apart(a: &Change, b: &Change) -> bool
 }
 
 /// Whether the change gives the attribute of this value another one.
+#[inline(always)]
 fn sets_another(change: &Change, value: &Value) -> bool
     ensures { result ≡ sets_another change.now value.now }
 {
@@ -53,6 +55,7 @@ fn sets_another(change: &Change, value: &Value) -> bool
     }
 }
 
+#[inline(always)]
 fn is_another(own: &Value, value: &Value) -> bool
     ensures { result ≡ is_another (set_value own.now (attribute_of value.now)) value.now }
 {

@@ -94,11 +94,12 @@ impl Sets {
     }
 }
 
-/// The same places once more.
+/// The same places once more, with room for another one.
 pub fn copied(alloc: Global, places: &[usize]) -> Result<Places, OutOfMemory>
     ensures { IfOk result (λ copy. copy ≡ places.now) }
 {
     let mut copy = Vec::new(alloc);
+    copy.reserve(places.len().saturating_add(1))?;
     copy.extend_from_slice(places)?;
     Ok(Places::of(copy))
 }
