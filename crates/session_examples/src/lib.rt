@@ -1,0 +1,7 @@
+//! Worked examples of sessions of two sites in threads of their own, by public calls alone.
+#![tactic(auto)]
+
+#[cfg(test)]
+mod scripts;
+#[cfg(test)]
+mod sessions;

@@ -1,0 +1,81 @@
+//! A table of sessions: for each site the operations that it made, its refused commands, and how many
+//! operations it has at the end.
+
+use crate::scripts::scripts;
+use gf_gate::OpenGate;
+use gf_session::{Done, SessionError, run_session};
+use std::alloc::Global;
+use std::sync::Wait;
+use std::test::Fail;
+use std::thread::Threads;
+
+const SESSIONS: [(&str, &str); 9] = [
+    // The second waits for the box of the first, and for an operation that nobody makes.
+    (
+        "box 9 9 / await 1.1; 1.1 colour 0000ff; await 1.9",
+        "1.1 has 2 / 2.1 3:NeverComes has 2 / ",
+    ),
+    // Each waits for the other in turn.
+    (
+        "box 9 9; await 2.1; 2.1 layer 3 / await 1.1; circle 3; await 1.2",
+        "1.1 1.2 has 3 / 2.1 has 3 / ",
+    ),
+    ("await 1.1 / await 2.1", "1:OwnId has 0 / 1:OwnId has 0 / "),
+    ("await 9.1 / box 9 9", "1:Range has 1 / 2.1 has 1 / "),
+    (
+        "box 0 9; circle 3 / circle 3",
+        "1.1 1:Range has 2 / 2.1 has 2 / ",
+    ),
+    ("1.1 layer 3 / box 9 9", "1:NoObject has 1 / 2.1 has 1 / "),
+    (
+        "circle 3; 1.1 points 0,0 8,0 0,8 / box 9 9",
+        "1.1 2:WrongKind has 2 / 2.1 has 2 / ",
+    ),
+    ("box 9 9", "Sites"),
+    ("box 9 9 / box 9 9 / box 9 9", "Sites"),
+];
+
+/// What one site came to.
+fn told(alloc: Global, done: &Done) -> Option<String> {
+    let mut text = String::new(alloc);
+    for id in done.report.accepted.iter() {
+        let word = format!(in alloc; "{id} ").ok()?;
+        text.push_str(word.as_str()).ok()?;
+    }
+    for refused in done.report.refused.iter() {
+        let word = format!(in alloc; "{}:{:?} ", refused.command, refused.cause).ok()?;
+        text.push_str(word.as_str()).ok()?;
+    }
+    let word = format!(in alloc; "has {} / ", done.site.history().ops().len()).ok()?;
+    text.push_str(word.as_str()).ok()?;
+    Some(text)
+}
+
+/// What all sites came to.
+fn all_told(alloc: Global, dones: &[Done]) -> Option<String> {
+    let mut text = String::new(alloc);
+    for done in dones {
+        text.push_str(told(alloc, done)?.as_str()).ok()?;
+    }
+    Some(text)
+}
+
+/// What the session of these scripts gives.
+fn ran<R: Threads + Wait + Sync>(rt: &R, alloc: Global, text: &str) -> Option<String> {
+    match run_session(rt, alloc, scripts(alloc, text)?, &OpenGate) {
+        Ok(dones) => all_told(alloc, dones.as_slice()),
+        Err(SessionError::Sites) => String::from_str(alloc, "Sites").ok(),
+        Err(SessionError::OutOfMemory) => None,
+    }
+}
+
+#[test]
+fn each_session_has_its_outcome(rt: HostRuntime) -> Result<(), Fail> {
+    for (text, want) in SESSIONS {
+        let Some(outcome) = ran(&rt, rt.alloc(), text) else {
+            return Err(Fail::new(text));
+        };
+        assert_eq!(rt; outcome.as_str(), want, "{text}");
+    }
+    Ok(())
+}
