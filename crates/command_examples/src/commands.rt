@@ -273,6 +273,8 @@ fn words_are_read_first(rt: HostRuntime) -> Result<(), Fail> {
         ("figgroup repaint --y=-2000001", "2\n--\n", true),
         ("figgroup paint --x -5", "2\n--\n", true),
         ("figgroup paint --step 2 --step 3", "2\n--\n", true),
+        ("figgroup inspect", "2\n--\n", true),
+        ("figgroup inspect --at -5,7", "2\n--\n", true),
         ("figgroup fig --step 2", "2\n--\n", true),
         ("figgroup fig input", "2\n--\n", true),
         ("figgroup --colour", "2\n--\n", true),
@@ -282,6 +284,7 @@ fn words_are_read_first(rt: HostRuntime) -> Result<(), Fail> {
         ("figgroup fig --help", "0\nRead operation lines", false),
         ("figgroup paint --help", "0\nRead operation lines", false),
         ("figgroup repaint --help", "0\nRead a FIG text", false),
+        ("figgroup inspect --help", "0\nRead operation lines", false),
         ("figgroup --version", "0\nfiggroup 0.1.0\n", false),
     ] {
         let answer = run_of_words(&rt, words)?;

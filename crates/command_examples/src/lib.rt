@@ -4,6 +4,8 @@
 #[cfg(test)]
 mod commands;
 #[cfg(test)]
+mod inspect_table;
+#[cfg(test)]
 mod picture_table;
 #[cfg(test)]
 mod run_table;

@@ -61,7 +61,7 @@ fn answer<T: AllocGlobal + Threads + Sync>(
 }
 
 /// That the run of a row answers what the row says; a line without cells is no row.
-fn is_as_told<T: AllocGlobal + Threads + Sync>(rt: &T, row: &str) -> Result<(), Fail> {
+pub(crate) fn is_as_told<T: AllocGlobal + Threads + Sync>(rt: &T, row: &str) -> Result<(), Fail> {
     let Some((words, rest)) = row.split_once('|') else {
         return Ok(());
     };

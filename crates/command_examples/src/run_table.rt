@@ -78,6 +78,7 @@ green {"op":"set","id":[2,1],"past":[1,0,0,0,0,0,0,0],"object":[1,1],"set":"colo
 // Site 3 makes the box blue, as site 1 does.
 blue_too {"op":"set","id":[3,1],"past":[1,0,0,0,0,0,0,0],"object":[1,1],"set":"colour","to":"0000ff"}
 raised {"op":"set","id":[2,1],"past":[1,0,0,0,0,0,0,0],"object":[1,1],"set":"layer","to":3}
+hidden {"op":"set","id":[2,1],"past":[1,0,0,0,0,0,0,0],"object":[1,1],"set":"shown","to":false}
 // Site 1 moves both versions, twice.
 moved {"op":"set","id":[1,3],"past":[2,1,0,0,0,0,0,0],"object":[1,1],"set":"place","to":[100,0]}
 moved_again {"op":"set","id":[1,4],"past":[3,1,0,0,0,0,0,0],"object":[1,1],"set":"place","to":[200,0]}
