@@ -1,6 +1,6 @@
 -- An Author is a turn.
-use Rattle.std.proofs.Common.{◌≡◌, ◌≢◌, ◌+◌, ℕ, ◌<◌, Bool, true, false, List, [], ◌∷◌, ◌++◌, append_assoc, length, map, inl, inr, refl, sym, ap, subst, ◌∙◌, arith, true≢false, Vec, Global}
-use Rattle.std.specs.Prelude.{Contains, Option, Some, None, not, IsTrue}
+use Rattle.std.proofs.Common.{◌≡◌, ◌≢◌, ◌+◌, ℕ, Bool, true, false, List, [], ◌∷◌, ◌++◌, length, map, inl, inr, refl, sym, ap, subst, ◌∙◌, arith, true≢false, Vec, Global}
+use Rattle.std.specs.Prelude.{Contains, Some, None, not, IsTrue}
 use Rattle.std.specs.Vec.{with_items}
 use Rattle.std.proofs.lemmas.List.{append-nil, map-append, length-map, with_items_is}
 use Rattle.std.proofs.lemmas.List.Elements.{Contains-append_left, Contains-push_cases}
@@ -16,18 +16,17 @@ use Rattle.gf_site.specs.declared.faults.AuthorFault.{AuthorFault}
 use Rattle.gf_site.specs.declared.faults.AuthorFault.TheVariants as fault
 use Rattle.gf_json.specs.declared.script_line.Command.{Command}
 use Rattle.gf_json.specs.declared.script_line.Command.TheVariants.{Author}
-use Rattle.gf_worker.specs.declared.report.Cause.{Cause}
 use Rattle.gf_worker.specs.declared.report.Cause.TheVariants.{NeverComes}
 use Rattle.gf_worker.specs.declared.report.Report.{Report}
 use Rattle.gf_worker.specs.declared.peer.Peer.{Peer}
 use Rattle.gf_worker.specs.declared.work.Work.{Work}
-use Rattle.gf_worker.specs.Messages.{own, told}
-use Rattle.gf_worker.specs.Peers.{all_ended, ArePlaced, seat_of, with_message}
-use Rattle.gf_worker.specs.Coming.{HasCome, IsWhole}
+use Rattle.gf_worker.specs.Messages.{own}
+use Rattle.gf_worker.specs.Peers.{seat_of}
+use Rattle.gf_worker.specs.Coming.{HasCome}
 use Rattle.gf_worker.specs.Played.{IsPlayed}
-use Rattle.gf_worker.specs.Telling.{Tells, sent_first}
+use Rattle.gf_worker.specs.Telling.{Tells}
 use Rattle.gf_worker.specs.Working.{Gathers, IsUnderway, IsSilent, IsTold, AreTold}
-use Rattle.gf_worker.specs.Turns.{Turn, Answer, AuthorAnswer, refusal_of, accepted_change}
+use Rattle.gf_worker.specs.Turns.{Turn, AuthorAnswer, refusal_of, accepted_change}
 use Rattle.gf_worker.specs.Playing.{IsRefusal, IsFaultTold, PlaysOn, cause_of}
 use Rattle.gf_worker.proofs.TurnLemmas.{own_same}
 use Rattle.gf_worker.proofs.PlayLemmas.{played_turn, played_author}

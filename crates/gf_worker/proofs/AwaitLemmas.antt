@@ -1,6 +1,6 @@
 -- An Await is a turn.
-use Rattle.std.proofs.Common.{◌≡◌, ◌+◌, ℕ, Bool, true, false, List, [], ◌∷◌, ◌++◌, length, map, inl, inr, refl, sym, ap, subst, ◌∙◌, true≢false}
-use Rattle.std.specs.Prelude.{Contains, Option, Some, None, not}
+use Rattle.std.proofs.Common.{◌≡◌, ◌+◌, ℕ, Bool, true, false, List, [], ◌∷◌, ◌++◌, length, inl, inr, refl, sym, ap, subst, ◌∙◌, true≢false}
+use Rattle.std.specs.Prelude.{Contains, Option, Some, not}
 use Rattle.std.proofs.lemmas.List.Elements.{Contains-push_cases}
 use Rattle.gf_ops.specs.declared.op.OpId.{OpId}
 use Rattle.gf_json.specs.declared.script_line.Command.{Command}
@@ -9,10 +9,9 @@ use Rattle.gf_worker.specs.declared.report.Cause.{Cause}
 use Rattle.gf_worker.specs.declared.report.Cause.TheVariants.{NeverComes}
 use Rattle.gf_worker.specs.declared.report.Report.{Report}
 use Rattle.gf_worker.specs.declared.work.Work.{Work}
-use Rattle.gf_worker.specs.Turns.{Turn, Answer, refusal_of}
+use Rattle.gf_worker.specs.Turns.{Turn, refusal_of}
 use Rattle.gf_worker.specs.Played.{IsPlayed}
 use Rattle.gf_worker.specs.Working.{AreTold, Gathers, IsUnderway, IsSilent, Continues, Judges}
-use Rattle.gf_ops.specs.declared.op.Op.{Op}
 use Rattle.gf_worker.proofs.TellLemmas.{told_continues}
 use Rattle.gf_worker.specs.Playing.{IsRefusal, PlaysOn}
 use Rattle.gf_worker.proofs.CourseLemmas.{course_ready}

@@ -1,6 +1,6 @@
 -- How a worker begins, and what it has done at its end.
-use Rattle.std.proofs.Common.{◌≡◌, ◌≢◌, ℕ, ◌+◌, ◌<◌, ◌≤◌, Bool, true, false, ◌&&◌, List, [], ◌∷◌, ◌++◌, map, length, inl, inr, refl, sym, ap, subst, ◌∙◌, arith, true≢false, Vec, Global}
-use Rattle.std.specs.Prelude.{◌⊎◌, Contains, All, IsTrue}
+use Rattle.std.proofs.Common.{◌≡◌, ◌+◌, ◌≤◌, Bool, true, false, ◌&&◌, List, [], ◌∷◌, ◌++◌, map, length, inl, inr, refl, sym, ap, subst, ◌∙◌, arith, true≢false, Vec, Global}
+use Rattle.std.specs.Prelude.{Contains, All, IsTrue}
 use Rattle.std.specs.Vec.{with_items}
 use Rattle.std.proofs.lemmas.List.{with_items_is, length-map}
 use Rattle.std.proofs.lemmas.List.Elements.{All-contains}
@@ -17,20 +17,19 @@ use Rattle.gf_causal.proofs.WholeLemmas.{whole_delivered}
 use Rattle.gf_link.specs.Ends.{is_ended}
 use Rattle.gf_link.specs.Seats.{SendSide}
 use Rattle.gf_site.specs.SiteState.{SiteState}
-use Rattle.gf_site.specs.Course.{IsCourse, none, next}
+use Rattle.gf_site.specs.Course.{IsCourse, none}
 use Rattle.gf_json.specs.declared.script_line.Command.{Command}
 use Rattle.gf_worker.specs.declared.report.Report.{Report}
 use Rattle.gf_worker.specs.declared.peer.Peer.{Peer}
 use Rattle.gf_worker.specs.declared.work.Work.{Work}
 use Rattle.gf_worker.specs.declared.worker.WorkerEnd.{WorkerEnd}
-use Rattle.gf_worker.specs.Messages.{own, told, ops_of, last_message}
+use Rattle.gf_worker.specs.Messages.{own, ops_of, last_message}
 use Rattle.gf_worker.specs.Peers.{all_ended, IsPlaced, ArePlaced, IsFresh, seat_of, with_last}
-use Rattle.gf_worker.specs.Coming.{HasCome, IsWhole, IsJust, AreForeign}
-use Rattle.gf_worker.specs.Played.{IsPlayed}
+use Rattle.gf_worker.specs.Coming.{HasCome, IsJust, AreForeign}
 use Rattle.gf_worker.specs.Telling.{IsOpen}
-use Rattle.gf_worker.specs.Working.{Gathers, IsUnderway, IsSilent, IsTold, AreTold, Continues, Plays}
+use Rattle.gf_worker.specs.Working.{Gathers, IsUnderway, Continues, Plays}
 use Rattle.gf_worker.specs.Playing.{IsBegun, Through}
-use Rattle.gf_worker.specs.Ending.{HasSent, HasPlayed, HasWorked}
+use Rattle.gf_worker.specs.Ending.{HasSent, HasWorked}
 use Rattle.gf_worker.proofs.CourseLemmas.{course_ready}
 use Rattle.gf_worker.proofs.TellLemmas.{all_from, plays_open, seats_told, same_image, placed_by_seats, come_by_takes, ended_by_takes}
 

@@ -1,5 +1,5 @@
 -- A worker goes on when operations come.
-use Rattle.std.proofs.Common.{◌≡◌, ◌≢◌, ℕ, Bool, true, false, ◌||◌, List, [], ◌∷◌, ◌++◌, map, inl, inr, refl, sym, ap, subst, ◌∙◌, true≢false, Vec, Global}
+use Rattle.std.proofs.Common.{◌≡◌, ◌≢◌, ℕ, Bool, true, false, ◌||◌, List, [], ◌∷◌, map, inl, inr, refl, sym, ap, subst, ◌∙◌, true≢false, Vec, Global}
 use Rattle.std.specs.Prelude.{◌⊎◌, Contains, Result, Ok, Err, IsTrue}
 use Rattle.gf_ops.specs.declared.op.Op.{Op}
 use Rattle.gf_ops.specs.Limits.{IsInRange}
@@ -10,13 +10,12 @@ use Rattle.gf_causal.specs.declared.buffer.Offered.{Offered}
 use Rattle.gf_causal.specs.declared.buffer.Offered.TheVariants.{Already, Held}
 use Rattle.gf_causal.specs.declared.faults.OfferFault.{OfferFault}
 use Rattle.gf_causal.specs.declared.faults.OfferFault.TheVariants.{Range, Clash, OutOfMemory}
-use Rattle.gf_causal.specs.HeldOperations.{IsClash, IsKnown, HasOther, Adds}
-use Rattle.gf_json.specs.declared.script_line.Command.{Command}
+use Rattle.gf_causal.specs.HeldOperations.{IsClash, IsKnown, Adds}
 use Rattle.gf_worker.specs.declared.peer.Peer.{Peer}
 use Rattle.gf_worker.specs.declared.work.Work.{Work}
 use Rattle.gf_worker.specs.Peers.{ArePlaced, all_ended, seat_of}
 use Rattle.gf_worker.specs.Coming.{HasCome, IsWhole}
-use Rattle.gf_worker.specs.Working.{Gathers, IsUnderway, Continues, Hears, ran_out}
+use Rattle.gf_worker.specs.Working.{Gathers, Continues, Hears, ran_out}
 use Rattle.gf_worker.proofs.PeerLemmas.{ComesMore}
 
 pub continues_refl : (w : Work) → Continues w w

@@ -1,9 +1,8 @@
 -- A worker goes on when its site steps.
-use Rattle.std.proofs.Common.{◌≡◌, ◌≢◌, ℕ, Bool, true, false, List, [], ◌∷◌, ◌++◌, map, inl, inr, refl, sym, ap, subst, ◌∙◌, true≢false}
-use Rattle.std.specs.Prelude.{Contains, Some}
+use Rattle.std.proofs.Common.{◌≡◌, true, false, List, [], ◌∷◌, ◌++◌, inl, inr, refl, sym, subst, true≢false}
+use Rattle.std.specs.Prelude.{Contains}
 use Rattle.std.proofs.lemmas.List.Elements.{Contains-append_left, Contains-push, Contains-push_cases}
 use Rattle.gf_ops.specs.declared.op.Op.{Op}
-use Rattle.gf_ops.specs.declared.op.OpId.{OpId}
 use Rattle.gf_ops.specs.declared.change.Change.{Change}
 use Rattle.gf_ops.specs.declared.change.Change.TheVariants.{Create, Set}
 use Rattle.gf_ops.specs.declared.faults.OpFault.{OpFault}
@@ -16,19 +15,17 @@ use Rattle.gf_ops.proofs.HistoryLemmas.{site_in_range}
 use Rattle.gf_causal.specs.Ready.{IsReady, NoneIsReady}
 use Rattle.gf_causal.specs.DeliveredPart.{AreReady}
 use Rattle.gf_causal.specs.HeldOperations.{Adds}
-use Rattle.gf_causal.proofs.ListLemmas.{Contains-between, Contains-between_itself, Contains-between_cases}
+use Rattle.gf_causal.proofs.ListLemmas.{Contains-between, Contains-between_cases}
 use Rattle.gf_site.specs.SiteState.{SiteState}
-use Rattle.gf_site.specs.Events.{Takes, Applies, Drops, Steps}
+use Rattle.gf_site.specs.Events.{Steps}
 use Rattle.gf_site.specs.Course.{next}
 use Rattle.gf_site.specs.declared.site.Step.{Step}
 use Rattle.gf_site.specs.declared.site.Step.TheVariants as step
 use Rattle.gf_site.proofs.CourseLemmas.{all_ready}
 use Rattle.gf_json.specs.declared.script_line.Command.{Command}
-use Rattle.gf_worker.specs.declared.report.Cause.TheVariants.{NeverComes}
 use Rattle.gf_worker.specs.declared.work.Work.{Work}
-use Rattle.gf_worker.specs.Messages.{own}
-use Rattle.gf_worker.specs.Coming.{HasCome, IsWhole}
-use Rattle.gf_worker.specs.Working.{Gathers, IsUnderway, IsSilent, Continues, goes_on}
+use Rattle.gf_worker.specs.Coming.{HasCome}
+use Rattle.gf_worker.specs.Working.{Gathers, IsUnderway, Continues, goes_on}
 use Rattle.gf_worker.proofs.CourseLemmas.{course_ready, whole_accepts, comes_after}
 use Rattle.gf_worker.proofs.TurnLemmas.{own_other, played_more}
 use Rattle.gf_worker.proofs.HearLemmas.{continues_refl}

@@ -1,16 +1,16 @@
 -- What sending changes of the peers, and what was sent.
-use Rattle.std.proofs.Common.{◌≡◌, ◌≢◌, ℕ, zero, suc, ◌+◌, ◌<◌, ◌≤◌, Bool, true, false, ◌||◌, List, [], ◌∷◌, ◌++◌, append_assoc, take, drop, map, length, length-append, inl, inr, refl, sym, ap, subst, ◌∙◌, arith, true≢false}
-use Rattle.std.specs.Prelude.{◌⊎◌, Contains, All, IsTrue, IsFalse, Option, Some, None, not, slice_get}
+use Rattle.std.proofs.Common.{◌≡◌, ℕ, zero, suc, ◌<◌, ◌≤◌, Bool, false, List, [], ◌∷◌, ◌++◌, take, drop, map, length, length-append, inl, inr, refl, sym, ap, subst, ◌∙◌, arith}
+use Rattle.std.specs.Prelude.{◌⊎◌, Contains, All, Option, Some, None, slice_get}
 use Rattle.std.specs.List.{list_all, AllByRecursion as ByRecursion}
 use Rattle.std.proofs.lemmas.List.Elements.{All-from_recursion}
-use Rattle.std.proofs.lemmas.List.{append-nil, map-append, length-map}
+use Rattle.std.proofs.lemmas.List.{length-map}
 use Rattle.std.proofs.lemmas.List.Folds.{list_all-map}
 use Rattle.atomic_table.specs.Seated.{TableId}
 use Rattle.gf_ops.specs.declared.op.Op.{Op}
 use Rattle.gf_ops.proofs.ListLemmas.{not_Contains-nil, Contains-cons_cases, Contains-cons_head, Contains-cons_tail, Contains-map, Contains-map_from}
 use Rattle.gf_link.specs.declared.message.Message.{Message}
 use Rattle.gf_link.specs.declared.message.Message.TheVariants as message
-use Rattle.gf_link.specs.Ends.{is_end, is_ended}
+use Rattle.gf_link.specs.Ends.{is_ended}
 use Rattle.gf_link.specs.Seats.{TakeSide, SendSide}
 use Rattle.gf_json.specs.declared.script_line.Command.{Command}
 use Rattle.gf_json.specs.declared.script_line.Command.TheVariants.{Author, Await}
@@ -19,13 +19,12 @@ use Rattle.gf_worker.specs.declared.report.Report.{Report}
 use Rattle.gf_worker.specs.declared.peer.Peer.{Peer}
 use Rattle.gf_worker.specs.declared.work.Work.{Work}
 use Rattle.gf_worker.specs.Messages.{own, told, ops_of}
-use Rattle.gf_worker.specs.Peers.{all_ended, IsPlaced, ArePlaced, Seat, seat_of, with_message, with_last}
+use Rattle.gf_worker.specs.Peers.{all_ended, ArePlaced, Seat, seat_of, with_message, with_last}
 use Rattle.gf_worker.specs.Coming.{HasCome}
 use Rattle.gf_worker.specs.Played.{IsPlayed}
 use Rattle.gf_worker.specs.Telling.{IsOpen, AreOpen}
 use Rattle.gf_worker.specs.Working.{Gathers, Continues, IsTold, AreTold, Plays}
 use Rattle.gf_worker.specs.Turns.{Turn, accepted_change, accepted_changes}
-use Rattle.gf_worker.proofs.HearLemmas.{or_second}
 
 -- ---- lists whose images are one
 

@@ -5,7 +5,6 @@ use Rattle.gf_json.specs.declared.script_line.Command.{Command}
 use Rattle.gf_worker.specs.declared.report.Cause.{Cause}
 use Rattle.gf_worker.specs.declared.report.Report.{Report}
 use Rattle.gf_worker.specs.declared.work.Work.{Work}
-use Rattle.gf_worker.specs.Messages.{own}
 use Rattle.gf_worker.specs.Peers.{ArePlaced, seat_of}
 use Rattle.gf_worker.specs.Working.{Gathers, IsUnderway, AreTold, Plays}
 use Rattle.gf_worker.specs.Turns.{refusal_of}

@@ -1,5 +1,5 @@
 -- No public clause cites this module. What holds of a worker while it runs.
-use Rattle.std.specs.Prelude.{◌≡◌, ◌≢◌, ◌⊎◌, ℕ, Bool, true, false, List, [], ◌++◌, map, Contains, Some, None, IsTrue, Option, Result, Err}
+use Rattle.std.specs.Prelude.{◌≡◌, ◌≢◌, ◌⊎◌, ℕ, Bool, true, false, List, [], ◌++◌, map, Contains, Some, IsTrue, Option, Result, Err}
 use Rattle.atomic_table.specs.Seated.{TableId}
 use Rattle.gf_ops.specs.declared.op.Op.{Op}
 use Rattle.gf_causal.specs.Ready.{NoneIsReady}

@@ -1,4 +1,4 @@
-use Rattle.std.proofs.Common.{◌≤◌, length, false, sym, subst}
+use Rattle.std.proofs.Common.{◌≤◌, false, subst}
 use Rattle.std.specs.Vec.{with_items}
 use Rattle.gf_worker.specs.declared.report.Report.{Report}
 use Rattle.gf_worker.proofs.EndLemmas.{begins, opens, last_items, placed_last, has_worked}

@@ -1,4 +1,4 @@
-use Rattle.std.proofs.Common.{sym, subst}
+use Rattle.std.proofs.Common.{subst}
 use Rattle.gf_causal.specs.HeldOperations.{IsFree}
 use Rattle.gf_worker.proofs.work.Work.has.Goals as goal
 
