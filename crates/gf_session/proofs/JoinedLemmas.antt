@@ -1,8 +1,8 @@
 -- All sites of a session have one history.
-use Rattle.std.proofs.Common.{◌≡◌, ◌≢◌, ℕ, List, [], ◌∷◌, ◌++◌, inl, inr, refl, sym, ap, subst, ◌∙◌}
-use Rattle.std.specs.Prelude.{◌⊎◌, Contains, ◌==◌}
-use Rattle.std.specs.List.{flat_map, filter}
-use Rattle.std.proofs.lemmas.Bool.{cases_eq, eq-eqb}
+use Rattle.std.proofs.Common.{◌≡◌, ◌≢◌, ℕ, List, [], ◌∷◌, inl, inr, refl, sym, ap, subst, ◌∙◌}
+use Rattle.std.specs.Prelude.{◌⊎◌, Contains}
+use Rattle.std.specs.List.{flat_map}
+use Rattle.std.proofs.lemmas.Bool.{cases_eq}
 use Rattle.std.proofs.lemmas.Bool.Decides.{eqb_tells}
 use Rattle.std.proofs.lemmas.List.Elements.{Contains-append_left, Contains-append_right, Contains-append_cases}
 use Rattle.gf_ops.specs.declared.op.Op.{Op}
@@ -10,17 +10,16 @@ use Rattle.gf_ops.specs.declared.op.OpId.{OpId}
 use Rattle.gf_ops.specs.declared.change.Change.{Change}
 use Rattle.gf_ops.specs.declared.change.Change.TheVariants.{Create, Set}
 use Rattle.gf_ops.specs.KnownObject.{IsSuited}
-use Rattle.gf_ops.specs.ValidHistory.{IsValid, Counts, Has}
+use Rattle.gf_ops.specs.ValidHistory.{IsValid}
 use Rattle.gf_ops.proofs.ListLemmas.{not_Contains-nil, Contains-cons_cases, Contains-cons_head, Contains-cons_tail}
 use Rattle.gf_ops.proofs.ValidityLemmas.{same_op}
 use Rattle.gf_causal.specs.DeliveredPart.{AreOneById, HasLastDelivery}
 use Rattle.gf_causal.proofs.FinishLemmas.{last_delivery}
 use Rattle.gf_causal.proofs.CourseLemmas.{delivered_part}
-use Rattle.gf_worker.specs.declared.peer.Peer.{Peer}
 use Rattle.gf_worker.specs.declared.worker.WorkerEnd.{WorkerEnd}
-use Rattle.gf_worker.specs.Messages.{own, ops_of}
-use Rattle.gf_worker.specs.Coming.{HasCome, IsWhole, IsJust, AreForeign}
-use Rattle.gf_session.specs.Joined.{IsFrom, Heard, Sender, IsComplete, AreJoined, HaveOne}
+use Rattle.gf_worker.specs.Messages.{own}
+use Rattle.gf_worker.specs.Coming.{HasCome, AreForeign}
+use Rattle.gf_session.specs.Joined.{AreJoined, HaveOne}
 use Rattle.gf_worker.proofs.CourseLemmas.{course_ready}
 
 -- ---- the operations of one site

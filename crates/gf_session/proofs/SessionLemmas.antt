@@ -2,28 +2,26 @@
 use Rattle.std.proofs.Common.{◌≡◌, ◌≢◌, ℕ, zero, suc, ◌+◌, Bool, true, false, List, [], ◌∷◌, ◌++◌, map, length, get_or, inl, inr, refl, sym, ap, subst, ◌∙◌, arith, true≢false, Vec, Global}
 use Rattle.std.specs.Prelude.{◌⊎◌, Contains, All, Option, Some, None, slice_get, IsTrue}
 use Rattle.std.proofs.lemmas.List.{append-nil, length-map}
-use Rattle.std.proofs.lemmas.List.Concat.{flat_map-append}
 use Rattle.gf_ops.specs.declared.op.Op.{Op}
 use Rattle.gf_ops.proofs.ListLemmas.{not_Contains-nil, Contains-cons_cases, Contains-cons_head, Contains-cons_tail}
 use Rattle.gf_causal.specs.DeliveredPart.{HaveSame}
-use Rattle.gf_link.specs.declared.message.Message.{Message}
 use Rattle.gf_json.specs.declared.script_line.Command.{Command}
 use Rattle.gf_worker.specs.declared.script.Script.{Script}
 use Rattle.gf_worker.specs.declared.peer.Peer.{Peer}
 use Rattle.gf_session.specs.declared.session.Done.{Done}
 use Rattle.gf_worker.specs.declared.worker.WorkerEnd.{WorkerEnd}
-use Rattle.gf_worker.specs.Messages.{own, told, op_in, ops_of, last_message}
+use Rattle.gf_worker.specs.Messages.{own, told, ops_of, last_message}
 use Rattle.gf_worker.specs.Peers.{Seat, seat_of}
 use Rattle.gf_worker.specs.Played.{IsPlayed}
-use Rattle.gf_session.specs.Outcome.{Place, IsSiteOutcome, IsOutcome}
-use Rattle.gf_worker.specs.Ending.{HasSent, HasPlayed, HasWorked}
+use Rattle.gf_session.specs.Outcome.{Place, IsSiteOutcome}
+use Rattle.gf_worker.specs.Ending.{HasSent, HasWorked}
 use Rattle.gf_session.specs.Joined.{IsFrom, Heard, Sender, IsComplete, AreJoined, HaveOne}
 use Rattle.gf_session.specs.declared.starting.Start.{Start}
 use Rattle.gf_session.specs.Starting.{Gave, GaveAll}
 use Rattle.gf_link.specs.Ends.{is_ended}
 use Rattle.atomic_table.specs.Seated.{TableId}
-use Rattle.gf_session.specs.Session.{IsSession, places, place_of}
-use Rattle.gf_session.specs.Pair.{AreTwo, AreLinked, HaveExchanged, AreSettled}
+use Rattle.gf_session.specs.Session.{IsSession, place_of}
+use Rattle.gf_session.specs.Pair.{AreTwo, AreLinked, AreSettled}
 use Rattle.gf_worker.proofs.TellLemmas.{all_from}
 use Rattle.gf_session.proofs.JoinedLemmas.{one_history}
 

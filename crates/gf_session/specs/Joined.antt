@@ -1,5 +1,5 @@
 -- The workers of a session, once all have returned and each link told that all that was sent was taken (this project's choice).
-use Rattle.std.specs.Prelude.{◌≡◌, ◌≢◌, false, List, Contains}
+use Rattle.std.specs.Prelude.{◌≡◌, ◌≢◌, List, Contains}
 use Rattle.gf_ops.specs.declared.op.Op.{Op}
 use Rattle.gf_ops.specs.ValidHistory.{IsValid}
 use Rattle.gf_causal.specs.DeliveredPart.{HaveSame}
@@ -40,7 +40,7 @@ pub record AreJoined (ends : List WorkerEnd) : Type 0 where
   pub heard : (e f : WorkerEnd) → Contains ends e → Contains ends f → e.site.number ≢ f.site.number → Heard e f
   pub senders : (e : WorkerEnd) → Contains ends e → (p : Peer) → Contains e.seats.items p → Sender ends e p
 
--- h is a valid history, and each list has just its operations
+-- the history is valid, and each list has just its operations
 pub record HaveOne (ends : List WorkerEnd) : Type 0 where
   pub history : List Op
   pub valid : IsValid history

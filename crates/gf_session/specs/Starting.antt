@@ -1,8 +1,7 @@
 -- Sites that are to run, over a table of links (this project's choice).
-use Rattle.std.specs.Prelude.{◌≡◌, ◌≤◌, ℕ, false, List, [], map, All, vec_len, Contains}
+use Rattle.std.specs.Prelude.{◌≡◌, ◌≤◌, false, List, [], map, All, vec_len}
 use Rattle.std.specs.List.{AllZip}
 use Rattle.atomic_table.specs.Seated.{TableId}
-use Rattle.gf_worker.specs.declared.peer.Peer.{Peer}
 use Rattle.gf_session.specs.declared.starting.Start.{Start}
 use Rattle.gf_worker.specs.declared.worker.WorkerEnd.{WorkerEnd}
 use Rattle.gf_worker.specs.Peers.{IsPlaced, IsFresh, seat_of}
