@@ -226,8 +226,8 @@ impl History {
         Ok(())
     }
 
-    /// Appends an operation that `check` accepted.
-    fn push(&mut self, op: Op)
+    /// Appends an operation that `check` accepts, where `room` made room for it.
+    pub fn push(&mut self, op: Op)
         requires in_range { IsInRange op }
         requires accepted { IsAccepted self.old.ops op }
         requires room { 0 < self.old.room }

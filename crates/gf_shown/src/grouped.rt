@@ -82,10 +82,11 @@ impl GroupedHistory {
         if self.history.room().is_err() {
             return Err(AddFault::OutOfMemory);
         }
-        match self.table.add(&self.history, &op) {
-            Ok(()) => self.history.add(op),
-            Err(OutOfMemory) => Err(AddFault::OutOfMemory),
+        if self.table.add(&self.history, &op).is_err() {
+            return Err(AddFault::OutOfMemory);
         }
+        self.history.push(op);
+        Ok(())
     }
 
     /// Its visible versions, topmost first.
