@@ -17,7 +17,7 @@ use std::thread;
 use std::thread::Threads;
 
 /// The rows from `top` on, `count` of them.
-fn painted<S: Shape>(
+pub(crate) fn painted<S: Shape>(
     alloc: Global,
     layers: &Layers<'_, S>,
     window: Window,

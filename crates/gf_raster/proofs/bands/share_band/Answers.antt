@@ -3,7 +3,7 @@ use Rattle.gf_layers.specs.Layers.{layered}
 use Rattle.gf_layers.specs.Picture.{rows}
 use Rattle.gf_raster.specs.Shares.{AreShares, cut}
 use Rattle.gf_raster.proofs.ShareLemmas.{shared}
-use Rattle.gf_raster.proofs.bands.band.Goals as goal
+use Rattle.gf_raster.proofs.bands.share_band.Goals as goal
 
 pub returns : goal.returns
 returns g c =
