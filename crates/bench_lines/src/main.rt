@@ -30,12 +30,13 @@ fn main(rt: HostRuntime) -> ExitCode {
 /// How many lines of a source are JSON objects, if all are JSON.
 fn counted<R: Source>(alloc: Global, source: &mut R) -> Option<u64> {
     let bytes = read_input(alloc, source).ok()?;
-    let mut lines = TextLines::new(&bytes);
+    let mut lines = TextLines::new(bytes);
     let mut count = 0u64;
-    while let Some((_, line)) = lines.next() {
+    while let Some((_, line)) = lines.first() {
         if Value::from_slice(alloc, line).ok()?.is_object() {
             count = count.saturating_add(1);
         }
+        lines.advance();
     }
     Some(count)
 }

@@ -1,31 +1,18 @@
 //! Tests of what the clauses mean: texts with the lines that the format asks for.
 
-ghost use Rattle.std.specs.Prelude.{◌≡◌, IfOk, map};
-ghost use Rattle.gf_bytes.specs.TextLines.{numbered_lines};
-
 use gf_bytes::TextLines;
-use std::alloc::{AllocError, Global};
+use std::alloc::Global;
 use std::test::Fail;
 
-/// All lines of a text: the loop of a caller.
-fn all_lines<'a>(alloc: Global, text: &'a [u8]) -> Result<Vec<(u64, &'a [u8])>, AllocError>
-    ensures { IfOk result (λ found. map (λ line. (line.0, line.1.now)) found.items ≡ numbered_lines text.now) }
-{
-    let mut found = Vec::new(alloc);
-    let mut lines = TextLines::new(text);
-    while let Some(line) = lines.next() {
-        found.push(line)?;
-    }
-    Ok(found)
-}
-
-/// They as text: each with its number, and ended by a bar.
+/// All lines of a text, as a caller takes them, as text: each with its number, and ended by a bar.
 fn told(alloc: Global, text: &str) -> Result<String, Fail> {
     let mut told = String::new(alloc);
-    for (number, line) in all_lines(alloc, text.as_bytes())? {
+    let mut lines = TextLines::new(text.as_bytes().to_vec(alloc)?);
+    while let Some((number, line)) = lines.first() {
         let line = std::str::from_utf8(line)?;
         let line = format!(in alloc; "{number}:{line}|")?;
         told.push_str(line.as_str())?;
+        lines.advance();
     }
     Ok(told)
 }
