@@ -1,9 +1,10 @@
 -- The points of a polygon, and what is read of them.
-use Rattle.std.proofs.Common.{◌≡◌, ℕ, ◌≤◌, ◌+◌, ◌-◌, ℤ, List, [], ◌∷◌, length, map, drop, get_or, refl, subst, arith, Ok, Err, inl, inr, if◌then◌else◌, true, ◌&&◌, int_le, pos, negsuc}
-use Rattle.std.specs.Prelude.{IsTrue, ⊤}
+use Rattle.std.proofs.Common.{◌≡◌, ℕ, ◌≤◌, ◌+◌, ◌-◌, ℤ, List, [], ◌∷◌, length, map, drop, get_or, refl, sym, subst, ◌∙◌, arith, Ok, Err, inl, inr, if◌then◌else◌, true, ◌&&◌, int_le, pos, negsuc}
+use Rattle.std.specs.Prelude.{All, IsOk, ⊤}
 use Rattle.std.specs.List.{list_all}
 use Rattle.std.proofs.lemmas.Bool.{cases_Bool}
 use Rattle.std.proofs.lemmas.List.{drop_more}
+use Rattle.std.proofs.lemmas.List.Elements.{All-nil, All-cons}
 use Rattle.gf_shape.specs.declared.point.Point.{Point}
 use Rattle.gf_ops.specs.Limits.{is_near, is_count, is_polygon}
 use Rattle.serde_json.specs.Data.{Data}
@@ -13,7 +14,7 @@ use Rattle.gf_json.specs.declared.line_error.LineError.{LineError}
 use Rattle.gf_json.specs.declared.line_error.LineError.TheVariants as fault
 use Rattle.gf_json.specs.LineValues.{Got, mapped, and_then, ◌&◌, each, elements, two, whole}
 use Rattle.gf_json.specs.LineLimits.{coordinate, point, counted, points_of}
-use Rattle.gf_json.specs.CheckedPoints.{checked, checked_point}
+use Rattle.gf_json.specs.CheckedPoints.{checked, read_point}
 use Rattle.gf_json.proofs.ArrayLemmas.{mapped-parts, beside-parts, beside-mapped, each-all, length-elements}
 
 -- ---- one value after the other, from the last to the first
@@ -37,26 +38,40 @@ checked_before vs v n l m e =
 
 -- ---- what is read of all of them
 
--- elements that are read have their points
-each-checked : (vs : List Value) (ps : List Point) → each point (elements (items_view vs)) ≡ Ok ps → map (λ v. checked_point (view v)) vs ≡ ps
-each-checked [] ps h = cc
-each-checked (v ∷ vs) ps h =
-    let (q, b, e) = mapped-parts {A = Point × List Point} (λ r. r.0 ∷ r.1) (point (view v) & each point (elements (items_view vs))) ps h in
-    let parts = beside-parts (point (view v)) (each point (elements (items_view vs))) q b in
-    rw (parts.0, each-checked vs q.1 parts.1) e
+-- values that were checked are points
+all_points : (vs : List Value) (t : ⊤) → checked (each point (elements (items_view vs))) ≡ Ok t → All (λ v. IsOk (point (view v))) vs
+all_points [] t h = All-nil _
+all_points (v ∷ vs) t h =
+    let e : checked (point (view v) & checked (each point (elements (items_view vs)))) ≡ Ok t = sym (checked-beside (point (view v)) (each point (elements (items_view vs)))) ∙ h in
+    let (q, b, u) = mapped-parts {B = ⊤} (λ a. tt) (point (view v) & checked (each point (elements (items_view vs)))) t e in
+    let parts = beside-parts (point (view v)) (checked (each point (elements (items_view vs)))) q b in
+    All-cons (λ w. IsOk (point (view w))) v vs (rw parts.0 refl) (all_points vs q.1 parts.1)
+
+-- elements that are points are read as these
+each-points : (vs : List Value) (ps : List Point) → map (λ v. point (view v)) vs ≡ map read_point ps → each point (elements (items_view vs)) ≡ Ok ps
+each-points [] [] h = refl
+each-points [] (p ∷ ps) h = absurd cc
+each-points (v ∷ vs) [] h = absurd cc
+each-points (v ∷ vs) (p ∷ ps) h =
+    let first : point (view v) ≡ Ok p = cc in
+    let rest : map (λ w. point (view w)) vs ≡ map read_point ps = cc in
+    rw (first, each-points vs ps rest) refl
 
 -- a fault that a map leaves
 mapped-fault : {A B C : Type 0} (f : A → B) (g : A → C) (x : Got A) (e : LineError) → mapped f x ≡ Err e → mapped g x ≡ Err e
 mapped-fault f g (Ok a) e h = absurd cc
 mapped-fault f g (Err d) e h = cc
 
--- where the values are checked, their points are read
-pub points_of-read : (vs : List Value) (p : ℕ × ⊤) → (counted (length vs) & checked (each point (elements (items_view vs)))) ≡ Ok p
-    → points_of (elements (items_view vs)) ≡ Ok (map (λ v. checked_point (view v)) vs)
-points_of-read vs p h =
+-- where the count and the values are checked, each value is a point
+pub points_checked : (vs : List Value) (p : ℕ × ⊤) → (counted (length vs) & checked (each point (elements (items_view vs)))) ≡ Ok p → All (λ v. IsOk (point (view v))) vs
+points_checked vs p h = all_points vs p.1 (beside-parts (counted (length vs)) (checked (each point (elements (items_view vs)))) p h).1
+
+-- and these points are read
+pub points_of-read : (vs : List Value) (ps : List Point) (p : ℕ × ⊤) → (counted (length vs) & checked (each point (elements (items_view vs)))) ≡ Ok p
+    → map (λ v. point (view v)) vs ≡ map read_point ps → points_of (elements (items_view vs)) ≡ Ok ps
+points_of-read vs ps p h read =
     let parts = beside-parts (counted (length vs)) (checked (each point (elements (items_view vs)))) p h in
-    let (ps, b, e) = mapped-parts {B = ⊤} (λ a. tt) (each point (elements (items_view vs))) p.1 parts.1 in
-    rw (length-elements vs, parts.0, b, each-checked vs ps b) refl
+    rw (length-elements vs, parts.0, each-points vs ps read) refl
 
 -- and where they are not, the fault is theirs
 pub points_of-refused : (vs : List Value) (e : LineError) → (counted (length vs) & checked (each point (elements (items_view vs)))) ≡ Err e
@@ -115,17 +130,12 @@ is_polygon-parts : (ps : List Point) (n : ℕ) → length ps ≡ n → is_count 
 is_polygon-parts ps n e t h = rw (e, t) h
 
 -- points that are read keep the limits
-points_of-within : (ds : List Data) (ps : List Point) → points_of ds ≡ Ok ps → is_polygon ps ≡ true
+pub points_of-within : (ds : List Data) (ps : List Point) → points_of ds ≡ Ok ps → is_polygon ps ≡ true
 points_of-within ds ps h =
     let (q, b, e) = mapped-parts {A = ℕ × List Point} {B = List Point} (λ p. p.1) (counted (length ds) & each point ds) ps h in
     let parts = beside-parts (counted (length ds)) (each point ds) q b in
     let all = each-all is_near point point-near ds q.1 parts.1 in
     subst (λ (rs : List Point). is_polygon rs ≡ true) e
     (is_polygon-parts q.1 (length ds) (length-each point ds q.1 parts.1) (counted-within (length ds) q.0 parts.0) all)
-
--- so do those that were checked before
-pub checked-within : (vs : List Value) (p : ℕ × ⊤) → (counted (length vs) & checked (each point (elements (items_view vs)))) ≡ Ok p
-    → IsTrue (is_polygon (map (λ v. checked_point (view v)) vs))
-checked-within vs p h = points_of-within (elements (items_view vs)) _ (points_of-read vs p h)
 
 pub ruleset refusals = (points_of-refused)

@@ -7,19 +7,12 @@
 //! - [`LineError`]: why a line is no operation and no command.
 #![tactic(auto)]
 
-mod line_changes;
-mod line_colours;
 mod line_error;
-mod line_fields;
-mod line_keys;
-mod line_points;
-mod line_values;
-mod lines;
+mod reading;
 mod script_line;
-mod written_lines;
-mod written_values;
+mod writing;
 
 pub use line_error::LineError;
-pub use lines::{read_op, read_script};
+pub use reading::{read_op, read_script};
 pub use script_line::{Command, ScriptLine};
-pub use written_lines::op_line;
+pub use writing::op_line;

@@ -1,0 +1,16 @@
+use Rattle.std.proofs.Common.{◌≡◌, ◌≤◌, drop, length}
+use Rattle.serde_json.specs.View.{items_view}
+use Rattle.gf_json.specs.LineValues.{each, elements}
+use Rattle.gf_json.specs.LineLimits.{point}
+use Rattle.gf_json.specs.CheckedPoints.{checked}
+use Rattle.gf_json.proofs.reading.points.are_points.Given as goal
+
+-- those from the first that is left to check on are checked
+abbrev pub invariant-loop-left : goal.invariant-loop-left
+invariant-loop-left l = record {
+  within : l.left ≤ length l.values;
+  found : l.found ≡ checked (each point (elements (items_view (drop l.left l.values))));
+}
+
+abbrev pub decreases-loop-left : goal.decreases-loop-left
+decreases-loop-left l = l.left

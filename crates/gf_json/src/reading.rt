@@ -1,0 +1,133 @@
+//! Operation lines and script lines.
+
+ghost use Rattle.std.specs.Prelude.{◌≡◌, ◌⊎◌, Err, IfOk, IsTrue, codes};
+ghost use Rattle.serde_json.specs.View.{view};
+ghost use Rattle.gf_ops.specs.Limits.{IsInRange, is_change};
+ghost use Rattle.gf_json.specs.LineValues.{mapped};
+ghost use Rattle.gf_json.specs.LineKeys.{author_keys};
+ghost use Rattle.gf_json.specs.LineChanges.{change};
+ghost use Rattle.gf_json.specs.OperationLines.{json, op_with, op_of, denoted};
+ghost use Rattle.gf_json.specs.ScriptLines.{authored, awaited, script_of, script_denoted, IsScriptInRange};
+
+mod changes;
+mod colours;
+mod fields;
+mod keys;
+mod points;
+mod values;
+
+use crate::reading::changes::change;
+use crate::reading::fields::{id, past, site};
+use crate::reading::keys::awaits;
+use crate::reading::values::both;
+use crate::{Command, LineError, ScriptLine};
+use gf_ops::{Change, Op};
+use serde_json::Value;
+use std::alloc::Global;
+
+/// The operation that a line denotes, or its first fault.
+pub fn read_op(alloc: Global, line: &[u8]) -> Result<Op, LineError>
+    ensures denoted { (result ≡ Err LineError.OutOfMemory) ⊎ (result ≡ denoted line.now) }
+    ensures in_range { IfOk result (λ op. IsInRange op) }
+{
+    match json(alloc, line) {
+        Ok(value) => op_of(alloc, &value),
+        Err(fault) => Err(fault),
+    }
+}
+
+/// The command that a line of a script denotes, or its first fault.
+pub fn read_script(alloc: Global, line: &[u8]) -> Result<ScriptLine, LineError>
+    ensures denoted { (result ≡ Err LineError.OutOfMemory) ⊎ (result ≡ script_denoted line.now) }
+    ensures in_range { IfOk result (λ s. IsScriptInRange s) }
+{
+    match json(alloc, line) {
+        Ok(value) => script_of(alloc, &value),
+        Err(fault) => Err(fault),
+    }
+}
+
+/// The value of a line.
+fn json(alloc: Global, line: &[u8]) -> Result<Value, LineError>
+    ensures { (result ≡ Err LineError.OutOfMemory) ⊎ (mapped view result ≡ json line.now) }
+{
+    match Value::from_slice(alloc, line) {
+        Ok(value) => Ok(value),
+        Err(error) => {
+            if error.is_memory() {
+                Err(LineError::OutOfMemory)
+            } else {
+                Err(LineError::Json)
+            }
+        }
+    }
+}
+
+fn op_of(alloc: Global, line: &Value) -> Result<Op, LineError>
+    ensures value { (result ≡ Err LineError.OutOfMemory) ⊎ (result ≡ op_of (view line.now)) }
+    ensures in_range { IfOk result (λ op. IsInRange op) }
+{
+    let keys = ["op", "id", "past"];
+    match change(alloc, line, "op", &keys) {
+        Err(LineError::OutOfMemory) => Err(LineError::OutOfMemory),
+        change => op_with(change, line),
+    }
+}
+
+/// The operation that makes this change.
+fn op_with(change: Result<Change, LineError>, line: &Value) -> Result<Op, LineError>
+    requires { IfOk change (λ c. IsTrue (is_change c)) }
+    ensures value { result ≡ op_with change (view line.now) }
+    ensures in_range { IfOk result (λ op. IsInRange op) }
+{
+    let (id, (past, change)) = both(id(line), both(past(line), change))?;
+    Ok(Op { id, past, change })
+}
+
+fn script_of(alloc: Global, line: &Value) -> Result<ScriptLine, LineError>
+    ensures value { (result ≡ Err LineError.OutOfMemory) ⊎ (result ≡ script_of (view line.now)) }
+    ensures in_range { IfOk result (λ s. IsScriptInRange s) }
+{
+    if awaits(line) {
+        awaited(line)
+    } else {
+        authoring(alloc, line)
+    }
+}
+
+/// The command to wait for an operation.
+fn awaited(line: &Value) -> Result<ScriptLine, LineError>
+    ensures value { result ≡ awaited (view line.now) }
+    ensures in_range { IfOk result (λ s. IsScriptInRange s) }
+{
+    let (site, id) = both(site(line), id(line))?;
+    Ok(ScriptLine {
+        site,
+        command: Command::Await(id),
+    })
+}
+
+/// The command to make a change.
+fn authoring(alloc: Global, line: &Value) -> Result<ScriptLine, LineError>
+    ensures value { (result ≡ Err LineError.OutOfMemory) ⊎ (result ≡ authored (change (codes "do") author_keys (view line.now)) (view line.now)) }
+    ensures in_range { IfOk result (λ s. IsScriptInRange s) }
+{
+    let keys = ["do", "site"];
+    match change(alloc, line, "do", &keys) {
+        Err(LineError::OutOfMemory) => Err(LineError::OutOfMemory),
+        change => authored(change, line),
+    }
+}
+
+/// The command to make this change.
+fn authored(change: Result<Change, LineError>, line: &Value) -> Result<ScriptLine, LineError>
+    requires { IfOk change (λ c. IsTrue (is_change c)) }
+    ensures value { result ≡ authored change (view line.now) }
+    ensures in_range { IfOk result (λ s. IsScriptInRange s) }
+{
+    let (site, change) = both(site(line), change)?;
+    Ok(ScriptLine {
+        site,
+        command: Command::Author(change),
+    })
+}

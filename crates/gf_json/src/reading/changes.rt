@@ -1,0 +1,140 @@
+//! The change that a line tells of.
+
+ghost use Rattle.std.specs.Prelude.{◌≡◌, ◌⊎◌, ◌&&◌, Err, IfOk, IsTrue, map};
+ghost use Rattle.serde_json.specs.View.{view};
+ghost use Rattle.gf_ops.specs.Limits.{is_change, is_form, is_layer, is_near, is_value};
+ghost use Rattle.gf_json.specs.LineValues.{◌&◌};
+ghost use Rattle.gf_json.specs.LineFields.{polygon_points, colour, layer, shown};
+ghost use Rattle.gf_json.specs.LineChanges.{start, named_value, new_value, creation, setting, change};
+
+use crate::LineError;
+use crate::reading::colours::hex_colour;
+use crate::reading::fields::{
+    box_size, circle_size, colour, layer, object, place, polygon_points, shown, value_at,
+};
+use crate::reading::keys::{creates, says, sets};
+use crate::reading::points::points;
+use crate::reading::values::{both, level, point, size, truth};
+use gf_ops::{Change, Form, Start};
+use gf_shape::Rgb;
+use serde_json::Value;
+use std::alloc::Global;
+
+/// The change of a line whose verb stands at this key, and which has these keys beside those of
+/// the change.
+pub(crate) fn change(
+    alloc: Global,
+    line: &Value,
+    verb: &str,
+    beside: &[&str],
+) -> Result<Change, LineError>
+    ensures value { (result ≡ Err LineError.OutOfMemory) ⊎ (result ≡ change verb.now (map (λ key. key.now) beside.now) (view line.now)) }
+    ensures in_range { IfOk result (λ c. IsTrue (is_change c)) }
+{
+    if creates(line, verb, beside, "box", "size") {
+        creation(box_size(line), line)
+    } else if creates(line, verb, beside, "circle", "size") {
+        creation(circle_size(line), line)
+    } else if creates(line, verb, beside, "polygon", "points") {
+        polygon_creation(alloc, line)
+    } else if sets(line, verb, beside) {
+        set(alloc, line)
+    } else {
+        Err(LineError::Field)
+    }
+}
+
+/// The change that creates a polygon.
+fn polygon_creation(alloc: Global, line: &Value) -> Result<Change, LineError>
+    ensures value { (result ≡ Err LineError.OutOfMemory) ⊎ (result ≡ creation (polygon_points (view line.now)) (view line.now)) }
+    ensures in_range { IfOk result (λ c. IsTrue (is_change c)) }
+{
+    match polygon_points(alloc, line) {
+        Err(LineError::OutOfMemory) => Err(LineError::OutOfMemory),
+        form => creation(form, line),
+    }
+}
+
+/// The change that creates an object of this form.
+fn creation(form: Result<Form, LineError>, line: &Value) -> Result<Change, LineError>
+    requires { IfOk form (λ f. IsTrue (is_form f)) }
+    ensures value { result ≡ creation form (view line.now) }
+    ensures in_range { IfOk result (λ c. IsTrue (is_change c)) }
+{
+    let start = start(form, line)?;
+    Ok(Change::Create(start))
+}
+
+fn start(form: Result<Form, LineError>, line: &Value) -> Result<Start, LineError>
+    requires { IfOk form (λ f. IsTrue (is_form f)) }
+    ensures value { result ≡ start form (view line.now) }
+    ensures in_range { IfOk result (λ s. IsTrue (is_form s.form && is_near s.place && is_layer s.layer)) }
+{
+    let (form, (place, look)) = both(form, both(place(line), look(line)))?;
+    let (colour, (layer, shown)) = look;
+    Ok(Start {
+        form,
+        place,
+        colour,
+        layer,
+        shown,
+    })
+}
+
+fn look(line: &Value) -> Result<(Rgb, (u16, bool)), LineError>
+    ensures value { result ≡ (colour (view line.now) & layer (view line.now) & shown (view line.now)) }
+    ensures in_range { IfOk result (λ l. IsTrue (is_layer l.1.0)) }
+{
+    both(colour(line), both(layer(line), shown(line)))
+}
+
+/// The change that sets an attribute.
+fn set(alloc: Global, line: &Value) -> Result<Change, LineError>
+    ensures value { (result ≡ Err LineError.OutOfMemory) ⊎ (result ≡ setting (new_value (view line.now)) (view line.now)) }
+    ensures in_range { IfOk result (λ c. IsTrue (is_change c)) }
+{
+    match new_value(alloc, line) {
+        Err(LineError::OutOfMemory) => Err(LineError::OutOfMemory),
+        value => setting(value, line),
+    }
+}
+
+/// The change that sets an attribute to this value.
+fn setting(value: Result<gf_ops::Value, LineError>, line: &Value) -> Result<Change, LineError>
+    requires { IfOk value (λ v. IsTrue (is_value v)) }
+    ensures value { result ≡ setting value (view line.now) }
+    ensures in_range { IfOk result (λ c. IsTrue (is_change c)) }
+{
+    let (object, value) = both(object(line), value)?;
+    Ok(Change::Set { object, value })
+}
+
+fn new_value(alloc: Global, line: &Value) -> Result<gf_ops::Value, LineError>
+    ensures value { (result ≡ Err LineError.OutOfMemory) ⊎ (result ≡ new_value (view line.now)) }
+    ensures in_range { IfOk result (λ v. IsTrue (is_value v)) }
+{
+    named_value(alloc, line, value_at(line, "to")?)
+}
+
+/// The value in the form of the attribute that the line names.
+fn named_value(alloc: Global, line: &Value, value: &Value) -> Result<gf_ops::Value, LineError>
+    ensures value { (result ≡ Err LineError.OutOfMemory) ⊎ (result ≡ named_value (view line.now) (view value.now)) }
+    ensures in_range { IfOk result (λ v. IsTrue (is_value v)) }
+{
+    if says(line, "set", "place") {
+        point(value).map(gf_ops::Value::Place)
+    } else if says(line, "set", "points") {
+        points(alloc, value).map(gf_ops::Value::Points)
+    } else if says(line, "set", "size") {
+        let (width, height) = size(value)?;
+        Ok(gf_ops::Value::Size(width, height))
+    } else if says(line, "set", "colour") {
+        hex_colour(value).map(gf_ops::Value::Colour)
+    } else if says(line, "set", "layer") {
+        level(value).map(gf_ops::Value::Layer)
+    } else if says(line, "set", "shown") {
+        truth(value).map(gf_ops::Value::Shown)
+    } else {
+        Err(LineError::Field)
+    }
+}
