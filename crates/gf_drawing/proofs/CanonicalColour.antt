@@ -21,7 +21,7 @@ use Rattle.gf_drawing.specs.CanonicalDrawing.{IsCanonical, Paints, colours_of, c
 use Rattle.gf_drawing.specs.DrawingColour.{drawing_colour, figure_colour}
 use Rattle.gf_drawing.specs.DrawingState.{DrawingState}
 use Rattle.gf_drawing.specs.Outlined.{PaintsAsFig, outlined}
-use Rattle.gf_drawing.proofs.CompilingLemmas.{own_colour, length-canonical_figures}
+use Rattle.gf_drawing.proofs.CompilingLemmas.{length-figures, own_colour}
 use Rattle.gf_drawing.proofs.DrawingLaw.{first_figure_colours}
 use Rattle.gf_drawing.proofs.NumberLemmas.{number_gives}
 use Rattle.gf_drawing.proofs.OutlinedLemmas.{drawing_colour-outlined}
@@ -47,7 +47,7 @@ module _ {S : Type 0} (holds : S → Point → Bool) where
   -- the canonical drawing's colour at p is that of the first item that holds p
   canonical_first : (items : List (Placed S)) (p : Point) → length items ≤ 1000 → drawing_colour holds (canonical_table items) (canonical_figures items) p ≡ first_colour holds items p
   canonical_first items p few =
-      let long = length-canonical_figures items in
+      let long = length-figures (colours_of items) items in
       first_figure_colours holds (canonical_table items) (canonical_figures items) p (omega arith) (counted (colours_of items) 0 items ∙ ap (range_with_len 0) (sym long))
       ∙ first_figure (colours_of items) 0 items p (own_colour items)
 

@@ -1,22 +1,21 @@
--- The canonical drawing grows by one figure with each version.
-use Rattle.std.proofs.Common.{◌≡◌, ℕ, ◌+◌, ◌<◌, ◌≤◌, Bool, true, false, List, [], ◌∷◌, ◌++◌, map, length, suc, refl, sym, ap, subst, ◌∙◌, inl, inr, arith, length-append, append_assoc}
-use Rattle.std.specs.Prelude.{not, ◌||◌, filter, All}
-use Rattle.std.specs.List.{position_or_len, enumerate_from, list_any}
-use Rattle.std.proofs.lemmas.Bool.{cases_Bool, or_parts}
-use Rattle.std.proofs.lemmas.List.{append-nil, map-append, length-map}
-use Rattle.std.proofs.lemmas.List.Elements.{filter-append, All-nil, All-cons, All-head, All-tail, All-weaker}
+-- The distinct colours of versions, and the figures of the canonical drawing, one more at a time.
+use Rattle.std.proofs.Common.{◌≡◌, ℕ, ◌+◌, ◌<◌, true, false, List, [], ◌∷◌, ◌++◌, map, length, take, get_or, suc, refl, sym, ap, subst, ◌∙◌, inl, inr, arith}
+use Rattle.std.specs.Prelude.{All, not, ◌||◌, filter, if◌then◌else◌}
+use Rattle.std.specs.List.{enumerate_from, list_any}
+use Rattle.std.proofs.Math.Seq.{take-suc}
+use Rattle.std.proofs.lemmas.Bool.{cases_Bool}
+use Rattle.std.proofs.lemmas.List.{append-nil, map-append, length-map, length-take-le}
+use Rattle.std.proofs.lemmas.List.Elements.{filter-append, All-nil, All-cons, All-weaker}
 use Rattle.std.proofs.lemmas.List.FromFn.{length-enumerate_from}
 use Rattle.gf_shape.specs.declared.colour.Rgb.{Rgb}
 use Rattle.gf_versions.specs.declared.placed.Placed.{Placed}
 use Rattle.gf_ops.specs.ConflictTests.{colour_eq}
 use Rattle.gf_ops.proofs.SameLemmas.{colours_told}
-use Rattle.gf_drawing.specs.CanonicalDrawing.{first_seen, colours_of, number_of, canonical_figure, canonical_figures, canonical_drawing}
-use Rattle.gf_drawing.specs.Compiling.{with_item, with_new}
+use Rattle.gf_drawing.specs.CanonicalDrawing.{first_seen, colours_of, canonical_figure}
 
--- where none passes, the place is the length
-pub position_or_len-absent : {X : Type 0} (p : X → Bool) (xs : List X) → list_any p xs ≡ false → position_or_len p xs ≡ length xs
-position_or_len-absent p [] e = refl
-position_or_len-absent p (x ∷ xs) e = let parts = or_parts (p x) (list_any p xs) e in let rest = position_or_len-absent p xs parts.1 in rw parts.0 (omega arith)
+-- the distinct colours cs with c, which goes last if it is new
+abbrev pub with_new : List Rgb → Rgb → List Rgb
+with_new cs c = if list_any (colour_eq c) cs then cs else cs ++ c ∷ []
 
 rgb_false : (c d : Rgb) → colour_eq d c ≡ false → colour_eq c d ≡ false
 rgb_false c d e = elim (cases_Bool (colour_eq c d)) [
@@ -64,31 +63,6 @@ enumerate_from-push n (y ∷ xs) x =
     let e : n + 1 + length xs ≡ n + suc (length xs) = omega arith in
     ap (λ ys. (n, y) ∷ ys) (enumerate_from-push (n + 1) xs x ∙ ap (λ k. enumerate_from (n + 1) xs ++ (k, x) ∷ []) e)
 
--- a colour keeps its place as others are added
-position-with_new : (cs : List Rgb) (c d : Rgb) → list_any (colour_eq c) cs ≡ true → position_or_len (colour_eq c) (with_new cs d) ≡ position_or_len (colour_eq c) cs
-position-with_new cs c d there = elim (cases_Bool (list_any (colour_eq d) cs)) [
-  | inl t ↦ rw t
-  | inr t ↦ rw t (position-append (colour_eq c) cs (d ∷ []) there)
-]
-  where
-    position-append : {X : Type 0} (p : X → Bool) (xs ys : List X) → list_any p xs ≡ true → position_or_len p (xs ++ ys) ≡ position_or_len p xs
-    position-append p [] ys e = absurd cc
-    position-append p (x ∷ xs) ys e = elim (cases_Bool (p x)) [
-      | inl t ↦ rw t
-      | inr t ↦ rw t (ap (λ n. 1 + n) (position-append p xs ys (rw t at e)))
-    ]
-
--- the place of c is the same before and after it is added
-pub position-own : (cs : List Rgb) (c : Rgb) → position_or_len (colour_eq c) (with_new cs c) ≡ position_or_len (colour_eq c) cs
-position-own cs c = elim (cases_Bool (list_any (colour_eq c) cs)) [
-  | inl t ↦ rw t
-  | inr t ↦ rw t (at_end cs t)
-]
-  where
-    at_end : (ds : List Rgb) → list_any (colour_eq c) ds ≡ false → position_or_len (colour_eq c) (ds ++ c ∷ []) ≡ position_or_len (colour_eq c) ds
-    at_end [] e = rw ((colours_told c c).1 refl)
-    at_end (d ∷ ds) e = let parts = or_parts (colour_eq c d) (list_any (colour_eq c) ds) e in rw parts.0 (ap (λ n. 1 + n) (at_end ds parts.1))
-
 -- what was seen stays seen behind another colour
 seen-cons : (c d : Rgb) (cs : List Rgb) → list_any (colour_eq c) (first_seen cs) ≡ true → list_any (colour_eq c) (first_seen (d ∷ cs)) ≡ true
 seen-cons c d cs e = elim (cases_Bool (colour_eq c d)) [
@@ -96,72 +70,44 @@ seen-cons c d cs e = elim (cases_Bool (colour_eq c d)) [
   | inr t ↦ rw (t, list_any-filter c d (first_seen cs) (rgb_false d c t)) e
 ]
 
--- each item's colour is among those of the items
+-- the colour of an item is among those of all
+pub item_colour : {S : Type 0} → (before : List (Placed S)) (i : Placed S) (after : List (Placed S)) → list_any (colour_eq i.colour) (colours_of (before ++ i ∷ after)) ≡ true
+item_colour [] i after = rw ((colours_told i.colour i.colour).1 refl)
+item_colour {S} (j ∷ before) i after = seen-cons i.colour j.colour (map (λ (k : Placed S). k.colour) (before ++ i ∷ after)) (item_colour before i after)
+
+-- so of each
 pub own_colour : {S : Type 0} → (items : List (Placed S)) → All (λ (i : Placed S). list_any (colour_eq i.colour) (colours_of items) ≡ true) items
 own_colour {S} [] = All-nil _
 own_colour {S} (i ∷ items) =
     let Seen : List (Placed S) → Placed S → Type 0 = λ all j. list_any (colour_eq j.colour) (colours_of all) ≡ true in
-    All-cons (Seen (i ∷ items)) i items (rw ((colours_told i.colour i.colour).1 refl))
+    All-cons (Seen (i ∷ items)) i items (item_colour [] i items)
     (All-weaker (Seen items) (Seen (i ∷ items)) (λ j e. seen-cons j.colour i.colour (map (λ (k : Placed S). k.colour) items) e) items (own_colour items))
 
--- figures with their colours numbered by cs and by ds are the same where the numbers are
-figures_same : {S : Type 0} → (cs ds : List Rgb) (n : ℕ) (items : List (Placed S)) → All (λ (i : Placed S). number_of cs i.colour ≡ number_of ds i.colour) items →
-    map (canonical_figure cs) (enumerate_from n items) ≡ map (canonical_figure ds) (enumerate_from n items)
-figures_same {S} cs ds n [] h = refl
-figures_same {S} cs ds n (i ∷ items) h =
-    let Same : Placed S → Type 0 = λ j. number_of cs j.colour ≡ number_of ds j.colour in
-    let first : canonical_figure cs (n, i) ≡ canonical_figure ds (n, i) = λ k. record { shape = i.shape; colour = All-head Same i items h k; depth = n } in
-    ap (λ f. f ∷ map (canonical_figure cs) (enumerate_from (n + 1) items)) first
-    ∙ ap (λ fs. canonical_figure ds (n, i) ∷ fs) (figures_same cs ds (n + 1) items (All-tail Same i items h))
+-- one more figure behind those of the items, with their colours numbered among cs
+pub figures-push : {S : Type 0} → (cs : List Rgb) (items : List (Placed S)) (i : Placed S) →
+    map (canonical_figure cs) (enumerate_from 0 (items ++ i ∷ [])) ≡ map (canonical_figure cs) (enumerate_from 0 items) ++ canonical_figure cs (length items, i) ∷ []
+figures-push {S} cs items i =
+    let e : 0 + length items ≡ length items = omega arith in
+    ap (map (canonical_figure cs)) (enumerate_from-push 0 items i ∙ ap (λ n. enumerate_from 0 items ++ (n, i) ∷ []) e)
+    ∙ map-append (canonical_figure cs) (enumerate_from 0 items) ((length items, i) ∷ [])
 
-pub length-canonical_figures : {S : Type 0} → (items : List (Placed S)) → length (canonical_figures items) ≡ length items
-length-canonical_figures items = length-map (enumerate_from 0 items) (canonical_figure (colours_of items)) ∙ length-enumerate_from 0 items
+pub length-figures : {S : Type 0} → (cs : List Rgb) (items : List (Placed S)) → length (map (canonical_figure cs) (enumerate_from 0 items)) ≡ length items
+length-figures cs items = length-map (enumerate_from 0 items) (canonical_figure cs) ∙ length-enumerate_from 0 items
 
-canonical_figures-push : {S : Type 0} → (items : List (Placed S)) (i : Placed S) → canonical_figures (items ++ i ∷ []) ≡ (with_item (colours_of items) (canonical_drawing items) i).figures
-canonical_figures-push {S} items i =
-    let cs = colours_of items in
-    let ds = colours_of (items ++ i ∷ []) in
-    let grown : ds ≡ with_new cs i.colour = colours_of-push items i in
-    let before : map (canonical_figure ds) (enumerate_from 0 items) ≡ canonical_figures items =
-    figures_same ds cs 0 items (All-weaker (λ (j : Placed S). list_any (colour_eq j.colour) cs ≡ true) (λ (j : Placed S). number_of ds j.colour ≡ number_of cs j.colour)
-    (λ j e. ap (λ xs. number_of xs j.colour) grown ∙ ap (λ n. 32 + n) (position-with_new cs j.colour i.colour e)) items (own_colour items)) in
-    let number : number_of ds i.colour ≡ number_of cs i.colour =
-    ap (λ xs. number_of xs i.colour) grown ∙ ap (λ n. 32 + n) (position-own cs i.colour) in
-    let depth : 0 + length items ≡ length (canonical_figures items) = let e = length-canonical_figures items in omega arith in
-    let last : canonical_figure ds (0 + length items, i) ≡ record { shape = i.shape; colour = number_of cs i.colour; depth = length (canonical_figures items) } =
-    λ k. record { shape = i.shape; colour = number k; depth = depth k } in
-    ap (map (canonical_figure ds)) (enumerate_from-push 0 items i)
-    ∙ (map-append (canonical_figure ds) (enumerate_from 0 items) ((0 + length items, i) ∷ [])
-    ∙ (ap (λ fs. fs ++ canonical_figure ds (0 + length items, i) ∷ []) before ∙ ap (λ f. canonical_figures items ++ f ∷ []) last))
+take_next : {X : Type 0} → (xs : List X) (n : ℕ) (d : X) → n < length xs → take (n + 1) xs ≡ take n xs ++ get_or xs n d ∷ []
+take_next xs n d less =
+    let e : n + 1 ≡ suc n = omega arith in
+    ap (λ k. take k xs) e ∙ take-suc xs n d less
 
--- one more version at the back is one step more
-pub canonical_drawing-push : {S : Type 0} → (items : List (Placed S)) (i : Placed S) → canonical_drawing (items ++ i ∷ []) ≡ with_item (colours_of items) (canonical_drawing items) i
-canonical_drawing-push items i = λ k. record { table = enumerate_from 32 (colours_of-push items i k); figures = canonical_figures-push items i k }
+-- the colours of one item more
+pub one_item_more : {S : Type 0} → (items : List (Placed S)) (n : ℕ) (i : Placed S) → n < length items → i ≡ get_or items n i →
+    colours_of (take (n + 1) items) ≡ with_new (colours_of (take n items)) i.colour
+one_item_more items n i less is =
+    ap colours_of (take_next items n i less ∙ ap (λ j. take n items ++ j ∷ []) (sym is)) ∙ colours_of-push (take n items) i
 
--- more versions have no fewer colours
-colours_of-more : {S : Type 0} → (items rest : List (Placed S)) → length (colours_of items) ≤ length (colours_of (items ++ rest))
-colours_of-more items [] = rw append-nil (omega arith)
-colours_of-more items (i ∷ rest) =
-    let step : length (colours_of items) ≤ length (colours_of (items ++ i ∷ [])) = rw (colours_of-push items i) (with_new-long (colours_of items) i.colour) in
-    let more = colours_of-more (items ++ i ∷ []) rest in
-    let same : length (colours_of ((items ++ i ∷ []) ++ rest)) ≡ length (colours_of (items ++ i ∷ rest)) = ap (λ xs. length (colours_of xs)) (append_assoc items (i ∷ []) rest) in
-    omega arith
-  where
-    with_new-long : (cs : List Rgb) (c : Rgb) → length cs ≤ length (with_new cs c)
-    with_new-long cs c = elim (cases_Bool (list_any (colour_eq c) cs)) [ inl t ↦ rw t (omega arith) | inr t ↦ rw (t, length-append cs (c ∷ [])) (omega arith) ]
-
--- where the colours of the first versions leave no room for the next one's, all have too many
-pub full_table : {S : Type 0} → (seen : List (Placed S)) (i : Placed S) (rest : List (Placed S)) → 512 < length (with_new (colours_of seen) i.colour) →
-    512 < length (colours_of (seen ++ i ∷ rest))
-full_table seen i rest full =
-    let long = ap length (colours_of-push seen i) in
-    let more = colours_of-more (seen ++ i ∷ []) rest in
-    let whole : length (colours_of ((seen ++ i ∷ []) ++ rest)) ≡ length (colours_of (seen ++ i ∷ rest)) = ap (λ xs. length (colours_of xs)) (append_assoc seen (i ∷ []) rest) in
-    omega arith
-
--- the first versions leave room for the next one
-pub canonical_room : {S : Type 0} → (seen : List (Placed S)) (i : Placed S) (rest : List (Placed S)) → length (seen ++ i ∷ rest) ≤ 1000 → length (canonical_figures seen) < 1000
-canonical_room seen i rest few =
-    let figures = length-canonical_figures seen in
-    let long = length-append seen (i ∷ rest) in
-    omega arith
+-- the colours numbered from 32, one more
+pub numbered-next : (cs : List Rgb) (n : ℕ) (d : Rgb) → n < length cs → enumerate_from 32 (take (n + 1) cs) ≡ enumerate_from 32 (take n cs) ++ (32 + n, get_or cs n d) ∷ []
+numbered-next cs n d less =
+    let long : length (take n cs) ≡ n = length-take-le n cs (omega (arith, less)) in
+    ap (enumerate_from 32) (take_next cs n d less)
+    ∙ (enumerate_from-push 32 (take n cs) (get_or cs n d) ∙ ap (λ k. enumerate_from 32 (take n cs) ++ (32 + k, get_or cs n d) ∷ []) long)

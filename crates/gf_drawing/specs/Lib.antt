@@ -4,4 +4,3 @@ pub mod DrawingColour
 pub mod FrontMost
 pub mod CanonicalDrawing
 pub mod Outlined
-pub mod Compiling

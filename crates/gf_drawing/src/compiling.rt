@@ -1,13 +1,12 @@
 //! The drawing of ranked versions.
 
-ghost use Rattle.std.specs.Prelude.{◌≡◌, ◌≢◌, ◌⊎◌, ◌<◌, ◌≤◌, ◌↔◌, not, length, Err, IfOk, OnOk};
-ghost use Rattle.std.specs.List.{enumerate_from, list_any, position_or_len};
+ghost use Rattle.std.specs.Prelude.{◌≡◌, [], ◌⊎◌, ◌<◌, ◌≤◌, ◌↔◌, length, Err, IfOk, OnOk, IsTrue};
+ghost use Rattle.std.specs.List.{enumerate_from, list_any};
 ghost use Rattle.gf_ops.specs.ConflictTests.{colour_eq};
-ghost use Rattle.gf_drawing.specs.CanonicalDrawing.{Fits, canonical_drawing, colours_of, number_of};
-ghost use Rattle.gf_drawing.specs.Compiling.{with_item, with_new};
+ghost use Rattle.gf_drawing.specs.CanonicalDrawing.{Fits, canonical_drawing, canonical_table, colours_of, number_of};
 
 use crate::{Drawing, Figure};
-use gf_shape::{Rgb, Shape};
+use gf_shape::{OutOfMemory, Rgb, Shape};
 use gf_versions::{Placed, Ranked};
 use indexmap::IndexSet;
 use std::alloc::Global;
@@ -36,6 +35,16 @@ pub enum CompileFault {
     OutOfMemory,
 }
 
+impl From<OutOfMemory> for CompileFault {
+    ghost use Rattle.gf_drawing.specs.declared.compiling.CompileFault.{CompileFault};
+
+    ghost from_gives = { λ _ e. e ≡ CompileFault.OutOfMemory };
+
+    fn from(_: OutOfMemory) -> CompileFault {
+        CompileFault::OutOfMemory
+    }
+}
+
 /// The drawing of the versions: the i-th from the top at depth i, counted from 0, and the colours
 /// numbered from 32 as they are first seen from the top.
 pub fn compile<S: Shape>(alloc: Global, ranked: Ranked<S>) -> Result<Drawing<S>, CompileFault>
@@ -48,88 +57,73 @@ pub fn compile<S: Shape>(alloc: Global, ranked: Ranked<S>) -> Result<Drawing<S>,
     if ranked.len() > MOST_VERSIONS {
         return Err(CompileFault::TooManyVersions);
     }
-    drawing_of(alloc, ranked.items)
-}
-
-/// The drawing of at most 1,000 versions.
-fn drawing_of<S: Shape>(alloc: Global, items: Vec<Placed<S>>) -> Result<Drawing<S>, CompileFault>
-    requires { length items.items ≤ 1000 }
-    ensures drawing { IfOk result (λ drawing. drawing ≡ canonical_drawing items.items) }
-    ensures fits { OnOk result (Fits items.items) }
-    ensures colours { result ≡ Err CompileFault.TooManyColours → 512 < length (colours_of items.items) }
-    ensures never { result ≢ Err CompileFault.TooManyVersions }
-{
-    let mut drawing = Drawing::new(alloc);
-    let mut colours = IndexSet::new(alloc);
-    for item in items {
-        add(&mut drawing, &mut colours, item)?;
-    }
-    Ok(drawing)
-}
-
-/// Adds a version behind the figures.
-fn add<S: Shape>(
-    drawing: &mut Drawing<S>,
-    colours: &mut IndexSet<Rgb>,
-    item: Placed<S>,
-) -> Result<(), CompileFault>
-    requires numbered { drawing.old.table ≡ enumerate_from 32 colours.old.keys }
-    requires room { length drawing.old.figures < 1000 }
-    ensures ok { OnOk result (drawing.new ≡ with_item colours.old.keys drawing.old item) }
-    ensures colours { OnOk result ((colours.new.keys ≡ with_new colours.old.keys item.colour) × (length colours.new.keys ≤ 512)) }
-    ensures full { result ≡ Err CompileFault.TooManyColours → 512 < length (with_new colours.old.keys item.colour) }
-    ensures never { result ≢ Err CompileFault.TooManyVersions }
-{
-    let figure = Figure {
-        colour: number(drawing, colours, item.colour)?,
-        depth: drawing.figures().len() as u16,
-        shape: item.shape,
-    };
-    match drawing.add_figure(figure) {
-        Ok(()) => Ok(()),
-        Err(_) => Err(CompileFault::OutOfMemory),
-    }
-}
-
-/// The number of a colour, which is added if it is new.
-fn number<S: Shape>(
-    drawing: &mut Drawing<S>,
-    colours: &mut IndexSet<Rgb>,
-    colour: Rgb,
-) -> Result<u16, CompileFault>
-    requires numbered { drawing.old.table ≡ enumerate_from 32 colours.old.keys }
-    ensures number { IfOk result (λ number. number ≡ number_of colours.old.keys colour) }
-    ensures ok { OnOk result (drawing.new ≡ record drawing.old { table = enumerate_from 32 (with_new colours.old.keys colour) }) }
-    ensures colours { OnOk result ((colours.new.keys ≡ with_new colours.old.keys colour) × (length colours.new.keys ≤ 512)) }
-    ensures full { result ≡ Err CompileFault.TooManyColours → 512 < length (with_new colours.old.keys colour) }
-    ensures never { result ≢ Err CompileFault.TooManyVersions }
-{
-    let (place, is_new) = place(colours, colour)?;
-    let number = FIRST_NUMBER + place as u16;
-    if !is_new {
-        return Ok(number);
-    }
-    match drawing.add_colour(number, colour) {
-        Ok(()) => Ok(number),
-        Err(_) => Err(CompileFault::OutOfMemory),
-    }
-}
-
-/// The place of a colour among the distinct ones as they are first seen, and whether it is new.
-fn place(colours: &mut IndexSet<Rgb>, colour: Rgb) -> Result<(usize, bool), CompileFault>
-    ensures place { IfOk result (λ found. found.0 ≡ position_or_len (colour_eq colour) colours.old.keys) }
-    ensures new { IfOk result (λ found. found.1 ≡ not (list_any (colour_eq colour) colours.old.keys)) }
-    ensures within { IfOk result (λ found. found.0 < 512) }
-    ensures colours { OnOk result ((colours.new.keys ≡ with_new colours.old.keys colour) × (length colours.new.keys ≤ 512)) }
-    ensures full { result ≡ Err CompileFault.TooManyColours → 512 < length (with_new colours.old.keys colour) }
-    ensures never { result ≢ Err CompileFault.TooManyVersions }
-{
-    let (place, is_new) = match colours.insert_full(colour) {
-        Ok(found) => found,
-        Err(_) => return Err(CompileFault::OutOfMemory),
-    };
+    let items = ranked.items;
+    let colours = distinct_colours(alloc, &items)?;
     if colours.len() > MOST_COLOURS {
         return Err(CompileFault::TooManyColours);
     }
-    Ok((place, is_new))
+    let mut drawing = Drawing::new(alloc);
+    add_colours(&mut drawing, &colours)?;
+    add_figures(&mut drawing, &colours, items)?;
+    Ok(drawing)
+}
+
+/// The distinct colours of the versions, as they are first seen from the top.
+fn distinct_colours<S>(alloc: Global, items: &[Placed<S>]) -> Result<IndexSet<Rgb>, OutOfMemory>
+    ensures { IfOk result (λ colours. colours.keys ≡ colours_of items.now) }
+{
+    let mut colours = IndexSet::new(alloc);
+    for item in items {
+        colours.insert(item.colour)?;
+    }
+    Ok(colours)
+}
+
+/// Numbers the colours from 32.
+fn add_colours<S: Shape>(
+    drawing: &mut Drawing<S>,
+    colours: &IndexSet<Rgb>,
+) -> Result<(), OutOfMemory>
+    requires empty { drawing.old ≡ record { table = []; figures = [] } }
+    requires few { length colours.now.keys ≤ 512 }
+    ensures { OnOk result (drawing.new ≡ record { table = enumerate_from 32 colours.now.keys; figures = [] }) }
+{
+    for colour in colours.as_slice() {
+        let number = FIRST_NUMBER + drawing.colours().len() as u16;
+        drawing.add_colour(number, *colour)?;
+    }
+    Ok(())
+}
+
+/// Adds a figure for each version, from the top, by the number of its colour.
+fn add_figures<S: Shape>(
+    drawing: &mut Drawing<S>,
+    colours: &IndexSet<Rgb>,
+    items: Vec<Placed<S>>,
+) -> Result<(), OutOfMemory>
+    requires coloured { drawing.old ≡ record { table = canonical_table items.items; figures = [] } }
+    requires colours { colours.now.keys ≡ colours_of items.items }
+    requires fits { Fits items.items }
+    ensures { OnOk result (drawing.new ≡ canonical_drawing items.items) }
+{
+    for item in items {
+        drawing.add_figure(Figure {
+            colour: number(colours, item.colour),
+            shape: item.shape,
+            depth: drawing.figures().len() as u16,
+        })?;
+    }
+    Ok(())
+}
+
+/// The number of one of the colours.
+fn number(colours: &IndexSet<Rgb>, colour: Rgb) -> u16
+    requires few { length colours.now.keys ≤ 512 }
+    requires there { IsTrue (list_any (colour_eq colour) colours.now.keys) }
+    ensures { result ≡ number_of colours.now.keys colour }
+{
+    let Some(place) = colours.get_index_of(&colour) else {
+        unreachable!();
+    };
+    FIRST_NUMBER + place as u16
 }
