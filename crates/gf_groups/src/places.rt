@@ -59,6 +59,20 @@ impl Places {
         self.places.push(place)?;
         Ok(())
     }
+
+    /// Adds a place behind these and behind the others. All memory is there before it changes either.
+    pub fn push_to_both(&mut self, others: &mut Places, place: usize) -> Result<(), OutOfMemory>
+        ensures ok { OnOk result (self.new ≡ self.old ++ place ∷ []) }
+        ensures others { OnOk result (others.new ≡ others.old ++ place ∷ []) }
+        ensures err { OnErr result (self.new ≡ self.old) }
+        ensures others_err { OnErr result (others.new ≡ others.old) }
+    {
+        self.places.reserve(1)?;
+        others.places.reserve(1)?;
+        self.places.push_reserved(place);
+        others.places.push_reserved(place);
+        Ok(())
+    }
 }
 
 impl PartialEq for Places {

@@ -1,3 +1,4 @@
 pub mod CountLemmas
+pub mod JoiningLemmas
 pub mod PartsLemmas
 pub mod ProductLemmas

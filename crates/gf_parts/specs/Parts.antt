@@ -1,5 +1,5 @@
 -- The operations on one object, by their places, in parts that no conflict connects.
-use Rattle.std.specs.Prelude.{ℕ, ◌*◌, Bool, cond, not, ◌&&◌, ◌||◌, ◌==◌, nat_le, List, [], ◌∷◌, ◌++◌, filter, map, length, Option, Some, None, unwrap_or}
+use Rattle.std.specs.Prelude.{ℕ, ◌*◌, Bool, cond, not, ◌&&◌, ◌||◌, ◌==◌, nat_le, List, [], ◌∷◌, ◌++◌, filter, map, length, Option, Some, None, unwrap_or, option_map, take, slice_set, slice_index_or, ◌-◌}
 use Rattle.std.specs.List.{list_any, fold, flat_map}
 use Rattle.std.specs.BTreeSet.{insert_key}
 use Rattle.std.specs.Ordering.{nat_cmp}
@@ -69,6 +69,21 @@ whole s = fold joined (alone s.free) s.parts
 abbrev pub with_free : ℕ → PartsState → PartsState
 with_free x s = record { free = s.free ++ x ∷ []; parts = s.parts }
 
+-- the sets gs, where that with the index j gets x
+abbrev pub set_with : ℕ → ℕ → List (List ℕ) → List (List ℕ)
+set_with j x gs = slice_set gs j (slice_index_or gs j [] ++ x ∷ [])
+
+-- the part gets x, which joins its set j
+abbrev pub part_with : ℕ → ℕ → PartState → PartState
+part_with j x p = record { all = p.all ++ x ∷ []; sets = option_map (set_with j x) p.sets }
+
+-- the last part gets x, which joins its set j
+abbrev pub last_with : ℕ → ℕ → PartsState → PartsState
+last_with j x s = record {
+  free = s.free;
+  parts = slice_set s.parts (length s.parts - 1) (part_with j x (slice_index_or s.parts (length s.parts - 1) (alone [])));
+}
+
 -- c tells whether the operations at two places conflict
 module _ (c : ℕ → ℕ → Bool) where
   -- x conflicts with one of the part
@@ -91,6 +106,10 @@ module _ (c : ℕ → ℕ → Bool) where
   -- x conflicts with none
   abbrev pub is_calm : ℕ → PartsState → Bool
   is_calm x s = not (clashes c x s.free) && not (list_any (touches x) s.parts)
+
+  -- x conflicts with none that is free or of a part before the last
+  abbrev pub spares_all_but_last : ℕ → PartsState → Bool
+  spares_all_but_last x s = not (clashes c x s.free) && not (list_any (touches x) (take (length s.parts - 1) s.parts))
 
   -- x is of the part, or conflicts with none of it
   abbrev pub stays : ℕ → PartState → Bool

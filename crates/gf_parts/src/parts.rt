@@ -4,6 +4,8 @@
 ghost use Rattle.std.specs.Prelude.{◌≡◌, [], cond, filter, not, option_copied, IfOk, OnOk, OnErr};
 ghost use Rattle.gf_groups.specs.Growing.{conflict_at};
 ghost use Rattle.gf_parts.specs.Parts.{joined, alone, holds, touches, grown_part, touched, with_free, with_part, stays, full, listed, products};
+ghost use Rattle.gf_parts.specs.Parts.{part_with, last_with, spares_all_but_last};
+ghost use Rattle.std.specs.List.{list_any};
 ghost use Rattle.gf_groups.specs.Tables.{IsRising};
 ghost use Rattle.gf_parts.specs.Parted.{AreParts};
 
@@ -58,6 +60,14 @@ impl Part {
     {
         self.sets.get()
     }
+
+    /// Adds a place, and to the set with this index too.
+    fn join(&mut self, set: usize, place: usize) -> Result<(), OutOfMemory>
+        ensures ok { OnOk result (self.new ≡ part_with set place self.old) }
+        ensures err { OnErr result (self.new ≡ self.old) }
+    {
+        self.sets.join(set, place, &mut self.all)
+    }
 }
 
 /// Whether the place is one of these.
@@ -72,6 +82,13 @@ fn touches(timeline: &Timeline<'_>, place: usize, part: &Part) -> bool
     ensures { result ≡ touches (conflict_at timeline.now) place part.now }
 {
     clashes(timeline, place, part.all.as_slice())
+}
+
+/// Whether the operation at this place conflicts with one of these parts.
+fn meets_one(timeline: &Timeline<'_>, place: usize, parts: &[Part]) -> bool
+    ensures { result ≡ list_any (touches (conflict_at timeline.now) place) parts.now }
+{
+    parts.iter().any(|part| touches(timeline, place, part))
 }
 
 /// Whether the place is of the part, or its operation conflicts with none of it.
@@ -271,6 +288,25 @@ impl Parts {
         drop_touched(timeline, place, &mut self.parts);
         self.free = free;
         Ok(())
+    }
+
+    /// Whether the operation at this place conflicts with none but those of the last part.
+    pub fn spares_all_but_last(&self, timeline: &Timeline<'_>, place: usize) -> bool
+        ensures { result ≡ spares_all_but_last (conflict_at timeline.now) place self.now }
+    {
+        let others = &self.parts[..self.parts.len().saturating_sub(1)];
+        !clashes(timeline, place, self.free.as_slice()) && !meets_one(timeline, place, others)
+    }
+
+    /// Adds a place to the last part, and to that one's set with this index, in place.
+    pub fn join_last(&mut self, set: usize, place: usize) -> Result<(), OutOfMemory>
+        ensures ok { OnOk result (self.new ≡ last_with set place self.old) }
+        ensures err { OnErr result (self.new ≡ self.old) }
+    {
+        match self.parts.last_mut() {
+            Some(part) => part.join(set, place),
+            None => Ok(()),
+        }
     }
 
     /// What is free with one set of each part: all versions. The sets of a part with too many are

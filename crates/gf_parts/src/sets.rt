@@ -1,11 +1,11 @@
 //! The largest compatible sets of a part, kept while they are not too many.
 
-ghost use Rattle.std.specs.Prelude.{◌≡◌, ◌∷◌, [], ◌++◌, map, option_copied, IfOk, OnOk};
+ghost use Rattle.std.specs.Prelude.{◌≡◌, ◌∷◌, [], ◌++◌, map, option_copied, option_map, IfOk, OnOk, OnErr};
 ghost use Rattle.std.specs.List.{fold};
 ghost use Rattle.std.specs.BTreeSet.{insert_key};
 ghost use Rattle.std.specs.Ordering.{nat_cmp};
 ghost use Rattle.gf_groups.specs.Growing.{conflict_at};
-ghost use Rattle.gf_parts.specs.Parts.{kept, united, products, kept_products, times, grown_sets};
+ghost use Rattle.gf_parts.specs.Parts.{kept, united, products, kept_products, times, grown_sets, set_with};
 
 use gf_groups::{Places, Timeline, grow};
 use gf_shape::OutOfMemory;
@@ -74,6 +74,24 @@ impl Sets {
         }
     }
 
+    /// Adds a place to all, and to the set with this index.
+    pub(crate) fn join(
+        &mut self,
+        set: usize,
+        place: usize,
+        all: &mut Places,
+    ) -> Result<(), OutOfMemory>
+        ensures ok { OnOk result (self.new ≡ option_map (set_with set place) self.old) }
+        ensures all { OnOk result (all.new ≡ all.old ++ place ∷ []) }
+        ensures err { OnErr result (self.new ≡ self.old) }
+        ensures all_err { OnErr result (all.new ≡ all.old) }
+    {
+        match &mut self.sets {
+            Some(sets) => join_set(set, place, sets, all),
+            None => all.push(place),
+        }
+    }
+
     /// The sets of these places after one came behind them.
     pub(crate) fn grown(
         self,
@@ -91,6 +109,24 @@ impl Sets {
             }
             None => Ok(Sets { sets: None }),
         }
+    }
+}
+
+/// Adds a place to all, and to the set with this index, where there is one.
+fn join_set(
+    set: usize,
+    place: usize,
+    sets: &mut Vec<Places>,
+    all: &mut Places,
+) -> Result<(), OutOfMemory>
+    ensures ok { OnOk result (sets.new.items ≡ set_with set place sets.old.items) }
+    ensures all { OnOk result (all.new ≡ all.old ++ place ∷ []) }
+    ensures err { OnErr result (sets.new.items ≡ sets.old.items) }
+    ensures all_err { OnErr result (all.new ≡ all.old) }
+{
+    match sets.get_mut(set) {
+        Some(set) => all.push_to_both(set, place),
+        None => all.push(place),
     }
 }
 

@@ -28,7 +28,7 @@ use Rattle.gf_groups.proofs.IdPlaceLemmas.{same_place}
 use Rattle.gf_groups.proofs.TakingLemmas.{AllPairs-append}
 use Rattle.gf_parts.proofs.CountLemmas.{no_longer}
 use Rattle.gf_shown.specs.ShownVersions.{IsVisibleGroup, AreVisibleOn, HasMoreOn, HasMoreVisible}
-use Rattle.gf_shown.specs.VisibleSoFar.{AreGroupsOf, AreVersionsOf, AreVisibleOf, HasMoreGroups, IsGroupListing}
+use Rattle.gf_shown.specs.VisibleSoFar.{AreGroupsOf, AreVersionGroupsOf, AreVisibleGroupsOf, HasMoreGroups, IsGroupListing}
 use Rattle.gf_versions.specs.declared.placed.Placed.{Placed}
 use Rattle.gf_versions.specs.Ranking.{AreRanked, AreRankedOf, group_of, placed_version}
 use Rattle.gf_versions.proofs.MakerLemmas.{version_kind}
@@ -162,7 +162,7 @@ module _ (h : List Op) where
     found_of_one items m (Err e) x y z = tt
 
   -- more groups of later operations than were left
-  pub more_in_all : (ks ops all : List Op) (groups : List Group) (m : ℕ) → ((a : Op) → Contains (ks ++ ops) a → Contains all a) → Fresh ks ops → AreVisibleOf h ks groups → length groups ≤ m → HasMoreGroups h ops (m - length groups) → HasMoreGroups h all m
+  pub more_in_all : (ks ops all : List Op) (groups : List Group) (m : ℕ) → ((a : Op) → Contains (ks ++ ops) a → Contains all a) → Fresh ks ops → AreVisibleGroupsOf h ks groups → length groups ≤ m → HasMoreGroups h ops (m - length groups) → HasMoreGroups h all m
   more_in_all ks ops all groups m within fresh first few w = record {
     groups = groups ++ w.groups;
     each = λ g i. elim (Contains-append_cases groups w.groups g i) [
@@ -175,11 +175,11 @@ module _ (h : List Op) where
 
   -- ---- of all
 
-  pub all_versions : IsValid h → (groups : List Group) → AreVisibleOf h h groups → (g : Group) → Contains groups g → IsVersionGroup h g
+  pub all_versions : IsValid h → (groups : List Group) → AreVisibleGroupsOf h h groups → (g : Group) → Contains groups g → IsVersionGroup h g
   all_versions valid groups all g i = let w = ((all.exactly g).0 i).0 in subst (IsVersionGroup h) w.group w.visible.version.version
 
   -- ranked, they are the history's ranked list
-  pub ranked_all : IsValid h → (groups : List Group) → AreVisibleOf h h groups → (items : List (Placed AnyShape)) → AreRankedOf h groups items → AreRanked h items
+  pub ranked_all : IsValid h → (groups : List Group) → AreVisibleGroupsOf h h groups → (items : List (Placed AnyShape)) → AreRankedOf h groups items → AreRanked h items
   ranked_all valid groups all items ranked = record {
     exactly = λ i. (
       λ is.
@@ -209,11 +209,11 @@ module _ (h : List Op) where
 -- ---- of all versions
 
 -- ranked, they are the history's ranked list
-pub ranked_of_versions : (h : List Op) → IsValid h → (groups : List Group) → AreVersionsOf h h groups → (items : List (Placed AnyShape)) → AreRankedOf h groups items → AreRanked h items
+pub ranked_of_versions : (h : List Op) → IsValid h → (groups : List Group) → AreVersionGroupsOf h h groups → (items : List (Placed AnyShape)) → AreRankedOf h groups items → AreRanked h items
 ranked_of_versions h valid groups all items ranked = ranked_of_all h groups items (λ g v. (all.exactly g).1 (v, version_made h valid g v)) ranked
 
 -- the versions of the object that an operation made
-pub versions_of_one : (h : List Op) (a : Op) (o : ObjectId) → o.0 ≡ a.id → IsMade (a ∷ []) o → (groups : List Group) → AreVersions h o groups → AreVersionsOf h (a ∷ []) groups
+pub versions_of_one : (h : List Op) (a : Op) (o : ObjectId) → o.0 ≡ a.id → IsMade (a ∷ []) o → (groups : List Group) → AreVersions h o groups → AreVersionGroupsOf h (a ∷ []) groups
 versions_of_one h a o same makes groups all = of_one (IsVersionGroup h) a o same makes groups all.exactly (each_once groups all.rising)
 
 -- ---- the operations of a history, one after another

@@ -11,12 +11,12 @@ pub record AreGroupsOf (P : Group → Type 0) (ops : List Op) (groups : List Gro
   pub once : AllPairs (λ g k. g ≢ k) groups
 
 -- the groups are those of the versions of h whose objects these operations made
-abbrev pub AreVersionsOf : List Op → List Op → List Group → Type 0
-AreVersionsOf h ops groups = AreGroupsOf (IsVersionGroup h) ops groups
+abbrev pub AreVersionGroupsOf : List Op → List Op → List Group → Type 0
+AreVersionGroupsOf h ops groups = AreGroupsOf (IsVersionGroup h) ops groups
 
 -- the groups are those of the visible versions of h whose objects these operations made
-abbrev pub AreVisibleOf : List Op → List Op → List Group → Type 0
-AreVisibleOf h ops groups = AreGroupsOf (IsVisibleGroup h) ops groups
+abbrev pub AreVisibleGroupsOf : List Op → List Op → List Group → Type 0
+AreVisibleGroupsOf h ops groups = AreGroupsOf (IsVisibleGroup h) ops groups
 
 -- there are more than m of these
 pub record HasMoreGroups (h ops : List Op) (m : ℕ) : Type 0 where
@@ -27,5 +27,5 @@ pub record HasMoreGroups (h ops : List Op) (m : ℕ) : Type 0 where
 
 -- the groups are those of the visible versions whose objects these operations made, and at most m; none, where they are more
 abbrev pub IsGroupListing : List Op → List Op → ℕ → Option (List Group) → Type 0
-IsGroupListing h ops m (Some groups) = AreVisibleOf h ops groups × (length groups ≤ m)
+IsGroupListing h ops m (Some groups) = AreVisibleGroupsOf h ops groups × (length groups ≤ m)
 IsGroupListing h ops m None = HasMoreGroups h ops m

@@ -2,8 +2,9 @@
 
 ghost use Rattle.std.specs.Prelude.{◌≡◌, option_copied};
 ghost use Rattle.std.specs.List.{list_any, list_all};
-ghost use Rattle.gf_shown.specs.Deciding.{taken, last_of, given_by, shows, each_later, always_later, overruled, may_be_last, decides};
-ghost use Rattle.gf_shown.specs.ShownAt.{sets_at, shows_at, later_at};
+ghost use Rattle.gf_shown.specs.DecidingAt.{taken_at, last_at, always_later_at, overruled_at, may_be_last_at, decides_at};
+ghost use Rattle.gf_shown.specs.ShownAt.{later_at};
+ghost use Rattle.gf_shown.specs.ShownSets.{is_shown};
 
 use crate::saying::{later_at, sets_at, shows_at};
 use gf_groups::{Places, Timeline};
@@ -11,7 +12,7 @@ use gf_parts::{Part, Parts};
 
 /// The last setter so far, after the one at this place came too.
 fn taken(timeline: &Timeline<'_>, last: Option<usize>, place: usize) -> Option<usize>
-    ensures { result ≡ taken (sets_at timeline.now) (later_at timeline.now) (shows_at timeline.now) last place }
+    ensures { result ≡ taken_at timeline.now last place }
 {
     match last {
         Some(last) => {
@@ -33,7 +34,7 @@ fn taken(timeline: &Timeline<'_>, last: Option<usize>, place: usize) -> Option<u
 
 /// The last one of the group that shows or hides.
 fn last_of(timeline: &Timeline<'_>, group: &[usize]) -> Option<usize>
-    ensures { result ≡ last_of (sets_at timeline.now) (later_at timeline.now) (shows_at timeline.now) group.now }
+    ensures { result ≡ last_at timeline.now group.now }
 {
     let mut last = None;
     for place in group {
@@ -44,7 +45,7 @@ fn last_of(timeline: &Timeline<'_>, group: &[usize]) -> Option<usize>
 
 /// Whether the last one of the group shows.
 pub(crate) fn shows(timeline: &Timeline<'_>, group: &[usize]) -> bool
-    ensures { result ≡ shows (sets_at timeline.now) (later_at timeline.now) (shows_at timeline.now) group.now }
+    ensures { result ≡ is_shown timeline.now group.now }
 {
     match last_of(timeline, group) {
         Some(last) => shows_at(timeline, last),
@@ -69,7 +70,7 @@ fn all_later(timeline: &Timeline<'_>, place: usize, sets: &[Places]) -> bool
 
 /// Whether each set of the part has a later one.
 fn always_later(timeline: &Timeline<'_>, place: usize, part: &Part) -> bool
-    ensures { result ≡ always_later (sets_at timeline.now) (later_at timeline.now) (shows_at timeline.now) place part.now }
+    ensures { result ≡ always_later_at timeline.now place part.now }
 {
     match part.sets() {
         Some(sets) => all_later(timeline, place, sets),
@@ -78,27 +79,27 @@ fn always_later(timeline: &Timeline<'_>, place: usize, part: &Part) -> bool
 }
 
 fn one_always_later(timeline: &Timeline<'_>, place: usize, parts: &[Part]) -> bool
-    ensures { result ≡ list_any (always_later (sets_at timeline.now) (later_at timeline.now) (shows_at timeline.now) place) parts.now }
+    ensures { result ≡ list_any (always_later_at timeline.now place) parts.now }
 {
     parts.iter().any(|part| always_later(timeline, place, part))
 }
 
 /// Whether in each version a later one stands.
 fn overruled(timeline: &Timeline<'_>, parts: &Parts, place: usize) -> bool
-    ensures { result ≡ overruled (sets_at timeline.now) (later_at timeline.now) (shows_at timeline.now) parts.now place }
+    ensures { result ≡ overruled_at timeline.now parts.now place }
 {
     some_later(timeline, place, parts.free()) || one_always_later(timeline, place, parts.parts())
 }
 
 /// Whether it shows or hides and may be the last one.
 fn may_be_last(timeline: &Timeline<'_>, parts: &Parts, place: usize) -> bool
-    ensures { result ≡ may_be_last (sets_at timeline.now) (later_at timeline.now) (shows_at timeline.now) parts.now place }
+    ensures { result ≡ may_be_last_at timeline.now parts.now place }
 {
     sets_at(timeline, place) && !overruled(timeline, parts, place)
 }
 
 fn one_may_be_last(timeline: &Timeline<'_>, parts: &Parts, places: &[usize]) -> bool
-    ensures { result ≡ list_any (may_be_last (sets_at timeline.now) (later_at timeline.now) (shows_at timeline.now) parts.now) places.now }
+    ensures { result ≡ list_any (may_be_last_at timeline.now parts.now) places.now }
 {
     places
         .iter()
@@ -107,7 +108,7 @@ fn one_may_be_last(timeline: &Timeline<'_>, parts: &Parts, places: &[usize]) -> 
 
 /// Whether one of the part may be the last one.
 pub(crate) fn decides(timeline: &Timeline<'_>, parts: &Parts, part: &Part) -> bool
-    ensures { result ≡ decides (sets_at timeline.now) (later_at timeline.now) (shows_at timeline.now) parts.now part.now }
+    ensures { result ≡ decides_at timeline.now parts.now part.now }
 {
     one_may_be_last(timeline, parts, part.all())
 }

@@ -1,19 +1,16 @@
-//! The visible versions of a history, listed within a bound from its table of versions: what is hidden
-//! is never multiplied out, and of what is too much no more than the bound.
+//! The visible versions of a history, listed within a bound from its table of versions: what is
+//! hidden is never multiplied out, and of what is too much no more than the bound.
 //!
 //! - [`visible_groups`]: the groups of the visible versions of one object.
-//! - [`ranked_within`]: the ranked list of the visible versions of a history; [`ranked_with`]: the same
-//!   with no bound, as `ranked` gives it.
-//! - [`GroupedHistory`]: a history with its table, grown together.
+//! - [`ranked_within`]: the ranked list of the visible versions of a history; [`ranked_with`]: the
+//!   same with no bound, as `ranked` gives it.
 #![tactic(auto)]
 
 mod deciding;
-mod grouped;
 mod listing;
 mod objects;
 mod ranking;
 mod saying;
 
-pub use grouped::GroupedHistory;
 pub use objects::visible_groups;
 pub use ranking::{ranked_with, ranked_within};

@@ -3,9 +3,9 @@
 ghost use Rattle.std.specs.Prelude.{◌≡◌, ◌≤◌, ◌<◌, ◌-◌, ◌^◌, cond, filter, length, IfOk, option_map};
 ghost use Rattle.gf_groups.specs.GroupedPlaces.{places_below};
 ghost use Rattle.gf_parts.specs.Parts.{most_sets, joined, whole};
-ghost use Rattle.gf_shown.specs.Deciding.{shows, deciding, idle, at_most, shown_within};
-ghost use Rattle.gf_shown.specs.ShownAt.{sets_at, shows_at, later_at};
-ghost use Rattle.gf_shown.specs.ShownSets.{IsSetListing};
+ghost use Rattle.gf_shown.specs.Deciding.{at_most};
+ghost use Rattle.gf_shown.specs.DecidingAt.{deciding_at, idle_at, shown_within_at};
+ghost use Rattle.gf_shown.specs.ShownSets.{IsSetListing, is_shown};
 ghost use Rattle.gf_table.specs.Standing.{StandsFor};
 
 use crate::deciding::{decides, shows};
@@ -33,7 +33,7 @@ fn whole_deciding(
     timeline: &Timeline<'_>,
     parts: &Parts,
 ) -> Result<Part, OutOfMemory>
-    ensures { IfOk result (λ part. part ≡ whole (deciding (sets_at timeline.now) (later_at timeline.now) (shows_at timeline.now) parts.now)) }
+    ensures { IfOk result (λ part. part ≡ whole (deciding_at timeline.now parts.now)) }
 {
     let mut free = Vec::new(alloc);
     free.extend_from_slice(parts.free())?;
@@ -46,7 +46,7 @@ fn whole_deciding(
 
 /// The other parts as one.
 fn whole_idle(alloc: Global, timeline: &Timeline<'_>, parts: &Parts) -> Result<Part, OutOfMemory>
-    ensures { IfOk result (λ part. part ≡ whole (idle (sets_at timeline.now) (later_at timeline.now) (shows_at timeline.now) parts.now)) }
+    ensures { IfOk result (λ part. part ≡ whole (idle_at timeline.now parts.now)) }
 {
     let mut part = alone(alloc, Vec::new(alloc))?;
     for other in parts.parts() {
@@ -61,7 +61,7 @@ fn showing(
     timeline: &Timeline<'_>,
     sets: &[Places],
 ) -> Result<Vec<Places>, OutOfMemory>
-    ensures { IfOk result (λ kept. kept.items ≡ filter (shows (sets_at timeline.now) (later_at timeline.now) (shows_at timeline.now)) sets.now) }
+    ensures { IfOk result (λ kept. kept.items ≡ filter (is_shown timeline.now) sets.now) }
 {
     let mut kept = Vec::new(alloc);
     for set in sets {
@@ -72,7 +72,8 @@ fn showing(
     Ok(kept)
 }
 
-/// Each of the sets with each of the others, if these are kept and the products are at most so many.
+/// Each of the sets with each of the others, if these are kept and the products are at most so
+/// many.
 fn at_most(
     alloc: Global,
     sets: &[Places],
@@ -80,7 +81,8 @@ fn at_most(
     most: usize,
 ) -> Result<Option<Vec<Places>>, OutOfMemory>
     requires { most < 2 ^ 64 - 1 }
-    ensures { IfOk result (λ found. option_map (λ v. v.items) found ≡ at_most most sets.now others.now.sets) }
+    ensures { IfOk result (λ found.
+        option_map (λ v. v.items) found ≡ at_most most sets.now others.now.sets) }
 {
     match others.sets() {
         Some(others) => {
@@ -103,7 +105,8 @@ fn shown_within(
     most: usize,
 ) -> Result<Option<Vec<Places>>, OutOfMemory>
     requires { most < 2 ^ 64 - 1 }
-    ensures { IfOk result (λ found. option_map (λ v. v.items) found ≡ shown_within (sets_at timeline.now) (later_at timeline.now) (shows_at timeline.now) most parts.now sets.now) }
+    ensures { IfOk result (λ found.
+        option_map (λ v. v.items) found ≡ shown_within_at timeline.now most parts.now sets.now) }
 {
     let showing = showing(alloc, timeline, sets)?;
     if showing.is_empty() {
@@ -114,8 +117,8 @@ fn shown_within(
 }
 
 /// The largest compatible sets of an object's places that show, each once, if they are at most so
-/// many. Where those of what decides are more than a part keeps, they would ask for more memory than
-/// is taken.
+/// many. Where those of what decides are more than a part keeps, they would ask for more memory
+/// than is taken.
 pub(crate) fn shown_sets(
     alloc: Global,
     history: &History,
@@ -125,7 +128,9 @@ pub(crate) fn shown_sets(
 ) -> Result<Option<Vec<Places>>, OutOfMemory>
     requires stands { StandsFor history.now.ops table.now }
     requires most { most ≤ most_sets }
-    ensures { IfOk result (λ found. IsSetListing history.now.ops (places_below history.now.ops object (length history.now.ops)) most (option_map (λ v. v.items) found)) }
+    ensures { IfOk result (λ found. IsSetListing history.now.ops
+        (places_below history.now.ops object (length history.now.ops))
+        most (option_map (λ v. v.items) found)) }
 {
     // Its clause says that the history is valid.
     let _ = history.ops();

@@ -4,7 +4,7 @@ ghost use Rattle.std.specs.Prelude.{◌≤◌, ◌∷◌, [], length, Contains, 
 ghost use Rattle.gf_groups.specs.Versions.{IsMade};
 ghost use Rattle.gf_parts.specs.Parts.{most_sets};
 ghost use Rattle.gf_shown.specs.ShownVersions.{AreVisibleOn, HasMoreOn};
-ghost use Rattle.gf_shown.specs.VisibleSoFar.{AreVersionsOf, IsGroupListing};
+ghost use Rattle.gf_shown.specs.VisibleSoFar.{AreVersionGroupsOf, IsGroupListing};
 ghost use Rattle.gf_table.specs.Standing.{StandsFor};
 
 use crate::listing::shown_sets;
@@ -17,10 +17,10 @@ use std::alloc::Global;
 /// The groups of the visible versions of an object that the history made, each once, if they are at
 /// most so many; None where they are more.
 ///
-/// The choices that do not decide whether a version shows are counted, and multiplied out only where
-/// some version shows and all that show are at most so many. So it makes no more than 1,000 sets at a
-/// time, and an object that is hidden costs a look at its operations. Where what decides has more
-/// than 1,000 sets, that is `OutOfMemory`.
+/// The choices that do not decide whether a version shows are counted, and multiplied out only
+/// where some version shows and all that show are at most so many. So it makes no more than 1,000
+/// sets at a time, and an object that is hidden costs a look at its operations. Where what decides
+/// has more than 1,000 sets, that is `OutOfMemory`.
 pub fn visible_groups(
     alloc: Global,
     history: &History,
@@ -31,7 +31,8 @@ pub fn visible_groups(
     requires stands { StandsFor history.now.ops table.now }
     requires made { IsMade history.now.ops object }
     requires most { most ≤ most_sets }
-    ensures groups { IfOk result (λ found. IfSome found (λ groups. AreVisibleOn history.now.ops object groups.items)) }
+    ensures groups { IfOk result (λ found.
+        IfSome found (λ groups. AreVisibleOn history.now.ops object groups.items)) }
     ensures few { IfOk result (λ found. IfSome found (λ groups. length groups.items ≤ most)) }
     ensures more { IfOk result (λ found. IfNone found (HasMoreOn history.now.ops object most)) }
 {
@@ -57,7 +58,8 @@ pub(crate) fn visible_made(
     requires stands { StandsFor history.now.ops table.now }
     requires contained { Contains history.now.ops op.now }
     requires most { most ≤ most_sets }
-    ensures { IfOk result (λ found. IsGroupListing history.now.ops (op.now ∷ []) most (option_map (λ v. v.items) found)) }
+    ensures { IfOk result (λ found.
+        IsGroupListing history.now.ops (op.now ∷ []) most (option_map (λ v. v.items) found)) }
 {
     match &op.change {
         Change::Create(_) => visible_groups(alloc, history, table, ObjectId(op.id), most),
@@ -73,7 +75,8 @@ pub(crate) fn versions_made(
     op: &Op,
 ) -> Result<Vec<Group>, OutOfMemory>
     requires stands { StandsFor history.now.ops table.now }
-    ensures { IfOk result (λ groups. AreVersionsOf history.now.ops (op.now ∷ []) groups.items) }
+    ensures { IfOk result (λ groups.
+        AreVersionGroupsOf history.now.ops (op.now ∷ []) groups.items) }
 {
     match &op.change {
         Change::Create(_) => match table.groups(alloc, history, ObjectId(op.id)) {

@@ -3,7 +3,7 @@
 ghost use Rattle.std.specs.Prelude.{◌≤◌, length, IfNone, IfOk, IfSome, option_map};
 ghost use Rattle.gf_parts.specs.Parts.{most_sets};
 ghost use Rattle.gf_shown.specs.ShownVersions.{HasMoreVisible};
-ghost use Rattle.gf_shown.specs.VisibleSoFar.{AreVersionsOf, IsGroupListing};
+ghost use Rattle.gf_shown.specs.VisibleSoFar.{AreVersionGroupsOf, IsGroupListing};
 ghost use Rattle.gf_table.specs.Standing.{StandsFor};
 ghost use Rattle.gf_versions.specs.Ranking.{AreRanked};
 
@@ -15,8 +15,8 @@ use gf_table::GroupTable;
 use gf_versions::{Ranked, ranked_of};
 use std::alloc::Global;
 
-/// The visible versions of a history, topmost first, as `ranked` gives them. The table stands for the
-/// history.
+/// The visible versions of a history, topmost first, as `ranked` gives them. The table stands for
+/// the history.
 ///
 /// It lists all versions of each object, hidden ones too.
 pub fn ranked_with(
@@ -40,7 +40,8 @@ fn all_versions(
     table: &GroupTable,
 ) -> Result<Vec<Group>, OutOfMemory>
     requires { StandsFor history.now.ops table.now }
-    ensures { IfOk result (λ groups. AreVersionsOf history.now.ops history.now.ops groups.items) }
+    ensures { IfOk result (λ groups.
+        AreVersionGroupsOf history.now.ops history.now.ops groups.items) }
 {
     let mut groups = Vec::new(alloc);
     for op in history.ops() {
@@ -50,8 +51,8 @@ fn all_versions(
     Ok(groups)
 }
 
-/// The visible versions of a history, topmost first, if they are at most so many; None where they are
-/// more. The table stands for the history.
+/// The visible versions of a history, topmost first, if they are at most so many; None where they
+/// are more. The table stands for the history.
 ///
 /// It stops as soon as it has seen more, and it multiplies out no choice that is not listed, as
 /// [`visible_groups`](crate::visible_groups) tells.
@@ -63,7 +64,8 @@ pub fn ranked_within(
 ) -> Result<Option<Ranked<AnyShape>>, OutOfMemory>
     requires stands { StandsFor history.now.ops table.now }
     requires most { most ≤ most_sets }
-    ensures ranked { IfOk result (λ found. IfSome found (λ ranked. AreRanked history.now.ops ranked.items.items)) }
+    ensures ranked { IfOk result (λ found.
+        IfSome found (λ ranked. AreRanked history.now.ops ranked.items.items)) }
     ensures few { IfOk result (λ found. IfSome found (λ ranked. length ranked.items.items ≤ most)) }
     ensures more { IfOk result (λ found. IfNone found (HasMoreVisible history.now.ops most)) }
 {
@@ -85,7 +87,8 @@ fn all_visible(
 ) -> Result<Option<Vec<Group>>, OutOfMemory>
     requires stands { StandsFor history.now.ops table.now }
     requires most { most ≤ most_sets }
-    ensures { IfOk result (λ found. IsGroupListing history.now.ops history.now.ops most (option_map (λ v. v.items) found)) }
+    ensures { IfOk result (λ found.
+        IsGroupListing history.now.ops history.now.ops most (option_map (λ v. v.items) found)) }
 {
     let mut groups = Vec::new(alloc);
     for op in history.ops() {

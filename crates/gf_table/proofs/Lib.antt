@@ -1,3 +1,4 @@
+pub mod JoinedLemmas
 pub mod KeptTailsLemmas
 pub mod LongerLemmas
 pub mod NextLemmas
@@ -5,3 +6,4 @@ pub mod NotedLemmas
 pub mod QuickLemmas
 pub mod StandsLemmas
 pub mod StateLemmas
+pub mod SummaryLemmas

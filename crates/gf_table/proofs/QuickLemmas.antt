@@ -105,7 +105,7 @@ module _ (h : List Op) (valid : IsValid h) (a : Op) (in_range : IsInRange a) (ac
 
   module _ (o : ObjectId) (v : Value) (gives : a.change ≡ Set o v) where
     -- a setter of another value that a does not know conflicts with it
-    meets : (k : ℕ) (b : Op) (s : ℕ) (u : Value) → Contains us k → slice_get h k ≡ Some b → IsSetter b (attribute_of v) s u → u ≢ v → ¬ (Precedes b a) → c (length h) k ≡ true
+    pub meets : (k : ℕ) (b : Op) (s : ℕ) (u : Value) → Contains us k → slice_get h k ≡ Some b → IsSetter b (attribute_of v) s u → u ≢ v → ¬ (Precedes b a) → c (length h) k ≡ true
     meets k b s u m at set differ later =
         let inside = contained_at h k b at in
         let w = there k m in

@@ -1,6 +1,6 @@
 -- A table after one more operation stands for the longer history, and lists the versions of an object.
 use Rattle.std.proofs.Common.{◌≡◌, ℕ, ◌<◌, Bool, true, false, List, [], ◌∷◌, ◌++◌, length, map, inl, inr, refl, subst, sym, ap, ◌∙◌}
-use Rattle.std.specs.Prelude.{◌↔◌, Contains, cond, Option, Some, None, unwrap_or, slice_get}
+use Rattle.std.specs.Prelude.{◌↔◌, Contains, cond, Option, Some, None, Result, Ok, Err, OnOk, unwrap_or, slice_get}
 use Rattle.std.specs.BTreeMap.{is_at}
 use Rattle.std.specs.Map.{lookup, set_value}
 use Rattle.std.specs.Ordering.{is_eq}
@@ -29,6 +29,8 @@ use Rattle.gf_parts.proofs.PartsLemmas.{table_listed}
 use Rattle.gf_parts.proofs.ProductLemmas.{table_alike}
 use Rattle.gf_table.specs.ObjectState.{ObjectState, nothing, with_op}
 use Rattle.gf_table.specs.Standing.{IsStateOf, Stands, StandsFor, AreAllOf, state_of}
+use Rattle.gf_table.specs.Next.{IsNextOf}
+use Rattle.gf_table.specs.Summaries.{SummaryState, TellsLast}
 use Rattle.gf_table.proofs.LongerLemmas.{places_with_last, places_without_last}
 use Rattle.gf_table.proofs.StateLemmas.{first_state, state_kept, state_more}
 
@@ -70,9 +72,11 @@ module _ (h : List Op) (valid : IsValid h) (a : Op) (in_range : IsInRange a) (ac
   kept us f (Some t) s = state_kept h a us f t s
   kept us f None s = s
 
-  -- what the table has for a's object is with a, and the rest stays
-  abbrev pub Adds : List (ObjectId × ObjectState) → List (ObjectId × ObjectState) → Type 0
-  Adds t s = (q : ObjectId) → state_of s q ≡ cond (is_at (object_cmp (object_of a)) q) (Some (with_op new a (length h) (unwrap_or (state_of t (object_of a)) nothing))) (state_of t q)
+  -- what the table has for a's object is with a, and its summary tells of the last part; the rest stays
+  pub record Adds (t s : List (ObjectId × ObjectState)) : Type 0 where
+    pub summary : Option SummaryState
+    pub told : TellsLast new (with_op new a (length h) summary (unwrap_or (state_of t (object_of a)) nothing)).parts.parts summary
+    pub puts : (q : ObjectId) → state_of s q ≡ cond (is_at (object_cmp (object_of a)) q) (Some (with_op new a (length h) summary (unwrap_or (state_of t (object_of a)) nothing))) (state_of t q)
 
   pub stands_after : (t s : List (ObjectId × ObjectState)) → StandsFor h t → Adds t s → StandsFor new s
   stands_after t s stands adds q =
@@ -83,10 +87,10 @@ module _ (h : List Op) (valid : IsValid h) (a : Op) (in_range : IsInRange a) (ac
             let same : o ≡ q = at_told o q y in
             let own : Stands h us (state_of t o) = subst (λ p. Stands h us (state_of t p)) (sym same) (stands q) in
             let all : (i : ℕ) → Contains us i ↔ (is_on o (slice_get h i) ≡ true) = subst (λ p. (i : ℕ) → Contains us i ↔ (is_on p (slice_get h i) ≡ true)) (sym same) (all_places h q) in
-            let more = state_more h a us (within q) (unwrap_or (state_of t o) nothing) (or_nothing us (state_of t o) own) valid in_range accepted all in
+            let more = state_more h a us (within q) (unwrap_or (state_of t o) nothing) (or_nothing us (state_of t o) own) valid in_range accepted all adds.summary adds.told in
             let places = places_with_last h a q (on_to q a same) in
-            let here : state_of s q ≡ Some (with_op new a (length h) (unwrap_or (state_of t o) nothing)) =
-            adds q ∙ cond-true (is_at (object_cmp o) q) (Some (with_op new a (length h) (unwrap_or (state_of t o) nothing))) (state_of t q) y in
+            let here : state_of s q ≡ Some (with_op new a (length h) adds.summary (unwrap_or (state_of t o) nothing)) =
+            adds.puts q ∙ cond-true (is_at (object_cmp o) q) (Some (with_op new a (length h) adds.summary (unwrap_or (state_of t o) nothing))) (state_of t q) y in
             rw (places, here) more
         | inr n ↦
             let off : is_on q (Some a) ≡ false = elim (cases_Bool (is_on q (Some a))) [
@@ -94,19 +98,38 @@ module _ (h : List Op) (valid : IsValid h) (a : Op) (in_range : IsInRange a) (ac
               | inr k ↦ k
             ] in
             let places = places_without_last h a q off in
-            let here : state_of s q ≡ state_of t q = adds q ∙ cond-false (is_at (object_cmp o) q) (Some (with_op new a (length h) (unwrap_or (state_of t o) nothing))) (state_of t q) n in
+            let here : state_of s q ≡ state_of t q = adds.puts q ∙ cond-false (is_at (object_cmp o) q) (Some (with_op new a (length h) adds.summary (unwrap_or (state_of t o) nothing))) (state_of t q) n in
             rw (places, here) (kept us (within q) (state_of t q) (stands q))
       ]
 
   -- by what stands in its place
   pub adds_from : (t s : List (ObjectId × ObjectState)) (k : ObjectId) (r w : ObjectState) (g : List Op) (n : ℕ) → k ≡ object_of a → unwrap_or (state_of t k) nothing ≡ r → g ≡ new → n ≡ length h →
-      w ≡ with_op g a n r → ((q : ObjectId) → state_of s q ≡ cond (is_at (object_cmp k) q) (Some w) (state_of t q)) → Adds t s
-  adds_from t s k r w g n same was long last made f q =
+      w ≡ with_op g a n w.summary r → TellsLast g w.parts.parts w.summary → ((q : ObjectId) → state_of s q ≡ cond (is_at (object_cmp k) q) (Some w) (state_of t q)) → Adds t s
+  adds_from t s k r w g n same was long last made told f =
+      let m = w.summary in
       let old : r ≡ unwrap_or (state_of t (object_of a)) nothing = sym was ∙ ap (λ o. unwrap_or (state_of t o) nothing) same in
-      let one : w ≡ with_op new a (length h) (unwrap_or (state_of t (object_of a)) nothing) =
-      made ∙ (ap (λ z. with_op z a n r) long ∙ (ap (λ z. with_op new a z r) last ∙ ap (λ (z : ObjectState). with_op new a (length h) z) old)) in
-      subst (λ o. state_of s q ≡ cond (is_at (object_cmp o) q) (Some w) (state_of t q)) same (f q)
-      ∙ ap (λ (z : ObjectState). cond (is_at (object_cmp (object_of a)) q) (Some z) (state_of t q)) one
+      let one : w ≡ with_op new a (length h) m (unwrap_or (state_of t (object_of a)) nothing) =
+      made ∙ (ap (λ z. with_op z a n m r) long ∙ (ap (λ z. with_op new a z m r) last ∙ ap (λ (z : ObjectState). with_op new a (length h) m z) old)) in
+      record {
+        summary = m;
+        told = subst (λ (z : ObjectState). TellsLast new z.parts.parts m) one (subst (λ z. TellsLast z w.parts.parts m) long told);
+        puts = λ q. subst (λ o. state_of s q ≡ cond (is_at (object_cmp o) q) (Some w) (state_of t q)) same (f q)
+            ∙ ap (λ (z : ObjectState). cond (is_at (object_cmp (object_of a)) q) (Some z) (state_of t q)) one;
+      }
+
+  -- the next operation finds the parts of its object
+  pub next_from : (t : List (ObjectId × ObjectState)) → StandsFor h t → (k : ObjectId) (r : ObjectState) (g : List Op) (n : ℕ) → k ≡ object_of a → unwrap_or (state_of t k) nothing ≡ r → g ≡ new → n ≡ length h → IsNextOf g a n r.parts r.summary
+  next_from t stands k r g n same was long last =
+      let o = object_of a in
+      let us = places_below h o (length h) in
+      let old : unwrap_or (state_of t o) nothing ≡ r = ap (λ p. unwrap_or (state_of t p) nothing) (sym same) ∙ was in
+      let state : IsStateOf h us r = subst (IsStateOf h us) old (or_nothing us (state_of t o) (stands o)) in
+      record { history = h; longer = long; place = last; valid = valid; in_range = in_range; accepted = accepted; us = us; all = all_places h o; parts = state.parts; places = state.places; told = state.summary }
+
+-- two facts of one success
+pub both_ok : {T E : Type 0} (X Y : Type 0) (r : Result T E) → OnOk r X → OnOk r Y → OnOk r (X × Y)
+both_ok X Y (Ok t) x y = (x, y)
+both_ok X Y (Err e) x y = tt
 
 -- ---- the listing
 

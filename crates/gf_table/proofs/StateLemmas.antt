@@ -1,6 +1,6 @@
 -- The state of an object after one more operation, on it or on another one.
 use Rattle.std.proofs.Common.{◌≡◌, ℕ, ◌<◌, Bool, true, false, List, [], ◌∷◌, ◌++◌, length, inl, inr, refl, subst, sym, ◌∙◌}
-use Rattle.std.specs.Prelude.{◌↔◌, Contains, cond, not, Some, slice_get}
+use Rattle.std.specs.Prelude.{◌↔◌, Contains, cond, not, Option, Some, slice_get}
 use Rattle.std.specs.List.{list_any}
 use Rattle.std.proofs.lemmas.Bool.{cases_Bool, cond-true, cond-false, and_from, and_parts, not-true, not_from_false}
 use Rattle.std.proofs.lemmas.List.Elements.{Contains-append_left, Contains-push, Contains-push_cases}
@@ -24,11 +24,13 @@ use Rattle.gf_parts.specs.Parts.{PartState, PartsState, alone, whole, touches, i
 use Rattle.gf_parts.proofs.PartsLemmas.{all_of_fold, first_parts, parts_agree, parts_after, all_after}
 use Rattle.gf_table.specs.ObjectState.{ObjectState, nothing, with_change, with_op}
 use Rattle.gf_table.specs.Standing.{IsSetter, AreTails, IsStateOf}
+use Rattle.gf_table.specs.Summaries.{SummaryState, TellsLast}
 use Rattle.gf_table.specs.Tails.{hits_one}
 use Rattle.gf_table.proofs.KeptTailsLemmas.{tails_kept}
 use Rattle.gf_table.proofs.LongerLemmas.{got_last, same_conflict}
 use Rattle.gf_table.proofs.NotedLemmas.{tails_noted}
 use Rattle.gf_table.proofs.QuickLemmas.{made_none, one_op, quick}
+use Rattle.gf_table.proofs.SummaryLemmas.{last_longer}
 
 -- ---- whether the next one is calm, by a list of the places
 
@@ -94,7 +96,7 @@ module _ (h : List Op) (a : Op) (us : List ℕ) (within : (i : ℕ) → Contains
 
   -- it stays where the operation is on another object
   pub state_kept : IsStateOf (h ++ a ∷ []) us t
-  state_kept = record { parts = still_parts; places = state.places; tails = tails_kept h a us within t.tails state.tails }
+  state_kept = record { parts = still_parts; places = state.places; tails = tails_kept h a us within t.tails state.tails; summary = last_longer h a t.parts.parts t.summary state.summary }
 
   parts_more : AreParts c (after c (length h) t.parts)
   parts_more = parts_after c (conflict_at_test (h ++ a ∷ [])) t.parts still_parts (length h) below
@@ -107,14 +109,15 @@ module _ (h : List Op) (a : Op) (us : List ℕ) (within : (i : ℕ) → Contains
       )
 
   -- with the right parts and tails it is the state with a
-  made_state : (s : ObjectState) → s.parts ≡ after c (length h) t.parts → AreTails (h ++ a ∷ []) (us ++ length h ∷ []) s.tails → IsStateOf (h ++ a ∷ []) (us ++ length h ∷ []) s
-  made_state s e tails = record {
+  made_state : (s : ObjectState) → s.parts ≡ after c (length h) t.parts → AreTails (h ++ a ∷ []) (us ++ length h ∷ []) s.tails → TellsLast (h ++ a ∷ []) s.parts.parts s.summary → IsStateOf (h ++ a ∷ []) (us ++ length h ∷ []) s
+  made_state s e tails told = record {
     parts = subst (AreParts c) (sym e) parts_more;
     places = subst (λ (p : PartsState). (i : ℕ) → Contains (whole p).all i ↔ Contains (us ++ length h ∷ []) i) (sym e) places_more;
     tails = tails;
+    summary = told;
   }
 
-  module _ (valid : IsValid h) (in_range : IsInRange a) (accepted : IsAccepted h a) (all : (i : ℕ) → Contains us i ↔ (is_on (object_of a) (slice_get h i) ≡ true)) where
+  module _ (valid : IsValid h) (in_range : IsInRange a) (accepted : IsAccepted h a) (all : (i : ℕ) → Contains us i ↔ (is_on (object_of a) (slice_get h i) ≡ true)) (m : Option SummaryState) where
     no_clash : ((i : ℕ) → ¬ (Contains us i)) → clashes c (length h) us ≡ false
     no_clash none = elim (cases_Bool (clashes c (length h) us)) [
       | inl y ↦ let w = list_any_true (c (length h)) us y in absurd (none w.0 w.1)
@@ -141,16 +144,16 @@ module _ (h : List Op) (a : Op) (us : List ℕ) (within : (i : ℕ) → Contains
               creates a.change set.object v e (subst (λ (z : Op). z.change ≡ Set set.object v) same set.change)
         ]
 
-    by_change : (k : Change) → a.change ≡ k → IsStateOf (h ++ a ∷ []) (us ++ length h ∷ []) (with_change (h ++ a ∷ []) a.id.site k (length h) t)
-    by_change (Create start) e = made_state (with_change (h ++ a ∷ []) a.id.site (Create start) (length h) t)
+    by_change : (k : Change) → a.change ≡ k → TellsLast (h ++ a ∷ []) (with_change (h ++ a ∷ []) a.id.site k (length h) m t).parts.parts m → IsStateOf (h ++ a ∷ []) (us ++ length h ∷ []) (with_change (h ++ a ∷ []) a.id.site k (length h) m t)
+    by_change (Create start) e told = made_state (with_change (h ++ a ∷ []) a.id.site (Create start) (length h) m t)
         (right_step c t.parts us state.places (length h) false (sym (no_clash (made_none h valid a in_range accepted us all start e))))
-        (first_tails start e)
-    by_change (Set o v) e = made_state (with_change (h ++ a ∷ []) a.id.site (Set o v) (length h) t)
+        (first_tails start e) told
+    by_change (Set o v) e told = made_state (with_change (h ++ a ∷ []) a.id.site (Set o v) (length h) m t)
         (right_step c t.parts us state.places (length h) (hits_one c (attribute_of v) (length h) t.tails) (quick h valid a in_range accepted us all o v e t.tails state.tails))
-        (tails_noted h valid a in_range accepted us all o v e t.tails state.tails)
+        (tails_noted h valid a in_range accepted us all o v e t.tails state.tails) told
 
     -- THE STEP on its own object
-    pub state_more : IsStateOf (h ++ a ∷ []) (us ++ length h ∷ []) (with_op (h ++ a ∷ []) a (length h) t)
+    pub state_more : TellsLast (h ++ a ∷ []) (with_op (h ++ a ∷ []) a (length h) m t).parts.parts m → IsStateOf (h ++ a ∷ []) (us ++ length h ∷ []) (with_op (h ++ a ∷ []) a (length h) m t)
     state_more = by_change a.change refl
 
 -- no place, nothing
@@ -164,4 +167,5 @@ first_state h = record {
     some = λ i b t s v m. absurd (not_Contains-nil i m);
     tell = λ i b t s v e m. absurd (not_Contains-nil i m);
   };
+  summary = tt;
 }

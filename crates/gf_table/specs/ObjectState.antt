@@ -1,5 +1,5 @@
--- What the table has of one object: the places of its operations in parts, and the tails of its setters.
-use Rattle.std.specs.Prelude.{ℕ, cond, List, []}
+-- What the table has of one object: the places of its operations in parts, the tails of its setters, and a summary of the last part.
+use Rattle.std.specs.Prelude.{ℕ, cond, List, [], Option, None}
 use Rattle.gf_ops.specs.declared.op.Op.{Op}
 use Rattle.gf_ops.specs.declared.change.Change.{Change}
 use Rattle.gf_ops.specs.declared.change.Change.TheVariants.{Create, Set}
@@ -8,28 +8,31 @@ use Rattle.gf_ops.specs.Attribute.{attribute_of}
 use Rattle.gf_groups.specs.Growing.{conflict_at}
 use Rattle.gf_parts.specs.Parts.{PartsState, with_free, with_part}
 use Rattle.gf_table.specs.declared.tails.Tail.{Tail}
+use Rattle.gf_table.specs.Summaries.{SummaryState}
 use Rattle.gf_table.specs.Tails.{hits_one, noted}
 
 pub record ObjectState : Type 0 where
   pub parts : PartsState
   pub tails : List Tail
+  pub summary : Option SummaryState
 
 -- of no operation
 abbrev pub nothing : ObjectState
-nothing = record { parts = record { free = []; parts = [] }; tails = [] }
+nothing = record { parts = record { free = []; parts = [] }; tails = []; summary = None }
 
--- the operation of h at the place n, of the site s, gives v
-abbrev pub with_setter : List Op → ℕ → Value → ℕ → ObjectState → ObjectState
-with_setter h s v n t = record {
+-- the operation of h at the place n, of the site s, gives v; then the summary is m
+abbrev pub with_setter : List Op → ℕ → Value → ℕ → Option SummaryState → ObjectState → ObjectState
+with_setter h s v n m t = record {
   parts = cond (hits_one (conflict_at h) (attribute_of v) n t.tails) (with_part (conflict_at h) n t.parts) (with_free n t.parts);
   tails = noted h s v n t.tails;
+  summary = m;
 }
 
 -- the operation of h at the place n, of the site s, makes the change
-abbrev pub with_change : List Op → ℕ → Change → ℕ → ObjectState → ObjectState
-with_change h s (Create start) n t = record { parts = with_free n t.parts; tails = t.tails }
-with_change h s (Set o v) n t = with_setter h s v n t
+abbrev pub with_change : List Op → ℕ → Change → ℕ → Option SummaryState → ObjectState → ObjectState
+with_change h s (Create start) n m t = record { parts = with_free n t.parts; tails = t.tails; summary = m }
+with_change h s (Set o v) n m t = with_setter h s v n m t
 
 -- the operation of h at the place n is a
-abbrev pub with_op : List Op → Op → ℕ → ObjectState → ObjectState
-with_op h a n t = with_change h a.id.site a.change n t
+abbrev pub with_op : List Op → Op → ℕ → Option SummaryState → ObjectState → ObjectState
+with_op h a n m t = with_change h a.id.site a.change n m t

@@ -1,4 +1,4 @@
--- When a table stands for a history: for each object it has the parts of the object's operations, and the tails of their setters.
+-- When a table stands for a history: for each object it has the parts of the object's operations, the tails of their setters, and a summary that tells of the last part.
 use Rattle.std.specs.Prelude.{◌≡◌, ◌≢◌, ◌⊎◌, ◌↔◌, ℕ, ◌≤◌, true, cond, List, [], AllPairs, Contains, length, Option, Some, None, option_map, slice_get}
 use Rattle.std.specs.BTreeMap.{is_at}
 use Rattle.std.specs.Map.{lookup}
@@ -17,6 +17,7 @@ use Rattle.gf_parts.specs.Parted.{AreParts}
 use Rattle.gf_parts.specs.Parts.{PartsState, whole}
 use Rattle.gf_table.specs.declared.tails.Tail.{Tail}
 use Rattle.gf_table.specs.ObjectState.{ObjectState}
+use Rattle.gf_table.specs.Summaries.{TellsLast}
 use Rattle.gf_table.specs.Tails.{is_of}
 
 -- the site s gives the value v of the attribute t by a
@@ -59,6 +60,7 @@ pub record IsStateOf (h : List Op) (us : List ℕ) (t : ObjectState) : Type 0 wh
   pub parts : AreParts (conflict_at h) t.parts
   pub places : (i : ℕ) → Contains (whole t.parts).all i ↔ Contains us i
   pub tails : AreTails h us t.tails
+  pub summary : TellsLast h t.parts.parts t.summary
 
 -- the table's state of an object, if it has one, is that of the places us, and else there is no place
 abbrev pub Stands : List Op → List ℕ → Option ObjectState → Type 0

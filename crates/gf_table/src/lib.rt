@@ -5,8 +5,12 @@
 //! - [`the_versions_are_what_is_free_with_one_set_of_each_part`]: the law.
 #![tactic(auto)]
 
+mod joining;
 mod laws;
 mod object;
+mod prints;
+mod spans;
+mod summary;
 mod table;
 mod tails;
 

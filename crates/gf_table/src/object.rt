@@ -3,8 +3,12 @@
 ghost use Rattle.std.specs.Prelude.{◌≡◌, cond, IfOk, OnOk, OnErr};
 ghost use Rattle.gf_groups.specs.Growing.{conflict_at};
 ghost use Rattle.gf_parts.specs.Parts.{with_free, with_part};
+ghost use Rattle.gf_table.specs.Next.{IsNextOf, Gives};
 ghost use Rattle.gf_table.specs.ObjectState.{nothing, with_setter, with_op};
+ghost use Rattle.gf_table.specs.Summaries.{TellsLast};
 
+use crate::joining::connect;
+use crate::summary::{Summary, copied};
 use crate::tails::{Tail, hits_one, note};
 use gf_groups::Timeline;
 use gf_ops::{Change, Op, Value};
@@ -13,11 +17,13 @@ use gf_shape::OutOfMemory;
 use std::alloc::Global;
 use std::marker::Model;
 
-/// The places of the operations on an object in parts, and the tails of its setters.
+/// The places of the operations on an object in parts, the tails of its setters, and mostly a summary
+/// of the last part.
 #[derive(Debug, Drop)]
 pub(crate) struct ObjectTable {
     pub(crate) parts: Parts,
     tails: Vec<Tail>,
+    summary: Option<Summary>,
 }
 
 impl Model for ObjectTable {
@@ -25,7 +31,7 @@ impl Model for ObjectTable {
 
     ghost Value = { ObjectState };
 
-    ghost view = { λ t. record { parts = t.parts; tails = t.tails.items } };
+    ghost view = { λ t. record { parts = t.parts; tails = t.tails.items; summary = t.summary } };
 }
 
 impl ObjectTable {
@@ -36,6 +42,7 @@ impl ObjectTable {
         ObjectTable {
             parts: Parts::new(alloc),
             tails: Vec::new(alloc),
+            summary: None,
         }
     }
 
@@ -46,7 +53,12 @@ impl ObjectTable {
         let parts = self.parts.copy(alloc)?;
         let mut tails = Vec::new(alloc);
         tails.extend_from_slice(&self.tails)?;
-        Ok(ObjectTable { parts, tails })
+        let summary = copied(alloc, &self.summary)?;
+        Ok(ObjectTable {
+            parts,
+            tails,
+            summary,
+        })
     }
 
     /// Adds the operation at this place, which comes after the others.
@@ -57,50 +69,49 @@ impl ObjectTable {
         op: &Op,
         place: usize,
     ) -> Result<(), OutOfMemory>
-        ensures ok { OnOk result (self.new ≡ with_op timeline.now op.now place self.old) }
+        requires { IsNextOf timeline.now op.now place self.old.parts self.old.summary }
+        ensures ok { OnOk result (self.new ≡ with_op timeline.now op.now place self.new.summary self.old) }
+        ensures told { OnOk result (TellsLast timeline.now self.new.parts.parts self.new.summary) }
         ensures err { OnErr result (self.new ≡ self.old) }
     {
         match &op.change {
             Change::Create(_) => self.parts.add_free(place),
-            Change::Set { value, .. } => self.add_setter(alloc, timeline, op.id.site, value, place),
+            Change::Set { value, .. } => self.add_setter(alloc, timeline, op, value, place),
         }
     }
 
-    /// Adds the operation of the site at this place, which gives the value. All memory is there before
-    /// it changes anything.
+    /// Adds the operation at this place, which gives the value. All memory is there before it changes
+    /// anything.
     fn add_setter(
         &mut self,
         alloc: Global,
         timeline: &Timeline<'_>,
-        site: u8,
+        op: &Op,
         value: &Value,
         place: usize,
     ) -> Result<(), OutOfMemory>
-        ensures ok { OnOk result (self.new ≡ with_setter timeline.now site value.now place self.old) }
+        requires next { IsNextOf timeline.now op.now place self.old.parts self.old.summary }
+        requires gives { Gives op.now value.now }
+        ensures ok { OnOk result (self.new ≡ with_setter timeline.now op.now.id.site value.now place self.new.summary self.old) }
+        ensures told { OnOk result (TellsLast timeline.now self.new.parts.parts self.new.summary) }
         ensures err { OnErr result (self.new ≡ self.old) }
     {
         self.tails.reserve(1)?;
         let conflicts = hits_one(timeline, value.attribute(), place, &self.tails);
-        add_place(alloc, timeline, place, conflicts, &mut self.parts)?;
-        note(timeline, site, value, place, &mut self.tails);
+        if conflicts {
+            connect(
+                alloc,
+                timeline,
+                op,
+                value,
+                place,
+                &mut self.parts,
+                &mut self.summary,
+            )?;
+        } else {
+            self.parts.add_free(place)?;
+        }
+        note(timeline, op.id.site, value, place, &mut self.tails);
         Ok(())
-    }
-}
-
-/// Adds a place to the parts, if its operation conflicts with one of them, and else to what is free.
-fn add_place(
-    alloc: Global,
-    timeline: &Timeline<'_>,
-    place: usize,
-    conflicts: bool,
-    parts: &mut Parts,
-) -> Result<(), OutOfMemory>
-    ensures ok { OnOk result (parts.new ≡ cond conflicts (with_part (conflict_at timeline.now) place parts.old) (with_free place parts.old)) }
-    ensures err { OnErr result (parts.new ≡ parts.old) }
-{
-    if conflicts {
-        parts.connect(alloc, timeline, place)
-    } else {
-        parts.add_free(place)
     }
 }

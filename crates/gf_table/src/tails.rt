@@ -20,7 +20,7 @@ pub struct Tail {
     pub other: Option<usize>,
 }
 
-fn attr_eq(attribute: Attr, other: Attr) -> bool
+pub(crate) fn attr_eq(attribute: Attr, other: Attr) -> bool
     ensures { result ≡ attr_eq attribute other }
 {
     match (attribute, other) {

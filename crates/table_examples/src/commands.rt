@@ -7,30 +7,28 @@ use gf_drawing::{CompileFault, Drawing, compile};
 use gf_groups::{Group, GroupFault, Groups, groups_of, is_made};
 use gf_ops::{ObjectId, OpId};
 use gf_shape::AnyShape;
-use gf_shown::{GroupedHistory, visible_groups};
+use gf_shown::{ranked_with, ranked_within, visible_groups};
+use gf_site::Site;
 use gf_versions::Ranked;
 use std::alloc::Global;
 
 /// The groups of an object, by the table.
-pub(crate) fn groups(alloc: Global, history: &GroupedHistory, text: &str) -> Option<String> {
+pub(crate) fn groups(alloc: Global, site: &Site, text: &str) -> Option<String> {
     let object = ObjectId(id(text)?);
-    told(
-        alloc,
-        history.table().groups(alloc, history.history(), object),
-    )
+    told(alloc, site.table().groups(alloc, site.history(), object))
 }
 
 /// The groups of an object, by the plain call.
-pub(crate) fn plain_groups(alloc: Global, history: &GroupedHistory, text: &str) -> Option<String> {
+pub(crate) fn plain_groups(alloc: Global, site: &Site, text: &str) -> Option<String> {
     let object = ObjectId(id(text)?);
-    told(alloc, groups_of(alloc, history.history(), object))
+    told(alloc, groups_of(alloc, site.history(), object))
 }
 
 /// The groups of an object, by a copy of the table.
-pub(crate) fn copied(alloc: Global, history: &GroupedHistory, text: &str) -> Option<String> {
+pub(crate) fn copied(alloc: Global, site: &Site, text: &str) -> Option<String> {
     let object = ObjectId(id(text)?);
-    let copy = history.table().copy(alloc).ok()?;
-    told(alloc, copy.groups(alloc, history.history(), object))
+    let copy = site.table().copy(alloc).ok()?;
+    told(alloc, copy.groups(alloc, site.history(), object))
 }
 
 fn told(alloc: Global, groups: Result<Groups, GroupFault>) -> Option<String> {
@@ -59,14 +57,14 @@ fn push_ids(alloc: Global, text: &mut String, ids: &[OpId]) -> Option<()> {
 }
 
 /// How many visible versions an object has, as `1.1 within 4`, or that they are more.
-pub(crate) fn visible(alloc: Global, history: &GroupedHistory, text: &str) -> Option<String> {
+pub(crate) fn visible(alloc: Global, site: &Site, text: &str) -> Option<String> {
     let (object, most) = text.split_once(" within ")?;
     let object = ObjectId(id(object)?);
-    if !is_made(history.history(), object) {
+    if !is_made(site.history(), object) {
         return None;
     }
     let most = bound(most)?;
-    let found = visible_groups(alloc, history.history(), history.table(), object, most).ok()?;
+    let found = visible_groups(alloc, site.history(), site.table(), object, most).ok()?;
     counted(alloc, found.map(|groups| groups.len()))
 }
 
@@ -86,20 +84,20 @@ fn counted(alloc: Global, count: Option<usize>) -> Option<String> {
 }
 
 /// How many versions of all objects are visible.
-pub(crate) fn total(alloc: Global, history: &GroupedHistory) -> Option<String> {
-    let ranked = history.ranked(alloc).ok()?;
+pub(crate) fn total(alloc: Global, site: &Site) -> Option<String> {
+    let ranked = ranked_with(alloc, site.history(), site.table()).ok()?;
     counted(alloc, Some(ranked.len()))
 }
 
 /// How many versions of all objects are visible, or that they are more than this.
-pub(crate) fn ranking(alloc: Global, history: &GroupedHistory, text: &str) -> Option<String> {
-    let found = history.ranked_within(alloc, bound(text)?).ok()?;
+pub(crate) fn ranking(alloc: Global, site: &Site, text: &str) -> Option<String> {
+    let found = ranked_within(alloc, site.history(), site.table(), bound(text)?).ok()?;
     counted(alloc, found.map(|ranked| ranked.len()))
 }
 
 /// The figures of the drawing of at most so many versions, the last one's depth, and the colours.
-pub(crate) fn drawn(alloc: Global, history: &GroupedHistory, text: &str) -> Option<String> {
-    match history.ranked_within(alloc, bound(text)?).ok()? {
+pub(crate) fn drawn(alloc: Global, site: &Site, text: &str) -> Option<String> {
+    match ranked_within(alloc, site.history(), site.table(), bound(text)?).ok()? {
         Some(ranked) => drawing(alloc, ranked),
         None => String::from_str(alloc, "more").ok(),
     }

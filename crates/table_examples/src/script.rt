@@ -3,14 +3,14 @@
 use crate::{commands, rounds};
 use example_parts::notation::operation;
 use example_parts::{Answers, ask};
-use gf_shown::GroupedHistory;
+use gf_site::Site;
 use std::alloc::Global;
 use std::test::Fail;
 
 /// What commands act on.
 #[derive(Drop)]
 pub(crate) struct Scene {
-    history: GroupedHistory,
+    site: Site,
 }
 
 impl Answers for Scene {
@@ -23,7 +23,7 @@ impl Answers for Scene {
 /// Each command of a table, which begins with nothing, has its answer.
 pub(crate) fn answers(alloc: Global, rows: &str) -> Result<(), Fail> {
     let mut scene = Scene {
-        history: GroupedHistory::new(alloc),
+        site: Site::new(alloc, 1),
     };
     ask(alloc, rows, &mut scene)
 }
@@ -32,18 +32,18 @@ pub(crate) fn answers(alloc: Global, rows: &str) -> Result<(), Fail> {
 fn told(alloc: Global, scene: &mut Scene, verb: &str, text: &str) -> Option<String> {
     match verb {
         "new" => {
-            scene.history = GroupedHistory::new(alloc);
+            scene.site = Site::new(alloc, 1);
             said(alloc, Some(()))
         }
         "add" => {
             let op = operation(alloc, text)?;
-            said(alloc, rounds::add(&mut scene.history, op))
+            said(alloc, rounds::add(&mut scene.site, op))
         }
         "rounds" => {
             let count: u32 = text.parse().ok()?;
-            said(alloc, rounds::rounds(&mut scene.history, count))
+            said(alloc, rounds::rounds(&mut scene.site, count))
         }
-        _ => told_of(alloc, &scene.history, verb, text),
+        _ => told_of(alloc, &scene.site, verb, text),
     }
 }
 
@@ -53,15 +53,15 @@ fn said(alloc: Global, done: Option<()>) -> Option<String> {
 }
 
 /// The answer to a command that changes nothing.
-fn told_of(alloc: Global, history: &GroupedHistory, verb: &str, text: &str) -> Option<String> {
+fn told_of(alloc: Global, site: &Site, verb: &str, text: &str) -> Option<String> {
     match verb {
-        "groups" => commands::groups(alloc, history, text),
-        "plain" => commands::plain_groups(alloc, history, text),
-        "copied" => commands::copied(alloc, history, text),
-        "visible" => commands::visible(alloc, history, text),
-        "ranked" => commands::ranking(alloc, history, text),
-        "total" => commands::total(alloc, history),
-        "drawn" => commands::drawn(alloc, history, text),
+        "groups" => commands::groups(alloc, site, text),
+        "plain" => commands::plain_groups(alloc, site, text),
+        "copied" => commands::copied(alloc, site, text),
+        "visible" => commands::visible(alloc, site, text),
+        "ranked" => commands::ranking(alloc, site, text),
+        "total" => commands::total(alloc, site),
+        "drawn" => commands::drawn(alloc, site, text),
         _ => None,
     }
 }

@@ -5,7 +5,7 @@ use crate::commands::{groups, plain_groups};
 use crate::rounds::add;
 use example_parts::{BLUE, GREEN, changed, create};
 use gf_ops::{Form, History, Op, OpId, Value};
-use gf_shown::GroupedHistory;
+use gf_site::Site;
 use std::alloc::Global;
 use std::test::Fail;
 
@@ -36,21 +36,18 @@ fn coded(code: u32, history: &History) -> Op {
 }
 
 /// Adds the box 1.1 and the changes that the codes tell of, if each is valid.
-fn fill(history: &mut GroupedHistory, codes: &[u32]) -> Option<()> {
-    add(history, create(1, 1, [0; 8], Form::Rect(10, 10)))?;
+fn fill(site: &mut Site, codes: &[u32]) -> Option<()> {
+    add(site, create(1, 1, [0; 8], Form::Rect(10, 10)))?;
     for code in codes {
-        let op = coded(*code, history.history());
-        add(history, op)?;
+        let op = coded(*code, site.history());
+        add(site, op)?;
     }
     Some(())
 }
 
 /// Whether the table lists the groups of the box as `groups_of` does.
-fn agrees(alloc: Global, history: &GroupedHistory) -> bool {
-    match (
-        groups(alloc, history, "1.1"),
-        plain_groups(alloc, history, "1.1"),
-    ) {
+fn agrees(alloc: Global, site: &Site) -> bool {
+    match (groups(alloc, site, "1.1"), plain_groups(alloc, site, "1.1")) {
         (Some(listed), Some(plain)) => listed == plain,
         _ => false,
     }
@@ -59,12 +56,12 @@ fn agrees(alloc: Global, history: &GroupedHistory) -> bool {
 /// How many operations the history of these codes has, whose groups are as they should be; 0 where
 /// there is no such history.
 fn tried(alloc: Global, codes: &[u32]) -> Result<usize, Fail> {
-    let mut history = GroupedHistory::new(alloc);
-    if fill(&mut history, codes).is_none() {
+    let mut site = Site::new(alloc, 1);
+    if fill(&mut site, codes).is_none() {
         return Ok(0);
     }
-    if agrees(alloc, &history) {
-        Ok(history.history().ops().len())
+    if agrees(alloc, &site) {
+        Ok(site.history().ops().len())
     } else {
         Err(Fail::new("a table lists other groups than the plain ones"))
     }

@@ -58,6 +58,27 @@ groups 1.1                            | [ 1.1 1.2 1.3 3.1 ][ 1.1 1.2 2.2 ][ 1.1 
 plain 1.1                             | [ 1.1 1.2 1.3 3.1 ][ 1.1 1.2 2.2 ][ 1.1 1.3 2.1 ][ 1.1 2.1 2.2 ]
 copied 1.1                            | [ 1.1 1.2 1.3 3.1 ][ 1.1 1.2 2.2 ][ 1.1 1.3 2.1 ][ 1.1 2.1 2.2 ]
 
+// sites_that_never_hear_of_each_other
+new                                  | ok
+add 1.1: box 10 10                   | ok
+add 1.2 after 1: 1.1 place 1,0       | ok
+add 2.1 after 1: 1.1 place 2,0       | ok
+add 1.3 after 2: 1.1 place 3,0       | ok
+add 2.2 after 1 1: 1.1 place 4,0     | ok
+groups 1.1                           | [ 1.1 1.2 1.3 ][ 1.1 2.1 2.2 ]
+// A place that the other site gave, too.
+add 2.3 after 1 2: 1.1 place 3,0     | ok
+groups 1.1                           | [ 1.1 1.2 1.3 ][ 1.1 1.3 2.3 ][ 1.1 2.1 2.2 2.3 ]
+add 1.4 after 3: 1.1 place 5,0       | ok
+groups 1.1                           | [ 1.1 1.2 1.3 1.4 ][ 1.1 1.3 2.3 ][ 1.1 2.1 2.2 2.3 ]
+// One that knows the first move of site 1.
+add 3.1 after 2: 1.1 place 6,0       | ok
+groups 1.1                           | [ 1.1 1.2 1.3 1.4 ][ 1.1 1.2 3.1 ][ 1.1 1.3 2.3 ][ 1.1 2.1 2.2 2.3 ]
+add 3.2 after 2 0 1: 1.1 place 7,0   | ok
+plain 1.1                            | [ 1.1 1.2 1.3 1.4 ][ 1.1 1.2 3.1 3.2 ][ 1.1 1.3 2.3 ][ 1.1 2.1 2.2 2.3 ]
+groups 1.1                           | [ 1.1 1.2 1.3 1.4 ][ 1.1 1.2 3.1 3.2 ][ 1.1 1.3 2.3 ][ 1.1 2.1 2.2 2.3 ]
+copied 1.1                           | [ 1.1 1.2 1.3 1.4 ][ 1.1 1.2 3.1 3.2 ][ 1.1 1.3 2.3 ][ 1.1 2.1 2.2 2.3 ]
+
 // objects_have_parts_of_their_own
 new                                  | ok
 add 1.1: box 10 10                   | ok

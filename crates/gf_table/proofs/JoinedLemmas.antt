@@ -1,0 +1,255 @@
+-- Where a summary tells that an operation joins one set, and changes nothing else, it does.
+use Rattle.std.proofs.Common.{◌≡◌, ◌≢◌, ℕ, zero, suc, ◌+◌, ◌-◌, ◌<◌, ◌≤◌, Bool, true, false, List, [], ◌∷◌, ◌++◌, length, take, get_or, refl, subst, sym, ap, ◌∙◌, inl, inr, arith}
+use Rattle.std.specs.Prelude.{◌↔◌, ◌&&◌, ◌==◌, not, Contains, Option, Some, None, slice_get, slice_set, slice_index_or, option_map, unwrap_or}
+use Rattle.std.specs.List.{list_any}
+use Rattle.std.proofs.lemmas.Bool.{cases_Bool, and_parts, and_from, not-true}
+use Rattle.std.proofs.lemmas.Bool.Decides.{Decides-eqb, Decides-int_eq}
+use Rattle.std.proofs.lemmas.List.{length-append, take_all, take_more}
+use Rattle.std.proofs.Math.Seq.{get_or-append_seam}
+use Rattle.std.proofs.lemmas.Option.{slice_get_read, slice_get_within, get_or_from_slice_get}
+use Rattle.std.specs.Ordering.{int_eq}
+use Rattle.gf_ops.specs.declared.op.Op.{Op}
+use Rattle.gf_ops.specs.declared.op.Clock.{Clock}
+use Rattle.gf_ops.specs.declared.op.OpId.{OpId}
+use Rattle.gf_ops.specs.declared.op.ObjectId.{ObjectId}
+use Rattle.gf_ops.specs.declared.change.Change.TheVariants.{Set}
+use Rattle.gf_ops.specs.declared.change.Value.{Value}
+use Rattle.gf_ops.specs.Accepted.{IsAccepted}
+use Rattle.gf_ops.specs.Attribute.{attribute_of, object_of}
+use Rattle.gf_ops.specs.Limits.{IsInRange}
+use Rattle.gf_ops.specs.OperationOrder.{Precedes, entry}
+use Rattle.gf_ops.specs.ValidHistory.{IsValid, IsWithin}
+use Rattle.gf_groups.specs.Growing.{conflict_at, clashes}
+use Rattle.gf_groups.specs.GroupedPlaces.{is_on}
+use Rattle.gf_groups.proofs.ListLemmas.{list_any_true, list_any_false, list_any_from}
+use Rattle.gf_groups.proofs.OnPlaceLemmas.{conflict_with, on_op}
+use Rattle.gf_groups.proofs.TableLemmas.{conflict_at_test}
+use Rattle.gf_ops.proofs.ListLemmas.{Contains-cons_head, Contains-cons_tail}
+use Rattle.gf_parts.specs.Parted.{AreParts, IsKept}
+use Rattle.gf_parts.specs.Parts.{PartState, PartsState, alone, whole, touches, holds, with_part, set_with, part_with, last_with, spares_all_but_last}
+use Rattle.gf_parts.proofs.JoiningLemmas.{IsHit, AllHit, OneCalm, IsBeside, next_one, joins_last, last_joined}
+use Rattle.gf_parts.proofs.PartsLemmas.{all_of_fold}
+use Rattle.gf_table.specs.declared.prints.Print.{Print}
+use Rattle.gf_table.specs.declared.spans.Span.{Span}
+use Rattle.gf_table.specs.Next.{IsNextOf, Gives, IsInOne, are_beside}
+use Rattle.gf_table.specs.Standing.{IsSetter}
+use Rattle.gf_table.specs.Summaries.{SummaryState, print_of, same_print, holds_print, GivesPrint, IsPrinted, TellsPlaces, SpansAt, TellsSet, TellsSets, AllUnknown, OneKnown, TellsOf, TellsLast, IsJoined, Notes, NotesIn, Spans, Widens}
+use Rattle.gf_table.proofs.LongerLemmas.{got_last, got_before}
+use Rattle.gf_table.proofs.QuickLemmas.{meets, one_op}
+use Rattle.gf_table.proofs.SummaryLemmas.{places_more, places_longer, sets_longer, sets_with}
+
+-- ---- lists
+
+-- the last element, and what stands before it
+pub last_apart : {X : Type 0} (xs : List X) (x : X) → slice_get xs (length xs - 1) ≡ Some x → xs ≡ take (length xs - 1) xs ++ x ∷ []
+last_apart xs x e =
+    let n = length xs - 1 in
+    let l = slice_get_within xs n x e in
+    let at = get_or_from_slice_get xs n x x e in
+    sym (take_all (n + 1) xs (omega (arith, l))) ∙ (take_more xs n x l ∙ ap (λ z. take n xs ++ z ∷ []) at)
+
+pub last_in : {X : Type 0} (xs : List X) (x : X) → slice_get xs (length xs - 1) ≡ Some x → Contains xs x
+last_in xs x e = (length xs - 1, slice_get_within xs (length xs - 1) x e, get_or_from_slice_get xs (length xs - 1) x x e)
+
+one_of : (g : List ℕ) → 0 < length g → (b : ℕ) × Contains g b
+one_of [] l = absurd (omega (arith, l))
+one_of (b ∷ g) l = (b, Contains-cons_head b g)
+
+-- ---- prints
+
+same_itself : (p : Print) → same_print p p ≡ true
+same_itself p = and_from (int_eq p.first p.first) (int_eq p.second p.second) ((Decides-int_eq p.first p.first).1 refl) ((Decides-int_eq p.second p.second).1 refl)
+
+-- a value whose print is not there differs from those that have one there
+differs : (v w : Value) (p : Print) (ps : List Print) → holds_print (print_of v) ps ≡ false → Contains ps p → print_of w ≡ p → w ≢ v
+differs v w p ps fresh i e d =
+    let no : same_print (print_of v) p ≡ false = list_any_false (same_print (print_of v)) ps fresh p i in
+    let same : print_of v ≡ p = ap print_of (sym d) ∙ e in
+    let yes : same_print (print_of v) p ≡ true = subst (λ q. same_print (print_of v) q ≡ true) same (same_itself (print_of v)) in
+    absurd cc
+
+-- ---- conflicts of the next operation, which gives v to the object o
+
+module _ (h : List Op) (valid : IsValid h) (a : Op) (in_range : IsInRange a) (accepted : IsAccepted h a) (us : List ℕ) (all : (i : ℕ) → Contains us i ↔ (is_on (object_of a) (slice_get h i) ≡ true))
+    (o : ObjectId) (v : Value) (gives : a.change ≡ Set o v) where
+  abbrev c : ℕ → ℕ → Bool
+  c = conflict_at (h ++ a ∷ [])
+
+  -- all that a span holds which a's past does not count conflicts with a
+  hit : (t : _) (p : Print) (ps : List Print) (e : Span) (b : ℕ) → Contains us b → attribute_of v ≡ t → holds_print (print_of v) ps ≡ false → Contains ps p → IsPrinted h t b p → SpansAt h e b → IsWithin a.past e.before → c (length h) b ≡ true
+  hit t p ps e b m same fresh i q s past =
+      let one : q.op ≡ s.op = one_op (slice_get h b) q.op s.op q.at s.at in
+      let g : GivesPrint s.op t p = subst (λ (x : Op). GivesPrint x t p) one q.gives in
+      let set : IsSetter s.op (attribute_of v) s.op.id.site g.given = record { object = g.object; change = g.change; attribute = g.attribute ∙ sym same; site = refl } in
+      meets h valid a in_range accepted us all o v gives b s.op s.op.id.site g.given m s.at set (differs v g.given p ps fresh i g.print) (λ (y : Precedes s.op a).
+      let l = past s.op.id.site s.own.site in
+      let above = s.own.above in
+      absurd (omega (arith, l, above, y)))
+
+  -- and what it counts does not
+  calm : (e : Span) (b : ℕ) → SpansAt h e b → IsWithin e.last a.past → c (length h) b ≡ false
+  calm e b s past = elim (cases_Bool (c (length h) b)) [
+    | inl t ↦
+        let k = conflict_with (slice_get (h ++ a ∷ []) (length h)) (slice_get (h ++ a ∷ []) b) a (got_last h a) t in
+        let one : s.op ≡ k.0 = one_op (slice_get (h ++ a ∷ []) b) s.op k.0 (got_before h a b s.op s.at) k.1 in
+        let l = past s.op.id.site s.own.site in
+        let within = s.own.within in
+        let before : Precedes s.op a = omega (arith, l, within) in
+        absurd (k.2.concurrent.not_after (subst (λ (x : Op). Precedes x a) one before))
+    | inr f ↦ f
+  ]
+
+  module _ (m : SummaryState) (same : attribute_of v ≡ m.attribute) (fresh : holds_print (print_of v) m.prints ≡ false) (vs : List ℕ) (inside : (b : ℕ) → Contains vs b → Contains us b) (prints : TellsPlaces h m.attribute m.prints vs) where
+    hit_set : (e : Span) (g : List ℕ) → ((b : ℕ) → Contains g b → Contains vs b) → TellsSet h e g → IsWithin a.past e.before → IsHit c (length h) g
+    hit_set e g f t past =
+        let each : (b : ℕ) → Contains g b → c (length h) b ≡ true = λ b i.
+        let w = prints b (f b i) in hit m.attribute w.0 m.prints e b (inside b (f b i)) same fresh w.1 w.2 (t.each b i) past in
+        let one = one_of g t.some in record {
+          clash = list_any_from (c (length h)) g one.0 one.1 (each one.0 one.1);
+          all = λ b i. (conflict_at_test (h ++ a ∷ [])).symmetric b (length h) ∙ each b i;
+        }
+
+    calm_set : (e : Span) (g : List ℕ) → TellsSet h e g → IsWithin e.last a.past → clashes c (length h) g ≡ false
+    calm_set e g t past = elim (cases_Bool (clashes c (length h) g)) [
+      | inl y ↦ let w = list_any_true (c (length h)) g y in let no = calm e w.0 (t.each w.0 w.1) past in let yes = w.2 in absurd cc
+      | inr n ↦ n
+    ]
+
+    abbrev AreOf : List (List ℕ) → Type 0
+    AreOf gs = (g : List ℕ) → Contains gs g → (b : ℕ) → Contains g b → Contains vs b
+
+    all_hit : (es : List Span) (gs : List (List ℕ)) → AreOf gs → TellsSets h es gs → AllUnknown a.past es → AllHit c (length h) gs
+    all_hit [] [] f t u = tt
+    all_hit (e ∷ es) (g ∷ gs) f t u = (hit_set e g (f g (Contains-cons_head g gs)) t.0 u.0, all_hit es gs (λ k i. f k (Contains-cons_tail g gs k i)) t.1 u.1)
+    all_hit [] (g ∷ gs) f t u = absurd t
+    all_hit (e ∷ es) [] f t u = absurd t
+
+    one_calm : (j : ℕ) (es : List Span) (gs : List (List ℕ)) → AreOf gs → TellsSets h es gs → OneKnown a.past j es → OneCalm c (length h) j gs
+    one_calm j [] gs f t u = absurd u
+    one_calm zero (e ∷ es) (g ∷ gs) f t u = (calm_set e g t.0 u.0, all_hit es gs (λ k i. f k (Contains-cons_tail g gs k i)) t.1 u.1)
+    one_calm (suc j) (e ∷ es) (g ∷ gs) f t u = (hit_set e g (f g (Contains-cons_head g gs)) t.0 u.0, one_calm j es gs (λ k i. f k (Contains-cons_tail g gs k i)) t.1 u.1)
+    one_calm j (e ∷ es) [] f t u = absurd t
+
+-- ---- the last part and its sets
+
+got_end : {X : Type 0} (xs : List X) (y : X) → slice_get (xs ++ y ∷ []) (length (xs ++ y ∷ []) - 1) ≡ Some y
+got_end xs y =
+    let len = length-append xs (y ∷ []) in
+    let at : length (xs ++ y ∷ []) - 1 ≡ length xs = omega (arith, len) in
+    slice_get_read (xs ++ y ∷ []) (length (xs ++ y ∷ [])) (length (xs ++ y ∷ []) - 1) y refl (omega (arith, len)) (sym (ap (λ n. get_or (xs ++ y ∷ []) n y) at ∙ get_or-append_seam xs y [] y))
+
+-- what was seen of the last part, its sets, and the summary
+pub record IsSeen (g : List Op) (a : Op) (v : Value) (n : ℕ) (s : PartsState) (m : SummaryState) (p : PartState) (gs : List (List ℕ)) (j own other : ℕ) : Type 0 where
+  pub last : slice_get s.parts (length s.parts - 1) ≡ Some p
+  pub sets : p.sets ≡ Some gs
+  pub joined : IsJoined m v a.past j
+  pub own_in : IsInOne gs own
+  pub other_in : IsInOne gs other
+  pub beside : are_beside (conflict_at g) n own other ≡ true
+  pub spared : spares_all_but_last (conflict_at g) n s ≡ true
+
+module _ (h : List Op) (valid : IsValid h) (a : Op) (in_range : IsInRange a) (accepted : IsAccepted h a) (us : List ℕ) (all : (i : ℕ) → Contains us i ↔ (is_on (object_of a) (slice_get h i) ≡ true))
+    (o : ObjectId) (v : Value) (gives : a.change ≡ Set o v) (s : PartsState) (parts : AreParts (conflict_at h) s) (places : (i : ℕ) → Contains (whole s).all i ↔ Contains us i)
+    (m : SummaryState) (p : PartState) (gs : List (List ℕ)) (j own other : ℕ) (told : TellsLast h s.parts (Some m)) (seen : IsSeen (h ++ a ∷ []) a v (length h) s m p gs j own other) where
+  abbrev d : ℕ → ℕ → Bool
+  d = conflict_at (h ++ a ∷ [])
+
+  abbrev front : List PartState
+  front = take (length s.parts - 1) s.parts
+
+  tells : TellsOf h m p.all gs
+  tells = told p gs seen.last seen.sets
+
+  kept : IsKept (conflict_at h) p.all (Some gs)
+  kept = subst (IsKept (conflict_at h) p.all) seen.sets (parts.parts p (last_in s.parts p seen.last)).sets
+
+  of_part : (g : List ℕ) → Contains gs g → (b : ℕ) → Contains g b → Contains p.all b
+  of_part g i b k = ((kept.0.each g).0 i).1.within b k
+
+  inside : (b : ℕ) → Contains p.all b → Contains us b
+  inside b k = (places b).0 ((all_of_fold (conflict_at h) (alone s.free) s.parts b).1 (inr (p, last_in s.parts p seen.last, k)))
+
+  below : (b : ℕ) → Contains us b → b < length h
+  below b k = let w = on_op (object_of a) (slice_get h b) ((all b).0 k) in slice_get_within h b w.0 w.1
+
+  in_part : (b : ℕ) → IsInOne gs b → Contains p.all b
+  in_part b w = of_part w.0 w.1 b w.2
+
+  stands_beside : IsBeside d (length h) p.all own other
+  stands_beside =
+      let t = and_parts (not (own == length h) && not (d own (length h)) && d (length h) other) (d own other) seen.beside in
+      let u = and_parts (not (own == length h) && not (d own (length h))) (d (length h) other) t.0 in
+      let w = and_parts (not (own == length h)) (not (d own (length h))) u.0 in record {
+        own = in_part own seen.own_in;
+        other = in_part other seen.other_in;
+        old = not-true (own == length h) w.0;
+        calm = not-true (d own (length h)) w.1;
+        rival = u.1;
+        meets = t.1;
+      }
+
+  not_there : holds (length h) p.all ≡ false
+  not_there = elim (cases_Bool (holds (length h) p.all)) [
+    | inl y ↦
+        let w = list_any_true (λ b. length h == b) p.all y in
+        let l = below w.0 (inside w.0 w.1) in
+        let e = (Decides-eqb (length h) w.0).0 w.2 in
+        absurd (omega (arith, l, e))
+    | inr n ↦ n
+  ]
+
+  -- THE SHORT WAY is the long one
+  joins_at : with_part d (length h) s ≡ last_with j (length h) s
+  joins_at =
+      let b = stands_beside in
+      let spared = and_parts (not (clashes d (length h) s.free)) (not (list_any (touches d (length h)) front)) seen.spared in
+      let calm = one_calm h valid a in_range accepted us all o v gives m seen.joined.attribute seen.joined.fresh p.all inside tells.places j m.spans gs of_part tells.sets seen.joined.spans in
+      joins_last d (length h) s front p gs j (last_apart s.parts p seen.last) seen.sets kept.1
+      (not-true (clashes d (length h) s.free) spared.0)
+      (not-true (list_any (touches d (length h)) front) spared.1)
+      (list_any_from (d (length h)) p.all other b.other b.rival)
+      not_there
+      (next_one d (length h) p.all j gs calm own other b)
+
+  -- and the new summary tells of it
+  told_at : (k : Option SummaryState) → NotesIn (Some m) j a.id v k → TellsLast (h ++ a ∷ []) (last_with j (length h) s).parts k
+  told_at None n = tt
+  told_at (Some k) n = λ q ks e f.
+      let ps = last_joined d (length h) s front p j (last_apart s.parts p seen.last) in
+      let found : slice_get (last_with j (length h) s).parts (length (last_with j (length h) s).parts - 1) ≡ Some (part_with j (length h) p) =
+      subst (λ zs. slice_get zs (length zs - 1) ≡ Some (part_with j (length h) p)) (sym ps) (got_end front (part_with j (length h) p)) in
+      let same : part_with j (length h) p ≡ q = ap (λ r. unwrap_or r q) (sym found ∙ e) in
+      let grown : (part_with j (length h) p).sets ≡ Some (set_with j (length h) gs) = ap (λ r. option_map (set_with j (length h)) r) seen.sets in
+      let sets : set_with j (length h) gs ≡ ks = ap (λ r. unwrap_or r ks) (sym grown ∙ (ap (λ (z : PartState). z.sets) same ∙ f)) in
+      let own : IsPrinted (h ++ a ∷ []) m.attribute (length h) (print_of v) = record { op = a; at = got_last h a; gives = record { object = o; given = v; change = gives; attribute = seen.joined.attribute; print = refl } } in
+      let made : TellsOf (h ++ a ∷ []) (record { attribute = m.attribute; spans = slice_set m.spans j n.span; prints = m.prints ++ print_of v ∷ [] }) (p.all ++ length h ∷ []) (set_with j (length h) gs) = record {
+        places = places_more (h ++ a ∷ []) m.attribute m.prints p.all (length h) (print_of v) (places_longer h a m.attribute m.prints p.all tells.places) own;
+        sets = sets_with (h ++ a ∷ []) a (length h) (got_last h a) j m.spans gs n.span (sets_longer h a m.spans gs tells.sets) n.widens;
+      } in
+      let is : record { attribute = m.attribute; spans = slice_set m.spans j n.span; prints = m.prints ++ print_of v ∷ [] } ≡ k = λ i. record { attribute = sym n.attribute i; spans = sym n.spans i; prints = sym n.prints i } in
+      subst (λ (z : SummaryState). TellsOf (h ++ a ∷ []) z q.all ks) is
+      (subst (λ (r : PartState). TellsOf (h ++ a ∷ []) (record { attribute = m.attribute; spans = slice_set m.spans j n.span; prints = m.prints ++ print_of v ∷ [] }) r.all ks) same
+      (subst (λ zs. TellsOf (h ++ a ∷ []) (record { attribute = m.attribute; spans = slice_set m.spans j n.span; prints = m.prints ++ print_of v ∷ [] }) (p.all ++ length h ∷ []) zs) sets made))
+
+-- ---- as it is called
+
+module _ (g : List Op) (a : Op) (n : ℕ) (s : PartsState) (r : Option SummaryState) (next : IsNextOf g a n s r) (v : Value) (gives : Gives a v)
+    (m : SummaryState) (p : PartState) (gs : List (List ℕ)) (j own other : ℕ) (some : r ≡ Some m) (seen : IsSeen g a v n s m p gs j own other) where
+  abbrev h : List Op
+  h = next.history
+
+  told_some : TellsLast h s.parts (Some m)
+  told_some = subst (TellsLast h s.parts) some next.told
+
+  seen_at : IsSeen (h ++ a ∷ []) a v (length h) s m p gs j own other
+  seen_at = subst (λ z. IsSeen z a v (length h) s m p gs j own other) next.longer (subst (λ k. IsSeen g a v k s m p gs j own other) next.place seen)
+
+  pub joins : with_part (conflict_at g) n s ≡ last_with j n s
+  joins =
+      let e = joins_at h next.valid a next.in_range next.accepted next.us next.all gives.0 v gives.1 s next.parts next.places m p gs j own other told_some seen_at in
+      subst (λ z. with_part (conflict_at z) n s ≡ last_with j n s) (sym next.longer) (subst (λ k. with_part (conflict_at (h ++ a ∷ [])) k s ≡ last_with j k s) (sym next.place) e)
+
+  pub joined_told : (k : Option SummaryState) → NotesIn r j a.id v k → TellsLast g (last_with j n s).parts k
+  joined_told k notes =
+      let t = told_at h next.valid a next.in_range next.accepted next.us next.all gives.0 v gives.1 s next.parts next.places m p gs j own other told_some seen_at k (subst (λ z. NotesIn z j a.id v k) some notes) in
+      subst (λ z. TellsLast z (last_with j n s).parts k) (sym next.longer) (subst (λ i. TellsLast (h ++ a ∷ []) (last_with j i s).parts k) (sym next.place) t)

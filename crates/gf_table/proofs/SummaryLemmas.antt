@@ -1,0 +1,103 @@
+-- What is kept of the sets of a part tells of one more place, and of one more set.
+use Rattle.std.proofs.Common.{◌≡◌, ℕ, zero, suc, ◌<◌, ◌≤◌, List, [], ◌∷◌, ◌++◌, length, take, drop, refl, inl, inr, subst, sym, arith}
+use Rattle.std.specs.Prelude.{Contains, Option, Some, None, slice_get, slice_set, slice_index_or}
+use Rattle.std.proofs.lemmas.List.{length-append}
+use Rattle.std.proofs.lemmas.List.Elements.{Contains-append_left, Contains-push, Contains-push_cases}
+use Rattle.gf_ops.specs.declared.op.Op.{Op}
+use Rattle.gf_ops.specs.declared.op.OpId.{OpId}
+use Rattle.gf_ops.specs.declared.change.Attr.{Attr}
+use Rattle.gf_ops.specs.declared.op.Clock.{Clock}
+use Rattle.gf_ops.specs.ValidHistory.{IsWithin}
+use Rattle.gf_ops.proofs.ListLemmas.{Contains-cons_head, Contains-cons_tail}
+use Rattle.gf_table.specs.Summaries.{IsPrinted, TellsPlaces, Spans, Widens, SpansAt, WidensAt, TellsSet, TellsSets, AllUnknown, OneKnown, SummaryState, TellsLast}
+use Rattle.gf_table.specs.Next.{IsNextOf}
+use Rattle.gf_parts.specs.Parts.{PartState, PartsState, set_with}
+use Rattle.gf_table.proofs.LongerLemmas.{got_before}
+use Rattle.gf_table.specs.declared.prints.Print.{Print}
+use Rattle.gf_table.specs.declared.spans.Span.{Span}
+
+-- one place more, and its print
+pub places_more : (h : List Op) (t : Attr) (ps : List Print) (us : List ℕ) (x : ℕ) (p : Print) → TellsPlaces h t ps us → IsPrinted h t x p → TellsPlaces h t (ps ++ p ∷ []) (us ++ x ∷ [])
+places_more h t ps us x p f own b m = elim (Contains-push_cases us x b m) [
+  | inl i ↦ let w = f b i in (w.0, Contains-append_left ps (p ∷ []) w.0 w.1, w.2)
+  | inr e ↦ subst (λ z. (q : Print) × Contains (ps ++ p ∷ []) q × IsPrinted h t z q) e (p, Contains-push ps p, own)
+]
+
+-- a wider span holds what the other one holds
+pub wider : (e f : Span) (i k : OpId) → Spans e i → Widens e k f → Spans f i
+wider e f i k s w =
+    let b = w.before i.site s.site in
+    let l = w.last i.site s.site in
+    let above = s.above in
+    let within = s.within in
+    record { site = s.site; above = omega (arith, b, above); within = omega (arith, l, within) }
+
+-- one place more in the span
+pub spans_more : (h : List Op) (e f : Span) (us : List ℕ) (x : ℕ) → ((b : ℕ) → Contains us b → SpansAt h e b) → WidensAt h e x f → (b : ℕ) → Contains (us ++ x ∷ []) b → SpansAt h f b
+spans_more h e f us x all w b m = elim (Contains-push_cases us x b m) [
+  | inl i ↦ let s = all b i in record { op = s.op; at = s.at; own = wider e f s.op.id w.op.id s.own w.widens }
+  | inr d ↦ subst (λ z. SpansAt h f z) d (record { op = w.op; at = w.at; own = w.widens.own })
+]
+
+-- one set more, and its span
+pub sets_more : (h : List Op) (es : List Span) (gs : List (List ℕ)) (e : Span) (g : List ℕ) → TellsSets h es gs → TellsSet h e g → TellsSets h (es ++ e ∷ []) (gs ++ g ∷ [])
+sets_more h [] [] e g t own = (own, tt)
+sets_more h (d ∷ es) (f ∷ gs) e g t own = (t.0, sets_more h es gs e g t.1 own)
+sets_more h [] (f ∷ gs) e g t own = absurd t
+sets_more h (d ∷ es) [] e g t own = absurd t
+
+-- ---- one set that is known
+
+all_unknown : (past : Clock) (es : List Span) → ((e : Span) → Contains es e → IsWithin past e.before) → AllUnknown past es
+all_unknown past [] f = tt
+all_unknown past (e ∷ es) f = (f e (Contains-cons_head e es), all_unknown past es (λ d i. f d (Contains-cons_tail e es d i)))
+
+pub one_known : (past : Clock) (j : ℕ) (es : List Span) → j < length es → ((e : Span) → slice_get es j ≡ Some e → IsWithin e.last past) →
+    ((e : Span) → Contains (take j es) e → IsWithin past e.before) → ((e : Span) → Contains (drop (suc j) es) e → IsWithin past e.before) → OneKnown past j es
+one_known past j [] l f g k = absurd (omega (arith, l))
+one_known past zero (e ∷ es) l f g k = (f e refl, all_unknown past es k)
+one_known past (suc j) (e ∷ es) l f g k = (g e (Contains-cons_head e (take j es)), one_known past j es (omega (arith, l)) f (λ d i. g d (Contains-cons_tail e (take j es) d i)) k)
+
+-- ---- a longer history
+
+module _ (h : List Op) (a : Op) where
+  abbrev new : List Op
+  new = h ++ a ∷ []
+
+  pub places_longer : (t : Attr) (ps : List Print) (us : List ℕ) → TellsPlaces h t ps us → TellsPlaces new t ps us
+  places_longer t ps us f b m = let w = f b m in (w.0, w.1, record { op = w.2.op; at = got_before h a b w.2.op w.2.at; gives = w.2.gives })
+
+  set_longer : (e : Span) (g : List ℕ) → TellsSet h e g → TellsSet new e g
+  set_longer e g t = record {
+    some = t.some;
+    each = λ b m. let s = t.each b m in record { op = s.op; at = got_before h a b s.op s.at; own = s.own };
+  }
+
+  pub sets_longer : (es : List Span) (gs : List (List ℕ)) → TellsSets h es gs → TellsSets new es gs
+  sets_longer [] [] t = tt
+  sets_longer (e ∷ es) (g ∷ gs) t = (set_longer e g t.0, sets_longer es gs t.1)
+  sets_longer [] (g ∷ gs) t = absurd t
+  sets_longer (e ∷ es) [] t = absurd t
+
+  -- a summary still tells of the parts
+  pub last_longer : (ps : List PartState) (m : Option SummaryState) → TellsLast h ps m → TellsLast new ps m
+  last_longer ps None t = tt
+  last_longer ps (Some m) t = λ p gs e s. let w = t p gs e s in record { places = places_longer m.attribute m.prints p.all w.places; sets = sets_longer m.spans gs w.sets }
+
+-- so it does with the next operation
+pub next_told : (g : List Op) (a : Op) (n : ℕ) (s : PartsState) (m : Option SummaryState) → IsNextOf g a n s m → TellsLast g s.parts m
+next_told g a n s m next = subst (λ z. TellsLast z s.parts m) (sym next.longer) (last_longer next.history a s.parts m next.told)
+
+-- the operation at the place n joins the set j
+pub sets_with : (h : List Op) (a : Op) (n : ℕ) → slice_get h n ≡ Some a → (j : ℕ) (es : List Span) (gs : List (List ℕ)) (f : Span) → TellsSets h es gs → Widens (slice_index_or es j f) a.id f → TellsSets h (slice_set es j f) (set_with j n gs)
+sets_with h a n at j [] [] f t w = tt
+sets_with h a n at zero (e ∷ es) (g ∷ gs) f t w = (
+  record {
+    some = let l = length-append g (n ∷ []) in omega (arith, l);
+    each = spans_more h e f g n t.0.each (record { op = a; at = at; widens = w });
+  },
+  t.1,
+)
+sets_with h a n at (suc j) (e ∷ es) (g ∷ gs) f t w = (t.0, sets_with h a n at j es gs f t.1 w)
+sets_with h a n at j [] (g ∷ gs) f t w = absurd t
+sets_with h a n at j (e ∷ es) [] f t w = absurd t

@@ -1,0 +1,41 @@
+-- The next operation behind a history, and the parts of its object. No public clause cites this module.
+use Rattle.std.specs.Prelude.{◌≡◌, ◌↔◌, ℕ, ◌<◌, Bool, true, not, ◌&&◌, ◌==◌, List, [], ◌∷◌, ◌++◌, Contains, length, Option, slice_get}
+use Rattle.gf_ops.specs.declared.op.Op.{Op}
+use Rattle.gf_ops.specs.declared.op.ObjectId.{ObjectId}
+use Rattle.gf_ops.specs.declared.change.Change.TheVariants.{Set}
+use Rattle.gf_ops.specs.declared.change.Value.{Value}
+use Rattle.gf_ops.specs.Accepted.{IsAccepted}
+use Rattle.gf_ops.specs.Attribute.{object_of}
+use Rattle.gf_ops.specs.Limits.{IsInRange}
+use Rattle.gf_ops.specs.ValidHistory.{IsValid}
+use Rattle.gf_groups.specs.Growing.{conflict_at}
+use Rattle.gf_groups.specs.GroupedPlaces.{is_on}
+use Rattle.gf_parts.specs.Parted.{AreParts}
+use Rattle.gf_parts.specs.Parts.{PartsState, whole}
+use Rattle.gf_table.specs.Summaries.{SummaryState, TellsLast}
+
+-- g is a history with a behind it, at the place n; s are the parts of a's object in that history, and m tells of the last one
+pub record IsNextOf (g : List Op) (a : Op) (n : ℕ) (s : PartsState) (m : Option SummaryState) : Type 0 where
+  pub history : List Op
+  pub longer : g ≡ history ++ a ∷ []
+  pub place : n ≡ length history
+  pub valid : IsValid history
+  pub in_range : IsInRange a
+  pub accepted : IsAccepted history a
+  pub us : List ℕ
+  pub all : (i : ℕ) → Contains us i ↔ (is_on (object_of a) (slice_get history i) ≡ true)
+  pub parts : AreParts (conflict_at history) s
+  pub places : (i : ℕ) → Contains (whole s).all i ↔ Contains us i
+  pub told : TellsLast history s.parts m
+
+-- a gives an object the value v
+abbrev pub Gives : Op → Value → Type 0
+Gives a v = (o : ObjectId) × (a.change ≡ Set o v)
+
+-- a is in one of the sets
+abbrev pub IsInOne : List (List ℕ) → ℕ → Type 0
+IsInOne gs a = (g : List ℕ) × Contains gs g × Contains g a
+
+-- a is another place than x and compatible with it, and both conflict with r
+abbrev pub are_beside : (ℕ → ℕ → Bool) → ℕ → ℕ → ℕ → Bool
+are_beside c x a r = not (a == x) && not (c a x) && c x r && c a r

@@ -1,0 +1,99 @@
+//! How an operation that conflicts comes to the parts of its object.
+
+ghost use Rattle.std.specs.Prelude.{◌≡◌, IfSome, OnOk, OnErr};
+ghost use Rattle.gf_groups.specs.Growing.{conflict_at};
+ghost use Rattle.gf_parts.specs.Parts.{with_part, last_with};
+ghost use Rattle.gf_table.specs.Next.{IsNextOf, Gives, IsInOne, are_beside};
+ghost use Rattle.gf_table.specs.Summaries.{TellsLast, NotesIn};
+
+use crate::summary::{Summary, noted};
+use gf_groups::{Places, Timeline, conflict_at};
+use gf_ops::{Attr, Op, Value};
+use gf_parts::Parts;
+use gf_shape::OutOfMemory;
+use std::alloc::Global;
+
+/// The last place of the set with this index.
+fn last_of(sets: &[Places], set: usize) -> Option<usize>
+    ensures { IfSome result (λ place. IsInOne sets.now place) }
+{
+    sets.get(set)?.as_slice().last().copied()
+}
+
+/// Whether the operation at the place `own` does not conflict with that at this place, and both
+/// conflict with that at the place `other`.
+fn are_beside(timeline: &Timeline<'_>, place: usize, own: usize, other: usize) -> bool
+    ensures { result ≡ are_beside (conflict_at timeline.now) place own other }
+{
+    own != place
+        && !conflict_at(timeline, own, place)
+        && conflict_at(timeline, place, other)
+        && conflict_at(timeline, own, other)
+}
+
+/// The index of the one set of the last part that the operation joins, where nothing else changes,
+/// if the summary tells it.
+fn joined_set(
+    timeline: &Timeline<'_>,
+    op: &Op,
+    value: &Value,
+    place: usize,
+    parts: &Parts,
+    summary: &Option<Summary>,
+) -> Option<usize>
+    requires next { IsNextOf timeline.now op.now place parts.now summary.now }
+    requires gives { Gives op.now value.now }
+    ensures joins { IfSome result (λ set. with_part (conflict_at timeline.now) place parts.now ≡ last_with set place parts.now) }
+    ensures told { IfSome result (λ set. (m : _) → NotesIn summary.now set op.now.id value.now m → TellsLast timeline.now (last_with set place parts.now).parts m) }
+{
+    let part = parts.parts().last()?;
+    let sets = part.sets()?;
+    let set = match summary {
+        Some(summary) => summary.joined_set(value, &op.past)?,
+        None => return None,
+    };
+    let own = last_of(sets, set)?;
+    let other = last_of(sets, if set == 0 { 1 } else { 0 })?;
+    if are_beside(timeline, place, own, other) && parts.spares_all_but_last(timeline, place) {
+        Some(set)
+    } else {
+        None
+    }
+}
+
+/// A summary of the last part, if it keeps its sets, all of its operations set the attribute, and there
+/// is memory.
+fn summed(alloc: Global, timeline: &Timeline<'_>, attribute: Attr, parts: &Parts) -> Option<Summary>
+    ensures { TellsLast timeline.now parts.now.parts result }
+{
+    let part = parts.parts().last()?;
+    Summary::of(alloc, timeline, attribute, part.all(), part.sets()?)
+}
+
+/// Adds the operation at this place, which gives the value and conflicts with another one. It grows
+/// one set in place where the summary tells that the others stay.
+pub(crate) fn connect(
+    alloc: Global,
+    timeline: &Timeline<'_>,
+    op: &Op,
+    value: &Value,
+    place: usize,
+    parts: &mut Parts,
+    summary: &mut Option<Summary>,
+) -> Result<(), OutOfMemory>
+    requires next { IsNextOf timeline.now op.now place parts.old summary.old }
+    requires gives { Gives op.now value.now }
+    ensures ok { OnOk result (parts.new ≡ with_part (conflict_at timeline.now) place parts.old) }
+    ensures told { OnOk result (TellsLast timeline.now parts.new.parts summary.new) }
+    ensures err { OnErr result (parts.new ≡ parts.old) }
+    ensures err_summary { OnErr result (summary.new ≡ summary.old) }
+{
+    if let Some(set) = joined_set(timeline, op, value, place, parts, summary) {
+        parts.join_last(set, place)?;
+        *summary = noted(summary.take(), set, op, value);
+        return Ok(());
+    }
+    parts.connect(alloc, timeline, place)?;
+    *summary = summed(alloc, timeline, value.attribute(), parts);
+    Ok(())
+}

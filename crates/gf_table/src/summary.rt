@@ -1,0 +1,145 @@
+//! What is kept of the last part of an object's operations, to tell without a look at each which of
+//! its sets the next one joins.
+
+ghost use Rattle.std.specs.Prelude.{◌≡◌, ◌<◌, Contains, length, slice_get, option_copied, IsTrue, IfOk, IfSome};
+ghost use Rattle.gf_ops.specs.Limits.{IsInRange};
+ghost use Rattle.gf_ops.specs.ValidHistory.{IsWithin};
+ghost use Rattle.gf_table.specs.Summaries.{TellsOf, IsJoined, NotesIn};
+
+use crate::prints::{Print, holds_print, print_of, prints_at};
+use crate::spans::{Span, spans_of, widened};
+use crate::tails::attr_eq;
+use gf_groups::{Places, Timeline};
+use gf_ops::{Attr, Clock, Op, Value};
+use gf_shape::OutOfMemory;
+use std::alloc::Global;
+use std::marker::Model;
+
+/// The attribute that the part's operations set, a span for each of its sets, and the print of each
+/// value.
+#[derive(Debug, Drop)]
+pub(crate) struct Summary {
+    attribute: Attr,
+    spans: Vec<Span>,
+    prints: Vec<Print>,
+}
+
+impl Model for Summary {
+    ghost use Rattle.gf_table.specs.Summaries.{SummaryState};
+
+    ghost Value = { SummaryState };
+
+    ghost view = { λ m. record { attribute = m.attribute; spans = m.spans.items; prints = m.prints.items } };
+}
+
+/// The index of a set all of whose operations the clock counts.
+fn known_set(spans: &[Span], past: &Clock) -> Option<usize>
+    ensures within { IfSome result (λ set. set < length spans.now) }
+    ensures known { IfSome result (λ set. (e : _) → slice_get spans.now set ≡ Some e → IsWithin e.last past.now) }
+{
+    for (index, span) in spans.iter().enumerate() {
+        if span.last.is_within(past) {
+            return Some(index);
+        }
+    }
+    None
+}
+
+/// Whether the clock counts nothing of these sets.
+fn are_unknown(spans: &[Span], past: &Clock) -> bool
+    ensures { IsTrue result → (e : _) → Contains spans.now e → IsWithin past.now e.before }
+{
+    for span in spans {
+        if !past.is_within(&span.before) {
+            return false;
+        }
+    }
+    true
+}
+
+impl Summary {
+    /// Of these sets of these places, if all of the operations set the attribute and there is memory.
+    pub(crate) fn of(
+        alloc: Global,
+        timeline: &Timeline<'_>,
+        attribute: Attr,
+        places: &[usize],
+        sets: &[Places],
+    ) -> Option<Summary>
+        ensures { IfSome result (λ summary. TellsOf timeline.now summary places.now sets.now) }
+    {
+        let prints = prints_at(alloc, timeline, attribute, places)?;
+        let spans = spans_of(alloc, timeline, sets)?;
+        Some(Summary {
+            attribute,
+            spans,
+            prints,
+        })
+    }
+
+    /// The same once more.
+    pub(crate) fn copy(&self, alloc: Global) -> Result<Summary, OutOfMemory>
+        ensures { IfOk result (λ copy. copy ≡ self.now) }
+    {
+        let mut spans = Vec::new(alloc);
+        spans.extend_from_slice(&self.spans)?;
+        let mut prints = Vec::new(alloc);
+        prints.extend_from_slice(&self.prints)?;
+        Ok(Summary {
+            attribute: self.attribute,
+            spans,
+            prints,
+        })
+    }
+
+    /// The set that an operation with this past, which gives the value, knows all of, where it knows
+    /// nothing of the other sets, and no operation of the part gave the value.
+    pub(crate) fn joined_set(&self, value: &Value, past: &Clock) -> Option<usize>
+        ensures { IfSome result (λ set. IsJoined self.now value.now past.now set) }
+    {
+        let set = known_set(&self.spans, past)?;
+        if attr_eq(value.attribute(), self.attribute)
+            && !holds_print(&print_of(value), &self.prints)
+            && are_unknown(self.spans.split_at(set).0, past)
+            && are_unknown(self.spans.split_at(set + 1).1, past)
+        {
+            Some(set)
+        } else {
+            None
+        }
+    }
+}
+
+/// The summary after the operation, which gives the value, joined the set with this index, if there is
+/// memory.
+pub(crate) fn noted(summary: Option<Summary>, set: usize, op: &Op, value: &Value) -> Option<Summary>
+    requires { IsInRange op.now }
+    ensures { NotesIn summary set op.now.id value.now result }
+{
+    let Summary {
+        attribute,
+        mut spans,
+        mut prints,
+    } = summary?;
+    let span = *spans.get(set)?;
+    prints.push(print_of(value)).ok()?;
+    spans[set] = widened(span, op);
+    Some(Summary {
+        attribute,
+        spans,
+        prints,
+    })
+}
+
+/// The same once more, if there is one.
+pub(crate) fn copied(
+    alloc: Global,
+    summary: &Option<Summary>,
+) -> Result<Option<Summary>, OutOfMemory>
+    ensures { IfOk result (λ copy. copy ≡ summary.now) }
+{
+    match summary {
+        Some(summary) => Ok(Some(summary.copy(alloc)?)),
+        None => Ok(None),
+    }
+}
