@@ -1,5 +1,5 @@
 -- What a step leaves.
-use Rattle.std.proofs.Common.{◌≡◌, ◌≢◌, ℕ, ◌<◌, arith, Option, Some, None, List, [], ◌∷◌, ◌++◌, refl, sym, ap, subst, ◌∙◌, inl, inr}
+use Rattle.std.proofs.Common.{◌≡◌, ◌≢◌, Option, Some, None, List, [], ◌∷◌, ◌++◌, refl, sym, ap, subst, ◌∙◌, inl, inr}
 use Rattle.std.specs.Prelude.{◌↔◌, Result, Err, Contains, IfSome, IfNone}
 use Rattle.std.specs.List.Sorted.{IsStrictlySortedBy}
 use Rattle.std.specs.Ordering.{ordering_reverse}
@@ -14,8 +14,6 @@ use Rattle.gf_ops.specs.declared.faults.OpFault.TheVariants.{BadClock, NoObject,
 use Rattle.gf_ops.specs.declared.op.ObjectId.{ObjectId}
 use Rattle.gf_ops.specs.declared.change.Change.{Change}
 use Rattle.gf_ops.specs.declared.change.Change.TheVariants.{Create, Set}
-use Rattle.gf_ops.specs.declared.faults.AddFault.{AddFault}
-use Rattle.gf_ops.specs.declared.faults.AddFault.TheVariants as add
 use Rattle.gf_ops.specs.KnownObject.{IsFounded, IsSuited}
 use Rattle.gf_ops.specs.Accepted.{IsAccepted, IsRefused, AreAccepted, next}
 use Rattle.gf_ops.specs.OperationOrder.{id_cmp}
@@ -27,8 +25,8 @@ use Rattle.gf_table.specs.Standing.{StandsFor}
 use Rattle.gf_causal.proofs.HeldLemmas.{exact_ids, ids_total}
 
 -- an accepted operation goes on
-pub run_more : (h old new : List Op) (a : Op) → AreAccepted h → old ≡ h → IsAccepted old a → new ≡ old ++ a ∷ [] → AreAccepted new
-run_more h old new a run e c n = subst AreAccepted (sym (n ∙ ap (λ l. l ++ a ∷ []) e)) (next run (subst (λ l. IsAccepted l a) e c))
+pub run_more : (h old new : List Op) (a : Op) → AreAccepted h → old ≡ h → IsAccepted h a → new ≡ old ++ a ∷ [] → AreAccepted new
+run_more h old new a run e c n = subst AreAccepted (sym (n ∙ ap (λ l. l ++ a ∷ []) e)) (next run c)
 
 -- the fault that a check told
 pub refused_by : {A : Type 0} (h : List Op) (a : Op) (r : Result A OpFault) (f : OpFault) → r ≡ Err f → (r ≡ Err BadClock ↔ IsRefused h a BadClock) → (r ≡ Err NoObject ↔ IsRefused h a NoObject) →
@@ -101,12 +99,3 @@ pub not_refused : (h : List Op) (a : Op) (f : OpFault) → IsAccepted h a → ¬
 not_refused h a BadClock c r = r c.next
 not_refused h a NoObject c r = r.1 (founded h a a.change c.suited)
 not_refused h a WrongKind c r = r.2 c.suited
-
--- so it is added, where there is room
-pub added : {A : Type 0} (h : List Op) (a : Op) (room : ℕ) (r : Result A AddFault) (f : AddFault) → IsAccepted h a → 0 < room → r ≡ Err f →
-    (r ≡ Err (add.Op BadClock) ↔ IsRefused h a BadClock) → (r ≡ Err (add.Op NoObject) ↔ IsRefused h a NoObject) → (r ≡ Err (add.Op WrongKind) ↔ IsRefused h a WrongKind) →
-    (r ≡ Err add.OutOfMemory → IsAccepted h a × (room ≡ 0)) → ⊥
-added h a room r (add.Op BadClock) c l e p q w m = not_refused h a BadClock c (p.0 e)
-added h a room r (add.Op NoObject) c l e p q w m = not_refused h a NoObject c (q.0 e)
-added h a room r (add.Op WrongKind) c l e p q w m = not_refused h a WrongKind c (w.0 e)
-added h a room r add.OutOfMemory c l e p q w m = let z = (m e).1 in absurd (omega arith)

@@ -8,10 +8,11 @@ ghost use Rattle.gf_ops.specs.Accepted.{IsNext, IsAccepted, AreAccepted};
 ghost use Rattle.gf_ops.specs.ValidHistory.{IsValid};
 ghost use Rattle.gf_causal.specs.declared.buffer.Offered.{Offered};
 ghost use Rattle.gf_causal.specs.declared.faults.OfferFault.{OfferFault};
-ghost use Rattle.gf_causal.specs.HeldOperations.{AreHeld, IsClash, IsKnown, IsNew, Adds, IsFirstReady};
+ghost use Rattle.gf_causal.specs.HeldOperations.{AreHeld, Adds, IsFirstReady};
 ghost use Rattle.gf_table.specs.Standing.{StandsFor};
 ghost use Rattle.gf_site.specs.SiteState.{new_site, clock_of, authored};
 ghost use Rattle.gf_site.specs.Events.{Refuses, Authors, Steps, HasNext};
+ghost use Rattle.gf_site.specs.Offers.{HasOtherThan, HasAlready, IsNewTo, ComesToHold};
 
 use crate::AuthorFault;
 use gf_causal::{Buffer, OfferFault, Offered};
@@ -54,7 +55,8 @@ impl Model for Site {
 
     ghost view = { λ s. record { number = s.number; ops = s.history.ops; held = s.buffer } };
 
-    ghost invariant = { λ s. IsSite s.number × AreAccepted s.history.ops × StandsFor s.history.ops s.table };
+    ghost invariant = { λ s.
+        IsSite s.number × AreAccepted s.history.ops × StandsFor s.history.ops s.table };
 }
 
 impl Site {
@@ -144,27 +146,25 @@ impl Site {
         let Ok(()) = grow(&mut self.history, &mut self.table, &op) else {
             return Err(AuthorFault::OutOfMemory);
         };
-        let Ok(()) = self.history.add(op) else {
-            unreachable!();
-        };
+        self.history.push(op);
         Ok(copy)
     }
 
     /// Holds an operation that is neither held nor in the history.
     pub fn receive(&mut self, op: Op) -> Result<Offered, OfferFault>
         ensures range { result ≡ Err OfferFault.Range ↔ (¬ (IsInRange op)) }
-        ensures clash { result ≡ Err OfferFault.Clash ↔ (IsInRange op × IsClash self.old.held self.old.ops op) }
-        ensures already { result ≡ Ok Offered.Already ↔ (IsInRange op × IsKnown self.old.held self.old.ops op) }
-        ensures held { result ≡ Ok Offered.Held → IsInRange op × IsNew self.old.held self.old.ops op × Adds self.old.held op self.new.held }
-        ensures out_of_memory { result ≡ Err OfferFault.OutOfMemory → IsInRange op × IsNew self.old.held self.old.ops op }
+        ensures clash { result ≡ Err OfferFault.Clash ↔ HasOtherThan self.old op }
+        ensures already { result ≡ Ok Offered.Already ↔ HasAlready self.old op }
+        ensures held { result ≡ Ok Offered.Held → ComesToHold self.old op self.new }
+        ensures out_of_memory { result ≡ Err OfferFault.OutOfMemory → IsNewTo self.old op }
         ensures same { result ≢ Ok Offered.Held → self.new ≡ self.old }
         ensures kept { self.new ≡ record self.old { held = self.new.held } }
     {
         self.buffer.offer(op, &self.history)
     }
 
-    /// Moves the held operation that is ready, with the least id of those, to the history, or forgets
-    /// it where it doesn't fit. All memory is there before it changes anything.
+    /// Moves the held operation that is ready, with the least id of those, to the history, or
+    /// forgets it where it doesn't fit. All memory is there before it changes anything.
     pub fn step(&mut self) -> Result<Step, OutOfMemory>
         ensures ok { IfOk result (λ step. Steps self.old step self.new) }
         ensures out_of_memory { OnErr result (HasNext self.old) }
@@ -182,9 +182,7 @@ impl Site {
         let Some(op) = take_first(&mut self.buffer, &self.history) else {
             unreachable!();
         };
-        let Ok(()) = self.history.add(op) else {
-            unreachable!();
-        };
+        self.history.push(op);
         Ok(Step::Applied(id))
     }
 
@@ -242,7 +240,8 @@ fn grow(history: &mut History, table: &mut GroupTable, op: &Op) -> Result<(), Ou
 
 /// Takes out the operation that is ready first.
 fn take_first(buffer: &mut Buffer, history: &History) -> Option<Op>
-    ensures { (op : Op) → IsFirstReady buffer.old history.now.ops op → (result ≡ Some op) × Adds buffer.new op buffer.old }
+    ensures { (op : Op) → IsFirstReady buffer.old history.now.ops op →
+        (result ≡ Some op) × Adds buffer.new op buffer.old }
 {
     // Its clause says that each id is held once.
     let _ = buffer.held();
@@ -251,7 +250,8 @@ fn take_first(buffer: &mut Buffer, history: &History) -> Option<Op>
 
 /// Takes it out and forgets it.
 fn forget_first(buffer: &mut Buffer, history: &History)
-    ensures { (op : Op) → IsFirstReady buffer.old history.now.ops op → Adds buffer.new op buffer.old }
+    ensures { (op : Op) → IsFirstReady buffer.old history.now.ops op →
+        Adds buffer.new op buffer.old }
 {
     let _ = take_first(buffer, history);
 }

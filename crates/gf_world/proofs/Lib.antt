@@ -3,3 +3,5 @@ pub mod GrowingLemmas
 pub mod SoundLemmas
 pub mod HappenLemmas
 pub mod SettledLemmas
+pub mod CutLemmas
+pub mod EventLemmas

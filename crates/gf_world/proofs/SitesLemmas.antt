@@ -5,7 +5,7 @@ use Rattle.gf_site.specs.SiteState.{SiteState, new_site}
 use Rattle.gf_world.specs.World.{new_sites, site_at, with_site}
 
 -- what stands at a place of a list, after one of its elements was replaced
-got_set : {X : Type 0} (xs : List X) (k i : ℕ) (y x : X) → slice_get (set xs k y) i ≡ Some x → ((i ≡ k) × (x ≡ y)) ⊎ ((i ≢ k) × (slice_get xs i ≡ Some x))
+pub got_set : {X : Type 0} (xs : List X) (k i : ℕ) (y x : X) → slice_get (set xs k y) i ≡ Some x → ((i ≡ k) × (x ≡ y)) ⊎ ((i ≢ k) × (slice_get xs i ≡ Some x))
 got_set [] k i y x e = absurd cc
 got_set (z ∷ zs) zero zero y x e = inl (refl, let q : x ≡ y = cc in q)
 got_set (z ∷ zs) zero (suc i) y x e = inr (λ q. absurd (omega arith), e)
@@ -16,7 +16,7 @@ got_set (z ∷ zs) (suc k) (suc i) y x e = elim (got_set zs k i y x e) [
 ]
 
 -- or one was put behind them
-got_push : {X : Type 0} (xs : List X) (y : X) (i : ℕ) (x : X) → slice_get (xs ++ y ∷ []) i ≡ Some x → (slice_get xs i ≡ Some x) ⊎ ((i ≡ length xs) × (x ≡ y))
+pub got_push : {X : Type 0} (xs : List X) (y : X) (i : ℕ) (x : X) → slice_get (xs ++ y ∷ []) i ≡ Some x → (slice_get xs i ≡ Some x) ⊎ ((i ≡ length xs) × (x ≡ y))
 got_push [] y zero x e = inr (refl, let q : x ≡ y = cc in q)
 got_push [] y (suc i) x e = absurd cc
 got_push (z ∷ zs) y zero x e = inl e
@@ -25,7 +25,7 @@ got_push (z ∷ zs) y (suc i) x e = elim (got_push zs y i x e) [
   | inr p ↦ let q = p.0 in inr (omega arith, p.1)
 ]
 
-length-new_sites : (n : ℕ) → length (new_sites n) ≡ n
+pub length-new_sites : (n : ℕ) → length (new_sites n) ≡ n
 length-new_sites zero = refl
 length-new_sites (suc n) = let i = length-new_sites n in length-append (new_sites n) (new_site (suc n) ∷ []) ∙ omega arith
 

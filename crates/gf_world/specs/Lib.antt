@@ -2,3 +2,4 @@ pub mod World
 pub mod Sound
 pub mod Settled
 pub mod Visits
+pub mod Courses

@@ -14,6 +14,7 @@ ghost use Rattle.gf_world.specs.World.{WorldState, site_at, IsWorld};
 ghost use Rattle.gf_world.specs.Sound.{IsSound};
 ghost use Rattle.gf_world.specs.Settled.{IsSettled};
 ghost use Rattle.gf_world.specs.Visits.{IsOffered};
+ghost use Rattle.gf_world.specs.Courses.{AreCourses, HaveEvents};
 
 /// The messages of a world are a valid history, and the list of each site is a course: each of its
 /// beginnings is a valid history, and an own operation knows all that stands before it. It has all
@@ -33,4 +34,11 @@ pub fn settled_sites_have_all_messages()
 pub fn a_site_that_is_offered_a_history_has_it()
     ensures same { (n : ℕ) (h offers : List Op) (x : SiteState) → IsValid h → IsOffered n h offers x → ((a : Op) → Contains h a → Contains offers a) → NoneIsReady x.ops x.held → HaveSame x.ops h }
     ensures none_dropped { (n : ℕ) (h offers : List Op) (x : SiteState) → IsValid h → IsOffered n h offers x → (i : OpId) (f : OpFault) (y : SiteState) → ¬ (Drops x i f y) }
+{}
+
+/// Lists that have the same operations, each of one of the sites 1 to n, and are courses of these
+/// sites, are what some world of n sites has: each site makes its own operations where they stand in
+/// its list, and is offered each other one and takes it where that stands there.
+pub fn courses_of_the_same_operations_have_events()
+    ensures { (lists : List (List Op)) → AreCourses lists → HaveEvents lists }
 {}

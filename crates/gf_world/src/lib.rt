@@ -2,7 +2,8 @@
 //!
 //! - [`world_run`]: the [`World`] that new sites come to by [`Event`]s.
 //! - [`each_site_of_a_world_has_a_course`], [`settled_sites_have_all_messages`],
-//!   [`a_site_that_is_offered_a_history_has_it`]: the laws.
+//!   [`a_site_that_is_offered_a_history_has_it`], [`courses_of_the_same_operations_have_events`]:
+//!   the laws.
 #![tactic(auto)]
 
 mod event;
@@ -11,7 +12,7 @@ mod world;
 
 pub use event::Event;
 pub use laws::{
-    a_site_that_is_offered_a_history_has_it, each_site_of_a_world_has_a_course,
-    settled_sites_have_all_messages,
+    a_site_that_is_offered_a_history_has_it, courses_of_the_same_operations_have_events,
+    each_site_of_a_world_has_a_course, settled_sites_have_all_messages,
 };
 pub use world::{World, world_run};

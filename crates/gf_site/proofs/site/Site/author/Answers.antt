@@ -1,3 +1,4 @@
+use Rattle.std.proofs.Common.{refl}
 use Rattle.gf_site.proofs.StepLemmas.{run_more, table_more}
 use Rattle.gf_site.proofs.site.Site.author.Goals as goal
 
@@ -5,8 +6,8 @@ pub invariant_of-self-2 : goal.invariant_of-self-2
 invariant_of-self-2 c =
     let h = c.self.inside.history.ops in
     let old = c.grow.new.history.ops in
-    let new = c.add.new.self.ops in
+    let new = c.push.new.self.ops in
     let a = c.next_op-op.result in
     let same = c.in-Ok-grow.ensures.history in
-    let more = c.in-Ok-add.ensures.ok in
-    (c.self.invariant.0, run_more h old new a c.self.invariant.1 same more.0 more.1, table_more h old new a c.grow.new.table same more.1 c.in-Ok-grow.ensures.table)
+    let more = c.push.ensures.ops in
+    (c.self.invariant.0, run_more h old new a c.self.invariant.1 same (c.in-Ok.ensures.ok.0 refl) more, table_more h old new a c.grow.new.table same more c.in-Ok-grow.ensures.table)

@@ -2,7 +2,7 @@ use Rattle.std.proofs.Common.{◌++◌, ◌∷◌, [], refl, sym, subst, ◌∙�
 use Rattle.std.proofs.lemmas.Result.{err_from_is_err_and}
 use Rattle.gf_ops.specs.Limits.{IsInRange}
 use Rattle.gf_table.specs.Standing.{StandsFor}
-use Rattle.gf_site.proofs.StepLemmas.{run_more, refused_by, taken_first_none, taken_same, accepted_same, table_more, added}
+use Rattle.gf_site.proofs.StepLemmas.{run_more, refused_by, taken_first_none, taken_same, accepted_same, table_more}
 use Rattle.gf_site.proofs.site.Site.step.Goals as goal
 
 pub returns-in_default-clause-ok : goal.returns-in_default-clause-ok
@@ -29,30 +29,32 @@ returns-in_err-grow-clause-out_of_memory c =
 pub unreachable-requires : goal.unreachable-requires
 unreachable-requires c = taken_first_none c.self.inside.buffer c.self.inside.history.ops c.grow.new.history.ops c.take_first.new.buffer c.in-Some.op.now c.take_first.result c.in-Some.ensures.found c.in_ok-grow.ensures.history c.take_first.ensures c.in_default-take_first.is
 
-pub add-requires : goal.add-requires
-add-requires c =
+pub push-requires-clause-in_range : goal.push-requires-clause-in_range
+push-requires-clause-in_range c =
     let t = taken_same c.self.inside.buffer c.self.inside.history.ops c.grow.new.history.ops c.take_first.new.buffer c.in-Some.op.now c.in-Some-take_first.op c.take_first.result c.in-Some.ensures.found c.in_ok-grow.ensures.history c.take_first.ensures c.in-Some-take_first.is in
     subst IsInRange (sym t.0) c.in-Some.ensures.in_range
 
-pub unreachable-requires-in_default-add : goal.unreachable-requires-in_default-add
-unreachable-requires-in_default-add c =
+pub push-requires-clause-accepted : goal.push-requires-clause-accepted
+push-requires-clause-accepted c =
+    let h = c.self.inside.history.ops in
     let old = c.grow.new.history.ops in
     let b = c.in-Some-take_first.op in
-    let t = taken_same c.self.inside.buffer c.self.inside.history.ops old c.take_first.new.buffer c.in-Some.op.now b c.take_first.result c.in-Some.ensures.found c.in_ok-grow.ensures.history c.take_first.ensures c.in-Some-take_first.is in
-    let accepted = accepted_same c.self.inside.history.ops old c.in-Some.op.now b c.in_ok-grow.ensures.history t.0 (c.in_default-check.ensures.ok.0 refl) in
-    added old b c.grow.new.history.room c.add.result c.in_default-add.field-0 accepted c.in_ok-grow.ensures.room c.in_default-add.is c.add.ensures.bad_clock c.add.ensures.no_object c.add.ensures.wrong_kind c.add.ensures.out_of_memory
+    let same = c.in_ok-grow.ensures.history in
+    let t = taken_same c.self.inside.buffer h old c.take_first.new.buffer c.in-Some.op.now b c.take_first.result c.in-Some.ensures.found same c.take_first.ensures c.in-Some-take_first.is in
+    accepted_same h old c.in-Some.op.now b same t.0 (c.in_default-check.ensures.ok.0 refl)
 
 pub invariant_of-self-2 : goal.invariant_of-self-2
 invariant_of-self-2 c =
     let h = c.self.inside.history.ops in
     let old = c.grow.new.history.ops in
-    let new = c.add.new.self.ops in
+    let new = c.push.new.self.ops in
     let b = c.in-Some-take_first.op in
     let same = c.in_ok-grow.ensures.history in
-    let more = c.in-Ok.ensures.ok in
+    let more = c.push.ensures.ops in
     let t = taken_same c.self.inside.buffer h old c.take_first.new.buffer c.in-Some.op.now b c.take_first.result c.in-Some.ensures.found same c.take_first.ensures c.in-Some-take_first.is in
     let stands = subst (λ a. StandsFor (h ++ a ∷ []) c.grow.new.table) (sym t.0) c.in_ok-grow.ensures.table in
-    (c.self.invariant.0, run_more h old new b c.self.invariant.1 same more.0 more.1, table_more h old new b c.grow.new.table same more.1 stands)
+    let accepted = accepted_same h h c.in-Some.op.now b refl t.0 (c.in_default-check.ensures.ok.0 refl) in
+    (c.self.invariant.0, run_more h old new b c.self.invariant.1 same accepted more, table_more h old new b c.grow.new.table same more stands)
 
 pub returns-clause-ok : goal.returns-clause-ok
 returns-clause-ok c =
@@ -67,5 +69,5 @@ returns-clause-ok c =
       id = refl;
       takes = record { first = first; in_range = c.in-Some.ensures.in_range; taken = t.1; number = refl };
       accepted = c.in_default-check.ensures.ok.0 refl;
-      ops = c.in-Ok.ensures.ok.1 ∙ ap (λ l. l ++ c.in-Some-take_first.op ∷ []) same ∙ ap (λ b. h ++ b ∷ []) t.0;
+      ops = c.push.ensures.ops ∙ ap (λ l. l ++ c.in-Some-take_first.op ∷ []) same ∙ ap (λ b. h ++ b ∷ []) t.0;
     })
