@@ -76,11 +76,11 @@ among_all (f ∷ ends) e a c k = elim (Contains-cons_cases f ends e c) [
 
 module _ (ends : List WorkerEnd) (joined : AreJoined ends) where
   -- each operation was made at the site of its number
-  record Origin (a : Op) : Type 0 where
-    end : WorkerEnd
-    contained : Contains ends end
-    has : Contains end.site.ops a
-    site : a.id.site ≡ end.site.number
+  pub record Origin (a : Op) : Type 0 where
+    pub end : WorkerEnd
+    pub contained : Contains ends end
+    pub has : Contains end.site.ops a
+    pub site : a.id.site ≡ end.site.number
 
   come_origin : (e : WorkerEnd) (a : Op) → Contains ends e → HasCome e.seats.items a → Origin a
   come_origin e a c h =
@@ -88,7 +88,7 @@ module _ (ends : List WorkerEnd) (joined : AreJoined ends) where
       let m = own_from t.end.site.number t.end.site.ops a (subst (λ l. Contains l a) t.all h.among) in
       record { end = t.end; contained = t.contained; has = m.0; site = m.1 }
 
-  origin : (e : WorkerEnd) (a : Op) → Contains ends e → Contains e.site.ops a → Origin a
+  pub origin : (e : WorkerEnd) (a : Op) → Contains ends e → Contains e.site.ops a → Origin a
   origin e a c k = elim (cases_eq a.id.site e.site.number) [
     | inl q ↦ record { end = e; contained = c; has = k; site = q }
     | inr d ↦ come_origin e a c ((joined.complete e c).has a k d)

@@ -1,3 +1,4 @@
 pub mod JoinedLemmas
 pub mod HalfLemmas
 pub mod SessionLemmas
+pub mod StartLemmas

@@ -2,4 +2,3 @@ pub mod Outcome
 pub mod Joined
 pub mod Starting
 pub mod Session
-pub mod Pair

@@ -1,8 +1,14 @@
 -- What a session gives for its scripts (this project's choice).
-use Rattle.std.specs.Prelude.{◌≡◌, List, [], ◌∷◌, length}
+use Rattle.std.specs.Prelude.{◌≡◌, List, [], ◌∷◌, map, length}
 use Rattle.gf_worker.specs.declared.script.Script.{Script}
+use Rattle.gf_worker.specs.declared.worker.WorkerEnd.{WorkerEnd}
 use Rattle.gf_session.specs.declared.session.Done.{Done}
+use Rattle.gf_world.specs.Courses.{HaveEvents}
 use Rattle.gf_session.specs.Outcome.{Place, IsOutcome}
+
+-- what the site of a worker came to
+abbrev pub done_of : WorkerEnd → Done
+done_of e = record { site = e.site; report = e.report }
 
 -- a script with what its site came to
 abbrev pub place_of : Script → Done → Place
@@ -14,7 +20,8 @@ places [] ds = []
 places (s ∷ ss) [] = []
 places (s ∷ ss) (d ∷ ds) = place_of s d ∷ places ss ds
 
--- for each script there is what its site came to, and all these are an outcome
+-- for each script there is what its site came to; all these are an outcome, and some events bring as many sites to their lists
 pub record IsSession (scripts : List Script) (dones : List Done) : Type 0 where
   pub long : length dones ≡ length scripts
   pub outcome : IsOutcome (places scripts dones)
+  pub events : HaveEvents (map (λ d. d.site.ops) dones)

@@ -1,6 +1,8 @@
-//! Worked examples of sessions of two sites in threads of their own, by public calls alone.
+//! Worked examples of sessions of two to eight sites in threads of their own, by public calls alone.
 #![tactic(auto)]
 
+#[cfg(test)]
+mod gates;
 #[cfg(test)]
 mod scripts;
 #[cfg(test)]

@@ -1,15 +1,15 @@
-//! A table of sessions: for each site the operations that it made, its refused commands, and how many
-//! operations it has at the end.
+//! A table of sessions: for each site the operations that it made, its refused commands, and how
+//! many operations it has at the end.
 
 use crate::scripts::scripts;
-use gf_gate::OpenGate;
+use gf_gate::{Gate, OpenGate};
 use gf_session::{Done, SessionError, run_session};
 use std::alloc::Global;
 use std::sync::Wait;
 use std::test::Fail;
 use std::thread::Threads;
 
-const SESSIONS: [(&str, &str); 9] = [
+const SESSIONS: [(&str, &str); 12] = [
     // The second waits for the box of the first, and for an operation that nobody makes.
     (
         "box 9 9 / await 1.1; 1.1 colour 0000ff; await 1.9",
@@ -31,8 +31,25 @@ const SESSIONS: [(&str, &str); 9] = [
         "circle 3; 1.1 points 0,0 8,0 0,8 / box 9 9",
         "1.1 2:WrongKind has 2 / 2.1 has 2 / ",
     ),
+    // A chain: the third waits for what the second makes of the first one's box.
+    (
+        "box 9 9; await 3.1; 3.1 layer 4 / await 1.1; 1.1 layer 3 / await 2.1; circle 3; await 2.2",
+        "1.1 1.2 has 4 / 2.1 has 4 / 3.1 3:NeverComes has 4 / ",
+    ),
+    (
+        "box 9 9 / await 3.1; 3.1 layer 5 / box 8 8",
+        "1.1 has 3 / 2.1 has 3 / 3.1 has 3 / ",
+    ),
+    (
+        "box 9 9 / box 9 9 / box 9 9 / box 9 9 / box 9 9 / box 9 9 / box 9 9 / box 9 9",
+        "1.1 has 8 / 2.1 has 8 / 3.1 has 8 / 4.1 has 8 / 5.1 has 8 / 6.1 has 8 / 7.1 has 8 \
+         / 8.1 has 8 / ",
+    ),
     ("box 9 9", "Sites"),
-    ("box 9 9 / box 9 9 / box 9 9", "Sites"),
+    (
+        "box 9 9 / box 9 9 / box 9 9 / box 9 9 / box 9 9 / box 9 9 / box 9 9 / box 9 9 / box 9 9",
+        "Sites",
+    ),
 ];
 
 /// What one site came to.
@@ -60,9 +77,14 @@ fn all_told(alloc: Global, dones: &[Done]) -> Option<String> {
     Some(text)
 }
 
-/// What the session of these scripts gives.
-fn ran<R: Threads + Wait + Sync>(rt: &R, alloc: Global, text: &str) -> Option<String> {
-    match run_session(rt, alloc, scripts(alloc, text)?, &OpenGate) {
+/// What the session of these scripts gives behind this gate.
+pub(crate) fn ran<R: Threads + Wait + Sync, G: Gate + Sync>(
+    rt: &R,
+    alloc: Global,
+    gate: &G,
+    text: &str,
+) -> Option<String> {
+    match run_session(rt, alloc, scripts(alloc, text)?, gate) {
         Ok(dones) => all_told(alloc, dones.as_slice()),
         Err(SessionError::Sites) => String::from_str(alloc, "Sites").ok(),
         Err(SessionError::OutOfMemory) => None,
@@ -72,7 +94,7 @@ fn ran<R: Threads + Wait + Sync>(rt: &R, alloc: Global, text: &str) -> Option<St
 #[test]
 fn each_session_has_its_outcome(rt: HostRuntime) -> Result<(), Fail> {
     for (text, want) in SESSIONS {
-        let Some(outcome) = ran(&rt, rt.alloc(), text) else {
+        let Some(outcome) = ran(&rt, rt.alloc(), &OpenGate, text) else {
             return Err(Fail::new(text));
         };
         assert_eq!(rt; outcome.as_str(), want, "{text}");

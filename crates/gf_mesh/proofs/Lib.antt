@@ -1,0 +1,5 @@
+pub mod PlaceLemmas
+pub mod MeshLemmas
+pub mod PlacedLemmas
+pub mod ExchangeLemmas
+pub mod RowLemmas

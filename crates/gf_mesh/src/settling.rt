@@ -1,0 +1,65 @@
+//! The end of all links, once no worker runs any more.
+
+ghost use Rattle.std.specs.Prelude.{◌≡◌, [], length, IsTrue};
+ghost use Rattle.gf_link.specs.Ends.{is_ended};
+ghost use Rattle.gf_mesh.specs.Mesh.{IsMesh, IsLinked, rows_of};
+ghost use Rattle.gf_mesh.specs.Settled.{HaveExchanged, Exchanged, AreSettled};
+
+use crate::Mesh;
+use gf_link::{Link, settle};
+use gf_worker::Peer;
+use std::sync::Wait;
+
+impl Mesh {
+    /// Settles all links: each site took from every other all that it sent.
+    pub fn settle<R: Wait>(self, rt: &R)
+        requires { IsMesh IsLinked self.links.items (rows_of self.peers.items) [] }
+        ensures { AreSettled (rows_of self.peers.items) }
+    {
+        let Mesh {
+            mut links,
+            mut peers,
+        } = self;
+        while let Some(row) = peers.pop() {
+            settle_row(rt, &mut links, &mut peers, row);
+        }
+    }
+}
+
+/// Settles the links between the last site, of these peers, and all before it.
+fn settle_row<R: Wait>(rt: &R, links: &mut Vec<Link>, rows: &mut [Vec<Peer>], mut row: Vec<Peer>)
+    requires { IsMesh IsLinked links.old.items (rows_of rows.old) row.items }
+    ensures mesh { IsMesh IsLinked links.new.items (rows_of rows.new) [] }
+    ensures exchanged { IsMesh Exchanged links.new.items (rows_of rows.new) []
+        → IsMesh Exchanged links.old.items (rows_of rows.old) row.items }
+{
+    while let Some(mine) = row.pop() {
+        let Some(theirs) = rows[row.len()].pop() else {
+            unreachable!();
+        };
+        let Some(back) = links.pop() else {
+            unreachable!();
+        };
+        let Some(there) = links.pop() else {
+            unreachable!();
+        };
+        settle_pair(rt, there, back, theirs, mine);
+    }
+}
+
+/// Settles the two links between two sites.
+fn settle_pair<R: Wait>(rt: &R, there: Link, back: Link, theirs: Peer, mine: Peer)
+    requires there { (theirs.send.link ≡ there) × (mine.take.link ≡ there) }
+    requires back { (mine.send.link ≡ back) × (theirs.take.link ≡ back) }
+    requires ended { IsTrue (is_ended theirs.take.taken) × IsTrue (is_ended mine.take.taken) }
+    ensures { HaveExchanged theirs mine }
+{
+    let Peer { send, take, .. } = theirs;
+    let Peer {
+        send: send_back,
+        take: take_back,
+        ..
+    } = mine;
+    settle(rt, there, send, take_back);
+    settle(rt, back, send_back, take);
+}

@@ -1,0 +1,82 @@
+-- New sites are ready, and the links between sites whose workers have returned may be settled.
+use Rattle.std.proofs.Common.{◌≡◌, ◌+◌, ◌≤◌, ℕ, false, List, [], ◌∷◌, ◌++◌, map, length, length-append, vec_len, inl, inr, refl, sym, ap, subst, ◌∙◌, arith}
+use Rattle.std.specs.Prelude.{◌⊎◌, Contains, All, Some, slice_get}
+use Rattle.std.specs.List.{list_any}
+use Rattle.std.proofs.lemmas.List.{append_assoc, append-nil, length-map, map-append}
+use Rattle.std.proofs.lemmas.List.Elements.{All-contains}
+use Rattle.atomic_table.specs.Seated.{TableId}
+use Rattle.gf_ops.proofs.ListLemmas.{Contains-map, Contains-map_from}
+use Rattle.gf_site.specs.SiteState.{SiteState, new_site}
+use Rattle.gf_worker.specs.declared.script.Script.{Script}
+use Rattle.gf_worker.specs.declared.peer.Peer.{Peer}
+use Rattle.gf_worker.specs.declared.worker.WorkerEnd.{WorkerEnd}
+use Rattle.gf_worker.specs.Peers.{IsPlaced, IsFresh, seat_of}
+use Rattle.gf_worker.proofs.TellLemmas.{all_from}
+use Rattle.gf_mesh.specs.Mesh.{IsMesh, Connects, IsLinked}
+use Rattle.gf_mesh.proofs.PlaceLemmas.{got_push, place_of}
+use Rattle.gf_mesh.proofs.PlacedLemmas.{mesh_new, linked_again}
+use Rattle.gf_session.specs.declared.starting.Start.{Start}
+use Rattle.gf_session.specs.Starting.{AreStarts, IsReady, GaveAll}
+use Rattle.gf_session.proofs.SessionLemmas.{ended}
+
+-- each site is new, and its links stand in the table
+pub all_ready : (links : List TableId) (scripts : List Script) (rows : List (List Peer)) (starts : List Start) → IsMesh Connects links rows [] → AreStarts scripts rows starts → All (λ s. vec_len s.0 ≤ 1000) scripts → All (IsReady links) starts
+all_ready links scripts rows starts m a few =
+    let new = mesh_new m in
+    all_from (IsReady links) starts (λ s c.
+    let k = place_of starts s c in
+    let site = a.sites_are k.0 s k.1 in
+    let row : Contains rows s.peers.items = subst (λ l. Contains l s.peers.items) a.rows_are (Contains-map (λ (x : Start). x.peers.items) starts s c) in
+    record {
+      ops = ap (λ (x : SiteState). x.ops) site;
+      held = ap (λ (x : SiteState). x.held) site;
+      few = All-contains (λ (x : Script). vec_len x.0 ≤ 1000) scripts s.script few (subst (λ l. Contains l s.script) a.scripts_are (Contains-map (λ (x : Start). x.script) starts s c));
+      placed = all_from (IsPlaced links) s.peers.items (λ p b. (new.rows_all s.peers.items row p b).placed);
+      fresh = all_from IsFresh s.peers.items (λ p b. (new.rows_all s.peers.items row p b).fresh);
+    })
+
+same_seats : (starts : List Start) (ends : List WorkerEnd) → GaveAll starts ends → map (map seat_of) (map (λ e. e.seats.items) ends) ≡ map (map seat_of) (map (λ s. s.peers.items) starts)
+same_seats [] [] g = refl
+same_seats [] (e ∷ ends) g = absurd g
+same_seats (s ∷ starts) [] g = absurd g
+same_seats (s ∷ starts) (e ∷ ends) g = λ i. g.0.seats i ∷ same_seats starts ends g.1 i
+
+-- each worker took to the end of each of its links
+pub all_linked : (links : List TableId) (scripts : List Script) (rows : List (List Peer)) (starts : List Start) (ends : List WorkerEnd) → IsMesh Connects links rows [] → AreStarts scripts rows starts → GaveAll starts ends
+    → list_any (λ e. e.short) ends ≡ false → IsMesh IsLinked links (map (λ e. e.seats.items) ends) []
+all_linked links scripts rows starts ends m a g long =
+    linked_again links rows (map (λ e. e.seats.items) ends) m (same_seats starts ends g ∙ ap (map (map seat_of)) a.rows_are) (λ xs c p b.
+    let t = Contains-map_from (λ (e : WorkerEnd). e.seats.items) ends xs c in
+    let k = place_of ends t.0 t.1 in
+    ended scripts rows starts ends a g long k.0 t.0 k.1 p (subst (λ l. Contains l p) t.2 b))
+
+-- ---- one more start
+
+pub push_map : {X : Type 0} (f : Start → X) (starts new : List Start) (s : Start) (x : X) (now next all : List X) → new ≡ starts ++ s ∷ [] → f s ≡ x → now ≡ x ∷ next → map f starts ++ now ≡ all → map f new ++ next ≡ all
+push_map f starts new s x now next all e q n h =
+    ap (λ l. map f l ++ next) e ∙ ap (λ l. l ++ next) (map-append f starts (s ∷ [])) ∙ append_assoc (map f starts) (f s ∷ []) next ∙ ap (λ y. map f starts ++ y ∷ next) q ∙ ap (λ l. map f starts ++ l) (sym n) ∙ h
+
+pub push_site : (starts new : List Start) (s : Start) → new ≡ starts ++ s ∷ [] → s.site ≡ new_site (length starts + 1) → ((k : ℕ) (t : Start) → slice_get starts k ≡ Some t → t.site ≡ new_site (k + 1))
+    → (k : ℕ) (t : Start) → slice_get new k ≡ Some t → t.site ≡ new_site (k + 1)
+push_site starts new s e is h k t q = elim (got_push starts s k t (subst (λ l. slice_get l k ≡ Some t) e q)) [
+  | inl a ↦ h k t a
+  | inr a ↦ ap (λ (x : Start). x.site) a.1 ∙ is ∙ ap (λ n. new_site (n + 1)) (sym a.0)
+]
+
+pub one_less : {X : Type 0} (x : X) (now next : List X) (n m : ℕ) → now ≡ x ∷ next → m + 1 ≡ n → n ≡ length now → m ≡ length next
+one_less x now next n m e k l = let a : length now ≡ length (x ∷ next) = ap length e in let b : length (x ∷ next) ≡ length next + 1 = omega arith in omega (arith, a, b, k, l)
+
+nothing_left : {X : Type 0} (xs : List X) → length xs ≡ 0 → xs ≡ []
+nothing_left [] e = refl
+nothing_left (x ∷ xs) e = absurd (omega (arith, e))
+
+pub all_started : (starts : List Start) (scripts : List Script) (rows : List (List Peer)) (ss : List Script) (rs : List (List Peer)) → ((k : ℕ) (t : Start) → slice_get starts k ≡ Some t → t.site ≡ new_site (k + 1))
+    → map (λ s. s.script) starts ++ ss ≡ scripts → map (λ s. s.peers.items) starts ++ rs ≡ rows → length rows ≡ length scripts → (length ss ≡ 0) ⊎ (length rs ≡ 0) → AreStarts scripts rows starts
+all_started starts scripts rows ss rs h e f l o =
+    let a : length scripts ≡ length starts + length ss = ap length (sym e) ∙ length-append (map (λ (s : Start). s.script) starts) ss ∙ ap (λ n. n + length ss) (length-map starts (λ (s : Start). s.script)) in
+    let b : length rows ≡ length starts + length rs = ap length (sym f) ∙ length-append (map (λ (s : Start). s.peers.items) starts) rs ∙ ap (λ n. n + length rs) (length-map starts (λ (s : Start). s.peers.items)) in
+    let both : (length ss ≡ 0) × (length rs ≡ 0) = elim o [ inl p ↦ (p, omega (arith, a, b, l, p)) | inr p ↦ (omega (arith, a, b, l, p), p) ] in record {
+      sites_are = h;
+      scripts_are = sym (append-nil (map (λ (s : Start). s.script) starts)) ∙ ap (λ x. map (λ (s : Start). s.script) starts ++ x) (sym (nothing_left ss both.0)) ∙ e;
+      rows_are = sym (append-nil (map (λ (s : Start). s.peers.items) starts)) ∙ ap (λ x. map (λ (s : Start). s.peers.items) starts ++ x) (sym (nothing_left rs both.1)) ∙ f;
+    }
