@@ -3,7 +3,7 @@ use Rattle.std.specs.Prelude.{IfErr, IfOk, IfSome, None, Option, Some}
 use Rattle.std.proofs.Common.{◌≡◌, ◌≢◌, ℕ, List, Result, Ok, Err, subst}
 use Rattle.gf_studio.specs.declared.studio_error.StudioError.{StudioError}
 use Rattle.gf_studio.specs.declared.studio_error.StudioError.TheVariants as studio
-use Rattle.gf_studio.specs.LineSteps.{RefusesDrawing}
+use Rattle.gf_studio.specs.RefusedParts.{RefusesDrawing}
 use Rattle.gf_studio.specs.RunAnswers.{ReadsAll, ReadsFor, ReadsUntil, RefusesLines}
 
 -- what holds of the bytes that were read holds of those that were left before
@@ -18,6 +18,7 @@ refuses bytes (studio.Line n cause) r = r
 refuses bytes (studio.Dropped id fault) r = r
 refuses bytes (studio.Compile fault) r = r
 refuses bytes (studio.Fig e) r = r
+refuses bytes (studio.Session e) r = r
 refuses bytes (studio.NoObject o) r = r
 refuses bytes studio.OutOfMemory r = tt
 refuses bytes studio.ReadFailed r = tt
@@ -35,6 +36,7 @@ unwritten_error bytes (studio.Dropped id fault) r w = cc
 unwritten_error bytes (studio.Compile fault) r w = cc
 unwritten_error bytes studio.OutOfMemory r w = cc
 unwritten_error bytes (studio.Fig e) r w = r
+unwritten_error bytes (studio.Session e) r w = r
 unwritten_error bytes (studio.NoObject o) r w = r
 unwritten_error bytes studio.ReadFailed r w = r
 unwritten_error bytes studio.TooLong r w = r
@@ -52,6 +54,7 @@ module _ (most : ℕ) (old new : Option (List ℕ)) (was is : ℕ) (all : ReadsA
   reads_until bytes (studio.Compile fault) r = all
   reads_until bytes studio.OutOfMemory r = all.unfailed
   reads_until bytes (studio.Fig e) r = absurd r
+  reads_until bytes (studio.Session e) r = absurd r
   reads_until bytes (studio.NoObject o) r = absurd r
   reads_until bytes studio.ReadFailed r = absurd r
   reads_until bytes studio.TooLong r = absurd r

@@ -9,7 +9,16 @@ use Rattle.gf_drawing.specs.Outlined.{PaintsAsFig, outlined}
 use Rattle.gf_fig_read.specs.FigGrammar.{Reads}
 use Rattle.gf_fig_read.proofs.GrammarLemmas.{one_drawing}
 use Rattle.gf_fig_write.specs.FigText.{fig_text}
-use Rattle.gf_studio.specs.FigRun.{Draws, Exports}
+use Rattle.gf_ops.specs.declared.op.Op.{Op}
+use Rattle.gf_studio.specs.FigRun.{Draws, Exports, Shows}
+
+-- the FIG text of a drawing with the colours that h means shows h
+pub shows : (h : List Op) (drawing : DrawingState AnyShape) → PaintsAsFig h (outlined any_outline drawing) → Reads (fig_text any_outline drawing) (outlined any_outline drawing) → Shows (fig_text any_outline drawing) h
+shows h drawing figures reads = record {
+  drawing = outlined any_outline drawing;
+  reads = reads;
+  colours = λ d other. subst (PaintsAsFig h) (one_drawing (fig_text any_outline drawing) (outlined any_outline drawing) d reads other) figures;
+}
 
 pub exported : (bytes : List ℕ) (old new : Option (List ℕ)) (drawing : DrawingState AnyShape) → Draws bytes drawing → Appends old new (fig_text any_outline drawing) → Reads (fig_text any_outline drawing) (outlined any_outline drawing) → Exports bytes old new
 exported bytes old new drawing drawn written reads = record {
@@ -17,9 +26,5 @@ exported bytes old new drawing drawn written reads = record {
   denoted = drawn.denoted;
   text = fig_text any_outline drawing;
   written = written;
-  shown = record {
-    drawing = outlined any_outline drawing;
-    reads = reads;
-    colours = λ d other. subst (PaintsAsFig drawn.history) (one_drawing (fig_text any_outline drawing) (outlined any_outline drawing) d reads other) drawn.figures;
-  };
+  shown = shows drawn.history drawing drawn.figures reads;
 }

@@ -11,7 +11,7 @@ use Rattle.gf_inspect.specs.ObjectVersions.{AreVersionsOf}
 use Rattle.gf_inspect.specs.TopVersion.{NamesTop}
 use Rattle.gf_inspect.specs.VersionLines.{top_line, version_line}
 use Rattle.gf_bytes.specs.Taken.{AppendsFront}
-use Rattle.gf_studio.specs.FigRun.{Denotes}
+use Rattle.gf_reading.specs.Denoting.{Denotes}
 use Rattle.gf_studio.specs.declared.looks.Query.{Query}
 use Rattle.gf_studio.specs.declared.looks.Query.TheVariants as asked
 

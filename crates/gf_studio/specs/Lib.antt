@@ -3,4 +3,4 @@ pub mod FigRun
 pub mod PaintRun
 pub mod InspectRun
 pub mod RunAnswers
-pub mod LineSteps
+pub mod RefusedParts

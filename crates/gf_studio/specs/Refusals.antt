@@ -5,6 +5,8 @@ use Rattle.gf_bytes.specs.declared.write_error.WriteError.{WriteError}
 use Rattle.gf_bytes.specs.declared.write_error.WriteError.TheVariants as write
 use Rattle.gf_bytes.specs.declared.source.InputError.{InputError}
 use Rattle.gf_bytes.specs.declared.source.InputError.TheVariants as input
+use Rattle.gf_reading.specs.declared.reading_error.ReadingError.{ReadingError}
+use Rattle.gf_reading.specs.declared.reading_error.ReadingError.TheVariants as reading
 use Rattle.gf_fig_read.specs.declared.faults.FigError.{FigError}
 use Rattle.gf_fig_text.specs.declared.faults.FigFault.{FigFault}
 use Rattle.gf_fig_text.specs.declared.faults.FigFault.TheVariants as fig
@@ -16,6 +18,12 @@ abbrev pub of_input : InputError → StudioError
 of_input input.ReadFailed = studio.ReadFailed
 of_input input.TooLong = studio.TooLong
 of_input input.OutOfMemory = studio.OutOfMemory
+
+-- lines that are no history
+abbrev pub of_reading : ReadingError → StudioError
+of_reading (reading.Line n why) = studio.Line n why
+of_reading (reading.Dropped id fault) = studio.Dropped id fault
+of_reading reading.OutOfMemory = studio.OutOfMemory
 
 -- a history with no drawing
 abbrev pub of_compile : CompileFault → StudioError

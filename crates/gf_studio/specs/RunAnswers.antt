@@ -6,8 +6,10 @@ use Rattle.gf_bytes.specs.Reads.{CamePast, ConsumesExactly}
 use Rattle.gf_fig_read.specs.FigGrammar.{Fails}
 use Rattle.gf_studio.specs.declared.studio_error.StudioError.{StudioError}
 use Rattle.gf_studio.specs.declared.studio_error.StudioError.TheVariants as studio
+use Rattle.gf_session.specs.declared.session.SessionError.TheVariants as session
 use Rattle.gf_studio.specs.declared.looks.Query.{Query}
-use Rattle.gf_studio.specs.FigRun.{Drops, HasFault, RefusesCompiling}
+use Rattle.gf_reading.specs.Refusing.{Drops, HasFault}
+use Rattle.gf_studio.specs.FigRun.{RefusesCompiling}
 use Rattle.gf_studio.specs.InspectRun.{LooksForNone}
 
 -- an input has at most `most` bytes; those that are left go from old to new, and the count of failures from was to is
@@ -38,6 +40,8 @@ module _ (most : ℕ) (old new : Option (List ℕ)) (was is : ℕ) where
   ReadsUntil (studio.Dropped id fault) = ReadsAll
   ReadsUntil (studio.Fig e) = ReadsAll
   ReadsUntil (studio.Compile fault) = ReadsAll
+  ReadsUntil (studio.Session session.Sites) = (new ≡ old) × (is ≡ was)
+  ReadsUntil (studio.Session session.OutOfMemory) = ReadsAll
   ReadsUntil (studio.NoObject o) = ReadsAll
   ReadsUntil studio.WriteFailed = ReadsAll
   ReadsUntil studio.OutOfMemory = is ≡ was
@@ -52,6 +56,7 @@ RefusesLines bytes (studio.Line n cause) = HasFault bytes n cause
 RefusesLines bytes (studio.Dropped id fault) = Drops bytes id fault
 RefusesLines bytes (studio.Fig e) = ⊥
 RefusesLines bytes (studio.Compile fault) = RefusesCompiling bytes fault
+RefusesLines bytes (studio.Session e) = ⊥
 RefusesLines bytes (studio.NoObject o) = ⊥
 RefusesLines bytes studio.ReadFailed = ⊤
 RefusesLines bytes studio.TooLong = ⊤
@@ -64,6 +69,7 @@ RefusesFig text (studio.Line n cause) = ⊥
 RefusesFig text (studio.Dropped id fault) = ⊥
 RefusesFig text (studio.Fig e) = Fails text e.fault e.object
 RefusesFig text (studio.Compile fault) = ⊥
+RefusesFig text (studio.Session e) = ⊥
 RefusesFig text (studio.NoObject o) = ⊥
 RefusesFig text studio.ReadFailed = ⊤
 RefusesFig text studio.TooLong = ⊤
@@ -76,6 +82,7 @@ RefusesLook query bytes (studio.Line n cause) = HasFault bytes n cause
 RefusesLook query bytes (studio.Dropped id fault) = Drops bytes id fault
 RefusesLook query bytes (studio.Fig e) = ⊥
 RefusesLook query bytes (studio.Compile fault) = ⊥
+RefusesLook query bytes (studio.Session e) = ⊥
 RefusesLook query bytes (studio.NoObject o) = LooksForNone bytes query o
 RefusesLook query bytes studio.ReadFailed = ⊤
 RefusesLook query bytes studio.TooLong = ⊤

@@ -5,17 +5,19 @@ ghost use Rattle.gf_bytes.specs.Reads.{ConsumesAtMost};
 ghost use Rattle.gf_shape.specs.ShapeMeaning.{any_holds};
 ghost use Rattle.gf_drawing.specs.DrawingColour.{drawing_colour};
 ghost use Rattle.gf_fig_read.specs.FigGrammar.{Reads};
-ghost use Rattle.gf_studio.specs.FigRun.{Draws};
-ghost use Rattle.gf_studio.specs.LineSteps.{IsOfInput, RefusesDrawing, RefusesOutlines};
+ghost use Rattle.gf_studio.specs.FigRun.{Draws, IsDrawn, RefusesHistory};
+ghost use Rattle.gf_studio.specs.RefusedParts.{IsOfInput, RefusesDrawing, RefusesOutlines};
 ghost use Rattle.gf_studio.specs.PaintRun.{IsMeant};
 ghost use Rattle.gf_studio.specs.RunAnswers.{ReadsFor, RefusesFig, RefusesLines};
 
 use crate::StudioError;
-use crate::reading::read_history;
 use gf_bytes::{MOST_INPUT_BYTES, Source, read_input};
 use gf_drawing::{CompileFault, Drawing, MOST_VERSIONS, compile};
 use gf_fig_read::read_fig;
+use gf_reading::read_site;
 use gf_shape::{AnyShape, OutOfMemory, Outline};
+use gf_shown::ranked_within;
+use gf_site::Site;
 use std::alloc::Global;
 
 /// The drawing of the history that the lines of a source denote.
@@ -23,16 +25,20 @@ pub(crate) fn drawing_of_lines<R: Source>(
     alloc: Global,
     source: &mut R,
 ) -> Result<Drawing<AnyShape>, StudioError>
-    ensures ok { IfOk result (λ drawing. IfSome (R.left source.old) (λ bytes. Draws bytes drawing)) }
-    ensures meant { IfOk result (λ drawing. IfSome (R.left source.old) (λ bytes. IsMeant bytes (drawing_colour any_holds drawing.table drawing.figures))) }
-    ensures source { ReadsFor MOST_INPUT_BYTES (R.left source.old) (R.left source.new) (R.failures source.old) (R.failures source.new) result }
-    ensures refused { IfErr result (λ e. IfSome (R.left source.old) (λ bytes. RefusesLines bytes e)) }
+    ensures ok { IfOk result (λ drawing. IfSome (R.left source.old) (λ bytes.
+        Draws bytes drawing)) }
+    ensures meant { IfOk result (λ drawing. IfSome (R.left source.old) (λ bytes.
+        IsMeant bytes (drawing_colour any_holds drawing.table drawing.figures))) }
+    ensures source { ReadsFor MOST_INPUT_BYTES (R.left source.old) (R.left source.new)
+        (R.failures source.old) (R.failures source.new) result }
+    ensures refused { IfErr result (λ e. IfSome (R.left source.old) (λ bytes.
+        RefusesLines bytes e)) }
     ensures no_write { IfErr result (λ e. e ≢ StudioError.WriteFailed) }
     ensures takes { ConsumesAtMost (MOST_INPUT_BYTES + 1) (R.left source.old) (R.left source.new) }
     ensures reads { R.reads source.new ≤ R.reads source.old + (MOST_INPUT_BYTES + 1) }
 {
     let bytes = input(alloc, source)?;
-    draw(alloc, &bytes)
+    draw(alloc, bytes)
 }
 
 /// The drawing that the FIG text of a source reads as.
@@ -41,7 +47,8 @@ pub(crate) fn drawing_of_fig<R: Source>(
     source: &mut R,
 ) -> Result<Drawing<Outline>, StudioError>
     ensures ok { IfOk result (λ drawing. IfSome (R.left source.old) (λ text. Reads text drawing)) }
-    ensures source { ReadsFor MOST_INPUT_BYTES (R.left source.old) (R.left source.new) (R.failures source.old) (R.failures source.new) result }
+    ensures source { ReadsFor MOST_INPUT_BYTES (R.left source.old) (R.left source.new)
+        (R.failures source.old) (R.failures source.new) result }
     ensures refused { IfErr result (λ e. IfSome (R.left source.old) (λ text. RefusesFig text e)) }
     ensures no_write { IfErr result (λ e. e ≢ StudioError.WriteFailed) }
     ensures takes { ConsumesAtMost (MOST_INPUT_BYTES + 1) (R.left source.old) (R.left source.new) }
@@ -52,9 +59,10 @@ pub(crate) fn drawing_of_fig<R: Source>(
 }
 
 /// All bytes of a source.
-pub(crate) fn input<R: Source>(alloc: Global, source: &mut R) -> Result<Vec<u8>, StudioError>
+pub fn input<R: Source>(alloc: Global, source: &mut R) -> Result<Vec<u8>, StudioError>
     ensures ok { IfOk result (λ bytes. IfSome (R.left source.old) (λ all. bytes.items ≡ all)) }
-    ensures source { ReadsFor MOST_INPUT_BYTES (R.left source.old) (R.left source.new) (R.failures source.old) (R.failures source.new) result }
+    ensures source { ReadsFor MOST_INPUT_BYTES (R.left source.old) (R.left source.new)
+        (R.failures source.old) (R.failures source.new) result }
     ensures refused { IfErr result IsOfInput }
     ensures takes { ConsumesAtMost (MOST_INPUT_BYTES + 1) (R.left source.old) (R.left source.new) }
     ensures reads { R.reads source.new ≤ R.reads source.old + (MOST_INPUT_BYTES + 1) }
@@ -64,18 +72,24 @@ pub(crate) fn input<R: Source>(alloc: Global, source: &mut R) -> Result<Vec<u8>,
 }
 
 /// The drawing of the history that these bytes denote.
-fn draw(alloc: Global, bytes: &[u8]) -> Result<Drawing<AnyShape>, StudioError>
-    ensures ok { IfOk result (λ drawing. Draws bytes.now drawing) }
-    ensures err { IfErr result (RefusesDrawing bytes.now) }
+fn draw(alloc: Global, bytes: Vec<u8>) -> Result<Drawing<AnyShape>, StudioError>
+    ensures ok { IfOk result (λ drawing. Draws bytes.items drawing) }
+    ensures err { IfErr result (RefusesDrawing bytes.items) }
 {
-    let history = read_history(alloc, bytes)?;
-    match history.ranked_within(alloc, MOST_VERSIONS) {
-        Ok(Some(ranked)) => {
-            let drawing = compile(alloc, ranked)?;
-            Ok(drawing)
-        }
-        Ok(None) => Err(StudioError::Compile(CompileFault::TooManyVersions)),
-        Err(OutOfMemory) => Err(StudioError::OutOfMemory),
+    let site = read_site(alloc, bytes)?;
+    let drawing = draw_site(alloc, &site)?;
+    Ok(drawing)
+}
+
+/// The drawing of a site's history.
+pub fn draw_site(alloc: Global, site: &Site) -> Result<Drawing<AnyShape>, CompileFault>
+    ensures ok { IfOk result (λ drawing. IsDrawn site.now.ops drawing) }
+    ensures err { IfErr result (RefusesHistory site.now.ops) }
+{
+    match ranked_within(alloc, site.history(), site.table(), MOST_VERSIONS) {
+        Ok(Some(ranked)) => compile(alloc, ranked),
+        Ok(None) => Err(CompileFault::TooManyVersions),
+        Err(OutOfMemory) => Err(CompileFault::OutOfMemory),
     }
 }
 

@@ -8,43 +8,70 @@ ghost use Rattle.gf_ops.specs.declared.op.OpId.{OpId};
 ghost use Rattle.gf_causal.specs.DeliveredPart.{HaveSame};
 ghost use Rattle.gf_drawing.specs.declared.compiling.CompileFault.{CompileFault};
 ghost use Rattle.gf_drawing.specs.DrawingState.{DrawingState};
-ghost use Rattle.gf_studio.specs.declared.studio_error.LineCause.{LineCause};
+ghost use Rattle.gf_reading.specs.declared.reading_error.LineCause.{LineCause};
 ghost use Rattle.gf_fig_read.specs.FigGrammar.{Fails};
 ghost use Rattle.gf_fig_text.specs.declared.faults.FigFault.{FigFault};
 ghost use Rattle.gf_window.specs.Windows.{View};
 ghost use Rattle.gf_studio.specs.PaintRun.{IsDenoted, IsMeant, WritesPicture};
-ghost use Rattle.gf_studio.specs.FigRun.{Denotes, Draws, Drops, HasFault, HaveSameOperations, RefusesCompiling, Writes};
+ghost use Rattle.gf_reading.specs.Denoting.{Denotes, HaveSameOperations};
+ghost use Rattle.gf_reading.specs.Refusing.{Drops, HasFault};
+ghost use Rattle.gf_studio.specs.FigRun.{Draws, RefusesCompiling, Writes};
 
-/// An input that denotes a history has no line at fault and drops no operation, and where that has a
-/// drawing, it is refused neither for its versions nor for its colours.
+/// An input that denotes a history has no line at fault and drops no operation, and where that has
+/// a drawing, it is refused neither for its versions nor for its colours.
 pub fn what_denotes_a_history_is_not_refused()
-    ensures line { (bytes : List ℕ) (h : List Op) → Denotes bytes h → (n : ℕ) (cause : LineCause) → ¬ (HasFault bytes n cause) }
-    ensures dropped { (bytes : List ℕ) (h : List Op) → Denotes bytes h → (id : OpId) (fault : OpFault) → ¬ (Drops bytes id fault) }
-    ensures compile { (bytes : List ℕ) (drawing : DrawingState AnyShape) → Draws bytes drawing → (fault : CompileFault) → ¬ (RefusesCompiling bytes fault) }
+    ensures line { (bytes : List ℕ) (h : List Op) → Denotes bytes h → (n : ℕ) (cause : LineCause) →
+        ¬ (HasFault bytes n cause) }
+    ensures dropped { (bytes : List ℕ) (h : List Op) → Denotes bytes h →
+        (id : OpId) (fault : OpFault) → ¬ (Drops bytes id fault) }
+    ensures compile { (bytes : List ℕ) (drawing : DrawingState AnyShape) → Draws bytes drawing →
+        (fault : CompileFault) → ¬ (RefusesCompiling bytes fault) }
 {}
 
 /// Inputs with the same operations, in whatever order and however often, denote the same histories,
 /// have no two drawings, and runs that succeed with them write the same bytes behind the same ones,
-/// text or picture in one window. So where one succeeds, no other is refused for a line, an operation or its drawing.
+/// text or picture in one window. So where one succeeds, no other is refused for a line, an
+/// operation or its drawing.
 pub fn the_same_operations_draw_alike()
-    ensures denotes { (bytes others : List ℕ) → HaveSameOperations bytes others → (h : List Op) → Denotes bytes h → Denotes others h }
-    ensures drawing { (bytes others : List ℕ) → HaveSameOperations bytes others → (drawing other : DrawingState AnyShape) → Draws bytes drawing → Draws others other → drawing ≡ other }
-    ensures text { (bytes others : List ℕ) → HaveSameOperations bytes others → (taken text other : List ℕ) → Writes bytes (Some taken) (Some text) → Writes others (Some taken) (Some other) → text ≡ other }
-    ensures picture { (bytes others : List ℕ) → HaveSameOperations bytes others → (w : View) (taken painted other : List ℕ) → WritesPicture (IsMeant bytes) w (Some taken) (Some painted) → WritesPicture (IsMeant others) w (Some taken) (Some other) → painted ≡ other }
+    ensures denotes { (bytes others : List ℕ) → HaveSameOperations bytes others → (h : List Op) →
+        Denotes bytes h → Denotes others h }
+    ensures drawing { (bytes others : List ℕ) → HaveSameOperations bytes others →
+        (drawing other : DrawingState AnyShape) → Draws bytes drawing → Draws others other →
+        drawing ≡ other }
+    ensures text { (bytes others : List ℕ) → HaveSameOperations bytes others →
+        (taken text other : List ℕ) → Writes bytes (Some taken) (Some text) →
+        Writes others (Some taken) (Some other) → text ≡ other }
+    ensures picture { (bytes others : List ℕ) → HaveSameOperations bytes others →
+        (w : View) (taken painted other : List ℕ) →
+        WritesPicture (IsMeant bytes) w (Some taken) (Some painted) →
+        WritesPicture (IsMeant others) w (Some taken) (Some other) → painted ≡ other }
 {}
 
 /// Inputs that denote histories of the same operations, whatever else waits in them, have no two
 /// drawings, and runs that succeed with them write the same bytes behind the same ones, text or
 /// picture in one window.
 pub fn the_same_histories_draw_alike()
-    ensures drawing { (bytes others : List ℕ) (h k : List Op) → Denotes bytes h → Denotes others k → HaveSame h k → (drawing other : DrawingState AnyShape) → Draws bytes drawing → Draws others other → drawing ≡ other }
-    ensures text { (bytes others : List ℕ) (h k : List Op) → Denotes bytes h → Denotes others k → HaveSame h k → (taken text other : List ℕ) → Writes bytes (Some taken) (Some text) → Writes others (Some taken) (Some other) → text ≡ other }
-    ensures picture { (bytes others : List ℕ) (h k : List Op) → Denotes bytes h → Denotes others k → HaveSame h k → (w : View) (taken painted other : List ℕ) → WritesPicture (IsMeant bytes) w (Some taken) (Some painted) → WritesPicture (IsMeant others) w (Some taken) (Some other) → painted ≡ other }
+    ensures drawing { (bytes others : List ℕ) (h k : List Op) → Denotes bytes h → Denotes others k →
+        HaveSame h k → (drawing other : DrawingState AnyShape) → Draws bytes drawing →
+        Draws others other → drawing ≡ other }
+    ensures text { (bytes others : List ℕ) (h k : List Op) → Denotes bytes h → Denotes others k →
+        HaveSame h k → (taken text other : List ℕ) → Writes bytes (Some taken) (Some text) →
+        Writes others (Some taken) (Some other) → text ≡ other }
+    ensures picture { (bytes others : List ℕ) (h k : List Op) → Denotes bytes h → Denotes others k →
+        HaveSame h k → (w : View) (taken painted other : List ℕ) →
+        WritesPicture (IsMeant bytes) w (Some taken) (Some painted) →
+        WritesPicture (IsMeant others) w (Some taken) (Some other) → painted ≡ other }
 {}
 
 /// The FIG text that a run wrote of an input is no text at fault, and where it is repainted in a
 /// window, the picture is that of the input painted in this window.
 pub fn a_text_is_repainted_as_its_history_is_painted()
-    ensures not_refused { (bytes before text : List ℕ) → Writes bytes (Some before) (Some (before ++ text)) → (fault : FigFault) (n : ℕ) → ¬ (Fails text fault n) }
-    ensures picture { (bytes before text : List ℕ) → Writes bytes (Some before) (Some (before ++ text)) → (w : View) (taken painted repainted : List ℕ) → WritesPicture (IsMeant bytes) w (Some taken) (Some painted) → WritesPicture (IsDenoted text) w (Some taken) (Some repainted) → painted ≡ repainted }
+    ensures not_refused { (bytes before text : List ℕ) →
+        Writes bytes (Some before) (Some (before ++ text)) → (fault : FigFault) (n : ℕ) →
+        ¬ (Fails text fault n) }
+    ensures picture { (bytes before text : List ℕ) →
+        Writes bytes (Some before) (Some (before ++ text)) →
+        (w : View) (taken painted repainted : List ℕ) →
+        WritesPicture (IsMeant bytes) w (Some taken) (Some painted) →
+        WritesPicture (IsDenoted text) w (Some taken) (Some repainted) → painted ≡ repainted }
 {}

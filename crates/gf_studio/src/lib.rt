@@ -1,37 +1,41 @@
-//! Whole runs over bytes: from the lines of an input to a history, its drawing, and the drawing's text
-//! or picture, from such lines to the lines of versions, and from FIG text to a picture.
+//! Whole runs over bytes: from the lines of an input to a history, its drawing, and the drawing's
+//! text or picture, from such lines to the lines of versions, and from FIG text to a picture.
 //!
-//! - [`fig_run`]: reads operation lines and writes the FIG text of their drawing; [`StudioError`] with
-//!   [`LineCause`] tells why not.
+//! - [`fig_run`]: reads operation lines and writes the FIG text of their drawing; [`StudioError`]
+//!   with [`LineCause`] tells why not.
 //! - [`paint_run`]: reads operation lines and writes the picture of their drawing in a [`Window`].
 //! - [`repaint_run`]: reads a FIG text and writes the picture of the drawing that it reads as.
 //! - [`inspect_run`]: reads operation lines and writes what their history answers to a [`Query`].
-//! - [`the_same_operations_draw_alike`], [`the_same_histories_draw_alike`]: the laws that neither order
-//!   nor repeats change a drawing.
+//! - [`input`], [`draw_site`]: what a run begins with, and the drawing of a site's history.
+//! - [`the_same_operations_draw_alike`], [`the_same_histories_draw_alike`]: the laws that neither
+//!   order nor repeats change a drawing.
 //! - [`what_denotes_a_history_is_not_refused`]: the law that a success rules a refusal out.
 //! - [`a_text_is_repainted_as_its_history_is_painted`]: the law that ties a repainted text to its
 //!   history.
 //!
 //! [`Source`], [`read_input`], [`MOST_INPUT_BYTES`], [`In`], [`Reel`], [`SourceFault`],
 //! [`InputError`] and [`TextLines`] are those of `gf_bytes`; [`Window`], [`Gate`] and [`OpenGate`]
-//! are those of `gf_raster`.
+//! are those of `gf_raster`; [`LineCause`] is that of `gf_reading`, and [`SessionError`] that of
+//! `gf_session`.
 #![tactic(auto)]
 
 mod drawings;
 mod laws;
 mod looks;
-mod reading;
 mod runs;
 mod studio_error;
 
+pub use drawings::{draw_site, input};
 pub use gf_bytes::{
     In, InputError, MOST_INPUT_BYTES, Reel, Source, SourceFault, TextLines, read_input,
 };
 pub use gf_raster::{Gate, OpenGate, Window};
+pub use gf_reading::LineCause;
+pub use gf_session::SessionError;
 pub use laws::{
     a_text_is_repainted_as_its_history_is_painted, the_same_histories_draw_alike,
     the_same_operations_draw_alike, what_denotes_a_history_is_not_refused,
 };
 pub use looks::{Query, inspect_run};
 pub use runs::{fig_run, paint_run, repaint_run};
-pub use studio_error::{LineCause, StudioError};
+pub use studio_error::StudioError;

@@ -4,16 +4,16 @@ ghost use Rattle.std.specs.Prelude.{◌≡◌, ◌≢◌, ◌+◌, ◌≤◌, �
 ghost use Rattle.gf_bytes.specs.Counts.{Rises};
 ghost use Rattle.gf_bytes.specs.Reads.{ConsumesAtMost};
 ghost use Rattle.gf_studio.specs.InspectRun.{Looks, Tells, TellsTop, TellsVersions, WritesLook, WritesLookFront};
-ghost use Rattle.gf_studio.specs.LineSteps.{RefusesAsking, RefusesQuery};
+ghost use Rattle.gf_studio.specs.RefusedParts.{RefusesAsking, RefusesQuery};
 ghost use Rattle.gf_studio.specs.RunAnswers.{ReadsFor, RefusesLook};
 
 use crate::StudioError;
 use crate::drawings::input;
-use crate::reading::read_history;
 use gf_bytes::{MOST_INPUT_BYTES, Sink, SinkFault, Source, write_whole};
 use gf_groups::GroupFault;
 use gf_inspect::{lines, top_at, top_line, versions};
 use gf_ops::{History, ObjectId};
+use gf_reading::read_site;
 use gf_shape::{OutOfMemory, Point};
 use std::alloc::Global;
 
@@ -36,16 +36,21 @@ pub fn inspect_run<R: Source, W: Sink>(
     query: Query,
 ) -> Result<(), StudioError>
     // What is written answers the query about the history that the bytes denote.
-    ensures tells { OnOk result (IfSome (R.left source.old) (λ bytes. WritesLook bytes query (W.taken sink.old) (W.taken sink.new))) }
+    ensures tells { OnOk result (IfSome (R.left source.old) (λ bytes.
+        WritesLook bytes query (W.taken sink.old) (W.taken sink.new))) }
     ensures flushed { OnOk result (IsTrue (W.flushed sink.new)) }
 
     // As of `fig_run`, with an object that the history has not in place of a drawing.
-    ensures source { ReadsFor MOST_INPUT_BYTES (R.left source.old) (R.left source.new) (R.failures source.old) (R.failures source.new) result }
-    ensures refused { IfErr result (λ e. IfSome (R.left source.old) (λ bytes. RefusesLook query bytes e)) }
+    ensures source { ReadsFor MOST_INPUT_BYTES (R.left source.old) (R.left source.new)
+        (R.failures source.old) (R.failures source.new) result }
+    ensures refused { IfErr result (λ e. IfSome (R.left source.old) (λ bytes.
+        RefusesLook query bytes e)) }
 
     // A front of the text is written at most, and that only where the sink failed.
-    ensures front { result ≡ Err StudioError.WriteFailed → IfSome (R.left source.old) (λ bytes. WritesLookFront bytes query (W.taken sink.old) (W.taken sink.new)) }
-    ensures failed { result ≡ Err StudioError.WriteFailed → Rises (W.failures sink.old) (W.failures sink.new) }
+    ensures front { result ≡ Err StudioError.WriteFailed → IfSome (R.left source.old) (λ bytes.
+        WritesLookFront bytes query (W.taken sink.old) (W.taken sink.new)) }
+    ensures failed { result ≡ Err StudioError.WriteFailed →
+        Rises (W.failures sink.old) (W.failures sink.new) }
     ensures unwritten { IfErr result (λ e. (sink.new ≡ sink.old) ⊎ (e ≡ StudioError.WriteFailed)) }
 
     ensures takes { ConsumesAtMost (MOST_INPUT_BYTES + 1) (R.left source.old) (R.left source.new) }
@@ -64,24 +69,27 @@ fn look_at_lines<R: Source>(
     source: &mut R,
     query: Query,
 ) -> Result<Vec<u8>, StudioError>
-    ensures ok { IfOk result (λ text. IfSome (R.left source.old) (λ bytes. Looks bytes query text.items)) }
-    ensures source { ReadsFor MOST_INPUT_BYTES (R.left source.old) (R.left source.new) (R.failures source.old) (R.failures source.new) result }
-    ensures refused { IfErr result (λ e. IfSome (R.left source.old) (λ bytes. RefusesLook query bytes e)) }
+    ensures ok { IfOk result (λ text. IfSome (R.left source.old) (λ bytes.
+        Looks bytes query text.items)) }
+    ensures source { ReadsFor MOST_INPUT_BYTES (R.left source.old) (R.left source.new)
+        (R.failures source.old) (R.failures source.new) result }
+    ensures refused { IfErr result (λ e. IfSome (R.left source.old) (λ bytes.
+        RefusesLook query bytes e)) }
     ensures no_write { IfErr result (λ e. e ≢ StudioError.WriteFailed) }
     ensures takes { ConsumesAtMost (MOST_INPUT_BYTES + 1) (R.left source.old) (R.left source.new) }
     ensures reads { R.reads source.new ≤ R.reads source.old + (MOST_INPUT_BYTES + 1) }
 {
     let bytes = input(alloc, source)?;
-    look(alloc, &bytes, query)
+    look(alloc, bytes, query)
 }
 
 /// The text that answers a query about the history that these bytes denote.
-fn look(alloc: Global, bytes: &[u8], query: Query) -> Result<Vec<u8>, StudioError>
-    ensures ok { IfOk result (λ text. Looks bytes.now query text.items) }
-    ensures err { IfErr result (RefusesAsking query bytes.now) }
+fn look(alloc: Global, bytes: Vec<u8>, query: Query) -> Result<Vec<u8>, StudioError>
+    ensures ok { IfOk result (λ text. Looks bytes.items query text.items) }
+    ensures err { IfErr result (RefusesAsking query bytes.items) }
 {
-    let history = read_history(alloc, bytes)?;
-    tell(alloc, history.history(), query)
+    let site = read_site(alloc, bytes)?;
+    tell(alloc, site.history(), query)
 }
 
 /// The text that answers a query about a history.

@@ -24,21 +24,27 @@ pub fn fig_run<R: Source, W: Sink>(
     source: &mut R,
     sink: &mut W,
 ) -> Result<(), StudioError>
-    // What is written reads, by the FIG grammar, as a drawing that has at every point of the grid the
-    // colour that the history means there which the bytes denote; to the byte it is the one text of
-    // that history's canonical drawing.
-    ensures exports { OnOk result (IfSome (R.left source.old) (λ bytes. Exports bytes (W.taken sink.old) (W.taken sink.new))) }
-    ensures text { OnOk result (IfSome (R.left source.old) (λ bytes. Writes bytes (W.taken sink.old) (W.taken sink.new))) }
+    // What is written reads, by the FIG grammar, as a drawing that has at every point of the grid
+    // the colour that the history means there which the bytes denote; to the byte it is the one
+    // text of that history's canonical drawing.
+    ensures exports { OnOk result (IfSome (R.left source.old) (λ bytes.
+        Exports bytes (W.taken sink.old) (W.taken sink.new))) }
+    ensures text { OnOk result (IfSome (R.left source.old) (λ bytes.
+        Writes bytes (W.taken sink.old) (W.taken sink.new))) }
     ensures flushed { OnOk result (IsTrue (W.flushed sink.new)) }
 
-    // The input was read whole, or the source failed, or had more than an input; the first line that
-    // is at fault, or the history has no drawing.
-    ensures source { ReadsFor MOST_INPUT_BYTES (R.left source.old) (R.left source.new) (R.failures source.old) (R.failures source.new) result }
-    ensures refused { IfErr result (λ e. IfSome (R.left source.old) (λ bytes. RefusesLines bytes e)) }
+    // The input was read whole, or the source failed, or had more than an input; the first line
+    // that is at fault, or the history has no drawing.
+    ensures source { ReadsFor MOST_INPUT_BYTES (R.left source.old) (R.left source.new)
+        (R.failures source.old) (R.failures source.new) result }
+    ensures refused { IfErr result (λ e. IfSome (R.left source.old) (λ bytes.
+        RefusesLines bytes e)) }
 
     // A front of the text is written at most, and that only where the sink failed.
-    ensures front { result ≡ Err StudioError.WriteFailed → IfSome (R.left source.old) (λ bytes. WritesFront bytes (W.taken sink.old) (W.taken sink.new)) }
-    ensures failed { result ≡ Err StudioError.WriteFailed → Rises (W.failures sink.old) (W.failures sink.new) }
+    ensures front { result ≡ Err StudioError.WriteFailed → IfSome (R.left source.old) (λ bytes.
+        WritesFront bytes (W.taken sink.old) (W.taken sink.new)) }
+    ensures failed { result ≡ Err StudioError.WriteFailed →
+        Rises (W.failures sink.old) (W.failures sink.new) }
     ensures unwritten { IfErr result (λ e. (sink.new ≡ sink.old) ⊎ (e ≡ StudioError.WriteFailed)) }
 
     // It reads no more than one byte past the longest input, and no more often.
@@ -50,8 +56,8 @@ pub fn fig_run<R: Source, W: Sink>(
     Ok(())
 }
 
-/// Reads operation lines to their end, and writes the picture, in a window, of the colours that their
-/// history means, painted by 1 to 16 workers. It reads all before the first write.
+/// Reads operation lines to their end, and writes the picture, in a window, of the colours that
+/// their history means, painted by 1 to 16 workers. It reads all before the first write.
 pub fn paint_run<T: Threads + Sync, R: Source, W: Sink, G: Gate + Sync>(
     rt: &T,
     alloc: Global,
@@ -63,19 +69,27 @@ pub fn paint_run<T: Threads + Sync, R: Source, W: Sink, G: Gate + Sync>(
 ) -> Result<(), StudioError>
     requires { (1 ≤ workers) × (workers ≤ 16) }
     // What is written is the picture of the colours that the history means which the bytes denote.
-    ensures paints { OnOk result (IfSome (R.left source.old) (λ bytes. WritesPicture (IsMeant bytes) window (W.taken sink.old) (W.taken sink.new))) }
+    ensures paints { OnOk result (IfSome (R.left source.old) (λ bytes.
+        WritesPicture (IsMeant bytes) window (W.taken sink.old) (W.taken sink.new))) }
     ensures flushed { OnOk result (IsTrue (W.flushed sink.new)) }
 
     // As of `fig_run`.
-    ensures source { ReadsFor MOST_INPUT_BYTES (R.left source.old) (R.left source.new) (R.failures source.old) (R.failures source.new) result }
-    ensures refused { IfErr result (λ e. IfSome (R.left source.old) (λ bytes. RefusesLines bytes e)) }
+    ensures source { ReadsFor MOST_INPUT_BYTES (R.left source.old) (R.left source.new)
+        (R.failures source.old) (R.failures source.new) result }
+    ensures refused { IfErr result (λ e. IfSome (R.left source.old) (λ bytes.
+        RefusesLines bytes e)) }
 
-    // A front of the picture is written where the sink failed, and for want of memory nothing, or the
-    // header and whole bands; else nothing.
-    ensures front { result ≡ Err StudioError.WriteFailed → IfSome (R.left source.old) (λ bytes. WritesPictureFront (IsMeant bytes) window (W.taken sink.old) (W.taken sink.new)) }
-    ensures failed { result ≡ Err StudioError.WriteFailed → Rises (W.failures sink.old) (W.failures sink.new) }
-    ensures memory { result ≡ Err StudioError.OutOfMemory → (sink.new ≡ sink.old) ⊎ IfSome (R.left source.old) (λ bytes. WritesBands (IsMeant bytes) window (W.taken sink.old) (W.taken sink.new)) }
-    ensures unwritten { IfErr result (λ e. (sink.new ≡ sink.old) ⊎ (e ≡ StudioError.WriteFailed) ⊎ (e ≡ StudioError.OutOfMemory)) }
+    // A front of the picture is written where the sink failed, and for want of memory nothing, or
+    // the header and whole bands; else nothing.
+    ensures front { result ≡ Err StudioError.WriteFailed → IfSome (R.left source.old) (λ bytes.
+        WritesPictureFront (IsMeant bytes) window (W.taken sink.old) (W.taken sink.new)) }
+    ensures failed { result ≡ Err StudioError.WriteFailed →
+        Rises (W.failures sink.old) (W.failures sink.new) }
+    ensures memory { result ≡ Err StudioError.OutOfMemory → (sink.new ≡ sink.old) ⊎
+        IfSome (R.left source.old) (λ bytes.
+        WritesBands (IsMeant bytes) window (W.taken sink.old) (W.taken sink.new)) }
+    ensures unwritten { IfErr result (λ e.
+        (sink.new ≡ sink.old) ⊎ (e ≡ StudioError.WriteFailed) ⊎ (e ≡ StudioError.OutOfMemory)) }
 
     ensures takes { ConsumesAtMost (MOST_INPUT_BYTES + 1) (R.left source.old) (R.left source.new) }
     ensures reads { R.reads source.new ≤ R.reads source.old + (MOST_INPUT_BYTES + 1) }
@@ -85,8 +99,8 @@ pub fn paint_run<T: Threads + Sync, R: Source, W: Sink, G: Gate + Sync>(
     Ok(())
 }
 
-/// Reads a FIG text to its end, and writes the picture, in a window, of the drawing that it reads as,
-/// painted by 1 to 16 workers. It reads all before the first write.
+/// Reads a FIG text to its end, and writes the picture, in a window, of the drawing that it reads
+/// as, painted by 1 to 16 workers. It reads all before the first write.
 pub fn repaint_run<T: Threads + Sync, R: Source, W: Sink, G: Gate + Sync>(
     rt: &T,
     alloc: Global,
@@ -98,19 +112,26 @@ pub fn repaint_run<T: Threads + Sync, R: Source, W: Sink, G: Gate + Sync>(
 ) -> Result<(), StudioError>
     requires { (1 ≤ workers) × (workers ≤ 16) }
     // What is written is the picture of the colours of the drawing that the text reads as.
-    ensures paints { OnOk result (IfSome (R.left source.old) (λ text. WritesPicture (IsDenoted text) window (W.taken sink.old) (W.taken sink.new))) }
+    ensures paints { OnOk result (IfSome (R.left source.old) (λ text.
+        WritesPicture (IsDenoted text) window (W.taken sink.old) (W.taken sink.new))) }
     ensures flushed { OnOk result (IsTrue (W.flushed sink.new)) }
 
     // The text was read whole, or the source failed, or had more than an input; and it reads as no
     // drawing, for this fault of this object.
-    ensures source { ReadsFor MOST_INPUT_BYTES (R.left source.old) (R.left source.new) (R.failures source.old) (R.failures source.new) result }
+    ensures source { ReadsFor MOST_INPUT_BYTES (R.left source.old) (R.left source.new)
+        (R.failures source.old) (R.failures source.new) result }
     ensures refused { IfErr result (λ e. IfSome (R.left source.old) (λ text. RefusesFig text e)) }
 
     // As of `paint_run`.
-    ensures front { result ≡ Err StudioError.WriteFailed → IfSome (R.left source.old) (λ text. WritesPictureFront (IsDenoted text) window (W.taken sink.old) (W.taken sink.new)) }
-    ensures failed { result ≡ Err StudioError.WriteFailed → Rises (W.failures sink.old) (W.failures sink.new) }
-    ensures memory { result ≡ Err StudioError.OutOfMemory → (sink.new ≡ sink.old) ⊎ IfSome (R.left source.old) (λ text. WritesBands (IsDenoted text) window (W.taken sink.old) (W.taken sink.new)) }
-    ensures unwritten { IfErr result (λ e. (sink.new ≡ sink.old) ⊎ (e ≡ StudioError.WriteFailed) ⊎ (e ≡ StudioError.OutOfMemory)) }
+    ensures front { result ≡ Err StudioError.WriteFailed → IfSome (R.left source.old) (λ text.
+        WritesPictureFront (IsDenoted text) window (W.taken sink.old) (W.taken sink.new)) }
+    ensures failed { result ≡ Err StudioError.WriteFailed →
+        Rises (W.failures sink.old) (W.failures sink.new) }
+    ensures memory { result ≡ Err StudioError.OutOfMemory → (sink.new ≡ sink.old) ⊎
+        IfSome (R.left source.old) (λ text.
+        WritesBands (IsDenoted text) window (W.taken sink.old) (W.taken sink.new)) }
+    ensures unwritten { IfErr result (λ e.
+        (sink.new ≡ sink.old) ⊎ (e ≡ StudioError.WriteFailed) ⊎ (e ≡ StudioError.OutOfMemory)) }
 
     ensures takes { ConsumesAtMost (MOST_INPUT_BYTES + 1) (R.left source.old) (R.left source.new) }
     ensures reads { R.reads source.new ≤ R.reads source.old + (MOST_INPUT_BYTES + 1) }

@@ -1,30 +1,16 @@
 //! Why a run was refused.
 
 ghost use Rattle.std.specs.Prelude.{◌≡◌};
-ghost use Rattle.gf_studio.specs.Refusals.{of_input, of_compile, of_fig, of_write};
+ghost use Rattle.gf_studio.specs.declared.studio_error.StudioError.TheVariants as studio;
+ghost use Rattle.gf_studio.specs.Refusals.{of_input, of_reading, of_compile, of_fig, of_write};
 
 use gf_bytes::{InputError, WriteError};
 use gf_drawing::CompileFault;
 use gf_fig_read::{FigError, FigFault};
 use gf_ops::{ObjectId, OpFault, OpId};
+use gf_reading::{LineCause, ReadingError};
+use gf_session::SessionError;
 use thiserror::Error;
-
-/// What is wrong with a line.
-#[derive(Clone, Copy, Debug, PartialEq, Eq, Error)]
-pub enum LineCause {
-    /// It is no JSON.
-    #[error("Json")]
-    Json,
-    /// A key is missing or unknown, or a value has another form.
-    #[error("Field")]
-    Field,
-    /// A value is outside its limits.
-    #[error("Range")]
-    Range,
-    /// It is another operation under the id of an earlier line's.
-    #[error("Clash")]
-    Clash,
-}
 
 /// Why a run was refused.
 #[derive(Clone, Copy, Debug, PartialEq, Eq, Error)]
@@ -35,7 +21,8 @@ pub enum StudioError {
     /// The input has more than 16,777,216 bytes.
     #[error("input too long")]
     TooLong,
-    /// The line of this number, counted from 1, is no operation, or another one under an earlier id.
+    /// The line of this number, counted from 1, is no operation, or another one under an earlier
+    /// id.
     #[error("line {0}: {1}")]
     Line(u64, LineCause),
     /// The operation of this id came in its turn and doesn't fit behind those before it.
@@ -47,6 +34,9 @@ pub enum StudioError {
     /// The history has no drawing.
     #[error("export refused: {0}")]
     Compile(CompileFault),
+    /// The session was refused.
+    #[error("{}", session_text(.0))]
+    Session(SessionError),
     /// The history has no such object.
     #[error("no object {}", .0.0)]
     NoObject(ObjectId),
@@ -58,6 +48,13 @@ pub enum StudioError {
     OutOfMemory,
 }
 
+fn session_text(fault: &SessionError) -> &'static str {
+    match fault {
+        SessionError::Sites => "sites must be 2 to 8",
+        SessionError::OutOfMemory => "session: out of memory",
+    }
+}
+
 impl From<InputError> for StudioError {
     ghost from_gives = { λ fault e. e ≡ of_input fault };
 
@@ -66,6 +63,18 @@ impl From<InputError> for StudioError {
             InputError::ReadFailed => StudioError::ReadFailed,
             InputError::TooLong => StudioError::TooLong,
             InputError::OutOfMemory => StudioError::OutOfMemory,
+        }
+    }
+}
+
+impl From<ReadingError> for StudioError {
+    ghost from_gives = { λ fault e. e ≡ of_reading fault };
+
+    fn from(fault: ReadingError) -> StudioError {
+        match fault {
+            ReadingError::Line(number, cause) => StudioError::Line(number, cause),
+            ReadingError::Dropped(id, fault) => StudioError::Dropped(id, fault),
+            ReadingError::OutOfMemory => StudioError::OutOfMemory,
         }
     }
 }
@@ -102,5 +111,13 @@ impl From<WriteError> for StudioError {
             WriteError::OutOfMemory => StudioError::OutOfMemory,
             WriteError::WriteFailed => StudioError::WriteFailed,
         }
+    }
+}
+
+impl From<SessionError> for StudioError {
+    ghost from_gives = { λ fault e. e ≡ studio.Session fault };
+
+    fn from(fault: SessionError) -> StudioError {
+        StudioError::Session(fault)
     }
 }

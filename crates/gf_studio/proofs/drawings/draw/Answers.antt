@@ -1,9 +1,15 @@
-use Rattle.gf_drawing.specs.CanonicalDrawing.{IsCanonical}
-use Rattle.gf_drawing.proofs.CanonicalColour.{canonical_colour, canonical_colour-outlined}
+use Rattle.std.proofs.Common.{subst, sym}
+use Rattle.std.proofs.lemmas.Result.{err_from_is_err_and}
+use Rattle.gf_studio.specs.RefusedParts.{RefusesDrawing}
+use Rattle.gf_studio.proofs.DrawnLemmas.{history_refused}
 use Rattle.gf_studio.proofs.drawings.draw.Goals as goal
 
-pub returns-in-Ok-Some-clause-ok : goal.returns-in-Ok-Some-clause-ok
-returns-in-Ok-Some-clause-ok c =
-    let canonical : IsCanonical c.in_ok-history.history c.in_ok-drawing-in-Ok-Some.drawing =
-    record { items = c.in-Ok-Some.ranked.items.items; ranked = rw c.in-Ok-Some.field-0-is at c.in-Ok-Some.ensures.ranked; fits = c.in_ok-drawing-in-Ok-Some.ensures.fits; drawing = c.in_ok-drawing-in-Ok-Some.ensures.drawing } in
-    record { history = c.in_ok-history.history; denoted = c.in_ok-history.ensures.ok; canonical = canonical; colours = canonical_colour _ _ canonical; figures = canonical_colour-outlined _ _ canonical }
+pub returns-clause-ok : goal.returns-clause-ok
+returns-clause-ok c =
+    let drawn = c.in_ok-drawing.ensures.ok in
+    record { history = c.in_ok-site.site.ops; denoted = c.in_ok-site.ensures.ok; canonical = drawn.canonical; colours = drawn.colours; figures = drawn.figures }
+
+pub returns-in_err-drawing-clause-err : goal.returns-in_err-drawing-clause-err
+returns-in_err-drawing-clause-err c =
+    let p = err_from_is_err_and c.from_residual-in_err-drawing.result c.from_residual-in_err-drawing.ensures.1 in
+    rw p.1 (subst (RefusesDrawing c.args.bytes.items) (sym p.2) (history_refused c.args.bytes.items c.in_ok-site.site.ops c.in_ok-site.ensures.ok _ c.in_err-drawing.ensures.err))

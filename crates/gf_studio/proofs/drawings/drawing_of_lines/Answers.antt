@@ -4,16 +4,16 @@ use Rattle.gf_studio.proofs.PaintingLemmas.{left_meant}
 use Rattle.gf_studio.proofs.drawings.drawing_of_lines.Goals as goal
 
 pub returns-clause-ok : goal.returns-clause-ok
-returns-clause-ok g c = left_ok _ c.in_ok-bytes.bytes.items Draws c.draw.result c.in_ok-bytes.ensures.ok (rw (← c.deref.ensures.value) c.draw.ensures.ok)
+returns-clause-ok g c = left_ok _ c.in_ok-bytes.bytes.items Draws c.draw.result c.in_ok-bytes.ensures.ok c.draw.ensures.ok
 
 pub returns-clause-meant : goal.returns-clause-meant
 returns-clause-meant g c = left_meant _ c.draw.result (returns-clause-ok g c)
 
 pub returns-clause-refused : goal.returns-clause-refused
-returns-clause-refused g c = left_refuses _ c.in_ok-bytes.bytes.items c.draw.result c.in_ok-bytes.ensures.ok (rw (← c.deref.ensures.value) c.draw.ensures.err)
+returns-clause-refused g c = left_refuses _ c.in_ok-bytes.bytes.items c.draw.result c.in_ok-bytes.ensures.ok c.draw.ensures.err
 
 pub returns-clause-source : goal.returns-clause-source
-returns-clause-source g c = reads_for _ _ _ _ _ c.in_ok-bytes.ensures.source c.deref.result.now c.draw.result c.draw.ensures.err
+returns-clause-source g c = reads_for _ _ _ _ _ c.in_ok-bytes.ensures.source c.in_ok-bytes.bytes.items c.draw.result c.draw.ensures.err
 
 pub returns-clause-no_write : goal.returns-clause-no_write
-returns-clause-no_write g c = unwritten c.deref.result.now c.draw.result c.draw.ensures.err
+returns-clause-no_write g c = unwritten c.in_ok-bytes.bytes.items c.draw.result c.draw.ensures.err

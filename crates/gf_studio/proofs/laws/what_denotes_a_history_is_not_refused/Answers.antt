@@ -1,4 +1,5 @@
-use Rattle.gf_studio.proofs.RefusalLemmas.{denotes_no_drop, denotes_no_fault, draws_compile}
+use Rattle.gf_reading.proofs.RefusalLemmas.{denotes_no_drop, denotes_no_fault}
+use Rattle.gf_studio.proofs.RefusalLemmas.{draws_compile}
 use Rattle.gf_studio.proofs.laws.what_denotes_a_history_is_not_refused.Goals as goal
 
 pub returns-clause-line : goal.returns-clause-line

@@ -1,0 +1,4 @@
+pub mod TakingLemmas
+pub mod ReadingLemmas
+pub mod SameLemmas
+pub mod RefusalLemmas

@@ -1,0 +1,3 @@
+pub mod Denoting
+pub mod Refusing
+pub mod LineSteps

@@ -1,0 +1,37 @@
+-- What compiling the ranked versions of a history makes of it.
+use Rattle.std.specs.Prelude.{◌↔◌, ◌<◌, ◌≤◌, IfErr, IfOk, OnOk, Result, Ok, Err}
+use Rattle.std.proofs.Common.{◌≡◌, ℕ, List, length, refl}
+use Rattle.gf_shape.specs.declared.any_shape.AnyShape.{AnyShape}
+use Rattle.gf_ops.specs.declared.op.Op.{Op}
+use Rattle.gf_versions.specs.declared.placed.Placed.{Placed}
+use Rattle.gf_versions.specs.Ranking.{AreRanked}
+use Rattle.gf_drawing.specs.declared.compiling.CompileFault.{CompileFault}
+use Rattle.gf_drawing.specs.declared.compiling.CompileFault.TheVariants as compile
+use Rattle.gf_drawing.specs.CanonicalDrawing.{Fits, IsCanonical, canonical_drawing, colours_of}
+use Rattle.gf_drawing.specs.DrawingState.{DrawingState}
+use Rattle.gf_drawing.proofs.CanonicalColour.{canonical_colour, canonical_colour-outlined}
+use Rattle.gf_reading.specs.Denoting.{Denotes}
+use Rattle.gf_studio.specs.Refusals.{of_compile}
+use Rattle.gf_studio.specs.FigRun.{IsDrawn, RefusesHistory}
+use Rattle.gf_studio.specs.RefusedParts.{RefusesDrawing}
+
+drawn : (h : List Op) (d : DrawingState AnyShape) → IsCanonical h d → IsDrawn h d
+drawn h d canonical = record { canonical = canonical; colours = canonical_colour h d canonical; figures = canonical_colour-outlined h d canonical }
+
+-- the items are the ranked versions of h, and r is the answer of compiling them
+module _ (h : List Op) (items : List (Placed AnyShape)) (ranked : AreRanked h items) where
+  pub compiled : (r : Result (DrawingState AnyShape) CompileFault) → IfOk r (λ d. d ≡ canonical_drawing items) → OnOk r (Fits items) → IfOk r (IsDrawn h)
+  compiled (Ok d) is fits = drawn h d (record { items = items; ranked = ranked; fits = fits; drawing = is })
+  compiled (Err fault) is fits = tt
+
+  pub not_compiled : {D : Type 0} (r : Result D CompileFault) → (r ≡ Err compile.TooManyVersions ↔ (1000 < length items)) → (r ≡ Err compile.TooManyColours → (length items ≤ 1000) × (512 < length (colours_of items))) → IfErr r (RefusesHistory h)
+  not_compiled (Ok d) versions colours = tt
+  not_compiled (Err compile.TooManyVersions) versions colours = record { items = items; ranked = ranked; many = versions.0 refl }
+  not_compiled (Err compile.TooManyColours) versions colours = let c = colours refl in record { items = items; ranked = ranked; few = c.0; many = c.1 }
+  not_compiled (Err compile.OutOfMemory) versions colours = tt
+
+-- what refuses the history that the bytes denote, refuses them
+pub history_refused : (bytes : List ℕ) (h : List Op) → Denotes bytes h → (fault : CompileFault) → RefusesHistory h fault → RefusesDrawing bytes (of_compile fault)
+history_refused bytes h denoted compile.TooManyVersions r = record { history = h; denoted = denoted; items = r.items; ranked = r.ranked; many = r.many }
+history_refused bytes h denoted compile.TooManyColours r = record { history = h; denoted = denoted; items = r.items; ranked = r.ranked; few = r.few; many = r.many }
+history_refused bytes h denoted compile.OutOfMemory r = tt
