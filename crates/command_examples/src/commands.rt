@@ -5,6 +5,7 @@ use gf_bytes::{MOST_INPUT_BYTES, Reel, Tape};
 use gf_command::{command, refuse_words};
 use std::alloc::{AllocError, Global};
 use std::io;
+use std::sync::Wait;
 use std::test::Fail;
 use std::thread::Threads;
 
@@ -18,7 +19,7 @@ pub(crate) fn words(alloc: Global, text: &str) -> Result<Vec<String>, AllocError
 
 /// A run over this source, with so much room for its output and its faults: the status, the output,
 /// a line of dashes, and the faults.
-fn run<T: AllocGlobal + Threads + Sync>(
+fn run<T: AllocGlobal + Threads + Wait + Sync>(
     rt: &T,
     text: &str,
     source: &mut Reel,
@@ -38,14 +39,22 @@ fn told(alloc: Global, status: u8, output: &[u8], faults: &[u8]) -> Result<Strin
     Ok(format!(in alloc; "{status}\n{output}--\n{faults}")?)
 }
 
+/// A run of these words over this text, with room for all.
+pub(crate) fn run_over<T: AllocGlobal + Threads + Wait + Sync>(
+    rt: &T,
+    words: &str,
+    input: &str,
+) -> Result<String, Fail> {
+    let mut source = Reel::new(input.as_bytes(), None);
+    run(rt, words, &mut source, (None, None))
+}
+
 /// A run of `figgroup fig` over this text, with room for all.
-pub(crate) fn fig<T: AllocGlobal + Threads + Sync>(rt: &T, input: &str) -> Result<String, Fail> {
-    run(
-        rt,
-        "figgroup fig",
-        &mut Reel::new(input.as_bytes(), None),
-        (None, None),
-    )
+pub(crate) fn fig<T: AllocGlobal + Threads + Wait + Sync>(
+    rt: &T,
+    input: &str,
+) -> Result<String, Fail> {
+    run_over(rt, "figgroup fig", input)
 }
 
 /// Lines of so many boxes, the n-th at (n, 0), of so many colours in turn.
@@ -67,7 +76,7 @@ const TOO_MANY_VERSIONS: &str = "1\n--\nfiggroup: export refused: TooManyVersion
 const TOO_MANY_COLOURS: &str = "1\n--\nfiggroup: export refused: TooManyColours\n";
 
 /// A run over lines of so many boxes, of so many colours in turn, and more.
-fn fig_of_boxes<T: AllocGlobal + Threads + Sync>(
+fn fig_of_boxes<T: AllocGlobal + Threads + Wait + Sync>(
     rt: &T,
     count: u32,
     colours: u32,
@@ -147,7 +156,10 @@ fn rounds(alloc: Global, last: u32) -> Result<String, AllocError> {
 }
 
 /// A run over these rounds.
-fn fig_of_rounds<T: AllocGlobal + Threads + Sync>(rt: &T, last: u32) -> Result<String, Fail> {
+fn fig_of_rounds<T: AllocGlobal + Threads + Wait + Sync>(
+    rt: &T,
+    last: u32,
+) -> Result<String, Fail> {
     fig(rt, rounds(rt.alloc(), last)?.as_str())
 }
 
@@ -248,7 +260,10 @@ fn unread_words_are_told(rt: HostRuntime) -> Result<(), Fail> {
 }
 
 /// A run that asks for these words, over a source that can't be read.
-fn run_of_words<T: AllocGlobal + Threads + Sync>(rt: &T, words: &str) -> Result<String, Fail> {
+fn run_of_words<T: AllocGlobal + Threads + Wait + Sync>(
+    rt: &T,
+    words: &str,
+) -> Result<String, Fail> {
     run(
         rt,
         words,
@@ -275,6 +290,9 @@ fn words_are_read_first(rt: HostRuntime) -> Result<(), Fail> {
         ("figgroup paint --step 2 --step 3", "2\n--\n", true),
         ("figgroup inspect", "2\n--\n", true),
         ("figgroup inspect --at -5,7", "2\n--\n", true),
+        ("figgroup session --sites 1", "2\n--\n", true),
+        ("figgroup session --sites 9", "2\n--\n", true),
+        ("figgroup session --sites x", "2\n--\n", true),
         ("figgroup fig --step 2", "2\n--\n", true),
         ("figgroup fig input", "2\n--\n", true),
         ("figgroup --colour", "2\n--\n", true),
@@ -285,6 +303,7 @@ fn words_are_read_first(rt: HostRuntime) -> Result<(), Fail> {
         ("figgroup paint --help", "0\nRead operation lines", false),
         ("figgroup repaint --help", "0\nRead a FIG text", false),
         ("figgroup inspect --help", "0\nRead operation lines", false),
+        ("figgroup session --help", "0\nRead script lines", false),
         ("figgroup --version", "0\nfiggroup 0.1.0\n", false),
     ] {
         let answer = run_of_words(&rt, words)?;

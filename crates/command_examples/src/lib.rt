@@ -9,3 +9,5 @@ mod inspect_table;
 mod picture_table;
 #[cfg(test)]
 mod run_table;
+#[cfg(test)]
+mod session_table;

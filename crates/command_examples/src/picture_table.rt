@@ -5,6 +5,7 @@ use crate::commands::words;
 use crate::run_table::joined;
 use gf_bytes::{Reel, Tape};
 use gf_command::command;
+use std::sync::Wait;
 use std::test::Fail;
 use std::thread::Threads;
 
@@ -34,7 +35,7 @@ repaint | red_box_fig late_colour | 1 figgroup: figure object 3: LateColour\n
 "#;
 
 /// What a run over this input answers: its status, its output and its faults.
-fn pictured<T: AllocGlobal + Threads + Sync>(
+fn pictured<T: AllocGlobal + Threads + Wait + Sync>(
     rt: &T,
     text: &str,
     input: &str,
@@ -51,7 +52,7 @@ fn pictured<T: AllocGlobal + Threads + Sync>(
 }
 
 /// The run that a row asks for.
-fn answer<T: AllocGlobal + Threads + Sync>(
+fn answer<T: AllocGlobal + Threads + Wait + Sync>(
     rt: &T,
     words: &str,
     pieces: &str,
@@ -61,7 +62,10 @@ fn answer<T: AllocGlobal + Threads + Sync>(
 }
 
 /// That the run of a row answers what the row says; a line without cells is no row.
-pub(crate) fn is_as_told<T: AllocGlobal + Threads + Sync>(rt: &T, row: &str) -> Result<(), Fail> {
+pub(crate) fn is_as_told<T: AllocGlobal + Threads + Wait + Sync>(
+    rt: &T,
+    row: &str,
+) -> Result<(), Fail> {
     let Some((words, rest)) = row.split_once('|') else {
         return Ok(());
     };

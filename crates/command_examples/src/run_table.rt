@@ -3,6 +3,7 @@
 use crate::commands::fig;
 use example_parts::{EMPTY_FIG, RED_BOX, RED_BOX_FIG};
 use std::alloc::Global;
+use std::sync::Wait;
 use std::test::Fail;
 use std::thread::Threads;
 
@@ -104,6 +105,31 @@ one_red_fig 0 32 #ff0000\n2 2 0 0 32 32 0 -1 20 0.000 0 0 -1 0 0 5\n\t 0 0 10 0 
 foreign_triangle #FIG 3.2  Produced by xfig version 3.2.5\nLandscape\nCenter\nInches\nLetter  \n100.00\nSingle\n-2\n1200 2\n# a triangle\n2 3 0 0 4 4 50 -1 20 0.000 0 0 -1 0 0 4\n\t 0 0 1200 0\n\t 600 900 0 0\n
 open_polyline 2 1 0 0 4 4 50 -1 20 0.000 0 0 -1 0 0 4\n\t 0 0 1200 0 600 900 0 0\n
 late_colour 0 33 #00ff00\n
+first_box {"site":1,"do":"create","kind":"box","place":[0,0],"size":[10,10],"colour":"ff0000","layer":0,"shown":true}
+second_box {"site":2,"do":"create","kind":"box","place":[0,0],"size":[10,10],"colour":"0000ff","layer":0,"shown":true}
+box_3 {"site":3,"do":"create","kind":"box","place":[0,0],"size":[10,10],"colour":"000003","layer":0,"shown":true}
+box_4 {"site":4,"do":"create","kind":"box","place":[0,0],"size":[10,10],"colour":"000004","layer":0,"shown":true}
+box_5 {"site":5,"do":"create","kind":"box","place":[0,0],"size":[10,10],"colour":"000005","layer":0,"shown":true}
+box_6 {"site":6,"do":"create","kind":"box","place":[0,0],"size":[10,10],"colour":"000006","layer":0,"shown":true}
+box_7 {"site":7,"do":"create","kind":"box","place":[0,0],"size":[10,10],"colour":"000007","layer":0,"shown":true}
+box_8 {"site":8,"do":"create","kind":"box","place":[0,0],"size":[10,10],"colour":"000008","layer":0,"shown":true}
+await_first {"site":2,"do":"await","id":[1,1]}
+await_second {"site":1,"do":"await","id":[2,1]}
+second_paints_it {"site":2,"do":"set","object":[1,1],"set":"colour","to":"0000ff"}
+await_missing {"site":2,"do":"await","id":[1,9]}
+await_own {"site":2,"do":"await","id":[2,1]}
+await_ninth {"site":2,"do":"await","id":[9,1]}
+third_awaits {"site":3,"do":"await","id":[1,1]}
+none_made site 1 accepted 0 refused 0\nsite 2 accepted 0 refused 0\n
+each_made_one site 1 accepted 1 refused 0\nsite 2 accepted 1 refused 0\n
+third_made_none site 3 accepted 0 refused 0\n
+all_made_one site 1 accepted 1 refused 0\nsite 2 accepted 1 refused 0\nsite 3 accepted 1 refused 0\nsite 4 accepted 1 refused 0\nsite 5 accepted 1 refused 0\nsite 6 accepted 1 refused 0\nsite 7 accepted 1 refused 0\nsite 8 accepted 1 refused 0\n
+second_was_refused site 1 accepted 1 refused 0\nsite 2 accepted 1 refused 1\n
+it_never_comes site 2 command 3 NeverComes\n
+it_is_its_own site 2 command 3 OwnId\n
+blue_box_fig 0 32 #0000ff\n2 2 0 0 32 32 0 -1 20 0.000 0 0 -1 0 0 5\n\t 0 0 10 0 10 10 0 10 0 0\n
+blue_over_red_fig 0 32 #0000ff\n0 33 #ff0000\n2 2 0 0 32 32 0 -1 20 0.000 0 0 -1 0 0 5\n\t 0 0 10 0 10 10 0 10 0 0\n2 2 0 0 33 33 1 -1 20 0.000 0 0 -1 0 0 5\n\t 0 0 10 0 10 10 0 10 0 0\n
+eight_boxes_fig 0 32 #000008\n0 33 #000007\n0 34 #000006\n0 35 #000005\n0 36 #000004\n0 37 #000003\n0 38 #0000ff\n0 39 #ff0000\n2 2 0 0 32 32 0 -1 20 0.000 0 0 -1 0 0 5\n\t 0 0 10 0 10 10 0 10 0 0\n2 2 0 0 33 33 1 -1 20 0.000 0 0 -1 0 0 5\n\t 0 0 10 0 10 10 0 10 0 0\n2 2 0 0 34 34 2 -1 20 0.000 0 0 -1 0 0 5\n\t 0 0 10 0 10 10 0 10 0 0\n2 2 0 0 35 35 3 -1 20 0.000 0 0 -1 0 0 5\n\t 0 0 10 0 10 10 0 10 0 0\n2 2 0 0 36 36 4 -1 20 0.000 0 0 -1 0 0 5\n\t 0 0 10 0 10 10 0 10 0 0\n2 2 0 0 37 37 5 -1 20 0.000 0 0 -1 0 0 5\n\t 0 0 10 0 10 10 0 10 0 0\n2 2 0 0 38 38 6 -1 20 0.000 0 0 -1 0 0 5\n\t 0 0 10 0 10 10 0 10 0 0\n2 2 0 0 39 39 7 -1 20 0.000 0 0 -1 0 0 5\n\t 0 0 10 0 10 10 0 10 0 0\n
 "#;
 
 /// The piece of this name.
@@ -138,7 +164,7 @@ pub(crate) fn joined(alloc: Global, names: &str) -> Result<String, Fail> {
 }
 
 /// The run that a row asks for, as `run` tells it.
-fn wanted(alloc: Global, status: &str, cell: &str) -> Result<String, Fail> {
+pub(crate) fn wanted(alloc: Global, status: &str, cell: &str) -> Result<String, Fail> {
     if status == "0" {
         let output = joined(alloc, cell)?;
         return Ok(format!(in alloc; "0\n{output}--\n")?);
@@ -147,7 +173,7 @@ fn wanted(alloc: Global, status: &str, cell: &str) -> Result<String, Fail> {
 }
 
 /// The run over the pieces of these names.
-fn answer<T: AllocGlobal + Threads + Sync>(rt: &T, names: &str) -> Result<String, Fail> {
+fn answer<T: AllocGlobal + Threads + Wait + Sync>(rt: &T, names: &str) -> Result<String, Fail> {
     fig(rt, joined(rt.alloc(), names)?.as_str())
 }
 

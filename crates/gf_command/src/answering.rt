@@ -8,9 +8,11 @@ use crate::asking::{Asked, Canvas, QueryFault, Run, parse};
 use clap::Error;
 use clap::error::ErrorKind;
 use gf_bytes::{Sink, Source, write_whole};
+use gf_session_run::session_run;
 use gf_studio::{OpenGate, StudioError, fig_run, inspect_run, paint_run, repaint_run};
 use std::alloc::Global;
 use std::io;
+use std::sync::Wait;
 use std::thread::Threads;
 
 /// Runs what `words` ask for, the first of which is the program's name, and answers the status:
@@ -19,7 +21,7 @@ use std::thread::Threads;
 /// Faults go to `faults`, and so does the usage after a mistake; help and version go to `output`.
 /// The words are read before any input. A fault or a help text that can't be written changes no
 /// status.
-pub fn command<T: Threads + Sync, R: Source, W: Sink, E: Sink>(
+pub fn command<T: Threads + Wait + Sync, R: Source, W: Sink, E: Sink>(
     rt: &T,
     alloc: Global,
     words: &[String],
@@ -60,7 +62,7 @@ pub fn command<T: Threads + Sync, R: Source, W: Sink, E: Sink>(
 }
 
 /// Writes what a run asks for.
-fn answer<T: Threads + Sync, R: Source, W: Sink>(
+fn answer<T: Threads + Wait + Sync, R: Source, W: Sink>(
     rt: &T,
     alloc: Global,
     run: Run,
@@ -85,11 +87,12 @@ fn answer<T: Threads + Sync, R: Source, W: Sink>(
             repaint_run(rt, alloc, source, output, window, workers, &OpenGate)
         }
         Run::Inspect(query) => inspect_run(alloc, source, output, query),
+        Run::Session(sites) => session_run(rt, alloc, source, output, sites, &OpenGate),
     }
 }
 
-/// Tells why the words of the command line could not be read, and answers the status: 2 where a word
-/// is no UTF-8, and else 1.
+/// Tells why the words of the command line could not be read, and answers the status: 2 where a
+/// word is no UTF-8, and else 1.
 pub fn refuse_words<E: Sink>(fault: &io::Error, faults: &mut E) -> u8
     ensures { (result ≡ 1) ⊎ (result ≡ 2) }
 {

@@ -20,6 +20,8 @@ pub enum Run {
     Repaint(Canvas),
     /// What a history answers to a query.
     Inspect(Query),
+    /// What a session of the scripts of so many sites came to.
+    Session(u8),
 }
 
 /// What a command line that clap took asks for.
@@ -61,6 +63,7 @@ fn read_matches(matches: &ArgMatches<'_>) -> Option<Asked> {
         "paint" => Some(Asked::Run(Run::Paint(canvas_of(matches)?))),
         "repaint" => Some(Asked::Run(Run::Repaint(canvas_of(matches)?))),
         "inspect" => Some(inspected(matches.get_str("object"), matches.get_str("at"))),
+        "session" => Some(Asked::Run(Run::Session(matches.get_one::<u8>("sites")?))),
         _ => None,
     }
 }
@@ -122,13 +125,15 @@ fn program<'a>(alloc: Global) -> Result<Command<'a>, AllocError> {
         "repaint",
         "Read a FIG text from standard input and write a picture of its drawing, as raw PPM",
     )?;
-    with_inspect(alloc, program)
+    let program = with_inspect(alloc, program)?;
+    with_session(alloc, program)
 }
 
 /// The program with the command that tells the versions of an object, or the one on top at a point.
 fn with_inspect<'a>(alloc: Global, program: Command<'a>) -> Result<Command<'a>, AllocError> {
     let command = Command::new(alloc, "inspect").about(
-        "Read operation lines from standard input and write the versions of an object, or what is on top at a point",
+        "Read operation lines from standard input and write the versions of an object, or what is on \
+         top at a point",
     );
     let command = with_query(alloc, command)?;
     program.subcommand(command)
@@ -149,6 +154,16 @@ fn with_query<'a>(alloc: Global, command: Command<'a>) -> Result<Command<'a>, Al
             "X,Y",
             "Tell the version on top at this point, as --at=-5,7",
         ))
+}
+
+/// The program with the command that runs the scripts of several sites at the same time.
+fn with_session<'a>(alloc: Global, program: Command<'a>) -> Result<Command<'a>, AllocError> {
+    let command = Command::new(alloc, "session").about(
+        "Read script lines from standard input, run the scripts of all sites at the same time, and \
+         write what became of their commands and the FIG text of their common history",
+    );
+    let command = command.arg(sites(alloc))?;
+    program.subcommand(command)
 }
 
 /// The program with one command more, which writes a picture.
@@ -223,6 +238,16 @@ fn count<'a>(alloc: Global, name: &'a str, default: &'a str, most: u64, help: &'
         .help(help)
         .default_value(default)
         .value_parser(ValueParser::unsigned(1, most))
+}
+
+/// The option for the number of sites.
+fn sites<'a>(alloc: Global) -> Arg<'a> {
+    Arg::new(alloc, "sites")
+        .long("sites")
+        .value_name("N")
+        .help("How many sites there are, 2 to 8")
+        .default_value("2")
+        .value_parser(ValueParser::unsigned(2, 8))
 }
 
 /// An option for a text of this form.

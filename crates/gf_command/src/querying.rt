@@ -24,7 +24,8 @@ pub(crate) fn point_query(text: &str) -> Option<Query> {
 
 /// The id of these numbers, where they are in range.
 fn id_of(site: u8, seq: u32) -> Option<OpId>
-    ensures { IfSome result (λ id. (1 ≤ id.site) × (id.site ≤ 8) × (1 ≤ id.seq) × (id.seq ≤ 10000)) }
+    ensures { IfSome result (λ id.
+        (1 ≤ id.site) × (id.site ≤ 8) × (1 ≤ id.seq) × (id.seq ≤ 10000)) }
 {
     if (1..=8).contains(&site) && (1..=10_000).contains(&seq) {
         Some(OpId { site, seq })

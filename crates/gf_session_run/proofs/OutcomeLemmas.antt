@@ -1,0 +1,84 @@
+-- All sites of a session have the operations of each.
+use Rattle.std.specs.Prelude.{Contains, IfErr, IfOk, Result, Ok, Err}
+use Rattle.std.proofs.Common.{◌≡◌, ◌∙◌, ℕ, ◌++◌, List, [], ◌∷◌, length, get_or, ap, arith, subst, sym, inl, inr}
+use Rattle.std.proofs.lemmas.List.Elements.{Contains-get_or}
+use Rattle.gf_ops.specs.declared.op.Op.{Op}
+use Rattle.gf_ops.proofs.ListLemmas.{Contains-cons_cases, Contains-cons_head, Contains-cons_tail, not_Contains-nil}
+use Rattle.gf_causal.specs.DeliveredPart.{HaveSame}
+use Rattle.gf_shape.specs.declared.any_shape.AnyShape.{AnyShape}
+use Rattle.gf_shape.specs.Outlines.{any_outline}
+use Rattle.gf_drawing.specs.declared.compiling.CompileFault.TheVariants as compile
+use Rattle.gf_drawing.specs.DrawingState.{DrawingState}
+use Rattle.gf_drawing.specs.Outlined.{outlined}
+use Rattle.gf_fig_read.specs.FigGrammar.{Reads}
+use Rattle.gf_fig_write.specs.FigText.{fig_text}
+use Rattle.gf_studio.specs.declared.studio_error.StudioError.{StudioError}
+use Rattle.gf_studio.specs.declared.studio_error.StudioError.TheVariants as studio
+use Rattle.gf_studio.specs.FigRun.{IsDrawn}
+use Rattle.gf_studio.proofs.ExportLemmas.{shows}
+use Rattle.gf_worker.specs.declared.script.Script.{Script}
+use Rattle.gf_session.specs.declared.session.Done.{Done}
+use Rattle.gf_session.specs.Session.{IsSession, place_of, places}
+use Rattle.gf_session_run.specs.DenotedScripts.{DenotesScripts}
+use Rattle.gf_session_run.specs.Reports.{report_text}
+use Rattle.gf_session_run.specs.SessionRun.{IsSiteCount, Plays, TellsSession}
+use Rattle.gf_session_run.specs.SessionSteps.{RefusesPlaying, RefusesTelling, TellsHistory}
+
+-- the place that a site has in the outcome
+record IsPlace (scripts : List Script) (dones : List Done) (d : Done) : Type 0 where
+  script : Script
+  there : Contains (places scripts dones) (place_of script d)
+
+has_place : (scripts : List Script) (dones : List Done) → length dones ≡ length scripts → (d : Done) → Contains dones d → IsPlace scripts dones d
+has_place scripts [] e d i = absurd (not_Contains-nil d i)
+has_place [] (x ∷ dones) e d i = absurd (omega (e, arith))
+has_place (s ∷ scripts) (x ∷ dones) e d i = elim (Contains-cons_cases x dones d i) [
+  | inl q ↦ record { script = s; there = subst (λ y. Contains (place_of s x ∷ places scripts dones) (place_of s y)) (sym q) (Contains-cons_head (place_of s x) (places scripts dones)) }
+  | inr j ↦ let p = has_place scripts dones (omega (e, arith)) d j in record { script = p.script; there = Contains-cons_tail (place_of s x) (places scripts dones) (place_of p.script d) p.there }
+]
+
+pub common_history : (scripts : List Script) (dones : List Done) → IsSession scripts dones → (d e : Done) → Contains dones d → Contains dones e → HaveSame d.site.ops e.site.ops
+common_history scripts dones session d e i j =
+    let p = has_place scripts dones session.long d i in
+    let q = has_place scripts dones session.long e j in
+    session.outcome.same (place_of p.script d) (place_of q.script e) p.there q.there
+
+-- there is a first site
+pub first_there : (n : ℕ) (bytes : List ℕ) (scripts : List Script) (dones : List Done) (first : Done) → IsSiteCount n → DenotesScripts n bytes scripts → IsSession scripts dones → first ≡ get_or dones 0 first → Contains dones first
+first_there n bytes scripts dones first count denoted session is =
+    let long = session.long in
+    let whole = denoted.by_site.long in
+    subst (Contains dones) (sym is) (Contains-get_or dones 0 first (let least = count.0 in omega (least, arith)))
+
+-- the text of the lines of all sites with the FIG text of the drawing of h
+pub told_history : (h : List Op) (dones : List Done) (text fig : List ℕ) (drawing : DrawingState AnyShape) → IsDrawn h drawing → fig ≡ fig_text any_outline drawing → Reads fig (outlined any_outline drawing) → text ≡ report_text dones ++ fig → TellsHistory h dones text
+told_history h dones text fig drawing drawn same reads is = record {
+  drawing = drawing;
+  drawn = drawn;
+  shown = shows h drawing drawn.figures (subst (λ t. Reads t (outlined any_outline drawing)) same reads);
+  is = is ∙ ap (λ t. report_text dones ++ t) same;
+}
+
+-- scripts that the bytes denote were played, and first is what one of the sites came to
+module _ (n : ℕ) (bytes : List ℕ) (scripts : List Script) (dones : List Done) (first : Done) (denoted : DenotesScripts n bytes scripts) (session : IsSession scripts dones) (there : Contains dones first) where
+  plays : Plays n bytes dones first.site.ops
+  plays = record { scripts = scripts; denoted = denoted; session = session; common = λ d i. common_history scripts dones session d first i there }
+
+  pub told_session : {T : Type 0} (items : T → List ℕ) (r : Result T StudioError) → IfOk r (λ t. TellsHistory first.site.ops dones (items t)) → IfOk r (λ t. TellsSession n bytes (items t))
+  told_session items (Ok t) tells = record { dones = dones; history = first.site.ops; plays = plays; drawing = tells.drawing; drawn = tells.drawn; shown = tells.shown; is = tells.is }
+  told_session items (Err e) tells = tt
+
+  pub not_told : {T : Type 0} (r : Result T StudioError) → IfErr r (RefusesTelling first.site.ops) → IfErr r (RefusesPlaying n bytes)
+  not_told (Ok t) refused = tt
+  not_told (Err (studio.Compile compile.TooManyVersions)) refused = record { dones = dones; history = first.site.ops; plays = plays; refused = refused }
+  not_told (Err (studio.Compile compile.TooManyColours)) refused = record { dones = dones; history = first.site.ops; plays = plays; refused = refused }
+  not_told (Err (studio.Compile compile.OutOfMemory)) refused = refused
+  not_told (Err studio.OutOfMemory) refused = tt
+  not_told (Err (studio.Line m why)) refused = absurd refused
+  not_told (Err (studio.Dropped id fault)) refused = refused
+  not_told (Err (studio.Fig e)) refused = refused
+  not_told (Err (studio.Session e)) refused = absurd refused
+  not_told (Err (studio.NoObject o)) refused = refused
+  not_told (Err studio.ReadFailed) refused = refused
+  not_told (Err studio.TooLong) refused = refused
+  not_told (Err studio.WriteFailed) refused = refused

@@ -1,0 +1,4 @@
+pub mod DenotedScripts
+pub mod Reports
+pub mod SessionRun
+pub mod SessionSteps

@@ -1,0 +1,81 @@
+-- What the run over a session text writes, and why it is refused (this project's choice).
+use Rattle.std.specs.Prelude.{◌≡◌, ◌≤◌, ℕ, List, ◌++◌, Option, Contains, ⊤}
+use Rattle.std.specs.Io.KnownBytes.{Appends}
+use Rattle.gf_shape.specs.declared.any_shape.AnyShape.{AnyShape}
+use Rattle.gf_shape.specs.Outlines.{any_outline}
+use Rattle.gf_ops.specs.declared.op.Op.{Op}
+use Rattle.gf_bytes.specs.Taken.{AppendsFront}
+use Rattle.gf_causal.specs.DeliveredPart.{HaveSame}
+use Rattle.gf_drawing.specs.declared.compiling.CompileFault.{CompileFault}
+use Rattle.gf_drawing.specs.declared.compiling.CompileFault.TheVariants as compile
+use Rattle.gf_drawing.specs.DrawingState.{DrawingState}
+use Rattle.gf_fig_write.specs.FigText.{fig_text}
+use Rattle.gf_worker.specs.declared.script.Script.{Script}
+use Rattle.gf_session.specs.declared.session.Done.{Done}
+use Rattle.gf_session.specs.declared.session.SessionError.TheVariants as session
+use Rattle.gf_session.specs.Session.{IsSession}
+use Rattle.gf_studio.specs.declared.studio_error.StudioError.{StudioError}
+use Rattle.gf_studio.specs.declared.studio_error.StudioError.TheVariants as studio
+use Rattle.gf_studio.specs.FigRun.{IsDrawn, RefusesHistory, Shows}
+use Rattle.gf_session_run.specs.DenotedScripts.{DenotesScripts, HasScriptFault}
+use Rattle.gf_session_run.specs.Reports.{report_text}
+
+-- so many sites may be in a session
+abbrev pub IsSiteCount : ℕ → Type 0
+IsSiteCount n = (2 ≤ n) × (n ≤ 8)
+
+-- the bytes denote scripts of n sites, a session of them came to this for each site, and all sites then had the operations of h
+pub record Plays (n : ℕ) (bytes : List ℕ) (dones : List Done) (h : List Op) : Type 0 where
+  pub scripts : List Script
+  pub denoted : DenotesScripts n bytes scripts
+  pub session : IsSession scripts dones
+  pub common : (d : Done) → Contains dones d → HaveSame d.site.ops h
+
+-- the text has the lines of all sites, and behind them the one FIG text of the common history's drawing, which shows this history
+pub record TellsSession (n : ℕ) (bytes text : List ℕ) : Type 0 where
+  pub dones : List Done
+  pub history : List Op
+  pub plays : Plays n bytes dones history
+  pub drawing : DrawingState AnyShape
+  pub drawn : IsDrawn history drawing
+  pub shown : Shows (fig_text any_outline drawing) history
+  pub is : text ≡ report_text dones ++ fig_text any_outline drawing
+
+-- known bytes grow from old to new by such a text
+pub record WritesSession (n : ℕ) (bytes : List ℕ) (old new : Option (List ℕ)) : Type 0 where
+  pub text : List ℕ
+  pub tells : TellsSession n bytes text
+  pub written : Appends old new text
+
+-- known bytes grow from old to new by a front of such a text, which may be none or all of it
+pub record WritesSessionFront (n : ℕ) (bytes : List ℕ) (old new : Option (List ℕ)) : Type 0 where
+  pub text : List ℕ
+  pub tells : TellsSession n bytes text
+  pub written : AppendsFront old new text
+
+-- a session of the scripts that the bytes denote came to a history that has no drawing, for this fault
+pub record HasNoDrawing (n : ℕ) (bytes : List ℕ) (fault : CompileFault) : Type 0 where
+  pub dones : List Done
+  pub history : List Op
+  pub plays : Plays n bytes dones history
+  pub refused : RefusesHistory history fault
+
+-- why the history of a session is not exported: want of memory is no fault of its own
+abbrev pub RefusesExport : ℕ → List ℕ → CompileFault → Type 0
+RefusesExport n bytes compile.TooManyVersions = HasNoDrawing n bytes compile.TooManyVersions
+RefusesExport n bytes compile.TooManyColours = HasNoDrawing n bytes compile.TooManyColours
+RefusesExport n bytes compile.OutOfMemory = ⊥
+
+-- why the run is refused
+abbrev pub RefusesSession : ℕ → List ℕ → StudioError → Type 0
+RefusesSession n bytes (studio.Line m cause) = HasScriptFault n bytes m cause
+RefusesSession n bytes (studio.Dropped id fault) = ⊥
+RefusesSession n bytes (studio.Fig e) = ⊥
+RefusesSession n bytes (studio.Compile fault) = RefusesExport n bytes fault
+RefusesSession n bytes (studio.Session session.Sites) = ¬ (IsSiteCount n)
+RefusesSession n bytes (studio.Session session.OutOfMemory) = ⊤
+RefusesSession n bytes (studio.NoObject o) = ⊥
+RefusesSession n bytes studio.ReadFailed = ⊤
+RefusesSession n bytes studio.TooLong = ⊤
+RefusesSession n bytes studio.WriteFailed = ⊤
+RefusesSession n bytes studio.OutOfMemory = ⊤

@@ -1,0 +1,16 @@
+//! The run over a session text: from the lines of scripts to a report and the FIG text of the
+//! common history.
+//!
+//! - [`session_run`]: reads script lines, runs the scripts at the same time, and writes for each
+//!   site what became of its commands, and behind these the FIG text.
+//! - [`the_sites_of_a_session_draw_alike`]: whichever site's history is drawn, the drawing is one.
+#![tactic(auto)]
+
+mod laws;
+mod playing;
+mod reports;
+mod run;
+mod scripts;
+
+pub use laws::the_sites_of_a_session_draw_alike;
+pub use run::session_run;

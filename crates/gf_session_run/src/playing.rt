@@ -1,0 +1,63 @@
+//! From the bytes of a session text to the text that tells what came of it.
+
+ghost use Rattle.std.specs.Prelude.{◌≡◌, ◌++◌, IfOk, IfErr};
+ghost use Rattle.gf_session_run.specs.Reports.{report_text};
+ghost use Rattle.gf_session_run.specs.SessionRun.{IsSiteCount, TellsSession};
+ghost use Rattle.gf_session_run.specs.SessionSteps.{RefusesPlaying, RefusesTelling, TellsHistory};
+
+use crate::reports::push_reports;
+use crate::scripts::read_scripts;
+use gf_fig_write::fig_bytes;
+use gf_gate::Gate;
+use gf_session::{Done, SessionError, run_session};
+use gf_shape::OutOfMemory;
+use gf_site::Site;
+use gf_studio::{StudioError, draw_site};
+use std::alloc::Global;
+use std::sync::Wait;
+use std::thread::Threads;
+
+/// Runs the scripts that these bytes denote, and tells what came of them.
+pub(crate) fn play<T: Threads + Wait + Sync, G: Gate + Sync>(
+    rt: &T,
+    alloc: Global,
+    bytes: Vec<u8>,
+    sites: u8,
+    gate: &G,
+) -> Result<Vec<u8>, StudioError>
+    requires { IsSiteCount sites }
+    ensures ok { IfOk result (λ text. TellsSession sites bytes.items text.items) }
+    ensures err { IfErr result (RefusesPlaying sites bytes.items) }
+{
+    let scripts = read_scripts(alloc, bytes, sites)?;
+    match run_session(rt, alloc, scripts, gate) {
+        Ok(dones) => tell(alloc, dones.as_slice(), &dones[0].site),
+        Err(SessionError::Sites) => unreachable!(),
+        Err(SessionError::OutOfMemory) => Err(StudioError::Session(SessionError::OutOfMemory)),
+    }
+}
+
+/// The lines of all sites, and the FIG text of this one's history behind them.
+fn tell(alloc: Global, dones: &[Done], site: &Site) -> Result<Vec<u8>, StudioError>
+    ensures ok { IfOk result (λ text. TellsHistory site.now.ops dones.now text.items) }
+    ensures err { IfErr result (RefusesTelling site.now.ops) }
+{
+    let drawing = draw_site(alloc, site)?;
+    let Ok(fig) = fig_bytes(alloc, &drawing) else {
+        return Err(StudioError::OutOfMemory);
+    };
+    match told(alloc, dones, fig.as_slice()) {
+        Ok(text) => Ok(text),
+        Err(OutOfMemory) => Err(StudioError::OutOfMemory),
+    }
+}
+
+/// The lines of all sites, and these bytes behind them.
+fn told(alloc: Global, dones: &[Done], fig: &[u8]) -> Result<Vec<u8>, OutOfMemory>
+    ensures { IfOk result (λ text. text.items ≡ report_text dones.now ++ fig.now) }
+{
+    let mut text = Vec::new(alloc);
+    push_reports(&mut text, dones)?;
+    text.extend_from_slice(fig)?;
+    Ok(text)
+}

@@ -1,0 +1,94 @@
+//! The whole run over a session text.
+
+ghost use Rattle.std.specs.Prelude.{◌≡◌, ◌≢◌, ◌↔◌, ◌+◌, ◌≤◌, ◌⊎◌, Err, IfSome, IfOk, IfErr, OnOk, IsTrue};
+ghost use Rattle.gf_bytes.specs.Counts.{Rises};
+ghost use Rattle.gf_bytes.specs.Reads.{ConsumesAtMost};
+ghost use Rattle.gf_session.specs.declared.session.SessionError.{SessionError};
+ghost use Rattle.gf_studio.specs.RunAnswers.{ReadsFor};
+ghost use Rattle.gf_session_run.specs.SessionRun.{IsSiteCount, RefusesSession, TellsSession, WritesSession, WritesSessionFront};
+
+use crate::playing::play;
+use gf_bytes::{MOST_INPUT_BYTES, Sink, SinkFault, Source, write_whole};
+use gf_gate::Gate;
+use gf_session::SessionError;
+use gf_studio::{StudioError, input};
+use std::alloc::Global;
+use std::sync::Wait;
+use std::thread::Threads;
+
+/// Reads script lines to their end, runs the scripts of so many sites at the same time, and writes
+/// what became of the commands of each site and, behind that, the FIG text of the common history.
+/// It reads all before any script begins, and all have ended before the first write. Scripts that
+/// await each other in a circle may wait for ever.
+pub fn session_run<T: Threads + Wait + Sync, R: Source, W: Sink, G: Gate + Sync>(
+    rt: &T,
+    alloc: Global,
+    source: &mut R,
+    sink: &mut W,
+    sites: u8,
+    gate: &G,
+) -> Result<(), StudioError>
+    // What is written tells of a session of the scripts that the bytes denote, and shows the
+    // history that all its sites have.
+    ensures tells { OnOk result (IfSome (R.left source.old) (λ bytes.
+        WritesSession sites bytes (W.taken sink.old) (W.taken sink.new))) }
+    ensures flushed { OnOk result (IsTrue (W.flushed sink.new)) }
+
+    // Without so many sites nothing is read; else as of `fig_run`, with scripts in place of
+    // operations, and with the want of memory of a session told apart.
+    ensures sites { result ≡ Err (StudioError.Session SessionError.Sites) ↔
+        (¬ (IsSiteCount sites)) }
+    ensures source { ReadsFor MOST_INPUT_BYTES (R.left source.old) (R.left source.new)
+        (R.failures source.old) (R.failures source.new) result }
+    ensures refused { IfErr result (λ e. IfSome (R.left source.old) (λ bytes.
+        RefusesSession sites bytes e)) }
+
+    // A front of the text is written at most, and that only where the sink failed.
+    ensures front { result ≡ Err StudioError.WriteFailed → IfSome (R.left source.old) (λ bytes.
+        WritesSessionFront sites bytes (W.taken sink.old) (W.taken sink.new)) }
+    ensures failed { result ≡ Err StudioError.WriteFailed →
+        Rises (W.failures sink.old) (W.failures sink.new) }
+    ensures unwritten { IfErr result (λ e. (sink.new ≡ sink.old) ⊎ (e ≡ StudioError.WriteFailed)) }
+
+    ensures takes { ConsumesAtMost (MOST_INPUT_BYTES + 1) (R.left source.old) (R.left source.new) }
+    ensures reads { R.reads source.new ≤ R.reads source.old + (MOST_INPUT_BYTES + 1) }
+{
+    if !is_site_count(sites) {
+        return Err(StudioError::Session(SessionError::Sites));
+    }
+    let text = play_lines(rt, alloc, source, sites, gate)?;
+    match write_whole(sink, &text) {
+        Ok(()) => Ok(()),
+        Err(SinkFault) => Err(StudioError::WriteFailed),
+    }
+}
+
+fn is_site_count(sites: u8) -> bool
+    ensures { IsTrue result ↔ IsSiteCount sites }
+{
+    2 <= sites && sites <= 8
+}
+
+/// The text that tells of a session of the scripts that the lines of a source denote.
+fn play_lines<T: Threads + Wait + Sync, R: Source, G: Gate + Sync>(
+    rt: &T,
+    alloc: Global,
+    source: &mut R,
+    sites: u8,
+    gate: &G,
+) -> Result<Vec<u8>, StudioError>
+    requires { IsSiteCount sites }
+    ensures ok { IfOk result (λ text. IfSome (R.left source.old) (λ bytes.
+        TellsSession sites bytes text.items)) }
+    ensures source { ReadsFor MOST_INPUT_BYTES (R.left source.old) (R.left source.new)
+        (R.failures source.old) (R.failures source.new) result }
+    ensures refused { IfErr result (λ e. IfSome (R.left source.old) (λ bytes.
+        RefusesSession sites bytes e)) }
+    ensures no_write { IfErr result (λ e. e ≢ StudioError.WriteFailed) }
+    ensures no_sites { result ≢ Err (StudioError.Session SessionError.Sites) }
+    ensures takes { ConsumesAtMost (MOST_INPUT_BYTES + 1) (R.left source.old) (R.left source.new) }
+    ensures reads { R.reads source.new ≤ R.reads source.old + (MOST_INPUT_BYTES + 1) }
+{
+    let bytes = input(alloc, source)?;
+    play(rt, alloc, bytes, sites, gate)
+}

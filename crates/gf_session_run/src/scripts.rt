@@ -1,0 +1,100 @@
+//! From the lines of a session text to the scripts of its sites.
+
+ghost use Rattle.std.specs.Prelude.{◌≡◌, ◌<◌, ◌↔◌, [], length, IsTrue, IfOk, IfErr, OnOk};
+ghost use Rattle.gf_session_run.specs.DenotedScripts.{AreScriptsOf, DenotesScripts};
+ghost use Rattle.gf_session_run.specs.SessionSteps.{Gains, IsFull, RefusesCommand, RefusesScripts, TakesCommand, of_line};
+
+use gf_bytes::TextLines;
+use gf_json::{Command, LineError, ScriptLine, read_script};
+use gf_shape::OutOfMemory;
+use gf_studio::{LineCause, StudioError};
+use gf_worker::Script;
+use std::alloc::Global;
+
+/// The most commands of a script.
+const MOST_COMMANDS: usize = 1_000;
+
+/// The scripts of so many sites that the lines of a text denote, the first that of site 1.
+pub(crate) fn read_scripts(
+    alloc: Global,
+    text: Vec<u8>,
+    sites: u8,
+) -> Result<Vec<Script>, StudioError>
+    ensures ok { IfOk result (λ scripts. DenotesScripts sites text.items scripts.items) }
+    ensures err { IfErr result (RefusesScripts sites text.items) }
+{
+    let Ok(mut scripts) = empty_scripts(alloc, sites) else {
+        return Err(StudioError::OutOfMemory);
+    };
+    let mut lines = TextLines::new(text);
+    while let Some((number, line)) = lines.first() {
+        take_line(alloc, &mut scripts, number, line)?;
+        lines.advance();
+    }
+    Ok(scripts)
+}
+
+/// So many scripts without commands.
+fn empty_scripts(alloc: Global, sites: u8) -> Result<Vec<Script>, OutOfMemory>
+    ensures { IfOk result (λ scripts. AreScriptsOf sites [] scripts.items) }
+{
+    let mut scripts = Vec::new(alloc);
+    for _ in 0..sites {
+        scripts.push(Script(Vec::new(alloc)))?;
+    }
+    Ok(scripts)
+}
+
+/// Gives the command that a line denotes to the script of its site.
+fn take_line(
+    alloc: Global,
+    scripts: &mut [Script],
+    number: u64,
+    line: &[u8],
+) -> Result<(), StudioError>
+    ensures ok { OnOk result (TakesCommand line.now scripts.old scripts.new) }
+    ensures err { IfErr result (RefusesCommand number line.now scripts.old) }
+{
+    let ScriptLine { site, command } = match read_script(alloc, line) {
+        Ok(read) => read,
+        Err(fault) => return Err(line_refusal(number, fault)),
+    };
+    let place = usize::from(site) - 1;
+    if is_full(scripts, place) {
+        return Err(StudioError::Line(number, LineCause::Range));
+    }
+    match give(scripts, place, command) {
+        Ok(()) => Ok(()),
+        Err(OutOfMemory) => Err(StudioError::OutOfMemory),
+    }
+}
+
+/// Whether no command more fits at this place.
+fn is_full(scripts: &[Script], place: usize) -> bool
+    ensures { IsTrue result ↔ IsFull scripts.now place }
+{
+    match scripts.get(place) {
+        Some(script) => MOST_COMMANDS <= script.0.len(),
+        None => true,
+    }
+}
+
+/// Puts a command behind those of the script at this place.
+fn give(scripts: &mut [Script], place: usize, command: Command) -> Result<(), OutOfMemory>
+    requires { place < length scripts.old }
+    ensures { OnOk result (Gains scripts.old place command scripts.new) }
+{
+    scripts[place].0.push(command)?;
+    Ok(())
+}
+
+fn line_refusal(number: u64, fault: LineError) -> StudioError
+    ensures { result ≡ of_line number fault }
+{
+    match fault {
+        LineError::Json => StudioError::Line(number, LineCause::Json),
+        LineError::Field => StudioError::Line(number, LineCause::Field),
+        LineError::Range => StudioError::Line(number, LineCause::Range),
+        LineError::OutOfMemory => StudioError::OutOfMemory,
+    }
+}
