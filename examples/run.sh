@@ -2,6 +2,7 @@
 # Runs each example and compares its output with what is expected of it: the lines by figgroup, and
 # each FIG text by bench_fig, which reads it and writes what it read. Where there is a window, whose
 # words stand in the file of that name, the lines are painted in it and expected.fig is repainted.
+# Where there is a script, it is run as a session of as many sites as the file sites says.
 set -eu
 examples=$(cd "$(dirname "$0")" && pwd)
 root=$(dirname "$examples")
@@ -25,6 +26,10 @@ painted() {
 
 repainted() {
     "$root/figgroup" repaint $1 < "$2"
+}
+
+edited() {
+    "$root/figgroup" session --sites "$1" < "$2"
 }
 
 again() {
@@ -83,13 +88,16 @@ fi
 for example in "$examples"/*/; do
     example=${example%/}
     set -- "$example"/*.jsonl
-    if [ -e "$1" ]; then
+    if [ -e "$example/script.jsonl" ]; then
+        compare "$(basename "$example")" "$example/expected.txt" edited "$(cat "$example/sites")" "$example/script.jsonl"
+    elif [ -e "$1" ]; then
         compare_lines "$@"
         if [ -e "$example/window" ]; then
             compare_pictures "$@"
         fi
     fi
     for text in "$example"/*.fig; do
+        [ -e "$text" ] || continue
         compare "$(basename "$example"), $(basename "$text") again" "$example/expected.fig" again "$text"
     done
 done
