@@ -2,13 +2,15 @@
 # Runs each example and compares its output with what is expected of it: the lines by figgroup, and
 # each FIG text by bench_fig, which reads it and writes what it read. Where there is a window, whose
 # words stand in the file of that name, the lines are painted in it and expected.fig is repainted.
-# Where there is a script, it is run as a session of as many sites as the file sites says.
+# Where there is a script, it is run as a session of as many sites as the file sites says. Each picture
+# that the file pictures names, with its lines and its window, is painted anew and compared.
 set -eu
 examples=$(cd "$(dirname "$0")" && pwd)
 root=$(dirname "$examples")
 reader=$root/crates/bench_fig/out/bench_fig
 output=$(mktemp)
-trap 'rm -f "$output"' EXIT
+pixels=$(mktemp)
+trap 'rm -f "$output" "$pixels"' EXIT
 
 passed=0
 failed=0
@@ -34,6 +36,11 @@ edited() {
 
 again() {
     "$reader" again < "$1"
+}
+
+# The picture of what a session comes to: its text without the report.
+edited_picture() {
+    edited "$1" "$3" | grep -v '^site ' | "$root/figgroup" repaint $2
 }
 
 # Compares what the words behind the first two put out with what is expected of it.
@@ -70,6 +77,19 @@ compare_pictures() {
     compare "$(basename "$example"), repainted" "$example/expected.ppm" repainted "$window" "$example/expected.fig"
 }
 
+# Each picture of the file pictures, a line of its name, a pattern of the names of its files, and its window.
+compare_pngs() {
+    while read -r picture files window; do
+        python3 "$examples/pixels.py" "$example/$picture" > "$pixels"
+        set -- "$example"/$files
+        if [ -e "$example/sites" ]; then
+            compare "$(basename "$example"), $picture" "$pixels" edited_picture "$(cat "$example/sites")" "$window" "$1"
+        else
+            compare "$(basename "$example"), $picture" "$pixels" painted "$window" "$@"
+        fi
+    done < "$example/pictures"
+}
+
 is_current() {
     [ -x "$reader" ] || return 1
     newer=$(find "$root/crates.txt" "$root/crates" -name out -prune -o -type f -newer "$reader" -print | head -n 1)
@@ -95,6 +115,9 @@ for example in "$examples"/*/; do
         if [ -e "$example/window" ]; then
             compare_pictures "$@"
         fi
+    fi
+    if [ -e "$example/pictures" ]; then
+        compare_pngs
     fi
     for text in "$example"/*.fig; do
         [ -e "$text" ] || continue
