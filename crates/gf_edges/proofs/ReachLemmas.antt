@@ -18,6 +18,7 @@ use Rattle.gf_shape.specs.Edges.{side, is_between, is_on_edge, is_on_line, cross
 use Rattle.gf_shape.specs.Laws.Sides.{side-right_up, side-right_down, side-left_up, side-left_down}
 use Rattle.gf_shape.specs.RowParts.{contacts_of, crossing, crossings_of, passes}
 use Rattle.gf_shape.proofs.RowEdges.{at, passing, touching}
+use Rattle.gf_shape.proofs.BoundsLemmas.{is_between-before, is_between-past, not_lt}
 use Rattle.gf_edges.specs.declared.edge.Edge.{Edge}
 use Rattle.gf_edges.specs.Reaching.{IsAcross}
 use Rattle.gf_edges.specs.Telling.{TellsRow, contacts_at, crossings_at}
@@ -27,14 +28,6 @@ record Misses (before : Bool) (x : ℤ) (ks : List Crossing) (ss : List Span) : 
   at : list_any (is_at x) ks ≡ false
   in_it : list_any (is_in_span x) ss ≡ false
   count : count_by (is_before x) ks ≡ cond before (length ks) 0
-
-not_between-before : (a m b : ℤ) → m <ℤ a → m <ℤ b → is_between a m b ≡ false
-unfolding is_between
-not_between-before a m b p q = grind (arith, ints)
-
-not_between-past : (a m b : ℤ) → a <ℤ m → b <ℤ m → is_between a m b ≡ false
-unfolding is_between
-not_between-past a m b p q = grind (arith, ints)
 
 off_edge : (x y : ℤ) (a b : Point) → is_between a.x x b.x ≡ false → is_on_edge (at x y) (a, b) ≡ false
 off_edge x y a b e = rw e (none (is_on_line (at x y) (a, b)) (is_between a.y y b.y))
@@ -79,15 +72,12 @@ either false true s t e f g = g refl refl
 lt_yes : (m n : ℤ) → m <ℤ n → int_lt m n ≡ true
 lt_yes m n l = grind (arith, ints)
 
-lt_no : (m n : ℤ) → n <ℤ m → int_lt m n ≡ false
-lt_no m n l = grind (arith, ints)
-
 left_of : (x y : ℤ) (a b : Point) → x <ℤ a.x → x <ℤ b.x → crosses_left (at x y) (a, b) ≡ false
 left_of x y a b p q =
     let d = at x y in
     neither (int_le a.y y) (int_le b.y y) (int_lt (side (a, b) d) (pos 0)) (int_lt (pos 0) (side (a, b) d))
-    (λ h l. lt_no (side (a, b) d) (pos 0) (side-left_up a b d p q (omega (arith, ints)) (omega (arith, ints))))
-    (λ h l. lt_no (pos 0) (side (a, b) d) (side-left_down a b d p q (omega (arith, ints)) (omega (arith, ints))))
+    (λ h l. not_lt (side (a, b) d) (pos 0) (side-left_up a b d p q (omega (arith, ints)) (omega (arith, ints))))
+    (λ h l. not_lt (pos 0) (side (a, b) d) (side-left_down a b d p q (omega (arith, ints)) (omega (arith, ints))))
 
 right_of : (x y : ℤ) (a b : Point) → a.x <ℤ x → b.x <ℤ x → passes y (a, b) ≡ true → crosses_left (at x y) (a, b) ≡ true
 right_of x y a b p q e =
@@ -136,10 +126,10 @@ within_reach s es h holds x y tells held =
     by_lt_z x s.first (λ l. outside false left l) (λ from. by_lt_z s.last x (λ l. outside true right l) (λ upto. both from upto))
   where
     left : x <ℤ s.first → (e : Edge) → IsAcross s e → Misses false x (crossings_of y (e.from, e.to)) (contacts_of y (e.from, e.to))
-    left l e h = missed false x y e.from e.to (not_between-before e.from.x x e.to.x (omega (arith, ints)) (omega (arith, ints))) (λ p. left_of x y e.from e.to (omega (arith, ints)) (omega (arith, ints)))
+    left l e h = missed false x y e.from e.to (is_between-before e.from.x x e.to.x (omega (arith, ints)) (omega (arith, ints))) (λ p. left_of x y e.from e.to (omega (arith, ints)) (omega (arith, ints)))
 
     right : s.last <ℤ x → (e : Edge) → IsAcross s e → Misses true x (crossings_of y (e.from, e.to)) (contacts_of y (e.from, e.to))
-    right l e h = missed true x y e.from e.to (not_between-past e.from.x x e.to.x (omega (arith, ints)) (omega (arith, ints))) (λ p. right_of x y e.from e.to (omega (arith, ints)) (omega (arith, ints)) p)
+    right l e h = missed true x y e.from e.to (is_between-past e.from.x x e.to.x (omega (arith, ints)) (omega (arith, ints))) (λ p. right_of x y e.from e.to (omega (arith, ints)) (omega (arith, ints)) p)
 
     outside : {C : Type 0} (before : Bool) → (C → (e : Edge) → IsAcross s e → Misses before x (crossings_of y (e.from, e.to)) (contacts_of y (e.from, e.to))) → C → is_in_span x s ≡ true
     outside before one l = absurd (true_not_false (sym held ∙ (sym (tells.exact x) ∙ not_enclosed before x (crossings_at y es) (contacts_at y es) (all_missed before x y (IsAcross s) (one l) es h) tells.even)))

@@ -2,7 +2,7 @@
 use Rattle.std.proofs.Common.{◌≡◌, ◌≢◌, ◌≤◌, ℕ, zero, suc, add-one, ◌+◌, ◌<◌, Bool, true, false, List, [], ◌∷◌, length, length-append, take, drop, Some, None, refl, sym, ap, ◌∙◌, cond, ltb, arith, inl, inr}
 use Rattle.std.specs.Prelude.{not, filter}
 use Rattle.std.proofs.lemmas.Bool.{cases_Bool, ltb-false}
-use Rattle.std.proofs.lemmas.List.{length-drop}
+use Rattle.std.proofs.lemmas.List.{nil_from_length, length-drop}
 use Rattle.std.proofs.lemmas.List.Sums.{prefix_len-le-length}
 use Rattle.std.proofs.lemmas.Iterator.Adapters.{position_from-zero}
 use Rattle.std.specs.List.{slice_split, onto_first, position_from, position_or_len}
@@ -86,12 +86,8 @@ done (b ∷ bs) e = elim (cases_Bool (is_blank b)) [
   | inr t ↦ let after : after_blanks (b ∷ bs) ≡ b ∷ bs = rw t refl in let none : b ∷ bs ≡ [] = sym after ∙ e in absurd (cc)
 ]
 
-no_length : {X : Type 0} (xs : List X) → length xs ≡ 0 → xs ≡ []
-no_length [] e = refl
-no_length (x ∷ xs) e = absurd (omega (arith, e))
-
 pub words_done : (line : List ℕ) → length (after_blanks line) ≡ 0 → words line ≡ []
-words_done line e = done line (no_length (after_blanks line) e)
+words_done line e = done line (nil_from_length (after_blanks line) e)
 
 -- ---- lines that are left
 

@@ -24,7 +24,7 @@ contained_back (x ∷ xs) a h = elim (Contains-push_cases (reverse xs) x a (subs
   | inr e ↦ subst (Contains (x ∷ xs)) e (Contains-cons_head x xs)
 ]
 
-found_in : {X : Type 0} (p : X → Bool) (xs : List X) (a : X) → find p xs ≡ Some a → Contains xs a × (p a ≡ true)
+pub found_in : {X : Type 0} (p : X → Bool) (xs : List X) (a : X) → find p xs ≡ Some a → Contains xs a × (p a ≡ true)
 found_in p [] a f = absurd cc
 found_in p (x ∷ xs) a f = elim (cases_Bool (p x)) [
   | inl y ↦

@@ -1,4 +1,3 @@
-pub mod PlaceLemmas
 pub mod MeshLemmas
 pub mod PlacedLemmas
 pub mod ExchangeLemmas

@@ -2,8 +2,8 @@
 use Rattle.std.proofs.Common.{◌≡◌, List, [], ◌∷◌, ◌++◌, length, set, refl, sym, subst}
 use Rattle.std.specs.Prelude.{Some, slice_get}
 use Rattle.atomic_table.specs.Seated.{TableId}
+use Rattle.gf_ops.proofs.PlaceLemmas.{got_set_same, set_back, not_snoc, snoc_same}
 use Rattle.gf_mesh.specs.Mesh.{IsMesh, none, meet, next}
-use Rattle.gf_mesh.proofs.PlaceLemmas.{got_set_same, set_back, not_snoc, snoc_same}
 
 -- the mesh before the last two sites met
 pub record Parted {X : Type 0} (R : List TableId → List TableId → X → X → Type 0) (more : List TableId) (rows : List (List X)) (row : List X) (y : X) : Type 0 where

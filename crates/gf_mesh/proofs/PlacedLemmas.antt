@@ -7,11 +7,11 @@ use Rattle.std.proofs.lemmas.Option.{slice_get-map}
 use Rattle.atomic_table.specs.Seated.{TableId}
 use Rattle.gf_link.specs.Ends.{is_ended}
 use Rattle.gf_ops.proofs.ListLemmas.{not_Contains-nil}
+use Rattle.gf_ops.proofs.PlaceLemmas.{got_set_same, set_back, got_more, got_last, place_in, map_nil, map_ends}
 use Rattle.gf_worker.specs.declared.peer.Peer.{Peer}
 use Rattle.gf_worker.specs.Peers.{IsPlaced, IsFresh, Seat, seat_of}
 use Rattle.gf_worker.proofs.PeerLemmas.{set_cases}
 use Rattle.gf_mesh.specs.Mesh.{IsMesh, none, meet, next, Connects, IsLinked}
-use Rattle.gf_mesh.proofs.PlaceLemmas.{got_set_same, set_back, got_more, got_last, place_in, map_nil, map_ends}
 
 -- Q holds of each element of these rows and this row
 pub record AreAll {X : Type 0} (Q : X → Type 0) (rows : List (List X)) (row : List X) : Type 0 where

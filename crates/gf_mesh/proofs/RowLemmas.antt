@@ -2,14 +2,14 @@
 use Rattle.std.proofs.Common.{◌≡◌, ℕ, ◌+◌, ◌<◌, List, [], ◌∷◌, ◌++◌, length, length-append, get_or, set, take, drop, vec_len, refl, sym, ap, subst, ◌∙◌, arith}
 use Rattle.std.specs.Prelude.{Some, option_map, slice_get, IsTrue}
 use Rattle.std.specs.Global.{Vec}
-use Rattle.std.proofs.lemmas.List.{with_items_is, length-map, map-append, map-set}
+use Rattle.std.proofs.lemmas.List.{nil_from_length, with_items_is, length-map, map-append, map-set}
 use Rattle.std.proofs.lemmas.Option.{slice_get_within, slice_get_read, slice_get-map}
 use Rattle.atomic_table.specs.Seated.{TableId}
+use Rattle.gf_ops.proofs.PlaceLemmas.{got_set_same, set_back, snoc_same, one_value}
 use Rattle.gf_link.specs.Ends.{is_ended}
 use Rattle.gf_worker.specs.declared.peer.Peer.{Peer}
 use Rattle.gf_mesh.specs.Mesh.{IsMesh, none, meet, next, rows_of, Connects, IsLinked}
 use Rattle.gf_mesh.specs.Settled.{HaveExchanged, Exchanged, AreSettled}
-use Rattle.gf_mesh.proofs.PlaceLemmas.{got_set_same, set_back, snoc_same, one_value}
 use Rattle.gf_mesh.proofs.MeshLemmas.{Parted, open_mesh, no_mesh}
 use Rattle.gf_mesh.proofs.ExchangeLemmas.{settled_mesh}
 
@@ -18,12 +18,8 @@ not_empty v ws w n e =
     let l : vec_len v ≡ length v.items = v.ok.0 in
     let m : length v.items ≡ length ws + 1 = ap length e ∙ length-append ws (w ∷ []) in absurd (omega (arith, l, m, n))
 
-none_in : {X : Type 0} (xs : List X) → length xs ≡ 0 → xs ≡ []
-none_in [] e = refl
-none_in (x ∷ xs) e = absurd (omega (arith, e))
-
 pub empty_from : {X : Type 0} (v : Vec X) → vec_len v ≡ 0 → v.items ≡ []
-empty_from v n = none_in v.items (sym v.ok.0 ∙ n)
+empty_from v n = nil_from_length v.items (sym v.ok.0 ∙ n)
 
 long_more : {X : Type 0} (v w : Vec X) (x : X) (k : ℕ) → w.items ≡ v.items ++ x ∷ [] → vec_len v ≡ k → vec_len w ≡ k + 1
 long_more v w x k e l =

@@ -1,4 +1,5 @@
 pub mod ListLemmas
+pub mod PlaceLemmas
 pub mod SameLemmas
 pub mod ValidityLemmas
 pub mod HistoryLemmas

@@ -1,5 +1,5 @@
--- What stands at the places of a list, after one element was replaced or put behind the others.
-use Rattle.std.proofs.Common.{◌≡◌, ◌≢◌, ℕ, zero, suc, List, [], ◌∷◌, ◌++◌, length, map, set, inl, inr, refl, sym, ap, ◌∙◌, arith}
+-- What stands at the places of a list, after one element was replaced or put behind the others. The crates above cite them.
+use Rattle.std.proofs.Common.{◌≡◌, ◌≢◌, ℕ, zero, suc, List, [], ◌∷◌, ◌++◌, ◌<◌, length, map, set, inl, inr, refl, sym, ap, ◌∙◌, arith}
 use Rattle.std.specs.Prelude.{◌⊎◌, Some, slice_get, Contains}
 use Rattle.std.proofs.lemmas.Option.{slice_get_within, get_or_from_slice_get, slice_get-get_or}
 
@@ -34,6 +34,16 @@ set_back [] k y x e = absurd cc
 set_back (z ∷ zs) zero y x e = let q : z ≡ x = cc in ap (λ w. w ∷ zs) (sym q)
 set_back (z ∷ zs) (suc k) y x e = ap (λ l. z ∷ l) (set_back zs k y x e)
 
+pub set_set : {X : Type 0} (xs : List X) (k : ℕ) (x y : X) → set (set xs k x) k y ≡ set xs k y
+set_set [] k x y = refl
+set_set (z ∷ zs) zero x y = refl
+set_set (z ∷ zs) (suc k) x y = ap (λ l. z ∷ l) (set_set zs k x y)
+
+pub set_itself : {X : Type 0} (xs : List X) (k : ℕ) (x : X) → slice_get xs k ≡ Some x → set xs k x ≡ xs
+set_itself [] k x e = refl
+set_itself (y ∷ ys) zero x e = let q : x ≡ y = cc in ap (λ z. z ∷ ys) q
+set_itself (y ∷ ys) (suc k) x e = ap (λ zs. y ∷ zs) (set_itself ys k x e)
+
 pub got_push : {X : Type 0} (xs : List X) (y : X) (i : ℕ) (x : X) → slice_get (xs ++ y ∷ []) i ≡ Some x → (slice_get xs i ≡ Some x) ⊎ ((i ≡ length xs) × (x ≡ y))
 got_push [] y zero x e = inr (refl, let q : x ≡ y = cc in q)
 got_push [] y (suc i) x e = absurd cc
@@ -64,6 +74,11 @@ snoc_same (a ∷ xs) (b ∷ ys) x y e =
     let h : a ≡ b = cc in
     let t : xs ++ x ∷ [] ≡ ys ++ y ∷ [] = cc in
     let i = snoc_same xs ys x y t in (λ j. h j ∷ i.0 j, i.1)
+
+pub there_is : {X : Type 0} (xs : List X) (k : ℕ) → k < length xs → (x : X) × (slice_get xs k ≡ Some x)
+there_is [] k l = absurd (omega (arith, l))
+there_is (x ∷ xs) zero l = (x, refl)
+there_is (x ∷ xs) (suc k) l = there_is xs k (omega (arith, l))
 
 pub place_in : {X : Type 0} (xs : List X) (k : ℕ) (x : X) → slice_get xs k ≡ Some x → Contains xs x
 place_in xs k x e = (k, slice_get_within xs k x e, get_or_from_slice_get xs k x x e)

@@ -16,7 +16,6 @@ use Rattle.gf_worker.specs.Messages.{own, told, ops_of, last_message}
 use Rattle.gf_worker.specs.Played.{IsPlayed}
 use Rattle.gf_worker.specs.Ending.{HasSent, HasWorked}
 use Rattle.gf_mesh.specs.Settled.{AreSettled}
-use Rattle.gf_mesh.proofs.PlaceLemmas.{one_value, place_in, place_of as place_at}
 use Rattle.gf_mesh.proofs.PlacedLemmas.{got_map}
 use Rattle.gf_session.specs.declared.starting.Start.{Start}
 use Rattle.gf_session.specs.Outcome.{Place, IsSiteOutcome}
@@ -25,6 +24,7 @@ use Rattle.gf_session.specs.Starting.{AreStarts, Gave, GaveAll}
 use Rattle.gf_session.specs.Session.{IsSession, done_of, place_of, places}
 use Rattle.gf_site.specs.Course.{IsCourse}
 use Rattle.gf_ops.proofs.ListLemmas.{Contains-map_from}
+use Rattle.gf_ops.proofs.PlaceLemmas.{one_value, place_in, place_of as place_at}
 use Rattle.gf_world.specs.Courses.{AreCourses, HaveEvents}
 use Rattle.gf_world.proofs.EventLemmas.{courses_have_events}
 use Rattle.gf_session.proofs.JoinedLemmas.{one_history, origin}

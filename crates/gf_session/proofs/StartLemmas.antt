@@ -2,10 +2,11 @@
 use Rattle.std.proofs.Common.{◌≡◌, ◌+◌, ◌≤◌, ℕ, false, List, [], ◌∷◌, ◌++◌, map, length, length-append, vec_len, inl, inr, refl, sym, ap, subst, ◌∙◌, arith}
 use Rattle.std.specs.Prelude.{◌⊎◌, Contains, All, Some, slice_get}
 use Rattle.std.specs.List.{list_any}
-use Rattle.std.proofs.lemmas.List.{append_assoc, append-nil, length-map, map-append}
+use Rattle.std.proofs.lemmas.List.{nil_from_length, append_assoc, append-nil, length-map, map-append}
 use Rattle.std.proofs.lemmas.List.Elements.{All-contains}
 use Rattle.atomic_table.specs.Seated.{TableId}
 use Rattle.gf_ops.proofs.ListLemmas.{Contains-map, Contains-map_from}
+use Rattle.gf_ops.proofs.PlaceLemmas.{got_push, place_of}
 use Rattle.gf_site.specs.SiteState.{SiteState, new_site}
 use Rattle.gf_worker.specs.declared.script.Script.{Script}
 use Rattle.gf_worker.specs.declared.peer.Peer.{Peer}
@@ -13,7 +14,6 @@ use Rattle.gf_worker.specs.declared.worker.WorkerEnd.{WorkerEnd}
 use Rattle.gf_worker.specs.Peers.{IsPlaced, IsFresh, seat_of}
 use Rattle.gf_worker.proofs.TellLemmas.{all_from}
 use Rattle.gf_mesh.specs.Mesh.{IsMesh, Connects, IsLinked}
-use Rattle.gf_mesh.proofs.PlaceLemmas.{got_push, place_of}
 use Rattle.gf_mesh.proofs.PlacedLemmas.{mesh_new, linked_again}
 use Rattle.gf_session.specs.declared.starting.Start.{Start}
 use Rattle.gf_session.specs.Starting.{AreStarts, IsReady, GaveAll}
@@ -66,10 +66,6 @@ push_site starts new s e is h k t q = elim (got_push starts s k t (subst (λ l. 
 pub one_less : {X : Type 0} (x : X) (now next : List X) (n m : ℕ) → now ≡ x ∷ next → m + 1 ≡ n → n ≡ length now → m ≡ length next
 one_less x now next n m e k l = let a : length now ≡ length (x ∷ next) = ap length e in let b : length (x ∷ next) ≡ length next + 1 = omega arith in omega (arith, a, b, k, l)
 
-nothing_left : {X : Type 0} (xs : List X) → length xs ≡ 0 → xs ≡ []
-nothing_left [] e = refl
-nothing_left (x ∷ xs) e = absurd (omega (arith, e))
-
 pub all_started : (starts : List Start) (scripts : List Script) (rows : List (List Peer)) (ss : List Script) (rs : List (List Peer)) → ((k : ℕ) (t : Start) → slice_get starts k ≡ Some t → t.site ≡ new_site (k + 1))
     → map (λ s. s.script) starts ++ ss ≡ scripts → map (λ s. s.peers.items) starts ++ rs ≡ rows → length rows ≡ length scripts → (length ss ≡ 0) ⊎ (length rs ≡ 0) → AreStarts scripts rows starts
 all_started starts scripts rows ss rs h e f l o =
@@ -77,6 +73,6 @@ all_started starts scripts rows ss rs h e f l o =
     let b : length rows ≡ length starts + length rs = ap length (sym f) ∙ length-append (map (λ (s : Start). s.peers.items) starts) rs ∙ ap (λ n. n + length rs) (length-map starts (λ (s : Start). s.peers.items)) in
     let both : (length ss ≡ 0) × (length rs ≡ 0) = elim o [ inl p ↦ (p, omega (arith, a, b, l, p)) | inr p ↦ (omega (arith, a, b, l, p), p) ] in record {
       sites_are = h;
-      scripts_are = sym (append-nil (map (λ (s : Start). s.script) starts)) ∙ ap (λ x. map (λ (s : Start). s.script) starts ++ x) (sym (nothing_left ss both.0)) ∙ e;
-      rows_are = sym (append-nil (map (λ (s : Start). s.peers.items) starts)) ∙ ap (λ x. map (λ (s : Start). s.peers.items) starts ++ x) (sym (nothing_left rs both.1)) ∙ f;
+      scripts_are = sym (append-nil (map (λ (s : Start). s.script) starts)) ∙ ap (λ x. map (λ (s : Start). s.script) starts ++ x) (sym (nil_from_length ss both.0)) ∙ e;
+      rows_are = sym (append-nil (map (λ (s : Start). s.peers.items) starts)) ∙ ap (λ x. map (λ (s : Start). s.peers.items) starts ++ x) (sym (nil_from_length rs both.1)) ∙ f;
     }

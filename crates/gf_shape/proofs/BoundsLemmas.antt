@@ -16,7 +16,7 @@ use Rattle.gf_shape.specs.Laws.Sides.{is_on_line-from, side-right_up, side-right
 use Rattle.gf_shape.specs.Laws.Moved.{gap_same}
 use Rattle.gf_shape.specs.Laws.Parity.{crosses, polygon_holds_as_chain}
 
-not_lt : (a b : ℤ) → b <ℤ a → int_lt a b ≡ false
+pub not_lt : (a b : ℤ) → b <ℤ a → int_lt a b ≡ false
 not_lt a b h = grind (arith, ints)
 
 crosses_none : (low high strict back : Bool) → (low ≡ true → high ≡ false → strict ≡ false) → (high ≡ true → low ≡ false → back ≡ false) → crosses low high strict back ≡ false
@@ -45,11 +45,11 @@ crosses_right-below : (d a b : Point) → a.y <ℤ d.y → b.y <ℤ d.y → cros
 crosses_right-below d a b p q =
     crosses_none (int_le a.y d.y) (int_le b.y d.y) (int_lt (pos 0) (side (a, b) d)) (int_lt (side (a, b) d) (pos 0)) (λ h l. absurd (omega (arith, ints))) (λ h l. absurd (omega (arith, ints)))
 
-is_between-before : (a m b : ℤ) → m <ℤ a → m <ℤ b → is_between a m b ≡ false
+pub is_between-before : (a m b : ℤ) → m <ℤ a → m <ℤ b → is_between a m b ≡ false
 unfolding is_between
 is_between-before a m b p q = grind (arith, ints)
 
-is_between-past : (a m b : ℤ) → a <ℤ m → b <ℤ m → is_between a m b ≡ false
+pub is_between-past : (a m b : ℤ) → a <ℤ m → b <ℤ m → is_between a m b ≡ false
 unfolding is_between
 is_between-past a m b p q = grind (arith, ints)
 

@@ -37,10 +37,10 @@ at_by_height : (x run rise height z : ℤ) → pos 0 <ℤ height → is_at z (pl
 at_by_height x run rise (pos h) z p = place_at x run rise h z (omega (arith, ints))
 at_by_height x run rise (negsuc h) z p = absurd (omega (arith, ints))
 
-le_yes : (m n : ℤ) → m ≤ℤ n → int_le m n ≡ true
+pub le_yes : (m n : ℤ) → m ≤ℤ n → int_le m n ≡ true
 le_yes m n h = grind (arith, ints)
 
-le_no : (m n : ℤ) → n <ℤ m → int_le m n ≡ false
+pub le_no : (m n : ℤ) → n <ℤ m → int_le m n ≡ false
 le_no m n h = grind (arith, ints)
 
 less_zero : (m n : ℤ) → int_lt (m -ℤ n) (pos 0) ≡ int_lt m n

@@ -15,12 +15,7 @@ use Rattle.gf_shape.specs.RowParts.{end_of}
 use Rattle.gf_shape.specs.Rows.{IsRow}
 use Rattle.gf_shape.specs.ShapeMeaning.{polygon_holds, rect_holds, round_holds}
 use Rattle.gf_shape.proofs.RingLemmas.{chain_holds-closed}
-
-le_yes : (m n : ℤ) → m ≤ℤ n → int_le m n ≡ true
-le_yes m n h = grind (arith, ints)
-
-le_no : (m n : ℤ) → n <ℤ m → int_le m n ≡ false
-le_no m n h = grind (arith, ints)
+use Rattle.gf_shape.proofs.RowEdges.{le_yes, le_no}
 
 and_true : (b : Bool) → ((b && true) && true) ≡ b
 and_true true = refl

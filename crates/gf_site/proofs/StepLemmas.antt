@@ -90,7 +90,7 @@ pub table_more : (h old new : List Op) (a : Op) (t : List (ObjectId × ObjectSta
 table_more h old new a t e n s = subst (λ l. StandsFor l t) (sym (n ∙ ap (λ l. l ++ a ∷ []) e)) s
 
 -- an accepted change makes an object, or changes one that its operation knows
-founded : (h : List Op) (a : Op) (c : Change) → IsSuited h a c → IsFounded h a c
+pub founded : (h : List Op) (a : Op) (c : Change) → IsSuited h a c → IsFounded h a c
 founded h a (Create start) s = tt
 founded h a (Set o v) s = record { kind = s.kind; known = s.known }
 

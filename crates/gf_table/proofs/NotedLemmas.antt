@@ -22,6 +22,7 @@ use Rattle.gf_ops.proofs.SameLemmas.{value_eq-same, value_eq-true}
 use Rattle.gf_groups.specs.GroupedPlaces.{is_on}
 use Rattle.gf_groups.proofs.ListLemmas.{Contains-filter}
 use Rattle.gf_groups.proofs.OnPlaceLemmas.{contained_at, on_op}
+use Rattle.gf_groups.proofs.ExposedLemmas.{found_in}
 use Rattle.gf_table.specs.declared.tails.Tail.{Tail}
 use Rattle.gf_table.specs.Standing.{IsSetter, HasSetter, IsOvertaken, IsTold, AreTails}
 use Rattle.gf_table.specs.Tails.{attr_eq, is_of, op_gives, other_than, new_tail, noted}
@@ -31,14 +32,6 @@ use Rattle.gf_table.proofs.NextLemmas.{earlier}
 use Rattle.gf_table.proofs.QuickLemmas.{attr_same, of_told, one_op}
 
 -- ---- what is found
-
-found_told : {X : Type 0} (p : X → Bool) (xs : List X) (x : X) → find p xs ≡ Some x → Contains xs x × (p x ≡ true)
-found_told p [] x e = absurd cc
-found_told p (y ∷ xs) x e = elim (cases_Bool (p y)) [
-  | inl t ↦ let q : y ≡ x = ap (λ o. unwrap_or o y) (sym (cond-true (p y) (Some y) (find p xs) t) ∙ e) in
-      (subst (Contains (y ∷ xs)) q (Contains-cons_head y xs), subst (λ z. p z ≡ true) q t)
-  | inr f ↦ let w = found_told p xs x (sym (cond-false (p y) (Some y) (find p xs) f) ∙ e) in (Contains-cons_tail y xs x w.0, w.1)
-]
 
 -- where one passes, one is found
 found_one : {X : Type 0} (p : X → Bool) (xs : List X) (x : X) → Contains xs x → p x ≡ true → (y : X) × (find p xs ≡ Some y)
@@ -86,7 +79,7 @@ module _ (h : List Op) (valid : IsValid h) (a : Op) (in_range : IsInRange a) (ac
   -- the tail that the last one replaces
   module _ (f : Tail) (found : find own es ≡ Some f) where
     told_of : Contains es f × (own f ≡ true)
-    told_of = found_told own es f found
+    told_of = found_in own es f found
 
     other_found : last.other ≡ cond (op_gives (slice_get new f.last) v) f.other (Some f.last)
     other_found = ap (other_than new v) found
@@ -94,7 +87,7 @@ module _ (h : List Op) (valid : IsValid h) (a : Op) (in_range : IsInRange a) (ac
   other_within : (r : Option Tail) → find own es ≡ r → (k : ℕ) → other_than new v r ≡ Some k → Contains us k
   other_within None e k x = absurd cc
   other_within (Some f) e k x =
-      let w = found_told own es f e in
+      let w = found_in own es f e in
       elim (cases_Bool (op_gives (slice_get new f.last) v)) [
         | inl y ↦ tails.other f w.0 k (sym (cond-true (op_gives (slice_get new f.last) v) f.other (Some f.last) y) ∙ x)
         | inr n ↦ subst (Contains us) (ap (λ r. unwrap_or r f.last) (sym (cond-false (op_gives (slice_get new f.last) v) f.other (Some f.last) n) ∙ x)) (tails.last f w.0)

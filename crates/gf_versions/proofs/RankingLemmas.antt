@@ -29,6 +29,7 @@ use Rattle.gf_versions.specs.KeyOrder.{key_cmp_total}
 use Rattle.gf_versions.proofs.KeyLemmas.{key_cmp_exact}
 use Rattle.gf_ops.proofs.ListLemmas.{Contains-map, Contains-map_from, not_Contains-nil}
 use Rattle.gf_groups.proofs.ListLemmas.{Contains-filter}
+use Rattle.gf_groups.proofs.SortedLemmas.{equal_left}
 
 pub falls_by_order : {S : Type 0} → IsStrictWeakOrder (falls_by {S = S})
 falls_by_order {S} = IsStrictWeakOrder-flip _ (ranks_by key_cmp_total (λ (i : Placed S). i.key))
@@ -48,11 +49,6 @@ greater_left : (o : Ordering) → is_lt o ≡ false → is_eq o ≡ false → o 
 greater_left Less e f = absurd cc
 greater_left Equal e f = absurd cc
 greater_left Greater e f = refl
-
-equal_left : (o : Ordering) → is_eq o ≡ true → o ≡ Equal
-equal_left Less e = absurd cc
-equal_left Equal e = refl
-equal_left Greater e = absurd cc
 
 -- what is sorted and has each key once falls
 falling_from_sorted : (items : List (Placed AnyShape)) → IsSortedBy falls_by items → IsDistinct same_key items → AllPairs (λ i j. IsAbove i.key j.key) items

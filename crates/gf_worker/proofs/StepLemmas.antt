@@ -22,6 +22,7 @@ use Rattle.gf_site.specs.Course.{next}
 use Rattle.gf_site.specs.declared.site.Step.{Step}
 use Rattle.gf_site.specs.declared.site.Step.TheVariants as step
 use Rattle.gf_site.proofs.CourseLemmas.{all_ready}
+use Rattle.gf_site.proofs.StepLemmas.{founded}
 use Rattle.gf_json.specs.declared.script_line.Command.{Command}
 use Rattle.gf_worker.specs.declared.work.Work.{Work}
 use Rattle.gf_worker.specs.Coming.{HasCome}
@@ -78,10 +79,6 @@ module _ (old : Work) (a : Op) (held : List Op) (site : IsSite old.site.number) 
   }
 
 -- ---- an operation is forgotten
-
-founded : (h : List Op) (a : Op) (c : Change) → IsSuited h a c → IsFounded h a c
-founded h a (Create start) s = tt
-founded h a (Set o v) s = record { kind = s.kind; known = s.known }
 
 not_accepted : (h : List Op) (a : Op) (f : OpFault) → IsRefused h a f → ¬ (IsAccepted h a)
 not_accepted h a BadClock r c = r c.next

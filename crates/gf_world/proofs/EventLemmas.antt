@@ -13,6 +13,7 @@ use Rattle.gf_ops.specs.ValidHistory.{IsValid}
 use Rattle.gf_ops.proofs.HistoryLemmas.{site_in_range, seq_in_range}
 use Rattle.gf_ops.proofs.ListLemmas.{not_Contains-nil, Contains-cons_cases, Contains-cons_head, Contains-cons_tail}
 use Rattle.gf_ops.proofs.ValidityLemmas.{same_op}
+use Rattle.gf_ops.proofs.PlaceLemmas.{got_set, got_set_same, set_set, set_itself, one_value, there_is, place_in, place_of}
 use Rattle.gf_causal.specs.DeliveredPart.{AreReady}
 use Rattle.gf_causal.proofs.CourseLemmas.{has_counted, number_counted, same_id}
 use Rattle.gf_causal.proofs.ReadyLemmas.{least_ready}
@@ -24,42 +25,13 @@ use Rattle.gf_world.specs.declared.event.Event.{Event}
 use Rattle.gf_world.specs.declared.event.Event.TheVariants.{Author, Offer, Step}
 use Rattle.gf_world.specs.World.{new_sites, holds, authors, receives, applies, offer_in, IsWorld, start, next}
 use Rattle.gf_world.specs.Courses.{AreCourses, HaveEvents}
-use Rattle.gf_world.proofs.SitesLemmas.{got_set, length-new_sites, new_at}
+use Rattle.gf_world.proofs.SitesLemmas.{length-new_sites, new_at}
 use Rattle.gf_world.proofs.GrowingLemmas.{fresh_id, course_accepted, course_valid}
 use Rattle.gf_world.proofs.CutLemmas.{Comes, course_cut, Split, split_at}
 
 -- the site at the place k, with these operations
 abbrev resting : ℕ → List Op → SiteState
 resting k ops = record { number = suc k; ops = ops; held = [] }
-
-got_set_same : {X : Type 0} (xs : List X) (k : ℕ) (y x : X) → slice_get xs k ≡ Some x → slice_get (set xs k y) k ≡ Some y
-got_set_same [] k y x e = absurd cc
-got_set_same (z ∷ zs) zero y x e = refl
-got_set_same (z ∷ zs) (suc k) y x e = got_set_same zs k y x e
-
-set_set : {X : Type 0} (xs : List X) (k : ℕ) (x y : X) → set (set xs k x) k y ≡ set xs k y
-set_set [] k x y = refl
-set_set (z ∷ zs) zero x y = refl
-set_set (z ∷ zs) (suc k) x y = ap (λ l. z ∷ l) (set_set zs k x y)
-
-set_same : {X : Type 0} (xs : List X) (k : ℕ) (x : X) → slice_get xs k ≡ Some x → set xs k x ≡ xs
-set_same [] k x e = absurd cc
-set_same (z ∷ zs) zero x e = let q : x ≡ z = cc in ap (λ w. w ∷ zs) q
-set_same (z ∷ zs) (suc k) x e = ap (λ l. z ∷ l) (set_same zs k x e)
-
-one_value : {X : Type 0} (xs : List X) (k : ℕ) (x y : X) → slice_get xs k ≡ Some x → slice_get xs k ≡ Some y → x ≡ y
-one_value xs k x y e f = let q : Some x ≡ Some y = sym e ∙ f in let r : x ≡ y = cc in r
-
-there_is : {X : Type 0} (xs : List X) (k : ℕ) → k < length xs → (x : X) × (slice_get xs k ≡ Some x)
-there_is [] k l = absurd (omega (arith, l))
-there_is (x ∷ xs) zero l = (x, refl)
-there_is (x ∷ xs) (suc k) l = there_is xs k (omega (arith, l))
-
-place_in : {X : Type 0} (xs : List X) (k : ℕ) (x : X) → slice_get xs k ≡ Some x → Contains xs x
-place_in xs k x e = (k, slice_get_within xs k x e, get_or_from_slice_get xs k x x e)
-
-place_of : {X : Type 0} (xs : List X) (x : X) → Contains xs x → (k : ℕ) × (slice_get xs k ≡ Some x)
-place_of xs x c = (c.0, slice_get-get_or xs c.0 x c.1 ∙ ap Some c.2)
 
 same_lists : {X Y : Type 0} (f : X → Y) (xs : List X) (ys : List Y) → length xs ≡ length ys → ((k : ℕ) (x : X) (y : Y) → slice_get xs k ≡ Some x → slice_get ys k ≡ Some y → f x ≡ y) → map f xs ≡ ys
 same_lists f [] [] l e = refl
@@ -121,7 +93,7 @@ module _ (n : ℕ) (sites : List SiteState) (messages : List Op) (k : ℕ) (h : 
 -- so for some operations that follow in the site's course
 take_all : (n : ℕ) (messages : List Op) (k : ℕ) (all : List Op) → IsCourse (k + 1) all → (rest h more : List Op) → all ≡ (h ++ rest) ++ more → ((a : Op) → Contains rest a → Contains messages a) → (sites : List SiteState)
     → slice_get sites k ≡ Some (resting k h) → Reached n sites messages → Reached n (set sites k (resting k (h ++ rest))) messages
-take_all n messages k all c [] h more e among sites at w = subst (λ l. Reached n l messages) (sym (set_same sites k (resting k h) at) ∙ ap (λ g. set sites k (resting k g)) (sym (append-nil h))) w
+take_all n messages k all c [] h more e among sites at w = subst (λ l. Reached n l messages) (sym (set_itself sites k (resting k h) at) ∙ ap (λ g. set sites k (resting k g)) (sym (append-nil h))) w
 take_all n messages k all c (a ∷ rest) h more e among sites at w =
     let t = course_cut c h a (rest ++ more) (e ∙ append_assoc h (a ∷ rest) more) in
     let one = take_one n sites messages k h a w at (all_ready (course_accepted t.course)) t.accepted (t.valid.in_range a (Contains-push h a)) (among a (Contains-cons_head a rest)) in

@@ -9,6 +9,7 @@ use Rattle.gf_ops.specs.declared.change.Change.{Change}
 use Rattle.gf_ops.specs.Limits.{IsInRange}
 use Rattle.gf_ops.specs.ValidHistory.{IsValid}
 use Rattle.gf_ops.proofs.ValidityLemmas.{same_op}
+use Rattle.gf_ops.proofs.PlaceLemmas.{place_in, set_itself}
 use Rattle.gf_causal.specs.declared.buffer.Offered.{Offered}
 use Rattle.gf_causal.specs.declared.buffer.Offered.TheVariants.{Already, Held}
 use Rattle.gf_causal.specs.declared.faults.OfferFault.{OfferFault}
@@ -27,12 +28,6 @@ use Rattle.gf_world.specs.declared.event.Event.TheVariants.{Author, Offer, Step 
 use Rattle.gf_world.specs.World.{WorldState, site_at, with_site, Receives, already, holds, Happens, authors, refuses, receives, applies, idle}
 use Rattle.gf_world.specs.Sound.{IsSiteOf, IsSound}
 use Rattle.gf_world.proofs.GrowingLemmas.{course_accepted}
-use Rattle.gf_world.proofs.SoundLemmas.{got_contained}
-
-set_itself : {X : Type 0} (xs : List X) (k : ℕ) (x : X) → slice_get xs k ≡ Some x → set xs k x ≡ xs
-set_itself [] k x e = refl
-set_itself (y ∷ ys) zero x e = let q : x ≡ y = cc in ap (λ z. z ∷ ys) q
-set_itself (y ∷ ys) (suc k) x e = ap (λ zs. y ∷ zs) (set_itself ys k x e)
 
 -- the site at a place
 pub stands_at : (sites seen : List SiteState) (k : ℕ) (x : SiteState) → seen ≡ sites → k < length seen → x ≡ get_or sites k x → slice_get sites k ≡ Some x
@@ -99,7 +94,7 @@ module _ (world : WorldState) (n k : ℕ) (e : n ≡ k + 1) (x y : SiteState) (a
       Happens world (Offer n m) (record { sites = slice_set world.sites k y; messages = world.messages })
   receives_here m a r sound message full range clash known held same kept =
       let w = sound.sites n x there in
-      let got = received world.messages n x y a r sound.valid w (got_contained world.messages m a message) full range clash known held same kept in
+      let got = received world.messages n x y a r sound.valid w (place_in world.messages m a message) full range clash known held same kept in
       subst (λ l. Happens world (Offer n m) (record { sites = l; messages = world.messages })) put (receives there message got)
 
   pub steps_here : (s : Step) → IsSound world → Steps x s y → Happens world (step_event n) (record { sites = slice_set world.sites k y; messages = world.messages })

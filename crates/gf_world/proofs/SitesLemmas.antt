@@ -1,29 +1,9 @@
 -- The sites of a world by their numbers.
 use Rattle.std.proofs.Common.{◌≡◌, ◌≢◌, ℕ, zero, suc, ◌+◌, List, [], ◌∷◌, ◌++◌, length, length-append, Some, add-one, set, inl, inr, refl, sym, ap, ◌∙◌, arith}
 use Rattle.std.specs.Prelude.{◌⊎◌, slice_get}
+use Rattle.gf_ops.proofs.PlaceLemmas.{got_set, got_push}
 use Rattle.gf_site.specs.SiteState.{SiteState, new_site}
 use Rattle.gf_world.specs.World.{new_sites, site_at, with_site}
-
--- what stands at a place of a list, after one of its elements was replaced
-pub got_set : {X : Type 0} (xs : List X) (k i : ℕ) (y x : X) → slice_get (set xs k y) i ≡ Some x → ((i ≡ k) × (x ≡ y)) ⊎ ((i ≢ k) × (slice_get xs i ≡ Some x))
-got_set [] k i y x e = absurd cc
-got_set (z ∷ zs) zero zero y x e = inl (refl, let q : x ≡ y = cc in q)
-got_set (z ∷ zs) zero (suc i) y x e = inr (λ q. absurd (omega arith), e)
-got_set (z ∷ zs) (suc k) zero y x e = inr (λ q. absurd (omega arith), e)
-got_set (z ∷ zs) (suc k) (suc i) y x e = elim (got_set zs k i y x e) [
-  | inl p ↦ let q = p.0 in inl (omega arith, p.1)
-  | inr p ↦ inr (λ q. p.0 (omega arith), p.1)
-]
-
--- or one was put behind them
-pub got_push : {X : Type 0} (xs : List X) (y : X) (i : ℕ) (x : X) → slice_get (xs ++ y ∷ []) i ≡ Some x → (slice_get xs i ≡ Some x) ⊎ ((i ≡ length xs) × (x ≡ y))
-got_push [] y zero x e = inr (refl, let q : x ≡ y = cc in q)
-got_push [] y (suc i) x e = absurd cc
-got_push (z ∷ zs) y zero x e = inl e
-got_push (z ∷ zs) y (suc i) x e = elim (got_push zs y i x e) [
-  | inl p ↦ inl p
-  | inr p ↦ let q = p.0 in inr (omega arith, p.1)
-]
 
 pub length-new_sites : (n : ℕ) → length (new_sites n) ≡ n
 length-new_sites zero = refl
