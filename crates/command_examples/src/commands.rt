@@ -315,16 +315,68 @@ fn words_are_read_first(rt: HostRuntime) -> Result<(), Fail> {
 }
 
 #[test]
-fn help_has_the_limits(rt: HostRuntime) -> Result<(), Fail> {
-    let answer = run_of_words(&rt, "figgroup repaint --help")?;
-    let answer = answer.as_str();
-    for text in [
-        "-2,000,000 to 2,000,000 [default: 0]",
-        "1 to 10,000 [default: 1]",
-        "1 to 4,096 [default: 64]",
-        "1 to 16 [default: 1]",
+fn help_has_limits_defaults_and_an_example(rt: HostRuntime) -> Result<(), Fail> {
+    for (words, told) in [
+        (
+            "figgroup repaint --help",
+            [
+                "-2,000,000 to 2,000,000 [default: 0]",
+                "1 to 10,000 [default: 1]",
+                "1 to 4,096 [default: 64]",
+                "1 to 16 [default: 1]",
+            ],
+        ),
+        (
+            "figgroup --help",
+            [
+                "fig ",
+                "paint ",
+                "inspect ",
+                "Example: figgroup fig < edits.jsonl",
+            ],
+        ),
+        (
+            "figgroup fig --help",
+            [
+                "standard input",
+                "FIG text",
+                "Usage",
+                "Example: cat site-*.jsonl | figgroup fig",
+            ],
+        ),
+        (
+            "figgroup paint --help",
+            [
+                "standard input",
+                "raw PPM",
+                "Usage",
+                "Example: figgroup paint --step 15",
+            ],
+        ),
+        (
+            "figgroup inspect --help",
+            [
+                "SITE.SEQ",
+                "1 to 8",
+                "X,Y",
+                "Example: figgroup inspect --object 1.2",
+            ],
+        ),
+        (
+            "figgroup session --help",
+            [
+                "script lines",
+                "2 to 8 [default: 2]",
+                "FIG text",
+                "Example: figgroup session --sites 3",
+            ],
+        ),
     ] {
-        assert!(rt; answer.contains(text), "{text}");
+        let answer = run_of_words(&rt, words)?;
+        let answer = answer.as_str();
+        for text in told {
+            assert!(rt; answer.contains(text), "{text} of {words}");
+        }
     }
     Ok(())
 }

@@ -105,38 +105,68 @@ fn out_of_range(alloc: Global) -> Result<Error, AllocError> {
 }
 
 fn program<'a>(alloc: Global) -> Result<Command<'a>, AllocError> {
-    let program = Command::new(alloc, "figgroup")
+    Command::new(alloc, "figgroup")
         .version("0.1.0")
         .about("Figures drawn by a group")
+        .after_help("Example: figgroup fig < edits.jsonl > drawing.fig")
         .subcommand_required(true)
-        .arg_required_else_help(true);
-    let program = program.subcommand(Command::new(alloc, "fig").about(
-        "Read operation lines from standard input and write the FIG text of their drawing",
-    ))?;
-    let program = with_picture(
-        alloc,
-        program,
-        "paint",
-        "Read operation lines from standard input and write a picture of their drawing, as raw PPM",
-    )?;
-    let program = with_picture(
-        alloc,
-        program,
-        "repaint",
-        "Read a FIG text from standard input and write a picture of its drawing, as raw PPM",
-    )?;
-    let program = with_inspect(alloc, program)?;
-    with_session(alloc, program)
+        .arg_required_else_help(true)
+        .subcommand(fig(alloc))?
+        .subcommand(paint(alloc)?)?
+        .subcommand(repaint(alloc)?)?
+        .subcommand(inspect(alloc)?)?
+        .subcommand(session(alloc)?)
 }
 
-/// The program with the command that tells the versions of an object, or the one on top at a point.
-fn with_inspect<'a>(alloc: Global, program: Command<'a>) -> Result<Command<'a>, AllocError> {
-    let command = Command::new(alloc, "inspect").about(
-        "Read operation lines from standard input and write the versions of an object, or what is on \
-         top at a point",
-    );
-    let command = with_query(alloc, command)?;
-    program.subcommand(command)
+/// The command that writes the FIG text of operation lines.
+fn fig<'a>(alloc: Global) -> Command<'a> {
+    Command::new(alloc, "fig")
+        .about("Read operation lines from standard input and write the FIG text of their drawing")
+        .after_help("Example: cat site-*.jsonl | figgroup fig > drawing.fig")
+}
+
+/// The command that paints operation lines.
+fn paint<'a>(alloc: Global) -> Result<Command<'a>, AllocError> {
+    let command = Command::new(alloc, "paint")
+        .about(
+            "Read operation lines from standard input and write a picture of their drawing, as raw PPM",
+        )
+        .after_help(
+            "Example: figgroup paint --step 15 --width 800 --height 560 < edits.jsonl > drawing.ppm",
+        );
+    with_canvas(alloc, command)
+}
+
+/// The command that paints a FIG text.
+fn repaint<'a>(alloc: Global) -> Result<Command<'a>, AllocError> {
+    let command = Command::new(alloc, "repaint")
+        .about("Read a FIG text from standard input and write a picture of its drawing, as raw PPM")
+        .after_help(
+            "Example: figgroup repaint --step 15 --width 800 --height 560 < drawing.fig > drawing.ppm",
+        );
+    with_canvas(alloc, command)
+}
+
+/// The command that tells the versions of an object, or the one on top at a point.
+fn inspect<'a>(alloc: Global) -> Result<Command<'a>, AllocError> {
+    let command = Command::new(alloc, "inspect")
+        .about(
+            "Read operation lines from standard input and write the versions of an object, or what is \
+             on top at a point; one of the two is given",
+        )
+        .after_help("Example: figgroup inspect --object 1.2 < edits.jsonl");
+    with_query(alloc, command)
+}
+
+/// The command that runs the scripts of several sites at the same time.
+fn session<'a>(alloc: Global) -> Result<Command<'a>, AllocError> {
+    Command::new(alloc, "session")
+        .about(
+            "Read script lines from standard input, run the scripts of all sites at the same time, \
+             and write what became of their commands and the FIG text of their common history",
+        )
+        .after_help("Example: figgroup session --sites 3 < script.jsonl")
+        .arg(sites(alloc))
 }
 
 /// The command with the options of a query.
@@ -146,35 +176,16 @@ fn with_query<'a>(alloc: Global, command: Command<'a>) -> Result<Command<'a>, Al
             alloc,
             "object",
             "SITE.SEQ",
-            "Tell the versions of this object, hidden ones too, topmost first",
+            "Tell the versions of this object, hidden ones too, topmost first; SITE is 1 to 8, SEQ 1 to \
+             10,000",
         ))?
         .arg(text(
             alloc,
             "at",
             "X,Y",
-            "Tell the version on top at this point, as --at=-5,7",
+            "Tell the version on top at this point, as --at=-5,7; X and Y are -2,147,483,648 to \
+             2,147,483,647",
         ))
-}
-
-/// The program with the command that runs the scripts of several sites at the same time.
-fn with_session<'a>(alloc: Global, program: Command<'a>) -> Result<Command<'a>, AllocError> {
-    let command = Command::new(alloc, "session").about(
-        "Read script lines from standard input, run the scripts of all sites at the same time, and \
-         write what became of their commands and the FIG text of their common history",
-    );
-    let command = command.arg(sites(alloc))?;
-    program.subcommand(command)
-}
-
-/// The program with one command more, which writes a picture.
-fn with_picture<'a>(
-    alloc: Global,
-    program: Command<'a>,
-    name: &'a str,
-    about: &'a str,
-) -> Result<Command<'a>, AllocError> {
-    let command = with_canvas(alloc, Command::new(alloc, name).about(about))?;
-    program.subcommand(command)
 }
 
 /// The command with the options of a picture.
