@@ -7,7 +7,8 @@ use Rattle.gf_shape.specs.declared.point.Point.{Point}
 use Rattle.gf_shape.specs.declared.colour.Rgb.{Rgb}
 use Rattle.gf_ops.specs.declared.op.OpId.{OpId}
 use Rattle.gf_ops.specs.declared.op.Clock.{Clock}
-use Rattle.gf_ops.specs.Limits.{is_id, is_clock, is_near, is_size, is_count, is_polygon, is_layer}
+use Rattle.gf_shape.specs.Polygons.{is_polygon_count}
+use Rattle.gf_ops.specs.Limits.{is_id, is_clock, is_near, is_size, is_polygon, is_layer}
 use Rattle.serde_json.specs.Data.{Data}
 use Rattle.serde_json.specs.View.{items_of}
 use Rattle.gf_json.specs.LineValues.{Got, and_then, whole, elements, array, each}
@@ -102,7 +103,7 @@ clock_again c e h =
 -- the points of a polygon
 pub points_again : (ps : List Point) → is_polygon ps ≡ true → points (points_data ps) ≡ Ok ps
 points_again ps h =
-    let parts = both_true (is_count (length ps)) (list_all is_near ps) h in
+    let parts = both_true (is_polygon_count (length ps)) (list_all is_near ps) h in
     rw (elements-items_of (map point_data ps), length-map, parts.0, each_again point point_data is_near point_again ps parts.1) refl
 
 -- ---- colours

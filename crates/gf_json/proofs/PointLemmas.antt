@@ -6,7 +6,8 @@ use Rattle.std.proofs.lemmas.Bool.{cases_Bool}
 use Rattle.std.proofs.lemmas.List.{drop_more}
 use Rattle.std.proofs.lemmas.List.Elements.{All-nil, All-cons}
 use Rattle.gf_shape.specs.declared.point.Point.{Point}
-use Rattle.gf_ops.specs.Limits.{is_near, is_count, is_polygon}
+use Rattle.gf_shape.specs.Polygons.{is_polygon_count}
+use Rattle.gf_ops.specs.Limits.{is_near, is_polygon}
 use Rattle.serde_json.specs.Data.{Data}
 use Rattle.serde_json.specs.declared.value.Value.{Value}
 use Rattle.serde_json.specs.View.{view, items_view}
@@ -110,8 +111,8 @@ point-near d p h =
     rw (← e) (is_near-parts (record { x = q.0; y = q.1 }) (near (whole r.0) q.0 parts.0) (near (whole r.1) q.1 parts.1))
 
 -- a count that is read is one of a polygon
-counted-within : (n m : ℕ) → counted n ≡ Ok m → is_count n ≡ true
-counted-within n m h = elim (cases_Bool (is_count n)) [
+counted-within : (n m : ℕ) → counted n ≡ Ok m → is_polygon_count n ≡ true
+counted-within n m h = elim (cases_Bool (is_polygon_count n)) [
   | inl t ↦ t
   | inr f ↦ absurd (let e = rw f at h in cc)
 ]
@@ -126,7 +127,7 @@ length-each form (d ∷ ds) found h =
     rw (← e) (omega (arith, i))
 
 -- as many points as a polygon has, all of them near
-is_polygon-parts : (ps : List Point) (n : ℕ) → length ps ≡ n → is_count n ≡ true → list_all is_near ps ≡ true → is_polygon ps ≡ true
+is_polygon-parts : (ps : List Point) (n : ℕ) → length ps ≡ n → is_polygon_count n ≡ true → list_all is_near ps ≡ true → is_polygon ps ≡ true
 is_polygon-parts ps n e t h = rw (e, t) h
 
 -- points that are read keep the limits

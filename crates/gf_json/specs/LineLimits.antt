@@ -2,9 +2,9 @@
 use Rattle.std.specs.Prelude.{ℕ, ◌&&◌, ◌==◌, nat_abs, int_le, ℤ, pos, negsuc, List, length, Ok, Err, if◌then◌else◌}
 use Rattle.std.specs.Ordering.{int_eq}
 use Rattle.gf_shape.specs.declared.point.Point.{Point}
+use Rattle.gf_shape.specs.Polygons.{is_polygon_count}
 use Rattle.gf_ops.specs.declared.op.OpId.{OpId}
 use Rattle.gf_ops.specs.declared.op.Clock.{Clock}
-use Rattle.gf_ops.specs.Limits.{is_count}
 use Rattle.gf_json.specs.declared.line_error.LineError.TheVariants as fault
 use Rattle.serde_json.specs.Data.{Data}
 use Rattle.gf_json.specs.LineValues.{Got, mapped, and_then, ◌&◌, whole, array, two, pair, each}
@@ -61,7 +61,7 @@ point d = mapped (λ p. record { x = p.0; y = p.1 }) (pair coordinate coordinate
 
 -- a polygon has 3 to 64 points
 abbrev pub counted : ℕ → Got ℕ
-counted n = if is_count n then Ok n else Err fault.Range
+counted n = if is_polygon_count n then Ok n else Err fault.Range
 
 -- the points of a polygon
 abbrev pub points_of : List Data → Got (List Point)

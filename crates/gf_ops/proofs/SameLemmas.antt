@@ -10,8 +10,8 @@ use Rattle.gf_shape.specs.declared.point.Point.{Point}
 use Rattle.gf_shape.specs.declared.colour.Rgb.{Rgb}
 use Rattle.gf_ops.specs.declared.change.Value.{Value}
 use Rattle.gf_ops.specs.declared.change.Value.TheVariants.{Place, Points, Size, Colour, Layer, Shown}
-use Rattle.gf_ops.specs.ConflictTests.{point_eq, colour_eq, value_eq}
-use Rattle.gf_ops.specs.SamePoints.{are_same}
+use Rattle.gf_ops.specs.ConflictTests.{colour_eq, value_eq}
+use Rattle.gf_ops.specs.SamePoints.{point_eq, points_eq}
 
 points_told : (p q : Point) → Decides (point_eq p q) (p ≡ q)
 points_told p q = (
@@ -36,8 +36,8 @@ colours_told c d = (
 )
 
 -- `==` of two lists of points says whether they are one
-pub points_decides : (ps qs : List Point) → Decides (are_same ps qs) (ps ≡ qs)
-points_decides ps qs = slice_eq-Decides points_told ps qs (are_same ps qs) refl
+pub points_decides : (ps qs : List Point) → Decides (points_eq ps qs) (ps ≡ qs)
+points_decides ps qs = slice_eq-Decides points_told ps qs (points_eq ps qs) refl
 
 -- a value is the same as itself
 pub value_eq-same : (v : Value) → value_eq v v ≡ true

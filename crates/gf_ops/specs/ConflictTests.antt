@@ -1,19 +1,13 @@
 -- Tests for a conflict: whether two changes of one object give an attribute different values (after Sun and Chen, ACM TOCHI 9(1), 2002).
 use Rattle.std.specs.Prelude.{Bool, false, not, ◌&&◌, ◌==◌, Option, Some, None}
 use Rattle.std.specs.Bool.{beq}
-use Rattle.std.specs.Ordering.{on, int_eq, eq_of_both}
-use Rattle.gf_shape.specs.declared.point.Point.{Point}
 use Rattle.gf_shape.specs.declared.colour.Rgb.{Rgb}
 use Rattle.gf_ops.specs.declared.change.Change.{Change}
 use Rattle.gf_ops.specs.declared.change.Change.TheVariants.{Create, Set}
 use Rattle.gf_ops.specs.declared.change.Value.{Value}
 use Rattle.gf_ops.specs.declared.change.Value.TheVariants.{Place, Points, Size, Colour, Layer, Shown}
 use Rattle.gf_ops.specs.Attribute.{attribute_of, change_value}
-use Rattle.gf_ops.specs.SamePoints.{are_same}
-
--- p and q are one point
-abbrev pub point_eq : Point → Point → Bool
-point_eq = eq_of_both (on (λ p. p.x) int_eq) (on (λ p. p.y) int_eq)
+use Rattle.gf_ops.specs.SamePoints.{point_eq, points_eq}
 
 -- c and d are one colour
 abbrev pub colour_eq : Rgb → Rgb → Bool
@@ -22,7 +16,7 @@ colour_eq c d = c.r == d.r && c.g == d.g && c.b == d.b
 -- v and w are one value of one attribute
 abbrev pub value_eq : Value → Value → Bool
 value_eq (Place p) (Place q) = point_eq p q
-value_eq (Points ps) (Points qs) = are_same ps qs
+value_eq (Points ps) (Points qs) = points_eq ps qs
 value_eq (Size v j) (Size w k) = v == w && j == k
 value_eq (Colour c) (Colour d) = colour_eq c d
 value_eq (Layer m) (Layer n) = m == n

@@ -2,6 +2,7 @@
 use Rattle.std.specs.Prelude.{ℕ, pos, negsuc, Bool, true, IsTrue, ◌&&◌, nat_le, int_le, List, length}
 use Rattle.std.specs.List.{list_all}
 use Rattle.gf_shape.specs.declared.point.Point.{Point}
+use Rattle.gf_shape.specs.Polygons.{is_polygon_count}
 use Rattle.gf_ops.specs.declared.op.Op.{Op}
 use Rattle.gf_ops.specs.declared.op.OpId.{OpId}
 use Rattle.gf_ops.specs.declared.op.Clock.{Clock}
@@ -32,13 +33,9 @@ is_near p = int_le (negsuc 999999) p.x && int_le p.x (pos 1000000) && int_le (ne
 abbrev pub is_size : ℕ → Bool
 is_size n = nat_le 1 n && nat_le n 1000000
 
--- a polygon has 3 to 64 points
-abbrev pub is_count : ℕ → Bool
-is_count n = nat_le 3 n && nat_le n 64
-
 -- the polygon of ps has as many points as it may have, each of them near
 abbrev pub is_polygon : List Point → Bool
-is_polygon ps = is_count (length ps) && list_all is_near ps
+is_polygon ps = is_polygon_count (length ps) && list_all is_near ps
 
 -- both sides of a box are sizes, so is the radius of a circle, and a polygon has such points
 abbrev pub is_form : Form → Bool

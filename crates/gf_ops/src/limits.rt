@@ -2,7 +2,8 @@
 
 ghost use Rattle.std.specs.Prelude.{◌≡◌};
 ghost use Rattle.std.specs.List.{list_all};
-ghost use Rattle.gf_ops.specs.Limits.{is_site, is_size, is_near, is_id, is_clock, is_count, is_polygon, is_form, is_layer, is_value, is_change, is_in_range};
+ghost use Rattle.gf_shape.specs.Polygons.{is_polygon_count};
+ghost use Rattle.gf_ops.specs.Limits.{is_site, is_size, is_near, is_id, is_clock, is_polygon, is_form, is_layer, is_value, is_change, is_in_range};
 
 use crate::{Change, Clock, Form, Op, OpId, Value};
 use gf_shape::Point;
@@ -86,11 +87,11 @@ fn is_layer(layer: u16) -> bool
 fn is_polygon(points: &[Point]) -> bool
     ensures { result ≡ is_polygon points.now }
 {
-    is_count(points.len()) && are_near(points)
+    is_polygon_count(points.len()) && are_near(points)
 }
 
-fn is_count(n: usize) -> bool
-    ensures { result ≡ is_count n }
+fn is_polygon_count(n: usize) -> bool
+    ensures { result ≡ is_polygon_count n }
 {
     3 <= n && n <= 64
 }

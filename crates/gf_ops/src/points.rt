@@ -3,7 +3,7 @@
 ghost use Rattle.std.specs.Prelude.{◌≡◌};
 ghost use Rattle.std.proofs.Common.{rules};
 ghost use Rattle.std.specs.Cmp.Rules.{comparing};
-ghost use Rattle.gf_ops.specs.SamePoints.{are_same};
+ghost use Rattle.gf_ops.specs.SamePoints.{points_eq};
 
 use gf_shape::Point;
 use std::marker::Model;
@@ -40,7 +40,7 @@ impl Points {
 }
 
 impl PartialEq for Points {
-    ghost eq = { are_same };
+    ghost eq = { points_eq };
 
     ghost laws = { Prim.search (comparing, rules) };
 

@@ -11,7 +11,7 @@ use Rattle.gf_shape.specs.declared.point.Point.{Point}
 use Rattle.gf_shape.specs.FigureMeaning.{chain_holds}
 use Rattle.gf_shape.specs.Moving.{plus}
 use Rattle.gf_shape.specs.Opened.{IsClosed, opened}
-use Rattle.gf_shape.specs.Polygons.{has_polygon_count, is_polygon}
+use Rattle.gf_shape.specs.Polygons.{is_polygon, is_polygon_count}
 use Rattle.gf_shape.specs.Reach.{is_within_reach}
 use Rattle.gf_shape.specs.Ring.{IsRing, Ring, ring_of}
 use Rattle.gf_shape.specs.ShapeMeaning.{polygon_holds}
@@ -24,7 +24,7 @@ IsReached p = IsTrue (is_within_reach p)
 -- a polygon has at least 3 points and at most 64
 counted : (ps : List Point) → IsTrue (is_polygon ps) → (3 ≤ length ps) × (length ps ≤ 64)
 counted ps h =
-    let parts = and_parts (nat_le 3 (length ps)) (nat_le (length ps) 64) (and_parts (has_polygon_count ps) (list_all is_within_reach ps) h).0 in
+    let parts = and_parts (nat_le 3 (length ps)) (nat_le (length ps) 64) (and_parts (is_polygon_count (length ps)) (list_all is_within_reach ps) h).0 in
     (leb-true 3 (length ps) parts.0, leb-true (length ps) 64 parts.1)
 
 All-from_list_all : (t : Point → Bool) (ps : List Point) → list_all t ps ≡ true → All (λ p. IsTrue (t p)) ps
@@ -61,7 +61,7 @@ IsRing-ring_of [] h = absurd (omega (counted [] h, arith))
 IsRing-ring_of (a ∷ ps) h =
     let n = counted (a ∷ ps) h in
     let e : length ((a ∷ ps) ++ a ∷ []) - 1 ≡ length (a ∷ ps) = simp length-append (omega arith) in
-    let reached = All-from_list_all is_within_reach (a ∷ ps) (and_parts (has_polygon_count (a ∷ ps)) _ h).1 in
+    let reached = All-from_list_all is_within_reach (a ∷ ps) (and_parts (is_polygon_count (length (a ∷ ps))) _ h).1 in
     record {
       least = simp length-append (omega arith);
       most = simp length-append (omega arith);
@@ -120,7 +120,7 @@ points_movable-closed r d h = ap (λ (s : Ring). points_movable s.points d) h.cl
 is_polygon-moved : (ps : List Point) (d : Point) → IsTrue (is_polygon ps) → IsTrue (points_movable ps d) → IsTrue (is_polygon (points_moved ps d))
 is_polygon-moved ps d h m =
     and_from _ _
-    (rw (length-map ps (λ p. plus p d)) (and_parts (has_polygon_count ps) _ h).0)
+    (rw (length-map ps (λ p. plus p d)) (and_parts (is_polygon_count (length ps)) _ h).0)
     (list_all-map is_within_reach (λ p. plus p d) ps ∙ m)
 
 -- a polygon's chain moved within reach is a polygon's

@@ -1,13 +1,13 @@
 -- Which points make a polygon (this project's limits).
-use Rattle.std.specs.Prelude.{Bool, ◌&&◌, List, length, nat_le}
+use Rattle.std.specs.Prelude.{ℕ, Bool, ◌&&◌, List, length, nat_le}
 use Rattle.std.specs.List.{list_all}
 use Rattle.gf_shape.specs.declared.point.Point.{Point}
 use Rattle.gf_shape.specs.Reach.{is_within_reach}
 
--- they are 3 to 64
-abbrev pub has_polygon_count : List Point → Bool
-has_polygon_count ps = nat_le 3 (length ps) && nat_le (length ps) 64
+-- n is a number of points that a polygon may have, 3 to 64
+abbrev pub is_polygon_count : ℕ → Bool
+is_polygon_count n = nat_le 3 n && nat_le n 64
 
--- they are as many, and all of them lie within reach
+-- the points ps are as many as a polygon may have, and all of them lie within reach
 abbrev pub is_polygon : List Point → Bool
-is_polygon ps = has_polygon_count ps && list_all is_within_reach ps
+is_polygon ps = is_polygon_count (length ps) && list_all is_within_reach ps

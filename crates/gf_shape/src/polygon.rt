@@ -1,10 +1,10 @@
 //! Polygons.
 
-ghost use Rattle.std.specs.Prelude.{◌≡◌, ◌↔◌, false, true, IfOk, IsTrue, Err};
+ghost use Rattle.std.specs.Prelude.{◌≡◌, ◌↔◌, false, true, IfOk, IsTrue, Err, length};
 ghost use Rattle.std.specs.List.{list_all};
 ghost use Rattle.gf_shape.specs.Opened.{IsClosed};
 ghost use Rattle.gf_shape.specs.Outlines.{polygon_outline};
-ghost use Rattle.gf_shape.specs.Polygons.{has_polygon_count, is_polygon};
+ghost use Rattle.gf_shape.specs.Polygons.{is_polygon, is_polygon_count};
 ghost use Rattle.gf_shape.specs.Reach.{is_within_reach};
 ghost use Rattle.gf_shape.specs.Ring.{ring_of};
 ghost use Rattle.gf_shape.specs.ShapeMeaning.{polygon_holds};
@@ -42,8 +42,8 @@ impl Polygon {
     /// reach, else for want of memory alone.
     pub fn new(alloc: Global, points: &[Point]) -> Result<Polygon, PolygonError>
         ensures same { IfOk result (λ polygon. polygon ≡ points.now) }
-        ensures count { result ≡ Err PolygonError.Count ↔ has_polygon_count points.now ≡ false }
-        ensures range { result ≡ Err PolygonError.Range ↔ (has_polygon_count points.now ≡ true) × (list_all is_within_reach points.now ≡ false) }
+        ensures count { result ≡ Err PolygonError.Count ↔ is_polygon_count (length points.now) ≡ false }
+        ensures range { result ≡ Err PolygonError.Range ↔ (is_polygon_count (length points.now) ≡ true) × (list_all is_within_reach points.now ≡ false) }
     {
         if points.len() < 3 || 64 < points.len() {
             return Err(PolygonError::Count);

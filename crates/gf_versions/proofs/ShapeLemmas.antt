@@ -1,5 +1,5 @@
 -- The shape of a form: what it holds, and that it is lawful and can be moved where its form and its place keep their limits.
-use Rattle.std.specs.Prelude.{◌≡◌, ℕ, ℤ, pos, negsuc, ◌+ℤ◌, ◌-ℤ◌, int_le, IsTrue, List, [], ◌∷◌, refl}
+use Rattle.std.specs.Prelude.{◌≡◌, ℕ, ℤ, pos, negsuc, ◌+ℤ◌, ◌-ℤ◌, int_le, IsTrue, List, length, [], ◌∷◌, refl}
 use Rattle.std.specs.List.{list_all}
 use Rattle.std.proofs.Common.{ap, arith, sym, ◌∙◌}
 use Rattle.std.proofs.lemmas.Bool.{and_parts, and_from}
@@ -8,7 +8,7 @@ use Rattle.std.proofs.lemmas.Int.{ints}
 use Rattle.gf_shape.specs.declared.point.Point.{Point}
 use Rattle.gf_shape.specs.Area.{is_area, is_side}
 use Rattle.gf_shape.specs.Moving.{minus, plus}
-use Rattle.gf_shape.specs.Polygons.{has_polygon_count}
+use Rattle.gf_shape.specs.Polygons.{is_polygon_count}
 use Rattle.gf_shape.specs.Reach.{is_reached, is_within_reach}
 use Rattle.gf_shape.specs.Round.{is_round}
 use Rattle.gf_shape.specs.ShapeMeaning.{any_holds, box_holds, circle_holds}
@@ -59,8 +59,8 @@ all_within_reach-near (p ∷ ps) near =
     and_from _ _ (is_within_reach-near p parts.0) (all_within_reach-near ps parts.1)
 
 -- the points of a polygon within its limits make a polygon
-pub is_polygon-lawful : (ps : List Point) → IsTrue (is_polygon ps) → IsTrue (has_polygon_count ps) × IsTrue (list_all is_within_reach ps)
-is_polygon-lawful ps fits = let parts = and_parts (has_polygon_count ps) (list_all is_near ps) fits in (parts.0, all_within_reach-near ps parts.1)
+pub is_polygon-lawful : (ps : List Point) → IsTrue (is_polygon ps) → IsTrue (is_polygon_count (length ps)) × IsTrue (list_all is_within_reach ps)
+is_polygon-lawful ps fits = let parts = and_parts (is_polygon_count (length ps)) (list_all is_near ps) fits in (parts.0, all_within_reach-near ps parts.1)
 
 -- near points moved by a near one lie within reach
 is_reached-sum : (n d : ℤ) → IsTrue (int_le (negsuc 999999) n) → IsTrue (int_le n (pos 1000000)) → IsTrue (int_le (negsuc 999999) d) → IsTrue (int_le d (pos 1000000)) → IsTrue (is_reached (n +ℤ d))
