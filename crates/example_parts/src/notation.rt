@@ -101,7 +101,8 @@ pub fn form(alloc: Global, text: &str) -> Option<Form> {
     }
 }
 
-/// `box 3 4, place 100,200, colour ff0000, layer 3, shown false`: a plain object but for its values.
+/// `box 3 4, place 100,200, colour ff0000, layer 3, shown false`: a plain object but for its
+/// values.
 pub fn start(alloc: Global, text: &str) -> Option<Start> {
     let mut parts = text.split(", ");
     let mut start = plain(form(alloc, parts.next()?)?);

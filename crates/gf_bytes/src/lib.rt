@@ -2,10 +2,11 @@
 //! the lines of a text.
 //!
 //! - [`Sink`]: where bytes go; [`Out`] makes a sink of a writer of std, [`Tape`] is one in memory.
-//! - [`write_all`], [`write_whole`]: the write of all of some bytes, and that with a flush behind it.
+//! - [`write_all`], [`write_whole`]: the write of all of some bytes, and that with a flush behind
+//!   it.
 //! - [`SinkFault`], [`WriteError`]: why a write was refused.
-//! - [`Source`]: where bytes come from; [`In`] makes a source of a reader of std, [`Reel`] is one in
-//!   memory.
+//! - [`Source`]: where bytes come from; [`In`] makes a source of a reader of std, [`Reel`] is one
+//!   in memory.
 //! - [`read_input`]: the read of all bytes of a source, which are at most [`MOST_INPUT_BYTES`].
 //! - [`SourceFault`], [`InputError`]: why a read was refused.
 //! - [`TextLines`]: the lines of a text with their numbers.

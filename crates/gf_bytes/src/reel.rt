@@ -1,6 +1,7 @@
 //! A source in memory.
 
-ghost use Rattle.std.specs.Prelude.{◌≡◌, ◌≤◌, ◌++◌, ◌↔◌, Some, IfOk, IsErr, OnErr, drop, length, take};
+ghost use Rattle.std.specs.Prelude.{◌≡◌, ◌≤◌, ◌++◌, ◌↔◌, Some, IfOk, IsErr, OnErr, drop, length};
+ghost use Rattle.std.specs.Prelude.{take};
 ghost use Rattle.std.specs.Io.KnownBytes.{ReadConsumes};
 ghost use Rattle.gf_bytes.specs.ReelState.{after_failing, after_giving, given, unread};
 ghost use Rattle.gf_bytes.specs.Counts.{CountsFailure, raised};

@@ -1,6 +1,7 @@
 //! Where bytes are written, and the write of all of them.
 
-ghost use Rattle.std.specs.Prelude.{ℕ, ◌<◌, ◌≤◌, List, Option, Bool, IsTrue, length, IfOk, OnOk, OnErr};
+ghost use Rattle.std.specs.Prelude.{ℕ, ◌<◌, ◌≤◌, List, Option, Bool, IsTrue, length, IfOk, OnOk};
+ghost use Rattle.std.specs.Prelude.{OnErr};
 ghost use Rattle.std.specs.Io.KnownBytes.{Appends, Keeps, WriteAppends};
 ghost use Rattle.gf_bytes.specs.Counts.{CountsFailure, Rises};
 ghost use Rattle.gf_bytes.specs.Taken.{AppendsFront, Flushes, TakesPart, UnflushedBy, Unflushes};
@@ -42,8 +43,10 @@ pub trait Sink {
 #[tactic(auto, using(crate::proofs::TakenLemmas::appends_more, crate::proofs::TakenLemmas::within_more, crate::proofs::TakenLemmas::appends_whole, crate::proofs::TakenLemmas::unflushed_more))]
 pub fn write_all<W: Sink>(sink: &mut W, bytes: &[u8]) -> Result<(), SinkFault>
     ensures ok { OnOk result (Appends (W.taken sink.old) (W.taken sink.new) bytes.now) }
-    ensures unflushes { OnOk result (UnflushedBy (length bytes.now) (W.flushed sink.old) (W.flushed sink.new)) }
-    ensures err { OnErr result (TakesPart bytes.now (W.taken sink.old) (W.taken sink.new) (W.flushed sink.old) (W.flushed sink.new)) }
+    ensures unflushes { OnOk result (UnflushedBy (length bytes.now) (W.flushed sink.old)
+        (W.flushed sink.new)) }
+    ensures err { OnErr result (TakesPart bytes.now (W.taken sink.old) (W.taken sink.new)
+        (W.flushed sink.old) (W.flushed sink.new)) }
     ensures failed { OnErr result (Rises (W.failures sink.old) (W.failures sink.new)) }
     ensures counts { CountsFailure (W.failures sink.old) (W.failures sink.new) result }
 {

@@ -1,10 +1,13 @@
 //! Where bytes come from, and the read of all of them.
 
-ghost use Rattle.std.specs.Prelude.{◌≡◌, ℕ, ◌+◌, ◌<◌, ◌≤◌, ◌⊎◌, List, Option, length, vec_len, IfOk, IfSome, IsErr, IsErrOf, OnOk};
+ghost use Rattle.std.specs.Prelude.{◌≡◌, ℕ, ◌+◌, ◌<◌, ◌≤◌, ◌⊎◌, List, Option, length, vec_len};
+ghost use Rattle.std.specs.Prelude.{IfOk, IfSome, IsErr, IsErrOf, OnOk};
 ghost use Rattle.std.specs.Io.KnownBytes.{IsAtEnd, ReadConsumes};
-ghost use Rattle.gf_bytes.specs.Reads.{CamePast, ConsumesAtMost, ConsumesExactly, ConsumesSome, Continues};
+ghost use Rattle.gf_bytes.specs.Reads.{CamePast, ConsumesAtMost, ConsumesExactly, ConsumesSome};
+ghost use Rattle.gf_bytes.specs.Reads.{Continues};
 ghost use Rattle.gf_bytes.specs.Counts.{CountsFailure, CountsFailureAt, Rises, raised};
-ghost use Rattle.gf_bytes.specs.declared.source.InputError.TheVariants.{OutOfMemory, ReadFailed, TooLong};
+ghost use Rattle.gf_bytes.specs.declared.source.InputError.TheVariants.{OutOfMemory, ReadFailed};
+ghost use Rattle.gf_bytes.specs.declared.source.InputError.TheVariants.{TooLong};
 
 use std::alloc::{AllocError, Global};
 use thiserror::Error;
@@ -87,7 +90,8 @@ fn read_onto<R: Source>(
         ConsumesSome (length chunk.old) (R.left source.old) (R.left source.new) }
     ensures takes { ConsumesAtMost (length chunk.old) (R.left source.old) (R.left source.new) }
     ensures counts_reads { R.reads source.new ≡ raised (R.reads source.old) }
-    ensures counts { CountsFailureAt ReadFailed (R.failures source.old) (R.failures source.new) result }
+    ensures counts { CountsFailureAt ReadFailed (R.failures source.old) (R.failures source.new)
+        result }
 {
     let count = source.read(chunk)?;
     bytes.extend_from_slice(&chunk[..count])?;
@@ -105,7 +109,8 @@ pub fn read_input<R: Source>(alloc: Global, source: &mut R) -> Result<Vec<u8>, I
     // The source failed exactly once at a failed read, and else not.
     ensures read_failed { IsErrOf result ReadFailed →
         Rises (R.failures source.old) (R.failures source.new) }
-    ensures counts { CountsFailureAt ReadFailed (R.failures source.old) (R.failures source.new) result }
+    ensures counts { CountsFailureAt ReadFailed (R.failures source.old) (R.failures source.new)
+        result }
 
     // One byte past the longest input shows that there is more, and no other error hides it than
     // want of memory.
@@ -115,7 +120,8 @@ pub fn read_input<R: Source>(alloc: Global, source: &mut R) -> Result<Vec<u8>, I
         ConsumesExactly (MOST_INPUT_BYTES + 1) (R.left source.old) (R.left source.new) }
     ensures past { CamePast MOST_INPUT_BYTES (R.left source.old) (R.left source.new) →
         IsErrOf result TooLong ⊎ IsErrOf result OutOfMemory }
-    ensures longer { IfSome (R.left source.old) (λ all. MOST_INPUT_BYTES < length all → IsErr result) }
+    ensures longer { IfSome (R.left source.old)
+        (λ all. MOST_INPUT_BYTES < length all → IsErr result) }
 
     // An input with no bytes needs no memory.
     ensures out_of_memory { IsErrOf result OutOfMemory →

@@ -1,6 +1,7 @@
 //! The lines of a text, one after the other.
 
-ghost use Rattle.std.specs.Prelude.{◌≡◌, ◌<◌, ◌+◌, ◌-◌, ◌∷◌, [], ◌^◌, length, drop, ℕ, IfSome, IfNone};
+ghost use Rattle.std.specs.Prelude.{◌≡◌, ◌<◌, ◌+◌, ◌-◌, ◌∷◌, [], ◌^◌, length, drop, ℕ, IfSome};
+ghost use Rattle.std.specs.Prelude.{IfNone};
 ghost use Rattle.std.specs.List.{position};
 ghost use Rattle.gf_bytes.specs.LineCutting.{IsNext, with_line};
 ghost use Rattle.gf_bytes.specs.TextLines.{is_blank, is_line_end, numbered_from, numbered_lines};
@@ -31,7 +32,8 @@ impl Model for TextLines {
 
     ghost view = { λ lines. numbered_from lines.number (drop lines.given lines.text.items) };
 
-    ghost invariant = { λ lines. (lines.given ≤ length lines.text.items) × (lines.number + (length lines.text.items - lines.given) < 2 ^ 64) };
+    ghost invariant = { λ lines. (lines.given ≤ length lines.text.items)
+        × (lines.number + (length lines.text.items - lines.given) < 2 ^ 64) };
 }
 
 impl TextLines {
@@ -66,8 +68,8 @@ impl TextLines {
         self.forget_given();
     }
 
-    /// Gives back the memory of what was given, once that is as much as half of what is left: so each
-    /// byte is moved a few times at most.
+    /// Gives back the memory of what was given, once that is as much as half of what is left: so
+    /// each byte is moved a few times at most.
     fn forget_given(&mut self)
         ensures { self.new ≡ self.old }
     {
@@ -92,7 +94,8 @@ struct NextLine<'a> {
 /// The first line of a text that is not blank, where its first line has this number.
 fn next_line(text: &[u8], number: u64) -> Option<NextLine<'_>>
     requires { number + length text.now < 2 ^ 64 }
-    ensures some { IfSome result (λ next. IsNext number text.now next.number next.line.now next.rest.now) }
+    ensures some { IfSome result (λ next.
+        IsNext number text.now next.number next.line.now next.rest.now) }
     ensures none { IfNone result (numbered_from number text.now ≡ []) }
 {
     let mut left = text;
@@ -126,7 +129,8 @@ fn line_end(text: &[u8]) -> Option<usize>
 #[tactic(auto, using(crate::proofs::CuttingLemmas::cuts))]
 fn cut_line(text: &[u8]) -> (&[u8], &[u8])
     requires { 0 < length text.now }
-    ensures cut { (n : ℕ) → numbered_from n text.now ≡ with_line n result.0.now (numbered_from (n + 1) result.1.now) }
+    ensures cut { (n : ℕ) → numbered_from n text.now
+        ≡ with_line n result.0.now (numbered_from (n + 1) result.1.now) }
     ensures shorter { length result.1.now < length text.now }
     ensures rest { result.1.now ≡ drop (length text.now - length result.1.now) text.now }
 {

@@ -1,13 +1,15 @@
 //! Operations that wait for what they know.
 
-ghost use Rattle.std.specs.Prelude.{◌≡◌, ◌≢◌, ◌↔◌, [], length, Contains, Ok, Err, IfOk, IfSome, IfNone, OnOk, OnErr};
+ghost use Rattle.std.specs.Prelude.{◌≡◌, ◌≢◌, ◌↔◌, [], length, Contains, Ok, Err, IfOk, IfSome};
+ghost use Rattle.std.specs.Prelude.{IfNone, OnOk, OnErr};
 ghost use Rattle.std.specs.BTreeMap.{insert_entry};
 ghost use Rattle.gf_ops.specs.declared.op.Op.{Op};
 ghost use Rattle.gf_ops.specs.OperationOrder.{id_cmp};
 ghost use Rattle.gf_ops.specs.Limits.{IsInRange};
 ghost use Rattle.gf_causal.specs.declared.buffer.Offered.{Offered};
 ghost use Rattle.gf_causal.specs.declared.faults.OfferFault.{OfferFault};
-ghost use Rattle.gf_causal.specs.HeldOperations.{AreHeld, IsFree, IsClash, IsKnown, IsNew, Adds, IsFirstReady};
+ghost use Rattle.gf_causal.specs.HeldOperations.{AreHeld, IsFree, IsClash, IsKnown, IsNew, Adds};
+ghost use Rattle.gf_causal.specs.HeldOperations.{IsFirstReady};
 ghost use Rattle.gf_causal.specs.Keeping.{Among, Stands};
 ghost use Rattle.gf_causal.specs.Ready.{IsReady, NoneIsReady};
 
@@ -73,10 +75,14 @@ impl Buffer {
     /// Holds an operation that is neither held nor in the history.
     pub fn offer(&mut self, op: Op, history: &History) -> Result<Offered, OfferFault>
         ensures range { result ≡ Err OfferFault.Range ↔ (¬ (IsInRange op)) }
-        ensures clash { result ≡ Err OfferFault.Clash ↔ (IsInRange op × IsClash self.old history.now.ops op) }
-        ensures already { result ≡ Ok Offered.Already ↔ (IsInRange op × IsKnown self.old history.now.ops op) }
-        ensures held { result ≡ Ok Offered.Held → IsInRange op × IsNew self.old history.now.ops op × Adds self.old op self.new }
-        ensures out_of_memory { result ≡ Err OfferFault.OutOfMemory → IsInRange op × IsNew self.old history.now.ops op }
+        ensures clash { result ≡ Err OfferFault.Clash
+            ↔ (IsInRange op × IsClash self.old history.now.ops op) }
+        ensures already { result ≡ Ok Offered.Already
+            ↔ (IsInRange op × IsKnown self.old history.now.ops op) }
+        ensures held { result ≡ Ok Offered.Held
+            → IsInRange op × IsNew self.old history.now.ops op × Adds self.old op self.new }
+        ensures out_of_memory { result ≡ Err OfferFault.OutOfMemory
+            → IsInRange op × IsNew self.old history.now.ops op }
         ensures same { result ≢ Ok Offered.Held → self.new ≡ self.old }
     {
         if !op.in_range() {
@@ -170,8 +176,10 @@ impl Buffer {
 
     /// The held operation of this site that is ready.
     fn ready_of(&self, site: u8, history: &History) -> Option<&Op>
-        ensures found { IfSome result (λ op. Contains self.now op.now × IsReady history.now.ops op.now × (op.now.id.site ≡ site)) }
-        ensures none { IfNone result ((a : Op) → Contains self.now a → a.id.site ≡ site → ¬ (IsReady history.now.ops a)) }
+        ensures found { IfSome result (λ op. Contains self.now op.now
+            × IsReady history.now.ops op.now × (op.now.id.site ≡ site)) }
+        ensures none { IfNone result ((a : Op) → Contains self.now a → a.id.site ≡ site
+            → ¬ (IsReady history.now.ops a)) }
     {
         // Each held operation is in range, so no number is lost.
         let _ = &self.ops;

@@ -3,7 +3,8 @@
 ghost use Rattle.std.specs.Prelude.{◌≡◌, [], ◌⊎◌, ◌<◌, ◌≤◌, ◌↔◌, length, Err, IfOk, OnOk, IsTrue};
 ghost use Rattle.std.specs.List.{enumerate_from, list_any};
 ghost use Rattle.gf_ops.specs.ConflictTests.{colour_eq};
-ghost use Rattle.gf_drawing.specs.CanonicalDrawing.{Fits, canonical_drawing, canonical_table, colours_of, number_of};
+ghost use Rattle.gf_drawing.specs.CanonicalDrawing.{Fits, canonical_drawing, canonical_table};
+ghost use Rattle.gf_drawing.specs.CanonicalDrawing.{colours_of, number_of};
 
 use crate::{Drawing, Figure};
 use gf_shape::{OutOfMemory, Rgb, Shape};
@@ -50,9 +51,12 @@ impl From<OutOfMemory> for CompileFault {
 pub fn compile<S: Shape>(alloc: Global, ranked: Ranked<S>) -> Result<Drawing<S>, CompileFault>
     ensures drawing { IfOk result (λ drawing. drawing ≡ canonical_drawing ranked.items.items) }
     ensures fits { OnOk result (Fits ranked.items.items) }
-    ensures versions { result ≡ Err CompileFault.TooManyVersions ↔ (1000 < length ranked.items.items) }
-    ensures colours { result ≡ Err CompileFault.TooManyColours → (length ranked.items.items ≤ 1000) × (512 < length (colours_of ranked.items.items)) }
-    ensures many { length ranked.items.items ≤ 1000 → 512 < length (colours_of ranked.items.items) → (result ≡ Err CompileFault.TooManyColours) ⊎ (result ≡ Err CompileFault.OutOfMemory) }
+    ensures versions { result ≡ Err CompileFault.TooManyVersions
+        ↔ (1000 < length ranked.items.items) }
+    ensures colours { result ≡ Err CompileFault.TooManyColours
+        → (length ranked.items.items ≤ 1000) × (512 < length (colours_of ranked.items.items)) }
+    ensures many { length ranked.items.items ≤ 1000 → 512 < length (colours_of ranked.items.items)
+        → (result ≡ Err CompileFault.TooManyColours) ⊎ (result ≡ Err CompileFault.OutOfMemory) }
 {
     if ranked.len() > MOST_VERSIONS {
         return Err(CompileFault::TooManyVersions);
@@ -86,7 +90,8 @@ fn add_colours<S: Shape>(
 ) -> Result<(), OutOfMemory>
     requires empty { drawing.old ≡ record { table = []; figures = [] } }
     requires few { length colours.now.keys ≤ 512 }
-    ensures { OnOk result (drawing.new ≡ record { table = enumerate_from 32 colours.now.keys; figures = [] }) }
+    ensures { OnOk result (drawing.new
+        ≡ record { table = enumerate_from 32 colours.now.keys; figures = [] }) }
 {
     for colour in colours.as_slice() {
         let number = FIRST_NUMBER + drawing.colours().len() as u16;

@@ -1,6 +1,7 @@
 //! Drawings.
 
-ghost use Rattle.std.specs.Prelude.{◌≡◌, ℕ, None, [], ◌∷◌, ◌++◌, IfOk, OnOk, OnErr, map, reverse, option_copied, IsPermutation};
+ghost use Rattle.std.specs.Prelude.{◌≡◌, ℕ, None, [], ◌∷◌, ◌++◌, IfOk, OnOk, OnErr, map, reverse};
+ghost use Rattle.std.specs.Prelude.{option_copied, IsPermutation};
 ghost use Rattle.std.specs.List.Sorted.{IsNonDecreasingBy};
 ghost use Rattle.gf_shape.specs.declared.point.Point.{Point};
 ghost use Rattle.gf_drawing.specs.Colours.{colour_in, rgb_of, standard_colours};
@@ -36,7 +37,8 @@ impl<S> Model for Drawing<S> {
 
     ghost use Rattle.gf_drawing.specs.DrawingState.{IsLawfulDrawing};
 
-    ghost invariant = { λ d. IsLawfulDrawing (record { table = d.table; figures = d.figures.items }) };
+    ghost invariant = { λ d. IsLawfulDrawing (record
+        { table = d.table; figures = d.figures.items }) };
 }
 
 impl<S: Shape> Drawing<S> {
@@ -66,9 +68,12 @@ impl<S: Shape> Drawing<S> {
         &self.figures
     }
 
-    /// Its figures from the front to the back: by their depths, and of one depth the last one first.
+    /// Its figures from the front to the back: by their depths, and of one depth the last one
+    /// first.
     pub fn front_to_back(&self, alloc: Global) -> Result<Vec<&Figure<S>>, OutOfMemory>
-        ensures { IfOk result (λ figures. (p : Point) → front_colour S.holds self.now.table (map (λ f. f.now) figures.items) p ≡ drawing_colour S.holds self.now.table self.now.figures p) }
+        ensures { IfOk result (λ figures. (p : Point)
+            → front_colour S.holds self.now.table (map (λ f. f.now) figures.items) p
+            ≡ drawing_colour S.holds self.now.table self.now.figures p) }
     {
         let mut figures = reversed(alloc, &self.figures)?;
         sort_by_depth(&mut figures)?;
@@ -95,7 +100,8 @@ impl<S: Shape> Drawing<S> {
     /// Adds a colour at the end of the table.
     pub fn add_colour(&mut self, number: u16, colour: Rgb) -> Result<(), OutOfMemory>
         requires { IsFreeNumber self.old.table number }
-        ensures ok { OnOk result (self.new ≡ record self.old { table = self.old.table ++ (number, colour) ∷ [] }) }
+        ensures ok { OnOk result (self.new
+            ≡ record self.old { table = self.old.table ++ (number, colour) ∷ [] }) }
         ensures err { OnErr result (self.new ≡ self.old) }
     {
         self.table.add(number, colour)?;
@@ -105,7 +111,8 @@ impl<S: Shape> Drawing<S> {
     /// Adds a figure at the end of the file.
     pub fn add_figure(&mut self, figure: Figure<S>) -> Result<(), OutOfMemory>
         requires { IsLawfulFigure self.old.table figure }
-        ensures ok { OnOk result (self.new ≡ record self.old { figures = self.old.figures ++ figure ∷ [] }) }
+        ensures ok { OnOk result (self.new
+            ≡ record self.old { figures = self.old.figures ++ figure ∷ [] }) }
         ensures err { OnErr result (self.new ≡ self.old) }
     {
         self.figures.push(figure)?;
@@ -179,7 +186,8 @@ fn reversed<S>(alloc: Global, figures: &[Figure<S>]) -> Result<Vec<&Figure<S>>, 
 fn sort_by_depth<S>(figures: &mut Vec<&Figure<S>>) -> Result<(), OutOfMemory>
     ensures sorted { OnOk result (IsNonDecreasingBy (λ f. f.now.depth) figures.new.items) }
     ensures same { IsPermutation figures.old.items figures.new.items }
-    ensures stable { (depth : ℕ) → OnOk result (figures_at (map (λ f. f.now) figures.new.items) depth ≡ figures_at (map (λ f. f.now) figures.old.items) depth) }
+    ensures stable { (depth : ℕ) → OnOk result (figures_at (map (λ f. f.now) figures.new.items)
+        depth ≡ figures_at (map (λ f. f.now) figures.old.items) depth) }
 {
     figures.sort_by_key(|figure| figure.depth)?;
     Ok(())

@@ -17,10 +17,13 @@ use gf_shape::Shape;
 /// also where each shape is drawn by its outline.
 pub fn the_canonical_drawing_paints_the_history()
     ensures shapes { (h : List Op) (d : DrawingState AnyShape) → IsCanonical h d → Paints h d }
-    ensures outlines { (h : List Op) (d : DrawingState AnyShape) → IsCanonical h d → PaintsAsFig h (outlined any_outline d) }
+    ensures outlines { (h : List Op) (d : DrawingState AnyShape) → IsCanonical h d
+        → PaintsAsFig h (outlined any_outline d) }
 {}
 
 /// The outlines of shapes paint the colours that the shapes paint.
 pub fn outlines_paint_as_their_shapes<S: Shape>()
-    ensures { (d : DrawingState S) (p : Point) → drawing_colour outline_holds d.table (outlined S.outline d).figures p ≡ drawing_colour S.holds d.table d.figures p }
+    ensures { (d : DrawingState S) (p : Point)
+        → drawing_colour outline_holds d.table (outlined S.outline d).figures p
+        ≡ drawing_colour S.holds d.table d.figures p }
 {}

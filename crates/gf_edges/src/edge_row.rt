@@ -50,7 +50,8 @@ impl EdgeRow {
     pub(crate) fn set(&mut self, edges: &[Edge], y: i32) -> Result<(), OutOfMemory>
         requires reach { All IsWithinReach edges.now }
         requires even { length (crossings_at y edges.now) % 2 ≡ 0 }
-        ensures { OnOk result (IsJoined (crossings_at y edges.now) (contacts_at y edges.now) self.new) }
+        ensures { OnOk result (IsJoined (crossings_at y edges.now) (contacts_at y edges.now)
+            self.new) }
     {
         self.meetings.clear();
         meet_all(edges, y, &mut self.meetings)?;
@@ -62,8 +63,10 @@ impl EdgeRow {
 /// Adds where edges meet a row.
 fn meet_all(edges: &[Edge], y: i32, meetings: &mut Meetings) -> Result<(), OutOfMemory>
     requires { All IsWithinReach edges.now }
-    ensures crossings { OnOk result (meetings.new.crossings.items ≡ meetings.old.crossings.items ++ crossings_at y edges.now) }
-    ensures contacts { OnOk result (meetings.new.contacts.items ≡ meetings.old.contacts.items ++ contacts_at y edges.now) }
+    ensures crossings { OnOk result (meetings.new.crossings.items
+        ≡ meetings.old.crossings.items ++ crossings_at y edges.now) }
+    ensures contacts { OnOk result (meetings.new.contacts.items
+        ≡ meetings.old.contacts.items ++ contacts_at y edges.now) }
 {
     for edge in edges {
         meet(edge.from, edge.to, y, meetings)?;

@@ -1,6 +1,7 @@
 //! The edges of a chain between two heights.
 
-ghost use Rattle.std.specs.Prelude.{◌≡◌, ◌++◌, ◌%◌, ◌≤ℤ◌, ℤ, Bool, true, IsTrue, All, IfOk, OnOk, length};
+ghost use Rattle.std.specs.Prelude.{◌≡◌, ◌++◌, ◌%◌, ◌≤ℤ◌, ℤ, Bool, true, IsTrue, All, IfOk, OnOk};
+ghost use Rattle.std.specs.Prelude.{length};
 ghost use Rattle.gf_rows.specs.declared.span.Span.{Span as TheSpan};
 ghost use Rattle.gf_rows.specs.Spans.{is_in_span};
 ghost use Rattle.gf_shape.specs.declared.point.Point.{Point};
@@ -37,9 +38,11 @@ impl Model for Edges {
 }
 
 impl Edges {
-    /// Those of a chain that come between `low` and `high`: they tell its rows from `low` to `high`.
+    /// Those of a chain that come between `low` and `high`: they tell its rows from `low` to
+    /// `high`.
     pub fn between(alloc: Global, chain: &Chain, low: i32, high: i32) -> Result<Edges, OutOfMemory>
-        ensures { IfOk result (λ edges. (y : ℤ) → low ≤ℤ y → y ≤ℤ high → TellsRow (chain_holds chain.now.points) y edges) }
+        ensures { IfOk result (λ edges. (y : ℤ) → low ≤ℤ y → y ≤ℤ high
+            → TellsRow (chain_holds chain.now.points) y edges) }
     {
         let points = chain.points();
         let mut edges = Vec::new(alloc);
@@ -47,9 +50,11 @@ impl Edges {
         Ok(Edges { edges })
     }
 
-    /// From the leftmost of their points to the rightmost: what they tell a row of lies between these.
+    /// From the leftmost of their points to the rightmost: what they tell a row of lies between
+    /// these.
     pub fn reach(&self) -> Span
-        ensures { (holds : Point → Bool) (x y : ℤ) → TellsRow holds y self.now → holds (record { x = x; y = y }) ≡ true → is_in_span x result ≡ true }
+        ensures { (holds : Point → Bool) (x y : ℤ) → TellsRow holds y self.now
+            → holds (record { x = x; y = y }) ≡ true → is_in_span x result ≡ true }
     {
         reach(&self.edges)
     }
@@ -57,7 +62,8 @@ impl Edges {
     /// Makes `row` the row `y` of what they tell it of.
     pub fn row_into(&self, y: i32, row: &mut EdgeRow) -> Result<(), OutOfMemory>
         requires { length (crossings_at y self.now) % 2 ≡ 0 }
-        ensures { OnOk result ((holds : Point → Bool) → TellsRow holds y self.now → IsRow holds y row.new) }
+        ensures { OnOk result ((holds : Point → Bool) → TellsRow holds y self.now
+            → IsRow holds y row.new) }
     {
         row.set(&self.edges, y)?;
         Ok(())
@@ -74,7 +80,8 @@ fn add_along(
 ) -> Result<(), OutOfMemory>
     requires first { IsTrue (is_within_reach first) }
     requires rest { All (λ p. IsTrue (is_within_reach p)) rest.now }
-    ensures { OnOk result (edges.new.items ≡ edges.old.items ++ between_along low high first rest.now) }
+    ensures { OnOk result (edges.new.items
+        ≡ edges.old.items ++ between_along low high first rest.now) }
 {
     let mut from = first;
     for to in rest {

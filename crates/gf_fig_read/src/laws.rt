@@ -9,10 +9,15 @@ ghost use Rattle.gf_fig_text.specs.declared.faults.FigFault.TheVariants as fault
 /// Every text reads as exactly one drawing, or fails with exactly one fault and number, and never
 /// both. The number is 0 for a fault before the objects, and want of memory is no fault of a text.
 pub fn every_text_reads_as_one_drawing_or_fails_once()
-    ensures either { (text : List ℕ) → ((d : Drawn) × Reads text d) ⊎ ((f : FigFault) × (n : ℕ) × Fails text f n) }
+    ensures either { (text : List ℕ)
+        → ((d : Drawn) × Reads text d) ⊎ ((f : FigFault) × (n : ℕ) × Fails text f n) }
     ensures one_drawing { (text : List ℕ) (d e : Drawn) → Reads text d → Reads text e → d ≡ e }
-    ensures one_fault { (text : List ℕ) (f g : FigFault) (m n : ℕ) → Fails text f m → Fails text g n → (f ≡ g) × (m ≡ n) }
-    ensures not_both { (text : List ℕ) (d : Drawn) (f : FigFault) (n : ℕ) → Reads text d → ¬ (Fails text f n) }
-    ensures front { (text : List ℕ) (f : FigFault) (n : ℕ) → Fails text f n → n ≡ 0 ↔ IsTrue (is_of_front f) }
-    ensures memory { (text : List ℕ) (f : FigFault) (n : ℕ) → Fails text f n → f ≢ fault.OutOfMemory }
+    ensures one_fault { (text : List ℕ) (f g : FigFault) (m n : ℕ) → Fails text f m → Fails text g n
+        → (f ≡ g) × (m ≡ n) }
+    ensures not_both { (text : List ℕ) (d : Drawn) (f : FigFault) (n : ℕ) → Reads text d
+        → ¬ (Fails text f n) }
+    ensures front { (text : List ℕ) (f : FigFault) (n : ℕ) → Fails text f n
+        → n ≡ 0 ↔ IsTrue (is_of_front f) }
+    ensures memory { (text : List ℕ) (f : FigFault) (n : ℕ) → Fails text f n
+        → f ≢ fault.OutOfMemory }
 {}

@@ -2,7 +2,8 @@
 
 ghost use Rattle.std.specs.Prelude.{◌≡◌, ◌≤◌, ◌∷◌, OnOk, IfErr, IsTrue, is_some, is_none};
 ghost use Rattle.gf_drawing.specs.Colours.{colour_in, rgb_of};
-ghost use Rattle.gf_fig_read.specs.Objects.{with_figure, colour_object, ellipse_object, polyline_object, object};
+ghost use Rattle.gf_fig_read.specs.Objects.{with_figure, colour_object, ellipse_object};
+ghost use Rattle.gf_fig_read.specs.Objects.{polyline_object, object};
 ghost use Rattle.gf_fig_text.specs.declared.faults.FigFault.TheVariants as fault;
 ghost use Rattle.gf_fig_read.specs.Stepping.{Draws};
 

@@ -15,15 +15,18 @@ use std::alloc::Global;
 /// The drawing that a FIG text denotes, in one pass over its bytes.
 pub fn read_fig(alloc: Global, text: &[u8]) -> Result<Drawing<Outline>, FigError>
     ensures reads { IfOk result (λ d. Reads text.now d) }
-    ensures only { (d : Drawn) → Reads text.now d → IfErr result (λ e. e.fault ≡ fault.OutOfMemory) }
-    ensures fails { IfErr result (λ e. ((e.fault ≡ fault.OutOfMemory) × (e.object ≡ 0)) ⊎ Fails text.now e.fault e.object) }
+    ensures only { (d : Drawn) → Reads text.now d
+        → IfErr result (λ e. e.fault ≡ fault.OutOfMemory) }
+    ensures fails { IfErr result (λ e. ((e.fault ≡ fault.OutOfMemory) × (e.object ≡ 0))
+        ⊎ Fails text.now e.fault e.object) }
 {
     read(alloc, text)
 }
 
 fn read(alloc: Global, text: &[u8]) -> Result<Drawing<Outline>, FigError>
     ensures reads { IfOk result (λ d. Reads text.now d) }
-    ensures fails { IfErr result (λ e. ((e.fault ≡ fault.OutOfMemory) × (e.object ≡ 0)) ⊎ Fails text.now e.fault e.object) }
+    ensures fails { IfErr result (λ e. ((e.fault ≡ fault.OutOfMemory) × (e.object ≡ 0))
+        ⊎ Fails text.now e.fault e.object) }
 {
     match Tokens::of_objects(text) {
         Ok(tokens) => read_objects(alloc, tokens),
@@ -35,7 +38,8 @@ fn read(alloc: Global, text: &[u8]) -> Result<Drawing<Outline>, FigError>
 fn read_objects(alloc: Global, tokens: Tokens<'_>) -> Result<Drawing<Outline>, FigError>
     requires { length tokens < 2 ^ 64 }
     ensures reads { IfOk result (λ d. Leads nothing tokens.entry d []) }
-    ensures stops { IfErr result (λ e. ((e.fault ≡ fault.OutOfMemory) × (e.object ≡ 0)) ⊎ StopsAt tokens.entry e.fault e.object) }
+    ensures stops { IfErr result (λ e. ((e.fault ≡ fault.OutOfMemory) × (e.object ≡ 0))
+        ⊎ StopsAt tokens.entry e.fault e.object) }
 {
     let mut drawing = Drawing::new(alloc);
     add_objects(alloc, tokens, &mut drawing)?;
@@ -51,7 +55,8 @@ fn add_objects(
     requires empty { drawing.old ≡ nothing }
     requires few { length tokens < 2 ^ 64 }
     ensures reads { OnOk result (Leads nothing tokens.entry drawing.new []) }
-    ensures stops { IfErr result (λ e. ((e.fault ≡ fault.OutOfMemory) × (e.object ≡ 0)) ⊎ StopsAt tokens.entry e.fault e.object) }
+    ensures stops { IfErr result (λ e. ((e.fault ≡ fault.OutOfMemory) × (e.object ≡ 0))
+        ⊎ StopsAt tokens.entry e.fault e.object) }
 {
     let mut left = tokens;
     let mut object = 0u64;

@@ -1,8 +1,10 @@
 //! A FIG text as lines and tokens, cut off one by one.
 
-ghost use Rattle.std.specs.Prelude.{◌≡◌, ◌<◌, ◌≤◌, [], ◌∷◌, not, length, drop, MatchOption, IfSome, Some, None};
+ghost use Rattle.std.specs.Prelude.{◌≡◌, ◌<◌, ◌≤◌, [], ◌∷◌, not, length, drop, MatchOption, IfSome};
+ghost use Rattle.std.specs.Prelude.{Some, None};
 ghost use Rattle.std.specs.List.{position_from, position_or_len};
-ghost use Rattle.gf_fig_text.specs.Layout.{is_blank, is_line_feed, is_comment, is_version, lines, words, plain};
+ghost use Rattle.gf_fig_text.specs.Layout.{is_blank, is_line_feed, is_comment, is_version, lines};
+ghost use Rattle.gf_fig_text.specs.Layout.{words, plain};
 ghost use Rattle.gf_fig_text.specs.Stepping.{after_blanks};
 
 fn is_blank(b: u8) -> bool
@@ -96,7 +98,8 @@ fn after_blanks(line: &[u8]) -> &[u8]
 /// The first line, and what follows the line feed that ends it.
 #[tactic(auto, using(crate::proofs::LayoutLemmas::lines_cut, crate::proofs::LayoutLemmas::shorter))]
 pub(crate) fn cut_line(text: &[u8]) -> Option<(&[u8], &[u8])>
-    ensures lines { MatchOption result (lines text.now ≡ []) (λ cut. lines text.now ≡ cut.0.now ∷ lines cut.1.now) }
+    ensures lines { MatchOption result (lines text.now ≡ [])
+        (λ cut. lines text.now ≡ cut.0.now ∷ lines cut.1.now) }
     ensures shorter { IfSome result (λ cut. length cut.1.now < length text.now) }
 {
     if text.is_empty() {
@@ -108,7 +111,8 @@ pub(crate) fn cut_line(text: &[u8]) -> Option<(&[u8], &[u8])>
 
 /// The first line that is no comment, and what follows it.
 pub(crate) fn cut_plain_line(text: &[u8]) -> Option<(&[u8], &[u8])>
-    ensures lines { MatchOption result (plain (lines text.now) ≡ []) (λ cut. plain (lines text.now) ≡ cut.0.now ∷ plain (lines cut.1.now)) }
+    ensures lines { MatchOption result (plain (lines text.now) ≡ [])
+        (λ cut. plain (lines text.now) ≡ cut.0.now ∷ plain (lines cut.1.now)) }
     ensures shorter { IfSome result (λ cut. length cut.1.now < length text.now) }
 {
     let mut rest = text;
@@ -124,7 +128,8 @@ pub(crate) fn cut_plain_line(text: &[u8]) -> Option<(&[u8], &[u8])>
 /// The first token of a line, and what follows it.
 #[tactic(auto, using(crate::proofs::LayoutLemmas::words_cut, crate::proofs::LayoutLemmas::words_done))]
 pub(crate) fn cut_word(line: &[u8]) -> Option<(&[u8], &[u8])>
-    ensures { MatchOption result (words line.now ≡ []) (λ cut. words line.now ≡ cut.0.now ∷ words cut.1.now) }
+    ensures { MatchOption result (words line.now ≡ [])
+        (λ cut. words line.now ≡ cut.0.now ∷ words cut.1.now) }
 {
     let rest = after_blanks(line);
     if rest.is_empty() {

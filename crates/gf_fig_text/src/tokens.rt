@@ -1,10 +1,12 @@
 //! The tokens of a FIG text, and fields read from them one after another.
 
-ghost use Rattle.std.specs.Prelude.{◌≡◌, ◌≤◌, ◌<◌, [], ◌∷◌, length, drop, nat_eq, MatchOption, IfSome, IfOk, IfErr, IsTrue, Ok, Err, option_copied, false};
+ghost use Rattle.std.specs.Prelude.{◌≡◌, ◌≤◌, ◌<◌, [], ◌∷◌, length, drop, nat_eq, MatchOption};
+ghost use Rattle.std.specs.Prelude.{IfSome, IfOk, IfErr, IsTrue, Ok, Err, option_copied, false};
 ghost use Rattle.std.specs.Option.{option_map_or};
 ghost use Rattle.std.specs.Cmp.Lexicographic.{pointwise};
 ghost use Rattle.gf_shape.specs.Reach.{is_reached, is_within_reach};
-ghost use Rattle.gf_fig_text.specs.Layout.{tokens, plain, lines, plain_lines, after_resolution, object_tokens};
+ghost use Rattle.gf_fig_text.specs.Layout.{tokens, plain, lines, plain_lines, after_resolution};
+ghost use Rattle.gf_fig_text.specs.Layout.{object_tokens};
 ghost use Rattle.gf_fig_text.specs.Forms.{whole, decimal, colour};
 ghost use Rattle.gf_fig_text.specs.Fields.{Steps, any, natural, coordinate, point};
 ghost use Rattle.gf_fig_text.specs.Stepping.{Takes};
@@ -76,7 +78,8 @@ impl<'a> Tokens<'a> {
 
     /// The next token.
     pub fn next_token(&mut self) -> Option<&'a [u8]>
-        ensures { MatchOption result ((self.old ≡ []) × (self.new ≡ [])) (λ token. self.old ≡ token.now ∷ self.new) }
+        ensures { MatchOption result ((self.old ≡ []) × (self.new ≡ []))
+            (λ token. self.old ≡ token.now ∷ self.new) }
     {
         loop {
             if let Some((token, after)) = cut_word(self.line) {
@@ -159,7 +162,8 @@ impl<'a> Tokens<'a> {
 
 /// Whether there is a token, and it is the text.
 fn is_text(token: Option<&[u8]>, text: &[u8]) -> bool
-    ensures { result ≡ option_map_or (λ t. pointwise nat_eq t text.now) (option_copied token.entry) false }
+    ensures { result ≡ option_map_or (λ t. pointwise nat_eq t text.now) (option_copied token.entry)
+        false }
 {
     match token {
         Some(token) => token == text,
@@ -171,7 +175,9 @@ fn is_text(token: Option<&[u8]>, text: &[u8]) -> bool
 #[tactic(auto, using(crate::proofs::LayoutLemmas::drop_more, crate::proofs::LayoutLemmas::drop_none))]
 fn after_header(text: &[u8]) -> Option<&[u8]>
     ensures few { IfSome result (λ rest. length rest.now ≤ length text.now) }
-    ensures lines { MatchOption result (length (plain_lines text.now) < 7) (λ rest. (7 ≤ length (plain_lines text.now)) × (plain (lines rest.now) ≡ drop 7 (plain_lines text.now))) }
+    ensures lines { MatchOption result (length (plain_lines text.now) < 7)
+        (λ rest. (7 ≤ length (plain_lines text.now))
+        × (plain (lines rest.now) ≡ drop 7 (plain_lines text.now))) }
 {
     let mut rest = cut_line(text)?.1;
     for _ in 0..7u32 {

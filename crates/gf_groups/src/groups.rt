@@ -76,7 +76,8 @@ pub fn groups_from(
     sets: Vec<Places>,
 ) -> Result<Groups, OutOfMemory>
     requires made { IsMade history.now.ops object }
-    requires table { IsTable (conflict_at history.now.ops) (places_below history.now.ops object (length history.now.ops)) sets.items }
+    requires table { IsTable (conflict_at history.now.ops)
+        (places_below history.now.ops object (length history.now.ops)) sets.items }
     ensures { IfOk result (λ groups. AreVersions history.now.ops object groups) }
 {
     // Its clause says that the history is valid.

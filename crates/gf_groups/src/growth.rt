@@ -1,10 +1,12 @@
 //! The largest groups without a conflict, grown one operation at a time.
 
-ghost use Rattle.std.specs.Prelude.{◌≡◌, ◌&&◌, map, filter, find, not, reverse, option_copied, Contains, IfOk, IfSome, OnOk};
+ghost use Rattle.std.specs.Prelude.{◌≡◌, ◌&&◌, map, filter, find, not, reverse, option_copied};
+ghost use Rattle.std.specs.Prelude.{Contains, IfOk, IfSome, OnOk};
 ghost use Rattle.std.specs.List.{list_any};
 ghost use Rattle.std.specs.List.Sorted.{IsStrictlySortedBy};
 ghost use Rattle.std.specs.Ordering.{nat_cmp};
-ghost use Rattle.gf_groups.specs.Growing.{conflict_at, same_group, take_up, pushed, clashes, step, part, parts, is_covered, covers, leaves};
+ghost use Rattle.gf_groups.specs.Growing.{conflict_at, same_group, take_up, pushed, clashes, step};
+ghost use Rattle.gf_groups.specs.Growing.{part, parts, is_covered, covers, leaves};
 ghost use Rattle.gf_groups.specs.Growing.{rivals, exposed, largest_of, next, groups_at};
 
 use crate::conflict::{both_conflict, conflict_at};
@@ -68,7 +70,8 @@ pub fn rivals(
     places: &[usize],
     place: usize,
 ) -> Result<Vec<usize>, OutOfMemory>
-    ensures { IfOk result (λ found. found.items ≡ rivals (conflict_at timeline.now) places.now place) }
+    ensures { IfOk result (λ found. found.items
+        ≡ rivals (conflict_at timeline.now) places.now place) }
 {
     let mut rivals = Vec::new(alloc);
     for other in places {
@@ -79,15 +82,16 @@ pub fn rivals(
     Ok(rivals)
 }
 
-/// All of these places that a part may leave uncovered: those whose operations conflict with a rival
-/// of the one at a place, and not with that one.
+/// All of these places that a part may leave uncovered: those whose operations conflict with a
+/// rival of the one at a place, and not with that one.
 fn exposed(
     alloc: Global,
     timeline: &Timeline<'_>,
     places: &[usize],
     place: usize,
 ) -> Result<Vec<usize>, OutOfMemory>
-    ensures { IfOk result (λ found. found.items ≡ exposed (conflict_at timeline.now) places.now place) }
+    ensures { IfOk result (λ found. found.items
+        ≡ exposed (conflict_at timeline.now) places.now place) }
 {
     let rivals = rivals(alloc, timeline, places, place)?;
     let mut exposed = Vec::new(alloc);
@@ -101,7 +105,8 @@ fn exposed(
 
 /// The last of these places whose operation does not conflict with the one at a place.
 fn last_calm<'a>(timeline: &Timeline<'_>, places: &'a [usize], place: usize) -> Option<&'a usize>
-    ensures { option_copied result ≡ find (λ other. not (conflict_at timeline.now other place)) (reverse places.now) }
+    ensures { option_copied result
+        ≡ find (λ other. not (conflict_at timeline.now other place)) (reverse places.now) }
 {
     places
         .iter()
@@ -111,7 +116,8 @@ fn last_calm<'a>(timeline: &Timeline<'_>, places: &'a [usize], place: usize) -> 
 
 /// Whether the operation at a place conflicts with a rival of another one.
 fn meets_rival(timeline: &Timeline<'_>, places: &[usize], place: usize, other: usize) -> bool
-    ensures { result ≡ list_any (λ rival. conflict_at timeline.now place rival && conflict_at timeline.now other rival) places.now }
+    ensures { result ≡ list_any (λ rival. conflict_at timeline.now place rival
+        && conflict_at timeline.now other rival) places.now }
 {
     places.iter().any(|rival| conflict_at(timeline, place, *rival)
         && conflict_at(timeline, other, *rival))
@@ -120,7 +126,8 @@ fn meets_rival(timeline: &Timeline<'_>, places: &[usize], place: usize, other: u
 /// One of those that a part may leave uncovered, if the last one that does not conflict with the
 /// operation at the place is one. Mostly it is what that one's site did before.
 fn last_exposed(timeline: &Timeline<'_>, places: &[usize], place: usize) -> Option<usize>
-    ensures { IfSome result (λ found. Contains (exposed (conflict_at timeline.now) places.now place) found) }
+    ensures { IfSome result (λ found.
+        Contains (exposed (conflict_at timeline.now) places.now place) found) }
 {
     match last_calm(timeline, places, place) {
         Some(other) => {
@@ -146,7 +153,8 @@ fn leaves(timeline: &Timeline<'_>, one: Option<usize>, part: &[usize]) -> bool
 
 /// Drops the parts that leave this place uncovered, where there is one.
 fn drop_short(timeline: &Timeline<'_>, one: Option<usize>, parts: &mut Vec<Places>)
-    ensures { parts.new.items ≡ filter (λ g. not (leaves (conflict_at timeline.now) one g)) parts.old.items }
+    ensures { parts.new.items
+        ≡ filter (λ g. not (leaves (conflict_at timeline.now) one g)) parts.old.items }
 {
     parts.retain(|part| !leaves(timeline, one, part.as_slice()));
 }
@@ -158,7 +166,8 @@ fn take_up(
     part: Places,
     parts: &mut IndexSet<Places>,
 ) -> Result<(), OutOfMemory>
-    ensures { OnOk result (parts.new.keys ≡ take_up same_group (covers (conflict_at timeline.now) exposed.now) parts.old.keys part) }
+    ensures { OnOk result (parts.new.keys
+        ≡ take_up same_group (covers (conflict_at timeline.now) exposed.now) parts.old.keys part) }
 {
     if covers(timeline, exposed, part.as_slice()) {
         parts.insert(part)?;
@@ -173,7 +182,8 @@ fn largest_of(
     exposed: &[usize],
     parts: Vec<Places>,
 ) -> Result<IndexSet<Places>, OutOfMemory>
-    ensures { IfOk result (λ largest. largest.keys ≡ largest_of (conflict_at timeline.now) exposed.now parts.items) }
+    ensures { IfOk result (λ largest. largest.keys
+        ≡ largest_of (conflict_at timeline.now) exposed.now parts.items) }
 {
     let mut largest = IndexSet::new(alloc);
     for part in parts {
@@ -190,8 +200,10 @@ fn join(
     place: usize,
     groups: &mut Vec<Places>,
 ) -> Result<Vec<Places>, OutOfMemory>
-    ensures groups { OnOk result (groups.new.items ≡ map (step (conflict_at timeline.now) place) groups.old.items) }
-    ensures parts { IfOk result (λ made. made.items ≡ parts (conflict_at timeline.now) place groups.old.items) }
+    ensures groups { OnOk result (groups.new.items
+        ≡ map (step (conflict_at timeline.now) place) groups.old.items) }
+    ensures parts { IfOk result (λ made. made.items
+        ≡ parts (conflict_at timeline.now) place groups.old.items) }
 {
     let mut parts = Vec::new(alloc);
     for group in groups.iter_mut() {
@@ -212,7 +224,9 @@ fn largest_parts(
     place: usize,
     parts: Vec<Places>,
 ) -> Result<IndexSet<Places>, OutOfMemory>
-    ensures { IfOk result (λ largest. largest.keys ≡ largest_of (conflict_at timeline.now) (exposed (conflict_at timeline.now) places.now place) parts.items) }
+    ensures { IfOk result (λ largest. largest.keys
+        ≡ largest_of (conflict_at timeline.now)
+        (exposed (conflict_at timeline.now) places.now place) parts.items) }
 {
     if parts.is_empty() {
         return Ok(IndexSet::new(alloc));
@@ -230,8 +244,12 @@ fn joined_parts(
     place: usize,
     groups: &mut Vec<Places>,
 ) -> Result<IndexSet<Places>, OutOfMemory>
-    ensures groups { OnOk result (groups.new.items ≡ map (step (conflict_at timeline.now) place) groups.old.items) }
-    ensures found { IfOk result (λ found. found.keys ≡ largest_of (conflict_at timeline.now) (exposed (conflict_at timeline.now) places.now place) (parts (conflict_at timeline.now) place groups.old.items)) }
+    ensures groups { OnOk result (groups.new.items
+        ≡ map (step (conflict_at timeline.now) place) groups.old.items) }
+    ensures found { IfOk result (λ found. found.keys
+        ≡ largest_of (conflict_at timeline.now)
+        (exposed (conflict_at timeline.now) places.now place)
+        (parts (conflict_at timeline.now) place groups.old.items)) }
 {
     let one = last_exposed(timeline, places, place);
     let mut parts = join(alloc, timeline, place, groups)?;
@@ -239,7 +257,8 @@ fn joined_parts(
     largest_parts(alloc, timeline, places, place, parts)
 }
 
-/// Turns the largest groups of these places into those of these and one more, which comes after them.
+/// Turns the largest groups of these places into those of these and one more, which comes after
+/// them.
 pub fn grow(
     alloc: Global,
     timeline: &Timeline<'_>,
@@ -247,7 +266,8 @@ pub fn grow(
     place: usize,
     groups: &mut Vec<Places>,
 ) -> Result<(), OutOfMemory>
-    ensures { OnOk result (groups.new.items ≡ next (conflict_at timeline.now) places.now place groups.old.items) }
+    ensures { OnOk result (groups.new.items
+        ≡ next (conflict_at timeline.now) places.now place groups.old.items) }
 {
     for part in joined_parts(alloc, timeline, places, place, groups)? {
         groups.push(part)?;
@@ -275,7 +295,8 @@ pub fn groups_at(
     places: &[usize],
 ) -> Result<Vec<Places>, OutOfMemory>
     requires { IsStrictlySortedBy nat_cmp places.now }
-    ensures { IfOk result (λ groups. groups.items ≡ groups_at (conflict_at history.now.ops) places.now) }
+    ensures { IfOk result (λ groups. groups.items
+        ≡ groups_at (conflict_at history.now.ops) places.now) }
 {
     let timeline = Timeline::of(history);
     let mut groups = Vec::from_array(alloc, [Places::new(alloc)])?;

@@ -1,16 +1,16 @@
-//! The versions of objects as groups of operations: largest sets of operations on one object, no two
-//! of which conflict.
+//! The versions of objects as groups of operations: largest sets of operations on one object, no
+//! two of which conflict.
 //!
-//! - [`groups_of`]: the versions of one object, as [`Groups`], a list of [`Group`]; [`Ids`] lists the
-//!   operations of one.
+//! - [`groups_of`]: the versions of one object, as [`Groups`], a list of [`Group`]; [`Ids`] lists
+//!   the operations of one.
 //! - [`all_groups`]: those of all objects of a history.
 //! - [`GroupFault`]: why there is no such list.
 //! - [`the_versions_are_a_list_that_computes`]: the law.
 //!
-//! What a table that grows is made of: [`Places`] of operations in a [`Timeline`], whether those of two
-//! [conflict](conflict_at), [`clashes`] and [`rivals`] of one, [`groups_at`] places and how they
-//! [`grow`], and the groups of an object [from](groups_from) its sets, or [added](add_groups) to
-//! others.
+//! What a table that grows is made of: [`Places`] of operations in a [`Timeline`], whether those of
+//! two [conflict](conflict_at), [`clashes`] and [`rivals`] of one, [`groups_at`] places and how
+//! they [`grow`], and the groups of an object [from](groups_from) its sets, or [added](add_groups)
+//! to others.
 #![tactic(auto)]
 
 mod conflict;

@@ -66,7 +66,8 @@ pub fn add_groups(
     groups: &mut Vec<Group>,
 ) -> Result<(), OutOfMemory>
     requires { All IsRising sets.items }
-    ensures { OnOk result (groups.new.items ≡ groups.old.items ++ map (group_at history.now.ops object) sets.items) }
+    ensures { OnOk result (groups.new.items
+        ≡ groups.old.items ++ map (group_at history.now.ops object) sets.items) }
 {
     for set in sets {
         let ops = rising_ids(alloc, history, set.as_slice())?;

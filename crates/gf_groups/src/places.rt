@@ -60,7 +60,8 @@ impl Places {
         Ok(())
     }
 
-    /// Adds a place behind these and behind the others. All memory is there before it changes either.
+    /// Adds a place behind these and behind the others. All memory is there before it changes
+    /// either.
     pub fn push_to_both(&mut self, others: &mut Places, place: usize) -> Result<(), OutOfMemory>
         ensures ok { OnOk result (self.new ≡ self.old ++ place ∷ []) }
         ensures others { OnOk result (others.new ≡ others.old ++ place ∷ []) }

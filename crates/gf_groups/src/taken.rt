@@ -1,4 +1,5 @@
-//! A clock that counts the operations taken so far, to tell at once an operation that knows them all.
+//! A clock that counts the operations taken so far, to tell at once an operation that knows them
+//! all.
 
 ghost use Rattle.std.specs.Prelude.{◌↔◌, IsTrue};
 ghost use Rattle.gf_ops.specs.Limits.{IsInRange};

@@ -42,7 +42,9 @@ impl<'a, S: Shape> Model for Layers<'a, S> {
 impl<'a, S: Shape> Layers<'a, S> {
     /// The layers of a drawing, one for each figure.
     pub fn new(alloc: Global, drawing: &'a Drawing<S>) -> Result<Layers<'a, S>, OutOfMemory>
-        ensures { IfOk result (λ ls. (p : Point) → layered S.holds ls p ≡ drawing_colour S.holds drawing.now.table drawing.now.figures p) }
+        ensures { IfOk result (λ ls. (p : Point)
+            → layered S.holds ls p
+            ≡ drawing_colour S.holds drawing.now.table drawing.now.figures p) }
     {
         let figures = drawing.front_to_back(alloc)?;
         let layers = layers_of(alloc, drawing, &figures)?;
@@ -57,7 +59,8 @@ fn layers_of<'a, S: Shape>(
     drawing: &'a Drawing<S>,
     figures: &[&'a Figure<S>],
 ) -> Result<Vec<Layer<'a, S>>, OutOfMemory>
-    ensures seen { IfOk result (λ ls. map seen ls.items ≡ map (λ f. seen_figure drawing.now.table f.now) figures.now) }
+    ensures seen { IfOk result (λ ls. map seen ls.items
+        ≡ map (λ f. seen_figure drawing.now.table f.now) figures.now) }
     ensures bounds { IfOk result (λ ls. All (HasBounds S.holds) ls.items) }
 {
     let mut layers = Vec::new(alloc);

@@ -1,6 +1,7 @@
 //! Pieces: what a part of a window has of a layer.
 
-ghost use Rattle.std.specs.Prelude.{◌≡◌, ℕ, ℤ, ◌+◌, ◌≤◌, ◌<◌, ◌≤ℤ◌, Bool, true, ◌&&◌, int_le, IfOk, IfSome, None};
+ghost use Rattle.std.specs.Prelude.{◌≡◌, ℕ, ℤ, ◌+◌, ◌≤◌, ◌<◌, ◌≤ℤ◌, Bool, true, ◌&&◌, int_le, IfOk};
+ghost use Rattle.std.specs.Prelude.{IfSome, None};
 ghost use Rattle.gf_edges.specs.Telling.{TellsRow};
 ghost use Rattle.gf_rows.specs.Spans.{is_in_span};
 ghost use Rattle.gf_shape.specs.declared.point.Point.{Point};
@@ -39,8 +40,11 @@ pub(crate) fn piece_of<'l, 'a, S: Shape>(
     requires rows { (1 ≤ count) × (top + count ≤ window.height) }
     requires bounds { HasBounds S.holds layer.now }
     ensures layer { IfOk result (λ found. IfSome found (λ p. p.layer.now ≡ layer.now)) }
-    ensures some { IfOk result (λ found. IfSome found (λ p. (j : ℕ) → top ≤ j → j < top + count → IsPiece S.holds window j from len p)) }
-    ensures none { IfOk result (λ found. found ≡ None → IsUnseen S.holds window top count from len layer.now) }
+    ensures some { IfOk result (λ found.
+        IfSome found (λ p. (j : ℕ) → top ≤ j → j < top + count
+        → IsPiece S.holds window j from len p)) }
+    ensures none { IfOk result (λ found. found ≡ None
+        → IsUnseen S.holds window top count from len layer.now) }
 {
     let bounds = layer.bounds;
     let low = window.line(top);
@@ -73,7 +77,9 @@ pub(crate) fn reaches(bounds: Bounds, low: i32, high: i32) -> bool
 /// How far the points of a shape reach to the left and to the right, in a row that its edges tell,
 /// where it has some: no further than these, nor than its bounds.
 fn reach(bounds: Bounds, edges: &Option<Edges>) -> Span
-    ensures { (holds : Point → Bool) (x y : ℤ) → IsBounds holds bounds → IfSome edges.now (λ es. TellsRow holds y es) → holds (record { x = x; y = y }) ≡ true → is_in_span x result ≡ true }
+    ensures { (holds : Point → Bool) (x y : ℤ) → IsBounds holds bounds
+        → IfSome edges.now (λ es. TellsRow holds y es) → holds (record { x = x; y = y }) ≡ true
+        → is_in_span x result ≡ true }
 {
     match edges {
         Some(edges) => edges.reach(),
@@ -98,7 +104,8 @@ fn edges<S: Shape>(
     low: i32,
     high: i32,
 ) -> Result<Option<Edges>, OutOfMemory>
-    ensures { IfOk result (λ found. IfSome found (λ es. (y : ℤ) → low ≤ℤ y → y ≤ℤ high → TellsRow (S.holds shape.now) y es)) }
+    ensures { IfOk result (λ found.
+        IfSome found (λ es. (y : ℤ) → low ≤ℤ y → y ≤ℤ high → TellsRow (S.holds shape.now) y es)) }
 {
     let outline = shape.outline(alloc)?;
     match &outline {
@@ -116,7 +123,8 @@ pub(crate) fn spans<'r, S: Shape>(
     y: i32,
     space: &'r mut Workspace,
 ) -> Result<&'r [Span], OutOfMemory>
-    requires { IfSome piece.now.edges (λ es. TellsRow (S.holds piece.now.layer.now.shape.now) y es) }
+    requires { IfSome piece.now.edges (λ es.
+        TellsRow (S.holds piece.now.layer.now.shape.now) y es) }
     ensures { IfOk result (λ spans. IsRow (S.holds piece.now.layer.now.shape.now) y spans.now) }
 {
     if let Some(edges) = &piece.edges {

@@ -28,7 +28,9 @@ pub(crate) fn paint_pieces<S: Shape>(
 ) -> Result<(), OutOfMemory>
     requires row { j < window.height }
     requires pieces { All (IsPiece S.holds window j from len) pieces.now }
-    ensures { OnOk result ((target : ℕ → Rgb) → IsPainted target (row_colours S.holds (layers_of pieces.now) window j from) len strip.old → IsPainted target (λ _. white) len strip.new) }
+    ensures { OnOk result ((target : ℕ → Rgb)
+        → IsPainted target (row_colours S.holds (layers_of pieces.now) window j from) len strip.old
+        → IsPainted target (λ _. white) len strip.new) }
 {
     for piece in pieces {
         if strip.is_covered() {
@@ -51,7 +53,9 @@ fn paint_piece<S: Shape>(
 ) -> Result<(), OutOfMemory>
     requires row { j < window.height }
     requires piece { IsPiece S.holds window j from len piece.now }
-    ensures { OnOk result ((target behind : ℕ → Rgb) → IsPainted target (layer_over S.holds window j from behind piece.now.layer.now) len strip.old → IsPainted target behind len strip.new) }
+    ensures { OnOk result ((target behind : ℕ → Rgb)
+        → IsPainted target (layer_over S.holds window j from behind piece.now.layer.now) len
+        strip.old → IsPainted target behind len strip.new) }
 {
     let y = window.line(j);
     if !reaches(piece.bounds, y, y) {
@@ -74,7 +78,9 @@ fn paint_spans(
     brush: &Brush,
     strip: &mut Strip,
 ) -> Result<(), OutOfMemory>
-    ensures { OnOk result ((target behind : ℕ → Rgb) → IsPainted target (over (λ k. list_any (is_in_span (column window (from + k))) spans.now) brush.now behind) len strip.old → IsPainted target behind len strip.new) }
+    ensures { OnOk result ((target behind : ℕ → Rgb)
+        → IsPainted target (over (λ k. list_any (is_in_span (column window (from + k))) spans.now)
+        brush.now behind) len strip.old → IsPainted target behind len strip.new) }
 {
     for span in spans {
         paint_span(*span, window, from, len, brush, strip)?;
@@ -90,7 +96,9 @@ fn paint_span(
     brush: &Brush,
     strip: &mut Strip,
 ) -> Result<(), OutOfMemory>
-    ensures { OnOk result ((target behind : ℕ → Rgb) → IsPainted target (over (λ k. is_in_span (column window (from + k)) span) brush.now behind) len strip.old → IsPainted target behind len strip.new) }
+    ensures { OnOk result ((target behind : ℕ → Rgb)
+        → IsPainted target (over (λ k. is_in_span (column window (from + k)) span) brush.now behind)
+        len strip.old → IsPainted target behind len strip.new) }
 {
     strip.paint(window.columns(from, len, span), brush)?;
     Ok(())

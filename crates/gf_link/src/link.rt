@@ -1,6 +1,7 @@
 //! The link, what is done on it, and its end.
 
-ghost use Rattle.std.specs.Prelude.{◌≡◌, ◌<◌, ◌≤◌, ◌++◌, ◌∷◌, [], length, IfOk, IsTrue, IsFalse, MatchOption};
+ghost use Rattle.std.specs.Prelude.{◌≡◌, ◌<◌, ◌≤◌, ◌++◌, ◌∷◌, [], length, IfOk, IsTrue, IsFalse};
+ghost use Rattle.std.specs.Prelude.{MatchOption};
 ghost use Rattle.gf_link.specs.Ends.{is_end, is_ended, ends_last, IsFront};
 
 use crate::rule::{Got, InOrder, Log, Roles, Sent, Total};
@@ -14,8 +15,8 @@ use std::sync::Wait;
 /// How many messages are sent on a link at most.
 pub const MOST_MESSAGES: usize = 1_024;
 
-/// One way from a site to another, over which up to [`MOST_MESSAGES`] messages are sent in all. Contracts see
-/// it as its name.
+/// One way from a site to another, over which up to [`MOST_MESSAGES`] messages are sent in all.
+/// Contracts see it as its name.
 #[derive(Drop)]
 pub struct Link {
     queue: RuledArrayQueue<Message, Log, InOrder>,
@@ -102,8 +103,8 @@ impl Link {
     }
 }
 
-/// Compares the two seats of a link: what was taken is a front of what was sent, and all of it where an
-/// end was taken.
+/// Compares the two seats of a link: what was taken is a front of what was sent, and all of it
+/// where an end was taken.
 pub fn settle<R: Wait>(_rt: &R, link: Link, send: SendSeat, take: TakeSeat) -> Settled
     requires send { send.link ≡ link }
     requires take { take.link ≡ link }

@@ -24,7 +24,8 @@ impl Protocol<Message, Log> for InOrder {
     ghost first = { log true true [] [] };
 }
 
-/// The first pass is split into that of the sender and that of the taker, and they are joined again.
+/// The first pass is split into that of the sender and that of the taker, and they are joined
+/// again.
 pub struct Roles;
 
 impl Split<Log> for Roles {
@@ -45,7 +46,8 @@ impl Join<Log> for Roles {
     ghost spent = { log false false [] [] };
 }
 
-/// A message is sent: it stands behind those sent before it, and the queue holds no more than was sent.
+/// A message is sent: it stands behind those sent before it, and the queue holds no more than was
+/// sent.
 pub struct Sent;
 
 impl Outcome<Message, Log> for Sent {

@@ -28,7 +28,8 @@ impl Model for SendSeat {
     ghost invariant = { IsSender };
 }
 
-/// The right to take from a link. Contracts see it as its link's name and the list of what was taken.
+/// The right to take from a link. Contracts see it as its link's name and the list of what was
+/// taken.
 #[derive(Drop)]
 pub struct TakeSeat {
     pub(crate) pass: Pass<Message, Log>,

@@ -1,9 +1,11 @@
 //! The history of a site.
 
-ghost use Rattle.std.specs.Prelude.{◌≡◌, ◌≢◌, ◌<◌, ◌↔◌, ◌++◌, ◌∷◌, [], Contains, IsTrue, Ok, Err, IsOk, IfOk, IfSome, IfNone, OnOk, OnErr};
+ghost use Rattle.std.specs.Prelude.{◌≡◌, ◌≢◌, ◌<◌, ◌↔◌, ◌++◌, ◌∷◌, [], Contains, IsTrue, Ok, Err};
+ghost use Rattle.std.specs.Prelude.{IsOk, IfOk, IfSome, IfNone, OnOk, OnErr};
 ghost use Rattle.gf_ops.specs.declared.op.Op.{Op};
 ghost use Rattle.gf_ops.specs.declared.history.History.{History};
-ghost use Rattle.gf_ops.specs.Accepted.{CountsAtMost, IsNumbered, IsClosed, IsNext, IsAccepted, IsRefused};
+ghost use Rattle.gf_ops.specs.Accepted.{CountsAtMost, IsNumbered, IsClosed, IsNext, IsAccepted};
+ghost use Rattle.gf_ops.specs.Accepted.{IsRefused};
 ghost use Rattle.gf_ops.specs.Attribute.{kind_of, suits};
 ghost use Rattle.gf_ops.specs.KnownObject.{Knows, KnowsSome, IsFounded, IsSuited};
 ghost use Rattle.gf_ops.specs.Limits.{IsInRange};
@@ -33,7 +35,10 @@ impl Model for History {
 
     ghost Value = { HistoryState };
 
-    ghost view = { λ h. record { ops = h.ops.items; room = min (vec_capacity h.ops - vec_len h.ops) (vec_capacity h.places - vec_len h.places) } };
+    ghost view = { λ h. record {
+      ops = h.ops.items;
+      room = min (vec_capacity h.ops - vec_len h.ops) (vec_capacity h.places - vec_len h.places);
+    } };
 
     ghost invariant = { λ h. IsHistory h.ops.items h.places.items h.counts };
 }
@@ -103,9 +108,12 @@ impl History {
     pub fn check(&self, op: &Op) -> Result<(), OpFault>
         requires { IsInRange op.now }
         ensures ok { IsOk result ↔ IsAccepted self.now.ops op.now }
-        ensures bad_clock { result ≡ Err OpFault.BadClock ↔ IsRefused self.now.ops op.now OpFault.BadClock }
-        ensures no_object { result ≡ Err OpFault.NoObject ↔ IsRefused self.now.ops op.now OpFault.NoObject }
-        ensures wrong_kind { result ≡ Err OpFault.WrongKind ↔ IsRefused self.now.ops op.now OpFault.WrongKind }
+        ensures bad_clock { result ≡ Err OpFault.BadClock
+            ↔ IsRefused self.now.ops op.now OpFault.BadClock }
+        ensures no_object { result ≡ Err OpFault.NoObject
+            ↔ IsRefused self.now.ops op.now OpFault.NoObject }
+        ensures wrong_kind { result ≡ Err OpFault.WrongKind
+            ↔ IsRefused self.now.ops op.now OpFault.WrongKind }
     {
         if self.is_next(op) {
             self.check_change(op)
@@ -138,8 +146,8 @@ impl History {
         clock.is_within(&self.counts)
     }
 
-    /// Whether it knows all that the operations that it knows knew. The pasts of a site only grow, so
-    /// the last of each site decides.
+    /// Whether it knows all that the operations that it knows knew. The pasts of a site only grow,
+    /// so the last of each site decides.
     fn is_closed(&self, op: &Op) -> bool
         requires within { CountsAtMost op.now.past self.now.ops }
         ensures { IsTrue result ↔ IsClosed self.now.ops op.now }
@@ -156,12 +164,16 @@ impl History {
         true
     }
 
-    /// Whether the operation makes an object, or knows the one that it changes, and its value suits.
+    /// Whether the operation makes an object, or knows the one that it changes, and its value
+    /// suits.
     fn check_change(&self, op: &Op) -> Result<(), OpFault>
         requires { IsInRange op.now }
         ensures ok { IsOk result ↔ IsSuited self.now.ops op.now op.now.change }
-        ensures no_object { result ≡ Err OpFault.NoObject ↔ (¬ IsFounded self.now.ops op.now op.now.change) }
-        ensures wrong_kind { result ≡ Err OpFault.WrongKind ↔ (IsFounded self.now.ops op.now op.now.change × (¬ IsSuited self.now.ops op.now op.now.change)) }
+        ensures no_object { result ≡ Err OpFault.NoObject
+            ↔ (¬ IsFounded self.now.ops op.now op.now.change) }
+        ensures wrong_kind { result ≡ Err OpFault.WrongKind
+            ↔ (IsFounded self.now.ops op.now op.now.change
+            × (¬ IsSuited self.now.ops op.now op.now.change)) }
         ensures clock { result ≢ Err OpFault.BadClock }
     {
         let _ = &self.ops;
@@ -178,7 +190,8 @@ impl History {
     /// The form that the object was made with, if the operation knows that.
     fn known_form(&self, op: &Op, object: ObjectId) -> Option<&Form>
         requires { IsInRange op.now }
-        ensures found { IfSome result (λ form. Knows self.now.ops op.now object (kind_of form.now)) }
+        ensures found { IfSome result (λ form.
+            Knows self.now.ops op.now object (kind_of form.now)) }
         ensures none { IfNone result (¬ KnowsSome self.now.ops op.now object) }
     {
         let _ = &self.ops;
@@ -207,11 +220,16 @@ impl History {
     /// Adds the operation where `check` accepts it.
     pub fn add(&mut self, op: Op) -> Result<(), AddFault>
         requires { IsInRange op }
-        ensures ok { OnOk result (IsAccepted self.old.ops op × (self.new.ops ≡ self.old.ops ++ op ∷ [])) }
-        ensures bad_clock { result ≡ Err (AddFault.Op OpFault.BadClock) ↔ IsRefused self.old.ops op OpFault.BadClock }
-        ensures no_object { result ≡ Err (AddFault.Op OpFault.NoObject) ↔ IsRefused self.old.ops op OpFault.NoObject }
-        ensures wrong_kind { result ≡ Err (AddFault.Op OpFault.WrongKind) ↔ IsRefused self.old.ops op OpFault.WrongKind }
-        ensures out_of_memory { result ≡ Err AddFault.OutOfMemory → IsAccepted self.old.ops op × (self.old.room ≡ 0) }
+        ensures ok { OnOk result (IsAccepted self.old.ops op
+            × (self.new.ops ≡ self.old.ops ++ op ∷ [])) }
+        ensures bad_clock { result ≡ Err (AddFault.Op OpFault.BadClock)
+            ↔ IsRefused self.old.ops op OpFault.BadClock }
+        ensures no_object { result ≡ Err (AddFault.Op OpFault.NoObject)
+            ↔ IsRefused self.old.ops op OpFault.NoObject }
+        ensures wrong_kind { result ≡ Err (AddFault.Op OpFault.WrongKind)
+            ↔ IsRefused self.old.ops op OpFault.WrongKind }
+        ensures out_of_memory { result ≡ Err AddFault.OutOfMemory
+            → IsAccepted self.old.ops op × (self.old.room ≡ 0) }
         ensures err { OnErr result (self.new ≡ self.old) }
         ensures valid { IsValid self.new.ops }
     {

@@ -1,7 +1,8 @@
 //! Operations on the objects of a drawing, and the history that they make.
 //!
 //! - [`Op`] with its [`OpId`], its [`Clock`] and its [`Change`]: one edit by one designer.
-//! - [`Start`] with its [`Form`] and [`Points`], [`ObjectId`]: what a new object begins with, and its name.
+//! - [`Start`] with its [`Form`] and [`Points`], [`ObjectId`]: what a new object begins with, and
+//!   its name.
 //! - [`Value`], [`Attr`]: what a change of an object sets.
 //! - [`before`], [`concurrent`]: the causal order of operations.
 //! - [`conflicts`]: whether two operations cannot stand in one version.

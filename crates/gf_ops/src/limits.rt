@@ -3,7 +3,8 @@
 ghost use Rattle.std.specs.Prelude.{◌≡◌};
 ghost use Rattle.std.specs.List.{list_all};
 ghost use Rattle.gf_shape.specs.Polygons.{is_polygon_count};
-ghost use Rattle.gf_ops.specs.Limits.{is_site, is_size, is_near, is_id, is_clock, is_polygon, is_form, is_layer, is_value, is_change, is_in_range};
+ghost use Rattle.gf_ops.specs.Limits.{is_site, is_size, is_near, is_id, is_clock, is_polygon};
+ghost use Rattle.gf_ops.specs.Limits.{is_form, is_layer, is_value, is_change, is_in_range};
 
 use crate::{Change, Clock, Form, Op, OpId, Value};
 use gf_shape::Point;

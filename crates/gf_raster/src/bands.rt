@@ -13,8 +13,8 @@ use gf_window::Window;
 use std::alloc::Global;
 use std::thread::Threads;
 
-/// Adds the bytes of `count` rows from `top` on, painted by so many workers, who first pass the gate
-/// for all tiles there.
+/// Adds the bytes of `count` rows from `top` on, painted by so many workers, who first pass the
+/// gate for all tiles there.
 pub(crate) fn band<S: Shape + Sync, G: Gate + Sync, R: Threads + Sync>(
     rt: &R,
     alloc: Global,
@@ -28,7 +28,8 @@ pub(crate) fn band<S: Shape + Sync, G: Gate + Sync, R: Threads + Sync>(
 ) -> Result<(), OutOfMemory>
     requires rows { (1 ≤ count) × (top + count ≤ window.height) }
     requires workers { (1 ≤ workers) × (workers ≤ 16) }
-    ensures { OnOk result (bytes.new.items ≡ bytes.old.items ++ rows (layered S.holds layers.now) window top count) }
+    ensures { OnOk result (bytes.new.items
+        ≡ bytes.old.items ++ rows (layered S.holds layers.now) window top count) }
 {
     pass_all(rt, alloc, window, top, workers, gate)?;
     if workers == 1 && bytes.is_empty() {
@@ -52,7 +53,8 @@ fn share_band<S: Shape + Sync, R: Threads + Sync>(
 ) -> Result<(), OutOfMemory>
     requires rows { (1 ≤ count) × (top + count ≤ window.height) }
     requires workers { (1 ≤ workers) × (workers ≤ 16) }
-    ensures { OnOk result (bytes.new.items ≡ bytes.old.items ++ rows (layered S.holds layers.now) window top count) }
+    ensures { OnOk result (bytes.new.items
+        ≡ bytes.old.items ++ rows (layered S.holds layers.now) window top count) }
 {
     let size = count.div_ceil(workers);
     let all = shares(rt, alloc, layers, window, top, count, size, workers)?;

@@ -43,8 +43,8 @@ impl Raster {
 /// Paints a window of a drawing, one band of 64 rows after another, each shared by 1 to 16 workers:
 /// pixel (i, j) has the drawing's colour at the point (x + i * step, y + j * step).
 ///
-/// Each worker passes `gate` for a run of a band's tiles; once all have passed, each paints some of the
-/// band's rows. Where a thread can't be started, the caller's does its part.
+/// Each worker passes `gate` for a run of a band's tiles; once all have passed, each paints some of
+/// the band's rows. Where a thread can't be started, the caller's does its part.
 pub fn paint<S: Shape + Sync, G: Gate + Sync, R: Threads + Sync>(
     rt: &R,
     alloc: Global,
@@ -54,7 +54,8 @@ pub fn paint<S: Shape + Sync, G: Gate + Sync, R: Threads + Sync>(
     gate: &G,
 ) -> Result<Raster, OutOfMemory>
     requires { (1 ≤ workers) × (workers ≤ 16) }
-    ensures { IfOk result (λ pixels. pixels ≡ raster (drawing_colour S.holds drawing.now.table drawing.now.figures) window) }
+    ensures { IfOk result (λ pixels. pixels
+        ≡ raster (drawing_colour S.holds drawing.now.table drawing.now.figures) window) }
 {
     let layers = Layers::new(alloc, drawing)?;
     let bytes = paint_all(rt, alloc, &layers, window, usize::from(workers), gate)?;

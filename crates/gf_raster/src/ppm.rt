@@ -22,9 +22,9 @@ use itoa::Buffer;
 use std::alloc::{AllocError, Global};
 use std::thread::Threads;
 
-/// Writes the picture of a window of a drawing as raw PPM, and flushes: the header, and then one band
-/// of 64 rows after another, each painted as [`paint`](crate::paint) does. No more than a band is in
-/// memory.
+/// Writes the picture of a window of a drawing as raw PPM, and flushes: the header, and then one
+/// band of 64 rows after another, each painted as [`paint`](crate::paint) does. No more than a band
+/// is in memory.
 pub fn ppm_to<S: Shape + Sync, G: Gate + Sync, R: Threads + Sync, W: Sink>(
     rt: &R,
     alloc: Global,
@@ -35,13 +35,20 @@ pub fn ppm_to<S: Shape + Sync, G: Gate + Sync, R: Threads + Sync, W: Sink>(
     sink: &mut W,
 ) -> Result<(), WriteError>
     requires { (1 ≤ workers) × (workers ≤ 16) }
-    ensures whole { OnOk result (Appends (W.taken sink.old) (W.taken sink.new) (picture (drawing_colour S.holds drawing.now.table drawing.now.figures) window)) }
+    ensures whole { OnOk result (Appends (W.taken sink.old) (W.taken sink.new)
+        (picture (drawing_colour S.holds drawing.now.table drawing.now.figures) window)) }
     ensures flushed { OnOk result (IsTrue (W.flushed sink.new)) }
     ensures unfailed { OnOk result (W.failures sink.new ≡ W.failures sink.old) }
     // Want of memory leaves nothing, or the header and whole bands.
-    ensures memory { result ≡ Err WriteError.OutOfMemory → (sink.new ≡ sink.old) ⊎ HasBands (header window) (drawing_colour S.holds drawing.now.table drawing.now.figures) window (W.taken sink.old) (W.taken sink.new) }
-    ensures front { result ≡ Err WriteError.WriteFailed → AppendsFront (W.taken sink.old) (W.taken sink.new) (picture (drawing_colour S.holds drawing.now.table drawing.now.figures) window) }
-    ensures failed { result ≡ Err WriteError.WriteFailed → Rises (W.failures sink.old) (W.failures sink.new) }
+    ensures memory { result ≡ Err WriteError.OutOfMemory
+        → (sink.new ≡ sink.old)
+        ⊎ HasBands (header window) (drawing_colour S.holds drawing.now.table drawing.now.figures)
+        window (W.taken sink.old) (W.taken sink.new) }
+    ensures front { result ≡ Err WriteError.WriteFailed
+        → AppendsFront (W.taken sink.old) (W.taken sink.new)
+        (picture (drawing_colour S.holds drawing.now.table drawing.now.figures) window) }
+    ensures failed { result ≡ Err WriteError.WriteFailed
+        → Rises (W.failures sink.old) (W.failures sink.new) }
 {
     let Ok(layers) = Layers::new(alloc, drawing) else {
         return Err(WriteError::OutOfMemory);
@@ -84,11 +91,16 @@ fn write_bands<S: Shape + Sync, G: Gate + Sync, R: Threads + Sync, W: Sink>(
     sink: &mut W,
 ) -> Result<(), WriteError>
     requires { (1 ≤ workers) × (workers ≤ 16) }
-    ensures whole { OnOk result (Appends (W.taken sink.old) (W.taken sink.new) (raster (layered S.holds layers.now) window)) }
+    ensures whole { OnOk result (Appends (W.taken sink.old) (W.taken sink.new)
+        (raster (layered S.holds layers.now) window)) }
     ensures unfailed { OnOk result (W.failures sink.new ≡ W.failures sink.old) }
-    ensures memory { result ≡ Err WriteError.OutOfMemory → HasBands [] (layered S.holds layers.now) window (W.taken sink.old) (W.taken sink.new) }
-    ensures front { result ≡ Err WriteError.WriteFailed → AppendsFront (W.taken sink.old) (W.taken sink.new) (raster (layered S.holds layers.now) window) }
-    ensures failed { result ≡ Err WriteError.WriteFailed → Rises (W.failures sink.old) (W.failures sink.new) }
+    ensures memory { result ≡ Err WriteError.OutOfMemory
+        → HasBands [] (layered S.holds layers.now) window (W.taken sink.old) (W.taken sink.new) }
+    ensures front { result ≡ Err WriteError.WriteFailed
+        → AppendsFront (W.taken sink.old) (W.taken sink.new)
+        (raster (layered S.holds layers.now) window) }
+    ensures failed { result ≡ Err WriteError.WriteFailed
+        → Rises (W.failures sink.old) (W.failures sink.new) }
 {
     let mut bytes = Vec::new(alloc);
     let height = window.height() as usize;
@@ -119,11 +131,15 @@ fn write_band<S: Shape + Sync, G: Gate + Sync, R: Threads + Sync, W: Sink>(
     requires rows { (1 ≤ count) × (top + count ≤ window.height) }
     requires workers { (1 ≤ workers) × (workers ≤ 16) }
     requires empty { bytes.old.items ≡ [] }
-    ensures whole { OnOk result (Appends (W.taken sink.old) (W.taken sink.new) (rows (layered S.holds layers.now) window top count)) }
+    ensures whole { OnOk result (Appends (W.taken sink.old) (W.taken sink.new)
+        (rows (layered S.holds layers.now) window top count)) }
     ensures unfailed { OnOk result (W.failures sink.new ≡ W.failures sink.old) }
     ensures memory { result ≡ Err WriteError.OutOfMemory → sink.new ≡ sink.old }
-    ensures front { result ≡ Err WriteError.WriteFailed → AppendsFront (W.taken sink.old) (W.taken sink.new) (rows (layered S.holds layers.now) window top count) }
-    ensures failed { result ≡ Err WriteError.WriteFailed → Rises (W.failures sink.old) (W.failures sink.new) }
+    ensures front { result ≡ Err WriteError.WriteFailed
+        → AppendsFront (W.taken sink.old) (W.taken sink.new)
+        (rows (layered S.holds layers.now) window top count) }
+    ensures failed { result ≡ Err WriteError.WriteFailed
+        → Rises (W.failures sink.old) (W.failures sink.new) }
 {
     let Ok(()) = band(rt, alloc, layers, window, top, count, workers, gate, bytes) else {
         return Err(WriteError::OutOfMemory);

@@ -25,7 +25,8 @@ pub(crate) fn painted<S: Shape>(
     count: usize,
 ) -> Result<Vec<u8>, OutOfMemory>
     requires { top + count ≤ window.height }
-    ensures { IfOk result (λ bytes. bytes.items ≡ rows (layered S.holds layers.now) window top count) }
+    ensures { IfOk result (λ bytes. bytes.items
+        ≡ rows (layered S.holds layers.now) window top count) }
 {
     let width = window.width() as usize;
     let mut bytes = Vec::with_capacity(alloc, 3 * width * count)?;
@@ -53,7 +54,8 @@ fn share<S: Shape>(
     k: usize,
 ) -> Result<Vec<u8>, OutOfMemory>
     requires { top + count ≤ window.height }
-    ensures { IfOk result (λ bytes. bytes.items ≡ share (layered S.holds layers.now) window top count size k) }
+    ensures { IfOk result (λ bytes. bytes.items
+        ≡ share (layered S.holds layers.now) window top count size k) }
 {
     let from = k.saturating_mul(size).min(count);
     let bytes = painted(alloc, layers, window, top + from, size.min(count - from))?;
@@ -74,7 +76,8 @@ pub(crate) fn shares<S: Shape + Sync, R: Threads + Sync>(
 ) -> Result<Vec<Result<Vec<u8>, OutOfMemory>>, OutOfMemory>
     requires { top + count ≤ window.height }
     ensures len { IfOk result (λ ps. vec_len ps ≡ workers) }
-    ensures each { IfOk result (λ ps. AreShares (layered S.holds layers.now) window top count size workers ps.items) }
+    ensures each { IfOk result (λ ps.
+        AreShares (layered S.holds layers.now) window top count size workers ps.items) }
 {
     let all = thread::map_indices(
         rt,
@@ -90,7 +93,10 @@ pub(crate) fn gather(
     shares: &[Result<Vec<u8>, OutOfMemory>],
     bytes: &mut Vec<u8>,
 ) -> Result<(), OutOfMemory>
-    ensures { (colour : Point → Rgb) (w : View) (top count size : ℕ) → OnOk result (AreShares colour w top count size (length shares.now) shares.now → bytes.new.items ≡ bytes.old.items ++ rows colour w top (cut count size (length shares.now))) }
+    ensures { (colour : Point → Rgb) (w : View) (top count size : ℕ)
+        → OnOk result (AreShares colour w top count size (length shares.now) shares.now
+        → bytes.new.items
+        ≡ bytes.old.items ++ rows colour w top (cut count size (length shares.now))) }
 {
     for one in shares {
         match one {

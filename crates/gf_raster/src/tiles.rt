@@ -12,8 +12,8 @@ use std::thread::Threads;
 /// How wide and how high a tile is, in pixels; so a band has as many rows.
 pub(crate) const TILE: usize = 64;
 
-/// Passes the gate for each tile of the band from row `top` on: each worker for a run of tiles of its
-/// own, at the same time as the others where threads can be started.
+/// Passes the gate for each tile of the band from row `top` on: each worker for a run of tiles of
+/// its own, at the same time as the others where threads can be started.
 pub(crate) fn pass_all<G: Gate + Sync, R: Threads + Sync>(
     rt: &R,
     alloc: Global,
@@ -36,7 +36,8 @@ pub(crate) fn pass_all<G: Gate + Sync, R: Threads + Sync>(
     Ok(())
 }
 
-/// Passes the gate for the tiles of worker `k`, of a band of so many tiles whose first one is `first`.
+/// Passes the gate for the tiles of worker `k`, of a band of so many tiles whose first one is
+/// `first`.
 fn pass<G: Gate>(gate: &G, first: usize, tiles: usize, workers: usize, k: usize)
     requires tiles { (first ≤ 4096) × (tiles ≤ 64) }
     requires workers { 1 ≤ workers }

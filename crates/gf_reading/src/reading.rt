@@ -3,7 +3,8 @@
 ghost use Rattle.std.specs.Prelude.{◌≡◌, IfOk, IfErr, OnOk};
 ghost use Rattle.gf_reading.specs.Denoting.{Denotes};
 ghost use Rattle.gf_reading.specs.Refusing.{RefusesText};
-ghost use Rattle.gf_reading.specs.LineSteps.{RefusesLine, RefusesSettling, Settles, TakesLine, of_line};
+ghost use Rattle.gf_reading.specs.LineSteps.{RefusesLine, RefusesSettling, Settles, TakesLine};
+ghost use Rattle.gf_reading.specs.LineSteps.{of_line};
 
 use crate::{LineCause, ReadingError};
 use gf_bytes::TextLines;

@@ -1,11 +1,13 @@
 //! Meetings: where lines meet a row, and the spans that they enclose there.
 
-ghost use Rattle.std.specs.Prelude.{◌≡◌, ◌∷◌, ◌++◌, [], ◌%◌, false, int_le, length, IfOk, OnOk, List, None, Option};
+ghost use Rattle.std.specs.Prelude.{◌≡◌, ◌∷◌, ◌++◌, [], ◌%◌, false, int_le, length, IfOk, OnOk};
+ghost use Rattle.std.specs.Prelude.{List, None, Option};
 ghost use Rattle.std.specs.List.{list_any};
 ghost use Rattle.gf_rows.specs.declared.crossing.Crossing.{Crossing};
 ghost use Rattle.gf_rows.specs.declared.span.Span.{Span};
 ghost use Rattle.gf_rows.specs.Joining.{IsJoined};
-ghost use Rattle.gf_rows.specs.JoiningParts.{meets, merged, merged_all, pairs_from, span_between, spans_between, widened};
+ghost use Rattle.gf_rows.specs.JoiningParts.{meets, merged, merged_all, pairs_from, span_between};
+ghost use Rattle.gf_rows.specs.JoiningParts.{spans_between, widened};
 ghost use Rattle.gf_rows.specs.Spans.{is_empty};
 
 use crate::{Crossing, Span};
@@ -40,12 +42,13 @@ impl Meetings {
         self.contacts.clear();
     }
 
-    /// Makes `spans` what they enclose. It sorts them where they are, adds to the contacts, and takes
-    /// no memory but that of these and of `spans`.
+    /// Makes `spans` what they enclose. It sorts them where they are, adds to the contacts, and
+    /// takes no memory but that of these and of `spans`.
     pub fn join_into(&mut self, spans: &mut Vec<Span>) -> Result<(), AllocError>
         requires even { length self.now.crossings.items % 2 ≡ 0 }
         requires full { list_any is_empty self.now.contacts.items ≡ false }
-        ensures { OnOk result (IsJoined self.old.crossings.items self.old.contacts.items spans.new.items) }
+        ensures { OnOk result (IsJoined self.old.crossings.items self.old.contacts.items
+            spans.new.items) }
     {
         self.crossings.sort_unstable();
         pair_up(&self.crossings, &mut self.contacts)?;
@@ -73,7 +76,9 @@ fn pair_one(
     place: Crossing,
     found: &mut Vec<Span>,
 ) -> Result<Option<Crossing>, AllocError>
-    ensures { IfOk result (λ after. (ks : List Crossing) → found.new.items ++ pairs_from after ks ≡ found.old.items ++ pairs_from before (place ∷ ks)) }
+    ensures { IfOk result (λ after. (ks : List Crossing)
+        → found.new.items ++ pairs_from after ks
+        ≡ found.old.items ++ pairs_from before (place ∷ ks)) }
 {
     match before {
         None => Ok(Some(place)),
@@ -132,7 +137,8 @@ fn merge_from(first: Span, rest: &[Span], spans: &mut Vec<Span>) -> Result<(), A
 
 /// One more span, which widens the one before it or stands apart from it.
 fn merge_one(current: Span, span: Span, spans: &mut Vec<Span>) -> Result<Span, AllocError>
-    ensures { IfOk result (λ last. (ss : List Span) → spans.new.items ++ merged last ss ≡ spans.old.items ++ merged current (span ∷ ss)) }
+    ensures { IfOk result (λ last. (ss : List Span)
+        → spans.new.items ++ merged last ss ≡ spans.old.items ++ merged current (span ∷ ss)) }
 {
     if meets(current, span) {
         return Ok(widened(current, span));

@@ -1,5 +1,5 @@
-//! Sessions: the scripts of two to eight sites, each run by a thread of its own, and the one history
-//! that all have at the end.
+//! Sessions: the scripts of two to eight sites, each run by a thread of its own, and the one
+//! history that all have at the end.
 //!
 //! - [`run_session`], [`Done`], [`SessionError`]: the session, what it gives for each site, and why
 //!   it gives nothing.

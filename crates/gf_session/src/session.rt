@@ -22,8 +22,8 @@ use std::thread::Threads;
 pub enum SessionError {
     /// There are fewer than two scripts, or more than eight.
     Sites,
-    /// Memory was refused: for a link or a list of sites before any ran, for a thread that was to be
-    /// started, to a site, or for the list of what the sites came to.
+    /// Memory was refused: for a link or a list of sites before any ran, for a thread that was to
+    /// be started, to a site, or for the list of what the sites came to.
     OutOfMemory,
 }
 

@@ -108,8 +108,10 @@ pub(crate) fn fork<R: Threads + Wait + Sync, G: Gate + Sync>(
             Result<Vec<WorkerEnd>, OutOfMemory>,
             Result<Vec<WorkerEnd>, OutOfMemory>,
         )
-            requires { IsSync R.row × IsSync G.row × All (IsReady links.now) first.items × All (IsReady links.now) second.items }
-            ensures { IfOk result.0 (λ v. GaveAll first.items v.items) × IfOk result.1 (λ v. GaveAll second.items v.items) }
+            requires { IsSync R.row × IsSync G.row × All (IsReady links.now) first.items
+                × All (IsReady links.now) second.items }
+            ensures { IfOk result.0 (λ v. GaveAll first.items v.items)
+                × IfOk result.1 (λ v. GaveAll second.items v.items) }
         {
             let promise = Runs(Snapshot::of(&second));
             let theirs = move || -> Result<Vec<WorkerEnd>, OutOfMemory>

@@ -32,8 +32,10 @@ impl Model for Circle {
 impl Circle {
     /// The circle of this centre and radius.
     pub fn new(centre: Point, radius: u32) -> Result<Circle, Range>
-        ensures within { IsOk result ↔ IsTrue (is_round (record { centre = centre; radius = radius })) }
-        ensures same { IfOk result (λ circle. circle ≡ record { centre = centre; radius = radius }) }
+        ensures within { IsOk result ↔ IsTrue (is_round
+            (record { centre = centre; radius = radius })) }
+        ensures same { IfOk result (λ circle. circle
+            ≡ record { centre = centre; radius = radius }) }
     {
         if centre.is_within_reach() && 1 <= radius && radius <= MOST_RADIUS {
             let disc = Disc::new(centre, radius);

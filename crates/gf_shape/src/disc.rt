@@ -1,6 +1,7 @@
 //! Discs.
 
-ghost use Rattle.std.specs.Prelude.{◌≡◌, ◌+ℤ◌, ◌-ℤ◌, ◌*ℤ◌, ◌*◌, ◌≤◌, ◌^◌, pos, int_le, unsigned_abs, IsTrue, OnOk, ◌+◌, ◌<◌};
+ghost use Rattle.std.specs.Prelude.{◌≡◌, ◌+ℤ◌, ◌-ℤ◌, ◌*ℤ◌, ◌*◌, ◌≤◌, ◌^◌, pos, int_le};
+ghost use Rattle.std.specs.Prelude.{unsigned_abs, IsTrue, OnOk, ◌+◌, ◌<◌};
 ghost use Rattle.gf_shape.specs.Reach.{is_reached, is_within_reach};
 ghost use Rattle.gf_shape.specs.Round.{is_round};
 ghost use Rattle.gf_shape.specs.Rows.{IsRow};

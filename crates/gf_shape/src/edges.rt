@@ -1,7 +1,8 @@
 //! Edges between points, and what a row of them holds.
 
 ghost use Rattle.std.specs.Prelude.{◌≡◌, ◌∷◌};
-ghost use Rattle.gf_shape.specs.Edges.{climbs_past, crosses_left, is_between, is_on_edge, is_on_line, side};
+ghost use Rattle.gf_shape.specs.Edges.{climbs_past, crosses_left, is_between, is_on_edge};
+ghost use Rattle.gf_shape.specs.Edges.{is_on_line, side};
 ghost use Rattle.gf_shape.specs.FigureMeaning.{chain_holds};
 
 use crate::Point;

@@ -4,7 +4,8 @@
 //! - [`Row`]: the spans of a shape at one height, with memory for the next ones; [`meet`]: where an
 //!   edge meets it.
 //! - [`Shape`]: what every shape can do, and the laws that it keeps.
-//! - [`Rect`], [`Circle`], [`Polygon`] and [`AnyShape`], which is one of these: what a designer draws.
+//! - [`Rect`], [`Circle`], [`Polygon`] and [`AnyShape`], which is one of these: what a designer
+//!   draws.
 //! - [`Outline`], which is a [`Chain`] or a [`Disc`]: what a FIG file draws.
 //! - [`Range`], [`OutOfMemory`], [`PolygonError`]: why a call was refused.
 #![tactic(auto)]

@@ -1,11 +1,13 @@
 //! Where edges meet a row: in a crossing, where they pass it, or in a contact, where they only
 //! touch it.
 
-ghost use Rattle.std.specs.Prelude.{◌≡◌, ◌++◌, ◌≤◌, ◌-ℤ◌, ◌≤ℤ◌, ◌<ℤ◌, pos, unsigned_abs, IsTrue, OnOk, All, true, Option};
+ghost use Rattle.std.specs.Prelude.{◌≡◌, ◌++◌, ◌≤◌, ◌-ℤ◌, ◌≤ℤ◌, ◌<ℤ◌, pos, unsigned_abs, IsTrue};
+ghost use Rattle.std.specs.Prelude.{OnOk, All, true, Option};
 ghost use Rattle.std.specs.Ordering.{int_eq};
 ghost use Rattle.gf_rows.specs.Crossings.{place};
 ghost use Rattle.gf_shape.specs.Reach.{is_reached, is_within_reach};
-ghost use Rattle.gf_shape.specs.RowParts.{contact, contacts_along, contacts_of, crossing, crossings_along, crossings_of, passes, span_between};
+ghost use Rattle.gf_shape.specs.RowParts.{contact, contacts_along, contacts_of, crossing};
+ghost use Rattle.gf_shape.specs.RowParts.{crossings_along, crossings_of, passes, span_between};
 
 use crate::edges::climbs_past;
 use crate::products::gap;
@@ -21,8 +23,10 @@ pub(crate) fn meet_along(
 ) -> Result<(), OutOfMemory>
     requires first { IsTrue (is_within_reach first) }
     requires rest { All (λ p. IsTrue (is_within_reach p)) rest.now }
-    ensures crossings { OnOk result (meetings.new.crossings.items ≡ meetings.old.crossings.items ++ crossings_along y first rest.now) }
-    ensures contacts { OnOk result (meetings.new.contacts.items ≡ meetings.old.contacts.items ++ contacts_along y first rest.now) }
+    ensures crossings { OnOk result (meetings.new.crossings.items
+        ≡ meetings.old.crossings.items ++ crossings_along y first rest.now) }
+    ensures contacts { OnOk result (meetings.new.contacts.items
+        ≡ meetings.old.contacts.items ++ contacts_along y first rest.now) }
 {
     let mut from = first;
     for to in rest {
@@ -37,8 +41,10 @@ pub(crate) fn meet_along(
 pub fn meet(a: Point, b: Point, y: i32, meetings: &mut Meetings) -> Result<(), OutOfMemory>
     requires a { IsTrue (is_within_reach a) }
     requires b { IsTrue (is_within_reach b) }
-    ensures crossings { OnOk result (meetings.new.crossings.items ≡ meetings.old.crossings.items ++ crossings_of y (a, b)) }
-    ensures contacts { OnOk result (meetings.new.contacts.items ≡ meetings.old.contacts.items ++ contacts_of y (a, b)) }
+    ensures crossings { OnOk result (meetings.new.crossings.items
+        ≡ meetings.old.crossings.items ++ crossings_of y (a, b)) }
+    ensures contacts { OnOk result (meetings.new.contacts.items
+        ≡ meetings.old.contacts.items ++ contacts_of y (a, b)) }
 {
     if passes(y, a, b) {
         meetings.crossings.push(crossing(y, a, b))?;

@@ -42,8 +42,11 @@ impl Polygon {
     /// reach, else for want of memory alone.
     pub fn new(alloc: Global, points: &[Point]) -> Result<Polygon, PolygonError>
         ensures same { IfOk result (λ polygon. polygon ≡ points.now) }
-        ensures count { result ≡ Err PolygonError.Count ↔ is_polygon_count (length points.now) ≡ false }
-        ensures range { result ≡ Err PolygonError.Range ↔ (is_polygon_count (length points.now) ≡ true) × (list_all is_within_reach points.now ≡ false) }
+        ensures count { result ≡ Err PolygonError.Count
+            ↔ is_polygon_count (length points.now) ≡ false }
+        ensures range { result ≡ Err PolygonError.Range
+            ↔ (is_polygon_count (length points.now) ≡ true)
+            × (list_all is_within_reach points.now ≡ false) }
     {
         if points.len() < 3 || 64 < points.len() {
             return Err(PolygonError::Count);

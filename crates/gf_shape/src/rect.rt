@@ -1,6 +1,7 @@
 //! Boxes.
 
-ghost use Rattle.std.specs.Prelude.{◌≡◌, ◌↔◌, IsTrue, IsOk, IfOk, pos, true, ◌+ℤ◌, ◌-ℤ◌, ◌&&◌, int_le, OnOk, [], ◌∷◌};
+ghost use Rattle.std.specs.Prelude.{◌≡◌, ◌↔◌, IsTrue, IsOk, IfOk, pos, true, ◌+ℤ◌, ◌-ℤ◌, ◌&&◌};
+ghost use Rattle.std.specs.Prelude.{int_le, OnOk, [], ◌∷◌};
 ghost use Rattle.gf_shape.specs.Area.{is_area, is_side, far_corner, corners_again};
 ghost use Rattle.gf_shape.specs.Outlines.{rect_outline};
 ghost use Rattle.gf_shape.specs.ShapeMeaning.{rect_holds};
@@ -30,7 +31,8 @@ impl Model for Rect {
 
     ghost use Rattle.gf_shape.specs.Area.{is_area};
 
-    ghost invariant = { λ r. IsTrue (is_area (record { low = r.low; width = r.width; height = r.height })) };
+    ghost invariant = { λ r. IsTrue (is_area (record
+        { low = r.low; width = r.width; height = r.height })) };
 
     ghost inverse = { λ a. record { low = a.low; width = a.width; height = a.height } };
 }
@@ -38,8 +40,10 @@ impl Model for Rect {
 impl Rect {
     /// The box of this least corner and size.
     pub fn new(low: Point, width: u32, height: u32) -> Result<Rect, Range>
-        ensures within { IsOk result ↔ IsTrue (is_area (record { low = low; width = width; height = height })) }
-        ensures same { IfOk result (λ rect. rect ≡ record { low = low; width = width; height = height }) }
+        ensures within { IsOk result ↔ IsTrue (is_area
+            (record { low = low; width = width; height = height })) }
+        ensures same { IfOk result (λ rect. rect
+            ≡ record { low = low; width = width; height = height }) }
     {
         if is_side(low.x, width) && is_side(low.y, height) {
             Ok(Rect { low, width, height })

@@ -45,9 +45,9 @@ pub trait Shape: Drop {
         ensures outline { IfOk result (λ o. o ≡ outline self.now) }
         ensures lawful { IfOk result IsLawful };
 
-    /// Makes `row` the row `y`, in the memory that `row` has, and more where that is too little. A box
-    /// and a disc are asked once, a disc with one root; a chain looks at each edge once, and sorts
-    /// those that meet the row.
+    /// Makes `row` the row `y`, in the memory that `row` has, and more where that is too little. A
+    /// box and a disc are asked once, a disc with one root; a chain looks at each edge once, and
+    /// sorts those that meet the row.
     fn row_into(&self, y: i32, row: &mut Row) -> Result<(), OutOfMemory>
         ensures { OnOk result (IsRow (holds self.now) y row.new) };
 

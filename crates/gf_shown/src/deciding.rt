@@ -2,7 +2,8 @@
 
 ghost use Rattle.std.specs.Prelude.{◌≡◌, option_copied};
 ghost use Rattle.std.specs.List.{list_any, list_all};
-ghost use Rattle.gf_shown.specs.DecidingAt.{taken_at, last_at, always_later_at, overruled_at, may_be_last_at, decides_at};
+ghost use Rattle.gf_shown.specs.DecidingAt.{taken_at, last_at, always_later_at, overruled_at};
+ghost use Rattle.gf_shown.specs.DecidingAt.{may_be_last_at, decides_at};
 ghost use Rattle.gf_shown.specs.ShownAt.{later_at};
 ghost use Rattle.gf_shown.specs.ShownSets.{is_shown};
 

@@ -1,6 +1,7 @@
 //! The largest compatible sets of an object's places that show, listed unless they are too many.
 
-ghost use Rattle.std.specs.Prelude.{◌≡◌, ◌≤◌, ◌<◌, ◌-◌, ◌^◌, cond, filter, length, IfOk, option_map};
+ghost use Rattle.std.specs.Prelude.{◌≡◌, ◌≤◌, ◌<◌, ◌-◌, ◌^◌, cond, filter, length, IfOk};
+ghost use Rattle.std.specs.Prelude.{option_map};
 ghost use Rattle.gf_groups.specs.GroupedPlaces.{places_below};
 ghost use Rattle.gf_parts.specs.Parts.{most_sets, joined, whole};
 ghost use Rattle.gf_shown.specs.Deciding.{at_most};

@@ -1,6 +1,7 @@
 //! The groups of the visible versions of one object, listed unless they are too many.
 
-ghost use Rattle.std.specs.Prelude.{◌≤◌, ◌∷◌, [], length, Contains, IfNone, IfOk, IfSome, option_map};
+ghost use Rattle.std.specs.Prelude.{◌≤◌, ◌∷◌, [], length, Contains, IfNone, IfOk, IfSome};
+ghost use Rattle.std.specs.Prelude.{option_map};
 ghost use Rattle.gf_groups.specs.Versions.{IsMade};
 ghost use Rattle.gf_parts.specs.Parts.{most_sets};
 ghost use Rattle.gf_shown.specs.ShownVersions.{AreVisibleOn, HasMoreOn};

@@ -3,7 +3,8 @@
 ghost use Rattle.std.specs.Prelude.{◌≡◌, IfSome, option_copied};
 ghost use Rattle.gf_ops.specs.Limits.{IsInRange};
 ghost use Rattle.gf_groups.specs.VersionList.{is_before};
-ghost use Rattle.gf_shown.specs.ShownAt.{shown_value, shown_by, op_sets, op_shows, op_later, sets_at, shows_at, later_at};
+ghost use Rattle.gf_shown.specs.ShownAt.{shown_value, shown_by, op_sets, op_shows, op_later};
+ghost use Rattle.gf_shown.specs.ShownAt.{sets_at, shows_at, later_at};
 
 use gf_groups::Timeline;
 use gf_ops::{Change, Op, Value, before};

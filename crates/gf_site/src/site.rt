@@ -1,6 +1,7 @@
 //! A site: what one designer has, and what waits there.
 
-ghost use Rattle.std.specs.Prelude.{◌≡◌, ◌≢◌, ◌↔◌, ◌<◌, ◌++◌, ◌∷◌, [], length, IsTrue, Some, Ok, Err, IfOk, IfErr, OnOk, OnErr};
+ghost use Rattle.std.specs.Prelude.{◌≡◌, ◌≢◌, ◌↔◌, ◌<◌, ◌++◌, ◌∷◌, [], length, IsTrue, Some, Ok};
+ghost use Rattle.std.specs.Prelude.{Err, IfOk, IfErr, OnOk, OnErr};
 ghost use Rattle.gf_ops.specs.declared.op.Op.{Op};
 ghost use Rattle.gf_ops.specs.Limits.{is_change, IsInRange};
 ghost use Rattle.gf_ops.specs.OperationOrder.{IsSite, count_of};

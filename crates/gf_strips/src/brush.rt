@@ -44,7 +44,8 @@ impl Brush {
     pub(crate) fn paint(&self, row: &mut [u8], a: usize, b: usize)
         requires { (a ≤ b) × (3 * b ≤ length row.old) }
         ensures len { length row.new ≡ length row.old }
-        ensures painted { (f : ℕ → Rgb) (n : ℕ) → row.old ≡ pixels f 0 n → row.new ≡ pixels (over (is_between a b) self.now f) 0 n }
+        ensures painted { (f : ℕ → Rgb) (n : ℕ) → row.old ≡ pixels f 0 n
+            → row.new ≡ pixels (over (is_between a b) self.now f) 0 n }
     {
         paint_pattern(row, a, b, &self.pattern);
     }
@@ -66,7 +67,8 @@ fn pattern(alloc: Global, colour: Rgb) -> Result<Vec<u8>, OutOfMemory>
 fn paint_pattern(row: &mut [u8], a: usize, b: usize, pattern: &[u8])
     requires { (a ≤ b) × (3 * b ≤ length row.old) × (length pattern.now ≡ 192) }
     ensures len { length row.new ≡ length row.old }
-    ensures painted { (f : ℕ → Rgb) (c : Rgb) (n : ℕ) → b ≤ n → pattern.now ≡ pixels (λ _. c) 0 64 → row.old ≡ pixels f 0 n → row.new ≡ pixels (over (is_between a b) c f) 0 n }
+    ensures painted { (f : ℕ → Rgb) (c : Rgb) (n : ℕ) → b ≤ n → pattern.now ≡ pixels (λ _. c) 0 64
+        → row.old ≡ pixels f 0 n → row.new ≡ pixels (over (is_between a b) c f) 0 n }
 {
     let mut at = a;
     while at < b {
@@ -79,7 +81,8 @@ fn paint_pattern(row: &mut [u8], a: usize, b: usize, pattern: &[u8])
 /// Paints the columns from `a` to before `b`, no more than the pattern has.
 fn stamp(row: &mut [u8], a: usize, b: usize, pattern: &[u8])
     requires { (a ≤ b) × (3 * b ≤ length row.old) × (3 * (b - a) ≤ length pattern.now) }
-    ensures { row.new ≡ take (3 * a) row.old ++ (take (3 * (b - a)) pattern.now ++ drop (3 * b) row.old) }
+    ensures { row.new ≡ take (3 * a) row.old
+        ++ (take (3 * (b - a)) pattern.now ++ drop (3 * b) row.old) }
 {
     row[3 * a..3 * b].copy_from_slice(&pattern[..3 * (b - a)]);
 }

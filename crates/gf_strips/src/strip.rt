@@ -1,9 +1,11 @@
 //! Some columns of a row, painted from the front to the back.
 
-ghost use Rattle.std.specs.Prelude.{◌≡◌, ◌↔◌, ℕ, ◌*◌, ◌≤◌, Bool, false, ◌&&◌, ◌||◌, not, IsTrue, OnOk, IfOk, [], ◌∷◌, All, length, replicate};
+ghost use Rattle.std.specs.Prelude.{◌≡◌, ◌↔◌, ℕ, ◌*◌, ◌≤◌, Bool, false, ◌&&◌, ◌||◌, not, IsTrue};
+ghost use Rattle.std.specs.Prelude.{OnOk, IfOk, [], ◌∷◌, All, length, replicate};
 ghost use Rattle.gf_shape.specs.declared.colour.Rgb.{Rgb};
 ghost use Rattle.gf_strips.specs.Pixels.{pixels};
-ghost use Rattle.gf_strips.specs.Strips.{AreSameOutside, Fits, is_between, is_among, is_free, over, IsPainted};
+ghost use Rattle.gf_strips.specs.Strips.{AreSameOutside, Fits, is_between, is_among, is_free, over};
+ghost use Rattle.gf_strips.specs.Strips.{IsPainted};
 
 use crate::{Brush, Columns};
 use gf_shape::OutOfMemory;
@@ -60,23 +62,30 @@ impl Strip {
     /// Whether no column is free, so that nothing behind is seen.
     pub fn is_covered(&self) -> bool
         ensures none { IsTrue result ↔ (self.now.free ≡ []) }
-        ensures unseen { IsTrue result → (target behind other : ℕ → Rgb) (n : ℕ) → IsPainted target behind n self.now → IsPainted target other n self.now }
+        ensures unseen { IsTrue result → (target behind other : ℕ → Rgb) (n : ℕ)
+            → IsPainted target behind n self.now → IsPainted target other n self.now }
     {
         self.free.is_empty()
     }
 
     /// Whether one of the columns is still free. Where none is, what lies behind them is not seen.
     pub fn has_free(&self, columns: Columns) -> bool
-        ensures some { IsTrue result → (k : ℕ) × IsTrue (is_free self.now.free k && is_among columns k) }
-        ensures unseen { result ≡ false → (target behind other : ℕ → Rgb) (n : ℕ) → AreSameOutside columns n behind other → IsPainted target behind n self.now → IsPainted target other n self.now }
+        ensures some { IsTrue result
+            → (k : ℕ) × IsTrue (is_free self.now.free k && is_among columns k) }
+        ensures unseen { result ≡ false → (target behind other : ℕ → Rgb) (n : ℕ)
+            → AreSameOutside columns n behind other → IsPainted target behind n self.now
+            → IsPainted target other n self.now }
     {
         is_any_free(&self.free, columns)
     }
 
     /// Paints those of the columns that are still free.
     pub fn paint(&mut self, columns: Columns, brush: &Brush) -> Result<(), OutOfMemory>
-        ensures free { OnOk result ((k : ℕ) → is_free self.new.free k ≡ (is_free self.old.free k && not (is_among columns k))) }
-        ensures painted { OnOk result ((target behind : ℕ → Rgb) (n : ℕ) → IsPainted target (over (is_among columns) brush.now behind) n self.old → IsPainted target behind n self.new) }
+        ensures free { OnOk result ((k : ℕ)
+            → is_free self.new.free k ≡ (is_free self.old.free k && not (is_among columns k))) }
+        ensures painted { OnOk result ((target behind : ℕ → Rgb) (n : ℕ)
+            → IsPainted target (over (is_among columns) brush.now behind) n self.old
+            → IsPainted target behind n self.new) }
     {
         self.left.clear();
         cover_all(
@@ -92,7 +101,8 @@ impl Strip {
 
     /// Paints all columns that are still free, and gives the bytes of the row.
     pub fn finish(&mut self, ground: &Brush) -> Result<&[u8], OutOfMemory>
-        ensures { IfOk result (λ bytes. (target : ℕ → Rgb) (n : ℕ) → IsPainted target (λ _. ground.now) n self.old → bytes.now ≡ pixels target 0 n) }
+        ensures { IfOk result (λ bytes. (target : ℕ → Rgb) (n : ℕ)
+            → IsPainted target (λ _. ground.now) n self.old → bytes.now ≡ pixels target 0 n) }
     {
         let all = Columns {
             from: 0,
@@ -144,8 +154,10 @@ fn cover_all(
     requires within { All (Fits (length row.old)) free.now }
     ensures len { length row.new ≡ length row.old }
     ensures within { OnOk result (All (Fits (length row.old)) left.new.items) }
-    ensures free { OnOk result ((k : ℕ) → is_free left.new.items k ≡ (is_free free.now k && not (is_among columns k))) }
-    ensures row { OnOk result ((f : ℕ → Rgb) (n : ℕ) → row.old ≡ pixels f 0 n → row.new ≡ pixels (over (λ k. is_free free.now k && is_among columns k) brush.now f) 0 n) }
+    ensures free { OnOk result ((k : ℕ)
+        → is_free left.new.items k ≡ (is_free free.now k && not (is_among columns k))) }
+    ensures row { OnOk result ((f : ℕ → Rgb) (n : ℕ) → row.old ≡ pixels f 0 n
+        → row.new ≡ pixels (over (λ k. is_free free.now k && is_among columns k) brush.now f) 0 n) }
 {
     for some in free {
         cover(*some, row, columns, brush, left)?;
@@ -164,9 +176,13 @@ fn cover(
 ) -> Result<(), OutOfMemory>
     requires { 3 * free.to ≤ length row.old }
     ensures len { length row.new ≡ length row.old }
-    ensures within { OnOk result (All (Fits (length row.old)) left.old.items → All (Fits (length row.old)) left.new.items) }
-    ensures free { OnOk result ((k : ℕ) → is_free left.new.items k ≡ (is_free left.old.items k || (is_among free k && not (is_among columns k)))) }
-    ensures row { OnOk result ((f : ℕ → Rgb) (n : ℕ) → row.old ≡ pixels f 0 n → row.new ≡ pixels (over (λ k. is_among free k && is_among columns k) brush.now f) 0 n) }
+    ensures within { OnOk result (All (Fits (length row.old)) left.old.items
+        → All (Fits (length row.old)) left.new.items) }
+    ensures free { OnOk result ((k : ℕ)
+        → is_free left.new.items k
+        ≡ (is_free left.old.items k || (is_among free k && not (is_among columns k)))) }
+    ensures row { OnOk result ((f : ℕ → Rgb) (n : ℕ) → row.old ≡ pixels f 0 n
+        → row.new ≡ pixels (over (λ k. is_among free k && is_among columns k) brush.now f) 0 n) }
 {
     let low = columns.from.max(free.from);
     let high = columns.to.min(free.to);
@@ -182,8 +198,10 @@ fn cover(
 
 /// Adds the columns from one to before another, where there are any.
 fn push_some(left: &mut Vec<Columns>, from: usize, to: usize) -> Result<(), OutOfMemory>
-    ensures within { (m : ℕ) → OnOk result (3 * to ≤ m → All (Fits m) left.old.items → All (Fits m) left.new.items) }
-    ensures free { OnOk result ((k : ℕ) → is_free left.new.items k ≡ (is_free left.old.items k || is_between from to k)) }
+    ensures within { (m : ℕ) → OnOk result (3 * to ≤ m → All (Fits m) left.old.items
+        → All (Fits m) left.new.items) }
+    ensures free { OnOk result ((k : ℕ)
+        → is_free left.new.items k ≡ (is_free left.old.items k || is_between from to k)) }
 {
     if from < to {
         left.push(Columns { from, to })?;

@@ -1,6 +1,7 @@
 //! The columns of a window that a span covers.
 
-ghost use Rattle.std.specs.Prelude.{◌≡◌, ℕ, ◌+◌, ◌*◌, ◌≤◌, ◌<◌, nat_le, nat_lt, int_le, ◌+ℤ◌, ◌≤ℤ◌, pos};
+ghost use Rattle.std.specs.Prelude.{◌≡◌, ℕ, ◌+◌, ◌*◌, ◌≤◌, ◌<◌, nat_le, nat_lt, int_le, ◌+ℤ◌, ◌≤ℤ◌};
+ghost use Rattle.std.specs.Prelude.{pos};
 ghost use Rattle.gf_rows.specs.Spans.{is_in_span};
 ghost use Rattle.gf_strips.specs.Strips.{is_among};
 ghost use Rattle.gf_window.specs.Windows.{column};
@@ -10,10 +11,11 @@ use gf_shape::Span;
 use gf_strips::Columns;
 
 impl Window {
-    /// Which of `len` columns from `from` on a span covers, counted from `from`: those whose x lies in
-    /// it.
+    /// Which of `len` columns from `from` on a span covers, counted from `from`: those whose x lies
+    /// in it.
     pub fn columns(&self, from: usize, len: usize, span: Span) -> Columns
-        ensures { (k : ℕ) → k < len → is_among result k ≡ is_in_span (column self.now (from + k)) span }
+        ensures { (k : ℕ) → k < len
+            → is_among result k ≡ is_in_span (column self.now (from + k)) span }
     {
         let x = self.x();
         let step = self.step();

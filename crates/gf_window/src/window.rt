@@ -23,19 +23,34 @@ impl Model for Window {
 
     ghost Value = { View };
 
-    ghost view = { λ w. record { x = w.x; y = w.y; step = w.step; width = w.width; height = w.height } };
+    ghost view = { λ w. record {
+      x = w.x;
+      y = w.y;
+      step = w.step;
+      width = w.width;
+      height = w.height;
+    } };
 
-    ghost invariant = { λ w. IsTrue (is_view (record { x = w.x; y = w.y; step = w.step; width = w.width; height = w.height })) };
+    ghost invariant = { λ w. IsTrue (is_view (record
+        { x = w.x; y = w.y; step = w.step; width = w.width; height = w.height })) };
 
-    ghost inverse = { λ v. record { x = v.x; y = v.y; step = v.step; width = v.width; height = v.height } };
+    ghost inverse = { λ v. record {
+      x = v.x;
+      y = v.y;
+      step = v.step;
+      width = v.width;
+      height = v.height;
+    } };
 }
 
 impl Window {
-    /// The window of this first point, step, width and height: x and y from -2,000,000 to 2,000,000,
-    /// the step from 1 to 10,000, width and height from 1 to 4,096.
+    /// The window of this first point, step, width and height: x and y from -2,000,000 to
+    /// 2,000,000, the step from 1 to 10,000, width and height from 1 to 4,096.
     pub fn new(x: i32, y: i32, step: u32, width: u32, height: u32) -> Result<Window, Range>
-        ensures within { IsOk result ↔ IsTrue (is_view (record { x = x; y = y; step = step; width = width; height = height })) }
-        ensures same { IfOk result (λ w. w ≡ record { x = x; y = y; step = step; width = width; height = height }) }
+        ensures within { IsOk result ↔ IsTrue (is_view
+            (record { x = x; y = y; step = step; width = width; height = height })) }
+        ensures same { IfOk result (λ w. w
+            ≡ record { x = x; y = y; step = step; width = width; height = height }) }
     {
         if is_corner(x) && is_corner(y) && is_step(step) && is_side(width) && is_side(height) {
             Ok(Window {

@@ -7,7 +7,8 @@ ghost use Rattle.gf_worker.specs.Peers.{IsPlaced, with_message};
 use gf_link::{Link, Message, SendSeat, TakeSeat};
 use std::sync::Wait;
 
-/// Another site: the places of the links to it and from it in a table of links, with the seats there.
+/// Another site: the places of the links to it and from it in a table of links, with the seats
+/// there.
 #[derive(Drop)]
 pub struct Peer {
     /// Where the link to it stands.

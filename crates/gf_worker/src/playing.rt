@@ -4,7 +4,8 @@ ghost use Rattle.std.specs.Prelude.{◌≡◌, ◌≤◌, false, vec_len};
 ghost use Rattle.gf_json.specs.declared.script_line.Command.{Command};
 ghost use Rattle.gf_worker.specs.Peers.{ArePlaced};
 ghost use Rattle.gf_worker.specs.Telling.{AreOpen};
-ghost use Rattle.gf_worker.specs.Playing.{IsRefusal, IsFaultTold, IsBegun, PlaysOn, Through, cause_of};
+ghost use Rattle.gf_worker.specs.Playing.{IsRefusal, IsFaultTold, IsBegun, PlaysOn, Through};
+ghost use Rattle.gf_worker.specs.Playing.{cause_of};
 
 use crate::telling::tell_all;
 use crate::work::Work;
@@ -46,7 +47,8 @@ fn cause_of(fault: AuthorFault) -> Option<Cause>
     }
 }
 
-/// Reports why a change was refused, and tells whether memory was there for that and for the change.
+/// Reports why a change was refused, and tells whether memory was there for that and for the
+/// change.
 fn report_fault(report: &mut Report, number: u32, fault: AuthorFault) -> bool
     ensures { IsFaultTold number fault result report.old report.new }
 {

@@ -2,8 +2,8 @@
 
 use gf_ops::OpId;
 
-/// Why a command was refused, in the order of the checks. The first four are of an Author, Range and
-/// the last two of an Await.
+/// Why a command was refused, in the order of the checks. The first four are of an Author, Range
+/// and the last two of an Await.
 #[derive(Clone, Copy, Debug, PartialEq, Eq)]
 pub enum Cause {
     /// The site made 10,000 operations.

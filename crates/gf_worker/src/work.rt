@@ -50,7 +50,8 @@ impl Work {
         self.peers.iter().all(|peer| peer.take.ended())
     }
 
-    /// Holds an operation that came, unless it is under the site's own number or the site refuses it.
+    /// Holds an operation that came, unless it is under the site's own number or the site refuses
+    /// it.
     fn receive(&mut self, op: Op)
         ensures same { self.new ≡
             record self.old { site = record self.old.site { held = self.new.site.held }; short = self.new.short } }

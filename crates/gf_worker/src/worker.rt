@@ -20,8 +20,8 @@ pub struct Ends<'a> {
     pub peers: Vec<Peer>,
 }
 
-/// What a worker gives back: its site, the seats of its links, what its commands came to, and whether
-/// memory was refused to it.
+/// What a worker gives back: its site, the seats of its links, what its commands came to, and
+/// whether memory was refused to it.
 #[derive(Drop)]
 pub struct WorkerEnd {
     pub site: Site,
@@ -77,7 +77,8 @@ pub fn site_worker<R: Wait, G: Gate>(
     }
 }
 
-/// Sends Stop to each peer of a new site whose worker does not run, so that none of them waits for it.
+/// Sends Stop to each peer of a new site whose worker does not run, so that none of them waits for
+/// it.
 pub fn stop_worker<R: Wait>(rt: &R, alloc: Global, site: Site, ends: Ends<'_>) -> WorkerEnd
     requires placed { All (IsPlaced ends.links.now) ends.peers.items }
     requires fresh { All IsFresh ends.peers.items }

@@ -1,6 +1,7 @@
 //! A world: the sites that work on one drawing, and what they tell each other.
 
-ghost use Rattle.std.specs.Prelude.{◌≡◌, ◌≢◌, ◌+◌, ◌<◌, None, Err, length, slice_get, option_copied, IfOk, OnOk, IfSome, IfNone};
+ghost use Rattle.std.specs.Prelude.{◌≡◌, ◌≢◌, ◌+◌, ◌<◌, None, Err, length, slice_get};
+ghost use Rattle.std.specs.Prelude.{option_copied, IfOk, OnOk, IfSome, IfNone};
 ghost use Rattle.gf_ops.specs.OperationOrder.{IsSite};
 ghost use Rattle.gf_world.specs.declared.event.Event.{Event};
 ghost use Rattle.gf_causal.specs.declared.faults.OfferFault.{OfferFault};
@@ -22,8 +23,9 @@ pub struct World {
     pub messages: Vec<Op>,
 }
 
-/// The world that so many new sites come to by the events. An event that names no site or no message
-/// changes nothing, and neither does a change that its site refuses for another cause than memory.
+/// The world that so many new sites come to by the events. An event that names no site or no
+/// message changes nothing, and neither does a change that its site refuses for another cause than
+/// memory.
 pub fn world_run(alloc: Global, sites: u8, events: Vec<Event>) -> Result<World, OutOfMemory>
     requires { IsSite sites }
     ensures { IfOk result (λ world. IsWorldOf sites events.items (state_of world)) }
@@ -64,7 +66,8 @@ fn happen(alloc: Global, world: &mut World, event: Event) -> Result<(), OutOfMem
 
 /// Lets the site of this number make the change.
 fn author(world: &mut World, number: u8, change: Change) -> Result<(), OutOfMemory>
-    ensures { OnOk result (Happens (state_of world.old) (Event.Author number change) (state_of world.new)) }
+    ensures { OnOk result (Happens (state_of world.old) (Event.Author number change)
+        (state_of world.new)) }
 {
     let Some(place) = place_of(&world.sites, number) else {
         return Ok(());
@@ -78,7 +81,8 @@ fn author(world: &mut World, number: u8, change: Change) -> Result<(), OutOfMemo
 /// Offers the message of this number to the site of that one.
 fn offer(alloc: Global, world: &mut World, number: u8, message: usize) -> Result<(), OutOfMemory>
     requires { IsSound (state_of world.old) }
-    ensures { OnOk result (Happens (state_of world.old) (Event.Offer number message) (state_of world.new)) }
+    ensures { OnOk result (Happens (state_of world.old) (Event.Offer number message)
+        (state_of world.new)) }
 {
     let Some(place) = place_of(&world.sites, number) else {
         return Ok(());
