@@ -19,8 +19,8 @@ allowed None n = n
 allowed (Some most) n = min n most
 
 -- how many bytes a read with room for n gives, where it does not fail
-abbrev pub given : ReelState → ℕ → ℕ
-given reel n = min (length reel.left) (allowed reel.fail_after n)
+abbrev pub read_length : ReelState → ℕ → ℕ
+read_length reel n = min (length reel.left) (allowed reel.fail_after n)
 
 -- the reel after a read that gave n bytes
 abbrev pub after_giving : ReelState → ℕ → ReelState

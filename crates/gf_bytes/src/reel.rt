@@ -3,7 +3,7 @@
 ghost use Rattle.std.specs.Prelude.{◌≡◌, ◌≤◌, ◌++◌, ◌↔◌, Some, IfOk, IsErr, OnErr, drop, length};
 ghost use Rattle.std.specs.Prelude.{take};
 ghost use Rattle.std.specs.Io.KnownBytes.{ReadConsumes};
-ghost use Rattle.gf_bytes.specs.ReelState.{after_failing, after_giving, given, unread};
+ghost use Rattle.gf_bytes.specs.ReelState.{after_failing, after_giving, read_length, unread};
 ghost use Rattle.gf_bytes.specs.Counts.{CountsFailure, raised};
 
 use crate::{Source, SourceFault};
@@ -45,8 +45,8 @@ impl<'a> Reel<'a> {
     }
 
     /// How many bytes a read with so much room gives.
-    fn given(&self, room: usize) -> usize
-        ensures { result ≡ given self.now room }
+    fn read_length(&self, room: usize) -> usize
+        ensures { result ≡ read_length self.now room }
     {
         let allowed = match self.fail_after {
             None => room,
@@ -69,7 +69,7 @@ impl<'a> Source for Reel<'a> {
         ensures gives { ReadConsumes (Some self.old.left) (Some self.new.left) result buffer.new }
         ensures counts_reads { self.new.reads ≡ raised self.old.reads }
         ensures counts { CountsFailure self.old.failures self.new.failures result }
-        ensures count { IfOk result (λ n. n ≡ given self.old (length buffer.old)) }
+        ensures count { IfOk result (λ n. n ≡ read_length self.old (length buffer.old)) }
         ensures gave { IfOk result (λ n. self.new ≡ after_giving self.old n) }
         ensures copied { IfOk result (λ n. buffer.new ≡ take n self.old.left ++ drop n buffer.old) }
 
@@ -82,7 +82,7 @@ impl<'a> Source for Reel<'a> {
             self.failures = self.failures.saturating_add(1);
             return Err(SourceFault);
         }
-        let count = self.given(buffer.len());
+        let count = self.read_length(buffer.len());
         buffer[..count].copy_from_slice(&self.left[..count]);
         self.left = &self.left[count..];
         if let Some(most) = &mut self.fail_after {

@@ -10,7 +10,7 @@ ghost use Rattle.gf_groups.specs.Versions.{IsMade, AreVersions, AreAllVersions, 
 
 use crate::growth::groups_at;
 use crate::listing::{add_groups, places_on};
-use crate::parting::parted;
+use crate::parting::places_by_object;
 use crate::{Group, GroupFault, Groups, Places};
 use gf_ops::{Change, History, ObjectId};
 use gf_shape::OutOfMemory;
@@ -36,7 +36,7 @@ pub fn groups_of(alloc: Global, history: &History, object: ObjectId) -> Result<G
 pub fn all_groups(alloc: Global, history: &History) -> Result<Groups, OutOfMemory>
     ensures { IfOk result (λ groups. AreAllVersions history.now.ops groups) }
 {
-    let parts = parted(alloc, history.ops())?;
+    let parts = places_by_object(alloc, history.ops())?;
     let mut groups = Vec::new(alloc);
     for (object, places) in &parts {
         let sets = groups_at(alloc, history, places.as_slice())?;

@@ -10,7 +10,10 @@ use std::alloc::Global;
 use std::collections::BTreeMap;
 
 /// The places of the operations on each object.
-pub(crate) fn parted(alloc: Global, ops: &[Op]) -> Result<BTreeMap<ObjectId, Places>, OutOfMemory>
+pub(crate) fn places_by_object(
+    alloc: Global,
+    ops: &[Op],
+) -> Result<BTreeMap<ObjectId, Places>, OutOfMemory>
     ensures { IfOk result (λ parts. HasPlacesBelow ops.now (length ops.now) parts) }
 {
     let mut parts = BTreeMap::new(alloc);

@@ -1,7 +1,7 @@
 use Rattle.gf_groups.specs.Parting.{AddsPlace}
 use Rattle.gf_ops.specs.Attribute.{object_of}
 use Rattle.gf_groups.proofs.PartingLemmas.{parts_more}
-use Rattle.gf_groups.proofs.parting.parted.Goals as goal
+use Rattle.gf_groups.proofs.parting.places_by_object.Goals as goal
 
 pub loop-place-preserved : goal.loop-place-preserved
 loop-place-preserved c =
