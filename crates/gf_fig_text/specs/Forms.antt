@@ -1,7 +1,8 @@
 -- The forms of tokens, and what a token of each form stands for (Xfig, FIG Format 3.2: numbers and colours; at most 18 digits is this project's choice).
-use Rattle.std.specs.Prelude.{ℕ, ◌+◌, ◌*◌, ◌-◌, Bool, true, false, ◌&&◌, ◌||◌, ◌==◌, nat_le, nat_lt, List, [], ◌∷◌, length, fold, Option, Some, None, ⊤, ℤ, pos, ◌-ℤ◌, if◌then◌else◌}
+use Rattle.std.specs.Prelude.{ℕ, ◌+◌, ◌*◌, ◌-◌, Bool, true, false, ◌&&◌, ◌||◌, ◌==◌, nat_le, List, [], ◌∷◌, length, fold, Option, Some, None, ⊤, ℤ, pos, ◌-ℤ◌, if◌then◌else◌}
 use Rattle.std.specs.List.{list_all}
 use Rattle.gf_shape.specs.declared.colour.Rgb.{Rgb}
+use Rattle.gf_digits.specs.HexDigits.{rgb_of_hex}
 
 -- byte b is '0' to '9'
 abbrev pub is_digit : ℕ → Bool
@@ -51,27 +52,7 @@ begins_with_digit (b ∷ bs) = is_digit b
 unfoldable pub decimal : List ℕ → Option ⊤
 decimal t = if begins_with_digit (after_sign t) && are_digits_and_fraction (after_sign t) then Some tt else None
 
--- what a hexadecimal digit of either case stands for, and 16 for any other byte
-abbrev pub hex_value : ℕ → ℕ
-hex_value b =
-    if is_digit b then b - 48
-    else (if nat_le 97 b && nat_le b 102 then b - 87 else (if nat_le 65 b && nat_le b 70 then b - 55 else 16))
-
--- byte b is a hexadecimal digit
-abbrev pub is_hex : ℕ → Bool
-is_hex b = nat_lt (hex_value b) 16
-
--- the byte of two hexadecimal digits
-abbrev pub byte_of : ℕ → ℕ → ℕ
-byte_of high low = 16 * hex_value high + hex_value low
-
--- six hexadecimal digits
-abbrev pub rgb_of_digits : List ℕ → Option Rgb
-rgb_of_digits (a ∷ b ∷ c ∷ d ∷ e ∷ f ∷ []) =
-    if list_all is_hex (a ∷ b ∷ c ∷ d ∷ e ∷ f ∷ []) then Some (record { r = byte_of a b; g = byte_of c d; b = byte_of e f }) else None
-rgb_of_digits ds = None
-
 -- a colour: '#' and six hexadecimal digits
 unfoldable pub colour : List ℕ → Option Rgb
 colour [] = None
-colour (b ∷ bs) = if b == 35 then rgb_of_digits bs else None
+colour (b ∷ bs) = if b == 35 then rgb_of_hex bs else None

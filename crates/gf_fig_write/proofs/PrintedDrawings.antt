@@ -15,7 +15,7 @@ use Rattle.gf_drawing.specs.DrawingState.{IsFreeNumber, IsLawfulDrawing, IsLawfu
 use Rattle.gf_fig_text.specs.Layout.{Token}
 use Rattle.gf_fig_read.specs.Objects.{Drawn}
 use Rattle.gf_fig_read.specs.FigGrammar.{Leads, none, more, nothing}
-use Rattle.gf_fig_write.specs.ColourBytes.{IsByteRgb}
+use Rattle.gf_digits.specs.ColourBytes.{HasBytes}
 use Rattle.gf_fig_write.proofs.PrintedObjects.{colour_words, colour_read}
 use Rattle.gf_fig_write.proofs.PrintedFigures.{figure_words, figure_read}
 use Rattle.gf_fig_read.proofs.NumberLemmas.{rgb_of_number}
@@ -57,13 +57,13 @@ pub leads_then : (d m e : Drawn) (ts between left : List Token) → Leads d ts m
 leads_then d m e ts between left (none c us) next = next
 leads_then d m e ts between left (more c k n us first vs one others) next = more c k e us first left one (leads_then k n e first vs left others next)
 
-table_leads : (before es : Table) (rest : List Token) → All IsTableEntry (before ++ es) → AllPairs (λ (f g : ℕ × Rgb). f.0 ≢ g.0) (before ++ es) → All (λ (e : ℕ × Rgb). IsByteRgb e.1) es
+table_leads : (before es : Table) (rest : List Token) → All IsTableEntry (before ++ es) → AllPairs (λ (f g : ℕ × Rgb). f.0 ≢ g.0) (before ++ es) → All (λ (e : ℕ × Rgb). HasBytes e.1) es
     → Leads (record { table = before; figures = [] }) (flat_map colour_words es ++ rest) (record { table = before ++ es; figures = [] }) rest
 table_leads before [] rest numbers distinct bytes = subst (λ (t : Table). Leads (record { table = before; figures = [] }) rest (record { table = t; figures = [] }) rest) (sym (append-nil before)) (none _ rest)
 table_leads before (e ∷ es) rest numbers distinct bytes =
     let regrouped : (before ++ e ∷ []) ++ es ≡ before ++ e ∷ es = append_assoc before (e ∷ []) es in
-    let first = colour_read (record { table = before; figures = [] }) e (flat_map colour_words es ++ rest) refl (free_at before e es numbers distinct) (All-head (λ (f : ℕ × Rgb). IsByteRgb f.1) e es bytes) in
-    let others = table_leads (before ++ e ∷ []) es rest (subst (All IsTableEntry) (sym regrouped) numbers) (subst (AllPairs (λ (f g : ℕ × Rgb). f.0 ≢ g.0)) (sym regrouped) distinct) (All-tail (λ (f : ℕ × Rgb). IsByteRgb f.1) e es bytes) in
+    let first = colour_read (record { table = before; figures = [] }) e (flat_map colour_words es ++ rest) refl (free_at before e es numbers distinct) (All-head (λ (f : ℕ × Rgb). HasBytes f.1) e es bytes) in
+    let others = table_leads (before ++ e ∷ []) es rest (subst (All IsTableEntry) (sym regrouped) numbers) (subst (AllPairs (λ (f g : ℕ × Rgb). f.0 ≢ g.0)) (sym regrouped) distinct) (All-tail (λ (f : ℕ × Rgb). HasBytes f.1) e es bytes) in
     more _ _ _ _ _ _ first (subst (λ (t : Table). Leads (record { table = before ++ e ∷ []; figures = [] }) (flat_map colour_words es ++ rest) (record { table = t; figures = [] }) rest) regrouped others)
 
 abbrev pub HasLawfulShape : Figure Outline → Type 0
@@ -85,7 +85,7 @@ figures_lead table before (f ∷ fs) rest numbers lawful shapes =
 abbrev pub drawing_words : Drawn → List Token
 drawing_words d = flat_map colour_words d.table ++ flat_map figure_words d.figures
 
-pub drawing_leads : (d : Drawn) → IsLawfulDrawing d → All (λ (e : ℕ × Rgb). IsByteRgb e.1) d.table → All HasLawfulShape d.figures → Leads nothing (drawing_words d) d []
+pub drawing_leads : (d : Drawn) → IsLawfulDrawing d → All (λ (e : ℕ × Rgb). HasBytes e.1) d.table → All HasLawfulShape d.figures → Leads nothing (drawing_words d) d []
 drawing_leads d h bytes shapes =
     let colours = table_leads [] d.table (flat_map figure_words d.figures) h.numbers h.distinct bytes in
     let figures = figures_lead d.table [] d.figures [] h.numbers h.figures shapes in

@@ -1,18 +1,20 @@
 -- Numbers and colours that are printed are read back.
-use Rattle.std.proofs.Common.{◌≡◌, ◌≢◌, ◌≤◌, ◌<◌, ℕ, suc, ◌+◌, ◌*◌, ◌-◌, ◌/◌, ◌%◌, ◌^◌, true, false, List, [], ◌∷◌, ◌++◌, length, Option, Some, refl, ap, ◌∙◌, arith, inl, inr, lit<}
+use Rattle.std.proofs.Common.{◌≡◌, ◌≢◌, ◌≤◌, ◌<◌, ℕ, suc, ◌+◌, ◌*◌, ◌-◌, ◌/◌, ◌%◌, ◌^◌, true, false, List, [], ◌∷◌, ◌++◌, length, Some, refl, ap, ◌∙◌, arith, inl, inr, lit<}
 use Rattle.std.specs.Prelude.{◌&&◌, ◌==◌, nat_le, nat_lt, ℤ, pos, negsuc, ◌-ℤ◌}
 use Rattle.std.specs.Fmt.{decimal, signed_decimal, digit_glyph}
 use Rattle.std.specs.List.{list_all}
 use Rattle.std.specs.Int.Signed.{mag}
-use Rattle.std.proofs.lemmas.Bool.{and_parts, and_from, or_parts, cases_Bool, le-leb, leb-true, ltb-true, ltb-false, lt-ltb, lt-leb, ne_eqb}
+use Rattle.std.proofs.lemmas.Bool.{and_parts, and_from, or_parts, cases_Bool, le-leb, leb-true, ne_eqb}
 use Rattle.std.proofs.lemmas.List.Folds.{list_all-append}
 use Rattle.std.proofs.lemmas.List.Sums.{fold_push}
 use Rattle.std.proofs.lemmas.Fmt.{decimal_by_steps, length-decimal-le}
 use Rattle.std.proofs.Math.Nat.{div-add-mod}
 use Rattle.gf_shape.specs.declared.colour.Rgb.{Rgb}
+use Rattle.gf_digits.specs.ColourBytes.{HasBytes}
+use Rattle.gf_digits.specs.HexDigits.{hex_rgb}
+use Rattle.gf_digits.proofs.HexLemmas.{rgb_of_hex-hex_rgb}
 use Rattle.gf_fig_text.specs.Layout.{is_filled}
-use Rattle.gf_fig_text.specs.Forms.{is_digit, is_sign, digits_value, whole, hex_value, is_hex, byte_of, colour}
-use Rattle.gf_fig_write.specs.ColourBytes.{IsByteRgb}
+use Rattle.gf_fig_text.specs.Forms.{is_digit, is_sign, digits_value, whole, colour}
 use Rattle.gf_fig_write.proofs.PrintedLines.{is_dark, is_word}
 
 -- ---- bytes
@@ -121,20 +123,11 @@ signed_word (negsuc n) h = let d = digits_of_decimal (suc n) (omega (arith, h)) 
 -- ---- colours
 
 -- the digit of half a byte
-half_read : (h : ℕ) → h < 16 → hex_value (digit_glyph false h) ≡ h
-half_read h l = elim (cases_Bool (nat_lt h 10)) [
-  | inl t ↦ let m = ltb-true h 10 t in rw (t, digit_from (48 + h) (omega arith) (omega (arith, m))) (omega arith)
-  | inr t ↦ let m = ltb-false h 10 t in rw (t, le-leb 48 (87 + h) (omega arith), lt-leb (87 + h) 57 (omega (arith, m)), le-leb 97 (87 + h) (omega (arith, m)), le-leb (87 + h) 102 (omega (arith, l))) (omega arith)
-]
-
 half_dark : (h : ℕ) → h < 16 → is_dark (digit_glyph false h) ≡ true
 half_dark h l = elim (cases_Bool (nat_lt h 10)) [
   | inl t ↦ rw t (above_dark (48 + h) (omega arith))
   | inr t ↦ rw t (above_dark (87 + h) (omega arith))
 ]
-
-half_hex : (h : ℕ) → h < 16 → is_hex (digit_glyph false h) ≡ true
-half_hex h l = ap (λ k. nat_lt k 16) (half_read h l) ∙ lt-ltb h 16 l
 
 high : (b : ℕ) → b < 256 → b / 16 < 16
 high b h = let s = div-add-mod b 16 in omega (arith, s, h)
@@ -142,29 +135,14 @@ high b h = let s = div-add-mod b 16 in omega (arith, s, h)
 low : (b : ℕ) → b % 16 < 16
 low b = omega arith
 
-both_halves : (m n j k : ℕ) → m ≡ n → j ≡ k → 16 * m + j ≡ 16 * n + k
-both_halves m n j k e f = rw (e, f) refl
-
-byte_read : (b : ℕ) → b < 256 → byte_of (digit_glyph false (b / 16)) (digit_glyph false (b % 16)) ≡ b
-byte_read b h = both_halves (hex_value (digit_glyph false (b / 16))) (b / 16) (hex_value (digit_glyph false (b % 16))) (b % 16) (half_read (b / 16) (high b h)) (half_read (b % 16) (low b)) ∙ div-add-mod b 16
-
--- a byte in two hexadecimal digits
-abbrev pub hex_pair : ℕ → List ℕ
-hex_pair b = digit_glyph false (b / 16) ∷ digit_glyph false (b % 16) ∷ []
-
 -- '#' and six hexadecimal digits
 abbrev pub rgb_word : Rgb → List ℕ
-rgb_word c = 35 ∷ hex_pair c.r ++ hex_pair c.g ++ hex_pair c.b
+rgb_word c = 35 ∷ hex_rgb c
 
-pub rgb_dark : (c : Rgb) → IsByteRgb c → is_word (rgb_word c) ≡ true
+pub rgb_dark : (c : Rgb) → HasBytes c → is_word (rgb_word c) ≡ true
 rgb_dark c h =
     rw (half_dark (c.r / 16) (high c.r h.r), half_dark (c.r % 16) (low c.r), half_dark (c.g / 16) (high c.g h.g), half_dark (c.g % 16) (low c.g), half_dark (c.b / 16) (high c.b h.b), half_dark (c.b % 16) (low c.b)) refl
 
-same_rgb : (c : Rgb) (r g b : ℕ) → r ≡ c.r → g ≡ c.g → b ≡ c.b → ◌≡◌ {A = Option Rgb} (Some (record { r = r; g = g; b = b })) (Some c)
-same_rgb c r g b x y z = rw (x, y, z) refl
-
-pub rgb_read : (c : Rgb) → IsByteRgb c → colour (rgb_word c) ≡ Some c
+pub rgb_read : (c : Rgb) → HasBytes c → colour (rgb_word c) ≡ Some c
 unfolding colour
-rgb_read c h =
-    rw (half_hex (c.r / 16) (high c.r h.r), half_hex (c.r % 16) (low c.r), half_hex (c.g / 16) (high c.g h.g), half_hex (c.g % 16) (low c.g), half_hex (c.b / 16) (high c.b h.b), half_hex (c.b % 16) (low c.b))
-    (same_rgb c _ _ _ (byte_read c.r h.r) (byte_read c.g h.g) (byte_read c.b h.b))
+rgb_read c bytes = rgb_of_hex-hex_rgb c bytes

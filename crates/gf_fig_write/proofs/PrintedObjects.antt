@@ -22,7 +22,7 @@ use Rattle.gf_fig_text.specs.Fields.{is_in, natural, point, points}
 use Rattle.gf_fig_read.specs.Styles.{known_colour, filling, style}
 use Rattle.gf_fig_read.specs.Outlines.{same_point, is_closed, count, chain, disc}
 use Rattle.gf_fig_read.specs.Objects.{Drawn, colour_object, object}
-use Rattle.gf_fig_write.specs.ColourBytes.{IsByteRgb}
+use Rattle.gf_digits.specs.ColourBytes.{HasBytes}
 use Rattle.gf_fig_write.proofs.PrintedNumbers.{whole_decimal, whole_signed, rgb_word, rgb_read}
 
 -- ---- words that are the same in each text
@@ -95,7 +95,7 @@ points_read (p ∷ ps) rest h = rw (point_read p (flat_map point_words ps ++ res
 abbrev pub colour_words : ℕ × Rgb → List Token
 colour_words e = codes "0" ∷ decimal e.0 ∷ rgb_word e.1 ∷ []
 
-colour_object_read : (d : Drawn) (e : ℕ × Rgb) (rest : List Token) → length d.figures ≡ 0 → IsFreeNumber d.table e.0 → IsByteRgb e.1 → colour_object d (decimal e.0 ∷ rgb_word e.1 ∷ rest) ≡ Ok (record d { table = d.table ++ e ∷ [] }, rest)
+colour_object_read : (d : Drawn) (e : ℕ × Rgb) (rest : List Token) → length d.figures ≡ 0 → IsFreeNumber d.table e.0 → HasBytes e.1 → colour_object d (decimal e.0 ∷ rgb_word e.1 ∷ rest) ≡ Ok (record d { table = d.table ++ e ∷ [] }, rest)
 unfolding colour_object
 colour_object_read d e rest none free bytes =
     let f = and_parts (is_table_number e.0) (is_none (colour_in d.table e.0)) free in
@@ -103,7 +103,7 @@ colour_object_read d e rest none free bytes =
     let most = leb-true e.0 543 n.1 in
     rw (none, natural_read 32 543 e.0 fault.Range (decimal e.0) (rgb_word e.1 ∷ rest) (whole_decimal e.0 (omega (arith, most))) (leb-true 32 e.0 n.0) most, f.1, rgb_read e.1 bytes) refl
 
-pub colour_read : (d : Drawn) (e : ℕ × Rgb) (rest : List Token) → length d.figures ≡ 0 → IsFreeNumber d.table e.0 → IsByteRgb e.1 → object d (colour_words e ++ rest) ≡ Ok (record d { table = d.table ++ e ∷ [] }, rest)
+pub colour_read : (d : Drawn) (e : ℕ × Rgb) (rest : List Token) → length d.figures ≡ 0 → IsFreeNumber d.table e.0 → HasBytes e.1 → object d (colour_words e ++ rest) ≡ Ok (record d { table = d.table ++ e ∷ [] }, rest)
 unfolding object
 colour_read d e rest none free bytes = rw (natural_read 0 2 0 fault.Object (codes "0") (decimal e.0 ∷ rgb_word e.1 ∷ rest) zero_read (omega arith) (omega arith)) (colour_object_read d e rest none free bytes)
 

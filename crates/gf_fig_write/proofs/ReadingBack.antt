@@ -20,7 +20,7 @@ use Rattle.gf_drawing.specs.Outlined.{figure_outlined, outlined}
 use Rattle.gf_fig_text.specs.Layout.{Token, lines, plain, tokens, object_tokens, is_version, plain_lines, after_resolution}
 use Rattle.gf_fig_read.specs.FigGrammar.{Reads}
 use Rattle.gf_fig_write.proofs.PrintedLines.{is_word, led, led_in_line, line_of_words, tokens_printed, words_all_led}
-use Rattle.gf_fig_write.specs.ColourBytes.{IsByteRgb}
+use Rattle.gf_digits.specs.ColourBytes.{HasBytes}
 use Rattle.gf_fig_write.proofs.PrintedNumbers.{decimal_word, signed_word, rgb_word, rgb_dark}
 use Rattle.gf_fig_write.proofs.PrintedObjects.{colour_words, point_words, style_words, count_words, disc_words, reached_small, sum_small}
 use Rattle.gf_fig_write.proofs.PrintedFigures.{outline_words, figure_words}
@@ -81,7 +81,7 @@ spaced_point_led p rest = point_pieces (codes " ") (signed_decimal p.x) (codes "
 colour_regrouped : (n : ℕ) (c : Rgb) (rest : List ℕ) → colour_line (n, c) ++ rest ≡ (48 ∷ led (decimal n ∷ rgb_word c ∷ [])) ++ 10 ∷ rest
 colour_regrouped n c rest = simp append_assoc refl
 
-colour_cut : (e : ℕ × Rgb) (rest : List ℕ) → e.0 < 2 ^ 64 → IsByteRgb e.1 → body (colour_line e ++ rest) ≡ colour_words e ++ body rest
+colour_cut : (e : ℕ × Rgb) (rest : List ℕ) → e.0 < 2 ^ 64 → HasBytes e.1 → body (colour_line e ++ rest) ≡ colour_words e ++ body rest
 colour_cut e rest small bytes =
     let all : list_all is_word (decimal e.0 ∷ rgb_word e.1 ∷ []) ≡ true = and_from (is_word (decimal e.0)) (is_word (rgb_word e.1) && true) (decimal_word e.0 small) (and_from (is_word (rgb_word e.1)) true (rgb_dark e.1 bytes) refl) in
     ap body (colour_regrouped e.0 e.1 rest) ∙ line_of_words 48 (decimal e.0 ∷ rgb_word e.1 ∷ []) rest refl all refl
@@ -177,7 +177,7 @@ outline_cut c d (Chain r) rest x y h =
 outline_cut c d (Disc r) rest x y h = disc_cut c d r rest x y h
 
 abbrev IsByteEntry : ℕ × Rgb → Type 0
-IsByteEntry e = IsByteRgb e.1
+IsByteEntry e = HasBytes e.1
 
 colours_cut : (es : Table) (rest : List ℕ) → All IsTableEntry es → All IsByteEntry es → body (flat_map colour_line es ++ rest) ≡ flat_map colour_words es ++ body rest
 colours_cut [] rest numbers bytes = refl

@@ -1,6 +1,7 @@
 -- The texts of versions and of what is on top at a point (this project's choice; numbers are decimal).
-use Rattle.std.specs.Prelude.{ℕ, ◌/◌, ◌%◌, Bool, true, false, List, [], ◌∷◌, ◌++◌, Option, Some, None, flat_map, codes}
-use Rattle.std.specs.Fmt.{decimal, digit_glyph, signed_decimal}
+use Rattle.std.specs.Prelude.{ℕ, Bool, true, false, List, [], ◌∷◌, ◌++◌, Option, Some, None, flat_map, codes}
+use Rattle.std.specs.Fmt.{decimal, signed_decimal}
+use Rattle.gf_digits.specs.HexDigits.{hex_rgb}
 use Rattle.gf_shape.specs.declared.colour.Rgb.{Rgb}
 use Rattle.gf_shape.specs.declared.point.Point.{Point}
 use Rattle.gf_ops.specs.declared.op.OpId.{OpId}
@@ -55,13 +56,9 @@ measure_text (Rect width height) = size_text width height
 measure_text (Circle radius) = size_text radius radius
 measure_text (Polygon ps) = points_text ps
 
--- a byte in two hexadecimal digits
-abbrev pub hex_text : ℕ → List ℕ
-hex_text b = digit_glyph false (b / 16) ∷ digit_glyph false (b % 16) ∷ []
-
 -- a colour in six hexadecimal digits
 abbrev pub colour_text : Rgb → List ℕ
-colour_text c = codes " colour " ++ hex_text c.r ++ hex_text c.g ++ hex_text c.b
+colour_text c = codes " colour " ++ hex_rgb c
 
 -- a layer
 abbrev pub layer_text : ℕ → List ℕ

@@ -1,14 +1,13 @@
 //! The texts of versions and of what is on top.
 
-ghost use Rattle.std.specs.Prelude.{◌≡◌, ◌<◌, ◌++◌, false, IfOk, OnOk, flat_map, option_copied};
-ghost use Rattle.std.specs.Fmt.{digit_glyph};
-ghost use Rattle.gf_inspect.specs.VersionLines.{id_text, later_ids, ids_text, name_text, point_text, corner_text, kind_word, size_text, points_text, measure_text, hex_text, colour_text, layer_text, shown_word, form_text, look_text, version_line, top_text, top_line};
+ghost use Rattle.std.specs.Prelude.{◌≡◌, ◌++◌, IfOk, OnOk, flat_map, option_copied};
+ghost use Rattle.gf_inspect.specs.VersionLines.{id_text, later_ids, ids_text, name_text, point_text, corner_text, kind_word, size_text, points_text, measure_text, colour_text, layer_text, shown_word, form_text, look_text, version_line, top_text, top_line};
 
 use crate::VersionName;
+use gf_digits::{push_hex_rgb, push_number};
 use gf_ops::{Form, ObjectId, OpId};
 use gf_shape::{OutOfMemory, Point, Rgb};
 use gf_versions::Version;
-use itoa::{Buffer, Integer};
 use std::alloc::{AllocError, Global};
 
 /// A line for each version, in their order: object, ids, kind, place, size or points, colour, layer, and
@@ -118,9 +117,7 @@ fn push_colour(out: &mut Vec<u8>, c: Rgb) -> Result<(), AllocError>
     ensures { OnOk result (out.new.items ≡ out.old.items ++ colour_text c) }
 {
     out.extend_from_slice(b" colour ")?;
-    push_hex_byte(out, c.r)?;
-    push_hex_byte(out, c.g)?;
-    push_hex_byte(out, c.b)
+    push_hex_rgb(out, c)
 }
 
 fn push_layer(out: &mut Vec<u8>, layer: u16) -> Result<(), AllocError>
@@ -188,34 +185,6 @@ fn push_corner(out: &mut Vec<u8>, p: Point) -> Result<(), AllocError>
     push_number(out, p.x)?;
     out.push(b',')?;
     push_number(out, p.y)
-}
-
-/// Appends the decimal digits of a number.
-fn push_number<I: Integer>(out: &mut Vec<u8>, n: I) -> Result<(), AllocError>
-    ensures { OnOk result (out.new.items ≡ out.old.items ++ I.text n) }
-{
-    let mut buffer = Buffer::new();
-    out.extend_from_slice(buffer.format(n).as_bytes())
-}
-
-fn push_hex_byte(out: &mut Vec<u8>, byte: u8) -> Result<(), AllocError>
-    ensures { OnOk result (out.new.items ≡ out.old.items ++ hex_text byte) }
-{
-    out.push(hex_digit(byte / 16))?;
-    out.push(hex_digit(byte % 16))?;
-    Ok(())
-}
-
-/// The digit of a half byte, in lower case.
-fn hex_digit(half: u8) -> u8
-    requires { half < 16 }
-    ensures { result ≡ digit_glyph false half }
-{
-    if half < 10 {
-        b'0' + half
-    } else {
-        b'a' + (half - 10)
-    }
 }
 
 fn kind_word(form: &Form) -> &'static [u8]

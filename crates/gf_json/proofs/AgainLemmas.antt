@@ -1,10 +1,11 @@
 -- What is written for a value is read as that value.
-use Rattle.std.proofs.Common.{◌≡◌, ℕ, ◌≤◌, ◌<◌, ◌^◌, ◌+◌, ◌*◌, ◌/◌, ◌%◌, ℤ, pos, negsuc, List, [], ◌∷◌, length, map, refl, arith, Ok, Some, Bool, true, false, ◌&&◌, nat_le, int_eq, int_le, ap}
-use Rattle.std.specs.Fmt.{digit_glyph}
+use Rattle.std.proofs.Common.{◌≡◌, ℕ, ◌≤◌, ◌<◌, ◌^◌, ℤ, pos, negsuc, List, [], ◌∷◌, length, map, refl, arith, Ok, Bool, true, false, ◌&&◌, nat_le, int_eq, int_le, ap}
 use Rattle.std.specs.List.{list_all}
 use Rattle.std.proofs.lemmas.List.{length-map}
 use Rattle.gf_shape.specs.declared.point.Point.{Point}
 use Rattle.gf_shape.specs.declared.colour.Rgb.{Rgb}
+use Rattle.gf_digits.specs.ColourBytes.{HasBytes}
+use Rattle.gf_digits.proofs.HexLemmas.{rgb_of_hex-hex_rgb}
 use Rattle.gf_ops.specs.declared.op.OpId.{OpId}
 use Rattle.gf_ops.specs.declared.op.Clock.{Clock}
 use Rattle.gf_shape.specs.Polygons.{is_polygon_count}
@@ -13,7 +14,7 @@ use Rattle.serde_json.specs.Data.{Data}
 use Rattle.serde_json.specs.View.{items_of}
 use Rattle.gf_json.specs.LineValues.{Got, and_then, whole, elements, array, each}
 use Rattle.gf_json.specs.LineLimits.{natural, coordinate, entry, name, size, radius, level, clock, point, points}
-use Rattle.gf_json.specs.LineColours.{hex_digit, hex_byte, hex_colour}
+use Rattle.gf_json.specs.LineColours.{hex_colour}
 use Rattle.gf_json.specs.WrittenValues.{natural_data, integer_data, name_data, clock_data, point_data, points_data, size_data, colour_data}
 
 -- ---- numbers
@@ -108,16 +109,6 @@ points_again ps h =
 
 -- ---- colours
 
-digit_again : (n : ℕ) → n < 16 → hex_digit (digit_glyph false n) ≡ Some n
-digit_again n h = grind (arith, h)
-
-byte_again : (n : ℕ) → n < 256 → hex_byte (digit_glyph false (n / 16)) (digit_glyph false (n % 16)) ≡ Some n
-byte_again n h =
-    let high : n / 16 < 16 = omega (arith, h) in
-    let low : n % 16 < 16 = omega (arith, h) in
-    let whole : n / 16 * 16 + n % 16 ≡ n = omega arith in
-    rw (digit_again (n / 16) high, digit_again (n % 16) low) (ap Some whole)
-
 -- a colour of bytes
-pub colour_again : (c : Rgb) → c.r < 256 → c.g < 256 → c.b < 256 → hex_colour (colour_data c) ≡ Ok c
-colour_again c r g b = rw (byte_again c.r r, byte_again c.g g, byte_again c.b b) refl
+pub colour_again : (c : Rgb) → HasBytes c → hex_colour (colour_data c) ≡ Ok c
+colour_again c bytes = rw (rgb_of_hex-hex_rgb c bytes) refl

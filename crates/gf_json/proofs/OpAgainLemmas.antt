@@ -2,6 +2,7 @@
 use Rattle.std.proofs.Common.{◌≡◌, ℕ, length, refl, Ok, Bool, true, ◌&&◌, ◌∙◌, codes}
 use Rattle.gf_shape.specs.declared.point.Point.{Point}
 use Rattle.gf_shape.specs.declared.colour.Rgb.{Rgb}
+use Rattle.gf_digits.specs.ColourBytes.{HasBytes}
 use Rattle.gf_ops.specs.declared.op.Op.{Op}
 use Rattle.gf_ops.specs.declared.op.OpId.{OpId}
 use Rattle.gf_ops.specs.declared.op.ObjectId.{ObjectId}
@@ -21,7 +22,7 @@ use Rattle.gf_json.specs.LineFields.{id, past, object, place, box_size, circle_s
 use Rattle.gf_json.specs.LineKeys.{op_keys}
 use Rattle.gf_json.specs.LineChanges.{change, new_value}
 use Rattle.gf_json.specs.OperationLines.{op_of}
-use Rattle.gf_json.specs.ColourBytes.{HasBytes, ValueHasBytes, ChangeHasBytes}
+use Rattle.gf_json.specs.ColourBytes.{ValueHasBytes, ChangeHasBytes}
 use Rattle.gf_json.specs.WrittenValues.{name_data, clock_data}
 use Rattle.gf_json.specs.WrittenLines.{creation_data, setting_data, change_data, data_of}
 use Rattle.gf_json.proofs.AgainLemmas.{both_true, name_again, clock_again, size_again, radius_again, points_again, point_again, colour_again, level_again}
@@ -51,15 +52,15 @@ creation_again : (i p : Data) (s : Start) (f : Form) → is_form f ≡ true → 
 creation_again i p s (Rect width height) form near level bytes =
     let d = creation_data i p s (Rect width height) in
     start_parts (box_size d) (place d) (colour d) (layer d) (shown d) (Rect width height) s
-    (mapped-Ok (λ q. Rect q.0 q.1) _ (width, height) (size_again width height form)) (point_again s.place near) (colour_again s.colour bytes.0 bytes.1 bytes.2) (level_again s.layer level) refl
+    (mapped-Ok (λ q. Rect q.0 q.1) _ (width, height) (size_again width height form)) (point_again s.place near) (colour_again s.colour bytes) (level_again s.layer level) refl
 creation_again i p s (Polygon ps) form near level bytes =
     let d = creation_data i p s (Polygon ps) in
     start_parts (polygon_points d) (place d) (colour d) (layer d) (shown d) (Polygon ps) s
-    (mapped-Ok Polygon _ ps (points_again ps form)) (point_again s.place near) (colour_again s.colour bytes.0 bytes.1 bytes.2) (level_again s.layer level) refl
+    (mapped-Ok Polygon _ ps (points_again ps form)) (point_again s.place near) (colour_again s.colour bytes) (level_again s.layer level) refl
 creation_again i p s (Circle radius) form near level bytes =
     let d = creation_data i p s (Circle radius) in
     start_parts (circle_size d) (place d) (colour d) (layer d) (shown d) (Circle radius) s
-    (mapped-Ok Circle _ radius (radius_again radius form)) (point_again s.place near) (colour_again s.colour bytes.0 bytes.1 bytes.2) (level_again s.layer level) refl
+    (mapped-Ok Circle _ radius (radius_again radius form)) (point_again s.place near) (colour_again s.colour bytes) (level_again s.layer level) refl
 
 -- ---- settings
 
@@ -67,7 +68,7 @@ value_again : (i p : Data) (o : ObjectId) (v : Value) → is_value v ≡ true �
 value_again i p o (value.Place q) h bytes = mapped-Ok value.Place _ q (point_again q h)
 value_again i p o (value.Points ps) h bytes = mapped-Ok value.Points _ ps (points_again ps h)
 value_again i p o (value.Size width height) h bytes = mapped-Ok (λ s. value.Size s.0 s.1) _ (width, height) (size_again width height h)
-value_again i p o (value.Colour c) h bytes = mapped-Ok value.Colour _ c (colour_again c bytes.0 bytes.1 bytes.2)
+value_again i p o (value.Colour c) h bytes = mapped-Ok value.Colour _ c (colour_again c bytes)
 value_again i p o (value.Layer n) h bytes = mapped-Ok value.Layer _ n (level_again n h)
 value_again i p o (value.Shown b) h bytes = refl
 

@@ -1,6 +1,6 @@
 -- The values of a written line (RFC 8259 by serde_json's value; forms are this project's choice).
-use Rattle.std.specs.Prelude.{ℕ, ◌/◌, ◌%◌, ℤ, List, [], ◌∷◌, ◌++◌, map, false}
-use Rattle.std.specs.Fmt.{digit_glyph}
+use Rattle.std.specs.Prelude.{ℕ, ℤ, List, [], ◌∷◌, map}
+use Rattle.gf_digits.specs.HexDigits.{hex_rgb}
 use Rattle.gf_shape.specs.declared.point.Point.{Point}
 use Rattle.gf_shape.specs.declared.colour.Rgb.{Rgb}
 use Rattle.gf_ops.specs.declared.op.OpId.{OpId}
@@ -43,13 +43,9 @@ points_data ps = array (items_of (map point_data ps))
 abbrev pub size_data : ℕ → ℕ → Data
 size_data width height = pair_data (natural_data width) (natural_data height)
 
--- n as two lower-case hexadecimal digits
-abbrev pub hex_text : ℕ → List ℕ
-hex_text n = digit_glyph false (n / 16) ∷ digit_glyph false (n % 16) ∷ []
-
--- a colour: red, green, blue
+-- a colour in six hexadecimal digits: red, green, blue
 abbrev pub colour_data : Rgb → Data
-colour_data c = string (hex_text c.r ++ hex_text c.g ++ hex_text c.b)
+colour_data c = string (hex_rgb c)
 
 -- the value v in the form of its attribute
 abbrev pub value_data : Value → Data

@@ -3,7 +3,8 @@
 ghost use Rattle.std.specs.Prelude.{◌≡◌, Ok, IfOk, OnOk, length, string_bytes};
 ghost use Rattle.serde_json.specs.View.{view, members_view};
 ghost use Rattle.gf_ops.specs.Limits.{IsInRange};
-ghost use Rattle.gf_json.specs.ColourBytes.{HasBytes, ValueHasBytes, ChangeHasBytes};
+ghost use Rattle.gf_digits.specs.ColourBytes.{HasBytes};
+ghost use Rattle.gf_json.specs.ColourBytes.{ValueHasBytes, ChangeHasBytes};
 ghost use Rattle.gf_json.specs.OperationLines.{denoted};
 ghost use Rattle.gf_json.specs.WrittenValues.{name_data, clock_data};
 ghost use Rattle.gf_json.specs.WrittenLines.{creation_data, setting_data, attribute_word, data_of, op_text};

@@ -1,7 +1,6 @@
 //! The whole picture, written.
 
-ghost use Rattle.std.specs.Prelude.{◌≡◌, ℕ, ◌+◌, ◌≤◌, ◌⊎◌, ◌++◌, [], IsTrue, IfOk, OnOk, Err};
-ghost use Rattle.std.specs.Fmt.{decimal};
+ghost use Rattle.std.specs.Prelude.{◌≡◌, ℕ, ◌+◌, ◌≤◌, ◌⊎◌, [], IsTrue, IfOk, OnOk, Err};
 ghost use Rattle.std.specs.Io.KnownBytes.{Appends};
 ghost use Rattle.gf_bytes.specs.Counts.{Rises};
 ghost use Rattle.gf_bytes.specs.Taken.{AppendsFront};
@@ -14,11 +13,11 @@ use crate::Gate;
 use crate::bands::band;
 use crate::tiles::TILE;
 use gf_bytes::{Sink, WriteError, write_all};
+use gf_digits::push_number;
 use gf_drawing::Drawing;
 use gf_layers::Layers;
 use gf_shape::Shape;
 use gf_window::Window;
-use itoa::Buffer;
 use std::alloc::{AllocError, Global};
 use std::thread::Threads;
 
@@ -71,13 +70,6 @@ fn header(alloc: Global, window: Window) -> Result<Vec<u8>, AllocError>
     push_number(&mut bytes, window.height())?;
     bytes.extend_from_slice(b"\n255\n")?;
     Ok(bytes)
-}
-
-fn push_number(bytes: &mut Vec<u8>, n: u32) -> Result<(), AllocError>
-    ensures { OnOk result (bytes.new.items ≡ bytes.old.items ++ decimal n) }
-{
-    bytes.extend_from_slice(Buffer::new().format(n).as_bytes())?;
-    Ok(())
 }
 
 /// Writes all rows of a window, a band at a time.

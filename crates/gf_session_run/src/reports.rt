@@ -3,9 +3,9 @@
 ghost use Rattle.std.specs.Prelude.{◌≡◌, ◌++◌, OnOk, flat_map};
 ghost use Rattle.gf_session_run.specs.Reports.{cause_word, counts_line, refused_line, report_lines, report_text, site_text};
 
+use gf_digits::push_number;
 use gf_session::Done;
 use gf_worker::{Cause, Refused, Report};
-use itoa::{Buffer, Integer};
 use std::alloc::AllocError;
 
 /// Appends the lines of each site.
@@ -67,14 +67,6 @@ fn push_site(out: &mut Vec<u8>, site: u8) -> Result<(), AllocError>
 {
     out.extend_from_slice(b"site ")?;
     push_number(out, site)
-}
-
-/// Appends the decimal digits of a number.
-fn push_number<I: Integer>(out: &mut Vec<u8>, n: I) -> Result<(), AllocError>
-    ensures { OnOk result (out.new.items ≡ out.old.items ++ I.text n) }
-{
-    let mut buffer = Buffer::new();
-    out.extend_from_slice(buffer.format(n).as_bytes())
 }
 
 fn cause_word(cause: Cause) -> &'static [u8]

@@ -1,9 +1,11 @@
 //! The values of a written line.
 
-ghost use Rattle.std.specs.Prelude.{◌≡◌, ◌++◌, IfOk, OnOk, length, map, string_bytes};
+ghost use Rattle.std.specs.Prelude.{◌≡◌, IfOk, OnOk, length, map, string_bytes};
+ghost use Rattle.gf_digits.specs.ColourBytes.{HasBytes};
+ghost use Rattle.gf_digits.specs.HexDigits.{hex_rgb};
 ghost use Rattle.serde_json.specs.View.{view};
-ghost use Rattle.gf_json.specs.ColourBytes.{HasBytes, ValueHasBytes};
-ghost use Rattle.gf_json.specs.WrittenValues.{natural_data, pair_data, name_data, clock_data, point_data, points_data, size_data, hex_text, colour_data, value_data};
+ghost use Rattle.gf_json.specs.ColourBytes.{ValueHasBytes};
+ghost use Rattle.gf_json.specs.WrittenValues.{natural_data, pair_data, name_data, clock_data, point_data, points_data, size_data, colour_data, value_data};
 
 use gf_ops::{Clock, OpId, Points};
 use gf_shape::{Point, Rgb};
@@ -74,14 +76,14 @@ pub(crate) fn colour_data(alloc: Global, colour: Rgb) -> Result<Value, AllocErro
     ensures value { IfOk result (λ v. view v ≡ colour_data colour) }
     ensures bytes { HasBytes colour }
 {
-    let text = hex_text(alloc, colour)?;
+    let text = hex_rgb(alloc, colour)?;
     Ok(Value::String(text))
 }
 
 /// Six hexadecimal digits in lower case.
 #[tactic(auto, using(std::proofs::lemmas::Fmt::hex_byte))]
-fn hex_text(alloc: Global, colour: Rgb) -> Result<String, AllocError>
-    ensures { IfOk result (λ s. string_bytes s ≡ hex_text colour.r ++ hex_text colour.g ++ hex_text colour.b) }
+fn hex_rgb(alloc: Global, colour: Rgb) -> Result<String, AllocError>
+    ensures { IfOk result (λ s. string_bytes s ≡ hex_rgb colour) }
 {
     format!(in alloc; "{:02x}{:02x}{:02x}", colour.r, colour.g, colour.b)
 }

@@ -1,0 +1,14 @@
+//! Whole numbers in decimal digits.
+
+ghost use Rattle.std.specs.Prelude.{◌≡◌, ◌++◌, OnOk};
+
+use itoa::{Buffer, Integer};
+use std::alloc::AllocError;
+
+/// Appends the decimal digits of a number, behind a `-` where it is below 0.
+pub fn push_number<I: Integer>(out: &mut Vec<u8>, n: I) -> Result<(), AllocError>
+    ensures { OnOk result (out.new.items ≡ out.old.items ++ I.text n) }
+{
+    let mut buffer = Buffer::new();
+    out.extend_from_slice(buffer.format(n).as_bytes())
+}
