@@ -22,12 +22,12 @@ pub record IsDelivery (offered course : List Op) : Type 0 where
   pub once : HaveOwnIds course
   pub in_turn : AreReady course
 
--- behind this delivery no offered operation is ready
+-- the course is a delivery of the offered operations behind which none of them is ready
 pub record IsLastDelivery (offered course : List Op) : Type 0 where
   pub delivery : IsDelivery offered course
   pub last : NoneIsReady course offered
 
--- the offered operations have such a delivery
+-- the offered operations have a delivery behind which none of them is ready
 pub record HasLastDelivery (offered : List Op) : Type 0 where
   pub course : List Op
   pub is_last : IsLastDelivery offered course

@@ -1,4 +1,4 @@
--- No public clause cites this module. How a buffer keeps its operations, and what stands under an id.
+-- How a buffer keeps its operations, and what stands under an id. No public clause cites this module.
 use Rattle.std.specs.Prelude.{◌≡◌, ◌≢◌, List, Contains, map, Option, Some, None}
 use Rattle.std.specs.Map.{values_of}
 use Rattle.gf_ops.specs.declared.op.Op.{Op}

@@ -1,4 +1,4 @@
--- What the runs of the program leave on their output (this project's own).
+-- What the runs of the program leave on their output (this project's choice).
 use Rattle.std.specs.Prelude.{◌⊎◌, ℕ, List, Option}
 use Rattle.gf_studio.specs.FigRun.{Exports, WritesFront}
 use Rattle.gf_studio.specs.PaintRun.{IsDenoted, IsMeant, WritesBands, WritesPicture, WritesPictureFront}
@@ -15,7 +15,7 @@ Answers (Repaint canvas) bytes old new = WritesPicture (IsDenoted bytes) canvas.
 Answers (Inspect query) bytes old new = WritesLook bytes query old new
 Answers (Session sites) bytes old new = WritesSession sites bytes old new
 
--- known bytes grow from old to new by a front of that, of a picture perhaps by whole bands
+-- known bytes grow from old to new by a front of what the run asks for, of a picture perhaps by whole bands
 abbrev pub AnswersFront : Run → List ℕ → Option (List ℕ) → Option (List ℕ) → Type 0
 AnswersFront Fig bytes old new = WritesFront bytes old new
 AnswersFront (Paint canvas) bytes old new = WritesPictureFront (IsMeant bytes) canvas.window old new ⊎ WritesBands (IsMeant bytes) canvas.window old new

@@ -1,4 +1,4 @@
--- Colours by number (Xfig, FIG Format 3.2: the standard colours and the colour objects).
+-- Colours by number (Xfig, FIG Format 3.2: the standard colours and the colour objects; the values of the colours 0 to 7 are this project's choice).
 use Rattle.std.specs.Prelude.{ℕ, List, [], ◌∷◌, ◌++◌, find, ◌==◌, Option, option_map}
 use Rattle.gf_shape.specs.declared.colour.Rgb.{Rgb}
 use Rattle.gf_versions.specs.HistoryColour.{white}

@@ -13,7 +13,7 @@ pub record DrawingState (S : Type 0) : Type 0 where
 abbrev pub is_table_number : ℕ → Bool
 is_table_number n = nat_le 32 n && nat_le n 543
 
--- n is such a number, and the table has no colour under it
+-- n is a number of colour tables, and the table has no colour under it
 abbrev pub IsFreeNumber : Table → ℕ → Type 0
 IsFreeNumber table n = IsTrue (is_table_number n && is_none (colour_in table n))
 

@@ -11,7 +11,7 @@ use Rattle.gf_edges.specs.declared.edge.Edge.{Edge}
 abbrev pub crossings_at : ℤ → List Edge → List Crossing
 crossings_at y es = flat_map (λ e. crossings_of y (e.from, e.to)) es
 
--- what those that do not pass it have at it
+-- the spans that the edges which do not pass the height y have there
 abbrev pub contacts_at : ℤ → List Edge → List Span
 contacts_at y es = flat_map (λ e. contacts_of y (e.from, e.to)) es
 

@@ -47,7 +47,7 @@ is_version text = starts_with nat_eq text (codes "#FIG 3.2")
 abbrev pub plain_lines : List ℕ → List (List ℕ)
 plain_lines text = plain (drop 1 (lines text))
 
--- the tokens of these lines
+-- the tokens of the lines ls, one line after another
 abbrev pub tokens : List (List ℕ) → List Token
 tokens ls = flat_map words ls
 

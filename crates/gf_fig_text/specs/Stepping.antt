@@ -1,4 +1,4 @@
--- What a function that cuts a text has returned and left. Private contracts alone cite this module.
+-- What a function that cuts a text has returned and left. No public clause cites this module.
 use Rattle.std.specs.Prelude.{◌≡◌, ℕ, ⊤, not, List, drop, Result, Ok, Err}
 use Rattle.std.specs.List.{position_or_len}
 use Rattle.gf_fig_text.specs.Layout.{Token, is_blank}

@@ -29,7 +29,7 @@ id_at h k = option_map (λ (a : Op). a.id) (slice_get h k)
 abbrev pub ids_at : List Op → List ℕ → List OpId
 ids_at h g = filter_map (id_at h) g
 
--- those ids, rising
+-- the ids of the operations at the places g, rising
 abbrev pub rising_ids : List Op → List ℕ → List OpId
 rising_ids h g = fold (insert_key id_cmp) [] (ids_at h g)
 

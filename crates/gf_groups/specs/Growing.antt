@@ -36,7 +36,7 @@ module _ (c : ℕ → ℕ → Bool) where
   abbrev pub step : ℕ → List ℕ → List ℕ
   step x g = cond (clashes x g) g (g ++ x ∷ [])
 
-  -- those of a group that are compatible with x, and x
+  -- the places of a group that are compatible with x, and x
   abbrev pub part : ℕ → List ℕ → List ℕ
   part x g = filter (λ a. not (c a x)) g ++ x ∷ []
 
@@ -57,15 +57,15 @@ module _ (c : ℕ → ℕ → Bool) where
   leaves (Some a) g = not (is_covered g a)
   leaves None g = false
 
-  -- those of us that conflict with x
+  -- the places of us that conflict with x
   abbrev pub rivals : List ℕ → ℕ → List ℕ
   rivals us x = filter (c x) us
 
-  -- those of us that conflict with a rival of x, and not with x: all that a part may leave uncovered
+  -- the places of us that conflict with a rival of x, and not with x: all that a part may leave uncovered
   abbrev pub exposed : List ℕ → ℕ → List ℕ
   exposed us x = filter (λ a. not (c a x) && clashes a (rivals us x)) us
 
-  -- those of the groups gs that cover the places us, each once
+  -- the groups among gs that cover the places us, each once
   abbrev pub largest_of : List ℕ → List (List ℕ) → List (List ℕ)
   largest_of us gs = fold (take_up same_group (covers us)) [] gs
 

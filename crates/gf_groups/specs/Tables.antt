@@ -1,4 +1,4 @@
--- The largest compatible groups of places, listed.
+-- The largest compatible groups of places, listed (after Sun and Chen's maximal compatible groups, ACM TOCHI 9(1), 2002).
 use Rattle.std.specs.Prelude.{◌≡◌, ◌≢◌, ◌↔◌, ◌⊎◌, ℕ, Bool, true, false, List, AllPairs, Contains}
 use Rattle.std.specs.List.Sorted.{IsStrictlySortedBy}
 use Rattle.std.specs.Ordering.{nat_cmp}

@@ -1,5 +1,4 @@
--- The versions of an object as a list that computes: the sublists of its ids that are compatible and largest
--- (maximal compatible groups, Sun and Chen, ACM TOCHI 9(1), 2002).
+-- The versions of an object as a list that computes (maximal compatible groups, Sun and Chen, ACM TOCHI 9(1), 2002).
 use Rattle.std.specs.Prelude.{Bool, not, ◌&&◌, ◌||◌, ◌==◌, nat_le, List, [], ◌∷◌, ◌++◌, filter, map}
 use Rattle.std.specs.List.{list_any, list_all, fold}
 use Rattle.std.specs.BTreeSet.{insert_key}
@@ -18,7 +17,7 @@ id_eq i j = i.site == j.site && i.seq == j.seq
 abbrev pub is_before : Op → Op → Bool
 is_before a b = nat_le a.id.seq (entry b.past a.id.site)
 
--- neither of a and b comes before the other, and they are two
+-- a and b are two operations, neither of which comes before the other
 abbrev pub are_concurrent : Op → Op → Bool
 are_concurrent a b = not (id_eq a.id b.id) && not (is_before a b) && not (is_before b a)
 
@@ -46,7 +45,7 @@ is_compatible h g = list_all (λ a. list_all (λ b. not (in_conflict a b)) (memb
 abbrev pub is_largest : List Op → ObjectId → List OpId → Bool
 is_largest h o g = list_all (λ a. is_in g a || list_any (in_conflict a) (members h g)) (ops_on h o)
 
--- every list that can be made from this one by leaving elements out
+-- every list that can be made from a list by leaving elements out
 abbrev pub sublists : {X : Type 0} → List X → List (List X)
 sublists [] = [] ∷ []
 sublists (x ∷ xs) = map (λ ys. x ∷ ys) (sublists xs) ++ sublists xs
@@ -55,6 +54,6 @@ sublists (x ∷ xs) = map (λ ys. x ∷ ys) (sublists xs) ++ sublists xs
 abbrev pub ids_on : List Op → ObjectId → List OpId
 ids_on h o = fold (insert_key id_cmp) [] (map (λ (a : Op). a.id) (ops_on h o))
 
--- the sublists of them that are compatible and largest
+-- the versions of the object o, each as its rising ids: the sublists of the ids on it that are compatible and largest
 abbrev pub versions_of : List Op → ObjectId → List (List OpId)
 versions_of h o = filter (λ g. is_compatible h g && is_largest h o g) (sublists (ids_on h o))

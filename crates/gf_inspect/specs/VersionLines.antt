@@ -73,7 +73,7 @@ shown_word false = codes "hidden"
 unfoldable pub form_text : Version → List ℕ
 form_text v = codes " " ++ kind_word v.form ++ codes " place " ++ point_text v.place ++ measure_text v.form
 
--- its colour, its layer, and whether it is shown
+-- the colour of a version, its layer, and whether it is shown
 unfoldable pub look_text : Version → List ℕ
 look_text v = colour_text v.colour ++ layer_text v.key.layer ++ codes " " ++ shown_word v.shown
 

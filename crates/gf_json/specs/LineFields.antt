@@ -27,7 +27,7 @@ at key form d = and_then form (value_at key d)
 abbrev pub id : Data → Got OpId
 id d = at (codes "id") name d
 
--- what its site knew before it
+-- what the site of the operation knew before it
 abbrev pub past : Data → Got Clock
 past d = at (codes "past") (λ v. and_then clock (array v)) d
 
@@ -59,10 +59,10 @@ polygon_points d = mapped Polygon (at (codes "points") points d)
 abbrev pub colour : Data → Got Rgb
 colour d = at (codes "colour") hex_colour d
 
--- its layer
+-- the layer of the new object
 abbrev pub layer : Data → Got ℕ
 layer d = at (codes "layer") level d
 
--- whether it is shown
+-- whether the new object is shown
 abbrev pub shown : Data → Got Bool
 shown d = at (codes "shown") truth d

@@ -7,23 +7,23 @@ use Rattle.serde_json.specs.Find.{get, as_str, as_object}
 
 -- ---- the keys, by line and kind
 
--- what an operation line has beside the keys of its change
+-- the keys that an operation line has beside those of its change
 abbrev pub op_keys : List (List ℕ)
 op_keys = codes "op" ∷ codes "id" ∷ codes "past" ∷ []
 
--- what a script line has beside those of the change that its site makes
+-- the keys that a script line has beside those of the change that its site makes
 abbrev pub author_keys : List (List ℕ)
 author_keys = codes "do" ∷ codes "site" ∷ []
 
--- those of a script line that waits for an operation
+-- the keys of a script line that waits for an operation
 abbrev pub await_keys : List (List ℕ)
 await_keys = codes "do" ∷ codes "site" ∷ codes "id" ∷ []
 
--- those of a change that creates an object; `shape` is the key of its form
+-- the keys of a change that creates an object; `shape` is the key of its form
 abbrev pub create_keys : List ℕ → List (List ℕ)
 create_keys shape = codes "kind" ∷ codes "place" ∷ shape ∷ codes "colour" ∷ codes "layer" ∷ codes "shown" ∷ []
 
--- those of a change that sets an attribute
+-- the keys of a change that sets an attribute
 abbrev pub set_keys : List (List ℕ)
 set_keys = codes "object" ∷ codes "set" ∷ codes "to" ∷ []
 

@@ -9,11 +9,11 @@ use Rattle.gf_json.specs.declared.line_error.LineError.TheVariants as fault
 use Rattle.serde_json.specs.Data.{Data}
 use Rattle.gf_json.specs.LineValues.{Got, mapped, and_then, ◌&◌, whole, array, two, pair, each}
 
--- a number from low to high
+-- a whole number from low to high
 abbrev pub integer : ℤ → ℤ → Data → Got ℤ
 integer low high d = and_then (λ n. if int_le low n && int_le n high then Ok n else Err fault.Range) (whole d)
 
--- the same of natural numbers
+-- a natural number from low to high
 abbrev pub natural : ℕ → ℕ → Data → Got ℕ
 natural low high d = mapped nat_abs (integer (pos low) (pos high) d)
 
@@ -63,10 +63,10 @@ point d = mapped (λ p. record { x = p.0; y = p.1 }) (pair coordinate coordinate
 abbrev pub counted : ℕ → Got ℕ
 counted n = if is_polygon_count n then Ok n else Err fault.Range
 
--- the points of a polygon
+-- the points of a polygon, 3 to 64, from the elements of an array
 abbrev pub points_of : List Data → Got (List Point)
 points_of ds = mapped (λ p. p.1) (counted (length ds) & each point ds)
 
--- the same of an array
+-- the points of a polygon, 3 to 64, from a value that has to be an array
 abbrev pub points : Data → Got (List Point)
 points d = and_then points_of (array d)

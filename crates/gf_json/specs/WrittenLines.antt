@@ -23,7 +23,7 @@ attribute_word (value.Colour c) = codes "colour"
 attribute_word (value.Layer n) = codes "layer"
 attribute_word (value.Shown b) = codes "shown"
 
--- the members, in this order
+-- the members of an object, in the order of the list
 abbrev pub in_order : List (List ℕ × Data) → Members
 in_order [] = no_members
 in_order ((key, d) ∷ ms) = member key d (in_order ms)
@@ -40,11 +40,11 @@ created id past s kind last = object (in_order (
     ∷ (codes "place", point_data s.place)
     ∷ last))
 
--- the last keys of a box and of a circle
+-- the last members of a line that creates a box or a circle
 abbrev pub with_size : Start → ℕ → ℕ → List (List ℕ × Data)
 with_size s width height = (codes "shown", boolean s.shown) ∷ (codes "size", size_data width height) ∷ []
 
--- those of a polygon
+-- the last members of a line that creates a polygon
 abbrev pub with_points : Start → List Point → List (List ℕ × Data)
 with_points s ps = (codes "points", points_data ps) ∷ (codes "shown", boolean s.shown) ∷ []
 
@@ -74,6 +74,6 @@ change_data id past (Set o v) = setting_data id past o v
 abbrev pub data_of : Op → Data
 data_of a = change_data (name_data a.id) (clock_data a.past) a.change
 
--- the line
+-- the line that is written for the operation a
 abbrev pub op_text : Op → List ℕ
 op_text a = compact_text (data_of a)

@@ -8,12 +8,12 @@ use Rattle.serde_json.specs.Data.{Data, boolean, string, Members, put}
 use Rattle.gf_json.specs.WrittenValues.{natural_data, name_data, clock_data, point_data, points_data, size_data, colour_data}
 use Rattle.gf_json.specs.WrittenLines.{in_order}
 
--- ms, with these members put one after the other
+-- ms, with the members of the list put one after the other
 abbrev pub put_all : List (List ℕ × Data) → Members → Members
 put_all [] ms = ms
 put_all ((key, d) ∷ rest) ms = put_all rest (put key d ms)
 
--- what each line has: the operation a, which does what the word says
+-- the members that each line has: those of the operation a, which does what the word says
 abbrev pub begun : Op → List ℕ → Members
 begun a word = in_order (
     (codes "id", name_data a.id)
@@ -21,7 +21,7 @@ begun a word = in_order (
     ∷ (codes "past", clock_data a.past)
     ∷ [])
 
--- what the line of each new object has
+-- the members that the line of each new object has
 abbrev pub look_members : Start → List (List ℕ × Data)
 look_members s =
     (codes "colour", colour_data s.colour)
@@ -30,11 +30,11 @@ look_members s =
     ∷ (codes "shown", boolean s.shown)
     ∷ []
 
--- a kind, and the form of the new object at its key
+-- the members for a kind, and for the form of the new object at its key
 abbrev pub shape_members : List ℕ → List ℕ → Data → List (List ℕ × Data)
 shape_members kind key d = (codes "kind", string kind) ∷ (key, d) ∷ []
 
--- the same of a form
+-- the members for the kind of a form, and for the form
 abbrev pub form_members : Form → List (List ℕ × Data)
 form_members (Rect width height) = shape_members (codes "box") (codes "size") (size_data width height)
 form_members (Polygon ps) = shape_members (codes "polygon") (codes "points") (points_data ps)

@@ -10,6 +10,6 @@ module _ {S : Type 0} where
   abbrev pub seen : Layer S → S × Rgb
   seen l = (l.shape.now, l.brush)
 
-  -- the same of a figure
+  -- the shape of a figure, and its colour
   abbrev pub seen_figure : Table → Figure S → S × Rgb
   seen_figure table f = (f.shape, figure_colour table f)

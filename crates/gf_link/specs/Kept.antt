@@ -1,4 +1,4 @@
--- The rule of a link: what was sent is what was taken and then what the queue holds (a queue that is first in, first out).
+-- The rule of a link: what was sent is what was taken and then what the queue holds (this project's choice: a queue that is first in, first out).
 use Rattle.std.specs.Prelude.{◌≡◌, ℕ, ◌≤◌, Bool, true, List, [], ◌∷◌, ◌++◌, length, IsTrue}
 use mathlib.Core.Option.{some}
 use lib.ListN.{get_elem?}

@@ -1,4 +1,4 @@
--- The seats of a link, from within (this project's own).
+-- The seats of a link, from within (this project's choice).
 use Rattle.std.specs.Prelude.{◌≡◌, ◌≤◌, true, false, [], length, IsTrue}
 use Rattle.crossbeam_queue.specs.Passes.{view}
 use Rattle.gf_link.specs.Ends.{is_ended, ends_last}

@@ -1,4 +1,4 @@
--- What contracts see of the two seats of a link (this project's own).
+-- What contracts see of the two seats of a link (this project's choice).
 use Rattle.std.specs.Prelude.{List}
 use Rattle.atomic_table.specs.Seated.{TableId}
 use Rattle.gf_link.specs.declared.message.Message.{Message}

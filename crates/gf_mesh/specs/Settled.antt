@@ -3,12 +3,12 @@ use Rattle.std.specs.Prelude.{◌≡◌, ◌≢◌, ℕ, List, Contains, Some, s
 use Rattle.atomic_table.specs.Seated.{TableId}
 use Rattle.gf_worker.specs.declared.peer.Peer.{Peer}
 
--- each took all that the other sent
+-- each of the peers x and y took all that the other sent
 pub record HaveExchanged (x y : Peer) : Type 0 where
   pub there : y.take.taken ≡ x.send.sent
   pub back : x.take.taken ≡ y.send.sent
 
--- the same, whatever the table
+-- each of the peers x and y took all that the other sent, whatever the tables of links
 abbrev pub Exchanged : List TableId → List TableId → Peer → Peer → Type 0
 Exchanged table more x y = HaveExchanged x y
 

@@ -32,7 +32,7 @@ pub record IsAccepted (h : List Op) (a : Op) : Type 0 where
   pub next : IsNext h a
   pub suited : IsSuited h a a.change
 
--- a may not be added behind h, for the first of these faults
+-- a may not be added behind h, and this is the first of its faults
 abbrev pub IsRefused : List Op → Op → OpFault → Type 0
 IsRefused h a fault.BadClock = ¬ (IsNext h a)
 IsRefused h a fault.NoObject = IsNext h a × (¬ (IsFounded h a a.change))

@@ -30,7 +30,7 @@ abbrev pub made_kind : Change → Option Kind
 made_kind (Create start) = Some (kind_of start.form)
 made_kind (Set object v) = None
 
--- whether objects of the kind have such a value; the two numbers of a circle's size are its radius
+-- an object of the kind may have the value; the two numbers of a circle's size are its radius
 abbrev pub suits : Kind → Value → Bool
 suits kind (value.Place p) = true
 suits kind (value.Colour c) = true
@@ -58,7 +58,7 @@ form_attribute (form.Rect width height) = Size
 form_attribute (form.Polygon ps) = Points
 form_attribute (form.Circle radius) = Size
 
--- the value that the form f gives to it
+-- the value that the form f gives to its attribute
 abbrev pub form_value : Form → Value
 form_value (form.Rect width height) = value.Size width height
 form_value (form.Polygon ps) = value.Points ps

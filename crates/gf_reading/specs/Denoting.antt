@@ -1,4 +1,4 @@
--- The history that operation lines denote (this project's own, over causal delivery).
+-- The history that operation lines denote (this project's choice, over causal delivery).
 use Rattle.std.specs.Prelude.{◌≡◌, ℕ, List, map, Ok}
 use Rattle.gf_bytes.specs.TextLines.{numbered_lines}
 use Rattle.gf_ops.specs.declared.op.Op.{Op}

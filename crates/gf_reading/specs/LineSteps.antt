@@ -43,7 +43,7 @@ pub record Moves (old new : SiteState) : Type 0 where
   pub accepted : AreAccepted new.ops
   pub valid : IsValid new.ops
 
--- and holds none that is ready
+-- the site has the operations that it had, in a history by rule, and holds none that is ready
 pub record Settles (old new : SiteState) : Type 0 where
   pub moves : Moves old new
   pub none : NoneIsReady new.ops new.held

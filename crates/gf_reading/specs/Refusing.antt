@@ -1,4 +1,4 @@
--- Which operation lines denote no history: the first line at fault, or the first operation that doesn't fit (this project's own).
+-- Which operation lines denote no history: the first line at fault, or the first operation that doesn't fit (this project's choice, over causal delivery).
 use Rattle.std.specs.Prelude.{◌≡◌, ℕ, List, [], ◌∷◌, ◌++◌, Contains, Ok, Err, ⊤}
 use Rattle.gf_bytes.specs.TextLines.{numbered_lines}
 use Rattle.gf_ops.specs.declared.op.Op.{Op}

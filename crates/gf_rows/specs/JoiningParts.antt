@@ -12,30 +12,30 @@ start k = cond k.between (k.floor +ℤ pos 1) k.floor
 abbrev pub span_between : Crossing → Crossing → Option Span
 span_between k l = cond (int_le (start k) l.floor) (Some (record { first = start k; last = l.floor })) None
 
--- the same as a list
+-- the numbers from the place k to the place l as a list of one span, or of none where there are no such numbers
 abbrev pub spans_between : Crossing → Crossing → List Span
 spans_between k l = option_to_list (span_between k l)
 
--- those between the first place and the second, the third and the fourth, and so on, where one may stand before them
+-- the spans between the first place and the second, the third and the fourth, and so on, where one place may stand before the list
 abbrev pub pairs_from : Option Crossing → List Crossing → List Span
 pairs_from before [] = []
 pairs_from None (k ∷ ks) = pairs_from (Some k) ks
 pairs_from (Some k) (l ∷ ks) = spans_between k l ++ pairs_from None ks
 
--- c, widened to the end of s
+-- the span c, widened to the end of the span s
 abbrev pub widened : Span → Span → Span
 widened c s = record { first = c.first; last = int_max c.last s.last }
 
--- s, which begins no earlier than c, overlaps it or begins right after it
+-- the span s, which begins no earlier than the span c, overlaps it or begins right after it
 abbrev pub meets : Span → Span → Bool
 meets c s = int_le s.first (c.last +ℤ pos 1)
 
--- c and spans that begin no earlier, those that meet made one
+-- the span c and spans that begin no earlier, by their first numbers: spans that meet are made one
 abbrev pub merged : Span → List Span → List Span
 merged c [] = c ∷ []
 merged c (s ∷ ss) = cond (meets c s) (merged (widened c s) ss) (c ∷ merged s ss)
 
--- the same of all spans
+-- spans by their first numbers: spans that meet are made one
 abbrev pub merged_all : List Span → List Span
 merged_all [] = []
 merged_all (s ∷ ss) = merged s ss

@@ -30,6 +30,6 @@ pub record Gave (s : Start) (e : WorkerEnd) : Type 0 where
   pub seats : map seat_of e.seats.items ≡ map seat_of s.peers.items
   pub worked : e.short ≡ false → HasWorked s.site.number s.script.0.items s.peers.items e
 
--- so for each site
+-- each worker gives back its site and its seats, and unless it is short it has done all that it had to
 abbrev pub GaveAll : List Start → List WorkerEnd → Type 0
 GaveAll starts ends = AllZip Gave starts ends

@@ -20,7 +20,7 @@ use Rattle.gf_studio.specs.FigRun.{IsDrawn, RefusesHistory, Shows}
 use Rattle.gf_session_run.specs.DenotedScripts.{DenotesScripts, HasScriptFault}
 use Rattle.gf_session_run.specs.Reports.{report_text}
 
--- so many sites may be in a session
+-- a session may have n sites: 2 to 8
 abbrev pub IsSiteCount : ℕ → Type 0
 IsSiteCount n = (2 ≤ n) × (n ≤ 8)
 
@@ -31,7 +31,7 @@ pub record Plays (n : ℕ) (bytes : List ℕ) (dones : List Done) (h : List Op) 
   pub session : IsSession scripts dones
   pub common : (d : Done) → Contains dones d → HaveSame d.site.ops h
 
--- the text has the lines of all sites, and behind them the one FIG text of the common history's drawing, which shows this history
+-- the text of a session of n sites that the bytes denote: the lines of all sites, and behind them the one FIG text of the common history's drawing, which shows this history
 pub record TellsSession (n : ℕ) (bytes text : List ℕ) : Type 0 where
   pub dones : List Done
   pub history : List Op
@@ -41,13 +41,13 @@ pub record TellsSession (n : ℕ) (bytes text : List ℕ) : Type 0 where
   pub shown : Shows (fig_text any_outline drawing) history
   pub is : text ≡ report_text dones ++ fig_text any_outline drawing
 
--- known bytes grow from old to new by such a text
+-- known bytes grow from old to new by the text of a session of n sites that the bytes denote
 pub record WritesSession (n : ℕ) (bytes : List ℕ) (old new : Option (List ℕ)) : Type 0 where
   pub text : List ℕ
   pub tells : TellsSession n bytes text
   pub written : Appends old new text
 
--- known bytes grow from old to new by a front of such a text, which may be none or all of it
+-- known bytes grow from old to new by a front, which may be none or all, of the text of a session of n sites that the bytes denote
 pub record WritesSessionFront (n : ℕ) (bytes : List ℕ) (old new : Option (List ℕ)) : Type 0 where
   pub text : List ℕ
   pub tells : TellsSession n bytes text

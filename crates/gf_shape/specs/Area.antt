@@ -1,4 +1,4 @@
--- A box as its callers see it: its least corner and its size (this project's limits).
+-- A box as its callers see it: its least corner and its size (this project's choice; the order of corners is that of Xfig's FIG Format 3.2).
 use Rattle.std.specs.Prelude.{ℕ, ℤ, pos, negsuc, ◌+ℤ◌, Bool, ◌&&◌, nat_le, int_le, List, [], ◌∷◌}
 use Rattle.gf_shape.specs.declared.point.Point.{Point}
 
@@ -26,6 +26,6 @@ corners_again a =
 unfoldable pub is_side : ℤ → ℕ → Bool
 is_side low size = nat_le 1 size && int_le (negsuc 9999999) low && int_le (low +ℤ pos size) (pos 10000000)
 
--- both sides of the box a are such
+-- both sides of the box a have a size of at least 1, and their ends lie between -10,000,000 and 10,000,000
 abbrev pub is_area : Area → Bool
 is_area a = is_side a.low.x a.width && is_side a.low.y a.height

@@ -11,7 +11,7 @@ Edge = Point × Point
 unfoldable pub side : Edge → Point → ℤ
 side (a, b) d = (b.x -ℤ a.x) *ℤ (d.y -ℤ a.y) -ℤ (b.y -ℤ a.y) *ℤ (d.x -ℤ a.x)
 
--- m lies between two numbers, or is one of them
+-- m lies between a and b, or is one of them
 unfoldable pub is_between : ℤ → ℤ → ℤ → Bool
 is_between a m b = (int_le a m && int_le m b) || (int_le b m && int_le m a)
 
@@ -27,7 +27,7 @@ is_on_edge d (a, b) = is_on_line d (a, b) && is_between a.x d.x b.x && is_betwee
 abbrev pub climbs_past : Point → Edge → Bool
 climbs_past d (a, b) = int_le a.y d.y && not (int_le b.y d.y)
 
--- the same of the edge turned round
+-- the edge begins past the height of d, and ends at or before it
 abbrev pub falls_past : Point → Edge → Bool
 falls_past d (a, b) = climbs_past d (b, a)
 

@@ -1,4 +1,4 @@
--- Points moved by a distance (this project's own words).
+-- Points moved by a distance (this project's choice).
 use Rattle.std.specs.Prelude.{◌+ℤ◌, ◌-ℤ◌}
 use Rattle.gf_shape.specs.declared.point.Point.{Point}
 

@@ -1,4 +1,4 @@
--- A polygon kept as the chain round its points. Its type's view and invariant alone cite this module.
+-- A polygon kept as the chain round its points. No public clause cites this module.
 use Rattle.std.specs.Prelude.{◌≡◌, ◌-◌, IsTrue, List, length, take}
 use Rattle.gf_shape.specs.declared.point.Point.{Point}
 use Rattle.gf_shape.specs.Polygons.{is_polygon}

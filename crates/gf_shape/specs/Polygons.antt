@@ -1,4 +1,4 @@
--- Which points make a polygon (this project's limits).
+-- Which points make a polygon (this project's choice).
 use Rattle.std.specs.Prelude.{ℕ, Bool, ◌&&◌, List, length, nat_le}
 use Rattle.std.specs.List.{list_all}
 use Rattle.gf_shape.specs.declared.point.Point.{Point}

@@ -1,4 +1,4 @@
--- The laws that every shape keeps, over the set of points that it holds (this project's own).
+-- The laws that every shape keeps, over the set of points that it holds (this project's choice).
 use Rattle.std.specs.Prelude.{◌≡◌, Bool, IsTrue, ℤ, ◌≤ℤ◌}
 use Rattle.gf_shape.specs.declared.bounds.Bounds.{Bounds}
 use Rattle.gf_shape.specs.declared.point.Point.{Point}

@@ -24,7 +24,7 @@ points_movable ps d = list_all (λ p. is_within_reach (plus p d)) ps
 abbrev pub rect_moved : Area → Point → Area
 rect_moved a d = record a { low = plus a.low d }
 
--- both its corners, moved by d, lie within reach
+-- the least corner of the box a and the one opposite, moved by d, lie within reach
 abbrev pub rect_movable : Area → Point → Bool
 rect_movable a d = is_within_reach (plus a.low d) && is_within_reach (plus (far_corner a) d)
 
@@ -32,7 +32,7 @@ rect_movable a d = is_within_reach (plus a.low d) && is_within_reach (plus (far_
 abbrev pub round_moved : Round → Point → Round
 round_moved r d = record r { centre = plus r.centre d }
 
--- its centre, moved by d, lies within reach
+-- the centre of the circle or disc r, moved by d, lies within reach
 abbrev pub round_movable : Round → Point → Bool
 round_movable r d = is_within_reach (plus r.centre d)
 
@@ -46,7 +46,7 @@ any_moved (any.Rect a) d = any.Rect (rect_moved a d)
 any_moved (any.Circle r) d = any.Circle (round_moved r d)
 any_moved (any.Polygon ps) d = any.Polygon (points_moved ps d)
 
--- its defining points, moved by d, lie within reach
+-- the defining points of a shape of any kind, moved by d, lie within reach
 abbrev pub any_movable : AnyShape → Point → Bool
 any_movable (any.Rect a) d = rect_movable a d
 any_movable (any.Circle r) d = round_movable r d
@@ -57,7 +57,7 @@ abbrev pub outline_moved : Outline → Point → Outline
 outline_moved (Chain ring) d = Chain (ring_moved ring d)
 outline_moved (Disc round) d = Disc (round_moved round d)
 
--- its defining points, moved by d, lie within reach
+-- the defining points of an outline, moved by d, lie within reach
 abbrev pub outline_movable : Outline → Point → Bool
 outline_movable (Chain ring) d = points_movable ring.points d
 outline_movable (Disc round) d = round_movable round d

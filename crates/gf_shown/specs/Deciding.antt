@@ -19,7 +19,7 @@ module _ (sets : ℕ → Bool) (later : ℕ → ℕ → Bool) (gives : ℕ → B
   abbrev pub last_of : List ℕ → Option ℕ
   last_of g = fold taken None g
 
-  -- it gives the value
+  -- there is a last setter, and it gives the value
   abbrev pub given_by : Option ℕ → Bool
   given_by (Some i) = gives i
   given_by None = false
@@ -41,11 +41,11 @@ module _ (sets : ℕ → Bool) (later : ℕ → ℕ → Bool) (gives : ℕ → B
   abbrev pub overruled : PartsState → ℕ → Bool
   overruled s i = list_any (later i) s.free || list_any (always_later i) s.parts
 
-  -- i sets it, and may be last
+  -- i sets the attribute, and may be the last setter
   abbrev pub may_be_last : PartsState → ℕ → Bool
   may_be_last s i = sets i && not (overruled s i)
 
-  -- a setter of the part may be last
+  -- a setter of the part may be the last one
   abbrev pub decides : PartsState → PartState → Bool
   decides s p = list_any (may_be_last s) p.all
 
@@ -53,7 +53,7 @@ module _ (sets : ℕ → Bool) (later : ℕ → ℕ → Bool) (gives : ℕ → B
   abbrev pub deciding : PartsState → PartsState
   deciding s = record { free = s.free; parts = filter (decides s) s.parts }
 
-  -- the other parts
+  -- the parts that do not decide, with nothing free
   abbrev pub idle : PartsState → PartsState
   idle s = record { free = []; parts = filter (λ p. not (decides s p)) s.parts }
 

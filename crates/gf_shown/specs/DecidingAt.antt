@@ -33,7 +33,7 @@ decides_at h = decides (sets_at h) (later_at h) (shows_at h)
 abbrev pub deciding_at : List Op → PartsState → PartsState
 deciding_at h = deciding (sets_at h) (later_at h) (shows_at h)
 
--- the other parts
+-- the parts that do not decide, with nothing free
 abbrev pub idle_at : List Op → PartsState → PartsState
 idle_at h = idle (sets_at h) (later_at h) (shows_at h)
 

@@ -16,18 +16,18 @@ pub record IsShownSet (h : List Op) (us g : List ℕ) : Type 0 where
   pub largest : IsLargest (conflict_at h) (Contains us) (Contains g)
   pub shown : is_shown h g ≡ true
 
--- the sets are all of these, each once
+-- the sets are all largest compatible sets of the places us that show, each once
 pub record AreShownSets (h : List Op) (us : List ℕ) (sets : List (List ℕ)) : Type 0 where
   pub exactly : (g : List ℕ) → Contains sets g ↔ IsShownSet h us g
   pub once : AllPairs (λ g k. g ≢ k) sets
 
--- there are more than m of these
+-- more than m largest compatible sets of the places us show
 pub record HasMoreSets (h : List Op) (us : List ℕ) (m : ℕ) : Type 0 where
   pub sets : List (List ℕ)
   pub all : AreShownSets h us sets
   pub many : m < length sets
 
--- the sets are all of these, and at most m; no sets, where they are more
+-- the sets are all largest compatible sets of the places us that show, and at most m; none, where more show
 abbrev pub IsSetListing : List Op → List ℕ → ℕ → Option (List (List ℕ)) → Type 0
 IsSetListing h us m (Some sets) = AreShownSets h us sets × (length sets ≤ m)
 IsSetListing h us m None = HasMoreSets h us m

@@ -18,7 +18,7 @@ AreVersionGroupsOf h ops groups = AreGroupsOf (IsVersionGroup h) ops groups
 abbrev pub AreVisibleGroupsOf : List Op → List Op → List Group → Type 0
 AreVisibleGroupsOf h ops groups = AreGroupsOf (IsVisibleGroup h) ops groups
 
--- there are more than m of these
+-- more than m visible versions of h are on objects that these operations made
 pub record HasMoreGroups (h ops : List Op) (m : ℕ) : Type 0 where
   pub groups : List Group
   pub each : (g : Group) → Contains groups g → IsVisibleGroup h g × IsMade ops g.object

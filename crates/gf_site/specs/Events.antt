@@ -36,14 +36,14 @@ pub record Authors (old : SiteState) (c : Change) (a : Op) (new : SiteState) : T
   pub accepted : IsAccepted old.ops a
   pub state : new ≡ record old { ops = old.ops ++ a ∷ [] }
 
--- the site took out the held operation that was ready, with the least id of those
+-- the site took out a, which of the held operations that were ready had the least id
 pub record Takes (old : SiteState) (a : Op) (new : SiteState) : Type 0 where
   pub first : IsFirstReady old.held old.ops a
   pub in_range : IsInRange a
   pub taken : Adds new.held a old.held
   pub number : new.number ≡ old.number
 
--- and added it
+-- the site took out the ready operation with the least id, which has the id i, and added it
 pub record Applies (old : SiteState) (i : OpId) (new : SiteState) : Type 0 where
   pub op : Op
   pub id : op.id ≡ i
@@ -51,7 +51,7 @@ pub record Applies (old : SiteState) (i : OpId) (new : SiteState) : Type 0 where
   pub accepted : IsAccepted old.ops op
   pub ops : new.ops ≡ old.ops ++ op ∷ []
 
--- or forgot it, since its check failed
+-- the site took out the ready operation with the least id, which has the id i, and forgot it, since its check failed with f
 pub record Drops (old : SiteState) (i : OpId) (f : OpFault) (new : SiteState) : Type 0 where
   pub op : Op
   pub id : op.id ≡ i

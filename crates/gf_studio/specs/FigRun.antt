@@ -1,4 +1,4 @@
--- What a run makes of the history that its bytes denote (this project's own).
+-- What a run makes of the history that its bytes denote (this project's choice).
 use Rattle.std.specs.Prelude.{◌<◌, ◌≤◌, ℕ, List, length, Option, ⊤}
 use Rattle.std.specs.Io.KnownBytes.{Appends}
 use Rattle.gf_shape.specs.declared.any_shape.AnyShape.{AnyShape}
@@ -55,7 +55,7 @@ pub record Writes (bytes : List ℕ) (old new : Option (List ℕ)) : Type 0 wher
   pub written : Appends old new (fig_text any_outline drawing)
   pub reads : Reads (fig_text any_outline drawing) (outlined any_outline drawing)
 
--- known bytes grow from old to new by a front of that text, which may be none or all of it
+-- known bytes grow from old to new by a front, which may be none or all, of the one FIG text of what the bytes draw
 pub record WritesFront (bytes : List ℕ) (old new : Option (List ℕ)) : Type 0 where
   pub drawing : DrawingState AnyShape
   pub drawn : Draws bytes drawing

@@ -1,4 +1,4 @@
--- What the painting runs write: pictures of the colours that the bytes mean (this project's own, over Netpbm's raw PPM).
+-- What the painting runs write: pictures of the colours that the bytes mean (this project's choice, over Netpbm's ppm(5)).
 use Rattle.std.specs.Prelude.{◌≡◌, ℕ, List, Option}
 use Rattle.std.specs.Io.KnownBytes.{Appends}
 use Rattle.gf_shape.specs.declared.any_shape.AnyShape.{AnyShape}
@@ -30,19 +30,19 @@ pub record IsDenoted (text : List ℕ) (colour : Point → Rgb) : Type 0 where
 
 -- IsShown says which colours are to be painted in window w, and known bytes grow from old to new
 module _ (IsShown : (Point → Rgb) → Type 0) (w : View) (old new : Option (List ℕ)) where
-  -- by the picture of such colours
+  -- they grow by the picture of colours that are to be painted
   pub record WritesPicture : Type 0 where
     pub colour : Point → Rgb
     pub shown : IsShown colour
     pub written : Appends old new (picture colour w)
 
-  -- by a front of that picture, which may be none or all of it
+  -- they grow by a front, which may be none or all, of the picture of colours that are to be painted
   pub record WritesPictureFront : Type 0 where
     pub colour : Point → Rgb
     pub shown : IsShown colour
     pub written : AppendsFront old new (picture colour w)
 
-  -- by the header and whole bands of 64 rows of that picture, fewer than all
+  -- they grow by the header and whole bands of 64 rows, fewer than all, of the picture of colours that are to be painted
   pub record WritesBands : Type 0 where
     pub colour : Point → Rgb
     pub shown : IsShown colour

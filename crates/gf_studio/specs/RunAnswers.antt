@@ -1,4 +1,4 @@
--- What the answer of a run tells of its source and of the bytes that came from it (this project's own).
+-- What the answer of a run tells of its source and of the bytes that came from it (this project's choice).
 use Rattle.std.specs.Prelude.{◌≡◌, ℕ, ◌+◌, ◌<◌, ◌≤◌, List, length, Option, IfSome, Result, MatchResult, ⊤}
 use Rattle.std.specs.Io.KnownBytes.{IsAtEnd}
 use Rattle.gf_bytes.specs.Counts.{Rises, raised}

@@ -21,7 +21,7 @@ pub record IsWhole (h : List Op) (ops : List Op) (peers : List Peer) : Type 0 wh
   pub has : (a : Op) → Contains ops a → Contains h a
   pub come : (a : Op) → HasCome peers a → Contains h a
 
--- and it has no more than these
+-- the valid history h has all these operations and all that came, and no more
 pub record IsJust (h : List Op) (ops : List Op) (peers : List Peer) : Type 0 where
   pub whole : IsWhole h ops peers
   pub only : (a : Op) → Contains h a → Contains ops a ⊎ HasCome peers a

@@ -12,7 +12,7 @@ pub record IsPlaced (links : List TableId) (p : Peer) : Type 0 where
   pub out : slice_get links p.out ≡ Some p.send.link
   pub into : slice_get links p.into ≡ Some p.take.link
 
--- so for each of the peers
+-- the links of each of the peers stand at its places in the table
 abbrev pub ArePlaced : List TableId → List Peer → Type 0
 ArePlaced links peers = (p : Peer) → Contains peers p → IsPlaced links p
 
@@ -32,7 +32,7 @@ pub record Seat : Type 0 where
   pub into : ℕ
   pub from : TableId
 
--- those of the peer p
+-- the places and the links of the peer p
 abbrev pub seat_of : Peer → Seat
 seat_of p = record { out = p.out; to = p.send.link; into = p.into; from = p.take.link }
 

@@ -1,4 +1,4 @@
--- No public clause cites this module. What a command does to a worker.
+-- What a command does to a worker. No public clause cites this module.
 use Rattle.std.specs.Prelude.{◌≡◌, ◌≢◌, ◌⊎◌, ◌+◌, ◌++◌, ◌∷◌, [], ℕ, Bool, true, false, List, Option, Some, None, map, length}
 use Rattle.atomic_table.specs.Seated.{TableId}
 use Rattle.gf_json.specs.declared.script_line.Command.{Command}

@@ -1,4 +1,4 @@
--- No public clause cites this module. What a sending to all peers changes.
+-- What a sending to all peers changes. No public clause cites this module.
 use Rattle.std.specs.Prelude.{◌≡◌, ◌<◌, ◌≤◌, ℕ, Bool, true, List, ◌++◌, map, take, drop, length, Contains, IsFalse}
 use Rattle.gf_ops.specs.declared.op.Op.{Op}
 use Rattle.gf_link.specs.Ends.{is_ended}
@@ -11,7 +11,7 @@ pub record IsOpen (p : Peer) : Type 0 where
   pub still : IsFalse (is_ended p.send.sent)
   pub room : length p.send.sent < 1024
 
--- so for each of the peers
+-- the link to each of the peers takes one more message
 abbrev pub AreOpen : List Peer → Type 0
 AreOpen peers = (p : Peer) → Contains peers p → IsOpen p
 

@@ -1,4 +1,4 @@
--- No public clause cites this module. What holds of a worker while it runs.
+-- What holds of a worker while it runs. No public clause cites this module.
 use Rattle.std.specs.Prelude.{◌≡◌, ◌≢◌, ◌⊎◌, ℕ, Bool, true, false, List, [], ◌++◌, map, Contains, Some, IsTrue, Option, Result, Err}
 use Rattle.atomic_table.specs.Seated.{TableId}
 use Rattle.gf_ops.specs.declared.op.Op.{Op}
@@ -53,7 +53,7 @@ pub record IsTold (ops : List Op) (short : Bool) (p : Peer) : Type 0 where
   pub sent : p.send.sent ≡ told first
   pub all : short ≡ false → rest ≡ []
 
--- so for each of its peers
+-- each peer of the worker was told what the site made, or if it is short the first of it
 abbrev pub AreTold : Work → Type 0
 AreTold w = (p : Peer) → Contains w.peers.items p → IsTold (own w.site.number w.site.ops) w.short p
 

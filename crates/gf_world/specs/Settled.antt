@@ -1,4 +1,4 @@
--- When a site of a world has nothing to wait for (this project's choice).
+-- When a site of a world has nothing to wait for (this project's choice, over causal delivery).
 use Rattle.std.specs.Prelude.{◌≢◌, ℕ, List, Contains}
 use Rattle.gf_ops.specs.declared.op.Op.{Op}
 use Rattle.gf_causal.specs.Ready.{NoneIsReady}

@@ -1,4 +1,4 @@
--- What every world keeps (this project's choice).
+-- What every world keeps (this project's choice, over causal delivery).
 use Rattle.std.specs.Prelude.{◌≡◌, ℕ, List, Contains, Some}
 use Rattle.gf_ops.specs.declared.op.Op.{Op}
 use Rattle.gf_ops.specs.Accepted.{AreAccepted}

@@ -60,11 +60,12 @@ pub data Happens (old : WorldState) : Event → WorldState → Type 0 where
   idle : {s : ℕ} {x : SiteState} → site_at old.sites s ≡ Some x → NoneIsReady x.ops x.held → Happens old (Step s) old
   no_site : {e : Event} → site_at old.sites (site_of e) ≡ None → Happens old e old
 
--- the message that the event offers in this world, with the site that it is offered to
+-- the message, if there is one, with the site s that it is offered to
 abbrev pub sent : ℕ → Option Op → List (ℕ × Op)
 sent s (Some a) = (s, a) ∷ []
 sent s None = []
 
+-- the message that the event offers, if there is one, with the site that it is offered to
 abbrev pub offer_in : List Op → Event → List (ℕ × Op)
 offer_in messages (Offer s m) = sent s (slice_get messages m)
 offer_in messages (Author s c) = []

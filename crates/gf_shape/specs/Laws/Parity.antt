@@ -11,6 +11,7 @@ use Rattle.gf_shape.specs.FigureMeaning.{chain_holds}
 use Rattle.gf_shape.specs.ShapeMeaning.{polygon_holds}
 use Rattle.gf_shape.specs.Laws.Sides.{Strict, side_strict}
 
+-- 1 for a test that holds, and else 0
 abbrev pub bit : Bool → ℕ
 bit b = cond b 1 0
 
