@@ -1,6 +1,6 @@
--- An operation that conflicts with nothing but the last part, with none of one of its sets and with all of each other one, joins that set alone.
+-- An operation that conflicts with nothing but the last part, with none of one of its sets and with some of each other one, joins that set alone, where the parts that the others give are not largest.
 use Rattle.std.proofs.Common.{◌≡◌, ℕ, zero, suc, ◌-◌, ◌≤◌, Bool, true, false, List, [], ◌∷◌, ◌++◌, map, length, refl, sym, ap, ◌∙◌, inl, inr, arith}
-use Rattle.std.specs.Prelude.{cond, not, ◌&&◌, ◌||◌, ◌==◌, filter, Contains, Option, Some, None, nat_le, ⊤, option_map, slice_set, slice_index_or}
+use Rattle.std.specs.Prelude.{not, ◌&&◌, ◌==◌, filter, Contains, Some, None, nat_le, ⊤, option_map, slice_set, slice_index_or}
 use Rattle.std.specs.List.{list_any, fold}
 use Rattle.std.proofs.lemmas.Bool.{cases_Bool, cond-true, cond-false, and_from, not_from_false, or_left, or_right, le-leb}
 use Rattle.std.proofs.lemmas.Bool.Decides.{Decides-eqb}
@@ -31,18 +31,18 @@ set_last : {X : Type 0} (xs : List X) (y w : X) → slice_set (xs ++ y ∷ []) (
 set_last [] y w = refl
 set_last (x ∷ xs) y w = ap (λ zs. x ∷ zs) (set_last xs y w)
 
--- c tells whether the operations at two places conflict, and x came behind them
-module _ (c : ℕ → ℕ → Bool) (x : ℕ) where
-  -- the set has some, all of which conflict with x
+-- c tells whether the operations at two places conflict, x came behind them, and a is one of them
+module _ (c : ℕ → ℕ → Bool) (x a : ℕ) where
+  -- the set has one that conflicts with x, and the part that it gives leaves a uncovered
   pub record IsHit (g : List ℕ) : Type 0 where
     pub clash : clashes c x g ≡ true
-    pub all : (a : ℕ) → Contains g a → c a x ≡ true
+    pub short : is_covered c (part c x g) a ≡ false
 
   abbrev pub AllHit : List (List ℕ) → Type 0
   AllHit [] = ⊤
   AllHit (g ∷ gs) = IsHit g × AllHit gs
 
-  -- x conflicts with none of the set j, and with all of each other one
+  -- x conflicts with none of the set j, and hits each other one
   abbrev pub OneCalm : ℕ → List (List ℕ) → Type 0
   OneCalm j [] = ⊤
   OneCalm zero (g ∷ gs) = (clashes c x g ≡ false) × AllHit gs
@@ -57,17 +57,18 @@ module _ (c : ℕ → ℕ → Bool) (x : ℕ) where
   steps_one zero (g ∷ gs) h = let e = cond-false (clashes c x g) g (g ++ x ∷ []) h.0 in let r = steps_stay gs h.1 in λ i. e i ∷ r i
   steps_one (suc j) (g ∷ gs) h = let e = cond-true (clashes c x g) g (g ++ x ∷ []) h.0.clash in let r = steps_one j gs h.1 in λ i. e i ∷ r i
 
-  -- x alone leaves one of es uncovered
-  module _ (es : List ℕ) (short : covers c es (x ∷ []) ≡ false) where
-    not_taken : (ys : List (List ℕ)) → take_up same_group (covers c es) ys (x ∷ []) ≡ ys
-    not_taken ys = rw short refl
+  -- what has to be covered has a in it
+  module _ (es : List ℕ) (inside : Contains es a) where
+    not_taken : (g : List ℕ) → is_covered c g a ≡ false → (ys : List (List ℕ)) → take_up same_group (covers c es) ys g ≡ ys
+    not_taken g short ys =
+        let n : covers c es g ≡ false = elim (cases_Bool (covers c es g)) [ inl y ↦ let t = list_all_true (is_covered c g) es y a inside in absurd cc | inr n ↦ n ] in
+        rw n refl
 
     hit_dropped : (g : List ℕ) (gs : List (List ℕ)) → IsHit g → (ys : List (List ℕ)) →
         fold (take_up same_group (covers c es)) ys (parts c x (g ∷ gs)) ≡ fold (take_up same_group (covers c es)) ys (parts c x gs)
     hit_dropped g gs h ys =
         ap (λ zs. fold (take_up same_group (covers c es)) ys (map (part c x) zs)) (cond-true (clashes c x g) (g ∷ filter (clashes c x) gs) (filter (clashes c x) gs) h.clash)
-        ∙ (ap (λ zs. fold (take_up same_group (covers c es)) (take_up same_group (covers c es) ys (zs ++ x ∷ [])) (parts c x gs)) (filter_none (λ a. not (c a x)) g (λ a i. rw (h.all a i) refl))
-        ∙ ap (λ zs. fold (take_up same_group (covers c es)) zs (parts c x gs)) (not_taken ys))
+        ∙ ap (λ zs. fold (take_up same_group (covers c es)) zs (parts c x gs)) (not_taken (part c x g) h.short ys)
 
     all_dropped : (gs : List (List ℕ)) → AllHit gs → (ys : List (List ℕ)) → fold (take_up same_group (covers c es)) ys (parts c x gs) ≡ ys
     all_dropped [] h ys = refl
@@ -81,33 +82,28 @@ module _ (c : ℕ → ℕ → Bool) (x : ℕ) where
     one_dropped (suc j) (g ∷ gs) h ys = hit_dropped g gs h.0 ys ∙ one_dropped j gs h.1 ys
 
   -- a is compatible with x, and conflicts with r, which conflicts with x
-  pub record IsBeside (us : List ℕ) (a r : ℕ) : Type 0 where
+  pub record IsBeside (us : List ℕ) (r : ℕ) : Type 0 where
     pub own : Contains us a
     pub other : Contains us r
-    pub old : (a == x) ≡ false
     pub calm : c a x ≡ false
     pub rival : c x r ≡ true
     pub meets : c a r ≡ true
 
-  left_out : (us : List ℕ) (a r : ℕ) → IsBeside us a r → covers c (exposed c us x) (x ∷ []) ≡ false
-  left_out us a r b =
+  beside_exposed : (us : List ℕ) (r : ℕ) → IsBeside us r → Contains (exposed c us x) a
+  beside_exposed us r b =
       let inside = (Contains-filter (c x) us r).1 (b.other, b.rival) in
       let meets = list_any_from (c a) (rivals c us x) r inside b.meets in
       let calm = not_from_false (c a x) b.calm in
-      let stands = (Contains-filter (λ z. not (c z x) && clashes c z (rivals c us x)) us a).1 (b.own, and_from (not (c a x)) (clashes c a (rivals c us x)) calm meets) in
-      elim (cases_Bool (covers c (exposed c us x) (x ∷ []))) [
-        | inl y ↦
-            let in_it : is_covered c (x ∷ []) a ≡ true = list_all_true (is_covered c (x ∷ [])) (exposed c us x) y a stands in
-            let out : is_covered c (x ∷ []) a ≡ false = rw (b.old, b.calm) refl in absurd cc
-        | inr n ↦ n
-      ]
+      (Contains-filter (λ z. not (c z x) && clashes c z (rivals c us x)) us a).1 (b.own, and_from (not (c a x)) (clashes c a (rivals c us x)) calm meets)
 
   -- THE STEP of the sets
-  pub next_one : (us : List ℕ) (j : ℕ) (gs : List (List ℕ)) → OneCalm j gs → (a r : ℕ) → IsBeside us a r → next c us x gs ≡ set_with j x gs
-  next_one us j gs h a r b =
-      ap (λ zs. map (step c x) gs ++ zs) (one_dropped (exposed c us x) (left_out us a r b) j gs h [])
+  pub next_one : (us : List ℕ) (j : ℕ) (gs : List (List ℕ)) → OneCalm j gs → (r : ℕ) → IsBeside us r → next c us x gs ≡ set_with j x gs
+  next_one us j gs h r b =
+      ap (λ zs. map (step c x) gs ++ zs) (one_dropped (exposed c us x) (beside_exposed us r b) j gs h [])
       ∙ (append-nil (map (step c x) gs) ∙ steps_one j gs h)
 
+-- c tells whether the operations at two places conflict, and x came behind them
+module _ (c : ℕ → ℕ → Bool) (x : ℕ) where
   -- what is kept of the sets
   kept_one : (us : List ℕ) (j : ℕ) (gs : List (List ℕ)) → length gs ≤ most_sets → next c us x gs ≡ set_with j x gs → kept (next c us x gs) ≡ Some (set_with j x gs)
   kept_one us j gs l e =
