@@ -1,16 +1,15 @@
 -- Where a summary tells that an operation joins one set, and changes nothing else, it does.
-use Rattle.std.proofs.Common.{◌≡◌, ◌≢◌, ℕ, zero, suc, ◌+◌, ◌-◌, ◌<◌, ◌≤◌, Bool, true, false, List, [], ◌∷◌, ◌++◌, length, take, get_or, refl, subst, sym, ap, ◌∙◌, inl, inr, arith}
-use Rattle.std.specs.Prelude.{◌↔◌, ◌&&◌, ◌==◌, not, Contains, Option, Some, None, slice_get, slice_set, slice_index_or, option_map, unwrap_or}
+use Rattle.std.proofs.Common.{◌≡◌, ◌≢◌, ℕ, zero, suc, ◌+◌, ◌-◌, ◌<◌, Bool, true, false, List, [], ◌∷◌, ◌++◌, length, take, get_or, refl, subst, sym, ap, ◌∙◌, inl, inr, arith}
+use Rattle.std.specs.Prelude.{◌↔◌, ◌&&◌, ◌||◌, ◌==◌, not, nat_le, filter, Contains, Option, Some, None, slice_get, slice_set, option_map, unwrap_or}
 use Rattle.std.specs.List.{list_any}
-use Rattle.std.proofs.lemmas.Bool.{cases_Bool, and_parts, and_from, not-true}
+use Rattle.std.proofs.lemmas.Bool.{cases_Bool, and_parts, and_from, not-true, or_cases, leb-true, leb-false}
 use Rattle.std.proofs.lemmas.Bool.Decides.{Decides-eqb, Decides-int_eq}
 use Rattle.std.proofs.lemmas.List.{length-append, take_all, take_more}
+use Rattle.std.proofs.lemmas.List.Elements.{Contains-push_cases}
 use Rattle.std.proofs.Math.Seq.{get_or-append_seam}
 use Rattle.std.proofs.lemmas.Option.{slice_get_read, slice_get_within, get_or_from_slice_get}
 use Rattle.std.specs.Ordering.{int_eq}
 use Rattle.gf_ops.specs.declared.op.Op.{Op}
-use Rattle.gf_ops.specs.declared.op.Clock.{Clock}
-use Rattle.gf_ops.specs.declared.op.OpId.{OpId}
 use Rattle.gf_ops.specs.declared.op.ObjectId.{ObjectId}
 use Rattle.gf_ops.specs.declared.change.Change.TheVariants.{Set}
 use Rattle.gf_ops.specs.declared.change.Value.{Value}
@@ -19,11 +18,13 @@ use Rattle.gf_ops.specs.Attribute.{attribute_of, object_of}
 use Rattle.gf_ops.specs.Limits.{IsInRange}
 use Rattle.gf_ops.specs.OperationOrder.{Precedes, entry}
 use Rattle.gf_ops.specs.ValidHistory.{IsValid, IsWithin}
-use Rattle.gf_groups.specs.Growing.{conflict_at, clashes}
+use Rattle.gf_groups.specs.Growing.{conflict_at, clashes, part, is_covered}
 use Rattle.gf_groups.specs.GroupedPlaces.{is_on}
-use Rattle.gf_groups.proofs.ListLemmas.{list_any_true, list_any_false, list_any_from}
-use Rattle.gf_groups.proofs.OnPlaceLemmas.{conflict_with, on_op}
+use Rattle.gf_groups.proofs.ListLemmas.{Contains-filter, list_any_true, list_any_false, list_any_from}
+use Rattle.gf_groups.proofs.OnPlaceLemmas.{conflict_with, contained_at, on_op}
 use Rattle.gf_groups.proofs.TableLemmas.{conflict_at_test}
+use Rattle.gf_ops.proofs.ValidityLemmas.{precedes_irreflexive}
+use Rattle.gf_ops.specs.declared.change.Attr.{Attr}
 use Rattle.gf_ops.proofs.ListLemmas.{Contains-cons_head, Contains-cons_tail}
 use Rattle.gf_parts.specs.Parted.{AreParts, IsKept}
 use Rattle.gf_parts.specs.Parts.{PartState, PartsState, alone, whole, touches, holds, with_part, set_with, part_with, last_with, spares_all_but_last}
@@ -31,10 +32,12 @@ use Rattle.gf_parts.proofs.JoiningLemmas.{IsHit, AllHit, OneCalm, IsBeside, next
 use Rattle.gf_parts.proofs.PartsLemmas.{all_of_fold}
 use Rattle.gf_table.specs.declared.prints.Print.{Print}
 use Rattle.gf_table.specs.declared.spans.Span.{Span}
-use Rattle.gf_table.specs.Next.{IsNextOf, Gives, IsInOne, are_beside}
+use Rattle.gf_table.specs.Next.{IsNextOf, Gives, IsInOne, HasRival}
 use Rattle.gf_table.specs.Standing.{IsSetter}
-use Rattle.gf_table.specs.Summaries.{SummaryState, print_of, same_print, holds_print, GivesPrint, IsPrinted, TellsPlaces, SpansAt, TellsSet, TellsSets, AllUnknown, OneKnown, TellsOf, TellsLast, IsJoined, Notes, NotesIn, Spans, Widens}
-use Rattle.gf_table.proofs.LongerLemmas.{got_last, got_before}
+use Rattle.gf_table.specs.Summaries.{SummaryState, TellsOf, TellsLast, IsJoined, NotesIn}
+use Rattle.gf_table.specs.Spans.{Spans, TellsSet, TellsSets, Stays, AllStay, OneKnown}
+use Rattle.gf_table.specs.Prints.{print_of, same_print, holds_print, GivesPrint, IsPrinted, TellsPlaces}
+use Rattle.gf_table.proofs.LongerLemmas.{got_last, got_before, same_before}
 use Rattle.gf_table.proofs.QuickLemmas.{meets, one_op}
 use Rattle.gf_table.proofs.SummaryLemmas.{places_more, places_longer, sets_longer, sets_with}
 
@@ -51,9 +54,8 @@ last_apart xs x e =
 pub last_in : {X : Type 0} (xs : List X) (x : X) → slice_get xs (length xs - 1) ≡ Some x → Contains xs x
 last_in xs x e = (length xs - 1, slice_get_within xs (length xs - 1) x e, get_or_from_slice_get xs (length xs - 1) x x e)
 
-one_of : (g : List ℕ) → 0 < length g → (b : ℕ) × Contains g b
-one_of [] l = absurd (omega (arith, l))
-one_of (b ∷ g) l = (b, Contains-cons_head b g)
+or_from_false : (p q : Bool) → p ≡ false → q ≡ false → (p || q) ≡ false
+or_from_false p q e f = rw (e, f) refl
 
 -- ---- prints
 
@@ -75,56 +77,114 @@ module _ (h : List Op) (valid : IsValid h) (a : Op) (in_range : IsInRange a) (ac
   abbrev c : ℕ → ℕ → Bool
   c = conflict_at (h ++ a ∷ [])
 
-  -- all that a span holds which a's past does not count conflicts with a
-  hit : (t : _) (p : Print) (ps : List Print) (e : Span) (b : ℕ) → Contains us b → attribute_of v ≡ t → holds_print (print_of v) ps ≡ false → Contains ps p → IsPrinted h t b p → SpansAt h e b → IsWithin a.past e.before → c (length h) b ≡ true
-  hit t p ps e b m same fresh i q s past =
-      let one : q.op ≡ s.op = one_op (slice_get h b) q.op s.op q.at s.at in
-      let g : GivesPrint s.op t p = subst (λ (x : Op). GivesPrint x t p) one q.gives in
-      let set : IsSetter s.op (attribute_of v) s.op.id.site g.given = record { object = g.object; change = g.change; attribute = g.attribute ∙ sym same; site = refl } in
-      meets h valid a in_range accepted us all o v gives b s.op s.op.id.site g.given m s.at set (differs v g.given p ps fresh i g.print) (λ (y : Precedes s.op a).
-      let l = past s.op.id.site s.own.site in
-      let above = s.own.above in
-      absurd (omega (arith, l, above, y)))
+  -- what has another value than v, and does not conflict with a, a knows
+  known : (t : Attr) (p : Print) (ps : List Print) (b : ℕ) (op : Op) → Contains us b → attribute_of v ≡ t → holds_print (print_of v) ps ≡ false → Contains ps p → IsPrinted h t b p → slice_get h b ≡ Some op → c (length h) b ≡ false → Precedes op a
+  known t p ps b op m same fresh i q at calm = elim (cases_Bool (nat_le op.id.seq (entry a.past op.id.site))) [
+    | inl y ↦ leb-true op.id.seq (entry a.past op.id.site) y
+    | inr n ↦
+        let one : q.op ≡ op = one_op (slice_get h b) q.op op q.at at in
+        let g : GivesPrint op t p = subst (λ (x : Op). GivesPrint x t p) one q.gives in
+        let set : IsSetter op (attribute_of v) op.id.site g.given = record { object = g.object; change = g.change; attribute = g.attribute ∙ sym same; site = refl } in
+        let hit = meets h valid a in_range accepted us all o v gives b op op.id.site g.given m at set (differs v g.given p ps fresh i g.print) (λ (y : Precedes op a).
+        let k = leb-false op.id.seq (entry a.past op.id.site) n in
+        absurd (omega (arith, k, y))) in
+        absurd cc
+  ]
 
-  -- and what it counts does not
-  calm : (e : Span) (b : ℕ) → SpansAt h e b → IsWithin e.last a.past → c (length h) b ≡ false
-  calm e b s past = elim (cases_Bool (c (length h) b)) [
+  -- what comes before the operation at a place does not conflict with it
+  calm : (i b : ℕ) (q op : Op) → slice_get (h ++ a ∷ []) i ≡ Some q → slice_get (h ++ a ∷ []) b ≡ Some op → Precedes op q → c i b ≡ false
+  calm i b q op there at before = elim (cases_Bool (c i b)) [
     | inl t ↦
-        let k = conflict_with (slice_get (h ++ a ∷ []) (length h)) (slice_get (h ++ a ∷ []) b) a (got_last h a) t in
-        let one : s.op ≡ k.0 = one_op (slice_get (h ++ a ∷ []) b) s.op k.0 (got_before h a b s.op s.at) k.1 in
-        let l = past s.op.id.site s.own.site in
-        let within = s.own.within in
-        let before : Precedes s.op a = omega (arith, l, within) in
-        absurd (k.2.concurrent.not_after (subst (λ (x : Op). Precedes x a) one before))
+        let k = conflict_with (slice_get (h ++ a ∷ []) i) (slice_get (h ++ a ∷ []) b) q there t in
+        let one : op ≡ k.0 = one_op (slice_get (h ++ a ∷ []) b) op k.0 at k.1 in
+        absurd (k.2.concurrent.not_after (subst (λ (x : Op). Precedes x q) one before))
     | inr f ↦ f
   ]
 
-  module _ (m : SummaryState) (same : attribute_of v ≡ m.attribute) (fresh : holds_print (print_of v) m.prints ≡ false) (vs : List ℕ) (inside : (b : ℕ) → Contains vs b → Contains us b) (prints : TellsPlaces h m.attribute m.prints vs) where
-    hit_set : (e : Span) (g : List ℕ) → ((b : ℕ) → Contains g b → Contains vs b) → TellsSet h e g → IsWithin a.past e.before → IsHit c (length h) g
-    hit_set e g f t past =
-        let each : (b : ℕ) → Contains g b → c (length h) b ≡ true = λ b i.
-        let w = prints b (f b i) in hit m.attribute w.0 m.prints e b (inside b (f b i)) same fresh w.1 w.2 (t.each b i) past in
-        let one = one_of g t.some in record {
-          clash = list_any_from (c (length h)) g one.0 one.1 (each one.0 one.1);
-          all = λ b i. (conflict_at_test (h ++ a ∷ [])).symmetric b (length h) ∙ each b i;
-        }
+  module _ (m : SummaryState) (same : attribute_of v ≡ m.attribute) (fresh : holds_print (print_of v) m.prints ≡ false) (vs : List ℕ) (inside : (b : ℕ) → Contains vs b → Contains us b) (prints : TellsPlaces h m.attribute m.prints vs)
+      (own : ℕ) (q : Op) (at : slice_get h own ≡ Some q) (beside : c own (length h) ≡ false) where
+    abbrev IsOf : List ℕ → Type 0
+    IsOf g = (b : ℕ) → Contains g b → Contains vs b
+
+    -- what of a set does not conflict with a, a knows
+    known_of : (g : List ℕ) → IsOf g → (b : ℕ) (op : Op) → Contains g b → slice_get h b ≡ Some op → c (length h) b ≡ false → Precedes op a
+    known_of g f b op i there n = let w = prints b (f b i) in known m.attribute w.0 m.prints b op (inside b (f b i)) same fresh w.1 w.2 there n
+
+    -- where a knew all, its past would count all
+    clash_of : (e : Span) (g : List ℕ) → IsOf g → TellsSet h e g → ¬ (IsWithin e.last a.past) → clashes c (length h) g ≡ true
+    clash_of e g f t unknown = elim (cases_Bool (clashes c (length h) g)) [
+      | inl y ↦ y
+      | inr n ↦ absurd (unknown (t.least a.past (λ b op i there.
+          let s = t.each b i in
+          let one : s.op ≡ op = one_op (slice_get h b) s.op op s.at there in
+          let spans : Spans e op.id = subst (λ (x : Op). Spans e x.id) one s.own in
+          let above = spans.above in
+          record {
+            site = spans.site;
+            first = omega (arith, above);
+            last = known_of g f b op i there (list_any_false (c (length h)) g n b i);
+          })))
+    ]
+
+    -- what of the set does not conflict with a, the last of the joined set knows too
+    apart : (e : Span) (g : List ℕ) → IsOf g → TellsSet h e g → Stays a.past q.past e → (b : ℕ) → Contains g b → c (length h) b ≡ false → (own == b || c own b) ≡ false
+    apart e g f t st b i n =
+        let s = t.each b i in
+        let before : Precedes s.op q = st.known s.op.id s.own (known_of g f b s.op i s.at n) in
+        or_from_false (own == b) (c own b) (elim (cases_Bool (own == b)) [
+          | inl y ↦
+              let one : s.op ≡ q = one_op (slice_get h own) s.op q (subst (λ k. slice_get h k ≡ Some s.op) (sym ((Decides-eqb own b).0 y)) s.at) at in
+              absurd (precedes_irreflexive h valid q (contained_at h own q at) (subst (λ (x : Op). Precedes x q) one before))
+          | inr k ↦ k
+        ]) (calm own b q s.op (got_before h a own q at) (got_before h a b s.op s.at) before)
+
+    short_of : (e : Span) (g : List ℕ) → IsOf g → TellsSet h e g → Stays a.past q.past e → is_covered c (part c (length h) g) own ≡ false
+    short_of e g f t st = elim (cases_Bool (is_covered c (part c (length h) g) own)) [
+      | inl y ↦
+          let w = list_any_true (λ b. own == b || c own b) (part c (length h) g) y in
+          let yes = w.2 in
+          elim (Contains-push_cases (filter (λ b. not (c b (length h))) g) (length h) w.0 w.1) [
+            | inl i ↦
+                let k = (Contains-filter (λ b. not (c b (length h))) g w.0).0 i in
+                let no = apart e g f t st w.0 k.0 ((conflict_at_test (h ++ a ∷ [])).symmetric (length h) w.0 ∙ not-true (c w.0 (length h)) k.1) in
+                absurd cc
+            | inr d ↦ elim (or_cases (own == w.0) (c own w.0) w.2) [
+              | inl z ↦
+                  let l = slice_get_within h own q at in
+                  let e = (Decides-eqb own w.0).0 z in
+                  absurd (omega (arith, l, e, d))
+              | inr z ↦ let no : c own w.0 ≡ false = subst (λ k. c own k ≡ false) d beside in absurd cc
+            ]
+          ]
+      | inr n ↦ n
+    ]
+
+    hit_set : (e : Span) (g : List ℕ) → IsOf g → TellsSet h e g → Stays a.past q.past e → IsHit c (length h) own g
+    hit_set e g f t st = record { clash = clash_of e g f t st.unknown; short = short_of e g f t st }
 
     calm_set : (e : Span) (g : List ℕ) → TellsSet h e g → IsWithin e.last a.past → clashes c (length h) g ≡ false
     calm_set e g t past = elim (cases_Bool (clashes c (length h) g)) [
-      | inl y ↦ let w = list_any_true (c (length h)) g y in let no = calm e w.0 (t.each w.0 w.1) past in let yes = w.2 in absurd cc
+      | inl y ↦
+          let w = list_any_true (c (length h)) g y in
+          let s = t.each w.0 w.1 in
+          let l = past s.op.id.site s.own.site in
+          let within = s.own.within in
+          let no = calm (length h) w.0 a s.op (got_last h a) (got_before h a w.0 s.op s.at) (omega (arith, l, within)) in
+          let yes = w.2 in
+          absurd cc
       | inr n ↦ n
     ]
 
     abbrev AreOf : List (List ℕ) → Type 0
-    AreOf gs = (g : List ℕ) → Contains gs g → (b : ℕ) → Contains g b → Contains vs b
+    AreOf gs = (g : List ℕ) → Contains gs g → IsOf g
 
-    all_hit : (es : List Span) (gs : List (List ℕ)) → AreOf gs → TellsSets h es gs → AllUnknown a.past es → AllHit c (length h) gs
+    all_hit : (es : List Span) (gs : List (List ℕ)) → AreOf gs → TellsSets h es gs → AllStay a.past q.past es → AllHit c (length h) own gs
     all_hit [] [] f t u = tt
     all_hit (e ∷ es) (g ∷ gs) f t u = (hit_set e g (f g (Contains-cons_head g gs)) t.0 u.0, all_hit es gs (λ k i. f k (Contains-cons_tail g gs k i)) t.1 u.1)
     all_hit [] (g ∷ gs) f t u = absurd t
     all_hit (e ∷ es) [] f t u = absurd t
 
-    one_calm : (j : ℕ) (es : List Span) (gs : List (List ℕ)) → AreOf gs → TellsSets h es gs → OneKnown a.past j es → OneCalm c (length h) j gs
+    one_calm : (j : ℕ) (es : List Span) (gs : List (List ℕ)) → AreOf gs → TellsSets h es gs → OneKnown a.past q.past j es → OneCalm c (length h) own j gs
     one_calm j [] gs f t u = absurd u
     one_calm zero (e ∷ es) (g ∷ gs) f t u = (calm_set e g t.0 u.0, all_hit es gs (λ k i. f k (Contains-cons_tail g gs k i)) t.1 u.1)
     one_calm (suc j) (e ∷ es) (g ∷ gs) f t u = (hit_set e g (f g (Contains-cons_head g gs)) t.0 u.0, one_calm j es gs (λ k i. f k (Contains-cons_tail g gs k i)) t.1 u.1)
@@ -138,19 +198,19 @@ got_end xs y =
     let at : length (xs ++ y ∷ []) - 1 ≡ length xs = omega (arith, len) in
     slice_get_read (xs ++ y ∷ []) (length (xs ++ y ∷ [])) (length (xs ++ y ∷ []) - 1) y refl (omega (arith, len)) (sym (ap (λ n. get_or (xs ++ y ∷ []) n y) at ∙ get_or-append_seam xs y [] y))
 
--- what was seen of the last part, its sets, and the summary
-pub record IsSeen (g : List Op) (a : Op) (v : Value) (n : ℕ) (s : PartsState) (m : SummaryState) (p : PartState) (gs : List (List ℕ)) (j own other : ℕ) : Type 0 where
+-- what was seen of the last part, its sets, and the summary: own, where q stands, is of a set, and past its last numbers
+pub record IsSeen (g : List Op) (a : Op) (v : Value) (n : ℕ) (s : PartsState) (m : SummaryState) (p : PartState) (gs : List (List ℕ)) (j own : ℕ) (q : Op) : Type 0 where
   pub last : slice_get s.parts (length s.parts - 1) ≡ Some p
   pub sets : p.sets ≡ Some gs
-  pub joined : IsJoined m v a.past j
-  pub own_in : IsInOne gs own
-  pub other_in : IsInOne gs other
-  pub beside : are_beside (conflict_at g) n own other ≡ true
+  pub in_one : IsInOne gs own
+  pub at : slice_get g own ≡ Some q
+  pub joined : IsJoined m v a.past q.past j
+  pub rival : HasRival (conflict_at g) gs n own
   pub spared : spares_all_but_last (conflict_at g) n s ≡ true
 
 module _ (h : List Op) (valid : IsValid h) (a : Op) (in_range : IsInRange a) (accepted : IsAccepted h a) (us : List ℕ) (all : (i : ℕ) → Contains us i ↔ (is_on (object_of a) (slice_get h i) ≡ true))
     (o : ObjectId) (v : Value) (gives : a.change ≡ Set o v) (s : PartsState) (parts : AreParts (conflict_at h) s) (places : (i : ℕ) → Contains (whole s).all i ↔ Contains us i)
-    (m : SummaryState) (p : PartState) (gs : List (List ℕ)) (j own other : ℕ) (told : TellsLast h s.parts (Some m)) (seen : IsSeen (h ++ a ∷ []) a v (length h) s m p gs j own other) where
+    (m : SummaryState) (p : PartState) (gs : List (List ℕ)) (j own : ℕ) (q : Op) (told : TellsLast h s.parts (Some m)) (seen : IsSeen (h ++ a ∷ []) a v (length h) s m p gs j own q) where
   abbrev d : ℕ → ℕ → Bool
   d = conflict_at (h ++ a ∷ [])
 
@@ -175,18 +235,22 @@ module _ (h : List Op) (valid : IsValid h) (a : Op) (in_range : IsInRange a) (ac
   in_part : (b : ℕ) → IsInOne gs b → Contains p.all b
   in_part b w = of_part w.0 w.1 b w.2
 
-  stands_beside : IsBeside d (length h) p.all own other
+  abbrev other : ℕ
+  other = seen.rival.0
+
+  stands_beside : IsBeside d (length h) own p.all other
   stands_beside =
-      let t = and_parts (not (own == length h) && not (d own (length h)) && d (length h) other) (d own other) seen.beside in
-      let u = and_parts (not (own == length h) && not (d own (length h))) (d (length h) other) t.0 in
-      let w = and_parts (not (own == length h)) (not (d own (length h))) u.0 in record {
-        own = in_part own seen.own_in;
-        other = in_part other seen.other_in;
-        old = not-true (own == length h) w.0;
-        calm = not-true (d own (length h)) w.1;
+      let t = and_parts (not (d own (length h)) && d (length h) other) (d own other) seen.rival.2 in
+      let u = and_parts (not (d own (length h))) (d (length h) other) t.0 in record {
+        own = in_part own seen.in_one;
+        other = in_part other seen.rival.1;
+        calm = not-true (d own (length h)) u.0;
         rival = u.1;
         meets = t.1;
       }
+
+  own_at : slice_get h own ≡ Some q
+  own_at = sym (same_before h a own (below own (inside own (in_part own seen.in_one)))) ∙ seen.at
 
   not_there : holds (length h) p.all ≡ false
   not_there = elim (cases_Bool (holds (length h) p.all)) [
@@ -203,13 +267,13 @@ module _ (h : List Op) (valid : IsValid h) (a : Op) (in_range : IsInRange a) (ac
   joins_at =
       let b = stands_beside in
       let spared = and_parts (not (clashes d (length h) s.free)) (not (list_any (touches d (length h)) front)) seen.spared in
-      let calm = one_calm h valid a in_range accepted us all o v gives m seen.joined.attribute seen.joined.fresh p.all inside tells.places j m.spans gs of_part tells.sets seen.joined.spans in
+      let calm = one_calm h valid a in_range accepted us all o v gives m seen.joined.attribute seen.joined.fresh p.all inside tells.places own q own_at b.calm j m.spans gs of_part tells.sets seen.joined.spans in
       joins_last d (length h) s front p gs j (last_apart s.parts p seen.last) seen.sets kept.1
       (not-true (clashes d (length h) s.free) spared.0)
       (not-true (list_any (touches d (length h)) front) spared.1)
       (list_any_from (d (length h)) p.all other b.other b.rival)
       not_there
-      (next_one d (length h) p.all j gs calm own other b)
+      (next_one d (length h) own p.all j gs calm other b)
 
   -- and the new summary tells of it
   told_at : (k : Option SummaryState) → NotesIn (Some m) j a.id v k → TellsLast (h ++ a ∷ []) (last_with j (length h) s).parts k
@@ -234,22 +298,22 @@ module _ (h : List Op) (valid : IsValid h) (a : Op) (in_range : IsInRange a) (ac
 -- ---- as it is called
 
 module _ (g : List Op) (a : Op) (n : ℕ) (s : PartsState) (r : Option SummaryState) (next : IsNextOf g a n s r) (v : Value) (gives : Gives a v)
-    (m : SummaryState) (p : PartState) (gs : List (List ℕ)) (j own other : ℕ) (some : r ≡ Some m) (seen : IsSeen g a v n s m p gs j own other) where
+    (m : SummaryState) (p : PartState) (gs : List (List ℕ)) (j own : ℕ) (q : Op) (some : r ≡ Some m) (seen : IsSeen g a v n s m p gs j own q) where
   abbrev h : List Op
   h = next.history
 
   told_some : TellsLast h s.parts (Some m)
   told_some = subst (TellsLast h s.parts) some next.told
 
-  seen_at : IsSeen (h ++ a ∷ []) a v (length h) s m p gs j own other
-  seen_at = subst (λ z. IsSeen z a v (length h) s m p gs j own other) next.longer (subst (λ k. IsSeen g a v k s m p gs j own other) next.place seen)
+  seen_at : IsSeen (h ++ a ∷ []) a v (length h) s m p gs j own q
+  seen_at = subst (λ z. IsSeen z a v (length h) s m p gs j own q) next.longer (subst (λ k. IsSeen g a v k s m p gs j own q) next.place seen)
 
   pub joins : with_part (conflict_at g) n s ≡ last_with j n s
   joins =
-      let e = joins_at h next.valid a next.in_range next.accepted next.us next.all gives.0 v gives.1 s next.parts next.places m p gs j own other told_some seen_at in
+      let e = joins_at h next.valid a next.in_range next.accepted next.us next.all gives.0 v gives.1 s next.parts next.places m p gs j own q told_some seen_at in
       subst (λ z. with_part (conflict_at z) n s ≡ last_with j n s) (sym next.longer) (subst (λ k. with_part (conflict_at (h ++ a ∷ [])) k s ≡ last_with j k s) (sym next.place) e)
 
   pub joined_told : (k : Option SummaryState) → NotesIn r j a.id v k → TellsLast g (last_with j n s).parts k
   joined_told k notes =
-      let t = told_at h next.valid a next.in_range next.accepted next.us next.all gives.0 v gives.1 s next.parts next.places m p gs j own other told_some seen_at k (subst (λ z. NotesIn z j a.id v k) some notes) in
+      let t = told_at h next.valid a next.in_range next.accepted next.us next.all gives.0 v gives.1 s next.parts next.places m p gs j own q told_some seen_at k (subst (λ z. NotesIn z j a.id v k) some notes) in
       subst (λ z. TellsLast z (last_with j n s).parts k) (sym next.longer) (subst (λ i. TellsLast (h ++ a ∷ []) (last_with j i s).parts k) (sym next.place) t)

@@ -1,7 +1,7 @@
 -- What is kept of the sets of a part tells of one more place, and of one more set.
-use Rattle.std.proofs.Common.{◌≡◌, ℕ, zero, suc, ◌<◌, ◌≤◌, List, [], ◌∷◌, ◌++◌, length, take, drop, refl, inl, inr, subst, sym, arith}
+use Rattle.std.proofs.Common.{◌≡◌, ℕ, zero, suc, add-one, ◌+◌, ◌-◌, ◌<◌, List, [], ◌∷◌, ◌++◌, length, take, drop, get_or, refl, inl, inr, subst, sym, arith}
 use Rattle.std.specs.Prelude.{Contains, Option, Some, None, slice_get, slice_set, slice_index_or}
-use Rattle.std.proofs.lemmas.List.{length-append}
+use Rattle.std.proofs.lemmas.List.{length-drop, take_all, take_more}
 use Rattle.std.proofs.lemmas.List.Elements.{Contains-append_left, Contains-push, Contains-push_cases}
 use Rattle.gf_ops.specs.declared.op.Op.{Op}
 use Rattle.gf_ops.specs.declared.op.OpId.{OpId}
@@ -9,7 +9,9 @@ use Rattle.gf_ops.specs.declared.change.Attr.{Attr}
 use Rattle.gf_ops.specs.declared.op.Clock.{Clock}
 use Rattle.gf_ops.specs.ValidHistory.{IsWithin}
 use Rattle.gf_ops.proofs.ListLemmas.{Contains-cons_head, Contains-cons_tail}
-use Rattle.gf_table.specs.Summaries.{IsPrinted, TellsPlaces, Spans, Widens, SpansAt, WidensAt, TellsSet, TellsSets, AllUnknown, OneKnown, SummaryState, TellsLast}
+use Rattle.gf_table.specs.Prints.{IsPrinted, TellsPlaces}
+use Rattle.gf_table.specs.Spans.{Spans, Widens, SpansAt, TellsSet, TellsSets, Stays, AllStay, OneKnown}
+use Rattle.gf_table.specs.Summaries.{SummaryState, TellsLast}
 use Rattle.gf_table.specs.Next.{IsNextOf}
 use Rattle.gf_parts.specs.Parts.{PartState, PartsState, set_with}
 use Rattle.gf_table.proofs.LongerLemmas.{got_before}
@@ -32,12 +34,15 @@ wider e f i k s w =
     let within = s.within in
     record { site = s.site; above = omega (arith, b, above); within = omega (arith, l, within) }
 
--- one place more in the span
-pub spans_more : (h : List Op) (e f : Span) (us : List ℕ) (x : ℕ) → ((b : ℕ) → Contains us b → SpansAt h e b) → WidensAt h e x f → (b : ℕ) → Contains (us ++ x ∷ []) b → SpansAt h f b
-spans_more h e f us x all w b m = elim (Contains-push_cases us x b m) [
-  | inl i ↦ let s = all b i in record { op = s.op; at = s.at; own = wider e f s.op.id w.op.id s.own w.widens }
-  | inr d ↦ subst (λ z. SpansAt h f z) d (record { op = w.op; at = w.at; own = w.widens.own })
-]
+-- one place more in the set of the span
+pub set_more : (h : List Op) (e f : Span) (g : List ℕ) (x : ℕ) (op : Op) → slice_get h x ≡ Some op → TellsSet h e g → Widens e op.id f → TellsSet h f (g ++ x ∷ [])
+set_more h e f g x op at t w = record {
+  each = λ b m. elim (Contains-push_cases g x b m) [
+    | inl i ↦ let s = t.each b i in record { op = s.op; at = s.at; own = wider e f s.op.id op.id s.own w }
+    | inr d ↦ subst (λ z. SpansAt h f z) d (record { op = op; at = at; own = w.own })
+  ];
+  least = λ c all. w.least c (t.least c (λ b o m. all b o (Contains-append_left g (x ∷ []) b m))) (all x op (Contains-push g x) at);
+}
 
 -- one set more, and its span
 pub sets_more : (h : List Op) (es : List Span) (gs : List (List ℕ)) (e : Span) (g : List ℕ) → TellsSets h es gs → TellsSet h e g → TellsSets h (es ++ e ∷ []) (gs ++ g ∷ [])
@@ -48,15 +53,30 @@ sets_more h (d ∷ es) [] e g t own = absurd t
 
 -- ---- one set that is known
 
-all_unknown : (past : Clock) (es : List Span) → ((e : Span) → Contains es e → IsWithin past e.before) → AllUnknown past es
-all_unknown past [] f = tt
-all_unknown past (e ∷ es) f = (f e (Contains-cons_head e es), all_unknown past es (λ d i. f d (Contains-cons_tail e es d i)))
+-- one more of the spans stays
+pub stay_more : (past own : Clock) (es : List Span) (i : ℕ) (z : Span) → i < length es → ((e : Span) → Contains (take i es) e → Stays past own e) → Stays past own (get_or es i z) → (e : Span) → Contains (take (i + 1) es) e → Stays past own e
+stay_more past own es i z l f s e m = elim (Contains-push_cases (take i es) (get_or es i z) e (subst (λ ds. Contains ds e) (take_more es i z l) m)) [
+  | inl k ↦ f e k
+  | inr d ↦ subst (Stays past own) d s
+]
 
-pub one_known : (past : Clock) (j : ℕ) (es : List Span) → j < length es → ((e : Span) → slice_get es j ≡ Some e → IsWithin e.last past) →
-    ((e : Span) → Contains (take j es) e → IsWithin past e.before) → ((e : Span) → Contains (drop (suc j) es) e → IsWithin past e.before) → OneKnown past j es
-one_known past j [] l f g k = absurd (omega (arith, l))
-one_known past zero (e ∷ es) l f g k = (f e refl, all_unknown past es k)
-one_known past (suc j) (e ∷ es) l f g k = (g e (Contains-cons_head e (take j es)), one_known past j es (omega (arith, l)) f (λ d i. g d (Contains-cons_tail e (take j es) d i)) k)
+all_stay : (past own : Clock) (es : List Span) → ((e : Span) → Contains es e → Stays past own e) → AllStay past own es
+all_stay past own [] f = tt
+all_stay past own (e ∷ es) f = (f e (Contains-cons_head e es), all_stay past own es (λ d i. f d (Contains-cons_tail e es d i)))
+
+one_known : (past own : Clock) (j : ℕ) (es : List Span) → j < length es → ((e : Span) → slice_get es j ≡ Some e → IsWithin e.last past) →
+    ((e : Span) → Contains (take j es) e → Stays past own e) → ((e : Span) → Contains (drop (suc j) es) e → Stays past own e) → OneKnown past own j es
+one_known past own j [] l f g k = absurd (omega (arith, l))
+one_known past own zero (e ∷ es) l f g k = (f e refl, all_stay past own es k)
+one_known past own (suc j) (e ∷ es) l f g k = (g e (Contains-cons_head e (take j es)), one_known past own j es (omega (arith, l)) f (λ d i. g d (Contains-cons_tail e (take j es) d i)) k)
+
+-- the spans before and behind one stay
+pub others_stay : (past own : Clock) (j : ℕ) (es : List Span) → j < length es → ((e : Span) → slice_get es j ≡ Some e → IsWithin e.last past) →
+    ((e : Span) → Contains (take j es) e → Stays past own e) → ((e : Span) → Contains (take (length es - (j + 1)) (drop (j + 1) es)) e → Stays past own e) → OneKnown past own j es
+others_stay past own j es l f g k =
+    let n = length-drop (j + 1) es in
+    let all = take_all (length es - (j + 1)) (drop (j + 1) es) (omega (arith, n)) in
+    one_known past own j es l f g (λ e m. k e (subst (λ zs. Contains zs e) (sym all) (subst (λ i. Contains (drop i es) e) (sym (add-one j)) m)))
 
 -- ---- a longer history
 
@@ -69,8 +89,8 @@ module _ (h : List Op) (a : Op) where
 
   set_longer : (e : Span) (g : List ℕ) → TellsSet h e g → TellsSet new e g
   set_longer e g t = record {
-    some = t.some;
     each = λ b m. let s = t.each b m in record { op = s.op; at = got_before h a b s.op s.at; own = s.own };
+    least = λ c all. t.least c (λ b o m at. all b o m (got_before h a b o at));
   }
 
   pub sets_longer : (es : List Span) (gs : List (List ℕ)) → TellsSets h es gs → TellsSets new es gs
@@ -91,13 +111,7 @@ next_told g a n s m next = subst (λ z. TellsLast z s.parts m) (sym next.longer)
 -- the operation at the place n joins the set j
 pub sets_with : (h : List Op) (a : Op) (n : ℕ) → slice_get h n ≡ Some a → (j : ℕ) (es : List Span) (gs : List (List ℕ)) (f : Span) → TellsSets h es gs → Widens (slice_index_or es j f) a.id f → TellsSets h (slice_set es j f) (set_with j n gs)
 sets_with h a n at j [] [] f t w = tt
-sets_with h a n at zero (e ∷ es) (g ∷ gs) f t w = (
-  record {
-    some = let l = length-append g (n ∷ []) in omega (arith, l);
-    each = spans_more h e f g n t.0.each (record { op = a; at = at; widens = w });
-  },
-  t.1,
-)
+sets_with h a n at zero (e ∷ es) (g ∷ gs) f t w = (set_more h e f g n a at t.0 w, t.1)
 sets_with h a n at (suc j) (e ∷ es) (g ∷ gs) f t w = (t.0, sets_with h a n at j es gs f t.1 w)
 sets_with h a n at j [] (g ∷ gs) f t w = absurd t
 sets_with h a n at j (e ∷ es) [] f t w = absurd t

@@ -1,5 +1,7 @@
 pub mod Tails
 pub mod ObjectState
 pub mod Standing
+pub mod Prints
+pub mod Spans
 pub mod Summaries
 pub mod Next

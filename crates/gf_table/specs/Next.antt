@@ -1,5 +1,5 @@
 -- The next operation behind a history, and the parts of its object. No public clause cites this module.
-use Rattle.std.specs.Prelude.{◌≡◌, ◌↔◌, ℕ, ◌<◌, Bool, true, not, ◌&&◌, ◌==◌, List, [], ◌∷◌, ◌++◌, Contains, length, Option, slice_get}
+use Rattle.std.specs.Prelude.{◌≡◌, ◌↔◌, ℕ, Bool, true, not, ◌&&◌, List, [], ◌∷◌, ◌++◌, Contains, length, Option, slice_get}
 use Rattle.gf_ops.specs.declared.op.Op.{Op}
 use Rattle.gf_ops.specs.declared.op.ObjectId.{ObjectId}
 use Rattle.gf_ops.specs.declared.change.Change.TheVariants.{Set}
@@ -36,6 +36,10 @@ Gives a v = (o : ObjectId) × (a.change ≡ Set o v)
 abbrev pub IsInOne : List (List ℕ) → ℕ → Type 0
 IsInOne gs a = (g : List ℕ) × Contains gs g × Contains g a
 
--- a is another place than x and compatible with it, and both conflict with r
+-- a is compatible with x, and both conflict with r
 abbrev pub are_beside : (ℕ → ℕ → Bool) → ℕ → ℕ → ℕ → Bool
-are_beside c x a r = not (a == x) && not (c a x) && c x r && c a r
+are_beside c x a r = not (c a x) && c x r && c a r
+
+-- so it is with one that is in one of the sets
+abbrev pub HasRival : (ℕ → ℕ → Bool) → List (List ℕ) → ℕ → ℕ → Type 0
+HasRival c gs x a = (r : ℕ) × IsInOne gs r × (are_beside c x a r ≡ true)

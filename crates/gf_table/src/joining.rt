@@ -1,9 +1,9 @@
 //! How an operation that conflicts comes to the parts of its object.
 
-ghost use Rattle.std.specs.Prelude.{◌≡◌, IfSome, OnOk, OnErr};
+ghost use Rattle.std.specs.Prelude.{◌≡◌, IfSome, IsTrue, OnOk, OnErr};
 ghost use Rattle.gf_groups.specs.Growing.{conflict_at};
 ghost use Rattle.gf_parts.specs.Parts.{with_part, last_with};
-ghost use Rattle.gf_table.specs.Next.{IsNextOf, Gives, IsInOne, are_beside};
+ghost use Rattle.gf_table.specs.Next.{IsNextOf, Gives, IsInOne, are_beside, HasRival};
 ghost use Rattle.gf_table.specs.Summaries.{TellsLast, NotesIn};
 
 use crate::summary::{Summary, noted};
@@ -25,10 +25,23 @@ fn last_of(sets: &[Places], set: usize) -> Option<usize>
 fn are_beside(timeline: &Timeline<'_>, place: usize, own: usize, other: usize) -> bool
     ensures { result ≡ are_beside (conflict_at timeline.now) place own other }
 {
-    own != place
-        && !conflict_at(timeline, own, place)
+    !conflict_at(timeline, own, place)
         && conflict_at(timeline, place, other)
         && conflict_at(timeline, own, other)
+}
+
+/// Whether that holds of the last place of one of the sets.
+fn has_rival(timeline: &Timeline<'_>, sets: &[Places], place: usize, own: usize) -> bool
+    ensures { IsTrue result → HasRival (conflict_at timeline.now) sets.now place own }
+{
+    for set in 0..sets.len() {
+        if let Some(other) = last_of(sets, set) {
+            if are_beside(timeline, place, own, other) {
+                return true;
+            }
+        }
+    }
+    false
 }
 
 /// The index of the one set of the last part that the operation joins, where nothing else changes,
@@ -48,13 +61,14 @@ fn joined_set(
 {
     let part = parts.parts().last()?;
     let sets = part.sets()?;
-    let set = match summary {
-        Some(summary) => summary.joined_set(value, &op.past)?,
-        None => return None,
-    };
+    let summary = summary.as_ref()?;
+    let set = summary.known_set(&op.past)?;
     let own = last_of(sets, set)?;
-    let other = last_of(sets, if set == 0 { 1 } else { 0 })?;
-    if are_beside(timeline, place, own, other) && parts.spares_all_but_last(timeline, place) {
+    let heard = &timeline.get(own)?.past;
+    if summary.tells_joined(value, &op.past, heard, set)
+        && has_rival(timeline, sets, place, own)
+        && parts.spares_all_but_last(timeline, place)
+    {
         Some(set)
     } else {
         None

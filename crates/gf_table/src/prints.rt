@@ -1,7 +1,7 @@
 //! Two numbers of a value, to tell most values of an attribute apart.
 
 ghost use Rattle.std.specs.Prelude.{◌≡◌, option_copied, IfSome};
-ghost use Rattle.gf_table.specs.Summaries.{point_print, print_of, same_print, holds_print, GivesPrint, IsPrinted, TellsPlaces};
+ghost use Rattle.gf_table.specs.Prints.{point_print, print_of, same_print, holds_print, GivesPrint, IsPrinted, TellsPlaces};
 
 use crate::tails::attr_eq;
 use gf_groups::Timeline;

@@ -1,10 +1,10 @@
 //! Between which numbers the operations of a set lie, site by site.
 
-ghost use Rattle.std.specs.Prelude.{◌≡◌, ◌<◌, ◌≤◌, IfSome};
+ghost use Rattle.std.specs.Prelude.{◌<◌, ◌≤◌, IfSome, IsTrue};
 ghost use Rattle.gf_ops.specs.Limits.{IsInRange};
 ghost use Rattle.gf_ops.specs.OperationOrder.{entry};
-ghost use Rattle.gf_ops.specs.ValidHistory.{IsWithin};
-ghost use Rattle.gf_table.specs.Summaries.{Widens, WidensAt, TellsSet, TellsSets};
+ghost use Rattle.gf_ops.specs.ValidHistory.{IsWithin, Counts};
+ghost use Rattle.gf_table.specs.Spans.{Spans, Widens, TellsSet, TellsSets, Stays};
 
 use gf_groups::{Places, Timeline};
 use gf_ops::{Clock, Op};
@@ -32,43 +32,31 @@ fn count(op: &Op, last: &mut Clock)
     requires { IsInRange op.now }
     ensures own { op.now.id.seq ≤ entry last.new op.now.id.site }
     ensures more { IsWithin last.old last.new }
+    ensures least { (c : _) → IsWithin last.old c → Counts c op.now.id → IsWithin last.new c }
 {
     let site = usize::from(op.id.site) - 1;
     last.0[site] = last.0[site].max(op.id.seq);
 }
 
-/// The span with the number of this operation.
-pub(crate) fn widened(span: Span, op: &Op) -> Span
+/// Widens the span to the number of this operation.
+pub(crate) fn widen(op: &Op, span: &mut Span)
     requires { IsInRange op.now }
-    ensures { Widens span op.now.id result }
+    ensures { Widens span.old op.now.id span.new }
 {
-    let mut before = span.before;
-    let mut last = span.last;
-    lower(op, &mut before);
-    count(op, &mut last);
-    Span { before, last }
+    lower(op, &mut span.before);
+    count(op, &mut span.last);
 }
 
-/// The span with the number of the operation at this place, if there is one.
-fn widened_at(timeline: &Timeline<'_>, span: Span, place: usize) -> Option<Span>
-    ensures { IfSome result (λ wide. WidensAt timeline.now span place wide) }
-{
-    Some(widened(span, timeline.get(place)?))
-}
-
-/// The span of these places' operations, if there is one at each, and some place.
+/// The span of these places' operations, if there is one at each.
 fn span_of(timeline: &Timeline<'_>, places: &[usize]) -> Option<Span>
     ensures { IfSome result (λ span. TellsSet timeline.now span places.now) }
 {
-    if places.is_empty() {
-        return None;
-    }
     let mut span = Span {
         before: Clock([u32::MAX; 8]),
         last: Clock([0; 8]),
     };
     for place in places {
-        span = widened_at(timeline, span, *place)?;
+        widen(timeline.get(*place)?, &mut span);
     }
     Some(span)
 }
@@ -83,4 +71,27 @@ pub(crate) fn spans_of(alloc: Global, timeline: &Timeline<'_>, sets: &[Places]) 
         spans.push(span).ok()?;
     }
     Some(spans)
+}
+
+/// Whether all that the first clock counts of the span is counted by the other one.
+fn is_known(span: &Span, past: &Clock, own: &Clock) -> bool
+    ensures { IsTrue result → (i : _) → Spans span.now i → i.seq ≤ entry past.now i.site → i.seq ≤ entry own.now i.site }
+{
+    for site in 0..8 {
+        if span.before.0[site] < past.0[site]
+            && own.0[site] < past.0[site]
+            && own.0[site] < span.last.0[site]
+        {
+            return false;
+        }
+    }
+    true
+}
+
+/// Whether the first clock does not count all of the span, and the other one counts what it counts of
+/// that.
+pub(crate) fn stays(span: &Span, past: &Clock, own: &Clock) -> bool
+    ensures { IsTrue result → Stays past.now own.now span.now }
+{
+    !span.last.is_within(past) && is_known(span, past, own)
 }

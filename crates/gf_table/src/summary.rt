@@ -4,10 +4,11 @@
 ghost use Rattle.std.specs.Prelude.{◌≡◌, ◌<◌, Contains, length, slice_get, option_copied, IsTrue, IfOk, IfSome};
 ghost use Rattle.gf_ops.specs.Limits.{IsInRange};
 ghost use Rattle.gf_ops.specs.ValidHistory.{IsWithin};
+ghost use Rattle.gf_table.specs.Spans.{Stays, OneKnown};
 ghost use Rattle.gf_table.specs.Summaries.{TellsOf, IsJoined, NotesIn};
 
 use crate::prints::{Print, holds_print, print_of, prints_at};
-use crate::spans::{Span, spans_of, widened};
+use crate::spans::{Span, spans_of, stays, widen};
 use crate::tails::attr_eq;
 use gf_groups::{Places, Timeline};
 use gf_ops::{Attr, Clock, Op, Value};
@@ -45,16 +46,25 @@ fn known_set(spans: &[Span], past: &Clock) -> Option<usize>
     None
 }
 
-/// Whether the clock counts nothing of these sets.
-fn are_unknown(spans: &[Span], past: &Clock) -> bool
-    ensures { IsTrue result → (e : _) → Contains spans.now e → IsWithin past.now e.before }
+/// Whether the clock counts of none of these sets all, and the other one counts what it counts.
+fn all_stay(spans: &[Span], past: &Clock, own: &Clock) -> bool
+    ensures { IsTrue result → (e : _) → Contains spans.now e → Stays past.now own.now e }
 {
     for span in spans {
-        if !past.is_within(&span.before) {
+        if !stays(span, past, own) {
             return false;
         }
     }
     true
+}
+
+/// Whether that is so with the sets before and behind this one, all of which the first clock counts.
+fn others_stay(spans: &[Span], past: &Clock, own: &Clock, set: usize) -> bool
+    requires within { set < length spans.now }
+    requires known { (e : _) → slice_get spans.now set ≡ Some e → IsWithin e.last past.now }
+    ensures { IsTrue result → OneKnown past.now own.now set spans.now }
+{
+    all_stay(&spans[..set], past, own) && all_stay(&spans[set + 1..], past, own)
 }
 
 impl Summary {
@@ -92,21 +102,24 @@ impl Summary {
         })
     }
 
-    /// The set that an operation with this past, which gives the value, knows all of, where it knows
-    /// nothing of the other sets, and no operation of the part gave the value.
-    pub(crate) fn joined_set(&self, value: &Value, past: &Clock) -> Option<usize>
-        ensures { IfSome result (λ set. IsJoined self.now value.now past.now set) }
+    /// The index of a set all of whose operations the clock counts.
+    pub(crate) fn known_set(&self, past: &Clock) -> Option<usize>
+        ensures within { IfSome result (λ set. set < length self.now.spans) }
+        ensures known { IfSome result (λ set. (e : _) → slice_get self.now.spans set ≡ Some e → IsWithin e.last past.now) }
     {
-        let set = known_set(&self.spans, past)?;
-        if attr_eq(value.attribute(), self.attribute)
+        known_set(&self.spans, past)
+    }
+
+    /// Whether an operation with this past, which gives the value, knows all of this set, and of each
+    /// other one not all, and only what the clock `own` counts, and no operation of the part gave the value.
+    pub(crate) fn tells_joined(&self, value: &Value, past: &Clock, own: &Clock, set: usize) -> bool
+        requires within { set < length self.now.spans }
+        requires known { (e : _) → slice_get self.now.spans set ≡ Some e → IsWithin e.last past.now }
+        ensures { IsTrue result → IsJoined self.now value.now past.now own.now set }
+    {
+        attr_eq(value.attribute(), self.attribute)
             && !holds_print(&print_of(value), &self.prints)
-            && are_unknown(self.spans.split_at(set).0, past)
-            && are_unknown(self.spans.split_at(set + 1).1, past)
-        {
-            Some(set)
-        } else {
-            None
-        }
+            && others_stay(&self.spans, past, own, set)
     }
 }
 
@@ -121,9 +134,8 @@ pub(crate) fn noted(summary: Option<Summary>, set: usize, op: &Op, value: &Value
         mut spans,
         mut prints,
     } = summary?;
-    let span = *spans.get(set)?;
     prints.push(print_of(value)).ok()?;
-    spans[set] = widened(span, op);
+    widen(op, spans.get_mut(set)?);
     Some(Summary {
         attribute,
         spans,

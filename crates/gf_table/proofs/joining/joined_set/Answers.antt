@@ -4,26 +4,26 @@ use Rattle.gf_table.proofs.joining.joined_set.Goals as goal
 
 pub returns-then-spares_all_but_last-clause-joins : goal.returns-then-spares_all_but_last-clause-joins
 returns-then-spares_all_but_last-clause-joins c =
-    let seen : IsSeen c.args.timeline.now c.args.op.now c.args.value.now c.args.place c.args.parts.now c.in-Some.summary c.in_ok-part.part.now c.in_ok-sets.sets.now c.in_ok-set-in-Some.set c.in_ok-own.own c.in_ok-other.other = record {
+    let seen : IsSeen c.args.timeline.now c.args.op.now c.args.value.now c.args.place c.args.parts.now c.in_ok-summary.summary.now c.in_ok-part.part.now c.in_ok-sets.sets.now c.in_ok-set.set c.in_ok-own.own c.in_ok-heard.field-0.now = record {
       last = search rules;
       sets = search rules;
-      joined = c.in_ok-set-in-Some.ensures;
-      own_in = c.in_ok-own.ensures;
-      other_in = c.in_ok-other.ensures;
-      beside = search rules;
+      in_one = c.in_ok-own.ensures;
+      at = search rules;
+      joined = search rules;
+      rival = search rules;
       spared = search rules;
     } in
-    joins c.args.timeline.now c.args.op.now c.args.place c.args.parts.now c.args.summary.now c.requires.next c.args.value.now c.requires.gives c.in-Some.summary c.in_ok-part.part.now c.in_ok-sets.sets.now c.in_ok-set-in-Some.set c.in_ok-own.own c.in_ok-other.other (search rules) seen
+    joins c.args.timeline.now c.args.op.now c.args.place c.args.parts.now c.args.summary.now c.requires.next c.args.value.now c.requires.gives c.in_ok-summary.summary.now c.in_ok-part.part.now c.in_ok-sets.sets.now c.in_ok-set.set c.in_ok-own.own c.in_ok-heard.field-0.now (search rules) seen
 
 pub returns-then-spares_all_but_last-clause-told : goal.returns-then-spares_all_but_last-clause-told
 returns-then-spares_all_but_last-clause-told c =
-    let seen : IsSeen c.args.timeline.now c.args.op.now c.args.value.now c.args.place c.args.parts.now c.in-Some.summary c.in_ok-part.part.now c.in_ok-sets.sets.now c.in_ok-set-in-Some.set c.in_ok-own.own c.in_ok-other.other = record {
+    let seen : IsSeen c.args.timeline.now c.args.op.now c.args.value.now c.args.place c.args.parts.now c.in_ok-summary.summary.now c.in_ok-part.part.now c.in_ok-sets.sets.now c.in_ok-set.set c.in_ok-own.own c.in_ok-heard.field-0.now = record {
       last = search rules;
       sets = search rules;
-      joined = c.in_ok-set-in-Some.ensures;
-      own_in = c.in_ok-own.ensures;
-      other_in = c.in_ok-other.ensures;
-      beside = search rules;
+      in_one = c.in_ok-own.ensures;
+      at = search rules;
+      joined = search rules;
+      rival = search rules;
       spared = search rules;
     } in
-    joined_told c.args.timeline.now c.args.op.now c.args.place c.args.parts.now c.args.summary.now c.requires.next c.args.value.now c.requires.gives c.in-Some.summary c.in_ok-part.part.now c.in_ok-sets.sets.now c.in_ok-set-in-Some.set c.in_ok-own.own c.in_ok-other.other (search rules) seen
+    joined_told c.args.timeline.now c.args.op.now c.args.place c.args.parts.now c.args.summary.now c.requires.next c.args.value.now c.requires.gives c.in_ok-summary.summary.now c.in_ok-part.part.now c.in_ok-sets.sets.now c.in_ok-set.set c.in_ok-own.own c.in_ok-heard.field-0.now (search rules) seen

@@ -1,6 +1,6 @@
-use Rattle.std.proofs.Common.{◌≡◌, ◌+◌, ◌∷◌, [], ◌++◌, take, get_or, rules, subst}
+use Rattle.std.proofs.Common.{◌≡◌, ◌∷◌, [], ◌++◌, take, get_or, rules, subst}
 use Rattle.std.proofs.lemmas.List.{take_all, take_more}
-use Rattle.gf_table.specs.Summaries.{IsPrinted, TellsPlaces}
+use Rattle.gf_table.specs.Prints.{IsPrinted, TellsPlaces}
 use Rattle.gf_table.proofs.SummaryLemmas.{places_more}
 use Rattle.gf_table.proofs.prints.prints_at.Goals as goal
 

@@ -1,5 +1,5 @@
 use Rattle.std.proofs.Common.{take}
-use Rattle.gf_table.specs.Summaries.{TellsPlaces}
+use Rattle.gf_table.specs.Prints.{TellsPlaces}
 use Rattle.gf_table.proofs.prints.prints_at.Given as goal
 
 abbrev pub invariant-loop-place : goal.invariant-loop-place

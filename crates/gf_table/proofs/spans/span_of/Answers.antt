@@ -1,7 +1,7 @@
-use Rattle.std.proofs.Common.{◌≡◌, ◌+◌, ◌∷◌, [], ◌++◌, ℕ, Contains, take, get_or, rules, subst}
-use Rattle.std.proofs.lemmas.List.{take_all, take_more}
-use Rattle.gf_table.specs.Summaries.{SpansAt, WidensAt}
-use Rattle.gf_table.proofs.SummaryLemmas.{spans_more}
+use Rattle.std.proofs.Common.{◌≡◌, take, get_or, rules}
+use Rattle.std.specs.Prelude.{Some, slice_get}
+use Rattle.std.proofs.lemmas.List.{take_more}
+use Rattle.gf_table.proofs.SummaryLemmas.{set_more}
 use Rattle.gf_table.proofs.spans.span_of.Goals as goal
 
 pub loop-place-preserved : goal.loop-place-preserved
@@ -10,11 +10,6 @@ loop-place-preserved c =
     let us = c.args.places.now in
     let i = c.loop-place.place-index in
     let x = get_or us i 0 in
-    let own : WidensAt h c.loop-place.span x c.in_ok-span.span = search rules in
-    rw (take_more us i 0 c.loop-place-test.true) (spans_more h c.loop-place.span c.in_ok-span.span (take i us) x c.loop-place.invariant own)
-
-pub returns : goal.returns
-returns c = record {
-  some = search rules;
-  each = subst (λ us. (b : ℕ) → Contains us b → SpansAt c.args.timeline.now c.loop-place.span b) (take_all c.loop-place.place-index c.args.places.now c.loop-place-test.false) c.loop-place.invariant;
-}
+    let op = c.in_ok-get.field-0.now in
+    let at : slice_get h x ≡ Some op = search rules in
+    rw (take_more us i 0 c.loop-place-test.true) (set_more h c.loop-place.span c.widen.new.span (take i us) x op at c.loop-place.invariant c.widen.ensures)

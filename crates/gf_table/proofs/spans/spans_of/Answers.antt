@@ -1,6 +1,6 @@
 use Rattle.std.proofs.Common.{◌≡◌, ◌+◌, ◌∷◌, [], ◌++◌, take, sym, ap, ◌∙◌, rules}
 use Rattle.std.proofs.lemmas.List.{take_more}
-use Rattle.gf_table.specs.Summaries.{TellsSet, TellsSets}
+use Rattle.gf_table.specs.Spans.{TellsSet}
 use Rattle.gf_table.proofs.SummaryLemmas.{sets_more}
 use Rattle.gf_table.proofs.spans.spans_of.Goals as goal
 

@@ -1,5 +1,5 @@
 use Rattle.std.proofs.Common.{take}
-use Rattle.gf_table.specs.Summaries.{TellsSets}
+use Rattle.gf_table.specs.Spans.{TellsSets}
 use Rattle.gf_table.proofs.spans.spans_of.Given as goal
 
 abbrev pub invariant-loop-set : goal.invariant-loop-set
