@@ -1,6 +1,7 @@
 //! The lines of colours.
 
-ghost use Rattle.std.specs.Prelude.{◌≡◌, [], ◌++◌, OnOk, IfSome, All, flat_map, slice_get, option_map, unwrap_or};
+ghost use Rattle.std.specs.Prelude.{◌≡◌, [], ◌++◌, OnOk, IfSome, All, flat_map, slice_get};
+ghost use Rattle.std.specs.Prelude.{option_map, unwrap_or};
 ghost use Rattle.gf_digits.specs.ColourBytes.{HasBytes};
 ghost use Rattle.gf_fig_write.specs.FigText.{colour_line};
 
@@ -23,7 +24,8 @@ pub(crate) fn push_table(out: &mut Vec<u8>, table: &ColourTable) -> Result<(), A
 
 /// Appends the line of the colour at place `i`, if there is one.
 fn push_entry(out: &mut Vec<u8>, table: &ColourTable, i: usize) -> Result<(), AllocError>
-    ensures text { OnOk result (out.new.items ≡ out.old.items ++ unwrap_or (option_map colour_line (slice_get table.now i)) []) }
+    ensures text { OnOk result (out.new.items
+        ≡ out.old.items ++ unwrap_or (option_map colour_line (slice_get table.now i)) []) }
     ensures bytes { IfSome (slice_get table.now i) (λ e. HasBytes e.1) }
 {
     match table.at(i) {

@@ -32,7 +32,8 @@ fn push_figures<S: Shape>(
     out: &mut Vec<u8>,
     figures: &[Figure<S>],
 ) -> Result<(), OutOfMemory>
-    ensures text { OnOk result (out.new.items ≡ out.old.items ++ flat_map (figure_lines S.outline) figures.now) }
+    ensures text { OnOk result (out.new.items
+        ≡ out.old.items ++ flat_map (figure_lines S.outline) figures.now) }
     ensures lawful { OnOk result (All (λ f. IsLawful (S.outline f.shape)) figures.now) }
 {
     for figure in figures {
@@ -46,7 +47,8 @@ fn push_figure<S: Shape>(
     out: &mut Vec<u8>,
     figure: &Figure<S>,
 ) -> Result<(), OutOfMemory>
-    ensures text { OnOk result (out.new.items ≡ out.old.items ++ figure_lines S.outline figure.now) }
+    ensures text { OnOk result (out.new.items
+        ≡ out.old.items ++ figure_lines S.outline figure.now) }
     ensures lawful { OnOk result (IsLawful (S.outline figure.now.shape)) }
 {
     let outline = figure.shape.outline(alloc)?;

@@ -21,13 +21,17 @@ pub fn write_fig<S: Shape, W: Sink>(
     drawing: &Drawing<S>,
     sink: &mut W,
 ) -> Result<(), WriteError>
-    ensures whole { OnOk result (Appends (W.taken sink.old) (W.taken sink.new) (fig_text S.outline drawing.now)) }
-    ensures denotes { OnOk result (Reads (fig_text S.outline drawing.now) (outlined S.outline drawing.now)) }
+    ensures whole { OnOk result (Appends (W.taken sink.old) (W.taken sink.new)
+        (fig_text S.outline drawing.now)) }
+    ensures denotes { OnOk result (Reads (fig_text S.outline drawing.now)
+        (outlined S.outline drawing.now)) }
     ensures flushed { OnOk result (IsTrue (W.flushed sink.new)) }
     ensures unfailed { OnOk result (W.failures sink.new ≡ W.failures sink.old) }
     ensures memory { result ≡ Err WriteError.OutOfMemory → sink.new ≡ sink.old }
-    ensures front { result ≡ Err WriteError.WriteFailed → AppendsFront (W.taken sink.old) (W.taken sink.new) (fig_text S.outline drawing.now) }
-    ensures failed { result ≡ Err WriteError.WriteFailed → Rises (W.failures sink.old) (W.failures sink.new) }
+    ensures front { result ≡ Err WriteError.WriteFailed
+        → AppendsFront (W.taken sink.old) (W.taken sink.new) (fig_text S.outline drawing.now) }
+    ensures failed { result ≡ Err WriteError.WriteFailed
+        → Rises (W.failures sink.old) (W.failures sink.new) }
 {
     let Ok(bytes) = fig_bytes(alloc, drawing) else {
         return Err(WriteError::OutOfMemory);

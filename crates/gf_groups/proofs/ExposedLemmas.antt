@@ -1,11 +1,11 @@
--- One place that a part leaves uncovered tells that it is no largest group.
+-- One position that a part leaves uncovered tells that it is no largest group.
 use Rattle.std.proofs.Common.{◌≡◌, ℕ, Bool, true, false, List, [], ◌∷◌, refl, sym, ap, subst, ◌∙◌, inl, inr}
 use Rattle.std.specs.Prelude.{not, ◌&&◌, filter, find, reverse, Contains, Option, Some, None, IfSome, unwrap_or}
 use Rattle.std.specs.List.{list_any, fold}
 use Rattle.std.proofs.lemmas.Bool.{cases_Bool, cond-true, cond-false, and_from}
 use Rattle.std.proofs.lemmas.List.{reverse-append}
 use Rattle.std.proofs.lemmas.List.Elements.{Contains-push_cases}
-use Rattle.gf_groups.specs.Growing.{take_up, same_group, is_covered, covers, leaves, rivals, exposed, clashes, largest_of}
+use Rattle.gf_groups.specs.Growing.{take_up, same_group, is_covered, covers, leaves, rivals, exposed, conflicts_in, largest_of}
 use Rattle.gf_groups.proofs.ListLemmas.{Contains-filter, list_all_true}
 use Rattle.gf_ops.proofs.ListLemmas.{Contains-cons_head, Contains-cons_tail}
 
@@ -67,4 +67,4 @@ module _ (c : ℕ → ℕ → Bool) where
   pub exposed_from : (us : List ℕ) (x a : ℕ) → find (λ b. not (c b x)) (reverse us) ≡ Some a → list_any (λ r. c x r && c a r) us ≡ true → Contains (exposed c us x) a
   exposed_from us x a f y =
       let w = found_back (λ b. not (c b x)) us a f in
-      (Contains-filter (λ b. not (c b x) && clashes c b (rivals c us x)) us a).1 (w.0, and_from (not (c a x)) (clashes c a (rivals c us x)) w.1 (sym (any_of_filter (c a) (c x) us) ∙ y))
+      (Contains-filter (λ b. not (c b x) && conflicts_in c b (rivals c us x)) us a).1 (w.0, and_from (not (c a x)) (conflicts_in c a (rivals c us x)) w.1 (sym (any_of_filter (c a) (c x) us) ∙ y))

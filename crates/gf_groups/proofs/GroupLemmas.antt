@@ -1,4 +1,4 @@
--- The groups of any table of an object's places are its versions, each once.
+-- The groups of any table of an object's positions are its versions, each once.
 use Rattle.std.proofs.Common.{◌≡◌, ◌≢◌, ℕ, true, false, List, map, get_or, refl, sym, ap, subst, ◌∙◌, inl, inr, arith}
 use Rattle.std.specs.Prelude.{◌↔◌, AllPairs, Contains, slice_get}
 use Rattle.std.specs.Cmp.{IsTotalOrder}
@@ -17,37 +17,37 @@ use Rattle.gf_ops.proofs.ListLemmas.{Contains-map, Contains-map_from}
 use Rattle.gf_groups.specs.declared.group.Group.{Group}
 use Rattle.gf_groups.specs.Versions.{IsMade, IsVersionGroup, AreVersions, group_cmp}
 use Rattle.gf_groups.specs.Growing.{conflict_at}
-use Rattle.gf_groups.specs.GroupedPlaces.{is_on, rising_ids, group_at}
+use Rattle.gf_groups.specs.GroupedPositions.{is_on, rising_ids, group_at}
 use Rattle.gf_groups.specs.Tables.{IsRising, IsTable}
 use Rattle.gf_groups.proofs.IdLemmas.{id_cmp_total, id_cmp_exact}
-use Rattle.gf_groups.proofs.IdPlaceLemmas.{Contains-rising_ids, same_place}
-use Rattle.gf_groups.proofs.OnPlaceLemmas.{on_op}
+use Rattle.gf_groups.proofs.IdPositionLemmas.{Contains-rising_ids, same_position}
+use Rattle.gf_groups.proofs.OnPositionLemmas.{on_op}
 use Rattle.gf_groups.proofs.RisingLemmas.{one_rising}
 use Rattle.gf_groups.proofs.SortedLemmas.{ties, equal_left, rising_sorted}
 use Rattle.gf_groups.proofs.TakingLemmas.{AllPairs-map}
-use Rattle.gf_groups.proofs.VersionLemmas.{version_of_largest, largest_of_version, same_ids, places_in, places_in-rising}
+use Rattle.gf_groups.proofs.VersionLemmas.{version_of_largest, largest_of_version, same_ids, positions_in, positions_in-rising}
 
 pub group_cmp_total : IsTotalOrder group_cmp
 group_cmp_total = on_total (λ (g : Group). g.ops) (lists_total id_cmp_total)
 
--- us are the places of all operations of h on the object o
+-- us are the positions of all operations of h on the object o
 module _ (h : List Op) (valid : IsValid h) (o : ObjectId) (us : List ℕ) (all : (i : ℕ) → Contains us i ↔ (is_on o (slice_get h i) ≡ true)) (form : IsRising us) (gs : List (List ℕ)) (table : IsTable (conflict_at h) us gs) where
   abbrev groups : List Group
   groups = map (group_at h o) gs
 
-  -- two groups of places with the same ids have the same places
-  same_places : (g k : List ℕ) → ((i : ℕ) → Contains g i → Contains us i) → rising_ids h g ≡ rising_ids h k → (i : ℕ) → Contains g i → Contains k i
-  same_places g k within e i c =
+  -- two groups of positions with the same ids have the same positions
+  same_positions : (g k : List ℕ) → ((i : ℕ) → Contains g i → Contains us i) → rising_ids h g ≡ rising_ids h k → (i : ℕ) → Contains g i → Contains k i
+  same_positions g k within e i c =
       let a = on_op o (slice_get h i) ((all i).0 (within i c)) in
-      let here = (Contains-rising_ids h g a.0.id).1 (record { place = i; op = a.0; contained = c; at = a.1; id = refl }) in
+      let here = (Contains-rising_ids h g a.0.id).1 (record { position = i; op = a.0; contained = c; at = a.1; id = refl }) in
       let t = (Contains-rising_ids h k a.0.id).0 (subst (λ ids. Contains ids a.0.id) e here) in
-      subst (Contains k) (same_place h valid t.place i t.op a.0 t.at a.1 t.id) t.contained
+      subst (Contains k) (same_position h valid t.position i t.op a.0 t.at a.1 t.id) t.contained
 
   pub same_group_at : (g k : List ℕ) → Contains gs g → Contains gs k → group_at h o g ≡ group_at h o k → g ≡ k
   same_group_at g k x y e =
       let m = (table.each g).0 x in let n = (table.each k).0 y in
       let ids = ap (λ (z : Group). z.ops) e in
-      one_rising nat_cmp nat_cmp_total g k m.0 n.0 (λ i. (same_places g k m.1.within ids i, same_places k g n.1.within (sym ids) i))
+      one_rising nat_cmp nat_cmp_total g k m.0 n.0 (λ i. (same_positions g k m.1.within ids i, same_positions k g n.1.within (sym ids) i))
 
   pub groups_once : AllPairs (λ g k. g ≢ k) (map (group_at h o) gs)
   groups_once = AllPairs-map (group_at h o) gs same_group_at table.once
@@ -63,11 +63,11 @@ module _ (h : List Op) (valid : IsValid h) (o : ObjectId) (us : List ℕ) (all :
         (ap (λ (k : Group). k.object) w.2, subst (IsVersionGroup h) (sym w.2) (version_of_largest h valid o us all made w.0 m.1)),
     λ t.
         let v : IsVersion h o g.ops = subst (λ x. IsVersion h x g.ops) t.0 t.1 in
-        let places = places_in h valid o us all g.ops in
-        let in_table = (table.each places).1 (places_in-rising h valid o us all form g.ops, largest_of_version h valid o us all g.ops v) in
+        let positions = positions_in h valid o us all g.ops in
+        let in_table = (table.each positions).1 (positions_in-rising h valid o us all form g.ops, largest_of_version h valid o us all g.ops v) in
         let ids = same_ids h valid o us all g.ops v in
-        let e : group_at h o places ≡ g = λ i. record { object = sym t.0 i; ops = ids i } in
-        subst (Contains groups) e (Contains-map (group_at h o) gs places in_table),
+        let e : group_at h o positions ≡ g = λ i. record { object = sym t.0 i; ops = ids i } in
+        subst (Contains groups) e (Contains-map (group_at h o) gs positions in_table),
   )
 
   no_ties : AllPairs (λ g k. ties group_cmp group_cmp_total g k ≡ false) groups

@@ -1,4 +1,4 @@
--- The list of all largest compatible groups, each once, grows by one place.
+-- The list of all largest compatible groups, each once, grows by one position.
 use Rattle.std.proofs.Common.{◌≡◌, ◌≢◌, ℕ, ◌<◌, Bool, true, false, List, [], ◌∷◌, ◌++◌, map, inl, inr, refl, subst, sym, ◌∙◌, arith}
 use Rattle.std.specs.Prelude.{◌⊎◌, ◌↔◌, Contains, filter, not, ◌&&◌, ◌||◌, ◌==◌}
 use Rattle.std.specs.List.{list_any}
@@ -13,7 +13,7 @@ use Rattle.std.proofs.lemmas.List.Elements.{Contains-append_cases, Contains-appe
 use Rattle.std.proofs.lemmas.List.Kept.{IsStrictlySortedBy-filter}
 use Rattle.std.proofs.lemmas.Slice.Eq.{slice_eq-Decides}
 use Rattle.gf_ops.proofs.ListLemmas.{Contains-cons_cases, Contains-cons_head, not_Contains-nil, Contains-map, Contains-map_from}
-use Rattle.gf_groups.specs.Growing.{same_group, clashes, step, part, parts, is_covered, covers, rivals, exposed, largest_of, next}
+use Rattle.gf_groups.specs.Growing.{same_group, conflicts_in, step, part, parts, is_covered, covers, rivals, exposed, largest_of, next}
 use Rattle.gf_groups.specs.Tables.{Hits, IsLargest, IsRising, IsTable}
 use Rattle.gf_groups.proofs.LargestLemmas.{With, Part, IsConflict, largest_with, largest_stays, largest_was, largest_is_part, compatible_part, largest_alike}
 use Rattle.gf_groups.proofs.ListLemmas.{Contains-filter, list_any_true, list_any_false, list_any_from, list_all_true, list_all_from}
@@ -48,7 +48,7 @@ table_first c = record {
 equal_groups : (g h : List ℕ) → Decides (same_group g h) (g ≡ h)
 equal_groups g h = slice_eq-Decides Decides-eqb g h (same_group g h) refl
 
--- x comes behind the places us, whose table is gs
+-- x comes behind the positions us, whose table is gs
 module _ (c : ℕ → ℕ → Bool) (s : IsConflict c) (us : List ℕ) (x : ℕ) (form : IsRising us) (above : (a : ℕ) → Contains us a → a < x) where
   abbrev all : List ℕ
   all = us ++ x ∷ []
@@ -84,17 +84,17 @@ module _ (c : ℕ → ℕ → Bool) (s : IsConflict c) (us : List ℕ) (x : ℕ)
   missing : (g : List ℕ) → IsGroup us g → ¬ (Contains g x)
   missing g m h = fresh (m.1.within x h)
 
-  all_compatible : (g : List ℕ) → clashes c x g ≡ false → (a : ℕ) → Contains g a → c a x ≡ false
+  all_compatible : (g : List ℕ) → conflicts_in c x g ≡ false → (a : ℕ) → Contains g a → c a x ≡ false
   all_compatible g n a h = s.symmetric a x ∙ list_any_false (c x) g n a h
 
   step_group : (g : List ℕ) → IsGroup us g → IsGroup all (step c x g)
-  step_group g m = elim (cases_Bool (clashes c x g)) [
-    | inl t ↦ rw (cond-true (clashes c x g) g (g ++ x ∷ []) t) (
+  step_group g m = elim (cases_Bool (conflicts_in c x g)) [
+    | inl t ↦ rw (cond-true (conflicts_in c x g) g (g ++ x ∷ []) t) (
       m.0,
       universe (Contains g) (Contains g) (λ a. (λ h. h, λ h. h))
           (largest_stays c (Contains us) (Contains g) x m.1 (list_any_true (c x) g t)),
     )
-    | inr n ↦ rw (cond-false (clashes c x g) g (g ++ x ∷ []) n) (
+    | inr n ↦ rw (cond-false (conflicts_in c x g) g (g ++ x ∷ []) n) (
       pushed g m.0 m.1.within,
       universe (With c (Contains g) x) (Contains (g ++ x ∷ [])) (λ a. back (holds g a))
           (largest_with c s (Contains us) (Contains g) x m.1 (all_compatible g n)),
@@ -132,18 +132,18 @@ module _ (c : ℕ → ℕ → Bool) (s : IsConflict c) (us : List ℕ) (x : ℕ)
   ])
 
   step_keeps : (g : List ℕ) (a : ℕ) → Contains g a → Contains (step c x g) a
-  step_keeps g a h = elim (cases_Bool (clashes c x g)) [
-    | inl t ↦ rw (cond-true (clashes c x g) g (g ++ x ∷ []) t) h
-    | inr n ↦ rw (cond-false (clashes c x g) g (g ++ x ∷ []) n) ((holds g a).1 (inl h))
+  step_keeps g a h = elim (cases_Bool (conflicts_in c x g)) [
+    | inl t ↦ rw (cond-true (conflicts_in c x g) g (g ++ x ∷ []) t) h
+    | inr n ↦ rw (cond-false (conflicts_in c x g) g (g ++ x ∷ []) n) ((holds g a).1 (inl h))
   ]
 
   -- what conflicts with a rival of x alone is exposed
   is_exposed : (a b : ℕ) → Contains us a → Contains us b → c a x ≡ false → c b x ≡ true → c a b ≡ true → Contains (exposed c us x) a
   is_exposed a b h i k r t =
       let rival = (Contains-filter (c x) us b).1 (i, s.symmetric x b ∙ r) in
-      (Contains-filter (λ z. not (c z x) && clashes c z (rivals c us x)) us a).1 (
+      (Contains-filter (λ z. not (c z x) && conflicts_in c z (rivals c us x)) us a).1 (
         h,
-        and_from (not (c a x)) (clashes c a (rivals c us x)) (not_from_false (c a x) k) (list_any_from (c a) (rivals c us x) b rival t),
+        and_from (not (c a x)) (conflicts_in c a (rivals c us x)) (not_from_false (c a x) k) (list_any_from (c a) (rivals c us x) b rival t),
       )
 
   -- a part of a largest group that covers the exposed is largest
@@ -173,13 +173,13 @@ module _ (c : ℕ → ℕ → Bool) (s : IsConflict c) (us : List ℕ) (x : ℕ)
   )
 
   -- no part is an old group with x
-  not_a_part : (g h : List ℕ) → IsGroup us g → IsGroup us h → clashes c x h ≡ true → step c x g ≢ part c x h
+  not_a_part : (g h : List ℕ) → IsGroup us g → IsGroup us h → conflicts_in c x h ≡ true → step c x g ≢ part c x h
   not_a_part g h m n t e =
       let same : (a : ℕ) → Contains (step c x g) a → Contains (part c x h) a = λ a i. subst (λ z. Contains z a) e i in
       let here : Contains (step c x g) x = subst (λ z. Contains z x) (sym e) ((part_holds h x).1 (inr refl)) in
       let lost = list_any_true (c x) h t in
-      elim (cases_Bool (clashes c x g)) [
-        | inl k ↦ missing g m (rw (cond-true (clashes c x g) g (g ++ x ∷ []) k) at here)
+      elim (cases_Bool (conflicts_in c x g)) [
+        | inl k ↦ missing g m (rw (cond-true (conflicts_in c x g) g (g ++ x ∷ []) k) at here)
         | inr k ↦ elim (m.1.largest lost.0 (n.1.within lost.0 lost.1)) [
           | inl i ↦ let yes = s.symmetric x lost.0 in let no = all_compatible g k lost.0 i in let hit = lost.2 in absurd cc
           | inr w ↦ elim ((part_holds h w.0).0 (same w.0 (step_keeps g w.0 w.1))) [
@@ -243,9 +243,9 @@ module _ (c : ℕ → ℕ → Bool) (s : IsConflict c) (us : List ℕ) (x : ℕ)
       )
 
   step_from : (g : List ℕ) (a : ℕ) → Contains (step c x g) a → Contains g a ⊎ (a ≡ x)
-  step_from g a h = elim (cases_Bool (clashes c x g)) [
-    | inl t ↦ inl (rw (cond-true (clashes c x g) g (g ++ x ∷ []) t) at h)
-    | inr n ↦ (holds g a).0 (rw (cond-false (clashes c x g) g (g ++ x ∷ []) n) at h)
+  step_from g a h = elim (cases_Bool (conflicts_in c x g)) [
+    | inl t ↦ inl (rw (cond-true (conflicts_in c x g) g (g ++ x ∷ []) t) at h)
+    | inr n ↦ (holds g a).0 (rw (cond-false (conflicts_in c x g) g (g ++ x ∷ []) n) at h)
   ]
 
   step_back : (g h : List ℕ) → IsGroup us g → step c x g ≡ step c x h → (a : ℕ) → Contains g a → Contains h a
@@ -264,17 +264,17 @@ module _ (c : ℕ → ℕ → Bool) (s : IsConflict c) (us : List ℕ) (x : ℕ)
     taking : IsTakenUp same_group equal_groups (covers c (exposed c us x)) [] (parts c x gs) news
     taking = taken_up same_group equal_groups (covers c (exposed c us x)) [] (parts c x gs)
 
-    -- an old group with x where it has its place
+    -- an old group with x where it has its position
     stepped : (q : List ℕ) → Contains steps q → (g : List ℕ) × IsGroup us g × (q ≡ step c x g)
     stepped q i = let w = Contains-map_from (step c x) gs q i in (w.0, (table.each w.0).0 w.1, w.2)
 
     -- a part of an old group that conflicts with x
-    parted : (q : List ℕ) → Contains news q → (g : List ℕ) × IsGroup us g × (clashes c x g ≡ true) × (q ≡ part c x g) × (covers c (exposed c us x) q ≡ true)
+    parted : (q : List ℕ) → Contains news q → (g : List ℕ) × IsGroup us g × (conflicts_in c x g ≡ true) × (q ≡ part c x g) × (covers c (exposed c us x) q ≡ true)
     parted q i = elim (taking.from q i) [
       | inl n ↦ absurd (not_Contains-nil q n)
       | inr j ↦
-          let w = Contains-map_from (part c x) (filter (clashes c x) gs) q j.0 in
-          let k = (Contains-filter (clashes c x) gs w.0).0 w.1 in (w.0, (table.each w.0).0 k.0, k.1, w.2, j.1)
+          let w = Contains-map_from (part c x) (filter (conflicts_in c x) gs) q j.0 in
+          let k = (Contains-filter (conflicts_in c x) gs w.0).0 w.1 in (w.0, (table.each w.0).0 k.0, k.1, w.2, j.1)
     ]
 
     sound : (q : List ℕ) → Contains (next c us x gs) q → IsGroup all q
@@ -288,8 +288,8 @@ module _ (c : ℕ → ℕ → Bool) (s : IsConflict c) (us : List ℕ) (x : ℕ)
     stayed q m w =
         let n : IsLargest c (With c (Contains us) x) (Contains q) = largest_alike c (Contains all) (With c (Contains us) x) (Contains q) (Contains q) (λ a. holds us a) (λ a. (λ h. h, λ h. h)) m.1 in
         let i = (table.each q).1 (m.0, largest_was c s (Contains us) (Contains q) x n w) in
-        let t : clashes c x q ≡ true = list_any_from (c x) q w.0 w.1 w.2 in
-        Contains-append_left steps news q (subst (Contains steps) (cond-true (clashes c x q) q (q ++ x ∷ []) t) (Contains-map (step c x) gs q i))
+        let t : conflicts_in c x q ≡ true = list_any_from (c x) q w.0 w.1 w.2 in
+        Contains-append_left steps news q (subst (Contains steps) (cond-true (conflicts_in c x q) q (q ++ x ∷ []) t) (Contains-map (step c x) gs q i))
 
     -- one that holds x came from an old one
     came : (q : List ℕ) → IsGroup all q → Contains q x → Contains (next c us x gs) q
@@ -297,12 +297,12 @@ module _ (c : ℕ → ℕ → Bool) (s : IsConflict c) (us : List ℕ) (x : ℕ)
         let r = came_from q m here in
         let i = (table.each r.0).1 r.1 in
         let e : part c x r.0 ≡ q = one (part c x r.0) q (part_form r.0 r.1) m.0 (λ a. (λ h. (r.2 a).1 ((part_holds r.0 a).0 h), λ h. (part_holds r.0 a).1 ((r.2 a).0 h))) in
-        elim (cases_Bool (clashes c x r.0)) [
+        elim (cases_Bool (conflicts_in c x r.0)) [
           | inl t ↦
-              let within : (a : ℕ) → Contains (exposed c us x) a → Contains us a = λ a h. ((Contains-filter (λ z. not (c z x) && clashes c z (rivals c us x)) us a).0 h).0 in
-              let of_parts : Contains (parts c x gs) q = subst (Contains (parts c x gs)) e (Contains-map (part c x) (filter (clashes c x) gs) r.0 ((Contains-filter (clashes c x) gs r.0).1 (i, t))) in
+              let within : (a : ℕ) → Contains (exposed c us x) a → Contains us a = λ a h. ((Contains-filter (λ z. not (c z x) && conflicts_in c z (rivals c us x)) us a).0 h).0 in
+              let of_parts : Contains (parts c x gs) q = subst (Contains (parts c x gs)) e (Contains-map (part c x) (filter (conflicts_in c x) gs) r.0 ((Contains-filter (conflicts_in c x) gs r.0).1 (i, t))) in
               Contains-append_right steps news q (taking.new q of_parts (passes (exposed c us x) q (λ a h. m.1.largest a ((holds us a).1 (inl (within a h))))))
-          | inr n ↦ let d : step c x r.0 ≡ q = cond-false (clashes c x r.0) r.0 (r.0 ++ x ∷ []) n ∙ one (r.0 ++ x ∷ []) q (pushed r.0 r.1.0 r.1.1.within) m.0 (λ a. (
+          | inr n ↦ let d : step c x r.0 ≡ q = cond-false (conflicts_in c x r.0) r.0 (r.0 ++ x ∷ []) n ∙ one (r.0 ++ x ∷ []) q (pushed r.0 r.1.0 r.1.1.within) m.0 (λ a. (
             λ h. (r.2 a).1 (elim ((holds r.0 a).0 h) [ inl j ↦ inl (j, all_compatible r.0 n a j) | inr d ↦ inr d ]),
             λ h. (holds r.0 a).1 (elim ((r.2 a).0 h) [ inl j ↦ inl j.0 | inr d ↦ inr d ]),
           )) in

@@ -5,12 +5,12 @@ pub mod ExtendingLemmas
 pub mod GroupLemmas
 pub mod GrowingLemmas
 pub mod IdLemmas
-pub mod IdPlaceLemmas
+pub mod IdPositionLemmas
 pub mod LargestLemmas
 pub mod ListLemmas
-pub mod OnPlaceLemmas
+pub mod OnPositionLemmas
 pub mod PartingLemmas
-pub mod PlaceLemmas
+pub mod PositionLemmas
 pub mod RisingLemmas
 pub mod SortedLemmas
 pub mod SublistLemmas

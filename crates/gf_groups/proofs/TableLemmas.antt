@@ -1,4 +1,4 @@
--- The groups of rising places are all largest groups of them, each once.
+-- The groups of rising positions are all largest groups of them, each once.
 use Rattle.std.proofs.Common.{◌≡◌, ℕ, ◌<◌, Bool, false, List, [], ◌∷◌, ◌++◌, append_assoc, refl, subst}
 use Rattle.std.specs.Prelude.{All, Contains, Option, Some, None, slice_get}
 use Rattle.std.specs.Ordering.{nat_cmp, MatchOrdering}

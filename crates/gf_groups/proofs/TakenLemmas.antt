@@ -7,11 +7,11 @@ use Rattle.std.proofs.lemmas.List.Elements.{Contains-push_cases}
 use Rattle.gf_ops.specs.declared.op.Op.{Op}
 use Rattle.gf_ops.specs.declared.op.Clock.{Clock}
 use Rattle.gf_ops.proofs.ListLemmas.{Contains-cons_head, Contains-cons_tail}
-use Rattle.gf_groups.specs.Growing.{conflict_at, clashes, step, part, exposed, largest_of, next, pushed, grown, groups_at}
+use Rattle.gf_groups.specs.Growing.{conflict_at, conflicts_in, step, part, exposed, largest_of, next, pushed, grown, groups_at}
 use Rattle.gf_groups.specs.Taken.{KnowsAll, CountsMore, CountsAll}
 use Rattle.gf_groups.specs.Tables.{IsRising}
 use Rattle.gf_groups.proofs.ListLemmas.{list_any_true}
-use Rattle.gf_groups.proofs.OnPlaceLemmas.{conflict_with}
+use Rattle.gf_groups.proofs.OnPositionLemmas.{conflict_with}
 use Rattle.gf_groups.proofs.TableLemmas.{conflict_at_test, table_groups}
 
 module _ (c : ℕ → ℕ → Bool) where
@@ -21,13 +21,13 @@ module _ (c : ℕ → ℕ → Bool) where
       grown-push (us ++ y ∷ []) xs x (next c us y gs)
       ∙ ap (λ vs. next c vs x (grown c (us ++ y ∷ []) xs (next c us y gs))) (append_assoc us (y ∷ []) xs)
 
-  -- the groups of one place more
+  -- the groups of one position more
   pub groups_at-push : (us : List ℕ) (x : ℕ) → groups_at c (us ++ x ∷ []) ≡ next c us x (groups_at c us)
   groups_at-push us x = grown-push [] us x ([] ∷ [])
 
   module _ (x : ℕ) where
     abbrev AreApart : List (List ℕ) → Type 0
-    AreApart gs = (g : List ℕ) → Contains gs g → clashes c x g ≡ false
+    AreApart gs = (g : List ℕ) → Contains gs g → conflicts_in c x g ≡ false
 
     apart_tail : (g : List ℕ) (gs : List (List ℕ)) → AreApart (g ∷ gs) → AreApart gs
     apart_tail g gs f k i = f k (Contains-cons_tail g gs k i)
@@ -35,13 +35,13 @@ module _ (c : ℕ → ℕ → Bool) where
     steps_apart : (gs : List (List ℕ)) → AreApart gs → map (step c x) gs ≡ pushed x gs
     steps_apart [] f = refl
     steps_apart (g ∷ gs) f =
-        let e = cond-false (clashes c x g) g (g ++ x ∷ []) (f g (Contains-cons_head g gs)) in
+        let e = cond-false (conflicts_in c x g) g (g ++ x ∷ []) (f g (Contains-cons_head g gs)) in
         let r = steps_apart gs (apart_tail g gs f) in
         λ i. e i ∷ r i
 
-    none_clash : (gs : List (List ℕ)) → AreApart gs → filter (clashes c x) gs ≡ []
+    none_clash : (gs : List (List ℕ)) → AreApart gs → filter (conflicts_in c x) gs ≡ []
     none_clash [] f = refl
-    none_clash (g ∷ gs) f = cond-false (clashes c x g) (g ∷ filter (clashes c x) gs) (filter (clashes c x) gs) (f g (Contains-cons_head g gs)) ∙ none_clash gs (apart_tail g gs f)
+    none_clash (g ∷ gs) f = cond-false (conflicts_in c x g) (g ∷ filter (conflicts_in c x) gs) (filter (conflicts_in c x) gs) (f g (Contains-cons_head g gs)) ∙ none_clash gs (apart_tail g gs f)
 
     next_apart : (us : List ℕ) (gs : List (List ℕ)) → AreApart gs → next c us x gs ≡ pushed x gs
     next_apart us gs f =
@@ -65,7 +65,7 @@ module _ (h : List Op) (us : List ℕ) (x : ℕ) (c : Clock) (counted : CountsAl
   groups_known form k =
       let table = table_groups (conflict_at h) (conflict_at_test h) us form in
       groups_at-push (conflict_at h) us x
-      ∙ next_apart (conflict_at h) x us (groups_at (conflict_at h) us) (λ g m. elim (cases_Bool (clashes (conflict_at h) x g)) [
+      ∙ next_apart (conflict_at h) x us (groups_at (conflict_at h) us) (λ g m. elim (cases_Bool (conflicts_in (conflict_at h) x g)) [
         | inl t ↦
             let w = list_any_true (conflict_at h x) g t in
             let none = known_apart k w.0 (((table.each g).0 m).1.within w.0 w.1) in

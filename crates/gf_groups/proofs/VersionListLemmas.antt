@@ -14,7 +14,7 @@ use Rattle.gf_ops.specs.declared.op.ObjectId.{ObjectId}
 use Rattle.gf_ops.specs.Attribute.{Kind, made_kind, object_of}
 use Rattle.gf_ops.specs.Conflict.{Conflict}
 use Rattle.gf_ops.specs.OperationOrder.{id_cmp}
-use Rattle.gf_ops.specs.Version.{HasOn, IsMember, Clashes, IsVersion}
+use Rattle.gf_ops.specs.Version.{HasOn, IsMember, ConflictsWithin, IsVersion}
 use Rattle.gf_ops.proofs.ListLemmas.{Contains-cons_cases, Contains-cons_head, Contains-cons_tail, Contains-map, Contains-map_from, not_Contains-nil}
 use Rattle.gf_groups.specs.declared.group.Group.{Group}
 use Rattle.gf_groups.specs.Versions.{IsMade, IsVersionGroup, AreVersions, group_cmp}
@@ -23,7 +23,7 @@ use Rattle.gf_groups.proofs.ConflictTestLemmas.{id_decided, conflict_decided}
 use Rattle.gf_groups.proofs.IdLemmas.{id_cmp_total, id_cmp_exact}
 use Rattle.gf_groups.proofs.ListLemmas.{Contains-filter, list_any_true, list_any_from, list_all_true, list_all_from}
 use Rattle.gf_groups.proofs.GroupLemmas.{group_cmp_total}
-use Rattle.gf_groups.proofs.OnPlaceLemmas.{made_object}
+use Rattle.gf_groups.proofs.OnPositionLemmas.{made_object}
 use Rattle.gf_groups.proofs.RisingLemmas.{one_rising}
 use Rattle.gf_groups.proofs.SortedLemmas.{inserted_all, holds_all}
 use Rattle.gf_groups.proofs.SublistLemmas.{Pairs-filter, Pairs-from, Pairs-map, Pairs_from_rising, StandsBefore, rising_from_Pairs, rising_sublist, sublist_rising, sublist_within, sublists_in_order}
@@ -76,13 +76,13 @@ module _ (h : List Op) (o : ObjectId) where
         | inr n ↦ not_from_false (in_conflict a b) n
       ]))
 
-  covers : (g : List OpId) → is_largest h o g ≡ true → (a : Op) → Contains h a → object_of a ≡ o → ¬ (Contains g a.id) → Clashes h g a
+  covers : (g : List OpId) → is_largest h o g ≡ true → (a : Op) → Contains h a → object_of a ≡ o → ¬ (Contains g a.id) → ConflictsWithin h g a
   covers g t a i e out = elim (or_cases (is_in g a) (list_any (in_conflict a) (members h g)) (list_all_true (λ x. is_in g x || list_any (in_conflict x) (members h g)) (ops_on h o) t a ((on_object a).1 (i, e)))) [
     | inl s ↦ absurd (out ((in_group g a).0 s))
     | inr s ↦ let w = list_any_true (in_conflict a) (members h g) s in record { member = w.0; is_member = (member g w.0).0 w.1; conflict = (conflict_decided a w.0).0 w.2 }
   ]
 
-  covers_test : (g : List OpId) → ((a : Op) → Contains h a → object_of a ≡ o → ¬ (Contains g a.id) → Clashes h g a) → is_largest h o g ≡ true
+  covers_test : (g : List OpId) → ((a : Op) → Contains h a → object_of a ≡ o → ¬ (Contains g a.id) → ConflictsWithin h g a) → is_largest h o g ≡ true
   covers_test g f = list_all_from (λ x. is_in g x || list_any (in_conflict x) (members h g)) (ops_on h o) (λ a i. elim (cases_Bool (is_in g a)) [
     | inl s ↦ or_left (is_in g a) (list_any (in_conflict a) (members h g)) s
     | inr n ↦

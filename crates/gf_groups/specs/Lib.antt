@@ -1,7 +1,7 @@
 pub mod Versions
 pub mod VersionList
 pub mod Growing
-pub mod GroupedPlaces
+pub mod GroupedPositions
 pub mod Parting
 pub mod Taken
 pub mod Tables

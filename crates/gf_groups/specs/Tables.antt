@@ -1,4 +1,4 @@
--- The largest compatible groups of places, listed (after Sun and Chen's maximal compatible groups, ACM TOCHI 9(1), 2002).
+-- The largest compatible groups of positions, listed (after Sun and Chen's maximal compatible groups, ACM TOCHI 9(1), 2002).
 use Rattle.std.specs.Prelude.{◌≡◌, ◌≢◌, ◌↔◌, ◌⊎◌, ℕ, Bool, true, false, List, AllPairs, Contains}
 use Rattle.std.specs.List.Sorted.{IsStrictlySortedBy}
 use Rattle.std.specs.Ordering.{nat_cmp}
@@ -15,7 +15,7 @@ module _ {X : Type 0} (c : X → X → Bool) where
     pub compatible : (a b : X) → p a → p b → c a b ≡ false
     pub largest : (a : X) → U a → p a ⊎ Hits p a
 
--- the places g rise
+-- the positions g rise
 abbrev pub IsRising : List ℕ → Type 0
 IsRising g = IsStrictlySortedBy nat_cmp g
 

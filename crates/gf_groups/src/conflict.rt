@@ -1,4 +1,4 @@
-//! Conflicts of operations, told by their places in a history.
+//! Conflicts of operations, told by their positions in a history.
 
 ghost use Rattle.std.specs.Prelude.{◌≡◌, IfSome, option_copied};
 ghost use Rattle.gf_ops.specs.Limits.{IsInRange};
@@ -8,7 +8,7 @@ ghost use Rattle.gf_groups.specs.VersionList.{in_conflict};
 use crate::timeline::Timeline;
 use gf_ops::{Op, conflicts};
 
-/// Whether the operations at two places conflict.
+/// Whether the operations at two positions conflict.
 pub fn conflict_at(timeline: &Timeline<'_>, i: usize, j: usize) -> bool
     ensures { result ≡ conflict_at timeline.now i j }
 {

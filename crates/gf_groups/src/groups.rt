@@ -4,14 +4,14 @@ ghost use Rattle.std.specs.Prelude.{◌≡◌, ◌↔◌, length, Err, IfOk, IsT
 ghost use Rattle.std.specs.List.Sorted.{IsPermutation, IsSorted};
 ghost use Rattle.gf_groups.specs.declared.faults.GroupFault.{GroupFault};
 ghost use Rattle.gf_groups.specs.Growing.{conflict_at};
-ghost use Rattle.gf_groups.specs.GroupedPlaces.{places_below};
+ghost use Rattle.gf_groups.specs.GroupedPositions.{positions_below};
 ghost use Rattle.gf_groups.specs.Tables.{IsTable};
 ghost use Rattle.gf_groups.specs.Versions.{IsMade, AreVersions, AreAllVersions, group_cmp};
 
 use crate::growth::groups_at;
-use crate::listing::{add_groups, places_on};
-use crate::parting::places_by_object;
-use crate::{Group, GroupFault, Groups, Places};
+use crate::listing::{add_groups, positions_on};
+use crate::parting::positions_by_object;
+use crate::{Group, GroupFault, Groups, Positions};
 use gf_ops::{Change, History, ObjectId};
 use gf_shape::OutOfMemory;
 use std::alloc::Global;
@@ -36,10 +36,10 @@ pub fn groups_of(alloc: Global, history: &History, object: ObjectId) -> Result<G
 pub fn all_groups(alloc: Global, history: &History) -> Result<Groups, OutOfMemory>
     ensures { IfOk result (λ groups. AreAllVersions history.now.ops groups) }
 {
-    let parts = places_by_object(alloc, history.ops())?;
+    let parts = positions_by_object(alloc, history.ops())?;
     let mut groups = Vec::new(alloc);
-    for (object, places) in &parts {
-        let sets = groups_at(alloc, history, places.as_slice())?;
+    for (object, positions) in &parts {
+        let sets = groups_at(alloc, history, positions.as_slice())?;
         add_groups(alloc, history, *object, sets, &mut groups)?;
     }
     Ok(Groups::new(groups))
@@ -62,22 +62,22 @@ fn made_groups(alloc: Global, history: &History, object: ObjectId) -> Result<Gro
     requires { IsMade history.now.ops object }
     ensures { IfOk result (λ groups. AreVersions history.now.ops object groups) }
 {
-    let places = places_on(alloc, history.ops(), object)?;
-    let sets = groups_at(alloc, history, &places)?;
+    let positions = positions_on(alloc, history.ops(), object)?;
+    let sets = groups_at(alloc, history, &positions)?;
     groups_from(alloc, history, object, sets)
 }
 
-/// The versions of an object that the history made, from the largest compatible sets of the places
-/// of its operations.
+/// The versions of an object that the history made, from the largest compatible sets of the
+/// positions of its operations.
 pub fn groups_from(
     alloc: Global,
     history: &History,
     object: ObjectId,
-    sets: Vec<Places>,
+    sets: Vec<Positions>,
 ) -> Result<Groups, OutOfMemory>
     requires made { IsMade history.now.ops object }
     requires table { IsTable (conflict_at history.now.ops)
-        (places_below history.now.ops object (length history.now.ops)) sets.items }
+        (positions_below history.now.ops object (length history.now.ops)) sets.items }
     ensures { IfOk result (λ groups. AreVersions history.now.ops object groups) }
 {
     // Its clause says that the history is valid.

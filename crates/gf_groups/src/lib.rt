@@ -7,10 +7,10 @@
 //! - [`GroupFault`]: why there is no such list.
 //! - [`the_versions_are_a_list_that_computes`]: the law.
 //!
-//! What a table that grows is made of: [`Places`] of operations in a [`Timeline`], whether those of
-//! two [conflict](conflict_at), [`clashes`] and [`rivals`] of one, [`groups_at`] places and how
-//! they [`grow`], and the groups of an object [from](groups_from) its sets, or [added](add_groups)
-//! to others.
+//! What a table that grows is made of: [`Positions`] of operations in a [`Timeline`], whether those
+//! of two [conflict](conflict_at), [`conflicts_in`] and [`rivals`] of one, [`groups_at`] positions
+//! and how they [`grow`], and the groups of an object [from](groups_from) its sets, or
+//! [added](add_groups) to others.
 #![tactic(auto)]
 
 mod conflict;
@@ -22,7 +22,7 @@ mod ids;
 mod laws;
 mod listing;
 mod parting;
-mod places;
+mod positions;
 mod taken;
 mod timeline;
 
@@ -30,9 +30,9 @@ pub use conflict::conflict_at;
 pub use faults::GroupFault;
 pub use group::{Group, Groups};
 pub use groups::{all_groups, groups_from, groups_of, is_made};
-pub use growth::{clashes, groups_at, grow, rivals};
+pub use growth::{conflicts_in, groups_at, grow, rivals};
 pub use ids::Ids;
 pub use laws::the_versions_are_a_list_that_computes;
 pub use listing::add_groups;
-pub use places::Places;
+pub use positions::Positions;
 pub use timeline::Timeline;

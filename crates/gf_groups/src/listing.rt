@@ -1,68 +1,70 @@
-//! The operations on an object by their places, and groups of places as groups of ids.
+//! The operations on an object by their positions, and groups of positions as groups of ids.
 
 ghost use Rattle.std.specs.Prelude.{◌≡◌, ◌++◌, All, length, map, IfOk, OnOk};
 ghost use Rattle.std.specs.List.Sorted.{IsStrictlySortedBy};
 ghost use Rattle.std.specs.Ordering.{nat_cmp};
 ghost use Rattle.gf_groups.specs.Tables.{IsRising};
-ghost use Rattle.gf_groups.specs.GroupedPlaces.{places_below, id_at, ids_at, rising_ids, group_at};
+ghost use Rattle.gf_groups.specs.GroupedPositions.{positions_below, id_at, ids_at, rising_ids};
+ghost use Rattle.gf_groups.specs.GroupedPositions.{group_at};
 
-use crate::{Group, Ids, Places};
+use crate::{Group, Ids, Positions};
 use gf_ops::{History, ObjectId, Op, OpId};
 use gf_shape::OutOfMemory;
 use std::alloc::Global;
 
-/// The places of the operations on the object.
-pub(crate) fn places_on(
+/// The positions of the operations on the object.
+pub(crate) fn positions_on(
     alloc: Global,
     ops: &[Op],
     object: ObjectId,
 ) -> Result<Vec<usize>, OutOfMemory>
-    ensures { IfOk result (λ places. places.items ≡ places_below ops.now object (length ops.now)) }
+    ensures { IfOk result (λ positions. positions.items
+        ≡ positions_below ops.now object (length ops.now)) }
 {
-    let mut places = Vec::new(alloc);
-    for (place, op) in ops.iter().enumerate() {
+    let mut positions = Vec::new(alloc);
+    for (position, op) in ops.iter().enumerate() {
         if op.object() == object {
-            places.push(place)?;
+            positions.push(position)?;
         }
     }
-    Ok(places)
+    Ok(positions)
 }
 
-/// The id of the operation at this place.
-fn id_at(ops: &[Op], place: usize) -> Option<OpId>
-    ensures { result ≡ id_at ops.now place }
+/// The id of the operation at this position.
+fn id_at(ops: &[Op], position: usize) -> Option<OpId>
+    ensures { result ≡ id_at ops.now position }
 {
-    ops.get(place).map(|op| op.id)
+    ops.get(position).map(|op| op.id)
 }
 
-/// The ids of the operations at these places.
-fn ids_at(alloc: Global, ops: &[Op], places: &[usize]) -> Result<Vec<OpId>, OutOfMemory>
-    ensures { IfOk result (λ ids. ids.items ≡ ids_at ops.now places.now) }
+/// The ids of the operations at these positions.
+fn ids_at(alloc: Global, ops: &[Op], positions: &[usize]) -> Result<Vec<OpId>, OutOfMemory>
+    ensures { IfOk result (λ ids. ids.items ≡ ids_at ops.now positions.now) }
 {
     Ok(
-        places
+        positions
             .iter()
-            .filter_map(|place| id_at(ops, *place))
+            .filter_map(|position| id_at(ops, *position))
             .collect(alloc)?,
     )
 }
 
 /// Those ids, rising.
-fn rising_ids(alloc: Global, history: &History, places: &[usize]) -> Result<Ids, OutOfMemory>
-    requires { IsStrictlySortedBy nat_cmp places.now }
-    ensures { IfOk result (λ ids. ids ≡ rising_ids history.now.ops places.now) }
+fn rising_ids(alloc: Global, history: &History, positions: &[usize]) -> Result<Ids, OutOfMemory>
+    requires { IsStrictlySortedBy nat_cmp positions.now }
+    ensures { IfOk result (λ ids. ids ≡ rising_ids history.now.ops positions.now) }
 {
-    let mut ids = ids_at(alloc, history.ops(), places)?;
+    let mut ids = ids_at(alloc, history.ops(), positions)?;
     ids.sort()?;
     Ok(Ids::new(ids))
 }
 
-/// Adds the groups of the operations at the places of each set.
+/// Adds the groups of the operations at the positions of each set.
 pub fn add_groups(
     alloc: Global,
     history: &History,
     object: ObjectId,
-    sets: Vec<Places>,
+    sets: Vec<Positions>,
     groups: &mut Vec<Group>,
 ) -> Result<(), OutOfMemory>
     requires { All IsRising sets.items }

@@ -1,43 +1,43 @@
 //! The operations of a history, parted by their objects.
 
 ghost use Rattle.std.specs.Prelude.{length, IfOk, OnOk};
-ghost use Rattle.gf_groups.specs.Parting.{AddsPlace, HasPlacesBelow};
+ghost use Rattle.gf_groups.specs.Parting.{AddsPosition, HasPositionsBelow};
 
-use crate::places::Places;
+use crate::positions::Positions;
 use gf_ops::{ObjectId, Op};
 use gf_shape::OutOfMemory;
 use std::alloc::Global;
 use std::collections::BTreeMap;
 
-/// The places of the operations on each object.
-pub(crate) fn places_by_object(
+/// The positions of the operations on each object.
+pub(crate) fn positions_by_object(
     alloc: Global,
     ops: &[Op],
-) -> Result<BTreeMap<ObjectId, Places>, OutOfMemory>
-    ensures { IfOk result (λ parts. HasPlacesBelow ops.now (length ops.now) parts) }
+) -> Result<BTreeMap<ObjectId, Positions>, OutOfMemory>
+    ensures { IfOk result (λ parts. HasPositionsBelow ops.now (length ops.now) parts) }
 {
     let mut parts = BTreeMap::new(alloc);
-    for (place, op) in ops.iter().enumerate() {
-        add_place(alloc, &mut parts, op.object(), place)?;
+    for (position, op) in ops.iter().enumerate() {
+        add_position(alloc, &mut parts, op.object(), position)?;
     }
     Ok(parts)
 }
 
-/// Adds a place behind those of an object.
-fn add_place(
+/// Adds a position behind those of an object.
+fn add_position(
     alloc: Global,
-    parts: &mut BTreeMap<ObjectId, Places>,
+    parts: &mut BTreeMap<ObjectId, Positions>,
     object: ObjectId,
-    place: usize,
+    position: usize,
 ) -> Result<(), OutOfMemory>
-    ensures { OnOk result (AddsPlace parts.old object place parts.new) }
+    ensures { OnOk result (AddsPosition parts.old object position parts.new) }
 {
-    if let Some(places) = parts.get_mut(&object) {
-        return places.push(place);
+    if let Some(positions) = parts.get_mut(&object) {
+        return positions.push(position);
     }
-    let mut places = Places::new(alloc);
-    places.push(place)?;
-    match parts.insert(object, places) {
+    let mut positions = Positions::new(alloc);
+    positions.push(position)?;
+    match parts.insert(object, positions) {
         Ok(_) => Ok(()),
         Err(_) => Err(OutOfMemory),
     }

@@ -9,21 +9,21 @@ ghost use Rattle.gf_groups.specs.Taken.{KnowsAll, CountsMore};
 use crate::timeline::Timeline;
 use gf_ops::{Clock, Op};
 
-/// Whether the operation at this place knows all that the clock counts.
-pub(crate) fn knows_all(timeline: &Timeline<'_>, place: usize, taken: &Clock) -> bool
-    ensures { IsTrue result ↔ KnowsAll timeline.now place taken.now }
+/// Whether the operation at this position knows all that the clock counts.
+pub(crate) fn knows_all(timeline: &Timeline<'_>, position: usize, taken: &Clock) -> bool
+    ensures { IsTrue result ↔ KnowsAll timeline.now position taken.now }
 {
-    match timeline.get(place) {
+    match timeline.get(position) {
         Some(op) => taken.is_within(&op.past),
         None => false,
     }
 }
 
-/// Counts the operation at this place too.
-pub(crate) fn count_at(timeline: &Timeline<'_>, place: usize, taken: &mut Clock)
-    ensures { CountsMore timeline.now place taken.old taken.new }
+/// Counts the operation at this position too.
+pub(crate) fn count_at(timeline: &Timeline<'_>, position: usize, taken: &mut Clock)
+    ensures { CountsMore timeline.now position taken.old taken.new }
 {
-    if let Some(op) = timeline.get(place) {
+    if let Some(op) = timeline.get(position) {
         count(op, taken);
     }
 }

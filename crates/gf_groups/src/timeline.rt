@@ -1,4 +1,4 @@
-//! Operations by their places: those of a history, then one that comes to it.
+//! Operations by their positions: those of a history, then one that comes to it.
 
 ghost use Rattle.std.specs.Prelude.{◌≡◌, ◌∷◌, [], ◌++◌, IfSome, option_copied, slice_get};
 ghost use Rattle.gf_ops.specs.Limits.{IsInRange};
@@ -47,15 +47,15 @@ impl<'a> Timeline<'a> {
         }
     }
 
-    /// The operation at this place.
-    pub fn get(&self, place: usize) -> Option<&Op>
-        ensures value { option_copied result ≡ slice_get self.now place }
+    /// The operation at this position.
+    pub fn get(&self, position: usize) -> Option<&Op>
+        ensures value { option_copied result ≡ slice_get self.now position }
         ensures in_range { IfSome result (λ op. IsInRange op.now) }
     {
-        if place < self.history.len() {
-            self.history.get(place)
+        if position < self.history.len() {
+            self.history.get(position)
         } else {
-            self.coming.get(place - self.history.len())
+            self.coming.get(position - self.history.len())
         }
     }
 }

@@ -1,6 +1,7 @@
 //! A look at versions: all of one object, the one on top at a point, and their texts.
 //!
-//! - [`versions`]: the versions of an object, hidden ones too, topmost first; [`lines`]: their text.
+//! - [`versions`]: the versions of an object, hidden ones too, topmost first; [`lines`]: their
+//!   text.
 //! - [`top_at`]: the [`VersionName`] of what a history shows at a point; [`top_line`]: its text.
 #![tactic(auto)]
 

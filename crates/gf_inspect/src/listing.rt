@@ -21,7 +21,8 @@ pub fn versions(
     history: &History,
     object: ObjectId,
 ) -> Result<Vec<Version>, GroupFault>
-    ensures versions { IfOk result (λ versions. AreVersionsOf history.now.ops object versions.items) }
+    ensures versions { IfOk result (λ versions.
+        AreVersionsOf history.now.ops object versions.items) }
     ensures no_object { result ≡ Err GroupFault.NoObject ↔ (¬ IsMade history.now.ops object) }
 {
     // Its clause says that the history is valid.

@@ -1,7 +1,11 @@
 //! The texts of versions and of what is on top.
 
 ghost use Rattle.std.specs.Prelude.{◌≡◌, ◌++◌, IfOk, OnOk, flat_map, option_copied};
-ghost use Rattle.gf_inspect.specs.VersionLines.{id_text, later_ids, ids_text, name_text, point_text, corner_text, kind_word, size_text, points_text, measure_text, colour_text, layer_text, shown_word, form_text, look_text, version_line, top_text, top_line};
+ghost use Rattle.gf_inspect.specs.VersionLines.{id_text, later_ids, ids_text, name_text};
+ghost use Rattle.gf_inspect.specs.VersionLines.{point_text, corner_text, kind_word, size_text};
+ghost use Rattle.gf_inspect.specs.VersionLines.{points_text, measure_text, colour_text, layer_text};
+ghost use Rattle.gf_inspect.specs.VersionLines.{shown_word, form_text, look_text, version_line};
+ghost use Rattle.gf_inspect.specs.VersionLines.{top_text, top_line};
 
 use crate::VersionName;
 use gf_digits::{push_hex_rgb, push_number};
@@ -10,8 +14,8 @@ use gf_shape::{OutOfMemory, Point, Rgb};
 use gf_versions::Version;
 use std::alloc::{AllocError, Global};
 
-/// A line for each version, in their order: object, ids, kind, place, size or points, colour, layer, and
-/// whether it is shown.
+/// A line for each version, in their order: object, ids, kind, place, size or points, colour,
+/// layer, and whether it is shown.
 pub fn lines(alloc: Global, versions: &[Version]) -> Result<Vec<u8>, OutOfMemory>
     ensures { IfOk result (λ text. text.items ≡ flat_map version_line versions.now) }
 {

@@ -19,8 +19,8 @@ pub struct VersionName {
     pub ops: Ids,
 }
 
-/// The name of the version that is on top at a point: a visible one that holds the point, above each other
-/// such one. None where no visible version holds it, and the history means white.
+/// The name of the version that is on top at a point: a visible one that holds the point, above
+/// each other such one. None where no visible version holds it, and the history means white.
 pub fn top_at(
     alloc: Global,
     history: &History,
@@ -34,7 +34,8 @@ pub fn top_at(
 
 /// The name of the first of the ranked versions that holds the point.
 fn first_name(ranked: Ranked<AnyShape>, point: Point) -> Option<VersionName>
-    ensures { result ≡ option_map name_of (find (λ (i : Placed AnyShape). any_holds i.shape point) ranked.items.items) }
+    ensures { result ≡ option_map name_of (find (λ (i : Placed AnyShape). any_holds i.shape point)
+        ranked.items.items) }
 {
     for item in ranked.items {
         if item.shape.holds(point) {

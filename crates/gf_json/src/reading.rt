@@ -7,7 +7,8 @@ ghost use Rattle.gf_json.specs.LineValues.{mapped};
 ghost use Rattle.gf_json.specs.LineKeys.{author_keys};
 ghost use Rattle.gf_json.specs.LineChanges.{change};
 ghost use Rattle.gf_json.specs.OperationLines.{json, op_with, op_of, denoted};
-ghost use Rattle.gf_json.specs.ScriptLines.{authored, awaited, script_of, script_denoted, IsScriptInRange};
+ghost use Rattle.gf_json.specs.ScriptLines.{authored, awaited, script_of, script_denoted};
+ghost use Rattle.gf_json.specs.ScriptLines.{IsScriptInRange};
 
 mod changes;
 mod colours;
@@ -109,7 +110,8 @@ fn awaited(line: &Value) -> Result<ScriptLine, LineError>
 
 /// The command to make a change.
 fn authoring(alloc: Global, line: &Value) -> Result<ScriptLine, LineError>
-    ensures value { (result ≡ Err LineError.OutOfMemory) ⊎ (result ≡ authored (change (codes "do") author_keys (view line.now)) (view line.now)) }
+    ensures value { (result ≡ Err LineError.OutOfMemory)
+        ⊎ (result ≡ authored (change (codes "do") author_keys (view line.now)) (view line.now)) }
     ensures in_range { IfOk result (λ s. IsScriptInRange s) }
 {
     let keys = ["do", "site"];

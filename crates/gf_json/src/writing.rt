@@ -7,8 +7,10 @@ ghost use Rattle.gf_digits.specs.ColourBytes.{HasBytes};
 ghost use Rattle.gf_json.specs.ColourBytes.{ValueHasBytes, ChangeHasBytes};
 ghost use Rattle.gf_json.specs.OperationLines.{denoted};
 ghost use Rattle.gf_json.specs.WrittenValues.{name_data, clock_data};
-ghost use Rattle.gf_json.specs.WrittenLines.{creation_data, setting_data, attribute_word, data_of, op_text};
-ghost use Rattle.gf_json.specs.WrittenMembers.{put_all, begun, look_members, form_members, shape_members};
+ghost use Rattle.gf_json.specs.WrittenLines.{creation_data, setting_data, attribute_word, data_of};
+ghost use Rattle.gf_json.specs.WrittenLines.{op_text};
+ghost use Rattle.gf_json.specs.WrittenMembers.{put_all, begun, look_members, form_members};
+ghost use Rattle.gf_json.specs.WrittenMembers.{shape_members};
 
 mod values;
 
@@ -23,14 +25,16 @@ use std::alloc::{AllocError, Global};
 /// The line of an operation, with no newline.
 pub fn op_line(alloc: Global, op: &Op) -> Result<String, OutOfMemory>
     ensures text { IfOk result (λ line. string_bytes line ≡ op_text op.now) }
-    ensures read_again { IfOk result (λ line. IsInRange op.now → denoted (string_bytes line) ≡ Ok op.now) }
+    ensures read_again { IfOk result (λ line. IsInRange op.now
+        → denoted (string_bytes line) ≡ Ok op.now) }
 {
     Ok(line(alloc, op)?)
 }
 
 fn line(alloc: Global, op: &Op) -> Result<String, AllocError>
     ensures text { IfOk result (λ line. string_bytes line ≡ op_text op.now) }
-    ensures read_again { IfOk result (λ line. IsInRange op.now → denoted (string_bytes line) ≡ Ok op.now) }
+    ensures read_again { IfOk result (λ line. IsInRange op.now
+        → denoted (string_bytes line) ≡ Ok op.now) }
 {
     let value = data_of(alloc, op)?;
     let line = value.to_string(alloc)?;
@@ -50,7 +54,8 @@ fn data_of(alloc: Global, op: &Op) -> Result<Value, AllocError>
 
 /// The line that creates an object.
 fn creation_data(alloc: Global, op: &Op, start: &Start) -> Result<Value, AllocError>
-    ensures value { IfOk result (λ v. view v ≡ creation_data (name_data op.now.id) (clock_data op.now.past) start.now start.now.form) }
+    ensures value { IfOk result (λ v. view v
+        ≡ creation_data (name_data op.now.id) (clock_data op.now.past) start.now start.now.form) }
     ensures eight { OnOk result (length op.now.past.0 ≡ 8) }
     ensures bytes { OnOk result (HasBytes start.now.colour) }
 {
@@ -78,7 +83,8 @@ fn put_look(
     members: &mut Map<String, Value>,
     start: &Start,
 ) -> Result<(), AllocError>
-    ensures value { OnOk result (members_view members.new.entries ≡ put_all (look_members start.now) (members_view members.old.entries)) }
+    ensures value { OnOk result (members_view members.new.entries
+        ≡ put_all (look_members start.now) (members_view members.old.entries)) }
     ensures bytes { OnOk result (HasBytes start.now.colour) }
 {
     put(members, alloc, "colour", colour_data(alloc, start.colour)?)?;
@@ -88,7 +94,8 @@ fn put_look(
 }
 
 fn put_form(alloc: Global, members: &mut Map<String, Value>, form: &Form) -> Result<(), AllocError>
-    ensures { OnOk result (members_view members.new.entries ≡ put_all (form_members form.now) (members_view members.old.entries)) }
+    ensures { OnOk result (members_view members.new.entries
+        ≡ put_all (form_members form.now) (members_view members.old.entries)) }
 {
     match form {
         Form::Rect(width, height) => {
@@ -113,7 +120,9 @@ fn put_shape(
     key: &str,
     shape: Value,
 ) -> Result<(), AllocError>
-    ensures { OnOk result (members_view members.new.entries ≡ put_all (shape_members kind.now key.now (view shape)) (members_view members.old.entries)) }
+    ensures { OnOk result (members_view members.new.entries
+        ≡ put_all (shape_members kind.now key.now (view shape))
+        (members_view members.old.entries)) }
 {
     put(members, alloc, "kind", Value::try_from_str(alloc, kind)?)?;
     put(members, alloc, key, shape)
@@ -126,7 +135,8 @@ fn setting_data(
     object: ObjectId,
     value: &gf_ops::Value,
 ) -> Result<Value, AllocError>
-    ensures value { IfOk result (λ v. view v ≡ setting_data (name_data op.now.id) (clock_data op.now.past) object value.now) }
+    ensures value { IfOk result (λ v. view v
+        ≡ setting_data (name_data op.now.id) (clock_data op.now.past) object value.now) }
     ensures eight { OnOk result (length op.now.past.0 ≡ 8) }
     ensures bytes { OnOk result (ValueHasBytes value.now) }
 {

@@ -7,7 +7,7 @@ use Rattle.std.proofs.lemmas.Option.{slice_get-map}
 use Rattle.atomic_table.specs.Seated.{TableId}
 use Rattle.gf_link.specs.Ends.{is_ended}
 use Rattle.gf_ops.proofs.ListLemmas.{not_Contains-nil}
-use Rattle.gf_ops.proofs.PlaceLemmas.{got_set_same, set_back, got_more, got_last, place_in, map_nil, map_ends}
+use Rattle.gf_ops.proofs.PositionLemmas.{got_set_same, set_back, got_more, got_last, position_in, map_nil, map_ends}
 use Rattle.gf_worker.specs.declared.peer.Peer.{Peer}
 use Rattle.gf_worker.specs.Peers.{IsPlaced, IsFresh, Seat, seat_of}
 use Rattle.gf_worker.proofs.PeerLemmas.{set_cases}
@@ -62,7 +62,7 @@ mesh_new (next {table = t} {rows = rs} {row = r} m l) =
 mesh_new (meet {table = t} {more = n} {rows = rs} {row = r} {xs = xs} {x = x} {y = y} m at c) =
     let i = mesh_new m in
     let grown : (p : Peer) → Contains (xs ++ x ∷ []) p → IsNew n p = λ p k. elim (Contains-push_cases xs x p k) [
-      | inl h ↦ still_new t n x y c p (i.rows_all xs (place_in rs (length r) xs at) p h)
+      | inl h ↦ still_new t n x y c p (i.rows_all xs (position_in rs (length r) xs at) p h)
       | inr e ↦ subst (IsNew n) e (new_theirs t n x y c)
     ] in record {
       rows_all = λ zs k. elim (set_cases rs (length r) (xs ++ x ∷ []) zs k) [
@@ -110,7 +110,7 @@ module _ {X Y : Type 0} (f : X → Y) (R S : List TableId → List TableId → X
       let images : map (map f) (set us k h.front) ≡ map (map f) rs =
       map-set (map f) us k h.front ∙ (λ i. set (e i) k (h.images i)) ∙ ap (λ l. set l k (map f xs)) (map-set (map f) rs k all)
       ∙ set_back (map (map f) rs) k (map f all) (map f xs) (slice_get-map (map f) rs k ∙ ap (option_map (map f)) at) in
-      let among : (p : X) → Contains (h.front ++ h.last ∷ []) p → Q p = λ p b. q.rows_all z.0 (place_in us k z.0 z.1) p (subst (λ l. Contains l p) (sym h.is) b) in
+      let among : (p : X) → Contains (h.front ++ h.last ∷ []) p → Q p = λ p b. q.rows_all z.0 (position_in us k z.0 z.1) p (subst (λ l. Contains l p) (sym h.is) b) in
       let inner : AreAll Q (set us k h.front) s.front = record {
         rows_all = λ zs b. elim (set_cases us k h.front zs b) [
           | inl g ↦ q.rows_all zs g

@@ -15,7 +15,7 @@ use Rattle.gf_ops.specs.declared.change.Change.TheVariants.{Set}
 use Rattle.gf_ops.specs.declared.change.Value.{Value}
 use Rattle.gf_ops.specs.Attribute.{Kind, made_kind, suits}
 use Rattle.gf_ops.specs.Accepted.{CountsAtMost}
-use Rattle.gf_ops.specs.HistoryIndex.{place, IsHistory}
+use Rattle.gf_ops.specs.HistoryIndex.{position, IsHistory}
 use Rattle.gf_ops.specs.KnownObject.{Knows, KnowsSome, KnowsSuited}
 use Rattle.gf_ops.specs.Limits.{is_id, is_clock, is_change, IsInRange}
 use Rattle.gf_ops.specs.OperationOrder.{IsSite, Precedes, count_of}
@@ -72,12 +72,12 @@ counted_site h s v l = elim (cases_lt s 1) [
   ]
 ]
 
--- ---- places
+-- ---- positions
 
--- the operation under an id that is counted is at its place
-pub place_read : (h : List Op) (rows : List (List ℕ)) (counts : Clock) (i : OpId) (row : List ℕ) → IsHistory h rows counts → 1 ≤ i.seq → i.seq ≤ count_of h i.site →
+-- the operation under an id that is counted is at its position
+pub position_read : (h : List Op) (rows : List (List ℕ)) (counts : Clock) (i : OpId) (row : List ℕ) → IsHistory h rows counts → 1 ≤ i.seq → i.seq ≤ count_of h i.site →
     row ≡ slice_index_or rows (i.seq - 1) row → (slice_index row (i.site - 1) < length h) × (op : Op) × (get_or h (slice_index row (i.site - 1)) op ≡ op) × (op.id ≡ i)
-place_read h rows counts i row t first last e =
+position_read h rows counts i row t first last e =
     let p = t.placed i (counted_site h i.site t.valid (omega arith)) first last in
     let same : slice_index_or rows (i.seq - 1) [] ≡ row = get_or_default rows (i.seq - 1) [] row p.row ∙ sym e in
     subst (λ (r : List ℕ). (slice_index r (i.site - 1) < length h) × (op : Op) × (get_or h (slice_index r (i.site - 1)) op ≡ op) × (op.id ≡ i)) same (p.within, p.op, p.there, p.id)
@@ -90,7 +90,7 @@ row_within h rows counts i t first last = (t.placed i (counted_site h i.site t.v
 pub has_counted : (h : List Op) (rows : List (List ℕ)) (counts : Clock) → IsHistory h rows counts → (i : OpId) → IsSite i.site → 1 ≤ i.seq → i.seq ≤ count_of h i.site → Holds h i
 has_counted h rows counts t i site first last =
     let p = t.placed i site first last in
-    record { op = p.op; contained = (place rows i, p.within, p.there); id = p.id }
+    record { op = p.op; contained = (position rows i, p.within, p.there); id = p.id }
 
 -- no operation has an id that is not counted
 pub not_counted : (h : List Op) (rows : List (List ℕ)) (counts : Clock) (i : OpId) → IsHistory h rows counts → (i.seq < 1) ⊎ (count_of h i.site < i.seq) → (op : Op) → Contains h op → op.id ≢ i
@@ -102,7 +102,7 @@ not_counted h rows counts i t out op c e =
     let last = rw site at r in
     elim out [ inl l ↦ absurd (omega arith) | inr l ↦ absurd (omega arith) ]
 
--- a look-up at the place of the operation under an id finds it
+-- a look-up at the position of the operation under an id finds it
 pub found_under : (h : List Op) (i : OpId) (k : ℕ) (r : Option (Bor Op)) (op : Op) → k < length h → get_or h k op ≡ op → op.id ≡ i → IfSome r (λ o. o.now ≡ get_or h k o.now) → IfSome r (λ o. Contains h o.now × (o.now.id ≡ i))
 found_under h i k None op l at d e = tt
 found_under h i k (Some o) op l at d e = let f : o.now ≡ op = e ∙ (get_or_default h k o.now op l ∙ at) in ((k, l, sym e), ap (λ (a : Op). a.id) f ∙ d)

@@ -1,4 +1,4 @@
--- The index of a history tells the places with one more operation behind it, too.
+-- The index of a history tells the positions with one more operation behind it, too.
 use Rattle.std.proofs.Common.{◌≡◌, ◌≢◌, ℕ, ◌+◌, ◌-◌, ◌≤◌, ◌<◌, cond, List, [], ◌∷◌, ◌++◌, length, get_or, set, replicate, refl, ap, sym, subst, ◌∙◌, arith, inl, inr}
 use Rattle.std.specs.Prelude.{◌⊎◌, Contains, slice_index, nat_eq}
 use Rattle.std.proofs.lemmas.Bool.{cases_eq, cases_lt, eq-eqb}
@@ -10,7 +10,7 @@ use Rattle.gf_ops.specs.declared.op.Op.{Op}
 use Rattle.gf_ops.specs.declared.op.OpId.{OpId}
 use Rattle.gf_ops.specs.declared.op.Clock.{Clock}
 use Rattle.gf_ops.specs.Accepted.{IsAccepted}
-use Rattle.gf_ops.specs.HistoryIndex.{place, IsIndexed, IsHistory}
+use Rattle.gf_ops.specs.HistoryIndex.{position, IsIndexed, IsHistory}
 use Rattle.gf_ops.specs.Limits.{IsInRange}
 use Rattle.gf_ops.specs.OperationOrder.{IsSite, count_of}
 use Rattle.gf_ops.proofs.HistoryLemmas.{site_in_range, has_counted}
@@ -34,17 +34,17 @@ IsHistory-row h rows counts t =
       placed = λ i s f c.
           let p = t.placed i s f c in
           let row = p.row in
-          let same : place (rows ++ replicate 8 0 ∷ []) i ≡ place rows i = ap (λ r. slice_index r (i.site - 1)) (kept (i.seq - 1) row) in
+          let same : position (rows ++ replicate 8 0 ∷ []) i ≡ position rows i = ap (λ r. slice_index r (i.site - 1)) (kept (i.seq - 1) row) in
           record { row = omega arith; op = p.op; within = rw same p.within; there = rw same p.there; id = p.id };
     }
 
--- the place that was set, and the others
-place_same : (rows : List (List ℕ)) (row : List ℕ) (i : OpId) (n : ℕ) → i.seq - 1 < length rows → i.site - 1 < length row → place (set rows (i.seq - 1) (set row (i.site - 1) n)) i ≡ n
-place_same rows row i n l m = rw (get_or-set_same rows (i.seq - 1) (set row (i.site - 1) n) [] l) (get_or-set_same row (i.site - 1) n 0 m)
+-- the position that was set, and the others
+position_same : (rows : List (List ℕ)) (row : List ℕ) (i : OpId) (n : ℕ) → i.seq - 1 < length rows → i.site - 1 < length row → position (set rows (i.seq - 1) (set row (i.site - 1) n)) i ≡ n
+position_same rows row i n l m = rw (get_or-set_same rows (i.seq - 1) (set row (i.site - 1) n) [] l) (get_or-set_same row (i.site - 1) n 0 m)
 
-place_other : (rows : List (List ℕ)) (row : List ℕ) (i j : OpId) (n : ℕ) → i.seq - 1 < length rows → row ≡ get_or rows (i.seq - 1) row → (j.seq - 1 ≢ i.seq - 1) ⊎ (j.site - 1 ≢ i.site - 1) →
-    place (set rows (i.seq - 1) (set row (i.site - 1) n)) j ≡ place rows j
-place_other rows row i j n l e d = elim (cases_eq (j.seq - 1) (i.seq - 1)) [
+position_other : (rows : List (List ℕ)) (row : List ℕ) (i j : OpId) (n : ℕ) → i.seq - 1 < length rows → row ≡ get_or rows (i.seq - 1) row → (j.seq - 1 ≢ i.seq - 1) ⊎ (j.site - 1 ≢ i.site - 1) →
+    position (set rows (i.seq - 1) (set row (i.site - 1) n)) j ≡ position rows j
+position_other rows row i j n l e d = elim (cases_eq (j.seq - 1) (i.seq - 1)) [
   | inl q ↦
       let told : get_or rows (i.seq - 1) [] ≡ row = get_or_default rows (i.seq - 1) [] row l ∙ sym e in
       rw (q, get_or-set_same rows (i.seq - 1) (set row (i.site - 1) n) [] l, told) (elim d [ inl m ↦ absurd (m q) | inr m ↦ get_or-set_other row (i.site - 1) (j.site - 1) n 0 m ])
@@ -84,7 +84,7 @@ module _ (h : List Op) (rows : List (List ℕ)) (counts : Clock) (a : Op) (row :
   last_placed : (i : OpId) → i ≡ a.id → IsIndexed (h ++ a ∷ []) grown i
   last_placed i q =
       let site = site_in_range a r in let most = site.1 in let least = site.0 in let w = row_wide in
-      let at : place grown a.id ≡ length h = place_same rows row a.id (length h) l (omega arith) in
+      let at : position grown a.id ≡ length h = position_same rows row a.id (length h) l (omega arith) in
       let longer = length-append h (a ∷ []) in
       let wider = length-set rows (a.id.seq - 1) (set row (a.id.site - 1) (length h)) in
       subst (IsIndexed (h ++ a ∷ []) grown) (sym q) (record {
@@ -98,7 +98,7 @@ module _ (h : List Op) (rows : List (List ℕ)) (counts : Clock) (a : Op) (row :
   -- and the others stay
   still_placed : (i : OpId) → IsIndexed h rows i → (i.seq - 1 ≢ a.id.seq - 1) ⊎ (i.site - 1 ≢ a.id.site - 1) → IsIndexed (h ++ a ∷ []) grown i
   still_placed i q d =
-      let at : place grown i ≡ place rows i = place_other rows row a.id i (length h) l e d in
+      let at : position grown i ≡ position rows i = position_other rows row a.id i (length h) l e d in
       let longer = length-append h (a ∷ []) in
       let wider = length-set rows (a.id.seq - 1) (set row (a.id.site - 1) (length h)) in
       let inside = q.row in let within = q.within in
@@ -106,7 +106,7 @@ module _ (h : List Op) (rows : List (List ℕ)) (counts : Clock) (a : Op) (row :
         row = omega arith;
         op = q.op;
         within = rw at (omega arith);
-        there = rw at (get_or_append_left h (a ∷ []) q.op (place rows i) within ∙ q.there);
+        there = rw at (get_or_append_left h (a ∷ []) q.op (position rows i) within ∙ q.there);
         id = q.id;
       }
 

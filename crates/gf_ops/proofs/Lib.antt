@@ -1,5 +1,5 @@
 pub mod ListLemmas
-pub mod PlaceLemmas
+pub mod PositionLemmas
 pub mod SameLemmas
 pub mod ValidityLemmas
 pub mod HistoryLemmas

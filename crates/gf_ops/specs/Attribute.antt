@@ -112,8 +112,8 @@ change_value (Create start) t = start_value start t
 change_value (Set object v) t = set_value v t
 
 -- the value that the operation a gives to the attribute t, if it sets it
-abbrev pub given : Op → Attr → Option Value
-given a t = change_value a.change t
+abbrev pub value_given : Op → Attr → Option Value
+value_given a t = change_value a.change t
 
 -- the object that the change c of the operation under the id i concerns
 abbrev pub changed_object : OpId → Change → ObjectId

@@ -4,7 +4,7 @@ use Rattle.gf_ops.specs.declared.op.Op.{Op}
 use Rattle.gf_ops.specs.declared.op.OpId.{OpId}
 use Rattle.gf_ops.specs.declared.change.Attr.{Attr}
 use Rattle.gf_ops.specs.declared.change.Value.{Value}
-use Rattle.gf_ops.specs.Attribute.{given}
+use Rattle.gf_ops.specs.Attribute.{value_given}
 use Rattle.gf_ops.specs.OperationOrder.{Precedes}
 use Rattle.gf_ops.specs.Version.{IsMember}
 
@@ -12,5 +12,5 @@ use Rattle.gf_ops.specs.Version.{IsMember}
 pub record IsSettled (h : List Op) (g : List OpId) (t : Attr) (v : Value) : Type 0 where
   pub setter : Op
   pub member : IsMember h g setter
-  pub gives : given setter t ≡ Some v
-  pub last : (b : Op) → IsMember h g b → IsSome (given b t) → ¬ (Precedes setter b)
+  pub gives : value_given setter t ≡ Some v
+  pub last : (b : Op) → IsMember h g b → IsSome (value_given b t) → ¬ (Precedes setter b)

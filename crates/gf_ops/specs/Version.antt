@@ -28,7 +28,7 @@ pub record IsMember (h : List Op) (g : List OpId) (a : Op) : Type 0 where
   pub grouped : Contains g a.id
 
 -- a conflicts with a member of the group
-pub record Clashes (h : List Op) (g : List OpId) (a : Op) : Type 0 where
+pub record ConflictsWithin (h : List Op) (g : List OpId) (a : Op) : Type 0 where
   pub member : Op
   pub is_member : IsMember h g member
   pub conflict : Conflict a member
@@ -41,4 +41,4 @@ pub record IsVersion (h : List Op) (o : ObjectId) (g : List OpId) : Type 0 where
   pub makes : IsSome (made_kind created.op.change)
   pub members : (i : OpId) → Contains g i → HasOn h o i
   pub compatible : (a b : Op) → IsMember h g a → IsMember h g b → ¬ (Conflict a b)
-  pub largest : (a : Op) → Contains h a → object_of a ≡ o → ¬ (Contains g a.id) → Clashes h g a
+  pub largest : (a : Op) → Contains h a → object_of a ≡ o → ¬ (Contains g a.id) → ConflictsWithin h g a

@@ -23,7 +23,7 @@ use std::marker::Model;
 pub struct History {
     ops: Vec<Op>,
     // Where each operation stands in `ops`: that of s.n in row n - 1, at s - 1.
-    places: Vec<[usize; 8]>,
+    positions: Vec<[usize; 8]>,
     // How many operations of each site there are.
     counts: Clock,
 }
@@ -37,10 +37,10 @@ impl Model for History {
 
     ghost view = { λ h. record {
       ops = h.ops.items;
-      room = min (vec_capacity h.ops - vec_len h.ops) (vec_capacity h.places - vec_len h.places);
+      room = min (vec_capacity h.ops - vec_len h.ops) (vec_capacity h.positions - vec_len h.positions);
     } };
 
-    ghost invariant = { λ h. IsHistory h.ops.items h.places.items h.counts };
+    ghost invariant = { λ h. IsHistory h.ops.items h.positions.items h.counts };
 }
 
 impl History {
@@ -50,7 +50,7 @@ impl History {
     {
         History {
             ops: Vec::new(alloc),
-            places: Vec::new(alloc),
+            positions: Vec::new(alloc),
             counts: Clock([0; 8]),
         }
     }
@@ -60,11 +60,11 @@ impl History {
         ensures { IfOk result (λ copy. copy.ops ≡ self.now.ops) }
     {
         let ops = copy_ops(&self.ops, alloc)?;
-        let mut places = Vec::new(alloc);
-        places.extend_from_slice(&self.places)?;
+        let mut positions = Vec::new(alloc);
+        positions.extend_from_slice(&self.positions)?;
         Ok(History {
             ops,
-            places,
+            positions,
             counts: self.counts,
         })
     }
@@ -87,7 +87,7 @@ impl History {
     {
         let ops = &self.ops;
         if 1 <= id.seq && id.seq <= self.count(id.site) {
-            let row = &self.places[id.seq as usize - 1];
+            let row = &self.positions[id.seq as usize - 1];
             ops.get(row[usize::from(id.site) - 1])
         } else {
             None
@@ -213,7 +213,7 @@ impl History {
         ensures err { OnErr result (self.new ≡ self.old) }
     {
         self.ops.reserve(1)?;
-        self.places.reserve(1)?;
+        self.positions.reserve(1)?;
         Ok(())
     }
 
@@ -253,11 +253,11 @@ impl History {
         ensures valid { IsValid self.new.ops }
     {
         let row = op.id.seq as usize - 1;
-        if row == self.places.len() {
-            self.places.push_reserved([0; 8]);
+        if row == self.positions.len() {
+            self.positions.push_reserved([0; 8]);
         }
         let site = usize::from(op.id.site) - 1;
-        self.places[row][site] = self.ops.len();
+        self.positions[row][site] = self.ops.len();
         self.counts.0[site] = op.id.seq;
         self.ops.push_reserved(op);
     }

@@ -1,4 +1,4 @@
--- How many largest groups places have, and what is kept of them.
+-- How many largest groups positions have, and what is kept of them.
 use Rattle.std.proofs.Common.{◌≡◌, ◌≢◌, ℕ, zero, suc, ◌+◌, ◌*◌, ◌≤◌, ◌<◌, Bool, List, [], ◌∷◌, ◌++◌, map, length, inl, inr, refl, subst, sym, ◌∙◌, arith}
 use Rattle.std.specs.Prelude.{◌⊎◌, ◌↔◌, All, AllPairs, Contains, Option, Some, None, nat_le}
 use Rattle.std.proofs.Math.Nat.{mul-one, mul_comm, mul-le-mul_left, suc-mul, zero-mul}
@@ -73,7 +73,7 @@ length-products (g ∷ gs) ks =
     let d = suc-mul (length gs) (length ks) in
     omega (arith, a, b, r, d)
 
--- a table under another test that agrees on its places
+-- a table under another test that agrees on its positions
 agree_hits : (c d : ℕ → ℕ → Bool) (us p : ℕ → Type 0) → ((a b : ℕ) → us a → us b → c a b ≡ d a b) → ((a : ℕ) → p a → us a) → (a : ℕ) → us a → Hits c p a → Hits d p a
 agree_hits c d us p same within a u w = (w.0, w.1, sym (same a w.0 u (within w.0 w.1)) ∙ w.2)
 
@@ -157,7 +157,7 @@ module _ (c : ℕ → ℕ → Bool) (s : IsConflict c) where
   kept_grown us x r q below (Some gs) y = kept_is (us ++ x ∷ []) (next c us x gs) q (table_next c s us x r below gs y.0)
   kept_grown us x r q below None y = let k = number_more us x in omega (arith, y, k)
 
--- what is kept under another test that agrees on the places
+-- what is kept under another test that agrees on the positions
 pub kept_agree : (c d : ℕ → ℕ → Bool) → IsConflict c → IsConflict d → (us : List ℕ) → IsRising us → ((a b : ℕ) → Contains us a → Contains us b → c a b ≡ d a b) → (p : Option (List (List ℕ))) → IsKept c us p → IsKept d us p
 kept_agree c d s z us r same (Some gs) y = (table_agree c d us gs same y.0, y.1)
 kept_agree c d s z us r same None y =

@@ -8,7 +8,7 @@ use Rattle.std.proofs.lemmas.List.{append-nil, length-append, length-set}
 use Rattle.std.proofs.lemmas.List.Elements.{Contains-push, filter-append}
 use Rattle.std.proofs.Math.Seq.{get_or-append_seam}
 use Rattle.gf_ops.proofs.ListLemmas.{Contains-cons_head, Contains-cons_tail}
-use Rattle.gf_groups.specs.Growing.{clashes, step, part, parts, is_covered, covers, take_up, same_group, rivals, exposed, next}
+use Rattle.gf_groups.specs.Growing.{conflicts_in, step, part, parts, is_covered, covers, take_up, same_group, rivals, exposed, next}
 use Rattle.gf_groups.proofs.ListLemmas.{Contains-filter, list_any_false, list_any_from, list_all_true}
 use Rattle.gf_parts.specs.Parts.{PartState, PartsState, most_sets, kept, joined, alone, touches, grown_sets, grown_part, touched, with_part, holds, stays, set_with, part_with, last_with}
 
@@ -31,11 +31,11 @@ set_last : {X : Type 0} (xs : List X) (y w : X) → slice_set (xs ++ y ∷ []) (
 set_last [] y w = refl
 set_last (x ∷ xs) y w = ap (λ zs. x ∷ zs) (set_last xs y w)
 
--- c tells whether the operations at two places conflict, x came behind them, and a is one of them
+-- c tells whether the operations at two positions conflict, x came behind them, and a is one of them
 module _ (c : ℕ → ℕ → Bool) (x a : ℕ) where
   -- the set has one that conflicts with x, and the part that it gives leaves a uncovered
   pub record IsHit (g : List ℕ) : Type 0 where
-    pub clash : clashes c x g ≡ true
+    pub clash : conflicts_in c x g ≡ true
     pub short : is_covered c (part c x g) a ≡ false
 
   abbrev pub AllHit : List (List ℕ) → Type 0
@@ -45,17 +45,17 @@ module _ (c : ℕ → ℕ → Bool) (x a : ℕ) where
   -- x conflicts with none of the set j, and hits each other one
   abbrev pub OneCalm : ℕ → List (List ℕ) → Type 0
   OneCalm j [] = ⊤
-  OneCalm zero (g ∷ gs) = (clashes c x g ≡ false) × AllHit gs
+  OneCalm zero (g ∷ gs) = (conflicts_in c x g ≡ false) × AllHit gs
   OneCalm (suc j) (g ∷ gs) = IsHit g × OneCalm j gs
 
   steps_stay : (gs : List (List ℕ)) → AllHit gs → map (step c x) gs ≡ gs
   steps_stay [] h = refl
-  steps_stay (g ∷ gs) h = let e = cond-true (clashes c x g) g (g ++ x ∷ []) h.0.clash in let r = steps_stay gs h.1 in λ i. e i ∷ r i
+  steps_stay (g ∷ gs) h = let e = cond-true (conflicts_in c x g) g (g ++ x ∷ []) h.0.clash in let r = steps_stay gs h.1 in λ i. e i ∷ r i
 
   steps_one : (j : ℕ) (gs : List (List ℕ)) → OneCalm j gs → map (step c x) gs ≡ set_with j x gs
   steps_one j [] h = refl
-  steps_one zero (g ∷ gs) h = let e = cond-false (clashes c x g) g (g ++ x ∷ []) h.0 in let r = steps_stay gs h.1 in λ i. e i ∷ r i
-  steps_one (suc j) (g ∷ gs) h = let e = cond-true (clashes c x g) g (g ++ x ∷ []) h.0.clash in let r = steps_one j gs h.1 in λ i. e i ∷ r i
+  steps_one zero (g ∷ gs) h = let e = cond-false (conflicts_in c x g) g (g ++ x ∷ []) h.0 in let r = steps_stay gs h.1 in λ i. e i ∷ r i
+  steps_one (suc j) (g ∷ gs) h = let e = cond-true (conflicts_in c x g) g (g ++ x ∷ []) h.0.clash in let r = steps_one j gs h.1 in λ i. e i ∷ r i
 
   -- what has to be covered has a in it
   module _ (es : List ℕ) (inside : Contains es a) where
@@ -67,7 +67,7 @@ module _ (c : ℕ → ℕ → Bool) (x a : ℕ) where
     hit_dropped : (g : List ℕ) (gs : List (List ℕ)) → IsHit g → (ys : List (List ℕ)) →
         fold (take_up same_group (covers c es)) ys (parts c x (g ∷ gs)) ≡ fold (take_up same_group (covers c es)) ys (parts c x gs)
     hit_dropped g gs h ys =
-        ap (λ zs. fold (take_up same_group (covers c es)) ys (map (part c x) zs)) (cond-true (clashes c x g) (g ∷ filter (clashes c x) gs) (filter (clashes c x) gs) h.clash)
+        ap (λ zs. fold (take_up same_group (covers c es)) ys (map (part c x) zs)) (cond-true (conflicts_in c x g) (g ∷ filter (conflicts_in c x) gs) (filter (conflicts_in c x) gs) h.clash)
         ∙ ap (λ zs. fold (take_up same_group (covers c es)) zs (parts c x gs)) (not_taken (part c x g) h.short ys)
 
     all_dropped : (gs : List (List ℕ)) → AllHit gs → (ys : List (List ℕ)) → fold (take_up same_group (covers c es)) ys (parts c x gs) ≡ ys
@@ -77,7 +77,7 @@ module _ (c : ℕ → ℕ → Bool) (x a : ℕ) where
     one_dropped : (j : ℕ) (gs : List (List ℕ)) → OneCalm j gs → (ys : List (List ℕ)) → fold (take_up same_group (covers c es)) ys (parts c x gs) ≡ ys
     one_dropped j [] h ys = refl
     one_dropped zero (g ∷ gs) h ys =
-        ap (λ zs. fold (take_up same_group (covers c es)) ys (map (part c x) zs)) (cond-false (clashes c x g) (g ∷ filter (clashes c x) gs) (filter (clashes c x) gs) h.0)
+        ap (λ zs. fold (take_up same_group (covers c es)) ys (map (part c x) zs)) (cond-false (conflicts_in c x g) (g ∷ filter (conflicts_in c x) gs) (filter (conflicts_in c x) gs) h.0)
         ∙ all_dropped gs h.1 ys
     one_dropped (suc j) (g ∷ gs) h ys = hit_dropped g gs h.0 ys ∙ one_dropped j gs h.1 ys
 
@@ -94,7 +94,7 @@ module _ (c : ℕ → ℕ → Bool) (x a : ℕ) where
       let inside = (Contains-filter (c x) us r).1 (b.other, b.rival) in
       let meets = list_any_from (c a) (rivals c us x) r inside b.meets in
       let calm = not_from_false (c a x) b.calm in
-      (Contains-filter (λ z. not (c z x) && clashes c z (rivals c us x)) us a).1 (b.own, and_from (not (c a x)) (clashes c a (rivals c us x)) calm meets)
+      (Contains-filter (λ z. not (c z x) && conflicts_in c z (rivals c us x)) us a).1 (b.own, and_from (not (c a x)) (conflicts_in c a (rivals c us x)) calm meets)
 
   -- THE STEP of the sets
   pub next_one : (us : List ℕ) (j : ℕ) (gs : List (List ℕ)) → OneCalm j gs → (r : ℕ) → IsBeside us r → next c us x gs ≡ set_with j x gs
@@ -102,7 +102,7 @@ module _ (c : ℕ → ℕ → Bool) (x a : ℕ) where
       ap (λ zs. map (step c x) gs ++ zs) (one_dropped (exposed c us x) (beside_exposed us r b) j gs h [])
       ∙ (append-nil (map (step c x) gs) ∙ steps_one j gs h)
 
--- c tells whether the operations at two places conflict, and x came behind them
+-- c tells whether the operations at two positions conflict, and x came behind them
 module _ (c : ℕ → ℕ → Bool) (x : ℕ) where
   -- what is kept of the sets
   kept_one : (us : List ℕ) (j : ℕ) (gs : List (List ℕ)) → length gs ≤ most_sets → next c us x gs ≡ set_with j x gs → kept (next c us x gs) ≡ Some (set_with j x gs)
@@ -119,7 +119,7 @@ module _ (c : ℕ → ℕ → Bool) (x : ℕ) where
       ∙ (ap (λ q. slice_set ps (length front) (part_with j x q)) (get_or-append_seam front p [] (alone [])) ∙ set_last front p (part_with j x p))
 
   module _ (f : List ℕ) (front : List PartState) (p : PartState) (gs : List (List ℕ)) (j : ℕ) (sets : p.sets ≡ Some gs) (few : length gs ≤ most_sets)
-      (calm : clashes c x f ≡ false) (spared : list_any (touches c x) front ≡ false) (met : touches c x p ≡ true) (new : holds x p.all ≡ false) (grows : next c p.all x gs ≡ set_with j x gs) where
+      (calm : conflicts_in c x f ≡ false) (spared : list_any (touches c x) front ≡ false) (met : touches c x p ≡ true) (new : holds x p.all ≡ false) (grows : next c p.all x gs ≡ set_with j x gs) where
     abbrev ps : List PartState
     ps = front ++ p ∷ []
 
@@ -169,7 +169,7 @@ module _ (c : ℕ → ℕ → Bool) (x : ℕ) where
 
   -- THE STEP of the parts
   pub joins_last : (s : PartsState) (front : List PartState) (p : PartState) (gs : List (List ℕ)) (j : ℕ) → s.parts ≡ front ++ p ∷ [] → p.sets ≡ Some gs → length gs ≤ most_sets →
-      clashes c x s.free ≡ false → list_any (touches c x) front ≡ false → touches c x p ≡ true → holds x p.all ≡ false → next c p.all x gs ≡ set_with j x gs → with_part c x s ≡ last_with j x s
+      conflicts_in c x s.free ≡ false → list_any (touches c x) front ≡ false → touches c x p ≡ true → holds x p.all ≡ false → next c p.all x gs ≡ set_with j x gs → with_part c x s ≡ last_with j x s
   joins_last s front p gs j e sets few calm spared met new grows =
       let same : s ≡ record { free = s.free; parts = front ++ p ∷ [] } = λ i. record { free = s.free; parts = e i } in
       ap (λ (z : PartsState). with_part c x z) same

@@ -1,4 +1,4 @@
--- Parts that no conflict connects: their product has the largest groups of all, each once, and one more place keeps them so.
+-- Parts that no conflict connects: their product has the largest groups of all, each once, and one more position keeps them so.
 use Rattle.std.proofs.Common.{◌≡◌, ◌≢◌, ℕ, ◌<◌, Bool, true, false, List, [], ◌∷◌, ◌++◌, inl, inr, refl, subst, sym, ap, ◌∙◌, arith}
 use Rattle.std.specs.Prelude.{cond, ◌⊎◌, ◌↔◌, Contains, filter, not, ◌||◌, ◌==◌, Option, Some, None, unwrap_or}
 use Rattle.std.specs.List.{list_any, fold}
@@ -14,7 +14,7 @@ use Rattle.std.proofs.lemmas.List.Elements.{filter-append}
 use Rattle.std.proofs.lemmas.List.Sums.{fold_push}
 use Rattle.std.proofs.lemmas.List.Kept.{IsStrictlySortedBy-filter}
 use Rattle.gf_ops.proofs.ListLemmas.{Contains-cons_cases, Contains-cons_head, Contains-cons_tail, not_Contains-nil}
-use Rattle.gf_groups.specs.Growing.{clashes, groups_at}
+use Rattle.gf_groups.specs.Growing.{conflicts_in, groups_at}
 use Rattle.gf_parts.specs.Parts.{PartState, PartsState, united, both, joined_to, joined, alone, whole, touches, grown_part, touched, is_calm, with_free, with_part, after, holds, stays, products, full, listed}
 use Rattle.gf_groups.specs.Tables.{IsRising, IsTable}
 use Rattle.gf_groups.proofs.LargestLemmas.{IsConflict}
@@ -38,13 +38,13 @@ joined_more P p ps q = ap (fold joined p) (filter-append P ps (q ∷ [])) ∙ el
       ∙ (ap (fold joined p) (append-nil (filter P ps)) ∙ sym (cond-false (P q) (joined (fold joined p (filter P ps)) q) (fold joined p (filter P ps)) n))
 ]
 
--- what holds of both holds of two as one, if it holds of the second where the first has no place
+-- what holds of both holds of two as one, if it holds of the second where the first has no position
 joined_is : (p q : PartState) (P : PartState → Type 0) → (p.all ≡ [] → P q) → P (both p q) → P (joined p q)
-joined_is p q P f g = by_places p.all refl
+joined_is p q P f g = by_positions p.all refl
   where
-    by_places : (us : List ℕ) → p.all ≡ us → P (joined_to us p q)
-    by_places [] e = f e
-    by_places (x ∷ us) e = g
+    by_positions : (us : List ℕ) → p.all ≡ us → P (joined_to us p q)
+    by_positions [] e = f e
+    by_positions (x ∷ us) e = g
 
 all_of_joined : (p q : PartState) (a : ℕ) → Contains (joined p q).all a ↔ (Contains p.all a ⊎ Contains q.all a)
 all_of_joined p q a = joined_is p q (λ r. Contains r.all a ↔ (Contains p.all a ⊎ Contains q.all a))
@@ -55,7 +55,7 @@ module _ (c : ℕ → ℕ → Bool) where
   abbrev AreApart : PartState → PartState → Type 0
   AreApart p q = Apart c p.all q.all
 
-  -- a is a place of one of the parts
+  -- a is a position of one of the parts
   abbrev pub IsInParts : List PartState → ℕ → Type 0
   IsInParts ps a = (p : PartState) × Contains ps p × Contains p.all a
 
@@ -76,7 +76,7 @@ module _ (c : ℕ → ℕ → Bool) where
 
   -- ---- parts in one
 
-  -- where the places of the union are
+  -- where the positions of the union are
   pub all_of_fold : (p : PartState) (ps : List PartState) (a : ℕ) → Contains (fold joined p ps).all a ↔ (Contains p.all a ⊎ IsInParts ps a)
   all_of_fold p [] a = (λ h. inl h, λ h. elim h [ inl i ↦ i | inr w ↦ absurd (not_Contains-nil w.0 w.1) ])
   all_of_fold p (q ∷ ps) a = (
@@ -155,7 +155,7 @@ module _ (c : ℕ → ℕ → Bool) where
       apart = tt;
     }
 
-    -- ---- one more place, behind all others
+    -- ---- one more position, behind all others
 
     module _ (t : PartsState) (m : AreParts c t) (x : ℕ) (above : (a : ℕ) → Contains (whole t).all a → a < x) where
       free_in : (a : ℕ) → Contains t.free a → Contains (whole t).all a
@@ -180,7 +180,7 @@ module _ (c : ℕ → ℕ → Bool) where
       pushed us r f = rising_push nat_cmp nat_cmp_total us x r (λ a h. sym (nat_cmp_is a x Less (f a h)))
 
       -- x conflicts with none
-      calm_free : clashes c x t.free ≡ false → (a b : ℕ) → Contains (t.free ++ x ∷ []) a → Contains (t.free ++ x ∷ []) b → c a b ≡ false
+      calm_free : conflicts_in c x t.free ≡ false → (a b : ℕ) → Contains (t.free ++ x ∷ []) a → Contains (t.free ++ x ∷ []) b → c a b ≡ false
       calm_free n a b h k = elim (Contains-push_cases t.free x a h) [
         | inl i ↦ elim (Contains-push_cases t.free x b k) [
           | inl j ↦ m.calm a b i j
@@ -192,7 +192,7 @@ module _ (c : ℕ → ℕ → Bool) where
         ]
       ]
 
-      keeps_free : clashes c x t.free ≡ false → list_any (touches c x) t.parts ≡ false → AreParts c (with_free x t)
+      keeps_free : conflicts_in c x t.free ≡ false → list_any (touches c x) t.parts ≡ false → AreParts c (with_free x t)
       keeps_free n k = record {
         rises = pushed t.free m.rises free_below;
         calm = calm_free n;
@@ -245,7 +245,7 @@ module _ (c : ℕ → ℕ → Bool) where
         sets = kept_grown c s (touched c x t).all x part_touched.rises (pushed (touched c x t).all part_touched.rises touched_below) touched_below (touched c x t).sets part_touched.sets;
       }
 
-      -- two places of different parts of one list
+      -- two positions of different parts of one list
       of_two : (ps : List PartState) → Pairs AreApart ps → (p q : PartState) → Contains ps p → Contains ps q → touches c x p ≡ true → touches c x q ≡ false → Apart c p.all q.all
       of_two [] w p q i j y n = absurd (not_Contains-nil p i)
       of_two (r ∷ ps) w p q i j y n = elim (Contains-cons_cases r ps p i) [
@@ -361,12 +361,12 @@ module _ (c : ℕ → ℕ → Bool) where
       pub parts_after : AreParts c (after c x t)
       parts_after = elim (cases_Bool (is_calm c x t)) [
         | inl y ↦ rw (cond-true (is_calm c x t) (with_free x t) (with_part c x t) y) (
-            let w = and_parts (not (clashes c x t.free)) (not (list_any (touches c x) t.parts)) y in
-            keeps_free (not-true (clashes c x t.free) w.0) (not-true (list_any (touches c x) t.parts) w.1))
+            let w = and_parts (not (conflicts_in c x t.free)) (not (list_any (touches c x) t.parts)) y in
+            keeps_free (not-true (conflicts_in c x t.free) w.0) (not-true (list_any (touches c x) t.parts) w.1))
         | inr n ↦ rw (cond-false (is_calm c x t) (with_free x t) (with_part c x t) n) (subst (AreParts c) (sym same_part) keeps_part)
       ]
 
-      -- its places are those before, and x
+      -- its positions are those before, and x
       all_free : (a : ℕ) → Contains (whole (with_free x t)).all a ↔ (Contains (whole t).all a ⊎ (a ≡ x))
       all_free a = (
         λ h. elim ((all_of_fold (alone (t.free ++ x ∷ [])) t.parts a).0 h) [
@@ -430,7 +430,7 @@ module _ (c : ℕ → ℕ → Bool) where
         | inr n ↦ rw (cond-false (is_calm c x t) (with_free x t) (with_part c x t) n) (subst (λ (z : PartsState). Contains (whole z).all a ↔ (Contains (whole t).all a ⊎ (a ≡ x))) (sym same_part) (all_part a))
       ]
 
--- PARTS STAY: parts under another test that agrees on their places, as that of a longer history
+-- PARTS STAY: parts under another test that agrees on their positions, as that of a longer history
 pub parts_agree : (c d : ℕ → ℕ → Bool) → IsConflict c → IsConflict d → (t : PartsState) → ((a b : ℕ) → Contains (whole t).all a → Contains (whole t).all b → c a b ≡ d a b) → AreParts c t → AreParts d t
 parts_agree c d s z t same m = record {
   rises = m.rises;

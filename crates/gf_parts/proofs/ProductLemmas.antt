@@ -1,4 +1,4 @@
--- The largest groups of two sets of places that no conflict connects are the unions of theirs.
+-- The largest groups of two sets of positions that no conflict connects are the unions of theirs.
 use Rattle.std.proofs.Common.{◌≡◌, ◌≢◌, ℕ, zero, suc, Bool, true, false, List, [], ◌∷◌, map, inl, inr, refl, subst, sym, ◌∙◌, arith, ◌++◌, append_assoc, ap}
 use Rattle.std.specs.Prelude.{◌⊎◌, ◌↔◌, All, AllPairs, Contains, filter, ◌==◌}
 use Rattle.std.specs.List.{list_any, fold}
@@ -128,7 +128,7 @@ unfolding is_in
 from_list g a h = let t = list_any_true (λ b. a == b) g h in subst (Contains g) (sym ((Decides-eqb a t.0).0 t.2)) t.1
 
 module _ (c : ℕ → ℕ → Bool) (s : IsConflict c) (us vs : List ℕ) (apart : Apart c us vs) where
-  -- a rising group of these places
+  -- a rising group of these positions
   abbrev IsOf : List ℕ → List ℕ → Type 0
   IsOf ws g = IsRising g × ((a : ℕ) → Contains g a → Contains ws a)
 
@@ -221,7 +221,7 @@ module _ (c : ℕ → ℕ → Bool) (s : IsConflict c) (us vs : List ℕ) (apart
           first.once second.once;
     }
 
--- places without a conflict have one largest group
+-- positions without a conflict have one largest group
 pub table_alone : (c : ℕ → ℕ → Bool) (us : List ℕ) → IsRising us → ((a b : ℕ) → Contains us a → Contains us b → c a b ≡ false) → IsTable c us (us ∷ [])
 table_alone c us form calm = record {
   each = λ g. (
@@ -237,7 +237,7 @@ table_alone c us form calm = record {
   once = λ i j d h k. absurd (omega arith);
 }
 
--- a table is one of whatever list has the same places
+-- a table is one of whatever list has the same positions
 pub table_alike : (c : ℕ → ℕ → Bool) (us vs : List ℕ) (gs : List (List ℕ)) → ((a : ℕ) → Contains us a ↔ Contains vs a) → IsTable c us gs → IsTable c vs gs
 table_alike c us vs gs same t = record {
   each = λ g. (

@@ -1,21 +1,21 @@
--- Parts of places that no conflict connects, each with its largest compatible groups: a version is what is free with one group of each part.
+-- Parts of positions that no conflict connects, each with its largest compatible groups: a version is what is free with one group of each part.
 use Rattle.std.specs.Prelude.{◌≡◌, ◌≢◌, ℕ, ◌<◌, ◌≤◌, Bool, false, List, Contains, length, Option, Some, None}
 use Rattle.gf_groups.specs.Growing.{groups_at}
 use Rattle.gf_groups.specs.Pairs.{Pairs}
 use Rattle.gf_groups.specs.Tables.{IsRising, IsTable}
 use Rattle.gf_parts.specs.Parts.{PartState, PartsState, most_sets}
 
--- c tells whether the operations at two places conflict
+-- c tells whether the operations at two positions conflict
 module _ (c : ℕ → ℕ → Bool) where
-  -- no place is in both, and no conflict connects them
+  -- no position is in both, and no conflict connects them
   abbrev pub Apart : List ℕ → List ℕ → Type 0
   Apart us vs = (a b : ℕ) → Contains us a → Contains vs b → (a ≢ b) × (c a b ≡ false)
 
-  -- how many largest groups the places us have
+  -- how many largest groups the positions us have
   abbrev pub number : List ℕ → ℕ
   number us = length (groups_at c us)
 
-  -- what is kept of the places us: their largest groups, or that they are too many
+  -- what is kept of the positions us: their largest groups, or that they are too many
   abbrev pub IsKept : List ℕ → Option (List (List ℕ)) → Type 0
   IsKept us (Some gs) = IsTable c us gs × (length gs ≤ most_sets)
   IsKept us None = most_sets < number us

@@ -1,20 +1,20 @@
--- The operations on one object, by their places, in parts that no conflict connects.
+-- The operations on one object, by their positions, in parts that no conflict connects.
 use Rattle.std.specs.Prelude.{ℕ, ◌*◌, Bool, cond, not, ◌&&◌, ◌||◌, ◌==◌, nat_le, List, [], ◌∷◌, ◌++◌, filter, map, length, Option, Some, None, unwrap_or, option_map, take, slice_set, slice_index_or, ◌-◌}
 use Rattle.std.specs.List.{list_any, fold, flat_map}
 use Rattle.std.specs.BTreeSet.{insert_key}
 use Rattle.std.specs.Ordering.{nat_cmp}
-use Rattle.gf_groups.specs.Growing.{clashes, next, groups_at}
+use Rattle.gf_groups.specs.Growing.{conflicts_in, next, groups_at}
 
 -- a part keeps its sets while they are at most so many
 abbrev pub most_sets : ℕ
 most_sets = 1000
 
--- places, and their largest compatible sets unless these are too many
+-- positions, and their largest compatible sets unless these are too many
 pub record PartState : Type 0 where
   pub all : List ℕ
   pub sets : Option (List (List ℕ))
 
--- places that are in every version, and the parts of which each gives a version one set
+-- positions that are in every version, and the parts of which each gives a version one set
 pub record PartsState : Type 0 where
   pub free : List ℕ
   pub parts : List PartState
@@ -40,16 +40,16 @@ abbrev pub times : Option (List (List ℕ)) → Option (List (List ℕ)) → Opt
 times (Some gs) (Some ks) = kept_products gs ks
 times r s = None
 
--- all places of two parts, and their sets
+-- all positions of two parts, and their sets
 abbrev pub both : PartState → PartState → PartState
 both p q = record { all = united p.all q.all; sets = times p.sets q.sets }
 
--- that of p with the places us, and of q
+-- that of p with the positions us, and of q
 abbrev pub joined_to : List ℕ → PartState → PartState → PartState
 joined_to [] p q = q
 joined_to (x ∷ us) p q = both p q
 
--- two parts as one: the second alone, where the first has no place
+-- two parts as one: the second alone, where the first has no position
 abbrev pub joined : PartState → PartState → PartState
 joined p q = joined_to p.all p q
 
@@ -57,7 +57,7 @@ joined p q = joined_to p.all p q
 abbrev pub holds : ℕ → List ℕ → Bool
 holds x us = list_any (λ a. x == a) us
 
--- places as a part of one set
+-- positions as a part of one set
 abbrev pub alone : List ℕ → PartState
 alone us = record { all = us; sets = Some (us ∷ []) }
 
@@ -84,13 +84,13 @@ last_with j x s = record {
   parts = slice_set s.parts (length s.parts - 1) (part_with j x (slice_index_or s.parts (length s.parts - 1) (alone [])));
 }
 
--- c tells whether the operations at two places conflict
+-- c tells whether the operations at two positions conflict
 module _ (c : ℕ → ℕ → Bool) where
   -- x conflicts with one of the part
   abbrev pub touches : ℕ → PartState → Bool
-  touches x p = clashes c x p.all
+  touches x p = conflicts_in c x p.all
 
-  -- the sets of the places us after x came to them
+  -- the sets of the positions us after x came to them
   abbrev pub grown_sets : List ℕ → ℕ → Option (List (List ℕ)) → Option (List (List ℕ))
   grown_sets us x (Some gs) = kept (next c us x gs)
   grown_sets us x None = None
@@ -105,11 +105,11 @@ module _ (c : ℕ → ℕ → Bool) where
 
   -- x conflicts with none
   abbrev pub is_calm : ℕ → PartsState → Bool
-  is_calm x s = not (clashes c x s.free) && not (list_any (touches x) s.parts)
+  is_calm x s = not (conflicts_in c x s.free) && not (list_any (touches x) s.parts)
 
   -- x conflicts with none that is free or of a part before the last
   abbrev pub spares_all_but_last : ℕ → PartsState → Bool
-  spares_all_but_last x s = not (clashes c x s.free) && not (list_any (touches x) (take (length s.parts - 1) s.parts))
+  spares_all_but_last x s = not (conflicts_in c x s.free) && not (list_any (touches x) (take (length s.parts - 1) s.parts))
 
   -- x is of the part, or conflicts with none of it
   abbrev pub stays : ℕ → PartState → Bool

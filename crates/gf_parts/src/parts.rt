@@ -3,23 +3,24 @@
 
 ghost use Rattle.std.specs.Prelude.{◌≡◌, [], cond, filter, not, option_copied, IfOk, OnOk, OnErr};
 ghost use Rattle.gf_groups.specs.Growing.{conflict_at};
-ghost use Rattle.gf_parts.specs.Parts.{joined, alone, holds, touches, grown_part, touched, with_free, with_part, stays, full, listed, products};
+ghost use Rattle.gf_parts.specs.Parts.{joined, alone, holds, touches, grown_part, touched};
+ghost use Rattle.gf_parts.specs.Parts.{with_free, with_part, stays, full, listed, products};
 ghost use Rattle.gf_parts.specs.Parts.{part_with, last_with, spares_all_but_last};
 ghost use Rattle.std.specs.List.{list_any};
 ghost use Rattle.gf_groups.specs.Tables.{IsRising};
 ghost use Rattle.gf_parts.specs.Parted.{AreParts};
 
 use crate::sets::{Sets, copied, products, united};
-use gf_groups::{Places, Timeline, clashes, conflict_at, groups_at, rivals};
+use gf_groups::{Positions, Timeline, conflict_at, conflicts_in, groups_at, rivals};
 use gf_ops::History;
 use gf_shape::OutOfMemory;
 use std::alloc::Global;
 use std::marker::Model;
 
-/// Places that no conflict connects with others, and their largest compatible sets.
+/// Positions that no conflict connects with others, and their largest compatible sets.
 #[derive(Debug, Drop)]
 pub struct Part {
-    all: Places,
+    all: Positions,
     sets: Sets,
 }
 
@@ -31,10 +32,10 @@ impl Model for Part {
     ghost view = { λ p. record { all = p.all; sets = p.sets } };
 }
 
-/// The places that are in every version, and the parts.
+/// The positions that are in every version, and the parts.
 #[derive(Debug, Drop)]
 pub struct Parts {
-    free: Places,
+    free: Positions,
     parts: Vec<Part>,
 }
 
@@ -47,7 +48,7 @@ impl Model for Parts {
 }
 
 impl Part {
-    /// Its places, rising.
+    /// Its positions, rising.
     pub fn all(&self) -> &[usize]
         ensures { result.now ≡ self.now.all }
     {
@@ -55,51 +56,51 @@ impl Part {
     }
 
     /// Its largest compatible sets, where they are at most [`MOST_SETS`](crate::MOST_SETS).
-    pub fn sets(&self) -> Option<&[Places]>
+    pub fn sets(&self) -> Option<&[Positions]>
         ensures { option_copied result ≡ self.now.sets }
     {
         self.sets.get()
     }
 
-    /// Adds a place, and to the set with this index too.
-    fn join(&mut self, set: usize, place: usize) -> Result<(), OutOfMemory>
-        ensures ok { OnOk result (self.new ≡ part_with set place self.old) }
+    /// Adds a position, and to the set with this index too.
+    fn join(&mut self, set: usize, position: usize) -> Result<(), OutOfMemory>
+        ensures ok { OnOk result (self.new ≡ part_with set position self.old) }
         ensures err { OnErr result (self.new ≡ self.old) }
     {
-        self.sets.join(set, place, &mut self.all)
+        self.sets.join(set, position, &mut self.all)
     }
 }
 
-/// Whether the place is one of these.
-fn holds(place: usize, places: &[usize]) -> bool
-    ensures { result ≡ holds place places.now }
+/// Whether the position is one of these.
+fn holds(position: usize, positions: &[usize]) -> bool
+    ensures { result ≡ holds position positions.now }
 {
-    places.iter().any(|other| place == *other)
+    positions.iter().any(|other| position == *other)
 }
 
-/// Whether the operation at this place conflicts with one of the part.
-fn touches(timeline: &Timeline<'_>, place: usize, part: &Part) -> bool
-    ensures { result ≡ touches (conflict_at timeline.now) place part.now }
+/// Whether the operation at this position conflicts with one of the part.
+fn touches(timeline: &Timeline<'_>, position: usize, part: &Part) -> bool
+    ensures { result ≡ touches (conflict_at timeline.now) position part.now }
 {
-    clashes(timeline, place, part.all.as_slice())
+    conflicts_in(timeline, position, part.all.as_slice())
 }
 
-/// Whether the operation at this place conflicts with one of these parts.
-fn meets_one(timeline: &Timeline<'_>, place: usize, parts: &[Part]) -> bool
-    ensures { result ≡ list_any (touches (conflict_at timeline.now) place) parts.now }
+/// Whether the operation at this position conflicts with one of these parts.
+fn meets_one(timeline: &Timeline<'_>, position: usize, parts: &[Part]) -> bool
+    ensures { result ≡ list_any (touches (conflict_at timeline.now) position) parts.now }
 {
-    parts.iter().any(|part| touches(timeline, place, part))
+    parts.iter().any(|part| touches(timeline, position, part))
 }
 
-/// Whether the place is of the part, or its operation conflicts with none of it.
-fn stays(timeline: &Timeline<'_>, place: usize, part: &Part) -> bool
-    ensures { result ≡ stays (conflict_at timeline.now) place part.now }
+/// Whether the position is of the part, or its operation conflicts with none of it.
+fn stays(timeline: &Timeline<'_>, position: usize, part: &Part) -> bool
+    ensures { result ≡ stays (conflict_at timeline.now) position part.now }
 {
-    holds(place, part.all.as_slice()) || !touches(timeline, place, part)
+    holds(position, part.all.as_slice()) || !touches(timeline, position, part)
 }
 
-/// Two parts as one, a copy of the second where the first has no place. Where the sets of both make
-/// too many, none is made.
+/// Two parts as one, a copy of the second where the first has no position. Where the sets of both
+/// make too many, none is made.
 pub fn joined(alloc: Global, part: &Part, other: &Part) -> Result<Part, OutOfMemory>
     ensures { IfOk result (λ both. both ≡ joined part.now other.now) }
 {
@@ -131,102 +132,107 @@ fn copied_parts(alloc: Global, parts: &[Part]) -> Result<Vec<Part>, OutOfMemory>
     Ok(copy)
 }
 
-/// Places as a part of one set.
-pub fn alone(alloc: Global, places: Vec<usize>) -> Result<Part, OutOfMemory>
-    ensures { IfOk result (λ part. part ≡ alone places.items) }
+/// Positions as a part of one set.
+pub fn alone(alloc: Global, positions: Vec<usize>) -> Result<Part, OutOfMemory>
+    ensures { IfOk result (λ part. part ≡ alone positions.items) }
 {
-    let set = copied(alloc, &places)?;
+    let set = copied(alloc, &positions)?;
     Ok(Part {
-        all: Places::of(places),
+        all: Positions::of(positions),
         sets: Sets::of(Vec::from_array(alloc, [set])?),
     })
 }
 
-/// The part with another one, if the operation at this place conflicts with one of that.
+/// The part with another one, if the operation at this position conflicts with one of that.
 fn with_touched(
     alloc: Global,
     timeline: &Timeline<'_>,
-    place: usize,
+    position: usize,
     part: Part,
     other: &Part,
 ) -> Result<Part, OutOfMemory>
-    ensures { IfOk result (λ both. both ≡ cond (touches (conflict_at timeline.now) place other.now) (joined part other.now) part) }
+    ensures { IfOk result (λ both. both
+        ≡ cond (touches (conflict_at timeline.now) position other.now) (joined part other.now)
+        part) }
 {
-    if touches(timeline, place, other) {
+    if touches(timeline, position, other) {
         joined(alloc, &part, other)
     } else {
         Ok(part)
     }
 }
 
-/// All that the operation at this place connects, as one part.
+/// All that the operation at this position connects, as one part.
 fn touched(
     alloc: Global,
     timeline: &Timeline<'_>,
-    place: usize,
+    position: usize,
     parts: &Parts,
 ) -> Result<Part, OutOfMemory>
-    ensures { IfOk result (λ part. part ≡ touched (conflict_at timeline.now) place parts.now) }
+    ensures { IfOk result (λ part. part ≡ touched (conflict_at timeline.now) position parts.now) }
 {
-    let rivals = rivals(alloc, timeline, parts.free.as_slice(), place)?;
+    let rivals = rivals(alloc, timeline, parts.free.as_slice(), position)?;
     let mut part = alone(alloc, rivals)?;
     for other in &parts.parts {
-        part = with_touched(alloc, timeline, place, part, other)?;
+        part = with_touched(alloc, timeline, position, part, other)?;
     }
     Ok(part)
 }
 
-/// All that the operation at this place connects, and it, as one part.
+/// All that the operation at this position connects, and it, as one part.
 fn connected(
     alloc: Global,
     timeline: &Timeline<'_>,
-    place: usize,
+    position: usize,
     parts: &Parts,
 ) -> Result<Part, OutOfMemory>
-    ensures { IfOk result (λ part. part ≡ grown_part (conflict_at timeline.now) place (touched (conflict_at timeline.now) place parts.now)) }
+    ensures { IfOk result (λ part. part
+        ≡ grown_part (conflict_at timeline.now) position
+        (touched (conflict_at timeline.now) position parts.now)) }
 {
-    let part = touched(alloc, timeline, place, parts)?;
-    grown_part(alloc, timeline, place, part)
+    let part = touched(alloc, timeline, position, parts)?;
+    grown_part(alloc, timeline, position, part)
 }
 
-/// The part after the operation at this place came to it.
+/// The part after the operation at this position came to it.
 fn grown_part(
     alloc: Global,
     timeline: &Timeline<'_>,
-    place: usize,
+    position: usize,
     part: Part,
 ) -> Result<Part, OutOfMemory>
-    ensures { IfOk result (λ grown. grown ≡ grown_part (conflict_at timeline.now) place part) }
+    ensures { IfOk result (λ grown. grown ≡ grown_part (conflict_at timeline.now) position part) }
 {
     let Part { mut all, sets } = part;
-    let sets = sets.grown(alloc, timeline, all.as_slice(), place)?;
-    all.push(place)?;
+    let sets = sets.grown(alloc, timeline, all.as_slice(), position)?;
+    all.push(position)?;
     Ok(Part { all, sets })
 }
 
-/// Those of the places whose operations do not conflict with the one at a place.
+/// Those of the positions whose operations do not conflict with the one at a position.
 fn calm_of(
     alloc: Global,
     timeline: &Timeline<'_>,
-    place: usize,
-    places: &[usize],
-) -> Result<Places, OutOfMemory>
-    ensures { IfOk result (λ found. found ≡ filter (λ a. not (conflict_at timeline.now place a)) places.now) }
+    position: usize,
+    positions: &[usize],
+) -> Result<Positions, OutOfMemory>
+    ensures { IfOk result (λ found. found
+        ≡ filter (λ a. not (conflict_at timeline.now position a)) positions.now) }
 {
-    let mut calm = Places::new(alloc);
-    for other in places {
-        if !conflict_at(timeline, place, *other) {
+    let mut calm = Positions::new(alloc);
+    for other in positions {
+        if !conflict_at(timeline, position, *other) {
             calm.push(*other)?;
         }
     }
     Ok(calm)
 }
 
-/// Drops the parts that the operation at this place conflicts with and that do not have it.
-fn drop_touched(timeline: &Timeline<'_>, place: usize, parts: &mut Vec<Part>)
-    ensures { parts.new.items ≡ filter (stays (conflict_at timeline.now) place) parts.old.items }
+/// Drops the parts that the operation at this position conflicts with and that do not have it.
+fn drop_touched(timeline: &Timeline<'_>, position: usize, parts: &mut Vec<Part>)
+    ensures { parts.new.items ≡ filter (stays (conflict_at timeline.now) position) parts.old.items }
 {
-    parts.retain(|part| stays(timeline, place, part));
+    parts.retain(|part| stays(timeline, position, part));
 }
 
 impl Parts {
@@ -235,12 +241,12 @@ impl Parts {
         ensures { result ≡ record { free = []; parts = [] } }
     {
         Parts {
-            free: Places::new(alloc),
+            free: Positions::new(alloc),
             parts: Vec::new(alloc),
         }
     }
 
-    /// The places that are in every version.
+    /// The positions that are in every version.
     pub fn free(&self) -> &[usize]
         ensures { result.now ≡ self.now.free }
     {
@@ -263,55 +269,57 @@ impl Parts {
         Ok(Parts { free, parts })
     }
 
-    /// Adds the operation at this place, which conflicts with none.
-    pub fn add_free(&mut self, place: usize) -> Result<(), OutOfMemory>
-        ensures ok { OnOk result (self.new ≡ with_free place self.old) }
+    /// Adds the operation at this position, which conflicts with none.
+    pub fn add_free(&mut self, position: usize) -> Result<(), OutOfMemory>
+        ensures ok { OnOk result (self.new ≡ with_free position self.old) }
         ensures err { OnErr result (self.new ≡ self.old) }
     {
-        self.free.push(place)
+        self.free.push(position)
     }
 
-    /// Adds the operation at this place, which comes after the others, and makes one part of all that
-    /// it connects. It changes nothing before all memory is there.
+    /// Adds the operation at this position, which comes after the others, and makes one part of all
+    /// that it connects. It changes nothing before all memory is there.
     pub fn connect(
         &mut self,
         alloc: Global,
         timeline: &Timeline<'_>,
-        place: usize,
+        position: usize,
     ) -> Result<(), OutOfMemory>
-        ensures ok { OnOk result (self.new ≡ with_part (conflict_at timeline.now) place self.old) }
+        ensures ok { OnOk result (self.new
+            ≡ with_part (conflict_at timeline.now) position self.old) }
         ensures err { OnErr result (self.new ≡ self.old) }
     {
-        let free = calm_of(alloc, timeline, place, self.free.as_slice())?;
-        let part = connected(alloc, timeline, place, self)?;
+        let free = calm_of(alloc, timeline, position, self.free.as_slice())?;
+        let part = connected(alloc, timeline, position, self)?;
         self.parts.push(part)?;
-        drop_touched(timeline, place, &mut self.parts);
+        drop_touched(timeline, position, &mut self.parts);
         self.free = free;
         Ok(())
     }
 
-    /// Whether the operation at this place conflicts with none but those of the last part.
-    pub fn spares_all_but_last(&self, timeline: &Timeline<'_>, place: usize) -> bool
-        ensures { result ≡ spares_all_but_last (conflict_at timeline.now) place self.now }
+    /// Whether the operation at this position conflicts with none but those of the last part.
+    pub fn spares_all_but_last(&self, timeline: &Timeline<'_>, position: usize) -> bool
+        ensures { result ≡ spares_all_but_last (conflict_at timeline.now) position self.now }
     {
         let others = &self.parts[..self.parts.len().saturating_sub(1)];
-        !clashes(timeline, place, self.free.as_slice()) && !meets_one(timeline, place, others)
+        !conflicts_in(timeline, position, self.free.as_slice())
+            && !meets_one(timeline, position, others)
     }
 
-    /// Adds a place to the last part, and to that one's set with this index, in place.
-    pub fn join_last(&mut self, set: usize, place: usize) -> Result<(), OutOfMemory>
-        ensures ok { OnOk result (self.new ≡ last_with set place self.old) }
+    /// Adds a position to the last part, and to that one's set with this index, in place.
+    pub fn join_last(&mut self, set: usize, position: usize) -> Result<(), OutOfMemory>
+        ensures ok { OnOk result (self.new ≡ last_with set position self.old) }
         ensures err { OnErr result (self.new ≡ self.old) }
     {
         match self.parts.last_mut() {
-            Some(part) => part.join(set, place),
+            Some(part) => part.join(set, position),
             None => Ok(()),
         }
     }
 
     /// What is free with one set of each part: all versions. The sets of a part with too many are
     /// made anew.
-    pub fn listed(&self, alloc: Global, history: &History) -> Result<Vec<Places>, OutOfMemory>
+    pub fn listed(&self, alloc: Global, history: &History) -> Result<Vec<Positions>, OutOfMemory>
         requires { AreParts (conflict_at history.now.ops) self.now }
         ensures { IfOk result (λ sets. sets.items ≡ listed (conflict_at history.now.ops) self.now) }
     {
@@ -328,11 +336,12 @@ impl Parts {
 fn multiplied(
     alloc: Global,
     history: &History,
-    sets: &[Places],
+    sets: &[Positions],
     part: &Part,
-) -> Result<Vec<Places>, OutOfMemory>
+) -> Result<Vec<Positions>, OutOfMemory>
     requires { IsRising part.now.all }
-    ensures { IfOk result (λ found. found.items ≡ products sets.now (full (conflict_at history.now.ops) part.now)) }
+    ensures { IfOk result (λ found. found.items
+        ≡ products sets.now (full (conflict_at history.now.ops) part.now)) }
 {
     match part.sets.get() {
         Some(own) => products(alloc, sets, own),

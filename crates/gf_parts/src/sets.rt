@@ -1,13 +1,15 @@
 //! The largest compatible sets of a part, kept while they are not too many.
 
-ghost use Rattle.std.specs.Prelude.{◌≡◌, ◌∷◌, [], ◌++◌, map, option_copied, option_map, IfOk, OnOk, OnErr};
+ghost use Rattle.std.specs.Prelude.{◌≡◌, ◌∷◌, [], ◌++◌, map, option_copied, option_map, IfOk, OnOk};
+ghost use Rattle.std.specs.Prelude.{OnErr};
 ghost use Rattle.std.specs.List.{fold};
 ghost use Rattle.std.specs.BTreeSet.{insert_key};
 ghost use Rattle.std.specs.Ordering.{nat_cmp};
 ghost use Rattle.gf_groups.specs.Growing.{conflict_at};
-ghost use Rattle.gf_parts.specs.Parts.{kept, united, products, kept_products, times, grown_sets, set_with};
+ghost use Rattle.gf_parts.specs.Parts.{kept, united, products, kept_products, times, grown_sets};
+ghost use Rattle.gf_parts.specs.Parts.{set_with};
 
-use gf_groups::{Places, Timeline, grow};
+use gf_groups::{Positions, Timeline, grow};
 use gf_shape::OutOfMemory;
 use std::alloc::Global;
 use std::collections::BTreeSet;
@@ -19,7 +21,7 @@ pub const MOST_SETS: usize = 1_000;
 /// The sets, unless they are more than [`MOST_SETS`].
 #[derive(Debug, Drop)]
 pub(crate) struct Sets {
-    sets: Option<Vec<Places>>,
+    sets: Option<Vec<Positions>>,
 }
 
 impl Model for Sets {
@@ -32,7 +34,7 @@ impl Model for Sets {
 
 impl Sets {
     /// These sets.
-    pub(crate) fn of(sets: Vec<Places>) -> Sets
+    pub(crate) fn of(sets: Vec<Positions>) -> Sets
         ensures { result ≡ kept sets.items }
     {
         if sets.len() <= MOST_SETS {
@@ -43,7 +45,7 @@ impl Sets {
     }
 
     /// The sets, where they are not too many.
-    pub(crate) fn get(&self) -> Option<&[Places]>
+    pub(crate) fn get(&self) -> Option<&[Positions]>
         ensures { option_copied result ≡ self.now }
     {
         match &self.sets {
@@ -74,37 +76,38 @@ impl Sets {
         }
     }
 
-    /// Adds a place to all, and to the set with this index.
+    /// Adds a position to all, and to the set with this index.
     pub(crate) fn join(
         &mut self,
         set: usize,
-        place: usize,
-        all: &mut Places,
+        position: usize,
+        all: &mut Positions,
     ) -> Result<(), OutOfMemory>
-        ensures ok { OnOk result (self.new ≡ option_map (set_with set place) self.old) }
-        ensures all { OnOk result (all.new ≡ all.old ++ place ∷ []) }
+        ensures ok { OnOk result (self.new ≡ option_map (set_with set position) self.old) }
+        ensures all { OnOk result (all.new ≡ all.old ++ position ∷ []) }
         ensures err { OnErr result (self.new ≡ self.old) }
         ensures all_err { OnErr result (all.new ≡ all.old) }
     {
         match &mut self.sets {
-            Some(sets) => join_set(set, place, sets, all),
-            None => all.push(place),
+            Some(sets) => join_set(set, position, sets, all),
+            None => all.push(position),
         }
     }
 
-    /// The sets of these places after one came behind them.
+    /// The sets of these positions after one came behind them.
     pub(crate) fn grown(
         self,
         alloc: Global,
         timeline: &Timeline<'_>,
-        places: &[usize],
-        place: usize,
+        positions: &[usize],
+        position: usize,
     ) -> Result<Sets, OutOfMemory>
-        ensures { IfOk result (λ sets. sets ≡ grown_sets (conflict_at timeline.now) places.now place self) }
+        ensures { IfOk result (λ sets. sets
+            ≡ grown_sets (conflict_at timeline.now) positions.now position self) }
     {
         match self.sets {
             Some(mut sets) => {
-                grow(alloc, timeline, places, place, &mut sets)?;
+                grow(alloc, timeline, positions, position, &mut sets)?;
                 Ok(Sets::of(sets))
             }
             None => Ok(Sets { sets: None }),
@@ -112,36 +115,36 @@ impl Sets {
     }
 }
 
-/// Adds a place to all, and to the set with this index, where there is one.
+/// Adds a position to all, and to the set with this index, where there is one.
 fn join_set(
     set: usize,
-    place: usize,
-    sets: &mut Vec<Places>,
-    all: &mut Places,
+    position: usize,
+    sets: &mut Vec<Positions>,
+    all: &mut Positions,
 ) -> Result<(), OutOfMemory>
-    ensures ok { OnOk result (sets.new.items ≡ set_with set place sets.old.items) }
-    ensures all { OnOk result (all.new ≡ all.old ++ place ∷ []) }
+    ensures ok { OnOk result (sets.new.items ≡ set_with set position sets.old.items) }
+    ensures all { OnOk result (all.new ≡ all.old ++ position ∷ []) }
     ensures err { OnErr result (sets.new.items ≡ sets.old.items) }
     ensures all_err { OnErr result (all.new ≡ all.old) }
 {
     match sets.get_mut(set) {
-        Some(set) => all.push_to_both(set, place),
-        None => all.push(place),
+        Some(set) => all.push_to_both(set, position),
+        None => all.push(position),
     }
 }
 
-/// The same places once more, with room for another one.
-pub fn copied(alloc: Global, places: &[usize]) -> Result<Places, OutOfMemory>
-    ensures { IfOk result (λ copy. copy ≡ places.now) }
+/// The same positions once more, with room for another one.
+pub fn copied(alloc: Global, positions: &[usize]) -> Result<Positions, OutOfMemory>
+    ensures { IfOk result (λ copy. copy ≡ positions.now) }
 {
     let mut copy = Vec::new(alloc);
-    copy.reserve(places.len().saturating_add(1))?;
-    copy.extend_from_slice(places)?;
-    Ok(Places::of(copy))
+    copy.reserve(positions.len().saturating_add(1))?;
+    copy.extend_from_slice(positions)?;
+    Ok(Positions::of(copy))
 }
 
 /// The same sets once more.
-fn copied_sets(alloc: Global, sets: &[Places]) -> Result<Vec<Places>, OutOfMemory>
+fn copied_sets(alloc: Global, sets: &[Positions]) -> Result<Vec<Positions>, OutOfMemory>
     ensures { IfOk result (λ copy. copy.items ≡ sets.now) }
 {
     let mut copy = Vec::new(alloc);
@@ -151,34 +154,39 @@ fn copied_sets(alloc: Global, sets: &[Places]) -> Result<Vec<Places>, OutOfMemor
     Ok(copy)
 }
 
-/// Inserts these places too.
-fn insert_all(places: &[usize], set: &mut BTreeSet<usize>) -> Result<(), OutOfMemory>
-    ensures { OnOk result (set.new.keys ≡ fold (insert_key nat_cmp) set.old.keys places.now) }
+/// Inserts these positions too.
+fn insert_all(positions: &[usize], set: &mut BTreeSet<usize>) -> Result<(), OutOfMemory>
+    ensures { OnOk result (set.new.keys ≡ fold (insert_key nat_cmp) set.old.keys positions.now) }
 {
-    for place in places {
-        set.insert(*place)?;
+    for position in positions {
+        set.insert(*position)?;
     }
     Ok(())
 }
 
-/// All of these places, rising.
-pub(crate) fn united(alloc: Global, some: &[usize], others: &[usize]) -> Result<Places, OutOfMemory>
-    ensures { IfOk result (λ places. places ≡ united some.now others.now) }
+/// All of these positions, rising.
+pub(crate) fn united(
+    alloc: Global,
+    some: &[usize],
+    others: &[usize],
+) -> Result<Positions, OutOfMemory>
+    ensures { IfOk result (λ positions. positions ≡ united some.now others.now) }
 {
     let mut set = BTreeSet::new(alloc);
     insert_all(some, &mut set)?;
     insert_all(others, &mut set)?;
-    Ok(Places::of(set.into_iter().collect(alloc)?))
+    Ok(Positions::of(set.into_iter().collect(alloc)?))
 }
 
 /// Each of the sets united with this one.
 fn add_products(
     alloc: Global,
     set: &[usize],
-    others: &[Places],
-    products: &mut Vec<Places>,
+    others: &[Positions],
+    products: &mut Vec<Positions>,
 ) -> Result<(), OutOfMemory>
-    ensures { OnOk result (products.new.items ≡ products.old.items ++ map (united set.now) others.now) }
+    ensures { OnOk result (products.new.items
+        ≡ products.old.items ++ map (united set.now) others.now) }
 {
     for other in others {
         products.push(united(alloc, set, other.as_slice())?)?;
@@ -189,9 +197,9 @@ fn add_products(
 /// Each of the sets united with each of the others.
 pub fn products(
     alloc: Global,
-    sets: &[Places],
-    others: &[Places],
-) -> Result<Vec<Places>, OutOfMemory>
+    sets: &[Positions],
+    others: &[Positions],
+) -> Result<Vec<Positions>, OutOfMemory>
     ensures { IfOk result (λ found. found.items ≡ products sets.now others.now) }
 {
     let mut products = Vec::new(alloc);
@@ -202,7 +210,11 @@ pub fn products(
 }
 
 /// The products, unless they are too many.
-fn kept_products(alloc: Global, sets: &[Places], others: &[Places]) -> Result<Sets, OutOfMemory>
+fn kept_products(
+    alloc: Global,
+    sets: &[Positions],
+    others: &[Positions],
+) -> Result<Sets, OutOfMemory>
     ensures { IfOk result (λ found. found ≡ kept_products sets.now others.now) }
 {
     if sets.len().saturating_mul(others.len()) <= MOST_SETS {

@@ -21,10 +21,10 @@ use Rattle.gf_session.specs.declared.starting.Start.{Start}
 use Rattle.gf_session.specs.Outcome.{Place, IsSiteOutcome}
 use Rattle.gf_session.specs.Joined.{IsFrom, IsComplete, AreJoined, HaveOne}
 use Rattle.gf_session.specs.Starting.{AreStarts, Gave, GaveAll}
-use Rattle.gf_session.specs.Session.{IsSession, done_of, place_of, places}
+use Rattle.gf_session.specs.Session.{IsSession, done_of, position_of, places}
 use Rattle.gf_site.specs.Course.{IsCourse}
 use Rattle.gf_ops.proofs.ListLemmas.{Contains-map_from}
-use Rattle.gf_ops.proofs.PlaceLemmas.{one_value, place_in, place_of as place_at}
+use Rattle.gf_ops.proofs.PositionLemmas.{one_value, position_in, position_of as place_at}
 use Rattle.gf_world.specs.Courses.{AreCourses, HaveEvents}
 use Rattle.gf_world.proofs.EventLemmas.{courses_have_events}
 use Rattle.gf_session.proofs.JoinedLemmas.{one_history, origin}
@@ -55,7 +55,7 @@ played_full s script peers e q w =
     let p = w.played in
     subst (λ l. IsPlayed e.site.number l e.site.ops e.report) (sym (p.whole ∙ ap (λ l. p.done ++ l) (p.full q) ∙ append-nil p.done)) p.played
 
-pub site_outcome : (s : ℕ) (script : Script) (peers : List Peer) (e : WorkerEnd) → e.short ≡ false → HasWorked s script.0.items peers e → IsSiteOutcome (place_of script (done_of e))
+pub site_outcome : (s : ℕ) (script : Script) (peers : List Peer) (e : WorkerEnd) → e.short ≡ false → HasWorked s script.0.items peers e → IsSiteOutcome (position_of script (done_of e))
 site_outcome s script peers e q w = record { course = (complete s script.0.items peers e q w).course; played = played_full s script.0.items peers e q w }
 
 pub same_ops : (ends : List WorkerEnd) → HaveOne ends → (e f : WorkerEnd) → Contains ends e → Contains ends f → HaveSame e.site.ops f.site.ops
@@ -88,12 +88,12 @@ record Played (starts : List Start) (ends : List WorkerEnd) (k : ℕ) (p : Place
   end : WorkerEnd
   starts_at : slice_get starts k ≡ Some start
   ends_at : slice_get ends k ≡ Some end
-  is : p ≡ place_of start.script (done_of end)
+  is : p ≡ position_of start.script (done_of end)
 
 played_at : (starts : List Start) (ends : List WorkerEnd) → GaveAll starts ends → (k : ℕ) (p : Place) → slice_get (places (map (λ s. s.script) starts) (map done_of ends)) k ≡ Some p → Played starts ends k p
 played_at [] ends g k p q = absurd cc
 played_at (s ∷ starts) [] g k p q = absurd cc
-played_at (s ∷ starts) (x ∷ ends) g zero p q = let i : place_of s.script (done_of x) ≡ p = cc in record { start = s; end = x; starts_at = refl; ends_at = refl; is = sym i }
+played_at (s ∷ starts) (x ∷ ends) g zero p q = let i : position_of s.script (done_of x) ≡ p = cc in record { start = s; end = x; starts_at = refl; ends_at = refl; is = sym i }
 played_at (s ∷ starts) (x ∷ ends) g (suc k) p q =
     let o = played_at starts ends g.1 k p q in record { start = o.start; end = o.end; starts_at = o.starts_at; ends_at = o.ends_at; is = o.is }
 
@@ -164,17 +164,17 @@ module _ (scripts : List Script) (rows : List (List Peer)) (starts : List Start)
           let b = number s.place t.0 t.1 in
           record {
             end = t.0;
-            contained = place_in ends s.place t.0 t.1;
+            contained = position_in ends s.place t.0 t.1;
             other = λ n. s.apart (omega (arith, a, b, n));
             all = from s.place t.0 t.1 p s.sender (subst (λ l. Contains l s.sender) (sym t.2) s.sent) s.all;
           };
     }
 
-    each_one : (k : ℕ) (s : Start) (e : WorkerEnd) → slice_get starts k ≡ Some s → slice_get ends k ≡ Some e → IsSiteOutcome (place_of s.script (done_of e))
+    each_one : (k : ℕ) (s : Start) (e : WorkerEnd) → slice_get starts k ≡ Some s → slice_get ends k ≡ Some e → IsSiteOutcome (position_of s.script (done_of e))
     each_one k s e a b =
         let o = begun_at starts ends gave k e b in
         let i : o.start ≡ s = one_value starts k o.start s o.at a in
-        subst (λ (x : Start). IsSiteOutcome (place_of x.script (done_of e))) i (site_outcome (k + 1) o.start.script o.start.peers.items e (none_short ends long k e b) (worked k e b))
+        subst (λ (x : Start). IsSiteOutcome (position_of x.script (done_of e))) i (site_outcome (k + 1) o.start.script o.start.peers.items e (none_short ends long k e b) (worked k e b))
 
     have_one : HaveOne ends
     have_one = one_history ends joined
@@ -183,7 +183,7 @@ module _ (scripts : List Script) (rows : List (List Peer)) (starts : List Start)
     courses = record {
       course = λ k h q.
           let t = got_map (λ (x : WorkerEnd). x.site.ops) ends k h q in
-          let i = joined.complete t.0 (place_in ends k t.0 t.1) in
+          let i = joined.complete t.0 (position_in ends k t.0 t.1) in
           subst (λ (w : ℕ × List Op). IsCourse w.0 w.1) (λ j. (number k t.0 t.1 j, t.2 j)) i.course;
       same = λ g h c d.
           let t = Contains-map_from (λ (x : WorkerEnd). x.site.ops) ends g c in
@@ -215,7 +215,7 @@ module _ (scripts : List Script) (rows : List (List Peer)) (starts : List Start)
                 let t = played_at starts ends gave k.0 p k.1 in
                 let u = played_at starts ends gave j.0 q j.1 in
                 subst (λ (x : Place × Place). HaveSame x.0.ops x.1.ops) (λ i. (sym t.is i, sym u.is i))
-                (same_ops ends have_one t.end u.end (place_in ends k.0 t.end t.ends_at) (place_in ends j.0 u.end u.ends_at));
+                (same_ops ends have_one t.end u.end (position_in ends k.0 t.end t.ends_at) (position_in ends j.0 u.end u.ends_at));
           };
           events = subst HaveEvents (sym (lists_are ends)) (courses_have_events (map (λ e. e.site.ops) ends) courses);
         }

@@ -6,7 +6,7 @@ use Rattle.std.proofs.lemmas.List.{nil_from_length, append_assoc, append-nil, le
 use Rattle.std.proofs.lemmas.List.Elements.{All-contains}
 use Rattle.atomic_table.specs.Seated.{TableId}
 use Rattle.gf_ops.proofs.ListLemmas.{Contains-map, Contains-map_from}
-use Rattle.gf_ops.proofs.PlaceLemmas.{got_push, place_of}
+use Rattle.gf_ops.proofs.PositionLemmas.{got_push, position_of}
 use Rattle.gf_site.specs.SiteState.{SiteState, new_site}
 use Rattle.gf_worker.specs.declared.script.Script.{Script}
 use Rattle.gf_worker.specs.declared.peer.Peer.{Peer}
@@ -24,7 +24,7 @@ pub all_ready : (links : List TableId) (scripts : List Script) (rows : List (Lis
 all_ready links scripts rows starts m a few =
     let new = mesh_new m in
     all_from (IsReady links) starts (λ s c.
-    let k = place_of starts s c in
+    let k = position_of starts s c in
     let site = a.sites_are k.0 s k.1 in
     let row : Contains rows s.peers.items = subst (λ l. Contains l s.peers.items) a.rows_are (Contains-map (λ (x : Start). x.peers.items) starts s c) in
     record {
@@ -47,7 +47,7 @@ pub all_linked : (links : List TableId) (scripts : List Script) (rows : List (Li
 all_linked links scripts rows starts ends m a g long =
     linked_again links rows (map (λ e. e.seats.items) ends) m (same_seats starts ends g ∙ ap (map (map seat_of)) a.rows_are) (λ xs c p b.
     let t = Contains-map_from (λ (e : WorkerEnd). e.seats.items) ends xs c in
-    let k = place_of ends t.0 t.1 in
+    let k = position_of ends t.0 t.1 in
     ended scripts rows starts ends a g long k.0 t.0 k.1 p (subst (λ l. Contains l p) t.2 b))
 
 -- ---- one more start

@@ -10,7 +10,7 @@ use Rattle.std.proofs.lemmas.List.Elements.{All-cons, All-from_recursion, Contai
 use Rattle.std.proofs.lemmas.Option.{get_or_from_slice_get, slice_get_cases, slice_get_within}
 use Rattle.gf_ops.proofs.ListLemmas.{not_Contains-nil}
 use Rattle.gf_ops.specs.Limits.{is_site}
-use Rattle.gf_ops.proofs.PlaceLemmas.{place_in}
+use Rattle.gf_ops.proofs.PositionLemmas.{position_in}
 use Rattle.gf_json.specs.declared.script_line.ScriptLine.{ScriptLine}
 use Rattle.gf_worker.specs.declared.script.Script.{Script}
 use Rattle.gf_session_run.specs.DenotedScripts.{AreScriptsOf, Fit, commands_of}
@@ -40,7 +40,7 @@ empty_more n scripts more s are e is = record {
 }
 
 pub empty_scripts_of : (n m : ℕ) (scripts : List Script) → AreEmpty m scripts → n ≤ m → m ≤ n → AreScriptsOf n [] scripts
-empty_scripts_of n m scripts are some few = record { long = let l = are.long in omega arith; each = λ k s e. are.empty s (place_in scripts k s e) }
+empty_scripts_of n m scripts are some few = record { long = let l = are.long in omega arith; each = λ k s e. are.empty s (position_in scripts k s e) }
 
 pub fit_none : (n : ℕ) → Fit n []
 fit_none n = record { sites = λ l i. absurd (not_Contains-nil l i); few = λ s. omega arith }

@@ -1,4 +1,4 @@
--- The sets of an object's places that show are the groups of its visible versions.
+-- The sets of an object's positions that show are the groups of its visible versions.
 use Rattle.std.proofs.Common.{◌≡◌, ℕ, true, List, length, map, sym, ap, subst}
 use Rattle.std.specs.Prelude.{◌↔◌, All, Contains, slice_get}
 use Rattle.std.proofs.lemmas.List.{length-map}
@@ -11,13 +11,13 @@ use Rattle.gf_ops.specs.SettledValue.{IsSettled}
 use Rattle.gf_ops.specs.ValidHistory.{IsValid}
 use Rattle.gf_ops.proofs.ListLemmas.{Contains-map, Contains-map_from}
 use Rattle.gf_groups.specs.declared.group.Group.{Group}
-use Rattle.gf_groups.specs.GroupedPlaces.{is_on, places_below, rising_ids, group_at}
+use Rattle.gf_groups.specs.GroupedPositions.{is_on, positions_below, rising_ids, group_at}
 use Rattle.gf_groups.specs.Growing.{conflict_at, groups_at}
 use Rattle.gf_groups.specs.Tables.{IsRising, IsTable}
 use Rattle.gf_groups.specs.Versions.{IsMade, IsVersionGroup}
 use Rattle.gf_groups.proofs.GroupLemmas.{groups_exactly, same_group_at}
-use Rattle.gf_groups.proofs.OnPlaceLemmas.{all_places}
-use Rattle.gf_groups.proofs.PlaceLemmas.{places_below-rising}
+use Rattle.gf_groups.proofs.OnPositionLemmas.{all_positions}
+use Rattle.gf_groups.proofs.PositionLemmas.{positions_below-rising}
 use Rattle.gf_groups.proofs.TableLemmas.{conflict_at_test, table_groups}
 use Rattle.gf_groups.proofs.TakingLemmas.{AllPairs-map}
 use Rattle.gf_groups.proofs.VersionLemmas.{version_of_largest}
@@ -35,13 +35,13 @@ sets_rise h us sets all = All-weaker (Contains sets) IsRising (λ g i. ((all.exa
 
 module _ (h : List Op) (valid : IsValid h) (o : ObjectId) (made : IsMade h o) where
   abbrev us : List ℕ
-  us = places_below h o (length h)
+  us = positions_below h o (length h)
 
   on : (i : ℕ) → Contains us i ↔ (is_on o (slice_get h i) ≡ true)
-  on = all_places h o
+  on = all_positions h o
 
   rises : IsRising us
-  rises = places_below-rising h o (length h)
+  rises = positions_below-rising h o (length h)
 
   abbrev groups : List (List ℕ)
   groups = groups_at (conflict_at h) us
@@ -74,7 +74,7 @@ module _ (h : List Op) (valid : IsValid h) (o : ObjectId) (made : IsMade h o) wh
       }
 
   -- THE VISIBLE VERSIONS of the object
-  pub visible_on : (sets : List (List ℕ)) → AreShownSets h (places_below h o (length h)) sets → AreVisibleOn h o (map (group_at h o) sets)
+  pub visible_on : (sets : List (List ℕ)) → AreShownSets h (positions_below h o (length h)) sets → AreVisibleOn h o (map (group_at h o) sets)
   visible_on sets all = record {
     exactly = λ g. (
       λ i.
@@ -92,7 +92,7 @@ module _ (h : List Op) (valid : IsValid h) (o : ObjectId) (made : IsMade h o) wh
       in_table : (g : List ℕ) → Contains sets g → Contains groups g
       in_table g x = let s = (all.exactly g).0 x in (table.each g).1 (s.rises, s.largest)
 
-  pub more_on : (m : ℕ) → HasMoreSets h (places_below h o (length h)) m → HasMoreOn h o m
+  pub more_on : (m : ℕ) → HasMoreSets h (positions_below h o (length h)) m → HasMoreOn h o m
   more_on m w = record {
     groups = map (group_at h o) w.sets;
     all = visible_on w.sets w.all;

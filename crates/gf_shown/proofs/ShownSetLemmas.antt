@@ -1,10 +1,10 @@
--- What a listing of parts says of the places of an object.
+-- What a listing of parts says of the positions of an object.
 use Rattle.std.proofs.Common.{◌≡◌, ◌≤◌, ℕ, Bool, true, false, List, [], subst, arith}
 use Rattle.std.specs.Prelude.{◌↔◌, Contains, Option, Some, None, option_map, slice_get}
 use Rattle.gf_ops.specs.declared.op.Op.{Op}
 use Rattle.gf_ops.specs.declared.op.ObjectId.{ObjectId}
 use Rattle.gf_ops.specs.ValidHistory.{IsValid}
-use Rattle.gf_groups.specs.GroupedPlaces.{is_on}
+use Rattle.gf_groups.specs.GroupedPositions.{is_on}
 use Rattle.gf_groups.specs.Growing.{conflict_at}
 use Rattle.gf_groups.specs.Tables.{IsTable}
 use Rattle.gf_groups.proofs.LargestLemmas.{largest_alike}
@@ -25,7 +25,7 @@ use Rattle.gf_table.specs.Standing.{Stands}
 kept_table : (c : ℕ → ℕ → Bool) (us : List ℕ) (r : Option (List (List ℕ))) (gs : List (List ℕ)) → r ≡ Some gs → IsKept c us r → IsTable c us gs
 kept_table c us r gs e k = (subst (IsKept c us) e k).0
 
--- t are the parts of the places us, which are on the object o
+-- t are the parts of the positions us, which are on the object o
 module _ (h : List Op) (valid : IsValid h) (o : ObjectId) (us : List ℕ) (on : (i : ℕ) → Contains us i → is_on o (slice_get h i) ≡ true)
     (t : PartsState) (parts : AreParts (conflict_at h) t) (same : (i : ℕ) → Contains (whole t).all i ↔ Contains us i)
     (gs : List (List ℕ)) (made : (whole (deciding (sets_at h) (later_at h) (shows_at h) t)).sets ≡ Some gs) (n : ℕ) (low : n ≤ most_sets) where
@@ -52,7 +52,7 @@ module _ (h : List Op) (valid : IsValid h) (o : ObjectId) (us : List ℕ) (on : 
   by_listing (Some qs) l = (are_shown qs l.0, l.1)
   by_listing None l = record { sets = l.0; all = are_shown l.0 l.1; many = l.2 }
 
-  -- THE LISTING of an object's places
+  -- THE LISTING of an object's positions
   pub set_listing : IsSetListing h us n (shown_within (sets_at h) (later_at h) (shows_at h) n t gs)
   set_listing = by_listing (shown_within (sets_at h) (later_at h) (shows_at h) n t gs) (listing (sets_at h) (later_at h) (shows_at h) (later_order h valid) (conflict_at h) (conflict_at_test h) t parts gs some agree n low)
 
@@ -61,9 +61,9 @@ module _ (h : List Op) (valid : IsValid h) (o : ObjectId) (us : List ℕ) (on : 
 abbrev pub ArePartsOf : List Op → List ℕ → PartsState → Type 0
 ArePartsOf h us t = AreParts (conflict_at h) t × ((i : ℕ) → Contains (whole t).all i ↔ Contains us i)
 
--- the parts that a table has for the places us
+-- the parts that a table has for the positions us
 pub parts_of_state : (h : List Op) (us : List ℕ) (r : Option ObjectState) (t : PartsState) → Stands h us r → option_map (λ (s : ObjectState). s.parts) r ≡ Some t → ArePartsOf h us t
-parts_of_state h us (Some s) t stands e = let q : s.parts ≡ t = cc in subst (ArePartsOf h us) q (stands.parts, stands.places)
+parts_of_state h us (Some s) t stands e = let q : s.parts ≡ t = cc in subst (ArePartsOf h us) q (stands.parts, stands.positions)
 parts_of_state h us None t stands e = absurd cc
 
 -- where it has none, no set shows

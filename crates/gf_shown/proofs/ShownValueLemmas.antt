@@ -1,4 +1,4 @@
--- What the operations at places say of `Shown`: a strict order of setters, which agree where they are compatible, and the settled value.
+-- What the operations at positions say of `Shown`: a strict order of setters, which agree where they are compatible, and the settled value.
 use Rattle.std.proofs.Common.{◌≡◌, ◌≢◌, ℕ, Bool, true, false, List, inl, inr, refl, subst, sym, ap, ◌∙◌}
 use Rattle.std.specs.Prelude.{◌⊎◌, Contains, Option, Some, None, IsSome, option_map, slice_get}
 use Rattle.std.proofs.lemmas.Bool.{cases_Bool, and_parts, and_from}
@@ -17,12 +17,12 @@ use Rattle.gf_ops.specs.ValidHistory.{IsValid}
 use Rattle.gf_ops.specs.Version.{IsMember}
 use Rattle.gf_ops.proofs.HistoryLemmas.{site_in_range, seq_in_range}
 use Rattle.gf_ops.proofs.ValidityLemmas.{precedes_irreflexive, precedes_transitive, same_op}
-use Rattle.gf_groups.specs.GroupedPlaces.{is_on, rising_ids}
+use Rattle.gf_groups.specs.GroupedPositions.{is_on, rising_ids}
 use Rattle.gf_groups.specs.Growing.{conflict_at}
 use Rattle.gf_groups.specs.VersionList.{is_before}
 use Rattle.gf_groups.proofs.ConflictTestLemmas.{before_decided}
-use Rattle.gf_groups.proofs.IdPlaceLemmas.{Contains-rising_ids}
-use Rattle.gf_groups.proofs.OnPlaceLemmas.{conflict_from, contained_at, on_from}
+use Rattle.gf_groups.proofs.IdPositionLemmas.{Contains-rising_ids}
+use Rattle.gf_groups.proofs.OnPositionLemmas.{conflict_from, contained_at, on_from}
 use Rattle.gf_shown.specs.ShownAt.{shown_by, is_said, is_yes, op_sets, op_shows, op_later, sets_at, shows_at, later_at}
 use Rattle.gf_shown.proofs.LastLemmas.{IsLater, Shows}
 
@@ -77,7 +77,7 @@ two_bools false false = inl refl
 two_bools true false = inr (λ e. cc)
 two_bools false true = inr (λ e. cc)
 
--- ---- an operation at a place
+-- ---- an operation at a position
 
 op_of : (r : Option Op) → op_shows r ≡ true → (a : Op) × (r ≡ Some a) × (is_yes (shown_by a.change) ≡ true)
 op_of (Some a) e = (a, refl, e)
@@ -189,22 +189,22 @@ module _ (h : List Op) (valid : IsValid h) where
 -- ---- the settled value
 
 module _ (h : List Op) (valid : IsValid h) (g : List ℕ) where
-  -- a member of the group with its place
+  -- a member of the group with its position
   pub record At (b : Op) : Type 0 where
-    pub place : ℕ
-    pub within : Contains g place
-    pub at : slice_get h place ≡ Some b
+    pub position : ℕ
+    pub within : Contains g position
+    pub at : slice_get h position ≡ Some b
 
-  place_of : (b : Op) → IsMember h (rising_ids h g) b → At b
-  place_of b m =
+  position_of : (b : Op) → IsMember h (rising_ids h g) b → At b
+  position_of b m =
       let t = (Contains-rising_ids h g b.id).0 m.grouped in
-      let e : t.op ≡ b = same_op h valid t.op b (contained_at h t.place t.op t.at) m.contained t.id in
-      record { place = t.place; within = t.contained; at = t.at ∙ ap (λ (z : Op). Some z) e }
+      let e : t.op ≡ b = same_op h valid t.op b (contained_at h t.position t.op t.at) m.contained t.id in
+      record { position = t.position; within = t.contained; at = t.at ∙ ap (λ (z : Op). Some z) e }
 
   member_at : (i : ℕ) (a : Op) → Contains g i → slice_get h i ≡ Some a → IsMember h (rising_ids h g) a
   member_at i a c e = record {
     contained = contained_at h i a e;
-    grouped = (Contains-rising_ids h g a.id).1 (record { place = i; op = a; contained = c; at = e; id = refl });
+    grouped = (Contains-rising_ids h g a.id).1 (record { position = i; op = a; contained = c; at = e; id = refl });
   }
 
   -- where a last setter of the group shows, the settled value is that it shows
@@ -216,27 +216,27 @@ module _ (h : List Op) (valid : IsValid h) (g : List ℕ) where
         member = member_at w.last a.0 w.within a.1;
         gives = same_given a.0.change ∙ yes_to (shown_by a.0.change) a.2;
         last = λ b m s p.
-            let t = place_of b m in
+            let t = position_of b m in
             let said = said_from (shown_by b.change) (subst (λ (o : Option Value). IsSome o) (same_given b.change) s) in
-            let y = from_told (slice_get h w.last) (slice_get h t.place) a.0 b a.1 t.at said p in
-            let n = w.none t.place t.within in
+            let y = from_told (slice_get h w.last) (slice_get h t.position) a.0 b a.1 t.at said p in
+            let n = w.none t.position t.within in
             absurd cc;
       }
 
   -- and back
   pub from_settled : IsSettled h (rising_ids h g) attr.Shown (value.Shown true) → Shows (sets_at h) (later_at h) (shows_at h) (later_order h valid) g
   from_settled w =
-      let t = place_of w.setter w.member in
+      let t = position_of w.setter w.member in
       let yes = yes_from (shown_by w.setter.change) (sym (same_given w.setter.change) ∙ w.gives) in
       record {
-        last = t.place;
+        last = t.position;
         within = t.within;
-        given = shows_from_op (slice_get h t.place) w.setter t.at yes;
-        setter = sets_from_op (slice_get h t.place) w.setter t.at (yes_said (shown_by w.setter.change) yes);
-        none = λ j c. elim (cases_Bool (later_at h t.place j)) [
+        given = shows_from_op (slice_get h t.position) w.setter t.at yes;
+        setter = sets_from_op (slice_get h t.position) w.setter t.at (yes_said (shown_by w.setter.change) yes);
+        none = λ j c. elim (cases_Bool (later_at h t.position j)) [
           | inl y ↦
-              let k = told (slice_get h t.place) (slice_get h j) y in
-              let e : k.0 ≡ w.setter = one_op (slice_get h t.place) k.0 w.setter k.2 t.at in
+              let k = told (slice_get h t.position) (slice_get h j) y in
+              let e : k.0 ≡ w.setter = one_op (slice_get h t.position) k.0 w.setter k.2 t.at in
               let before : Precedes w.setter k.1 = subst (λ (z : Op). Precedes z k.1) e k.5 in
               absurd (w.last k.1 (member_at j k.1 c k.3) (subst (λ (o : Option Value). IsSome o) (sym (same_given k.1.change)) (said_to (shown_by k.1.change) k.4)) before)
           | inr n ↦ n

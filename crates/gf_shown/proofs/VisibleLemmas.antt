@@ -24,7 +24,7 @@ use Rattle.gf_ops.specs.ValidHistory.{IsValid}
 use Rattle.gf_ops.proofs.ListLemmas.{Contains-cons_cases, Contains-cons_head, Contains-map, not_Contains-nil}
 use Rattle.gf_groups.specs.declared.group.Group.{Group}
 use Rattle.gf_groups.specs.Versions.{IsMade, IsVersionGroup, AreVersions, group_cmp}
-use Rattle.gf_groups.proofs.IdPlaceLemmas.{same_place}
+use Rattle.gf_groups.proofs.IdPositionLemmas.{same_position}
 use Rattle.gf_groups.proofs.TakingLemmas.{AllPairs-append}
 use Rattle.gf_parts.proofs.CountLemmas.{no_longer}
 use Rattle.gf_shown.specs.ShownVersions.{IsVisibleGroup, AreVisibleOn, HasMoreOn, HasMoreVisible}
@@ -232,7 +232,7 @@ module _ (h : List Op) where
       let at_k = slice_get_read h (length h) k b refl (omega (arith, l, below)) (sym (sym (get_or-take i h k b below) ∙ q)) in
       let at_i = slice_get_read h (length h) i a refl l is in
       elim (Contains-cons_cases a [] d y) [
-        | inl f ↦ let same = same_place h valid k i b a at_k at_i (e ∙ ap (λ (z : Op). z.id) f) in absurd (omega (arith, same, below))
+        | inl f ↦ let same = same_position h valid k i b a at_k at_i (e ∙ ap (λ (z : Op). z.id) f) in absurd (omega (arith, same, below))
         | inr j ↦ absurd (not_Contains-nil d j)
       ]
 

@@ -8,7 +8,7 @@ abbrev pub at_most : ℕ → List (List ℕ) → Option (List (List ℕ)) → Op
 at_most m gs (Some ks) = cond (nat_le (length gs * length ks) m) (Some (products gs ks)) None
 at_most m gs None = None
 
--- sets tells which places set the attribute, later whether the second of two sets it and comes after the first, gives whether a setter gives it the value
+-- sets tells which positions set the attribute, later whether the second of two sets it and comes after the first, gives whether a setter gives it the value
 module _ (sets : ℕ → Bool) (later : ℕ → ℕ → Bool) (gives : ℕ → Bool) where
   -- the last setter so far, after j came too
   abbrev pub taken : Option ℕ → ℕ → Option ℕ

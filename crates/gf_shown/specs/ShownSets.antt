@@ -1,4 +1,4 @@
--- The largest compatible sets of places that show, listed unless they are too many. No public clause cites this module.
+-- The largest compatible sets of positions that show, listed unless they are too many. No public clause cites this module.
 use Rattle.std.specs.Prelude.{◌≡◌, ◌≢◌, ◌↔◌, ℕ, ◌<◌, ◌≤◌, Bool, true, List, AllPairs, Contains, length, Option, Some, None}
 use Rattle.gf_ops.specs.declared.op.Op.{Op}
 use Rattle.gf_groups.specs.Growing.{conflict_at}
@@ -6,28 +6,28 @@ use Rattle.gf_groups.specs.Tables.{IsLargest, IsRising}
 use Rattle.gf_shown.specs.Deciding.{shows}
 use Rattle.gf_shown.specs.ShownAt.{sets_at, shows_at, later_at}
 
--- the last operation of the places g that shows or hides, shows
+-- the last operation of the positions g that shows or hides, shows
 abbrev pub is_shown : List Op → List ℕ → Bool
 is_shown h g = shows (sets_at h) (later_at h) (shows_at h) g
 
--- g is a largest compatible set of the places us, and shows
+-- g is a largest compatible set of the positions us, and shows
 pub record IsShownSet (h : List Op) (us g : List ℕ) : Type 0 where
   pub rises : IsRising g
   pub largest : IsLargest (conflict_at h) (Contains us) (Contains g)
   pub shown : is_shown h g ≡ true
 
--- the sets are all largest compatible sets of the places us that show, each once
+-- the sets are all largest compatible sets of the positions us that show, each once
 pub record AreShownSets (h : List Op) (us : List ℕ) (sets : List (List ℕ)) : Type 0 where
   pub exactly : (g : List ℕ) → Contains sets g ↔ IsShownSet h us g
   pub once : AllPairs (λ g k. g ≢ k) sets
 
--- more than m largest compatible sets of the places us show
+-- more than m largest compatible sets of the positions us show
 pub record HasMoreSets (h : List Op) (us : List ℕ) (m : ℕ) : Type 0 where
   pub sets : List (List ℕ)
   pub all : AreShownSets h us sets
   pub many : m < length sets
 
--- the sets are all largest compatible sets of the places us that show, and at most m; none, where more show
+-- the sets are all largest compatible sets of the positions us that show, and at most m; none, where more show
 abbrev pub IsSetListing : List Op → List ℕ → ℕ → Option (List (List ℕ)) → Type 0
 IsSetListing h us m (Some sets) = AreShownSets h us sets × (length sets ≤ m)
 IsSetListing h us m None = HasMoreSets h us m

@@ -8,24 +8,24 @@ ghost use Rattle.gf_shown.specs.ShownAt.{later_at};
 ghost use Rattle.gf_shown.specs.ShownSets.{is_shown};
 
 use crate::saying::{later_at, sets_at, shows_at};
-use gf_groups::{Places, Timeline};
+use gf_groups::{Positions, Timeline};
 use gf_parts::{Part, Parts};
 
-/// The last setter so far, after the one at this place came too.
-fn taken(timeline: &Timeline<'_>, last: Option<usize>, place: usize) -> Option<usize>
-    ensures { result ≡ taken_at timeline.now last place }
+/// The last setter so far, after the one at this position came too.
+fn taken(timeline: &Timeline<'_>, last: Option<usize>, position: usize) -> Option<usize>
+    ensures { result ≡ taken_at timeline.now last position }
 {
     match last {
         Some(last) => {
-            if later_at(timeline, last, place) {
-                Some(place)
+            if later_at(timeline, last, position) {
+                Some(position)
             } else {
                 Some(last)
             }
         }
         None => {
-            if sets_at(timeline, place) {
-                Some(place)
+            if sets_at(timeline, position) {
+                Some(position)
             } else {
                 None
             }
@@ -38,8 +38,8 @@ fn last_of(timeline: &Timeline<'_>, group: &[usize]) -> Option<usize>
     ensures { result ≡ last_at timeline.now group.now }
 {
     let mut last = None;
-    for place in group {
-        last = taken(timeline, last, *place);
+    for position in group {
+        last = taken(timeline, last, *position);
     }
     last
 }
@@ -54,57 +54,62 @@ pub(crate) fn shows(timeline: &Timeline<'_>, group: &[usize]) -> bool
     }
 }
 
-/// Whether one of the places comes later.
-fn some_later(timeline: &Timeline<'_>, place: usize, places: &[usize]) -> bool
-    ensures { result ≡ list_any (later_at timeline.now place) places.now }
+/// Whether one of the positions comes later.
+fn some_later(timeline: &Timeline<'_>, position: usize, positions: &[usize]) -> bool
+    ensures { result ≡ list_any (later_at timeline.now position) positions.now }
 {
-    places.iter().any(|other| later_at(timeline, place, *other))
+    positions
+        .iter()
+        .any(|other| later_at(timeline, position, *other))
 }
 
 /// Whether each of the sets has a later one.
-fn all_later(timeline: &Timeline<'_>, place: usize, sets: &[Places]) -> bool
-    ensures { result ≡ list_all (list_any (later_at timeline.now place)) sets.now }
+fn all_later(timeline: &Timeline<'_>, position: usize, sets: &[Positions]) -> bool
+    ensures { result ≡ list_all (list_any (later_at timeline.now position)) sets.now }
 {
     sets.iter()
-        .all(|set| some_later(timeline, place, set.as_slice()))
+        .all(|set| some_later(timeline, position, set.as_slice()))
 }
 
 /// Whether each set of the part has a later one.
-fn always_later(timeline: &Timeline<'_>, place: usize, part: &Part) -> bool
-    ensures { result ≡ always_later_at timeline.now place part.now }
+fn always_later(timeline: &Timeline<'_>, position: usize, part: &Part) -> bool
+    ensures { result ≡ always_later_at timeline.now position part.now }
 {
     match part.sets() {
-        Some(sets) => all_later(timeline, place, sets),
+        Some(sets) => all_later(timeline, position, sets),
         None => false,
     }
 }
 
-fn one_always_later(timeline: &Timeline<'_>, place: usize, parts: &[Part]) -> bool
-    ensures { result ≡ list_any (always_later_at timeline.now place) parts.now }
+fn one_always_later(timeline: &Timeline<'_>, position: usize, parts: &[Part]) -> bool
+    ensures { result ≡ list_any (always_later_at timeline.now position) parts.now }
 {
-    parts.iter().any(|part| always_later(timeline, place, part))
+    parts
+        .iter()
+        .any(|part| always_later(timeline, position, part))
 }
 
 /// Whether in each version a later one stands.
-fn overruled(timeline: &Timeline<'_>, parts: &Parts, place: usize) -> bool
-    ensures { result ≡ overruled_at timeline.now parts.now place }
+fn overruled(timeline: &Timeline<'_>, parts: &Parts, position: usize) -> bool
+    ensures { result ≡ overruled_at timeline.now parts.now position }
 {
-    some_later(timeline, place, parts.free()) || one_always_later(timeline, place, parts.parts())
+    some_later(timeline, position, parts.free())
+        || one_always_later(timeline, position, parts.parts())
 }
 
 /// Whether it shows or hides and may be the last one.
-fn may_be_last(timeline: &Timeline<'_>, parts: &Parts, place: usize) -> bool
-    ensures { result ≡ may_be_last_at timeline.now parts.now place }
+fn may_be_last(timeline: &Timeline<'_>, parts: &Parts, position: usize) -> bool
+    ensures { result ≡ may_be_last_at timeline.now parts.now position }
 {
-    sets_at(timeline, place) && !overruled(timeline, parts, place)
+    sets_at(timeline, position) && !overruled(timeline, parts, position)
 }
 
-fn one_may_be_last(timeline: &Timeline<'_>, parts: &Parts, places: &[usize]) -> bool
-    ensures { result ≡ list_any (may_be_last_at timeline.now parts.now) places.now }
+fn one_may_be_last(timeline: &Timeline<'_>, parts: &Parts, positions: &[usize]) -> bool
+    ensures { result ≡ list_any (may_be_last_at timeline.now parts.now) positions.now }
 {
-    places
+    positions
         .iter()
-        .any(|place| may_be_last(timeline, parts, *place))
+        .any(|position| may_be_last(timeline, parts, *position))
 }
 
 /// Whether one of the part may be the last one.

@@ -1,8 +1,8 @@
-//! The largest compatible sets of an object's places that show, listed unless they are too many.
+//! The largest compatible sets of an object's positions that show, listed unless they are too many.
 
 ghost use Rattle.std.specs.Prelude.{◌≡◌, ◌≤◌, ◌<◌, ◌-◌, ◌^◌, cond, filter, length, IfOk};
 ghost use Rattle.std.specs.Prelude.{option_map};
-ghost use Rattle.gf_groups.specs.GroupedPlaces.{places_below};
+ghost use Rattle.gf_groups.specs.GroupedPositions.{positions_below};
 ghost use Rattle.gf_parts.specs.Parts.{most_sets, joined, whole};
 ghost use Rattle.gf_shown.specs.Deciding.{at_most};
 ghost use Rattle.gf_shown.specs.DecidingAt.{deciding_at, idle_at, shown_within_at};
@@ -10,7 +10,7 @@ ghost use Rattle.gf_shown.specs.ShownSets.{IsSetListing, is_shown};
 ghost use Rattle.gf_table.specs.Standing.{StandsFor};
 
 use crate::deciding::{decides, shows};
-use gf_groups::{Places, Timeline};
+use gf_groups::{Positions, Timeline};
 use gf_ops::{History, ObjectId};
 use gf_parts::{Part, Parts, alone, copied, joined, products};
 use gf_shape::OutOfMemory;
@@ -60,8 +60,8 @@ fn whole_idle(alloc: Global, timeline: &Timeline<'_>, parts: &Parts) -> Result<P
 fn showing(
     alloc: Global,
     timeline: &Timeline<'_>,
-    sets: &[Places],
-) -> Result<Vec<Places>, OutOfMemory>
+    sets: &[Positions],
+) -> Result<Vec<Positions>, OutOfMemory>
     ensures { IfOk result (λ kept. kept.items ≡ filter (is_shown timeline.now) sets.now) }
 {
     let mut kept = Vec::new(alloc);
@@ -77,10 +77,10 @@ fn showing(
 /// many.
 fn at_most(
     alloc: Global,
-    sets: &[Places],
+    sets: &[Positions],
     others: &Part,
     most: usize,
-) -> Result<Option<Vec<Places>>, OutOfMemory>
+) -> Result<Option<Vec<Positions>>, OutOfMemory>
     requires { most < 2 ^ 64 - 1 }
     ensures { IfOk result (λ found.
         option_map (λ v. v.items) found ≡ at_most most sets.now others.now.sets) }
@@ -102,9 +102,9 @@ fn shown_within(
     alloc: Global,
     timeline: &Timeline<'_>,
     parts: &Parts,
-    sets: &[Places],
+    sets: &[Positions],
     most: usize,
-) -> Result<Option<Vec<Places>>, OutOfMemory>
+) -> Result<Option<Vec<Positions>>, OutOfMemory>
     requires { most < 2 ^ 64 - 1 }
     ensures { IfOk result (λ found.
         option_map (λ v. v.items) found ≡ shown_within_at timeline.now most parts.now sets.now) }
@@ -117,8 +117,8 @@ fn shown_within(
     at_most(alloc, &showing, &idle, most)
 }
 
-/// The largest compatible sets of an object's places that show, each once, if they are at most so
-/// many. Where those of what decides are more than a part keeps, they would ask for more memory
+/// The largest compatible sets of an object's positions that show, each once, if they are at most
+/// so many. Where those of what decides are more than a part keeps, they would ask for more memory
 /// than is taken.
 pub(crate) fn shown_sets(
     alloc: Global,
@@ -126,11 +126,11 @@ pub(crate) fn shown_sets(
     table: &GroupTable,
     object: ObjectId,
     most: usize,
-) -> Result<Option<Vec<Places>>, OutOfMemory>
+) -> Result<Option<Vec<Positions>>, OutOfMemory>
     requires stands { StandsFor history.now.ops table.now }
     requires most { most ≤ most_sets }
     ensures { IfOk result (λ found. IsSetListing history.now.ops
-        (places_below history.now.ops object (length history.now.ops))
+        (positions_below history.now.ops object (length history.now.ops))
         most (option_map (λ v. v.items) found)) }
 {
     // Its clause says that the history is valid.

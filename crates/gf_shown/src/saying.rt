@@ -1,4 +1,4 @@
-//! What the operations at places say of `Shown`.
+//! What the operations at positions say of `Shown`.
 
 ghost use Rattle.std.specs.Prelude.{◌≡◌, IfSome, option_copied};
 ghost use Rattle.gf_ops.specs.Limits.{IsInRange};
@@ -69,23 +69,23 @@ fn op_later(a: Option<&Op>, b: Option<&Op>) -> bool
     }
 }
 
-/// Whether the operation at this place shows or hides.
-pub(crate) fn sets_at(timeline: &Timeline<'_>, place: usize) -> bool
-    ensures { result ≡ sets_at timeline.now place }
+/// Whether the operation at this position shows or hides.
+pub(crate) fn sets_at(timeline: &Timeline<'_>, position: usize) -> bool
+    ensures { result ≡ sets_at timeline.now position }
 {
-    op_sets(timeline.get(place))
+    op_sets(timeline.get(position))
 }
 
 /// Whether it shows.
-pub(crate) fn shows_at(timeline: &Timeline<'_>, place: usize) -> bool
-    ensures { result ≡ shows_at timeline.now place }
+pub(crate) fn shows_at(timeline: &Timeline<'_>, position: usize) -> bool
+    ensures { result ≡ shows_at timeline.now position }
 {
-    op_shows(timeline.get(place))
+    op_shows(timeline.get(position))
 }
 
 /// Whether the second one shows or hides, and comes after the first.
-pub(crate) fn later_at(timeline: &Timeline<'_>, place: usize, other: usize) -> bool
-    ensures { result ≡ later_at timeline.now place other }
+pub(crate) fn later_at(timeline: &Timeline<'_>, position: usize, other: usize) -> bool
+    ensures { result ≡ later_at timeline.now position other }
 {
-    op_later(timeline.get(place), timeline.get(other))
+    op_later(timeline.get(position), timeline.get(other))
 }

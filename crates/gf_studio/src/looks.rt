@@ -1,9 +1,11 @@
 //! From the bytes of operation lines to the lines of versions.
 
-ghost use Rattle.std.specs.Prelude.{◌≡◌, ◌≢◌, ◌+◌, ◌≤◌, ◌⊎◌, Err, IfSome, IfOk, IfErr, OnOk, IsTrue};
+ghost use Rattle.std.specs.Prelude.{◌≡◌, ◌≢◌, ◌+◌, ◌≤◌, ◌⊎◌, Err, IfSome, IfOk, IfErr, OnOk};
+ghost use Rattle.std.specs.Prelude.{IsTrue};
 ghost use Rattle.gf_bytes.specs.Counts.{Rises};
 ghost use Rattle.gf_bytes.specs.Reads.{ConsumesAtMost};
-ghost use Rattle.gf_studio.specs.InspectRun.{Looks, Tells, TellsTop, TellsVersions, WritesLook, WritesLookFront};
+ghost use Rattle.gf_studio.specs.InspectRun.{Looks, Tells, TellsTop, TellsVersions, WritesLook};
+ghost use Rattle.gf_studio.specs.InspectRun.{WritesLookFront};
 ghost use Rattle.gf_studio.specs.RefusedParts.{RefusesAsking, RefusesQuery};
 ghost use Rattle.gf_studio.specs.RunAnswers.{ReadsFor, RefusesLook};
 

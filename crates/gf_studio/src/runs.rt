@@ -5,7 +5,8 @@ ghost use Rattle.std.specs.Prelude.{◌≡◌, ◌+◌, ◌≤◌, ◌⊎◌, Er
 ghost use Rattle.gf_bytes.specs.Counts.{Rises};
 ghost use Rattle.gf_bytes.specs.Reads.{ConsumesAtMost};
 ghost use Rattle.gf_studio.specs.FigRun.{Exports, Writes, WritesFront};
-ghost use Rattle.gf_studio.specs.PaintRun.{IsDenoted, IsMeant, WritesBands, WritesPicture, WritesPictureFront};
+ghost use Rattle.gf_studio.specs.PaintRun.{IsDenoted, IsMeant, WritesBands, WritesPicture};
+ghost use Rattle.gf_studio.specs.PaintRun.{WritesPictureFront};
 ghost use Rattle.gf_studio.specs.RunAnswers.{ReadsFor, RefusesFig, RefusesLines};
 
 use crate::StudioError;

@@ -18,10 +18,10 @@ use Rattle.gf_ops.specs.Attribute.{attribute_of, object_of}
 use Rattle.gf_ops.specs.Limits.{IsInRange}
 use Rattle.gf_ops.specs.OperationOrder.{Precedes, entry}
 use Rattle.gf_ops.specs.ValidHistory.{IsValid, IsWithin}
-use Rattle.gf_groups.specs.Growing.{conflict_at, clashes, part, is_covered}
-use Rattle.gf_groups.specs.GroupedPlaces.{is_on}
+use Rattle.gf_groups.specs.Growing.{conflict_at, conflicts_in, part, is_covered}
+use Rattle.gf_groups.specs.GroupedPositions.{is_on}
 use Rattle.gf_groups.proofs.ListLemmas.{Contains-filter, list_any_true, list_any_false, list_any_from}
-use Rattle.gf_groups.proofs.OnPlaceLemmas.{conflict_with, contained_at, on_op}
+use Rattle.gf_groups.proofs.OnPositionLemmas.{conflict_with, contained_at, on_op}
 use Rattle.gf_groups.proofs.TableLemmas.{conflict_at_test}
 use Rattle.gf_ops.proofs.ValidityLemmas.{precedes_irreflexive}
 use Rattle.gf_ops.specs.declared.change.Attr.{Attr}
@@ -36,10 +36,10 @@ use Rattle.gf_table.specs.Next.{IsNextOf, Gives, IsInOne, HasRival}
 use Rattle.gf_table.specs.Standing.{IsSetter}
 use Rattle.gf_table.specs.Summaries.{SummaryState, TellsOf, TellsLast, IsJoined, NotesIn}
 use Rattle.gf_table.specs.Spans.{Spans, TellsSet, TellsSets, Stays, AllStay, OneKnown}
-use Rattle.gf_table.specs.Prints.{print_of, same_print, holds_print, GivesPrint, IsPrinted, TellsPlaces}
+use Rattle.gf_table.specs.Prints.{print_of, same_print, holds_print, GivesPrint, IsPrinted, TellsPositions}
 use Rattle.gf_table.proofs.LongerLemmas.{got_last, got_before, same_before}
 use Rattle.gf_table.proofs.QuickLemmas.{meets, one_op}
-use Rattle.gf_table.proofs.SummaryLemmas.{places_more, places_longer, sets_longer, sets_with}
+use Rattle.gf_table.proofs.SummaryLemmas.{positions_more, positions_longer, sets_longer, sets_with}
 
 -- ---- lists
 
@@ -91,7 +91,7 @@ module _ (h : List Op) (valid : IsValid h) (a : Op) (in_range : IsInRange a) (ac
         absurd cc
   ]
 
-  -- what comes before the operation at a place does not conflict with it
+  -- what comes before the operation at a position does not conflict with it
   calm : (i b : ℕ) (q op : Op) → slice_get (h ++ a ∷ []) i ≡ Some q → slice_get (h ++ a ∷ []) b ≡ Some op → Precedes op q → c i b ≡ false
   calm i b q op there at before = elim (cases_Bool (c i b)) [
     | inl t ↦
@@ -101,7 +101,7 @@ module _ (h : List Op) (valid : IsValid h) (a : Op) (in_range : IsInRange a) (ac
     | inr f ↦ f
   ]
 
-  module _ (m : SummaryState) (same : attribute_of v ≡ m.attribute) (fresh : holds_print (print_of v) m.prints ≡ false) (vs : List ℕ) (inside : (b : ℕ) → Contains vs b → Contains us b) (prints : TellsPlaces h m.attribute m.prints vs)
+  module _ (m : SummaryState) (same : attribute_of v ≡ m.attribute) (fresh : holds_print (print_of v) m.prints ≡ false) (vs : List ℕ) (inside : (b : ℕ) → Contains vs b → Contains us b) (prints : TellsPositions h m.attribute m.prints vs)
       (own : ℕ) (q : Op) (at : slice_get h own ≡ Some q) (beside : c own (length h) ≡ false) where
     abbrev IsOf : List ℕ → Type 0
     IsOf g = (b : ℕ) → Contains g b → Contains vs b
@@ -111,8 +111,8 @@ module _ (h : List Op) (valid : IsValid h) (a : Op) (in_range : IsInRange a) (ac
     known_of g f b op i there n = let w = prints b (f b i) in known m.attribute w.0 m.prints b op (inside b (f b i)) same fresh w.1 w.2 there n
 
     -- where a knew all, its past would count all
-    clash_of : (e : Span) (g : List ℕ) → IsOf g → TellsSet h e g → ¬ (IsWithin e.last a.past) → clashes c (length h) g ≡ true
-    clash_of e g f t unknown = elim (cases_Bool (clashes c (length h) g)) [
+    clash_of : (e : Span) (g : List ℕ) → IsOf g → TellsSet h e g → ¬ (IsWithin e.last a.past) → conflicts_in c (length h) g ≡ true
+    clash_of e g f t unknown = elim (cases_Bool (conflicts_in c (length h) g)) [
       | inl y ↦ y
       | inr n ↦ absurd (unknown (t.least a.past (λ b op i there.
           let s = t.each b i in
@@ -162,8 +162,8 @@ module _ (h : List Op) (valid : IsValid h) (a : Op) (in_range : IsInRange a) (ac
     hit_set : (e : Span) (g : List ℕ) → IsOf g → TellsSet h e g → Stays a.past q.past e → IsHit c (length h) own g
     hit_set e g f t st = record { clash = clash_of e g f t st.unknown; short = short_of e g f t st }
 
-    calm_set : (e : Span) (g : List ℕ) → TellsSet h e g → IsWithin e.last a.past → clashes c (length h) g ≡ false
-    calm_set e g t past = elim (cases_Bool (clashes c (length h) g)) [
+    calm_set : (e : Span) (g : List ℕ) → TellsSet h e g → IsWithin e.last a.past → conflicts_in c (length h) g ≡ false
+    calm_set e g t past = elim (cases_Bool (conflicts_in c (length h) g)) [
       | inl y ↦
           let w = list_any_true (c (length h)) g y in
           let s = t.each w.0 w.1 in
@@ -209,7 +209,7 @@ pub record IsSeen (g : List Op) (a : Op) (v : Value) (n : ℕ) (s : PartsState) 
   pub spared : spares_all_but_last (conflict_at g) n s ≡ true
 
 module _ (h : List Op) (valid : IsValid h) (a : Op) (in_range : IsInRange a) (accepted : IsAccepted h a) (us : List ℕ) (all : (i : ℕ) → Contains us i ↔ (is_on (object_of a) (slice_get h i) ≡ true))
-    (o : ObjectId) (v : Value) (gives : a.change ≡ Set o v) (s : PartsState) (parts : AreParts (conflict_at h) s) (places : (i : ℕ) → Contains (whole s).all i ↔ Contains us i)
+    (o : ObjectId) (v : Value) (gives : a.change ≡ Set o v) (s : PartsState) (parts : AreParts (conflict_at h) s) (positions : (i : ℕ) → Contains (whole s).all i ↔ Contains us i)
     (m : SummaryState) (p : PartState) (gs : List (List ℕ)) (j own : ℕ) (q : Op) (told : TellsLast h s.parts (Some m)) (seen : IsSeen (h ++ a ∷ []) a v (length h) s m p gs j own q) where
   abbrev d : ℕ → ℕ → Bool
   d = conflict_at (h ++ a ∷ [])
@@ -227,7 +227,7 @@ module _ (h : List Op) (valid : IsValid h) (a : Op) (in_range : IsInRange a) (ac
   of_part g i b k = ((kept.0.each g).0 i).1.within b k
 
   inside : (b : ℕ) → Contains p.all b → Contains us b
-  inside b k = (places b).0 ((all_of_fold (conflict_at h) (alone s.free) s.parts b).1 (inr (p, last_in s.parts p seen.last, k)))
+  inside b k = (positions b).0 ((all_of_fold (conflict_at h) (alone s.free) s.parts b).1 (inr (p, last_in s.parts p seen.last, k)))
 
   below : (b : ℕ) → Contains us b → b < length h
   below b k = let w = on_op (object_of a) (slice_get h b) ((all b).0 k) in slice_get_within h b w.0 w.1
@@ -266,10 +266,10 @@ module _ (h : List Op) (valid : IsValid h) (a : Op) (in_range : IsInRange a) (ac
   joins_at : with_part d (length h) s ≡ last_with j (length h) s
   joins_at =
       let b = stands_beside in
-      let spared = and_parts (not (clashes d (length h) s.free)) (not (list_any (touches d (length h)) front)) seen.spared in
-      let calm = one_calm h valid a in_range accepted us all o v gives m seen.joined.attribute seen.joined.fresh p.all inside tells.places own q own_at b.calm j m.spans gs of_part tells.sets seen.joined.spans in
+      let spared = and_parts (not (conflicts_in d (length h) s.free)) (not (list_any (touches d (length h)) front)) seen.spared in
+      let calm = one_calm h valid a in_range accepted us all o v gives m seen.joined.attribute seen.joined.fresh p.all inside tells.positions own q own_at b.calm j m.spans gs of_part tells.sets seen.joined.spans in
       joins_last d (length h) s front p gs j (last_apart s.parts p seen.last) seen.sets kept.1
-      (not-true (clashes d (length h) s.free) spared.0)
+      (not-true (conflicts_in d (length h) s.free) spared.0)
       (not-true (list_any (touches d (length h)) front) spared.1)
       (list_any_from (d (length h)) p.all other b.other b.rival)
       not_there
@@ -287,7 +287,7 @@ module _ (h : List Op) (valid : IsValid h) (a : Op) (in_range : IsInRange a) (ac
       let sets : set_with j (length h) gs ≡ ks = ap (λ r. unwrap_or r ks) (sym grown ∙ (ap (λ (z : PartState). z.sets) same ∙ f)) in
       let own : IsPrinted (h ++ a ∷ []) m.attribute (length h) (print_of v) = record { op = a; at = got_last h a; gives = record { object = o; given = v; change = gives; attribute = seen.joined.attribute; print = refl } } in
       let made : TellsOf (h ++ a ∷ []) (record { attribute = m.attribute; spans = slice_set m.spans j n.span; prints = m.prints ++ print_of v ∷ [] }) (p.all ++ length h ∷ []) (set_with j (length h) gs) = record {
-        places = places_more (h ++ a ∷ []) m.attribute m.prints p.all (length h) (print_of v) (places_longer h a m.attribute m.prints p.all tells.places) own;
+        positions = positions_more (h ++ a ∷ []) m.attribute m.prints p.all (length h) (print_of v) (positions_longer h a m.attribute m.prints p.all tells.positions) own;
         sets = sets_with (h ++ a ∷ []) a (length h) (got_last h a) j m.spans gs n.span (sets_longer h a m.spans gs tells.sets) n.widens;
       } in
       let is : record { attribute = m.attribute; spans = slice_set m.spans j n.span; prints = m.prints ++ print_of v ∷ [] } ≡ k = λ i. record { attribute = sym n.attribute i; spans = sym n.spans i; prints = sym n.prints i } in
@@ -306,14 +306,14 @@ module _ (g : List Op) (a : Op) (n : ℕ) (s : PartsState) (r : Option SummarySt
   told_some = subst (TellsLast h s.parts) some next.told
 
   seen_at : IsSeen (h ++ a ∷ []) a v (length h) s m p gs j own q
-  seen_at = subst (λ z. IsSeen z a v (length h) s m p gs j own q) next.longer (subst (λ k. IsSeen g a v k s m p gs j own q) next.place seen)
+  seen_at = subst (λ z. IsSeen z a v (length h) s m p gs j own q) next.longer (subst (λ k. IsSeen g a v k s m p gs j own q) next.position seen)
 
   pub joins : with_part (conflict_at g) n s ≡ last_with j n s
   joins =
-      let e = joins_at h next.valid a next.in_range next.accepted next.us next.all gives.0 v gives.1 s next.parts next.places m p gs j own q told_some seen_at in
-      subst (λ z. with_part (conflict_at z) n s ≡ last_with j n s) (sym next.longer) (subst (λ k. with_part (conflict_at (h ++ a ∷ [])) k s ≡ last_with j k s) (sym next.place) e)
+      let e = joins_at h next.valid a next.in_range next.accepted next.us next.all gives.0 v gives.1 s next.parts next.positions m p gs j own q told_some seen_at in
+      subst (λ z. with_part (conflict_at z) n s ≡ last_with j n s) (sym next.longer) (subst (λ k. with_part (conflict_at (h ++ a ∷ [])) k s ≡ last_with j k s) (sym next.position) e)
 
   pub joined_told : (k : Option SummaryState) → NotesIn r j a.id v k → TellsLast g (last_with j n s).parts k
   joined_told k notes =
-      let t = told_at h next.valid a next.in_range next.accepted next.us next.all gives.0 v gives.1 s next.parts next.places m p gs j own q told_some seen_at k (subst (λ z. NotesIn z j a.id v k) some notes) in
-      subst (λ z. TellsLast z (last_with j n s).parts k) (sym next.longer) (subst (λ i. TellsLast (h ++ a ∷ []) (last_with j i s).parts k) (sym next.place) t)
+      let t = told_at h next.valid a next.in_range next.accepted next.us next.all gives.0 v gives.1 s next.parts next.positions m p gs j own q told_some seen_at k (subst (λ z. NotesIn z j a.id v k) some notes) in
+      subst (λ z. TellsLast z (last_with j n s).parts k) (sym next.longer) (subst (λ i. TellsLast (h ++ a ∷ []) (last_with j i s).parts k) (sym next.position) t)

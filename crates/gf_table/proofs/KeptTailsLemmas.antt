@@ -26,12 +26,12 @@ module _ (h : List Op) (a : Op) where
     last = moved e e e.last n t.value refl refl t.last;
     kept = elim t.kept [
       | inl k ↦ inl k
-      | inr k ↦ inr (record { place = k.place; value = k.value; kept = k.kept; there = moved e e k.place n k.value refl refl k.there; differs = k.differs })
+      | inr k ↦ inr (record { position = k.position; value = k.value; kept = k.kept; there = moved e e k.position n k.value refl refl k.there; differs = k.differs })
     ];
   }
 
   module _ (us : List ℕ) (within : (i : ℕ) → Contains us i → i < length h) where
-    -- what stands at the places stood there
+    -- what stands at the positions stood there
     pub before : (i : ℕ) (b : Op) → Contains us i → slice_get new i ≡ Some b → slice_get h i ≡ Some b
     before i b m at = sym (same_before h a i (within i m)) ∙ at
 

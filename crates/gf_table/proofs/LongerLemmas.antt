@@ -1,4 +1,4 @@
--- A history that got longer: what stands at its places, their conflicts, and the places of the operations on an object.
+-- A history that got longer: what stands at its positions, their conflicts, and the positions of the operations on an object.
 use Rattle.std.proofs.Common.{◌≡◌, ℕ, zero, suc, ◌<◌, ◌≤◌, true, false, List, [], ◌∷◌, ◌++◌, length, get_or, add-one, refl, sym, ap, ◌∙◌, arith}
 use Rattle.std.specs.Prelude.{cond, Some, slice_get}
 use Rattle.std.proofs.lemmas.Bool.{cond-true, cond-false}
@@ -8,7 +8,7 @@ use Rattle.std.proofs.Math.Seq.{get_or-append_seam}
 use Rattle.gf_ops.specs.declared.op.Op.{Op}
 use Rattle.gf_ops.specs.declared.op.ObjectId.{ObjectId}
 use Rattle.gf_groups.specs.Growing.{conflict_at}
-use Rattle.gf_groups.specs.GroupedPlaces.{is_on, places_below}
+use Rattle.gf_groups.specs.GroupedPositions.{is_on, positions_below}
 
 module _ (h : List Op) (a : Op) where
   abbrev longer : List Op
@@ -31,29 +31,29 @@ module _ (h : List Op) (a : Op) where
   pub same_conflict : (i j : ℕ) → i < length h → j < length h → conflict_at h i j ≡ conflict_at longer i j
   same_conflict i j l m = rw (same_before i l, same_before j m) refl
 
-  -- the places of the operations before
-  pub places_before : (o : ObjectId) (n : ℕ) → n ≤ length h → places_below longer o n ≡ places_below h o n
-  places_before o zero l = refl
-  places_before o (suc n) l =
-      let r = places_before o n (omega (arith, l)) in
+  -- the positions of the operations before
+  pub positions_before : (o : ObjectId) (n : ℕ) → n ≤ length h → positions_below longer o n ≡ positions_below h o n
+  positions_before o zero l = refl
+  positions_before o (suc n) l =
+      let r = positions_before o n (omega (arith, l)) in
       let e = same_before n (omega (arith, l)) in
-      ap (λ r. cond (is_on o r) (places_below longer o n ++ n ∷ []) (places_below longer o n)) e ∙ ap (λ us. cond (is_on o (slice_get h n)) (us ++ n ∷ []) us) r
+      ap (λ r. cond (is_on o r) (positions_below longer o n ++ n ∷ []) (positions_below longer o n)) e ∙ ap (λ us. cond (is_on o (slice_get h n)) (us ++ n ∷ []) us) r
 
-  abbrev last_places : ObjectId → List ℕ
-  last_places o = cond (is_on o (slice_get longer (length h))) (places_below longer o (length h) ++ length h ∷ []) (places_below longer o (length h))
+  abbrev last_positions : ObjectId → List ℕ
+  last_positions o = cond (is_on o (slice_get longer (length h))) (positions_below longer o (length h) ++ length h ∷ []) (positions_below longer o (length h))
 
-  all_places : (o : ObjectId) → places_below longer o (length longer) ≡ last_places o
-  all_places o = ap (places_below longer o) length-longer
+  all_positions : (o : ObjectId) → positions_below longer o (length longer) ≡ last_positions o
+  all_positions o = ap (positions_below longer o) length-longer
 
-  same_places : (o : ObjectId) → last_places o ≡ cond (is_on o (Some a)) (places_below h o (length h) ++ length h ∷ []) (places_below h o (length h))
-  same_places o =
-      ap (λ r. cond (is_on o r) (places_below longer o (length h) ++ length h ∷ []) (places_below longer o (length h))) got_last
-      ∙ ap (λ us. cond (is_on o (Some a)) (us ++ length h ∷ []) us) (places_before o (length h) (omega arith))
+  same_positions : (o : ObjectId) → last_positions o ≡ cond (is_on o (Some a)) (positions_below h o (length h) ++ length h ∷ []) (positions_below h o (length h))
+  same_positions o =
+      ap (λ r. cond (is_on o r) (positions_below longer o (length h) ++ length h ∷ []) (positions_below longer o (length h))) got_last
+      ∙ ap (λ us. cond (is_on o (Some a)) (us ++ length h ∷ []) us) (positions_before o (length h) (omega arith))
 
-  -- one place more for its object
-  pub places_with_last : (o : ObjectId) → is_on o (Some a) ≡ true → places_below longer o (length longer) ≡ places_below h o (length h) ++ length h ∷ []
-  places_with_last o y = all_places o ∙ (same_places o ∙ cond-true (is_on o (Some a)) (places_below h o (length h) ++ length h ∷ []) (places_below h o (length h)) y)
+  -- one position more for its object
+  pub positions_with_last : (o : ObjectId) → is_on o (Some a) ≡ true → positions_below longer o (length longer) ≡ positions_below h o (length h) ++ length h ∷ []
+  positions_with_last o y = all_positions o ∙ (same_positions o ∙ cond-true (is_on o (Some a)) (positions_below h o (length h) ++ length h ∷ []) (positions_below h o (length h)) y)
 
   -- and the same for another
-  pub places_without_last : (o : ObjectId) → is_on o (Some a) ≡ false → places_below longer o (length longer) ≡ places_below h o (length h)
-  places_without_last o n = all_places o ∙ (same_places o ∙ cond-false (is_on o (Some a)) (places_below h o (length h) ++ length h ∷ []) (places_below h o (length h)) n)
+  pub positions_without_last : (o : ObjectId) → is_on o (Some a) ≡ false → positions_below longer o (length longer) ≡ positions_below h o (length h)
+  positions_without_last o n = all_positions o ∙ (same_positions o ∙ cond-false (is_on o (Some a)) (positions_below h o (length h) ++ length h ∷ []) (positions_below h o (length h)) n)

@@ -19,9 +19,9 @@ use Rattle.gf_ops.specs.Limits.{IsInRange}
 use Rattle.gf_ops.specs.ValidHistory.{IsValid}
 use Rattle.gf_ops.proofs.ListLemmas.{Contains-cons_cases, Contains-cons_head, Contains-cons_tail, not_Contains-nil}
 use Rattle.gf_ops.proofs.SameLemmas.{value_eq-same, value_eq-true}
-use Rattle.gf_groups.specs.GroupedPlaces.{is_on}
+use Rattle.gf_groups.specs.GroupedPositions.{is_on}
 use Rattle.gf_groups.proofs.ListLemmas.{Contains-filter}
-use Rattle.gf_groups.proofs.OnPlaceLemmas.{contained_at, on_op}
+use Rattle.gf_groups.proofs.OnPositionLemmas.{contained_at, on_op}
 use Rattle.gf_groups.proofs.ExposedLemmas.{found_in}
 use Rattle.gf_table.specs.declared.tails.Tail.{Tail}
 use Rattle.gf_table.specs.Standing.{IsSetter, HasSetter, IsOvertaken, IsTold, AreTails}
@@ -55,7 +55,7 @@ same_value : (k : Change) (o p : ObjectId) (v w : Value) → k ≡ Set o v → k
 unfolding value_in
 same_value k o p v w e f = ap (λ q. value_in q v) (sym f ∙ e)
 
--- a comes behind h and gives v to the object o, which has the places us
+-- a comes behind h and gives v to the object o, which has the positions us
 module _ (h : List Op) (valid : IsValid h) (a : Op) (in_range : IsInRange a) (accepted : IsAccepted h a) (us : List ℕ) (all : (i : ℕ) → Contains us i ↔ (is_on (object_of a) (slice_get h i) ≡ true))
     (o : ObjectId) (v : Value) (gives : a.change ≡ Set o v) (es : List Tail) (tails : AreTails h us es) where
   abbrev new : List Op
@@ -111,15 +111,15 @@ module _ (h : List Op) (valid : IsValid h) (a : Op) (in_range : IsInRange a) (ac
         | inl y ↦ elim told.kept [
           | inl k ↦ absurd (differ (k ∙ value_eq-true told.value v y))
           | inr k ↦ record {
-            place = k.place;
+            position = k.position;
             value = k.value;
             kept = other_found f.0 f.1 ∙ (cond-true (op_gives (slice_get new f.0.last) v) f.0.other (Some f.0.last) (tells ∙ y) ∙ k.kept);
-            there = moved h a f.0 last k.place b.id.seq k.value of.0 of.1 k.there;
+            there = moved h a f.0 last k.position b.id.seq k.value of.0 of.1 k.there;
             differs = λ d. k.differs (d ∙ sym (value_eq-true told.value v y));
           }
         ]
         | inr n ↦ record {
-          place = f.0.last;
+          position = f.0.last;
           value = told.value;
           kept = other_found f.0 f.1 ∙ cond-false (op_gives (slice_get new f.0.last) v) f.0.other (Some f.0.last) (tells ∙ n);
           there = moved h a f.0 last f.0.last b.id.seq told.value of.0 of.1 l;
@@ -137,7 +137,7 @@ module _ (h : List Op) (valid : IsValid h) (a : Op) (in_range : IsInRange a) (ac
     ];
   }
 
-  -- the operation at the new place is a
+  -- the operation at the new position is a
   is_last : (i : ℕ) (b : Op) → length h ≡ i → slice_get new i ≡ Some b → b ≡ a
   is_last i b e at = one_op (slice_get new i) b a at (subst (λ k. slice_get new k ≡ Some a) e (got_last h a))
 

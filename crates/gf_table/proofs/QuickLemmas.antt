@@ -21,10 +21,10 @@ use Rattle.gf_ops.specs.OperationOrder.{Precedes, entry}
 use Rattle.gf_ops.specs.ValidHistory.{IsValid}
 use Rattle.gf_ops.proofs.SameLemmas.{value_eq-same, value_eq-true}
 use Rattle.gf_ops.proofs.ValidityLemmas.{same_op}
-use Rattle.gf_groups.specs.Growing.{conflict_at, clashes}
-use Rattle.gf_groups.specs.GroupedPlaces.{is_on}
+use Rattle.gf_groups.specs.Growing.{conflict_at, conflicts_in}
+use Rattle.gf_groups.specs.GroupedPositions.{is_on}
 use Rattle.gf_groups.proofs.ListLemmas.{list_any_true, list_any_from}
-use Rattle.gf_groups.proofs.OnPlaceLemmas.{conflict_from, conflict_with, contained_at, on_op}
+use Rattle.gf_groups.proofs.OnPositionLemmas.{conflict_from, conflict_with, contained_at, on_op}
 use Rattle.gf_table.specs.declared.tails.Tail.{Tail}
 use Rattle.gf_table.specs.Standing.{IsSetter, IsOvertaken, IsTold, AreTails}
 use Rattle.gf_table.specs.Tails.{attr_eq, is_of, hits_other, hits, hits_one}
@@ -69,7 +69,7 @@ set_told (value.Layer n) attr.Layer x e = (refl, ap (λ o. unwrap_or o (value.La
 set_told (value.Shown b) attr.Shown x e = (refl, ap (λ o. unwrap_or o (value.Shown b)) (sym e))
 set_told v t x e = absurd cc
 
--- what stands at a place is one operation
+-- what stands at a position is one operation
 pub one_op : (r : Option Op) (a b : Op) → r ≡ Some a → r ≡ Some b → a ≡ b
 one_op r a b e f = cc
 
@@ -79,16 +79,16 @@ same_answer true false f g = sym (f refl)
 same_answer false true f g = g refl
 same_answer false false f g = refl
 
--- a comes behind h and gives v to the object o, which has the places us
+-- a comes behind h and gives v to the object o, which has the positions us
 module _ (h : List Op) (valid : IsValid h) (a : Op) (in_range : IsInRange a) (accepted : IsAccepted h a) (us : List ℕ) (all : (i : ℕ) → Contains us i ↔ (is_on (object_of a) (slice_get h i) ≡ true)) where
   abbrev c : ℕ → ℕ → Bool
   c = conflict_at (h ++ a ∷ [])
 
-  -- what stands at one of the places
+  -- what stands at one of the positions
   there : (i : ℕ) → Contains us i → (b : Op) × (slice_get h i ≡ Some b) × (object_of b ≡ object_of a)
   there i m = on_op (object_of a) (slice_get h i) ((all i).0 m)
 
-  -- where a makes the object there is no place
+  -- where a makes the object there is no position
   pub made_none : (start : _) → a.change ≡ Create start → (i : ℕ) → ¬ (Contains us i)
   made_none start e i m =
       let w = there i m in
@@ -146,7 +146,7 @@ module _ (h : List Op) (valid : IsValid h) (a : Op) (in_range : IsInRange a) (ac
           by_other : (over : IsOvertaken h e n told.value) → over.value ≢ v → hits_other c (length h) e.other ≡ true
           by_other over d =
               let t = over.there in
-              subst (λ r. hits_other c (length h) r ≡ true) (sym over.kept) (meets over.place t.op e.site over.value (tails.other e m over.place over.kept) t.at (setter_of_v t.op over.value t.setter) d (later t.op t.setter.site t.later))
+              subst (λ r. hits_other c (length h) r ≡ true) (sym over.kept) (meets over.position t.op e.site over.value (tails.other e m over.position over.kept) t.at (setter_of_v t.op over.value t.setter) d (later t.op t.setter.site t.later))
 
       -- by the change of the operation that a conflicts with
       hit_by : (i : ℕ) (b : Op) (k : Change) → b.change ≡ k → Contains us i → slice_get h i ≡ Some b → Conflict a b → hits_one c (attribute_of v) (length h) es ≡ true
@@ -173,7 +173,7 @@ module _ (h : List Op) (valid : IsValid h) (a : Op) (in_range : IsInRange a) (ac
               let y' : z.id.seq ≤ entry a.past b.id.site = subst (λ j. z.id.seq ≤ entry a.past j) (q ∙ e) y in
               omega (arith, l, y')
 
-      hit_if : clashes c (length h) us ≡ true → hits_one c (attribute_of v) (length h) es ≡ true
+      hit_if : conflicts_in c (length h) us ≡ true → hits_one c (attribute_of v) (length h) es ≡ true
       hit_if y =
           let w = list_any_true (c (length h)) us y in
           let b = there w.0 w.1 in
@@ -181,11 +181,11 @@ module _ (h : List Op) (valid : IsValid h) (a : Op) (in_range : IsInRange a) (ac
           let same : k.0 ≡ b.0 = one_op (slice_get (h ++ a ∷ []) w.0) k.0 b.0 k.1 (got_before h a w.0 b.0 b.1) in
           hit_by w.0 b.0 b.0.change refl w.1 b.1 (subst (Conflict a) same k.2)
 
-      other_hits : (e : Tail) → Contains es e → (r : Option ℕ) → e.other ≡ r → hits_other c (length h) r ≡ true → clashes c (length h) us ≡ true
+      other_hits : (e : Tail) → Contains es e → (r : Option ℕ) → e.other ≡ r → hits_other c (length h) r ≡ true → conflicts_in c (length h) us ≡ true
       other_hits e m (Some k) f x = list_any_from (c (length h)) us k (tails.other e m k f) x
       other_hits e m None f x = absurd cc
 
-      only_if : hits_one c (attribute_of v) (length h) es ≡ true → clashes c (length h) us ≡ true
+      only_if : hits_one c (attribute_of v) (length h) es ≡ true → conflicts_in c (length h) us ≡ true
       only_if y =
           let w = list_any_true (hits c (attribute_of v) (length h)) es y in
           let k = and_parts (attr_eq w.0.attribute (attribute_of v)) (c (length h) w.0.last || hits_other c (length h) w.0.other) w.2 in
@@ -195,5 +195,5 @@ module _ (h : List Op) (valid : IsValid h) (a : Op) (in_range : IsInRange a) (ac
           ]
 
       -- THE QUICK TEST
-      pub quick : hits_one c (attribute_of v) (length h) es ≡ clashes c (length h) us
-      quick = same_answer (hits_one c (attribute_of v) (length h) es) (clashes c (length h) us) only_if hit_if
+      pub quick : hits_one c (attribute_of v) (length h) es ≡ conflicts_in c (length h) us
+      quick = same_answer (hits_one c (attribute_of v) (length h) es) (conflicts_in c (length h) us) only_if hit_if

@@ -13,15 +13,15 @@ use Rattle.gf_ops.specs.Attribute.{object_of}
 use Rattle.gf_ops.specs.Limits.{IsInRange}
 use Rattle.gf_ops.specs.ValidHistory.{IsValid}
 use Rattle.gf_groups.specs.Growing.{conflict_at}
-use Rattle.gf_groups.specs.GroupedPlaces.{is_on, places_below, group_at}
+use Rattle.gf_groups.specs.GroupedPositions.{is_on, positions_below, group_at}
 use Rattle.gf_groups.specs.Parting.{object_cmp}
 use Rattle.gf_groups.specs.Tables.{IsTable}
 use Rattle.gf_groups.specs.Versions.{IsMade}
 use Rattle.gf_groups.proofs.GroupLemmas.{groups_exactly, groups_once}
 use Rattle.gf_groups.proofs.GrowingLemmas.{table_first}
-use Rattle.gf_groups.proofs.OnPlaceLemmas.{all_places, on_from, on_to}
+use Rattle.gf_groups.proofs.OnPositionLemmas.{all_positions, on_from, on_to}
 use Rattle.gf_groups.proofs.PartingLemmas.{object_cmp_exact, object_cmp_total}
-use Rattle.gf_groups.proofs.PlaceLemmas.{Contains-places_below, places_below-rising}
+use Rattle.gf_groups.proofs.PositionLemmas.{Contains-positions_below, positions_below-rising}
 use Rattle.gf_groups.proofs.SortedLemmas.{equal_left}
 use Rattle.gf_groups.proofs.TableLemmas.{conflict_at_test}
 use Rattle.gf_parts.specs.Parts.{whole, listed}
@@ -31,7 +31,7 @@ use Rattle.gf_table.specs.ObjectState.{ObjectState, nothing, with_op}
 use Rattle.gf_table.specs.Standing.{IsStateOf, Stands, StandsFor, AreAllOf, state_of}
 use Rattle.gf_table.specs.Next.{IsNextOf}
 use Rattle.gf_table.specs.Summaries.{SummaryState, TellsLast}
-use Rattle.gf_table.proofs.LongerLemmas.{places_with_last, places_without_last}
+use Rattle.gf_table.proofs.LongerLemmas.{positions_with_last, positions_without_last}
 use Rattle.gf_table.proofs.StateLemmas.{first_state, state_kept, state_more}
 
 -- ---- keys
@@ -60,8 +60,8 @@ module _ (h : List Op) (valid : IsValid h) (a : Op) (in_range : IsInRange a) (ac
   abbrev new : List Op
   new = h ++ a ∷ []
 
-  within : (o : ObjectId) (i : ℕ) → Contains (places_below h o (length h)) i → i < length h
-  within o i m = ((Contains-places_below h o (length h) i).0 m).0
+  within : (o : ObjectId) (i : ℕ) → Contains (positions_below h o (length h)) i → i < length h
+  within o i m = ((Contains-positions_below h o (length h) i).0 m).0
 
   -- the state of a's object, or nothing, is right
   or_nothing : (us : List ℕ) (r : Option ObjectState) → Stands h us r → IsStateOf h us (unwrap_or r nothing)
@@ -80,29 +80,29 @@ module _ (h : List Op) (valid : IsValid h) (a : Op) (in_range : IsInRange a) (ac
 
   pub stands_after : (t s : List (ObjectId × ObjectState)) → StandsFor h t → Adds t s → StandsFor new s
   stands_after t s stands adds q =
-      let us = places_below h q (length h) in
+      let us = positions_below h q (length h) in
       let o = object_of a in
       elim (cases_Bool (is_at (object_cmp o) q)) [
         | inl y ↦
             let same : o ≡ q = at_told o q y in
             let own : Stands h us (state_of t o) = subst (λ p. Stands h us (state_of t p)) (sym same) (stands q) in
-            let all : (i : ℕ) → Contains us i ↔ (is_on o (slice_get h i) ≡ true) = subst (λ p. (i : ℕ) → Contains us i ↔ (is_on p (slice_get h i) ≡ true)) (sym same) (all_places h q) in
+            let all : (i : ℕ) → Contains us i ↔ (is_on o (slice_get h i) ≡ true) = subst (λ p. (i : ℕ) → Contains us i ↔ (is_on p (slice_get h i) ≡ true)) (sym same) (all_positions h q) in
             let more = state_more h a us (within q) (unwrap_or (state_of t o) nothing) (or_nothing us (state_of t o) own) valid in_range accepted all adds.summary adds.told in
-            let places = places_with_last h a q (on_to q a same) in
+            let positions = positions_with_last h a q (on_to q a same) in
             let here : state_of s q ≡ Some (with_op new a (length h) adds.summary (unwrap_or (state_of t o) nothing)) =
             adds.puts q ∙ cond-true (is_at (object_cmp o) q) (Some (with_op new a (length h) adds.summary (unwrap_or (state_of t o) nothing))) (state_of t q) y in
-            rw (places, here) more
+            rw (positions, here) more
         | inr n ↦
             let off : is_on q (Some a) ≡ false = elim (cases_Bool (is_on q (Some a))) [
               | inl k ↦ let same : o ≡ q = on_from q a k in let y : is_at (object_cmp o) q ≡ true = subst (λ p. is_at (object_cmp o) p ≡ true) same (at_itself o) in absurd cc
               | inr k ↦ k
             ] in
-            let places = places_without_last h a q off in
+            let positions = positions_without_last h a q off in
             let here : state_of s q ≡ state_of t q = adds.puts q ∙ cond-false (is_at (object_cmp o) q) (Some (with_op new a (length h) adds.summary (unwrap_or (state_of t o) nothing))) (state_of t q) n in
-            rw (places, here) (kept us (within q) (state_of t q) (stands q))
+            rw (positions, here) (kept us (within q) (state_of t q) (stands q))
       ]
 
-  -- by what stands in its place
+  -- by what stands in its position
   pub adds_from : (t s : List (ObjectId × ObjectState)) (k : ObjectId) (r w : ObjectState) (g : List Op) (n : ℕ) → k ≡ object_of a → unwrap_or (state_of t k) nothing ≡ r → g ≡ new → n ≡ length h →
       w ≡ with_op g a n w.summary r → TellsLast g w.parts.parts w.summary → ((q : ObjectId) → state_of s q ≡ cond (is_at (object_cmp k) q) (Some w) (state_of t q)) → Adds t s
   adds_from t s k r w g n same was long last made told f =
@@ -121,10 +121,10 @@ module _ (h : List Op) (valid : IsValid h) (a : Op) (in_range : IsInRange a) (ac
   pub next_from : (t : List (ObjectId × ObjectState)) → StandsFor h t → (k : ObjectId) (r : ObjectState) (g : List Op) (n : ℕ) → k ≡ object_of a → unwrap_or (state_of t k) nothing ≡ r → g ≡ new → n ≡ length h → IsNextOf g a n r.parts r.summary
   next_from t stands k r g n same was long last =
       let o = object_of a in
-      let us = places_below h o (length h) in
+      let us = positions_below h o (length h) in
       let old : unwrap_or (state_of t o) nothing ≡ r = ap (λ p. unwrap_or (state_of t p) nothing) (sym same) ∙ was in
       let state : IsStateOf h us r = subst (IsStateOf h us) old (or_nothing us (state_of t o) (stands o)) in
-      record { history = h; longer = long; place = last; valid = valid; in_range = in_range; accepted = accepted; us = us; all = all_places h o; parts = state.parts; places = state.places; told = state.summary }
+      record { history = h; longer = long; position = last; valid = valid; in_range = in_range; accepted = accepted; us = us; all = all_positions h o; parts = state.parts; positions = state.positions; told = state.summary }
 
 -- two facts of one success
 pub both_ok : {T E : Type 0} (X Y : Type 0) (r : Result T E) → OnOk r X → OnOk r Y → OnOk r (X × Y)
@@ -135,7 +135,7 @@ both_ok X Y (Err e) x y = tt
 
 -- the sets of an object that has a state
 pub sets_listed : (h : List Op) (us : List ℕ) (t : ObjectState) → IsStateOf h us t → IsTable (conflict_at h) us (listed (conflict_at h) t.parts)
-sets_listed h us t s = table_alike (conflict_at h) (whole t.parts).all us (listed (conflict_at h) t.parts) s.places (table_listed (conflict_at h) (conflict_at_test h) t.parts s.parts)
+sets_listed h us t s = table_alike (conflict_at h) (whole t.parts).all us (listed (conflict_at h) t.parts) s.positions (table_listed (conflict_at h) (conflict_at_test h) t.parts s.parts)
 
 -- and of one that has none
 pub sets_none : (h : List Op) (us : List ℕ) → us ≡ [] → IsTable (conflict_at h) us ([] ∷ [])
@@ -144,11 +144,11 @@ sets_none h us e = subst (λ vs. IsTable (conflict_at h) vs ([] ∷ [])) (sym e)
 -- THE LAW: the versions of an object, each once
 pub versions_listed : (h : List Op) (t : List (ObjectId × ObjectState)) (o : ObjectId) (s : ObjectState) → IsValid h → StandsFor h t → IsMade h o → state_of t o ≡ Some s → AreAllOf h o (map (group_at h o) (listed (conflict_at h) s.parts))
 versions_listed h t o s valid stands made found =
-    let us = places_below h o (length h) in
+    let us = positions_below h o (length h) in
     let state : IsStateOf h us s = subst (Stands h us) found (stands o) in
     let table = sets_listed h us s state in
-    let rises = places_below-rising h o (length h) in
+    let rises = positions_below-rising h o (length h) in
     record {
-      exactly = groups_exactly h valid o us (all_places h o) rises (listed (conflict_at h) s.parts) table made;
-      once = groups_once h valid o us (all_places h o) rises (listed (conflict_at h) s.parts) table;
+      exactly = groups_exactly h valid o us (all_positions h o) rises (listed (conflict_at h) s.parts) table made;
+      once = groups_once h valid o us (all_positions h o) rises (listed (conflict_at h) s.parts) table;
     }

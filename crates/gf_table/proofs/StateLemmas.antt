@@ -15,8 +15,8 @@ use Rattle.gf_ops.specs.Attribute.{attribute_of, object_of}
 use Rattle.gf_ops.specs.Limits.{IsInRange}
 use Rattle.gf_ops.specs.ValidHistory.{IsValid}
 use Rattle.gf_ops.proofs.ListLemmas.{not_Contains-nil}
-use Rattle.gf_groups.specs.Growing.{conflict_at, clashes}
-use Rattle.gf_groups.specs.GroupedPlaces.{is_on}
+use Rattle.gf_groups.specs.Growing.{conflict_at, conflicts_in}
+use Rattle.gf_groups.specs.GroupedPositions.{is_on}
 use Rattle.gf_groups.proofs.ListLemmas.{list_any_true, list_any_from}
 use Rattle.gf_groups.proofs.TableLemmas.{conflict_at_test}
 use Rattle.gf_parts.specs.Parted.{AreParts}
@@ -32,7 +32,7 @@ use Rattle.gf_table.proofs.NotedLemmas.{tails_noted}
 use Rattle.gf_table.proofs.QuickLemmas.{made_none, one_op, quick}
 use Rattle.gf_table.proofs.SummaryLemmas.{last_longer}
 
--- ---- whether the next one is calm, by a list of the places
+-- ---- whether the next one is calm, by a list of the positions
 
 module _ (c : ℕ → ℕ → Bool) (t : PartsState) (us : List ℕ) (same : (i : ℕ) → Contains (whole t).all i ↔ Contains us i) (x : ℕ) where
   free_in : (i : ℕ) → Contains t.free i → Contains us i
@@ -41,13 +41,13 @@ module _ (c : ℕ → ℕ → Bool) (t : PartsState) (us : List ℕ) (same : (i 
   part_in : (p : PartState) → Contains t.parts p → (i : ℕ) → Contains p.all i → Contains us i
   part_in p k i m = (same i).0 ((all_of_fold c (alone t.free) t.parts i).1 (inr (p, k, m)))
 
-  no_free : clashes c x us ≡ false → clashes c x t.free ≡ false
-  no_free n = elim (cases_Bool (clashes c x t.free)) [
+  no_free : conflicts_in c x us ≡ false → conflicts_in c x t.free ≡ false
+  no_free n = elim (cases_Bool (conflicts_in c x t.free)) [
     | inl y ↦ let w = list_any_true (c x) t.free y in let z = list_any_from (c x) us w.0 (free_in w.0 w.1) w.2 in absurd cc
     | inr f ↦ f
   ]
 
-  no_part : clashes c x us ≡ false → list_any (touches c x) t.parts ≡ false
+  no_part : conflicts_in c x us ≡ false → list_any (touches c x) t.parts ≡ false
   no_part n = elim (cases_Bool (list_any (touches c x) t.parts)) [
     | inl y ↦
         let p = list_any_true (touches c x) t.parts y in
@@ -56,14 +56,14 @@ module _ (c : ℕ → ℕ → Bool) (t : PartsState) (us : List ℕ) (same : (i 
     | inr f ↦ f
   ]
 
-  calm_if : clashes c x us ≡ false → is_calm c x t ≡ true
-  calm_if n = and_from (not (clashes c x t.free)) (not (list_any (touches c x) t.parts)) (not_from_false (clashes c x t.free) (no_free n)) (not_from_false (list_any (touches c x) t.parts) (no_part n))
+  calm_if : conflicts_in c x us ≡ false → is_calm c x t ≡ true
+  calm_if n = and_from (not (conflicts_in c x t.free)) (not (list_any (touches c x) t.parts)) (not_from_false (conflicts_in c x t.free) (no_free n)) (not_from_false (list_any (touches c x) t.parts) (no_part n))
 
-  not_calm_if : clashes c x us ≡ true → is_calm c x t ≡ false
+  not_calm_if : conflicts_in c x us ≡ true → is_calm c x t ≡ false
   not_calm_if y = elim (cases_Bool (is_calm c x t)) [
     | inl k ↦
-        let q = and_parts (not (clashes c x t.free)) (not (list_any (touches c x) t.parts)) k in
-        let free = not-true (clashes c x t.free) q.0 in
+        let q = and_parts (not (conflicts_in c x t.free)) (not (list_any (touches c x) t.parts)) k in
+        let free = not-true (conflicts_in c x t.free) q.0 in
         let part = not-true (list_any (touches c x) t.parts) q.1 in
         let w = list_any_true (c x) us y in
         elim ((all_of_fold c (alone t.free) t.parts w.0).0 ((same w.0).1 w.1)) [
@@ -74,52 +74,52 @@ module _ (c : ℕ → ℕ → Bool) (t : PartsState) (us : List ℕ) (same : (i 
     | inr n ↦ n
   ]
 
-  -- whoever tells what a look at each place tells, takes the right step
-  pub right_step : (b : Bool) → b ≡ clashes c x us → cond b (with_part c x t) (with_free x t) ≡ after c x t
-  right_step b e = elim (cases_Bool (clashes c x us)) [
+  -- whoever tells what a look at each position tells, takes the right step
+  pub right_step : (b : Bool) → b ≡ conflicts_in c x us → cond b (with_part c x t) (with_free x t) ≡ after c x t
+  right_step b e = elim (cases_Bool (conflicts_in c x us)) [
     | inl y ↦ cond-true b (with_part c x t) (with_free x t) (e ∙ y) ∙ sym (cond-false (is_calm c x t) (with_free x t) (with_part c x t) (not_calm_if y))
     | inr n ↦ cond-false b (with_part c x t) (with_free x t) (e ∙ n) ∙ sym (cond-true (is_calm c x t) (with_free x t) (with_part c x t) (calm_if n))
   ]
 
 -- ---- one more operation
 
--- us are places of h
+-- us are positions of h
 module _ (h : List Op) (a : Op) (us : List ℕ) (within : (i : ℕ) → Contains us i → i < length h) (t : ObjectState) (state : IsStateOf h us t) where
   abbrev c : ℕ → ℕ → Bool
   c = conflict_at (h ++ a ∷ [])
 
   below : (i : ℕ) → Contains (whole t.parts).all i → i < length h
-  below i m = within i ((state.places i).0 m)
+  below i m = within i ((state.positions i).0 m)
 
   still_parts : AreParts c t.parts
   still_parts = parts_agree (conflict_at h) c (conflict_at_test h) (conflict_at_test (h ++ a ∷ [])) t.parts (λ i j k l. same_conflict h a i j (below i k) (below j l)) state.parts
 
   -- it stays where the operation is on another object
   pub state_kept : IsStateOf (h ++ a ∷ []) us t
-  state_kept = record { parts = still_parts; places = state.places; tails = tails_kept h a us within t.tails state.tails; summary = last_longer h a t.parts.parts t.summary state.summary }
+  state_kept = record { parts = still_parts; positions = state.positions; tails = tails_kept h a us within t.tails state.tails; summary = last_longer h a t.parts.parts t.summary state.summary }
 
   parts_more : AreParts c (after c (length h) t.parts)
   parts_more = parts_after c (conflict_at_test (h ++ a ∷ [])) t.parts still_parts (length h) below
 
-  places_more : (i : ℕ) → Contains (whole (after c (length h) t.parts)).all i ↔ Contains (us ++ length h ∷ []) i
-  places_more i =
+  positions_more : (i : ℕ) → Contains (whole (after c (length h) t.parts)).all i ↔ Contains (us ++ length h ∷ []) i
+  positions_more i =
       let w = all_after c (conflict_at_test (h ++ a ∷ [])) t.parts still_parts (length h) below i in (
-        λ m. elim (w.0 m) [ inl k ↦ Contains-append_left us (length h ∷ []) i ((state.places i).0 k) | inr e ↦ subst (Contains (us ++ length h ∷ [])) (sym e) (Contains-push us (length h)) ],
-        λ m. w.1 (elim (Contains-push_cases us (length h) i m) [ inl k ↦ inl ((state.places i).1 k) | inr e ↦ inr (sym e) ]),
+        λ m. elim (w.0 m) [ inl k ↦ Contains-append_left us (length h ∷ []) i ((state.positions i).0 k) | inr e ↦ subst (Contains (us ++ length h ∷ [])) (sym e) (Contains-push us (length h)) ],
+        λ m. w.1 (elim (Contains-push_cases us (length h) i m) [ inl k ↦ inl ((state.positions i).1 k) | inr e ↦ inr (sym e) ]),
       )
 
   -- with the right parts and tails it is the state with a
   made_state : (s : ObjectState) → s.parts ≡ after c (length h) t.parts → AreTails (h ++ a ∷ []) (us ++ length h ∷ []) s.tails → TellsLast (h ++ a ∷ []) s.parts.parts s.summary → IsStateOf (h ++ a ∷ []) (us ++ length h ∷ []) s
   made_state s e tails told = record {
     parts = subst (AreParts c) (sym e) parts_more;
-    places = subst (λ (p : PartsState). (i : ℕ) → Contains (whole p).all i ↔ Contains (us ++ length h ∷ []) i) (sym e) places_more;
+    positions = subst (λ (p : PartsState). (i : ℕ) → Contains (whole p).all i ↔ Contains (us ++ length h ∷ []) i) (sym e) positions_more;
     tails = tails;
     summary = told;
   }
 
   module _ (valid : IsValid h) (in_range : IsInRange a) (accepted : IsAccepted h a) (all : (i : ℕ) → Contains us i ↔ (is_on (object_of a) (slice_get h i) ≡ true)) (m : Option SummaryState) where
-    no_clash : ((i : ℕ) → ¬ (Contains us i)) → clashes c (length h) us ≡ false
-    no_clash none = elim (cases_Bool (clashes c (length h) us)) [
+    no_clash : ((i : ℕ) → ¬ (Contains us i)) → conflicts_in c (length h) us ≡ false
+    no_clash none = elim (cases_Bool (conflicts_in c (length h) us)) [
       | inl y ↦ let w = list_any_true (c (length h)) us y in absurd (none w.0 w.1)
       | inr n ↦ n
     ]
@@ -146,21 +146,21 @@ module _ (h : List Op) (a : Op) (us : List ℕ) (within : (i : ℕ) → Contains
 
     by_change : (k : Change) → a.change ≡ k → TellsLast (h ++ a ∷ []) (with_change (h ++ a ∷ []) a.id.site k (length h) m t).parts.parts m → IsStateOf (h ++ a ∷ []) (us ++ length h ∷ []) (with_change (h ++ a ∷ []) a.id.site k (length h) m t)
     by_change (Create start) e told = made_state (with_change (h ++ a ∷ []) a.id.site (Create start) (length h) m t)
-        (right_step c t.parts us state.places (length h) false (sym (no_clash (made_none h valid a in_range accepted us all start e))))
+        (right_step c t.parts us state.positions (length h) false (sym (no_clash (made_none h valid a in_range accepted us all start e))))
         (first_tails start e) told
     by_change (Set o v) e told = made_state (with_change (h ++ a ∷ []) a.id.site (Set o v) (length h) m t)
-        (right_step c t.parts us state.places (length h) (hits_one c (attribute_of v) (length h) t.tails) (quick h valid a in_range accepted us all o v e t.tails state.tails))
+        (right_step c t.parts us state.positions (length h) (hits_one c (attribute_of v) (length h) t.tails) (quick h valid a in_range accepted us all o v e t.tails state.tails))
         (tails_noted h valid a in_range accepted us all o v e t.tails state.tails) told
 
     -- THE STEP on its own object
     pub state_more : TellsLast (h ++ a ∷ []) (with_op (h ++ a ∷ []) a (length h) m t).parts.parts m → IsStateOf (h ++ a ∷ []) (us ++ length h ∷ []) (with_op (h ++ a ∷ []) a (length h) m t)
     state_more = by_change a.change refl
 
--- no place, nothing
+-- no position, nothing
 pub first_state : (h : List Op) → IsStateOf h [] nothing
 first_state h = record {
   parts = first_parts (conflict_at h) (conflict_at_test h);
-  places = λ i. (λ m. m, λ m. m);
+  positions = λ i. (λ m. m, λ m. m);
   tails = record {
     last = λ e m. absurd (not_Contains-nil e m);
     other = λ e m. absurd (not_Contains-nil e m);

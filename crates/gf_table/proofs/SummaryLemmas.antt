@@ -1,4 +1,4 @@
--- What is kept of the sets of a part tells of one more place, and of one more set.
+-- What is kept of the sets of a part tells of one more position, and of one more set.
 use Rattle.std.proofs.Common.{◌≡◌, ℕ, zero, suc, add-one, ◌+◌, ◌-◌, ◌<◌, List, [], ◌∷◌, ◌++◌, length, take, drop, get_or, refl, inl, inr, subst, sym, arith}
 use Rattle.std.specs.Prelude.{Contains, Option, Some, None, slice_get, slice_set, slice_index_or}
 use Rattle.std.proofs.lemmas.List.{length-drop, take_all, take_more}
@@ -9,7 +9,7 @@ use Rattle.gf_ops.specs.declared.change.Attr.{Attr}
 use Rattle.gf_ops.specs.declared.op.Clock.{Clock}
 use Rattle.gf_ops.specs.ValidHistory.{IsWithin}
 use Rattle.gf_ops.proofs.ListLemmas.{Contains-cons_head, Contains-cons_tail}
-use Rattle.gf_table.specs.Prints.{IsPrinted, TellsPlaces}
+use Rattle.gf_table.specs.Prints.{IsPrinted, TellsPositions}
 use Rattle.gf_table.specs.Spans.{Spans, Widens, SpansAt, TellsSet, TellsSets, Stays, AllStay, OneKnown}
 use Rattle.gf_table.specs.Summaries.{SummaryState, TellsLast}
 use Rattle.gf_table.specs.Next.{IsNextOf}
@@ -18,9 +18,9 @@ use Rattle.gf_table.proofs.LongerLemmas.{got_before}
 use Rattle.gf_table.specs.declared.prints.Print.{Print}
 use Rattle.gf_table.specs.declared.spans.Span.{Span}
 
--- one place more, and its print
-pub places_more : (h : List Op) (t : Attr) (ps : List Print) (us : List ℕ) (x : ℕ) (p : Print) → TellsPlaces h t ps us → IsPrinted h t x p → TellsPlaces h t (ps ++ p ∷ []) (us ++ x ∷ [])
-places_more h t ps us x p f own b m = elim (Contains-push_cases us x b m) [
+-- one position more, and its print
+pub positions_more : (h : List Op) (t : Attr) (ps : List Print) (us : List ℕ) (x : ℕ) (p : Print) → TellsPositions h t ps us → IsPrinted h t x p → TellsPositions h t (ps ++ p ∷ []) (us ++ x ∷ [])
+positions_more h t ps us x p f own b m = elim (Contains-push_cases us x b m) [
   | inl i ↦ let w = f b i in (w.0, Contains-append_left ps (p ∷ []) w.0 w.1, w.2)
   | inr e ↦ subst (λ z. (q : Print) × Contains (ps ++ p ∷ []) q × IsPrinted h t z q) e (p, Contains-push ps p, own)
 ]
@@ -34,7 +34,7 @@ wider e f i k s w =
     let within = s.within in
     record { site = s.site; above = omega (arith, b, above); within = omega (arith, l, within) }
 
--- one place more in the set of the span
+-- one position more in the set of the span
 pub set_more : (h : List Op) (e f : Span) (g : List ℕ) (x : ℕ) (op : Op) → slice_get h x ≡ Some op → TellsSet h e g → Widens e op.id f → TellsSet h f (g ++ x ∷ [])
 set_more h e f g x op at t w = record {
   each = λ b m. elim (Contains-push_cases g x b m) [
@@ -84,8 +84,8 @@ module _ (h : List Op) (a : Op) where
   abbrev new : List Op
   new = h ++ a ∷ []
 
-  pub places_longer : (t : Attr) (ps : List Print) (us : List ℕ) → TellsPlaces h t ps us → TellsPlaces new t ps us
-  places_longer t ps us f b m = let w = f b m in (w.0, w.1, record { op = w.2.op; at = got_before h a b w.2.op w.2.at; gives = w.2.gives })
+  pub positions_longer : (t : Attr) (ps : List Print) (us : List ℕ) → TellsPositions h t ps us → TellsPositions new t ps us
+  positions_longer t ps us f b m = let w = f b m in (w.0, w.1, record { op = w.2.op; at = got_before h a b w.2.op w.2.at; gives = w.2.gives })
 
   set_longer : (e : Span) (g : List ℕ) → TellsSet h e g → TellsSet new e g
   set_longer e g t = record {
@@ -102,13 +102,13 @@ module _ (h : List Op) (a : Op) where
   -- a summary still tells of the parts
   pub last_longer : (ps : List PartState) (m : Option SummaryState) → TellsLast h ps m → TellsLast new ps m
   last_longer ps None t = tt
-  last_longer ps (Some m) t = λ p gs e s. let w = t p gs e s in record { places = places_longer m.attribute m.prints p.all w.places; sets = sets_longer m.spans gs w.sets }
+  last_longer ps (Some m) t = λ p gs e s. let w = t p gs e s in record { positions = positions_longer m.attribute m.prints p.all w.positions; sets = sets_longer m.spans gs w.sets }
 
 -- so it does with the next operation
 pub next_told : (g : List Op) (a : Op) (n : ℕ) (s : PartsState) (m : Option SummaryState) → IsNextOf g a n s m → TellsLast g s.parts m
 next_told g a n s m next = subst (λ z. TellsLast z s.parts m) (sym next.longer) (last_longer next.history a s.parts m next.told)
 
--- the operation at the place n joins the set j
+-- the operation at the position n joins the set j
 pub sets_with : (h : List Op) (a : Op) (n : ℕ) → slice_get h n ≡ Some a → (j : ℕ) (es : List Span) (gs : List (List ℕ)) (f : Span) → TellsSets h es gs → Widens (slice_index_or es j f) a.id f → TellsSets h (slice_set es j f) (set_with j n gs)
 sets_with h a n at j [] [] f t w = tt
 sets_with h a n at zero (e ∷ es) (g ∷ gs) f t w = (set_more h e f g n a at t.0 w, t.1)

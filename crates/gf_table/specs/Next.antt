@@ -9,23 +9,23 @@ use Rattle.gf_ops.specs.Attribute.{object_of}
 use Rattle.gf_ops.specs.Limits.{IsInRange}
 use Rattle.gf_ops.specs.ValidHistory.{IsValid}
 use Rattle.gf_groups.specs.Growing.{conflict_at}
-use Rattle.gf_groups.specs.GroupedPlaces.{is_on}
+use Rattle.gf_groups.specs.GroupedPositions.{is_on}
 use Rattle.gf_parts.specs.Parted.{AreParts}
 use Rattle.gf_parts.specs.Parts.{PartsState, whole}
 use Rattle.gf_table.specs.Summaries.{SummaryState, TellsLast}
 
--- g is a history with a behind it, at the place n; s are the parts of a's object in that history, and m tells of the last one
+-- g is a history with a behind it, at the position n; s are the parts of a's object in that history, and m tells of the last one
 pub record IsNextOf (g : List Op) (a : Op) (n : ℕ) (s : PartsState) (m : Option SummaryState) : Type 0 where
   pub history : List Op
   pub longer : g ≡ history ++ a ∷ []
-  pub place : n ≡ length history
+  pub position : n ≡ length history
   pub valid : IsValid history
   pub in_range : IsInRange a
   pub accepted : IsAccepted history a
   pub us : List ℕ
   pub all : (i : ℕ) → Contains us i ↔ (is_on (object_of a) (slice_get history i) ≡ true)
   pub parts : AreParts (conflict_at history) s
-  pub places : (i : ℕ) → Contains (whole s).all i ↔ Contains us i
+  pub positions : (i : ℕ) → Contains (whole s).all i ↔ Contains us i
   pub told : TellsLast history s.parts m
 
 -- a gives an object the value v

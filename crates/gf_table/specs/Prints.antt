@@ -42,12 +42,12 @@ pub record GivesPrint (op : Op) (t : Attr) (p : Print) : Type 0 where
   pub attribute : attribute_of given ≡ t
   pub print : print_of given ≡ p
 
--- so does the operation of h at the place b
+-- so does the operation of h at the position b
 pub record IsPrinted (h : List Op) (t : Attr) (b : ℕ) (p : Print) : Type 0 where
   pub op : Op
   pub at : slice_get h b ≡ Some op
   pub gives : GivesPrint op t p
 
--- each operation of h at the places us gives the attribute t a value of one of the prints ps
-abbrev pub TellsPlaces : List Op → Attr → List Print → List ℕ → Type 0
-TellsPlaces h t ps us = (b : ℕ) → Contains us b → (p : Print) × Contains ps p × IsPrinted h t b p
+-- each operation of h at the positions us gives the attribute t a value of one of the prints ps
+abbrev pub TellsPositions : List Op → Attr → List Print → List ℕ → Type 0
+TellsPositions h t ps us = (b : ℕ) → Contains us b → (p : Print) × Contains ps p × IsPrinted h t b p

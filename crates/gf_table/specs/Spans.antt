@@ -21,7 +21,7 @@ pub record Widens (e : Span) (i : OpId) (f : Span) : Type 0 where
   pub last : IsWithin e.last f.last
   pub least : (c : Clock) → IsWithin e.last c → Counts c i → IsWithin f.last c
 
--- the span holds the number of the operation of h at the place b
+-- the span holds the number of the operation of h at the position b
 pub record SpansAt (h : List Op) (e : Span) (b : ℕ) : Type 0 where
   pub op : Op
   pub at : slice_get h b ≡ Some op

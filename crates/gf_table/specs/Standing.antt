@@ -10,7 +10,7 @@ use Rattle.gf_ops.specs.declared.change.Attr.{Attr}
 use Rattle.gf_ops.specs.Attribute.{attribute_of}
 use Rattle.gf_groups.specs.declared.group.Group.{Group}
 use Rattle.gf_groups.specs.Growing.{conflict_at}
-use Rattle.gf_groups.specs.GroupedPlaces.{places_below}
+use Rattle.gf_groups.specs.GroupedPositions.{positions_below}
 use Rattle.gf_groups.specs.Parting.{object_cmp}
 use Rattle.gf_groups.specs.Versions.{IsVersionGroup}
 use Rattle.gf_parts.specs.Parted.{AreParts}
@@ -27,7 +27,7 @@ pub record IsSetter (a : Op) (t : Attr) (s : ℕ) (v : Value) : Type 0 where
   pub attribute : attribute_of v ≡ t
   pub site : a.id.site ≡ s
 
--- at the place k of h the tail's site gives v, under the number n or a later one
+-- at the position k of h the tail's site gives v, under the number n or a later one
 pub record HasSetter (h : List Op) (e : Tail) (k n : ℕ) (v : Value) : Type 0 where
   pub op : Op
   pub at : slice_get h k ≡ Some op
@@ -36,10 +36,10 @@ pub record HasSetter (h : List Op) (e : Tail) (k n : ℕ) (v : Value) : Type 0 w
 
 -- the tail keeps a setter under the number n or a later one that gives another value than v
 pub record IsOvertaken (h : List Op) (e : Tail) (n : ℕ) (v : Value) : Type 0 where
-  pub place : ℕ
+  pub position : ℕ
   pub value : Value
-  pub kept : e.other ≡ Some place
-  pub there : HasSetter h e place n value
+  pub kept : e.other ≡ Some position
+  pub there : HasSetter h e position n value
   pub differs : value ≢ v
 
 -- the tail tells of the value w under the number n: it is the last one's, or another one than the last one's was not given before
@@ -48,21 +48,21 @@ pub record IsTold (h : List Op) (e : Tail) (n : ℕ) (w : Value) : Type 0 where
   pub last : HasSetter h e e.last n value
   pub kept : (w ≡ value) ⊎ IsOvertaken h e n value
 
--- the tails tell of all setters of h at the places us
+-- the tails tell of all setters of h at the positions us
 pub record AreTails (h : List Op) (us : List ℕ) (es : List Tail) : Type 0 where
   pub last : (e : Tail) → Contains es e → Contains us e.last
   pub other : (e : Tail) → Contains es e → (k : ℕ) → e.other ≡ Some k → Contains us k
   pub some : (i : ℕ) (b : Op) (t : Attr) (s : ℕ) (v : Value) → Contains us i → slice_get h i ≡ Some b → IsSetter b t s v → (e : Tail) × Contains es e × (is_of t s e ≡ true)
   pub tell : (i : ℕ) (b : Op) (t : Attr) (s : ℕ) (v : Value) (e : Tail) → Contains us i → slice_get h i ≡ Some b → IsSetter b t s v → Contains es e → is_of t s e ≡ true → IsTold h e b.id.seq v
 
--- the state is that of the operations of h at the places us
+-- the state is that of the operations of h at the positions us
 pub record IsStateOf (h : List Op) (us : List ℕ) (t : ObjectState) : Type 0 where
   pub parts : AreParts (conflict_at h) t.parts
-  pub places : (i : ℕ) → Contains (whole t.parts).all i ↔ Contains us i
+  pub positions : (i : ℕ) → Contains (whole t.parts).all i ↔ Contains us i
   pub tails : AreTails h us t.tails
   pub summary : TellsLast h t.parts.parts t.summary
 
--- the table's state of an object, if it has one, is that of the places us, and else there is no place
+-- the table's state of an object, if it has one, is that of the positions us, and else there is no position
 abbrev pub Stands : List Op → List ℕ → Option ObjectState → Type 0
 Stands h us (Some t) = IsStateOf h us t
 Stands h us None = us ≡ []
@@ -81,7 +81,7 @@ Puts t o r s = (q : ObjectId) → state_of s q ≡ cond (is_at (object_cmp o) q)
 
 -- the table has for each object the state of its operations in h
 abbrev pub StandsFor : List Op → List (ObjectId × ObjectState) → Type 0
-StandsFor h t = (o : ObjectId) → Stands h (places_below h o (length h)) (state_of t o)
+StandsFor h t = (o : ObjectId) → Stands h (positions_below h o (length h)) (state_of t o)
 
 -- the groups are the versions of the object o of h, each once
 pub record AreAllOf (h : List Op) (o : ObjectId) (groups : List Group) : Type 0 where

@@ -9,7 +9,7 @@ use Rattle.gf_ops.specs.Attribute.{attribute_of}
 use Rattle.gf_parts.specs.Parts.{PartState}
 use Rattle.gf_table.specs.declared.prints.Print.{Print}
 use Rattle.gf_table.specs.declared.spans.Span.{Span}
-use Rattle.gf_table.specs.Prints.{print_of, holds_print, TellsPlaces}
+use Rattle.gf_table.specs.Prints.{print_of, holds_print, TellsPositions}
 use Rattle.gf_table.specs.Spans.{Widens, TellsSets, OneKnown}
 
 -- an attribute, a span for each set, and prints
@@ -18,9 +18,9 @@ pub record SummaryState : Type 0 where
   pub spans : List Span
   pub prints : List Print
 
--- the summary tells of the sets gs of the places us
+-- the summary tells of the sets gs of the positions us
 pub record TellsOf (h : List Op) (m : SummaryState) (us : List ℕ) (gs : List (List ℕ)) : Type 0 where
-  pub places : TellsPlaces h m.attribute m.prints us
+  pub positions : TellsPositions h m.attribute m.prints us
   pub sets : TellsSets h m.spans gs
 
 -- the summary, if there is one, tells of the last part, if that keeps its sets

@@ -40,7 +40,7 @@ abbrev pub other_than : List Op → Value → Option Tail → Option ℕ
 other_than h v None = None
 other_than h v (Some e) = cond (op_gives (slice_get h e.last) v) e.other (Some e.last)
 
--- the tail after the site s gave v at the place n
+-- the tail after the site s gave v at the position n
 abbrev pub new_tail : List Op → ℕ → Value → ℕ → List Tail → Tail
 new_tail h s v n es = record { attribute = attribute_of v; site = s; last = n; other = other_than h v (find (is_of (attribute_of v) s) es) }
 
@@ -48,7 +48,7 @@ new_tail h s v n es = record { attribute = attribute_of v; site = s; last = n; o
 abbrev pub noted : List Op → ℕ → Value → ℕ → List Tail → List Tail
 noted h s v n es = filter (λ e. not (is_of (attribute_of v) s e)) es ++ new_tail h s v n es ∷ []
 
--- c tells whether the operations at two places conflict
+-- c tells whether the operations at two positions conflict
 module _ (c : ℕ → ℕ → Bool) where
   abbrev pub hits_other : ℕ → Option ℕ → Bool
   hits_other x (Some k) = c x k

@@ -7,36 +7,36 @@ ghost use Rattle.gf_table.specs.Next.{IsNextOf, Gives, IsInOne, are_beside, HasR
 ghost use Rattle.gf_table.specs.Summaries.{TellsLast, NotesIn};
 
 use crate::summary::{Summary, noted};
-use gf_groups::{Places, Timeline, conflict_at};
+use gf_groups::{Positions, Timeline, conflict_at};
 use gf_ops::{Attr, Op, Value};
 use gf_parts::Parts;
 use gf_shape::OutOfMemory;
 use std::alloc::Global;
 
-/// The last place of the set with this index.
-fn last_of(sets: &[Places], set: usize) -> Option<usize>
-    ensures { IfSome result (λ place. IsInOne sets.now place) }
+/// The last position of the set with this index.
+fn last_of(sets: &[Positions], set: usize) -> Option<usize>
+    ensures { IfSome result (λ position. IsInOne sets.now position) }
 {
     sets.get(set)?.as_slice().last().copied()
 }
 
-/// Whether the operation at the place `own` does not conflict with that at this place, and both
-/// conflict with that at the place `other`.
-fn are_beside(timeline: &Timeline<'_>, place: usize, own: usize, other: usize) -> bool
-    ensures { result ≡ are_beside (conflict_at timeline.now) place own other }
+/// Whether the operation at the position `own` does not conflict with that at this position, and
+/// both conflict with that at the position `other`.
+fn are_beside(timeline: &Timeline<'_>, position: usize, own: usize, other: usize) -> bool
+    ensures { result ≡ are_beside (conflict_at timeline.now) position own other }
 {
-    !conflict_at(timeline, own, place)
-        && conflict_at(timeline, place, other)
+    !conflict_at(timeline, own, position)
+        && conflict_at(timeline, position, other)
         && conflict_at(timeline, own, other)
 }
 
-/// Whether that holds of the last place of one of the sets.
-fn has_rival(timeline: &Timeline<'_>, sets: &[Places], place: usize, own: usize) -> bool
-    ensures { IsTrue result → HasRival (conflict_at timeline.now) sets.now place own }
+/// Whether that holds of the last position of one of the sets.
+fn has_rival(timeline: &Timeline<'_>, sets: &[Positions], position: usize, own: usize) -> bool
+    ensures { IsTrue result → HasRival (conflict_at timeline.now) sets.now position own }
 {
     for set in 0..sets.len() {
         if let Some(other) = last_of(sets, set) {
-            if are_beside(timeline, place, own, other) {
+            if are_beside(timeline, position, own, other) {
                 return true;
             }
         }
@@ -50,14 +50,16 @@ fn joined_set(
     timeline: &Timeline<'_>,
     op: &Op,
     value: &Value,
-    place: usize,
+    position: usize,
     parts: &Parts,
     summary: &Option<Summary>,
 ) -> Option<usize>
-    requires next { IsNextOf timeline.now op.now place parts.now summary.now }
+    requires next { IsNextOf timeline.now op.now position parts.now summary.now }
     requires gives { Gives op.now value.now }
-    ensures joins { IfSome result (λ set. with_part (conflict_at timeline.now) place parts.now ≡ last_with set place parts.now) }
-    ensures told { IfSome result (λ set. (m : _) → NotesIn summary.now set op.now.id value.now m → TellsLast timeline.now (last_with set place parts.now).parts m) }
+    ensures joins { IfSome result (λ set. with_part (conflict_at timeline.now) position parts.now
+        ≡ last_with set position parts.now) }
+    ensures told { IfSome result (λ set. (m : _) → NotesIn summary.now set op.now.id value.now m
+        → TellsLast timeline.now (last_with set position parts.now).parts m) }
 {
     let part = parts.parts().last()?;
     let sets = part.sets()?;
@@ -66,8 +68,8 @@ fn joined_set(
     let own = last_of(sets, set)?;
     let heard = &timeline.get(own)?.past;
     if summary.tells_joined(value, &op.past, heard, set)
-        && has_rival(timeline, sets, place, own)
-        && parts.spares_all_but_last(timeline, place)
+        && has_rival(timeline, sets, position, own)
+        && parts.spares_all_but_last(timeline, position)
     {
         Some(set)
     } else {
@@ -75,8 +77,8 @@ fn joined_set(
     }
 }
 
-/// A summary of the last part, if it keeps its sets, all of its operations set the attribute, and there
-/// is memory.
+/// A summary of the last part, if it keeps its sets, all of its operations set the attribute, and
+/// there is memory.
 fn summed(alloc: Global, timeline: &Timeline<'_>, attribute: Attr, parts: &Parts) -> Option<Summary>
     ensures { TellsLast timeline.now parts.now.parts result }
 {
@@ -84,30 +86,30 @@ fn summed(alloc: Global, timeline: &Timeline<'_>, attribute: Attr, parts: &Parts
     Summary::of(alloc, timeline, attribute, part.all(), part.sets()?)
 }
 
-/// Adds the operation at this place, which gives the value and conflicts with another one. It grows
-/// one set in place where the summary tells that the others stay.
+/// Adds the operation at this position, which gives the value and conflicts with another one. It
+/// grows one set in place where the summary tells that the others stay.
 pub(crate) fn connect(
     alloc: Global,
     timeline: &Timeline<'_>,
     op: &Op,
     value: &Value,
-    place: usize,
+    position: usize,
     parts: &mut Parts,
     summary: &mut Option<Summary>,
 ) -> Result<(), OutOfMemory>
-    requires next { IsNextOf timeline.now op.now place parts.old summary.old }
+    requires next { IsNextOf timeline.now op.now position parts.old summary.old }
     requires gives { Gives op.now value.now }
-    ensures ok { OnOk result (parts.new ≡ with_part (conflict_at timeline.now) place parts.old) }
+    ensures ok { OnOk result (parts.new ≡ with_part (conflict_at timeline.now) position parts.old) }
     ensures told { OnOk result (TellsLast timeline.now parts.new.parts summary.new) }
     ensures err { OnErr result (parts.new ≡ parts.old) }
     ensures err_summary { OnErr result (summary.new ≡ summary.old) }
 {
-    if let Some(set) = joined_set(timeline, op, value, place, parts, summary) {
-        parts.join_last(set, place)?;
+    if let Some(set) = joined_set(timeline, op, value, position, parts, summary) {
+        parts.join_last(set, position)?;
         *summary = noted(summary.take(), set, op, value);
         return Ok(());
     }
-    parts.connect(alloc, timeline, place)?;
+    parts.connect(alloc, timeline, position)?;
     *summary = summed(alloc, timeline, value.attribute(), parts);
     Ok(())
 }

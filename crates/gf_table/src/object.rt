@@ -17,8 +17,8 @@ use gf_shape::OutOfMemory;
 use std::alloc::Global;
 use std::marker::Model;
 
-/// The places of the operations on an object in parts, the tails of its setters, and mostly a summary
-/// of the last part.
+/// The positions of the operations on an object in parts, the tails of its setters, and mostly a
+/// summary of the last part.
 #[derive(Debug, Drop)]
 pub(crate) struct ObjectTable {
     pub(crate) parts: Parts,
@@ -61,57 +61,60 @@ impl ObjectTable {
         })
     }
 
-    /// Adds the operation at this place, which comes after the others.
+    /// Adds the operation at this position, which comes after the others.
     pub(crate) fn add(
         &mut self,
         alloc: Global,
         timeline: &Timeline<'_>,
         op: &Op,
-        place: usize,
+        position: usize,
     ) -> Result<(), OutOfMemory>
-        requires { IsNextOf timeline.now op.now place self.old.parts self.old.summary }
-        ensures ok { OnOk result (self.new ≡ with_op timeline.now op.now place self.new.summary self.old) }
+        requires { IsNextOf timeline.now op.now position self.old.parts self.old.summary }
+        ensures ok { OnOk result (self.new
+            ≡ with_op timeline.now op.now position self.new.summary self.old) }
         ensures told { OnOk result (TellsLast timeline.now self.new.parts.parts self.new.summary) }
         ensures err { OnErr result (self.new ≡ self.old) }
     {
         match &op.change {
-            Change::Create(_) => self.parts.add_free(place),
-            Change::Set { value, .. } => self.add_setter(alloc, timeline, op, value, place),
+            Change::Create(_) => self.parts.add_free(position),
+            Change::Set { value, .. } => self.add_setter(alloc, timeline, op, value, position),
         }
     }
 
-    /// Adds the operation at this place, which gives the value. All memory is there before it changes
-    /// anything.
+    /// Adds the operation at this position, which gives the value. All memory is there before it
+    /// changes anything.
     fn add_setter(
         &mut self,
         alloc: Global,
         timeline: &Timeline<'_>,
         op: &Op,
         value: &Value,
-        place: usize,
+        position: usize,
     ) -> Result<(), OutOfMemory>
-        requires next { IsNextOf timeline.now op.now place self.old.parts self.old.summary }
+        requires next { IsNextOf timeline.now op.now position self.old.parts self.old.summary }
         requires gives { Gives op.now value.now }
-        ensures ok { OnOk result (self.new ≡ with_setter timeline.now op.now.id.site value.now place self.new.summary self.old) }
+        ensures ok { OnOk result (self.new
+            ≡ with_setter timeline.now op.now.id.site value.now position self.new.summary
+            self.old) }
         ensures told { OnOk result (TellsLast timeline.now self.new.parts.parts self.new.summary) }
         ensures err { OnErr result (self.new ≡ self.old) }
     {
         self.tails.reserve(1)?;
-        let conflicts = hits_one(timeline, value.attribute(), place, &self.tails);
+        let conflicts = hits_one(timeline, value.attribute(), position, &self.tails);
         if conflicts {
             connect(
                 alloc,
                 timeline,
                 op,
                 value,
-                place,
+                position,
                 &mut self.parts,
                 &mut self.summary,
             )?;
         } else {
-            self.parts.add_free(place)?;
+            self.parts.add_free(position)?;
         }
-        note(timeline, op.id.site, value, place, &mut self.tails);
+        note(timeline, op.id.site, value, position, &mut self.tails);
         Ok(())
     }
 }

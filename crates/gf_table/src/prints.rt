@@ -1,7 +1,8 @@
 //! Two numbers of a value, to tell most values of an attribute apart.
 
 ghost use Rattle.std.specs.Prelude.{◌≡◌, option_copied, IfSome};
-ghost use Rattle.gf_table.specs.Prints.{point_print, print_of, same_print, holds_print, GivesPrint, IsPrinted, TellsPlaces};
+ghost use Rattle.gf_table.specs.Prints.{point_print, print_of, same_print, holds_print, GivesPrint};
+ghost use Rattle.gf_table.specs.Prints.{IsPrinted, TellsPositions};
 
 use crate::tails::attr_eq;
 use gf_groups::Timeline;
@@ -36,7 +37,7 @@ pub(crate) fn print_of(value: &Value) -> Print
     ensures { result ≡ print_of value.now }
 {
     match value {
-        Value::Place(place) => point_print(Some(place)),
+        Value::Place(position) => point_print(Some(position)),
         Value::Points(points) => point_print(points.as_slice().first()),
         Value::Size(width, height) => Print {
             first: *width as i64,
@@ -86,25 +87,27 @@ fn print_in(attribute: Attr, op: &Op) -> Option<Print>
     }
 }
 
-/// The print of the value that the operation at this place gives the attribute, if it does.
-fn print_at(timeline: &Timeline<'_>, attribute: Attr, place: usize) -> Option<Print>
-    ensures { IfSome result (λ print. IsPrinted timeline.now attribute place print) }
+/// The print of the value that the operation at this position gives the attribute, if it does.
+fn print_at(timeline: &Timeline<'_>, attribute: Attr, position: usize) -> Option<Print>
+    ensures { IfSome result (λ print. IsPrinted timeline.now attribute position print) }
 {
-    print_in(attribute, timeline.get(place)?)
+    print_in(attribute, timeline.get(position)?)
 }
 
-/// The prints of the values that the operations at these places give the attribute, if each does.
+/// The prints of the values that the operations at these positions give the attribute, if each
+/// does.
 pub(crate) fn prints_at(
     alloc: Global,
     timeline: &Timeline<'_>,
     attribute: Attr,
-    places: &[usize],
+    positions: &[usize],
 ) -> Option<Vec<Print>>
-    ensures { IfSome result (λ prints. TellsPlaces timeline.now attribute prints.items places.now) }
+    ensures { IfSome result (λ prints.
+        TellsPositions timeline.now attribute prints.items positions.now) }
 {
     let mut prints = Vec::new(alloc);
-    for place in places {
-        let print = print_at(timeline, attribute, *place)?;
+    for position in positions {
+        let print = print_at(timeline, attribute, *position)?;
         prints.push(print).ok()?;
     }
     Some(prints)

@@ -6,7 +6,7 @@ ghost use Rattle.gf_ops.specs.OperationOrder.{entry};
 ghost use Rattle.gf_ops.specs.ValidHistory.{IsWithin, Counts};
 ghost use Rattle.gf_table.specs.Spans.{Spans, Widens, TellsSet, TellsSets, Stays};
 
-use gf_groups::{Places, Timeline};
+use gf_groups::{Positions, Timeline};
 use gf_ops::{Clock, Op};
 use std::alloc::Global;
 
@@ -47,22 +47,26 @@ pub(crate) fn widen(op: &Op, span: &mut Span)
     count(op, &mut span.last);
 }
 
-/// The span of these places' operations, if there is one at each.
-fn span_of(timeline: &Timeline<'_>, places: &[usize]) -> Option<Span>
-    ensures { IfSome result (λ span. TellsSet timeline.now span places.now) }
+/// The span of these positions' operations, if there is one at each.
+fn span_of(timeline: &Timeline<'_>, positions: &[usize]) -> Option<Span>
+    ensures { IfSome result (λ span. TellsSet timeline.now span positions.now) }
 {
     let mut span = Span {
         before: Clock([u32::MAX; 8]),
         last: Clock([0; 8]),
     };
-    for place in places {
-        widen(timeline.get(*place)?, &mut span);
+    for position in positions {
+        widen(timeline.get(*position)?, &mut span);
     }
     Some(span)
 }
 
 /// The span of each of the sets, if all have one.
-pub(crate) fn spans_of(alloc: Global, timeline: &Timeline<'_>, sets: &[Places]) -> Option<Vec<Span>>
+pub(crate) fn spans_of(
+    alloc: Global,
+    timeline: &Timeline<'_>,
+    sets: &[Positions],
+) -> Option<Vec<Span>>
     ensures { IfSome result (λ spans. TellsSets timeline.now spans.items sets.now) }
 {
     let mut spans = Vec::new(alloc);
@@ -75,7 +79,8 @@ pub(crate) fn spans_of(alloc: Global, timeline: &Timeline<'_>, sets: &[Places]) 
 
 /// Whether all that the first clock counts of the span is counted by the other one.
 fn is_known(span: &Span, past: &Clock, own: &Clock) -> bool
-    ensures { IsTrue result → (i : _) → Spans span.now i → i.seq ≤ entry past.now i.site → i.seq ≤ entry own.now i.site }
+    ensures { IsTrue result → (i : _) → Spans span.now i → i.seq ≤ entry past.now i.site
+        → i.seq ≤ entry own.now i.site }
 {
     for site in 0..8 {
         if span.before.0[site] < past.0[site]
@@ -88,8 +93,8 @@ fn is_known(span: &Span, past: &Clock, own: &Clock) -> bool
     true
 }
 
-/// Whether the first clock does not count all of the span, and the other one counts what it counts of
-/// that.
+/// Whether the first clock does not count all of the span, and the other one counts what it counts
+/// of that.
 pub(crate) fn stays(span: &Span, past: &Clock, own: &Clock) -> bool
     ensures { IsTrue result → Stays past.now own.now span.now }
 {

@@ -1,7 +1,8 @@
 //! What is kept of the last part of an object's operations, to tell without a look at each which of
 //! its sets the next one joins.
 
-ghost use Rattle.std.specs.Prelude.{◌≡◌, ◌<◌, Contains, length, slice_get, option_copied, IsTrue, IfOk, IfSome};
+ghost use Rattle.std.specs.Prelude.{◌≡◌, ◌<◌, Contains, length, slice_get, option_copied, IsTrue};
+ghost use Rattle.std.specs.Prelude.{IfOk, IfSome};
 ghost use Rattle.gf_ops.specs.Limits.{IsInRange};
 ghost use Rattle.gf_ops.specs.ValidHistory.{IsWithin};
 ghost use Rattle.gf_table.specs.Spans.{Stays, OneKnown};
@@ -10,7 +11,7 @@ ghost use Rattle.gf_table.specs.Summaries.{TellsOf, IsJoined, NotesIn};
 use crate::prints::{Print, holds_print, print_of, prints_at};
 use crate::spans::{Span, spans_of, stays, widen};
 use crate::tails::attr_eq;
-use gf_groups::{Places, Timeline};
+use gf_groups::{Positions, Timeline};
 use gf_ops::{Attr, Clock, Op, Value};
 use gf_shape::OutOfMemory;
 use std::alloc::Global;
@@ -30,13 +31,18 @@ impl Model for Summary {
 
     ghost Value = { SummaryState };
 
-    ghost view = { λ m. record { attribute = m.attribute; spans = m.spans.items; prints = m.prints.items } };
+    ghost view = { λ m. record {
+      attribute = m.attribute;
+      spans = m.spans.items;
+      prints = m.prints.items;
+    } };
 }
 
 /// The index of a set all of whose operations the clock counts.
 fn known_set(spans: &[Span], past: &Clock) -> Option<usize>
     ensures within { IfSome result (λ set. set < length spans.now) }
-    ensures known { IfSome result (λ set. (e : _) → slice_get spans.now set ≡ Some e → IsWithin e.last past.now) }
+    ensures known { IfSome result (λ set. (e : _) → slice_get spans.now set ≡ Some e
+        → IsWithin e.last past.now) }
 {
     for (index, span) in spans.iter().enumerate() {
         if span.last.is_within(past) {
@@ -58,7 +64,8 @@ fn all_stay(spans: &[Span], past: &Clock, own: &Clock) -> bool
     true
 }
 
-/// Whether that is so with the sets before and behind this one, all of which the first clock counts.
+/// Whether that is so with the sets before and behind this one, all of which the first clock
+/// counts.
 fn others_stay(spans: &[Span], past: &Clock, own: &Clock, set: usize) -> bool
     requires within { set < length spans.now }
     requires known { (e : _) → slice_get spans.now set ≡ Some e → IsWithin e.last past.now }
@@ -68,17 +75,18 @@ fn others_stay(spans: &[Span], past: &Clock, own: &Clock, set: usize) -> bool
 }
 
 impl Summary {
-    /// Of these sets of these places, if all of the operations set the attribute and there is memory.
+    /// Of these sets of these positions, if all of the operations set the attribute and there is
+    /// memory.
     pub(crate) fn of(
         alloc: Global,
         timeline: &Timeline<'_>,
         attribute: Attr,
-        places: &[usize],
-        sets: &[Places],
+        positions: &[usize],
+        sets: &[Positions],
     ) -> Option<Summary>
-        ensures { IfSome result (λ summary. TellsOf timeline.now summary places.now sets.now) }
+        ensures { IfSome result (λ summary. TellsOf timeline.now summary positions.now sets.now) }
     {
-        let prints = prints_at(alloc, timeline, attribute, places)?;
+        let prints = prints_at(alloc, timeline, attribute, positions)?;
         let spans = spans_of(alloc, timeline, sets)?;
         Some(Summary {
             attribute,
@@ -105,16 +113,19 @@ impl Summary {
     /// The index of a set all of whose operations the clock counts.
     pub(crate) fn known_set(&self, past: &Clock) -> Option<usize>
         ensures within { IfSome result (λ set. set < length self.now.spans) }
-        ensures known { IfSome result (λ set. (e : _) → slice_get self.now.spans set ≡ Some e → IsWithin e.last past.now) }
+        ensures known { IfSome result (λ set. (e : _) → slice_get self.now.spans set ≡ Some e
+            → IsWithin e.last past.now) }
     {
         known_set(&self.spans, past)
     }
 
-    /// Whether an operation with this past, which gives the value, knows all of this set, and of each
-    /// other one not all, and only what the clock `own` counts, and no operation of the part gave the value.
+    /// Whether an operation with this past, which gives the value, knows all of this set, and of
+    /// each other one not all, and only what the clock `own` counts, and no operation of the part
+    /// gave the value.
     pub(crate) fn tells_joined(&self, value: &Value, past: &Clock, own: &Clock, set: usize) -> bool
         requires within { set < length self.now.spans }
-        requires known { (e : _) → slice_get self.now.spans set ≡ Some e → IsWithin e.last past.now }
+        requires known { (e : _) → slice_get self.now.spans set ≡ Some e
+            → IsWithin e.last past.now }
         ensures { IsTrue result → IsJoined self.now value.now past.now own.now set }
     {
         attr_eq(value.attribute(), self.attribute)
@@ -123,8 +134,8 @@ impl Summary {
     }
 }
 
-/// The summary after the operation, which gives the value, joined the set with this index, if there is
-/// memory.
+/// The summary after the operation, which gives the value, joined the set with this index, if there
+/// is memory.
 pub(crate) fn noted(summary: Option<Summary>, set: usize, op: &Op, value: &Value) -> Option<Summary>
     requires { IsInRange op.now }
     ensures { NotesIn summary set op.now.id value.now result }

@@ -1,19 +1,20 @@
 //! The versions of all objects of a history in parts, one operation at a time.
 
-ghost use Rattle.std.specs.Prelude.{◌≡◌, ◌↔◌, ◌∷◌, [], ◌++◌, length, Err, option_copied, IfOk, OnOk, OnErr};
+ghost use Rattle.std.specs.Prelude.{◌≡◌, ◌↔◌, ◌∷◌, [], ◌++◌, length, Err, option_copied, IfOk};
+ghost use Rattle.std.specs.Prelude.{OnOk, OnErr};
 ghost use Rattle.std.specs.BTreeMap.{insert_entry};
 ghost use Rattle.gf_ops.specs.Accepted.{IsAccepted};
 ghost use Rattle.gf_ops.specs.Limits.{IsInRange};
 ghost use Rattle.gf_groups.specs.declared.faults.GroupFault.{GroupFault};
 ghost use Rattle.gf_groups.specs.Growing.{conflict_at};
-ghost use Rattle.gf_groups.specs.GroupedPlaces.{places_below};
+ghost use Rattle.gf_groups.specs.GroupedPositions.{positions_below};
 ghost use Rattle.gf_groups.specs.Parting.{object_cmp};
 ghost use Rattle.gf_groups.specs.Tables.{IsTable};
 ghost use Rattle.gf_groups.specs.Versions.{IsMade, AreVersions};
 ghost use Rattle.gf_table.specs.Standing.{StandsFor, Puts, parts_of};
 
 use crate::object::ObjectTable;
-use gf_groups::{GroupFault, Groups, Places, Timeline, groups_from, is_made};
+use gf_groups::{GroupFault, Groups, Positions, Timeline, groups_from, is_made};
 use gf_ops::{History, ObjectId, Op};
 use gf_parts::Parts;
 use gf_shape::OutOfMemory;
@@ -62,9 +63,9 @@ impl GroupTable {
         Ok(GroupTable { alloc, objects })
     }
 
-    /// Adds an operation that the history may add. One that conflicts with nothing is found so by two
-    /// looks for each site that set its attribute of the object; another one looks at the parts of
-    /// its object, and no more sets are made than a part may keep.
+    /// Adds an operation that the history may add. One that conflicts with nothing is found so by
+    /// two looks for each site that set its attribute of the object; another one looks at the parts
+    /// of its object, and no more sets are made than a part may keep.
     pub fn add(&mut self, history: &History, op: &Op) -> Result<(), OutOfMemory>
         requires in_range { IsInRange op.now }
         requires accepted { IsAccepted history.now.ops op.now }
@@ -73,13 +74,13 @@ impl GroupTable {
         ensures err { OnErr result (self.new ≡ self.old) }
     {
         // Its clause says that the history is valid.
-        let place = history.ops().len();
+        let position = history.ops().len();
         let timeline = Timeline::with(history, op);
         if let Some(state) = self.objects.get_mut(&op.object()) {
-            return state.add(self.alloc, &timeline, op, place);
+            return state.add(self.alloc, &timeline, op, position);
         }
         let mut state = ObjectTable::new(self.alloc);
-        state.add(self.alloc, &timeline, op, place)?;
+        state.add(self.alloc, &timeline, op, position)?;
         put(&mut self.objects, op.object(), state)
     }
 
@@ -93,8 +94,8 @@ impl GroupTable {
         }
     }
 
-    /// The versions of an object, as `groups_of` gives them. The table has places, and the history of
-    /// which it is tells what stands there.
+    /// The versions of an object, as `groups_of` gives them. The table has positions, and the
+    /// history of which it is tells what stands there.
     pub fn groups(
         &self,
         alloc: Global,
@@ -129,19 +130,21 @@ impl GroupTable {
         groups_from(alloc, history, object, sets)
     }
 
-    /// The largest compatible sets of the places of the operations on an object.
+    /// The largest compatible sets of the positions of the operations on an object.
     fn sets(
         &self,
         alloc: Global,
         history: &History,
         object: ObjectId,
-    ) -> Result<Vec<Places>, OutOfMemory>
+    ) -> Result<Vec<Positions>, OutOfMemory>
         requires { StandsFor history.now.ops self.now }
-        ensures { IfOk result (λ sets. IsTable (conflict_at history.now.ops) (places_below history.now.ops object (length history.now.ops)) sets.items) }
+        ensures { IfOk result (λ sets.
+            IsTable (conflict_at history.now.ops)
+            (positions_below history.now.ops object (length history.now.ops)) sets.items) }
     {
         match self.objects.get(&object) {
             Some(state) => state.parts.listed(alloc, history),
-            None => Ok(Vec::from_array(alloc, [Places::new(alloc)])?),
+            None => Ok(Vec::from_array(alloc, [Positions::new(alloc)])?),
         }
     }
 }
@@ -152,7 +155,8 @@ fn put(
     object: ObjectId,
     state: ObjectTable,
 ) -> Result<(), OutOfMemory>
-    ensures entries { OnOk result (objects.new.entries ≡ insert_entry object_cmp objects.old.entries object state) }
+    ensures entries { OnOk result (objects.new.entries
+        ≡ insert_entry object_cmp objects.old.entries object state) }
     ensures states { OnOk result (Puts objects.old.entries object state objects.new.entries) }
     ensures err { OnErr result (objects.new.entries ≡ objects.old.entries) }
 {

@@ -1,17 +1,19 @@
 //! What is kept of the setters of an attribute by one site, to tell at once whether an operation
 //! conflicts with one of them.
 
-ghost use Rattle.std.specs.Prelude.{◌≡◌, ◌<◌, ◌≤◌, filter, not, vec_len, vec_capacity, option_copied};
+ghost use Rattle.std.specs.Prelude.{◌≡◌, ◌<◌, ◌≤◌, filter, not, vec_len, vec_capacity};
+ghost use Rattle.std.specs.Prelude.{option_copied};
 ghost use Rattle.std.specs.List.{find};
 ghost use Rattle.gf_ops.specs.ConflictTests.{value_eq};
 ghost use Rattle.gf_groups.specs.Growing.{conflict_at};
-ghost use Rattle.gf_table.specs.Tails.{attr_eq, is_of, change_gives, op_gives, other_than, new_tail, noted, hits_other, hits, hits_one};
+ghost use Rattle.gf_table.specs.Tails.{attr_eq, is_of, change_gives, op_gives, other_than};
+ghost use Rattle.gf_table.specs.Tails.{new_tail, noted, hits_other, hits, hits_one};
 
 use gf_groups::{Timeline, conflict_at};
 use gf_ops::{Attr, Change, Op, Value};
 
-/// The places of the last setter of an attribute by a site, and of its last one with another value
-/// than that.
+/// The positions of the last setter of an attribute by a site, and of its last one with another
+/// value than that.
 #[derive(Clone, Copy, Debug)]
 pub struct Tail {
     pub attribute: Attr,
@@ -40,7 +42,7 @@ fn value_eq(value: &Value, other: &Value) -> bool
     ensures { result ≡ value_eq value.now other.now }
 {
     match (value, other) {
-        (Value::Place(place), Value::Place(other)) => place == other,
+        (Value::Place(position), Value::Place(other)) => position == other,
         (Value::Points(points), Value::Points(other)) => points == other,
         (Value::Size(width, height), Value::Size(other_width, other_height)) => {
             width == other_width && height == other_height
@@ -98,15 +100,21 @@ fn other_than(timeline: &Timeline<'_>, value: &Value, tail: Option<&Tail>) -> Op
     }
 }
 
-/// The tail after a site gave the value at the place.
-fn new_tail(timeline: &Timeline<'_>, site: u8, value: &Value, place: usize, tails: &[Tail]) -> Tail
-    ensures { result ≡ new_tail timeline.now site value.now place tails.now }
+/// The tail after a site gave the value at the position.
+fn new_tail(
+    timeline: &Timeline<'_>,
+    site: u8,
+    value: &Value,
+    position: usize,
+    tails: &[Tail],
+) -> Tail
+    ensures { result ≡ new_tail timeline.now site value.now position tails.now }
 {
     let attribute = value.attribute();
     Tail {
         attribute,
         site,
-        last: place,
+        last: position,
         other: other_than(timeline, value, found(attribute, site, tails)),
     }
 }
@@ -120,50 +128,51 @@ fn drop_tail(attribute: Attr, site: u8, tails: &mut Vec<Tail>)
     tails.retain(|tail| !is_of(attribute, site, tail));
 }
 
-/// Notes that the site gave the value at the place.
+/// Notes that the site gave the value at the position.
 pub(crate) fn note(
     timeline: &Timeline<'_>,
     site: u8,
     value: &Value,
-    place: usize,
+    position: usize,
     tails: &mut Vec<Tail>,
 )
     requires { vec_len tails.old < vec_capacity tails.old }
-    ensures { tails.new.items ≡ noted timeline.now site value.now place tails.old.items }
+    ensures { tails.new.items ≡ noted timeline.now site value.now position tails.old.items }
 {
-    let tail = new_tail(timeline, site, value, place, tails);
+    let tail = new_tail(timeline, site, value, position, tails);
     drop_tail(tail.attribute, site, tails);
     tails.push_reserved(tail);
 }
 
-fn hits_other(timeline: &Timeline<'_>, place: usize, other: Option<usize>) -> bool
-    ensures { result ≡ hits_other (conflict_at timeline.now) place other }
+fn hits_other(timeline: &Timeline<'_>, position: usize, other: Option<usize>) -> bool
+    ensures { result ≡ hits_other (conflict_at timeline.now) position other }
 {
     match other {
-        Some(other) => conflict_at(timeline, place, other),
+        Some(other) => conflict_at(timeline, position, other),
         None => false,
     }
 }
 
-/// Whether the operation at this place, which sets the attribute, conflicts with one of the two.
-fn hits(timeline: &Timeline<'_>, attribute: Attr, place: usize, tail: &Tail) -> bool
-    ensures { result ≡ hits (conflict_at timeline.now) attribute place tail.now }
+/// Whether the operation at this position, which sets the attribute, conflicts with one of the two.
+fn hits(timeline: &Timeline<'_>, attribute: Attr, position: usize, tail: &Tail) -> bool
+    ensures { result ≡ hits (conflict_at timeline.now) attribute position tail.now }
 {
     attr_eq(tail.attribute, attribute)
-        && (conflict_at(timeline, place, tail.last) || hits_other(timeline, place, tail.other))
+        && (conflict_at(timeline, position, tail.last)
+            || hits_other(timeline, position, tail.other))
 }
 
-/// Whether the operation at this place, which sets the attribute, conflicts with one that the tails
-/// tell: two looks for each site that set the attribute.
+/// Whether the operation at this position, which sets the attribute, conflicts with one that the
+/// tails tell: two looks for each site that set the attribute.
 pub(crate) fn hits_one(
     timeline: &Timeline<'_>,
     attribute: Attr,
-    place: usize,
+    position: usize,
     tails: &[Tail],
 ) -> bool
-    ensures { result ≡ hits_one (conflict_at timeline.now) attribute place tails.now }
+    ensures { result ≡ hits_one (conflict_at timeline.now) attribute position tails.now }
 {
     tails
         .iter()
-        .any(|tail| hits(timeline, attribute, place, tail))
+        .any(|tail| hits(timeline, attribute, position, tail))
 }

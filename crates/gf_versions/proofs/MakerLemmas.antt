@@ -15,7 +15,7 @@ use Rattle.gf_ops.specs.declared.change.Form.TheVariants as form
 use Rattle.gf_ops.specs.declared.change.Start.{Start}
 use Rattle.gf_ops.specs.declared.change.Value.{Value}
 use Rattle.gf_ops.specs.declared.change.Value.TheVariants.{Size}
-use Rattle.gf_ops.specs.Attribute.{Kind, Circle, form_value, given, change_value, set_value, start_value, size_in, made_kind, kind_of, suits, object_of, changed_object}
+use Rattle.gf_ops.specs.Attribute.{Kind, Circle, form_value, value_given, change_value, set_value, start_value, size_in, made_kind, kind_of, suits, object_of, changed_object}
 use Rattle.gf_ops.specs.KnownObject.{IsSuited}
 use Rattle.gf_ops.specs.OperationOrder.{Precedes}
 use Rattle.gf_ops.specs.ValidHistory.{IsValid}
@@ -132,7 +132,7 @@ module _ (h : List Op) (valid : IsValid h) (o : ObjectId) where
   kind_by_form a s f x named e is = record { maker = a; contained = x; id = named; kind = ap made_kind e ∙ ap (λ k. Some (kind_of k)) is }
 
   -- the creation gives each attribute of the object a value
-  pub maker_sets : (g : List OpId) (version : IsVersion h o g) (t : Attr) → HasAttribute h o t → IsSome (given version.created.op t)
+  pub maker_sets : (g : List OpId) (version : IsVersion h o g) (t : Attr) → HasAttribute h o t → IsSome (value_given version.created.op t)
   maker_sets g version t has_it =
       let kind = version_kind g version in
       change_sets version.created.op.change kind.0 t kind.2 (has_it kind.0 kind.1)
@@ -144,8 +144,8 @@ module _ (h : List Op) (valid : IsValid h) (o : ObjectId) where
   pub maker_member : (g : List OpId) → IsVersion h o g → (a : Op) → Contains h a → a.id ≡ o.0 → IsMember h g a
   maker_member g version a x named = subst (IsMember h g) (same_maker g version a x named) (maker_grouped g version)
 
-  pub maker_gives : (g : List OpId) → IsVersion h o g → (a : Op) (t : Attr) → Contains h a → a.id ≡ o.0 → HasAttribute h o t → IsSome (given a t)
-  maker_gives g version a t x named has_it = subst (λ (b : Op). IsSome (given b t)) (same_maker g version a x named) (maker_sets g version t has_it)
+  pub maker_gives : (g : List OpId) → IsVersion h o g → (a : Op) (t : Attr) → Contains h a → a.id ≡ o.0 → HasAttribute h o t → IsSome (value_given a t)
+  maker_gives g version a t x named has_it = subst (λ (b : Op). IsSome (value_given b t)) (same_maker g version a x named) (maker_sets g version t has_it)
 
   -- the size of a circle is given as its radius twice
   round_change : (a : Op) (m n : ℕ) → IsOfKind h o Circle → Contains h a → (change : Change) → a.change ≡ change → changed_object a.id change ≡ o → change_value change attr.Size ≡ Some (Size m n) → m ≡ n
@@ -159,5 +159,5 @@ module _ (h : List Op) (valid : IsValid h) (o : ObjectId) where
       let same = one_kind suited.kind Circle (record { maker = known.maker; contained = known.contained; id = known.id ∙ ap (λ (q : ObjectId). q.0) e; kind = known.kind }) kind in
       set_round v m n (subst (λ k. IsTrue (suits k v)) same suited.suited) gives
 
-  pub round_size : (a : Op) (m n : ℕ) → IsOfKind h o Circle → Contains h a → object_of a ≡ o → given a attr.Size ≡ Some (Size m n) → m ≡ n
+  pub round_size : (a : Op) (m n : ℕ) → IsOfKind h o Circle → Contains h a → object_of a ≡ o → value_given a attr.Size ≡ Some (Size m n) → m ≡ n
   round_size a m n kind x e gives = round_change a m n kind x a.change refl e gives

@@ -9,7 +9,7 @@ use Rattle.gf_ops.specs.declared.change.Attr.{Attr}
 use Rattle.gf_ops.specs.declared.change.Value.{Value}
 use Rattle.gf_ops.specs.Attribute.{Kind}
 use Rattle.gf_ops.specs.SettledValue.{IsSettled}
-use Rattle.gf_ops.specs.Version.{Clashes, HasOn, IsMember, IsOfKind, IsVersion}
+use Rattle.gf_ops.specs.Version.{ConflictsWithin, HasOn, IsMember, IsOfKind, IsVersion}
 use Rattle.gf_ops.proofs.ListLemmas.{Contains-cons_cases, Contains-cons_head, Contains-cons_tail, not_Contains-nil}
 use Rattle.gf_versions.specs.declared.key.Version.{Version}
 use Rattle.gf_versions.specs.declared.placed.Placed.{Placed}
@@ -32,7 +32,7 @@ module _ (h k : List Op) (more : (a : Op) → Contains h a → Contains k a) whe
   is_member : (g : List OpId) (a : Op) → IsMember h g a → IsMember k g a
   is_member g a x = record { contained = more a x.contained; grouped = x.grouped }
 
-  clashes : (g : List OpId) (a : Op) → Clashes h g a → Clashes k g a
+  clashes : (g : List OpId) (a : Op) → ConflictsWithin h g a → ConflictsWithin k g a
   clashes g a x = record { member = x.member; is_member = is_member g x.member x.is_member; conflict = x.conflict }
 
 -- ---- what speaks of all operations goes over to a history of the same ones

@@ -9,7 +9,7 @@ use Rattle.gf_ops.specs.declared.op.OpId.{OpId}
 use Rattle.gf_ops.specs.declared.op.ObjectId.{ObjectId}
 use Rattle.gf_ops.specs.declared.change.Attr.{Attr}
 use Rattle.gf_ops.specs.declared.change.Value.{Value}
-use Rattle.gf_ops.specs.Attribute.{given}
+use Rattle.gf_ops.specs.Attribute.{value_given}
 use Rattle.gf_ops.specs.Conflict.{Conflict}
 use Rattle.gf_ops.specs.ConflictTests.{value_eq}
 use Rattle.gf_ops.specs.OperationOrder.{Precedes, entry}
@@ -26,11 +26,11 @@ use Rattle.gf_versions.proofs.MakerLemmas.{member_object, maker_grouped, maker_s
 -- ---- last setters
 
 module _ (h : List Op) (g : List OpId) (t : Attr) where
-  pub last_first : (a : Op) → IsMember h g a → IsSome (given a t) → IsLastOf h g [] t a
+  pub last_first : (a : Op) → IsMember h g a → IsSome (value_given a t) → IsLastOf h g [] t a
   last_first a m s = record { member = m; sets = s; last = λ b n. absurd (not_Contains-nil b.id n.grouped) }
 
   -- one more id changes nothing if its operation doesn't set t or doesn't come after the last
-  pub last_stays : (ids : List OpId) (i : OpId) (a : Op) → IsLastOf h g ids t a → ((b : Op) → Contains h b → b.id ≡ i → IsSome (given b t) → ¬ (Precedes a b)) → IsLastOf h g (ids ++ i ∷ []) t a
+  pub last_stays : (ids : List OpId) (i : OpId) (a : Op) → IsLastOf h g ids t a → ((b : Op) → Contains h b → b.id ≡ i → IsSome (value_given b t) → ¬ (Precedes a b)) → IsLastOf h g (ids ++ i ∷ []) t a
   last_stays ids i a k none = record {
     member = k.member;
     sets = k.sets;
@@ -41,7 +41,7 @@ module _ (h : List Op) (g : List OpId) (t : Attr) where
   }
 
   -- a setter that comes after the last takes its place
-  pub last_taken : IsValid h → (ids : List OpId) (a b : Op) → IsLastOf h g ids t a → IsMember h g b → IsSome (given b t) → Precedes a b → IsLastOf h g (ids ++ b.id ∷ []) t b
+  pub last_taken : IsValid h → (ids : List OpId) (a b : Op) → IsLastOf h g ids t a → IsMember h g b → IsSome (value_given b t) → Precedes a b → IsLastOf h g (ids ++ b.id ∷ []) t b
   last_taken valid ids a b k m s before = record {
     member = m;
     sets = s;
@@ -56,7 +56,7 @@ module _ (h : List Op) (g : List OpId) (t : Attr) where
   }
 
   -- what a last setter gives is settled
-  pub settled_by : (a : Op) (v : Value) → IsLastSetter h g t a → given a t ≡ Some v → IsSettled h g t v
+  pub settled_by : (a : Op) (v : Value) → IsLastSetter h g t a → value_given a t ≡ Some v → IsSettled h g t v
   settled_by a v k e = record { setter = a; member = k.member; gives = e; last = k.last }
 
 -- ---- a last setter is found by one pass over the ids
@@ -65,15 +65,15 @@ module _ (h : List Op) (valid : IsValid h) (g : List OpId) (t : Attr) (n : ℕ) 
   grown : (b : Op) → IsLastOf h g (take n g ++ get_or g n d ∷ []) t b → IsLastOf h g (take (n + 1) g) t b
   grown b l = subst (λ ids. IsLastOf h g ids t b) (sym (take_more g n d within)) l
 
-  pub next_taken : (b : Op) → Contains h b → b.id ≡ get_or g n d → IsSome (given b t) → Precedes a b → IsLastOf h g (take (n + 1) g) t b
+  pub next_taken : (b : Op) → Contains h b → b.id ≡ get_or g n d → IsSome (value_given b t) → Precedes a b → IsLastOf h g (take (n + 1) g) t b
   next_taken b x named s before =
       let member : IsMember h g b = record { contained = x; grouped = subst (Contains g) (sym named) (Contains-get_or g n d within) } in
       grown b (subst (λ i. IsLastOf h g (take n g ++ i ∷ []) t b) named (last_taken h g t valid (take n g) a b k member s before))
 
-  pub next_stays : (b : Op) → Contains h b → b.id ≡ get_or g n d → (IsSome (given b t) → ¬ (Precedes a b)) → IsLastOf h g (take (n + 1) g) t a
+  pub next_stays : (b : Op) → Contains h b → b.id ≡ get_or g n d → (IsSome (value_given b t) → ¬ (Precedes a b)) → IsLastOf h g (take (n + 1) g) t a
   next_stays b x named none =
       let one : (c : Op) → Contains h c → c.id ≡ get_or g n d → b ≡ c = λ c y e. same_op h valid b c x y (named ∙ sym e) in
-      grown a (last_stays h g t (take n g) (get_or g n d) a k (λ c y e. subst (λ (f : Op). IsSome (given f t) → ¬ (Precedes a f)) (one c y e) none))
+      grown a (last_stays h g t (take n g) (get_or g n d) a k (λ c y e. subst (λ (f : Op). IsSome (value_given f t) → ¬ (Precedes a f)) (one c y e) none))
 
   pub next_absent : ((b : Op) → Contains h b → b.id ≢ get_or g n d) → IsLastOf h g (take (n + 1) g) t a
   next_absent none = grown a (last_stays h g t (take n g) (get_or g n d) a k (λ b x e. absurd (none b x e)))
@@ -82,12 +82,12 @@ module _ (h : List Op) (valid : IsValid h) (g : List OpId) (t : Attr) (n : ℕ) 
 
 module _ (h : List Op) (valid : IsValid h) (o : ObjectId) (g : List OpId) (version : IsVersion h o g) where
   last_step : (t : Attr) (ids : List OpId) (a b : Op) → IsLastOf h g ids t a → IsMember h g b → (c : Op) × IsLastOf h g (ids ++ b.id ∷ []) t c
-  last_step t ids a b k m = elim (cases_Bool (is_some (given b t))) [
+  last_step t ids a b k m = elim (cases_Bool (is_some (value_given b t))) [
     | inl s ↦ elim (cases_lt (entry b.past a.id.site) a.id.seq) [
       | inl l ↦ (a, last_stays h g t ids b.id a k (λ c x e s before. let p = subst (Precedes a) (one c x e) before in absurd (omega arith)))
       | inr l ↦ (b, last_taken h g t valid ids a b k m s l)
     ]
-    | inr n ↦ (a, last_stays h g t ids b.id a k (λ c x e s before. let f = subst (λ (d : Op). IsSome (given d t)) (one c x e) s in absurd cc))
+    | inr n ↦ (a, last_stays h g t ids b.id a k (λ c x e s before. let f = subst (λ (d : Op). IsSome (value_given d t)) (one c x e) s in absurd cc))
   ]
     where
       one : (c : Op) → Contains h c → c.id ≡ b.id → c ≡ b
@@ -108,10 +108,10 @@ module _ (h : List Op) (valid : IsValid h) (o : ObjectId) (g : List OpId) (versi
   settles t has_it =
       let first = last_first h g t version.created.op (maker_grouped h valid o g version) (maker_sets h valid o g version t has_it) in
       let last = last_over t [] g version.created.op first (λ i c. c) in
-      let value = some_value (given last.0 t) last.1.sets in
+      let value = some_value (value_given last.0 t) last.1.sets in
       (value.0, settled_by h g t last.0 value.0 last.1 value.1)
 
-  sets : (a : Op) (t : Attr) (v : Value) → given a t ≡ Some v → IsSome (given a t)
+  sets : (a : Op) (t : Attr) (v : Value) → value_given a t ≡ Some v → IsSome (value_given a t)
   sets a t v e = subst IsSome (sym e) refl
 
   -- two setters, neither of which comes after the other, are compatible, so they give one value
@@ -127,7 +127,7 @@ module _ (h : List Op) (valid : IsValid h) (o : ObjectId) (g : List OpId) (versi
       two : value_eq v w ≡ false → x.setter.id ≢ y.setter.id
       two f e =
           let one = same_op h valid x.setter y.setter x.member.contained y.member.contained e in
-          let same : Some v ≡ Some w = sym x.gives ∙ (ap (λ (a : Op). given a t) one ∙ y.gives) in
+          let same : Some v ≡ Some w = sym x.gives ∙ (ap (λ (a : Op). value_given a t) one ∙ y.gives) in
           differ f cc
 
       apart : value_eq v w ≡ false → Conflict x.setter y.setter

@@ -6,7 +6,7 @@ use Rattle.gf_ops.specs.declared.op.ObjectId.{ObjectId}
 use Rattle.gf_ops.specs.declared.change.Attr.{Attr}
 use Rattle.gf_ops.specs.declared.change.Attr.TheVariants.{Place, Points, Size, Colour, Layer, Shown}
 use Rattle.gf_ops.specs.declared.change.Form.{Form}
-use Rattle.gf_ops.specs.Attribute.{Kind, Box, Circle, Polygon, form_attribute, form_value, given, kind_of}
+use Rattle.gf_ops.specs.Attribute.{Kind, Box, Circle, Polygon, form_attribute, form_value, value_given, kind_of}
 use Rattle.gf_ops.specs.OperationOrder.{Precedes}
 use Rattle.gf_ops.specs.SettledValue.{IsSettled}
 use Rattle.gf_ops.specs.Version.{IsMember, IsOfKind}
@@ -34,8 +34,8 @@ HasAttribute h o t = (k : Kind) → IsOfKind h o k → IsTrue (has k t)
 -- in the group g the operation a sets t, and no operation of these ids that sets t comes after it
 pub record IsLastOf (h : List Op) (g ids : List OpId) (t : Attr) (a : Op) : Type 0 where
   pub member : IsMember h g a
-  pub sets : IsSome (given a t)
-  pub last : (b : Op) → IsMember h ids b → IsSome (given b t) → ¬ (Precedes a b)
+  pub sets : IsSome (value_given a t)
+  pub last : (b : Op) → IsMember h ids b → IsSome (value_given b t) → ¬ (Precedes a b)
 
 -- a is a last operation of the group g that sets t
 abbrev pub IsLastSetter : List Op → List OpId → Attr → Op → Type 0

@@ -3,14 +3,14 @@
 ghost use Rattle.std.specs.Prelude.{◌≡◌, IsSome, Some, is_some};
 ghost use Rattle.gf_ops.specs.declared.change.Attr.{Attr};
 ghost use Rattle.gf_ops.specs.declared.change.Value.{Value};
-ghost use Rattle.gf_ops.specs.Attribute.{given};
+ghost use Rattle.gf_ops.specs.Attribute.{value_given};
 
 use gf_ops::{Attr, Change, Form, Op, Points, Value};
 use gf_shape::{Point, Rgb};
 
 /// Whether the operation gives the attribute a value.
 pub(crate) fn sets(op: &Op, attribute: Attr) -> bool
-    ensures { result ≡ is_some (given op.now attribute) }
+    ensures { result ≡ is_some (value_given op.now attribute) }
 {
     match &op.change {
         Change::Create(start) => match (attribute, &start.form) {
@@ -26,8 +26,8 @@ pub(crate) fn sets(op: &Op, attribute: Attr) -> bool
 
 /// The place that the operation gives.
 pub(crate) fn place(op: &Op) -> Point
-    requires { IsSome (given op.now Attr.Place) }
-    ensures { given op.now Attr.Place ≡ Some (Value.Place result) }
+    requires { IsSome (value_given op.now Attr.Place) }
+    ensures { value_given op.now Attr.Place ≡ Some (Value.Place result) }
 {
     match &op.change {
         Change::Create(start) => start.place,
@@ -41,8 +41,8 @@ pub(crate) fn place(op: &Op) -> Point
 
 /// The points that the operation gives.
 pub(crate) fn points(op: &Op) -> &Points
-    requires { IsSome (given op.now Attr.Points) }
-    ensures { given op.now Attr.Points ≡ Some (Value.Points result.now) }
+    requires { IsSome (value_given op.now Attr.Points) }
+    ensures { value_given op.now Attr.Points ≡ Some (Value.Points result.now) }
 {
     match &op.change {
         Change::Create(start) => match &start.form {
@@ -59,8 +59,8 @@ pub(crate) fn points(op: &Op) -> &Points
 
 /// The size that the operation gives: a width and a height, or a radius twice.
 pub(crate) fn size(op: &Op) -> (u32, u32)
-    requires { IsSome (given op.now Attr.Size) }
-    ensures { given op.now Attr.Size ≡ Some (Value.Size result.0 result.1) }
+    requires { IsSome (value_given op.now Attr.Size) }
+    ensures { value_given op.now Attr.Size ≡ Some (Value.Size result.0 result.1) }
 {
     match &op.change {
         Change::Create(start) => match &start.form {
@@ -78,8 +78,8 @@ pub(crate) fn size(op: &Op) -> (u32, u32)
 
 /// The colour that the operation gives.
 pub(crate) fn colour(op: &Op) -> Rgb
-    requires { IsSome (given op.now Attr.Colour) }
-    ensures { given op.now Attr.Colour ≡ Some (Value.Colour result) }
+    requires { IsSome (value_given op.now Attr.Colour) }
+    ensures { value_given op.now Attr.Colour ≡ Some (Value.Colour result) }
 {
     match &op.change {
         Change::Create(start) => start.colour,
@@ -93,8 +93,8 @@ pub(crate) fn colour(op: &Op) -> Rgb
 
 /// The layer that the operation gives.
 pub(crate) fn layer(op: &Op) -> u16
-    requires { IsSome (given op.now Attr.Layer) }
-    ensures { given op.now Attr.Layer ≡ Some (Value.Layer result) }
+    requires { IsSome (value_given op.now Attr.Layer) }
+    ensures { value_given op.now Attr.Layer ≡ Some (Value.Layer result) }
 {
     match &op.change {
         Change::Create(start) => start.layer,
@@ -108,8 +108,8 @@ pub(crate) fn layer(op: &Op) -> u16
 
 /// Whether the operation shows its object.
 pub(crate) fn shown(op: &Op) -> bool
-    requires { IsSome (given op.now Attr.Shown) }
-    ensures { given op.now Attr.Shown ≡ Some (Value.Shown result) }
+    requires { IsSome (value_given op.now Attr.Shown) }
+    ensures { value_given op.now Attr.Shown ≡ Some (Value.Shown result) }
 {
     match &op.change {
         Change::Create(start) => start.shown,

@@ -12,8 +12,8 @@ use gf_ops::{Form, ObjectId};
 use gf_shape::{Point, Rgb};
 use std::cmp::Ordering;
 
-/// What the order of versions goes by: the layer, then the object, then the group's ids. The greater of
-/// two keys is above the other.
+/// What the order of versions goes by: the layer, then the object, then the group's ids. The
+/// greater of two keys is above the other.
 #[derive(Debug, Drop)]
 pub struct VersionKey {
     pub layer: u16,

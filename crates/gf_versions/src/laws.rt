@@ -20,17 +20,19 @@ ghost use Rattle.gf_versions.specs.HistoryColour.{HistoryColour, HasOneColour};
 ghost use Rattle.gf_versions.specs.Ranking.{AreRanked, first_colour};
 ghost use Rattle.gf_versions.specs.VersionOf.{IsVersionOf};
 
-/// Above is a strict total order of the versions of a valid history: of two that are not one, exactly one
-/// is above the other.
+/// Above is a strict total order of the versions of a valid history: of two that are not one,
+/// exactly one is above the other.
 pub fn versions_are_in_a_total_order()
     ensures irreflexive { (k : VersionKey) → ¬ (IsAbove k k) }
     ensures transitive { (k l m : VersionKey) → IsAbove k l → IsAbove l m → IsAbove k m }
-    ensures total { (h : List Op) → IsValid h → (v w : Version) → IsVersionOf h v → IsVersionOf h w → AreOrdered v w }
+    ensures total { (h : List Op) → IsValid h → (v w : Version) → IsVersionOf h v → IsVersionOf h w
+        → AreOrdered v w }
 {}
 
 /// A version of a valid history settles each attribute to one value.
 pub fn a_version_settles_each_attribute_once()
-    ensures { (h : List Op) → IsValid h → (o : ObjectId) → (g : List OpId) → IsVersion h o g → (t : Attr) → (v w : Value) → IsSettled h g t v → IsSettled h g t w → v ≡ w }
+    ensures { (h : List Op) → IsValid h → (o : ObjectId) → (g : List OpId) → IsVersion h o g
+        → (t : Attr) → (v w : Value) → IsSettled h g t v → IsSettled h g t w → v ≡ w }
 {}
 
 /// A valid history means one colour at each point.
@@ -40,10 +42,14 @@ pub fn one_colour_at_a_point()
 
 /// The first of the ranked versions that holds a point has the colour that the history means there.
 pub fn the_first_that_holds_is_on_top()
-    ensures { (h : List Op) (items : List (Placed AnyShape)) → AreRanked h items → (p : Point) → HistoryColour h p (first_colour any_holds items p) }
+    ensures { (h : List Op) (items : List (Placed AnyShape)) → AreRanked h items → (p : Point)
+        → HistoryColour h p (first_colour any_holds items p) }
 {}
 
-/// Histories of the same operations have the same ranked list: the order of the operations says nothing.
+/// Histories of the same operations have the same ranked list: the order of the operations says
+/// nothing.
 pub fn the_same_operations_rank_alike()
-    ensures { (h k : List Op) → ((a : Op) → Contains h a ↔ Contains k a) → (items others : List (Placed AnyShape)) → AreRanked h items → AreRanked k others → items ≡ others }
+    ensures { (h k : List Op) → ((a : Op) → Contains h a ↔ Contains k a)
+        → (items others : List (Placed AnyShape)) → AreRanked h items → AreRanked k others
+        → items ≡ others }
 {}

@@ -1,6 +1,7 @@
 //! The visible versions of a history, made and sorted.
 
-ghost use Rattle.std.specs.Prelude.{◌≡◌, ◌≢◌, ◌≤◌, ◌&&◌, AllPairs, IsTrue, IfOk, OnOk, Contains, length};
+ghost use Rattle.std.specs.Prelude.{◌≡◌, ◌≢◌, ◌≤◌, ◌&&◌, AllPairs, IsTrue, IfOk, OnOk, Contains};
+ghost use Rattle.std.specs.Prelude.{length};
 ghost use Rattle.std.specs.List.Sorted.{IsPermutation, IsSortedBy};
 ghost use Rattle.gf_ops.specs.Limits.{is_form, is_near};
 ghost use Rattle.gf_ops.specs.ValidHistory.{IsValid};
@@ -33,7 +34,8 @@ pub fn ranked_of(
 ) -> Result<Ranked<AnyShape>, OutOfMemory>
     requires versions { (g : Group) → Contains groups.now g → IsVersionGroup history.now.ops g }
     requires once { AllPairs (λ g k. g ≢ k) groups.now }
-    ensures ranked { IfOk result (λ ranked. AreRankedOf history.now.ops groups.now ranked.items.items) }
+    ensures ranked { IfOk result (λ ranked.
+        AreRankedOf history.now.ops groups.now ranked.items.items) }
     ensures few { IfOk result (λ ranked. length ranked.items.items ≤ length groups.now) }
 {
     let mut items = shown(alloc, history, groups)?;

@@ -33,7 +33,8 @@ pub fn settle(alloc: Global, history: &History, group: &Group) -> Result<Version
     })
 }
 
-/// The form of the group's object, of the kind that it was made with, with the settled size or points.
+/// The form of the group's object, of the kind that it was made with, with the settled size or
+/// points.
 fn settled_form(alloc: Global, history: &History, group: &Group) -> Result<Form, OutOfMemory>
     requires { IsVersionGroup history.now.ops group.now }
     ensures { IfOk result (λ form. IsFormOf history.now.ops group.now form) }

@@ -13,7 +13,7 @@ use Rattle.gf_ops.specs.ValidHistory.{IsValid}
 use Rattle.gf_ops.proofs.HistoryLemmas.{site_in_range, seq_in_range}
 use Rattle.gf_ops.proofs.ListLemmas.{not_Contains-nil, Contains-cons_cases, Contains-cons_head, Contains-cons_tail}
 use Rattle.gf_ops.proofs.ValidityLemmas.{same_op}
-use Rattle.gf_ops.proofs.PlaceLemmas.{got_set, got_set_same, set_set, set_itself, one_value, there_is, place_in, place_of}
+use Rattle.gf_ops.proofs.PositionLemmas.{got_set, got_set_same, set_set, set_itself, one_value, there_is, position_in, position_of}
 use Rattle.gf_causal.specs.DeliveredPart.{AreReady}
 use Rattle.gf_causal.proofs.CourseLemmas.{has_counted, number_counted, same_id}
 use Rattle.gf_causal.proofs.ReadyLemmas.{least_ready}
@@ -68,7 +68,7 @@ module _ (n : ℕ) (sites : List SiteState) (messages : List Op) (k : ℕ) (h : 
   -- it was authored
   take_one : Contains messages a → Reached n (set sites k (resting k (h ++ a ∷ []))) messages
   take_one c =
-      let m = place_of messages a c in
+      let m = position_of messages a c in
       let held : SiteState = record { number = suc k; ops = h; held = a ∷ [] } in
       let offered = next w.run (receives {s = suc k} {m = m.0} at m.1 (holds (record { not_held = λ b d. absurd (not_Contains-nil b d); not_added = λ b d. fresh_id h ready a accepted b d }) (record { before = []; after = []; without = refl; with_it = refl }))) in
       let stepped = next offered (applies {s = suc k} {i = a.id} (got_set_same sites k held (resting k h) at) (record {
@@ -132,7 +132,7 @@ module _ (lists : List (List Op)) (courses : AreCourses lists) (c : List Op) (in
   module _ (q : List Op) (a : Op) (within : (b : Op) → Contains q b → Contains c b) (in_c : Contains c a) (ready : AreReady q) (accepted : IsAccepted q a) (w : Come lists 0 q) where
     module _ (k : ℕ) (h : List Op) (x : SiteState) (site : a.id.site ≡ suc k) (h_at : slice_get lists k ≡ Some h) (x_at : slice_get w.sites k ≡ Some x) where
       in_h : (b : Op) → Contains c b → Contains h b
-      in_h b d = (courses.same c h in_lists (place_in lists k h h_at) b).0 d
+      in_h b d = (courses.same c h in_lists (position_in lists k h h_at) b).0 d
 
       course_h : IsCourse (k + 1) h
       course_h = courses.course k h h_at
@@ -220,7 +220,7 @@ module _ (lists : List (List Op)) (courses : AreCourses lists) (c : List Op) (in
       let h = there_is lists j (omega (arith, l)) in
       let x = there_is w.sites j (omega (arith, l, w.long)) in
       let t = w.at j h.0 x.0 h.1 x.1 in
-      let from_h : (b : Op) → Contains h.0 b → Contains c b = λ b d. (courses.same c h.0 in_lists (place_in lists j h.0 h.1) b).1 d in
+      let from_h : (b : Op) → Contains h.0 b → Contains c b = λ b d. (courses.same c h.0 in_lists (position_in lists j h.0 h.1) b).1 d in
       let whole : h.0 ≡ (t.ops ++ t.rest) ++ [] = t.whole ∙ sym (append-nil (t.ops ++ t.rest)) in
       let at : slice_get w.sites j ≡ Some (resting j t.ops) = x.1 ∙ ap Some t.is in
       let all_rest = take_all (length lists) c j h.0 (courses.course j h.0 h.1) t.rest t.ops [] whole (λ b d. from_h b (subst (λ l. Contains l b) (sym t.whole) (Contains-append_right t.ops t.rest b d))) w.sites at w.reached in
@@ -247,7 +247,7 @@ have_events lists messages w = record {
   run = record { offers = w.reached.offers; is = w.reached.run };
   lists_are = same_lists (λ (x : SiteState). x.ops) w.sites lists w.long (λ k x h e f. w.done k h x (slice_get_within lists k h f) f e);
   held_none = λ x c.
-      let k = place_of w.sites x c in
+      let k = position_of w.sites x c in
       let l = slice_get_within w.sites k.0 x k.1 in
       let h = there_is lists k.0 (omega (arith, l, w.long)) in ap (λ (y : SiteState). y.held) (w.at k.0 h.0 x h.1 k.1).is;
 }

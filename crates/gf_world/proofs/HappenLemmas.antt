@@ -9,7 +9,7 @@ use Rattle.gf_ops.specs.declared.change.Change.{Change}
 use Rattle.gf_ops.specs.Limits.{IsInRange}
 use Rattle.gf_ops.specs.ValidHistory.{IsValid}
 use Rattle.gf_ops.proofs.ValidityLemmas.{same_op}
-use Rattle.gf_ops.proofs.PlaceLemmas.{place_in, set_itself}
+use Rattle.gf_ops.proofs.PositionLemmas.{position_in, set_itself}
 use Rattle.gf_causal.specs.declared.buffer.Offered.{Offered}
 use Rattle.gf_causal.specs.declared.buffer.Offered.TheVariants.{Already, Held}
 use Rattle.gf_causal.specs.declared.faults.OfferFault.{OfferFault}
@@ -94,7 +94,7 @@ module _ (world : WorldState) (n k : ℕ) (e : n ≡ k + 1) (x y : SiteState) (a
       Happens world (Offer n m) (record { sites = slice_set world.sites k y; messages = world.messages })
   receives_here m a r sound message full range clash known held same kept =
       let w = sound.sites n x there in
-      let got = received world.messages n x y a r sound.valid w (place_in world.messages m a message) full range clash known held same kept in
+      let got = received world.messages n x y a r sound.valid w (position_in world.messages m a message) full range clash known held same kept in
       subst (λ l. Happens world (Offer n m) (record { sites = l; messages = world.messages })) put (receives there message got)
 
   pub steps_here : (s : Step) → IsSound world → Steps x s y → Happens world (step_event n) (record { sites = slice_set world.sites k y; messages = world.messages })

@@ -14,7 +14,7 @@ use Rattle.gf_ops.specs.Accepted.{IsAccepted, AreAccepted, none, next}
 use Rattle.gf_ops.specs.ValidHistory.{IsValid}
 use Rattle.gf_ops.proofs.HistoryLemmas.{site_in_range, seq_in_range}
 use Rattle.gf_ops.proofs.ValidityLemmas.{same_op}
-use Rattle.gf_ops.proofs.PlaceLemmas.{place_in}
+use Rattle.gf_ops.proofs.PositionLemmas.{position_in}
 use Rattle.gf_causal.specs.HeldOperations.{Adds}
 use Rattle.gf_causal.proofs.CourseLemmas.{has_counted, number_counted, count_within, same_id}
 use Rattle.gf_causal.proofs.ListLemmas.{Contains-between, Contains-between_cases}
@@ -179,7 +179,7 @@ sound_next : (old new : WorldState) (e : Event) → IsSound old → Happens old 
 sound_next old new e sound (authors {s} {c} {x} {y} {a} at made) = sound_authors old s c x y a sound at made
 sound_next old new e sound (refuses at r n) = sound
 sound_next old new e sound (receives {s} {m} {x} {y} {a} at there r) =
-    sound_site old s x y sound at (site_receives old.messages s x y a (sound.sites s x at) (place_in old.messages m a there) r)
+    sound_site old s x y sound at (site_receives old.messages s x y a (sound.sites s x at) (position_in old.messages m a there) r)
 sound_next old new e sound (no_message m) = sound
 sound_next old new e sound (applies {s} {x} {y} {i} at t) = sound_site old s x y sound at (site_applies old.messages s x y i (sound.sites s x at) t)
 sound_next old new e sound (idle at n) = sound

@@ -60,7 +60,7 @@ fn holds(set: u32, index: usize) -> bool {
 }
 
 /// Whether the operation conflicts with one of the set.
-fn clashes(ops: &[Op], set: u32, op: &Op) -> bool {
+fn conflicts_in(ops: &[Op], set: u32, op: &Op) -> bool {
     for (index, member) in ops.iter().enumerate() {
         if holds(set, index) && clash(op, member) {
             return true;
@@ -72,7 +72,7 @@ fn clashes(ops: &[Op], set: u32, op: &Op) -> bool {
 /// Whether the set has exactly the operations that conflict with none of it.
 fn is_version(ops: &[Op], set: u32) -> bool {
     for (index, op) in ops.iter().enumerate() {
-        if holds(set, index) == clashes(ops, set, op) {
+        if holds(set, index) == conflicts_in(ops, set, op) {
             return false;
         }
     }

@@ -5,7 +5,8 @@ ghost use Rattle.serde_json.specs.View.{view};
 ghost use Rattle.gf_ops.specs.Limits.{is_change, is_form, is_layer, is_near, is_value};
 ghost use Rattle.gf_json.specs.LineValues.{◌&◌};
 ghost use Rattle.gf_json.specs.LineFields.{polygon_points, colour, layer, shown};
-ghost use Rattle.gf_json.specs.LineChanges.{start, named_value, new_value, creation, setting, change};
+ghost use Rattle.gf_json.specs.LineChanges.{start, named_value, new_value, creation, setting};
+ghost use Rattle.gf_json.specs.LineChanges.{change};
 
 use crate::LineError;
 use crate::reading::colours::hex_colour;
@@ -28,7 +29,8 @@ pub(crate) fn change(
     verb: &str,
     beside: &[&str],
 ) -> Result<Change, LineError>
-    ensures value { (result ≡ Err LineError.OutOfMemory) ⊎ (result ≡ change verb.now (map (λ key. key.now) beside.now) (view line.now)) }
+    ensures value { (result ≡ Err LineError.OutOfMemory)
+        ⊎ (result ≡ change verb.now (map (λ key. key.now) beside.now) (view line.now)) }
     ensures in_range { IfOk result (λ c. IsTrue (is_change c)) }
 {
     if creates(line, verb, beside, "box", "size") {
@@ -46,7 +48,8 @@ pub(crate) fn change(
 
 /// The change that creates a polygon.
 fn polygon_creation(alloc: Global, line: &Value) -> Result<Change, LineError>
-    ensures value { (result ≡ Err LineError.OutOfMemory) ⊎ (result ≡ creation (polygon_points (view line.now)) (view line.now)) }
+    ensures value { (result ≡ Err LineError.OutOfMemory)
+        ⊎ (result ≡ creation (polygon_points (view line.now)) (view line.now)) }
     ensures in_range { IfOk result (λ c. IsTrue (is_change c)) }
 {
     match polygon_points(alloc, line) {
@@ -68,7 +71,8 @@ fn creation(form: Result<Form, LineError>, line: &Value) -> Result<Change, LineE
 fn start(form: Result<Form, LineError>, line: &Value) -> Result<Start, LineError>
     requires { IfOk form (λ f. IsTrue (is_form f)) }
     ensures value { result ≡ start form (view line.now) }
-    ensures in_range { IfOk result (λ s. IsTrue (is_form s.form && is_near s.place && is_layer s.layer)) }
+    ensures in_range { IfOk result (λ s.
+        IsTrue (is_form s.form && is_near s.place && is_layer s.layer)) }
 {
     let (form, (place, look)) = both(form, both(place(line), look(line)))?;
     let (colour, (layer, shown)) = look;
@@ -82,7 +86,8 @@ fn start(form: Result<Form, LineError>, line: &Value) -> Result<Start, LineError
 }
 
 fn look(line: &Value) -> Result<(Rgb, (u16, bool)), LineError>
-    ensures value { result ≡ (colour (view line.now) & layer (view line.now) & shown (view line.now)) }
+    ensures value { result ≡ (colour (view line.now) & layer (view line.now) & shown
+        (view line.now)) }
     ensures in_range { IfOk result (λ l. IsTrue (is_layer l.1.0)) }
 {
     both(colour(line), both(layer(line), shown(line)))
@@ -90,7 +95,8 @@ fn look(line: &Value) -> Result<(Rgb, (u16, bool)), LineError>
 
 /// The change that sets an attribute.
 fn set(alloc: Global, line: &Value) -> Result<Change, LineError>
-    ensures value { (result ≡ Err LineError.OutOfMemory) ⊎ (result ≡ setting (new_value (view line.now)) (view line.now)) }
+    ensures value { (result ≡ Err LineError.OutOfMemory)
+        ⊎ (result ≡ setting (new_value (view line.now)) (view line.now)) }
     ensures in_range { IfOk result (λ c. IsTrue (is_change c)) }
 {
     match new_value(alloc, line) {
@@ -118,7 +124,8 @@ fn new_value(alloc: Global, line: &Value) -> Result<gf_ops::Value, LineError>
 
 /// The value in the form of the attribute that the line names.
 fn named_value(alloc: Global, line: &Value, value: &Value) -> Result<gf_ops::Value, LineError>
-    ensures value { (result ≡ Err LineError.OutOfMemory) ⊎ (result ≡ named_value (view line.now) (view value.now)) }
+    ensures value { (result ≡ Err LineError.OutOfMemory)
+        ⊎ (result ≡ named_value (view line.now) (view value.now)) }
     ensures in_range { IfOk result (λ v. IsTrue (is_value v)) }
 {
     if says(line, "set", "place") {

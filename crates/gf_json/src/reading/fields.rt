@@ -4,7 +4,8 @@ ghost use Rattle.std.specs.Prelude.{◌≡◌, ◌⊎◌, Err, IsTrue, IfOk};
 ghost use Rattle.serde_json.specs.View.{view};
 ghost use Rattle.gf_ops.specs.Limits.{is_site, is_id, is_clock, is_near, is_form, is_layer};
 ghost use Rattle.gf_json.specs.LineValues.{mapped};
-ghost use Rattle.gf_json.specs.LineFields.{value_at, id, past, site, object, place, box_size, circle_size, polygon_points, colour, layer, shown};
+ghost use Rattle.gf_json.specs.LineFields.{value_at, id, past, site, object, place, box_size};
+ghost use Rattle.gf_json.specs.LineFields.{circle_size, polygon_points, colour, layer, shown};
 
 use crate::LineError;
 use crate::reading::colours::hex_colour;
@@ -67,7 +68,8 @@ pub(crate) fn circle_size(line: &Value) -> Result<Form, LineError>
 }
 
 pub(crate) fn polygon_points(alloc: Global, line: &Value) -> Result<Form, LineError>
-    ensures value { (result ≡ Err LineError.OutOfMemory) ⊎ (result ≡ polygon_points (view line.now)) }
+    ensures value { (result ≡ Err LineError.OutOfMemory)
+        ⊎ (result ≡ polygon_points (view line.now)) }
     ensures in_range { IfOk result (λ f. IsTrue (is_form f)) }
 {
     let points = points(alloc, value_at(line, "points")?)?;

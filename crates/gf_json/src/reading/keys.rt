@@ -4,14 +4,16 @@ ghost use Rattle.std.specs.Prelude.{◌≡◌, ◌++◌, is_some, map};
 ghost use Rattle.std.specs.List.{list_all};
 ghost use Rattle.serde_json.specs.View.{view};
 ghost use Rattle.serde_json.specs.Find.{get, as_object, as_str};
-ghost use Rattle.gf_json.specs.LineKeys.{has_exactly, has_count, says, is_word, creates, sets, awaits};
+ghost use Rattle.gf_json.specs.LineKeys.{has_exactly, has_count, says, is_word, creates, sets};
+ghost use Rattle.gf_json.specs.LineKeys.{awaits};
 
 use serde_json::Value;
 
 /// Whether the line, with these keys beside those of its change, creates an object of this kind,
 /// whose form stands at the key `shape`.
 pub(crate) fn creates(line: &Value, verb: &str, beside: &[&str], kind: &str, shape: &str) -> bool
-    ensures { result ≡ creates verb.now (map (λ key. key.now) beside.now) kind.now shape.now (view line.now) }
+    ensures { result ≡ creates verb.now (map (λ key. key.now) beside.now) kind.now shape.now
+        (view line.now) }
 {
     let keys = ["kind", "place", shape, "colour", "layer", "shown"];
     has_exactly(line, beside, &keys) && says(line, verb, "create") && says(line, "kind", kind)
@@ -54,7 +56,8 @@ fn is_word(value: &Value, word: &str) -> bool
 
 /// Whether the line is an object with these keys and no other.
 fn has_exactly(line: &Value, beside: &[&str], keys: &[&str]) -> bool
-    ensures { result ≡ has_exactly (map (λ key. key.now) beside.now ++ map (λ key. key.now) keys.now) (view line.now) }
+    ensures { result ≡ has_exactly (map (λ key. key.now) beside.now
+        ++ map (λ key. key.now) keys.now) (view line.now) }
 {
     has_count(line, beside.len() + keys.len()) && has_both(line, beside, keys)
 }
@@ -70,7 +73,8 @@ fn has_count(line: &Value, count: usize) -> bool
 }
 
 fn has_both(line: &Value, beside: &[&str], keys: &[&str]) -> bool
-    ensures { result ≡ list_all (λ key. is_some (get key (view line.now))) (map (λ key. key.now) beside.now ++ map (λ key. key.now) keys.now) }
+    ensures { result ≡ list_all (λ key. is_some (get key (view line.now)))
+        (map (λ key. key.now) beside.now ++ map (λ key. key.now) keys.now) }
 {
     has_all(line, beside) && has_all(line, keys)
 }

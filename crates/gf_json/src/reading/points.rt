@@ -25,7 +25,8 @@ pub(crate) fn points(alloc: Global, value: &Value) -> Result<Points, LineError>
 /// The points of the elements of an array.
 #[tactic(auto, using(crate::proofs::PointLemmas::refusals))]
 fn points_of(alloc: Global, values: &[Value]) -> Result<Points, LineError>
-    ensures value { (result ≡ Err LineError.OutOfMemory) ⊎ (result ≡ points_of (elements (items_view values.now))) }
+    ensures value { (result ≡ Err LineError.OutOfMemory)
+        ⊎ (result ≡ points_of (elements (items_view values.now))) }
     ensures in_range { IfOk result (λ ps. IsTrue (is_polygon ps)) }
 {
     both(counted(values.len()), are_points(values))?;

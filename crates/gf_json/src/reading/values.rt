@@ -4,7 +4,8 @@ ghost use Rattle.std.specs.Prelude.{◌≡◌, ◌≤◌, ◌&&◌, pos, negsuc,
 ghost use Rattle.serde_json.specs.View.{view, items_view};
 ghost use Rattle.gf_ops.specs.Limits.{is_id, is_clock, is_near, is_size, is_layer};
 ghost use Rattle.gf_json.specs.LineValues.{◌&◌, mapped, whole, elements, array, two, truth};
-ghost use Rattle.gf_json.specs.LineLimits.{integer, natural, coordinate, side, side_twice, entry, name, size, radius, level, point, clock};
+ghost use Rattle.gf_json.specs.LineLimits.{integer, natural, coordinate, side, side_twice, entry};
+ghost use Rattle.gf_json.specs.LineLimits.{name, size, radius, level, point, clock};
 
 use crate::LineError;
 use gf_ops::{Clock, OpId};
@@ -56,7 +57,8 @@ pub(crate) fn natural(value: &Value, low: u32, high: u32) -> Result<u32, LineErr
 #[tactic(auto, using(std::proofs::lemmas::Int::ints))]
 fn coordinate(value: &Value) -> Result<i32, LineError>
     ensures value { result ≡ coordinate (view value.now) }
-    ensures within { IfOk result (λ n. IsTrue (int_le (negsuc 999999) n && int_le n (pos 1000000))) }
+    ensures within { IfOk result (λ n.
+        IsTrue (int_le (negsuc 999999) n && int_le n (pos 1000000))) }
 {
     let n = integer(value, -1_000_000, 1_000_000)?;
     Ok(n as i32)

@@ -5,7 +5,9 @@ ghost use Rattle.gf_digits.specs.ColourBytes.{HasBytes};
 ghost use Rattle.gf_digits.specs.HexDigits.{hex_rgb};
 ghost use Rattle.serde_json.specs.View.{view};
 ghost use Rattle.gf_json.specs.ColourBytes.{ValueHasBytes};
-ghost use Rattle.gf_json.specs.WrittenValues.{natural_data, pair_data, name_data, clock_data, point_data, points_data, size_data, colour_data, value_data};
+ghost use Rattle.gf_json.specs.WrittenValues.{natural_data, pair_data, name_data, clock_data};
+ghost use Rattle.gf_json.specs.WrittenValues.{point_data, points_data, size_data, colour_data};
+ghost use Rattle.gf_json.specs.WrittenValues.{value_data};
 
 use gf_ops::{Clock, OpId, Points};
 use gf_shape::{Point, Rgb};

@@ -5,12 +5,12 @@ use Rattle.std.proofs.lemmas.List.Elements.{All-head, All-rest}
 use Rattle.gf_ops.specs.declared.op.Op.{Op}
 use Rattle.gf_ops.specs.declared.op.ObjectId.{ObjectId}
 use Rattle.gf_groups.specs.Growing.{conflict_at, groups_at}
-use Rattle.gf_groups.specs.GroupedPlaces.{group_at, groups_on}
+use Rattle.gf_groups.specs.GroupedPositions.{group_at, groups_on}
 use Rattle.gf_groups.specs.Tables.{IsRising}
-use Rattle.gf_groups.specs.Parting.{HasPlacesBelow, HasAllPlaces, groups_of_entries}
+use Rattle.gf_groups.specs.Parting.{HasPositionsBelow, HasAllPositions, groups_of_entries}
 use Rattle.gf_groups.proofs.AllGroupLemmas.{all_versions}
 use Rattle.gf_groups.proofs.PartingLemmas.{entries_parts}
-use Rattle.gf_groups.proofs.PlaceLemmas.{places_below-rising}
+use Rattle.gf_groups.proofs.PositionLemmas.{positions_below-rising}
 use Rattle.gf_groups.proofs.TableLemmas.{groups_rise}
 use Rattle.gf_groups.proofs.groups.all_groups.Goals as goal
 
@@ -22,36 +22,36 @@ pub loop-object-init : goal.loop-object-init
 loop-object-init c =
     let h = c.args.history.now.ops in
     let gives = c.into_iter-object-iterator.ensures.into_iter_gives in
-    let parts : HasPlacesBelow h (length h) c.in_ok-parts.parts = rw c.ops.ensures.ops at c.in_ok-parts.ensures in
+    let parts : HasPositionsBelow h (length h) c.in_ok-parts.parts = rw c.ops.ensures.ops at c.in_ok-parts.ensures in
     record {
       rest = ap (λ groups. groups ++ groups_of_entries h c.into_iter-object-iterator.result) c.new-groups.ensures.items;
       parts = rw gives.0 (entries_parts h c.in_ok-parts.parts parts gives.5);
     }
 
-entry_rises : (h : List Op) (e : ObjectId × List ℕ) (us : List ℕ) → us ≡ e.1 → HasAllPlaces h e → IsRising us
-entry_rises h e us same all = rw (same, all) (places_below-rising h e.0 (length h))
+entry_rises : (h : List Op) (e : ObjectId × List ℕ) (us : List ℕ) → us ≡ e.1 → HasAllPositions h e → IsRising us
+entry_rises h e us same all = rw (same, all) (positions_below-rising h e.0 (length h))
 
 pub groups_at-requires : goal.groups_at-requires
 groups_at-requires c =
     let h = c.args.history.now.ops in
-    let e : ObjectId × List ℕ = (c.in-Some.object.now, c.in-Some.places.now) in
-    entry_rises h e c.as_slice.result.now c.as_slice.ensures (All-head (HasAllPlaces h) e c.next.new.self (rw c.in-Some.ensures.steps at c.loop-object.invariant.parts))
+    let e : ObjectId × List ℕ = (c.in-Some.object.now, c.in-Some.positions.now) in
+    entry_rises h e c.as_slice.result.now c.as_slice.ensures (All-head (HasAllPositions h) e c.next.new.self (rw c.in-Some.ensures.steps at c.loop-object.invariant.parts))
 
 pub add_groups-requires : goal.add_groups-requires
 add_groups-requires c =
     let h = c.args.history.now.ops in
-    let e : ObjectId × List ℕ = (c.in-Some.object.now, c.in-Some.places.now) in
-    let rises = entry_rises h e c.as_slice.result.now c.as_slice.ensures (All-head (HasAllPlaces h) e c.next.new.self (rw c.in-Some.ensures.steps at c.loop-object.invariant.parts)) in
+    let e : ObjectId × List ℕ = (c.in-Some.object.now, c.in-Some.positions.now) in
+    let rises = entry_rises h e c.as_slice.result.now c.as_slice.ensures (All-head (HasAllPositions h) e c.next.new.self (rw c.in-Some.ensures.steps at c.loop-object.invariant.parts)) in
     rw c.in_ok-sets.ensures (groups_rise h c.as_slice.result.now rises)
 
 pub loop-object-preserved : goal.loop-object-preserved
 loop-object-preserved c =
     let h = c.args.history.now.ops in
-    let e : ObjectId × List ℕ = (c.in-Some.object.now, c.in-Some.places.now) in
+    let e : ObjectId × List ℕ = (c.in-Some.object.now, c.in-Some.positions.now) in
     let added : c.add_groups.new.groups.items ≡ c.loop-object.groups.items ++ groups_on h e.0 e.1 = c.in_ok-add_groups.ensures ∙ ap (λ gs. c.loop-object.groups.items ++ map (group_at h e.0) gs) (c.in_ok-sets.ensures ∙ ap (groups_at (conflict_at h)) c.as_slice.ensures) in
     record {
       rest = more (λ (d : ObjectId × List ℕ). groups_on h d.0 d.1) c.loop-object.groups.items c.add_groups.new.groups.items _ e c.next.new.self c.loop-object.object-iterator added c.in-Some.ensures.steps c.loop-object.invariant.rest;
-      parts = All-rest (HasAllPlaces h) e c.next.new.self c.loop-object.object-iterator c.in-Some.ensures.steps c.loop-object.invariant.parts;
+      parts = All-rest (HasAllPositions h) e c.next.new.self c.loop-object.object-iterator c.in-Some.ensures.steps c.loop-object.invariant.parts;
     }
 
 pub returns : goal.returns
@@ -59,6 +59,6 @@ returns c =
     let h = c.args.history.now.ops in
     let m = c.in_ok-parts.parts in
     let gives = c.into_iter-object-iterator.ensures.into_iter_gives in
-    let parts : HasPlacesBelow h (length h) m = rw c.ops.ensures.ops at c.in_ok-parts.ensures in
+    let parts : HasPositionsBelow h (length h) m = rw c.ops.ensures.ops at c.in_ok-parts.ensures in
     let all : c.loop-object.groups.items ++ [] ≡ groups_of_entries h m.entries = rw (c.in-None.ensures.steps.0, gives.0) at c.loop-object.invariant.rest in
     rw (c.new.ensures, ← append-nil c.loop-object.groups.items, all) (all_versions h c.ops.ensures.valid m gives.5 parts)

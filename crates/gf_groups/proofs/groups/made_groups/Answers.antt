@@ -1,18 +1,18 @@
 use Rattle.std.proofs.Common.{◌≡◌, length, ap, subst, sym, ◌∙◌}
 use Rattle.gf_groups.specs.Growing.{conflict_at, groups_at}
-use Rattle.gf_groups.specs.GroupedPlaces.{places_below}
+use Rattle.gf_groups.specs.GroupedPositions.{positions_below}
 use Rattle.gf_groups.specs.Tables.{IsTable}
-use Rattle.gf_groups.proofs.PlaceLemmas.{places_below-rising}
+use Rattle.gf_groups.proofs.PositionLemmas.{positions_below-rising}
 use Rattle.gf_groups.proofs.TableLemmas.{conflict_at_test, table_groups}
 use Rattle.gf_groups.proofs.groups.made_groups.Goals as goal
 
 pub groups_at-requires : goal.groups_at-requires
-groups_at-requires c = rw (c.deref.ensures.value, c.in_ok-places.ensures) (places_below-rising c.ops.result.now c.args.object (length c.ops.result.now))
+groups_at-requires c = rw (c.deref.ensures.value, c.in_ok-positions.ensures) (positions_below-rising c.ops.result.now c.args.object (length c.ops.result.now))
 
 pub groups_from-requires-clause-table : goal.groups_from-requires-clause-table
 groups_from-requires-clause-table c =
     let h = c.args.history.now.ops in
-    let us = places_below h c.args.object (length h) in
-    let places : c.deref.result.now ≡ us = c.deref.ensures.value ∙ (rw c.ops.ensures.ops at c.in_ok-places.ensures) in
-    let sets = c.in_ok-sets.ensures ∙ ap (groups_at (conflict_at h)) places in
-    subst (IsTable (conflict_at h) us) (sym sets) (table_groups (conflict_at h) (conflict_at_test h) us (places_below-rising h c.args.object (length h)))
+    let us = positions_below h c.args.object (length h) in
+    let positions : c.deref.result.now ≡ us = c.deref.ensures.value ∙ (rw c.ops.ensures.ops at c.in_ok-positions.ensures) in
+    let sets = c.in_ok-sets.ensures ∙ ap (groups_at (conflict_at h)) positions in
+    subst (IsTable (conflict_at h) us) (sym sets) (table_groups (conflict_at h) (conflict_at_test h) us (positions_below-rising h c.args.object (length h)))

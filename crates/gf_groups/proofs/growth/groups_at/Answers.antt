@@ -13,11 +13,11 @@ use Rattle.gf_groups.proofs.growth.groups_at.Goals.{then-knows_all+in_ok-push_to
 pub loop-index-preserved : goal.loop-index-preserved
 loop-index-preserved c =
     let h = c.of-timeline.result in
-    let us = take c.loop-index.index c.args.places.now in
-    let x = get_or c.args.places.now c.loop-index.index 0 in
-    let all : take (c.loop-index.index + 1) c.args.places.now ≡ us ++ x ∷ [] = take_more c.args.places.now c.loop-index.index 0 c.loop-index-test.true in
-    let whole : us ++ drop c.loop-index.index c.args.places.now ≡ c.args.places.now = take-append-drop c.loop-index.index c.args.places.now in
-    let form : IsRising us = rising_front nat_cmp nat_cmp_total us (drop c.loop-index.index c.args.places.now) (rw whole c.requires) in
+    let us = take c.loop-index.index c.args.positions.now in
+    let x = get_or c.args.positions.now c.loop-index.index 0 in
+    let all : take (c.loop-index.index + 1) c.args.positions.now ≡ us ++ x ∷ [] = take_more c.args.positions.now c.loop-index.index 0 c.loop-index-test.true in
+    let whole : us ++ drop c.loop-index.index c.args.positions.now ≡ c.args.positions.now = take-append-drop c.loop-index.index c.args.positions.now in
+    let form : IsRising us = rising_front nat_cmp nat_cmp_total us (drop c.loop-index.index c.args.positions.now) (rw whole c.requires) in
     record {
       groups = rw all (elim c.if-knows_all.branch [
         | then-knows_all+in_ok-push_to_all w ↦

@@ -5,6 +5,6 @@ use Rattle.gf_groups.proofs.growth.groups_at.Given as goal
 
 abbrev pub invariant-loop-index : goal.invariant-loop-index
 invariant-loop-index l = record {
-  groups : l.groups.items ≡ groups_at (conflict_at l.timeline) (take l.index l.places);
-  counted : CountsAll l.timeline (take l.index l.places) l.taken;
+  groups : l.groups.items ≡ groups_at (conflict_at l.timeline) (take l.index l.positions);
+  counted : CountsAll l.timeline (take l.index l.positions) l.taken;
 }

@@ -4,7 +4,7 @@ use Rattle.gf_groups.proofs.growth.join.Given as goal
 
 abbrev pub invariant-loop-group : goal.invariant-loop-group
 invariant-loop-group l = record {
-  done : take l.group-index l.group-items ≡ map (step (conflict_at l.timeline) l.place) (take l.group-index l.initial.group-items);
+  done : take l.group-index l.group-items ≡ map (step (conflict_at l.timeline) l.position) (take l.group-index l.initial.group-items);
   rest : (k : ℕ) (d : List ℕ) → l.group-index ≤ k → get_or l.group-items k d ≡ get_or l.initial.group-items k d;
-  parts : l.parts.items ≡ parts (conflict_at l.timeline) l.place (take l.group-index l.initial.group-items);
+  parts : l.parts.items ≡ parts (conflict_at l.timeline) l.position (take l.group-index l.initial.group-items);
 }

@@ -1,7 +1,7 @@
 use Rattle.std.proofs.Common.{◌≡◌, List, [], ◌∷◌, ◌++◌, map, append_assoc, ap, ◌∙◌}
 use Rattle.std.specs.Vec.Iter.{into_iter_items}
 use Rattle.std.proofs.lemmas.List.Elements.{All-rest}
-use Rattle.gf_groups.specs.GroupedPlaces.{rising_ids, group_at}
+use Rattle.gf_groups.specs.GroupedPositions.{rising_ids, group_at}
 use Rattle.gf_groups.specs.Tables.{IsRising}
 use Rattle.gf_groups.proofs.listing.add_groups.Goals as goal
 

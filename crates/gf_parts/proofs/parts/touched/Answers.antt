@@ -9,7 +9,7 @@ use Rattle.gf_parts.proofs.parts.touched.Goals as goal
 
 pub loop-other-preserved : goal.loop-other-preserved
 loop-other-preserved c =
-    let P : PartState → Bool = touches (conflict_at c.args.timeline.now) c.args.place in
+    let P : PartState → Bool = touches (conflict_at c.args.timeline.now) c.args.position in
     let q = c.other-item.result in
     let xs = c.deref-other-items.result.now in
     let i = c.loop-other.other-index in

@@ -6,4 +6,4 @@ use Rattle.gf_parts.specs.Parts.{joined, touches}
 use Rattle.gf_parts.proofs.parts.touched.Given as goal
 
 abbrev pub invariant-loop-other : goal.invariant-loop-other
-invariant-loop-other l = l.part ≡ fold joined l.initial.part (filter (touches (conflict_at l.timeline) l.place) (take l.other-index l.parts.parts))
+invariant-loop-other l = l.part ≡ fold joined l.initial.part (filter (touches (conflict_at l.timeline) l.position) (take l.other-index l.parts.parts))

@@ -4,5 +4,5 @@ use Rattle.gf_shown.specs.Deciding.{taken}
 use Rattle.gf_shown.specs.ShownAt.{sets_at, later_at, shows_at}
 use Rattle.gf_shown.proofs.deciding.last_of.Given as goal
 
-abbrev pub invariant-loop-place : goal.invariant-loop-place
-invariant-loop-place l = l.last ≡ fold (taken (sets_at l.timeline) (later_at l.timeline) (shows_at l.timeline)) l.initial.last (take l.place-index l.group)
+abbrev pub invariant-loop-position : goal.invariant-loop-position
+invariant-loop-position l = l.last ≡ fold (taken (sets_at l.timeline) (later_at l.timeline) (shows_at l.timeline)) l.initial.last (take l.position-index l.group)

@@ -1,6 +1,6 @@
 use Rattle.std.proofs.Common.{length}
 use Rattle.std.proofs.lemmas.List.{length-map}
-use Rattle.gf_groups.specs.GroupedPlaces.{places_below}
+use Rattle.gf_groups.specs.GroupedPositions.{positions_below}
 use Rattle.gf_shown.proofs.ShownGroupLemmas.{more_on, sets_rise, visible_on}
 use Rattle.gf_shown.proofs.objects.visible_groups.Goals as goal
 
@@ -11,7 +11,7 @@ pub add_groups-requires : goal.add_groups-requires
 add_groups-requires c =
     let h = c.args.history.now.ops in
     let listed = rw c.in-Some.is at c.in_ok-sets.ensures in
-    sets_rise h (places_below h c.args.object (length h)) c.in-Some.sets.items listed.0
+    sets_rise h (positions_below h c.args.object (length h)) c.in-Some.sets.items listed.0
 
 pub returns-clause-groups : goal.returns-clause-groups
 returns-clause-groups c =

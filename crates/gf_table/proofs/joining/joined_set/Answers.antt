@@ -4,7 +4,7 @@ use Rattle.gf_table.proofs.joining.joined_set.Goals as goal
 
 pub returns-then-spares_all_but_last-clause-joins : goal.returns-then-spares_all_but_last-clause-joins
 returns-then-spares_all_but_last-clause-joins c =
-    let seen : IsSeen c.args.timeline.now c.args.op.now c.args.value.now c.args.place c.args.parts.now c.in_ok-summary.summary.now c.in_ok-part.part.now c.in_ok-sets.sets.now c.in_ok-set.set c.in_ok-own.own c.in_ok-heard.field-0.now = record {
+    let seen : IsSeen c.args.timeline.now c.args.op.now c.args.value.now c.args.position c.args.parts.now c.in_ok-summary.summary.now c.in_ok-part.part.now c.in_ok-sets.sets.now c.in_ok-set.set c.in_ok-own.own c.in_ok-heard.field-0.now = record {
       last = search rules;
       sets = search rules;
       in_one = c.in_ok-own.ensures;
@@ -13,11 +13,11 @@ returns-then-spares_all_but_last-clause-joins c =
       rival = search rules;
       spared = search rules;
     } in
-    joins c.args.timeline.now c.args.op.now c.args.place c.args.parts.now c.args.summary.now c.requires.next c.args.value.now c.requires.gives c.in_ok-summary.summary.now c.in_ok-part.part.now c.in_ok-sets.sets.now c.in_ok-set.set c.in_ok-own.own c.in_ok-heard.field-0.now (search rules) seen
+    joins c.args.timeline.now c.args.op.now c.args.position c.args.parts.now c.args.summary.now c.requires.next c.args.value.now c.requires.gives c.in_ok-summary.summary.now c.in_ok-part.part.now c.in_ok-sets.sets.now c.in_ok-set.set c.in_ok-own.own c.in_ok-heard.field-0.now (search rules) seen
 
 pub returns-then-spares_all_but_last-clause-told : goal.returns-then-spares_all_but_last-clause-told
 returns-then-spares_all_but_last-clause-told c =
-    let seen : IsSeen c.args.timeline.now c.args.op.now c.args.value.now c.args.place c.args.parts.now c.in_ok-summary.summary.now c.in_ok-part.part.now c.in_ok-sets.sets.now c.in_ok-set.set c.in_ok-own.own c.in_ok-heard.field-0.now = record {
+    let seen : IsSeen c.args.timeline.now c.args.op.now c.args.value.now c.args.position c.args.parts.now c.in_ok-summary.summary.now c.in_ok-part.part.now c.in_ok-sets.sets.now c.in_ok-set.set c.in_ok-own.own c.in_ok-heard.field-0.now = record {
       last = search rules;
       sets = search rules;
       in_one = c.in_ok-own.ensures;
@@ -26,4 +26,4 @@ returns-then-spares_all_but_last-clause-told c =
       rival = search rules;
       spared = search rules;
     } in
-    joined_told c.args.timeline.now c.args.op.now c.args.place c.args.parts.now c.args.summary.now c.requires.next c.args.value.now c.requires.gives c.in_ok-summary.summary.now c.in_ok-part.part.now c.in_ok-sets.sets.now c.in_ok-set.set c.in_ok-own.own c.in_ok-heard.field-0.now (search rules) seen
+    joined_told c.args.timeline.now c.args.op.now c.args.position c.args.parts.now c.args.summary.now c.requires.next c.args.value.now c.requires.gives c.in_ok-summary.summary.now c.in_ok-part.part.now c.in_ok-sets.sets.now c.in_ok-set.set c.in_ok-own.own c.in_ok-heard.field-0.now (search rules) seen

@@ -4,12 +4,12 @@ use Rattle.std.proofs.lemmas.List.{take_more}
 use Rattle.gf_table.proofs.SummaryLemmas.{set_more}
 use Rattle.gf_table.proofs.spans.span_of.Goals as goal
 
-pub loop-place-preserved : goal.loop-place-preserved
-loop-place-preserved c =
+pub loop-position-preserved : goal.loop-position-preserved
+loop-position-preserved c =
     let h = c.args.timeline.now in
-    let us = c.args.places.now in
-    let i = c.loop-place.place-index in
+    let us = c.args.positions.now in
+    let i = c.loop-position.position-index in
     let x = get_or us i 0 in
     let op = c.in_ok-get.field-0.now in
     let at : slice_get h x ≡ Some op = search rules in
-    rw (take_more us i 0 c.loop-place-test.true) (set_more h c.loop-place.span c.widen.new.span (take i us) x op at c.loop-place.invariant c.widen.ensures)
+    rw (take_more us i 0 c.loop-position-test.true) (set_more h c.loop-position.span c.widen.new.span (take i us) x op at c.loop-position.invariant c.widen.ensures)

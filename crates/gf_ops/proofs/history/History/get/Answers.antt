@@ -1,5 +1,5 @@
 use Rattle.std.proofs.Common.{rules, inl, inr, arith}
-use Rattle.gf_ops.proofs.HistoryLemmas.{counted_site, place_read, row_within, not_counted, found_under, found_some}
+use Rattle.gf_ops.proofs.HistoryLemmas.{counted_site, position_read, row_within, not_counted, found_under, found_some}
 use Rattle.gf_ops.proofs.history.History.get.Goals.{else-id-ge1-via-then-id-ge1+else-id-count, else-id-ge1-via-else-id-ge1}
 use Rattle.gf_ops.proofs.history.History.get.Goals as goal
 
@@ -25,7 +25,7 @@ bounds-row-from c =
 pub returns-then-id-count-clause-found : goal.returns-then-id-count-clause-found
 returns-then-id-count-clause-found c =
     let last = rw (c.count.ensures, ← c.self.view_is) at c.if-id-count.true in
-    let read = place_read _ _ _ c.args.id c.index-row.result.now c.self.invariant c.if-id-ge1.true last c.index-row.ensures in
+    let read = position_read _ _ _ c.args.id c.index-row.result.now c.self.invariant c.if-id-ge1.true last c.index-row.ensures in
     let (within, op, at, id) = read in
     let look = rw (c.deref.ensures.value, c.from.ensures) at c.get.ensures.lookup in
     rw (← c.self.view_is) (found_under _ c.args.id _ c.get.result op within at id look.1)
@@ -33,7 +33,7 @@ returns-then-id-count-clause-found c =
 pub returns-then-id-count-clause-none : goal.returns-then-id-count-clause-none
 returns-then-id-count-clause-none c =
     let last = rw (c.count.ensures, ← c.self.view_is) at c.if-id-count.true in
-    let read = place_read _ _ _ c.args.id c.index-row.result.now c.self.invariant c.if-id-ge1.true last c.index-row.ensures in
+    let read = position_read _ _ _ c.args.id c.index-row.result.now c.self.invariant c.if-id-ge1.true last c.index-row.ensures in
     let look = rw (c.deref.ensures.value, c.from.ensures) at c.get.ensures.lookup in
     found_some _ c.get.result (look.2 read.0)
 

@@ -7,7 +7,7 @@ use Rattle.gf_parts.proofs.parts.Parts.connect.Goals as goal
 pub returns-clause-ok : goal.returns-clause-ok
 returns-clause-ok c =
     let k = conflict_at c.args.timeline.now in
-    let x = c.args.place in
+    let x = c.args.position in
     let s : PartsState = c.args.self.now in
     let free = c.in_ok-free.ensures ∙ (ap (filter (λ a. not (k x a))) c.as_slice.ensures ∙ ap (λ (z : PartsState). filter (λ a. not (k x a)) z.free) c.self.view_is) in
     let part = c.in_ok-part.ensures in

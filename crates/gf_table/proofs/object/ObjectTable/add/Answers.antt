@@ -9,5 +9,5 @@ pub returns-in-Create-clause-told : goal.returns-in-Create-clause-told
 returns-in-Create-clause-told c =
     let g = c.args.timeline.now in
     let t = c.args.self.now in
-    let old = subst (λ (z : ObjectState). TellsLast g z.parts.parts z.summary) (sym c.self.view_is) (next_told g c.args.op.now c.args.place t.parts t.summary c.requires) in
+    let old = subst (λ (z : ObjectState). TellsLast g z.parts.parts z.summary) (sym c.self.view_is) (next_told g c.args.op.now c.args.position t.parts t.summary c.requires) in
     on_ok_weaker c.add_free.result (λ made. rw made old) c.add_free.ensures.ok

@@ -1,4 +1,4 @@
--- Operations at places of a history: whether they are on an object, and whether they conflict.
+-- Operations at positions of a history: whether they are on an object, and whether they conflict.
 use Rattle.std.proofs.Common.{◌≡◌, ℕ, true, List, length, refl, sym, ap}
 use Rattle.std.specs.Prelude.{◌↔◌, Contains, Option, Some, None, slice_get}
 use Rattle.std.proofs.lemmas.Option.{slice_get_read, slice_get_within, get_or_from_slice_get}
@@ -9,10 +9,10 @@ use Rattle.gf_ops.specs.declared.change.Change.{Change}
 use Rattle.gf_ops.specs.declared.change.Change.TheVariants.{Create, Set}
 use Rattle.gf_ops.specs.Attribute.{Kind, made_kind, object_of, changed_object}
 use Rattle.gf_ops.specs.Conflict.{Conflict}
-use Rattle.gf_groups.specs.GroupedPlaces.{is_on, places_below}
+use Rattle.gf_groups.specs.GroupedPositions.{is_on, positions_below}
 use Rattle.gf_groups.specs.Growing.{both_conflict}
 use Rattle.gf_groups.proofs.ConflictTestLemmas.{id_decided, conflict_decided}
-use Rattle.gf_groups.proofs.PlaceLemmas.{Contains-places_below}
+use Rattle.gf_groups.proofs.PositionLemmas.{Contains-positions_below}
 
 -- an operation that makes an object is on it
 pub made_object : (i : OpId) (c : Change) (k : Kind) → made_kind c ≡ Some k → (changed_object i c).0 ≡ i
@@ -31,7 +31,7 @@ module _ (o : ObjectId) where
   on_op (Some a) t = (a, refl, on_from a t)
   on_op None t = absurd cc
 
--- two places conflict where their operations do
+-- two positions conflict where their operations do
 pub conflict_from : (r s : Option Op) (a b : Op) → r ≡ Some a → s ≡ Some b → Conflict a b → both_conflict r s ≡ true
 conflict_from r s a b e f k = rw (e, f) ((conflict_decided a b).1 k)
 
@@ -41,16 +41,16 @@ conflict_with (Some x) None a e t = absurd cc
 conflict_with None s a e t = absurd cc
 
 module _ (h : List Op) where
-  -- an operation of h has a place
-  pub place_of_op : (a : Op) → Contains h a → (i : ℕ) × (slice_get h i ≡ Some a)
-  place_of_op a (i, l, e) = (i, slice_get_read h (length h) i a refl l (sym e))
+  -- an operation of h has a position
+  pub position_of_op : (a : Op) → Contains h a → (i : ℕ) × (slice_get h i ≡ Some a)
+  position_of_op a (i, l, e) = (i, slice_get_read h (length h) i a refl l (sym e))
 
   pub contained_at : (i : ℕ) (a : Op) → slice_get h i ≡ Some a → Contains h a
   contained_at i a e = (i, slice_get_within h i a e, get_or_from_slice_get h i a a e)
 
-  -- the places below the length are all places of operations on the object
-  pub all_places : (o : ObjectId) (i : ℕ) → Contains (places_below h o (length h)) i ↔ (is_on o (slice_get h i) ≡ true)
-  all_places o i = (
-    λ c. ((Contains-places_below h o (length h) i).0 c).1,
-    λ t. let w = on_op o (slice_get h i) t in (Contains-places_below h o (length h) i).1 (slice_get_within h i w.0 w.1, t),
+  -- the positions below the length are all positions of operations on the object
+  pub all_positions : (o : ObjectId) (i : ℕ) → Contains (positions_below h o (length h)) i ↔ (is_on o (slice_get h i) ≡ true)
+  all_positions o i = (
+    λ c. ((Contains-positions_below h o (length h) i).0 c).1,
+    λ t. let w = on_op o (slice_get h i) t in (Contains-positions_below h o (length h) i).1 (slice_get_within h i w.0 w.1, t),
   )

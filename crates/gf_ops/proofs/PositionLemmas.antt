@@ -1,4 +1,4 @@
--- What stands at the places of a list, after one element was replaced or put behind the others. The crates above cite them.
+-- What stands at the positions of a list, after one element was replaced or put behind the others. The crates above cite them.
 use Rattle.std.proofs.Common.{◌≡◌, ◌≢◌, ℕ, zero, suc, List, [], ◌∷◌, ◌++◌, ◌<◌, length, map, set, inl, inr, refl, sym, ap, ◌∙◌, arith}
 use Rattle.std.specs.Prelude.{◌⊎◌, Some, slice_get, Contains}
 use Rattle.std.proofs.lemmas.Option.{slice_get_within, get_or_from_slice_get, slice_get-get_or}
@@ -80,11 +80,11 @@ there_is [] k l = absurd (omega (arith, l))
 there_is (x ∷ xs) zero l = (x, refl)
 there_is (x ∷ xs) (suc k) l = there_is xs k (omega (arith, l))
 
-pub place_in : {X : Type 0} (xs : List X) (k : ℕ) (x : X) → slice_get xs k ≡ Some x → Contains xs x
-place_in xs k x e = (k, slice_get_within xs k x e, get_or_from_slice_get xs k x x e)
+pub position_in : {X : Type 0} (xs : List X) (k : ℕ) (x : X) → slice_get xs k ≡ Some x → Contains xs x
+position_in xs k x e = (k, slice_get_within xs k x e, get_or_from_slice_get xs k x x e)
 
-pub place_of : {X : Type 0} (xs : List X) (x : X) → Contains xs x → (k : ℕ) × (slice_get xs k ≡ Some x)
-place_of xs x c = (c.0, slice_get-get_or xs c.0 x c.1 ∙ ap Some c.2)
+pub position_of : {X : Type 0} (xs : List X) (x : X) → Contains xs x → (k : ℕ) × (slice_get xs k ≡ Some x)
+position_of xs x c = (c.0, slice_get-get_or xs c.0 x c.1 ∙ ap Some c.2)
 
 -- a list whose images end in one
 pub record Ends {X Y : Type 0} (f : X → Y) (zs : List X) (ys : List Y) (y : Y) : Type 0 where

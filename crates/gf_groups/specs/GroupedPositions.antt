@@ -1,4 +1,4 @@
--- The places of the operations on an object, and what groups of places stand for. No public clause cites this module.
+-- The positions of the operations on an object, and what groups of positions stand for. No public clause cites this module.
 use Rattle.std.specs.Prelude.{ℕ, zero, suc, Bool, false, cond, List, [], ◌∷◌, ◌++◌, map, filter_map, option_map, Option, Some, None, slice_get}
 use Rattle.std.specs.List.{fold}
 use Rattle.std.specs.BTreeSet.{insert_key}
@@ -16,27 +16,27 @@ abbrev pub is_on : ObjectId → Option Op → Bool
 is_on o (Some a) = id_eq (object_of a).0 o.0
 is_on o None = false
 
--- the places below n of the operations of h on the object o
-abbrev pub places_below : List Op → ObjectId → ℕ → List ℕ
-places_below h o zero = []
-places_below h o (suc n) = cond (is_on o (slice_get h n)) (places_below h o n ++ n ∷ []) (places_below h o n)
+-- the positions below n of the operations of h on the object o
+abbrev pub positions_below : List Op → ObjectId → ℕ → List ℕ
+positions_below h o zero = []
+positions_below h o (suc n) = cond (is_on o (slice_get h n)) (positions_below h o n ++ n ∷ []) (positions_below h o n)
 
--- the id of the operation at the place k
+-- the id of the operation at the position k
 abbrev pub id_at : List Op → ℕ → Option OpId
 id_at h k = option_map (λ (a : Op). a.id) (slice_get h k)
 
--- the ids of the operations at the places g
+-- the ids of the operations at the positions g
 abbrev pub ids_at : List Op → List ℕ → List OpId
 ids_at h g = filter_map (id_at h) g
 
--- the ids of the operations at the places g, rising
+-- the ids of the operations at the positions g, rising
 abbrev pub rising_ids : List Op → List ℕ → List OpId
 rising_ids h g = fold (insert_key id_cmp) [] (ids_at h g)
 
--- the group of the operations at the places g, which are on the object o
+-- the group of the operations at the positions g, which are on the object o
 abbrev pub group_at : List Op → ObjectId → List ℕ → Group
 group_at h o g = record { object = o; ops = rising_ids h g }
 
--- the groups of the operations at the places, which are on the object o
+-- the groups of the operations at the positions, which are on the object o
 abbrev pub groups_on : List Op → ObjectId → List ℕ → List Group
-groups_on h o places = map (group_at h o) (groups_at (conflict_at h) places)
+groups_on h o positions = map (group_at h o) (groups_at (conflict_at h) positions)
