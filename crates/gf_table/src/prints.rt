@@ -37,7 +37,7 @@ pub(crate) fn print_of(value: &Value) -> Print
     ensures { result ≡ print_of value.now }
 {
     match value {
-        Value::Place(position) => point_print(Some(position)),
+        Value::Place(place) => point_print(Some(place)),
         Value::Points(points) => point_print(points.as_slice().first()),
         Value::Size(width, height) => Print {
             first: *width as i64,

@@ -42,7 +42,7 @@ fn value_eq(value: &Value, other: &Value) -> bool
     ensures { result ≡ value_eq value.now other.now }
 {
     match (value, other) {
-        (Value::Place(position), Value::Place(other)) => position == other,
+        (Value::Place(place), Value::Place(other)) => place == other,
         (Value::Points(points), Value::Points(other)) => points == other,
         (Value::Size(width, height), Value::Size(other_width, other_height)) => {
             width == other_width && height == other_height
