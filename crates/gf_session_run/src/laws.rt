@@ -1,17 +1,26 @@
 //! What follows of a session, as the contract of a function that does nothing.
 
-ghost use Rattle.std.specs.Prelude.{◌≡◌, List, Contains};
+ghost use Rattle.std.specs.Prelude.{◌≡◌, ℕ, List, Contains};
 ghost use Rattle.gf_shape.specs.declared.any_shape.AnyShape.{AnyShape};
 ghost use Rattle.gf_drawing.specs.DrawingState.{DrawingState};
 ghost use Rattle.gf_worker.specs.declared.script.Script.{Script};
 ghost use Rattle.gf_session.specs.declared.session.Done.{Done};
 ghost use Rattle.gf_session.specs.Session.{IsSession};
 ghost use Rattle.gf_studio.specs.FigRun.{IsDrawn};
+ghost use Rattle.gf_session_run.specs.SessionRun.{TellsSession};
 
-/// The histories of any two sites of a session have no two drawings, so no two FIG texts.
+/// The histories of all sites of a session have one drawing: what one site's history draws, each
+/// site's draws, and no other, so each exports one FIG text. It is the text of the drawing that a
+/// run tells of them.
 pub fn the_sites_of_a_session_draw_alike()
-    ensures { (scripts : List Script) (dones : List Done) → IsSession scripts dones
+    ensures one { (scripts : List Script) (dones : List Done) → IsSession scripts dones
         → (d e : Done) → Contains dones d → Contains dones e
         → (drawing other : DrawingState AnyShape) → IsDrawn d.site.ops drawing
         → IsDrawn e.site.ops other → drawing ≡ other }
+    ensures each { (scripts : List Script) (dones : List Done) → IsSession scripts dones
+        → (d e : Done) → Contains dones d → Contains dones e
+        → (drawing : DrawingState AnyShape) → IsDrawn d.site.ops drawing
+        → IsDrawn e.site.ops drawing }
+    ensures told { (sites : ℕ) (bytes text : List ℕ) (t : TellsSession sites bytes text) (d : Done)
+        → Contains t.dones d → IsDrawn d.site.ops t.drawing }
 {}

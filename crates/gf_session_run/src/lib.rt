@@ -3,7 +3,7 @@
 //!
 //! - [`session_run`]: reads script lines, runs the scripts at the same time, and writes for each
 //!   site what became of its commands, and behind these the FIG text.
-//! - [`the_sites_of_a_session_draw_alike`]: whichever site's history is drawn, the drawing is one.
+//! - [`the_sites_of_a_session_draw_alike`]: each site's history is drawn, and the drawing is one.
 #![tactic(auto)]
 
 mod laws;

@@ -1,7 +1,8 @@
 //! The lines of reports.
 
 ghost use Rattle.std.specs.Prelude.{◌≡◌, ◌++◌, OnOk, flat_map};
-ghost use Rattle.gf_session_run.specs.Reports.{cause_word, counts_line, refused_line, report_lines, report_text, site_text};
+ghost use Rattle.gf_session_run.specs.Reports.{cause_word, counts_line, refused_line, report_lines};
+ghost use Rattle.gf_session_run.specs.Reports.{report_text, site_text};
 
 use gf_digits::push_number;
 use gf_session::Done;

@@ -2,7 +2,8 @@
 
 ghost use Rattle.std.specs.Prelude.{◌≡◌, ◌<◌, ◌↔◌, [], length, IsTrue, IfOk, IfErr, OnOk};
 ghost use Rattle.gf_session_run.specs.DenotedScripts.{AreScriptsOf, DenotesScripts};
-ghost use Rattle.gf_session_run.specs.SessionSteps.{Gains, IsFull, RefusesCommand, RefusesScripts, TakesCommand, of_line};
+ghost use Rattle.gf_session_run.specs.SessionSteps.{Gains, IsFull, RefusesCommand, RefusesScripts};
+ghost use Rattle.gf_session_run.specs.SessionSteps.{TakesCommand, of_line};
 
 use gf_bytes::TextLines;
 use gf_json::{Command, LineError, ScriptLine, read_script};

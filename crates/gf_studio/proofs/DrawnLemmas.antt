@@ -1,10 +1,12 @@
 -- What compiling the ranked versions of a history makes of it.
 use Rattle.std.specs.Prelude.{◌↔◌, ◌<◌, ◌≤◌, IfErr, IfOk, OnOk, Result, Ok, Err}
-use Rattle.std.proofs.Common.{◌≡◌, ℕ, List, length, refl}
+use Rattle.std.proofs.Common.{◌≡◌, ◌∙◌, ℕ, List, length, ap, refl, sym}
 use Rattle.gf_shape.specs.declared.any_shape.AnyShape.{AnyShape}
 use Rattle.gf_ops.specs.declared.op.Op.{Op}
 use Rattle.gf_versions.specs.declared.placed.Placed.{Placed}
 use Rattle.gf_versions.specs.Ranking.{AreRanked}
+use Rattle.gf_versions.proofs.SameHistoryLemmas.{ranked_alike, ranks_both}
+use Rattle.gf_causal.specs.DeliveredPart.{HaveSame}
 use Rattle.gf_drawing.specs.declared.compiling.CompileFault.{CompileFault}
 use Rattle.gf_drawing.specs.declared.compiling.CompileFault.TheVariants as compile
 use Rattle.gf_drawing.specs.CanonicalDrawing.{Fits, IsCanonical, canonical_drawing, colours_of}
@@ -15,8 +17,21 @@ use Rattle.gf_studio.specs.Refusals.{of_compile}
 use Rattle.gf_studio.specs.FigRun.{IsDrawn, RefusesHistory}
 use Rattle.gf_studio.specs.RefusedParts.{RefusesDrawing}
 
-drawn : (h : List Op) (d : DrawingState AnyShape) → IsCanonical h d → IsDrawn h d
+pub drawn : (h : List Op) (d : DrawingState AnyShape) → IsCanonical h d → IsDrawn h d
 drawn h d canonical = record { canonical = canonical; colours = canonical_colour h d canonical; figures = canonical_colour-outlined h d canonical }
+
+-- histories of the same operations have one drawing
+module _ (h k : List Op) (same : HaveSame h k) where
+  pub one_drawing : (drawing other : DrawingState AnyShape) → IsCanonical h drawing → IsCanonical k other → drawing ≡ other
+  one_drawing drawing other x y =
+      let items = ranked_alike h k same x.items y.items x.ranked y.ranked in
+      x.drawing ∙ (ap canonical_drawing items ∙ sym y.drawing)
+
+  pub both_canonical : (drawing : DrawingState AnyShape) → IsCanonical h drawing → IsCanonical k drawing
+  both_canonical drawing x = record { items = x.items; ranked = ranks_both h k same x.items x.ranked; fits = x.fits; drawing = x.drawing }
+
+  pub both_drawn : (drawing : DrawingState AnyShape) → IsDrawn h drawing → IsDrawn k drawing
+  both_drawn drawing x = drawn k drawing (both_canonical drawing x.canonical)
 
 -- the items are the ranked versions of h, and r is the answer of compiling them
 module _ (h : List Op) (items : List (Placed AnyShape)) (ranked : AreRanked h items) where

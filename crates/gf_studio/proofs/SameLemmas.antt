@@ -5,7 +5,6 @@ use Rattle.gf_shape.specs.declared.any_shape.AnyShape.{AnyShape}
 use Rattle.gf_shape.specs.Outlines.{any_outline}
 use Rattle.gf_ops.specs.declared.op.Op.{Op}
 use Rattle.gf_causal.specs.DeliveredPart.{HaveSame}
-use Rattle.gf_drawing.specs.CanonicalDrawing.{canonical_drawing}
 use Rattle.gf_drawing.specs.DrawingState.{DrawingState}
 use Rattle.gf_fig_write.specs.FigText.{fig_text}
 use Rattle.gf_window.specs.Windows.{View}
@@ -13,8 +12,8 @@ use Rattle.gf_reading.specs.Denoting.{Denotes, HaveSameOperations}
 use Rattle.gf_reading.proofs.SameLemmas.{denote_alike, one_history}
 use Rattle.gf_studio.specs.FigRun.{Draws, Writes}
 use Rattle.gf_studio.specs.PaintRun.{IsMeant, WritesPicture}
+use Rattle.gf_studio.proofs.DrawnLemmas.{both_canonical, drawn, one_drawing}
 use Rattle.gf_studio.proofs.PaintingLemmas.{drawn_colours, one_picture}
-use Rattle.gf_versions.proofs.SameHistoryLemmas.{ranked_alike}
 
 -- inputs that denote histories of the same operations have one drawing
 module _ (bytes others : List ℕ) (h k : List Op) (d : Denotes bytes h) (e : Denotes others k) (same : HaveSame h k) where
@@ -25,9 +24,15 @@ module _ (bytes others : List ℕ) (h k : List Op) (d : Denotes bytes h) (e : De
       (λ i. second.0 ((same a).0 (first.0 i)), λ i. first.1 ((same a).1 (second.1 i)))
 
   pub histories_draw : (drawing other : DrawingState AnyShape) → Draws bytes drawing → Draws others other → drawing ≡ other
-  histories_draw drawing other x y =
-      let items = ranked_alike x.history y.history (histories_alike drawing other x y) x.canonical.items y.canonical.items x.canonical.ranked y.canonical.ranked in
-      x.canonical.drawing ∙ (ap canonical_drawing items ∙ sym y.canonical.drawing)
+  histories_draw drawing other x y = one_drawing x.history y.history (histories_alike drawing other x y) drawing other x.canonical y.canonical
+
+  -- what the one draws, the other draws
+  pub histories_draw_both : (drawing : DrawingState AnyShape) → Draws bytes drawing → Draws others drawing
+  histories_draw_both drawing x =
+      let first = one_history bytes x.history h x.denoted d in
+      let canonical = both_canonical x.history k (λ a. (λ i. (same a).0 ((first a).0 i), λ i. (first a).1 ((same a).1 i))) drawing x.canonical in
+      let there = drawn k drawing canonical in
+      record { history = k; denoted = e; canonical = there.canonical; colours = there.colours; figures = there.figures }
 
   -- and one text
   pub histories_write : (taken text other : List ℕ) → Writes bytes (Some taken) (Some text) → Writes others (Some taken) (Some other) → text ≡ other

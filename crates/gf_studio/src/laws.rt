@@ -47,13 +47,16 @@ pub fn the_same_operations_draw_alike()
         WritesPicture (IsMeant others) w (Some taken) (Some other) → painted ≡ other }
 {}
 
-/// Inputs that denote histories of the same operations, whatever else waits in them, have no two
-/// drawings, and runs that succeed with them write the same bytes behind the same ones, text or
-/// picture in one window.
+/// Inputs that denote histories of the same operations, whatever else waits in them, have one
+/// drawing: what the one draws, the other draws, and no other. Runs that succeed with them write
+/// the same bytes behind the same ones, text or picture in one window.
 pub fn the_same_histories_draw_alike()
     ensures drawing { (bytes others : List ℕ) (h k : List Op) → Denotes bytes h → Denotes others k →
         HaveSame h k → (drawing other : DrawingState AnyShape) → Draws bytes drawing →
         Draws others other → drawing ≡ other }
+    ensures draws { (bytes others : List ℕ) (h k : List Op) → Denotes bytes h → Denotes others k →
+        HaveSame h k → (drawing : DrawingState AnyShape) → Draws bytes drawing →
+        Draws others drawing }
     ensures text { (bytes others : List ℕ) (h k : List Op) → Denotes bytes h → Denotes others k →
         HaveSame h k → (taken text other : List ℕ) → Writes bytes (Some taken) (Some text) →
         Writes others (Some taken) (Some other) → text ≡ other }

@@ -113,3 +113,10 @@ ranked_alike h k same items others x y = one_falling (λ i j. IsAbove i.key j.ke
   λ c. (y.exactly i).0 (is_placed h k same i ((x.exactly i).1 c)),
   λ c. (x.exactly i).0 (is_placed k h (λ a. ((same a).1, (same a).0)) i ((y.exactly i).1 c)),
 ))
+
+-- and what ranks one ranks the other
+pub ranks_both : (h k : List Op) → ((a : Op) → Contains h a ↔ Contains k a) → (items : List (Placed AnyShape)) → AreRanked h items → AreRanked k items
+ranks_both h k same items x = record {
+  exactly = λ i. (λ p. (x.exactly i).0 (is_placed k h (λ a. ((same a).1, (same a).0)) i p), λ c. is_placed h k same i ((x.exactly i).1 c));
+  falling = x.falling;
+}

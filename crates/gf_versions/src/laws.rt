@@ -46,10 +46,12 @@ pub fn the_first_that_holds_is_on_top()
         → HistoryColour h p (first_colour any_holds items p) }
 {}
 
-/// Histories of the same operations have the same ranked list: the order of the operations says
-/// nothing.
+/// Histories of the same operations have one ranked list: what ranks the one ranks each other, so
+/// the order of the operations says nothing.
 pub fn the_same_operations_rank_alike()
-    ensures { (h k : List Op) → ((a : Op) → Contains h a ↔ Contains k a)
+    ensures one { (h k : List Op) → ((a : Op) → Contains h a ↔ Contains k a)
         → (items others : List (Placed AnyShape)) → AreRanked h items → AreRanked k others
         → items ≡ others }
+    ensures each { (h k : List Op) → ((a : Op) → Contains h a ↔ Contains k a)
+        → (items : List (Placed AnyShape)) → AreRanked h items → AreRanked k items }
 {}
