@@ -9,13 +9,13 @@ use Rattle.std.proofs.Math.Seq.{get_or-append_seam}
 use Rattle.gf_shape.specs.declared.outline.Outline.{Outline}
 use Rattle.gf_shape.specs.declared.colour.Rgb.{Rgb}
 use Rattle.gf_shape.specs.ShapeLaws.{IsLawful}
+use Rattle.gf_digits.specs.ColourBytes.{HasBytes}
 use Rattle.gf_drawing.specs.declared.figure.Figure.{Figure}
 use Rattle.gf_drawing.specs.Colours.{Table, colour_in, rgb_of}
 use Rattle.gf_drawing.specs.DrawingState.{IsFreeNumber, IsLawfulDrawing, IsLawfulFigure, is_table_number}
 use Rattle.gf_fig_text.specs.Layout.{Token}
 use Rattle.gf_fig_read.specs.Objects.{Drawn}
 use Rattle.gf_fig_read.specs.FigGrammar.{Leads, none, more, nothing}
-use Rattle.gf_digits.specs.ColourBytes.{HasBytes}
 use Rattle.gf_fig_write.proofs.PrintedObjects.{colour_words, colour_read}
 use Rattle.gf_fig_write.proofs.PrintedFigures.{figure_words, figure_read}
 use Rattle.gf_fig_read.proofs.NumberLemmas.{rgb_of_number}

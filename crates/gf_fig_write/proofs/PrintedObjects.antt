@@ -12,6 +12,7 @@ use Rattle.gf_shape.specs.declared.outline.Outline.TheVariants.{Chain, Disc}
 use Rattle.gf_shape.specs.Reach.{is_reached, is_within_reach}
 use Rattle.gf_shape.specs.Ring.{Ring, IsRing}
 use Rattle.gf_shape.specs.Round.{Round, is_round}
+use Rattle.gf_digits.specs.ColourBytes.{HasBytes}
 use Rattle.gf_drawing.specs.Colours.{Table, colour_in, rgb_of}
 use Rattle.gf_drawing.specs.DrawingState.{IsFreeNumber, is_table_number}
 use Rattle.gf_fig_text.specs.declared.faults.FigFault.{FigFault}
@@ -22,7 +23,6 @@ use Rattle.gf_fig_text.specs.Fields.{is_in, natural, point, points}
 use Rattle.gf_fig_read.specs.Styles.{known_colour, filling, style}
 use Rattle.gf_fig_read.specs.Outlines.{same_point, is_closed, count, chain, disc}
 use Rattle.gf_fig_read.specs.Objects.{Drawn, colour_object, object}
-use Rattle.gf_digits.specs.ColourBytes.{HasBytes}
 use Rattle.gf_fig_write.proofs.PrintedNumbers.{whole_decimal, whole_signed, rgb_word, rgb_read}
 
 -- ---- words that are the same in each text

@@ -13,6 +13,8 @@ use Rattle.gf_shape.specs.Reach.{is_reached, is_within_reach}
 use Rattle.gf_shape.specs.Ring.{Ring}
 use Rattle.gf_shape.specs.Round.{Round, is_round}
 use Rattle.gf_shape.specs.ShapeLaws.{IsLawful}
+use Rattle.gf_digits.specs.ColourBytes.{HasBytes}
+use Rattle.gf_digits.specs.HexDigits.{hex_rgb}
 use Rattle.gf_drawing.specs.declared.figure.Figure.{Figure}
 use Rattle.gf_drawing.specs.DrawingState.{DrawingState, IsLawfulDrawing, IsLawfulFigure}
 use Rattle.gf_drawing.specs.Colours.{Table, rgb_of}
@@ -20,7 +22,6 @@ use Rattle.gf_drawing.specs.Outlined.{figure_outlined, outlined}
 use Rattle.gf_fig_text.specs.Layout.{Token, lines, plain, tokens, object_tokens, is_version, plain_lines, after_resolution}
 use Rattle.gf_fig_read.specs.FigGrammar.{Reads}
 use Rattle.gf_fig_write.proofs.PrintedLines.{is_word, led, led_in_line, line_of_words, tokens_printed, words_all_led}
-use Rattle.gf_digits.specs.ColourBytes.{HasBytes}
 use Rattle.gf_fig_write.proofs.PrintedNumbers.{decimal_word, signed_word, rgb_word, rgb_dark}
 use Rattle.gf_fig_write.proofs.PrintedObjects.{colour_words, point_words, style_words, count_words, disc_words, reached_small, sum_small}
 use Rattle.gf_fig_write.proofs.PrintedFigures.{outline_words, figure_words}
@@ -78,8 +79,11 @@ spaced_point_led p rest = point_pieces (codes " ") (signed_decimal p.x) (codes "
 
 -- ---- colours
 
+entry_regrouped : (number digits rest : List ℕ) → (codes "0 " ++ number ++ codes " #" ++ digits ++ codes "\n") ++ rest ≡ (48 ∷ led (number ∷ (35 ∷ digits) ∷ [])) ++ 10 ∷ rest
+entry_regrouped number digits rest = simp (append_assoc, append-nil) refl
+
 colour_regrouped : (n : ℕ) (c : Rgb) (rest : List ℕ) → colour_line (n, c) ++ rest ≡ (48 ∷ led (decimal n ∷ rgb_word c ∷ [])) ++ 10 ∷ rest
-colour_regrouped n c rest = simp append_assoc refl
+colour_regrouped n c rest = entry_regrouped (decimal n) (hex_rgb c) rest
 
 colour_cut : (e : ℕ × Rgb) (rest : List ℕ) → e.0 < 2 ^ 64 → HasBytes e.1 → body (colour_line e ++ rest) ≡ colour_words e ++ body rest
 colour_cut e rest small bytes =
