@@ -1,10 +1,10 @@
 //! Between which numbers the operations of a set lie, site by site.
 
-ghost use Rattle.std.specs.Prelude.{◌<◌, ◌≤◌, IfSome, IsTrue};
+ghost use Rattle.std.specs.Prelude.{◌≡◌, ◌<◌, ◌≤◌, Contains, length, slice_get, IfSome, IsTrue};
 ghost use Rattle.gf_ops.specs.Limits.{IsInRange};
 ghost use Rattle.gf_ops.specs.OperationOrder.{entry};
 ghost use Rattle.gf_ops.specs.ValidHistory.{IsWithin, Counts};
-ghost use Rattle.gf_table.specs.Spans.{Spans, Widens, TellsSet, TellsSets, Stays};
+ghost use Rattle.gf_table.specs.Spans.{Spans, Widens, TellsSet, TellsSets, Stays, OneKnown};
 
 use gf_groups::{Positions, Timeline};
 use gf_ops::{Clock, Op};
@@ -77,6 +77,19 @@ pub(crate) fn spans_of(
     Some(spans)
 }
 
+/// The index of a span all of which the clock counts.
+pub(crate) fn known_set(spans: &[Span], past: &Clock) -> Option<usize>
+    ensures within { IfSome result (λ set. set < length spans.now) }
+    ensures known { IfSome result (λ set. (e : _) → slice_get spans.now set ≡ Some e → IsWithin e.last past.now) }
+{
+    for (index, span) in spans.iter().enumerate() {
+        if span.last.is_within(past) {
+            return Some(index);
+        }
+    }
+    None
+}
+
 /// Whether all that the first clock counts of the span is counted by the other one.
 fn is_known(span: &Span, past: &Clock, own: &Clock) -> bool
     ensures { IsTrue result → (i : _) → Spans span.now i → i.seq ≤ entry past.now i.site
@@ -93,10 +106,31 @@ fn is_known(span: &Span, past: &Clock, own: &Clock) -> bool
     true
 }
 
-/// Whether the first clock does not count all of the span, and the other one counts what it counts
-/// of that.
-pub(crate) fn stays(span: &Span, past: &Clock, own: &Clock) -> bool
+/// Whether the first clock does not count all of the span, and the other one counts what it counts of
+/// that.
+fn stays(span: &Span, past: &Clock, own: &Clock) -> bool
     ensures { IsTrue result → Stays past.now own.now span.now }
 {
     !span.last.is_within(past) && is_known(span, past, own)
+}
+
+/// Whether that is so with all of these spans.
+fn all_stay(spans: &[Span], past: &Clock, own: &Clock) -> bool
+    ensures { IsTrue result → (e : _) → Contains spans.now e → Stays past.now own.now e }
+{
+    for span in spans {
+        if !stays(span, past, own) {
+            return false;
+        }
+    }
+    true
+}
+
+/// Whether that is so with all but the span of this set, all of which the first clock counts.
+pub(crate) fn others_stay(spans: &[Span], past: &Clock, own: &Clock, set: usize) -> bool
+    requires within { set < length spans.now }
+    requires known { (e : _) → slice_get spans.now set ≡ Some e → IsWithin e.last past.now }
+    ensures { IsTrue result → OneKnown past.now own.now set spans.now }
+{
+    all_stay(&spans[..set], past, own) && all_stay(&spans[set + 1..], past, own)
 }

@@ -1,15 +1,13 @@
 //! What is kept of the last part of an object's operations, to tell without a look at each which of
 //! its sets the next one joins.
 
-ghost use Rattle.std.specs.Prelude.{◌≡◌, ◌<◌, Contains, length, slice_get, option_copied, IsTrue};
-ghost use Rattle.std.specs.Prelude.{IfOk, IfSome};
+ghost use Rattle.std.specs.Prelude.{◌≡◌, ◌<◌, length, slice_get, IsTrue, IfOk, IfSome};
 ghost use Rattle.gf_ops.specs.Limits.{IsInRange};
 ghost use Rattle.gf_ops.specs.ValidHistory.{IsWithin};
-ghost use Rattle.gf_table.specs.Spans.{Stays, OneKnown};
 ghost use Rattle.gf_table.specs.Summaries.{TellsOf, IsJoined, NotesIn};
 
 use crate::prints::{Print, holds_print, print_of, prints_at};
-use crate::spans::{Span, spans_of, stays, widen};
+use crate::spans::{Span, known_set, others_stay, spans_of, widen};
 use crate::tails::attr_eq;
 use gf_groups::{Positions, Timeline};
 use gf_ops::{Attr, Clock, Op, Value};
@@ -36,42 +34,6 @@ impl Model for Summary {
       spans = m.spans.items;
       prints = m.prints.items;
     } };
-}
-
-/// The index of a set all of whose operations the clock counts.
-fn known_set(spans: &[Span], past: &Clock) -> Option<usize>
-    ensures within { IfSome result (λ set. set < length spans.now) }
-    ensures known { IfSome result (λ set. (e : _) → slice_get spans.now set ≡ Some e
-        → IsWithin e.last past.now) }
-{
-    for (index, span) in spans.iter().enumerate() {
-        if span.last.is_within(past) {
-            return Some(index);
-        }
-    }
-    None
-}
-
-/// Whether the clock counts of none of these sets all, and the other one counts what it counts.
-fn all_stay(spans: &[Span], past: &Clock, own: &Clock) -> bool
-    ensures { IsTrue result → (e : _) → Contains spans.now e → Stays past.now own.now e }
-{
-    for span in spans {
-        if !stays(span, past, own) {
-            return false;
-        }
-    }
-    true
-}
-
-/// Whether that is so with the sets before and behind this one, all of which the first clock
-/// counts.
-fn others_stay(spans: &[Span], past: &Clock, own: &Clock, set: usize) -> bool
-    requires within { set < length spans.now }
-    requires known { (e : _) → slice_get spans.now set ≡ Some e → IsWithin e.last past.now }
-    ensures { IsTrue result → OneKnown past.now own.now set spans.now }
-{
-    all_stay(&spans[..set], past, own) && all_stay(&spans[set + 1..], past, own)
 }
 
 impl Summary {
@@ -119,9 +81,8 @@ impl Summary {
         known_set(&self.spans, past)
     }
 
-    /// Whether an operation with this past, which gives the value, knows all of this set, and of
-    /// each other one not all, and only what the clock `own` counts, and no operation of the part
-    /// gave the value.
+    /// Whether no operation of the part gave the value, and one with this past, which knows all of
+    /// this set, knows of each other one not all, and no more than the clock `own` counts.
     pub(crate) fn tells_joined(&self, value: &Value, past: &Clock, own: &Clock, set: usize) -> bool
         requires within { set < length self.now.spans }
         requires known { (e : _) → slice_get self.now.spans set ≡ Some e

@@ -1,6 +1,6 @@
 use Rattle.std.proofs.Common.{refl}
 use Rattle.gf_table.proofs.SummaryLemmas.{others_stay}
-use Rattle.gf_table.proofs.summary.others_stay.Goals as goal
+use Rattle.gf_table.proofs.spans.others_stay.Goals as goal
 
 pub returns-then-all_stay : goal.returns-then-all_stay
 returns-then-all_stay c =

@@ -4,7 +4,7 @@ use Rattle.std.proofs.lemmas.List.{take_all}
 use Rattle.gf_table.specs.Spans.{Stays}
 use Rattle.gf_table.specs.declared.spans.Span.{Span}
 use Rattle.gf_table.proofs.SummaryLemmas.{stay_more}
-use Rattle.gf_table.proofs.summary.all_stay.Goals as goal
+use Rattle.gf_table.proofs.spans.all_stay.Goals as goal
 
 pub loop-span-preserved : goal.loop-span-preserved
 loop-span-preserved c =
