@@ -80,7 +80,8 @@ pub(crate) fn spans_of(
 /// The index of a span all of which the clock counts.
 pub(crate) fn known_set(spans: &[Span], past: &Clock) -> Option<usize>
     ensures within { IfSome result (λ set. set < length spans.now) }
-    ensures known { IfSome result (λ set. (e : _) → slice_get spans.now set ≡ Some e → IsWithin e.last past.now) }
+    ensures known { IfSome result (λ set. (e : _) → slice_get spans.now set ≡ Some e
+        → IsWithin e.last past.now) }
 {
     for (index, span) in spans.iter().enumerate() {
         if span.last.is_within(past) {
@@ -106,8 +107,8 @@ fn is_known(span: &Span, past: &Clock, own: &Clock) -> bool
     true
 }
 
-/// Whether the first clock does not count all of the span, and the other one counts what it counts of
-/// that.
+/// Whether the first clock does not count all of the span, and the other one counts what it counts
+/// of that.
 fn stays(span: &Span, past: &Clock, own: &Clock) -> bool
     ensures { IsTrue result → Stays past.now own.now span.now }
 {
