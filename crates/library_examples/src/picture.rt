@@ -17,7 +17,7 @@ fn a_drawing_is_painted_by_two_workers(rt: HostRuntime) -> Result<(), Fail> {
     ppm_to(&rt, alloc, &drawing, window, 2, &OpenGate, &mut picture)?;
     assert_eq!(rt;
         picture.bytes(),
-        b"P6\n3 1\n255\n\x00\x00\xff\x00\x00\xff\xff\xff\xff"
+        b"P6\n3 1\n255\n\x00\x00\xff\x00\x00\xff\xff\xff\xff".as_slice()
     );
     Ok(())
 }
