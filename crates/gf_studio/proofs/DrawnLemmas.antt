@@ -1,4 +1,4 @@
--- What compiling the ranked versions of a history makes of it.
+-- The drawing of a history: what compiling its ranked versions makes, and that histories of the same operations have one.
 use Rattle.std.specs.Prelude.{◌↔◌, ◌<◌, ◌≤◌, IfErr, IfOk, OnOk, Result, Ok, Err}
 use Rattle.std.proofs.Common.{◌≡◌, ◌∙◌, ℕ, List, length, ap, refl, sym}
 use Rattle.gf_shape.specs.declared.any_shape.AnyShape.{AnyShape}

@@ -8,7 +8,6 @@ use Rattle.atomic_table.specs.Seated.{TableId}
 use Rattle.gf_ops.specs.declared.op.Op.{Op}
 use Rattle.gf_ops.proofs.ListLemmas.{not_Contains-nil, Contains-cons_cases, Contains-cons_head, Contains-cons_tail}
 use Rattle.gf_link.specs.declared.message.Message.{Message}
-use Rattle.gf_link.specs.declared.message.Message.TheVariants as message
 use Rattle.gf_link.specs.Ends.{is_ended}
 use Rattle.gf_worker.specs.declared.peer.Peer.{Peer}
 use Rattle.gf_worker.specs.Messages.{op_in, ops_of}
@@ -122,9 +121,3 @@ takes_none peers k p q l at going e =
       new_one = λ a c. absurd (not_Contains-nil a c);
       unended = list_all_at (λ p. is_ended p.take.taken) peers k p l (ap (λ (q : Peer). is_ended q.take.taken) (sym at) ∙ sym going);
     })
-
--- what is no operation has none in it
-pub none_in : (m : Message) → ((a : Op) → m ≡ message.Op a → ⊥) → op_in m ++ [] ≡ []
-none_in (message.Op a) n = absurd (n a refl)
-none_in message.End n = refl
-none_in message.Stop n = refl

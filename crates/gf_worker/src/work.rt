@@ -13,7 +13,8 @@ use gf_ops::Op;
 use gf_site::{Site, Step};
 use std::sync::Wait;
 
-/// A worker: its site, its peers, its report, and whether memory was refused to it.
+/// A worker: its site, its peers, its report, and whether memory was refused to it or to a peer
+/// that told it so.
 #[derive(Drop)]
 pub(crate) struct Work {
     pub(crate) site: Site,
@@ -66,7 +67,8 @@ impl Work {
         self.short |= ran_out(offer);
     }
 
-    /// Takes the next message of the peer k, if there is one.
+    /// Takes the next message of the peer k, if there is one. A worker that takes a Stop is short,
+    /// too, so it awaits nothing any more that the peer has not made.
     fn take_one<R: Wait>(&mut self, rt: &R, links: &[Link], k: usize)
         requires placed { ArePlaced links.now self.old.peers.items }
         requires within { k < vec_len self.old.peers }
@@ -80,10 +82,17 @@ impl Work {
         let Some(message) = take_from(rt, links, peer) else {
             return;
         };
-        let Message::Op(op) = message else {
-            return;
-        };
-        self.receive(op);
+        match message {
+            Message::Op(op) => {
+                self.receive(op);
+                return;
+            }
+            Message::End => return,
+            Message::Stop => {
+                self.short = true;
+                return;
+            }
+        }
     }
 
     /// Takes a message of each peer, where there is one.

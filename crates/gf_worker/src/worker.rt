@@ -21,7 +21,7 @@ pub struct Ends<'a> {
 }
 
 /// What a worker gives back: its site, the seats of its links, what its commands came to, and
-/// whether memory was refused to it.
+/// whether memory was refused to it or to a peer that told it so.
 #[derive(Drop)]
 pub struct WorkerEnd {
     pub site: Site,
@@ -31,7 +31,8 @@ pub struct WorkerEnd {
 }
 
 /// Runs a script of at most 1,000 commands at a new site, each behind a call of the gate. Then it
-/// sends End to each peer, or Stop where memory was refused, and takes until every peer has ended.
+/// sends End to each peer, or Stop where memory was refused to it or a Stop came, and takes until
+/// every peer has ended.
 pub fn site_worker<R: Wait, G: Gate>(
     rt: &R,
     alloc: Global,
