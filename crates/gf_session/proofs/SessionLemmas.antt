@@ -21,10 +21,10 @@ use Rattle.gf_session.specs.declared.starting.Start.{Start}
 use Rattle.gf_session.specs.Outcome.{Place, IsSiteOutcome}
 use Rattle.gf_session.specs.Joined.{IsFrom, IsComplete, AreJoined, HaveOne}
 use Rattle.gf_session.specs.Starting.{AreStarts, Gave, GaveAll}
-use Rattle.gf_session.specs.Session.{IsSession, done_of, position_of, places}
+use Rattle.gf_session.specs.Session.{IsSession, done_of, place_of, places}
 use Rattle.gf_site.specs.Course.{IsCourse}
 use Rattle.gf_ops.proofs.ListLemmas.{Contains-map_from}
-use Rattle.gf_ops.proofs.PositionLemmas.{one_value, position_in, position_of as place_at}
+use Rattle.gf_ops.proofs.PositionLemmas.{one_value, position_in, position_of as position_at}
 use Rattle.gf_world.specs.Courses.{AreCourses, HaveEvents}
 use Rattle.gf_world.proofs.EventLemmas.{courses_have_events}
 use Rattle.gf_session.proofs.JoinedLemmas.{one_history, origin}
@@ -55,7 +55,7 @@ played_full s script peers e q w =
     let p = w.played in
     subst (λ l. IsPlayed e.site.number l e.site.ops e.report) (sym (p.whole ∙ ap (λ l. p.done ++ l) (p.full q) ∙ append-nil p.done)) p.played
 
-pub site_outcome : (s : ℕ) (script : Script) (peers : List Peer) (e : WorkerEnd) → e.short ≡ false → HasWorked s script.0.items peers e → IsSiteOutcome (position_of script (done_of e))
+pub site_outcome : (s : ℕ) (script : Script) (peers : List Peer) (e : WorkerEnd) → e.short ≡ false → HasWorked s script.0.items peers e → IsSiteOutcome (place_of script (done_of e))
 site_outcome s script peers e q w = record { course = (complete s script.0.items peers e q w).course; played = played_full s script.0.items peers e q w }
 
 pub same_ops : (ends : List WorkerEnd) → HaveOne ends → (e f : WorkerEnd) → Contains ends e → Contains ends f → HaveSame e.site.ops f.site.ops
@@ -88,12 +88,12 @@ record Played (starts : List Start) (ends : List WorkerEnd) (k : ℕ) (p : Place
   end : WorkerEnd
   starts_at : slice_get starts k ≡ Some start
   ends_at : slice_get ends k ≡ Some end
-  is : p ≡ position_of start.script (done_of end)
+  is : p ≡ place_of start.script (done_of end)
 
 played_at : (starts : List Start) (ends : List WorkerEnd) → GaveAll starts ends → (k : ℕ) (p : Place) → slice_get (places (map (λ s. s.script) starts) (map done_of ends)) k ≡ Some p → Played starts ends k p
 played_at [] ends g k p q = absurd cc
 played_at (s ∷ starts) [] g k p q = absurd cc
-played_at (s ∷ starts) (x ∷ ends) g zero p q = let i : position_of s.script (done_of x) ≡ p = cc in record { start = s; end = x; starts_at = refl; ends_at = refl; is = sym i }
+played_at (s ∷ starts) (x ∷ ends) g zero p q = let i : place_of s.script (done_of x) ≡ p = cc in record { start = s; end = x; starts_at = refl; ends_at = refl; is = sym i }
 played_at (s ∷ starts) (x ∷ ends) g (suc k) p q =
     let o = played_at starts ends g.1 k p q in record { start = o.start; end = o.end; starts_at = o.starts_at; ends_at = o.ends_at; is = o.is }
 
@@ -141,23 +141,23 @@ module _ (scripts : List Script) (rows : List (List Peer)) (starts : List Start)
     joined : AreJoined ends
     joined = record {
       complete = λ e c.
-          let k = place_at ends e c in
+          let k = position_at ends e c in
           let o = begun_at starts ends gave k.0 e k.1 in complete (k.0 + 1) o.start.script.0.items o.start.peers.items e (none_short ends long k.0 e k.1) (worked k.0 e k.1);
       one = λ e f c d n.
-          let k = place_at ends e c in
-          let j = place_at ends f d in
+          let k = position_at ends e c in
+          let j = position_at ends f d in
           let a = number k.0 e k.1 in
           let b = number j.0 f j.1 in
           let i : k.0 ≡ j.0 = omega (arith, a, b, n) in one_value ends j.0 e f (subst (λ m. slice_get ends m ≡ Some e) i k.1) j.1;
       heard = λ e f c d n.
-          let k = place_at ends e c in
-          let j = place_at ends f d in
+          let k = position_at ends e c in
+          let j = position_at ends f d in
           let a = number k.0 e k.1 in
           let b = number j.0 f j.1 in
           let h = settled.each k.0 j.0 e.seats.items f.seats.items (λ i. n (a ∙ ap (λ m. m + 1) i ∙ sym b)) (row_of k.0 e k.1) (row_of j.0 f j.1) in
           record { peer = h.taker; contained = h.took; all = from j.0 f j.1 h.taker h.sender h.sent h.all };
       senders = λ e c p m.
-          let k = place_at ends e c in
+          let k = position_at ends e c in
           let s = settled.only k.0 e.seats.items p (row_of k.0 e k.1) m in
           let t = got_map (λ (x : WorkerEnd). x.seats.items) ends s.place s.row s.at in
           let a = number k.0 e k.1 in
@@ -170,11 +170,11 @@ module _ (scripts : List Script) (rows : List (List Peer)) (starts : List Start)
           };
     }
 
-    each_one : (k : ℕ) (s : Start) (e : WorkerEnd) → slice_get starts k ≡ Some s → slice_get ends k ≡ Some e → IsSiteOutcome (position_of s.script (done_of e))
+    each_one : (k : ℕ) (s : Start) (e : WorkerEnd) → slice_get starts k ≡ Some s → slice_get ends k ≡ Some e → IsSiteOutcome (place_of s.script (done_of e))
     each_one k s e a b =
         let o = begun_at starts ends gave k e b in
         let i : o.start ≡ s = one_value starts k o.start s o.at a in
-        subst (λ (x : Start). IsSiteOutcome (position_of x.script (done_of e))) i (site_outcome (k + 1) o.start.script o.start.peers.items e (none_short ends long k e b) (worked k e b))
+        subst (λ (x : Start). IsSiteOutcome (place_of x.script (done_of e))) i (site_outcome (k + 1) o.start.script o.start.peers.items e (none_short ends long k e b) (worked k e b))
 
     have_one : HaveOne ends
     have_one = one_history ends joined
@@ -192,7 +192,7 @@ module _ (scripts : List Script) (rows : List (List Peer)) (starts : List Start)
       among = λ h a c d.
           let t = Contains-map_from (λ (x : WorkerEnd). x.site.ops) ends h c in
           let o = origin ends joined t.0 a t.1 (subst (λ l. Contains l a) t.2 d) in
-          let k = place_at ends o.end o.contained in
+          let k = position_at ends o.end o.contained in
           let site = o.site in
           let place = number k.0 o.end k.1 in
           let l = slice_get_within ends k.0 o.end k.1 in
@@ -206,12 +206,12 @@ module _ (scripts : List Script) (rows : List (List Peer)) (starts : List Start)
           outcome = record {
             numbers = λ k p q. let t = played_at starts ends gave k p q in ap (λ (x : Place). x.number) t.is ∙ number k t.end t.ends_at;
             each = λ p c.
-                let k = place_at all p c in
+                let k = position_at all p c in
                 let t = played_at starts ends gave k.0 p k.1 in
                 subst IsSiteOutcome (sym t.is) (each_one k.0 t.start t.end t.starts_at t.ends_at);
             same = λ p q c d.
-                let k = place_at all p c in
-                let j = place_at all q d in
+                let k = position_at all p c in
+                let j = position_at all q d in
                 let t = played_at starts ends gave k.0 p k.1 in
                 let u = played_at starts ends gave j.0 q j.1 in
                 subst (λ (x : Place × Place). HaveSame x.0.ops x.1.ops) (λ i. (sym t.is i, sym u.is i))
