@@ -1,8 +1,8 @@
 #!/bin/bash
 # Runs the session of examples/session with its first allocation refused, with its second, and so on to
-# its last, and likewise with each of its threads. Each refused run has to end, with status 1, nothing on
-# its output and want of memory for an answer; and the run behind the last, where nothing is left to be
-# refused, with what is expected of it.
+# its last, and likewise with each of its threads. Each refused run has to end: with status 1, nothing on
+# its output and want of memory for an answer, or, where the program does without, with what is expected
+# of it, as the run behind the last, where nothing is left to be refused.
 set -euo pipefail
 root=$(cd "$(dirname "$0")/.." && pwd)
 program=$root/crates/figgroup/out/figgroup
@@ -36,15 +36,18 @@ fail() {
 
 # Refuses the first of these, then the second, and so on.
 refuse_each() {
-    local number=1
+    local number=1 without=0
     run "$1=$number"
     while [ -s "$folder/refused" ]; do
-        is_want_of_memory || fail "$1=$number"
+        if ! is_want_of_memory; then
+            is_expected || fail "$1=$number"
+            without=$((without + 1))
+        fi
         number=$((number + 1))
         run "$1=$number"
     done
     is_expected || fail "nothing refused"
-    echo "$1: $((number - 1)) refused one at a time, each run ended for want of memory"
+    echo "$1: $((number - 1)) refused, one a run; all ended, $without of them with what is expected"
 }
 
 refuse_each ALLOCATION
