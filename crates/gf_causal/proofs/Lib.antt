@@ -1,4 +1,5 @@
 pub mod ListLemmas
+pub mod BoxLemmas
 pub mod HeldLemmas
 pub mod StandingLemmas
 pub mod ReadyLemmas

@@ -1,11 +1,16 @@
 -- How a buffer keeps its operations, and what stands under an id. No public clause cites this module.
 use Rattle.std.specs.Prelude.{◌≡◌, ◌≢◌, List, Contains, map, Option, Some, None}
+use Rattle.std.specs.Global.{Box}
 use Rattle.std.specs.Map.{values_of}
 use Rattle.gf_ops.specs.declared.op.Op.{Op}
 use Rattle.gf_ops.specs.declared.op.OpId.{OpId}
 use Rattle.gf_causal.specs.declared.standing.Standing.{Standing}
 use Rattle.gf_causal.specs.declared.standing.Standing.TheVariants.{Free, Same, Other}
 use Rattle.gf_causal.specs.HeldOperations.{AreHeld, IsFree, HasOther, IsClash, IsKnown, IsNew}
+
+-- the entries with what lies in their boxes
+abbrev pub opened : List (OpId × Box Op) → List (OpId × Op)
+opened es = map (λ e. (e.0, e.1.value)) es
 
 -- each operation with its id in front
 abbrev pub keyed : List Op → List (OpId × Op)

@@ -2,9 +2,7 @@
 
 ghost use Rattle.std.specs.Prelude.{◌≡◌, ◌≢◌, ◌↔◌, [], length, Contains, Ok, Err, IfOk, IfSome};
 ghost use Rattle.std.specs.Prelude.{IfNone, OnOk, OnErr};
-ghost use Rattle.std.specs.BTreeMap.{insert_entry};
 ghost use Rattle.gf_ops.specs.declared.op.Op.{Op};
-ghost use Rattle.gf_ops.specs.OperationOrder.{id_cmp};
 ghost use Rattle.gf_ops.specs.Limits.{IsInRange};
 ghost use Rattle.gf_causal.specs.declared.buffer.Offered.{Offered};
 ghost use Rattle.gf_causal.specs.declared.faults.OfferFault.{OfferFault};
@@ -14,12 +12,12 @@ ghost use Rattle.gf_causal.specs.Keeping.{Among, Stands};
 ghost use Rattle.gf_causal.specs.Ready.{IsReady, NoneIsReady};
 
 use crate::OfferFault;
+use crate::by_id::OpsById;
 use crate::ready::knows_no_more;
 use crate::standing::{Standing, compare, in_history, join};
 use gf_ops::{History, Op, OpId};
 use gf_shape::OutOfMemory;
 use std::alloc::Global;
-use std::collections::BTreeMap;
 use std::marker::Model;
 
 /// What an offer that was not refused came to.
@@ -34,20 +32,20 @@ pub enum Offered {
 /// Operations that wait until a history has what they know, seen as their list, rising by id.
 #[derive(Debug, Drop)]
 pub struct Buffer {
-    ops: BTreeMap<OpId, Op>,
+    ops: OpsById,
 }
 
 impl Model for Buffer {
     ghost use Rattle.std.specs.Prelude.{List};
-    ghost use Rattle.std.specs.BTreeMap.{values};
+    ghost use Rattle.std.specs.Map.{values_of};
     ghost use Rattle.gf_ops.specs.declared.op.Op.{Op};
     ghost use Rattle.gf_causal.specs.Keeping.{IsKept};
 
     ghost Value = { List Op };
 
-    ghost view = { λ s. values s.ops };
+    ghost view = { λ s. values_of s.ops };
 
-    ghost invariant = { λ s. IsKept s.ops.entries };
+    ghost invariant = { λ s. IsKept s.ops };
 }
 
 impl Buffer {
@@ -56,7 +54,7 @@ impl Buffer {
         ensures { result ≡ [] }
     {
         Buffer {
-            ops: BTreeMap::new(alloc),
+            ops: OpsById::new(alloc),
         }
     }
 
@@ -64,12 +62,9 @@ impl Buffer {
     pub fn copy(&self, alloc: Global) -> Result<Buffer, OutOfMemory>
         ensures { IfOk result (λ copy. copy ≡ self.now) }
     {
-        let mut ops = BTreeMap::new(alloc);
-        for (id, op) in &self.ops {
-            let op = op.copy(alloc)?;
-            put(&mut ops, *id, op)?;
-        }
-        Ok(Buffer { ops })
+        Ok(Buffer {
+            ops: self.ops.copy(alloc)?,
+        })
     }
 
     /// Holds an operation that is neither held nor in the history.
@@ -126,7 +121,7 @@ impl Buffer {
         ensures same { IfNone result (self.new ≡ self.old) }
     {
         let id = self.first_ready(history)?.id;
-        self.ops.remove(&id)
+        self.ops.remove(id)
     }
 
     /// How many operations are held.
@@ -142,7 +137,7 @@ impl Buffer {
         ensures found { IfSome result (λ op. Contains self.now op.now × (op.now.id ≡ id)) }
         ensures none { IfNone result (IsFree self.now id) }
     {
-        self.ops.get(&id)
+        self.ops.get(id)
     }
 
     /// What is held under the id of the operation.
@@ -168,9 +163,7 @@ impl Buffer {
         ensures ok { OnOk result (Adds self.old op self.new) }
         ensures err { OnErr result (self.new ≡ self.old) }
     {
-        if self.ops.insert(op.id, op).is_err() {
-            return Err(OutOfMemory);
-        }
+        self.ops.insert(op.id, op)?;
         Ok(())
     }
 
@@ -194,15 +187,5 @@ impl Buffer {
                 }
             }
         }
-    }
-}
-
-/// Puts the operation under the id.
-fn put(ops: &mut BTreeMap<OpId, Op>, id: OpId, op: Op) -> Result<(), OutOfMemory>
-    ensures { OnOk result (ops.new.entries ≡ insert_entry id_cmp ops.old.entries id op) }
-{
-    match ops.insert(id, op) {
-        Ok(_) => Ok(()),
-        Err(_) => Err(OutOfMemory),
     }
 }

@@ -8,6 +8,7 @@
 #![tactic(auto)]
 
 mod buffer;
+mod by_id;
 mod faults;
 mod laws;
 mod ready;
