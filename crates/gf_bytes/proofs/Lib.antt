@@ -1,3 +1,4 @@
 pub mod TakenLemmas
 pub mod ReadsLemmas
 pub mod CuttingLemmas
+pub mod FirstByteLemmas

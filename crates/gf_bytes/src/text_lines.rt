@@ -6,6 +6,7 @@ ghost use Rattle.std.specs.List.{position};
 ghost use Rattle.gf_bytes.specs.LineCutting.{IsNext, with_line};
 ghost use Rattle.gf_bytes.specs.TextLines.{is_blank, is_line_end, numbered_from, numbered_lines};
 
+use memchr::memchr;
 use std::marker::Model;
 
 /// What was given of a text is forgotten from this many bytes on.
@@ -122,7 +123,7 @@ fn is_blank(line: &[u8]) -> bool
 fn line_end(text: &[u8]) -> Option<usize>
     ensures { result ≡ position is_line_end text.now }
 {
-    text.iter().position(|b| *b == b'\n')
+    memchr(b'\n', text)
 }
 
 /// The first line of a text, and what stands behind its end.
