@@ -47,3 +47,8 @@ some_opened test es r b e s = sym (lookup-opened test es r e) ∙ ap (option_map
 
 pub rising_opened : (es : List (OpId × Box Op)) → IsStrictlySortedBy id_cmp (keys_of es) → IsStrictlySortedBy id_cmp (keys_of (opened es))
 rising_opened es s = rw (keys_of-map_values (λ (b : Box Op). b.value) es) s
+
+-- one id alone rises
+pub rising_one : (i : OpId) → IsStrictlySortedBy id_cmp (i ∷ [])
+unfolding IsStrictlySortedBy
+rising_one i = (tt, tt)

@@ -66,10 +66,6 @@ module _ (es : List (OpId × Op)) (kept : IsKept es) where
       let f = lookup-held a h in
       let g = subst (λ i. lookup (is_at (id_cmp i)) es ≡ Some b) (sym e) (lookup-held b k) in cc
 
-  -- what is taken out under the id of a held operation is that operation
-  pub lookup-removed : (a : Op) → Contains (values_of es) a → (r : Option Op) → r ≡ lookup (is_at (id_cmp a.id)) es → r ≡ Some a
-  lookup-removed a h r e = e ∙ lookup-held a h
-
   pub found_held : (i : OpId) (r : Option (Bor Op)) → option_copied r ≡ lookup (is_at (id_cmp i)) es → IfSome r (λ op. Contains (values_of es) op.now × (op.now.id ≡ i))
   found_held i None e = tt
   found_held i (Some op) e = held_from_lookup i op.now (sym e)
@@ -77,6 +73,14 @@ module _ (es : List (OpId × Op)) (kept : IsKept es) where
   pub none_held : (i : OpId) (r : Option (Bor Op)) → option_copied r ≡ lookup (is_at (id_cmp i)) es → IfNone r (IsFree (values_of es) i)
   none_held i None e = λ a h q. let f = subst (λ j. lookup (is_at (id_cmp j)) es ≡ Some a) q (lookup-held a h) in absurd cc
   none_held i (Some op) e = tt
+
+  -- under an id that is free nothing is found
+  lookup-free : (i : OpId) → IsFree (values_of es) i → lookup (is_at (id_cmp i)) es ≡ None
+  lookup-free i free = none_found (lookup (is_at (id_cmp i)) es) refl
+    where
+      none_found : (r : Option Op) → lookup (is_at (id_cmp i)) es ≡ r → lookup (is_at (id_cmp i)) es ≡ None
+      none_found None e = e
+      none_found (Some a) e = let f = held_from_lookup i a e in absurd (free a f.0 f.1)
 
 -- the entries es are those of ops with a at its place
 record Put (ops : List Op) (a : Op) (es : List (OpId × Op)) : Type 0 where
@@ -145,25 +149,43 @@ taken-remove : (ops : List Op) (i : OpId) (a : Op) → lookup (is_at (id_cmp i))
 taken-remove [] i a e = absurd cc
 taken-remove (b ∷ ops) i a e = taken_by b ops i a (is_at (id_cmp i) b.id) e (taken-remove ops i a)
 
-module _ (es : List (OpId × Op)) (kept : IsKept es) (a : Op) (held : Contains (values_of es) a) (fs : List (OpId × Op)) (removed : fs ≡ remove_entry (is_at (id_cmp a.id)) es) where
-  taken_kept : Taken (values_of es) a fs
-  taken_kept =
-      let f = subst (λ r. lookup (is_at (id_cmp a.id)) r ≡ Some a) kept.keys (lookup-held es kept a held) in
-      rw removed (subst (λ r. Taken (values_of es) a (remove_entry (is_at (id_cmp a.id)) r)) (sym kept.keys) (taken-remove (values_of es) a.id a f))
+-- where nothing is found, nothing is taken out
+remove-none : (test : OpId → Bool) (es : List (OpId × Op)) → lookup test es ≡ None → remove_entry test es ≡ es
+remove-none test [] e = refl
+remove-none test ((i, a) ∷ es) e = by_test (test i) e (remove-none test es)
+  where
+    by_test : (t : Bool) → cond t (Some a) (lookup test es) ≡ None → (lookup test es ≡ None → remove_entry test es ≡ es) → cond t es ((i, a) ∷ remove_entry test es) ≡ (i, a) ∷ es
+    by_test true e k = absurd cc
+    by_test false e k = ap (λ r. (i, a) ∷ r) (k e)
 
-  pub Adds-remove : Adds (values_of fs) a (values_of es)
-  Adds-remove =
-      let t = taken_kept in
-      record { before = t.before; after = t.after; without = ap values_of t.entries ∙ values-keyed (t.before ++ t.after); with_it = t.with_it }
+-- what the entries es and a look-up under the id i become when that id is taken out
+module _ (es : List (OpId × Op)) (kept : IsKept es) (i : OpId) (r : Option Op) (found : r ≡ lookup (is_at (id_cmp i)) es) (fs : List (OpId × Op)) (removed : fs ≡ remove_entry (is_at (id_cmp i)) es) where
+  taken_kept : (a : Op) → lookup (is_at (id_cmp i)) es ≡ Some a → Taken (values_of es) a fs
+  taken_kept a e = rw removed (subst (λ r. Taken (values_of es) a (remove_entry (is_at (id_cmp i)) r)) (sym kept.keys) (taken-remove (values_of es) i a (subst (λ r. lookup (is_at (id_cmp i)) r ≡ Some a) kept.keys e)))
 
-  pub IsKept-remove : IsStrictlySortedBy id_cmp (keys_of fs) → IsKept fs
-  IsKept-remove s =
-      let t = taken_kept in
-      let v = ap values_of t.entries ∙ values-keyed (t.before ++ t.after) in
-      record {
-        keys = rw v t.entries;
-        held = record {
-          in_range = λ b h. kept.held.in_range b (subst (λ r. Contains r b) (sym t.with_it) (Contains-between t.before a t.after b (subst (λ r. Contains r b) v h)));
-          rising = rw (v, ← keys-keyed (t.before ++ t.after), ← t.entries) s;
-        };
-      }
+  pub take_held : (a : Op) → Contains (values_of es) a → a.id ≡ i → (r ≡ Some a) × Adds (values_of fs) a (values_of es)
+  take_held a h q =
+      let e = subst (λ i. lookup (is_at (id_cmp i)) es ≡ Some a) q (lookup-held es kept a h) in
+      let t = taken_kept a e in (
+        found ∙ e,
+        record { before = t.before; after = t.after; without = ap values_of t.entries ∙ values-keyed (t.before ++ t.after); with_it = t.with_it },
+      )
+
+  pub take_free : IsFree (values_of es) i → (r ≡ None) × (values_of fs ≡ values_of es)
+  take_free free = let e = lookup-free es kept i free in (found ∙ e, ap values_of (removed ∙ remove-none (is_at (id_cmp i)) es e))
+
+  pub IsKept-take : IsStrictlySortedBy id_cmp (keys_of fs) → IsKept fs
+  IsKept-take s = by_found (lookup (is_at (id_cmp i)) es) refl
+    where
+      by_found : (r : Option Op) → lookup (is_at (id_cmp i)) es ≡ r → IsKept fs
+      by_found None e = rw (removed, remove-none (is_at (id_cmp i)) es e) kept
+      by_found (Some a) e =
+          let t = taken_kept a e in
+          let v = ap values_of t.entries ∙ values-keyed (t.before ++ t.after) in
+          record {
+            keys = rw v t.entries;
+            held = record {
+              in_range = λ b h. kept.held.in_range b (subst (λ r. Contains r b) (sym t.with_it) (Contains-between t.before a t.after b (subst (λ r. Contains r b) v h)));
+              rising = rw (v, ← keys-keyed (t.before ++ t.after), ← t.entries) s;
+            };
+          }

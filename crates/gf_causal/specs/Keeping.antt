@@ -12,9 +12,13 @@ use Rattle.gf_causal.specs.HeldOperations.{AreHeld, IsFree, HasOther, IsClash, I
 abbrev pub opened : List (OpId × Box Op) → List (OpId × Op)
 opened es = map (λ e. (e.0, e.1.value)) es
 
+-- an operation with its id in front
+abbrev pub entry_of : Op → OpId × Op
+entry_of a = (a.id, a)
+
 -- each operation with its id in front
 abbrev pub keyed : List Op → List (OpId × Op)
-keyed ops = map (λ a. (a.id, a)) ops
+keyed ops = map entry_of ops
 
 -- the entries are operations that a buffer may hold, each under its id
 pub record IsKept (es : List (OpId × Op)) : Type 0 where

@@ -2,3 +2,4 @@ pub mod Ready
 pub mod HeldOperations
 pub mod DeliveredPart
 pub mod Keeping
+pub mod KeptEntries

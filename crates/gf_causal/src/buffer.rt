@@ -1,7 +1,7 @@
 //! Operations that wait for what they know.
 
 ghost use Rattle.std.specs.Prelude.{◌≡◌, ◌≢◌, ◌↔◌, [], length, Contains, Ok, Err, IfOk, IfSome};
-ghost use Rattle.std.specs.Prelude.{IfNone, OnOk, OnErr};
+ghost use Rattle.std.specs.Prelude.{Some, None, IfNone, OnOk, OnErr};
 ghost use Rattle.gf_ops.specs.declared.op.Op.{Op};
 ghost use Rattle.gf_ops.specs.Limits.{IsInRange};
 ghost use Rattle.gf_causal.specs.declared.buffer.Offered.{Offered};
@@ -103,7 +103,9 @@ impl Buffer {
         ensures none { IfNone result (NoneIsReady history.now.ops self.now) }
     {
         // Each held operation is in range.
-        let _ = &self.ops;
+        if self.ops.len() == 0 {
+            return None;
+        }
         for site in 1..9 {
             if let Some(op) = self.ready_of(site, history) {
                 return Some(op);
@@ -121,6 +123,15 @@ impl Buffer {
         ensures same { IfNone result (self.new ≡ self.old) }
     {
         let id = self.first_ready(history)?.id;
+        self.take(id)
+    }
+
+    /// Takes out the held operation under this id, and nothing else.
+    pub fn take(&mut self, id: OpId) -> Option<Op>
+        ensures held { (op : Op) → Contains self.old op → op.id ≡ id
+            → (result ≡ Some op) × Adds self.new op self.old }
+        ensures free { IsFree self.old id → (result ≡ None) × (self.new ≡ self.old) }
+    {
         self.ops.remove(id)
     }
 
@@ -163,7 +174,7 @@ impl Buffer {
         ensures ok { OnOk result (Adds self.old op self.new) }
         ensures err { OnErr result (self.new ≡ self.old) }
     {
-        self.ops.insert(op.id, op)?;
+        self.ops.insert(op)?;
         Ok(())
     }
 

@@ -7,6 +7,7 @@
 //!   [`what_is_ready_in_a_valid_history_is_accepted`]: the laws.
 #![tactic(auto)]
 
+mod boxed;
 mod buffer;
 mod by_id;
 mod faults;

@@ -9,7 +9,7 @@ ghost use Rattle.gf_ops.specs.Accepted.{IsNext, IsAccepted, AreAccepted};
 ghost use Rattle.gf_ops.specs.ValidHistory.{IsValid};
 ghost use Rattle.gf_causal.specs.declared.buffer.Offered.{Offered};
 ghost use Rattle.gf_causal.specs.declared.faults.OfferFault.{OfferFault};
-ghost use Rattle.gf_causal.specs.HeldOperations.{AreHeld, Adds, IsFirstReady};
+ghost use Rattle.gf_causal.specs.HeldOperations.{AreHeld};
 ghost use Rattle.gf_table.specs.Standing.{StandsFor};
 ghost use Rattle.gf_site.specs.SiteState.{new_site, clock_of, authored};
 ghost use Rattle.gf_site.specs.Events.{Refuses, Authors, Steps, HasNext};
@@ -176,11 +176,11 @@ impl Site {
         };
         let id = op.id;
         if let Err(fault) = self.history.check(op) {
-            forget_first(&mut self.buffer, &self.history);
+            let _ = self.buffer.take(id);
             return Ok(Step::Dropped(id, fault));
         }
         grow(&mut self.history, &mut self.table, op)?;
-        let Some(op) = take_first(&mut self.buffer, &self.history) else {
+        let Some(op) = self.buffer.take(id) else {
             unreachable!();
         };
         self.history.push(op);
@@ -237,22 +237,4 @@ fn grow(history: &mut History, table: &mut GroupTable, op: &Op) -> Result<(), Ou
 {
     history.room()?;
     table.add(history, op)
-}
-
-/// Takes out the operation that is ready first.
-fn take_first(buffer: &mut Buffer, history: &History) -> Option<Op>
-    ensures { (op : Op) → IsFirstReady buffer.old history.now.ops op →
-        (result ≡ Some op) × Adds buffer.new op buffer.old }
-{
-    // Its clause says that each id is held once.
-    let _ = buffer.held();
-    buffer.take_ready(history)
-}
-
-/// Takes it out and forgets it.
-fn forget_first(buffer: &mut Buffer, history: &History)
-    ensures { (op : Op) → IsFirstReady buffer.old history.now.ops op →
-        Adds buffer.new op buffer.old }
-{
-    let _ = take_first(buffer, history);
 }

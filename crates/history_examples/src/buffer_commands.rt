@@ -1,7 +1,7 @@
 //! Commands about a buffer before a history.
 
 use crate::script::Scene;
-use example_parts::notation::operation;
+use example_parts::notation::{id, operation};
 use gf_causal::{Buffer, OfferFault, Offered};
 use gf_ops::{AddFault, History, OpId};
 use std::alloc::Global;
@@ -51,7 +51,13 @@ fn left(alloc: Global, taken: Option<OpId>, held: usize) -> Option<String> {
     }
 }
 
-/// The same of a buffer that holds this operation alone.
+/// What is taken out under an id, and how many stay.
+pub(crate) fn take_out(alloc: Global, buffer: &mut Buffer, text: &str) -> Option<String> {
+    let taken = buffer.take(id(text)?);
+    left(alloc, taken.map(|op| op.id), buffer.held())
+}
+
+/// What is taken of a buffer that holds this operation alone, and how many stay.
 pub(crate) fn alone(alloc: Global, history: &History, text: &str) -> Option<String> {
     let mut buffer = Buffer::new(alloc);
     match buffer.offer(operation(alloc, text)?, history) {

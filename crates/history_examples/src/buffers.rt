@@ -54,6 +54,19 @@ take | 2.1, 2
 take | 3.1, 1
 take | none, 1
 
+// takes_out_what_an_id_names
+new                           | ok
+offer 2.1: circle 1           | Held, 1
+offer 2.2 after 0 1: circle 1 | Held, 2
+offer 1.2 after 1: circle 1   | Held, 3
+take_out 2.2                  | 2.2, 2
+take_out 2.2                  | none, 2
+take_out 1.1                  | none, 2
+take_out 1.2                  | 1.2, 1
+take_out 2.1                  | 2.1, 0
+take_out 2.1                  | none, 0
+offer 2.2 after 0 1: circle 1 | Held, 1
+
 // never_gives_out_what_another_took_the_id_of
 new                 | ok
 offer 1.1: circle 2 | Held, 1

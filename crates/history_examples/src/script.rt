@@ -43,6 +43,7 @@ fn told(alloc: Global, scene: &mut Scene, verb: &str, text: &str) -> Option<Stri
         "offer" => buffer_commands::offer(alloc, scene, text),
         "held" => buffer_commands::held(alloc, &scene.buffer),
         "take" => buffer_commands::take(alloc, &mut scene.buffer, &scene.history),
+        "take_out" => buffer_commands::take_out(alloc, &mut scene.buffer, text),
         "deliver" => buffer_commands::deliver(alloc, scene),
         _ => told_of(alloc, &scene.history, verb, text),
     }

@@ -2,7 +2,7 @@ use Rattle.std.proofs.Common.{◌++◌, ◌∷◌, [], refl, sym, subst, ◌∙�
 use Rattle.std.proofs.lemmas.Result.{err_from_is_err_and}
 use Rattle.gf_ops.specs.Limits.{IsInRange}
 use Rattle.gf_table.specs.Standing.{StandsFor}
-use Rattle.gf_site.proofs.StepLemmas.{run_more, refused_by, taken_first_none, taken_same, accepted_same, table_more}
+use Rattle.gf_site.proofs.StepLemmas.{run_more, refused_by, same_taken, accepted_same, table_more}
 use Rattle.gf_site.proofs.site.Site.step.Goals as goal
 
 pub returns-in_default-clause-ok : goal.returns-in_default-clause-ok
@@ -12,11 +12,12 @@ pub returns-in-Err-clause-ok : goal.returns-in-Err-clause-ok
 returns-in-Err-clause-ok c =
     let a = c.in-Some.op.now in
     let first = c.in-Some.ensures.found in
+    let taken = c.take.ensures.held a first.contained refl in
     let refused = refused_by c.self.inside.history.ops a c.check.result c.in-Err.fault c.in-Err.is c.check.ensures.bad_clock c.check.ensures.no_object c.check.ensures.wrong_kind in
     rw (← c.self.view_is) (record {
       op = a;
       id = refl;
-      takes = record { first = first; in_range = c.in-Some.ensures.in_range; taken = c.forget_first.ensures a first; number = refl };
+      takes = record { first = first; in_range = c.in-Some.ensures.in_range; taken = taken.1; number = refl };
       refused = refused;
       ops = refl;
     })
@@ -27,47 +28,49 @@ returns-in_err-grow-clause-out_of_memory c =
     rw (p.1, ← c.self.view_is) (record { op = c.in-Some.op.now; first = c.in-Some.ensures.found; accepted = c.in_default-check.ensures.ok.0 refl })
 
 pub unreachable-requires : goal.unreachable-requires
-unreachable-requires c = taken_first_none c.self.inside.buffer c.self.inside.history.ops c.grow.new.history.ops c.take_first.new.buffer c.in-Some.op.now c.take_first.result c.in-Some.ensures.found c.in_ok-grow.ensures.history c.take_first.ensures c.in_default-take_first.is
+unreachable-requires c = let taken = c.take-2.ensures.held c.in-Some.op.now c.in-Some.ensures.found.contained refl in c.in_default-take.not-Some c.in-Some.op.now taken.0
 
 pub push-requires-clause-in_range : goal.push-requires-clause-in_range
 push-requires-clause-in_range c =
-    let t = taken_same c.self.inside.buffer c.self.inside.history.ops c.grow.new.history.ops c.take_first.new.buffer c.in-Some.op.now c.in-Some-take_first.op c.take_first.result c.in-Some.ensures.found c.in_ok-grow.ensures.history c.take_first.ensures c.in-Some-take_first.is in
-    subst IsInRange (sym t.0) c.in-Some.ensures.in_range
+    let a = c.in-Some.op.now in
+    let taken = c.take-2.ensures.held a c.in-Some.ensures.found.contained refl in
+    let same = same_taken c.take-2.result a c.in-Some-take.op taken.0 c.in-Some-take.is in
+    subst IsInRange (sym same) c.in-Some.ensures.in_range
 
 pub push-requires-clause-accepted : goal.push-requires-clause-accepted
 push-requires-clause-accepted c =
-    let h = c.self.inside.history.ops in
-    let old = c.grow.new.history.ops in
-    let b = c.in-Some-take_first.op in
-    let same = c.in_ok-grow.ensures.history in
-    let t = taken_same c.self.inside.buffer h old c.take_first.new.buffer c.in-Some.op.now b c.take_first.result c.in-Some.ensures.found same c.take_first.ensures c.in-Some-take_first.is in
-    accepted_same h old c.in-Some.op.now b same t.0 (c.in_default-check.ensures.ok.0 refl)
+    let a = c.in-Some.op.now in
+    let taken = c.take-2.ensures.held a c.in-Some.ensures.found.contained refl in
+    let same = same_taken c.take-2.result a c.in-Some-take.op taken.0 c.in-Some-take.is in
+    accepted_same c.self.inside.history.ops c.grow.new.history.ops a c.in-Some-take.op c.in_ok-grow.ensures.history same (c.in_default-check.ensures.ok.0 refl)
 
 pub invariant_of-self-2 : goal.invariant_of-self-2
 invariant_of-self-2 c =
     let h = c.self.inside.history.ops in
     let old = c.grow.new.history.ops in
     let new = c.push.new.self.ops in
-    let b = c.in-Some-take_first.op in
-    let same = c.in_ok-grow.ensures.history in
+    let a = c.in-Some.op.now in
+    let b = c.in-Some-take.op in
+    let history = c.in_ok-grow.ensures.history in
     let more = c.push.ensures.ops in
-    let t = taken_same c.self.inside.buffer h old c.take_first.new.buffer c.in-Some.op.now b c.take_first.result c.in-Some.ensures.found same c.take_first.ensures c.in-Some-take_first.is in
-    let stands = subst (λ a. StandsFor (h ++ a ∷ []) c.grow.new.table) (sym t.0) c.in_ok-grow.ensures.table in
-    let accepted = accepted_same h h c.in-Some.op.now b refl t.0 (c.in_default-check.ensures.ok.0 refl) in
-    (c.self.invariant.0, run_more h old new b c.self.invariant.1 same accepted more, table_more h old new b c.grow.new.table same more stands)
+    let taken = c.take-2.ensures.held a c.in-Some.ensures.found.contained refl in
+    let same = same_taken c.take-2.result a b taken.0 c.in-Some-take.is in
+    let stands = subst (λ a. StandsFor (h ++ a ∷ []) c.grow.new.table) (sym same) c.in_ok-grow.ensures.table in
+    let accepted = accepted_same h h a b refl same (c.in_default-check.ensures.ok.0 refl) in
+    (c.self.invariant.0, run_more h old new b c.self.invariant.1 history accepted more, table_more h old new b c.grow.new.table history more stands)
 
 pub returns-clause-ok : goal.returns-clause-ok
 returns-clause-ok c =
     let h = c.self.inside.history.ops in
-    let old = c.grow.new.history.ops in
     let a = c.in-Some.op.now in
+    let b = c.in-Some-take.op in
     let first = c.in-Some.ensures.found in
-    let same = c.in_ok-grow.ensures.history in
-    let t = taken_same c.self.inside.buffer h old c.take_first.new.buffer a c.in-Some-take_first.op c.take_first.result first same c.take_first.ensures c.in-Some-take_first.is in
+    let taken = c.take-2.ensures.held a first.contained refl in
+    let same = same_taken c.take-2.result a b taken.0 c.in-Some-take.is in
     rw (← c.self.view_is) (record {
       op = a;
       id = refl;
-      takes = record { first = first; in_range = c.in-Some.ensures.in_range; taken = t.1; number = refl };
+      takes = record { first = first; in_range = c.in-Some.ensures.in_range; taken = taken.1; number = refl };
       accepted = c.in_default-check.ensures.ok.0 refl;
-      ops = c.push.ensures.ops ∙ ap (λ l. l ++ c.in-Some-take_first.op ∷ []) same ∙ ap (λ b. h ++ b ∷ []) t.0;
+      ops = c.push.ensures.ops ∙ ap (λ l. l ++ b ∷ []) c.in_ok-grow.ensures.history ∙ ap (λ b. h ++ b ∷ []) same;
     })

@@ -3,7 +3,7 @@ use Rattle.std.specs.Prelude.{option_copied}
 use Rattle.std.specs.BTreeMap.{is_at}
 use Rattle.gf_ops.specs.OperationOrder.{id_cmp}
 use Rattle.gf_causal.proofs.BoxLemmas.{none_opened, some_opened}
-use Rattle.gf_causal.proofs.by_id.OpsById.get.Goals as goal
+use Rattle.gf_causal.proofs.boxed.BoxedOps.get.Goals as goal
 
 pub returns-in_err-op : goal.returns-in_err-op
 returns-in_err-op c =

@@ -8,7 +8,7 @@ use Rattle.gf_ops.proofs.EntryLemmas.{copied_more, copied_all}
 use Rattle.gf_causal.specs.Keeping.{opened}
 use Rattle.gf_causal.proofs.BoxLemmas.{rising_opened}
 use Rattle.gf_causal.proofs.HeldLemmas.{ids_total}
-use Rattle.gf_causal.proofs.by_id.OpsById.copy.Goals as goal
+use Rattle.gf_causal.proofs.boxed.BoxedOps.copy.Goals as goal
 
 pub loop-id-preserved : goal.loop-id-preserved
 loop-id-preserved c =
