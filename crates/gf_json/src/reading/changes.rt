@@ -13,7 +13,7 @@ use crate::reading::colours::hex_colour;
 use crate::reading::fields::{
     box_size, circle_size, colour, layer, object, place, polygon_points, shown, value_at,
 };
-use crate::reading::keys::{creates, says, sets};
+use crate::reading::keys::{creates, is_word, sets, word_at};
 use crate::reading::points::points;
 use crate::reading::values::{both, level, point, size, truth};
 use gf_ops::{Change, Form, Start};
@@ -128,18 +128,19 @@ fn named_value(alloc: Global, line: &Value, value: &Value) -> Result<gf_ops::Val
         ⊎ (result ≡ named_value (view line.now) (view value.now)) }
     ensures in_range { IfOk result (λ v. IsTrue (is_value v)) }
 {
-    if says(line, "set", "place") {
+    let name = word_at(line, "set");
+    if is_word(name, "place") {
         point(value).map(gf_ops::Value::Place)
-    } else if says(line, "set", "points") {
+    } else if is_word(name, "points") {
         points(alloc, value).map(gf_ops::Value::Points)
-    } else if says(line, "set", "size") {
+    } else if is_word(name, "size") {
         let (width, height) = size(value)?;
         Ok(gf_ops::Value::Size(width, height))
-    } else if says(line, "set", "colour") {
+    } else if is_word(name, "colour") {
         hex_colour(value).map(gf_ops::Value::Colour)
-    } else if says(line, "set", "layer") {
+    } else if is_word(name, "layer") {
         level(value).map(gf_ops::Value::Layer)
-    } else if says(line, "set", "shown") {
+    } else if is_word(name, "shown") {
         truth(value).map(gf_ops::Value::Shown)
     } else {
         Err(LineError::Field)

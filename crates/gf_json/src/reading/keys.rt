@@ -1,6 +1,7 @@
 //! The keys of each line, and the words at them.
 
-ghost use Rattle.std.specs.Prelude.{◌≡◌, ◌++◌, is_some, map};
+ghost use Rattle.std.specs.Prelude.{◌≡◌, ◌++◌, is_some, map, option_and_then};
+ghost use Rattle.std.specs.Prelude.{option_copied};
 ghost use Rattle.std.specs.List.{list_all};
 ghost use Rattle.serde_json.specs.View.{view};
 ghost use Rattle.serde_json.specs.Find.{get, as_object, as_str};
@@ -39,16 +40,20 @@ pub(crate) fn awaits(line: &Value) -> bool
 pub(crate) fn says(line: &Value, key: &str, word: &str) -> bool
     ensures { result ≡ says key.now word.now (view line.now) }
 {
-    match line.get(key) {
-        Some(value) => is_word(value, word),
-        None => false,
-    }
+    is_word(word_at(line, key), word)
 }
 
-fn is_word(value: &Value, word: &str) -> bool
-    ensures { result ≡ is_word word.now (as_str (view value.now)) }
+/// The string at the key.
+pub(crate) fn word_at<'v>(line: &'v Value, key: &str) -> Option<&'v str>
+    ensures { option_copied result ≡ option_and_then as_str (get key.now (view line.now)) }
 {
-    match value.as_str() {
+    line.get(key)?.as_str()
+}
+
+pub(crate) fn is_word(found: Option<&str>, word: &str) -> bool
+    ensures { result ≡ is_word word.now (option_copied found.entry) }
+{
+    match found {
         Some(text) => text == word,
         None => false,
     }
