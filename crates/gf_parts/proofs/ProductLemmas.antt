@@ -1,13 +1,16 @@
 -- The largest groups of two sets of positions that no conflict connects are the unions of theirs.
-use Rattle.std.proofs.Common.{◌≡◌, ◌≢◌, ℕ, zero, suc, Bool, true, false, List, [], ◌∷◌, map, inl, inr, refl, subst, sym, ◌∙◌, arith, ◌++◌, append_assoc, ap}
-use Rattle.std.specs.Prelude.{◌⊎◌, ◌↔◌, All, AllPairs, Contains, filter, ◌==◌}
+use Rattle.std.proofs.Common.{◌≡◌, ◌≢◌, ℕ, zero, suc, ◌+◌, ◌<◌, length, Bool, true, false, List, [], ◌∷◌, map, inl, inr, refl, subst, sym, ◌∙◌, arith, ◌++◌, append_assoc, ap}
+use Rattle.std.specs.Prelude.{◌⊎◌, ◌↔◌, All, AllPairs, Contains, filter, ◌==◌, slice_index_or}
 use Rattle.std.specs.List.{list_any, fold}
 use Rattle.std.specs.BTreeSet.{insert_key}
 use Rattle.std.specs.Ordering.{nat_cmp}
+use Rattle.std.specs.Cmp.{nat_cmp_is}
+use Rattle.std.specs.declared.cmp.Ordering.TheVariants.{Less}
 use Rattle.std.specs.FinMap.{IsAntisymmetric}
 use Rattle.std.proofs.lemmas.Bool.Decides.{Decides-eqb}
 use Rattle.std.proofs.lemmas.Cmp.{nat_cmp_total}
 use Rattle.std.proofs.lemmas.Map.Lookups.{exact_unsigned}
+use Rattle.std.proofs.lemmas.Map.Keys.{sorted_from_all_adjacent}
 use Rattle.std.proofs.lemmas.List.{append-nil}
 use Rattle.std.proofs.lemmas.List.Elements.{All-contains, Contains-append_cases, Contains-append_left, Contains-append_right}
 use Rattle.std.proofs.lemmas.List.Kept.{IsStrictlySortedBy-filter}
@@ -92,6 +95,18 @@ Contains-united g k a = (
 
 pub united_rises : (g k : List ℕ) → IsRising (united g k)
 united_rises g k = inserted_all nat_cmp nat_cmp_total nat_exact k (fold (insert_key nat_cmp) [] g) (inserted_all nat_cmp nat_cmp_total nat_exact g [] (rising_nil nat_cmp nat_cmp_total))
+
+-- what rises is itself the union with nothing
+pub united_alone : (g : List ℕ) → IsRising g → united g [] ≡ g
+united_alone g rises =
+    one_rising nat_cmp nat_cmp_total (united g []) g (united_rises g []) rises (λ a. (
+      λ h. elim ((Contains-united g [] a).0 h) [ inl i ↦ i | inr n ↦ absurd (not_Contains-nil a n) ],
+      λ i. (Contains-united g [] a).1 (inl i),
+    ))
+
+-- what is above the one before it everywhere rises
+pub rising_from_steps : (g : List ℕ) → ((k : ℕ) → k + 1 < length g → slice_index_or g k 0 < slice_index_or g (k + 1) 0) → IsRising g
+rising_from_steps g steps = sorted_from_all_adjacent nat_cmp_total g 0 (λ k l. sym (nat_cmp_is (slice_index_or g k 0) (slice_index_or g (k + 1) 0) Less (steps k l)))
 
 -- a set of gs with one of ks
 abbrev pub IsProduct : List (List ℕ) → List (List ℕ) → List ℕ → Type 0

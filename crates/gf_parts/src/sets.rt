@@ -1,11 +1,12 @@
 //! The largest compatible sets of a part, kept while they are not too many.
 
-ghost use Rattle.std.specs.Prelude.{◌≡◌, ◌∷◌, [], ◌++◌, map, option_copied, option_map, IfOk, OnOk};
-ghost use Rattle.std.specs.Prelude.{OnErr};
+ghost use Rattle.std.specs.Prelude.{◌≡◌, ◌∷◌, [], ◌++◌, map, option_copied, option_map, IfOk};
+ghost use Rattle.std.specs.Prelude.{IsTrue, OnOk, OnErr};
 ghost use Rattle.std.specs.List.{fold};
 ghost use Rattle.std.specs.BTreeSet.{insert_key};
 ghost use Rattle.std.specs.Ordering.{nat_cmp};
 ghost use Rattle.gf_groups.specs.Growing.{conflict_at};
+ghost use Rattle.gf_groups.specs.Tables.{IsRising};
 ghost use Rattle.gf_parts.specs.Parts.{kept, united, products, kept_products, times, grown_sets};
 ghost use Rattle.gf_parts.specs.Parts.{set_with};
 
@@ -164,7 +165,20 @@ fn insert_all(positions: &[usize], set: &mut BTreeSet<usize>) -> Result<(), OutO
     Ok(())
 }
 
-/// All of these positions, rising.
+/// Whether each position is above the one before it.
+fn are_rising(positions: &[usize]) -> bool
+    ensures { IsTrue result → IsRising positions.now }
+{
+    for index in 1..positions.len() {
+        if positions[index] <= positions[index - 1] {
+            return false;
+        }
+    }
+    true
+}
+
+/// All of these positions, rising. What rises needs no sorting where there are no others, as is so
+/// with the free positions of an object without conflicts.
 pub(crate) fn united(
     alloc: Global,
     some: &[usize],
@@ -172,6 +186,9 @@ pub(crate) fn united(
 ) -> Result<Positions, OutOfMemory>
     ensures { IfOk result (λ positions. positions ≡ united some.now others.now) }
 {
+    if others.is_empty() && are_rising(some) {
+        return copied(alloc, some);
+    }
     let mut set = BTreeSet::new(alloc);
     insert_all(some, &mut set)?;
     insert_all(others, &mut set)?;
