@@ -41,4 +41,5 @@ module _ (h : List Op) (a : Op) where
       other = tails.other;
       some = λ i b t s v m at. tails.some i b t s v m (before i b m at);
       tell = λ i b t s v e m at set c y. still_told e b.id.seq v (tails.tell i b t s v e m (before i b m at) set c y);
+      once = tails.once;
     }

@@ -1,9 +1,8 @@
 -- The tails after one more operation tell of it and of all before.
-use Rattle.std.proofs.Common.{◌≡◌, ◌≢◌, ℕ, ◌≤◌, ◌<◌, Bool, true, false, List, [], ◌∷◌, ◌++◌, length, inl, inr, refl, subst, sym, ap, ◌∙◌, arith}
-use Rattle.std.specs.Prelude.{◌↔◌, Contains, filter, cond, not, Option, Some, None, slice_get, unwrap_or, ◌==◌}
+use Rattle.std.proofs.Common.{◌≡◌, ◌≢◌, ℕ, ◌≤◌, ◌<◌, Bool, true, List, [], ◌∷◌, ◌++◌, length, inl, inr, refl, subst, sym, ap, ◌∙◌, arith}
+use Rattle.std.specs.Prelude.{◌↔◌, Contains, cond, Option, Some, None, slice_get, unwrap_or}
 use Rattle.std.specs.List.{find}
-use Rattle.std.proofs.lemmas.Bool.{cases_Bool, cond-true, cond-false, and_from, not-true, not_from_false}
-use Rattle.std.proofs.lemmas.Bool.Decides.{Decides-eqb}
+use Rattle.std.proofs.lemmas.Bool.{cases_Bool, cond-true, cond-false}
 use Rattle.std.proofs.lemmas.List.Elements.{Contains-append_left, Contains-push, Contains-push_cases}
 use Rattle.std.proofs.lemmas.Option.{slice_get_within}
 use Rattle.gf_ops.specs.declared.op.Op.{Op}
@@ -17,19 +16,19 @@ use Rattle.gf_ops.specs.Attribute.{attribute_of, object_of}
 use Rattle.gf_ops.specs.ConflictTests.{value_eq}
 use Rattle.gf_ops.specs.Limits.{IsInRange}
 use Rattle.gf_ops.specs.ValidHistory.{IsValid}
-use Rattle.gf_ops.proofs.ListLemmas.{Contains-cons_cases, Contains-cons_head, Contains-cons_tail, not_Contains-nil}
+use Rattle.gf_ops.proofs.ListLemmas.{Contains-cons_cases, not_Contains-nil}
 use Rattle.gf_ops.proofs.SameLemmas.{value_eq-same, value_eq-true}
 use Rattle.gf_groups.specs.GroupedPositions.{is_on}
-use Rattle.gf_groups.proofs.ListLemmas.{Contains-filter}
 use Rattle.gf_groups.proofs.OnPositionLemmas.{contained_at, on_op}
 use Rattle.gf_groups.proofs.ExposedLemmas.{found_in}
 use Rattle.gf_table.specs.declared.tails.Tail.{Tail}
 use Rattle.gf_table.specs.Standing.{IsSetter, HasSetter, IsOvertaken, IsTold, AreTails}
-use Rattle.gf_table.specs.Tails.{attr_eq, is_of, op_gives, other_than, new_tail, noted}
+use Rattle.gf_table.specs.Tails.{is_of, op_gives, other_than, new_tail, put_tail, noted}
 use Rattle.gf_table.proofs.KeptTailsLemmas.{before, moved, still_told}
 use Rattle.gf_table.proofs.LongerLemmas.{got_last, got_before}
 use Rattle.gf_table.proofs.NextLemmas.{earlier}
-use Rattle.gf_table.proofs.QuickLemmas.{attr_same, of_told, one_op}
+use Rattle.gf_table.proofs.PutTailLemmas.{put_new, put_kept, put_cases, put_once}
+use Rattle.gf_table.proofs.QuickLemmas.{of_from, of_told, one_op}
 
 -- ---- what is found
 
@@ -43,9 +42,6 @@ found_one p (y ∷ xs) x m t = elim (cases_Bool (p y)) [
     | inr j ↦ let w = found_one p xs x j t in (w.0, cond-false (p y) (Some y) (find p xs) f ∙ w.1)
   ]
 ]
-
-of_from : (t : Attr) (s : ℕ) (e : Tail) → e.attribute ≡ t → e.site ≡ s → is_of t s e ≡ true
-of_from t s e x y = and_from (attr_eq e.attribute t) (e.site == s) (subst (λ u. attr_eq u t ≡ true) (sym x) (attr_same t)) ((Decides-eqb e.site s).1 y)
 
 value_in : Change → Value → Value
 value_in (Set o v) w = v
@@ -64,17 +60,11 @@ module _ (h : List Op) (valid : IsValid h) (a : Op) (in_range : IsInRange a) (ac
   abbrev own : Tail → Bool
   own e = is_of (attribute_of v) a.id.site e
 
-  abbrev old_tails : List Tail
-  old_tails = filter (λ e. not (own e)) es
-
   abbrev last : Tail
-  last = new_tail new a.id.site v (length h) es
+  last = new_tail new a.id.site v (length h) (find own es)
 
   within : (i : ℕ) → Contains us i → i < length h
   within i m = let w = on_op (object_of a) (slice_get h i) ((all i).0 m) in slice_get_within h i w.0 w.1
-
-  of_old : (e : Tail) → Contains old_tails e → Contains es e × (own e ≡ false)
-  of_old e m = let w = (Contains-filter (λ d. not (own d)) es e).0 m in (w.0, not-true (own e) w.1)
 
   -- the tail that the last one replaces
   module _ (f : Tail) (found : find own es ≡ Some f) where
@@ -150,7 +140,7 @@ module _ (h : List Op) (valid : IsValid h) (a : Op) (in_range : IsInRange a) (ac
       let same = same_value a.change o set.object v w gives (subst (λ (x : Op). x.change ≡ Set set.object w) e set.change) in
       (same, sym set.attribute ∙ ap attribute_of same, sym set.site ∙ ap (λ (x : Op). x.id.site) e)
 
-  some_tail : (i : ℕ) (b : Op) (t : Attr) (s : ℕ) (w : Value) → Contains (us ++ length h ∷ []) i → slice_get new i ≡ Some b → IsSetter b t s w → (e : Tail) × Contains (old_tails ++ last ∷ []) e × (is_of t s e ≡ true)
+  some_tail : (i : ℕ) (b : Op) (t : Attr) (s : ℕ) (w : Value) → Contains (us ++ length h ∷ []) i → slice_get new i ≡ Some b → IsSetter b t s w → (e : Tail) × Contains (put_tail last es) e × (is_of t s e ≡ true)
   some_tail i b t s w m at set = elim (Contains-push_cases us (length h) i m) [
     | inl j ↦
         let e = tails.some i b t s w j (before h a us within i b j at) set in
@@ -158,17 +148,17 @@ module _ (h : List Op) (valid : IsValid h) (a : Op) (in_range : IsInRange a) (ac
         elim (cases_Bool (own e.0)) [
           | inl y ↦
               let mine = of_told (attribute_of v) a.id.site e.0 y in
-              (last, Contains-push old_tails last, of_from t s last (sym mine.0 ∙ of.0) (sym mine.1 ∙ of.1))
-          | inr n ↦ (e.0, Contains-append_left old_tails (last ∷ []) e.0 ((Contains-filter (λ d. not (own d)) es e.0).1 (e.1, not_from_false (own e.0) n)), e.2)
+              (last, put_new last es, of_from t s last (sym mine.0 ∙ of.0) (sym mine.1 ∙ of.1))
+          | inr n ↦ (e.0, put_kept last es e.0 e.1 n, e.2)
         ]
     | inr e ↦
         let k = of_a b t s w (is_last i b e at) set in
-        (last, Contains-push old_tails last, of_from t s last (sym k.1) (sym k.2))
+        (last, put_new last es, of_from t s last (sym k.1) (sym k.2))
   ]
 
-  tail_tells : (i : ℕ) (b : Op) (t : Attr) (s : ℕ) (w : Value) (e : Tail) → Contains (us ++ length h ∷ []) i → slice_get new i ≡ Some b → IsSetter b t s w → Contains (old_tails ++ last ∷ []) e → is_of t s e ≡ true → IsTold new e b.id.seq w
-  tail_tells i b t s w e m at set c y = elim (Contains-push_cases old_tails last e c) [
-    | inl k ↦ let old = of_old e k in elim (Contains-push_cases us (length h) i m) [
+  tail_tells : (i : ℕ) (b : Op) (t : Attr) (s : ℕ) (w : Value) (e : Tail) → Contains (us ++ length h ∷ []) i → slice_get new i ≡ Some b → IsSetter b t s w → Contains (put_tail last es) e → is_of t s e ≡ true → IsTold new e b.id.seq w
+  tail_tells i b t s w e m at set c y = elim (put_cases last es tails.once e c) [
+    | inl old ↦ elim (Contains-push_cases us (length h) i m) [
       | inl j ↦ still_told h a e b.id.seq w (tails.tell i b t s w e j (before h a us within i b j at) set old.0 y)
       | inr d ↦
           let q = of_a b t s w (is_last i b d at) set in
@@ -191,14 +181,15 @@ module _ (h : List Op) (valid : IsValid h) (a : Op) (in_range : IsInRange a) (ac
   -- THE TAILS after a
   pub tails_noted : AreTails new (us ++ length h ∷ []) (noted new a.id.site v (length h) es)
   tails_noted = record {
-    last = λ e c. elim (Contains-push_cases old_tails last e c) [
-      | inl k ↦ Contains-append_left us (length h ∷ []) e.last (tails.last e (of_old e k).0)
+    last = λ e c. elim (put_cases last es tails.once e c) [
+      | inl k ↦ Contains-append_left us (length h ∷ []) e.last (tails.last e k.0)
       | inr k ↦ subst (λ (d : Tail). Contains (us ++ length h ∷ []) d.last) k (Contains-push us (length h))
     ];
-    other = λ e c j x. elim (Contains-push_cases old_tails last e c) [
-      | inl k ↦ Contains-append_left us (length h ∷ []) j (tails.other e (of_old e k).0 j x)
+    other = λ e c j x. elim (put_cases last es tails.once e c) [
+      | inl k ↦ Contains-append_left us (length h ∷ []) j (tails.other e k.0 j x)
       | inr k ↦ Contains-append_left us (length h ∷ []) j (other_within (find own es) refl j (subst (λ (d : Tail). d.other ≡ Some j) (sym k) x))
     ];
     some = some_tail;
     tell = tail_tells;
+    once = put_once last es tails.once;
   }

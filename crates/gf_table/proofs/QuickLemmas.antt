@@ -52,6 +52,9 @@ attr_same attr.Shown = refl
 pub of_told : (t : Attr) (s : ℕ) (e : Tail) → is_of t s e ≡ true → (e.attribute ≡ t) × (e.site ≡ s)
 of_told t s e y = let w = and_parts (attr_eq e.attribute t) (e.site == s) y in (attr_told e.attribute t w.0, (Decides-eqb e.site s).0 w.1)
 
+pub of_from : (t : Attr) (s : ℕ) (e : Tail) → e.attribute ≡ t → e.site ≡ s → is_of t s e ≡ true
+of_from t s e x y = and_from (attr_eq e.attribute t) (e.site == s) (subst (λ u. attr_eq u t ≡ true) (sym x) (attr_same t)) ((Decides-eqb e.site s).1 y)
+
 set_itself : (v : Value) → set_value v (attribute_of v) ≡ Some v
 set_itself (value.Place p) = refl
 set_itself (value.Points ps) = refl

@@ -29,6 +29,7 @@ use Rattle.gf_table.specs.Tails.{hits_one}
 use Rattle.gf_table.proofs.KeptTailsLemmas.{tails_kept}
 use Rattle.gf_table.proofs.LongerLemmas.{got_last, same_conflict}
 use Rattle.gf_table.proofs.NotedLemmas.{tails_noted}
+use Rattle.gf_table.proofs.PutTailLemmas.{none_once}
 use Rattle.gf_table.proofs.QuickLemmas.{made_none, one_op, quick}
 use Rattle.gf_table.proofs.SummaryLemmas.{last_longer}
 
@@ -131,6 +132,7 @@ module _ (h : List Op) (a : Op) (us : List ℕ) (within : (i : ℕ) → Contains
       other = λ d m k x. Contains-append_left us (length h ∷ []) k (state.tails.other d m k x);
       some = λ i b u s v m at set. absurd (never i b u s v m at set);
       tell = λ i b u s v d m at set k y. absurd (never i b u s v m at set);
+      once = state.tails.once;
     }
       where
         creates : (k : Change) (o : ObjectId) (v : Value) → k ≡ Create start → ¬ (k ≡ Set o v)
@@ -166,6 +168,7 @@ first_state h = record {
     other = λ e m. absurd (not_Contains-nil e m);
     some = λ i b t s v m. absurd (not_Contains-nil i m);
     tell = λ i b t s v e m. absurd (not_Contains-nil i m);
+    once = none_once;
   };
   summary = tt;
 }

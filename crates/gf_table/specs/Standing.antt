@@ -1,6 +1,7 @@
 -- When a table stands for a history: for each object it has the parts of the object's operations, the tails of their setters, and a summary that tells of the last part.
 use Rattle.std.specs.Prelude.{◌≡◌, ◌≢◌, ◌⊎◌, ◌↔◌, ℕ, ◌≤◌, true, cond, List, [], AllPairs, Contains, length, Option, Some, None, option_map, slice_get}
 use Rattle.std.specs.BTreeMap.{is_at}
+use Rattle.std.specs.List.{IsDistinct}
 use Rattle.std.specs.Map.{lookup}
 use Rattle.gf_ops.specs.declared.op.Op.{Op}
 use Rattle.gf_ops.specs.declared.op.ObjectId.{ObjectId}
@@ -18,7 +19,7 @@ use Rattle.gf_parts.specs.Parts.{PartsState, whole}
 use Rattle.gf_table.specs.declared.tails.Tail.{Tail}
 use Rattle.gf_table.specs.ObjectState.{ObjectState}
 use Rattle.gf_table.specs.Summaries.{TellsLast}
-use Rattle.gf_table.specs.Tails.{is_of}
+use Rattle.gf_table.specs.Tails.{is_of, are_one}
 
 -- the site s gives the value v of the attribute t by a
 pub record IsSetter (a : Op) (t : Attr) (s : ℕ) (v : Value) : Type 0 where
@@ -48,12 +49,13 @@ pub record IsTold (h : List Op) (e : Tail) (n : ℕ) (w : Value) : Type 0 where
   pub last : HasSetter h e e.last n value
   pub kept : (w ≡ value) ⊎ IsOvertaken h e n value
 
--- the tails tell of all setters of h at the positions us
+-- the tails tell of all setters of h at the positions us, and no two are of one attribute and one site
 pub record AreTails (h : List Op) (us : List ℕ) (es : List Tail) : Type 0 where
   pub last : (e : Tail) → Contains es e → Contains us e.last
   pub other : (e : Tail) → Contains es e → (k : ℕ) → e.other ≡ Some k → Contains us k
   pub some : (i : ℕ) (b : Op) (t : Attr) (s : ℕ) (v : Value) → Contains us i → slice_get h i ≡ Some b → IsSetter b t s v → (e : Tail) × Contains es e × (is_of t s e ≡ true)
   pub tell : (i : ℕ) (b : Op) (t : Attr) (s : ℕ) (v : Value) (e : Tail) → Contains us i → slice_get h i ≡ Some b → IsSetter b t s v → Contains es e → is_of t s e ≡ true → IsTold h e b.id.seq v
+  pub once : IsDistinct are_one es
 
 -- the state is that of the operations of h at the positions us
 pub record IsStateOf (h : List Op) (us : List ℕ) (t : ObjectState) : Type 0 where

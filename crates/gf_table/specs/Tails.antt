@@ -1,5 +1,5 @@
 -- What is kept of the setters of an attribute by one site, to tell by two looks whether an operation conflicts with one of them.
-use Rattle.std.specs.Prelude.{ℕ, Bool, true, false, cond, not, ◌&&◌, ◌||◌, ◌==◌, List, [], ◌∷◌, ◌++◌, filter, Option, Some, None, slice_get}
+use Rattle.std.specs.Prelude.{ℕ, Bool, true, false, cond, ◌&&◌, ◌||◌, ◌==◌, List, [], ◌∷◌, Option, Some, None, slice_get}
 use Rattle.std.specs.List.{list_any, find}
 use Rattle.gf_ops.specs.declared.op.Op.{Op}
 use Rattle.gf_ops.specs.declared.change.Change.{Change}
@@ -40,13 +40,22 @@ abbrev pub other_than : List Op → Value → Option Tail → Option ℕ
 other_than h v None = None
 other_than h v (Some e) = cond (op_gives (slice_get h e.last) v) e.other (Some e.last)
 
--- the tail after the site s gave v at the position n
-abbrev pub new_tail : List Op → ℕ → Value → ℕ → List Tail → Tail
-new_tail h s v n es = record { attribute = attribute_of v; site = s; last = n; other = other_than h v (find (is_of (attribute_of v) s) es) }
+-- the tail after the site s gave v at the position n, from the one before
+abbrev pub new_tail : List Op → ℕ → Value → ℕ → Option Tail → Tail
+new_tail h s v n r = record { attribute = attribute_of v; site = s; last = n; other = other_than h v r }
+
+-- d and e are tails of one attribute and one site
+abbrev pub are_one : Tail → Tail → Bool
+are_one d e = is_of d.attribute d.site e
+
+-- the tail e in the place of the one of its attribute and its site, or behind all where there is none
+abbrev pub put_tail : Tail → List Tail → List Tail
+put_tail e [] = e ∷ []
+put_tail e (d ∷ ds) = cond (are_one e d) (e ∷ ds) (d ∷ put_tail e ds)
 
 -- the tails after it
 abbrev pub noted : List Op → ℕ → Value → ℕ → List Tail → List Tail
-noted h s v n es = filter (λ e. not (is_of (attribute_of v) s e)) es ++ new_tail h s v n es ∷ []
+noted h s v n es = put_tail (new_tail h s v n (find (is_of (attribute_of v) s) es)) es
 
 -- c tells whether the operations at two positions conflict
 module _ (c : ℕ → ℕ → Bool) where

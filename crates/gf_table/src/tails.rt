@@ -1,9 +1,8 @@
 //! What is kept of the setters of an attribute by one site, to tell at once whether an operation
 //! conflicts with one of them.
 
-ghost use Rattle.std.specs.Prelude.{◌≡◌, ◌<◌, ◌≤◌, filter, not, vec_len, vec_capacity};
-ghost use Rattle.std.specs.Prelude.{option_copied};
-ghost use Rattle.std.specs.List.{find};
+ghost use Rattle.std.specs.Prelude.{◌≡◌, ◌<◌, vec_len, vec_capacity, option_copied};
+ghost use Rattle.std.specs.List.{position};
 ghost use Rattle.gf_ops.specs.ConflictTests.{value_eq};
 ghost use Rattle.gf_groups.specs.Growing.{conflict_at};
 ghost use Rattle.gf_table.specs.Tails.{attr_eq, is_of, change_gives, op_gives, other_than};
@@ -62,11 +61,11 @@ fn is_of(attribute: Attr, site: u8, tail: &Tail) -> bool
     attr_eq(tail.attribute, attribute) && tail.site == site
 }
 
-/// The tail of the attribute and the site.
-fn found(attribute: Attr, site: u8, tails: &[Tail]) -> Option<&Tail>
-    ensures { option_copied result ≡ find (is_of attribute site) tails.now }
+/// The index of the tail of the attribute and the site.
+fn place(attribute: Attr, site: u8, tails: &[Tail]) -> Option<usize>
+    ensures { result ≡ position (is_of attribute site) tails.now }
 {
-    tails.iter().find(|tail| is_of(attribute, site, tail))
+    tails.iter().position(|tail| is_of(attribute, site, tail))
 }
 
 /// Whether the change gives the value.
@@ -100,35 +99,26 @@ fn other_than(timeline: &Timeline<'_>, value: &Value, tail: Option<&Tail>) -> Op
     }
 }
 
-/// The tail after a site gave the value at the position.
+/// The tail after a site gave the value at the position, from the one before.
 fn new_tail(
     timeline: &Timeline<'_>,
     site: u8,
     value: &Value,
     position: usize,
-    tails: &[Tail],
+    tail: Option<&Tail>,
 ) -> Tail
-    ensures { result ≡ new_tail timeline.now site value.now position tails.now }
+    ensures { result ≡ new_tail timeline.now site value.now position (option_copied tail.entry) }
 {
-    let attribute = value.attribute();
     Tail {
-        attribute,
+        attribute: value.attribute(),
         site,
         last: position,
-        other: other_than(timeline, value, found(attribute, site, tails)),
+        other: other_than(timeline, value, tail),
     }
 }
 
-/// Drops the tail of the attribute and the site.
-fn drop_tail(attribute: Attr, site: u8, tails: &mut Vec<Tail>)
-    ensures items { tails.new.items ≡ filter (λ e. not (is_of attribute site e)) tails.old.items }
-    ensures len { vec_len tails.new ≤ vec_len tails.old }
-    ensures capacity { vec_capacity tails.new ≡ vec_capacity tails.old }
-{
-    tails.retain(|tail| !is_of(attribute, site, tail));
-}
-
-/// Notes that the site gave the value at the position.
+/// Notes that the site gave the value at the position: the new tail takes the place of the one that
+/// the site has of the attribute, or comes behind all.
 pub(crate) fn note(
     timeline: &Timeline<'_>,
     site: u8,
@@ -139,9 +129,13 @@ pub(crate) fn note(
     requires { vec_len tails.old < vec_capacity tails.old }
     ensures { tails.new.items ≡ noted timeline.now site value.now position tails.old.items }
 {
-    let tail = new_tail(timeline, site, value, position, tails);
-    drop_tail(tail.attribute, site, tails);
-    tails.push_reserved(tail);
+    match place(value.attribute(), site, tails) {
+        Some(index) => {
+            let tail = new_tail(timeline, site, value, position, Some(&tails[index]));
+            tails[index] = tail;
+        }
+        None => tails.push_reserved(new_tail(timeline, site, value, position, None)),
+    }
 }
 
 fn hits_other(timeline: &Timeline<'_>, position: usize, other: Option<usize>) -> bool
