@@ -69,13 +69,13 @@ impl TextLines {
         self.forget_given();
     }
 
-    /// Gives back the memory of what was given, once that is as much as half of what is left: so
-    /// each byte is moved a few times at most.
+    /// Gives back the memory of what was given, once that is as much as what is left: so no more
+    /// bytes are moved in all than the text has.
     fn forget_given(&mut self)
         ensures { self.new ≡ self.old }
     {
         let left = self.text.len() - self.given;
-        if self.given < FORGOTTEN_BYTES || self.given < left / 2 {
+        if self.given < FORGOTTEN_BYTES || self.given < left {
             return;
         }
         drop(self.text.drain(..self.given));
