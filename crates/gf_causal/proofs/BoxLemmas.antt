@@ -1,5 +1,5 @@
 -- Entries beside what lies in their boxes.
-use Rattle.std.proofs.Common.{◌≡◌, List, [], ◌∷◌, Bool, true, false, cond, refl, sym, ap, ◌∙◌}
+use Rattle.std.proofs.Common.{◌≡◌, ◌<◌, List, [], ◌∷◌, ◌++◌, length, arith, Bool, true, false, cond, refl, sym, ap, ◌∙◌}
 use Rattle.std.specs.Prelude.{Option, Some, None, option_map}
 use Rattle.std.specs.BTreeMap.{insert_entry}
 use Rattle.std.specs.Global.{Box}
@@ -13,6 +13,7 @@ use Rattle.gf_ops.specs.declared.op.Op.{Op}
 use Rattle.gf_ops.specs.declared.op.OpId.{OpId}
 use Rattle.gf_ops.specs.OperationOrder.{id_cmp}
 use Rattle.gf_causal.specs.Keeping.{opened}
+use Rattle.gf_causal.specs.KeptEntries.{entries_of}
 
 opened-match : (o : Ordering) (xs ys zs : List (OpId × Box Op)) → opened (match_ordering o xs ys zs) ≡ match_ordering o (opened xs) (opened ys) (opened zs)
 opened-match Less xs ys zs = refl
@@ -48,7 +49,16 @@ some_opened test es r b e s = sym (lookup-opened test es r e) ∙ ap (option_map
 pub rising_opened : (es : List (OpId × Box Op)) → IsStrictlySortedBy id_cmp (keys_of es) → IsStrictlySortedBy id_cmp (keys_of (opened es))
 rising_opened es s = rw (keys_of-map_values (λ (b : Box Op). b.value) es) s
 
--- one id alone rises
-pub rising_one : (i : OpId) → IsStrictlySortedBy id_cmp (i ∷ [])
+-- ---- what lies alone
+
+alone_rising : (a : Op) (ops : List Op) (es : List (OpId × Op)) → IsStrictlySortedBy id_cmp (keys_of (entries_of (a ∷ ops) es))
 unfolding IsStrictlySortedBy
-rising_one i = (tt, tt)
+alone_rising a ops es = (tt, tt)
+
+pub some_rising : (ops : List Op) (es : List (OpId × Op)) → 0 < length ops → IsStrictlySortedBy id_cmp (keys_of (entries_of ops es))
+some_rising [] es l = absurd (omega (arith, l))
+some_rising (a ∷ ops) es l = alone_rising a ops es
+
+pub pushed_rising : (ops : List Op) (es : List (OpId × Op)) (a : Op) (new : List Op) → new ≡ ops ++ a ∷ [] → IsStrictlySortedBy id_cmp (keys_of (entries_of new es))
+pushed_rising [] es a new e = rw e (alone_rising a [] es)
+pushed_rising (b ∷ ops) es a new e = rw e (alone_rising b (ops ++ a ∷ []) es)

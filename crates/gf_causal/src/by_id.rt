@@ -12,22 +12,16 @@ use gf_ops::{Op, OpId};
 use gf_shape::OutOfMemory;
 use std::alloc::Global;
 use std::marker::Model;
-use std::mem;
-
-/// Where operations lie.
-#[derive(Debug, Drop)]
-enum Kept {
-    /// One operation lies here: no memory is asked for what is taken out at once, as lines in
-    /// causal order are.
-    One(Op),
-    Many(BoxedOps),
-}
 
 /// Operations by id.
 #[derive(Debug, Drop)]
 pub(crate) struct OpsById {
     alloc: Global,
-    kept: Kept,
+    // An operation that is alone lies here, as lines in causal order do, each for a moment: the
+    // memory stays for the next one.
+    alone: Vec<Op>,
+    // Several lie here.
+    many: BoxedOps,
 }
 
 impl Model for OpsById {
@@ -38,7 +32,7 @@ impl Model for OpsById {
 
     ghost Value = { List (OpId × Op) };
 
-    ghost view = { λ s. entries_of s.kept };
+    ghost view = { λ s. entries_of s.alone.items s.many };
 }
 
 impl OpsById {
@@ -48,7 +42,8 @@ impl OpsById {
     {
         OpsById {
             alloc,
-            kept: Kept::Many(BoxedOps::new(alloc)),
+            alone: Vec::new(alloc),
+            many: BoxedOps::new(alloc),
         }
     }
 
@@ -56,20 +51,31 @@ impl OpsById {
     pub(crate) fn copy(&self, alloc: Global) -> Result<OpsById, OutOfMemory>
         ensures { IfOk result (λ copy. copy ≡ self.now) }
     {
-        let kept = match &self.kept {
-            Kept::One(op) => Kept::One(op.copy(alloc)?),
-            Kept::Many(ops) => Kept::Many(ops.copy(alloc)?),
+        let Some(op) = self.alone.first() else {
+            let many = self.many.copy(alloc)?;
+            return Ok(OpsById {
+                alloc,
+                alone: Vec::new(alloc),
+                many,
+            });
         };
-        Ok(OpsById { alloc, kept })
+        let op = op.copy(alloc)?;
+        let mut alone = Vec::new(alloc);
+        alone.push(op)?;
+        Ok(OpsById {
+            alloc,
+            alone,
+            many: BoxedOps::new(alloc),
+        })
     }
 
     /// How many operations there are.
     pub(crate) fn len(&self) -> usize
         ensures { result ≡ length self.now }
     {
-        match &self.kept {
-            Kept::One(_) => 1,
-            Kept::Many(ops) => ops.len(),
+        match self.alone.first() {
+            Some(_) => 1,
+            None => self.many.len(),
         }
     }
 
@@ -77,10 +83,10 @@ impl OpsById {
     pub(crate) fn get(&self, id: OpId) -> Option<&Op>
         ensures { option_copied result ≡ lookup (is_at (id_cmp id)) self.now }
     {
-        match &self.kept {
-            Kept::One(op) if is_under(op, id) => Some(op),
-            Kept::One(_) => None,
-            Kept::Many(ops) => ops.get(id),
+        match self.alone.first() {
+            Some(op) if is_under(op, id) => Some(op),
+            Some(_) => None,
+            None => self.many.get(id),
         }
     }
 
@@ -90,18 +96,18 @@ impl OpsById {
         ensures err { OnErr result (self.new ≡ self.old) }
         ensures rising { OnOk result (IsStrictlySortedBy id_cmp (keys_of self.new)) }
     {
-        match &mut self.kept {
-            Kept::One(other) => {
-                let ops = both(self.alloc, other, op)?;
-                self.kept = Kept::Many(ops);
+        match self.alone.first() {
+            Some(first) => {
+                self.many = both(self.alloc, first, op)?;
+                self.alone.clear();
                 Ok(())
             }
-            Kept::Many(ops) => {
-                if ops.len() == 0 {
-                    self.kept = Kept::One(op);
+            None => {
+                if self.many.len() == 0 {
+                    self.alone.push(op)?;
                     Ok(())
                 } else {
-                    ops.insert(op.id, op)
+                    self.many.insert(op.id, op)
                 }
             }
         }
@@ -113,18 +119,18 @@ impl OpsById {
         ensures left { self.new ≡ remove_entry (is_at (id_cmp id)) self.old }
         ensures rising { IsStrictlySortedBy id_cmp (keys_of self.new) }
     {
-        match &mut self.kept {
-            Kept::One(op) => {
+        match self.alone.first() {
+            Some(op) => {
                 if !is_under(op, id) {
                     return None;
                 }
             }
-            Kept::Many(ops) => return ops.remove(id),
+            None => return self.many.remove(id),
         }
-        match mem::replace(&mut self.kept, Kept::Many(BoxedOps::new(self.alloc))) {
-            Kept::One(op) => Some(op),
-            Kept::Many(_) => unreachable!(),
-        }
+        self.many = BoxedOps::new(self.alloc);
+        let op = self.alone.remove(0);
+        self.alone.clear();
+        Some(op)
     }
 }
 
