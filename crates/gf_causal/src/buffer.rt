@@ -102,10 +102,10 @@ impl Buffer {
         ensures in_range { IfSome result (λ op. IsInRange op.now) }
         ensures none { IfNone result (NoneIsReady history.now.ops self.now) }
     {
-        // Each held operation is in range.
         if self.ops.len() == 0 {
             return None;
         }
+        // Each held operation is in range, so of one of these sites.
         for site in 1..9 {
             if let Some(op) = self.ready_of(site, history) {
                 return Some(op);
