@@ -1,9 +1,9 @@
 //! The lines of a text, one after the other.
 
-ghost use Rattle.std.specs.Prelude.{◌≡◌, ◌<◌, ◌+◌, ◌-◌, ◌∷◌, [], ◌^◌, length, drop, ℕ, IfSome};
-ghost use Rattle.std.specs.Prelude.{IfNone};
+ghost use Rattle.std.specs.Prelude.{◌≡◌, ◌<◌, ◌≤◌, ◌+◌, ◌-◌, ◌∷◌, [], ◌^◌, length, take, drop, ℕ};
+ghost use Rattle.std.specs.Prelude.{IfSome, IfNone};
 ghost use Rattle.std.specs.List.{position};
-ghost use Rattle.gf_bytes.specs.LineCutting.{IsNext, with_line};
+ghost use Rattle.gf_bytes.specs.LineCutting.{IsNext, IsPlaced, with_line};
 ghost use Rattle.gf_bytes.specs.TextLines.{is_blank, is_line_end, numbered_from, numbered_lines};
 
 use memchr::memchr;
@@ -19,22 +19,29 @@ const FORGOTTEN_BYTES: usize = 65_536;
 #[derive(Debug, Drop)]
 pub struct TextLines {
     text: Vec<u8>,
-    // How many bytes of it were given.
-    given: usize,
-    // The number of the line that comes next.
+    next: Place,
+}
+
+/// Where the line that comes next stands in a text: its number, its first byte, and how many bytes
+/// it has. Where none comes, it starts at the text's end.
+#[derive(Clone, Copy, Debug)]
+struct Place {
     number: u64,
+    start: usize,
+    size: usize,
 }
 
 impl Model for TextLines {
-    ghost use Rattle.std.specs.Prelude.{List, ℕ, ◌+◌, ◌-◌, ◌<◌, ◌≤◌, ◌^◌, length, drop};
+    ghost use Rattle.std.specs.Prelude.{List, ℕ, ◌≤◌, length, drop};
+    ghost use Rattle.gf_bytes.specs.LineCutting.{Stands};
     ghost use Rattle.gf_bytes.specs.TextLines.{numbered_from};
 
     ghost Value = { List (ℕ × List ℕ) };
 
-    ghost view = { λ lines. numbered_from lines.number (drop lines.given lines.text.items) };
+    ghost view = { λ lines. numbered_from lines.next.number (drop lines.next.start lines.text.items) };
 
-    ghost invariant = { λ lines. (lines.given ≤ length lines.text.items)
-        × (lines.number + (length lines.text.items - lines.given) < 2 ^ 64) };
+    ghost invariant = { λ lines. (lines.next.start ≤ length lines.text.items)
+        × Stands (drop lines.next.start lines.text.items) lines.next.number lines.next.size };
 }
 
 impl TextLines {
@@ -42,11 +49,8 @@ impl TextLines {
     pub fn new(text: Vec<u8>) -> TextLines
         ensures { result ≡ numbered_lines text.items }
     {
-        TextLines {
-            text,
-            given: 0,
-            number: 1,
-        }
+        let next = place_of(&text, 0, 1);
+        TextLines { text, next }
     }
 
     /// The first of them and its number.
@@ -54,17 +58,26 @@ impl TextLines {
         ensures some { IfSome result (λ line. self.now ≡ (line.0, line.1.now) ∷ drop 1 self.now) }
         ensures none { IfNone result (self.now ≡ []) }
     {
-        let next = next_line(&self.text[self.given..], self.number)?;
-        Some((next.number, next.line))
+        let left = &self.text[self.next.start..];
+        if left.is_empty() {
+            return None;
+        }
+        Some((self.next.number, &left[..self.next.size]))
     }
 
     /// Goes on to the line behind the first.
     pub fn advance(&mut self)
         ensures { self.new ≡ drop 1 self.old }
     {
-        if let Some(next) = next_line(&self.text[self.given..], self.number) {
-            self.given = self.text.len() - next.rest.len();
-            self.number = next.number + 1;
+        let Place {
+            number,
+            start,
+            size,
+        } = self.next;
+        let left = self.text.len() - start;
+        if left != 0 {
+            let behind = left.saturating_sub(size + 1);
+            self.next = place_of(&self.text, self.text.len() - behind, number + 1);
         }
         self.forget_given();
     }
@@ -74,39 +87,61 @@ impl TextLines {
     fn forget_given(&mut self)
         ensures { self.new ≡ self.old }
     {
-        let left = self.text.len() - self.given;
-        if self.given < FORGOTTEN_BYTES || self.given < left {
+        let given = self.next.start;
+        let left = self.text.len() - given;
+        if given < FORGOTTEN_BYTES || given < left {
             return;
         }
-        drop(self.text.drain(..self.given));
+        drop(self.text.drain(..given));
         self.text.shrink_to_fit();
-        self.given = 0;
+        self.next.start = 0;
     }
 }
 
-/// A line that is not blank, with its number, and what stands behind its end.
+/// Where the first line that is not blank stands in a text from this place on, where the first line
+/// from there has this number.
+fn place_of(text: &[u8], from: usize, number: u64) -> Place
+    requires within { from ≤ length text.now }
+    requires few { number + length (drop from text.now) < 2 ^ 64 }
+    ensures { IsPlaced text.now from number result.number result.start result.size }
+{
+    match next_line(&text[from..], number) {
+        Some(next) => Place {
+            number: next.number,
+            start: text.len() - next.from.len(),
+            size: next.line.len(),
+        },
+        None => Place {
+            number,
+            start: text.len(),
+            size: 0,
+        },
+    }
+}
+
+/// A line that is not blank, with its number, and the text from its first byte on.
 #[derive(Clone, Copy)]
 struct NextLine<'a> {
     number: u64,
     line: &'a [u8],
-    rest: &'a [u8],
+    from: &'a [u8],
 }
 
 /// The first line of a text that is not blank, where its first line has this number.
 fn next_line(text: &[u8], number: u64) -> Option<NextLine<'_>>
     requires { number + length text.now < 2 ^ 64 }
     ensures some { IfSome result (λ next.
-        IsNext number text.now next.number next.line.now next.rest.now) }
+        IsNext number text.now next.number next.line.now next.from.now) }
     ensures none { IfNone result (numbered_from number text.now ≡ []) }
 {
-    let mut left = text;
+    let mut from = text;
     let mut number = number;
-    while !left.is_empty() {
-        let (line, rest) = cut_line(left);
+    while !from.is_empty() {
+        let (line, rest) = cut_line(from);
         if !is_blank(line) {
-            return Some(NextLine { number, line, rest });
+            return Some(NextLine { number, line, from });
         }
-        left = rest;
+        from = rest;
         number += 1;
     }
     None
@@ -134,6 +169,9 @@ fn cut_line(text: &[u8]) -> (&[u8], &[u8])
         ≡ with_line n result.0.now (numbered_from (n + 1) result.1.now) }
     ensures shorter { length result.1.now < length text.now }
     ensures rest { result.1.now ≡ drop (length text.now - length result.1.now) text.now }
+    ensures front { result.0.now ≡ take (length result.0.now) text.now }
+    ensures within { length result.0.now ≤ length text.now }
+    ensures behind { result.1.now ≡ drop (length result.0.now + 1) text.now }
 {
     match line_end(text) {
         Some(end) => (&text[..end], &text[end + 1..]),
