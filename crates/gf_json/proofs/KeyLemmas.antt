@@ -1,5 +1,5 @@
 -- Keys, and what a line denotes.
-use Rattle.std.proofs.Common.{◌≡◌, ℕ, List, [], ◌∷◌, ◌++◌, length, map, refl, arith, Ok, Err, Bool, true, false, ◌&&◌, inl, inr, ◌⊎◌}
+use Rattle.std.proofs.Common.{◌≡◌, ℕ, List, [], ◌∷◌, ◌++◌, length, refl, arith, Ok, Err, Bool, true, false, ◌&&◌, inl, inr, ◌⊎◌}
 use Rattle.std.proofs.lemmas.Bool.{cases_Bool}
 use Rattle.std.specs.Prelude.{Some, None, String, IsUtf8}
 use Rattle.std.specs.declared.alloc.Global.{Global}
@@ -20,11 +20,6 @@ use Rattle.gf_json.specs.OperationLines.{json}
 pub member_count-members_view : (ms : List (String Global × Value)) → member_count (members_view ms) ≡ length ms
 member_count-members_view [] = refl
 member_count-members_view (m ∷ ms) = let i = member_count-members_view ms in omega (arith, i)
-
--- a test of each key
-pub list_all-map : {X Y : Type 0} (p : Y → Bool) (f : X → Y) (xs : List X) → list_all p (map f xs) ≡ list_all (λ x. p (f x)) xs
-list_all-map p f [] = refl
-list_all-map p f (x ∷ xs) = rw (list_all-map p f xs) refl
 
 -- a test of each of two lists
 pub list_all-append : {X : Type 0} (p : X → Bool) (xs ys : List X) → list_all p (xs ++ ys) ≡ (list_all p xs && list_all p ys)

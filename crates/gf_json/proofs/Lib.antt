@@ -4,3 +4,4 @@ pub mod PointLemmas
 pub mod WrittenLemmas
 pub mod AgainLemmas
 pub mod OpAgainLemmas
+pub mod MissingKeys

@@ -5,6 +5,7 @@ pub mod LineFields
 pub mod LineKeys
 pub mod LineChanges
 pub mod OperationLines
+pub mod ReadChanges
 pub mod ScriptLines
 pub mod WrittenValues
 pub mod WrittenLines

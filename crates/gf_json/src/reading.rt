@@ -19,7 +19,7 @@ mod values;
 
 use crate::reading::changes::change;
 use crate::reading::fields::{id, past, site};
-use crate::reading::keys::awaits;
+use crate::reading::keys::tells;
 use crate::reading::values::both;
 use crate::{Command, LineError, ScriptLine};
 use gf_ops::{Change, Op};
@@ -68,8 +68,7 @@ fn op_of(alloc: Global, line: &Value) -> Result<Op, LineError>
     ensures value { (result ≡ Err LineError.OutOfMemory) ⊎ (result ≡ op_of (view line.now)) }
     ensures in_range { IfOk result (λ op. IsInRange op) }
 {
-    let keys = ["op", "id", "past"];
-    match change(alloc, line, "op", &keys) {
+    match change(alloc, line, "op", 3) {
         Err(LineError::OutOfMemory) => Err(LineError::OutOfMemory),
         change => op_with(change, line),
     }
@@ -89,7 +88,7 @@ fn script_of(alloc: Global, line: &Value) -> Result<ScriptLine, LineError>
     ensures value { (result ≡ Err LineError.OutOfMemory) ⊎ (result ≡ script_of (view line.now)) }
     ensures in_range { IfOk result (λ s. IsScriptInRange s) }
 {
-    if awaits(line) {
+    if tells(line, 3, "do", "await") {
         awaited(line)
     } else {
         authoring(alloc, line)
@@ -114,8 +113,7 @@ fn authoring(alloc: Global, line: &Value) -> Result<ScriptLine, LineError>
         ⊎ (result ≡ authored (change (codes "do") author_keys (view line.now)) (view line.now)) }
     ensures in_range { IfOk result (λ s. IsScriptInRange s) }
 {
-    let keys = ["do", "site"];
-    match change(alloc, line, "do", &keys) {
+    match change(alloc, line, "do", 2) {
         Err(LineError::OutOfMemory) => Err(LineError::OutOfMemory),
         change => authored(change, line),
     }

@@ -129,6 +129,38 @@ Field | do await   | }                    | ,"set":"layer"}
 Field | do await   | }                    | ,"to":0}
 Field | do await   | }                    | ,"extra":0}
 
+// Another key in the place of one, so that there are as many.
+Field | box        | "op"                 | "do"
+Field | box        | "id"                 | "site"
+Field | box        | "past"               | "extra"
+Field | box        | "kind"               | "extra"
+Field | box        | "place"              | "object"
+Field | box        | "size"               | "points"
+Field | box        | "colour"             | "color"
+Field | box        | "layer"              | "to"
+Field | box        | "shown"              | "set"
+Field | circle     | "size"               | "points"
+Field | polygon    | "points"             | "size"
+Field | polygon    | "kind"               | "extra"
+Field | set        | "op"                 | "do"
+Field | set        | "id"                 | "site"
+Field | set        | "past"               | "extra"
+Field | set        | "object"             | "place"
+Field | set        | "set":               | "kind":
+Field | set        | "to"                 | "colour"
+Field | do create  | "do"                 | "op"
+Field | do create  | "site"               | "id"
+Field | do create  | "size"               | "points"
+Field | do create  | "layer"              | "to"
+Field | do set     | "do"                 | "op"
+Field | do set     | "site"               | "id"
+Field | do set     | "object"             | "place"
+Field | do set     | "set":               | "kind":
+Field | do set     | "to"                 | "colour"
+Field | do await   | "do"                 | "op"
+Field | do await   | "site"               | "past"
+Field | do await   | "id"                 | "object"
+
 // What is no JSON.
 Json  | box        | }                    |
 Json  | box        | }                    | }}
@@ -465,9 +497,13 @@ Field | box        | "op":"create"        | "op":"set","layer":10000
 Field | circle     | "layer":0            | "layer":10000,"size":[7,8]
 Field | polygon    | "layer":0            | "layer":null,"points":[]
 Field | set        | "object":[1,1]       | "object":[9,1],"extra":0
+Field | set        | "object":[1,1],"set" | "object":[9,1],"kind"
+Field | set        | "id":[1,2],"past"    | "id":[9,2],"extra"
 Field | do create  | "layer":0            | "layer":10000,"id":[1,1]
 Field | do set     | "site":2             | "site":9,"id":[1,1]
+Field | do set     | 2,"do":"set","object" | 9,"do":"set","place"
 Field | do await   | "id":[1,9]           | "id":[9,1],"object":[1,1]
+Field | do await   | 2,"do":"await","id"  | 9,"do":"await","extra"
 "#;
 
 /// The line of this name.

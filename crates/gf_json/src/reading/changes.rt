@@ -1,19 +1,19 @@
 //! The change that a line tells of.
 
-ghost use Rattle.std.specs.Prelude.{◌≡◌, ◌⊎◌, ◌&&◌, Err, IfOk, IsTrue, map};
+ghost use Rattle.std.specs.Prelude.{◌≡◌, ◌≤◌, ◌⊎◌, ◌&&◌, Err, IfOk, IsTrue};
 ghost use Rattle.serde_json.specs.View.{view};
 ghost use Rattle.gf_ops.specs.Limits.{is_change, is_form, is_layer, is_near, is_value};
 ghost use Rattle.gf_json.specs.LineValues.{◌&◌};
 ghost use Rattle.gf_json.specs.LineFields.{polygon_points, colour, layer, shown};
 ghost use Rattle.gf_json.specs.LineChanges.{start, named_value, new_value, creation, setting};
-ghost use Rattle.gf_json.specs.LineChanges.{change};
+ghost use Rattle.gf_json.specs.ReadChanges.{named_creation, read_change};
 
 use crate::LineError;
 use crate::reading::colours::hex_colour;
 use crate::reading::fields::{
     box_size, circle_size, colour, layer, object, place, polygon_points, shown, value_at,
 };
-use crate::reading::keys::{creates, is_word, sets, word_at};
+use crate::reading::keys::{is_word, tells, word_at};
 use crate::reading::points::points;
 use crate::reading::values::{both, level, point, size, truth};
 use gf_ops::{Change, Form, Start};
@@ -21,26 +21,42 @@ use gf_shape::Rgb;
 use serde_json::Value;
 use std::alloc::Global;
 
-/// The change of a line whose verb stands at this key, and which has these keys beside those of
-/// the change.
+/// The change of a line whose verb stands at this key, and which has so many keys beside those of
+/// the change. Which line it is shows in how many keys it has and in its words: a key that is not
+/// there is a fault of form where it is read.
 pub(crate) fn change(
     alloc: Global,
     line: &Value,
     verb: &str,
-    beside: &[&str],
+    beside: usize,
 ) -> Result<Change, LineError>
+    requires { beside ≤ 3 }
     ensures value { (result ≡ Err LineError.OutOfMemory)
-        ⊎ (result ≡ change verb.now (map (λ key. key.now) beside.now) (view line.now)) }
+        ⊎ (result ≡ read_change verb.now beside (view line.now)) }
     ensures in_range { IfOk result (λ c. IsTrue (is_change c)) }
 {
-    if creates(line, verb, beside, "box", "size") {
-        creation(box_size(line), line)
-    } else if creates(line, verb, beside, "circle", "size") {
-        creation(circle_size(line), line)
-    } else if creates(line, verb, beside, "polygon", "points") {
-        polygon_creation(alloc, line)
-    } else if sets(line, verb, beside) {
+    if tells(line, beside + 6, verb, "create") {
+        named_creation(alloc, line)
+    } else if tells(line, beside + 3, verb, "set") {
         set(alloc, line)
+    } else {
+        Err(LineError::Field)
+    }
+}
+
+/// The change that creates an object of the kind that the line names.
+fn named_creation(alloc: Global, line: &Value) -> Result<Change, LineError>
+    ensures value { (result ≡ Err LineError.OutOfMemory)
+        ⊎ (result ≡ named_creation (view line.now)) }
+    ensures in_range { IfOk result (λ c. IsTrue (is_change c)) }
+{
+    let kind = word_at(line, "kind");
+    if is_word(kind, "box") {
+        creation(box_size(line), line)
+    } else if is_word(kind, "circle") {
+        creation(circle_size(line), line)
+    } else if is_word(kind, "polygon") {
+        polygon_creation(alloc, line)
     } else {
         Err(LineError::Field)
     }

@@ -1,0 +1,261 @@
+-- A key that is not there is a fault of form where it is read, so how many keys a line has and its words tell which line it is.
+use native.Mathlib.Omega.{arith}
+use Rattle.std.proofs.Common.{◌≡◌, [], ◌∷◌, ℕ, ◌+◌, ◌==◌, List, ◌++◌, length, refl, sym, Ok, Err, Bool, true, false, ◌&&◌, inl, inr, codes, if◌then◌else◌}
+use Rattle.std.specs.Prelude.{Option, Some, None, is_some, option_and_then}
+use Rattle.std.specs.Option.{ok_or}
+use Rattle.std.specs.List.{list_all}
+use Rattle.std.specs.Str.{bytes_eq}
+use Rattle.std.proofs.lemmas.Bool.{cases_Bool}
+use Rattle.std.proofs.lemmas.Slice.Eq.{bytes_eq-Decides}
+use Rattle.std.proofs.lemmas.List.{length-append}
+use Rattle.gf_ops.specs.declared.change.Form.{Form}
+use Rattle.gf_ops.specs.declared.change.Change.{Change}
+use Rattle.gf_json.specs.declared.line_error.LineError.TheVariants as fault
+use Rattle.serde_json.specs.Data.{Data, Members}
+use Rattle.serde_json.specs.Find.{get, as_str, as_object}
+use Rattle.gf_json.specs.LineValues.{Got, and_then, fault_beside, ◌&◌}
+use Rattle.gf_json.specs.LineFields.{at, id, past, site, object, place, box_size, circle_size, polygon_points, colour, layer, shown}
+use Rattle.gf_json.specs.LineKeys.{op_keys, author_keys, create_keys, set_keys, await_keys, has_count, has_exactly, is_word, says, member_count}
+use Rattle.gf_json.specs.LineChanges.{new_value, named_value, creation, setting, change}
+use Rattle.gf_json.specs.OperationLines.{op_with, op_of}
+use Rattle.gf_json.specs.ScriptLines.{authored, awaited, script_of}
+use Rattle.gf_json.specs.ReadChanges.{tells, read_change}
+use Rattle.gf_json.proofs.KeyLemmas.{list_all-append}
+use Rattle.gf_json.proofs.AgainLemmas.{both_true}
+
+-- ---- a fault of form in either of two parts
+
+field_left : {A B : Type 0} (x : Got A) (y : Got B) → x ≡ Err fault.Field → (x & y) ≡ Err fault.Field
+field_left {A = A} {B = B} x y h = rw h (beside y)
+  where
+    beside : (y : Got B) → fault_beside {A = B} {B = A × B} fault.Field y ≡ Err fault.Field
+    beside (Ok b) = refl
+    beside (Err fault.Json) = refl
+    beside (Err fault.Field) = refl
+    beside (Err fault.Range) = refl
+    beside (Err fault.OutOfMemory) = refl
+
+both_false : (b : Bool) → (b && false) ≡ false
+both_false true = refl
+both_false false = refl
+
+field_right : {A B : Type 0} (x : Got A) (y : Got B) → y ≡ Err fault.Field → (x & y) ≡ Err fault.Field
+field_right (Ok a) y h = rw h refl
+field_right (Err e) y h = rw h refl
+
+-- ---- keys
+
+missing : {A : Type 0} (key : List ℕ) (form : Data → Got A) (d : Data) → is_some (get key d) ≡ false → at key form d ≡ Err fault.Field
+missing key form d h = let e = nothing (get key d) h in rw e refl
+  where
+    nothing : (o : Option Data) → is_some o ≡ false → ok_or o fault.Field ≡ Err fault.Field
+    nothing None h = refl
+    nothing (Some v) h = absurd cc
+
+-- P follows from each of the keys that is not there
+abbrev EachMissing : Data → Type 0 → List (List ℕ) → Type 0
+EachMissing d P [] = Unit {0}
+EachMissing d P (key ∷ keys) = (is_some (get key d) ≡ false → P) × EachMissing d P keys
+
+-- so it follows where one of them is not there
+by_key : {P : Type 0} (d : Data) (keys : List (List ℕ)) → EachMissing d P keys → list_all (λ key. is_some (get key d)) keys ≡ false → P
+by_key d [] each h = absurd cc
+by_key d (key ∷ keys) each h = elim (cases_Bool (is_some (get key d))) [
+  | inl t ↦ by_key d keys each.1 (rw t at h)
+  | inr n ↦ each.0 n
+]
+
+says-missing : (key word : List ℕ) (d : Data) → is_some (get key d) ≡ false → says key word d ≡ false
+says-missing key word d h = nothing (get key d) h
+  where
+    nothing : (o : Option Data) → is_some o ≡ false → is_word word (option_and_then as_str o) ≡ false
+    nothing None h = refl
+    nothing (Some v) h = absurd cc
+
+-- a line says one word at most at a key
+one_word : (key word other : List ℕ) (d : Data) → bytes_eq word other ≡ false → says key word d ≡ true → says key other d ≡ false
+one_word key word other d n h = of_text (option_and_then as_str (get key d)) h
+  where
+    of_text : (o : Option (List ℕ)) → is_word word o ≡ true → is_word other o ≡ false
+    of_text None h = absurd cc
+    of_text (Some text) h = rw ((bytes_eq-Decides text word).0 h) n
+
+-- a line has one number of keys
+one_count : (n : ℕ) (o : Option Members) → has_count (n + 6) o ≡ true → has_count (n + 3) o ≡ false
+one_count n None h = absurd cc
+one_count n (Some ms) h = let k : (member_count ms == n + 6) ≡ true = h in grind (arith, k)
+
+-- ---- creations and settings
+
+-- a word is said where there is something alone
+unsaid : {P : Type 0} (key word : List ℕ) (d : Data) → says key word d ≡ true → is_some (get key d) ≡ false → P
+unsaid key word d s n = absurd (let m = says-missing key word d n in cc)
+
+creation-missing : (form : Got Form) (shape kind : List ℕ) (d : Data) → says (codes "kind") kind d ≡ true → (is_some (get shape d) ≡ false → form ≡ Err fault.Field)
+    → list_all (λ key. is_some (get key d)) (create_keys shape) ≡ false → creation form d ≡ Err fault.Field
+creation-missing form shape kind d k f h =
+    let e : (form & place d & colour d & layer d & shown d) ≡ Err fault.Field =
+    by_key d (create_keys shape) (
+      unsaid (codes "kind") kind d k,
+      (
+        (λ n. field_right form _ (field_left (place d) _ (missing (codes "place") _ d n))),
+        (
+          (λ n. field_left form _ (f n)),
+          (
+            (λ n. field_right form _ (field_right (place d) _ (field_left (colour d) _ (missing (codes "colour") _ d n)))),
+            (
+              (λ n. field_right form _ (field_right (place d) _ (field_right (colour d) _ (field_left (layer d) _ (missing (codes "layer") _ d n))))),
+              ((λ n. field_right form _ (field_right (place d) _ (field_right (colour d) _ (field_right (layer d) _ (missing (codes "shown") _ d n))))), tt),
+            ),
+          ),
+        ),
+      ),
+    ) h in
+    rw e refl
+
+unnamed : (d : Data) → is_some (get (codes "set") d) ≡ false → new_value d ≡ Err fault.Field
+unnamed d n = of_value (get (codes "to") d)
+  where
+    of_value : (o : Option Data) → and_then (named_value d) (ok_or o fault.Field) ≡ Err fault.Field
+    of_value None = refl
+    of_value (Some v) = rw (says-missing (codes "set") (codes "place") d n, says-missing (codes "set") (codes "points") d n, says-missing (codes "set") (codes "size") d n, says-missing (codes "set") (codes "colour") d n, says-missing (codes "set") (codes "layer") d n, says-missing (codes "set") (codes "shown") d n) refl
+
+setting-missing : (d : Data) → list_all (λ key. is_some (get key d)) set_keys ≡ false → setting (new_value d) d ≡ Err fault.Field
+setting-missing d h =
+    let e : (object d & new_value d) ≡ Err fault.Field =
+    by_key d set_keys (
+      (λ n. field_left (object d) _ (rw (missing (codes "object") _ d n) refl)),
+      (
+        (λ n. field_right (object d) _ (unnamed d n)),
+        ((λ n. field_right (object d) _ (missing (codes "to") _ d n)), tt),
+      ),
+    ) h in
+    rw e refl
+
+-- ---- which change
+
+-- of three kinds to create, and a setting
+one_of : (C S K1 K2 K3 P1 P3 T U Q : Bool) (b c p s : Got Change)
+    → (K1 ≡ true → P1 ≡ false → b ≡ Err fault.Field) → (K2 ≡ true → P1 ≡ false → c ≡ Err fault.Field) → (K3 ≡ true → P3 ≡ false → p ≡ Err fault.Field) → (Q ≡ false → s ≡ Err fault.Field)
+    → (K1 ≡ true → K3 ≡ false) → (K2 ≡ true → K3 ≡ false) → (C ≡ true → T ≡ false)
+    → (if (C && P1) && S && K1 then b else (if (C && P1) && S && K2 then c else (if (C && P3) && S && K3 then p else (if (T && Q) && U then s else Err fault.Field))))
+    ≡ (if C && S then (if K1 then b else (if K2 then c else (if K3 then p else Err fault.Field))) else (if T && U then s else Err fault.Field))
+one_of false S K1 K2 K3 P1 P3 false U Q b c p s x y z w e f t = refl
+one_of false S K1 K2 K3 P1 P3 true false true b c p s x y z w e f t = refl
+one_of false S K1 K2 K3 P1 P3 true false false b c p s x y z w e f t = refl
+one_of false S K1 K2 K3 P1 P3 true true true b c p s x y z w e f t = refl
+one_of false S K1 K2 K3 P1 P3 true true false b c p s x y z w e f t = sym (w refl)
+one_of true S K1 K2 K3 P1 P3 true U Q b c p s x y z w e f t = absurd (let n = t refl in cc)
+one_of true false K1 K2 K3 true true false U Q b c p s x y z w e f t = refl
+one_of true false K1 K2 K3 true false false U Q b c p s x y z w e f t = refl
+one_of true false K1 K2 K3 false true false U Q b c p s x y z w e f t = refl
+one_of true false K1 K2 K3 false false false U Q b c p s x y z w e f t = refl
+one_of true true true K2 K3 true P3 false U Q b c p s x y z w e f t = refl
+one_of true true true K2 K3 false true false U Q b c p s x y z w e f t = rw (e refl, x refl refl) refl
+one_of true true true K2 K3 false false false U Q b c p s x y z w e f t = sym (x refl refl)
+one_of true true false true K3 true P3 false U Q b c p s x y z w e f t = refl
+one_of true true false true K3 false true false U Q b c p s x y z w e f t = rw (f refl, y refl refl) refl
+one_of true true false true K3 false false false U Q b c p s x y z w e f t = sym (y refl refl)
+one_of true true false false true true true false U Q b c p s x y z w e f t = refl
+one_of true true false false true false true false U Q b c p s x y z w e f t = refl
+one_of true true false false true true false false U Q b c p s x y z w e f t = sym (z refl refl)
+one_of true true false false true false false false U Q b c p s x y z w e f t = sym (z refl refl)
+one_of true true false false false true true false U Q b c p s x y z w e f t = refl
+one_of true true false false false false true false U Q b c p s x y z w e f t = refl
+one_of true true false false false true false false U Q b c p s x y z w e f t = refl
+one_of true true false false false false false false U Q b c p s x y z w e f t = refl
+
+-- where each key beside those of the change is there
+complete : (beside keys : List (List ℕ)) (d : Data) → list_all (λ key. is_some (get key d)) beside ≡ true
+    → has_exactly (beside ++ keys) d ≡ (has_count (length beside + length keys) (as_object d) && list_all (λ key. is_some (get key d)) keys)
+complete beside keys d h = rw (length-append, list_all-append, h) refl
+
+change-read : (verb : List ℕ) (beside : List (List ℕ)) (d : Data) → list_all (λ key. is_some (get key d)) beside ≡ true → change verb beside d ≡ read_change verb (length beside) d
+change-read verb beside d h =
+    rw (complete beside (create_keys (codes "size")) d h, complete beside (create_keys (codes "points")) d h, complete beside set_keys d h)
+    (one_of (has_count (length beside + 6) (as_object d)) (says verb (codes "create") d) (says (codes "kind") (codes "box") d) (says (codes "kind") (codes "circle") d) (says (codes "kind") (codes "polygon") d)
+    (list_all (λ key. is_some (get key d)) (create_keys (codes "size"))) (list_all (λ key. is_some (get key d)) (create_keys (codes "points")))
+    (has_count (length beside + 3) (as_object d)) (says verb (codes "set") d) (list_all (λ key. is_some (get key d)) set_keys)
+    (creation (box_size d) d) (creation (circle_size d) d) (creation (polygon_points d) d) (setting (new_value d) d)
+    (λ k. creation-missing (box_size d) (codes "size") (codes "box") d k (λ n. rw (missing (codes "size") _ d n) refl))
+    (λ k. creation-missing (circle_size d) (codes "size") (codes "circle") d k (λ n. rw (missing (codes "size") _ d n) refl))
+    (λ k. creation-missing (polygon_points d) (codes "points") (codes "polygon") d k (λ n. rw (missing (codes "points") _ d n) refl))
+    (setting-missing d)
+    (one_word (codes "kind") (codes "box") (codes "polygon") d refl) (one_word (codes "kind") (codes "circle") (codes "polygon") d refl) (one_count (length beside) (as_object d)))
+
+-- where one is not
+incomplete : (beside keys : List (List ℕ)) (d : Data) → list_all (λ key. is_some (get key d)) beside ≡ false → has_exactly (beside ++ keys) d ≡ false
+incomplete beside keys d h = rw (list_all-append, h) (both_false (has_count (length (beside ++ keys)) (as_object d)))
+
+change-missing : (verb : List ℕ) (beside : List (List ℕ)) (d : Data) → list_all (λ key. is_some (get key d)) beside ≡ false → change verb beside d ≡ Err fault.Field
+change-missing verb beside d h =
+    rw (incomplete beside (create_keys (codes "size")) d h, incomplete beside (create_keys (codes "points")) d h, incomplete beside set_keys d h) refl
+
+-- ---- operations and commands
+
+unread : (verb : List ℕ) (beside : ℕ) (d : Data) → is_some (get verb d) ≡ false → read_change verb beside d ≡ Err fault.Field
+unread verb beside d n =
+    rw (says-missing verb (codes "create") d n, says-missing verb (codes "set") d n, both_false (has_count (beside + 6) (as_object d)), both_false (has_count (beside + 3) (as_object d))) refl
+
+-- the operation of a line
+pub op_of-read : (d : Data) → op_of d ≡ op_with (read_change (codes "op") 3 d) d
+op_of-read d = elim (cases_Bool (list_all (λ key. is_some (get key d)) op_keys)) [
+  | inl h ↦ rw (change-read (codes "op") op_keys d h) refl
+  | inr h ↦
+      let none : (id d & past d & change (codes "op") op_keys d) ≡ Err fault.Field = field_right (id d) _ (field_right (past d) _ (change-missing (codes "op") op_keys d h)) in
+      let e : (id d & past d & read_change (codes "op") 3 d) ≡ Err fault.Field =
+      by_key d op_keys (
+        (λ n. field_right (id d) _ (field_right (past d) _ (unread (codes "op") 3 d n))),
+        (
+          (λ n. field_left (id d) _ (missing (codes "id") _ d n)),
+          ((λ n. field_right (id d) _ (field_left (past d) _ (missing (codes "past") _ d n))), tt),
+        ),
+      ) h in
+      rw (none, e) refl
+]
+
+-- the command of a line that makes a change
+pub authored-read : (d : Data) → authored (change (codes "do") author_keys d) d ≡ authored (read_change (codes "do") 2 d) d
+authored-read d = elim (cases_Bool (list_all (λ key. is_some (get key d)) author_keys)) [
+  | inl h ↦ rw (change-read (codes "do") author_keys d h) refl
+  | inr h ↦
+      let none : (site d & change (codes "do") author_keys d) ≡ Err fault.Field = field_right (site d) _ (change-missing (codes "do") author_keys d h) in
+      let e : (site d & read_change (codes "do") 2 d) ≡ Err fault.Field =
+      by_key d author_keys (
+        (λ n. field_right (site d) _ (unread (codes "do") 2 d n)),
+        ((λ n. field_left (site d) _ (missing (codes "site") _ d n)), tt),
+      ) h in
+      rw (none, e) refl
+]
+
+-- a line that waits has too few keys to make a change
+few_keys : (o : Option Members) → has_count 3 o ≡ true → (has_count 8 o ≡ false) × (has_count 5 o ≡ false)
+few_keys None h = absurd cc
+few_keys (Some ms) h = let k : (member_count ms == 3) ≡ true = h in (grind (arith, k), grind (arith, k))
+
+no_change : (d : Data) → has_count 3 (as_object d) ≡ true → change (codes "do") author_keys d ≡ Err fault.Field
+no_change d h = let n = few_keys (as_object d) h in rw (n.0, n.1) refl
+
+-- the command of a line that waits
+pub awaited-read : (d : Data) → tells 3 (codes "do") (codes "await") d ≡ true → awaited d ≡ script_of d
+awaited-read d h = by_keys (list_all (λ key. is_some (get key d)) await_keys) refl
+  where
+    counted : has_count 3 (as_object d) ≡ true
+    counted = (both_true (has_count 3 (as_object d)) (says (codes "do") (codes "await") d) h).0
+
+    said : says (codes "do") (codes "await") d ≡ true
+    said = (both_true (has_count 3 (as_object d)) (says (codes "do") (codes "await") d) h).1
+
+    by_keys : (b : Bool) → list_all (λ key. is_some (get key d)) await_keys ≡ b → awaited d ≡ script_of d
+    by_keys true e = rw (counted, e, said) refl
+    by_keys false e =
+        let none : (site d & change (codes "do") author_keys d) ≡ Err fault.Field = field_right (site d) _ (no_change d counted) in
+        let parts : (site d & id d) ≡ Err fault.Field =
+        by_key d await_keys (
+          unsaid (codes "do") (codes "await") d said,
+          (
+            (λ n. field_left (site d) _ (missing (codes "site") _ d n)),
+            ((λ n. field_right (site d) _ (missing (codes "id") _ d n)), tt),
+          ),
+        ) e in
+        rw (counted, e, none, parts) refl

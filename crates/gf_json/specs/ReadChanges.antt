@@ -1,0 +1,29 @@
+-- The change of a line by how many keys it has and by its words, without a look whether each key is there (this project's choice).
+use Rattle.std.specs.Prelude.{ℕ, ◌+◌, Bool, ◌&&◌, List, Err, codes, if◌then◌else◌}
+use Rattle.gf_ops.specs.declared.change.Change.{Change}
+use Rattle.gf_json.specs.declared.line_error.LineError.TheVariants as fault
+use Rattle.serde_json.specs.Data.{Data}
+use Rattle.serde_json.specs.Find.{as_object}
+use Rattle.gf_json.specs.LineValues.{Got}
+use Rattle.gf_json.specs.LineFields.{box_size, circle_size, polygon_points}
+use Rattle.gf_json.specs.LineKeys.{has_count, says}
+use Rattle.gf_json.specs.LineChanges.{new_value, creation, setting}
+
+-- the line has so many keys, and this word as its verb
+abbrev pub tells : ℕ → List ℕ → List ℕ → Data → Bool
+tells count verb word d = has_count count (as_object d) && says verb word d
+
+-- the change that creates an object of the kind that the line names
+abbrev pub named_creation : Data → Got Change
+named_creation d =
+    if says (codes "kind") (codes "box") d then creation (box_size d) d
+    else (if says (codes "kind") (codes "circle") d then creation (circle_size d) d
+    else (if says (codes "kind") (codes "polygon") d then creation (polygon_points d) d
+    else Err fault.Field))
+
+-- the change of a line whose verb stands at this key, and which has so many keys beside those of the change
+abbrev pub read_change : List ℕ → ℕ → Data → Got Change
+read_change verb beside d =
+    if tells (beside + 6) verb (codes "create") d then named_creation d
+    else (if tells (beside + 3) verb (codes "set") d then setting (new_value d) d
+    else Err fault.Field)
