@@ -4,7 +4,6 @@ ghost use Rattle.std.specs.Prelude.{◌≡◌, option_copied, IfSome};
 ghost use Rattle.gf_table.specs.Prints.{point_print, print_of, same_print, holds_print, GivesPrint};
 ghost use Rattle.gf_table.specs.Prints.{IsPrinted, TellsPositions};
 
-use crate::tails::attr_eq;
 use gf_groups::Timeline;
 use gf_ops::{Attr, Change, Op, Value};
 use gf_shape::Point;
@@ -77,7 +76,7 @@ fn print_in(attribute: Attr, op: &Op) -> Option<Print>
 {
     match &op.change {
         Change::Set { value, .. } => {
-            if attr_eq(value.attribute(), attribute) {
+            if value.attribute() == attribute {
                 Some(print_of(value))
             } else {
                 None

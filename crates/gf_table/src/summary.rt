@@ -8,7 +8,6 @@ ghost use Rattle.gf_table.specs.Summaries.{TellsOf, IsJoined, NotesIn};
 
 use crate::prints::{Print, holds_print, print_of, prints_at};
 use crate::spans::{Span, known_set, others_stay, spans_of, widen};
-use crate::tails::attr_eq;
 use gf_groups::{Positions, Timeline};
 use gf_ops::{Attr, Clock, Op, Value};
 use gf_shape::OutOfMemory;
@@ -89,7 +88,7 @@ impl Summary {
             → IsWithin e.last past.now }
         ensures { IsTrue result → IsJoined self.now value.now past.now own.now set }
     {
-        attr_eq(value.attribute(), self.attribute)
+        value.attribute() == self.attribute
             && !holds_print(&print_of(value), &self.prints)
             && others_stay(&self.spans, past, own, set)
     }

@@ -5,7 +5,7 @@ ghost use Rattle.std.specs.Prelude.{◌≡◌, ◌<◌, vec_len, vec_capacity, o
 ghost use Rattle.std.specs.List.{position};
 ghost use Rattle.gf_ops.specs.ConflictTests.{value_eq};
 ghost use Rattle.gf_groups.specs.Growing.{conflict_at};
-ghost use Rattle.gf_table.specs.Tails.{attr_eq, is_of, change_gives, op_gives, other_than};
+ghost use Rattle.gf_table.specs.Tails.{is_of, change_gives, op_gives, other_than};
 ghost use Rattle.gf_table.specs.Tails.{new_tail, noted, hits_other, hits, hits_one};
 
 use gf_groups::{Timeline, conflict_at};
@@ -19,21 +19,6 @@ pub struct Tail {
     pub site: u8,
     pub last: usize,
     pub other: Option<usize>,
-}
-
-pub(crate) fn attr_eq(attribute: Attr, other: Attr) -> bool
-    ensures { result ≡ attr_eq attribute other }
-{
-    match (attribute, other) {
-        (Attr::Place, Attr::Place) => true,
-        (Attr::Points, Attr::Points) => true,
-        (Attr::Size, Attr::Size) => true,
-        (Attr::Colour, Attr::Colour) => true,
-        (Attr::Layer, Attr::Layer) => true,
-        (Attr::Shown, Attr::Shown) => true,
-        (Attr::Place | Attr::Points | Attr::Size, _) => false,
-        (Attr::Colour | Attr::Layer | Attr::Shown, _) => false,
-    }
 }
 
 /// Whether they are one value of one attribute.
@@ -58,7 +43,7 @@ fn value_eq(value: &Value, other: &Value) -> bool
 fn is_of(attribute: Attr, site: u8, tail: &Tail) -> bool
     ensures { result ≡ is_of attribute site tail.now }
 {
-    attr_eq(tail.attribute, attribute) && tail.site == site
+    tail.attribute == attribute && tail.site == site
 }
 
 /// The index of the tail of the attribute and the site.
@@ -151,7 +136,7 @@ fn hits_other(timeline: &Timeline<'_>, position: usize, other: Option<usize>) ->
 fn hits(timeline: &Timeline<'_>, attribute: Attr, position: usize, tail: &Tail) -> bool
     ensures { result ≡ hits (conflict_at timeline.now) attribute position tail.now }
 {
-    attr_eq(tail.attribute, attribute)
+    tail.attribute == attribute
         && (conflict_at(timeline, position, tail.last)
             || hits_other(timeline, position, tail.other))
 }
