@@ -1,5 +1,5 @@
 -- The operations on one object, by their positions, in parts that no conflict connects.
-use Rattle.std.specs.Prelude.{ℕ, ◌*◌, Bool, cond, not, ◌&&◌, ◌||◌, ◌==◌, nat_le, List, [], ◌∷◌, ◌++◌, filter, map, length, Option, Some, None, unwrap_or, option_map, take, slice_set, slice_index_or, ◌-◌}
+use Rattle.std.specs.Prelude.{ℕ, ◌*◌, Bool, cond, not, ◌&&◌, ◌||◌, ◌==◌, nat_le, List, [], ◌∷◌, ◌++◌, filter, map, length, Option, Some, None, unwrap_or, option_map, slice_set, slice_index_or, ◌-◌}
 use Rattle.std.specs.List.{list_any, fold, flat_map}
 use Rattle.std.specs.BTreeSet.{insert_key}
 use Rattle.std.specs.Ordering.{nat_cmp}
@@ -106,10 +106,6 @@ module _ (c : ℕ → ℕ → Bool) where
   -- x conflicts with none
   abbrev pub is_calm : ℕ → PartsState → Bool
   is_calm x s = not (conflicts_in c x s.free) && not (list_any (touches x) s.parts)
-
-  -- x conflicts with none that is free or of a part before the last
-  abbrev pub spares_all_but_last : ℕ → PartsState → Bool
-  spares_all_but_last x s = not (conflicts_in c x s.free) && not (list_any (touches x) (take (length s.parts - 1) s.parts))
 
   -- x is of the part, or conflicts with none of it
   abbrev pub stays : ℕ → PartState → Bool

@@ -5,8 +5,7 @@ ghost use Rattle.std.specs.Prelude.{◌≡◌, [], cond, filter, not, option_cop
 ghost use Rattle.gf_groups.specs.Growing.{conflict_at};
 ghost use Rattle.gf_parts.specs.Parts.{joined, alone, holds, touches, grown_part, touched};
 ghost use Rattle.gf_parts.specs.Parts.{with_free, with_part, stays, full, listed, products};
-ghost use Rattle.gf_parts.specs.Parts.{part_with, last_with, spares_all_but_last};
-ghost use Rattle.std.specs.List.{list_any};
+ghost use Rattle.gf_parts.specs.Parts.{part_with, last_with};
 ghost use Rattle.gf_groups.specs.Tables.{IsRising};
 ghost use Rattle.gf_parts.specs.Parted.{AreParts};
 
@@ -83,13 +82,6 @@ fn touches(timeline: &Timeline<'_>, position: usize, part: &Part) -> bool
     ensures { result ≡ touches (conflict_at timeline.now) position part.now }
 {
     conflicts_in(timeline, position, part.all.as_slice())
-}
-
-/// Whether the operation at this position conflicts with one of these parts.
-fn meets_one(timeline: &Timeline<'_>, position: usize, parts: &[Part]) -> bool
-    ensures { result ≡ list_any (touches (conflict_at timeline.now) position) parts.now }
-{
-    parts.iter().any(|part| touches(timeline, position, part))
 }
 
 /// Whether the position is of the part, or its operation conflicts with none of it.
@@ -295,15 +287,6 @@ impl Parts {
         drop_touched(timeline, position, &mut self.parts);
         self.free = free;
         Ok(())
-    }
-
-    /// Whether the operation at this position conflicts with none but those of the last part.
-    pub fn spares_all_but_last(&self, timeline: &Timeline<'_>, position: usize) -> bool
-        ensures { result ≡ spares_all_but_last (conflict_at timeline.now) position self.now }
-    {
-        let others = &self.parts[..self.parts.len().saturating_sub(1)];
-        !conflicts_in(timeline, position, self.free.as_slice())
-            && !meets_one(timeline, position, others)
     }
 
     /// Adds a position to the last part, and to that one's set with this index, in place.

@@ -1,14 +1,12 @@
 -- Where a summary tells that an operation joins one set, and changes nothing else, it does.
-use Rattle.std.proofs.Common.{◌≡◌, ◌≢◌, ℕ, zero, suc, ◌+◌, ◌-◌, ◌<◌, Bool, true, false, List, [], ◌∷◌, ◌++◌, length, take, get_or, refl, subst, sym, ap, ◌∙◌, inl, inr, arith}
-use Rattle.std.specs.Prelude.{◌↔◌, ◌&&◌, ◌||◌, ◌==◌, not, nat_le, filter, Contains, Option, Some, None, slice_get, slice_set, option_map, unwrap_or}
-use Rattle.std.specs.List.{list_any}
-use Rattle.std.proofs.lemmas.Bool.{cases_Bool, and_parts, and_from, not-true, or_cases, leb-true, leb-false}
-use Rattle.std.proofs.lemmas.Bool.Decides.{Decides-eqb, Decides-int_eq}
-use Rattle.std.proofs.lemmas.List.{length-append, take_all, take_more}
+use Rattle.std.proofs.Common.{◌≡◌, ◌≢◌, ℕ, zero, suc, ◌+◌, ◌-◌, ◌<◌, Bool, true, false, List, [], ◌∷◌, ◌++◌, length, take, refl, subst, sym, ap, ◌∙◌, inl, inr, arith}
+use Rattle.std.specs.Prelude.{◌↔◌, ◌&&◌, ◌||◌, ◌==◌, not, nat_le, filter, Contains, Option, Some, None, slice_get, slice_set, slice_index_or, option_map}
+use Rattle.std.specs.BTreeSet.{insert_key}
+use Rattle.std.proofs.lemmas.Bool.{cases_Bool, and_parts, not-true, or_cases, leb-true, leb-false}
+use Rattle.std.proofs.lemmas.Bool.Decides.{Decides-eqb}
+use Rattle.std.proofs.lemmas.List.{take_all, take_more}
 use Rattle.std.proofs.lemmas.List.Elements.{Contains-push_cases}
-use Rattle.std.proofs.Math.Seq.{get_or-append_seam}
-use Rattle.std.proofs.lemmas.Option.{slice_get_read, slice_get_within, get_or_from_slice_get}
-use Rattle.std.specs.Ordering.{int_eq}
+use Rattle.std.proofs.lemmas.Option.{slice_get_within, get_or_from_slice_get}
 use Rattle.gf_ops.specs.declared.op.Op.{Op}
 use Rattle.gf_ops.specs.declared.op.ObjectId.{ObjectId}
 use Rattle.gf_ops.specs.declared.change.Change.TheVariants.{Set}
@@ -27,19 +25,21 @@ use Rattle.gf_ops.proofs.ValidityLemmas.{precedes_irreflexive}
 use Rattle.gf_ops.specs.declared.change.Attr.{Attr}
 use Rattle.gf_ops.proofs.ListLemmas.{Contains-cons_head, Contains-cons_tail}
 use Rattle.gf_parts.specs.Parted.{AreParts, IsKept}
-use Rattle.gf_parts.specs.Parts.{PartState, PartsState, alone, whole, touches, holds, with_part, set_with, part_with, last_with, spares_all_but_last}
+use Rattle.gf_parts.specs.Parts.{PartState, PartsState, alone, whole, holds, with_part, set_with, part_with, last_with}
 use Rattle.gf_parts.proofs.JoiningLemmas.{IsHit, AllHit, OneCalm, IsBeside, next_one, joins_last, last_joined}
 use Rattle.gf_parts.proofs.PartsLemmas.{all_of_fold}
 use Rattle.gf_table.specs.declared.prints.Print.{Print}
 use Rattle.gf_table.specs.declared.spans.Span.{Span}
 use Rattle.gf_table.specs.Next.{IsNextOf, Gives, IsInOne, HasRival}
 use Rattle.gf_table.specs.Standing.{IsSetter}
-use Rattle.gf_table.specs.Summaries.{SummaryState, TellsOf, TellsLast, IsJoined, NotesIn}
-use Rattle.gf_table.specs.Spans.{Spans, TellsSet, TellsSets, Stays, AllStay, OneKnown}
-use Rattle.gf_table.specs.Prints.{print_of, same_print, holds_print, GivesPrint, IsPrinted, TellsPositions}
+use Rattle.gf_table.specs.Others.{CountsOthers}
+use Rattle.gf_table.specs.Summaries.{SummaryState, TellsOf, TellsParts, TellsLast, IsJoined, NotesIn}
+use Rattle.gf_table.specs.Spans.{Spans, Widens, TellsSet, TellsSets, Stays, AllStay, OneKnown}
+use Rattle.gf_table.specs.Prints.{print_of, print_cmp, GivesPrint, IsPrinted, TellsPositions}
 use Rattle.gf_table.proofs.LongerLemmas.{got_last, got_before, same_before}
+use Rattle.gf_table.proofs.OthersLemmas.{beside_longer, calm_free, calm_before}
 use Rattle.gf_table.proofs.QuickLemmas.{meets, one_op}
-use Rattle.gf_table.proofs.SummaryLemmas.{positions_more, positions_longer, sets_longer, sets_with}
+use Rattle.gf_table.proofs.SummaryLemmas.{summed, positions_more, positions_longer, sets_longer, sets_with}
 
 -- ---- lists
 
@@ -57,18 +57,9 @@ last_in xs x e = (length xs - 1, slice_get_within xs (length xs - 1) x e, get_or
 or_from_false : (p q : Bool) → p ≡ false → q ≡ false → (p || q) ≡ false
 or_from_false p q e f = rw (e, f) refl
 
--- ---- prints
-
-same_itself : (p : Print) → same_print p p ≡ true
-same_itself p = and_from (int_eq p.first p.first) (int_eq p.second p.second) ((Decides-int_eq p.first p.first).1 refl) ((Decides-int_eq p.second p.second).1 refl)
-
 -- a value whose print is not there differs from those that have one there
-differs : (v w : Value) (p : Print) (ps : List Print) → holds_print (print_of v) ps ≡ false → Contains ps p → print_of w ≡ p → w ≢ v
-differs v w p ps fresh i e d =
-    let no : same_print (print_of v) p ≡ false = list_any_false (same_print (print_of v)) ps fresh p i in
-    let same : print_of v ≡ p = ap print_of (sym d) ∙ e in
-    let yes : same_print (print_of v) p ≡ true = subst (λ q. same_print (print_of v) q ≡ true) same (same_itself (print_of v)) in
-    absurd cc
+differs : (v w : Value) (p : Print) (ps : List Print) → ¬ (Contains ps (print_of v)) → Contains ps p → print_of w ≡ p → w ≢ v
+differs v w p ps fresh i e d = fresh (subst (Contains ps) (sym e ∙ ap print_of d) i)
 
 -- ---- conflicts of the next operation, which gives v to the object o
 
@@ -78,7 +69,7 @@ module _ (h : List Op) (valid : IsValid h) (a : Op) (in_range : IsInRange a) (ac
   c = conflict_at (h ++ a ∷ [])
 
   -- what has another value than v, and does not conflict with a, a knows
-  known : (t : Attr) (p : Print) (ps : List Print) (b : ℕ) (op : Op) → Contains us b → attribute_of v ≡ t → holds_print (print_of v) ps ≡ false → Contains ps p → IsPrinted h t b p → slice_get h b ≡ Some op → c (length h) b ≡ false → Precedes op a
+  known : (t : Attr) (p : Print) (ps : List Print) (b : ℕ) (op : Op) → Contains us b → attribute_of v ≡ t → ¬ (Contains ps (print_of v)) → Contains ps p → IsPrinted h t b p → slice_get h b ≡ Some op → c (length h) b ≡ false → Precedes op a
   known t p ps b op m same fresh i q at calm = elim (cases_Bool (nat_le op.id.seq (entry a.past op.id.site))) [
     | inl y ↦ leb-true op.id.seq (entry a.past op.id.site) y
     | inr n ↦
@@ -101,7 +92,7 @@ module _ (h : List Op) (valid : IsValid h) (a : Op) (in_range : IsInRange a) (ac
     | inr f ↦ f
   ]
 
-  module _ (m : SummaryState) (same : attribute_of v ≡ m.attribute) (fresh : holds_print (print_of v) m.prints ≡ false) (vs : List ℕ) (inside : (b : ℕ) → Contains vs b → Contains us b) (prints : TellsPositions h m.attribute m.prints vs)
+  module _ (m : SummaryState) (same : attribute_of v ≡ m.attribute) (fresh : ¬ (Contains m.prints (print_of v))) (vs : List ℕ) (inside : (b : ℕ) → Contains vs b → Contains us b) (prints : TellsPositions h m.attribute m.prints vs)
       (own : ℕ) (q : Op) (at : slice_get h own ≡ Some q) (beside : c own (length h) ≡ false) where
     abbrev IsOf : List ℕ → Type 0
     IsOf g = (b : ℕ) → Contains g b → Contains vs b
@@ -192,12 +183,6 @@ module _ (h : List Op) (valid : IsValid h) (a : Op) (in_range : IsInRange a) (ac
 
 -- ---- the last part and its sets
 
-got_end : {X : Type 0} (xs : List X) (y : X) → slice_get (xs ++ y ∷ []) (length (xs ++ y ∷ []) - 1) ≡ Some y
-got_end xs y =
-    let len = length-append xs (y ∷ []) in
-    let at : length (xs ++ y ∷ []) - 1 ≡ length xs = omega (arith, len) in
-    slice_get_read (xs ++ y ∷ []) (length (xs ++ y ∷ [])) (length (xs ++ y ∷ []) - 1) y refl (omega (arith, len)) (sym (ap (λ n. get_or (xs ++ y ∷ []) n y) at ∙ get_or-append_seam xs y [] y))
-
 -- what was seen of the last part, its sets, and the summary: own, where q stands, is of a set, and past its last numbers
 pub record IsSeen (g : List Op) (a : Op) (v : Value) (n : ℕ) (s : PartsState) (m : SummaryState) (p : PartState) (gs : List (List ℕ)) (j own : ℕ) (q : Op) : Type 0 where
   pub last : slice_get s.parts (length s.parts - 1) ≡ Some p
@@ -206,11 +191,10 @@ pub record IsSeen (g : List Op) (a : Op) (v : Value) (n : ℕ) (s : PartsState) 
   pub at : slice_get g own ≡ Some q
   pub joined : IsJoined m v a.past q.past j
   pub rival : HasRival (conflict_at g) gs n own
-  pub spared : spares_all_but_last (conflict_at g) n s ≡ true
 
 module _ (h : List Op) (valid : IsValid h) (a : Op) (in_range : IsInRange a) (accepted : IsAccepted h a) (us : List ℕ) (all : (i : ℕ) → Contains us i ↔ (is_on (object_of a) (slice_get h i) ≡ true))
     (o : ObjectId) (v : Value) (gives : a.change ≡ Set o v) (s : PartsState) (parts : AreParts (conflict_at h) s) (positions : (i : ℕ) → Contains (whole s).all i ↔ Contains us i)
-    (m : SummaryState) (p : PartState) (gs : List (List ℕ)) (j own : ℕ) (q : Op) (told : TellsLast h s.parts (Some m)) (seen : IsSeen (h ++ a ∷ []) a v (length h) s m p gs j own q) where
+    (m : SummaryState) (p : PartState) (gs : List (List ℕ)) (j own : ℕ) (q : Op) (told : TellsParts h m s) (seen : IsSeen (h ++ a ∷ []) a v (length h) s m p gs j own q) where
   abbrev d : ℕ → ℕ → Bool
   d = conflict_at (h ++ a ∷ [])
 
@@ -218,7 +202,7 @@ module _ (h : List Op) (valid : IsValid h) (a : Op) (in_range : IsInRange a) (ac
   front = take (length s.parts - 1) s.parts
 
   tells : TellsOf h m p.all gs
-  tells = told p gs seen.last seen.sets
+  tells = told.last p gs seen.last seen.sets
 
   kept : IsKept (conflict_at h) p.all (Some gs)
   kept = subst (IsKept (conflict_at h) p.all) seen.sets (parts.parts p (last_in s.parts p seen.last)).sets
@@ -266,34 +250,39 @@ module _ (h : List Op) (valid : IsValid h) (a : Op) (in_range : IsInRange a) (ac
   joins_at : with_part d (length h) s ≡ last_with j (length h) s
   joins_at =
       let b = stands_beside in
-      let spared = and_parts (not (conflicts_in d (length h) s.free)) (not (list_any (touches d (length h)) front)) seen.spared in
+      let others : CountsOthers h (attribute_of v) m.others s = subst (λ t. CountsOthers h t m.others s) (sym seen.joined.attribute) told.others in
       let calm = one_calm h valid a in_range accepted us all o v gives m seen.joined.attribute seen.joined.fresh p.all inside tells.positions own q own_at b.calm j m.spans gs of_part tells.sets seen.joined.spans in
       joins_last d (length h) s front p gs j (last_apart s.parts p seen.last) seen.sets kept.1
-      (not-true (conflicts_in d (length h) s.free) spared.0)
-      (not-true (list_any (touches d (length h)) front) spared.1)
+      (calm_free h a o v gives m.others seen.joined.others s others)
+      (calm_before h a o v gives m.others seen.joined.others s others)
       (list_any_from (d (length h)) p.all other b.other b.rival)
       not_there
       (next_one d (length h) own p.all j gs calm other b)
 
-  -- and the new summary tells of it
-  told_at : (k : Option SummaryState) → NotesIn (Some m) j a.id v k → TellsLast (h ++ a ∷ []) (last_with j (length h) s).parts k
-  told_at None n = tt
-  told_at (Some k) n = λ q ks e f.
-      let ps = last_joined d (length h) s front p j (last_apart s.parts p seen.last) in
-      let found : slice_get (last_with j (length h) s).parts (length (last_with j (length h) s).parts - 1) ≡ Some (part_with j (length h) p) =
-      subst (λ zs. slice_get zs (length zs - 1) ≡ Some (part_with j (length h) p)) (sym ps) (got_end front (part_with j (length h) p)) in
-      let same : part_with j (length h) p ≡ q = ap (λ r. unwrap_or r q) (sym found ∙ e) in
+  abbrev new : List Op
+  new = h ++ a ∷ []
+
+  -- the summary with the operation, whose set has the span e
+  abbrev with_it : Span → SummaryState
+  with_it e = record { attribute = m.attribute; spans = slice_set m.spans j e; prints = insert_key print_cmp m.prints (print_of v); others = m.others }
+
+  -- it tells of the last part, which has the operation too, and beside that nothing changed
+  told_then : (e : Span) → Widens (slice_index_or m.spans j e) a.id e → TellsParts new (with_it e) (last_with j (length h) s)
+  told_then e w =
       let grown : (part_with j (length h) p).sets ≡ Some (set_with j (length h) gs) = ap (λ r. option_map (set_with j (length h)) r) seen.sets in
-      let sets : set_with j (length h) gs ≡ ks = ap (λ r. unwrap_or r ks) (sym grown ∙ (ap (λ (z : PartState). z.sets) same ∙ f)) in
-      let own : IsPrinted (h ++ a ∷ []) m.attribute (length h) (print_of v) = record { op = a; at = got_last h a; gives = record { object = o; given = v; change = gives; attribute = seen.joined.attribute; print = refl } } in
-      let made : TellsOf (h ++ a ∷ []) (record { attribute = m.attribute; spans = slice_set m.spans j n.span; prints = m.prints ++ print_of v ∷ [] }) (p.all ++ length h ∷ []) (set_with j (length h) gs) = record {
-        positions = positions_more (h ++ a ∷ []) m.attribute m.prints p.all (length h) (print_of v) (positions_longer h a m.attribute m.prints p.all tells.positions) own;
-        sets = sets_with (h ++ a ∷ []) a (length h) (got_last h a) j m.spans gs n.span (sets_longer h a m.spans gs tells.sets) n.widens;
-      } in
-      let is : record { attribute = m.attribute; spans = slice_set m.spans j n.span; prints = m.prints ++ print_of v ∷ [] } ≡ k = λ i. record { attribute = sym n.attribute i; spans = sym n.spans i; prints = sym n.prints i } in
-      subst (λ (z : SummaryState). TellsOf (h ++ a ∷ []) z q.all ks) is
-      (subst (λ (r : PartState). TellsOf (h ++ a ∷ []) (record { attribute = m.attribute; spans = slice_set m.spans j n.span; prints = m.prints ++ print_of v ∷ [] }) r.all ks) same
-      (subst (λ zs. TellsOf (h ++ a ∷ []) (record { attribute = m.attribute; spans = slice_set m.spans j n.span; prints = m.prints ++ print_of v ∷ [] }) (p.all ++ length h ∷ []) zs) sets made))
+      let own : IsPrinted new m.attribute (length h) (print_of v) = record { op = a; at = got_last h a; gives = record { object = o; given = v; change = gives; attribute = seen.joined.attribute; print = refl } } in
+      summed new (with_it e) (last_with j (length h) s) (part_with j (length h) p) front (set_with j (length h) gs) (last_joined d (length h) s front p j (last_apart s.parts p seen.last)) grown
+      (record {
+        positions = positions_more new m.attribute m.prints p.all (length h) (print_of v) (positions_longer h a m.attribute m.prints p.all tells.positions) own;
+        sets = sets_with new a (length h) (got_last h a) j m.spans gs e (sets_longer h a m.spans gs tells.sets) w;
+      }) (beside_longer h a m.attribute m.others s.free front told.others)
+
+  -- and the new summary tells of it
+  told_at : (k : Option SummaryState) → NotesIn (Some m) j a.id v k → TellsLast new (last_with j (length h) s) k
+  told_at None n = tt
+  told_at (Some k) n =
+      let is : with_it n.span ≡ k = λ i. record { attribute = sym n.attribute i; spans = sym n.spans i; prints = sym n.prints i; others = sym n.others i } in
+      subst (λ (z : SummaryState). TellsParts new z (last_with j (length h) s)) is (told_then n.span n.widens)
 
 -- ---- as it is called
 
@@ -302,8 +291,8 @@ module _ (g : List Op) (a : Op) (n : ℕ) (s : PartsState) (r : Option SummarySt
   abbrev h : List Op
   h = next.history
 
-  told_some : TellsLast h s.parts (Some m)
-  told_some = subst (TellsLast h s.parts) some next.told
+  told_some : TellsParts h m s
+  told_some = subst (TellsLast h s) some next.told
 
   seen_at : IsSeen (h ++ a ∷ []) a v (length h) s m p gs j own q
   seen_at = subst (λ z. IsSeen z a v (length h) s m p gs j own q) next.longer (subst (λ k. IsSeen g a v k s m p gs j own q) next.position seen)
@@ -313,7 +302,7 @@ module _ (g : List Op) (a : Op) (n : ℕ) (s : PartsState) (r : Option SummarySt
       let e = joins_at h next.valid a next.in_range next.accepted next.us next.all gives.0 v gives.1 s next.parts next.positions m p gs j own q told_some seen_at in
       subst (λ z. with_part (conflict_at z) n s ≡ last_with j n s) (sym next.longer) (subst (λ k. with_part (conflict_at (h ++ a ∷ [])) k s ≡ last_with j k s) (sym next.position) e)
 
-  pub joined_told : (k : Option SummaryState) → NotesIn r j a.id v k → TellsLast g (last_with j n s).parts k
+  pub joined_told : (k : Option SummaryState) → NotesIn r j a.id v k → TellsLast g (last_with j n s) k
   joined_told k notes =
       let t = told_at h next.valid a next.in_range next.accepted next.us next.all gives.0 v gives.1 s next.parts next.positions m p gs j own q told_some seen_at k (subst (λ z. NotesIn z j a.id v k) some notes) in
-      subst (λ z. TellsLast z (last_with j n s).parts k) (sym next.longer) (subst (λ i. TellsLast (h ++ a ∷ []) (last_with j i s).parts k) (sym next.position) t)
+      subst (λ z. TellsLast z (last_with j n s) k) (sym next.longer) (subst (λ i. TellsLast (h ++ a ∷ []) (last_with j i s) k) (sym next.position) t)

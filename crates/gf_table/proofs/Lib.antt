@@ -3,6 +3,8 @@ pub mod KeptTailsLemmas
 pub mod LongerLemmas
 pub mod NextLemmas
 pub mod NotedLemmas
+pub mod OthersLemmas
+pub mod PrintLemmas
 pub mod PutTailLemmas
 pub mod QuickLemmas
 pub mod StandsLemmas

@@ -63,7 +63,7 @@ set_itself (value.Colour c) = refl
 set_itself (value.Layer n) = refl
 set_itself (value.Shown b) = refl
 
-set_told : (v : Value) (t : Attr) (x : Value) → set_value v t ≡ Some x → (t ≡ attribute_of v) × (x ≡ v)
+pub set_told : (v : Value) (t : Attr) (x : Value) → set_value v t ≡ Some x → (t ≡ attribute_of v) × (x ≡ v)
 set_told (value.Place p) attr.Place x e = (refl, ap (λ o. unwrap_or o (value.Place p)) (sym e))
 set_told (value.Points ps) attr.Points x e = (refl, ap (λ o. unwrap_or o (value.Points ps)) (sym e))
 set_told (value.Size w h) attr.Size x e = (refl, ap (λ o. unwrap_or o (value.Size w h)) (sym e))

@@ -75,7 +75,7 @@ module _ (h : List Op) (valid : IsValid h) (a : Op) (in_range : IsInRange a) (ac
   -- what the table has for a's object is with a, and its summary tells of the last part; the rest stays
   pub record Adds (t s : List (ObjectId × ObjectState)) : Type 0 where
     pub summary : Option SummaryState
-    pub told : TellsLast new (with_op new a (length h) summary (unwrap_or (state_of t (object_of a)) nothing)).parts.parts summary
+    pub told : TellsLast new (with_op new a (length h) summary (unwrap_or (state_of t (object_of a)) nothing)).parts summary
     pub puts : (q : ObjectId) → state_of s q ≡ cond (is_at (object_cmp (object_of a)) q) (Some (with_op new a (length h) summary (unwrap_or (state_of t (object_of a)) nothing))) (state_of t q)
 
   pub stands_after : (t s : List (ObjectId × ObjectState)) → StandsFor h t → Adds t s → StandsFor new s
@@ -104,7 +104,7 @@ module _ (h : List Op) (valid : IsValid h) (a : Op) (in_range : IsInRange a) (ac
 
   -- by what stands in its position
   pub adds_from : (t s : List (ObjectId × ObjectState)) (k : ObjectId) (r w : ObjectState) (g : List Op) (n : ℕ) → k ≡ object_of a → unwrap_or (state_of t k) nothing ≡ r → g ≡ new → n ≡ length h →
-      w ≡ with_op g a n w.summary r → TellsLast g w.parts.parts w.summary → ((q : ObjectId) → state_of s q ≡ cond (is_at (object_cmp k) q) (Some w) (state_of t q)) → Adds t s
+      w ≡ with_op g a n w.summary r → TellsLast g w.parts w.summary → ((q : ObjectId) → state_of s q ≡ cond (is_at (object_cmp k) q) (Some w) (state_of t q)) → Adds t s
   adds_from t s k r w g n same was long last made told f =
       let m = w.summary in
       let old : r ≡ unwrap_or (state_of t (object_of a)) nothing = sym was ∙ ap (λ o. unwrap_or (state_of t o) nothing) same in
@@ -112,7 +112,7 @@ module _ (h : List Op) (valid : IsValid h) (a : Op) (in_range : IsInRange a) (ac
       made ∙ (ap (λ z. with_op z a n m r) long ∙ (ap (λ z. with_op new a z m r) last ∙ ap (λ (z : ObjectState). with_op new a (length h) m z) old)) in
       record {
         summary = m;
-        told = subst (λ (z : ObjectState). TellsLast new z.parts.parts m) one (subst (λ z. TellsLast z w.parts.parts m) long told);
+        told = subst (λ (z : ObjectState). TellsLast new z.parts m) one (subst (λ z. TellsLast z w.parts m) long told);
         puts = λ q. subst (λ o. state_of s q ≡ cond (is_at (object_cmp o) q) (Some w) (state_of t q)) same (f q)
             ∙ ap (λ (z : ObjectState). cond (is_at (object_cmp (object_of a)) q) (Some z) (state_of t q)) one;
       }

@@ -97,7 +97,7 @@ module _ (h : List Op) (a : Op) (us : List ℕ) (within : (i : ℕ) → Contains
 
   -- it stays where the operation is on another object
   pub state_kept : IsStateOf (h ++ a ∷ []) us t
-  state_kept = record { parts = still_parts; positions = state.positions; tails = tails_kept h a us within t.tails state.tails; summary = last_longer h a t.parts.parts t.summary state.summary }
+  state_kept = record { parts = still_parts; positions = state.positions; tails = tails_kept h a us within t.tails state.tails; summary = last_longer h a t.parts t.summary state.summary }
 
   parts_more : AreParts c (after c (length h) t.parts)
   parts_more = parts_after c (conflict_at_test (h ++ a ∷ [])) t.parts still_parts (length h) below
@@ -110,7 +110,7 @@ module _ (h : List Op) (a : Op) (us : List ℕ) (within : (i : ℕ) → Contains
       )
 
   -- with the right parts and tails it is the state with a
-  made_state : (s : ObjectState) → s.parts ≡ after c (length h) t.parts → AreTails (h ++ a ∷ []) (us ++ length h ∷ []) s.tails → TellsLast (h ++ a ∷ []) s.parts.parts s.summary → IsStateOf (h ++ a ∷ []) (us ++ length h ∷ []) s
+  made_state : (s : ObjectState) → s.parts ≡ after c (length h) t.parts → AreTails (h ++ a ∷ []) (us ++ length h ∷ []) s.tails → TellsLast (h ++ a ∷ []) s.parts s.summary → IsStateOf (h ++ a ∷ []) (us ++ length h ∷ []) s
   made_state s e tails told = record {
     parts = subst (AreParts c) (sym e) parts_more;
     positions = subst (λ (p : PartsState). (i : ℕ) → Contains (whole p).all i ↔ Contains (us ++ length h ∷ []) i) (sym e) positions_more;
@@ -146,7 +146,7 @@ module _ (h : List Op) (a : Op) (us : List ℕ) (within : (i : ℕ) → Contains
               creates a.change set.object v e (subst (λ (z : Op). z.change ≡ Set set.object v) same set.change)
         ]
 
-    by_change : (k : Change) → a.change ≡ k → TellsLast (h ++ a ∷ []) (with_change (h ++ a ∷ []) a.id.site k (length h) m t).parts.parts m → IsStateOf (h ++ a ∷ []) (us ++ length h ∷ []) (with_change (h ++ a ∷ []) a.id.site k (length h) m t)
+    by_change : (k : Change) → a.change ≡ k → TellsLast (h ++ a ∷ []) (with_change (h ++ a ∷ []) a.id.site k (length h) m t).parts m → IsStateOf (h ++ a ∷ []) (us ++ length h ∷ []) (with_change (h ++ a ∷ []) a.id.site k (length h) m t)
     by_change (Create start) e told = made_state (with_change (h ++ a ∷ []) a.id.site (Create start) (length h) m t)
         (right_step c t.parts us state.positions (length h) false (sym (no_clash (made_none h valid a in_range accepted us all start e))))
         (first_tails start e) told
@@ -155,7 +155,7 @@ module _ (h : List Op) (a : Op) (us : List ℕ) (within : (i : ℕ) → Contains
         (tails_noted h valid a in_range accepted us all o v e t.tails state.tails) told
 
     -- THE STEP on its own object
-    pub state_more : TellsLast (h ++ a ∷ []) (with_op (h ++ a ∷ []) a (length h) m t).parts.parts m → IsStateOf (h ++ a ∷ []) (us ++ length h ∷ []) (with_op (h ++ a ∷ []) a (length h) m t)
+    pub state_more : TellsLast (h ++ a ∷ []) (with_op (h ++ a ∷ []) a (length h) m t).parts m → IsStateOf (h ++ a ∷ []) (us ++ length h ∷ []) (with_op (h ++ a ∷ []) a (length h) m t)
     state_more = by_change a.change refl
 
 -- no position, nothing

@@ -1,7 +1,10 @@
 -- What is kept of the sets of a part tells of one more position, and of one more set.
-use Rattle.std.proofs.Common.{◌≡◌, ℕ, zero, suc, add-one, ◌+◌, ◌-◌, ◌<◌, List, [], ◌∷◌, ◌++◌, length, take, drop, get_or, refl, inl, inr, subst, sym, arith}
-use Rattle.std.specs.Prelude.{Contains, Option, Some, None, slice_get, slice_set, slice_index_or}
-use Rattle.std.proofs.lemmas.List.{length-drop, take_all, take_more}
+use Rattle.std.proofs.Common.{◌≡◌, ℕ, zero, suc, add-one, ◌+◌, ◌-◌, ◌<◌, List, [], ◌∷◌, ◌++◌, length, take, drop, get_or, refl, inl, inr, subst, sym, ap, ◌∙◌, arith}
+use Rattle.std.specs.Prelude.{Contains, Option, Some, None, slice_get, slice_set, slice_index_or, unwrap_or}
+use Rattle.std.specs.BTreeSet.{insert_key}
+use Rattle.std.proofs.lemmas.List.{length-append, length-drop, take_all, take_more}
+use Rattle.std.proofs.lemmas.Option.{slice_get_read}
+use Rattle.std.proofs.Math.Seq.{get_or-append_seam, take-append_seam}
 use Rattle.std.proofs.lemmas.List.Elements.{Contains-append_left, Contains-push, Contains-push_cases}
 use Rattle.gf_ops.specs.declared.op.Op.{Op}
 use Rattle.gf_ops.specs.declared.op.OpId.{OpId}
@@ -9,20 +12,37 @@ use Rattle.gf_ops.specs.declared.change.Attr.{Attr}
 use Rattle.gf_ops.specs.declared.op.Clock.{Clock}
 use Rattle.gf_ops.specs.ValidHistory.{IsWithin}
 use Rattle.gf_ops.proofs.ListLemmas.{Contains-cons_head, Contains-cons_tail}
-use Rattle.gf_table.specs.Prints.{IsPrinted, TellsPositions}
+use Rattle.gf_table.specs.Others.{CountsBeside}
+use Rattle.gf_table.specs.Prints.{IsPrinted, TellsPositions, print_cmp}
 use Rattle.gf_table.specs.Spans.{Spans, Widens, SpansAt, TellsSet, TellsSets, Stays, AllStay, OneKnown}
-use Rattle.gf_table.specs.Summaries.{SummaryState, TellsLast}
+use Rattle.gf_table.specs.Summaries.{SummaryState, TellsOf, TellsParts, TellsLast, NotesOtherIn}
 use Rattle.gf_table.specs.Next.{IsNextOf}
-use Rattle.gf_parts.specs.Parts.{PartState, PartsState, set_with}
+use Rattle.gf_parts.specs.Parts.{PartState, PartsState, with_free, set_with}
 use Rattle.gf_table.proofs.LongerLemmas.{got_before}
+use Rattle.gf_table.proofs.OthersLemmas.{beside_longer, beside_with}
+use Rattle.gf_table.proofs.PrintLemmas.{Contains-insert_other, Contains-insert_same}
 use Rattle.gf_table.specs.declared.prints.Print.{Print}
 use Rattle.gf_table.specs.declared.spans.Span.{Span}
 
+-- the end of a list
+got_end : {X : Type 0} (xs : List X) (y : X) → slice_get (xs ++ y ∷ []) (length (xs ++ y ∷ []) - 1) ≡ Some y
+got_end xs y =
+    let len = length-append xs (y ∷ []) in
+    let at : length (xs ++ y ∷ []) - 1 ≡ length xs = omega (arith, len) in
+    slice_get_read (xs ++ y ∷ []) (length (xs ++ y ∷ [])) (length (xs ++ y ∷ []) - 1) y refl (omega (arith, len)) (sym (ap (λ n. get_or (xs ++ y ∷ []) n y) at ∙ get_or-append_seam xs y [] y))
+
+-- what stands before the end
+before_end : {X : Type 0} (xs : List X) (y : X) → take (length (xs ++ y ∷ []) - 1) (xs ++ y ∷ []) ≡ xs
+before_end xs y =
+    let len = length-append xs (y ∷ []) in
+    let at : length (xs ++ y ∷ []) - 1 ≡ length xs = omega (arith, len) in
+    ap (λ n. take n (xs ++ y ∷ [])) at ∙ take-append_seam xs (y ∷ [])
+
 -- one position more, and its print
-pub positions_more : (h : List Op) (t : Attr) (ps : List Print) (us : List ℕ) (x : ℕ) (p : Print) → TellsPositions h t ps us → IsPrinted h t x p → TellsPositions h t (ps ++ p ∷ []) (us ++ x ∷ [])
+pub positions_more : (h : List Op) (t : Attr) (ps : List Print) (us : List ℕ) (x : ℕ) (p : Print) → TellsPositions h t ps us → IsPrinted h t x p → TellsPositions h t (insert_key print_cmp ps p) (us ++ x ∷ [])
 positions_more h t ps us x p f own b m = elim (Contains-push_cases us x b m) [
-  | inl i ↦ let w = f b i in (w.0, Contains-append_left ps (p ∷ []) w.0 w.1, w.2)
-  | inr e ↦ subst (λ z. (q : Print) × Contains (ps ++ p ∷ []) q × IsPrinted h t z q) e (p, Contains-push ps p, own)
+  | inl i ↦ let w = f b i in (w.0, Contains-insert_other ps p w.0 w.1, w.2)
+  | inr e ↦ subst (λ z. (q : Print) × Contains (insert_key print_cmp ps p) q × IsPrinted h t z q) e (p, Contains-insert_same ps p, own)
 ]
 
 -- a wider span holds what the other one holds
@@ -78,6 +98,22 @@ others_stay past own j es l f g k =
     let all = take_all (length es - (j + 1)) (drop (j + 1) es) (omega (arith, n)) in
     one_known past own j es l f g (λ e m. k e (subst (λ zs. Contains zs e) (sym all) (subst (λ i. Contains (drop i es) e) (sym (add-one j)) m)))
 
+-- ---- the last part
+
+-- what tells of the last part and of what is beside it
+pub summed : (h : List Op) (m : SummaryState) (s : PartsState) (p : PartState) (front : List PartState) (gs : List (List ℕ)) →
+    s.parts ≡ front ++ p ∷ [] → p.sets ≡ Some gs → TellsOf h m p.all gs → CountsBeside h m.attribute m.others s.free front → TellsParts h m s
+summed h m s p front gs e f of beside = record {
+  last = λ q ks at kept.
+      let found : slice_get s.parts (length s.parts - 1) ≡ Some p = subst (λ zs. slice_get zs (length zs - 1) ≡ Some p) (sym e) (got_end front p) in
+      let same : p ≡ q = ap (λ r. unwrap_or r q) (sym found ∙ at) in
+      let sets : gs ≡ ks = ap (λ r. unwrap_or r ks) (sym f ∙ (ap (λ (z : PartState). z.sets) same ∙ kept)) in
+      subst (λ (z : PartState). TellsOf h m z.all ks) same (subst (TellsOf h m p.all) sets of);
+  others =
+      let before : take (length s.parts - 1) s.parts ≡ front = subst (λ zs. take (length zs - 1) zs ≡ front) (sym e) (before_end front p) in
+      subst (CountsBeside h m.attribute m.others s.free) (sym before) beside;
+}
+
 -- ---- a longer history
 
 module _ (h : List Op) (a : Op) where
@@ -99,14 +135,33 @@ module _ (h : List Op) (a : Op) where
   sets_longer [] (g ∷ gs) t = absurd t
   sets_longer (e ∷ es) [] t = absurd t
 
-  -- a summary still tells of the parts
-  pub last_longer : (ps : List PartState) (m : Option SummaryState) → TellsLast h ps m → TellsLast new ps m
-  last_longer ps None t = tt
-  last_longer ps (Some m) t = λ p gs e s. let w = t p gs e s in record { positions = positions_longer m.attribute m.prints p.all w.positions; sets = sets_longer m.spans gs w.sets }
+  of_longer : (m : SummaryState) (us : List ℕ) (gs : List (List ℕ)) → TellsOf h m us gs → TellsOf new m us gs
+  of_longer m us gs t = record { positions = positions_longer m.attribute m.prints us t.positions; sets = sets_longer m.spans gs t.sets }
 
--- so it does with the next operation
-pub next_told : (g : List Op) (a : Op) (n : ℕ) (s : PartsState) (m : Option SummaryState) → IsNextOf g a n s m → TellsLast g s.parts m
-next_told g a n s m next = subst (λ z. TellsLast z s.parts m) (sym next.longer) (last_longer next.history a s.parts m next.told)
+  -- a summary still tells of the parts
+  pub last_longer : (s : PartsState) (m : Option SummaryState) → TellsLast h s m → TellsLast new s m
+  last_longer s None t = tt
+  last_longer s (Some m) t = record {
+    last = λ p gs e f. of_longer m p.all gs (t.last p gs e f);
+    others = beside_longer h a m.attribute m.others s.free (take (length s.parts - 1) s.parts) t.others;
+  }
+
+  -- so does the summary with the operation, which is free
+  free_told : (s : PartsState) (m k : Option SummaryState) → TellsLast h s m → NotesOtherIn m a k → TellsLast new (with_free (length h) s) k
+  free_told s m None t n = tt
+  free_told s None (Some k) t n = absurd n
+  free_told s (Some m) (Some k) t n =
+      let made : TellsParts new (record { attribute = m.attribute; spans = m.spans; prints = m.prints; others = k.others }) (with_free (length h) s) = record {
+        last = λ p gs e f. let w = of_longer m p.all gs (t.last p gs e f) in record { positions = w.positions; sets = w.sets };
+        others = beside_with h a m.attribute m.others k.others s.free (take (length s.parts - 1) s.parts) t.others n.others;
+      } in
+      let is : record { attribute = m.attribute; spans = m.spans; prints = m.prints; others = k.others } ≡ k = λ i. record { attribute = sym n.attribute i; spans = sym n.spans i; prints = sym n.prints i; others = k.others } in
+      subst (λ (z : SummaryState). TellsParts new z (with_free (length h) s)) is made
+
+-- so it does with the next operation, which is free
+pub next_free : (g : List Op) (a : Op) (n : ℕ) (s : PartsState) (m k : Option SummaryState) → IsNextOf g a n s m → NotesOtherIn m a k → TellsLast g (with_free n s) k
+next_free g a n s m k next notes =
+    subst (λ z. TellsLast z (with_free n s) k) (sym next.longer) (subst (λ i. TellsLast (next.history ++ a ∷ []) (with_free i s) k) (sym next.position) (free_told next.history a s m k next.told notes))
 
 -- the operation at the position n joins the set j
 pub sets_with : (h : List Op) (a : Op) (n : ℕ) → slice_get h n ≡ Some a → (j : ℕ) (es : List Span) (gs : List (List ℕ)) (f : Span) → TellsSets h es gs → Widens (slice_index_or es j f) a.id f → TellsSets h (slice_set es j f) (set_with j n gs)

@@ -26,7 +26,7 @@ pub record IsNextOf (g : List Op) (a : Op) (n : ℕ) (s : PartsState) (m : Optio
   pub all : (i : ℕ) → Contains us i ↔ (is_on (object_of a) (slice_get history i) ≡ true)
   pub parts : AreParts (conflict_at history) s
   pub positions : (i : ℕ) → Contains (whole s).all i ↔ Contains us i
-  pub told : TellsLast history s.parts m
+  pub told : TellsLast history s m
 
 -- a gives an object the value v
 abbrev pub Gives : Op → Value → Type 0

@@ -1,7 +1,7 @@
 -- Two numbers of a value, to tell most values of an attribute apart, and when prints tell of operations.
-use Rattle.std.specs.Prelude.{◌≡◌, ℕ, pos, Bool, ◌&&◌, List, Contains, Option, Some, None, slice_get}
-use Rattle.std.specs.Ordering.{int_eq}
-use Rattle.std.specs.List.{list_any}
+use Rattle.std.specs.Prelude.{◌≡◌, ℕ, pos, List, Contains, Option, Some, None, slice_get}
+use Rattle.std.specs.declared.cmp.Ordering.{Ordering}
+use Rattle.std.specs.Ordering.{int_cmp, ordering_then}
 use Rattle.gf_shape.specs.declared.point.Point.{Point}
 use Rattle.gf_ops.specs.declared.op.Op.{Op}
 use Rattle.gf_ops.specs.declared.op.ObjectId.{ObjectId}
@@ -26,13 +26,9 @@ print_of (value.Colour c) = record { first = pos c.r; second = pos c.g }
 print_of (value.Layer n) = record { first = pos n; second = pos 0 }
 print_of (value.Shown b) = record { first = pos 0; second = pos 0 }
 
--- p and q are one print
-abbrev pub same_print : Print → Print → Bool
-same_print p q = int_eq p.first q.first && int_eq p.second q.second
-
--- p is one of ps
-abbrev pub holds_print : Print → List Print → Bool
-holds_print p ps = list_any (same_print p) ps
+-- the order of prints, by their first numbers and then their second ones
+abbrev pub print_cmp : Print → Print → Ordering
+print_cmp p q = ordering_then (int_cmp p.first q.first) (int_cmp p.second q.second)
 
 -- the operation gives the attribute t a value of the print p
 pub record GivesPrint (op : Op) (t : Attr) (p : Print) : Type 0 where

@@ -62,7 +62,7 @@ pub record IsStateOf (h : List Op) (us : List ℕ) (t : ObjectState) : Type 0 wh
   pub parts : AreParts (conflict_at h) t.parts
   pub positions : (i : ℕ) → Contains (whole t.parts).all i ↔ Contains us i
   pub tails : AreTails h us t.tails
-  pub summary : TellsLast h t.parts.parts t.summary
+  pub summary : TellsLast h t.parts t.summary
 
 -- the table's state of an object, if it has one, is that of the positions us, and else there is no position
 abbrev pub Stands : List Op → List ℕ → Option ObjectState → Type 0

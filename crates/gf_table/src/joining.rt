@@ -1,14 +1,15 @@
-//! How an operation that conflicts comes to the parts of its object.
+//! How an operation comes to the parts of its object.
 
 ghost use Rattle.std.specs.Prelude.{◌≡◌, IfSome, IsTrue, OnOk, OnErr};
 ghost use Rattle.gf_groups.specs.Growing.{conflict_at};
-ghost use Rattle.gf_parts.specs.Parts.{with_part, last_with};
+ghost use Rattle.gf_ops.specs.Limits.{IsInRange};
+ghost use Rattle.gf_parts.specs.Parts.{with_free, with_part, last_with};
 ghost use Rattle.gf_table.specs.Next.{IsNextOf, Gives, IsInOne, are_beside, HasRival};
 ghost use Rattle.gf_table.specs.Summaries.{TellsLast, NotesIn};
 
-use crate::summary::{Summary, noted};
+use crate::summary::{Summary, noted, noted_other};
 use gf_groups::{Positions, Timeline, conflict_at};
-use gf_ops::{Attr, Op, Value};
+use gf_ops::{Op, Value};
 use gf_parts::Parts;
 use gf_shape::OutOfMemory;
 use std::alloc::Global;
@@ -59,7 +60,7 @@ fn joined_set(
     ensures joins { IfSome result (λ set. with_part (conflict_at timeline.now) position parts.now
         ≡ last_with set position parts.now) }
     ensures told { IfSome result (λ set. (m : _) → NotesIn summary.now set op.now.id value.now m
-        → TellsLast timeline.now (last_with set position parts.now).parts m) }
+        → TellsLast timeline.now (last_with set position parts.now) m) }
 {
     let part = parts.parts().last()?;
     let sets = part.sets()?;
@@ -69,7 +70,6 @@ fn joined_set(
     let heard = &timeline.get(own)?.past;
     if summary.tells_joined(value, &op.past, heard, set)
         && has_rival(timeline, sets, position, own)
-        && parts.spares_all_but_last(timeline, position)
     {
         Some(set)
     } else {
@@ -77,13 +77,23 @@ fn joined_set(
     }
 }
 
-/// A summary of the last part, if it keeps its sets, all of its operations set the attribute, and
-/// there is memory.
-fn summed(alloc: Global, timeline: &Timeline<'_>, attribute: Attr, parts: &Parts) -> Option<Summary>
-    ensures { TellsLast timeline.now parts.now.parts result }
+/// Adds the operation at this position, which conflicts with none.
+pub(crate) fn add_free(
+    op: &Op,
+    position: usize,
+    parts: &mut Parts,
+    summary: &mut Option<Summary>,
+) -> Result<(), OutOfMemory>
+    requires { IsInRange op.now }
+    ensures ok { OnOk result (parts.new ≡ with_free position parts.old) }
+    ensures told { OnOk result ((h : _) → IsNextOf h op.now position parts.old summary.old
+        → TellsLast h parts.new summary.new) }
+    ensures err { OnErr result (parts.new ≡ parts.old) }
+    ensures err_summary { OnErr result (summary.new ≡ summary.old) }
 {
-    let part = parts.parts().last()?;
-    Summary::of(alloc, timeline, attribute, part.all(), part.sets()?)
+    parts.add_free(position)?;
+    *summary = noted_other(summary.take(), op);
+    Ok(())
 }
 
 /// Adds the operation at this position, which gives the value and conflicts with another one. It
@@ -100,7 +110,7 @@ pub(crate) fn connect(
     requires next { IsNextOf timeline.now op.now position parts.old summary.old }
     requires gives { Gives op.now value.now }
     ensures ok { OnOk result (parts.new ≡ with_part (conflict_at timeline.now) position parts.old) }
-    ensures told { OnOk result (TellsLast timeline.now parts.new.parts summary.new) }
+    ensures told { OnOk result (TellsLast timeline.now parts.new summary.new) }
     ensures err { OnErr result (parts.new ≡ parts.old) }
     ensures err_summary { OnErr result (summary.new ≡ summary.old) }
 {
@@ -110,6 +120,6 @@ pub(crate) fn connect(
         return Ok(());
     }
     parts.connect(alloc, timeline, position)?;
-    *summary = summed(alloc, timeline, value.attribute(), parts);
+    *summary = Summary::of(alloc, timeline, value.attribute(), parts);
     Ok(())
 }

@@ -8,6 +8,7 @@
 mod joining;
 mod laws;
 mod object;
+mod others;
 mod prints;
 mod spans;
 mod summary;

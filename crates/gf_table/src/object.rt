@@ -7,7 +7,7 @@ ghost use Rattle.gf_table.specs.Next.{IsNextOf, Gives};
 ghost use Rattle.gf_table.specs.ObjectState.{nothing, with_setter, with_op};
 ghost use Rattle.gf_table.specs.Summaries.{TellsLast};
 
-use crate::joining::connect;
+use crate::joining::{add_free, connect};
 use crate::summary::{Summary, copied};
 use crate::tails::{Tail, hits_one, note};
 use gf_groups::Timeline;
@@ -72,11 +72,11 @@ impl ObjectTable {
         requires { IsNextOf timeline.now op.now position self.old.parts self.old.summary }
         ensures ok { OnOk result (self.new
             ≡ with_op timeline.now op.now position self.new.summary self.old) }
-        ensures told { OnOk result (TellsLast timeline.now self.new.parts.parts self.new.summary) }
+        ensures told { OnOk result (TellsLast timeline.now self.new.parts self.new.summary) }
         ensures err { OnErr result (self.new ≡ self.old) }
     {
         match &op.change {
-            Change::Create(_) => self.parts.add_free(position),
+            Change::Create(_) => add_free(op, position, &mut self.parts, &mut self.summary),
             Change::Set { value, .. } => self.add_setter(alloc, timeline, op, value, position),
         }
     }
@@ -96,7 +96,7 @@ impl ObjectTable {
         ensures ok { OnOk result (self.new
             ≡ with_setter timeline.now op.now.id.site value.now position self.new.summary
             self.old) }
-        ensures told { OnOk result (TellsLast timeline.now self.new.parts.parts self.new.summary) }
+        ensures told { OnOk result (TellsLast timeline.now self.new.parts self.new.summary) }
         ensures err { OnErr result (self.new ≡ self.old) }
     {
         self.tails.reserve(1)?;
@@ -112,7 +112,7 @@ impl ObjectTable {
                 &mut self.summary,
             )?;
         } else {
-            self.parts.add_free(position)?;
+            add_free(op, position, &mut self.parts, &mut self.summary)?;
         }
         note(timeline, op.id.site, value, position, &mut self.tails);
         Ok(())

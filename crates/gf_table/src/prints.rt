@@ -1,16 +1,17 @@
 //! Two numbers of a value, to tell most values of an attribute apart.
 
-ghost use Rattle.std.specs.Prelude.{◌≡◌, option_copied, IfSome};
-ghost use Rattle.gf_table.specs.Prints.{point_print, print_of, same_print, holds_print, GivesPrint};
-ghost use Rattle.gf_table.specs.Prints.{IsPrinted, TellsPositions};
+ghost use Rattle.std.specs.Prelude.{◌≡◌, ◌↔◌, Contains, option_copied, IfSome, IsTrue};
+ghost use Rattle.gf_table.specs.Prints.{point_print, print_of, GivesPrint, IsPrinted};
+ghost use Rattle.gf_table.specs.Prints.{TellsPositions};
 
 use gf_groups::Timeline;
 use gf_ops::{Attr, Change, Op, Value};
 use gf_shape::Point;
 use std::alloc::Global;
+use std::collections::BTreeSet;
 
 /// Two numbers of a value. Those of another value mostly differ; where they don't, nothing is said.
-#[derive(Clone, Copy, Debug)]
+#[derive(Clone, Copy, Debug, PartialEq, Eq, PartialOrd, Ord)]
 pub struct Print {
     pub first: i64,
     pub second: i64,
@@ -57,17 +58,11 @@ pub(crate) fn print_of(value: &Value) -> Print
     }
 }
 
-fn same_print(print: &Print, other: &Print) -> bool
-    ensures { result ≡ same_print print.now other.now }
-{
-    print.first == other.first && print.second == other.second
-}
-
 /// Whether this print is one of those.
-pub(crate) fn holds_print(print: &Print, prints: &[Print]) -> bool
-    ensures { result ≡ holds_print print.now prints.now }
+pub(crate) fn holds_print(print: &Print, prints: &BTreeSet<Print>) -> bool
+    ensures { IsTrue result ↔ Contains prints.now.keys print.now }
 {
-    prints.iter().any(|other| same_print(print, other))
+    prints.contains(print)
 }
 
 /// The print of the value that the operation gives the attribute, if it does.
@@ -100,14 +95,14 @@ pub(crate) fn prints_at(
     timeline: &Timeline<'_>,
     attribute: Attr,
     positions: &[usize],
-) -> Option<Vec<Print>>
+) -> Option<BTreeSet<Print>>
     ensures { IfSome result (λ prints.
-        TellsPositions timeline.now attribute prints.items positions.now) }
+        TellsPositions timeline.now attribute prints.keys positions.now) }
 {
-    let mut prints = Vec::new(alloc);
+    let mut prints = BTreeSet::new(alloc);
     for position in positions {
         let print = print_at(timeline, attribute, *position)?;
-        prints.push(print).ok()?;
+        prints.insert(print).ok()?;
     }
     Some(prints)
 }

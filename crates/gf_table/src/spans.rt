@@ -28,7 +28,7 @@ fn lower(op: &Op, before: &mut Clock)
 }
 
 /// Counts the operation too.
-fn count(op: &Op, last: &mut Clock)
+pub(crate) fn count(op: &Op, last: &mut Clock)
     requires { IsInRange op.now }
     ensures own { op.now.id.seq ≤ entry last.new op.now.id.site }
     ensures more { IsWithin last.old last.new }

@@ -64,8 +64,10 @@ impl GroupTable {
     }
 
     /// Adds an operation that the history may add. One that conflicts with nothing is found so by
-    /// two looks for each site that set its attribute of the object; another one looks at the parts
-    /// of its object, and no more sets are made than a part may keep.
+    /// two looks for each site that set its attribute of the object. Another one joins a set of the
+    /// last part by a few looks for each of its sets, where what is kept of these tells that it
+    /// does; else it is compared with all of its object, and no more sets are made than a part may
+    /// keep.
     pub fn add(&mut self, history: &History, op: &Op) -> Result<(), OutOfMemory>
         requires in_range { IsInRange op.now }
         requires accepted { IsAccepted history.now.ops op.now }

@@ -79,6 +79,24 @@ plain 1.1                            | [ 1.1 1.2 1.3 1.4 ][ 1.1 1.2 3.1 3.2 ][ 1
 groups 1.1                           | [ 1.1 1.2 1.3 1.4 ][ 1.1 1.2 3.1 3.2 ][ 1.1 1.3 2.3 ][ 1.1 2.1 2.2 2.3 ]
 copied 1.1                           | [ 1.1 1.2 1.3 1.4 ][ 1.1 1.2 3.1 3.2 ][ 1.1 1.3 2.3 ][ 1.1 2.1 2.2 2.3 ]
 
+// what_stands_beside_a_part
+new                                    | ok
+add 1.1: box 10 10                     | ok
+add 2.1 after 1: 1.1 colour 0000ff     | ok
+add 3.1 after 1: 1.1 colour 00ff00     | ok
+// Who knows both gives a third colour, which is in each version.
+add 4.1 after 1 1 1: 1.1 colour ff0000 | ok
+groups 1.1                             | [ 1.1 2.1 4.1 ][ 1.1 3.1 4.1 ]
+// Who knows one of them gives a fourth, which conflicts with the third, too.
+add 2.2 after 1 1: 1.1 colour ffff00   | ok
+groups 1.1                             | [ 1.1 2.1 2.2 ][ 1.1 2.1 4.1 ][ 1.1 3.1 4.1 ]
+plain 1.1                              | [ 1.1 2.1 2.2 ][ 1.1 2.1 4.1 ][ 1.1 3.1 4.1 ]
+// A layer that the next one does not know is in each version.
+add 1.2 after 1: 1.1 layer 5           | ok
+add 3.2 after 1 0 1: 1.1 colour 00ffff | ok
+groups 1.1                             | [ 1.1 1.2 2.1 2.2 ][ 1.1 1.2 2.1 4.1 ][ 1.1 1.2 3.1 3.2 ][ 1.1 1.2 3.1 4.1 ]
+copied 1.1                             | [ 1.1 1.2 2.1 2.2 ][ 1.1 1.2 2.1 4.1 ][ 1.1 1.2 3.1 3.2 ][ 1.1 1.2 3.1 4.1 ]
+
 // objects_have_parts_of_their_own
 new                                  | ok
 add 1.1: box 10 10                   | ok

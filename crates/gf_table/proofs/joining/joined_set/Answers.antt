@@ -2,8 +2,8 @@ use Rattle.std.proofs.Common.{rules}
 use Rattle.gf_table.proofs.JoinedLemmas.{IsSeen, joins, joined_told}
 use Rattle.gf_table.proofs.joining.joined_set.Goals as goal
 
-pub returns-then-spares_all_but_last-clause-joins : goal.returns-then-spares_all_but_last-clause-joins
-returns-then-spares_all_but_last-clause-joins c =
+pub returns-then-has_rival-clause-joins : goal.returns-then-has_rival-clause-joins
+returns-then-has_rival-clause-joins c =
     let seen : IsSeen c.args.timeline.now c.args.op.now c.args.value.now c.args.position c.args.parts.now c.in_ok-summary.summary.now c.in_ok-part.part.now c.in_ok-sets.sets.now c.in_ok-set.set c.in_ok-own.own c.in_ok-heard.field-0.now = record {
       last = search rules;
       sets = search rules;
@@ -11,12 +11,11 @@ returns-then-spares_all_but_last-clause-joins c =
       at = search rules;
       joined = search rules;
       rival = search rules;
-      spared = search rules;
     } in
     joins c.args.timeline.now c.args.op.now c.args.position c.args.parts.now c.args.summary.now c.requires.next c.args.value.now c.requires.gives c.in_ok-summary.summary.now c.in_ok-part.part.now c.in_ok-sets.sets.now c.in_ok-set.set c.in_ok-own.own c.in_ok-heard.field-0.now (search rules) seen
 
-pub returns-then-spares_all_but_last-clause-told : goal.returns-then-spares_all_but_last-clause-told
-returns-then-spares_all_but_last-clause-told c =
+pub returns-then-has_rival-clause-told : goal.returns-then-has_rival-clause-told
+returns-then-has_rival-clause-told c =
     let seen : IsSeen c.args.timeline.now c.args.op.now c.args.value.now c.args.position c.args.parts.now c.in_ok-summary.summary.now c.in_ok-part.part.now c.in_ok-sets.sets.now c.in_ok-set.set c.in_ok-own.own c.in_ok-heard.field-0.now = record {
       last = search rules;
       sets = search rules;
@@ -24,6 +23,5 @@ returns-then-spares_all_but_last-clause-told c =
       at = search rules;
       joined = search rules;
       rival = search rules;
-      spared = search rules;
     } in
     joined_told c.args.timeline.now c.args.op.now c.args.position c.args.parts.now c.args.summary.now c.requires.next c.args.value.now c.requires.gives c.in_ok-summary.summary.now c.in_ok-part.part.now c.in_ok-sets.sets.now c.in_ok-set.set c.in_ok-own.own c.in_ok-heard.field-0.now (search rules) seen
