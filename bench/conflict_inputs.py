@@ -33,6 +33,23 @@ def changed(count, name, to, apart):
     return lines.lines
 
 
+def busy(count, apart):
+    """One box to which one site gives so many colours, and which seven others then move so many
+    times each: by lines that know all before them, or, if the sites are apart, only the box and
+    those of their own site."""
+    rng = random.Random(6)
+    lines = Lines()
+    box = Object(lines, rng, 0)
+    made = box.knows
+    for _ in range(count):
+        box.follow(lines, 0, "colour", value(rng, "box", "colour"))
+    for number in range(count * (SITES - 1)):
+        if apart:
+            box.knows = made
+        box.follow(lines, 1 + number % (SITES - 1), "place", value(rng, "box", "place"))
+    return lines.lines
+
+
 def write_orders(name, lines):
     """The lines, and the same shuffled and backwards."""
     write(folder, name, lines)
@@ -47,3 +64,4 @@ for count in (30, 200):
 for apart, name in ((False, "causal"), (True, "apart")):
     write_orders("equal_" + name, changed(9_875, "colour", lambda rng: "00ff00", apart))
     write(folder, "moves_" + name, changed(2_000, "place", lambda rng: value(rng, "box", "place"), apart))
+    write(folder, "busy_" + name, busy(9_900, apart))
