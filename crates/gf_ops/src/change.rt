@@ -7,7 +7,7 @@ use crate::{ObjectId, Points};
 use gf_shape::{Point, Rgb};
 
 /// What an object has a value of. Boxes and circles have no `Points`, polygons no `Size`.
-#[derive(Clone, Copy, Debug, PartialEq, Eq)]
+#[derive(Clone, Copy, Debug, PartialEq, Eq, PartialOrd, Ord)]
 pub enum Attr {
     Place,
     Points,
