@@ -2,3 +2,4 @@ pub mod CountLemmas
 pub mod JoiningLemmas
 pub mod PartsLemmas
 pub mod ProductLemmas
+pub mod TogetherLemmas

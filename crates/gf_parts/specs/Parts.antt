@@ -69,6 +69,14 @@ whole s = fold joined (alone s.free) s.parts
 abbrev pub with_free : ℕ → PartsState → PartsState
 with_free x s = record { free = s.free ++ x ∷ []; parts = s.parts }
 
+-- of no position
+abbrev pub no_parts : PartsState
+no_parts = record { free = []; parts = [] }
+
+-- all that is free in one of two, rising, and the parts of both
+abbrev pub together : PartsState → PartsState → PartsState
+together s r = record { free = fold (insert_key nat_cmp) s.free r.free; parts = s.parts ++ r.parts }
+
 -- the sets gs, where that with the index j gets x
 abbrev pub set_with : ℕ → ℕ → List (List ℕ) → List (List ℕ)
 set_with j x gs = slice_set gs j (slice_index_or gs j [] ++ x ∷ [])

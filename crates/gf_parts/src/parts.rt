@@ -1,17 +1,13 @@
 //! The operations on one object in parts: what is in every version, and parts that no conflict
 //! connects, of which each gives a version one of its sets.
 
-ghost use Rattle.std.specs.Prelude.{◌≡◌, [], cond, filter, not, option_copied, IfOk, OnOk, OnErr};
+ghost use Rattle.std.specs.Prelude.{◌≡◌, cond, filter, not, option_copied, IfOk, OnOk, OnErr};
 ghost use Rattle.gf_groups.specs.Growing.{conflict_at};
 ghost use Rattle.gf_parts.specs.Parts.{joined, alone, holds, touches, grown_part, touched};
-ghost use Rattle.gf_parts.specs.Parts.{with_free, with_part, stays, full, listed, products};
-ghost use Rattle.gf_parts.specs.Parts.{part_with, last_with};
-ghost use Rattle.gf_groups.specs.Tables.{IsRising};
-ghost use Rattle.gf_parts.specs.Parted.{AreParts};
+ghost use Rattle.gf_parts.specs.Parts.{no_parts, with_free, with_part, stays, part_with, last_with};
 
-use crate::sets::{Sets, copied, products, united};
-use gf_groups::{Positions, Timeline, conflict_at, conflicts_in, groups_at, rivals};
-use gf_ops::History;
+use crate::sets::{Sets, copied, united};
+use gf_groups::{Positions, Timeline, conflict_at, conflicts_in, rivals};
 use gf_shape::OutOfMemory;
 use std::alloc::Global;
 use std::marker::Model;
@@ -230,7 +226,7 @@ fn drop_touched(timeline: &Timeline<'_>, position: usize, parts: &mut Vec<Part>)
 impl Parts {
     /// Of no operation.
     pub fn new(alloc: Global) -> Parts
-        ensures { result ≡ record { free = []; parts = [] } }
+        ensures { result ≡ no_parts }
     {
         Parts {
             free: Positions::new(alloc),
@@ -297,40 +293,6 @@ impl Parts {
         match self.parts.last_mut() {
             Some(part) => part.join(set, position),
             None => Ok(()),
-        }
-    }
-
-    /// What is free with one set of each part: all versions. The sets of a part with too many are
-    /// made anew.
-    pub fn listed(&self, alloc: Global, history: &History) -> Result<Vec<Positions>, OutOfMemory>
-        requires { AreParts (conflict_at history.now.ops) self.now }
-        ensures { IfOk result (λ sets. sets.items ≡ listed (conflict_at history.now.ops) self.now) }
-    {
-        let free = copied(alloc, self.free.as_slice())?;
-        let mut sets = Vec::from_array(alloc, [free])?;
-        for part in &self.parts {
-            sets = multiplied(alloc, history, &sets, part)?;
-        }
-        Ok(sets)
-    }
-}
-
-/// Each of the sets with each of the part.
-fn multiplied(
-    alloc: Global,
-    history: &History,
-    sets: &[Positions],
-    part: &Part,
-) -> Result<Vec<Positions>, OutOfMemory>
-    requires { IsRising part.now.all }
-    ensures { IfOk result (λ found. found.items
-        ≡ products sets.now (full (conflict_at history.now.ops) part.now)) }
-{
-    match part.sets.get() {
-        Some(own) => products(alloc, sets, own),
-        None => {
-            let own = groups_at(alloc, history, part.all.as_slice())?;
-            products(alloc, sets, &own)
         }
     }
 }

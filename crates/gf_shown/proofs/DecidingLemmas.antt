@@ -1,6 +1,6 @@
 -- The largest sets that show are those that what decides shows, each with every choice of the other parts.
-use Rattle.std.proofs.Common.{◌≡◌, ◌≢◌, ℕ, ◌*◌, ◌≤◌, ◌<◌, Bool, true, false, List, [], ◌∷◌, length, inl, inr, refl, subst, sym, ◌∙◌, arith}
-use Rattle.std.specs.Prelude.{◌⊎◌, ◌↔◌, AllPairs, Contains, Option, Some, None, filter, not, nat_le, unwrap_or}
+use Rattle.std.proofs.Common.{◌≡◌, ◌≢◌, ℕ, ◌*◌, ◌≤◌, ◌<◌, Bool, true, false, List, [], ◌∷◌, length, map, inl, inr, refl, subst, sym, ap, ◌∙◌, arith}
+use Rattle.std.specs.Prelude.{◌⊎◌, ◌↔◌, ◌||◌, AllPairs, Contains, Option, Some, None, filter, not, nat_le, unwrap_or}
 use Rattle.std.specs.List.{list_any, fold}
 use Rattle.std.specs.Ordering.{nat_cmp}
 use Rattle.std.proofs.Math.Nat.{mul-le-mul_right, one-mul}
@@ -28,6 +28,11 @@ use Rattle.gf_shown.proofs.LastLemmas.{IsLater, never, Agree, shows_to, shows_fr
 -- a set of gs lies within q
 abbrev pub HasSet : List (List ℕ) → List ℕ → Type 0
 HasSet gs q = (g : List ℕ) × Contains gs g × ((a : ℕ) → Contains g a → Contains q a)
+
+-- whether an element passes a test, seen through a function
+pub any_mapped : {X Y : Type 0} (f : X → Y) (test : Y → Bool) (xs : List X) → list_any test (map f xs) ≡ list_any (λ x. test (f x)) xs
+any_mapped f test [] = refl
+any_mapped f test (x ∷ xs) = ap (λ b. test (f x) || b) (any_mapped f test xs)
 
 module _ (c : ℕ → ℕ → Bool) where
   abbrev multiplied : List (List ℕ) → List PartState → List (List ℕ)

@@ -1,6 +1,6 @@
 -- What a listing of parts says of the positions of an object.
-use Rattle.std.proofs.Common.{◌≡◌, ◌≤◌, ℕ, Bool, true, false, List, [], subst, arith}
-use Rattle.std.specs.Prelude.{◌↔◌, Contains, Option, Some, None, option_map, slice_get}
+use Rattle.std.proofs.Common.{◌≡◌, ◌≤◌, ℕ, Bool, true, false, List, subst}
+use Rattle.std.specs.Prelude.{◌↔◌, Contains, Option, Some, None, slice_get}
 use Rattle.gf_ops.specs.declared.op.Op.{Op}
 use Rattle.gf_ops.specs.declared.op.ObjectId.{ObjectId}
 use Rattle.gf_ops.specs.ValidHistory.{IsValid}
@@ -12,15 +12,11 @@ use Rattle.gf_groups.proofs.TableLemmas.{conflict_at_test}
 use Rattle.gf_parts.specs.Parted.{AreParts, IsKept}
 use Rattle.gf_parts.specs.Parts.{PartsState, most_sets, whole}
 use Rattle.gf_parts.proofs.PartsLemmas.{table_whole}
-use Rattle.gf_ops.proofs.ListLemmas.{not_Contains-nil}
 use Rattle.gf_shown.specs.Deciding.{deciding, shown_within}
 use Rattle.gf_shown.specs.ShownAt.{sets_at, shows_at, later_at}
 use Rattle.gf_shown.specs.ShownSets.{AreShownSets, IsSetListing}
 use Rattle.gf_shown.proofs.DecidingLemmas.{IsListing, Lists, first_parts, listing}
-use Rattle.gf_shown.proofs.LastLemmas.{shows_to}
 use Rattle.gf_shown.proofs.ShownValueLemmas.{agree_at, later_order}
-use Rattle.gf_table.specs.ObjectState.{ObjectState}
-use Rattle.gf_table.specs.Standing.{Stands}
 
 kept_table : (c : ℕ → ℕ → Bool) (us : List ℕ) (r : Option (List (List ℕ))) (gs : List (List ℕ)) → r ≡ Some gs → IsKept c us r → IsTable c us gs
 kept_table c us r gs e k = (subst (IsKept c us) e k).0
@@ -55,29 +51,3 @@ module _ (h : List Op) (valid : IsValid h) (o : ObjectId) (us : List ℕ) (on : 
   -- THE LISTING of an object's positions
   pub set_listing : IsSetListing h us n (shown_within (sets_at h) (later_at h) (shows_at h) n t gs)
   set_listing = by_listing (shown_within (sets_at h) (later_at h) (shows_at h) n t gs) (listing (sets_at h) (later_at h) (shows_at h) (later_order h valid) (conflict_at h) (conflict_at_test h) t parts gs some agree n low)
-
--- ---- from a table
-
-abbrev pub ArePartsOf : List Op → List ℕ → PartsState → Type 0
-ArePartsOf h us t = AreParts (conflict_at h) t × ((i : ℕ) → Contains (whole t).all i ↔ Contains us i)
-
--- the parts that a table has for the positions us
-pub parts_of_state : (h : List Op) (us : List ℕ) (r : Option ObjectState) (t : PartsState) → Stands h us r → option_map (λ (s : ObjectState). s.parts) r ≡ Some t → ArePartsOf h us t
-parts_of_state h us (Some s) t stands e = let q : s.parts ≡ t = cc in subst (ArePartsOf h us) q (stands.parts, stands.positions)
-parts_of_state h us None t stands e = absurd cc
-
--- where it has none, no set shows
-pub none_shown : (h : List Op) → IsValid h → (us : List ℕ) (n : ℕ) (r : Option ObjectState) → Stands h us r → option_map (λ (s : ObjectState). s.parts) r ≡ None → IsSetListing h us n (Some [])
-none_shown h valid us n (Some s) stands e = absurd cc
-none_shown h valid us n None stands e = (
-  record {
-    exactly = λ g. (
-      λ i. absurd (not_Contains-nil g i),
-      λ w.
-          let s = shows_to (sets_at h) (later_at h) (shows_at h) (later_order h valid) g w.shown in
-          absurd (not_Contains-nil s.last (subst (λ vs. Contains vs s.last) stands (w.largest.within s.last s.within))),
-    );
-    once = λ i j d l m. absurd (omega arith);
-  },
-  omega arith,
-)

@@ -9,7 +9,7 @@ ghost use Rattle.gf_shown.specs.ShownSets.{is_shown};
 
 use crate::saying::{later_at, sets_at, shows_at};
 use gf_groups::{Positions, Timeline};
-use gf_parts::{Part, Parts};
+use gf_parts::{Part, Together};
 
 /// The last setter so far, after the one at this position came too.
 fn taken(timeline: &Timeline<'_>, last: Option<usize>, position: usize) -> Option<usize>
@@ -81,8 +81,8 @@ fn always_later(timeline: &Timeline<'_>, position: usize, part: &Part) -> bool
     }
 }
 
-fn one_always_later(timeline: &Timeline<'_>, position: usize, parts: &[Part]) -> bool
-    ensures { result ≡ list_any (always_later_at timeline.now position) parts.now }
+fn one_always_later(timeline: &Timeline<'_>, position: usize, parts: &[&Part]) -> bool
+    ensures { result ≡ list_any (λ part. always_later_at timeline.now position part.now) parts.now }
 {
     parts
         .iter()
@@ -90,7 +90,7 @@ fn one_always_later(timeline: &Timeline<'_>, position: usize, parts: &[Part]) ->
 }
 
 /// Whether in each version a later one stands.
-fn overruled(timeline: &Timeline<'_>, parts: &Parts, position: usize) -> bool
+fn overruled(timeline: &Timeline<'_>, parts: &Together<'_>, position: usize) -> bool
     ensures { result ≡ overruled_at timeline.now parts.now position }
 {
     some_later(timeline, position, parts.free())
@@ -98,13 +98,13 @@ fn overruled(timeline: &Timeline<'_>, parts: &Parts, position: usize) -> bool
 }
 
 /// Whether it shows or hides and may be the last one.
-fn may_be_last(timeline: &Timeline<'_>, parts: &Parts, position: usize) -> bool
+fn may_be_last(timeline: &Timeline<'_>, parts: &Together<'_>, position: usize) -> bool
     ensures { result ≡ may_be_last_at timeline.now parts.now position }
 {
     sets_at(timeline, position) && !overruled(timeline, parts, position)
 }
 
-fn one_may_be_last(timeline: &Timeline<'_>, parts: &Parts, positions: &[usize]) -> bool
+fn one_may_be_last(timeline: &Timeline<'_>, parts: &Together<'_>, positions: &[usize]) -> bool
     ensures { result ≡ list_any (may_be_last_at timeline.now parts.now) positions.now }
 {
     positions
@@ -113,7 +113,7 @@ fn one_may_be_last(timeline: &Timeline<'_>, parts: &Parts, positions: &[usize]) 
 }
 
 /// Whether one of the part may be the last one.
-pub(crate) fn decides(timeline: &Timeline<'_>, parts: &Parts, part: &Part) -> bool
+pub(crate) fn decides(timeline: &Timeline<'_>, parts: &Together<'_>, part: &Part) -> bool
     ensures { result ≡ decides_at timeline.now parts.now part.now }
 {
     one_may_be_last(timeline, parts, part.all())

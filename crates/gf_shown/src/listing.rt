@@ -12,7 +12,7 @@ ghost use Rattle.gf_table.specs.Standing.{StandsFor};
 use crate::deciding::{decides, shows};
 use gf_groups::{Positions, Timeline};
 use gf_ops::{History, ObjectId};
-use gf_parts::{Part, Parts, alone, copied, joined, products};
+use gf_parts::{Part, Together, alone, copied, joined, products};
 use gf_shape::OutOfMemory;
 use gf_table::GroupTable;
 use std::alloc::Global;
@@ -32,7 +32,7 @@ fn with_wanted(alloc: Global, part: Part, other: &Part, wanted: bool) -> Result<
 fn whole_deciding(
     alloc: Global,
     timeline: &Timeline<'_>,
-    parts: &Parts,
+    parts: &Together<'_>,
 ) -> Result<Part, OutOfMemory>
     ensures { IfOk result (λ part. part ≡ whole (deciding_at timeline.now parts.now)) }
 {
@@ -46,7 +46,11 @@ fn whole_deciding(
 }
 
 /// The other parts as one.
-fn whole_idle(alloc: Global, timeline: &Timeline<'_>, parts: &Parts) -> Result<Part, OutOfMemory>
+fn whole_idle(
+    alloc: Global,
+    timeline: &Timeline<'_>,
+    parts: &Together<'_>,
+) -> Result<Part, OutOfMemory>
     ensures { IfOk result (λ part. part ≡ whole (idle_at timeline.now parts.now)) }
 {
     let mut part = alone(alloc, Vec::new(alloc))?;
@@ -101,7 +105,7 @@ fn at_most(
 fn shown_within(
     alloc: Global,
     timeline: &Timeline<'_>,
-    parts: &Parts,
+    parts: &Together<'_>,
     sets: &[Positions],
     most: usize,
 ) -> Result<Option<Vec<Positions>>, OutOfMemory>
@@ -136,12 +140,10 @@ pub(crate) fn shown_sets(
     // Its clause says that the history is valid.
     let _ = history.ops();
     let timeline = Timeline::of(history);
-    let Some(parts) = table.parts(object) else {
-        return Ok(Some(Vec::new(alloc)));
-    };
-    let deciding = whole_deciding(alloc, &timeline, parts)?;
+    let parts = table.parts(alloc, object)?;
+    let deciding = whole_deciding(alloc, &timeline, &parts)?;
     match deciding.sets() {
-        Some(sets) => shown_within(alloc, &timeline, parts, sets, most),
+        Some(sets) => shown_within(alloc, &timeline, &parts, sets, most),
         None => Err(OutOfMemory),
     }
 }

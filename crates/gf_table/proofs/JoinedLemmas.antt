@@ -63,7 +63,7 @@ differs v w p ps fresh i e d = fresh (subst (Contains ps) (sym e ∙ ap print_of
 
 -- ---- conflicts of the next operation, which gives v to the object o
 
-module _ (h : List Op) (valid : IsValid h) (a : Op) (in_range : IsInRange a) (accepted : IsAccepted h a) (us : List ℕ) (all : (i : ℕ) → Contains us i ↔ (is_on (object_of a) (slice_get h i) ≡ true))
+module _ (h : List Op) (valid : IsValid h) (a : Op) (in_range : IsInRange a) (accepted : IsAccepted h a) (us : List ℕ) (on : (i : ℕ) → Contains us i → is_on (object_of a) (slice_get h i) ≡ true)
     (o : ObjectId) (v : Value) (gives : a.change ≡ Set o v) where
   abbrev c : ℕ → ℕ → Bool
   c = conflict_at (h ++ a ∷ [])
@@ -76,7 +76,7 @@ module _ (h : List Op) (valid : IsValid h) (a : Op) (in_range : IsInRange a) (ac
         let one : q.op ≡ op = one_op (slice_get h b) q.op op q.at at in
         let g : GivesPrint op t p = subst (λ (x : Op). GivesPrint x t p) one q.gives in
         let set : IsSetter op (attribute_of v) op.id.site g.given = record { object = g.object; change = g.change; attribute = g.attribute ∙ sym same; site = refl } in
-        let hit = meets h valid a in_range accepted us all o v gives b op op.id.site g.given m at set (differs v g.given p ps fresh i g.print) (λ (y : Precedes op a).
+        let hit = meets h valid a in_range accepted us on o v gives b op op.id.site g.given m at set (differs v g.given p ps fresh i g.print) (λ (y : Precedes op a).
         let k = leb-false op.id.seq (entry a.past op.id.site) n in
         absurd (omega (arith, k, y))) in
         absurd cc
@@ -192,7 +192,7 @@ pub record IsSeen (g : List Op) (a : Op) (v : Value) (n : ℕ) (s : PartsState) 
   pub joined : IsJoined m v a.past q.past j
   pub rival : HasRival (conflict_at g) gs n own
 
-module _ (h : List Op) (valid : IsValid h) (a : Op) (in_range : IsInRange a) (accepted : IsAccepted h a) (us : List ℕ) (all : (i : ℕ) → Contains us i ↔ (is_on (object_of a) (slice_get h i) ≡ true))
+module _ (h : List Op) (valid : IsValid h) (a : Op) (in_range : IsInRange a) (accepted : IsAccepted h a) (us : List ℕ) (on : (i : ℕ) → Contains us i → is_on (object_of a) (slice_get h i) ≡ true)
     (o : ObjectId) (v : Value) (gives : a.change ≡ Set o v) (s : PartsState) (parts : AreParts (conflict_at h) s) (positions : (i : ℕ) → Contains (whole s).all i ↔ Contains us i)
     (m : SummaryState) (p : PartState) (gs : List (List ℕ)) (j own : ℕ) (q : Op) (told : TellsParts h m s) (seen : IsSeen (h ++ a ∷ []) a v (length h) s m p gs j own q) where
   abbrev d : ℕ → ℕ → Bool
@@ -214,7 +214,7 @@ module _ (h : List Op) (valid : IsValid h) (a : Op) (in_range : IsInRange a) (ac
   inside b k = (positions b).0 ((all_of_fold (conflict_at h) (alone s.free) s.parts b).1 (inr (p, last_in s.parts p seen.last, k)))
 
   below : (b : ℕ) → Contains us b → b < length h
-  below b k = let w = on_op (object_of a) (slice_get h b) ((all b).0 k) in slice_get_within h b w.0 w.1
+  below b k = let w = on_op (object_of a) (slice_get h b) (on b k) in slice_get_within h b w.0 w.1
 
   in_part : (b : ℕ) → IsInOne gs b → Contains p.all b
   in_part b w = of_part w.0 w.1 b w.2
@@ -251,7 +251,7 @@ module _ (h : List Op) (valid : IsValid h) (a : Op) (in_range : IsInRange a) (ac
   joins_at =
       let b = stands_beside in
       let others : CountsOthers h (attribute_of v) m.others s = subst (λ t. CountsOthers h t m.others s) (sym seen.joined.attribute) told.others in
-      let calm = one_calm h valid a in_range accepted us all o v gives m seen.joined.attribute seen.joined.fresh p.all inside tells.positions own q own_at b.calm j m.spans gs of_part tells.sets seen.joined.spans in
+      let calm = one_calm h valid a in_range accepted us on o v gives m seen.joined.attribute seen.joined.fresh p.all inside tells.positions own q own_at b.calm j m.spans gs of_part tells.sets seen.joined.spans in
       joins_last d (length h) s front p gs j (last_apart s.parts p seen.last) seen.sets kept.1
       (calm_free h a o v gives m.others seen.joined.others s others)
       (calm_before h a o v gives m.others seen.joined.others s others)
@@ -299,10 +299,10 @@ module _ (g : List Op) (a : Op) (n : ℕ) (s : PartsState) (r : Option SummarySt
 
   pub joins : with_part (conflict_at g) n s ≡ last_with j n s
   joins =
-      let e = joins_at h next.valid a next.in_range next.accepted next.us next.all gives.0 v gives.1 s next.parts next.positions m p gs j own q told_some seen_at in
+      let e = joins_at h next.valid a next.in_range next.accepted next.us next.on gives.0 v gives.1 s next.parts next.positions m p gs j own q told_some seen_at in
       subst (λ z. with_part (conflict_at z) n s ≡ last_with j n s) (sym next.longer) (subst (λ k. with_part (conflict_at (h ++ a ∷ [])) k s ≡ last_with j k s) (sym next.position) e)
 
   pub joined_told : (k : Option SummaryState) → NotesIn r j a.id v k → TellsLast g (last_with j n s) k
   joined_told k notes =
-      let t = told_at h next.valid a next.in_range next.accepted next.us next.all gives.0 v gives.1 s next.parts next.positions m p gs j own q told_some seen_at k (subst (λ z. NotesIn z j a.id v k) some notes) in
+      let t = told_at h next.valid a next.in_range next.accepted next.us next.on gives.0 v gives.1 s next.parts next.positions m p gs j own q told_some seen_at k (subst (λ z. NotesIn z j a.id v k) some notes) in
       subst (λ z. TellsLast z (last_with j n s) k) (sym next.longer) (subst (λ i. TellsLast (h ++ a ∷ []) (last_with j i s) k) (sym next.position) t)

@@ -10,3 +10,5 @@ pub mod QuickLemmas
 pub mod StandsLemmas
 pub mod StateLemmas
 pub mod SummaryLemmas
+pub mod ObjectLemmas
+pub mod SubjectLemmas

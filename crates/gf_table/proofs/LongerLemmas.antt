@@ -1,4 +1,4 @@
--- A history that got longer: what stands at its positions, their conflicts, and the positions of the operations on an object.
+-- A history that got longer: what stands at its positions, their conflicts, and the positions of the operations about a subject.
 use Rattle.std.proofs.Common.{◌≡◌, ℕ, zero, suc, ◌<◌, ◌≤◌, true, false, List, [], ◌∷◌, ◌++◌, length, get_or, add-one, refl, sym, ap, ◌∙◌, arith}
 use Rattle.std.specs.Prelude.{cond, Some, slice_get}
 use Rattle.std.proofs.lemmas.Bool.{cond-true, cond-false}
@@ -6,9 +6,9 @@ use Rattle.std.proofs.lemmas.List.{get_or_append_left, length-append}
 use Rattle.std.proofs.lemmas.Option.{slice_get_read, slice_get_within, slice_get-get_or, get_or_from_slice_get}
 use Rattle.std.proofs.Math.Seq.{get_or-append_seam}
 use Rattle.gf_ops.specs.declared.op.Op.{Op}
-use Rattle.gf_ops.specs.declared.op.ObjectId.{ObjectId}
 use Rattle.gf_groups.specs.Growing.{conflict_at}
-use Rattle.gf_groups.specs.GroupedPositions.{is_on, positions_below}
+use Rattle.gf_table.specs.declared.subject.Subject.{Subject}
+use Rattle.gf_table.specs.Subjects.{is_about, positions_about}
 
 module _ (h : List Op) (a : Op) where
   abbrev longer : List Op
@@ -32,28 +32,28 @@ module _ (h : List Op) (a : Op) where
   same_conflict i j l m = rw (same_before i l, same_before j m) refl
 
   -- the positions of the operations before
-  pub positions_before : (o : ObjectId) (n : ℕ) → n ≤ length h → positions_below longer o n ≡ positions_below h o n
-  positions_before o zero l = refl
-  positions_before o (suc n) l =
-      let r = positions_before o n (omega (arith, l)) in
+  pub positions_before : (k : Subject) (n : ℕ) → n ≤ length h → positions_about longer k n ≡ positions_about h k n
+  positions_before k zero l = refl
+  positions_before k (suc n) l =
+      let r = positions_before k n (omega (arith, l)) in
       let e = same_before n (omega (arith, l)) in
-      ap (λ r. cond (is_on o r) (positions_below longer o n ++ n ∷ []) (positions_below longer o n)) e ∙ ap (λ us. cond (is_on o (slice_get h n)) (us ++ n ∷ []) us) r
+      ap (λ r. cond (is_about k r) (positions_about longer k n ++ n ∷ []) (positions_about longer k n)) e ∙ ap (λ us. cond (is_about k (slice_get h n)) (us ++ n ∷ []) us) r
 
-  abbrev last_positions : ObjectId → List ℕ
-  last_positions o = cond (is_on o (slice_get longer (length h))) (positions_below longer o (length h) ++ length h ∷ []) (positions_below longer o (length h))
+  abbrev last_positions : Subject → List ℕ
+  last_positions k = cond (is_about k (slice_get longer (length h))) (positions_about longer k (length h) ++ length h ∷ []) (positions_about longer k (length h))
 
-  all_positions : (o : ObjectId) → positions_below longer o (length longer) ≡ last_positions o
-  all_positions o = ap (positions_below longer o) length-longer
+  all_positions : (k : Subject) → positions_about longer k (length longer) ≡ last_positions k
+  all_positions k = ap (positions_about longer k) length-longer
 
-  same_positions : (o : ObjectId) → last_positions o ≡ cond (is_on o (Some a)) (positions_below h o (length h) ++ length h ∷ []) (positions_below h o (length h))
-  same_positions o =
-      ap (λ r. cond (is_on o r) (positions_below longer o (length h) ++ length h ∷ []) (positions_below longer o (length h))) got_last
-      ∙ ap (λ us. cond (is_on o (Some a)) (us ++ length h ∷ []) us) (positions_before o (length h) (omega arith))
+  same_positions : (k : Subject) → last_positions k ≡ cond (is_about k (Some a)) (positions_about h k (length h) ++ length h ∷ []) (positions_about h k (length h))
+  same_positions k =
+      ap (λ r. cond (is_about k r) (positions_about longer k (length h) ++ length h ∷ []) (positions_about longer k (length h))) got_last
+      ∙ ap (λ us. cond (is_about k (Some a)) (us ++ length h ∷ []) us) (positions_before k (length h) (omega arith))
 
-  -- one position more for its object
-  pub positions_with_last : (o : ObjectId) → is_on o (Some a) ≡ true → positions_below longer o (length longer) ≡ positions_below h o (length h) ++ length h ∷ []
-  positions_with_last o y = all_positions o ∙ (same_positions o ∙ cond-true (is_on o (Some a)) (positions_below h o (length h) ++ length h ∷ []) (positions_below h o (length h)) y)
+  -- one position more for its subject
+  pub positions_with_last : (k : Subject) → is_about k (Some a) ≡ true → positions_about longer k (length longer) ≡ positions_about h k (length h) ++ length h ∷ []
+  positions_with_last k y = all_positions k ∙ (same_positions k ∙ cond-true (is_about k (Some a)) (positions_about h k (length h) ++ length h ∷ []) (positions_about h k (length h)) y)
 
   -- and the same for another
-  pub positions_without_last : (o : ObjectId) → is_on o (Some a) ≡ false → positions_below longer o (length longer) ≡ positions_below h o (length h)
-  positions_without_last o n = all_positions o ∙ (same_positions o ∙ cond-false (is_on o (Some a)) (positions_below h o (length h) ++ length h ∷ []) (positions_below h o (length h)) n)
+  pub positions_without_last : (k : Subject) → is_about k (Some a) ≡ false → positions_about longer k (length longer) ≡ positions_about h k (length h)
+  positions_without_last k n = all_positions k ∙ (same_positions k ∙ cond-false (is_about k (Some a)) (positions_about h k (length h) ++ length h ∷ []) (positions_about h k (length h)) n)

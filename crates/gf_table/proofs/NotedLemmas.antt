@@ -1,6 +1,6 @@
 -- The tails after one more operation tell of it and of all before.
 use Rattle.std.proofs.Common.{◌≡◌, ◌≢◌, ℕ, ◌≤◌, ◌<◌, Bool, true, List, [], ◌∷◌, ◌++◌, length, inl, inr, refl, subst, sym, ap, ◌∙◌, arith}
-use Rattle.std.specs.Prelude.{◌↔◌, Contains, cond, Option, Some, None, slice_get, unwrap_or}
+use Rattle.std.specs.Prelude.{Contains, cond, Option, Some, None, slice_get, unwrap_or}
 use Rattle.std.specs.List.{find}
 use Rattle.std.proofs.lemmas.Bool.{cases_Bool, cond-true, cond-false}
 use Rattle.std.proofs.lemmas.List.Elements.{Contains-append_left, Contains-push, Contains-push_cases}
@@ -52,7 +52,7 @@ unfolding value_in
 same_value k o p v w e f = ap (λ q. value_in q v) (sym f ∙ e)
 
 -- a comes behind h and gives v to the object o, which has the positions us
-module _ (h : List Op) (valid : IsValid h) (a : Op) (in_range : IsInRange a) (accepted : IsAccepted h a) (us : List ℕ) (all : (i : ℕ) → Contains us i ↔ (is_on (object_of a) (slice_get h i) ≡ true))
+module _ (h : List Op) (valid : IsValid h) (a : Op) (in_range : IsInRange a) (accepted : IsAccepted h a) (us : List ℕ) (on : (i : ℕ) → Contains us i → is_on (object_of a) (slice_get h i) ≡ true)
     (o : ObjectId) (v : Value) (gives : a.change ≡ Set o v) (es : List Tail) (tails : AreTails h us es) where
   abbrev new : List Op
   new = h ++ a ∷ []
@@ -64,7 +64,7 @@ module _ (h : List Op) (valid : IsValid h) (a : Op) (in_range : IsInRange a) (ac
   last = new_tail new a.id.site v (length h) (find own es)
 
   within : (i : ℕ) → Contains us i → i < length h
-  within i m = let w = on_op (object_of a) (slice_get h i) ((all i).0 m) in slice_get_within h i w.0 w.1
+  within i m = let w = on_op (object_of a) (slice_get h i) (on i m) in slice_get_within h i w.0 w.1
 
   -- the tail that the last one replaces
   module _ (f : Tail) (found : find own es ≡ Some f) where

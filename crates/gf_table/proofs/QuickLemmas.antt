@@ -1,6 +1,6 @@
 -- The tails of an object tell exactly whether the next operation conflicts with one on the object.
 use Rattle.std.proofs.Common.{◌≡◌, ◌≢◌, ℕ, ◌≤◌, Bool, true, false, List, [], ◌∷◌, ◌++◌, length, inl, inr, refl, subst, sym, ap, ◌∙◌, arith}
-use Rattle.std.specs.Prelude.{◌↔◌, Contains, Option, Some, None, slice_get, unwrap_or, ◌||◌, ◌==◌}
+use Rattle.std.specs.Prelude.{Contains, Option, Some, None, slice_get, unwrap_or, ◌||◌, ◌==◌}
 use Rattle.std.proofs.lemmas.Bool.{cases_Bool, and_parts, and_from, or_cases, or_left, or_right}
 use Rattle.std.proofs.lemmas.Bool.Decides.{Decides-eqb}
 use Rattle.gf_ops.specs.declared.op.Op.{Op}
@@ -83,13 +83,13 @@ same_answer false true f g = g refl
 same_answer false false f g = refl
 
 -- a comes behind h and gives v to the object o, which has the positions us
-module _ (h : List Op) (valid : IsValid h) (a : Op) (in_range : IsInRange a) (accepted : IsAccepted h a) (us : List ℕ) (all : (i : ℕ) → Contains us i ↔ (is_on (object_of a) (slice_get h i) ≡ true)) where
+module _ (h : List Op) (valid : IsValid h) (a : Op) (in_range : IsInRange a) (accepted : IsAccepted h a) (us : List ℕ) (on : (i : ℕ) → Contains us i → is_on (object_of a) (slice_get h i) ≡ true) where
   abbrev c : ℕ → ℕ → Bool
   c = conflict_at (h ++ a ∷ [])
 
   -- what stands at one of the positions
   there : (i : ℕ) → Contains us i → (b : Op) × (slice_get h i ≡ Some b) × (object_of b ≡ object_of a)
-  there i m = on_op (object_of a) (slice_get h i) ((all i).0 m)
+  there i m = on_op (object_of a) (slice_get h i) (on i m)
 
   -- where a makes the object there is no position
   pub made_none : (start : _) → a.change ≡ Create start → (i : ℕ) → ¬ (Contains us i)

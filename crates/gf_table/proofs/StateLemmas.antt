@@ -22,7 +22,7 @@ use Rattle.gf_groups.proofs.TableLemmas.{conflict_at_test}
 use Rattle.gf_parts.specs.Parted.{AreParts}
 use Rattle.gf_parts.specs.Parts.{PartState, PartsState, alone, whole, touches, is_calm, with_free, with_part, after}
 use Rattle.gf_parts.proofs.PartsLemmas.{all_of_fold, first_parts, parts_agree, parts_after, all_after}
-use Rattle.gf_table.specs.ObjectState.{ObjectState, nothing, with_change, with_op}
+use Rattle.gf_table.specs.SubjectState.{SubjectState, nothing, with_change, with_op}
 use Rattle.gf_table.specs.Standing.{IsSetter, AreTails, IsStateOf}
 use Rattle.gf_table.specs.Summaries.{SummaryState, TellsLast}
 use Rattle.gf_table.specs.Tails.{hits_one}
@@ -85,7 +85,7 @@ module _ (c : ℕ → ℕ → Bool) (t : PartsState) (us : List ℕ) (same : (i 
 -- ---- one more operation
 
 -- us are positions of h
-module _ (h : List Op) (a : Op) (us : List ℕ) (within : (i : ℕ) → Contains us i → i < length h) (t : ObjectState) (state : IsStateOf h us t) where
+module _ (h : List Op) (a : Op) (us : List ℕ) (within : (i : ℕ) → Contains us i → i < length h) (t : SubjectState) (state : IsStateOf h us t) where
   abbrev c : ℕ → ℕ → Bool
   c = conflict_at (h ++ a ∷ [])
 
@@ -110,7 +110,7 @@ module _ (h : List Op) (a : Op) (us : List ℕ) (within : (i : ℕ) → Contains
       )
 
   -- with the right parts and tails it is the state with a
-  made_state : (s : ObjectState) → s.parts ≡ after c (length h) t.parts → AreTails (h ++ a ∷ []) (us ++ length h ∷ []) s.tails → TellsLast (h ++ a ∷ []) s.parts s.summary → IsStateOf (h ++ a ∷ []) (us ++ length h ∷ []) s
+  made_state : (s : SubjectState) → s.parts ≡ after c (length h) t.parts → AreTails (h ++ a ∷ []) (us ++ length h ∷ []) s.tails → TellsLast (h ++ a ∷ []) s.parts s.summary → IsStateOf (h ++ a ∷ []) (us ++ length h ∷ []) s
   made_state s e tails told = record {
     parts = subst (AreParts c) (sym e) parts_more;
     positions = subst (λ (p : PartsState). (i : ℕ) → Contains (whole p).all i ↔ Contains (us ++ length h ∷ []) i) (sym e) positions_more;
@@ -118,7 +118,7 @@ module _ (h : List Op) (a : Op) (us : List ℕ) (within : (i : ℕ) → Contains
     summary = told;
   }
 
-  module _ (valid : IsValid h) (in_range : IsInRange a) (accepted : IsAccepted h a) (all : (i : ℕ) → Contains us i ↔ (is_on (object_of a) (slice_get h i) ≡ true)) (m : Option SummaryState) where
+  module _ (valid : IsValid h) (in_range : IsInRange a) (accepted : IsAccepted h a) (on : (i : ℕ) → Contains us i → is_on (object_of a) (slice_get h i) ≡ true) (m : Option SummaryState) where
     no_clash : ((i : ℕ) → ¬ (Contains us i)) → conflicts_in c (length h) us ≡ false
     no_clash none = elim (cases_Bool (conflicts_in c (length h) us)) [
       | inl y ↦ let w = list_any_true (c (length h)) us y in absurd (none w.0 w.1)
@@ -140,7 +140,7 @@ module _ (h : List Op) (a : Op) (us : List ℕ) (within : (i : ℕ) → Contains
 
         never : (i : ℕ) (b : Op) (u : Attr) (s : ℕ) (v : Value) → Contains (us ++ length h ∷ []) i → slice_get (h ++ a ∷ []) i ≡ Some b → ¬ (IsSetter b u s v)
         never i b u s v m at set = elim (Contains-push_cases us (length h) i m) [
-          | inl k ↦ made_none h valid a in_range accepted us all start e i k
+          | inl k ↦ made_none h valid a in_range accepted us on start e i k
           | inr d ↦
               let same : b ≡ a = one_op (slice_get (h ++ a ∷ []) i) b a at (subst (λ j. slice_get (h ++ a ∷ []) j ≡ Some a) d (got_last h a)) in
               creates a.change set.object v e (subst (λ (z : Op). z.change ≡ Set set.object v) same set.change)
@@ -148,11 +148,11 @@ module _ (h : List Op) (a : Op) (us : List ℕ) (within : (i : ℕ) → Contains
 
     by_change : (k : Change) → a.change ≡ k → TellsLast (h ++ a ∷ []) (with_change (h ++ a ∷ []) a.id.site k (length h) m t).parts m → IsStateOf (h ++ a ∷ []) (us ++ length h ∷ []) (with_change (h ++ a ∷ []) a.id.site k (length h) m t)
     by_change (Create start) e told = made_state (with_change (h ++ a ∷ []) a.id.site (Create start) (length h) m t)
-        (right_step c t.parts us state.positions (length h) false (sym (no_clash (made_none h valid a in_range accepted us all start e))))
+        (right_step c t.parts us state.positions (length h) false (sym (no_clash (made_none h valid a in_range accepted us on start e))))
         (first_tails start e) told
     by_change (Set o v) e told = made_state (with_change (h ++ a ∷ []) a.id.site (Set o v) (length h) m t)
-        (right_step c t.parts us state.positions (length h) (hits_one c (attribute_of v) (length h) t.tails) (quick h valid a in_range accepted us all o v e t.tails state.tails))
-        (tails_noted h valid a in_range accepted us all o v e t.tails state.tails) told
+        (right_step c t.parts us state.positions (length h) (hits_one c (attribute_of v) (length h) t.tails) (quick h valid a in_range accepted us on o v e t.tails state.tails))
+        (tails_noted h valid a in_range accepted us on o v e t.tails state.tails) told
 
     -- THE STEP on its own object
     pub state_more : TellsLast (h ++ a ∷ []) (with_op (h ++ a ∷ []) a (length h) m t).parts m → IsStateOf (h ++ a ∷ []) (us ++ length h ∷ []) (with_op (h ++ a ∷ []) a (length h) m t)

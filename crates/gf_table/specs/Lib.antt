@@ -1,5 +1,6 @@
 pub mod Tails
-pub mod ObjectState
+pub mod Subjects
+pub mod SubjectState
 pub mod Standing
 pub mod Prints
 pub mod Others

@@ -1,4 +1,4 @@
--- The next operation behind a history, and the parts of its object. No public clause cites this module.
+-- The next operation behind a history, and the parts of its subject. No public clause cites this module.
 use Rattle.std.specs.Prelude.{◌≡◌, ◌↔◌, ℕ, Bool, true, not, ◌&&◌, List, [], ◌∷◌, ◌++◌, Contains, length, Option, slice_get}
 use Rattle.gf_ops.specs.declared.op.Op.{Op}
 use Rattle.gf_ops.specs.declared.op.ObjectId.{ObjectId}
@@ -14,7 +14,7 @@ use Rattle.gf_parts.specs.Parted.{AreParts}
 use Rattle.gf_parts.specs.Parts.{PartsState, whole}
 use Rattle.gf_table.specs.Summaries.{SummaryState, TellsLast}
 
--- g is a history with a behind it, at the position n; s are the parts of a's object in that history, and m tells of the last one
+-- g is a history with a behind it, at the position n; s are the parts of operations on a's object in that history, and m tells of the last one
 pub record IsNextOf (g : List Op) (a : Op) (n : ℕ) (s : PartsState) (m : Option SummaryState) : Type 0 where
   pub history : List Op
   pub longer : g ≡ history ++ a ∷ []
@@ -23,7 +23,7 @@ pub record IsNextOf (g : List Op) (a : Op) (n : ℕ) (s : PartsState) (m : Optio
   pub in_range : IsInRange a
   pub accepted : IsAccepted history a
   pub us : List ℕ
-  pub all : (i : ℕ) → Contains us i ↔ (is_on (object_of a) (slice_get history i) ≡ true)
+  pub on : (i : ℕ) → Contains us i → is_on (object_of a) (slice_get history i) ≡ true
   pub parts : AreParts (conflict_at history) s
   pub positions : (i : ℕ) → Contains (whole s).all i ↔ Contains us i
   pub told : TellsLast history s m

@@ -1,7 +1,7 @@
--- When a table stands for a history: for each object it has the parts of the object's operations, the tails of their setters, and a summary that tells of the last part.
+-- When a table stands for a history: for each subject it has the parts of the operations about it, the tails of their setters, and a summary that tells of the last part.
 use Rattle.std.specs.Prelude.{◌≡◌, ◌≢◌, ◌⊎◌, ◌↔◌, ℕ, ◌≤◌, true, cond, List, [], AllPairs, Contains, length, Option, Some, None, option_map, slice_get}
 use Rattle.std.specs.BTreeMap.{is_at}
-use Rattle.std.specs.List.{IsDistinct}
+use Rattle.std.specs.List.{IsDistinct, fold, filter_map}
 use Rattle.std.specs.Map.{lookup}
 use Rattle.gf_ops.specs.declared.op.Op.{Op}
 use Rattle.gf_ops.specs.declared.op.ObjectId.{ObjectId}
@@ -11,13 +11,13 @@ use Rattle.gf_ops.specs.declared.change.Attr.{Attr}
 use Rattle.gf_ops.specs.Attribute.{attribute_of}
 use Rattle.gf_groups.specs.declared.group.Group.{Group}
 use Rattle.gf_groups.specs.Growing.{conflict_at}
-use Rattle.gf_groups.specs.GroupedPositions.{positions_below}
-use Rattle.gf_groups.specs.Parting.{object_cmp}
 use Rattle.gf_groups.specs.Versions.{IsVersionGroup}
 use Rattle.gf_parts.specs.Parted.{AreParts}
-use Rattle.gf_parts.specs.Parts.{PartsState, whole}
+use Rattle.gf_parts.specs.Parts.{PartsState, whole, no_parts, together}
 use Rattle.gf_table.specs.declared.tails.Tail.{Tail}
-use Rattle.gf_table.specs.ObjectState.{ObjectState}
+use Rattle.gf_table.specs.declared.subject.Subject.{Subject}
+use Rattle.gf_table.specs.Subjects.{kinds, subject_cmp, positions_about}
+use Rattle.gf_table.specs.SubjectState.{SubjectState}
 use Rattle.gf_table.specs.Summaries.{TellsLast}
 use Rattle.gf_table.specs.Tails.{is_of, are_one}
 
@@ -58,32 +58,41 @@ pub record AreTails (h : List Op) (us : List ℕ) (es : List Tail) : Type 0 wher
   pub once : IsDistinct are_one es
 
 -- the state is that of the operations of h at the positions us
-pub record IsStateOf (h : List Op) (us : List ℕ) (t : ObjectState) : Type 0 where
+pub record IsStateOf (h : List Op) (us : List ℕ) (t : SubjectState) : Type 0 where
   pub parts : AreParts (conflict_at h) t.parts
   pub positions : (i : ℕ) → Contains (whole t.parts).all i ↔ Contains us i
   pub tails : AreTails h us t.tails
   pub summary : TellsLast h t.parts t.summary
 
--- the table's state of an object, if it has one, is that of the positions us, and else there is no position
-abbrev pub Stands : List Op → List ℕ → Option ObjectState → Type 0
+-- the table's state of a subject, if it has one, is that of the positions us, and else there is no position
+abbrev pub Stands : List Op → List ℕ → Option SubjectState → Type 0
 Stands h us (Some t) = IsStateOf h us t
 Stands h us None = us ≡ []
 
--- what the table has for the object o
-abbrev pub state_of : List (ObjectId × ObjectState) → ObjectId → Option ObjectState
-state_of t o = lookup (is_at (object_cmp o)) t
+-- what the table has for the subject k
+abbrev pub state_of : List (Subject × SubjectState) → Subject → Option SubjectState
+state_of t k = lookup (is_at (subject_cmp k)) t
 
--- the parts that the table has for the object o
-abbrev pub parts_of : List (ObjectId × ObjectState) → ObjectId → Option PartsState
-parts_of t o = option_map (λ (s : ObjectState). s.parts) (state_of t o)
+-- the table s is t with this state of the subject k
+abbrev pub Puts : List (Subject × SubjectState) → Subject → SubjectState → List (Subject × SubjectState) → Type 0
+Puts t k r s = (l : Subject) → state_of s l ≡ cond (is_at (subject_cmp k) l) (Some r) (state_of t l)
 
--- the table s is t with this state of the object o
-abbrev pub Puts : List (ObjectId × ObjectState) → ObjectId → ObjectState → List (ObjectId × ObjectState) → Type 0
-Puts t o r s = (q : ObjectId) → state_of s q ≡ cond (is_at (object_cmp o) q) (Some r) (state_of t q)
+-- the table has for each subject the state of the operations of h about it
+abbrev pub StandsFor : List Op → List (Subject × SubjectState) → Type 0
+StandsFor h t = (k : Subject) → Stands h (positions_about h k (length h)) (state_of t k)
 
--- the table has for each object the state of its operations in h
-abbrev pub StandsFor : List Op → List (ObjectId × ObjectState) → Type 0
-StandsFor h t = (o : ObjectId) → Stands h (positions_below h o (length h)) (state_of t o)
+-- the parts that the table has of one kind of operations on the object o
+abbrev pub parts_at : List (Subject × SubjectState) → ObjectId → Option Attr → Option PartsState
+parts_at t o k = option_map (λ (s : SubjectState). s.parts) (state_of t (record { object = o; attribute = k }))
+
+-- all parts that the table has for the object o
+abbrev pub parts_of : List (Subject × SubjectState) → ObjectId → PartsState
+parts_of t o = fold together no_parts (filter_map (parts_at t o) kinds)
+
+-- s are the parts of the operations of h at the positions us
+pub record ArePartsOf (h : List Op) (us : List ℕ) (s : PartsState) : Type 0 where
+  pub parts : AreParts (conflict_at h) s
+  pub positions : (i : ℕ) → Contains (whole s).all i ↔ Contains us i
 
 -- the groups are the versions of the object o of h, each once
 pub record AreAllOf (h : List Op) (o : ObjectId) (groups : List Group) : Type 0 where

@@ -1,6 +1,6 @@
 //! The law of the table, the contract of a function that does nothing.
 
-ghost use Rattle.std.specs.Prelude.{◌≡◌, List, Some, map};
+ghost use Rattle.std.specs.Prelude.{List, map};
 ghost use Rattle.gf_ops.specs.declared.op.Op.{Op};
 ghost use Rattle.gf_ops.specs.declared.op.ObjectId.{ObjectId};
 ghost use Rattle.gf_ops.specs.ValidHistory.{IsValid};
@@ -8,12 +8,13 @@ ghost use Rattle.gf_groups.specs.Growing.{conflict_at};
 ghost use Rattle.gf_groups.specs.GroupedPositions.{group_at};
 ghost use Rattle.gf_groups.specs.Versions.{IsMade};
 ghost use Rattle.gf_parts.specs.Parts.{listed};
-ghost use Rattle.gf_table.specs.ObjectState.{ObjectState};
-ghost use Rattle.gf_table.specs.Standing.{StandsFor, AreAllOf, state_of};
+ghost use Rattle.gf_table.specs.declared.subject.Subject.{Subject};
+ghost use Rattle.gf_table.specs.SubjectState.{SubjectState};
+ghost use Rattle.gf_table.specs.Standing.{StandsFor, AreAllOf, parts_of};
 
 /// The versions of an object are exactly what is free with one set of each part, each once.
 pub fn the_versions_are_what_is_free_with_one_set_of_each_part()
-    ensures { (h : List Op) (t : List (ObjectId × ObjectState)) (o : ObjectId) (s : ObjectState)
-        → IsValid h → StandsFor h t → IsMade h o → state_of t o ≡ Some s
-        → AreAllOf h o (map (group_at h o) (listed (conflict_at h) s.parts)) }
+    ensures { (h : List Op) (t : List (Subject × SubjectState)) (o : ObjectId)
+        → IsValid h → StandsFor h t → IsMade h o
+        → AreAllOf h o (map (group_at h o) (listed (conflict_at h) (parts_of t o))) }
 {}

@@ -7,10 +7,10 @@
 
 mod joining;
 mod laws;
-mod object;
 mod others;
 mod prints;
 mod spans;
+mod subject;
 mod summary;
 mod table;
 mod tails;

@@ -1,43 +1,54 @@
 //! The versions of all objects of a history in parts, one operation at a time.
 
-ghost use Rattle.std.specs.Prelude.{◌≡◌, ◌↔◌, ◌∷◌, [], ◌++◌, length, Err, option_copied, IfOk};
-ghost use Rattle.std.specs.Prelude.{OnOk, OnErr};
+ghost use Rattle.std.specs.Prelude.{◌≡◌, ◌↔◌, ◌∷◌, [], ◌++◌, length, map, Err, IfOk, OnOk, OnErr};
+ghost use Rattle.std.specs.List.{filter_map};
 ghost use Rattle.std.specs.BTreeMap.{insert_entry};
 ghost use Rattle.gf_ops.specs.Accepted.{IsAccepted};
 ghost use Rattle.gf_ops.specs.Limits.{IsInRange};
 ghost use Rattle.gf_groups.specs.declared.faults.GroupFault.{GroupFault};
 ghost use Rattle.gf_groups.specs.Growing.{conflict_at};
 ghost use Rattle.gf_groups.specs.GroupedPositions.{positions_below};
-ghost use Rattle.gf_groups.specs.Parting.{object_cmp};
 ghost use Rattle.gf_groups.specs.Tables.{IsTable};
 ghost use Rattle.gf_groups.specs.Versions.{IsMade, AreVersions};
-ghost use Rattle.gf_table.specs.Standing.{StandsFor, Puts, parts_of};
+ghost use Rattle.gf_table.specs.Standing.{StandsFor, Puts, parts_at, parts_of};
+ghost use Rattle.gf_table.specs.Subjects.{kinds, subject_cmp};
 
-use crate::object::ObjectTable;
+use crate::subject::{Subject, SubjectTable};
 use gf_groups::{GroupFault, Groups, Positions, Timeline, groups_from, is_made};
-use gf_ops::{History, ObjectId, Op};
-use gf_parts::Parts;
+use gf_ops::{Attr, History, ObjectId, Op};
+use gf_parts::{Parts, Together};
 use gf_shape::OutOfMemory;
 use std::alloc::Global;
 use std::collections::BTreeMap;
 use std::marker::Model;
 
-/// For each object of a history its operations in parts, seen as the list of objects with their
-/// states.
+/// What an operation on an object may be about.
+const KINDS: [Option<Attr>; 7] = [
+    None,
+    Some(Attr::Place),
+    Some(Attr::Points),
+    Some(Attr::Size),
+    Some(Attr::Colour),
+    Some(Attr::Layer),
+    Some(Attr::Shown),
+];
+
+/// For each subject of a history the operations about it in parts, seen as the list of subjects with
+/// their states.
 #[derive(Debug, Drop)]
 pub struct GroupTable {
     alloc: Global,
-    objects: BTreeMap<ObjectId, ObjectTable>,
+    subjects: BTreeMap<Subject, SubjectTable>,
 }
 
 impl Model for GroupTable {
     ghost use Rattle.std.specs.Prelude.{List};
-    ghost use Rattle.gf_ops.specs.declared.op.ObjectId.{ObjectId};
-    ghost use Rattle.gf_table.specs.ObjectState.{ObjectState};
+    ghost use Rattle.gf_table.specs.declared.subject.Subject.{Subject};
+    ghost use Rattle.gf_table.specs.SubjectState.{SubjectState};
 
-    ghost Value = { List (ObjectId × ObjectState) };
+    ghost Value = { List (Subject × SubjectState) };
 
-    ghost view = { λ t. t.objects.entries };
+    ghost view = { λ t. t.subjects.entries };
 }
 
 impl GroupTable {
@@ -47,7 +58,7 @@ impl GroupTable {
     {
         GroupTable {
             alloc,
-            objects: BTreeMap::new(alloc),
+            subjects: BTreeMap::new(alloc),
         }
     }
 
@@ -55,19 +66,19 @@ impl GroupTable {
     pub fn copy(&self, alloc: Global) -> Result<GroupTable, OutOfMemory>
         ensures { IfOk result (λ copy. copy ≡ self.now) }
     {
-        let mut objects = BTreeMap::new(alloc);
-        for (object, state) in &self.objects {
+        let mut subjects = BTreeMap::new(alloc);
+        for (subject, state) in &self.subjects {
             let state = state.copy(alloc)?;
-            put(&mut objects, *object, state)?;
+            put(&mut subjects, *subject, state)?;
         }
-        Ok(GroupTable { alloc, objects })
+        Ok(GroupTable { alloc, subjects })
     }
 
     /// Adds an operation that the history may add. One that conflicts with nothing is found so by
     /// two looks for each site that set its attribute of the object. Another one joins a set of the
     /// last part by a few looks for each of its sets, where what is kept of these tells that it
-    /// does; else it is compared with all of its object, and no more sets are made than a part may
-    /// keep.
+    /// does; else it is compared with those that set its attribute of the object, and no more sets
+    /// are made than a part may keep.
     pub fn add(&mut self, history: &History, op: &Op) -> Result<(), OutOfMemory>
         requires in_range { IsInRange op.now }
         requires accepted { IsAccepted history.now.ops op.now }
@@ -78,22 +89,34 @@ impl GroupTable {
         // Its clause says that the history is valid.
         let position = history.ops().len();
         let timeline = Timeline::with(history, op);
-        if let Some(state) = self.objects.get_mut(&op.object()) {
+        let subject = Subject::of(op);
+        if let Some(state) = self.subjects.get_mut(&subject) {
             return state.add(self.alloc, &timeline, op, position);
         }
-        let mut state = ObjectTable::new(self.alloc);
+        let mut state = SubjectTable::new(self.alloc);
         state.add(self.alloc, &timeline, op, position)?;
-        put(&mut self.objects, op.object(), state)
+        put(&mut self.subjects, subject, state)
     }
 
-    /// The operations on an object in parts, if it has some.
-    pub fn parts(&self, object: ObjectId) -> Option<&Parts>
-        ensures { option_copied result ≡ parts_of self.now object }
+    /// The parts of the operations on an object, those of each attribute.
+    fn kinds(&self, alloc: Global, object: ObjectId) -> Result<Vec<&Parts>, OutOfMemory>
+        ensures { IfOk result (λ found.
+            map (λ s. s.now) found.items ≡ filter_map (parts_at self.now object) kinds) }
     {
-        match self.objects.get(&object) {
-            Some(state) => Some(&state.parts),
-            None => None,
+        let mut found = Vec::new(alloc);
+        for attribute in KINDS {
+            if let Some(state) = self.subjects.get(&Subject { object, attribute }) {
+                add_parts(state, &mut found)?;
+            }
         }
+        Ok(found)
+    }
+
+    /// The operations on an object in parts, none where it has none.
+    pub fn parts(&self, alloc: Global, object: ObjectId) -> Result<Together<'_>, OutOfMemory>
+        ensures { IfOk result (λ parts. parts ≡ parts_of self.now object) }
+    {
+        Together::of(alloc, &self.kinds(alloc, object)?)
     }
 
     /// The versions of an object, as `groups_of` gives them. The table has positions, and the
@@ -144,25 +167,33 @@ impl GroupTable {
             IsTable (conflict_at history.now.ops)
             (positions_below history.now.ops object (length history.now.ops)) sets.items) }
     {
-        match self.objects.get(&object) {
-            Some(state) => state.parts.listed(alloc, history),
-            None => Ok(Vec::from_array(alloc, [Positions::new(alloc)])?),
-        }
+        // Its clause says that the history is valid.
+        let _ = history.ops();
+        self.parts(alloc, object)?.listed(alloc, history)
     }
 }
 
-/// Puts the state under the object.
-fn put(
-    objects: &mut BTreeMap<ObjectId, ObjectTable>,
-    object: ObjectId,
-    state: ObjectTable,
-) -> Result<(), OutOfMemory>
-    ensures entries { OnOk result (objects.new.entries
-        ≡ insert_entry object_cmp objects.old.entries object state) }
-    ensures states { OnOk result (Puts objects.old.entries object state objects.new.entries) }
-    ensures err { OnErr result (objects.new.entries ≡ objects.old.entries) }
+/// Adds the parts of the state.
+fn add_parts<'a>(state: &'a SubjectTable, found: &mut Vec<&'a Parts>) -> Result<(), OutOfMemory>
+    ensures { OnOk result (map (λ s. s.now) found.new.items
+        ≡ map (λ s. s.now) found.old.items ++ state.now.parts ∷ []) }
 {
-    match objects.insert(object, state) {
+    found.push(&state.parts)?;
+    Ok(())
+}
+
+/// Puts the state under the subject.
+fn put(
+    subjects: &mut BTreeMap<Subject, SubjectTable>,
+    subject: Subject,
+    state: SubjectTable,
+) -> Result<(), OutOfMemory>
+    ensures entries { OnOk result (subjects.new.entries
+        ≡ insert_entry subject_cmp subjects.old.entries subject state) }
+    ensures states { OnOk result (Puts subjects.old.entries subject state subjects.new.entries) }
+    ensures err { OnErr result (subjects.new.entries ≡ subjects.old.entries) }
+{
+    match subjects.insert(subject, state) {
         Ok(_) => Ok(()),
         Err(_) => Err(OutOfMemory),
     }

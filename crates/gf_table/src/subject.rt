@@ -1,45 +1,70 @@
-//! What the table has of one object.
+//! What an operation is about, and what the table has of that.
 
 ghost use Rattle.std.specs.Prelude.{◌≡◌, cond, IfOk, OnOk, OnErr};
 ghost use Rattle.gf_groups.specs.Growing.{conflict_at};
 ghost use Rattle.gf_parts.specs.Parts.{with_free, with_part};
 ghost use Rattle.gf_table.specs.Next.{IsNextOf, Gives};
-ghost use Rattle.gf_table.specs.ObjectState.{nothing, with_setter, with_op};
+ghost use Rattle.gf_table.specs.Subjects.{subject_of};
+ghost use Rattle.gf_table.specs.SubjectState.{nothing, with_setter, with_op};
 ghost use Rattle.gf_table.specs.Summaries.{TellsLast};
 
 use crate::joining::{add_free, connect};
 use crate::summary::{Summary, copied};
 use crate::tails::{Tail, hits_one, note};
 use gf_groups::Timeline;
-use gf_ops::{Change, Op, Value};
+use gf_ops::{Attr, Change, ObjectId, Op, Value};
 use gf_parts::Parts;
 use gf_shape::OutOfMemory;
 use std::alloc::Global;
 use std::marker::Model;
 
-/// The positions of the operations on an object in parts, the tails of its setters, and mostly a
+/// What an operation is about: an object that it makes, or an attribute that it sets of one.
+/// Operations about two subjects never conflict.
+#[derive(Clone, Copy, Debug, PartialEq, Eq, PartialOrd, Ord)]
+pub struct Subject {
+    pub object: ObjectId,
+    pub attribute: Option<Attr>,
+}
+
+impl Subject {
+    /// What the operation is about.
+    pub(crate) fn of(op: &Op) -> Subject
+        ensures { result ≡ subject_of op.now }
+    {
+        let attribute = match &op.change {
+            Change::Create(_) => None,
+            Change::Set { value, .. } => Some(value.attribute()),
+        };
+        Subject {
+            object: op.object(),
+            attribute,
+        }
+    }
+}
+
+/// The positions of the operations about a subject in parts, the tails of its setters, and mostly a
 /// summary of the last part.
 #[derive(Debug, Drop)]
-pub(crate) struct ObjectTable {
+pub(crate) struct SubjectTable {
     pub(crate) parts: Parts,
     tails: Vec<Tail>,
     summary: Option<Summary>,
 }
 
-impl Model for ObjectTable {
-    ghost use Rattle.gf_table.specs.ObjectState.{ObjectState};
+impl Model for SubjectTable {
+    ghost use Rattle.gf_table.specs.SubjectState.{SubjectState};
 
-    ghost Value = { ObjectState };
+    ghost Value = { SubjectState };
 
     ghost view = { λ t. record { parts = t.parts; tails = t.tails.items; summary = t.summary } };
 }
 
-impl ObjectTable {
+impl SubjectTable {
     /// Of no operation.
-    pub(crate) fn new(alloc: Global) -> ObjectTable
+    pub(crate) fn new(alloc: Global) -> SubjectTable
         ensures { result ≡ nothing }
     {
-        ObjectTable {
+        SubjectTable {
             parts: Parts::new(alloc),
             tails: Vec::new(alloc),
             summary: None,
@@ -47,14 +72,14 @@ impl ObjectTable {
     }
 
     /// The same once more.
-    pub(crate) fn copy(&self, alloc: Global) -> Result<ObjectTable, OutOfMemory>
+    pub(crate) fn copy(&self, alloc: Global) -> Result<SubjectTable, OutOfMemory>
         ensures { IfOk result (λ copy. copy ≡ self.now) }
     {
         let parts = self.parts.copy(alloc)?;
         let mut tails = Vec::new(alloc);
         tails.extend_from_slice(&self.tails)?;
         let summary = copied(alloc, &self.summary)?;
-        Ok(ObjectTable {
+        Ok(SubjectTable {
             parts,
             tails,
             summary,

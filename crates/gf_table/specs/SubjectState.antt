@@ -1,4 +1,4 @@
--- What the table has of one object: the positions of its operations in parts, the tails of its setters, and a summary of the last part.
+-- What the table has of one subject: the positions of the operations about it in parts, the tails of its setters, and a summary of the last part.
 use Rattle.std.specs.Prelude.{ℕ, cond, List, [], Option, None}
 use Rattle.gf_ops.specs.declared.op.Op.{Op}
 use Rattle.gf_ops.specs.declared.change.Change.{Change}
@@ -11,17 +11,17 @@ use Rattle.gf_table.specs.declared.tails.Tail.{Tail}
 use Rattle.gf_table.specs.Summaries.{SummaryState}
 use Rattle.gf_table.specs.Tails.{hits_one, noted}
 
-pub record ObjectState : Type 0 where
+pub record SubjectState : Type 0 where
   pub parts : PartsState
   pub tails : List Tail
   pub summary : Option SummaryState
 
 -- of no operation
-abbrev pub nothing : ObjectState
+abbrev pub nothing : SubjectState
 nothing = record { parts = record { free = []; parts = [] }; tails = []; summary = None }
 
 -- the operation of h at the position n, of the site s, gives v; then the summary is m
-abbrev pub with_setter : List Op → ℕ → Value → ℕ → Option SummaryState → ObjectState → ObjectState
+abbrev pub with_setter : List Op → ℕ → Value → ℕ → Option SummaryState → SubjectState → SubjectState
 with_setter h s v n m t = record {
   parts = cond (hits_one (conflict_at h) (attribute_of v) n t.tails) (with_part (conflict_at h) n t.parts) (with_free n t.parts);
   tails = noted h s v n t.tails;
@@ -29,10 +29,10 @@ with_setter h s v n m t = record {
 }
 
 -- the operation of h at the position n, of the site s, makes the change
-abbrev pub with_change : List Op → ℕ → Change → ℕ → Option SummaryState → ObjectState → ObjectState
+abbrev pub with_change : List Op → ℕ → Change → ℕ → Option SummaryState → SubjectState → SubjectState
 with_change h s (Create start) n m t = record { parts = with_free n t.parts; tails = t.tails; summary = m }
 with_change h s (Set o v) n m t = with_setter h s v n m t
 
 -- the operation of h at the position n is a
-abbrev pub with_op : List Op → Op → ℕ → Option SummaryState → ObjectState → ObjectState
+abbrev pub with_op : List Op → Op → ℕ → Option SummaryState → SubjectState → SubjectState
 with_op h a n m t = with_change h a.id.site a.change n m t
