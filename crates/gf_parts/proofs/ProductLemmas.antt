@@ -12,6 +12,8 @@ use Rattle.std.proofs.lemmas.Cmp.{nat_cmp_total}
 use Rattle.std.proofs.lemmas.Map.Lookups.{exact_unsigned}
 use Rattle.std.proofs.lemmas.Map.Keys.{sorted_from_all_adjacent}
 use Rattle.std.proofs.lemmas.List.{append-nil}
+use Rattle.std.proofs.lemmas.List.Sorted.{Contains-permutation, IsPermutation-sym}
+use Rattle.std.specs.List.Sorted.{IsPermutation}
 use Rattle.std.proofs.lemmas.List.Elements.{All-contains, Contains-append_cases, Contains-append_left, Contains-append_right}
 use Rattle.std.proofs.lemmas.List.Kept.{IsStrictlySortedBy-filter}
 use Rattle.gf_ops.proofs.ListLemmas.{Contains-cons_cases, Contains-cons_head, Contains-cons_tail, not_Contains-nil, Contains-map, Contains-map_from}
@@ -102,6 +104,14 @@ united_alone g rises =
     one_rising nat_cmp nat_cmp_total (united g []) g (united_rises g []) rises (λ a. (
       λ h. elim ((Contains-united g [] a).0 h) [ inl i ↦ i | inr n ↦ absurd (not_Contains-nil a n) ],
       λ i. (Contains-united g [] a).1 (inl i),
+    ))
+
+-- what is inserted in another order comes to the same
+pub inserted_sorted : (g k : List ℕ) → IsPermutation g k → united k [] ≡ united g []
+inserted_sorted g k same =
+    one_rising nat_cmp nat_cmp_total (united k []) (united g []) (united_rises k []) (united_rises g []) (λ a. (
+      λ h. (Contains-united g [] a).1 (elim ((Contains-united k [] a).0 h) [ inl i ↦ inl (Contains-permutation k g a (IsPermutation-sym g k same) i) | inr n ↦ inr n ]),
+      λ h. (Contains-united k [] a).1 (elim ((Contains-united g [] a).0 h) [ inl i ↦ inl (Contains-permutation g k a same i) | inr n ↦ inr n ]),
     ))
 
 -- what is above the one before it everywhere rises

@@ -156,7 +156,7 @@ fn copied_sets(alloc: Global, sets: &[Positions]) -> Result<Vec<Positions>, OutO
 }
 
 /// Inserts these positions too.
-pub(crate) fn insert_all(positions: &[usize], set: &mut BTreeSet<usize>) -> Result<(), OutOfMemory>
+fn insert_all(positions: &[usize], set: &mut BTreeSet<usize>) -> Result<(), OutOfMemory>
     ensures { OnOk result (set.new.keys ≡ fold (insert_key nat_cmp) set.old.keys positions.now) }
 {
     for position in positions {

@@ -8,12 +8,11 @@ ghost use Rattle.gf_parts.specs.Parted.{AreParts};
 ghost use Rattle.gf_parts.specs.Parts.{no_parts, together, full, listed, products};
 
 use crate::parts::{Part, Parts};
-use crate::sets::{copied, insert_all, products};
+use crate::sets::{copied, products, united};
 use gf_groups::{Positions, groups_at};
 use gf_ops::History;
 use gf_shape::OutOfMemory;
 use std::alloc::Global;
-use std::collections::BTreeSet;
 use std::marker::Model;
 
 /// All that is free in some [`Parts`], rising, and all their parts.
@@ -48,16 +47,15 @@ impl<'a> Together<'a> {
     pub fn of(alloc: Global, kinds: &[&'a Parts]) -> Result<Together<'a>, OutOfMemory>
         ensures { IfOk result (λ all. all ≡ fold together no_parts (map (λ s. s.now) kinds.now)) }
     {
-        let mut free = BTreeSet::new(alloc);
+        let mut free = Vec::new(alloc);
         let mut parts = Vec::new(alloc);
         for kind in kinds {
-            insert_all(kind.free(), &mut free)?;
+            free.extend_from_slice(kind.free())?;
             add_parts(kind, &mut parts)?;
         }
-        Ok(Together {
-            free: Positions::of(free.into_iter().collect(alloc)?),
-            parts,
-        })
+        free.sort_unstable();
+        let free = united(alloc, &free, &[])?;
+        Ok(Together { free, parts })
     }
 
     /// The positions that are in every version, rising.
