@@ -31,7 +31,6 @@ use Rattle.gf_parts.proofs.PartsLemmas.{all_of_fold}
 use Rattle.gf_table.specs.declared.prints.Print.{Print}
 use Rattle.gf_table.specs.declared.spans.Span.{Span}
 use Rattle.gf_table.specs.Next.{IsNextOf, Gives, IsInOne, HasRival}
-use Rattle.gf_table.specs.Standing.{IsSetter}
 use Rattle.gf_table.specs.Others.{CountsOthers}
 use Rattle.gf_table.specs.Summaries.{SummaryState, TellsOf, TellsParts, TellsLast, IsJoined, NotesIn}
 use Rattle.gf_table.specs.Spans.{Spans, Widens, TellsSet, TellsSets, Stays, AllStay, OneKnown}
@@ -75,8 +74,7 @@ module _ (h : List Op) (valid : IsValid h) (a : Op) (in_range : IsInRange a) (ac
     | inr n ↦
         let one : q.op ≡ op = one_op (slice_get h b) q.op op q.at at in
         let g : GivesPrint op t p = subst (λ (x : Op). GivesPrint x t p) one q.gives in
-        let set : IsSetter op (attribute_of v) op.id.site g.given = record { object = g.object; change = g.change; attribute = g.attribute ∙ sym same; site = refl } in
-        let hit = meets h valid a in_range accepted us on o v gives b op op.id.site g.given m at set (differs v g.given p ps fresh i g.print) (λ (y : Precedes op a).
+        let hit = meets h valid a in_range accepted us on o v gives b op g.object g.given m at g.change (g.attribute ∙ sym same) (differs v g.given p ps fresh i g.print) (λ (y : Precedes op a).
         let k = leb-false op.id.seq (entry a.past op.id.site) n in
         absurd (omega (arith, k, y))) in
         absurd cc

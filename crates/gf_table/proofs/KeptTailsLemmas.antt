@@ -1,45 +1,42 @@
 -- Tails stay true in a history that got longer.
-use Rattle.std.proofs.Common.{◌≡◌, ℕ, ◌<◌, List, [], ◌∷◌, ◌++◌, length, inl, inr, refl, sym, ◌∙◌}
-use Rattle.std.specs.Prelude.{Contains, Some, slice_get}
+use Rattle.std.proofs.Common.{◌≡◌, ℕ, ◌<◌, List, [], ◌∷◌, ◌++◌, length, sym, ◌∙◌}
+use Rattle.std.specs.Prelude.{Contains}
 use Rattle.gf_ops.specs.declared.op.Op.{Op}
+use Rattle.gf_ops.specs.declared.op.OpId.{OpId}
 use Rattle.gf_ops.specs.declared.change.Value.{Value}
 use Rattle.gf_table.specs.declared.tails.Tail.{Tail}
-use Rattle.gf_table.specs.Standing.{HasSetter, IsTold, AreTails}
+use Rattle.gf_table.specs.Standing.{HasSetter, IsTail, AreTails}
 use Rattle.gf_table.proofs.LongerLemmas.{got_before, same_before}
 
 module _ (h : List Op) (a : Op) where
   abbrev new : List Op
   new = h ++ a ∷ []
 
-  -- a setter of one tail stands for another one of the same attribute and site
-  pub moved : (e f : Tail) (k n : ℕ) (u : Value) → e.attribute ≡ f.attribute → e.site ≡ f.site → HasSetter h e k n u → HasSetter new f k n u
-  moved e f k n u x y t = record {
-    op = t.op;
-    at = got_before h a k t.op t.at;
-    setter = record { object = t.setter.object; change = t.setter.change; attribute = t.setter.attribute ∙ x; site = t.setter.site ∙ y };
-    later = t.later;
-  }
+  -- a setter is one of the longer history, also at more positions
+  abbrev pub setter_longer : (us vs : List ℕ) → ((k : ℕ) → Contains us k → Contains vs k) → (i : OpId) (v : Value) → HasSetter h us i v → HasSetter new vs i v
+  setter_longer us vs f i v s = record { op = s.op; position = s.position; among = f s.position s.among; at = got_before h a s.position s.op s.at; id = s.id; object = s.object; change = s.change }
 
-  pub still_told : (e : Tail) (n : ℕ) (w : Value) → IsTold h e n w → IsTold new e n w
-  still_told e n w t = record {
+  -- what stands at a position below stood there
+  pub setter_before : (us vs : List ℕ) (i : OpId) (v : Value) (s : HasSetter new vs i v) → Contains us s.position → s.position < length h → HasSetter h us i v
+  setter_before us vs i v s m l = record { op = s.op; position = s.position; among = m; at = sym (same_before h a s.position l) ∙ s.at; id = s.id; object = s.object; change = s.change }
+
+  -- so is a tail, if no more setter is of its site
+  pub tail_longer : (us vs : List ℕ) → ((k : ℕ) → Contains us k → Contains vs k) → (e : Tail) → ((i : OpId) (v : Value) → HasSetter new vs i v → i.site ≡ e.last.site → HasSetter h us i v) → IsTail h us e → IsTail new vs e
+  tail_longer us vs f e back t = record {
     value = t.value;
-    last = moved e e e.last n t.value refl refl t.last;
-    kept = elim t.kept [
-      | inl k ↦ inl k
-      | inr k ↦ inr (record { position = k.position; value = k.value; kept = k.kept; there = moved e e k.position n k.value refl refl k.there; differs = k.differs })
-    ];
+    last = setter_longer us vs f e.last t.value t.last;
+    position = t.position;
+    other = λ k x. let w = t.other k x in (w.0, setter_longer us vs f (record { site = e.last.site; seq = k }) w.0 w.1, w.2);
+    tells = λ i w s same. t.tells i w (back i w s same) same;
   }
 
   module _ (us : List ℕ) (within : (i : ℕ) → Contains us i → i < length h) where
-    -- what stands at the positions stood there
-    pub before : (i : ℕ) (b : Op) → Contains us i → slice_get new i ≡ Some b → slice_get h i ≡ Some b
-    before i b m at = sym (same_before h a i (within i m)) ∙ at
+    back : (i : OpId) (v : Value) → HasSetter new us i v → HasSetter h us i v
+    back i v s = setter_before us us i v s s.among (within s.position s.among)
 
     pub tails_kept : (es : List Tail) → AreTails h us es → AreTails new us es
     tails_kept es tails = record {
-      last = tails.last;
-      other = tails.other;
-      some = λ i b t s v m at. tails.some i b t s v m (before i b m at);
-      tell = λ i b t s v e m at set c y. still_told e b.id.seq v (tails.tell i b t s v e m (before i b m at) set c y);
+      each = λ e m. tail_longer us us (λ k i. i) e (λ i v s same. back i v s) (tails.each e m);
+      some = λ i v s. tails.some i v (back i v s);
       once = tails.once;
     }

@@ -3,17 +3,17 @@ use Rattle.std.proofs.Common.{◌≡◌, ℕ, suc, ◌+◌, ◌<◌, ◌≤◌, 
 use Rattle.std.specs.Prelude.{◌⊎◌, Contains, cond, Some, None, slice_get, slice_set, unwrap_or}
 use Rattle.std.specs.List.{AllByRecursion, IsDistinct, find, position, position_or_len}
 use Rattle.std.proofs.lemmas.Bool.{cases_Bool, cases_lt, lt-ltb, le-ltb}
+use Rattle.std.proofs.lemmas.Bool.Decides.{Decides-eqb}
 use Rattle.std.proofs.lemmas.List.Elements.{All-contains, All-from_recursion}
 use Rattle.std.proofs.lemmas.List.Folds.{find_at}
 use Rattle.std.proofs.lemmas.Option.{slice_get-get_or, slice_get_past}
 use Rattle.std.proofs.lemmas.Map.Keys.{IsDistinct-head, IsDistinct-tail, IsDistinct-cons}
 use Rattle.gf_ops.proofs.ListLemmas.{Contains-cons_cases, Contains-cons_head, Contains-cons_tail, not_Contains-nil}
 use Rattle.gf_ops.specs.declared.op.Op.{Op}
+use Rattle.gf_ops.specs.declared.op.OpId.{OpId}
 use Rattle.gf_ops.specs.declared.change.Value.{Value}
-use Rattle.gf_ops.specs.Attribute.{attribute_of}
 use Rattle.gf_table.specs.declared.tails.Tail.{Tail}
 use Rattle.gf_table.specs.Tails.{is_of, are_one, put_tail, new_tail, noted}
-use Rattle.gf_table.proofs.QuickLemmas.{of_from, of_told}
 
 -- no tail, no two
 pub none_once : IsDistinct are_one []
@@ -65,9 +65,7 @@ module _ (e : Tail) where
 
   -- those behind the one that it replaces are others'
   rest : (d : Tail) (ds : List Tail) → are_one e d ≡ true → AllByRecursion (λ f. are_one d f ≡ false) ds → AllByRecursion (λ f. are_one e f ≡ false) ds
-  rest d ds y all =
-      let w = of_told e.attribute e.site d y in
-      subst (λ s. AllByRecursion (λ f. is_of e.attribute s f ≡ false) ds) w.1 (subst (λ t. AllByRecursion (λ f. is_of t d.site f ≡ false) ds) w.0 all)
+  rest d ds y all = subst (λ s. AllByRecursion (λ f. is_of s f ≡ false) ds) ((Decides-eqb d.last.site e.last.site).0 y) all
 
   -- it is in it, and else only others' are
   pub put_cases : (es : List Tail) → IsDistinct are_one es → (f : Tail) → Contains (put_tail e es) f → (Contains es f × (are_one e f ≡ false)) ⊎ (e ≡ f)
@@ -91,11 +89,11 @@ module _ (e : Tail) where
     ]
   ]
 
-  -- ---- no two of one attribute and one site
+  -- ---- no two of one site
 
   flipped : (d : Tail) → are_one e d ≡ false → are_one d e ≡ false
   flipped d n = elim (cases_Bool (are_one d e)) [
-    | inl y ↦ let w = of_told d.attribute d.site e y in let z = of_from e.attribute e.site d (sym w.0) (sym w.1) in absurd cc
+    | inl y ↦ let z = (Decides-eqb d.last.site e.last.site).1 (sym ((Decides-eqb e.last.site d.last.site).0 y)) in absurd cc
     | inr k ↦ k
   ]
 
@@ -133,20 +131,20 @@ found_nowhere p xs e = elim (cases_lt (position_or_len p xs) (length xs)) [
   | inr l ↦ l
 ]
 
-module _ (h : List Op) (s : ℕ) (v : Value) (n : ℕ) (es : List Tail) where
+module _ (h : List Op) (o : OpId) (v : Value) (n : ℕ) (es : List Tail) where
   abbrev own : Tail → Bool
-  own d = is_of (attribute_of v) s d
+  own d = is_of o.site d
 
-  pub noted_at : (i : ℕ) (d : Tail) → position own es ≡ Some i → slice_set es i (new_tail h s v n (Some (get_or es i d))) ≡ noted h s v n es
+  pub noted_at : (i : ℕ) (d : Tail) → position own es ≡ Some i → slice_set es i (new_tail h o v n (Some (get_or es i d))) ≡ noted h o v n es
   noted_at i d e =
       let w = found_at own es i e in
       let f : find own es ≡ Some (get_or es i d) = find_at own es ∙ (ap (slice_get es) w.0 ∙ slice_get-get_or es i d w.1) in
       let k = w.0 in
       let l = w.1 in
-      rw f (sym (put_at (new_tail h s v n (Some (get_or es i d))) es (omega (arith, k, l)) ∙ ap (λ j. slice_set es j (new_tail h s v n (Some (get_or es i d)))) k))
+      rw f (sym (put_at (new_tail h o v n (Some (get_or es i d))) es (omega (arith, k, l)) ∙ ap (λ j. slice_set es j (new_tail h o v n (Some (get_or es i d)))) k))
 
-  pub noted_behind : position own es ≡ None → es ++ new_tail h s v n None ∷ [] ≡ noted h s v n es
+  pub noted_behind : position own es ≡ None → es ++ new_tail h o v n None ∷ [] ≡ noted h o v n es
   noted_behind e =
       let l = found_nowhere own es e in
       let f : find own es ≡ None = find_at own es ∙ slice_get_past es (position_or_len own es) l in
-      rw f (sym (put_behind (new_tail h s v n None) es l))
+      rw f (sym (put_behind (new_tail h o v n None) es l))

@@ -1,10 +1,12 @@
 -- The tails of an object tell exactly whether the next operation conflicts with one on the object.
 use Rattle.std.proofs.Common.{◌≡◌, ◌≢◌, ℕ, ◌≤◌, Bool, true, false, List, [], ◌∷◌, ◌++◌, length, inl, inr, refl, subst, sym, ap, ◌∙◌, arith}
-use Rattle.std.specs.Prelude.{Contains, Option, Some, None, slice_get, unwrap_or, ◌||◌, ◌==◌}
-use Rattle.std.proofs.lemmas.Bool.{cases_Bool, and_parts, and_from, or_cases, or_left, or_right}
+use Rattle.std.specs.Prelude.{Contains, Option, Some, None, slice_get, unwrap_or, not, nat_le, ◌||◌}
+use Rattle.std.proofs.lemmas.Bool.{cases_Bool, and_parts, and_from, or_cases, or_left, or_right, leb-true, leb-false, not-true, not_from_false}
 use Rattle.std.proofs.lemmas.Bool.Decides.{Decides-eqb}
 use Rattle.gf_ops.specs.declared.op.Op.{Op}
+use Rattle.gf_ops.specs.declared.op.OpId.{OpId}
 use Rattle.gf_ops.specs.declared.op.ObjectId.{ObjectId}
+use Rattle.gf_ops.specs.declared.op.Clock.{Clock}
 use Rattle.gf_ops.specs.declared.change.Change.{Change}
 use Rattle.gf_ops.specs.declared.change.Change.TheVariants.{Create, Set}
 use Rattle.gf_ops.specs.declared.change.Value.{Value}
@@ -26,34 +28,26 @@ use Rattle.gf_groups.specs.GroupedPositions.{is_on}
 use Rattle.gf_groups.proofs.ListLemmas.{list_any_true, list_any_from}
 use Rattle.gf_groups.proofs.OnPositionLemmas.{conflict_from, conflict_with, contained_at, on_op}
 use Rattle.gf_table.specs.declared.tails.Tail.{Tail}
-use Rattle.gf_table.specs.Standing.{IsSetter, IsOvertaken, IsTold, AreTails}
-use Rattle.gf_table.specs.Tails.{attr_eq, is_of, hits_other, hits, hits_one}
+use Rattle.gf_table.specs.declared.subject.Subject.{Subject}
+use Rattle.gf_table.specs.Standing.{HasSetter, IsUpTo, IsTail, AreTails}
+use Rattle.gf_table.specs.Subjects.{attribute_set, subject_of, is_about}
+use Rattle.gf_table.specs.Tails.{op_gives, misses, hits, hits_one}
 use Rattle.gf_table.proofs.LongerLemmas.{got_last, got_before}
 use Rattle.gf_table.proofs.NextLemmas.{fresh, unknown}
+use Rattle.gf_table.proofs.SubjectLemmas.{about_op}
 
-pub attr_told : (t u : Attr) → attr_eq t u ≡ true → t ≡ u
-attr_told attr.Place attr.Place e = refl
-attr_told attr.Points attr.Points e = refl
-attr_told attr.Size attr.Size e = refl
-attr_told attr.Colour attr.Colour e = refl
-attr_told attr.Layer attr.Layer e = refl
-attr_told attr.Shown attr.Shown e = refl
-attr_told t u e = absurd cc
+-- where the clock does not count the number, it misses it
+pub missed : (past : Clock) (s k : ℕ) → ¬ (k ≤ entry past s) → misses past s (Some k) ≡ true
+missed past s k n = elim (cases_Bool (nat_le k (entry past s))) [
+  | inl y ↦ absurd (n (leb-true k (entry past s) y))
+  | inr f ↦ not_from_false (nat_le k (entry past s)) f
+]
 
-pub attr_same : (t : Attr) → attr_eq t t ≡ true
-attr_same attr.Place = refl
-attr_same attr.Points = refl
-attr_same attr.Size = refl
-attr_same attr.Colour = refl
-attr_same attr.Layer = refl
-attr_same attr.Shown = refl
-
--- whose tail it is
-pub of_told : (t : Attr) (s : ℕ) (e : Tail) → is_of t s e ≡ true → (e.attribute ≡ t) × (e.site ≡ s)
-of_told t s e y = let w = and_parts (attr_eq e.attribute t) (e.site == s) y in (attr_told e.attribute t w.0, (Decides-eqb e.site s).0 w.1)
-
-pub of_from : (t : Attr) (s : ℕ) (e : Tail) → e.attribute ≡ t → e.site ≡ s → is_of t s e ≡ true
-of_from t s e x y = and_from (attr_eq e.attribute t) (e.site == s) (subst (λ u. attr_eq u t ≡ true) (sym x) (attr_same t)) ((Decides-eqb e.site s).1 y)
+pub not_counted : (past : Clock) (s k : ℕ) → misses past s (Some k) ≡ true → ¬ (k ≤ entry past s)
+not_counted past s k m l =
+    let f = not-true (nat_le k (entry past s)) m in
+    let g = leb-false k (entry past s) f in
+    omega (arith, l, g)
 
 set_itself : (v : Value) → set_value v (attribute_of v) ≡ Some v
 set_itself (value.Place p) = refl
@@ -108,8 +102,8 @@ module _ (h : List Op) (valid : IsValid h) (a : Op) (in_range : IsInRange a) (ac
 
   module _ (o : ObjectId) (v : Value) (gives : a.change ≡ Set o v) where
     -- a setter of another value that a does not know conflicts with it
-    pub meets : (k : ℕ) (b : Op) (s : ℕ) (u : Value) → Contains us k → slice_get h k ≡ Some b → IsSetter b (attribute_of v) s u → u ≢ v → ¬ (Precedes b a) → c (length h) k ≡ true
-    meets k b s u m at set differ later =
+    pub meets : (k : ℕ) (b : Op) (p : ObjectId) (u : Value) → Contains us k → slice_get h k ≡ Some b → b.change ≡ Set p u → attribute_of u ≡ attribute_of v → u ≢ v → ¬ (Precedes b a) → c (length h) k ≡ true
+    meets k b p u m at change same_attribute differ later =
         let inside = contained_at h k b at in
         let w = there k m in
         let same : w.0 ≡ b = one_op (slice_get h k) w.0 b w.1 at in
@@ -121,38 +115,57 @@ module _ (h : List Op) (valid : IsValid h) (a : Op) (in_range : IsInRange a) (ac
             first = v;
             second = u;
             first_given = subst (λ q. change_value q (attribute_of v) ≡ Some v) (sym gives) (set_itself v);
-            second_given = subst (λ q. change_value q (attribute_of v) ≡ Some u) (sym set.change) (subst (λ q. set_value u q ≡ Some u) set.attribute (set_itself u));
+            second_given = subst (λ q. change_value q (attribute_of v) ≡ Some u) (sym change) (subst (λ q. set_value u q ≡ Some u) same_attribute (set_itself u));
             differ = λ e. differ (sym e);
           };
         })
 
-    module _ (es : List Tail) (tails : AreTails h us es) where
-      told_hits : (e : Tail) → Contains es e → e.attribute ≡ attribute_of v → (n : ℕ) (w : Value) → w ≢ v → IsTold h e n w → ((b : Op) → b.id.site ≡ e.site → n ≤ b.id.seq → ¬ (Precedes b a)) → hits c (attribute_of v) (length h) e ≡ true
-      told_hits e m same n w differ told later =
-          and_from (attr_eq e.attribute (attribute_of v)) (c (length h) e.last || hits_other c (length h) e.other) (subst (λ t. attr_eq t (attribute_of v) ≡ true) (sym same) (attr_same (attribute_of v))) (
-          elim told.kept [
-            | inl k ↦ by_last (λ d. differ (k ∙ d))
-            | inr over ↦ elim (cases_Bool (value_eq told.value v)) [
-              | inl y ↦ or_right (c (length h) e.last) (hits_other c (length h) e.other) (by_other over (λ d. over.differs (d ∙ sym (value_eq-true told.value v y))))
-              | inr d ↦ by_last (λ k. let y : value_eq told.value v ≡ true = subst (λ z. value_eq told.value z ≡ true) k (value_eq-same told.value) in absurd cc)
+    module _ (about : (i : ℕ) → Contains us i → is_about (subject_of a) (slice_get h i) ≡ true) (es : List Tail) (tails : AreTails h us es) where
+      abbrev new : List Op
+      new = h ++ a ∷ []
+
+      -- each setter sets the attribute of v
+      one_attribute : (i : OpId) (u : Value) → HasSetter h us i u → attribute_of u ≡ attribute_of v
+      one_attribute i u s =
+          let w = about_op (subject_of a) (slice_get h s.position) (about s.position s.among) in
+          let same : w.0 ≡ s.op = one_op (slice_get h s.position) w.0 s.op w.1 s.at in
+          let e : attribute_set s.op.change ≡ attribute_set a.change = subst (λ (x : Op). attribute_set x.change ≡ attribute_set a.change) same (ap (λ (k : Subject). k.attribute) w.2) in
+          ap (λ r. unwrap_or r (attribute_of v)) (sym (ap attribute_set s.change) ∙ (e ∙ ap attribute_set gives))
+
+      -- what a does not know, and gives another value, it conflicts with
+      met : (i : OpId) (u : Value) (s : HasSetter h us i u) → u ≢ v → ¬ (i.seq ≤ entry a.past i.site) → c (length h) s.position ≡ true
+      met i u s differ later = meets s.position s.op s.object u s.among s.at s.change (one_attribute i u s) differ (λ before. later (subst (λ (j : OpId). j.seq ≤ entry a.past j.site) s.id before))
+
+      -- whether a tail's last setter gives v
+      given : (e : Tail) (t : IsTail h us e) → op_gives (slice_get new e.position) v ≡ value_eq t.value v
+      given e t =
+          let l = t.last in
+          let at : slice_get new e.position ≡ Some l.op = subst (λ i. slice_get new i ≡ Some l.op) t.position (got_before h a l.position l.op l.at) in
+          ap (λ r. op_gives r v) at ∙ ap (λ k. op_gives (Some (record { id = l.op.id; past = l.op.past; change = k })) v) l.change
+
+      differs_by : (w : Value) → value_eq w v ≡ false → w ≢ v
+      differs_by w n e = let y : value_eq w v ≡ true = subst (λ z. value_eq w z ≡ true) e (value_eq-same w) in absurd cc
+
+      up_to : (n s : ℕ) (r : Option ℕ) → IsUpTo n r → ¬ (n ≤ entry a.past s) → misses a.past s r ≡ true
+      up_to n s (Some k) l later = missed a.past s k (λ m. later (omega (arith, l, m)))
+      up_to n s None l later = absurd l
+
+      hit_tail : (e : Tail) (t : IsTail h us e) (i : OpId) (w : Value) → HasSetter h us i w → i.site ≡ e.last.site → w ≢ v → ¬ (i.seq ≤ entry a.past i.site) → hits new v a.past e ≡ true
+      hit_tail e t i w s site differ later =
+          let told = t.tells i w s site in
+          let late : ¬ (i.seq ≤ entry a.past e.last.site) = subst (λ z. ¬ (i.seq ≤ entry a.past z)) site later in
+          let p = op_gives (slice_get new e.position) v in
+          let q = misses a.past e.last.site e.other in
+          and_from (misses a.past e.last.site (Some e.last.seq)) (not p || q) (up_to i.seq e.last.site (Some e.last.seq) told.0 late) (elim (cases_Bool (value_eq t.value v)) [
+            | inl y ↦ elim told.1 [
+              | inl k ↦ absurd (differ (k ∙ value_eq-true t.value v y))
+              | inr u ↦ or_right (not p) q (up_to i.seq e.last.site e.other u late)
             ]
+            | inr n ↦ or_left (not p) q (not_from_false p (given e t ∙ n))
           ])
-        where
-          setter_of_v : (b : Op) (u : Value) → IsSetter b e.attribute e.site u → IsSetter b (attribute_of v) e.site u
-          setter_of_v b u x = record { object = x.object; change = x.change; attribute = x.attribute ∙ same; site = x.site }
-
-          by_last : told.value ≢ v → (c (length h) e.last || hits_other c (length h) e.other) ≡ true
-          by_last d =
-              let l = told.last in
-              or_left (c (length h) e.last) (hits_other c (length h) e.other) (meets e.last l.op e.site told.value (tails.last e m) l.at (setter_of_v l.op told.value l.setter) d (later l.op l.setter.site l.later))
-
-          by_other : (over : IsOvertaken h e n told.value) → over.value ≢ v → hits_other c (length h) e.other ≡ true
-          by_other over d =
-              let t = over.there in
-              subst (λ r. hits_other c (length h) r ≡ true) (sym over.kept) (meets over.position t.op e.site over.value (tails.other e m over.position over.kept) t.at (setter_of_v t.op over.value t.setter) d (later t.op t.setter.site t.later))
 
       -- by the change of the operation that a conflicts with
-      hit_by : (i : ℕ) (b : Op) (k : Change) → b.change ≡ k → Contains us i → slice_get h i ≡ Some b → Conflict a b → hits_one c (attribute_of v) (length h) es ≡ true
+      hit_by : (i : ℕ) (b : Op) (k : Change) → b.change ≡ k → Contains us i → slice_get h i ≡ Some b → Conflict a b → hits_one new v a.past es ≡ true
       hit_by i b (Create start) f m at x =
           let suited : IsSuited h a (Set o v) = subst (IsSuited h a) gives accepted.suited in
           let known = suited.known in
@@ -163,40 +176,42 @@ module _ (h : List Op) (valid : IsValid h) (a : Op) (in_range : IsInRange a) (ac
           let d = x.apart in
           let first = set_told v d.attribute d.first (subst (λ q. change_value q d.attribute ≡ Some d.first) gives d.first_given) in
           let second = set_told w d.attribute d.second (subst (λ q. change_value q d.attribute ≡ Some d.second) f d.second_given) in
-          let set : IsSetter b (attribute_of v) b.id.site w = record { object = p; change = f; attribute = sym second.0 ∙ first.0; site = refl } in
-          let e = tails.some i b (attribute_of v) b.id.site w m at set in
-          let of = of_told (attribute_of v) b.id.site e.0 e.2 in
-          let told = tails.tell i b (attribute_of v) b.id.site w e.0 m at set e.1 e.2 in
-          list_any_from (hits c (attribute_of v) (length h)) es e.0 e.1
-          (told_hits e.0 e.1 of.0 b.id.seq w (λ k. d.differ (first.1 ∙ (sym k ∙ sym second.1))) told
-          (λ z s l y. x.concurrent.not_after (before b z (of.1 ∙ refl) s l y)))
-        where
-          before : (b z : Op) {s : ℕ} → s ≡ b.id.site → z.id.site ≡ s → b.id.seq ≤ z.id.seq → Precedes z a → Precedes b a
-          before b z e q l y =
-              let y' : z.id.seq ≤ entry a.past b.id.site = subst (λ j. z.id.seq ≤ entry a.past j) (q ∙ e) y in
-              omega (arith, l, y')
+          let setter : HasSetter h us b.id w = record { op = b; position = i; among = m; at = at; id = refl; object = p; change = f } in
+          let e = tails.some b.id w setter in
+          let site : b.id.site ≡ e.0.last.site = sym ((Decides-eqb e.0.last.site b.id.site).0 e.2) in
+          list_any_from (hits new v a.past) es e.0 e.1 (hit_tail e.0 (tails.each e.0 e.1) b.id w setter site (λ k. d.differ (first.1 ∙ (sym k ∙ sym second.1))) x.concurrent.not_after)
 
-      hit_if : conflicts_in c (length h) us ≡ true → hits_one c (attribute_of v) (length h) es ≡ true
+      hit_if : conflicts_in c (length h) us ≡ true → hits_one new v a.past es ≡ true
       hit_if y =
           let w = list_any_true (c (length h)) us y in
           let b = there w.0 w.1 in
-          let k = conflict_with (slice_get (h ++ a ∷ []) (length h)) (slice_get (h ++ a ∷ []) w.0) a (got_last h a) w.2 in
-          let same : k.0 ≡ b.0 = one_op (slice_get (h ++ a ∷ []) w.0) k.0 b.0 k.1 (got_before h a w.0 b.0 b.1) in
+          let k = conflict_with (slice_get new (length h)) (slice_get new w.0) a (got_last h a) w.2 in
+          let same : k.0 ≡ b.0 = one_op (slice_get new w.0) k.0 b.0 k.1 (got_before h a w.0 b.0 b.1) in
           hit_by w.0 b.0 b.0.change refl w.1 b.1 (subst (Conflict a) same k.2)
 
-      other_hits : (e : Tail) → Contains es e → (r : Option ℕ) → e.other ≡ r → hits_other c (length h) r ≡ true → conflicts_in c (length h) us ≡ true
-      other_hits e m (Some k) f x = list_any_from (c (length h)) us k (tails.other e m k f) x
-      other_hits e m None f x = absurd cc
+      conflicts_at : (i : OpId) (u : Value) (s : HasSetter h us i u) → u ≢ v → ¬ (i.seq ≤ entry a.past i.site) → conflicts_in c (length h) us ≡ true
+      conflicts_at i u s differ later = list_any_from (c (length h)) us s.position s.among (met i u s differ later)
 
-      only_if : hits_one c (attribute_of v) (length h) es ≡ true → conflicts_in c (length h) us ≡ true
+      other_meets : (e : Tail) (t : IsTail h us e) → value_eq t.value v ≡ true → (r : Option ℕ) → e.other ≡ r → misses a.past e.last.site r ≡ true → conflicts_in c (length h) us ≡ true
+      other_meets e t y (Some k) f m = let w = t.other k f in conflicts_at (record { site = e.last.site; seq = k }) w.0 w.1 (λ d. w.2 (d ∙ sym (value_eq-true t.value v y))) (not_counted a.past e.last.site k m)
+      other_meets e t y None f m = absurd cc
+
+      only_if : hits_one new v a.past es ≡ true → conflicts_in c (length h) us ≡ true
       only_if y =
-          let w = list_any_true (hits c (attribute_of v) (length h)) es y in
-          let k = and_parts (attr_eq w.0.attribute (attribute_of v)) (c (length h) w.0.last || hits_other c (length h) w.0.other) w.2 in
-          elim (or_cases (c (length h) w.0.last) (hits_other c (length h) w.0.other) k.1) [
-            | inl l ↦ list_any_from (c (length h)) us w.0.last (tails.last w.0 w.1) l
-            | inr r ↦ other_hits w.0 w.1 w.0.other refl r
+          let w = list_any_true (hits new v a.past) es y in
+          let e = w.0 in
+          let t = tails.each e w.1 in
+          let p = op_gives (slice_get new e.position) v in
+          let q = misses a.past e.last.site e.other in
+          let k = and_parts (misses a.past e.last.site (Some e.last.seq)) (not p || q) w.2 in
+          elim (cases_Bool (value_eq t.value v)) [
+            | inl x ↦ elim (or_cases (not p) q k.1) [
+              | inl n ↦ let no = not-true p n in let yes = given e t ∙ x in absurd cc
+              | inr m ↦ other_meets e t x e.other refl m
+            ]
+            | inr n ↦ conflicts_at e.last t.value t.last (differs_by t.value n) (not_counted a.past e.last.site e.last.seq k.0)
           ]
 
       -- THE QUICK TEST
-      pub quick : hits_one c (attribute_of v) (length h) es ≡ conflicts_in c (length h) us
-      quick = same_answer (hits_one c (attribute_of v) (length h) es) (conflicts_in c (length h) us) only_if hit_if
+      pub quick : hits_one new v a.past es ≡ conflicts_in c (length h) us
+      quick = same_answer (hits_one new v a.past es) (conflicts_in c (length h) us) only_if hit_if

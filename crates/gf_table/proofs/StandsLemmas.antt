@@ -6,11 +6,8 @@ use Rattle.std.specs.Map.{lookup, set_value}
 use Rattle.std.proofs.lemmas.Bool.{cases_Bool, cond-true, cond-false}
 use Rattle.gf_ops.specs.declared.op.Op.{Op}
 use Rattle.gf_ops.specs.Accepted.{IsAccepted}
-use Rattle.gf_ops.specs.Attribute.{object_of}
 use Rattle.gf_ops.specs.Limits.{IsInRange}
 use Rattle.gf_ops.specs.ValidHistory.{IsValid}
-use Rattle.gf_groups.specs.GroupedPositions.{is_on}
-use Rattle.gf_groups.proofs.OnPositionLemmas.{on_to}
 use Rattle.gf_table.specs.declared.subject.Subject.{Subject}
 use Rattle.gf_table.specs.Subjects.{subject_cmp, subject_of, is_about, positions_about}
 use Rattle.gf_table.specs.SubjectState.{SubjectState, nothing, with_op}
@@ -19,7 +16,7 @@ use Rattle.gf_table.specs.Next.{IsNextOf}
 use Rattle.gf_table.specs.Summaries.{SummaryState, TellsLast}
 use Rattle.gf_table.proofs.LongerLemmas.{positions_with_last, positions_without_last}
 use Rattle.gf_table.proofs.StateLemmas.{first_state, state_kept, state_more}
-use Rattle.gf_table.proofs.SubjectLemmas.{Contains-positions_about, about_from, about_op, about_to, at_itself, at_told}
+use Rattle.gf_table.proofs.SubjectLemmas.{Contains-positions_about, about_from, about_on, about_to, at_itself, at_told}
 
 -- the value that is there, written again
 pub written_again : {K X : Type 0} (test : K → Bool) (es : List (K × X)) (w : X) → lookup test es ≡ Some w → set_value test es w ≡ es
@@ -42,11 +39,8 @@ module _ (h : List Op) (valid : IsValid h) (a : Op) (in_range : IsInRange a) (ac
   within : (k : Subject) (i : ℕ) → Contains (positions_about h k (length h)) i → i < length h
   within k i m = ((Contains-positions_about h k (length h) i).0 m).0
 
-  -- what is about a subject is on its object
-  on_object : (k : Subject) (i : ℕ) → Contains (positions_about h k (length h)) i → is_on k.object (slice_get h i) ≡ true
-  on_object k i m =
-      let w = about_op k (slice_get h i) ((Contains-positions_about h k (length h) i).0 m).1 in
-      rw w.1 (on_to k.object w.0 (ap (λ (l : Subject). l.object) w.2))
+  about : (k : Subject) (i : ℕ) → Contains (positions_about h k (length h)) i → is_about k (slice_get h i) ≡ true
+  about k i m = ((Contains-positions_about h k (length h) i).0 m).1
 
   -- the state of a's subject, or nothing, is right
   or_nothing : (us : List ℕ) (r : Option SubjectState) → Stands h us r → IsStateOf h us (unwrap_or r nothing)
@@ -71,8 +65,8 @@ module _ (h : List Op) (valid : IsValid h) (a : Op) (in_range : IsInRange a) (ac
         | inl y ↦
             let same : k ≡ q = at_told k q y in
             let own : Stands h us (state_of t k) = subst (λ p. Stands h us (state_of t p)) (sym same) (stands q) in
-            let on : (i : ℕ) → Contains us i → is_on (object_of a) (slice_get h i) ≡ true = subst (λ (p : Subject). (i : ℕ) → Contains us i → is_on p.object (slice_get h i) ≡ true) (sym same) (on_object q) in
-            let more = state_more h a us (within q) (unwrap_or (state_of t k) nothing) (or_nothing us (state_of t k) own) valid in_range accepted on adds.summary adds.told in
+            let own_about : (i : ℕ) → Contains us i → is_about k (slice_get h i) ≡ true = subst (λ p. (i : ℕ) → Contains us i → is_about p (slice_get h i) ≡ true) (sym same) (about q) in
+            let more = state_more h a us (within q) (unwrap_or (state_of t k) nothing) (or_nothing us (state_of t k) own) valid in_range accepted own_about adds.summary adds.told in
             let positions = positions_with_last h a q (about_to q a same) in
             let here : state_of s q ≡ Some (with_op new a (length h) adds.summary (unwrap_or (state_of t k) nothing)) =
             adds.puts q ∙ cond-true (is_at (subject_cmp k) q) (Some (with_op new a (length h) adds.summary (unwrap_or (state_of t k) nothing))) (state_of t q) y in
@@ -109,7 +103,7 @@ module _ (h : List Op) (valid : IsValid h) (a : Op) (in_range : IsInRange a) (ac
       let us = positions_about h o (length h) in
       let old : unwrap_or (state_of t o) nothing ≡ r = ap (λ p. unwrap_or (state_of t p) nothing) (sym same) ∙ was in
       let state : IsStateOf h us r = subst (IsStateOf h us) old (or_nothing us (state_of t o) (stands o)) in
-      record { history = h; longer = long; position = last; valid = valid; in_range = in_range; accepted = accepted; us = us; on = on_object o; parts = state.parts; positions = state.positions; told = state.summary }
+      record { history = h; longer = long; position = last; valid = valid; in_range = in_range; accepted = accepted; us = us; on = λ i m. about_on o (slice_get h i) (about o i m); parts = state.parts; positions = state.positions; told = state.summary }
 
 -- two facts of one success
 pub both_ok : {T E : Type 0} (X Y : Type 0) (r : Result T E) → OnOk r X → OnOk r Y → OnOk r (X × Y)

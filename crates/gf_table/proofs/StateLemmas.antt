@@ -5,13 +5,13 @@ use Rattle.std.specs.List.{list_any}
 use Rattle.std.proofs.lemmas.Bool.{cases_Bool, cond-true, cond-false, and_from, and_parts, not-true, not_from_false}
 use Rattle.std.proofs.lemmas.List.Elements.{Contains-append_left, Contains-push, Contains-push_cases}
 use Rattle.gf_ops.specs.declared.op.Op.{Op}
+use Rattle.gf_ops.specs.declared.op.OpId.{OpId}
 use Rattle.gf_ops.specs.declared.op.ObjectId.{ObjectId}
 use Rattle.gf_ops.specs.declared.change.Change.{Change}
 use Rattle.gf_ops.specs.declared.change.Change.TheVariants.{Create, Set}
 use Rattle.gf_ops.specs.declared.change.Value.{Value}
-use Rattle.gf_ops.specs.declared.change.Attr.{Attr}
 use Rattle.gf_ops.specs.Accepted.{IsAccepted}
-use Rattle.gf_ops.specs.Attribute.{attribute_of, object_of}
+use Rattle.gf_ops.specs.Attribute.{object_of}
 use Rattle.gf_ops.specs.Limits.{IsInRange}
 use Rattle.gf_ops.specs.ValidHistory.{IsValid}
 use Rattle.gf_ops.proofs.ListLemmas.{not_Contains-nil}
@@ -23,7 +23,8 @@ use Rattle.gf_parts.specs.Parted.{AreParts}
 use Rattle.gf_parts.specs.Parts.{PartState, PartsState, alone, whole, touches, is_calm, with_free, with_part, after}
 use Rattle.gf_parts.proofs.PartsLemmas.{all_of_fold, first_parts, parts_agree, parts_after, all_after}
 use Rattle.gf_table.specs.SubjectState.{SubjectState, nothing, with_change, with_op}
-use Rattle.gf_table.specs.Standing.{IsSetter, AreTails, IsStateOf}
+use Rattle.gf_table.specs.Standing.{HasSetter, AreTails, IsStateOf}
+use Rattle.gf_table.specs.Subjects.{subject_of, is_about}
 use Rattle.gf_table.specs.Summaries.{SummaryState, TellsLast}
 use Rattle.gf_table.specs.Tails.{hits_one}
 use Rattle.gf_table.proofs.KeptTailsLemmas.{tails_kept}
@@ -31,6 +32,7 @@ use Rattle.gf_table.proofs.LongerLemmas.{got_last, same_conflict}
 use Rattle.gf_table.proofs.NotedLemmas.{tails_noted}
 use Rattle.gf_table.proofs.PutTailLemmas.{none_once}
 use Rattle.gf_table.proofs.QuickLemmas.{made_none, one_op, quick}
+use Rattle.gf_table.proofs.SubjectLemmas.{about_on}
 use Rattle.gf_table.proofs.SummaryLemmas.{last_longer}
 
 -- ---- whether the next one is calm, by a list of the positions
@@ -118,7 +120,10 @@ module _ (h : List Op) (a : Op) (us : List ℕ) (within : (i : ℕ) → Contains
     summary = told;
   }
 
-  module _ (valid : IsValid h) (in_range : IsInRange a) (accepted : IsAccepted h a) (on : (i : ℕ) → Contains us i → is_on (object_of a) (slice_get h i) ≡ true) (m : Option SummaryState) where
+  module _ (valid : IsValid h) (in_range : IsInRange a) (accepted : IsAccepted h a) (about : (i : ℕ) → Contains us i → is_about (subject_of a) (slice_get h i) ≡ true) (m : Option SummaryState) where
+    on : (i : ℕ) → Contains us i → is_on (object_of a) (slice_get h i) ≡ true
+    on i k = about_on (subject_of a) (slice_get h i) (about i k)
+
     no_clash : ((i : ℕ) → ¬ (Contains us i)) → conflicts_in c (length h) us ≡ false
     no_clash none = elim (cases_Bool (conflicts_in c (length h) us)) [
       | inl y ↦ let w = list_any_true (c (length h)) us y in absurd (none w.0 w.1)
@@ -128,31 +133,35 @@ module _ (h : List Op) (a : Op) (us : List ℕ) (within : (i : ℕ) → Contains
     -- a new object has no setter
     first_tails : (start : _) → a.change ≡ Create start → AreTails (h ++ a ∷ []) (us ++ length h ∷ []) t.tails
     first_tails start e = record {
-      last = λ d m. Contains-append_left us (length h ∷ []) d.last (state.tails.last d m);
-      other = λ d m k x. Contains-append_left us (length h ∷ []) k (state.tails.other d m k x);
-      some = λ i b u s v m at set. absurd (never i b u s v m at set);
-      tell = λ i b u s v d m at set k y. absurd (never i b u s v m at set);
+      each = λ d m. absurd (never_before d.last (state.tails.each d m).value (state.tails.each d m).last);
+      some = λ i v s. absurd (never i v s);
       once = state.tails.once;
     }
       where
         creates : (k : Change) (o : ObjectId) (v : Value) → k ≡ Create start → ¬ (k ≡ Set o v)
         creates k o v x y = cc
 
-        never : (i : ℕ) (b : Op) (u : Attr) (s : ℕ) (v : Value) → Contains (us ++ length h ∷ []) i → slice_get (h ++ a ∷ []) i ≡ Some b → ¬ (IsSetter b u s v)
-        never i b u s v m at set = elim (Contains-push_cases us (length h) i m) [
-          | inl k ↦ made_none h valid a in_range accepted us on start e i k
+        none : (i : ℕ) → ¬ (Contains us i)
+        none = made_none h valid a in_range accepted us on start e
+
+        never_before : (i : OpId) (v : Value) → ¬ (HasSetter h us i v)
+        never_before i v s = none s.position s.among
+
+        never : (i : OpId) (v : Value) → ¬ (HasSetter (h ++ a ∷ []) (us ++ length h ∷ []) i v)
+        never i v s = elim (Contains-push_cases us (length h) s.position s.among) [
+          | inl k ↦ none s.position k
           | inr d ↦
-              let same : b ≡ a = one_op (slice_get (h ++ a ∷ []) i) b a at (subst (λ j. slice_get (h ++ a ∷ []) j ≡ Some a) d (got_last h a)) in
-              creates a.change set.object v e (subst (λ (z : Op). z.change ≡ Set set.object v) same set.change)
+              let same : s.op ≡ a = one_op (slice_get (h ++ a ∷ []) s.position) s.op a s.at (subst (λ j. slice_get (h ++ a ∷ []) j ≡ Some a) d (got_last h a)) in
+              creates a.change s.object v e (subst (λ (z : Op). z.change ≡ Set s.object v) same s.change)
         ]
 
-    by_change : (k : Change) → a.change ≡ k → TellsLast (h ++ a ∷ []) (with_change (h ++ a ∷ []) a.id.site k (length h) m t).parts m → IsStateOf (h ++ a ∷ []) (us ++ length h ∷ []) (with_change (h ++ a ∷ []) a.id.site k (length h) m t)
-    by_change (Create start) e told = made_state (with_change (h ++ a ∷ []) a.id.site (Create start) (length h) m t)
+    by_change : (k : Change) → a.change ≡ k → TellsLast (h ++ a ∷ []) (with_change (h ++ a ∷ []) a k (length h) m t).parts m → IsStateOf (h ++ a ∷ []) (us ++ length h ∷ []) (with_change (h ++ a ∷ []) a k (length h) m t)
+    by_change (Create start) e told = made_state (with_change (h ++ a ∷ []) a (Create start) (length h) m t)
         (right_step c t.parts us state.positions (length h) false (sym (no_clash (made_none h valid a in_range accepted us on start e))))
         (first_tails start e) told
-    by_change (Set o v) e told = made_state (with_change (h ++ a ∷ []) a.id.site (Set o v) (length h) m t)
-        (right_step c t.parts us state.positions (length h) (hits_one c (attribute_of v) (length h) t.tails) (quick h valid a in_range accepted us on o v e t.tails state.tails))
-        (tails_noted h valid a in_range accepted us on o v e t.tails state.tails) told
+    by_change (Set o v) e told = made_state (with_change (h ++ a ∷ []) a (Set o v) (length h) m t)
+        (right_step c t.parts us state.positions (length h) (hits_one (h ++ a ∷ []) v a.past t.tails) (quick h valid a in_range accepted us on o v e about t.tails state.tails))
+        (tails_noted h valid a in_range accepted us within o v e t.tails state.tails) told
 
     -- THE STEP on its own object
     pub state_more : TellsLast (h ++ a ∷ []) (with_op (h ++ a ∷ []) a (length h) m t).parts m → IsStateOf (h ++ a ∷ []) (us ++ length h ∷ []) (with_op (h ++ a ∷ []) a (length h) m t)
@@ -164,10 +173,8 @@ first_state h = record {
   parts = first_parts (conflict_at h) (conflict_at_test h);
   positions = λ i. (λ m. m, λ m. m);
   tails = record {
-    last = λ e m. absurd (not_Contains-nil e m);
-    other = λ e m. absurd (not_Contains-nil e m);
-    some = λ i b t s v m. absurd (not_Contains-nil i m);
-    tell = λ i b t s v e m. absurd (not_Contains-nil i m);
+    each = λ e m. absurd (not_Contains-nil e m);
+    some = λ i v s. absurd (not_Contains-nil s.position s.among);
     once = none_once;
   };
   summary = tt;

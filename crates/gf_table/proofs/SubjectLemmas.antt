@@ -16,7 +16,9 @@ use Rattle.gf_ops.specs.declared.change.Attr.TheVariants as attr
 use Rattle.gf_ops.specs.contracts.change.AttrOrd.TheImpl.Laws.{total-law}
 use Rattle.gf_ops.proofs.ListLemmas.{not_Contains-nil}
 use Rattle.gf_groups.specs.Parting.{object_cmp}
+use Rattle.gf_groups.specs.GroupedPositions.{is_on}
 use Rattle.gf_groups.proofs.IdLemmas.{both_tied}
+use Rattle.gf_groups.proofs.OnPositionLemmas.{on_to}
 use Rattle.gf_groups.proofs.PartingLemmas.{object_cmp_exact, object_cmp_total}
 use Rattle.gf_groups.proofs.SortedLemmas.{equal_left}
 use Rattle.gf_table.specs.declared.subject.Subject.{Subject}
@@ -70,6 +72,10 @@ module _ (k : Subject) where
   pub about_op : (r : Option Op) → is_about k r ≡ true → (a : Op) × (r ≡ Some a) × (subject_of a ≡ k)
   about_op (Some a) t = (a, refl, about_from a t)
   about_op None t = absurd cc
+
+  -- on its object
+  pub about_on : (r : Option Op) → is_about k r ≡ true → is_on k.object r ≡ true
+  about_on r t = let w = about_op r t in rw w.1 (on_to k.object w.0 (ap (λ (l : Subject). l.object) w.2))
 
 -- ---- positions
 

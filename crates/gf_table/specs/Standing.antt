@@ -4,11 +4,11 @@ use Rattle.std.specs.BTreeMap.{is_at}
 use Rattle.std.specs.List.{IsDistinct, fold, filter_map}
 use Rattle.std.specs.Map.{lookup}
 use Rattle.gf_ops.specs.declared.op.Op.{Op}
+use Rattle.gf_ops.specs.declared.op.OpId.{OpId}
 use Rattle.gf_ops.specs.declared.op.ObjectId.{ObjectId}
 use Rattle.gf_ops.specs.declared.change.Change.TheVariants.{Set}
 use Rattle.gf_ops.specs.declared.change.Value.{Value}
 use Rattle.gf_ops.specs.declared.change.Attr.{Attr}
-use Rattle.gf_ops.specs.Attribute.{attribute_of}
 use Rattle.gf_groups.specs.declared.group.Group.{Group}
 use Rattle.gf_groups.specs.Growing.{conflict_at}
 use Rattle.gf_groups.specs.Versions.{IsVersionGroup}
@@ -21,40 +21,33 @@ use Rattle.gf_table.specs.SubjectState.{SubjectState}
 use Rattle.gf_table.specs.Summaries.{TellsLast}
 use Rattle.gf_table.specs.Tails.{is_of, are_one}
 
--- the site s gives the value v of the attribute t by a
-pub record IsSetter (a : Op) (t : Attr) (s : ℕ) (v : Value) : Type 0 where
-  pub object : ObjectId
-  pub change : a.change ≡ Set object v
-  pub attribute : attribute_of v ≡ t
-  pub site : a.id.site ≡ s
-
--- at the position k of h the tail's site gives v, under the number n or a later one
-pub record HasSetter (h : List Op) (e : Tail) (k n : ℕ) (v : Value) : Type 0 where
+-- an operation of h at one of the positions us has the id i and gives the value v
+pub record HasSetter (h : List Op) (us : List ℕ) (i : OpId) (v : Value) : Type 0 where
   pub op : Op
-  pub at : slice_get h k ≡ Some op
-  pub setter : IsSetter op e.attribute e.site v
-  pub later : n ≤ op.id.seq
-
--- the tail keeps a setter under the number n or a later one that gives another value than v
-pub record IsOvertaken (h : List Op) (e : Tail) (n : ℕ) (v : Value) : Type 0 where
   pub position : ℕ
-  pub value : Value
-  pub kept : e.other ≡ Some position
-  pub there : HasSetter h e position n value
-  pub differs : value ≢ v
+  pub among : Contains us position
+  pub at : slice_get h position ≡ Some op
+  pub id : op.id ≡ i
+  pub object : ObjectId
+  pub change : op.change ≡ Set object v
 
--- the tail tells of the value w under the number n: it is the last one's, or another one than the last one's was not given before
-pub record IsTold (h : List Op) (e : Tail) (n : ℕ) (w : Value) : Type 0 where
-  pub value : Value
-  pub last : HasSetter h e e.last n value
-  pub kept : (w ≡ value) ⊎ IsOvertaken h e n value
+-- there is another number, and n is at most that
+abbrev pub IsUpTo : ℕ → Option ℕ → Type 0
+IsUpTo n (Some k) = n ≤ k
+IsUpTo n None = ⊥
 
--- the tails tell of all setters of h at the positions us, and no two are of one attribute and one site
+-- the tail keeps the last setter of its site at the positions us, and the number of that one's last with another value
+pub record IsTail (h : List Op) (us : List ℕ) (e : Tail) : Type 0 where
+  pub value : Value
+  pub last : HasSetter h us e.last value
+  pub position : last.position ≡ e.position
+  pub other : (k : ℕ) → e.other ≡ Some k → (w : Value) × HasSetter h us (record { site = e.last.site; seq = k }) w × (w ≢ value)
+  pub tells : (i : OpId) (w : Value) → HasSetter h us i w → i.site ≡ e.last.site → (i.seq ≤ e.last.seq) × ((w ≡ value) ⊎ IsUpTo i.seq e.other)
+
+-- there is one for each site with a setter at the positions us
 pub record AreTails (h : List Op) (us : List ℕ) (es : List Tail) : Type 0 where
-  pub last : (e : Tail) → Contains es e → Contains us e.last
-  pub other : (e : Tail) → Contains es e → (k : ℕ) → e.other ≡ Some k → Contains us k
-  pub some : (i : ℕ) (b : Op) (t : Attr) (s : ℕ) (v : Value) → Contains us i → slice_get h i ≡ Some b → IsSetter b t s v → (e : Tail) × Contains es e × (is_of t s e ≡ true)
-  pub tell : (i : ℕ) (b : Op) (t : Attr) (s : ℕ) (v : Value) (e : Tail) → Contains us i → slice_get h i ≡ Some b → IsSetter b t s v → Contains es e → is_of t s e ≡ true → IsTold h e b.id.seq v
+  pub each : (e : Tail) → Contains es e → IsTail h us e
+  pub some : (i : OpId) (v : Value) → HasSetter h us i v → (e : Tail) × Contains es e × (is_of i.site e ≡ true)
   pub once : IsDistinct are_one es
 
 -- the state is that of the operations of h at the positions us

@@ -4,7 +4,6 @@ use Rattle.gf_ops.specs.declared.op.Op.{Op}
 use Rattle.gf_ops.specs.declared.change.Change.{Change}
 use Rattle.gf_ops.specs.declared.change.Change.TheVariants.{Create, Set}
 use Rattle.gf_ops.specs.declared.change.Value.{Value}
-use Rattle.gf_ops.specs.Attribute.{attribute_of}
 use Rattle.gf_groups.specs.Growing.{conflict_at}
 use Rattle.gf_parts.specs.Parts.{PartsState, with_free, with_part}
 use Rattle.gf_table.specs.declared.tails.Tail.{Tail}
@@ -20,19 +19,19 @@ pub record SubjectState : Type 0 where
 abbrev pub nothing : SubjectState
 nothing = record { parts = record { free = []; parts = [] }; tails = []; summary = None }
 
--- the operation of h at the position n, of the site s, gives v; then the summary is m
-abbrev pub with_setter : List Op → ℕ → Value → ℕ → Option SummaryState → SubjectState → SubjectState
-with_setter h s v n m t = record {
-  parts = cond (hits_one (conflict_at h) (attribute_of v) n t.tails) (with_part (conflict_at h) n t.parts) (with_free n t.parts);
-  tails = noted h s v n t.tails;
+-- the operation a of h, at the position n, gives v; then the summary is m
+abbrev pub with_setter : List Op → Op → Value → ℕ → Option SummaryState → SubjectState → SubjectState
+with_setter h a v n m t = record {
+  parts = cond (hits_one h v a.past t.tails) (with_part (conflict_at h) n t.parts) (with_free n t.parts);
+  tails = noted h a.id v n t.tails;
   summary = m;
 }
 
--- the operation of h at the position n, of the site s, makes the change
-abbrev pub with_change : List Op → ℕ → Change → ℕ → Option SummaryState → SubjectState → SubjectState
-with_change h s (Create start) n m t = record { parts = with_free n t.parts; tails = t.tails; summary = m }
-with_change h s (Set o v) n m t = with_setter h s v n m t
+-- it makes the change
+abbrev pub with_change : List Op → Op → Change → ℕ → Option SummaryState → SubjectState → SubjectState
+with_change h a (Create start) n m t = record { parts = with_free n t.parts; tails = t.tails; summary = m }
+with_change h a (Set o v) n m t = with_setter h a v n m t
 
--- the operation of h at the position n is a
+-- the operation a of h stands at the position n
 abbrev pub with_op : List Op → Op → ℕ → Option SummaryState → SubjectState → SubjectState
-with_op h a n m t = with_change h a.id.site a.change n m t
+with_op h a n m t = with_change h a a.change n m t

@@ -119,13 +119,12 @@ impl SubjectTable {
         requires next { IsNextOf timeline.now op.now position self.old.parts self.old.summary }
         requires gives { Gives op.now value.now }
         ensures ok { OnOk result (self.new
-            ≡ with_setter timeline.now op.now.id.site value.now position self.new.summary
-            self.old) }
+            ≡ with_setter timeline.now op.now value.now position self.new.summary self.old) }
         ensures told { OnOk result (TellsLast timeline.now self.new.parts self.new.summary) }
         ensures err { OnErr result (self.new ≡ self.old) }
     {
         self.tails.reserve(1)?;
-        let conflicts = hits_one(timeline, value.attribute(), position, &self.tails);
+        let conflicts = hits_one(timeline, value, &op.past, &self.tails);
         if conflicts {
             connect(
                 alloc,
@@ -139,7 +138,7 @@ impl SubjectTable {
         } else {
             add_free(op, position, &mut self.parts, &mut self.summary)?;
         }
-        note(timeline, op.id.site, value, position, &mut self.tails);
+        note(timeline, op.id, value, position, &mut self.tails);
         Ok(())
     }
 }

@@ -1,24 +1,23 @@
 //! What is kept of the setters of an attribute by one site, to tell at once whether an operation
 //! conflicts with one of them.
 
-ghost use Rattle.std.specs.Prelude.{◌≡◌, ◌<◌, vec_len, vec_capacity, option_copied};
+ghost use Rattle.std.specs.Prelude.{◌≡◌, ◌<◌, nat_le, vec_len, vec_capacity, option_copied};
 ghost use Rattle.std.specs.List.{position};
 ghost use Rattle.gf_ops.specs.ConflictTests.{value_eq};
-ghost use Rattle.gf_groups.specs.Growing.{conflict_at};
+ghost use Rattle.gf_ops.specs.OperationOrder.{entry};
 ghost use Rattle.gf_table.specs.Tails.{is_of, change_gives, op_gives, other_than};
-ghost use Rattle.gf_table.specs.Tails.{new_tail, noted, hits_other, hits, hits_one};
+ghost use Rattle.gf_table.specs.Tails.{new_tail, noted, misses, hits, hits_one};
 
-use gf_groups::{Timeline, conflict_at};
-use gf_ops::{Attr, Change, Op, Value};
+use gf_groups::Timeline;
+use gf_ops::{Change, Clock, Op, OpId, Value};
 
-/// The positions of the last setter of an attribute by a site, and of its last one with another
+/// The last setter by a site and its position, and the number of the site's last one with another
 /// value than that.
 #[derive(Clone, Copy, Debug)]
 pub struct Tail {
-    pub attribute: Attr,
-    pub site: u8,
-    pub last: usize,
-    pub other: Option<usize>,
+    pub last: OpId,
+    pub position: usize,
+    pub other: Option<u32>,
 }
 
 /// Whether they are one value of one attribute.
@@ -39,18 +38,18 @@ fn value_eq(value: &Value, other: &Value) -> bool
     }
 }
 
-/// Whether the tail is that of the attribute and the site.
-fn is_of(attribute: Attr, site: u8, tail: &Tail) -> bool
-    ensures { result ≡ is_of attribute site tail.now }
+/// Whether the tail is that of the site.
+fn is_of(site: u8, tail: &Tail) -> bool
+    ensures { result ≡ is_of site tail.now }
 {
-    tail.attribute == attribute && tail.site == site
+    tail.last.site == site
 }
 
-/// The index of the tail of the attribute and the site.
-fn place(attribute: Attr, site: u8, tails: &[Tail]) -> Option<usize>
-    ensures { result ≡ position (is_of attribute site) tails.now }
+/// The index of the tail of the site.
+fn place(site: u8, tails: &[Tail]) -> Option<usize>
+    ensures { result ≡ position (is_of site) tails.now }
 {
-    tails.iter().position(|tail| is_of(attribute, site, tail))
+    tails.iter().position(|tail| is_of(site, tail))
 }
 
 /// Whether the change gives the value.
@@ -73,85 +72,87 @@ fn op_gives(op: Option<&Op>, value: &Value) -> bool
     }
 }
 
-/// The last setter with another value than this, once this is the last.
-fn other_than(timeline: &Timeline<'_>, value: &Value, tail: Option<&Tail>) -> Option<usize>
+/// The number of the last setter with another value than this, once this is the last.
+fn other_than(timeline: &Timeline<'_>, value: &Value, tail: Option<&Tail>) -> Option<u32>
     ensures { result ≡ other_than timeline.now value.now (option_copied tail.entry) }
 {
     match tail {
-        Some(tail) if op_gives(timeline.get(tail.last), value) => tail.other,
-        Some(tail) => Some(tail.last),
+        Some(tail) if op_gives(timeline.get(tail.position), value) => tail.other,
+        Some(tail) => Some(tail.last.seq),
         None => None,
     }
 }
 
-/// The tail after a site gave the value at the position, from the one before.
+/// The tail after the operation gave the value at the position, from the one before.
 fn new_tail(
     timeline: &Timeline<'_>,
-    site: u8,
+    id: OpId,
     value: &Value,
     position: usize,
     tail: Option<&Tail>,
 ) -> Tail
-    ensures { result ≡ new_tail timeline.now site value.now position (option_copied tail.entry) }
+    ensures { result ≡ new_tail timeline.now id value.now position (option_copied tail.entry) }
 {
     Tail {
-        attribute: value.attribute(),
-        site,
-        last: position,
+        last: id,
+        position,
         other: other_than(timeline, value, tail),
     }
 }
 
-/// Notes that the site gave the value at the position: the new tail takes the place of the one that
-/// the site has of the attribute, or comes behind all.
+/// Notes that the operation gave the value at the position: the new tail takes the place of the one
+/// that its site has, or comes behind all.
 pub(crate) fn note(
     timeline: &Timeline<'_>,
-    site: u8,
+    id: OpId,
     value: &Value,
     position: usize,
     tails: &mut Vec<Tail>,
 )
     requires { vec_len tails.old < vec_capacity tails.old }
-    ensures { tails.new.items ≡ noted timeline.now site value.now position tails.old.items }
+    ensures { tails.new.items ≡ noted timeline.now id value.now position tails.old.items }
 {
-    match place(value.attribute(), site, tails) {
+    match place(id.site, tails) {
         Some(index) => {
-            let tail = new_tail(timeline, site, value, position, Some(&tails[index]));
+            let tail = new_tail(timeline, id, value, position, Some(&tails[index]));
             tails[index] = tail;
         }
-        None => tails.push_reserved(new_tail(timeline, site, value, position, None)),
+        None => tails.push_reserved(new_tail(timeline, id, value, position, None)),
     }
 }
 
-fn hits_other(timeline: &Timeline<'_>, position: usize, other: Option<usize>) -> bool
-    ensures { result ≡ hits_other (conflict_at timeline.now) position other }
+/// Whether the clock counts this number of the site.
+fn counts(past: &Clock, site: u8, number: u32) -> bool
+    ensures { result ≡ nat_le number (entry past.now site) }
 {
-    match other {
-        Some(other) => conflict_at(timeline, position, other),
+    let place = usize::from(site).saturating_sub(1);
+    number <= past.0.get(place).copied().unwrap_or(0)
+}
+
+/// Whether there is a number, which the clock does not count of the site.
+fn misses(past: &Clock, site: u8, number: Option<u32>) -> bool
+    ensures { result ≡ misses past.now site number }
+{
+    match number {
+        Some(number) => !counts(past, site, number),
         None => false,
     }
 }
 
-/// Whether the operation at this position, which sets the attribute, conflicts with one of the two.
-fn hits(timeline: &Timeline<'_>, attribute: Attr, position: usize, tail: &Tail) -> bool
-    ensures { result ≡ hits (conflict_at timeline.now) attribute position tail.now }
+/// Whether what gives the value, and knows what the clock counts, conflicts with one that the tail
+/// tells. The value of its last setter is looked at only where that one is not known.
+fn hits(timeline: &Timeline<'_>, value: &Value, past: &Clock, tail: &Tail) -> bool
+    ensures { result ≡ hits timeline.now value.now past.now tail.now }
 {
-    tail.attribute == attribute
-        && (conflict_at(timeline, position, tail.last)
-            || hits_other(timeline, position, tail.other))
+    let site = tail.last.site;
+    misses(past, site, Some(tail.last.seq))
+        && (!op_gives(timeline.get(tail.position), value) || misses(past, site, tail.other))
 }
 
-/// Whether the operation at this position, which sets the attribute, conflicts with one that the
-/// tails tell: two looks for each site that set the attribute.
-pub(crate) fn hits_one(
-    timeline: &Timeline<'_>,
-    attribute: Attr,
-    position: usize,
-    tails: &[Tail],
-) -> bool
-    ensures { result ≡ hits_one (conflict_at timeline.now) attribute position tails.now }
+/// Whether what gives the value, and knows what the clock counts, conflicts with one that the tails
+/// tell: at most two looks for each site.
+pub(crate) fn hits_one(timeline: &Timeline<'_>, value: &Value, past: &Clock, tails: &[Tail]) -> bool
+    ensures { result ≡ hits_one timeline.now value.now past.now tails.now }
 {
-    tails
-        .iter()
-        .any(|tail| hits(timeline, attribute, position, tail))
+    tails.iter().any(|tail| hits(timeline, value, past, tail))
 }
