@@ -12,7 +12,7 @@ trap 'rm -rf "$folder"' EXIT
 rounds=(rounds_30 rounds_200)
 hidden=(hidden_30 hidden_200)
 equal=({equal_causal,equal_apart}{,_shuffled,_backwards})
-moves=({moves,busy}_{causal,apart})
+moves=({moves,places,busy}_{causal,apart})
 
 "$root/figgroup" --version > /dev/null
 PYTHONDONTWRITEBYTECODE=1 python3 "$root/bench/conflict_inputs.py" "$folder"
