@@ -1,11 +1,13 @@
 -- Tails stay true in a history that got longer.
-use Rattle.std.proofs.Common.{◌≡◌, ℕ, ◌<◌, List, [], ◌∷◌, ◌++◌, length, sym, ◌∙◌}
-use Rattle.std.specs.Prelude.{Contains}
+use Rattle.std.proofs.Common.{◌≡◌, ℕ, ◌<◌, List, [], ◌∷◌, ◌++◌, length, ap, subst, sym, ◌∙◌}
+use Rattle.std.specs.Prelude.{Contains, Some, slice_get}
 use Rattle.gf_ops.specs.declared.op.Op.{Op}
 use Rattle.gf_ops.specs.declared.op.OpId.{OpId}
 use Rattle.gf_ops.specs.declared.change.Value.{Value}
+use Rattle.gf_ops.specs.ConflictTests.{value_eq}
 use Rattle.gf_table.specs.declared.tails.Tail.{Tail}
 use Rattle.gf_table.specs.Standing.{HasSetter, IsTail, AreTails}
+use Rattle.gf_table.specs.Tails.{op_gives}
 use Rattle.gf_table.proofs.LongerLemmas.{got_before, same_before}
 
 module _ (h : List Op) (a : Op) where
@@ -29,6 +31,13 @@ module _ (h : List Op) (a : Op) where
     other = λ k x. let w = t.other k x in (w.0, setter_longer us vs f (record { site = e.last.site; seq = k }) w.0 w.1, w.2);
     tells = λ i w s same. t.tells i w (back i w s same) same;
   }
+
+  -- whether the last setter of a tail gives v
+  pub tail_gives : (us : List ℕ) (e : Tail) (t : IsTail h us e) (v : Value) → op_gives (slice_get new e.position) v ≡ value_eq t.value v
+  tail_gives us e t v =
+      let l = t.last in
+      let at : slice_get new e.position ≡ Some l.op = subst (λ i. slice_get new i ≡ Some l.op) t.position (got_before h a l.position l.op l.at) in
+      ap (λ r. op_gives r v) at ∙ ap (λ k. op_gives (Some (record { id = l.op.id; past = l.op.past; change = k })) v) l.change
 
   module _ (us : List ℕ) (within : (i : ℕ) → Contains us i → i < length h) where
     back : (i : OpId) (v : Value) → HasSetter new us i v → HasSetter h us i v

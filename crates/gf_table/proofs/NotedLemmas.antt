@@ -22,7 +22,7 @@ use Rattle.gf_groups.proofs.ExposedLemmas.{found_in}
 use Rattle.gf_table.specs.declared.tails.Tail.{Tail}
 use Rattle.gf_table.specs.Standing.{HasSetter, IsUpTo, IsTail, AreTails}
 use Rattle.gf_table.specs.Tails.{is_of, op_gives, other_than, new_tail, put_tail, noted}
-use Rattle.gf_table.proofs.KeptTailsLemmas.{setter_longer, setter_before, tail_longer}
+use Rattle.gf_table.proofs.KeptTailsLemmas.{setter_longer, setter_before, tail_gives, tail_longer}
 use Rattle.gf_table.proofs.LongerLemmas.{got_last, got_before}
 use Rattle.gf_table.proofs.NextLemmas.{earlier}
 use Rattle.gf_table.proofs.PutTailLemmas.{put_new, put_kept, put_cases, put_once}
@@ -93,19 +93,13 @@ module _ (h : List Op) (valid : IsValid h) (a : Op) (in_range : IsInRange a) (ac
     site : f.last.site ≡ a.id.site
     site = (Decides-eqb f.last.site a.id.site).0 (found_in own es f found).1
 
-    tells_v : op_gives (slice_get new f.position) v ≡ value_eq t.value v
-    tells_v =
-        let l = t.last in
-        let at : slice_get new f.position ≡ Some l.op = subst (λ i. slice_get new i ≡ Some l.op) t.position (got_before h a l.position l.op l.at) in
-        ap (λ r. op_gives r v) at ∙ ap (λ k. op_gives (Some (record { id = l.op.id; past = l.op.past; change = k })) v) l.change
-
     -- it gave v: the other one stays
     kept_other : value_eq t.value v ≡ true → last.other ≡ f.other
-    kept_other y = ap (other_than new v) found ∙ cond-true (op_gives (slice_get new f.position) v) f.other (Some f.last.seq) (tells_v ∙ y)
+    kept_other y = ap (other_than new v) found ∙ cond-true (op_gives (slice_get new f.position) v) f.other (Some f.last.seq) (tail_gives h a us f t v ∙ y)
 
     -- it gave another value: it is the other one
     new_other : value_eq t.value v ≡ false → last.other ≡ Some f.last.seq
-    new_other n = ap (other_than new v) found ∙ cond-false (op_gives (slice_get new f.position) v) f.other (Some f.last.seq) (tells_v ∙ n)
+    new_other n = ap (other_than new v) found ∙ cond-false (op_gives (slice_get new f.position) v) f.other (Some f.last.seq) (tail_gives h a us f t v ∙ n)
 
     abbrev numbered : ℕ → OpId
     numbered k = record { site = a.id.site; seq = k }

@@ -32,6 +32,7 @@ use Rattle.gf_table.specs.declared.subject.Subject.{Subject}
 use Rattle.gf_table.specs.Standing.{HasSetter, IsUpTo, IsTail, AreTails}
 use Rattle.gf_table.specs.Subjects.{attribute_set, subject_of, is_about}
 use Rattle.gf_table.specs.Tails.{op_gives, misses, hits, hits_one}
+use Rattle.gf_table.proofs.KeptTailsLemmas.{tail_gives}
 use Rattle.gf_table.proofs.LongerLemmas.{got_last, got_before}
 use Rattle.gf_table.proofs.NextLemmas.{fresh, unknown}
 use Rattle.gf_table.proofs.SubjectLemmas.{about_op}
@@ -136,13 +137,6 @@ module _ (h : List Op) (valid : IsValid h) (a : Op) (in_range : IsInRange a) (ac
       met : (i : OpId) (u : Value) (s : HasSetter h us i u) → u ≢ v → ¬ (i.seq ≤ entry a.past i.site) → c (length h) s.position ≡ true
       met i u s differ later = meets s.position s.op s.object u s.among s.at s.change (one_attribute i u s) differ (λ before. later (subst (λ (j : OpId). j.seq ≤ entry a.past j.site) s.id before))
 
-      -- whether a tail's last setter gives v
-      given : (e : Tail) (t : IsTail h us e) → op_gives (slice_get new e.position) v ≡ value_eq t.value v
-      given e t =
-          let l = t.last in
-          let at : slice_get new e.position ≡ Some l.op = subst (λ i. slice_get new i ≡ Some l.op) t.position (got_before h a l.position l.op l.at) in
-          ap (λ r. op_gives r v) at ∙ ap (λ k. op_gives (Some (record { id = l.op.id; past = l.op.past; change = k })) v) l.change
-
       differs_by : (w : Value) → value_eq w v ≡ false → w ≢ v
       differs_by w n e = let y : value_eq w v ≡ true = subst (λ z. value_eq w z ≡ true) e (value_eq-same w) in absurd cc
 
@@ -161,7 +155,7 @@ module _ (h : List Op) (valid : IsValid h) (a : Op) (in_range : IsInRange a) (ac
               | inl k ↦ absurd (differ (k ∙ value_eq-true t.value v y))
               | inr u ↦ or_right (not p) q (up_to i.seq e.last.site e.other u late)
             ]
-            | inr n ↦ or_left (not p) q (not_from_false p (given e t ∙ n))
+            | inr n ↦ or_left (not p) q (not_from_false p (tail_gives h a us e t v ∙ n))
           ])
 
       -- by the change of the operation that a conflicts with
@@ -206,7 +200,7 @@ module _ (h : List Op) (valid : IsValid h) (a : Op) (in_range : IsInRange a) (ac
           let k = and_parts (misses a.past e.last.site (Some e.last.seq)) (not p || q) w.2 in
           elim (cases_Bool (value_eq t.value v)) [
             | inl x ↦ elim (or_cases (not p) q k.1) [
-              | inl n ↦ let no = not-true p n in let yes = given e t ∙ x in absurd cc
+              | inl n ↦ let no = not-true p n in let yes = tail_gives h a us e t v ∙ x in absurd cc
               | inr m ↦ other_meets e t x e.other refl m
             ]
             | inr n ↦ conflicts_at e.last t.value t.last (differs_by t.value n) (not_counted a.past e.last.site e.last.seq k.0)

@@ -36,7 +36,7 @@ abbrev pub IsUpTo : ℕ → Option ℕ → Type 0
 IsUpTo n (Some k) = n ≤ k
 IsUpTo n None = ⊥
 
--- the tail keeps the last setter of its site at the positions us, and the number of that one's last with another value
+-- the tail keeps the last setter of its site at the positions us, and the number of the site's last one with another value than that
 pub record IsTail (h : List Op) (us : List ℕ) (e : Tail) : Type 0 where
   pub value : Value
   pub last : HasSetter h us e.last value
