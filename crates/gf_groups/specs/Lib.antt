@@ -6,3 +6,4 @@ pub mod Parting
 pub mod Taken
 pub mod Tables
 pub mod Pairs
+pub mod Rivals

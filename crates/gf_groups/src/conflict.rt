@@ -12,12 +12,15 @@ use gf_ops::{Op, conflicts};
 pub fn conflict_at(timeline: &Timeline<'_>, i: usize, j: usize) -> bool
     ensures { result ≡ conflict_at timeline.now i j }
 {
-    both_conflict(timeline.get(i), timeline.get(j))
+    match timeline.known_conflict(i, j) {
+        Some(known) => known,
+        None => both_conflict(timeline.get(i), timeline.get(j)),
+    }
 }
 
 /// Whether both operations are there, and conflict.
 #[inline(always)]
-pub(crate) fn both_conflict(a: Option<&Op>, b: Option<&Op>) -> bool
+fn both_conflict(a: Option<&Op>, b: Option<&Op>) -> bool
     requires a { IfSome a (λ op. IsInRange op.now) }
     requires b { IfSome b (λ op. IsInRange op.now) }
     ensures { result ≡ both_conflict (option_copied a.entry) (option_copied b.entry) }

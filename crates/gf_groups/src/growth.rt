@@ -10,7 +10,7 @@ ghost use Rattle.gf_groups.specs.Growing.{step};
 ghost use Rattle.gf_groups.specs.Growing.{part, parts, is_covered, covers, leaves};
 ghost use Rattle.gf_groups.specs.Growing.{rivals, exposed, largest_of, next, groups_at};
 
-use crate::conflict::{both_conflict, conflict_at};
+use crate::conflict::conflict_at;
 use crate::positions::Positions;
 use crate::taken::{count_at, knows_all};
 use crate::timeline::Timeline;
@@ -38,10 +38,9 @@ fn part(
     ensures { IfOk result (λ positions. positions
         ≡ part (conflict_at timeline.now) position group.now) }
 {
-    let coming = timeline.get(position);
     let mut part = Positions::new(alloc);
     for other in group {
-        if !both_conflict(timeline.get(*other), coming) {
+        if !conflict_at(timeline, *other, position) {
             part.push(*other)?;
         }
     }

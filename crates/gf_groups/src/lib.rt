@@ -7,10 +7,10 @@
 //! - [`GroupFault`]: why there is no such list.
 //! - [`the_versions_are_a_list_that_computes`]: the law.
 //!
-//! What a table that grows is made of: [`Positions`] of operations in a [`Timeline`], whether those
-//! of two [conflict](conflict_at), [`conflicts_in`] and [`rivals`] of one, [`groups_at`] positions
-//! and how they [`grow`], and the groups of an object [from](groups_from) its sets, or
-//! [added](add_groups) to others.
+//! What a table that grows is made of: [`Positions`] of operations in a [`Timeline`], which may know
+//! the [`Rivals`] of one, whether those of two [conflict](conflict_at), [`conflicts_in`] and
+//! [`rivals`] of one, [`groups_at`] positions and how they [`grow`], and the groups of an object
+//! [from](groups_from) its sets, or [added](add_groups) to others.
 #![tactic(auto)]
 
 mod conflict;
@@ -35,4 +35,4 @@ pub use ids::Ids;
 pub use laws::the_versions_are_a_list_that_computes;
 pub use listing::add_groups;
 pub use positions::Positions;
-pub use timeline::Timeline;
+pub use timeline::{Rivals, Timeline};
