@@ -367,7 +367,7 @@ module _ (c : ℕ → ℕ → Bool) where
       ]
 
       -- its positions are those before, and x
-      all_free : (a : ℕ) → Contains (whole (with_free x t)).all a ↔ (Contains (whole t).all a ⊎ (a ≡ x))
+      pub all_free : (a : ℕ) → Contains (whole (with_free x t)).all a ↔ (Contains (whole t).all a ⊎ (a ≡ x))
       all_free a = (
         λ h. elim ((all_of_fold (alone (t.free ++ x ∷ [])) t.parts a).0 h) [
           | inl i ↦ elim (Contains-push_cases t.free x a i) [ inl j ↦ inl (free_in a j) | inr e ↦ inr (sym e) ]
@@ -424,10 +424,13 @@ module _ (c : ℕ → ℕ → Bool) where
         ]),
       )
 
+      pub all_connected : (a : ℕ) → Contains (whole (with_part c x t)).all a ↔ (Contains (whole t).all a ⊎ (a ≡ x))
+      all_connected a = subst (λ (z : PartsState). Contains (whole z).all a ↔ (Contains (whole t).all a ⊎ (a ≡ x))) (sym same_part) (all_part a)
+
       pub all_after : (a : ℕ) → Contains (whole (after c x t)).all a ↔ (Contains (whole t).all a ⊎ (a ≡ x))
       all_after a = elim (cases_Bool (is_calm c x t)) [
         | inl y ↦ rw (cond-true (is_calm c x t) (with_free x t) (with_part c x t) y) (all_free a)
-        | inr n ↦ rw (cond-false (is_calm c x t) (with_free x t) (with_part c x t) n) (subst (λ (z : PartsState). Contains (whole z).all a ↔ (Contains (whole t).all a ⊎ (a ≡ x))) (sym same_part) (all_part a))
+        | inr n ↦ rw (cond-false (is_calm c x t) (with_free x t) (with_part c x t) n) (all_connected a)
       ]
 
 -- PARTS STAY: parts under another test that agrees on their positions, as that of a longer history
