@@ -30,7 +30,9 @@ use Rattle.gf_parts.proofs.JoiningLemmas.{IsHit, AllHit, OneCalm, IsBeside, next
 use Rattle.gf_parts.proofs.PartsLemmas.{all_of_fold}
 use Rattle.gf_table.specs.declared.prints.Print.{Print}
 use Rattle.gf_table.specs.declared.spans.Span.{Span}
-use Rattle.gf_table.specs.Next.{IsNextOf, Gives, IsInOne, HasRival}
+use Rattle.gf_table.specs.Next.{IsNextTo, IsNextOf, Gives, IsInOne, HasRival}
+use Rattle.gf_table.specs.Notes.{NotesState}
+use Rattle.gf_table.specs.Subjects.{subject_of}
 use Rattle.gf_table.specs.Others.{CountsOthers}
 use Rattle.gf_table.specs.Summaries.{SummaryState, TellsOf, TellsParts, TellsLast, IsJoined, NotesIn}
 use Rattle.gf_table.specs.Spans.{Spans, Widens, TellsSet, TellsSets, Stays, AllStay, OneKnown}
@@ -38,6 +40,7 @@ use Rattle.gf_table.specs.Prints.{print_of, print_cmp, GivesPrint, IsPrinted, Te
 use Rattle.gf_table.proofs.LongerLemmas.{got_last, got_before, same_before}
 use Rattle.gf_table.proofs.OthersLemmas.{beside_longer, calm_free, calm_before}
 use Rattle.gf_table.proofs.QuickLemmas.{meets, one_op}
+use Rattle.gf_table.proofs.SubjectLemmas.{about_on}
 use Rattle.gf_table.proofs.SummaryLemmas.{summed, positions_more, positions_longer, sets_longer, sets_with}
 
 -- ---- lists
@@ -284,23 +287,32 @@ module _ (h : List Op) (valid : IsValid h) (a : Op) (in_range : IsInRange a) (ac
 
 -- ---- as it is called
 
-module _ (g : List Op) (a : Op) (n : ℕ) (s : PartsState) (r : Option SummaryState) (next : IsNextOf g a n s r) (v : Value) (gives : Gives a v)
-    (m : SummaryState) (p : PartState) (gs : List (List ℕ)) (j own : ℕ) (q : Op) (some : r ≡ Some m) (seen : IsSeen g a v n s m p gs j own q) where
+module _ (g : List Op) (a : Op) (n : ℕ) (s : PartsState) (r : NotesState) (before : IsNextOf g a n s r) (v : Value) (gives : Gives a v)
+    (m : SummaryState) (p : PartState) (gs : List (List ℕ)) (j own : ℕ) (q : Op) (some : r.summary ≡ Some m) (seen : IsSeen g a v n s m p gs j own q) where
+  abbrev next : IsNextTo g a n s
+  next = before.next
+
   abbrev h : List Op
   h = next.history
 
+  abbrev us : List ℕ
+  us = (whole s).all
+
+  on : (i : ℕ) → Contains us i → is_on (object_of a) (slice_get h i) ≡ true
+  on i k = about_on (subject_of a) (slice_get h i) ((next.positions i).0 k)
+
   told_some : TellsParts h m s
-  told_some = subst (TellsLast h s) some next.told
+  told_some = subst (TellsLast h s) some before.notes.summary
 
   seen_at : IsSeen (h ++ a ∷ []) a v (length h) s m p gs j own q
   seen_at = subst (λ z. IsSeen z a v (length h) s m p gs j own q) next.longer (subst (λ k. IsSeen g a v k s m p gs j own q) next.position seen)
 
   pub joins : with_part (conflict_at g) n s ≡ last_with j n s
   joins =
-      let e = joins_at h next.valid a next.in_range next.accepted next.us next.on gives.0 v gives.1 s next.parts next.positions m p gs j own q told_some seen_at in
+      let e = joins_at h next.valid a next.in_range next.accepted us on gives.0 v gives.1 s next.parts (λ i. (λ k. k, λ k. k)) m p gs j own q told_some seen_at in
       subst (λ z. with_part (conflict_at z) n s ≡ last_with j n s) (sym next.longer) (subst (λ k. with_part (conflict_at (h ++ a ∷ [])) k s ≡ last_with j k s) (sym next.position) e)
 
-  pub joined_told : (k : Option SummaryState) → NotesIn r j a.id v k → TellsLast g (last_with j n s) k
+  pub joined_told : (k : Option SummaryState) → NotesIn r.summary j a.id v k → TellsLast g (last_with j n s) k
   joined_told k notes =
-      let t = told_at h next.valid a next.in_range next.accepted next.us next.on gives.0 v gives.1 s next.parts next.positions m p gs j own q told_some seen_at k (subst (λ z. NotesIn z j a.id v k) some notes) in
+      let t = told_at h next.valid a next.in_range next.accepted us on gives.0 v gives.1 s next.parts (λ i. (λ l. l, λ l. l)) m p gs j own q told_some seen_at k (subst (λ z. NotesIn z j a.id v k) some notes) in
       subst (λ z. TellsLast z (last_with j n s) k) (sym next.longer) (subst (λ i. TellsLast (h ++ a ∷ []) (last_with j i s) k) (sym next.position) t)

@@ -12,3 +12,7 @@ pub mod StateLemmas
 pub mod SummaryLemmas
 pub mod ObjectLemmas
 pub mod SubjectLemmas
+pub mod NotesLemmas
+pub mod RivalLemmas
+pub mod SetterLemmas
+pub mod MarkLemmas

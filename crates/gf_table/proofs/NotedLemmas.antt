@@ -23,7 +23,7 @@ use Rattle.gf_table.specs.declared.tails.Tail.{Tail}
 use Rattle.gf_table.specs.Standing.{HasSetter, IsUpTo, IsTail, AreTails}
 use Rattle.gf_table.specs.Tails.{is_of, op_gives, other_than, new_tail, put_tail, noted}
 use Rattle.gf_table.proofs.KeptTailsLemmas.{setter_longer, setter_before, tail_gives, tail_longer}
-use Rattle.gf_table.proofs.LongerLemmas.{got_last, got_before}
+use Rattle.gf_table.proofs.LongerLemmas.{got_last}
 use Rattle.gf_table.proofs.NextLemmas.{earlier}
 use Rattle.gf_table.proofs.PutTailLemmas.{put_new, put_kept, put_cases, put_once}
 use Rattle.gf_table.proofs.QuickLemmas.{one_op}

@@ -67,6 +67,14 @@ set_told (value.Layer n) attr.Layer x e = (refl, ap (λ o. unwrap_or o (value.La
 set_told (value.Shown b) attr.Shown x e = (refl, ap (λ o. unwrap_or o (value.Shown b)) (sym e))
 set_told v t x e = absurd cc
 
+-- b gives another value than v of its attribute
+pub record GivesOther (v : Value) (b : Op) : Type 0 where
+  pub object : ObjectId
+  pub given : Value
+  pub change : b.change ≡ Set object given
+  pub same : attribute_of given ≡ attribute_of v
+  pub differ : given ≢ v
+
 -- what stands at a position is one operation
 pub one_op : (r : Option Op) (a b : Op) → r ≡ Some a → r ≡ Some b → a ≡ b
 one_op r a b e f = cc
@@ -121,10 +129,24 @@ module _ (h : List Op) (valid : IsValid h) (a : Op) (in_range : IsInRange a) (ac
           };
         })
 
-    module _ (about : (i : ℕ) → Contains us i → is_about (subject_of a) (slice_get h i) ≡ true) (es : List Tail) (tails : AreTails h us es) where
-      abbrev new : List Op
-      new = h ++ a ∷ []
+    -- what a conflicts with, by its change
+    gives_by : (i : ℕ) (b : Op) (k : Change) → b.change ≡ k → slice_get h i ≡ Some b → Conflict a b → GivesOther v b
+    gives_by i b (Create start) f at x =
+        let suited : IsSuited h a (Set o v) = subst (IsSuited h a) gives accepted.suited in
+        let known = suited.known in
+        let named : b.id ≡ o.0 = ap (λ q. (changed_object b.id q).0) (sym f) ∙ (ap (λ (p : ObjectId). p.0) (sym x.one_object) ∙ ap (λ q. (changed_object a.id q).0) gives) in
+        let same : known.maker ≡ b = same_op h valid known.maker b known.contained (contained_at h i b at) (known.id ∙ sym named) in
+        absurd (x.concurrent.not_after (subst (λ (p : Op). Precedes p a) same known.before))
+    gives_by i b (Set p w) f at x =
+        let d = x.apart in
+        let first = set_told v d.attribute d.first (subst (λ q. change_value q d.attribute ≡ Some d.first) gives d.first_given) in
+        let second = set_told w d.attribute d.second (subst (λ q. change_value q d.attribute ≡ Some d.second) f d.second_given) in
+        record { object = p; given = w; change = f; same = sym second.0 ∙ first.0; differ = λ k. d.differ (first.1 ∙ (sym k ∙ sym second.1)) }
 
+    pub gives_other : (i : ℕ) (b : Op) → slice_get h i ≡ Some b → Conflict a b → GivesOther v b
+    gives_other i b = gives_by i b b.change refl
+
+    module _ (about : (i : ℕ) → Contains us i → is_about (subject_of a) (slice_get h i) ≡ true) where
       -- each setter sets the attribute of v
       one_attribute : (i : OpId) (u : Value) → HasSetter h us i u → attribute_of u ≡ attribute_of v
       one_attribute i u s =
@@ -134,78 +156,73 @@ module _ (h : List Op) (valid : IsValid h) (a : Op) (in_range : IsInRange a) (ac
           ap (λ r. unwrap_or r (attribute_of v)) (sym (ap attribute_set s.change) ∙ (e ∙ ap attribute_set gives))
 
       -- what a does not know, and gives another value, it conflicts with
-      met : (i : OpId) (u : Value) (s : HasSetter h us i u) → u ≢ v → ¬ (i.seq ≤ entry a.past i.site) → c (length h) s.position ≡ true
+      pub met : (i : OpId) (u : Value) (s : HasSetter h us i u) → u ≢ v → ¬ (i.seq ≤ entry a.past i.site) → c (length h) s.position ≡ true
       met i u s differ later = meets s.position s.op s.object u s.among s.at s.change (one_attribute i u s) differ (λ before. later (subst (λ (j : OpId). j.seq ≤ entry a.past j.site) s.id before))
 
-      differs_by : (w : Value) → value_eq w v ≡ false → w ≢ v
-      differs_by w n e = let y : value_eq w v ≡ true = subst (λ z. value_eq w z ≡ true) e (value_eq-same w) in absurd cc
+      module _ (es : List Tail) (tails : AreTails h us es) where
+        abbrev new : List Op
+        new = h ++ a ∷ []
 
-      up_to : (n s : ℕ) (r : Option ℕ) → IsUpTo n r → ¬ (n ≤ entry a.past s) → misses a.past s r ≡ true
-      up_to n s (Some k) l later = missed a.past s k (λ m. later (omega (arith, l, m)))
-      up_to n s None l later = absurd l
+        differs_by : (w : Value) → value_eq w v ≡ false → w ≢ v
+        differs_by w n e = let y : value_eq w v ≡ true = subst (λ z. value_eq w z ≡ true) e (value_eq-same w) in absurd cc
 
-      hit_tail : (e : Tail) (t : IsTail h us e) (i : OpId) (w : Value) → HasSetter h us i w → i.site ≡ e.last.site → w ≢ v → ¬ (i.seq ≤ entry a.past i.site) → hits new v a.past e ≡ true
-      hit_tail e t i w s site differ later =
-          let told = t.tells i w s site in
-          let late : ¬ (i.seq ≤ entry a.past e.last.site) = subst (λ z. ¬ (i.seq ≤ entry a.past z)) site later in
-          let p = op_gives (slice_get new e.position) v in
-          let q = misses a.past e.last.site e.other in
-          and_from (misses a.past e.last.site (Some e.last.seq)) (not p || q) (up_to i.seq e.last.site (Some e.last.seq) told.0 late) (elim (cases_Bool (value_eq t.value v)) [
-            | inl y ↦ elim told.1 [
-              | inl k ↦ absurd (differ (k ∙ value_eq-true t.value v y))
-              | inr u ↦ or_right (not p) q (up_to i.seq e.last.site e.other u late)
+        up_to : (n s : ℕ) (r : Option ℕ) → IsUpTo n r → ¬ (n ≤ entry a.past s) → misses a.past s r ≡ true
+        up_to n s (Some k) l later = missed a.past s k (λ m. later (omega (arith, l, m)))
+        up_to n s None l later = absurd l
+
+        hit_tail : (e : Tail) (t : IsTail h us e) (i : OpId) (w : Value) → HasSetter h us i w → i.site ≡ e.last.site → w ≢ v → ¬ (i.seq ≤ entry a.past i.site) → hits new v a.past e ≡ true
+        hit_tail e t i w s site differ later =
+            let told = t.tells i w s site in
+            let late : ¬ (i.seq ≤ entry a.past e.last.site) = subst (λ z. ¬ (i.seq ≤ entry a.past z)) site later in
+            let p = op_gives (slice_get new e.position) v in
+            let q = misses a.past e.last.site e.other in
+            and_from (misses a.past e.last.site (Some e.last.seq)) (not p || q) (up_to i.seq e.last.site (Some e.last.seq) told.0 late) (elim (cases_Bool (value_eq t.value v)) [
+              | inl y ↦ elim told.1 [
+                | inl k ↦ absurd (differ (k ∙ value_eq-true t.value v y))
+                | inr u ↦ or_right (not p) q (up_to i.seq e.last.site e.other u late)
+              ]
+              | inr n ↦ or_left (not p) q (not_from_false p (tail_gives h a us e t v ∙ n))
+            ])
+
+        hit_at : (i : ℕ) (b : Op) → Contains us i → slice_get h i ≡ Some b → Conflict a b → hits_one new v a.past es ≡ true
+        hit_at i b m at x =
+            let g = gives_other i b at x in
+            let setter : HasSetter h us b.id g.given = record { op = b; position = i; among = m; at = at; id = refl; object = g.object; change = g.change } in
+            let e = tails.some b.id g.given setter in
+            let site : b.id.site ≡ e.0.last.site = sym ((Decides-eqb e.0.last.site b.id.site).0 e.2) in
+            list_any_from (hits new v a.past) es e.0 e.1 (hit_tail e.0 (tails.each e.0 e.1) b.id g.given setter site g.differ x.concurrent.not_after)
+
+        hit_if : conflicts_in c (length h) us ≡ true → hits_one new v a.past es ≡ true
+        hit_if y =
+            let w = list_any_true (c (length h)) us y in
+            let b = there w.0 w.1 in
+            let k = conflict_with (slice_get new (length h)) (slice_get new w.0) a (got_last h a) w.2 in
+            let same : k.0 ≡ b.0 = one_op (slice_get new w.0) k.0 b.0 k.1 (got_before h a w.0 b.0 b.1) in
+            hit_at w.0 b.0 w.1 b.1 (subst (Conflict a) same k.2)
+
+        conflicts_at : (i : OpId) (u : Value) (s : HasSetter h us i u) → u ≢ v → ¬ (i.seq ≤ entry a.past i.site) → conflicts_in c (length h) us ≡ true
+        conflicts_at i u s differ later = list_any_from (c (length h)) us s.position s.among (met i u s differ later)
+
+        other_meets : (e : Tail) (t : IsTail h us e) → value_eq t.value v ≡ true → (r : Option ℕ) → e.other ≡ r → misses a.past e.last.site r ≡ true → conflicts_in c (length h) us ≡ true
+        other_meets e t y (Some k) f m = let w = t.other k f in conflicts_at (record { site = e.last.site; seq = k }) w.0 w.1 (λ d. w.2 (d ∙ sym (value_eq-true t.value v y))) (not_counted a.past e.last.site k m)
+        other_meets e t y None f m = absurd cc
+
+        only_if : hits_one new v a.past es ≡ true → conflicts_in c (length h) us ≡ true
+        only_if y =
+            let w = list_any_true (hits new v a.past) es y in
+            let e = w.0 in
+            let t = tails.each e w.1 in
+            let p = op_gives (slice_get new e.position) v in
+            let q = misses a.past e.last.site e.other in
+            let k = and_parts (misses a.past e.last.site (Some e.last.seq)) (not p || q) w.2 in
+            elim (cases_Bool (value_eq t.value v)) [
+              | inl x ↦ elim (or_cases (not p) q k.1) [
+                | inl n ↦ let no = not-true p n in let yes = tail_gives h a us e t v ∙ x in absurd cc
+                | inr m ↦ other_meets e t x e.other refl m
+              ]
+              | inr n ↦ conflicts_at e.last t.value t.last (differs_by t.value n) (not_counted a.past e.last.site e.last.seq k.0)
             ]
-            | inr n ↦ or_left (not p) q (not_from_false p (tail_gives h a us e t v ∙ n))
-          ])
 
-      -- by the change of the operation that a conflicts with
-      hit_by : (i : ℕ) (b : Op) (k : Change) → b.change ≡ k → Contains us i → slice_get h i ≡ Some b → Conflict a b → hits_one new v a.past es ≡ true
-      hit_by i b (Create start) f m at x =
-          let suited : IsSuited h a (Set o v) = subst (IsSuited h a) gives accepted.suited in
-          let known = suited.known in
-          let named : b.id ≡ o.0 = ap (λ q. (changed_object b.id q).0) (sym f) ∙ (ap (λ (p : ObjectId). p.0) (sym x.one_object) ∙ ap (λ q. (changed_object a.id q).0) gives) in
-          let same : known.maker ≡ b = same_op h valid known.maker b known.contained (contained_at h i b at) (known.id ∙ sym named) in
-          absurd (x.concurrent.not_after (subst (λ (p : Op). Precedes p a) same known.before))
-      hit_by i b (Set p w) f m at x =
-          let d = x.apart in
-          let first = set_told v d.attribute d.first (subst (λ q. change_value q d.attribute ≡ Some d.first) gives d.first_given) in
-          let second = set_told w d.attribute d.second (subst (λ q. change_value q d.attribute ≡ Some d.second) f d.second_given) in
-          let setter : HasSetter h us b.id w = record { op = b; position = i; among = m; at = at; id = refl; object = p; change = f } in
-          let e = tails.some b.id w setter in
-          let site : b.id.site ≡ e.0.last.site = sym ((Decides-eqb e.0.last.site b.id.site).0 e.2) in
-          list_any_from (hits new v a.past) es e.0 e.1 (hit_tail e.0 (tails.each e.0 e.1) b.id w setter site (λ k. d.differ (first.1 ∙ (sym k ∙ sym second.1))) x.concurrent.not_after)
-
-      hit_if : conflicts_in c (length h) us ≡ true → hits_one new v a.past es ≡ true
-      hit_if y =
-          let w = list_any_true (c (length h)) us y in
-          let b = there w.0 w.1 in
-          let k = conflict_with (slice_get new (length h)) (slice_get new w.0) a (got_last h a) w.2 in
-          let same : k.0 ≡ b.0 = one_op (slice_get new w.0) k.0 b.0 k.1 (got_before h a w.0 b.0 b.1) in
-          hit_by w.0 b.0 b.0.change refl w.1 b.1 (subst (Conflict a) same k.2)
-
-      conflicts_at : (i : OpId) (u : Value) (s : HasSetter h us i u) → u ≢ v → ¬ (i.seq ≤ entry a.past i.site) → conflicts_in c (length h) us ≡ true
-      conflicts_at i u s differ later = list_any_from (c (length h)) us s.position s.among (met i u s differ later)
-
-      other_meets : (e : Tail) (t : IsTail h us e) → value_eq t.value v ≡ true → (r : Option ℕ) → e.other ≡ r → misses a.past e.last.site r ≡ true → conflicts_in c (length h) us ≡ true
-      other_meets e t y (Some k) f m = let w = t.other k f in conflicts_at (record { site = e.last.site; seq = k }) w.0 w.1 (λ d. w.2 (d ∙ sym (value_eq-true t.value v y))) (not_counted a.past e.last.site k m)
-      other_meets e t y None f m = absurd cc
-
-      only_if : hits_one new v a.past es ≡ true → conflicts_in c (length h) us ≡ true
-      only_if y =
-          let w = list_any_true (hits new v a.past) es y in
-          let e = w.0 in
-          let t = tails.each e w.1 in
-          let p = op_gives (slice_get new e.position) v in
-          let q = misses a.past e.last.site e.other in
-          let k = and_parts (misses a.past e.last.site (Some e.last.seq)) (not p || q) w.2 in
-          elim (cases_Bool (value_eq t.value v)) [
-            | inl x ↦ elim (or_cases (not p) q k.1) [
-              | inl n ↦ let no = not-true p n in let yes = tail_gives h a us e t v ∙ x in absurd cc
-              | inr m ↦ other_meets e t x e.other refl m
-            ]
-            | inr n ↦ conflicts_at e.last t.value t.last (differs_by t.value n) (not_counted a.past e.last.site e.last.seq k.0)
-          ]
-
-      -- THE QUICK TEST
-      pub quick : hits_one new v a.past es ≡ conflicts_in c (length h) us
-      quick = same_answer (hits_one new v a.past es) (conflicts_in c (length h) us) only_if hit_if
+        -- THE QUICK TEST
+        pub quick : hits_one new v a.past es ≡ conflicts_in c (length h) us
+        quick = same_answer (hits_one new v a.past es) (conflicts_in c (length h) us) only_if hit_if

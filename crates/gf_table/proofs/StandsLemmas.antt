@@ -4,6 +4,7 @@ use Rattle.std.specs.Prelude.{Contains, cond, Option, Some, None, Result, Ok, Er
 use Rattle.std.specs.BTreeMap.{is_at}
 use Rattle.std.specs.Map.{lookup, set_value}
 use Rattle.std.proofs.lemmas.Bool.{cases_Bool, cond-true, cond-false}
+use Rattle.std.proofs.lemmas.Option.{slice_get_within}
 use Rattle.gf_ops.specs.declared.op.Op.{Op}
 use Rattle.gf_ops.specs.Accepted.{IsAccepted}
 use Rattle.gf_ops.specs.Limits.{IsInRange}
@@ -13,10 +14,10 @@ use Rattle.gf_table.specs.Subjects.{subject_cmp, subject_of, is_about, positions
 use Rattle.gf_table.specs.SubjectState.{SubjectState, nothing, with_op}
 use Rattle.gf_table.specs.Standing.{IsStateOf, Stands, StandsFor, state_of}
 use Rattle.gf_table.specs.Next.{IsNextOf}
-use Rattle.gf_table.specs.Summaries.{SummaryState, TellsLast}
+use Rattle.gf_table.specs.Notes.{NotesState, AreNotes}
 use Rattle.gf_table.proofs.LongerLemmas.{positions_with_last, positions_without_last}
 use Rattle.gf_table.proofs.StateLemmas.{first_state, state_kept, state_more}
-use Rattle.gf_table.proofs.SubjectLemmas.{Contains-positions_about, about_from, about_on, about_to, at_itself, at_told}
+use Rattle.gf_table.proofs.SubjectLemmas.{Contains-positions_about, about_from, about_op, about_to, at_itself, at_told}
 
 -- the value that is there, written again
 pub written_again : {K X : Type 0} (test : K → Bool) (es : List (K × X)) (w : X) → lookup test es ≡ Some w → set_value test es w ≡ es
@@ -42,6 +43,9 @@ module _ (h : List Op) (valid : IsValid h) (a : Op) (in_range : IsInRange a) (ac
   about : (k : Subject) (i : ℕ) → Contains (positions_about h k (length h)) i → is_about k (slice_get h i) ≡ true
   about k i m = ((Contains-positions_about h k (length h) i).0 m).1
 
+  all_about : (k : Subject) (i : ℕ) → is_about k (slice_get h i) ≡ true → Contains (positions_about h k (length h)) i
+  all_about k i y = let w = about_op k (slice_get h i) y in (Contains-positions_about h k (length h) i).1 (slice_get_within h i w.0 w.1, y)
+
   -- the state of a's subject, or nothing, is right
   or_nothing : (us : List ℕ) (r : Option SubjectState) → Stands h us r → IsStateOf h us (unwrap_or r nothing)
   or_nothing us (Some t) s = s
@@ -53,9 +57,9 @@ module _ (h : List Op) (valid : IsValid h) (a : Op) (in_range : IsInRange a) (ac
 
   -- what the table has for a's subject is with a, and its summary tells of the last part; the rest stays
   pub record Adds (t s : List (Subject × SubjectState)) : Type 0 where
-    pub summary : Option SummaryState
-    pub told : TellsLast new (with_op new a (length h) summary (unwrap_or (state_of t (subject_of a)) nothing)).parts summary
-    pub puts : (q : Subject) → state_of s q ≡ cond (is_at (subject_cmp (subject_of a)) q) (Some (with_op new a (length h) summary (unwrap_or (state_of t (subject_of a)) nothing))) (state_of t q)
+    pub notes : NotesState
+    pub told : AreNotes new (with_op new a (length h) notes (unwrap_or (state_of t (subject_of a)) nothing)).parts notes
+    pub puts : (q : Subject) → state_of s q ≡ cond (is_at (subject_cmp (subject_of a)) q) (Some (with_op new a (length h) notes (unwrap_or (state_of t (subject_of a)) nothing))) (state_of t q)
 
   pub stands_after : (t s : List (Subject × SubjectState)) → StandsFor h t → Adds t s → StandsFor new s
   stands_after t s stands adds q =
@@ -66,10 +70,10 @@ module _ (h : List Op) (valid : IsValid h) (a : Op) (in_range : IsInRange a) (ac
             let same : k ≡ q = at_told k q y in
             let own : Stands h us (state_of t k) = subst (λ p. Stands h us (state_of t p)) (sym same) (stands q) in
             let own_about : (i : ℕ) → Contains us i → is_about k (slice_get h i) ≡ true = subst (λ p. (i : ℕ) → Contains us i → is_about p (slice_get h i) ≡ true) (sym same) (about q) in
-            let more = state_more h a us (within q) (unwrap_or (state_of t k) nothing) (or_nothing us (state_of t k) own) valid in_range accepted own_about adds.summary adds.told in
+            let more = state_more h a us (within q) (unwrap_or (state_of t k) nothing) (or_nothing us (state_of t k) own) valid in_range accepted own_about adds.notes adds.told in
             let positions = positions_with_last h a q (about_to q a same) in
-            let here : state_of s q ≡ Some (with_op new a (length h) adds.summary (unwrap_or (state_of t k) nothing)) =
-            adds.puts q ∙ cond-true (is_at (subject_cmp k) q) (Some (with_op new a (length h) adds.summary (unwrap_or (state_of t k) nothing))) (state_of t q) y in
+            let here : state_of s q ≡ Some (with_op new a (length h) adds.notes (unwrap_or (state_of t k) nothing)) =
+            adds.puts q ∙ cond-true (is_at (subject_cmp k) q) (Some (with_op new a (length h) adds.notes (unwrap_or (state_of t k) nothing))) (state_of t q) y in
             rw (positions, here) more
         | inr n ↦
             let off : is_about q (Some a) ≡ false = elim (cases_Bool (is_about q (Some a))) [
@@ -77,33 +81,45 @@ module _ (h : List Op) (valid : IsValid h) (a : Op) (in_range : IsInRange a) (ac
               | inr m ↦ m
             ] in
             let positions = positions_without_last h a q off in
-            let here : state_of s q ≡ state_of t q = adds.puts q ∙ cond-false (is_at (subject_cmp k) q) (Some (with_op new a (length h) adds.summary (unwrap_or (state_of t k) nothing))) (state_of t q) n in
+            let here : state_of s q ≡ state_of t q = adds.puts q ∙ cond-false (is_at (subject_cmp k) q) (Some (with_op new a (length h) adds.notes (unwrap_or (state_of t k) nothing))) (state_of t q) n in
             rw (positions, here) (kept us (within q) (state_of t q) (stands q))
       ]
 
   -- by what stands in its position
   pub adds_from : (t s : List (Subject × SubjectState)) (k : Subject) (r w : SubjectState) (g : List Op) (n : ℕ) → k ≡ subject_of a → unwrap_or (state_of t k) nothing ≡ r → g ≡ new → n ≡ length h →
-      w ≡ with_op g a n w.summary r → TellsLast g w.parts w.summary → ((q : Subject) → state_of s q ≡ cond (is_at (subject_cmp k) q) (Some w) (state_of t q)) → Adds t s
+      w ≡ with_op g a n w.notes r → AreNotes g w.parts w.notes → ((q : Subject) → state_of s q ≡ cond (is_at (subject_cmp k) q) (Some w) (state_of t q)) → Adds t s
   adds_from t s k r w g n same was long last made told f =
-      let m = w.summary in
+      let m = w.notes in
       let old : r ≡ unwrap_or (state_of t (subject_of a)) nothing = sym was ∙ ap (λ o. unwrap_or (state_of t o) nothing) same in
       let one : w ≡ with_op new a (length h) m (unwrap_or (state_of t (subject_of a)) nothing) =
       made ∙ (ap (λ z. with_op z a n m r) long ∙ (ap (λ z. with_op new a z m r) last ∙ ap (λ (z : SubjectState). with_op new a (length h) m z) old)) in
       record {
-        summary = m;
-        told = subst (λ (z : SubjectState). TellsLast new z.parts m) one (subst (λ z. TellsLast z w.parts m) long told);
+        notes = m;
+        told = subst (λ (z : SubjectState). AreNotes new z.parts m) one (subst (λ z. AreNotes z w.parts m) long told);
         puts = λ q. subst (λ o. state_of s q ≡ cond (is_at (subject_cmp o) q) (Some w) (state_of t q)) same (f q)
             ∙ ap (λ (z : SubjectState). cond (is_at (subject_cmp (subject_of a)) q) (Some z) (state_of t q)) one;
       }
 
   -- the next operation finds the parts of its subject
-  pub next_from : (t : List (Subject × SubjectState)) → StandsFor h t → (k : Subject) (r : SubjectState) (g : List Op) (n : ℕ) → k ≡ subject_of a → unwrap_or (state_of t k) nothing ≡ r → g ≡ new → n ≡ length h → IsNextOf g a n r.parts r.summary
+  pub next_from : (t : List (Subject × SubjectState)) → StandsFor h t → (k : Subject) (r : SubjectState) (g : List Op) (n : ℕ) → k ≡ subject_of a → unwrap_or (state_of t k) nothing ≡ r → g ≡ new → n ≡ length h → IsNextOf g a n r.parts r.notes
   next_from t stands k r g n same was long last =
       let o = subject_of a in
       let us = positions_about h o (length h) in
       let old : unwrap_or (state_of t o) nothing ≡ r = ap (λ p. unwrap_or (state_of t p) nothing) (sym same) ∙ was in
       let state : IsStateOf h us r = subst (IsStateOf h us) old (or_nothing us (state_of t o) (stands o)) in
-      record { history = h; longer = long; position = last; valid = valid; in_range = in_range; accepted = accepted; us = us; on = λ i m. about_on o (slice_get h i) (about o i m); parts = state.parts; positions = state.positions; told = state.summary }
+      record {
+        next = record {
+          history = h;
+          longer = long;
+          position = last;
+          valid = valid;
+          in_range = in_range;
+          accepted = accepted;
+          parts = state.parts;
+          positions = λ i. (λ m. about o i ((state.positions i).0 m), λ y. (state.positions i).1 (all_about o i y));
+        };
+        notes = state.notes;
+      }
 
 -- two facts of one success
 pub both_ok : {T E : Type 0} (X Y : Type 0) (r : Result T E) → OnOk r X → OnOk r Y → OnOk r (X × Y)

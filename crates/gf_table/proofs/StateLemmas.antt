@@ -1,6 +1,6 @@
 -- The state of an object after one more operation, on it or on another one.
 use Rattle.std.proofs.Common.{◌≡◌, ℕ, ◌<◌, Bool, true, false, List, [], ◌∷◌, ◌++◌, length, inl, inr, refl, subst, sym, ◌∙◌}
-use Rattle.std.specs.Prelude.{◌↔◌, Contains, cond, not, Option, Some, slice_get}
+use Rattle.std.specs.Prelude.{◌↔◌, Contains, cond, not, Some, slice_get}
 use Rattle.std.specs.List.{list_any}
 use Rattle.std.proofs.lemmas.Bool.{cases_Bool, cond-true, cond-false, and_from, and_parts, not-true, not_from_false}
 use Rattle.std.proofs.lemmas.List.Elements.{Contains-append_left, Contains-push, Contains-push_cases}
@@ -21,19 +21,19 @@ use Rattle.gf_groups.proofs.ListLemmas.{list_any_true, list_any_from}
 use Rattle.gf_groups.proofs.TableLemmas.{conflict_at_test}
 use Rattle.gf_parts.specs.Parted.{AreParts}
 use Rattle.gf_parts.specs.Parts.{PartState, PartsState, alone, whole, touches, is_calm, with_free, with_part, after}
-use Rattle.gf_parts.proofs.PartsLemmas.{all_of_fold, first_parts, parts_agree, parts_after, all_after}
+use Rattle.gf_parts.proofs.PartsLemmas.{all_of_fold, first_parts, parts_after, all_after}
 use Rattle.gf_table.specs.SubjectState.{SubjectState, nothing, with_change, with_op}
 use Rattle.gf_table.specs.Standing.{HasSetter, AreTails, IsStateOf}
 use Rattle.gf_table.specs.Subjects.{subject_of, is_about}
-use Rattle.gf_table.specs.Summaries.{SummaryState, TellsLast}
+use Rattle.gf_table.specs.Notes.{NotesState, AreNotes}
 use Rattle.gf_table.specs.Tails.{hits_one}
 use Rattle.gf_table.proofs.KeptTailsLemmas.{tails_kept}
-use Rattle.gf_table.proofs.LongerLemmas.{got_last, same_conflict}
+use Rattle.gf_table.proofs.LongerLemmas.{got_last}
 use Rattle.gf_table.proofs.NotedLemmas.{tails_noted}
+use Rattle.gf_table.proofs.NotesLemmas.{notes_longer, parts_longer}
 use Rattle.gf_table.proofs.PutTailLemmas.{none_once}
 use Rattle.gf_table.proofs.QuickLemmas.{made_none, one_op, quick}
 use Rattle.gf_table.proofs.SubjectLemmas.{about_on}
-use Rattle.gf_table.proofs.SummaryLemmas.{last_longer}
 
 -- ---- whether the next one is calm, by a list of the positions
 
@@ -95,11 +95,11 @@ module _ (h : List Op) (a : Op) (us : List ℕ) (within : (i : ℕ) → Contains
   below i m = within i ((state.positions i).0 m)
 
   still_parts : AreParts c t.parts
-  still_parts = parts_agree (conflict_at h) c (conflict_at_test h) (conflict_at_test (h ++ a ∷ [])) t.parts (λ i j k l. same_conflict h a i j (below i k) (below j l)) state.parts
+  still_parts = parts_longer h a t.parts below state.parts
 
   -- it stays where the operation is on another object
   pub state_kept : IsStateOf (h ++ a ∷ []) us t
-  state_kept = record { parts = still_parts; positions = state.positions; tails = tails_kept h a us within t.tails state.tails; summary = last_longer h a t.parts t.summary state.summary }
+  state_kept = record { parts = still_parts; positions = state.positions; tails = tails_kept h a us within t.tails state.tails; notes = notes_longer h a t.parts t.notes state.notes }
 
   parts_more : AreParts c (after c (length h) t.parts)
   parts_more = parts_after c (conflict_at_test (h ++ a ∷ [])) t.parts still_parts (length h) below
@@ -112,15 +112,15 @@ module _ (h : List Op) (a : Op) (us : List ℕ) (within : (i : ℕ) → Contains
       )
 
   -- with the right parts and tails it is the state with a
-  made_state : (s : SubjectState) → s.parts ≡ after c (length h) t.parts → AreTails (h ++ a ∷ []) (us ++ length h ∷ []) s.tails → TellsLast (h ++ a ∷ []) s.parts s.summary → IsStateOf (h ++ a ∷ []) (us ++ length h ∷ []) s
+  made_state : (s : SubjectState) → s.parts ≡ after c (length h) t.parts → AreTails (h ++ a ∷ []) (us ++ length h ∷ []) s.tails → AreNotes (h ++ a ∷ []) s.parts s.notes → IsStateOf (h ++ a ∷ []) (us ++ length h ∷ []) s
   made_state s e tails told = record {
     parts = subst (AreParts c) (sym e) parts_more;
     positions = subst (λ (p : PartsState). (i : ℕ) → Contains (whole p).all i ↔ Contains (us ++ length h ∷ []) i) (sym e) positions_more;
     tails = tails;
-    summary = told;
+    notes = told;
   }
 
-  module _ (valid : IsValid h) (in_range : IsInRange a) (accepted : IsAccepted h a) (about : (i : ℕ) → Contains us i → is_about (subject_of a) (slice_get h i) ≡ true) (m : Option SummaryState) where
+  module _ (valid : IsValid h) (in_range : IsInRange a) (accepted : IsAccepted h a) (about : (i : ℕ) → Contains us i → is_about (subject_of a) (slice_get h i) ≡ true) (m : NotesState) where
     on : (i : ℕ) → Contains us i → is_on (object_of a) (slice_get h i) ≡ true
     on i k = about_on (subject_of a) (slice_get h i) (about i k)
 
@@ -155,7 +155,7 @@ module _ (h : List Op) (a : Op) (us : List ℕ) (within : (i : ℕ) → Contains
               creates a.change s.object v e (subst (λ (z : Op). z.change ≡ Set s.object v) same s.change)
         ]
 
-    by_change : (k : Change) → a.change ≡ k → TellsLast (h ++ a ∷ []) (with_change (h ++ a ∷ []) a k (length h) m t).parts m → IsStateOf (h ++ a ∷ []) (us ++ length h ∷ []) (with_change (h ++ a ∷ []) a k (length h) m t)
+    by_change : (k : Change) → a.change ≡ k → AreNotes (h ++ a ∷ []) (with_change (h ++ a ∷ []) a k (length h) m t).parts m → IsStateOf (h ++ a ∷ []) (us ++ length h ∷ []) (with_change (h ++ a ∷ []) a k (length h) m t)
     by_change (Create start) e told = made_state (with_change (h ++ a ∷ []) a (Create start) (length h) m t)
         (right_step c t.parts us state.positions (length h) false (sym (no_clash (made_none h valid a in_range accepted us on start e))))
         (first_tails start e) told
@@ -164,7 +164,7 @@ module _ (h : List Op) (a : Op) (us : List ℕ) (within : (i : ℕ) → Contains
         (tails_noted h valid a in_range accepted us within o v e t.tails state.tails) told
 
     -- THE STEP on its own object
-    pub state_more : TellsLast (h ++ a ∷ []) (with_op (h ++ a ∷ []) a (length h) m t).parts m → IsStateOf (h ++ a ∷ []) (us ++ length h ∷ []) (with_op (h ++ a ∷ []) a (length h) m t)
+    pub state_more : AreNotes (h ++ a ∷ []) (with_op (h ++ a ∷ []) a (length h) m t).parts m → IsStateOf (h ++ a ∷ []) (us ++ length h ∷ []) (with_op (h ++ a ∷ []) a (length h) m t)
     state_more = by_change a.change refl
 
 -- no position, nothing
@@ -177,5 +177,5 @@ first_state h = record {
     some = λ i v s. absurd (not_Contains-nil s.position s.among);
     once = none_once;
   };
-  summary = tt;
+  notes = record { summary = tt; setters = tt };
 }

@@ -17,6 +17,7 @@ use Rattle.gf_table.specs.Prints.{IsPrinted, TellsPositions, print_cmp}
 use Rattle.gf_table.specs.Spans.{Spans, Widens, SpansAt, TellsSet, TellsSets, Stays, AllStay, OneKnown}
 use Rattle.gf_table.specs.Summaries.{SummaryState, TellsOf, TellsParts, TellsLast, NotesOtherIn}
 use Rattle.gf_table.specs.Next.{IsNextOf}
+use Rattle.gf_table.specs.Notes.{NotesState}
 use Rattle.gf_parts.specs.Parts.{PartState, PartsState, with_free, set_with}
 use Rattle.gf_table.proofs.LongerLemmas.{got_before}
 use Rattle.gf_table.proofs.OthersLemmas.{beside_longer, beside_with}
@@ -159,9 +160,10 @@ module _ (h : List Op) (a : Op) where
       subst (λ (z : SummaryState). TellsParts new z (with_free (length h) s)) is made
 
 -- so it does with the next operation, which is free
-pub next_free : (g : List Op) (a : Op) (n : ℕ) (s : PartsState) (m k : Option SummaryState) → IsNextOf g a n s m → NotesOtherIn m a k → TellsLast g (with_free n s) k
+pub next_free : (g : List Op) (a : Op) (n : ℕ) (s : PartsState) (m : NotesState) (k : Option SummaryState) → IsNextOf g a n s m → NotesOtherIn m.summary a k → TellsLast g (with_free n s) k
 next_free g a n s m k next notes =
-    subst (λ z. TellsLast z (with_free n s) k) (sym next.longer) (subst (λ i. TellsLast (next.history ++ a ∷ []) (with_free i s) k) (sym next.position) (free_told next.history a s m k next.told notes))
+    let h = next.next.history in
+    subst (λ z. TellsLast z (with_free n s) k) (sym next.next.longer) (subst (λ i. TellsLast (h ++ a ∷ []) (with_free i s) k) (sym next.next.position) (free_told h a s m.summary k next.notes.summary notes))
 
 -- the operation at the position n joins the set j
 pub sets_with : (h : List Op) (a : Op) (n : ℕ) → slice_get h n ≡ Some a → (j : ℕ) (es : List Span) (gs : List (List ℕ)) (f : Span) → TellsSets h es gs → Widens (slice_index_or es j f) a.id f → TellsSets h (slice_set es j f) (set_with j n gs)

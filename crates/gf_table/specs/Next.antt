@@ -1,32 +1,33 @@
 -- The next operation behind a history, and the parts of its subject. No public clause cites this module.
-use Rattle.std.specs.Prelude.{◌≡◌, ◌↔◌, ℕ, Bool, true, not, ◌&&◌, List, [], ◌∷◌, ◌++◌, Contains, length, Option, slice_get}
+use Rattle.std.specs.Prelude.{◌≡◌, ◌↔◌, ℕ, Bool, true, not, ◌&&◌, List, [], ◌∷◌, ◌++◌, Contains, length, slice_get}
 use Rattle.gf_ops.specs.declared.op.Op.{Op}
 use Rattle.gf_ops.specs.declared.op.ObjectId.{ObjectId}
 use Rattle.gf_ops.specs.declared.change.Change.TheVariants.{Set}
 use Rattle.gf_ops.specs.declared.change.Value.{Value}
 use Rattle.gf_ops.specs.Accepted.{IsAccepted}
-use Rattle.gf_ops.specs.Attribute.{object_of}
 use Rattle.gf_ops.specs.Limits.{IsInRange}
 use Rattle.gf_ops.specs.ValidHistory.{IsValid}
 use Rattle.gf_groups.specs.Growing.{conflict_at}
-use Rattle.gf_groups.specs.GroupedPositions.{is_on}
 use Rattle.gf_parts.specs.Parted.{AreParts}
 use Rattle.gf_parts.specs.Parts.{PartsState, whole}
-use Rattle.gf_table.specs.Summaries.{SummaryState, TellsLast}
+use Rattle.gf_table.specs.Notes.{NotesState, AreNotes}
+use Rattle.gf_table.specs.Subjects.{subject_of, is_about}
 
--- g is a history with a behind it, at the position n; s are the parts of operations on a's object in that history, and m tells of the last one
-pub record IsNextOf (g : List Op) (a : Op) (n : ℕ) (s : PartsState) (m : Option SummaryState) : Type 0 where
+-- g is a history with a behind it, at the position n; s are the parts of the operations about a's subject in that history
+pub record IsNextTo (g : List Op) (a : Op) (n : ℕ) (s : PartsState) : Type 0 where
   pub history : List Op
   pub longer : g ≡ history ++ a ∷ []
   pub position : n ≡ length history
   pub valid : IsValid history
   pub in_range : IsInRange a
   pub accepted : IsAccepted history a
-  pub us : List ℕ
-  pub on : (i : ℕ) → Contains us i → is_on (object_of a) (slice_get history i) ≡ true
   pub parts : AreParts (conflict_at history) s
-  pub positions : (i : ℕ) → Contains (whole s).all i ↔ Contains us i
-  pub told : TellsLast history s m
+  pub positions : (i : ℕ) → Contains (whole s).all i ↔ (is_about (subject_of a) (slice_get history i) ≡ true)
+
+-- and m are notes of these
+pub record IsNextOf (g : List Op) (a : Op) (n : ℕ) (s : PartsState) (m : NotesState) : Type 0 where
+  pub next : IsNextTo g a n s
+  pub notes : AreNotes next.history s m
 
 -- a gives an object the value v
 abbrev pub Gives : Op → Value → Type 0

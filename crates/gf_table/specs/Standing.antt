@@ -1,4 +1,4 @@
--- When a table stands for a history: for each subject it has the parts of the operations about it, the tails of their setters, and a summary that tells of the last part.
+-- When a table stands for a history: for each subject it has the parts of the operations about it, the tails of their setters, and notes that tell of the parts.
 use Rattle.std.specs.Prelude.{◌≡◌, ◌≢◌, ◌⊎◌, ◌↔◌, ℕ, ◌≤◌, true, cond, List, [], AllPairs, Contains, length, Option, Some, None, option_map, slice_get}
 use Rattle.std.specs.BTreeMap.{is_at}
 use Rattle.std.specs.List.{IsDistinct, fold, filter_map}
@@ -18,7 +18,7 @@ use Rattle.gf_table.specs.declared.tails.Tail.{Tail}
 use Rattle.gf_table.specs.declared.subject.Subject.{Subject}
 use Rattle.gf_table.specs.Subjects.{kinds, subject_cmp, positions_about}
 use Rattle.gf_table.specs.SubjectState.{SubjectState}
-use Rattle.gf_table.specs.Summaries.{TellsLast}
+use Rattle.gf_table.specs.Notes.{AreNotes}
 use Rattle.gf_table.specs.Tails.{is_of, are_one}
 
 -- an operation of h at one of the positions us has the id i and gives the value v
@@ -55,7 +55,7 @@ pub record IsStateOf (h : List Op) (us : List ℕ) (t : SubjectState) : Type 0 w
   pub parts : AreParts (conflict_at h) t.parts
   pub positions : (i : ℕ) → Contains (whole t.parts).all i ↔ Contains us i
   pub tails : AreTails h us t.tails
-  pub summary : TellsLast h t.parts t.summary
+  pub notes : AreNotes h t.parts t.notes
 
 -- the table's state of a subject, if it has one, is that of the positions us, and else there is no position
 abbrev pub Stands : List Op → List ℕ → Option SubjectState → Type 0

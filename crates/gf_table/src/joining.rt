@@ -1,12 +1,17 @@
 //! How an operation comes to the parts of its object.
 
-ghost use Rattle.std.specs.Prelude.{◌≡◌, IfSome, IsTrue, OnOk, OnErr};
+ghost use Rattle.std.specs.Prelude.{◌≡◌, option_map, IfSome, IsTrue, OnOk, OnErr};
 ghost use Rattle.gf_groups.specs.Growing.{conflict_at};
 ghost use Rattle.gf_ops.specs.Limits.{IsInRange};
-ghost use Rattle.gf_parts.specs.Parts.{with_free, with_part, last_with};
-ghost use Rattle.gf_table.specs.Next.{IsNextOf, Gives, IsInOne, are_beside, HasRival};
+ghost use Rattle.gf_parts.specs.Parts.{whole, with_free, with_part, last_with};
+ghost use Rattle.gf_table.specs.Next.{IsNextTo, IsNextOf, Gives, IsInOne, are_beside, HasRival};
+ghost use Rattle.gf_table.specs.Notes.{AreNotes};
+ghost use Rattle.gf_table.specs.Setters.{ListsAll};
 ghost use Rattle.gf_table.specs.Summaries.{TellsLast, NotesIn};
 
+use crate::notes::Notes;
+use crate::scratch::Scratch;
+use crate::setters::{Setter, setters_of, with_setter};
 use crate::summary::{Summary, noted, noted_other};
 use gf_groups::{Positions, Timeline, conflict_at};
 use gf_ops::{Op, Value};
@@ -53,18 +58,18 @@ fn joined_set(
     value: &Value,
     position: usize,
     parts: &Parts,
-    summary: &Option<Summary>,
+    notes: &Notes,
 ) -> Option<usize>
-    requires next { IsNextOf timeline.now op.now position parts.now summary.now }
+    requires next { IsNextOf timeline.now op.now position parts.now notes.now }
     requires gives { Gives op.now value.now }
     ensures joins { IfSome result (λ set. with_part (conflict_at timeline.now) position parts.now
         ≡ last_with set position parts.now) }
-    ensures told { IfSome result (λ set. (m : _) → NotesIn summary.now set op.now.id value.now m
+    ensures told { IfSome result (λ set. (m : _) → NotesIn notes.now.summary set op.now.id value.now m
         → TellsLast timeline.now (last_with set position parts.now) m) }
 {
     let part = parts.parts().last()?;
     let sets = part.sets()?;
-    let summary = summary.as_ref()?;
+    let summary = notes.summary.as_ref()?;
     let set = summary.known_set(&op.past)?;
     let own = last_of(sets, set)?;
     let heard = &timeline.get(own)?.past;
@@ -82,44 +87,100 @@ pub(crate) fn add_free(
     op: &Op,
     position: usize,
     parts: &mut Parts,
-    summary: &mut Option<Summary>,
+    notes: &mut Notes,
 ) -> Result<(), OutOfMemory>
     requires { IsInRange op.now }
     ensures ok { OnOk result (parts.new ≡ with_free position parts.old) }
-    ensures told { OnOk result ((h : _) → IsNextOf h op.now position parts.old summary.old
-        → TellsLast h parts.new summary.new) }
+    ensures told { OnOk result ((h : _) → IsNextOf h op.now position parts.old notes.old
+        → AreNotes h parts.new notes.new) }
     ensures err { OnErr result (parts.new ≡ parts.old) }
-    ensures err_summary { OnErr result (summary.new ≡ summary.old) }
+    ensures err_notes { OnErr result (notes.new ≡ notes.old) }
 {
     parts.add_free(position)?;
-    *summary = noted_other(summary.take(), op);
+    notes.summary = noted_other(notes.summary.take(), op);
+    notes.setters = with_setter(notes.setters.take(), op, position);
     Ok(())
 }
 
-/// Adds the operation at this position, which gives the value and conflicts with another one. It
-/// grows one set in place where the summary tells that the others stay.
-pub(crate) fn connect(
-    alloc: Global,
+/// Adds the operation at this position, which gives the value, and makes one part of all that it
+/// connects. Its conflicts are found among the setters, where these are listed or can be.
+fn connect_parts(
+    scratch: &mut Scratch,
     timeline: &Timeline<'_>,
     op: &Op,
     value: &Value,
     position: usize,
     parts: &mut Parts,
-    summary: &mut Option<Summary>,
+    notes: &Notes,
 ) -> Result<(), OutOfMemory>
-    requires next { IsNextOf timeline.now op.now position parts.old summary.old }
+    requires next { IsNextOf timeline.now op.now position parts.old notes.now }
     requires gives { Gives op.now value.now }
     ensures ok { OnOk result (parts.new ≡ with_part (conflict_at timeline.now) position parts.old) }
-    ensures told { OnOk result (TellsLast timeline.now parts.new summary.new) }
     ensures err { OnErr result (parts.new ≡ parts.old) }
-    ensures err_summary { OnErr result (summary.new ≡ summary.old) }
 {
-    if let Some(set) = joined_set(timeline, op, value, position, parts, summary) {
+    if let Some(setters) = &notes.setters {
+        return scratch.connect(timeline, op, value, position, setters, parts);
+    }
+    match setters_of(scratch.alloc, timeline, parts) {
+        Some(setters) => scratch.connect(timeline, op, value, position, &setters, parts),
+        None => parts.connect(scratch.alloc, timeline, position),
+    }
+}
+
+/// The setters after the operation came to the parts: those that were listed and this one, or else
+/// all of the parts.
+fn relisted(
+    alloc: Global,
+    timeline: &Timeline<'_>,
+    op: &Op,
+    position: usize,
+    parts: &Parts,
+    setters: Option<Vec<Setter>>,
+) -> Option<Vec<Setter>>
+    ensures { (s : _) (next : IsNextTo timeline.now op.now position s)
+        → ListsAll next.history (whole s).all (option_map (λ v. v.items) setters)
+        → parts.now ≡ with_part (conflict_at timeline.now) position s
+        → ListsAll timeline.now (whole parts.now).all (option_map (λ v. v.items) result) }
+{
+    match setters {
+        Some(setters) => with_setter(Some(setters), op, position),
+        None => setters_of(alloc, timeline, parts),
+    }
+}
+
+/// Adds the operation at this position, which gives the value and conflicts with another one. It
+/// grows one set in place where the summary tells that the others stay.
+pub(crate) fn connect(
+    scratch: &mut Scratch,
+    timeline: &Timeline<'_>,
+    op: &Op,
+    value: &Value,
+    position: usize,
+    parts: &mut Parts,
+    notes: &mut Notes,
+) -> Result<(), OutOfMemory>
+    requires next { IsNextOf timeline.now op.now position parts.old notes.old }
+    requires gives { Gives op.now value.now }
+    ensures ok { OnOk result (parts.new ≡ with_part (conflict_at timeline.now) position parts.old) }
+    ensures told { OnOk result (AreNotes timeline.now parts.new notes.new) }
+    ensures err { OnErr result (parts.new ≡ parts.old) }
+    ensures err_notes { OnErr result (notes.new ≡ notes.old) }
+{
+    if let Some(set) = joined_set(timeline, op, value, position, parts, notes) {
         parts.join_last(set, position)?;
-        *summary = noted(summary.take(), set, op, value);
+        notes.summary = noted(notes.summary.take(), set, op, value);
+        notes.setters = with_setter(notes.setters.take(), op, position);
         return Ok(());
     }
-    parts.connect(alloc, timeline, position)?;
-    *summary = Summary::of(alloc, timeline, value.attribute(), parts);
+    connect_parts(scratch, timeline, op, value, position, parts, notes)?;
+    notes.summary = Summary::of(scratch.alloc, timeline, value.attribute(), parts);
+    notes.setters = relisted(
+        scratch.alloc,
+        timeline,
+        op,
+        position,
+        parts,
+        notes.setters.take(),
+    );
     Ok(())
 }

@@ -7,8 +7,11 @@
 
 mod joining;
 mod laws;
+mod notes;
 mod others;
 mod prints;
+mod scratch;
+mod setters;
 mod spans;
 mod subject;
 mod summary;

@@ -6,10 +6,11 @@ ghost use Rattle.gf_parts.specs.Parts.{with_free, with_part};
 ghost use Rattle.gf_table.specs.Next.{IsNextOf, Gives};
 ghost use Rattle.gf_table.specs.Subjects.{subject_of};
 ghost use Rattle.gf_table.specs.SubjectState.{nothing, with_setter, with_op};
-ghost use Rattle.gf_table.specs.Summaries.{TellsLast};
+ghost use Rattle.gf_table.specs.Notes.{AreNotes};
 
 use crate::joining::{add_free, connect};
-use crate::summary::{Summary, copied};
+use crate::notes::Notes;
+use crate::scratch::Scratch;
 use crate::tails::{Tail, hits_one, note};
 use gf_groups::Timeline;
 use gf_ops::{Attr, Change, ObjectId, Op, Value};
@@ -42,13 +43,12 @@ impl Subject {
     }
 }
 
-/// The positions of the operations about a subject in parts, the tails of its setters, and mostly a
-/// summary of the last part.
+/// The positions of the operations about a subject in parts, the tails of its setters, and notes.
 #[derive(Debug, Drop)]
 pub(crate) struct SubjectTable {
     pub(crate) parts: Parts,
     tails: Vec<Tail>,
-    summary: Option<Summary>,
+    notes: Notes,
 }
 
 impl Model for SubjectTable {
@@ -56,7 +56,7 @@ impl Model for SubjectTable {
 
     ghost Value = { SubjectState };
 
-    ghost view = { λ t. record { parts = t.parts; tails = t.tails.items; summary = t.summary } };
+    ghost view = { λ t. record { parts = t.parts; tails = t.tails.items; notes = t.notes } };
 }
 
 impl SubjectTable {
@@ -67,7 +67,10 @@ impl SubjectTable {
         SubjectTable {
             parts: Parts::new(alloc),
             tails: Vec::new(alloc),
-            summary: None,
+            notes: Notes {
+                summary: None,
+                setters: None,
+            },
         }
     }
 
@@ -78,31 +81,31 @@ impl SubjectTable {
         let parts = self.parts.copy(alloc)?;
         let mut tails = Vec::new(alloc);
         tails.extend_from_slice(&self.tails)?;
-        let summary = copied(alloc, &self.summary)?;
+        let notes = self.notes.copy(alloc)?;
         Ok(SubjectTable {
             parts,
             tails,
-            summary,
+            notes,
         })
     }
 
     /// Adds the operation at this position, which comes after the others.
     pub(crate) fn add(
         &mut self,
-        alloc: Global,
+        scratch: &mut Scratch,
         timeline: &Timeline<'_>,
         op: &Op,
         position: usize,
     ) -> Result<(), OutOfMemory>
-        requires { IsNextOf timeline.now op.now position self.old.parts self.old.summary }
+        requires { IsNextOf timeline.now op.now position self.old.parts self.old.notes }
         ensures ok { OnOk result (self.new
-            ≡ with_op timeline.now op.now position self.new.summary self.old) }
-        ensures told { OnOk result (TellsLast timeline.now self.new.parts self.new.summary) }
+            ≡ with_op timeline.now op.now position self.new.notes self.old) }
+        ensures told { OnOk result (AreNotes timeline.now self.new.parts self.new.notes) }
         ensures err { OnErr result (self.new ≡ self.old) }
     {
         match &op.change {
-            Change::Create(_) => add_free(op, position, &mut self.parts, &mut self.summary),
-            Change::Set { value, .. } => self.add_setter(alloc, timeline, op, value, position),
+            Change::Create(_) => add_free(op, position, &mut self.parts, &mut self.notes),
+            Change::Set { value, .. } => self.add_setter(scratch, timeline, op, value, position),
         }
     }
 
@@ -110,33 +113,33 @@ impl SubjectTable {
     /// changes anything.
     fn add_setter(
         &mut self,
-        alloc: Global,
+        scratch: &mut Scratch,
         timeline: &Timeline<'_>,
         op: &Op,
         value: &Value,
         position: usize,
     ) -> Result<(), OutOfMemory>
-        requires next { IsNextOf timeline.now op.now position self.old.parts self.old.summary }
+        requires next { IsNextOf timeline.now op.now position self.old.parts self.old.notes }
         requires gives { Gives op.now value.now }
         ensures ok { OnOk result (self.new
-            ≡ with_setter timeline.now op.now value.now position self.new.summary self.old) }
-        ensures told { OnOk result (TellsLast timeline.now self.new.parts self.new.summary) }
+            ≡ with_setter timeline.now op.now value.now position self.new.notes self.old) }
+        ensures told { OnOk result (AreNotes timeline.now self.new.parts self.new.notes) }
         ensures err { OnErr result (self.new ≡ self.old) }
     {
         self.tails.reserve(1)?;
         let conflicts = hits_one(timeline, value, &op.past, &self.tails);
         if conflicts {
             connect(
-                alloc,
+                scratch,
                 timeline,
                 op,
                 value,
                 position,
                 &mut self.parts,
-                &mut self.summary,
+                &mut self.notes,
             )?;
         } else {
-            add_free(op, position, &mut self.parts, &mut self.summary)?;
+            add_free(op, position, &mut self.parts, &mut self.notes)?;
         }
         note(timeline, op.id, value, position, &mut self.tails);
         Ok(())

@@ -13,6 +13,7 @@ ghost use Rattle.gf_groups.specs.Versions.{IsMade, AreVersions};
 ghost use Rattle.gf_table.specs.Standing.{StandsFor, Puts, parts_at, parts_of};
 ghost use Rattle.gf_table.specs.Subjects.{kinds, subject_cmp};
 
+use crate::scratch::Scratch;
 use crate::subject::{Subject, SubjectTable};
 use gf_groups::{GroupFault, Groups, Positions, Timeline, groups_from, is_made};
 use gf_ops::{Attr, History, ObjectId, Op};
@@ -37,7 +38,7 @@ const KINDS: [Option<Attr>; 7] = [
 /// their states.
 #[derive(Debug, Drop)]
 pub struct GroupTable {
-    alloc: Global,
+    scratch: Scratch,
     subjects: BTreeMap<Subject, SubjectTable>,
 }
 
@@ -57,7 +58,7 @@ impl GroupTable {
         ensures { StandsFor [] result }
     {
         GroupTable {
-            alloc,
+            scratch: Scratch::new(alloc),
             subjects: BTreeMap::new(alloc),
         }
     }
@@ -71,7 +72,10 @@ impl GroupTable {
             let state = state.copy(alloc)?;
             put(&mut subjects, *subject, state)?;
         }
-        Ok(GroupTable { alloc, subjects })
+        Ok(GroupTable {
+            scratch: Scratch::new(alloc),
+            subjects,
+        })
     }
 
     /// Adds an operation that the history may add. One that conflicts with nothing is found so by
@@ -86,16 +90,7 @@ impl GroupTable {
         ensures ok { OnOk result (StandsFor (history.now.ops ++ op.now ∷ []) self.new) }
         ensures err { OnErr result (self.new ≡ self.old) }
     {
-        // Its clause says that the history is valid.
-        let position = history.ops().len();
-        let timeline = Timeline::with(history, op);
-        let subject = Subject::of(op);
-        if let Some(state) = self.subjects.get_mut(&subject) {
-            return state.add(self.alloc, &timeline, op, position);
-        }
-        let mut state = SubjectTable::new(self.alloc);
-        state.add(self.alloc, &timeline, op, position)?;
-        put(&mut self.subjects, subject, state)
+        add_to(&mut self.scratch, &mut self.subjects, history, op)
     }
 
     /// The parts of the operations on an object, those of each attribute.
@@ -171,6 +166,31 @@ impl GroupTable {
         let _ = history.ops();
         self.parts(alloc, object)?.listed(alloc, history)
     }
+}
+
+/// Adds the operation to the state of its subject.
+fn add_to(
+    scratch: &mut Scratch,
+    subjects: &mut BTreeMap<Subject, SubjectTable>,
+    history: &History,
+    op: &Op,
+) -> Result<(), OutOfMemory>
+    requires in_range { IsInRange op.now }
+    requires accepted { IsAccepted history.now.ops op.now }
+    requires stands { StandsFor history.now.ops subjects.old.entries }
+    ensures ok { OnOk result (StandsFor (history.now.ops ++ op.now ∷ []) subjects.new.entries) }
+    ensures err { OnErr result (subjects.new.entries ≡ subjects.old.entries) }
+{
+    // Its clause says that the history is valid.
+    let position = history.ops().len();
+    let timeline = Timeline::with(history, op);
+    let subject = Subject::of(op);
+    if let Some(state) = subjects.get_mut(&subject) {
+        return state.add(scratch, &timeline, op, position);
+    }
+    let mut state = SubjectTable::new(scratch.alloc);
+    state.add(scratch, &timeline, op, position)?;
+    put(subjects, subject, state)
 }
 
 /// Adds the parts of the state.

@@ -63,7 +63,7 @@ fn change_gives(change: &Change, value: &Value) -> bool
 }
 
 /// Whether the operation is there and gives the value.
-fn op_gives(op: Option<&Op>, value: &Value) -> bool
+pub(crate) fn op_gives(op: Option<&Op>, value: &Value) -> bool
     ensures { result ≡ op_gives (option_copied op.entry) value.now }
 {
     match op {
@@ -130,7 +130,7 @@ fn counts(past: &Clock, site: u8, number: u32) -> bool
 }
 
 /// Whether there is a number, which the clock does not count of the site.
-fn misses(past: &Clock, site: u8, number: Option<u32>) -> bool
+pub(crate) fn misses(past: &Clock, site: u8, number: Option<u32>) -> bool
     ensures { result ≡ misses past.now site number }
 {
     match number {

@@ -12,7 +12,7 @@ returns-then-has_rival-clause-joins c =
       joined = search rules;
       rival = search rules;
     } in
-    joins c.args.timeline.now c.args.op.now c.args.position c.args.parts.now c.args.summary.now c.requires.next c.args.value.now c.requires.gives c.in_ok-summary.summary.now c.in_ok-part.part.now c.in_ok-sets.sets.now c.in_ok-set.set c.in_ok-own.own c.in_ok-heard.field-0.now (search rules) seen
+    joins c.args.timeline.now c.args.op.now c.args.position c.args.parts.now c.args.notes.now c.requires.next c.args.value.now c.requires.gives c.in_ok-summary.summary.now c.in_ok-part.part.now c.in_ok-sets.sets.now c.in_ok-set.set c.in_ok-own.own c.in_ok-heard.field-0.now (search rules) seen
 
 pub returns-then-has_rival-clause-told : goal.returns-then-has_rival-clause-told
 returns-then-has_rival-clause-told c =
@@ -24,4 +24,4 @@ returns-then-has_rival-clause-told c =
       joined = search rules;
       rival = search rules;
     } in
-    joined_told c.args.timeline.now c.args.op.now c.args.position c.args.parts.now c.args.summary.now c.requires.next c.args.value.now c.requires.gives c.in_ok-summary.summary.now c.in_ok-part.part.now c.in_ok-sets.sets.now c.in_ok-set.set c.in_ok-own.own c.in_ok-heard.field-0.now (search rules) seen
+    joined_told c.args.timeline.now c.args.op.now c.args.position c.args.parts.now c.args.notes.now c.requires.next c.args.value.now c.requires.gives c.in_ok-summary.summary.now c.in_ok-part.part.now c.in_ok-sets.sets.now c.in_ok-set.set c.in_ok-own.own c.in_ok-heard.field-0.now (search rules) seen

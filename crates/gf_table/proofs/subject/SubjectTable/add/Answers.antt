@@ -7,5 +7,5 @@ use Rattle.gf_table.proofs.subject.SubjectTable.add.Goals as goal
 pub returns-in-Create-clause-told : goal.returns-in-Create-clause-told
 returns-in-Create-clause-told c =
     let g = c.args.timeline.now in
-    let next = subst (λ (z : SubjectState). IsNextOf g c.args.op.now c.args.position z.parts z.summary) (sym c.self.view_is) c.requires in
+    let next = subst (λ (z : SubjectState). IsNextOf g c.args.op.now c.args.position z.parts z.notes) (sym c.self.view_is) c.requires in
     on_ok_weaker c.add_free.result (λ told. told g next) c.add_free.ensures.told

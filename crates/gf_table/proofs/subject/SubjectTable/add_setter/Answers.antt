@@ -6,7 +6,7 @@ use Rattle.gf_table.proofs.subject.SubjectTable.add_setter.Goals.{then-conflicts
 
 pub returns-clause-told : goal.returns-clause-told
 returns-clause-told c =
-    let next = subst (λ (z : SubjectState). IsNextOf c.args.timeline.now c.args.op.now c.args.position z.parts z.summary) (sym c.self.view_is) c.requires.next in
+    let next = subst (λ (z : SubjectState). IsNextOf c.args.timeline.now c.args.op.now c.args.position z.parts z.notes) (sym c.self.view_is) c.requires.next in
     elim c.if-conflicts.branch [
       | then-conflicts+in_ok-connect w ↦ rw w.self-inside-is w.in_ok-connect.ensures.told
       | else-conflicts+in_ok-add_free w ↦ rw w.self-inside-is (w.in_ok-add_free.ensures.told c.args.timeline.now next)

@@ -1,0 +1,16 @@
+-- What is kept of the operations about a subject beside their parts: mostly a summary of the last part, and from the first conflict on mostly all setters.
+use Rattle.std.specs.Prelude.{List, Option}
+use Rattle.gf_ops.specs.declared.op.Op.{Op}
+use Rattle.gf_parts.specs.Parts.{PartsState, whole}
+use Rattle.gf_table.specs.declared.setters.Setter.{Setter}
+use Rattle.gf_table.specs.Setters.{ListsAll}
+use Rattle.gf_table.specs.Summaries.{SummaryState, TellsLast}
+
+pub record NotesState : Type 0 where
+  pub summary : Option SummaryState
+  pub setters : Option (List Setter)
+
+-- the notes tell of the parts s
+pub record AreNotes (h : List Op) (s : PartsState) (m : NotesState) : Type 0 where
+  pub summary : TellsLast h s m.summary
+  pub setters : ListsAll h (whole s).all m.setters
