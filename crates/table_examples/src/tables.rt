@@ -97,6 +97,21 @@ add 3.2 after 1 0 1: 1.1 colour 00ffff | ok
 groups 1.1                             | [ 1.1 1.2 2.1 2.2 ][ 1.1 1.2 2.1 4.1 ][ 1.1 1.2 3.1 3.2 ][ 1.1 1.2 3.1 4.1 ]
 copied 1.1                             | [ 1.1 1.2 2.1 2.2 ][ 1.1 1.2 2.1 4.1 ][ 1.1 1.2 3.1 3.2 ][ 1.1 1.2 3.1 4.1 ]
 
+// colours_that_differ_in_blue_alone
+new                                | ok
+add 1.1: box 10 10                 | ok
+add 1.2 after 1: 1.1 colour 0000ff | ok
+add 2.1 after 1: 1.1 colour ff0000 | ok
+// Another blue conflicts with both, the same blue does not.
+add 3.1 after 1: 1.1 colour 0000fe | ok
+groups 1.1                         | [ 1.1 1.2 ][ 1.1 2.1 ][ 1.1 3.1 ]
+add 4.1 after 1: 1.1 colour 0000ff | ok
+groups 1.1                         | [ 1.1 1.2 4.1 ][ 1.1 2.1 ][ 1.1 3.1 ]
+// One that knows 1.2, and gives what 3.1 gives.
+add 1.3 after 2: 1.1 colour 0000fe | ok
+groups 1.1                         | [ 1.1 1.2 1.3 ][ 1.1 1.2 4.1 ][ 1.1 1.3 3.1 ][ 1.1 2.1 ]
+copied 1.1                         | [ 1.1 1.2 1.3 ][ 1.1 1.2 4.1 ][ 1.1 1.3 3.1 ][ 1.1 2.1 ]
+
 // objects_have_parts_of_their_own
 new                                  | ok
 add 1.1: box 10 10                   | ok
