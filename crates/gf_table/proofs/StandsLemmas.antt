@@ -1,8 +1,15 @@
 -- A table after one more operation stands for the longer history.
-use Rattle.std.proofs.Common.{◌≡◌, ℕ, ◌<◌, Bool, true, false, List, [], ◌∷◌, ◌++◌, length, inl, inr, refl, subst, sym, ap, ◌∙◌}
+use Rattle.std.proofs.Common.{arith, ◌≡◌, ℕ, ◌<◌, Bool, true, false, List, [], ◌∷◌, ◌++◌, length, inl, inr, refl, subst, sym, ap, ◌∙◌}
 use Rattle.std.specs.Prelude.{Contains, cond, Option, Some, None, Result, Ok, Err, OnOk, unwrap_or, slice_get}
-use Rattle.std.specs.BTreeMap.{is_at}
-use Rattle.std.specs.Map.{lookup, set_value}
+use Rattle.std.specs.BTreeMap.{is_at, insert_entry}
+use Rattle.std.specs.Map.{keys_of, lookup}
+use Rattle.std.specs.Ordering.{is_eq, match_ordering}
+use Rattle.std.specs.Cmp.{IsTotalOrder}
+use Rattle.std.specs.List.Sorted.{IsStrictlySortedBy}
+use Rattle.std.specs.declared.cmp.Ordering.{Ordering}
+use Rattle.std.specs.declared.cmp.Ordering.TheVariants.{Less, Equal, Greater}
+use Rattle.std.proofs.lemmas.Map.Entries.{lookup_at_gap}
+use Rattle.std.proofs.lemmas.Map.Keys.{sorted_tail}
 use Rattle.std.proofs.lemmas.Bool.{cases_Bool, cond-true, cond-false}
 use Rattle.std.proofs.lemmas.Option.{slice_get_within}
 use Rattle.gf_ops.specs.declared.op.Op.{Op}
@@ -19,17 +26,21 @@ use Rattle.gf_table.proofs.LongerLemmas.{positions_with_last, positions_without_
 use Rattle.gf_table.proofs.StateLemmas.{first_state, state_kept, state_more}
 use Rattle.gf_table.proofs.SubjectLemmas.{Contains-positions_about, about_from, about_op, about_to, at_itself, at_told}
 
--- the value that is there, written again
-pub written_again : {K X : Type 0} (test : K → Bool) (es : List (K × X)) (w : X) → lookup test es ≡ Some w → set_value test es w ≡ es
-written_again test [] w e = refl
-written_again test (d ∷ es) w e = elim (cases_Bool (test d.0)) [
-  | inl y ↦
-      let same : d.1 ≡ w = ap (λ o. unwrap_or o d.1) (sym (cond-true (test d.0) (Some d.1) (lookup test es) y) ∙ e) in
-      cond-true (test d.0) ((d.0, w) ∷ es) (d ∷ set_value test es w) y ∙ ap (λ x. (d.0, x) ∷ es) (sym same)
-  | inr n ↦
-      let rest = written_again test es w (sym (cond-false (test d.0) (Some d.1) (lookup test es) n) ∙ e) in
-      cond-false (test d.0) ((d.0, w) ∷ es) (d ∷ set_value test es w) n ∙ ap (λ xs. d ∷ xs) rest
-]
+-- the value that is there, put again
+pub put_again : {K X : Type 0} {R : K → K → Ordering} → IsTotalOrder R → (k : K) (es : List (K × X)) (w : X) → IsStrictlySortedBy R (keys_of es) → lookup (is_at (R k)) es ≡ Some w → insert_entry R es k w ≡ es
+put_again {R = R} o k [] w s e = absurd cc
+put_again {R = R} o k (d ∷ es) w s e = by_order (R k d.0) refl (put_again o k es w (sorted_tail R d.0 (keys_of es) s))
+  where
+    by_order : (r : Ordering) → R k d.0 ≡ r → (lookup (is_at (R k)) es ≡ Some w → insert_entry R es k w ≡ es) → insert_entry R (d ∷ es) k w ≡ d ∷ es
+    by_order Less p rest =
+        let none : lookup (is_at (R k)) (d ∷ es) ≡ None = lookup_at_gap o k (d ∷ es) 0 s (λ j x lt. absurd (omega (arith, lt))) (λ x here. ap (λ z. R k (unwrap_or z x).0) (sym here) ∙ p) in
+        absurd cc
+    by_order Equal p rest =
+        let same : d.1 ≡ w = ap (λ u. unwrap_or u d.1) (sym (cond-true (is_at (R k) d.0) (Some d.1) (lookup (is_at (R k)) es) (ap is_eq p)) ∙ e) in
+        ap (λ r. match_ordering r ((k, w) ∷ d ∷ es) ((d.0, w) ∷ es) (d ∷ insert_entry R es k w)) p ∙ ap (λ x. (d.0, x) ∷ es) (sym same)
+    by_order Greater p rest =
+        ap (λ r. match_ordering r ((k, w) ∷ d ∷ es) ((d.0, w) ∷ es) (d ∷ insert_entry R es k w)) p
+        ∙ ap (λ xs. d ∷ xs) (rest (sym (cond-false (is_at (R k) d.0) (Some d.1) (lookup (is_at (R k)) es) (ap is_eq p)) ∙ e))
 
 -- ---- one more operation
 

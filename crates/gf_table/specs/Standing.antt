@@ -66,10 +66,6 @@ Stands h us None = us ≡ []
 abbrev pub state_of : List (Subject × SubjectState) → Subject → Option SubjectState
 state_of t k = lookup (is_at (subject_cmp k)) t
 
--- the table s is t with this state of the subject k
-abbrev pub Puts : List (Subject × SubjectState) → Subject → SubjectState → List (Subject × SubjectState) → Type 0
-Puts t k r s = (l : Subject) → state_of s l ≡ cond (is_at (subject_cmp k) l) (Some r) (state_of t l)
-
 -- the table has for each subject the state of the operations of h about it
 abbrev pub StandsFor : List Op → List (Subject × SubjectState) → Type 0
 StandsFor h t = (k : Subject) → Stands h (positions_about h k (length h)) (state_of t k)

@@ -10,7 +10,7 @@ ghost use Rattle.gf_groups.specs.Growing.{conflict_at};
 ghost use Rattle.gf_groups.specs.GroupedPositions.{positions_below};
 ghost use Rattle.gf_groups.specs.Tables.{IsTable};
 ghost use Rattle.gf_groups.specs.Versions.{IsMade, AreVersions};
-ghost use Rattle.gf_table.specs.Standing.{StandsFor, Puts, parts_at, parts_of};
+ghost use Rattle.gf_table.specs.Standing.{StandsFor, parts_at, parts_of};
 ghost use Rattle.gf_table.specs.Subjects.{kinds, subject_cmp};
 
 use crate::scratch::Scratch;
@@ -21,6 +21,7 @@ use gf_parts::{Parts, Together};
 use gf_shape::OutOfMemory;
 use std::alloc::Global;
 use std::collections::BTreeMap;
+use std::collections::btree_map::Entry;
 use std::marker::Model;
 
 /// What an operation on an object may be about.
@@ -185,12 +186,16 @@ fn add_to(
     let position = history.ops().len();
     let timeline = Timeline::with(history, op);
     let subject = Subject::of(op);
-    if let Some(state) = subjects.get_mut(&subject) {
-        return state.add(scratch, &timeline, op, position);
+    match subjects.entry(subject) {
+        Ok(Entry::Occupied(entry)) => entry.into_mut().add(scratch, &timeline, op, position),
+        Ok(Entry::Vacant(entry)) => {
+            let mut state = SubjectTable::new(scratch.alloc);
+            state.add(scratch, &timeline, op, position)?;
+            entry.insert(state);
+            Ok(())
+        }
+        Err(_) => Err(OutOfMemory),
     }
-    let mut state = SubjectTable::new(scratch.alloc);
-    state.add(scratch, &timeline, op, position)?;
-    put(subjects, subject, state)
 }
 
 /// Adds the parts of the state.
@@ -208,10 +213,8 @@ fn put(
     subject: Subject,
     state: SubjectTable,
 ) -> Result<(), OutOfMemory>
-    ensures entries { OnOk result (subjects.new.entries
+    ensures { OnOk result (subjects.new.entries
         ≡ insert_entry subject_cmp subjects.old.entries subject state) }
-    ensures states { OnOk result (Puts subjects.old.entries subject state subjects.new.entries) }
-    ensures err { OnErr result (subjects.new.entries ≡ subjects.old.entries) }
 {
     match subjects.insert(subject, state) {
         Ok(_) => Ok(()),
