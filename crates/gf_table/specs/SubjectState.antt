@@ -1,5 +1,5 @@
 -- What the table has of one subject: the positions of the operations about it in parts, the tails of its setters, and notes.
-use Rattle.std.specs.Prelude.{ℕ, cond, List, [], None}
+use Rattle.std.specs.Prelude.{ℕ, cond, List, []}
 use Rattle.gf_ops.specs.declared.op.Op.{Op}
 use Rattle.gf_ops.specs.declared.change.Change.{Change}
 use Rattle.gf_ops.specs.declared.change.Change.TheVariants.{Create, Set}
@@ -7,7 +7,7 @@ use Rattle.gf_ops.specs.declared.change.Value.{Value}
 use Rattle.gf_groups.specs.Growing.{conflict_at}
 use Rattle.gf_parts.specs.Parts.{PartsState, with_free, with_part}
 use Rattle.gf_table.specs.declared.tails.Tail.{Tail}
-use Rattle.gf_table.specs.Notes.{NotesState}
+use Rattle.gf_table.specs.Notes.{NotesState, no_notes}
 use Rattle.gf_table.specs.Tails.{hits_one, noted}
 
 pub record SubjectState : Type 0 where
@@ -17,7 +17,7 @@ pub record SubjectState : Type 0 where
 
 -- of no operation
 abbrev pub nothing : SubjectState
-nothing = record { parts = record { free = []; parts = [] }; tails = []; notes = record { summary = None; setters = None } }
+nothing = record { parts = record { free = []; parts = [] }; tails = []; notes = no_notes }
 
 -- the operation a of h, at the position n, gives v; then the notes are m
 abbrev pub with_setter : List Op → Op → Value → ℕ → NotesState → SubjectState → SubjectState

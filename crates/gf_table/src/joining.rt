@@ -5,14 +5,14 @@ ghost use Rattle.gf_groups.specs.Growing.{conflict_at};
 ghost use Rattle.gf_ops.specs.Limits.{IsInRange};
 ghost use Rattle.gf_parts.specs.Parts.{whole, with_free, with_part, last_with};
 ghost use Rattle.gf_table.specs.Next.{IsNextTo, IsNextOf, Gives, IsInOne, are_beside, HasRival};
-ghost use Rattle.gf_table.specs.Notes.{AreNotes};
+ghost use Rattle.gf_table.specs.Notes.{AreNotes, unboxed};
 ghost use Rattle.gf_table.specs.Setters.{ListsAll};
 ghost use Rattle.gf_table.specs.Summaries.{TellsLast, NotesIn};
 
 use crate::notes::Notes;
 use crate::scratch::Scratch;
 use crate::setters::{Setter, setters_of, with_setter};
-use crate::summary::{Summary, noted, noted_other};
+use crate::summary::{Summary, noted};
 use gf_groups::{Positions, Timeline, conflict_at};
 use gf_ops::{Op, Value};
 use gf_parts::Parts;
@@ -87,18 +87,19 @@ pub(crate) fn add_free(
     op: &Op,
     position: usize,
     parts: &mut Parts,
-    notes: &mut Notes,
+    notes: &mut Option<Box<Notes>>,
 ) -> Result<(), OutOfMemory>
     requires { IsInRange op.now }
     ensures ok { OnOk result (parts.new ≡ with_free position parts.old) }
-    ensures told { OnOk result ((h : _) → IsNextOf h op.now position parts.old notes.old
-        → AreNotes h parts.new notes.new) }
+    ensures told { OnOk result ((h : _) → IsNextOf h op.now position parts.old (unboxed notes.old)
+        → AreNotes h parts.new (unboxed notes.new)) }
     ensures err { OnErr result (parts.new ≡ parts.old) }
     ensures err_notes { OnErr result (notes.new ≡ notes.old) }
 {
     parts.add_free(position)?;
-    notes.summary = noted_other(notes.summary.take(), op);
-    notes.setters = with_setter(notes.setters.take(), op, position);
+    if let Some(notes) = notes {
+        notes.add_free(op, position);
+    }
     Ok(())
 }
 

@@ -9,7 +9,7 @@ ghost use Rattle.gf_table.specs.SubjectState.{nothing, with_setter, with_op};
 ghost use Rattle.gf_table.specs.Notes.{AreNotes};
 
 use crate::joining::{add_free, connect};
-use crate::notes::Notes;
+use crate::notes::{self, Notes};
 use crate::scratch::Scratch;
 use crate::tails::{Tail, hits_one, note};
 use gf_groups::Timeline;
@@ -43,20 +43,22 @@ impl Subject {
     }
 }
 
-/// The positions of the operations about a subject in parts, the tails of its setters, and notes.
+/// The positions of the operations about a subject in parts, the tails of its setters, and notes
+/// from the first conflict on.
 #[derive(Debug, Drop)]
 pub(crate) struct SubjectTable {
     pub(crate) parts: Parts,
     tails: Vec<Tail>,
-    notes: Notes,
+    notes: Option<Box<Notes>>,
 }
 
 impl Model for SubjectTable {
     ghost use Rattle.gf_table.specs.SubjectState.{SubjectState};
+    ghost use Rattle.gf_table.specs.Notes.{unboxed};
 
     ghost Value = { SubjectState };
 
-    ghost view = { λ t. record { parts = t.parts; tails = t.tails.items; notes = t.notes } };
+    ghost view = { λ t. record { parts = t.parts; tails = t.tails.items; notes = unboxed t.notes } };
 }
 
 impl SubjectTable {
@@ -67,10 +69,7 @@ impl SubjectTable {
         SubjectTable {
             parts: Parts::new(alloc),
             tails: Vec::new(alloc),
-            notes: Notes {
-                summary: None,
-                setters: None,
-            },
+            notes: None,
         }
     }
 
@@ -81,7 +80,7 @@ impl SubjectTable {
         let parts = self.parts.copy(alloc)?;
         let mut tails = Vec::new(alloc);
         tails.extend_from_slice(&self.tails)?;
-        let notes = self.notes.copy(alloc)?;
+        let notes = notes::copied(alloc, &self.notes)?;
         Ok(SubjectTable {
             parts,
             tails,
@@ -129,15 +128,11 @@ impl SubjectTable {
         self.tails.reserve(1)?;
         let conflicts = hits_one(timeline, value, &op.past, &self.tails);
         if conflicts {
-            connect(
-                scratch,
-                timeline,
-                op,
-                value,
-                position,
-                &mut self.parts,
-                &mut self.notes,
-            )?;
+            let mut notes = notes::taken(scratch.alloc, &mut self.notes)?;
+            let parts = &mut self.parts;
+            let connected = connect(scratch, timeline, op, value, position, parts, &mut notes);
+            self.notes = Some(notes);
+            connected?;
         } else {
             add_free(op, position, &mut self.parts, &mut self.notes)?;
         }
