@@ -1,5 +1,5 @@
 -- A table after one more operation stands for the longer history.
-use Rattle.std.proofs.Common.{arith, ◌≡◌, ℕ, ◌<◌, Bool, true, false, List, [], ◌∷◌, ◌++◌, length, inl, inr, refl, subst, sym, ap, ◌∙◌}
+use Rattle.std.proofs.Common.{arith, ◌≡◌, ℕ, ◌<◌, true, false, List, [], ◌∷◌, ◌++◌, length, inl, inr, refl, subst, sym, ap, ◌∙◌}
 use Rattle.std.specs.Prelude.{Contains, cond, Option, Some, None, Result, Ok, Err, OnOk, unwrap_or, slice_get}
 use Rattle.std.specs.BTreeMap.{is_at, insert_entry}
 use Rattle.std.specs.Map.{keys_of, lookup}
