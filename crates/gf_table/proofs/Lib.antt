@@ -16,3 +16,4 @@ pub mod NotesLemmas
 pub mod RivalLemmas
 pub mod SetterLemmas
 pub mod MarkLemmas
+pub mod RangeLemmas

@@ -1,5 +1,5 @@
 -- The parts of an object are those of its subjects together, as operations about two subjects never conflict; they list its versions.
-use Rattle.std.proofs.Common.{◌≡◌, ◌≢◌, ℕ, ◌<◌, Bool, true, false, List, [], ◌∷◌, ◌++◌, ◌+◌, length, take, get_or, map, inl, inr, refl, subst, sym, ap, ◌∙◌, arith}
+use Rattle.std.proofs.Common.{◌≡◌, ◌≢◌, ℕ, Bool, true, false, List, [], ◌∷◌, length, map, inl, inr, refl, subst, sym, ap, ◌∙◌, arith}
 use Rattle.std.specs.Prelude.{◌⊎◌, ◌&&◌, not, Contains, Option, Some, None, option_map, slice_get}
 use Rattle.std.specs.List.{list_any, filter_map, cons_option}
 use Rattle.std.specs.Option.{option_cmp}
@@ -29,8 +29,6 @@ use Rattle.gf_groups.proofs.ListLemmas.{list_any_from}
 use Rattle.gf_groups.proofs.OnPositionLemmas.{all_positions, conflict_with, contained_at, on_op, on_to}
 use Rattle.gf_groups.proofs.PositionLemmas.{positions_below-rising}
 use Rattle.gf_groups.proofs.TableLemmas.{conflict_at_test}
-use Rattle.std.proofs.lemmas.List.{take_more}
-use Rattle.std.proofs.lemmas.List.Elements.{filter_map-append}
 use Rattle.std.proofs.lemmas.Option.{slice_get_within}
 use Rattle.gf_parts.specs.Parted.{Apart, AreParts}
 use Rattle.gf_parts.specs.Parts.{PartsState, no_parts, whole, listed}
@@ -98,12 +96,6 @@ module _ {X Y : Type 0} (f : X → Option Y) where
     | inl d ↦ option_head (f z) (filter_map f xs) y (ap f (sym d) ∙ e)
     | inr i ↦ option_tail (f z) (filter_map f xs) y (Contains-giving xs x y i e)
   ]
-
-  -- one element more
-  pub given_more : (xs : List X) (i : ℕ) (x : X) (r : Option Y) (ys zs : List Y) → i < length xs → ys ≡ filter_map f (take i xs) → f (get_or xs i x) ≡ r → zs ≡ ys ++ cons_option r [] → zs ≡ filter_map f (take (i + 1) xs)
-  given_more xs i x r ys zs l e d g =
-      g ∙ (ap (λ us. us ++ cons_option r []) e ∙ (ap (λ q. filter_map f (take i xs) ++ cons_option q []) (sym d)
-      ∙ (sym (filter_map-append f (take i xs) (get_or xs i x ∷ [])) ∙ ap (filter_map f) (sym (take_more xs i x l)))))
 
   Pairs-given : (P : X → X → Type 0) (Q : Y → Y → Type 0) → ((j k : X) (y z : Y) → P j k → f j ≡ Some y → f k ≡ Some z → Q y z) → (xs : List X) → Pairs P xs → Pairs Q (filter_map f xs)
   Pairs-given P Q g [] ps = tt

@@ -24,17 +24,6 @@ use std::collections::BTreeMap;
 use std::collections::btree_map::Entry;
 use std::marker::Model;
 
-/// What an operation on an object may be about.
-const KINDS: [Option<Attr>; 7] = [
-    None,
-    Some(Attr::Place),
-    Some(Attr::Points),
-    Some(Attr::Size),
-    Some(Attr::Colour),
-    Some(Attr::Layer),
-    Some(Attr::Shown),
-];
-
 /// For each subject of a history the operations about it in parts, seen as the list of subjects with
 /// their states.
 #[derive(Debug, Drop)]
@@ -94,16 +83,23 @@ impl GroupTable {
         add_to(&mut self.scratch, &mut self.subjects, history, op)
     }
 
-    /// The parts of the operations on an object, those of each attribute.
+    /// The parts of the operations on an object, those of each attribute. They stand side by side,
+    /// from its making on to the attribute that is declared last.
     fn kinds(&self, alloc: Global, object: ObjectId) -> Result<Vec<&Parts>, OutOfMemory>
         ensures { IfOk result (λ found.
             map (λ s. s.now) found.items ≡ filter_map (parts_at self.now object) kinds) }
     {
+        let first = Subject {
+            object,
+            attribute: None,
+        };
+        let last = Subject {
+            object,
+            attribute: Some(Attr::Shown),
+        };
         let mut found = Vec::new(alloc);
-        for attribute in KINDS {
-            if let Some(state) = self.subjects.get(&Subject { object, attribute }) {
-                add_parts(state, &mut found)?;
-            }
+        for (_, state) in self.subjects.range(first..=last) {
+            found.push(&state.parts)?;
         }
         Ok(found)
     }
@@ -196,15 +192,6 @@ fn add_to(
         }
         Err(_) => Err(OutOfMemory),
     }
-}
-
-/// Adds the parts of the state.
-fn add_parts<'a>(state: &'a SubjectTable, found: &mut Vec<&'a Parts>) -> Result<(), OutOfMemory>
-    ensures { OnOk result (map (λ s. s.now) found.new.items
-        ≡ map (λ s. s.now) found.old.items ++ state.now.parts ∷ []) }
-{
-    found.push(&state.parts)?;
-    Ok(())
 }
 
 /// Puts the state under the subject.

@@ -1,28 +1,33 @@
-use Rattle.std.proofs.Common.{◌≡◌, List, [], ◌++◌, get_or, map, rules}
+use Rattle.std.proofs.Common.{◌≡◌, ◌∷◌, [], ◌++◌, map, rules, subst, sym, ap, ◌∙◌}
 use Rattle.std.specs.Prelude.{Some, None}
-use Rattle.std.specs.List.{cons_option}
-use Rattle.gf_parts.specs.Parts.{PartsState}
-use Rattle.gf_table.specs.Standing.{parts_at}
-use Rattle.gf_table.specs.Subjects.{kinds}
-use Rattle.gf_table.proofs.ObjectLemmas.{given_more}
+use Rattle.std.specs.BTreeMap.Range.{entries_between}
+use Rattle.std.specs.List.Sorted.{IsStrictlySortedBy}
+use Rattle.std.specs.Map.{keys_of}
+use Rattle.std.specs.declared.ops.Bound.TheVariants.{Included}
+use Rattle.std.proofs.lemmas.List.{append-nil, map-append}
+use Rattle.gf_ops.specs.declared.change.Attr.TheVariants.{Shown}
+use Rattle.gf_table.specs.declared.subject.Subject.{Subject}
+use Rattle.gf_table.specs.SubjectState.{SubjectState}
+use Rattle.gf_table.specs.Subjects.{subject_cmp}
+use Rattle.gf_table.proofs.RangeLemmas.{one_further, parts_between}
 use Rattle.gf_table.proofs.table.GroupTable.kinds.Goals as goal
-use Rattle.gf_table.proofs.table.GroupTable.kinds.Goals.{in-Some+in_ok-add_parts, in_default}
 
-pub loop-attribute-preserved : goal.loop-attribute-preserved
-loop-attribute-preserved c =
-    let f = parts_at c.args.self.now c.args.object in
-    let i = c.loop-attribute.attribute-index in
-    let k = get_or kinds i None in
-    let old : List PartsState = map (λ s. s.now) c.loop-attribute.found.items in
-    let new : List PartsState = map (λ s. s.now) c.match-get.found.items in
-    elim c.match-get.branch [
-      | in-Some+in_ok-add_parts w ↦
-          let s = w.in-Some.state.now.parts in
-          let at : f k ≡ Some s = search rules in
-          let more : new ≡ old ++ cons_option (Some s) [] = search rules in
-          given_more f kinds i None (Some s) old new c.loop-attribute-test.true c.loop-attribute.invariant at more
-      | in_default w ↦
-          let at : f k ≡ None = search rules in
-          let same : new ≡ old ++ cons_option None [] = search rules in
-          given_more f kinds i None None old new c.loop-attribute-test.true c.loop-attribute.invariant at same
-    ]
+pub loop-state-preserved : goal.loop-state-preserved
+loop-state-preserved c =
+    let old = map (λ s. s.now) c.loop-state.found.items in
+    let new = map (λ s. s.now) c.push.new.self.items in
+    let parts = λ (e : Subject × SubjectState). e.1.parts in
+    let e : Subject × SubjectState = (c.in-Some.field-0-0.now, c.in-Some.state.now) in
+    let here : c.loop-state.state-iterator ≡ e ∷ c.next.new.self = search rules in
+    let more : new ≡ old ++ e.1.parts ∷ [] = ap (map (λ s. s.now)) c.in_ok-push.ensures.items ∙ (map-append (λ s. s.now) c.loop-state.found.items _ ∙ ap (λ (z : SubjectState). old ++ z.parts ∷ []) c.state.view_is) in
+    one_further parts old new (map parts c.into_iter-state-iterator.result) c.loop-state.state-iterator c.next.new.self e c.loop-state.invariant here more
+
+pub returns : goal.returns
+returns c =
+    let old = map (λ s. s.now) c.loop-state.found.items in
+    let o = c.args.object in
+    let all : c.range-state-items.result ≡ entries_between subject_cmp (Included (record { object = o; attribute = None })) (Included (record { object = o; attribute = Some Shown })) c.args.self.now = search rules in
+    let is : c.into_iter-state-iterator.result ≡ c.range-state-items.result = search rules in
+    let rise : IsStrictlySortedBy subject_cmp (keys_of c.args.self.now) = subst (λ t. IsStrictlySortedBy subject_cmp (keys_of t)) c.self.view_is c.range-state-items.ensures.ordered in
+    let parts = λ (e : Subject × SubjectState). e.1.parts in
+    sym (append-nil old) ∙ (ap (λ es. old ++ map parts es) (sym c.in-None.ensures.steps.0) ∙ (c.loop-state.invariant ∙ (ap (map parts) (is ∙ all) ∙ parts_between o c.args.self.now rise)))
