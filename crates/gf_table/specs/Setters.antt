@@ -63,6 +63,15 @@ is_rival h v p past s = misses past s.id.site (Some s.id.seq) && (not (print_eq 
 abbrev pub rival_at : List Op → Value → Print → Clock → List Setter → ℕ → Bool
 rival_at h v p past ss q = list_any (λ (s : Setter). s.position == q && is_rival h v p past s) ss
 
+-- one of the setters has the print p
+abbrev pub has_print : List Setter → Print → Bool
+has_print ss p = list_any (λ (s : Setter). print_eq p s.print) ss
+
+-- so has one, if they are listed
+abbrev pub is_given : Option (List Setter) → Print → Bool
+is_given None p = false
+is_given (Some ss) p = has_print ss p
+
 -- ---- marks of positions
 
 -- no position is marked

@@ -11,7 +11,7 @@ ghost use Rattle.gf_table.specs.Summaries.{TellsLast, NotesIn};
 
 use crate::notes::Notes;
 use crate::scratch::Scratch;
-use crate::setters::{Setter, setters_of, with_setter};
+use crate::setters::{Setter, is_given, setters_of, with_setter};
 use crate::summary::{Summary, noted};
 use gf_groups::{Positions, Timeline, conflict_at};
 use gf_ops::{Op, Value};
@@ -150,7 +150,8 @@ fn relisted(
 }
 
 /// Adds the operation at this position, which gives the value and conflicts with another one. It
-/// grows one set in place where the summary tells that the others stay.
+/// grows one set in place where the summary tells that the others stay. A value that was given
+/// before leaves no summary: where values come again, it would not tell of the next one either.
 pub(crate) fn connect(
     scratch: &mut Scratch,
     timeline: &Timeline<'_>,
@@ -173,8 +174,13 @@ pub(crate) fn connect(
         notes.setters = with_setter(notes.setters.take(), op, position);
         return Ok(());
     }
+    let is_new = !is_given(&notes.setters, value);
     connect_parts(scratch, timeline, op, value, position, parts, notes)?;
-    notes.summary = Summary::of(scratch.alloc, timeline, value.attribute(), parts);
+    notes.summary = if is_new {
+        Summary::of(scratch.alloc, timeline, value.attribute(), parts)
+    } else {
+        None
+    };
     notes.setters = relisted(
         scratch.alloc,
         timeline,

@@ -4,7 +4,8 @@
 ghost use Rattle.std.specs.Prelude.{◌≡◌, ◌++◌, option_map, IfOk, IfSome};
 ghost use Rattle.gf_parts.specs.Parts.{whole};
 ghost use Rattle.gf_table.specs.Setters.{IsSetterOf, IsSetterAt, AreSetters, ListsMore};
-ghost use Rattle.gf_table.specs.Setters.{print_eq, is_rival};
+ghost use Rattle.gf_table.specs.Setters.{print_eq, has_print, is_given, is_rival};
+ghost use Rattle.gf_table.specs.Prints.{print_of};
 
 use crate::prints::{Print, print_of};
 use crate::tails::{misses, op_gives};
@@ -112,6 +113,23 @@ fn print_eq(print: &Print, other: &Print) -> bool
     ensures { result ≡ print_eq print.now other.now }
 {
     print.first == other.first && print.second == other.second
+}
+
+/// Whether one of the setters has the print.
+fn has_print(setters: &[Setter], print: &Print) -> bool
+    ensures { result ≡ has_print setters.now print.now }
+{
+    setters.iter().any(|setter| print_eq(print, &setter.print))
+}
+
+/// Whether one of those that are listed has the print of the value.
+pub(crate) fn is_given(setters: &Option<Vec<Setter>>, value: &Value) -> bool
+    ensures { result ≡ is_given (option_map (λ v. v.items) setters.now) (print_of value.now) }
+{
+    match setters {
+        Some(setters) => has_print(setters, &print_of(value)),
+        None => false,
+    }
 }
 
 /// Whether the setter conflicts with what gives the value, with this print, and knows what the clock

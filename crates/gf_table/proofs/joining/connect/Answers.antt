@@ -22,6 +22,5 @@ pub returns-clause-told : goal.returns-clause-told
 returns-clause-told c =
     let s = c.args.parts.now in
     let next = c.requires.next.next in
-    let summary : TellsLast c.args.timeline.now c.connect_parts.new.parts c.of.result = search rules in
     let old : ListsAll next.history (whole s).all (option_map (λ (v : Vec Setter Global). v.items) c.take-2.result) = search rules in
-    record { summary = summary; setters = c.relisted.ensures s next old c.in_ok-connect_parts.ensures.ok }
+    record { summary = search rules; setters = c.relisted.ensures s next old c.in_ok-connect_parts.ensures.ok }
