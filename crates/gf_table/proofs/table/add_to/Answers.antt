@@ -1,4 +1,4 @@
-use Rattle.std.proofs.Common.{◌≡◌, length, ap, sym, ◌∙◌, rules}
+use Rattle.std.proofs.Common.{◌≡◌, length, ap, subst, sym, ◌∙◌}
 use Rattle.std.specs.Prelude.{Some, None, unwrap_or}
 use Rattle.std.proofs.lemmas.Result.{on_ok_weaker, on_err_weaker}
 use Rattle.gf_table.specs.SubjectState.{SubjectState, nothing, with_op}
@@ -13,7 +13,7 @@ add-requires c =
     let h = c.args.history.now.ops in
     let a = c.args.op.now in
     let t = c.args.subjects.now.entries in
-    let found : state_of t c.of-subject.result ≡ Some c.into_mut.result.now = search rules in
+    let found : state_of t c.of-subject.result ≡ Some c.into_mut.result.now = sym (rw c.in-Ok-Occupied.field-0-is at c.in-Ok-Occupied.ensures.value) ∙ c.into_mut.ensures.value in
     let stands : StandsFor h t = c.requires.stands in
     next_from h c.ops-position.ensures.valid a c.requires.in_range c.requires.accepted t stands c.of-subject.result c.into_mut.result.now c.with-timeline.result (length c.ops-position.result.now)
     c.of-subject.ensures (ap (λ r. unwrap_or r nothing) found) c.with-timeline.ensures (ap length c.ops-position.ensures.ops)
@@ -23,7 +23,7 @@ add-requires-in-Ok-Vacant c =
     let h = c.args.history.now.ops in
     let a = c.args.op.now in
     let t = c.args.subjects.now.entries in
-    let none : state_of t c.of-subject.result ≡ None = search rules in
+    let none : state_of t c.of-subject.result ≡ None = rw c.in-Ok-Vacant.field-0-is at c.in-Ok-Vacant.ensures.found in
     let stands : StandsFor h t = c.requires.stands in
     let was = ap (λ r. unwrap_or r nothing) none ∙ sym c.new-state.ensures in
     next_from h c.ops-position.ensures.valid a c.requires.in_range c.requires.accepted t stands c.of-subject.result c.new-state.result c.with-timeline.result (length c.ops-position.result.now)
@@ -34,7 +34,7 @@ returns-in-Ok-Occupied-clause-ok c =
     let h = c.args.history.now.ops in
     let a = c.args.op.now in
     let t = c.args.subjects.now.entries in
-    let found : state_of t c.of-subject.result ≡ Some c.into_mut.result.now = search rules in
+    let found : state_of t c.of-subject.result ≡ Some c.into_mut.result.now = sym (rw c.in-Ok-Occupied.field-0-is at c.in-Ok-Occupied.ensures.value) ∙ c.into_mut.ensures.value in
     let stands : StandsFor h t = c.requires.stands in
     let w = c.add.new.self in
     let m = c.subjects-in-Ok-Occupied-1.given.0 in
@@ -49,7 +49,7 @@ returns-in-Ok-Occupied-clause-ok c =
 pub returns-in-Ok-Occupied-clause-err : goal.returns-in-Ok-Occupied-clause-err
 returns-in-Ok-Occupied-clause-err c =
     let t = c.args.subjects.now.entries in
-    let found : state_of t c.of-subject.result ≡ Some c.into_mut.result.now = search rules in
+    let found : state_of t c.of-subject.result ≡ Some c.into_mut.result.now = sym (rw c.in-Ok-Occupied.field-0-is at c.in-Ok-Occupied.ensures.value) ∙ c.into_mut.ensures.value in
     let now = c.subjects-in-Ok-Occupied-1.given.1 (sym (rw c.in-Ok-Occupied.field-0-is at c.in-Ok-Occupied.ensures.same_map)) in
     let update = rw c.in-Ok-Occupied.field-0-is at c.in-Ok-Occupied.ensures.update in
     on_err_weaker c.add.result (λ same.
@@ -60,7 +60,7 @@ returns-in_ok-add-in-Ok-Vacant-clause-ok c =
     let h = c.args.history.now.ops in
     let a = c.args.op.now in
     let t = c.args.subjects.now.entries in
-    let none : state_of t c.of-subject.result ≡ None = search rules in
+    let none : state_of t c.of-subject.result ≡ None = rw c.in-Ok-Vacant.field-0-is at c.in-Ok-Vacant.ensures.found in
     let stands : StandsFor h t = c.requires.stands in
     let old : unwrap_or (state_of t c.of-subject.result) nothing ≡ nothing = ap (λ r. unwrap_or r nothing) none in
     let w = c.insert.result.now in
@@ -68,7 +68,11 @@ returns-in_ok-add-in-Ok-Vacant-clause-ok c =
     let now = c.subjects-in-Ok-Vacant-2-1.given.1 (sym (rw c.in-Ok-Vacant.field-0-is at c.in-Ok-Vacant.ensures.same_map)) in
     let update = rw c.in-Ok-Vacant.field-0-is at c.in-Ok-Vacant.ensures.update in
     let puts = rw (sym now) at (update.0 w).0 in
-    let both : (w ≡ with_op c.with-timeline.result a (length c.ops-position.result.now) w.notes nothing) × AreNotes c.with-timeline.result w.parts w.notes = search rules in
+    let g = c.with-timeline.result in
+    let n = length c.ops-position.result.now in
+    let s = c.add-in-Ok-Vacant.new.self in
+    let made = c.in_ok-add-in-Ok-Vacant.ensures.ok ∙ ap (λ (z : SubjectState). with_op g a n s.notes z) c.new-state.ensures in
+    let both = subst (λ (z : SubjectState). (z ≡ with_op g a n z.notes nothing) × AreNotes g z.parts z.notes) (sym c.insert.ensures.value) (made, c.in_ok-add-in-Ok-Vacant.ensures.told) in
     stands_after h c.ops-position.ensures.valid a c.requires.in_range c.requires.accepted t m.entries stands
     (adds_from h c.ops-position.ensures.valid a c.requires.in_range c.requires.accepted t m.entries c.of-subject.result nothing w c.with-timeline.result (length c.ops-position.result.now)
     c.of-subject.ensures old c.with-timeline.ensures (ap length c.ops-position.ensures.ops) both.0 both.1 puts)

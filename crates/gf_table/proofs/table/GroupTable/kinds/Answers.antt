@@ -1,4 +1,4 @@
-use Rattle.std.proofs.Common.{◌≡◌, ◌∷◌, [], ◌++◌, map, rules, subst, sym, ap, ◌∙◌}
+use Rattle.std.proofs.Common.{◌≡◌, ◌∷◌, [], ◌++◌, map, subst, sym, ap, ap₂, ◌∙◌}
 use Rattle.std.specs.Prelude.{Some, None}
 use Rattle.std.specs.BTreeMap.Range.{entries_between}
 use Rattle.std.specs.List.Sorted.{IsStrictlySortedBy}
@@ -18,7 +18,7 @@ loop-state-preserved c =
     let new = map (λ s. s.now) c.push.new.self.items in
     let parts = λ (e : Subject × SubjectState). e.1.parts in
     let e : Subject × SubjectState = (c.in-Some.field-0-0.now, c.in-Some.state.now) in
-    let here : c.loop-state.state-iterator ≡ e ∷ c.next.new.self = search rules in
+    let here : c.loop-state.state-iterator ≡ e ∷ c.next.new.self = c.in-Some.ensures.steps in
     let more : new ≡ old ++ e.1.parts ∷ [] = ap (map (λ s. s.now)) c.in_ok-push.ensures.items ∙ (map-append (λ s. s.now) c.loop-state.found.items _ ∙ ap (λ (z : SubjectState). old ++ z.parts ∷ []) c.state.view_is) in
     one_further parts old new (map parts c.into_iter-state-iterator.result) c.loop-state.state-iterator c.next.new.self e c.loop-state.invariant here more
 
@@ -26,8 +26,13 @@ pub returns : goal.returns
 returns c =
     let old = map (λ s. s.now) c.loop-state.found.items in
     let o = c.args.object in
-    let all : c.range-state-items.result ≡ entries_between subject_cmp (Included (record { object = o; attribute = None })) (Included (record { object = o; attribute = Some Shown })) c.args.self.now = search rules in
-    let is : c.into_iter-state-iterator.result ≡ c.range-state-items.result = search rules in
+    let first : Subject = record { object = o; attribute = None } in
+    let last : Subject = record { object = o; attribute = Some Shown } in
+    let all : c.range-state-items.result ≡ entries_between subject_cmp (Included first) (Included last) c.args.self.now =
+    c.range-state-items.ensures.between c.new.ensures.exhausted
+    ∙ (ap₂ (λ x y. entries_between subject_cmp (Included x) (Included y) c.self.inside.subjects.entries) c.new.ensures.start c.new.ensures.end
+    ∙ ap (entries_between subject_cmp (Included first) (Included last)) c.self.view_is) in
+    let is : c.into_iter-state-iterator.result ≡ c.range-state-items.result = c.into_iter-state-iterator.ensures.into_iter_gives in
     let rise : IsStrictlySortedBy subject_cmp (keys_of c.args.self.now) = subst (λ t. IsStrictlySortedBy subject_cmp (keys_of t)) c.self.view_is c.range-state-items.ensures.ordered in
     let parts = λ (e : Subject × SubjectState). e.1.parts in
     sym (append-nil old) ∙ (ap (λ es. old ++ map parts es) (sym c.in-None.ensures.steps.0) ∙ (c.loop-state.invariant ∙ (ap (map parts) (is ∙ all) ∙ parts_between o c.args.self.now rise)))
