@@ -6,9 +6,10 @@ use Rattle.gf_ops.specs.declared.op.OpId.{OpId}
 use Rattle.gf_ops.specs.declared.change.Value.{Value}
 use Rattle.gf_ops.specs.ConflictTests.{value_eq}
 use Rattle.gf_table.specs.declared.tails.Tail.{Tail}
-use Rattle.gf_table.specs.Standing.{HasSetter, IsTail, AreTails}
-use Rattle.gf_table.specs.Tails.{op_gives}
-use Rattle.gf_table.proofs.LongerLemmas.{got_before, same_before}
+use Rattle.gf_notes.specs.Giving.{HasSetter}
+use Rattle.gf_table.specs.Standing.{IsTail, AreTails}
+use Rattle.gf_notes.specs.Giving.{op_gives}
+use Rattle.gf_notes.proofs.LongerLemmas.{got_before, same_before}
 
 module _ (h : List Op) (a : Op) where
   abbrev new : List Op

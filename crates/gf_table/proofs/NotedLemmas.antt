@@ -20,13 +20,15 @@ use Rattle.gf_ops.proofs.SameLemmas.{value_eq-same, value_eq-true}
 use Rattle.gf_groups.proofs.OnPositionLemmas.{contained_at}
 use Rattle.gf_groups.proofs.ExposedLemmas.{found_in}
 use Rattle.gf_table.specs.declared.tails.Tail.{Tail}
-use Rattle.gf_table.specs.Standing.{HasSetter, IsUpTo, IsTail, AreTails}
-use Rattle.gf_table.specs.Tails.{is_of, op_gives, other_than, new_tail, put_tail, noted}
+use Rattle.gf_notes.specs.Giving.{HasSetter}
+use Rattle.gf_table.specs.Standing.{IsUpTo, IsTail, AreTails}
+use Rattle.gf_notes.specs.Giving.{op_gives}
+use Rattle.gf_table.specs.Tails.{is_of, other_than, new_tail, put_tail, noted}
 use Rattle.gf_table.proofs.KeptTailsLemmas.{setter_longer, setter_before, tail_gives, tail_longer}
-use Rattle.gf_table.proofs.LongerLemmas.{got_last}
-use Rattle.gf_table.proofs.NextLemmas.{earlier}
+use Rattle.gf_notes.proofs.LongerLemmas.{got_last}
+use Rattle.gf_notes.proofs.NextLemmas.{earlier}
 use Rattle.gf_table.proofs.PutTailLemmas.{put_new, put_kept, put_cases, put_once}
-use Rattle.gf_table.proofs.QuickLemmas.{one_op}
+use Rattle.gf_notes.proofs.GivenLemmas.{one_op}
 
 -- ---- what is found
 

@@ -1,228 +1,103 @@
 -- The tails of an object tell exactly whether the next operation conflicts with one on the object.
-use Rattle.std.proofs.Common.{◌≡◌, ◌≢◌, ℕ, ◌≤◌, Bool, true, false, List, [], ◌∷◌, ◌++◌, length, inl, inr, refl, subst, sym, ap, ◌∙◌, arith}
-use Rattle.std.specs.Prelude.{Contains, Option, Some, None, slice_get, unwrap_or, not, nat_le, ◌||◌}
-use Rattle.std.proofs.lemmas.Bool.{cases_Bool, and_parts, and_from, or_cases, or_left, or_right, leb-true, leb-false, not-true, not_from_false}
+use Rattle.std.proofs.Common.{◌≡◌, ◌≢◌, ℕ, ◌≤◌, Bool, true, false, List, [], ◌∷◌, ◌++◌, length, inl, inr, refl, subst, sym, ◌∙◌, arith}
+use Rattle.std.specs.Prelude.{Contains, Option, Some, None, slice_get, not, ◌||◌}
+use Rattle.std.proofs.lemmas.Bool.{cases_Bool, and_parts, and_from, or_cases, or_left, or_right, not-true, not_from_false}
 use Rattle.std.proofs.lemmas.Bool.Decides.{Decides-eqb}
 use Rattle.gf_ops.specs.declared.op.Op.{Op}
 use Rattle.gf_ops.specs.declared.op.OpId.{OpId}
 use Rattle.gf_ops.specs.declared.op.ObjectId.{ObjectId}
-use Rattle.gf_ops.specs.declared.op.Clock.{Clock}
-use Rattle.gf_ops.specs.declared.change.Change.{Change}
-use Rattle.gf_ops.specs.declared.change.Change.TheVariants.{Create, Set}
+use Rattle.gf_ops.specs.declared.change.Change.TheVariants.{Set}
 use Rattle.gf_ops.specs.declared.change.Value.{Value}
-use Rattle.gf_ops.specs.declared.change.Value.TheVariants as value
-use Rattle.gf_ops.specs.declared.change.Attr.{Attr}
-use Rattle.gf_ops.specs.declared.change.Attr.TheVariants as attr
 use Rattle.gf_ops.specs.Accepted.{IsAccepted}
-use Rattle.gf_ops.specs.Attribute.{attribute_of, change_value, set_value, object_of, changed_object}
+use Rattle.gf_ops.specs.Attribute.{object_of}
 use Rattle.gf_ops.specs.Conflict.{Conflict}
 use Rattle.gf_ops.specs.ConflictTests.{value_eq}
-use Rattle.gf_ops.specs.KnownObject.{IsSuited}
 use Rattle.gf_ops.specs.Limits.{IsInRange}
-use Rattle.gf_ops.specs.OperationOrder.{Precedes, entry}
+use Rattle.gf_ops.specs.OperationOrder.{entry}
 use Rattle.gf_ops.specs.ValidHistory.{IsValid}
 use Rattle.gf_ops.proofs.SameLemmas.{value_eq-same, value_eq-true}
-use Rattle.gf_ops.proofs.ValidityLemmas.{same_op}
 use Rattle.gf_groups.specs.Growing.{conflict_at, conflicts_in}
 use Rattle.gf_groups.specs.GroupedPositions.{is_on}
 use Rattle.gf_groups.proofs.ListLemmas.{list_any_true, list_any_from}
-use Rattle.gf_groups.proofs.OnPositionLemmas.{conflict_from, conflict_with, contained_at, on_op}
+use Rattle.gf_groups.proofs.OnPositionLemmas.{conflict_with}
 use Rattle.gf_table.specs.declared.tails.Tail.{Tail}
-use Rattle.gf_table.specs.declared.subject.Subject.{Subject}
-use Rattle.gf_table.specs.Standing.{HasSetter, IsUpTo, IsTail, AreTails}
-use Rattle.gf_table.specs.Subjects.{attribute_set, subject_of, is_about}
-use Rattle.gf_table.specs.Tails.{op_gives, misses, hits, hits_one}
+use Rattle.gf_notes.specs.Giving.{HasSetter, op_gives, misses}
+use Rattle.gf_table.specs.Standing.{IsUpTo, IsTail, AreTails}
+use Rattle.gf_notes.specs.Subjects.{subject_of, is_about}
+use Rattle.gf_table.specs.Tails.{hits, hits_one}
 use Rattle.gf_table.proofs.KeptTailsLemmas.{tail_gives}
-use Rattle.gf_table.proofs.LongerLemmas.{got_last, got_before}
-use Rattle.gf_table.proofs.NextLemmas.{fresh, unknown}
-use Rattle.gf_table.proofs.SubjectLemmas.{about_op}
+use Rattle.gf_notes.proofs.GivenLemmas.{gives_other, met, missed, not_counted, one_op, same_answer, there}
+use Rattle.gf_notes.proofs.LongerLemmas.{got_last, got_before}
 
--- where the clock does not count the number, it misses it
-pub missed : (past : Clock) (s k : ℕ) → ¬ (k ≤ entry past s) → misses past s (Some k) ≡ true
-missed past s k n = elim (cases_Bool (nat_le k (entry past s))) [
-  | inl y ↦ absurd (n (leb-true k (entry past s) y))
-  | inr f ↦ not_from_false (nat_le k (entry past s)) f
-]
-
-pub not_counted : (past : Clock) (s k : ℕ) → misses past s (Some k) ≡ true → ¬ (k ≤ entry past s)
-not_counted past s k m l =
-    let f = not-true (nat_le k (entry past s)) m in
-    let g = leb-false k (entry past s) f in
-    omega (arith, l, g)
-
-set_itself : (v : Value) → set_value v (attribute_of v) ≡ Some v
-set_itself (value.Place p) = refl
-set_itself (value.Points ps) = refl
-set_itself (value.Size w h) = refl
-set_itself (value.Colour c) = refl
-set_itself (value.Layer n) = refl
-set_itself (value.Shown b) = refl
-
-pub set_told : (v : Value) (t : Attr) (x : Value) → set_value v t ≡ Some x → (t ≡ attribute_of v) × (x ≡ v)
-set_told (value.Place p) attr.Place x e = (refl, ap (λ o. unwrap_or o (value.Place p)) (sym e))
-set_told (value.Points ps) attr.Points x e = (refl, ap (λ o. unwrap_or o (value.Points ps)) (sym e))
-set_told (value.Size w h) attr.Size x e = (refl, ap (λ o. unwrap_or o (value.Size w h)) (sym e))
-set_told (value.Colour c) attr.Colour x e = (refl, ap (λ o. unwrap_or o (value.Colour c)) (sym e))
-set_told (value.Layer n) attr.Layer x e = (refl, ap (λ o. unwrap_or o (value.Layer n)) (sym e))
-set_told (value.Shown b) attr.Shown x e = (refl, ap (λ o. unwrap_or o (value.Shown b)) (sym e))
-set_told v t x e = absurd cc
-
--- b gives another value than v of its attribute
-pub record GivesOther (v : Value) (b : Op) : Type 0 where
-  pub object : ObjectId
-  pub given : Value
-  pub change : b.change ≡ Set object given
-  pub same : attribute_of given ≡ attribute_of v
-  pub differ : given ≢ v
-
--- what stands at a position is one operation
-pub one_op : (r : Option Op) (a b : Op) → r ≡ Some a → r ≡ Some b → a ≡ b
-one_op r a b e f = cc
-
-pub same_answer : (p q : Bool) → (p ≡ true → q ≡ true) → (q ≡ true → p ≡ true) → p ≡ q
-same_answer true true f g = refl
-same_answer true false f g = sym (f refl)
-same_answer false true f g = g refl
-same_answer false false f g = refl
-
--- a comes behind h and gives v to the object o, which has the positions us
-module _ (h : List Op) (valid : IsValid h) (a : Op) (in_range : IsInRange a) (accepted : IsAccepted h a) (us : List ℕ) (on : (i : ℕ) → Contains us i → is_on (object_of a) (slice_get h i) ≡ true) where
+-- a comes behind h and gives v to the object o; its subject has the positions us, with the tails es
+module _ (h : List Op) (valid : IsValid h) (a : Op) (in_range : IsInRange a) (accepted : IsAccepted h a) (us : List ℕ) (on : (i : ℕ) → Contains us i → is_on (object_of a) (slice_get h i) ≡ true)
+    (o : ObjectId) (v : Value) (gives : a.change ≡ Set o v) (about : (i : ℕ) → Contains us i → is_about (subject_of a) (slice_get h i) ≡ true) (es : List Tail) (tails : AreTails h us es) where
   abbrev c : ℕ → ℕ → Bool
   c = conflict_at (h ++ a ∷ [])
 
-  -- what stands at one of the positions
-  there : (i : ℕ) → Contains us i → (b : Op) × (slice_get h i ≡ Some b) × (object_of b ≡ object_of a)
-  there i m = on_op (object_of a) (slice_get h i) (on i m)
+  abbrev new : List Op
+  new = h ++ a ∷ []
 
-  -- where a makes the object there is no position
-  pub made_none : (start : _) → a.change ≡ Create start → (i : ℕ) → ¬ (Contains us i)
-  made_none start e i m =
-      let w = there i m in
-      let inside = contained_at h i w.0 w.1 in
-      let named : (object_of w.0).0 ≡ a.id = ap (λ (o : ObjectId). o.0) w.2 ∙ ap (λ k. (changed_object a.id k).0) e in
-      other w.0 inside w.0.change refl named
-    where
-      other : (b : Op) → Contains h b → (k : Change) → b.change ≡ k → ¬ ((changed_object b.id k).0 ≡ a.id)
-      other b inside (Create s) f named = fresh h valid a in_range accepted b inside named
-      other b inside (Set o v) f named =
-          let suited : IsSuited h b (Set o v) = subst (IsSuited h b) f (valid.suited b inside) in
-          let known = suited.known in
-          fresh h valid a in_range accepted known.maker known.contained (known.id ∙ named)
+  differs_by : (w : Value) → value_eq w v ≡ false → w ≢ v
+  differs_by w n e = let y : value_eq w v ≡ true = subst (λ z. value_eq w z ≡ true) e (value_eq-same w) in absurd cc
 
-  module _ (o : ObjectId) (v : Value) (gives : a.change ≡ Set o v) where
-    -- a setter of another value that a does not know conflicts with it
-    pub meets : (k : ℕ) (b : Op) (p : ObjectId) (u : Value) → Contains us k → slice_get h k ≡ Some b → b.change ≡ Set p u → attribute_of u ≡ attribute_of v → u ≢ v → ¬ (Precedes b a) → c (length h) k ≡ true
-    meets k b p u m at change same_attribute differ later =
-        let inside = contained_at h k b at in
-        let w = there k m in
-        let same : w.0 ≡ b = one_op (slice_get h k) w.0 b w.1 at in
-        conflict_from (slice_get (h ++ a ∷ []) (length h)) (slice_get (h ++ a ∷ []) k) a b (got_last h a) (got_before h a k b at) (record {
-          concurrent = record { different = λ e. fresh h valid a in_range accepted b inside (sym e); not_before = unknown h valid a in_range accepted b inside; not_after = later };
-          one_object = sym (subst (λ (x : Op). object_of x ≡ object_of a) same w.2);
-          apart = record {
-            attribute = attribute_of v;
-            first = v;
-            second = u;
-            first_given = subst (λ q. change_value q (attribute_of v) ≡ Some v) (sym gives) (set_itself v);
-            second_given = subst (λ q. change_value q (attribute_of v) ≡ Some u) (sym change) (subst (λ q. set_value u q ≡ Some u) same_attribute (set_itself u));
-            differ = λ e. differ (sym e);
-          };
-        })
+  up_to : (n s : ℕ) (r : Option ℕ) → IsUpTo n r → ¬ (n ≤ entry a.past s) → misses a.past s r ≡ true
+  up_to n s (Some k) l later = missed a.past s k (λ m. later (omega (arith, l, m)))
+  up_to n s None l later = absurd l
 
-    -- what a conflicts with, by its change
-    gives_by : (i : ℕ) (b : Op) (k : Change) → b.change ≡ k → slice_get h i ≡ Some b → Conflict a b → GivesOther v b
-    gives_by i b (Create start) f at x =
-        let suited : IsSuited h a (Set o v) = subst (IsSuited h a) gives accepted.suited in
-        let known = suited.known in
-        let named : b.id ≡ o.0 = ap (λ q. (changed_object b.id q).0) (sym f) ∙ (ap (λ (p : ObjectId). p.0) (sym x.one_object) ∙ ap (λ q. (changed_object a.id q).0) gives) in
-        let same : known.maker ≡ b = same_op h valid known.maker b known.contained (contained_at h i b at) (known.id ∙ sym named) in
-        absurd (x.concurrent.not_after (subst (λ (p : Op). Precedes p a) same known.before))
-    gives_by i b (Set p w) f at x =
-        let d = x.apart in
-        let first = set_told v d.attribute d.first (subst (λ q. change_value q d.attribute ≡ Some d.first) gives d.first_given) in
-        let second = set_told w d.attribute d.second (subst (λ q. change_value q d.attribute ≡ Some d.second) f d.second_given) in
-        record { object = p; given = w; change = f; same = sym second.0 ∙ first.0; differ = λ k. d.differ (first.1 ∙ (sym k ∙ sym second.1)) }
+  hit_tail : (e : Tail) (t : IsTail h us e) (i : OpId) (w : Value) → HasSetter h us i w → i.site ≡ e.last.site → w ≢ v → ¬ (i.seq ≤ entry a.past i.site) → hits new v a.past e ≡ true
+  hit_tail e t i w s site differ later =
+      let told = t.tells i w s site in
+      let late : ¬ (i.seq ≤ entry a.past e.last.site) = subst (λ z. ¬ (i.seq ≤ entry a.past z)) site later in
+      let p = op_gives (slice_get new e.position) v in
+      let q = misses a.past e.last.site e.other in
+      and_from (misses a.past e.last.site (Some e.last.seq)) (not p || q) (up_to i.seq e.last.site (Some e.last.seq) told.0 late) (elim (cases_Bool (value_eq t.value v)) [
+        | inl y ↦ elim told.1 [
+          | inl k ↦ absurd (differ (k ∙ value_eq-true t.value v y))
+          | inr u ↦ or_right (not p) q (up_to i.seq e.last.site e.other u late)
+        ]
+        | inr n ↦ or_left (not p) q (not_from_false p (tail_gives h a us e t v ∙ n))
+      ])
 
-    pub gives_other : (i : ℕ) (b : Op) → slice_get h i ≡ Some b → Conflict a b → GivesOther v b
-    gives_other i b = gives_by i b b.change refl
+  hit_at : (i : ℕ) (b : Op) → Contains us i → slice_get h i ≡ Some b → Conflict a b → hits_one new v a.past es ≡ true
+  hit_at i b m at x =
+      let g = gives_other h valid a in_range accepted us on o v gives i b at x in
+      let setter : HasSetter h us b.id g.given = record { op = b; position = i; among = m; at = at; id = refl; object = g.object; change = g.change } in
+      let e = tails.some b.id g.given setter in
+      let site : b.id.site ≡ e.0.last.site = sym ((Decides-eqb e.0.last.site b.id.site).0 e.2) in
+      list_any_from (hits new v a.past) es e.0 e.1 (hit_tail e.0 (tails.each e.0 e.1) b.id g.given setter site g.differ x.concurrent.not_after)
 
-    module _ (about : (i : ℕ) → Contains us i → is_about (subject_of a) (slice_get h i) ≡ true) where
-      -- each setter sets the attribute of v
-      one_attribute : (i : OpId) (u : Value) → HasSetter h us i u → attribute_of u ≡ attribute_of v
-      one_attribute i u s =
-          let w = about_op (subject_of a) (slice_get h s.position) (about s.position s.among) in
-          let same : w.0 ≡ s.op = one_op (slice_get h s.position) w.0 s.op w.1 s.at in
-          let e : attribute_set s.op.change ≡ attribute_set a.change = subst (λ (x : Op). attribute_set x.change ≡ attribute_set a.change) same (ap (λ (k : Subject). k.attribute) w.2) in
-          ap (λ r. unwrap_or r (attribute_of v)) (sym (ap attribute_set s.change) ∙ (e ∙ ap attribute_set gives))
+  hit_if : conflicts_in c (length h) us ≡ true → hits_one new v a.past es ≡ true
+  hit_if y =
+      let w = list_any_true (c (length h)) us y in
+      let b = there h valid a in_range accepted us on w.0 w.1 in
+      let k = conflict_with (slice_get new (length h)) (slice_get new w.0) a (got_last h a) w.2 in
+      let same : k.0 ≡ b.0 = one_op (slice_get new w.0) k.0 b.0 k.1 (got_before h a w.0 b.0 b.1) in
+      hit_at w.0 b.0 w.1 b.1 (subst (Conflict a) same k.2)
 
-      -- what a does not know, and gives another value, it conflicts with
-      pub met : (i : OpId) (u : Value) (s : HasSetter h us i u) → u ≢ v → ¬ (i.seq ≤ entry a.past i.site) → c (length h) s.position ≡ true
-      met i u s differ later = meets s.position s.op s.object u s.among s.at s.change (one_attribute i u s) differ (λ before. later (subst (λ (j : OpId). j.seq ≤ entry a.past j.site) s.id before))
+  conflicts_at : (i : OpId) (u : Value) (s : HasSetter h us i u) → u ≢ v → ¬ (i.seq ≤ entry a.past i.site) → conflicts_in c (length h) us ≡ true
+  conflicts_at i u s differ later = list_any_from (c (length h)) us s.position s.among (met h valid a in_range accepted us on o v gives about i u s differ later)
 
-      module _ (es : List Tail) (tails : AreTails h us es) where
-        abbrev new : List Op
-        new = h ++ a ∷ []
+  other_meets : (e : Tail) (t : IsTail h us e) → value_eq t.value v ≡ true → (r : Option ℕ) → e.other ≡ r → misses a.past e.last.site r ≡ true → conflicts_in c (length h) us ≡ true
+  other_meets e t y (Some k) f m = let w = t.other k f in conflicts_at (record { site = e.last.site; seq = k }) w.0 w.1 (λ d. w.2 (d ∙ sym (value_eq-true t.value v y))) (not_counted a.past e.last.site k m)
+  other_meets e t y None f m = absurd cc
 
-        differs_by : (w : Value) → value_eq w v ≡ false → w ≢ v
-        differs_by w n e = let y : value_eq w v ≡ true = subst (λ z. value_eq w z ≡ true) e (value_eq-same w) in absurd cc
+  only_if : hits_one new v a.past es ≡ true → conflicts_in c (length h) us ≡ true
+  only_if y =
+      let w = list_any_true (hits new v a.past) es y in
+      let e = w.0 in
+      let t = tails.each e w.1 in
+      let p = op_gives (slice_get new e.position) v in
+      let q = misses a.past e.last.site e.other in
+      let k = and_parts (misses a.past e.last.site (Some e.last.seq)) (not p || q) w.2 in
+      elim (cases_Bool (value_eq t.value v)) [
+        | inl x ↦ elim (or_cases (not p) q k.1) [
+          | inl n ↦ let no = not-true p n in let yes = tail_gives h a us e t v ∙ x in absurd cc
+          | inr m ↦ other_meets e t x e.other refl m
+        ]
+        | inr n ↦ conflicts_at e.last t.value t.last (differs_by t.value n) (not_counted a.past e.last.site e.last.seq k.0)
+      ]
 
-        up_to : (n s : ℕ) (r : Option ℕ) → IsUpTo n r → ¬ (n ≤ entry a.past s) → misses a.past s r ≡ true
-        up_to n s (Some k) l later = missed a.past s k (λ m. later (omega (arith, l, m)))
-        up_to n s None l later = absurd l
-
-        hit_tail : (e : Tail) (t : IsTail h us e) (i : OpId) (w : Value) → HasSetter h us i w → i.site ≡ e.last.site → w ≢ v → ¬ (i.seq ≤ entry a.past i.site) → hits new v a.past e ≡ true
-        hit_tail e t i w s site differ later =
-            let told = t.tells i w s site in
-            let late : ¬ (i.seq ≤ entry a.past e.last.site) = subst (λ z. ¬ (i.seq ≤ entry a.past z)) site later in
-            let p = op_gives (slice_get new e.position) v in
-            let q = misses a.past e.last.site e.other in
-            and_from (misses a.past e.last.site (Some e.last.seq)) (not p || q) (up_to i.seq e.last.site (Some e.last.seq) told.0 late) (elim (cases_Bool (value_eq t.value v)) [
-              | inl y ↦ elim told.1 [
-                | inl k ↦ absurd (differ (k ∙ value_eq-true t.value v y))
-                | inr u ↦ or_right (not p) q (up_to i.seq e.last.site e.other u late)
-              ]
-              | inr n ↦ or_left (not p) q (not_from_false p (tail_gives h a us e t v ∙ n))
-            ])
-
-        hit_at : (i : ℕ) (b : Op) → Contains us i → slice_get h i ≡ Some b → Conflict a b → hits_one new v a.past es ≡ true
-        hit_at i b m at x =
-            let g = gives_other i b at x in
-            let setter : HasSetter h us b.id g.given = record { op = b; position = i; among = m; at = at; id = refl; object = g.object; change = g.change } in
-            let e = tails.some b.id g.given setter in
-            let site : b.id.site ≡ e.0.last.site = sym ((Decides-eqb e.0.last.site b.id.site).0 e.2) in
-            list_any_from (hits new v a.past) es e.0 e.1 (hit_tail e.0 (tails.each e.0 e.1) b.id g.given setter site g.differ x.concurrent.not_after)
-
-        hit_if : conflicts_in c (length h) us ≡ true → hits_one new v a.past es ≡ true
-        hit_if y =
-            let w = list_any_true (c (length h)) us y in
-            let b = there w.0 w.1 in
-            let k = conflict_with (slice_get new (length h)) (slice_get new w.0) a (got_last h a) w.2 in
-            let same : k.0 ≡ b.0 = one_op (slice_get new w.0) k.0 b.0 k.1 (got_before h a w.0 b.0 b.1) in
-            hit_at w.0 b.0 w.1 b.1 (subst (Conflict a) same k.2)
-
-        conflicts_at : (i : OpId) (u : Value) (s : HasSetter h us i u) → u ≢ v → ¬ (i.seq ≤ entry a.past i.site) → conflicts_in c (length h) us ≡ true
-        conflicts_at i u s differ later = list_any_from (c (length h)) us s.position s.among (met i u s differ later)
-
-        other_meets : (e : Tail) (t : IsTail h us e) → value_eq t.value v ≡ true → (r : Option ℕ) → e.other ≡ r → misses a.past e.last.site r ≡ true → conflicts_in c (length h) us ≡ true
-        other_meets e t y (Some k) f m = let w = t.other k f in conflicts_at (record { site = e.last.site; seq = k }) w.0 w.1 (λ d. w.2 (d ∙ sym (value_eq-true t.value v y))) (not_counted a.past e.last.site k m)
-        other_meets e t y None f m = absurd cc
-
-        only_if : hits_one new v a.past es ≡ true → conflicts_in c (length h) us ≡ true
-        only_if y =
-            let w = list_any_true (hits new v a.past) es y in
-            let e = w.0 in
-            let t = tails.each e w.1 in
-            let p = op_gives (slice_get new e.position) v in
-            let q = misses a.past e.last.site e.other in
-            let k = and_parts (misses a.past e.last.site (Some e.last.seq)) (not p || q) w.2 in
-            elim (cases_Bool (value_eq t.value v)) [
-              | inl x ↦ elim (or_cases (not p) q k.1) [
-                | inl n ↦ let no = not-true p n in let yes = tail_gives h a us e t v ∙ x in absurd cc
-                | inr m ↦ other_meets e t x e.other refl m
-              ]
-              | inr n ↦ conflicts_at e.last t.value t.last (differs_by t.value n) (not_counted a.past e.last.site e.last.seq k.0)
-            ]
-
-        -- THE QUICK TEST
-        pub quick : hits_one new v a.past es ≡ conflicts_in c (length h) us
-        quick = same_answer (hits_one new v a.past es) (conflicts_in c (length h) us) only_if hit_if
+  -- THE QUICK TEST
+  pub quick : hits_one new v a.past es ≡ conflicts_in c (length h) us
+  quick = same_answer (hits_one new v a.past es) (conflicts_in c (length h) us) only_if hit_if

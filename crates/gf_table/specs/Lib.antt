@@ -1,11 +1,3 @@
 pub mod Tails
-pub mod Subjects
 pub mod SubjectState
 pub mod Standing
-pub mod Prints
-pub mod Setters
-pub mod Others
-pub mod Spans
-pub mod Summaries
-pub mod Notes
-pub mod Next

@@ -1,12 +1,11 @@
 -- When a table stands for a history: for each subject it has the parts of the operations about it, the tails of their setters, and notes that tell of the parts.
-use Rattle.std.specs.Prelude.{◌≡◌, ◌≢◌, ◌⊎◌, ◌↔◌, ℕ, ◌≤◌, true, List, [], AllPairs, Contains, length, Option, Some, None, option_map, slice_get}
+use Rattle.std.specs.Prelude.{◌≡◌, ◌≢◌, ◌⊎◌, ◌↔◌, ℕ, ◌≤◌, true, List, [], AllPairs, Contains, length, Option, Some, None, option_map}
 use Rattle.std.specs.BTreeMap.{is_at}
 use Rattle.std.specs.List.{IsDistinct, fold, filter_map}
 use Rattle.std.specs.Map.{lookup}
 use Rattle.gf_ops.specs.declared.op.Op.{Op}
 use Rattle.gf_ops.specs.declared.op.OpId.{OpId}
 use Rattle.gf_ops.specs.declared.op.ObjectId.{ObjectId}
-use Rattle.gf_ops.specs.declared.change.Change.TheVariants.{Set}
 use Rattle.gf_ops.specs.declared.change.Value.{Value}
 use Rattle.gf_ops.specs.declared.change.Attr.{Attr}
 use Rattle.gf_groups.specs.declared.group.Group.{Group}
@@ -14,22 +13,13 @@ use Rattle.gf_groups.specs.Growing.{conflict_at}
 use Rattle.gf_groups.specs.Versions.{IsVersionGroup}
 use Rattle.gf_parts.specs.Parted.{AreParts}
 use Rattle.gf_parts.specs.Parts.{PartsState, whole, no_parts, together}
+use Rattle.gf_notes.specs.Giving.{HasSetter}
 use Rattle.gf_table.specs.declared.tails.Tail.{Tail}
-use Rattle.gf_table.specs.declared.subject.Subject.{Subject}
-use Rattle.gf_table.specs.Subjects.{kinds, subject_cmp, positions_about}
+use Rattle.gf_notes.specs.declared.subject.Subject.{Subject}
+use Rattle.gf_notes.specs.Subjects.{kinds, subject_cmp, positions_about}
 use Rattle.gf_table.specs.SubjectState.{SubjectState}
-use Rattle.gf_table.specs.Notes.{AreNotes}
+use Rattle.gf_notes.specs.Notes.{AreNotes}
 use Rattle.gf_table.specs.Tails.{is_of, are_one}
-
--- an operation of h at one of the positions us has the id i and gives the value v
-pub record HasSetter (h : List Op) (us : List ℕ) (i : OpId) (v : Value) : Type 0 where
-  pub op : Op
-  pub position : ℕ
-  pub among : Contains us position
-  pub at : slice_get h position ≡ Some op
-  pub id : op.id ≡ i
-  pub object : ObjectId
-  pub change : op.change ≡ Set object v
 
 -- there is another number, and n is at most that
 abbrev pub IsUpTo : ℕ → Option ℕ → Type 0

@@ -1,29 +1,16 @@
 -- What is kept of the setters of an attribute by one site, to tell at once whether an operation conflicts with one of them.
-use Rattle.std.specs.Prelude.{ℕ, Bool, false, cond, not, nat_le, ◌&&◌, ◌||◌, ◌==◌, List, [], ◌∷◌, Option, Some, None, slice_get}
+use Rattle.std.specs.Prelude.{ℕ, Bool, cond, not, ◌&&◌, ◌||◌, ◌==◌, List, [], ◌∷◌, Option, Some, None, slice_get}
 use Rattle.std.specs.List.{list_any, find}
 use Rattle.gf_ops.specs.declared.op.Op.{Op}
 use Rattle.gf_ops.specs.declared.op.OpId.{OpId}
 use Rattle.gf_ops.specs.declared.op.Clock.{Clock}
-use Rattle.gf_ops.specs.declared.change.Change.{Change}
-use Rattle.gf_ops.specs.declared.change.Change.TheVariants.{Create, Set}
 use Rattle.gf_ops.specs.declared.change.Value.{Value}
-use Rattle.gf_ops.specs.ConflictTests.{value_eq}
-use Rattle.gf_ops.specs.OperationOrder.{entry}
+use Rattle.gf_notes.specs.Giving.{op_gives, misses}
 use Rattle.gf_table.specs.declared.tails.Tail.{Tail}
 
 -- the tail is that of the site s
 abbrev pub is_of : ℕ → Tail → Bool
 is_of s e = e.last.site == s
-
--- the change gives the value v
-abbrev pub change_gives : Change → Value → Bool
-change_gives (Set o w) v = value_eq w v
-change_gives (Create start) v = false
-
--- the operation is there and gives the value v
-abbrev pub op_gives : Option Op → Value → Bool
-op_gives (Some a) v = change_gives a.change v
-op_gives None v = false
 
 -- the number of the last setter with another value than v, once v is the last
 abbrev pub other_than : List Op → Value → Option Tail → Option ℕ
@@ -46,11 +33,6 @@ put_tail e (d ∷ ds) = cond (are_one e d) (e ∷ ds) (d ∷ put_tail e ds)
 -- the tails after it
 abbrev pub noted : List Op → OpId → Value → ℕ → List Tail → List Tail
 noted h i v n es = put_tail (new_tail h i v n (find (is_of i.site) es)) es
-
--- there is a number, which the clock does not count of the site s
-abbrev pub misses : Clock → ℕ → Option ℕ → Bool
-misses past s (Some k) = not (nat_le k (entry past s))
-misses past s None = false
 
 -- what gives v, and knows what the clock counts, conflicts with one that the tail tells
 abbrev pub hits : List Op → Value → Clock → Tail → Bool

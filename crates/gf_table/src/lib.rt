@@ -5,16 +5,8 @@
 //! - [`the_versions_are_what_is_free_with_one_set_of_each_part`]: the law.
 #![tactic(auto)]
 
-mod joining;
 mod laws;
-mod notes;
-mod others;
-mod prints;
-mod scratch;
-mod setters;
-mod spans;
 mod subject;
-mod summary;
 mod table;
 mod tails;
 

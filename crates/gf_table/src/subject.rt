@@ -1,47 +1,20 @@
-//! What an operation is about, and what the table has of that.
+//! What the table has of one subject.
 
 ghost use Rattle.std.specs.Prelude.{◌≡◌, cond, IfOk, OnOk, OnErr};
 ghost use Rattle.gf_groups.specs.Growing.{conflict_at};
 ghost use Rattle.gf_parts.specs.Parts.{with_free, with_part};
-ghost use Rattle.gf_table.specs.Next.{IsNextOf, Gives};
-ghost use Rattle.gf_table.specs.Subjects.{subject_of};
+ghost use Rattle.gf_notes.specs.Next.{IsNextOf, Gives};
 ghost use Rattle.gf_table.specs.SubjectState.{nothing, with_setter, with_op};
-ghost use Rattle.gf_table.specs.Notes.{AreNotes};
+ghost use Rattle.gf_notes.specs.Notes.{AreNotes};
 
-use crate::joining::{add_free, connect};
-use crate::notes::{self, Notes};
-use crate::scratch::Scratch;
 use crate::tails::{Tail, hits_one, note};
 use gf_groups::Timeline;
-use gf_ops::{Attr, Change, ObjectId, Op, Value};
+use gf_notes::{Notes, Scratch, add_free, connect, copied_notes, taken_notes};
+use gf_ops::{Change, Op, Value};
 use gf_parts::Parts;
 use gf_shape::OutOfMemory;
 use std::alloc::Global;
 use std::marker::Model;
-
-/// What an operation is about: an object that it makes, or an attribute that it sets of one.
-/// Operations about two subjects never conflict.
-#[derive(Clone, Copy, Debug, PartialEq, Eq, PartialOrd, Ord)]
-pub struct Subject {
-    pub object: ObjectId,
-    pub attribute: Option<Attr>,
-}
-
-impl Subject {
-    /// What the operation is about.
-    pub(crate) fn of(op: &Op) -> Subject
-        ensures { result ≡ subject_of op.now }
-    {
-        let attribute = match &op.change {
-            Change::Create(_) => None,
-            Change::Set { value, .. } => Some(value.attribute()),
-        };
-        Subject {
-            object: op.object(),
-            attribute,
-        }
-    }
-}
 
 /// The positions of the operations about a subject in parts, the tails of its setters, and notes
 /// from the first conflict on.
@@ -54,7 +27,7 @@ pub(crate) struct SubjectTable {
 
 impl Model for SubjectTable {
     ghost use Rattle.gf_table.specs.SubjectState.{SubjectState};
-    ghost use Rattle.gf_table.specs.Notes.{unboxed};
+    ghost use Rattle.gf_notes.specs.Notes.{unboxed};
 
     ghost Value = { SubjectState };
 
@@ -80,7 +53,7 @@ impl SubjectTable {
         let parts = self.parts.copy(alloc)?;
         let mut tails = Vec::new(alloc);
         tails.extend_from_slice(&self.tails)?;
-        let notes = notes::copied(alloc, &self.notes)?;
+        let notes = copied_notes(alloc, &self.notes)?;
         Ok(SubjectTable {
             parts,
             tails,
@@ -128,7 +101,7 @@ impl SubjectTable {
         self.tails.reserve(1)?;
         let conflicts = hits_one(timeline, value, &op.past, &self.tails);
         if conflicts {
-            let mut notes = notes::taken(scratch.alloc, &mut self.notes)?;
+            let mut notes = taken_notes(scratch.alloc, &mut self.notes)?;
             let parts = &mut self.parts;
             let connected = connect(scratch, timeline, op, value, position, parts, &mut notes);
             self.notes = Some(notes);

@@ -11,11 +11,11 @@ ghost use Rattle.gf_groups.specs.GroupedPositions.{positions_below};
 ghost use Rattle.gf_groups.specs.Tables.{IsTable};
 ghost use Rattle.gf_groups.specs.Versions.{IsMade, AreVersions};
 ghost use Rattle.gf_table.specs.Standing.{StandsFor, parts_at, parts_of};
-ghost use Rattle.gf_table.specs.Subjects.{kinds, subject_cmp};
+ghost use Rattle.gf_notes.specs.Subjects.{kinds, subject_cmp};
 
-use crate::scratch::Scratch;
-use crate::subject::{Subject, SubjectTable};
+use crate::subject::SubjectTable;
 use gf_groups::{GroupFault, Groups, Positions, Timeline, groups_from, is_made};
+use gf_notes::{Scratch, Subject};
 use gf_ops::{Attr, History, ObjectId, Op};
 use gf_parts::{Parts, Together};
 use gf_shape::OutOfMemory;
@@ -34,7 +34,7 @@ pub struct GroupTable {
 
 impl Model for GroupTable {
     ghost use Rattle.std.specs.Prelude.{List};
-    ghost use Rattle.gf_table.specs.declared.subject.Subject.{Subject};
+    ghost use Rattle.gf_notes.specs.declared.subject.Subject.{Subject};
     ghost use Rattle.gf_table.specs.SubjectState.{SubjectState};
 
     ghost Value = { List (Subject × SubjectState) };

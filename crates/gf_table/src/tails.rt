@@ -1,15 +1,14 @@
 //! What is kept of the setters of an attribute by one site, to tell at once whether an operation
 //! conflicts with one of them.
 
-ghost use Rattle.std.specs.Prelude.{◌≡◌, ◌<◌, nat_le, vec_len, vec_capacity, option_copied};
+ghost use Rattle.std.specs.Prelude.{◌≡◌, ◌<◌, vec_len, vec_capacity, option_copied};
 ghost use Rattle.std.specs.List.{position};
-ghost use Rattle.gf_ops.specs.ConflictTests.{value_eq};
-ghost use Rattle.gf_ops.specs.OperationOrder.{entry};
-ghost use Rattle.gf_table.specs.Tails.{is_of, change_gives, op_gives, other_than};
-ghost use Rattle.gf_table.specs.Tails.{new_tail, noted, misses, hits, hits_one};
+ghost use Rattle.gf_table.specs.Tails.{is_of, other_than};
+ghost use Rattle.gf_table.specs.Tails.{new_tail, noted, hits, hits_one};
 
 use gf_groups::Timeline;
-use gf_ops::{Change, Clock, Op, OpId, Value};
+use gf_notes::{misses, op_gives};
+use gf_ops::{Clock, OpId, Value};
 
 /// The last setter by a site and its position, and the number of the site's last one with another
 /// value than that.
@@ -18,24 +17,6 @@ pub struct Tail {
     pub last: OpId,
     pub position: usize,
     pub other: Option<u32>,
-}
-
-/// Whether they are one value of one attribute.
-fn value_eq(value: &Value, other: &Value) -> bool
-    ensures { result ≡ value_eq value.now other.now }
-{
-    match (value, other) {
-        (Value::Place(place), Value::Place(other)) => place == other,
-        (Value::Points(points), Value::Points(other)) => points == other,
-        (Value::Size(width, height), Value::Size(other_width, other_height)) => {
-            width == other_width && height == other_height
-        }
-        (Value::Colour(colour), Value::Colour(other)) => colour == other,
-        (Value::Layer(layer), Value::Layer(other)) => layer == other,
-        (Value::Shown(shown), Value::Shown(other)) => shown == other,
-        (Value::Place(_) | Value::Points(_) | Value::Size(_, _), _) => false,
-        (Value::Colour(_) | Value::Layer(_) | Value::Shown(_), _) => false,
-    }
 }
 
 /// Whether the tail is that of the site.
@@ -50,26 +31,6 @@ fn place(site: u8, tails: &[Tail]) -> Option<usize>
     ensures { result ≡ position (is_of site) tails.now }
 {
     tails.iter().position(|tail| is_of(site, tail))
-}
-
-/// Whether the change gives the value.
-fn change_gives(change: &Change, value: &Value) -> bool
-    ensures { result ≡ change_gives change.now value.now }
-{
-    match change {
-        Change::Set { value: own, .. } => value_eq(own, value),
-        Change::Create(_) => false,
-    }
-}
-
-/// Whether the operation is there and gives the value.
-pub(crate) fn op_gives(op: Option<&Op>, value: &Value) -> bool
-    ensures { result ≡ op_gives (option_copied op.entry) value.now }
-{
-    match op {
-        Some(op) => change_gives(&op.change, value),
-        None => false,
-    }
 }
 
 /// The number of the last setter with another value than this, once this is the last.
@@ -118,24 +79,6 @@ pub(crate) fn note(
             tails[index] = tail;
         }
         None => tails.push_reserved(new_tail(timeline, id, value, position, None)),
-    }
-}
-
-/// Whether the clock counts this number of the site.
-fn counts(past: &Clock, site: u8, number: u32) -> bool
-    ensures { result ≡ nat_le number (entry past.now site) }
-{
-    let place = usize::from(site).saturating_sub(1);
-    number <= past.0.get(place).copied().unwrap_or(0)
-}
-
-/// Whether there is a number, which the clock does not count of the site.
-pub(crate) fn misses(past: &Clock, site: u8, number: Option<u32>) -> bool
-    ensures { result ≡ misses past.now site number }
-{
-    match number {
-        Some(number) => !counts(past, site, number),
-        None => false,
     }
 }
 

@@ -1,7 +1,7 @@
 use Rattle.std.proofs.Common.{subst, sym}
 use Rattle.std.proofs.lemmas.Result.{on_ok_weaker}
 use Rattle.gf_table.specs.SubjectState.{SubjectState}
-use Rattle.gf_table.specs.Next.{IsNextOf}
+use Rattle.gf_notes.specs.Next.{IsNextOf}
 use Rattle.gf_table.proofs.subject.SubjectTable.add.Goals as goal
 
 pub returns-in-Create-clause-told : goal.returns-in-Create-clause-told

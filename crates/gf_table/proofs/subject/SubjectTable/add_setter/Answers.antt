@@ -1,6 +1,6 @@
 use Rattle.std.proofs.Common.{subst, sym}
 use Rattle.gf_table.specs.SubjectState.{SubjectState}
-use Rattle.gf_table.specs.Next.{IsNextOf}
+use Rattle.gf_notes.specs.Next.{IsNextOf}
 use Rattle.gf_table.proofs.subject.SubjectTable.add_setter.Goals as goal
 use Rattle.gf_table.proofs.subject.SubjectTable.add_setter.Goals.{then-conflicts+in_ok-notes+in_ok-connected, else-conflicts+in_ok-add_free}
 

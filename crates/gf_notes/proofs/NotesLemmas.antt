@@ -1,0 +1,79 @@
+-- The notes of a subject: of a longer history, and after one more operation.
+use Rattle.std.proofs.Common.{◌≡◌, ℕ, ◌<◌, List, [], ◌∷◌, ◌++◌, length, subst, sym}
+use Rattle.std.specs.Prelude.{◌⊎◌, ◌↔◌, Contains, Option, Some, slice_get}
+use Rattle.std.proofs.lemmas.Option.{slice_get_within}
+use Rattle.gf_ops.specs.declared.op.Op.{Op}
+use Rattle.gf_groups.specs.Growing.{conflict_at}
+use Rattle.gf_groups.proofs.TableLemmas.{conflict_at_test}
+use Rattle.gf_parts.specs.Parted.{AreParts}
+use Rattle.gf_parts.specs.Parts.{PartsState, whole, with_free, with_part}
+use Rattle.gf_parts.proofs.PartsLemmas.{all_connected, all_free, parts_agree}
+use Rattle.gf_notes.specs.declared.setters.Setter.{Setter}
+use Rattle.gf_notes.specs.Next.{IsNextTo, IsNextOf}
+use Rattle.gf_notes.specs.Notes.{NotesState, AreNotes}
+use Rattle.gf_notes.specs.Setters.{AreSetters, ListsAll, ListsMore}
+use Rattle.gf_notes.specs.Summaries.{NotesOtherIn, TellsLast}
+use Rattle.gf_notes.specs.Subjects.{subject_of}
+use Rattle.gf_notes.proofs.LongerLemmas.{same_conflict}
+use Rattle.gf_notes.proofs.SetterLemmas.{lists_longer, lists_more, setters_longer}
+use Rattle.gf_notes.proofs.SubjectLemmas.{about_op}
+use Rattle.gf_notes.proofs.SummaryLemmas.{last_longer, next_free}
+
+module _ (h : List Op) (a : Op) (s : PartsState) where
+  pub notes_longer : (m : NotesState) → AreNotes h s m → AreNotes (h ++ a ∷ []) s m
+  notes_longer m old = record { summary = last_longer h a s m.summary old.summary; setters = lists_longer h a (whole s).all m.setters old.setters }
+
+  -- parts stay parts
+  pub parts_longer : ((i : ℕ) → Contains (whole s).all i → i < length h) → AreParts (conflict_at h) s → AreParts (conflict_at (h ++ a ∷ [])) s
+  parts_longer below parts = parts_agree (conflict_at h) (conflict_at (h ++ a ∷ [])) (conflict_at_test h) (conflict_at_test (h ++ a ∷ [])) s (λ i j k l. same_conflict h a i j (below i k) (below j l)) parts
+
+-- the next operation, and the parts that it comes to
+module _ (g : List Op) (a : Op) (n : ℕ) (s : PartsState) (next : IsNextTo g a n s) where
+  abbrev h : List Op
+  h = next.history
+
+  abbrev new : List Op
+  new = h ++ a ∷ []
+
+  below : (i : ℕ) → Contains (whole s).all i → i < length h
+  below i m = let w = about_op (subject_of a) (slice_get h i) ((next.positions i).0 m) in slice_get_within h i w.0 w.1
+
+  still_parts : AreParts (conflict_at new) s
+  still_parts = parts_longer h a s below next.parts
+
+  with_more : (r : PartsState) → ((i : ℕ) → Contains (whole r).all i ↔ (Contains (whole s).all i ⊎ (i ≡ length h))) → (m k : Option (List Setter)) → ListsAll h (whole s).all m → ListsMore m a n k → ListsAll g (whole r).all k
+  with_more r more m k old adds =
+      subst (λ z. ListsAll z (whole r).all k) (sym next.longer) (lists_more h a (whole s).all (whole r).all more m k old (subst (λ i. ListsMore m a i k) next.position adds))
+
+  -- the setters after it came and is free
+  pub free_listed : (m k : Option (List Setter)) → ListsAll h (whole s).all m → ListsMore m a n k → ListsAll g (whole (with_free n s)).all k
+  free_listed m k old adds = with_more (with_free n s) (λ i. subst (λ j. Contains (whole (with_free j s)).all i ↔ (Contains (whole s).all i ⊎ (i ≡ length h))) (sym next.position) (all_free (conflict_at new) (conflict_at_test new) s still_parts (length h) below i)) m k old adds
+
+  -- and after it connected what it conflicts with
+  pub connected_listed : (m k : Option (List Setter)) → ListsAll h (whole s).all m → ListsMore m a n k → ListsAll g (whole (with_part (conflict_at g) n s)).all k
+  connected_listed m k old adds = with_more (with_part (conflict_at g) n s) (λ i.
+      subst (λ z. Contains (whole (with_part (conflict_at z) n s)).all i ↔ (Contains (whole s).all i ⊎ (i ≡ length h))) (sym next.longer)
+      (subst (λ j. Contains (whole (with_part (conflict_at new) j s)).all i ↔ (Contains (whole s).all i ⊎ (i ≡ length h))) (sym next.position)
+      (all_connected (conflict_at new) (conflict_at_test new) s still_parts (length h) below i))) m k old adds
+
+  -- the setters that are listed before it came
+  pub listed_before : (ss : List Setter) → (m : Option (List Setter)) → m ≡ Some ss → ListsAll h (whole s).all m → AreSetters g (whole s).all ss
+  listed_before ss m e old = subst (λ z. AreSetters z (whole s).all ss) (sym next.longer) (setters_longer h a (whole s).all ss (subst (ListsAll h (whole s).all) e old))
+
+module _ (g : List Op) (a : Op) (n : ℕ) (s : PartsState) (m : NotesState) (before : IsNextOf g a n s m) where
+  pub listed_now : (ss : List Setter) → m.setters ≡ Some ss → AreSetters g (whole s).all ss
+  listed_now ss e = listed_before g a n s before.next ss m.setters e before.notes.setters
+
+  -- the notes after it came and is free
+  pub free_notes : (k : NotesState) → NotesOtherIn m.summary a k.summary → ListsMore m.setters a n k.setters → AreNotes g (with_free n s) k
+  free_notes k summary setters = record {
+    summary = next_free g a n s m k.summary before summary;
+    setters = free_listed g a n s before.next m.setters k.setters before.notes.setters setters;
+  }
+
+  -- and after it connected what it conflicts with
+  pub connected_notes : (r : PartsState) (k : NotesState) → r ≡ with_part (conflict_at g) n s → TellsLast g r k.summary → ListsMore m.setters a n k.setters → AreNotes g r k
+  connected_notes r k e summary setters = record {
+    summary = summary;
+    setters = subst (λ (z : PartsState). ListsAll g (whole z).all k.setters) (sym e) (connected_listed g a n s before.next m.setters k.setters before.notes.setters setters);
+  }

@@ -1,0 +1,9 @@
+pub mod Giving
+pub mod Subjects
+pub mod Prints
+pub mod Spans
+pub mod Others
+pub mod Summaries
+pub mod Setters
+pub mod Notes
+pub mod Next

@@ -1,8 +1,0 @@
-use Rattle.std.proofs.Common.{take}
-use Rattle.gf_table.specs.Prints.{print_of}
-use Rattle.gf_table.specs.Setters.{is_rival}
-use Rattle.gf_table.proofs.MarkLemmas.{AreMarked}
-use Rattle.gf_table.proofs.scratch.mark.Given as goal
-
-abbrev pub invariant-loop-setter : goal.invariant-loop-setter
-invariant-loop-setter l = AreMarked (is_rival l.timeline l.value (print_of l.value) l.op.past) (take l.setter-index l.setters) l.marks.items

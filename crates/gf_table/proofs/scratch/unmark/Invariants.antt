@@ -1,6 +1,0 @@
-use Rattle.std.proofs.Common.{drop}
-use Rattle.gf_table.specs.Setters.{MarksOnly}
-use Rattle.gf_table.proofs.scratch.unmark.Given as goal
-
-abbrev pub invariant-loop-setter : goal.invariant-loop-setter
-invariant-loop-setter l = MarksOnly (drop l.setter-index l.setters) l.marks.items
