@@ -1,4 +1,4 @@
--- The next operation behind a history, and the parts of its subject. No public clause cites this module.
+-- The next operation behind a history, and the parts of its subject.
 use Rattle.std.specs.Prelude.{◌≡◌, ◌↔◌, ℕ, Bool, true, not, ◌&&◌, List, [], ◌∷◌, ◌++◌, Contains, length, slice_get}
 use Rattle.gf_ops.specs.declared.op.Op.{Op}
 use Rattle.gf_ops.specs.declared.op.ObjectId.{ObjectId}
