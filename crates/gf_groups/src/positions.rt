@@ -60,6 +60,13 @@ impl Positions {
         Ok(())
     }
 
+    /// Takes the last position away, if there is one.
+    pub fn pop(&mut self)
+        ensures { (us : _) (p : _) → self.old ≡ us ++ p ∷ [] → self.new ≡ us }
+    {
+        self.positions.pop();
+    }
+
     /// Adds a position behind these and behind the others. All memory is there before it changes
     /// either.
     pub fn push_to_both(

@@ -32,15 +32,15 @@ use Rattle.gf_notes.specs.declared.prints.Print.{Print}
 use Rattle.gf_notes.specs.declared.spans.Span.{Span}
 use Rattle.gf_notes.specs.Next.{IsNextTo, IsNextOf, Gives, IsInOne, HasRival}
 use Rattle.gf_notes.specs.Notes.{NotesState}
-use Rattle.gf_notes.specs.Subjects.{subject_of}
+use Rattle.gf_tails.specs.Subjects.{subject_of}
 use Rattle.gf_notes.specs.Others.{CountsOthers}
 use Rattle.gf_notes.specs.Summaries.{SummaryState, TellsOf, TellsParts, TellsLast, IsJoined, NotesIn}
 use Rattle.gf_notes.specs.Spans.{Spans, Widens, TellsSet, TellsSets, Stays, AllStay, OneKnown}
 use Rattle.gf_notes.specs.Prints.{print_of, print_cmp, GivesPrint, IsPrinted, TellsPositions}
-use Rattle.gf_notes.proofs.LongerLemmas.{got_last, got_before, same_before}
+use Rattle.gf_tails.proofs.LongerLemmas.{got_last, got_before, same_before}
 use Rattle.gf_notes.proofs.OthersLemmas.{beside_longer, calm_free, calm_before}
-use Rattle.gf_notes.proofs.GivenLemmas.{meets, one_op}
-use Rattle.gf_notes.proofs.SubjectLemmas.{about_on}
+use Rattle.gf_tails.proofs.GivenLemmas.{meets, one_op}
+use Rattle.gf_tails.proofs.SubjectLemmas.{about_on}
 use Rattle.gf_notes.proofs.SummaryLemmas.{summed, positions_more, positions_longer, sets_longer, sets_with}
 
 -- ---- lists

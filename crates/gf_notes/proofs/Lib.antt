@@ -1,12 +1,8 @@
-pub mod GivenLemmas
 pub mod JoinedLemmas
-pub mod LongerLemmas
 pub mod MarkLemmas
-pub mod NextLemmas
 pub mod NotesLemmas
 pub mod OthersLemmas
 pub mod PrintLemmas
 pub mod RivalLemmas
 pub mod SetterLemmas
-pub mod SubjectLemmas
 pub mod SummaryLemmas

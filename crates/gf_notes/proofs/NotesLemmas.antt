@@ -13,10 +13,10 @@ use Rattle.gf_notes.specs.Next.{IsNextTo, IsNextOf}
 use Rattle.gf_notes.specs.Notes.{NotesState, AreNotes}
 use Rattle.gf_notes.specs.Setters.{AreSetters, ListsAll, ListsMore}
 use Rattle.gf_notes.specs.Summaries.{NotesOtherIn, TellsLast}
-use Rattle.gf_notes.specs.Subjects.{subject_of}
-use Rattle.gf_notes.proofs.LongerLemmas.{same_conflict}
+use Rattle.gf_tails.specs.Subjects.{subject_of}
+use Rattle.gf_tails.proofs.LongerLemmas.{same_conflict}
 use Rattle.gf_notes.proofs.SetterLemmas.{lists_longer, lists_more, setters_longer}
-use Rattle.gf_notes.proofs.SubjectLemmas.{about_op}
+use Rattle.gf_tails.proofs.SubjectLemmas.{about_op}
 use Rattle.gf_notes.proofs.SummaryLemmas.{last_longer, next_free}
 
 module _ (h : List Op) (a : Op) (s : PartsState) where

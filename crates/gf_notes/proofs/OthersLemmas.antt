@@ -19,8 +19,8 @@ use Rattle.gf_groups.proofs.ListLemmas.{list_any_true}
 use Rattle.gf_groups.proofs.OnPositionLemmas.{conflict_with}
 use Rattle.gf_parts.specs.Parts.{PartState, PartsState, touches}
 use Rattle.gf_notes.specs.Others.{CountsToo, CountsAt, CountsEach, CountsBeside, CountsOthers}
-use Rattle.gf_notes.proofs.LongerLemmas.{got_last, got_before}
-use Rattle.gf_notes.proofs.GivenLemmas.{one_op, set_told}
+use Rattle.gf_tails.proofs.LongerLemmas.{got_last, got_before}
+use Rattle.gf_tails.proofs.GivenLemmas.{one_op, set_told}
 
 -- a clock that counts more
 pub each_more : (h : List Op) (t : Attr) (j k : Clock) (us : List ℕ) → IsWithin j k → CountsEach h t j us → CountsEach h t k us

@@ -29,12 +29,12 @@ use Rattle.gf_notes.specs.declared.setters.Setter.{Setter}
 use Rattle.gf_notes.specs.Next.{IsNextTo, Gives}
 use Rattle.gf_notes.specs.Prints.{print_of}
 use Rattle.gf_notes.specs.Setters.{AreSetters, print_eq, is_rival, rival_at}
-use Rattle.gf_notes.specs.Giving.{HasSetter}
-use Rattle.gf_notes.specs.Subjects.{attribute_set, subject_of, is_about}
-use Rattle.gf_notes.specs.Giving.{op_gives, misses}
-use Rattle.gf_notes.proofs.LongerLemmas.{got_last, length-longer, same_before}
-use Rattle.gf_notes.proofs.GivenLemmas.{gives_other, met, missed, not_counted, one_op, same_answer}
-use Rattle.gf_notes.proofs.SubjectLemmas.{about_on, about_op, about_to}
+use Rattle.gf_tails.specs.Giving.{HasSetter}
+use Rattle.gf_tails.specs.Subjects.{attribute_set, subject_of, is_about}
+use Rattle.gf_tails.specs.Giving.{op_gives, misses}
+use Rattle.gf_tails.proofs.LongerLemmas.{got_last, length-longer, same_before}
+use Rattle.gf_tails.proofs.GivenLemmas.{gives_other, met, missed, not_counted, one_op, same_answer}
+use Rattle.gf_tails.proofs.SubjectLemmas.{about_on, about_op, about_to}
 
 print_itself : (p : Print) → print_eq p p ≡ true
 print_itself p = and_from (int_eq p.first p.first) (int_eq p.second p.second) ((Decides-int_eq p.first p.first).1 refl) ((Decides-int_eq p.second p.second).1 refl)

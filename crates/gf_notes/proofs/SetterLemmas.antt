@@ -8,7 +8,7 @@ use Rattle.gf_parts.specs.Parts.{PartState, alone, whole}
 use Rattle.gf_parts.proofs.PartsLemmas.{all_of_fold}
 use Rattle.gf_notes.specs.declared.setters.Setter.{Setter}
 use Rattle.gf_notes.specs.Setters.{IsSetterAt, AreSetters, ListsAll, AddsSetter, ListsMore}
-use Rattle.gf_notes.proofs.LongerLemmas.{got_last, got_before}
+use Rattle.gf_tails.proofs.LongerLemmas.{got_last, got_before}
 
 -- no setter
 pub no_setter : (h : List Op) → AreSetters h [] []

@@ -19,7 +19,7 @@ use Rattle.gf_notes.specs.Summaries.{SummaryState, TellsOf, TellsParts, TellsLas
 use Rattle.gf_notes.specs.Next.{IsNextOf}
 use Rattle.gf_notes.specs.Notes.{NotesState}
 use Rattle.gf_parts.specs.Parts.{PartState, PartsState, with_free, set_with}
-use Rattle.gf_notes.proofs.LongerLemmas.{got_before}
+use Rattle.gf_tails.proofs.LongerLemmas.{got_before}
 use Rattle.gf_notes.proofs.OthersLemmas.{beside_longer, beside_with}
 use Rattle.gf_notes.proofs.PrintLemmas.{Contains-insert_other, Contains-insert_same}
 use Rattle.gf_notes.specs.declared.prints.Print.{Print}

@@ -1,5 +1,3 @@
-pub mod Giving
-pub mod Subjects
 pub mod Prints
 pub mod Spans
 pub mod Others

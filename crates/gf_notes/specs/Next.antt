@@ -11,7 +11,7 @@ use Rattle.gf_groups.specs.Growing.{conflict_at}
 use Rattle.gf_parts.specs.Parted.{AreParts}
 use Rattle.gf_parts.specs.Parts.{PartsState, whole}
 use Rattle.gf_notes.specs.Notes.{NotesState, AreNotes}
-use Rattle.gf_notes.specs.Subjects.{subject_of, is_about}
+use Rattle.gf_tails.specs.Subjects.{subject_of, is_about}
 
 -- g is a history with a behind it, at the position n; s are the parts of the operations about a's subject in that history
 pub record IsNextTo (g : List Op) (a : Op) (n : ℕ) (s : PartsState) : Type 0 where

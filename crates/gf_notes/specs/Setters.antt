@@ -11,7 +11,7 @@ use Rattle.gf_groups.specs.Rivals.{is_marked}
 use Rattle.gf_notes.specs.declared.prints.Print.{Print}
 use Rattle.gf_notes.specs.declared.setters.Setter.{Setter}
 use Rattle.gf_notes.specs.Prints.{print_of}
-use Rattle.gf_notes.specs.Giving.{op_gives, misses}
+use Rattle.gf_tails.specs.Giving.{op_gives, misses}
 
 -- the setter tells of the operation, which stands at the position n
 pub record IsSetterOf (op : Op) (n : ℕ) (s : Setter) : Type 0 where

@@ -1,16 +1,18 @@
--- An operation that conflicts with nothing but the last part, with none of one of its sets and with some of each other one, joins that set alone, where the parts that the others give are not largest.
-use Rattle.std.proofs.Common.{◌≡◌, ℕ, zero, suc, ◌-◌, ◌≤◌, Bool, true, false, List, [], ◌∷◌, ◌++◌, map, length, refl, sym, ap, ◌∙◌, inl, inr, arith}
-use Rattle.std.specs.Prelude.{not, ◌&&◌, ◌==◌, filter, Contains, Some, None, nat_le, ⊤, option_map, slice_set, slice_index_or}
+-- An operation that conflicts with nothing but the last part joins the sets of that which it conflicts with none of, and gives no new one where what it shares with each other set lies in one that it joins.
+use Rattle.std.proofs.Common.{◌≡◌, ◌≢◌, ℕ, zero, suc, ◌-◌, ◌<◌, ◌≤◌, Bool, true, false, List, [], ◌∷◌, ◌++◌, map, length, refl, subst, sym, ap, ◌∙◌, inl, inr, arith}
+use Rattle.std.specs.Prelude.{not, ◌&&◌, ◌||◌, ◌==◌, filter, Contains, Option, Some, None, nat_le, option_map, unwrap_or, slice_get, slice_set, slice_index_or}
 use Rattle.std.specs.List.{list_any, fold}
-use Rattle.std.proofs.lemmas.Bool.{cases_Bool, cond-true, cond-false, and_from, not_from_false, or_left, or_right, le-leb}
+use Rattle.std.proofs.lemmas.Bool.{cases_Bool, cond-true, cond-false, and_from, not-true, not_from_false, or_left, or_right, le-leb}
 use Rattle.std.proofs.lemmas.Bool.Decides.{Decides-eqb}
 use Rattle.std.proofs.lemmas.List.{append-nil, length-append, length-set}
-use Rattle.std.proofs.lemmas.List.Elements.{Contains-push, filter-append}
+use Rattle.std.proofs.lemmas.List.Elements.{Contains-push, Contains-push_cases, filter-append}
 use Rattle.std.proofs.Math.Seq.{get_or-append_seam}
-use Rattle.gf_ops.proofs.ListLemmas.{Contains-cons_head, Contains-cons_tail}
-use Rattle.gf_groups.specs.Growing.{conflicts_in, step, part, parts, is_covered, covers, take_up, same_group, rivals, exposed, next}
-use Rattle.gf_groups.proofs.ListLemmas.{Contains-filter, list_any_false, list_any_from, list_all_true}
-use Rattle.gf_parts.specs.Parts.{PartState, PartsState, most_sets, kept, joined, alone, touches, grown_sets, grown_part, touched, with_part, holds, stays, set_with, part_with, last_with}
+use Rattle.gf_ops.proofs.ListLemmas.{Contains-cons_head, Contains-cons_tail, Contains-map_from}
+use Rattle.gf_groups.specs.Growing.{conflicts_in, step, part, parts, is_covered, covers, take_up, same_group, rivals, exposed, largest_of, next}
+use Rattle.gf_groups.specs.Tables.{IsLargest, IsTable}
+use Rattle.gf_groups.proofs.LargestLemmas.{IsConflict}
+use Rattle.gf_groups.proofs.ListLemmas.{Contains-filter, list_any_true, list_any_false, list_any_from, list_all_true}
+use Rattle.gf_parts.specs.Parts.{PartState, PartsState, most_sets, kept, joined, alone, touches, grown_sets, grown_part, touched, with_part, holds, stays, set_with, sets_with, part_with, last_with}
 
 -- ---- filters that keep all, or none
 
@@ -31,95 +33,182 @@ set_last : {X : Type 0} (xs : List X) (y w : X) → slice_set (xs ++ y ∷ []) (
 set_last [] y w = refl
 set_last (x ∷ xs) y w = ap (λ zs. x ∷ zs) (set_last xs y w)
 
--- c tells whether the operations at two positions conflict, x came behind them, and a is one of them
-module _ (c : ℕ → ℕ → Bool) (x a : ℕ) where
-  -- the set has one that conflicts with x, and the part that it gives leaves a uncovered
-  pub record IsHit (g : List ℕ) : Type 0 where
-    pub clash : conflicts_in c x g ≡ true
-    pub short : is_covered c (part c x g) a ≡ false
+or_from_false : (p q : Bool) → p ≡ false → q ≡ false → (p || q) ≡ false
+or_from_false p q e f = rw (e, f) refl
 
-  abbrev pub AllHit : List (List ℕ) → Type 0
-  AllHit [] = ⊤
-  AllHit (g ∷ gs) = IsHit g × AllHit gs
-
-  -- x conflicts with none of the set j, and hits each other one
-  abbrev pub OneCalm : ℕ → List (List ℕ) → Type 0
-  OneCalm j [] = ⊤
-  OneCalm zero (g ∷ gs) = (conflicts_in c x g ≡ false) × AllHit gs
-  OneCalm (suc j) (g ∷ gs) = IsHit g × OneCalm j gs
-
-  steps_stay : (gs : List (List ℕ)) → AllHit gs → map (step c x) gs ≡ gs
-  steps_stay [] h = refl
-  steps_stay (g ∷ gs) h = let e = cond-true (conflicts_in c x g) g (g ++ x ∷ []) h.0.clash in let r = steps_stay gs h.1 in λ i. e i ∷ r i
-
-  steps_one : (j : ℕ) (gs : List (List ℕ)) → OneCalm j gs → map (step c x) gs ≡ set_with j x gs
-  steps_one j [] h = refl
-  steps_one zero (g ∷ gs) h = let e = cond-false (conflicts_in c x g) g (g ++ x ∷ []) h.0 in let r = steps_stay gs h.1 in λ i. e i ∷ r i
-  steps_one (suc j) (g ∷ gs) h = let e = cond-true (conflicts_in c x g) g (g ++ x ∷ []) h.0.clash in let r = steps_one j gs h.1 in λ i. e i ∷ r i
-
-  -- what has to be covered has a in it
-  module _ (es : List ℕ) (inside : Contains es a) where
-    not_taken : (g : List ℕ) → is_covered c g a ≡ false → (ys : List (List ℕ)) → take_up same_group (covers c es) ys g ≡ ys
-    not_taken g short ys =
-        let n : covers c es g ≡ false = elim (cases_Bool (covers c es g)) [ inl y ↦ let t = list_all_true (is_covered c g) es y a inside in absurd cc | inr n ↦ n ] in
-        rw n refl
-
-    hit_dropped : (g : List ℕ) (gs : List (List ℕ)) → IsHit g → (ys : List (List ℕ)) →
-        fold (take_up same_group (covers c es)) ys (parts c x (g ∷ gs)) ≡ fold (take_up same_group (covers c es)) ys (parts c x gs)
-    hit_dropped g gs h ys =
-        ap (λ zs. fold (take_up same_group (covers c es)) ys (map (part c x) zs)) (cond-true (conflicts_in c x g) (g ∷ filter (conflicts_in c x) gs) (filter (conflicts_in c x) gs) h.clash)
-        ∙ ap (λ zs. fold (take_up same_group (covers c es)) zs (parts c x gs)) (not_taken (part c x g) h.short ys)
-
-    all_dropped : (gs : List (List ℕ)) → AllHit gs → (ys : List (List ℕ)) → fold (take_up same_group (covers c es)) ys (parts c x gs) ≡ ys
-    all_dropped [] h ys = refl
-    all_dropped (g ∷ gs) h ys = hit_dropped g gs h.0 ys ∙ all_dropped gs h.1 ys
-
-    one_dropped : (j : ℕ) (gs : List (List ℕ)) → OneCalm j gs → (ys : List (List ℕ)) → fold (take_up same_group (covers c es)) ys (parts c x gs) ≡ ys
-    one_dropped j [] h ys = refl
-    one_dropped zero (g ∷ gs) h ys =
-        ap (λ zs. fold (take_up same_group (covers c es)) ys (map (part c x) zs)) (cond-false (conflicts_in c x g) (g ∷ filter (conflicts_in c x) gs) (filter (conflicts_in c x) gs) h.0)
-        ∙ all_dropped gs h.1 ys
-    one_dropped (suc j) (g ∷ gs) h ys = hit_dropped g gs h.0 ys ∙ one_dropped j gs h.1 ys
-
-  -- a is compatible with x, and conflicts with r, which conflicts with x
-  pub record IsBeside (us : List ℕ) (r : ℕ) : Type 0 where
-    pub own : Contains us a
-    pub other : Contains us r
-    pub calm : c a x ≡ false
-    pub rival : c x r ≡ true
-    pub meets : c a r ≡ true
-
-  beside_exposed : (us : List ℕ) (r : ℕ) → IsBeside us r → Contains (exposed c us x) a
-  beside_exposed us r b =
-      let inside = (Contains-filter (c x) us r).1 (b.other, b.rival) in
-      let meets = list_any_from (c a) (rivals c us x) r inside b.meets in
-      let calm = not_from_false (c a x) b.calm in
-      (Contains-filter (λ z. not (c z x) && conflicts_in c z (rivals c us x)) us a).1 (b.own, and_from (not (c a x)) (conflicts_in c a (rivals c us x)) calm meets)
-
-  -- THE STEP of the sets
-  pub next_one : (us : List ℕ) (j : ℕ) (gs : List (List ℕ)) → OneCalm j gs → (r : ℕ) → IsBeside us r → next c us x gs ≡ set_with j x gs
-  next_one us j gs h r b =
-      ap (λ zs. map (step c x) gs ++ zs) (one_dropped (exposed c us x) (beside_exposed us r b) j gs h [])
-      ∙ (append-nil (map (step c x) gs) ∙ steps_one j gs h)
+-- a set that got x, without its last position
+pub taken_back : (i x : ℕ) (gs : List (List ℕ)) (g : List ℕ) → i < length (set_with i x gs) → ((us : List ℕ) (p : ℕ) → slice_index_or (set_with i x gs) i [] ≡ us ++ p ∷ [] → g ≡ us) → slice_set (set_with i x gs) i g ≡ gs
+taken_back i x [] g l f = absurd (omega (arith, l))
+taken_back zero x (k ∷ gs) g l f = let e = f k x refl in λ i. e i ∷ gs
+taken_back (suc i) x (k ∷ gs) g l f = let r = taken_back i x gs g (omega (arith, l)) f in λ j. k ∷ r j
 
 -- c tells whether the operations at two positions conflict, and x came behind them
 module _ (c : ℕ → ℕ → Bool) (x : ℕ) where
-  -- what is kept of the sets
-  kept_one : (us : List ℕ) (j : ℕ) (gs : List (List ℕ)) → length gs ≤ most_sets → next c us x gs ≡ set_with j x gs → kept (next c us x gs) ≡ Some (set_with j x gs)
-  kept_one us j gs l e =
-      let len : length (set_with j x gs) ≡ length gs = length-set gs j (slice_index_or gs j [] ++ x ∷ []) in
-      ap kept e ∙ cond-true (nat_le (length (set_with j x gs)) most_sets) (Some (set_with j x gs)) None (le-leb (length (set_with j x gs)) most_sets (omega (arith, len, l)))
+  stays_at : (g : List ℕ) → conflicts_in c x g ≡ true → step c x g ≡ g
+  stays_at g e = cond-true (conflicts_in c x g) g (g ++ x ∷ []) e
 
-  last_set : (f : List ℕ) (front : List PartState) (p : PartState) (j : ℕ) → (last_with j x (record { free = f; parts = front ++ p ∷ [] })).parts ≡ front ++ part_with j x p ∷ []
-  last_set f front p j =
+  grows_at : (g : List ℕ) → conflicts_in c x g ≡ false → step c x g ≡ g ++ x ∷ []
+  grows_at g e = cond-false (conflicts_in c x g) g (g ++ x ∷ []) e
+
+  -- x conflicts with none of the set at the index
+  abbrev pub IsCalm : List (List ℕ) → ℕ → Type 0
+  IsCalm gs i = (g : List ℕ) → slice_get gs i ≡ Some g → conflicts_in c x g ≡ false
+
+  -- or with some
+  abbrev pub IsHit : List (List ℕ) → ℕ → Type 0
+  IsHit gs i = (g : List ℕ) → slice_get gs i ≡ Some g → conflicts_in c x g ≡ true
+
+  steps_none : (gs : List (List ℕ)) → ((i : ℕ) → IsHit gs i) → map (step c x) gs ≡ gs
+  steps_none [] f = refl
+  steps_none (g ∷ gs) f = let e = stays_at g (f 0 g refl) in let r = steps_none gs (λ i. f (suc i)) in λ i. e i ∷ r i
+
+  steps_one : (j : ℕ) (gs : List (List ℕ)) → IsCalm gs j → ((i : ℕ) → i ≢ j → IsHit gs i) → map (step c x) gs ≡ set_with j x gs
+  steps_one j [] calm f = refl
+  steps_one zero (g ∷ gs) calm f = let e = grows_at g (calm g refl) in let r = steps_none gs (λ i. f (suc i) (λ y. absurd (omega (arith, y)))) in λ i. e i ∷ r i
+  steps_one (suc j) (g ∷ gs) calm f =
+      let e = stays_at g (f 0 (λ y. absurd (omega (arith, y))) g refl) in
+      let r = steps_one j gs calm (λ i n. f (suc i) (λ y. n (omega (arith, y)))) in λ i. e i ∷ r i
+
+  steps_two : (j k : ℕ) (gs : List (List ℕ)) → j ≢ k → IsCalm gs j → IsCalm gs k → ((i : ℕ) → i ≢ j → i ≢ k → IsHit gs i) → map (step c x) gs ≡ set_with j x (set_with k x gs)
+  steps_two j k [] d calm too f = refl
+  steps_two zero zero (g ∷ gs) d calm too f = absurd (d refl)
+  steps_two zero (suc k) (g ∷ gs) d calm too f =
+      let e = grows_at g (calm g refl) in
+      let r = steps_one k gs too (λ i n. f (suc i) (λ y. absurd (omega (arith, y))) (λ y. n (omega (arith, y)))) in λ i. e i ∷ r i
+  steps_two (suc j) zero (g ∷ gs) d calm too f =
+      let e = grows_at g (too g refl) in
+      let r = steps_one j gs calm (λ i n. f (suc i) (λ y. n (omega (arith, y))) (λ y. absurd (omega (arith, y)))) in λ i. e i ∷ r i
+  steps_two (suc j) (suc k) (g ∷ gs) d calm too f =
+      let e = stays_at g (f 0 (λ y. absurd (omega (arith, y))) (λ y. absurd (omega (arith, y))) g refl) in
+      let r = steps_two j k gs (λ y. d (ap suc y)) calm too (λ i n m. f (suc i) (λ y. n (omega (arith, y))) (λ y. m (omega (arith, y)))) in λ i. e i ∷ r i
+
+  -- x conflicts with none of the set j and of that with the index r, if there is one, which is another one, and with some of each other one
+  pub record JoinsSets (gs : List (List ℕ)) (j : ℕ) (r : Option ℕ) : Type 0 where
+    pub one : IsCalm gs j
+    pub other : (k : ℕ) → r ≡ Some k → (j ≢ k) × IsCalm gs k
+    pub hit : (i : ℕ) → i ≢ j → r ≢ Some i → IsHit gs i
+
+  steps_joined : (j : ℕ) (r : Option ℕ) (gs : List (List ℕ)) → JoinsSets gs j r → map (step c x) gs ≡ sets_with j r x gs
+  steps_joined j None gs t = steps_one j gs t.one (λ i n. t.hit i n (λ e. absurd cc))
+  steps_joined j (Some k) gs t = let o = t.other k refl in steps_two j k gs o.0 t.one o.1 (λ i n m. t.hit i n (λ e. m (sym (ap (λ q. unwrap_or q i) e))))
+
+  -- what the set shares with x lies in one that x joins
+  pub record IsShared (gs : List (List ℕ)) (g : List ℕ) : Type 0 where
+    pub other : List ℕ
+    pub among : Contains gs other
+    pub calm : conflicts_in c x other ≡ false
+    pub holds : (b : ℕ) → Contains g b → c x b ≡ false → Contains other b
+
+  -- us are the positions, gs their sets
+  module _ (test : IsConflict c) (us : List ℕ) (gs : List (List ℕ)) (table : IsTable c us gs) (new : ¬ (Contains us x)) where
+    largest : (g : List ℕ) → Contains gs g → IsLargest c (Contains us) (Contains g)
+    largest g i = ((table.each g).0 i).1
+
+    -- one of the positions is left uncovered
+    record IsShort (g : List ℕ) : Type 0 where
+      pub one : ℕ
+      pub exposed : Contains (exposed c us x) one
+      pub short : is_covered c (part c x g) one ≡ false
+
+    module _ (g : List ℕ) (i : Contains gs g) (s : IsShared gs g) (r : ℕ) (there : Contains g r) (meets : c x r ≡ true) where
+      abbrev k : List ℕ
+      k = s.other
+
+      calm_with : (b : ℕ) → Contains k b → c x b ≡ false
+      calm_with b m = list_any_false (c x) k s.calm b m
+
+      -- e is in the other set, and conflicts with r
+      module _ (e : ℕ) (m : Contains k e) (hit : c r e ≡ true) where
+        of_part : (b : ℕ) → Contains (part c x g) b → (e == b || c e b) ≡ false
+        of_part b n = elim (Contains-push_cases (filter (λ a. not (c a x)) g) x b n) [
+          | inl l ↦
+              let w = (Contains-filter (λ a. not (c a x)) g b).0 l in
+              let calm : c x b ≡ false = test.symmetric x b ∙ not-true (c b x) w.1 in
+              let apart : c e b ≡ false = (largest k s.among).compatible e b m (s.holds b w.0 calm) in
+              or_from_false (e == b) (c e b) (elim (cases_Bool (e == b)) [
+                | inl y ↦
+                    let inside : Contains g e = subst (Contains g) (sym ((Decides-eqb e b).0 y)) w.0 in
+                    let no = (largest g i).compatible r e there inside in absurd cc
+                | inr f ↦ f
+              ]) apart
+          | inr d ↦ subst (λ z. (e == z || c e z) ≡ false) d (or_from_false (e == x) (c e x) (elim (cases_Bool (e == x)) [
+            | inl y ↦ absurd (new (subst (Contains us) ((Decides-eqb e x).0 y) ((largest k s.among).within e m)))
+            | inr f ↦ f
+          ]) (test.symmetric e x ∙ calm_with e m))
+        ]
+
+        short_by : IsShort g
+        short_by = record {
+          one = e;
+          exposed =
+              let rival = (Contains-filter (c x) us r).1 ((largest g i).within r there, meets) in
+              let meet = list_any_from (c e) (rivals c us x) r rival (test.symmetric e r ∙ hit) in
+              let calm = not_from_false (c e x) (test.symmetric e x ∙ calm_with e m) in
+              (Contains-filter (λ z. not (c z x) && conflicts_in c z (rivals c us x)) us e).1 ((largest k s.among).within e m, and_from (not (c e x)) (conflicts_in c e (rivals c us x)) calm meet);
+          short = elim (cases_Bool (is_covered c (part c x g) e)) [
+            | inl y ↦ let w = list_any_true (λ b. e == b || c e b) (part c x g) y in let no = of_part w.0 w.1 in let yes = w.2 in absurd cc
+            | inr n ↦ n
+          ];
+        }
+
+      short_at : IsShort g
+      short_at = elim ((largest k s.among).largest r ((largest g i).within r there)) [
+        | inl m ↦ let no = calm_with r m in absurd cc
+        | inr w ↦ short_by w.0 w.1 w.2
+      ]
+
+    -- so its part covers not all
+    not_covered : (g : List ℕ) → Contains gs g → IsShared gs g → conflicts_in c x g ≡ true → covers c (exposed c us x) (part c x g) ≡ false
+    not_covered g i s y =
+        let w = list_any_true (c x) g y in
+        let t = short_at g i s w.0 w.1 w.2 in
+        let short = t.short in
+        elim (cases_Bool (covers c (exposed c us x) (part c x g))) [
+          | inl z ↦ let all = list_all_true (is_covered c (part c x g)) (exposed c us x) z t.one t.exposed in absurd cc
+          | inr n ↦ n
+        ]
+
+    none_taken : (ps : List (List ℕ)) → ((p : List ℕ) → Contains ps p → covers c (exposed c us x) p ≡ false) → (ys : List (List ℕ)) → fold (take_up same_group (covers c (exposed c us x))) ys ps ≡ ys
+    none_taken [] f ys = refl
+    none_taken (p ∷ ps) f ys =
+        let n = f p (Contains-cons_head p ps) in
+        let e : take_up same_group (covers c (exposed c us x)) ys p ≡ ys = rw n refl in
+        ap (λ zs. fold (take_up same_group (covers c (exposed c us x))) zs ps) e ∙ none_taken ps (λ q i. f q (Contains-cons_tail p ps q i)) ys
+
+    -- THE STEP of the sets
+    pub next_joined : (j : ℕ) (r : Option ℕ) → JoinsSets gs j r → ((g : List ℕ) → Contains gs g → conflicts_in c x g ≡ true → IsShared gs g) → next c us x gs ≡ sets_with j r x gs
+    next_joined j r t shared =
+        let none : largest_of c (exposed c us x) (parts c x gs) ≡ [] = none_taken (parts c x gs) (λ p i.
+        let w = Contains-map_from (part c x) (filter (conflicts_in c x) gs) p i in
+        let g = (Contains-filter (conflicts_in c x) gs w.0).0 w.1 in
+        subst (λ q. covers c (exposed c us x) q ≡ false) (sym w.2) (not_covered w.0 g.0 (shared w.0 g.0 g.1) g.1)) [] in
+        ap (λ zs. map (step c x) gs ++ zs) none ∙ (append-nil (map (step c x) gs) ∙ steps_joined j r gs t)
+
+-- c tells whether the operations at two positions conflict, and x came behind them
+module _ (c : ℕ → ℕ → Bool) (x : ℕ) where
+  -- a set that gets x leaves as many
+  as_many : (j : ℕ) (r : Option ℕ) (gs : List (List ℕ)) → length (sets_with j r x gs) ≡ length gs
+  as_many j None gs = length-set gs j (slice_index_or gs j [] ++ x ∷ [])
+  as_many j (Some k) gs =
+      let ks = set_with k x gs in
+      length-set ks j (slice_index_or ks j [] ++ x ∷ []) ∙ length-set gs k (slice_index_or gs k [] ++ x ∷ [])
+
+  -- what is kept of the sets
+  pub kept_joined : (us : List ℕ) (j : ℕ) (r : Option ℕ) (gs : List (List ℕ)) → length gs ≤ most_sets → next c us x gs ≡ sets_with j r x gs → grown_sets c us x (Some gs) ≡ Some (sets_with j r x gs)
+  kept_joined us j r gs l e =
+      let len = as_many j r gs in
+      ap kept e ∙ cond-true (nat_le (length (sets_with j r x gs)) most_sets) (Some (sets_with j r x gs)) None (le-leb (length (sets_with j r x gs)) most_sets (omega (arith, len, l)))
+
+  last_set : (f : List ℕ) (front : List PartState) (p : PartState) (j : ℕ) (r : Option ℕ) → (last_with j r x (record { free = f; parts = front ++ p ∷ [] })).parts ≡ front ++ part_with j r x p ∷ []
+  last_set f front p j r =
       let ps = front ++ p ∷ [] in
       let len = length-append front (p ∷ []) in
       let at : length ps - 1 ≡ length front = omega (arith, len) in
-      ap (λ n. slice_set ps n (part_with j x (slice_index_or ps n (alone [])))) at
-      ∙ (ap (λ q. slice_set ps (length front) (part_with j x q)) (get_or-append_seam front p [] (alone [])) ∙ set_last front p (part_with j x p))
+      ap (λ n. slice_set ps n (part_with j r x (slice_index_or ps n (alone [])))) at
+      ∙ (ap (λ q. slice_set ps (length front) (part_with j r x q)) (get_or-append_seam front p [] (alone [])) ∙ set_last front p (part_with j r x p))
 
-  module _ (f : List ℕ) (front : List PartState) (p : PartState) (gs : List (List ℕ)) (j : ℕ) (sets : p.sets ≡ Some gs) (few : length gs ≤ most_sets)
-      (calm : conflicts_in c x f ≡ false) (spared : list_any (touches c x) front ≡ false) (met : touches c x p ≡ true) (new : holds x p.all ≡ false) (grows : next c p.all x gs ≡ set_with j x gs) where
+  module _ (f : List ℕ) (front : List PartState) (p : PartState) (j : ℕ) (r : Option ℕ)
+      (calm : conflicts_in c x f ≡ false) (spared : list_any (touches c x) front ≡ false) (met : touches c x p ≡ true) (new : holds x p.all ≡ false) (grows : grown_sets c p.all x p.sets ≡ option_map (sets_with j r x) p.sets) where
     abbrev ps : List PartState
     ps = front ++ p ∷ []
 
@@ -127,13 +216,10 @@ module _ (c : ℕ → ℕ → Bool) (x : ℕ) where
     state = record { free = f; parts = ps }
 
     abbrev grown : PartState
-    grown = part_with j x p
+    grown = part_with j r x p
 
     grown_is : grown_part c x p ≡ grown
-    grown_is =
-        let e : grown_sets c p.all x p.sets ≡ option_map (set_with j x) p.sets =
-        ap (λ r. grown_sets c p.all x r) sets ∙ (kept_one p.all j gs few grows ∙ sym (ap (λ r. option_map (set_with j x) r) sets)) in
-        λ i. record { all = p.all ++ x ∷ []; sets = e i }
+    grown_is = λ i. record { all = p.all ++ x ∷ []; sets = grows i }
 
     touched_is : touched c x state ≡ p
     touched_is =
@@ -154,23 +240,23 @@ module _ (c : ℕ → ℕ → Bool) (x : ℕ) where
         let old : filter (stays c x) ps ≡ front = filter-append (stays c x) front (p ∷ []) ∙ (ap (λ zs. zs ++ filter (stays c x) (p ∷ [])) before ∙ (ap (λ zs. front ++ zs) last ∙ append-nil front)) in
         filter-append (stays c x) ps (grown ∷ []) ∙ (ap (λ zs. zs ++ filter (stays c x) (grown ∷ [])) old ∙ ap (λ zs. front ++ zs) own)
 
-    one_part : with_part c x state ≡ last_with j x state
+    one_part : with_part c x state ≡ last_with j r x state
     one_part =
         let free : filter (λ a. not (c x a)) f ≡ f = filter_full (λ a. not (c x a)) f (λ a i. not_from_false (c x a) (list_any_false (c x) f calm a i)) in
         let made : grown_part c x (touched c x state) ≡ grown = ap (λ q. grown_part c x q) touched_is ∙ grown_is in
-        let parts : (with_part c x state).parts ≡ (last_with j x state).parts = ap (λ q. filter (stays c x) (ps ++ q ∷ [])) made ∙ (rest_is ∙ sym (last_set f front p j)) in
+        let parts : (with_part c x state).parts ≡ (last_with j r x state).parts = ap (λ q. filter (stays c x) (ps ++ q ∷ [])) made ∙ (rest_is ∙ sym (last_set f front p j r)) in
         λ i. record { free = free i; parts = parts i }
 
   -- what the last part is then
-  pub last_joined : (s : PartsState) (front : List PartState) (p : PartState) (j : ℕ) → s.parts ≡ front ++ p ∷ [] → (last_with j x s).parts ≡ front ++ part_with j x p ∷ []
-  last_joined s front p j e =
+  pub last_joined : (s : PartsState) (front : List PartState) (p : PartState) (j : ℕ) (r : Option ℕ) → s.parts ≡ front ++ p ∷ [] → (last_with j r x s).parts ≡ front ++ part_with j r x p ∷ []
+  last_joined s front p j r e =
       let same : s ≡ record { free = s.free; parts = front ++ p ∷ [] } = λ i. record { free = s.free; parts = e i } in
-      ap (λ (z : PartsState). (last_with j x z).parts) same ∙ last_set s.free front p j
+      ap (λ (z : PartsState). (last_with j r x z).parts) same ∙ last_set s.free front p j r
 
   -- THE STEP of the parts
-  pub joins_last : (s : PartsState) (front : List PartState) (p : PartState) (gs : List (List ℕ)) (j : ℕ) → s.parts ≡ front ++ p ∷ [] → p.sets ≡ Some gs → length gs ≤ most_sets →
-      conflicts_in c x s.free ≡ false → list_any (touches c x) front ≡ false → touches c x p ≡ true → holds x p.all ≡ false → next c p.all x gs ≡ set_with j x gs → with_part c x s ≡ last_with j x s
-  joins_last s front p gs j e sets few calm spared met new grows =
+  pub joins_last : (s : PartsState) (front : List PartState) (p : PartState) (j : ℕ) (r : Option ℕ) → s.parts ≡ front ++ p ∷ [] →
+      conflicts_in c x s.free ≡ false → list_any (touches c x) front ≡ false → touches c x p ≡ true → holds x p.all ≡ false → grown_sets c p.all x p.sets ≡ option_map (sets_with j r x) p.sets → with_part c x s ≡ last_with j r x s
+  joins_last s front p j r e calm spared met new grows =
       let same : s ≡ record { free = s.free; parts = front ++ p ∷ [] } = λ i. record { free = s.free; parts = e i } in
       ap (λ (z : PartsState). with_part c x z) same
-      ∙ (one_part s.free front p gs j sets few calm spared met new grows ∙ sym (ap (λ (z : PartsState). last_with j x z) same))
+      ∙ (one_part s.free front p j r calm spared met new grows ∙ sym (ap (λ (z : PartsState). last_with j r x z) same))

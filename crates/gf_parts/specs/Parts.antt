@@ -81,15 +81,20 @@ together s r = record { free = fold (insert_key nat_cmp) s.free r.free; parts = 
 abbrev pub set_with : ℕ → ℕ → List (List ℕ) → List (List ℕ)
 set_with j x gs = slice_set gs j (slice_index_or gs j [] ++ x ∷ [])
 
--- the part gets x, which joins its set j
-abbrev pub part_with : ℕ → ℕ → PartState → PartState
-part_with j x p = record { all = p.all ++ x ∷ []; sets = option_map (set_with j x) p.sets }
+-- so with the index j, and that with the index r, if there is one
+abbrev pub sets_with : ℕ → Option ℕ → ℕ → List (List ℕ) → List (List ℕ)
+sets_with j None x gs = set_with j x gs
+sets_with j (Some k) x gs = set_with j x (set_with k x gs)
 
--- the last part gets x, which joins its set j
-abbrev pub last_with : ℕ → ℕ → PartsState → PartsState
-last_with j x s = record {
+-- the part gets x, which joins these sets
+abbrev pub part_with : ℕ → Option ℕ → ℕ → PartState → PartState
+part_with j r x p = record { all = p.all ++ x ∷ []; sets = option_map (sets_with j r x) p.sets }
+
+-- the last part gets x, which joins its sets
+abbrev pub last_with : ℕ → Option ℕ → ℕ → PartsState → PartsState
+last_with j r x s = record {
   free = s.free;
-  parts = slice_set s.parts (length s.parts - 1) (part_with j x (slice_index_or s.parts (length s.parts - 1) (alone [])));
+  parts = slice_set s.parts (length s.parts - 1) (part_with j r x (slice_index_or s.parts (length s.parts - 1) (alone [])));
 }
 
 -- c tells whether the operations at two positions conflict

@@ -57,12 +57,18 @@ impl Part {
         self.sets.get()
     }
 
-    /// Adds a position, and to the set with this index too.
-    fn join(&mut self, set: usize, position: usize) -> Result<(), OutOfMemory>
-        ensures ok { OnOk result (self.new ≡ part_with set position self.old) }
+    /// Adds a position, to the set with this index too, and to that with the other one, if there is
+    /// one.
+    fn join(
+        &mut self,
+        set: usize,
+        other: Option<usize>,
+        position: usize,
+    ) -> Result<(), OutOfMemory>
+        ensures ok { OnOk result (self.new ≡ part_with set other position self.old) }
         ensures err { OnErr result (self.new ≡ self.old) }
     {
-        self.sets.join(set, position, &mut self.all)
+        self.sets.join(set, other, position, &mut self.all)
     }
 }
 
@@ -285,13 +291,19 @@ impl Parts {
         Ok(())
     }
 
-    /// Adds a position to the last part, and to that one's set with this index, in place.
-    pub fn join_last(&mut self, set: usize, position: usize) -> Result<(), OutOfMemory>
-        ensures ok { OnOk result (self.new ≡ last_with set position self.old) }
+    /// Adds a position to the last part, to that one's set with this index, and to that with the
+    /// other one, if there is one, in place. It changes nothing before all memory is there.
+    pub fn join_last(
+        &mut self,
+        set: usize,
+        other: Option<usize>,
+        position: usize,
+    ) -> Result<(), OutOfMemory>
+        ensures ok { OnOk result (self.new ≡ last_with set other position self.old) }
         ensures err { OnErr result (self.new ≡ self.old) }
     {
         match self.parts.last_mut() {
-            Some(part) => part.join(set, position),
+            Some(part) => part.join(set, other, position),
             None => Ok(()),
         }
     }

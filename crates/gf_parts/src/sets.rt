@@ -8,7 +8,7 @@ ghost use Rattle.std.specs.Ordering.{nat_cmp};
 ghost use Rattle.gf_groups.specs.Growing.{conflict_at};
 ghost use Rattle.gf_groups.specs.Tables.{IsRising};
 ghost use Rattle.gf_parts.specs.Parts.{kept, united, products, kept_products, times, grown_sets};
-ghost use Rattle.gf_parts.specs.Parts.{set_with};
+ghost use Rattle.gf_parts.specs.Parts.{set_with, sets_with};
 
 use gf_groups::{Positions, Timeline, grow};
 use gf_shape::OutOfMemory;
@@ -77,20 +77,22 @@ impl Sets {
         }
     }
 
-    /// Adds a position to all, and to the set with this index.
+    /// Adds a position to all, to the set with this index, and to that with the other one, if there
+    /// is one.
     pub(crate) fn join(
         &mut self,
         set: usize,
+        other: Option<usize>,
         position: usize,
         all: &mut Positions,
     ) -> Result<(), OutOfMemory>
-        ensures ok { OnOk result (self.new ≡ option_map (set_with set position) self.old) }
+        ensures ok { OnOk result (self.new ≡ option_map (sets_with set other position) self.old) }
         ensures all { OnOk result (all.new ≡ all.old ++ position ∷ []) }
         ensures err { OnErr result (self.new ≡ self.old) }
         ensures all_err { OnErr result (all.new ≡ all.old) }
     {
         match &mut self.sets {
-            Some(sets) => join_set(set, position, sets, all),
+            Some(sets) => join_sets(set, other, position, sets, all),
             None => all.push(position),
         }
     }
@@ -131,6 +133,53 @@ fn join_set(
     match sets.get_mut(set) {
         Some(set) => all.push_to_both(set, position),
         None => all.push(position),
+    }
+}
+
+/// Adds a position to the set with this index, where there is one.
+fn push_to(set: usize, position: usize, sets: &mut Vec<Positions>) -> Result<(), OutOfMemory>
+    ensures ok { OnOk result (sets.new.items ≡ set_with set position sets.old.items) }
+    ensures err { OnErr result (sets.new.items ≡ sets.old.items) }
+{
+    match sets.get_mut(set) {
+        Some(set) => set.push(position),
+        None => Ok(()),
+    }
+}
+
+/// Takes the last position of the set with this index away, where there is one.
+fn pop_from(set: usize, sets: &mut Vec<Positions>)
+    ensures { (gs : _) (x : _) → sets.old.items ≡ set_with set x gs → sets.new.items ≡ gs }
+{
+    if let Some(set) = sets.get_mut(set) {
+        set.pop();
+    }
+}
+
+/// Adds a position to all, to the set with this index, and to that with the other one, where there
+/// are such.
+fn join_sets(
+    set: usize,
+    other: Option<usize>,
+    position: usize,
+    sets: &mut Vec<Positions>,
+    all: &mut Positions,
+) -> Result<(), OutOfMemory>
+    ensures ok { OnOk result (sets.new.items ≡ sets_with set other position sets.old.items) }
+    ensures all { OnOk result (all.new ≡ all.old ++ position ∷ []) }
+    ensures err { OnErr result (sets.new.items ≡ sets.old.items) }
+    ensures all_err { OnErr result (all.new ≡ all.old) }
+{
+    let Some(other) = other else {
+        return join_set(set, position, sets, all);
+    };
+    push_to(other, position, sets)?;
+    match join_set(set, position, sets, all) {
+        Ok(()) => Ok(()),
+        Err(OutOfMemory) => {
+            pop_from(other, sets);
+            Err(OutOfMemory)
+        }
     }
 }
 

@@ -9,7 +9,7 @@ use Rattle.gf_ops.specs.declared.change.Change.{Change}
 use Rattle.gf_ops.specs.declared.change.Change.TheVariants.{Create, Set}
 use Rattle.gf_ops.specs.KnownObject.{IsFounded, IsSuited}
 use Rattle.gf_ops.specs.Accepted.{IsAccepted, IsRefused, AreAccepted, next}
-use Rattle.gf_notes.specs.declared.subject.Subject.{Subject}
+use Rattle.gf_tails.specs.declared.subject.Subject.{Subject}
 use Rattle.gf_table.specs.SubjectState.{SubjectState}
 use Rattle.gf_table.specs.Standing.{StandsFor}
 

@@ -35,12 +35,12 @@ use Rattle.gf_parts.specs.Parts.{PartsState, no_parts, whole, listed}
 use Rattle.gf_parts.proofs.PartsLemmas.{first_parts, table_listed}
 use Rattle.gf_parts.proofs.ProductLemmas.{table_alike}
 use Rattle.gf_parts.proofs.TogetherLemmas.{all_folded, parts_folded}
-use Rattle.gf_notes.specs.declared.subject.Subject.{Subject}
+use Rattle.gf_tails.specs.declared.subject.Subject.{Subject}
 use Rattle.gf_table.specs.Standing.{Stands, StandsFor, ArePartsOf, AreAllOf, state_of, parts_at, parts_of}
 use Rattle.gf_table.specs.SubjectState.{SubjectState}
-use Rattle.gf_notes.specs.Subjects.{attribute_cmp, attribute_set, kinds, positions_about, is_about, subject_of}
-use Rattle.gf_notes.proofs.GivenLemmas.{one_op, set_told}
-use Rattle.gf_notes.proofs.SubjectLemmas.{Contains-positions_about, about_op, about_to, kind_cmp_itself}
+use Rattle.gf_tails.specs.Subjects.{attribute_cmp, attribute_set, kinds, positions_about, is_about, subject_of}
+use Rattle.gf_tails.proofs.GivenLemmas.{one_op, set_told}
+use Rattle.gf_tails.proofs.SubjectLemmas.{Contains-positions_about, about_op, about_to, kind_cmp_itself}
 
 -- ---- the kinds of operations on an object
 

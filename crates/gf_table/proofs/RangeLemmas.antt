@@ -23,11 +23,11 @@ use Rattle.gf_ops.specs.declared.change.Attr.{Attr}
 use Rattle.gf_ops.specs.declared.change.Attr.TheVariants as attr
 use Rattle.gf_groups.specs.Parting.{object_cmp}
 use Rattle.gf_groups.proofs.PartingLemmas.{object_cmp_total}
-use Rattle.gf_notes.specs.declared.subject.Subject.{Subject}
+use Rattle.gf_tails.specs.declared.subject.Subject.{Subject}
 use Rattle.gf_table.specs.Standing.{parts_at}
 use Rattle.gf_table.specs.SubjectState.{SubjectState}
-use Rattle.gf_notes.specs.Subjects.{kinds, attribute_cmp, subject_cmp}
-use Rattle.gf_notes.proofs.SubjectLemmas.{subject_cmp_total}
+use Rattle.gf_tails.specs.Subjects.{kinds, attribute_cmp, subject_cmp}
+use Rattle.gf_tails.proofs.SubjectLemmas.{subject_cmp_total}
 
 -- what was taken, with what is left, stays the whole after one step
 pub one_further : {A B : Type 0} (f : A → B) (xs ys all : List B) (es rest : List A) (a : A) → xs ++ map f es ≡ all → es ≡ a ∷ rest → ys ≡ xs ++ f a ∷ [] → ys ++ map f rest ≡ all

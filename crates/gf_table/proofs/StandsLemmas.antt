@@ -16,15 +16,15 @@ use Rattle.gf_ops.specs.declared.op.Op.{Op}
 use Rattle.gf_ops.specs.Accepted.{IsAccepted}
 use Rattle.gf_ops.specs.Limits.{IsInRange}
 use Rattle.gf_ops.specs.ValidHistory.{IsValid}
-use Rattle.gf_notes.specs.declared.subject.Subject.{Subject}
-use Rattle.gf_notes.specs.Subjects.{subject_cmp, subject_of, is_about, positions_about}
+use Rattle.gf_tails.specs.declared.subject.Subject.{Subject}
+use Rattle.gf_tails.specs.Subjects.{subject_cmp, subject_of, is_about, positions_about}
 use Rattle.gf_table.specs.SubjectState.{SubjectState, nothing, with_op}
 use Rattle.gf_table.specs.Standing.{IsStateOf, Stands, StandsFor, state_of}
 use Rattle.gf_notes.specs.Next.{IsNextOf}
 use Rattle.gf_notes.specs.Notes.{NotesState, AreNotes}
-use Rattle.gf_notes.proofs.LongerLemmas.{positions_with_last, positions_without_last}
+use Rattle.gf_tails.proofs.LongerLemmas.{positions_with_last, positions_without_last}
 use Rattle.gf_table.proofs.StateLemmas.{first_state, state_kept, state_more}
-use Rattle.gf_notes.proofs.SubjectLemmas.{Contains-positions_about, about_from, about_op, about_to, at_itself, at_told}
+use Rattle.gf_tails.proofs.SubjectLemmas.{Contains-positions_about, about_from, about_op, about_to, at_itself, at_told}
 
 -- the value that is there, put again
 pub put_again : {K X : Type 0} {R : K → K → Ordering} → IsTotalOrder R → (k : K) (es : List (K × X)) (w : X) → IsStrictlySortedBy R (keys_of es) → lookup (is_at (R k)) es ≡ Some w → insert_entry R es k w ≡ es

@@ -23,19 +23,20 @@ use Rattle.gf_parts.specs.Parted.{AreParts}
 use Rattle.gf_parts.specs.Parts.{PartState, PartsState, alone, whole, touches, is_calm, with_free, with_part, after}
 use Rattle.gf_parts.proofs.PartsLemmas.{all_of_fold, first_parts, parts_after, all_after}
 use Rattle.gf_table.specs.SubjectState.{SubjectState, nothing, with_change, with_op}
-use Rattle.gf_notes.specs.Giving.{HasSetter}
-use Rattle.gf_table.specs.Standing.{AreTails, IsStateOf}
-use Rattle.gf_notes.specs.Subjects.{subject_of, is_about}
+use Rattle.gf_tails.specs.Giving.{HasSetter}
+use Rattle.gf_tails.specs.Tails.{AreTails}
+use Rattle.gf_table.specs.Standing.{IsStateOf}
+use Rattle.gf_tails.specs.Subjects.{subject_of, is_about}
 use Rattle.gf_notes.specs.Notes.{NotesState, AreNotes}
-use Rattle.gf_table.specs.Tails.{hits_one}
-use Rattle.gf_table.proofs.KeptTailsLemmas.{tails_kept}
-use Rattle.gf_notes.proofs.LongerLemmas.{got_last}
-use Rattle.gf_table.proofs.NotedLemmas.{tails_noted}
+use Rattle.gf_tails.specs.Tails.{hits_one}
+use Rattle.gf_tails.proofs.KeptTailsLemmas.{tails_kept}
+use Rattle.gf_tails.proofs.LongerLemmas.{got_last}
+use Rattle.gf_tails.proofs.NotedLemmas.{tails_noted}
 use Rattle.gf_notes.proofs.NotesLemmas.{notes_longer, parts_longer}
-use Rattle.gf_table.proofs.PutTailLemmas.{none_once}
-use Rattle.gf_notes.proofs.GivenLemmas.{made_none, one_op}
-use Rattle.gf_table.proofs.QuickLemmas.{quick}
-use Rattle.gf_notes.proofs.SubjectLemmas.{about_on}
+use Rattle.gf_tails.proofs.PutTailLemmas.{none_once}
+use Rattle.gf_tails.proofs.GivenLemmas.{made_none, one_op}
+use Rattle.gf_tails.proofs.QuickLemmas.{quick}
+use Rattle.gf_tails.proofs.SubjectLemmas.{about_on}
 
 -- ---- whether the next one is calm, by a list of the positions
 

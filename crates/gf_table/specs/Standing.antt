@@ -13,32 +13,13 @@ use Rattle.gf_groups.specs.Growing.{conflict_at}
 use Rattle.gf_groups.specs.Versions.{IsVersionGroup}
 use Rattle.gf_parts.specs.Parted.{AreParts}
 use Rattle.gf_parts.specs.Parts.{PartsState, whole, no_parts, together}
-use Rattle.gf_notes.specs.Giving.{HasSetter}
-use Rattle.gf_table.specs.declared.tails.Tail.{Tail}
-use Rattle.gf_notes.specs.declared.subject.Subject.{Subject}
-use Rattle.gf_notes.specs.Subjects.{kinds, subject_cmp, positions_about}
+use Rattle.gf_tails.specs.Giving.{HasSetter}
+use Rattle.gf_tails.specs.declared.tails.Tail.{Tail}
+use Rattle.gf_tails.specs.declared.subject.Subject.{Subject}
+use Rattle.gf_tails.specs.Subjects.{kinds, subject_cmp, positions_about}
 use Rattle.gf_table.specs.SubjectState.{SubjectState}
 use Rattle.gf_notes.specs.Notes.{AreNotes}
-use Rattle.gf_table.specs.Tails.{is_of, are_one}
-
--- there is another number, and n is at most that
-abbrev pub IsUpTo : ℕ → Option ℕ → Type 0
-IsUpTo n (Some k) = n ≤ k
-IsUpTo n None = ⊥
-
--- the tail keeps the last setter of its site at the positions us, and the number of the site's last one with another value than that
-pub record IsTail (h : List Op) (us : List ℕ) (e : Tail) : Type 0 where
-  pub value : Value
-  pub last : HasSetter h us e.last value
-  pub position : last.position ≡ e.position
-  pub other : (k : ℕ) → e.other ≡ Some k → (w : Value) × HasSetter h us (record { site = e.last.site; seq = k }) w × (w ≢ value)
-  pub tells : (i : OpId) (w : Value) → HasSetter h us i w → i.site ≡ e.last.site → (i.seq ≤ e.last.seq) × ((w ≡ value) ⊎ IsUpTo i.seq e.other)
-
--- there is one for each site with a setter at the positions us
-pub record AreTails (h : List Op) (us : List ℕ) (es : List Tail) : Type 0 where
-  pub each : (e : Tail) → Contains es e → IsTail h us e
-  pub some : (i : OpId) (v : Value) → HasSetter h us i v → (e : Tail) × Contains es e × (is_of i.site e ≡ true)
-  pub once : IsDistinct are_one es
+use Rattle.gf_tails.specs.Tails.{is_of, are_one}
 
 -- the state is that of the operations of h at the positions us
 pub record IsStateOf (h : List Op) (us : List ℕ) (t : SubjectState) : Type 0 where

@@ -6,9 +6,9 @@ use Rattle.gf_ops.specs.declared.change.Change.TheVariants.{Create, Set}
 use Rattle.gf_ops.specs.declared.change.Value.{Value}
 use Rattle.gf_groups.specs.Growing.{conflict_at}
 use Rattle.gf_parts.specs.Parts.{PartsState, with_free, with_part}
-use Rattle.gf_table.specs.declared.tails.Tail.{Tail}
+use Rattle.gf_tails.specs.declared.tails.Tail.{Tail}
 use Rattle.gf_notes.specs.Notes.{NotesState, no_notes}
-use Rattle.gf_table.specs.Tails.{hits_one, noted}
+use Rattle.gf_tails.specs.Tails.{hits_one, noted}
 
 pub record SubjectState : Type 0 where
   pub parts : PartsState

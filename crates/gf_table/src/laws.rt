@@ -8,7 +8,7 @@ ghost use Rattle.gf_groups.specs.Growing.{conflict_at};
 ghost use Rattle.gf_groups.specs.GroupedPositions.{group_at};
 ghost use Rattle.gf_groups.specs.Versions.{IsMade};
 ghost use Rattle.gf_parts.specs.Parts.{listed};
-ghost use Rattle.gf_notes.specs.declared.subject.Subject.{Subject};
+ghost use Rattle.gf_tails.specs.declared.subject.Subject.{Subject};
 ghost use Rattle.gf_table.specs.SubjectState.{SubjectState};
 ghost use Rattle.gf_table.specs.Standing.{StandsFor, AreAllOf, parts_of};
 

@@ -11,7 +11,7 @@ ghost use Rattle.gf_groups.specs.GroupedPositions.{positions_below};
 ghost use Rattle.gf_groups.specs.Tables.{IsTable};
 ghost use Rattle.gf_groups.specs.Versions.{IsMade, AreVersions};
 ghost use Rattle.gf_table.specs.Standing.{StandsFor, parts_at, parts_of};
-ghost use Rattle.gf_notes.specs.Subjects.{kinds, subject_cmp};
+ghost use Rattle.gf_tails.specs.Subjects.{kinds, subject_cmp};
 
 use crate::subject::SubjectTable;
 use gf_groups::{GroupFault, Groups, Positions, Timeline, groups_from, is_made};
@@ -34,7 +34,7 @@ pub struct GroupTable {
 
 impl Model for GroupTable {
     ghost use Rattle.std.specs.Prelude.{List};
-    ghost use Rattle.gf_notes.specs.declared.subject.Subject.{Subject};
+    ghost use Rattle.gf_tails.specs.declared.subject.Subject.{Subject};
     ghost use Rattle.gf_table.specs.SubjectState.{SubjectState};
 
     ghost Value = { List (Subject × SubjectState) };

@@ -4,7 +4,7 @@ use Rattle.std.proofs.lemmas.Result.{on_ok_weaker, on_err_weaker}
 use Rattle.gf_table.specs.SubjectState.{SubjectState, nothing, with_op}
 use Rattle.gf_notes.specs.Notes.{AreNotes}
 use Rattle.gf_table.specs.Standing.{StandsFor, state_of}
-use Rattle.gf_notes.proofs.SubjectLemmas.{subject_cmp_total}
+use Rattle.gf_tails.proofs.SubjectLemmas.{subject_cmp_total}
 use Rattle.gf_table.proofs.StandsLemmas.{adds_from, both_ok, next_from, stands_after, put_again}
 use Rattle.gf_table.proofs.table.add_to.Goals as goal
 

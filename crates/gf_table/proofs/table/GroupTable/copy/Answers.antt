@@ -2,8 +2,8 @@ use Rattle.std.proofs.Common.{ap, ◌∙◌}
 use Rattle.std.specs.BTreeMap.{insert_entry}
 use Rattle.std.specs.List.Sorted.{IsStrictlySortedBy}
 use Rattle.std.specs.Map.{keys_of}
-use Rattle.gf_notes.specs.Subjects.{subject_cmp}
-use Rattle.gf_notes.proofs.SubjectLemmas.{subject_cmp_total}
+use Rattle.gf_tails.specs.Subjects.{subject_cmp}
+use Rattle.gf_tails.proofs.SubjectLemmas.{subject_cmp_total}
 use Rattle.gf_table.specs.SubjectState.{SubjectState}
 use Rattle.gf_ops.proofs.EntryLemmas.{copied_more}
 use Rattle.gf_table.proofs.table.GroupTable.copy.Goals as goal

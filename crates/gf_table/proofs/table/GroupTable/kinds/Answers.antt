@@ -6,9 +6,9 @@ use Rattle.std.specs.Map.{keys_of}
 use Rattle.std.specs.declared.ops.Bound.TheVariants.{Included}
 use Rattle.std.proofs.lemmas.List.{append-nil, map-append}
 use Rattle.gf_ops.specs.declared.change.Attr.TheVariants.{Shown}
-use Rattle.gf_notes.specs.declared.subject.Subject.{Subject}
+use Rattle.gf_tails.specs.declared.subject.Subject.{Subject}
 use Rattle.gf_table.specs.SubjectState.{SubjectState}
-use Rattle.gf_notes.specs.Subjects.{subject_cmp}
+use Rattle.gf_tails.specs.Subjects.{subject_cmp}
 use Rattle.gf_table.proofs.RangeLemmas.{one_further, parts_between}
 use Rattle.gf_table.proofs.table.GroupTable.kinds.Goals as goal
 

@@ -1,5 +1,5 @@
 use Rattle.std.proofs.Common.{◌≡◌, ◌++◌, map}
-use Rattle.gf_notes.specs.declared.subject.Subject.{Subject}
+use Rattle.gf_tails.specs.declared.subject.Subject.{Subject}
 use Rattle.gf_table.specs.SubjectState.{SubjectState}
 use Rattle.gf_table.proofs.table.GroupTable.kinds.Given as goal
 

@@ -1,12 +1,12 @@
 -- What is kept of the setters of an attribute by one site, to tell at once whether an operation conflicts with one of them.
-use Rattle.std.specs.Prelude.{ℕ, Bool, cond, not, ◌&&◌, ◌||◌, ◌==◌, List, [], ◌∷◌, Option, Some, None, slice_get}
-use Rattle.std.specs.List.{list_any, find}
+use Rattle.std.specs.Prelude.{◌≡◌, ◌≢◌, ◌⊎◌, ℕ, ◌≤◌, Bool, true, cond, not, ◌&&◌, ◌||◌, ◌==◌, List, [], ◌∷◌, Contains, Option, Some, None, slice_get}
+use Rattle.std.specs.List.{IsDistinct, list_any, find}
 use Rattle.gf_ops.specs.declared.op.Op.{Op}
 use Rattle.gf_ops.specs.declared.op.OpId.{OpId}
 use Rattle.gf_ops.specs.declared.op.Clock.{Clock}
 use Rattle.gf_ops.specs.declared.change.Value.{Value}
-use Rattle.gf_notes.specs.Giving.{op_gives, misses}
-use Rattle.gf_table.specs.declared.tails.Tail.{Tail}
+use Rattle.gf_tails.specs.Giving.{HasSetter, op_gives, misses}
+use Rattle.gf_tails.specs.declared.tails.Tail.{Tail}
 
 -- the tail is that of the site s
 abbrev pub is_of : ℕ → Tail → Bool
@@ -41,3 +41,24 @@ hits h v past e = misses past e.last.site (Some e.last.seq) && (not (op_gives (s
 -- it conflicts with one that the tails tell
 abbrev pub hits_one : List Op → Value → Clock → List Tail → Bool
 hits_one h v past es = list_any (hits h v past) es
+
+-- ---- what tails tell
+
+-- there is another number, and n is at most that
+abbrev pub IsUpTo : ℕ → Option ℕ → Type 0
+IsUpTo n (Some k) = n ≤ k
+IsUpTo n None = ⊥
+
+-- the tail keeps the last setter of its site at the positions us, and the number of the site's last one with another value than that
+pub record IsTail (h : List Op) (us : List ℕ) (e : Tail) : Type 0 where
+  pub value : Value
+  pub last : HasSetter h us e.last value
+  pub position : last.position ≡ e.position
+  pub other : (k : ℕ) → e.other ≡ Some k → (w : Value) × HasSetter h us (record { site = e.last.site; seq = k }) w × (w ≢ value)
+  pub tells : (i : OpId) (w : Value) → HasSetter h us i w → i.site ≡ e.last.site → (i.seq ≤ e.last.seq) × ((w ≡ value) ⊎ IsUpTo i.seq e.other)
+
+-- there is one for each site with a setter at the positions us
+pub record AreTails (h : List Op) (us : List ℕ) (es : List Tail) : Type 0 where
+  pub each : (e : Tail) → Contains es e → IsTail h us e
+  pub some : (i : OpId) (v : Value) → HasSetter h us i v → (e : Tail) × Contains es e × (is_of i.site e ≡ true)
+  pub once : IsDistinct are_one es

@@ -1,7 +1,7 @@
 //! What an operation is about.
 
 ghost use Rattle.std.specs.Prelude.{◌≡◌};
-ghost use Rattle.gf_notes.specs.Subjects.{subject_of};
+ghost use Rattle.gf_tails.specs.Subjects.{subject_of};
 
 use gf_ops::{Attr, Change, ObjectId, Op};
 

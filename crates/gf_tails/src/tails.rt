@@ -3,11 +3,11 @@
 
 ghost use Rattle.std.specs.Prelude.{◌≡◌, ◌<◌, vec_len, vec_capacity, option_copied};
 ghost use Rattle.std.specs.List.{position};
-ghost use Rattle.gf_table.specs.Tails.{is_of, other_than};
-ghost use Rattle.gf_table.specs.Tails.{new_tail, noted, hits, hits_one};
+ghost use Rattle.gf_tails.specs.Tails.{is_of, other_than};
+ghost use Rattle.gf_tails.specs.Tails.{new_tail, noted, hits, hits_one};
 
+use crate::giving::{misses, op_gives};
 use gf_groups::Timeline;
-use gf_notes::{misses, op_gives};
 use gf_ops::{Clock, OpId, Value};
 
 /// The last setter by a site and its position, and the number of the site's last one with another
@@ -63,7 +63,7 @@ fn new_tail(
 
 /// Notes that the operation gave the value at the position: the new tail takes the place of the one
 /// that its site has, or comes behind all.
-pub(crate) fn note(
+pub fn note(
     timeline: &Timeline<'_>,
     id: OpId,
     value: &Value,
@@ -94,7 +94,7 @@ fn hits(timeline: &Timeline<'_>, value: &Value, past: &Clock, tail: &Tail) -> bo
 
 /// Whether what gives the value, and knows what the clock counts, conflicts with one that the tails
 /// tell: at most two looks for each site.
-pub(crate) fn hits_one(timeline: &Timeline<'_>, value: &Value, past: &Clock, tails: &[Tail]) -> bool
+pub fn hits_one(timeline: &Timeline<'_>, value: &Value, past: &Clock, tails: &[Tail]) -> bool
     ensures { result ≡ hits_one timeline.now value.now past.now tails.now }
 {
     tails.iter().any(|tail| hits(timeline, value, past, tail))

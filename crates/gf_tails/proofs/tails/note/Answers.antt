@@ -1,6 +1,6 @@
 use Rattle.std.proofs.Common.{sym}
-use Rattle.gf_table.proofs.PutTailLemmas.{noted_at, noted_behind}
-use Rattle.gf_table.proofs.tails.note.Goals as goal
+use Rattle.gf_tails.proofs.PutTailLemmas.{noted_at, noted_behind}
+use Rattle.gf_tails.proofs.tails.note.Goals as goal
 
 pub returns-in-Some : goal.returns-in-Some
 returns-in-Some c =

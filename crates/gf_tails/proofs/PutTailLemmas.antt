@@ -12,8 +12,8 @@ use Rattle.gf_ops.proofs.ListLemmas.{Contains-cons_cases, Contains-cons_head, Co
 use Rattle.gf_ops.specs.declared.op.Op.{Op}
 use Rattle.gf_ops.specs.declared.op.OpId.{OpId}
 use Rattle.gf_ops.specs.declared.change.Value.{Value}
-use Rattle.gf_table.specs.declared.tails.Tail.{Tail}
-use Rattle.gf_table.specs.Tails.{is_of, are_one, put_tail, new_tail, noted}
+use Rattle.gf_tails.specs.declared.tails.Tail.{Tail}
+use Rattle.gf_tails.specs.Tails.{is_of, are_one, put_tail, new_tail, noted}
 
 -- no tail, no two
 pub none_once : IsDistinct are_one []

@@ -12,7 +12,7 @@ use Rattle.gf_ops.specs.declared.change.Attr.TheVariants.{Place, Points, Size, C
 use Rattle.gf_ops.specs.contracts.change.AttrOrd.TheImpl as attributes
 use Rattle.gf_ops.specs.Attribute.{attribute_of, object_of}
 use Rattle.gf_groups.specs.Parting.{object_cmp}
-use Rattle.gf_notes.specs.declared.subject.Subject.{Subject}
+use Rattle.gf_tails.specs.declared.subject.Subject.{Subject}
 
 -- the attribute that the change sets, if it makes no object
 abbrev pub attribute_set : Change → Option Attr

@@ -3,7 +3,7 @@
 ghost use Rattle.std.specs.Prelude.{◌≡◌, nat_le, option_copied};
 ghost use Rattle.gf_ops.specs.ConflictTests.{value_eq};
 ghost use Rattle.gf_ops.specs.OperationOrder.{entry};
-ghost use Rattle.gf_notes.specs.Giving.{change_gives, op_gives, misses};
+ghost use Rattle.gf_tails.specs.Giving.{change_gives, op_gives, misses};
 
 use gf_ops::{Change, Clock, Op, Value};
 

@@ -23,12 +23,12 @@ use Rattle.gf_ops.proofs.ValidityLemmas.{same_op}
 use Rattle.gf_groups.specs.Growing.{conflict_at}
 use Rattle.gf_groups.specs.GroupedPositions.{is_on}
 use Rattle.gf_groups.proofs.OnPositionLemmas.{conflict_from, contained_at, on_op}
-use Rattle.gf_notes.specs.declared.subject.Subject.{Subject}
-use Rattle.gf_notes.specs.Subjects.{attribute_set, subject_of, is_about}
-use Rattle.gf_notes.proofs.LongerLemmas.{got_last, got_before}
-use Rattle.gf_notes.proofs.NextLemmas.{fresh, unknown}
-use Rattle.gf_notes.proofs.SubjectLemmas.{about_op}
-use Rattle.gf_notes.specs.Giving.{HasSetter, misses}
+use Rattle.gf_tails.specs.declared.subject.Subject.{Subject}
+use Rattle.gf_tails.specs.Subjects.{attribute_set, subject_of, is_about}
+use Rattle.gf_tails.proofs.LongerLemmas.{got_last, got_before}
+use Rattle.gf_tails.proofs.NextLemmas.{fresh, unknown}
+use Rattle.gf_tails.proofs.SubjectLemmas.{about_op}
+use Rattle.gf_tails.specs.Giving.{HasSetter, misses}
 
 -- where the clock does not count the number, it misses it
 pub missed : (past : Clock) (s k : ℕ) → ¬ (k ≤ entry past s) → misses past s (Some k) ≡ true

@@ -21,8 +21,8 @@ use Rattle.gf_groups.proofs.IdLemmas.{both_tied}
 use Rattle.gf_groups.proofs.OnPositionLemmas.{on_to}
 use Rattle.gf_groups.proofs.PartingLemmas.{object_cmp_exact, object_cmp_total}
 use Rattle.gf_groups.proofs.SortedLemmas.{equal_left}
-use Rattle.gf_notes.specs.declared.subject.Subject.{Subject}
-use Rattle.gf_notes.specs.Subjects.{attribute_cmp, subject_cmp, subject_of, is_about, positions_about}
+use Rattle.gf_tails.specs.declared.subject.Subject.{Subject}
+use Rattle.gf_tails.specs.Subjects.{attribute_cmp, subject_cmp, subject_of, is_about, positions_about}
 
 attribute_cmp_total : IsTotalOrder attribute_cmp
 attribute_cmp_total = total-law

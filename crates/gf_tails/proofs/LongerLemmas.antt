@@ -7,8 +7,8 @@ use Rattle.std.proofs.lemmas.Option.{slice_get_read, slice_get_within, slice_get
 use Rattle.std.proofs.Math.Seq.{get_or-append_seam}
 use Rattle.gf_ops.specs.declared.op.Op.{Op}
 use Rattle.gf_groups.specs.Growing.{conflict_at}
-use Rattle.gf_notes.specs.declared.subject.Subject.{Subject}
-use Rattle.gf_notes.specs.Subjects.{is_about, positions_about}
+use Rattle.gf_tails.specs.declared.subject.Subject.{Subject}
+use Rattle.gf_tails.specs.Subjects.{is_about, positions_about}
 
 module _ (h : List Op) (a : Op) where
   abbrev longer : List Op
