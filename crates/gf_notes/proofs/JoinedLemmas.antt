@@ -1,243 +1,136 @@
--- Where a summary tells that an operation joins one set, and changes nothing else, it does.
-use Rattle.std.proofs.Common.{◌≡◌, ◌≢◌, ℕ, zero, suc, ◌+◌, ◌-◌, ◌<◌, Bool, true, false, List, [], ◌∷◌, ◌++◌, length, take, refl, subst, sym, ap, ◌∙◌, inl, inr, arith}
-use Rattle.std.specs.Prelude.{◌↔◌, ◌&&◌, ◌||◌, ◌==◌, not, nat_le, filter, Contains, Option, Some, None, slice_get, slice_set, slice_index_or, option_map}
-use Rattle.std.specs.BTreeSet.{insert_key}
-use Rattle.std.proofs.lemmas.Bool.{cases_Bool, and_parts, not-true, or_cases, leb-true, leb-false}
+-- Where a summary tells which sets an operation joins, and that nothing else changes, so it is.
+use Rattle.std.proofs.Common.{◌≡◌, ◌≢◌, ℕ, zero, suc, ◌-◌, ◌≤◌, ◌<◌, Bool, true, false, List, [], ◌∷◌, ◌++◌, length, take, refl, subst, sym, ap, ◌∙◌, inl, inr, arith}
+use Rattle.std.specs.Prelude.{◌↔◌, ◌⊎◌, ◌&&◌, ◌||◌, ◌==◌, cond, not, nat_le, Contains, IfSome, Option, Some, None, slice_get, slice_set, slice_index_or, unwrap_or, option_map}
+use Rattle.std.specs.List.{list_any, list_all}
+use Rattle.std.proofs.lemmas.Bool.{cases_Bool, cases_lt, and_parts, cond-true, cond-false, not-true, or_cases, leb-true, leb-false}
 use Rattle.std.proofs.lemmas.Bool.Decides.{Decides-eqb}
-use Rattle.std.proofs.lemmas.List.{take_all, take_more}
 use Rattle.std.proofs.lemmas.List.Elements.{Contains-push_cases}
-use Rattle.std.proofs.lemmas.Option.{slice_get_within, get_or_from_slice_get}
+use Rattle.std.proofs.lemmas.Option.{slice_get_within, slice_get-get_or, get_or_from_slice_get}
 use Rattle.gf_ops.specs.declared.op.Op.{Op}
+use Rattle.gf_ops.specs.declared.op.OpId.{OpId}
 use Rattle.gf_ops.specs.declared.op.ObjectId.{ObjectId}
 use Rattle.gf_ops.specs.declared.change.Change.TheVariants.{Set}
 use Rattle.gf_ops.specs.declared.change.Value.{Value}
 use Rattle.gf_ops.specs.Accepted.{IsAccepted}
-use Rattle.gf_ops.specs.Attribute.{attribute_of, object_of}
+use Rattle.gf_ops.specs.Attribute.{object_of}
+use Rattle.gf_ops.specs.Conflict.{Conflict}
+use Rattle.gf_ops.specs.ConflictTests.{value_eq}
 use Rattle.gf_ops.specs.Limits.{IsInRange}
 use Rattle.gf_ops.specs.OperationOrder.{Precedes, entry}
 use Rattle.gf_ops.specs.ValidHistory.{IsValid, IsWithin}
-use Rattle.gf_groups.specs.Growing.{conflict_at, conflicts_in, part, is_covered}
+use Rattle.gf_ops.proofs.SameLemmas.{value_eq-same, value_eq-true}
+use Rattle.gf_groups.specs.Growing.{conflict_at, conflicts_in}
 use Rattle.gf_groups.specs.GroupedPositions.{is_on}
-use Rattle.gf_groups.proofs.ListLemmas.{Contains-filter, list_any_true, list_any_false, list_any_from}
-use Rattle.gf_groups.proofs.OnPositionLemmas.{conflict_with, contained_at, on_op}
+use Rattle.gf_groups.specs.Tables.{IsLargest, IsTable}
+use Rattle.gf_groups.proofs.ListLemmas.{list_any_true, list_any_false, list_any_from, list_all_true}
+use Rattle.gf_groups.proofs.OnPositionLemmas.{conflict_with, contained_at}
 use Rattle.gf_groups.proofs.TableLemmas.{conflict_at_test}
-use Rattle.gf_ops.proofs.ValidityLemmas.{precedes_irreflexive}
-use Rattle.gf_ops.specs.declared.change.Attr.{Attr}
-use Rattle.gf_ops.proofs.ListLemmas.{Contains-cons_head, Contains-cons_tail}
 use Rattle.gf_parts.specs.Parted.{AreParts, IsKept}
-use Rattle.gf_parts.specs.Parts.{PartState, PartsState, alone, whole, holds, with_part, set_with, part_with, last_with}
-use Rattle.gf_parts.proofs.JoiningLemmas.{IsHit, AllHit, OneCalm, IsBeside, next_one, joins_last, last_joined}
+use Rattle.gf_parts.specs.Parts.{PartState, PartsState, alone, whole, touches, holds, grown_sets, with_part, sets_with, last_with}
+use Rattle.gf_parts.proofs.JoiningLemmas.{IsCalm, IsHit, JoinsSets, IsShared, next_joined, kept_joined, joins_last}
 use Rattle.gf_parts.proofs.PartsLemmas.{all_of_fold}
-use Rattle.gf_notes.specs.declared.prints.Print.{Print}
-use Rattle.gf_notes.specs.declared.spans.Span.{Span}
-use Rattle.gf_notes.specs.Next.{IsNextTo, IsNextOf, Gives, IsInOne, HasRival}
-use Rattle.gf_notes.specs.Notes.{NotesState}
-use Rattle.gf_tails.specs.Subjects.{subject_of}
-use Rattle.gf_notes.specs.Others.{CountsOthers}
-use Rattle.gf_notes.specs.Summaries.{SummaryState, TellsOf, TellsParts, TellsLast, IsJoined, NotesIn}
-use Rattle.gf_notes.specs.Spans.{Spans, Widens, TellsSet, TellsSets, Stays, AllStay, OneKnown}
-use Rattle.gf_notes.specs.Prints.{print_of, print_cmp, GivesPrint, IsPrinted, TellsPositions}
-use Rattle.gf_tails.proofs.LongerLemmas.{got_last, got_before, same_before}
-use Rattle.gf_notes.proofs.OthersLemmas.{beside_longer, calm_free, calm_before}
-use Rattle.gf_tails.proofs.GivenLemmas.{meets, one_op}
-use Rattle.gf_tails.proofs.SubjectLemmas.{about_on}
-use Rattle.gf_notes.proofs.SummaryLemmas.{summed, positions_more, positions_longer, sets_longer, sets_with}
+use Rattle.gf_tails.specs.declared.tails.Tail.{Tail}
+use Rattle.gf_tails.specs.Giving.{HasSetter, op_gives}
+use Rattle.gf_tails.specs.Subjects.{subject_of, is_about}
+use Rattle.gf_tails.specs.Tails.{is_of, hits_one, IsUpTo, IsTail, AreTails}
+use Rattle.gf_tails.proofs.GivenLemmas.{met, one_op}
+use Rattle.gf_tails.proofs.KeptTailsLemmas.{tail_gives, tail_kept}
+use Rattle.gf_tails.proofs.LongerLemmas.{got_last, got_before}
+use Rattle.gf_tails.proofs.QuickLemmas.{quick}
+use Rattle.gf_tails.proofs.SubjectLemmas.{about_on, about_op}
+use Rattle.gf_notes.specs.declared.sets.Joined.{Joined}
+use Rattle.gf_notes.specs.Clocks.{CountsOthers, KnowsOwnAlone}
+use Rattle.gf_notes.specs.Prints.{print_of}
+use Rattle.gf_notes.specs.Sets.{SetsState, TellsSets, TellsTails, IsHome, GoesHome, IsJoined, home_of, has_site, lacks, all_lack, is_apart, is_known, clashes, fits_other, fits}
+use Rattle.gf_notes.proofs.ClockLemmas.{calm_free, calm_before, calm_known}
+use Rattle.gf_notes.proofs.LongerPartsLemmas.{parts_longer}
+use Rattle.gf_notes.proofs.SetTailLemmas.{known_last, tells_at}
+use Rattle.gf_notes.proofs.SummaryLemmas.{last_apart, last_in}
 
--- ---- lists
+-- ---- what a home tells
 
--- the last element, and what stands before it
-pub last_apart : {X : Type 0} (xs : List X) (x : X) → slice_get xs (length xs - 1) ≡ Some x → xs ≡ take (length xs - 1) xs ++ x ∷ []
-last_apart xs x e =
-    let n = length xs - 1 in
-    let l = slice_get_within xs n x e in
-    let at = get_or_from_slice_get xs n x x e in
-    sym (take_all (n + 1) xs (omega (arith, l))) ∙ (take_more xs n x l ∙ ap (λ z. take n xs ++ z ∷ []) at)
+-- a print that has a home goes to the set j or the other one
+goes_home : (r : Option (Option ℕ)) (j : ℕ) (s t : Option ℕ) → GoesHome r j s → r ≡ Some t → t ≡ Some (unwrap_or s j)
+goes_home None j None t g e = absurd cc
+goes_home (Some (Some i)) j None t g e = ap (λ o. unwrap_or o t) (sym e) ∙ ap (λ k. Some k) g
+goes_home (Some (Some i)) j (Some k) t g e = ap (λ o. unwrap_or o t) (sym e) ∙ ap (λ z. Some z) g.0
+goes_home None j (Some k) t g e = absurd g
+goes_home (Some None) j None t g e = absurd g
+goes_home (Some None) j (Some k) t g e = absurd g
 
-pub last_in : {X : Type 0} (xs : List X) (x : X) → slice_get xs (length xs - 1) ≡ Some x → Contains xs x
-last_in xs x e = (length xs - 1, slice_get_within xs (length xs - 1) x e, get_or_from_slice_get xs (length xs - 1) x x e)
+pub two_sets : (r : Option (Option ℕ)) (j k : ℕ) → GoesHome r j (Some k) → j ≢ k
+two_sets (Some (Some i)) j k g = g.1
+two_sets None j k g = absurd g
+two_sets (Some None) j k g = absurd g
 
-or_from_false : (p q : Bool) → p ≡ false → q ≡ false → (p || q) ≡ false
-or_from_false p q e f = rw (e, f) refl
+-- ---- what fits
 
--- a value whose print is not there differs from those that have one there
-differs : (v w : Value) (p : Print) (ps : List Print) → ¬ (Contains ps (print_of v)) → Contains ps p → print_of w ≡ p → w ≢ v
-differs v w p ps fresh i e d = fresh (subst (Contains ps) (sym e ∙ ap print_of d) i)
+-- the set at the index is neither that of what is known nor the other one: it clashes
+clash_of : (h : List Op) (a : Op) (v : Value) (w : Joined) (i : ℕ) (es : List Tail) → i ≢ w.own → w.other ≢ Some i → fits h a v w i es ≡ true → clashes h a v w.other es ≡ true
+clash_of h a v w i es n m t = by_other w.other m (sym (cond-false (i == w.own) true _ (off i w.own n)) ∙ t)
+  where
+    off : (x y : ℕ) → x ≢ y → (x == y) ≡ false
+    off x y d = elim (cases_Bool (x == y)) [ inl e ↦ absurd (d ((Decides-eqb x y).0 e)) | inr f ↦ f ]
 
--- ---- conflicts of the next operation, which gives v to the object o
+    by_other : (r : Option ℕ) → r ≢ Some i → fits_other h a v r i es ≡ true → clashes h a v r es ≡ true
+    by_other None d e = e
+    by_other (Some k) d e = sym (cond-false (i == k) _ _ (off i k (λ y. d (ap (λ z. Some z) (sym y))))) ∙ e
 
-module _ (h : List Op) (valid : IsValid h) (a : Op) (in_range : IsInRange a) (accepted : IsAccepted h a) (us : List ℕ) (on : (i : ℕ) → Contains us i → is_on (object_of a) (slice_get h i) ≡ true)
-    (o : ObjectId) (v : Value) (gives : a.change ≡ Set o v) where
-  abbrev c : ℕ → ℕ → Bool
-  c = conflict_at (h ++ a ∷ [])
+-- the other set has none that a conflicts with
+calm_of : (h : List Op) (a : Op) (v : Value) (w : Joined) (k : ℕ) (es : List Tail) → w.other ≡ Some k → w.own ≢ k → fits h a v w k es ≡ true → hits_one h v a.past es ≡ false
+calm_of h a v w k es e n t = not-true (hits_one h v a.past es) (by_other w.other e (sym (cond-false (k == w.own) true _ off) ∙ t))
+  where
+    off : (k == w.own) ≡ false
+    off = elim (cases_Bool (k == w.own)) [ inl y ↦ absurd (n (sym ((Decides-eqb k w.own).0 y))) | inr f ↦ f ]
 
-  -- what has another value than v, and does not conflict with a, a knows
-  known : (t : Attr) (p : Print) (ps : List Print) (b : ℕ) (op : Op) → Contains us b → attribute_of v ≡ t → ¬ (Contains ps (print_of v)) → Contains ps p → IsPrinted h t b p → slice_get h b ≡ Some op → c (length h) b ≡ false → Precedes op a
-  known t p ps b op m same fresh i q at calm = elim (cases_Bool (nat_le op.id.seq (entry a.past op.id.site))) [
-    | inl y ↦ leb-true op.id.seq (entry a.past op.id.site) y
-    | inr n ↦
-        let one : q.op ≡ op = one_op (slice_get h b) q.op op q.at at in
-        let g : GivesPrint op t p = subst (λ (x : Op). GivesPrint x t p) one q.gives in
-        let hit = meets h valid a in_range accepted us on o v gives b op g.object g.given m at g.change (g.attribute ∙ sym same) (differs v g.given p ps fresh i g.print) (λ (y : Precedes op a).
-        let k = leb-false op.id.seq (entry a.past op.id.site) n in
-        absurd (omega (arith, k, y))) in
-        absurd cc
+    by_other : (r : Option ℕ) → r ≡ Some k → fits_other h a v r k es ≡ true → not (hits_one h v a.past es) ≡ true
+    by_other None d f = absurd cc
+    by_other (Some l) d f =
+        let same : k ≡ l = ap (λ o. unwrap_or o k) (sym d) in
+        sym (cond-true (k == l) _ _ ((Decides-eqb k l).1 same)) ∙ f
+
+-- what clashes is hit, and apart where there is another set
+clash_parts : (h : List Op) (a : Op) (v : Value) (r : Option ℕ) (es : List Tail) → clashes h a v r es ≡ true → (hits_one h v a.past es ≡ true) × ((r ≡ None) ⊎ (is_apart h a v es ≡ true))
+clash_parts h a v None es t = (t, inl refl)
+clash_parts h a v (Some k) es t = let w = and_parts (hits_one h v a.past es) (is_apart h a v es) t in (w.0, inr w.1)
+
+-- ---- operations of one site
+
+one_site : (h : List Op) → IsValid h → (x y : Op) → Contains h x → Contains h y → x.id.site ≡ y.id.site → ¬ (Conflict x y)
+one_site h valid x y m n same c = elim (cases_lt x.id.seq y.id.seq) [
+  | inl l ↦ let own = valid.own y n in c.concurrent.not_before (subst (λ s. x.id.seq ≤ entry y.past s) (sym same) (omega (arith, l, own)))
+  | inr l ↦ elim (cases_lt y.id.seq x.id.seq) [
+    | inl k ↦ let own = valid.own x m in c.concurrent.not_after (subst (λ s. y.id.seq ≤ entry x.past s) same (omega (arith, k, own)))
+    | inr k ↦ let e : x.id.seq ≡ y.id.seq = omega (arith, l, k) in c.concurrent.different (λ i. record { site = same i; seq = e i })
   ]
+]
 
-  -- what comes before the operation at a position does not conflict with it
-  calm : (i b : ℕ) (q op : Op) → slice_get (h ++ a ∷ []) i ≡ Some q → slice_get (h ++ a ∷ []) b ≡ Some op → Precedes op q → c i b ≡ false
-  calm i b q op there at before = elim (cases_Bool (c i b)) [
-    | inl t ↦
-        let k = conflict_with (slice_get (h ++ a ∷ []) i) (slice_get (h ++ a ∷ []) b) q there t in
-        let one : op ≡ k.0 = one_op (slice_get (h ++ a ∷ []) b) op k.0 at k.1 in
-        absurd (k.2.concurrent.not_after (subst (λ (x : Op). Precedes x q) one before))
-    | inr f ↦ f
-  ]
+-- a comes behind h and gives v to the object o; s are the parts of its subject, and gs the sets of the last one
+module _ (h : List Op) (valid : IsValid h) (a : Op) (in_range : IsInRange a) (accepted : IsAccepted h a) (s : PartsState) (parts : AreParts (conflict_at h) s)
+    (exactly : (i : ℕ) → Contains (whole s).all i ↔ (is_about (subject_of a) (slice_get h i) ≡ true)) (o : ObjectId) (v : Value) (gives : a.change ≡ Set o v)
+    (p : PartState) (last : slice_get s.parts (length s.parts - 1) ≡ Some p) where
+  abbrev new : List Op
+  new = h ++ a ∷ []
 
-  module _ (m : SummaryState) (same : attribute_of v ≡ m.attribute) (fresh : ¬ (Contains m.prints (print_of v))) (vs : List ℕ) (inside : (b : ℕ) → Contains vs b → Contains us b) (prints : TellsPositions h m.attribute m.prints vs)
-      (own : ℕ) (q : Op) (at : slice_get h own ≡ Some q) (beside : c own (length h) ≡ false) where
-    abbrev IsOf : List ℕ → Type 0
-    IsOf g = (b : ℕ) → Contains g b → Contains vs b
-
-    -- what of a set does not conflict with a, a knows
-    known_of : (g : List ℕ) → IsOf g → (b : ℕ) (op : Op) → Contains g b → slice_get h b ≡ Some op → c (length h) b ≡ false → Precedes op a
-    known_of g f b op i there n = let w = prints b (f b i) in known m.attribute w.0 m.prints b op (inside b (f b i)) same fresh w.1 w.2 there n
-
-    -- where a knew all, its past would count all
-    clash_of : (e : Span) (g : List ℕ) → IsOf g → TellsSet h e g → ¬ (IsWithin e.last a.past) → conflicts_in c (length h) g ≡ true
-    clash_of e g f t unknown = elim (cases_Bool (conflicts_in c (length h) g)) [
-      | inl y ↦ y
-      | inr n ↦ absurd (unknown (t.least a.past (λ b op i there.
-          let s = t.each b i in
-          let one : s.op ≡ op = one_op (slice_get h b) s.op op s.at there in
-          let spans : Spans e op.id = subst (λ (x : Op). Spans e x.id) one s.own in
-          let above = spans.above in
-          record {
-            site = spans.site;
-            first = omega (arith, above);
-            last = known_of g f b op i there (list_any_false (c (length h)) g n b i);
-          })))
-    ]
-
-    -- what of the set does not conflict with a, the last of the joined set knows too
-    apart : (e : Span) (g : List ℕ) → IsOf g → TellsSet h e g → Stays a.past q.past e → (b : ℕ) → Contains g b → c (length h) b ≡ false → (own == b || c own b) ≡ false
-    apart e g f t st b i n =
-        let s = t.each b i in
-        let before : Precedes s.op q = st.known s.op.id s.own (known_of g f b s.op i s.at n) in
-        or_from_false (own == b) (c own b) (elim (cases_Bool (own == b)) [
-          | inl y ↦
-              let one : s.op ≡ q = one_op (slice_get h own) s.op q (subst (λ k. slice_get h k ≡ Some s.op) (sym ((Decides-eqb own b).0 y)) s.at) at in
-              absurd (precedes_irreflexive h valid q (contained_at h own q at) (subst (λ (x : Op). Precedes x q) one before))
-          | inr k ↦ k
-        ]) (calm own b q s.op (got_before h a own q at) (got_before h a b s.op s.at) before)
-
-    short_of : (e : Span) (g : List ℕ) → IsOf g → TellsSet h e g → Stays a.past q.past e → is_covered c (part c (length h) g) own ≡ false
-    short_of e g f t st = elim (cases_Bool (is_covered c (part c (length h) g) own)) [
-      | inl y ↦
-          let w = list_any_true (λ b. own == b || c own b) (part c (length h) g) y in
-          let yes = w.2 in
-          elim (Contains-push_cases (filter (λ b. not (c b (length h))) g) (length h) w.0 w.1) [
-            | inl i ↦
-                let k = (Contains-filter (λ b. not (c b (length h))) g w.0).0 i in
-                let no = apart e g f t st w.0 k.0 ((conflict_at_test (h ++ a ∷ [])).symmetric (length h) w.0 ∙ not-true (c w.0 (length h)) k.1) in
-                absurd cc
-            | inr d ↦ elim (or_cases (own == w.0) (c own w.0) w.2) [
-              | inl z ↦
-                  let l = slice_get_within h own q at in
-                  let e = (Decides-eqb own w.0).0 z in
-                  absurd (omega (arith, l, e, d))
-              | inr z ↦ let no : c own w.0 ≡ false = subst (λ k. c own k ≡ false) d beside in absurd cc
-            ]
-          ]
-      | inr n ↦ n
-    ]
-
-    hit_set : (e : Span) (g : List ℕ) → IsOf g → TellsSet h e g → Stays a.past q.past e → IsHit c (length h) own g
-    hit_set e g f t st = record { clash = clash_of e g f t st.unknown; short = short_of e g f t st }
-
-    calm_set : (e : Span) (g : List ℕ) → TellsSet h e g → IsWithin e.last a.past → conflicts_in c (length h) g ≡ false
-    calm_set e g t past = elim (cases_Bool (conflicts_in c (length h) g)) [
-      | inl y ↦
-          let w = list_any_true (c (length h)) g y in
-          let s = t.each w.0 w.1 in
-          let l = past s.op.id.site s.own.site in
-          let within = s.own.within in
-          let no = calm (length h) w.0 a s.op (got_last h a) (got_before h a w.0 s.op s.at) (omega (arith, l, within)) in
-          let yes = w.2 in
-          absurd cc
-      | inr n ↦ n
-    ]
-
-    abbrev AreOf : List (List ℕ) → Type 0
-    AreOf gs = (g : List ℕ) → Contains gs g → IsOf g
-
-    all_hit : (es : List Span) (gs : List (List ℕ)) → AreOf gs → TellsSets h es gs → AllStay a.past q.past es → AllHit c (length h) own gs
-    all_hit [] [] f t u = tt
-    all_hit (e ∷ es) (g ∷ gs) f t u = (hit_set e g (f g (Contains-cons_head g gs)) t.0 u.0, all_hit es gs (λ k i. f k (Contains-cons_tail g gs k i)) t.1 u.1)
-    all_hit [] (g ∷ gs) f t u = absurd t
-    all_hit (e ∷ es) [] f t u = absurd t
-
-    one_calm : (j : ℕ) (es : List Span) (gs : List (List ℕ)) → AreOf gs → TellsSets h es gs → OneKnown a.past q.past j es → OneCalm c (length h) own j gs
-    one_calm j [] gs f t u = absurd u
-    one_calm zero (e ∷ es) (g ∷ gs) f t u = (calm_set e g t.0 u.0, all_hit es gs (λ k i. f k (Contains-cons_tail g gs k i)) t.1 u.1)
-    one_calm (suc j) (e ∷ es) (g ∷ gs) f t u = (hit_set e g (f g (Contains-cons_head g gs)) t.0 u.0, one_calm j es gs (λ k i. f k (Contains-cons_tail g gs k i)) t.1 u.1)
-    one_calm j (e ∷ es) [] f t u = absurd t
-
--- ---- the last part and its sets
-
--- what was seen of the last part, its sets, and the summary: own, where q stands, is of a set, and past its last numbers
-pub record IsSeen (g : List Op) (a : Op) (v : Value) (n : ℕ) (s : PartsState) (m : SummaryState) (p : PartState) (gs : List (List ℕ)) (j own : ℕ) (q : Op) : Type 0 where
-  pub last : slice_get s.parts (length s.parts - 1) ≡ Some p
-  pub sets : p.sets ≡ Some gs
-  pub in_one : IsInOne gs own
-  pub at : slice_get g own ≡ Some q
-  pub joined : IsJoined m v a.past q.past j
-  pub rival : HasRival (conflict_at g) gs n own
-
-module _ (h : List Op) (valid : IsValid h) (a : Op) (in_range : IsInRange a) (accepted : IsAccepted h a) (us : List ℕ) (on : (i : ℕ) → Contains us i → is_on (object_of a) (slice_get h i) ≡ true)
-    (o : ObjectId) (v : Value) (gives : a.change ≡ Set o v) (s : PartsState) (parts : AreParts (conflict_at h) s) (positions : (i : ℕ) → Contains (whole s).all i ↔ Contains us i)
-    (m : SummaryState) (p : PartState) (gs : List (List ℕ)) (j own : ℕ) (q : Op) (told : TellsParts h m s) (seen : IsSeen (h ++ a ∷ []) a v (length h) s m p gs j own q) where
   abbrev d : ℕ → ℕ → Bool
-  d = conflict_at (h ++ a ∷ [])
+  d = conflict_at new
 
-  abbrev front : List PartState
-  front = take (length s.parts - 1) s.parts
+  abbrev us : List ℕ
+  us = (whole s).all
 
-  tells : TellsOf h m p.all gs
-  tells = told.last p gs seen.last seen.sets
+  about : (i : ℕ) → Contains us i → is_about (subject_of a) (slice_get h i) ≡ true
+  about i m = (exactly i).0 m
 
-  kept : IsKept (conflict_at h) p.all (Some gs)
-  kept = subst (IsKept (conflict_at h) p.all) seen.sets (parts.parts p (last_in s.parts p seen.last)).sets
+  on : (i : ℕ) → Contains us i → is_on (object_of a) (slice_get h i) ≡ true
+  on i m = about_on (subject_of a) (slice_get h i) (about i m)
 
-  of_part : (g : List ℕ) → Contains gs g → (b : ℕ) → Contains g b → Contains p.all b
-  of_part g i b k = ((kept.0.each g).0 i).1.within b k
+  pub below : (i : ℕ) → Contains us i → i < length h
+  below i m = let w = about_op (subject_of a) (slice_get h i) (about i m) in slice_get_within h i w.0 w.1
 
-  inside : (b : ℕ) → Contains p.all b → Contains us b
-  inside b k = (positions b).0 ((all_of_fold (conflict_at h) (alone s.free) s.parts b).1 (inr (p, last_in s.parts p seen.last, k)))
+  pub inside : (b : ℕ) → Contains p.all b → Contains us b
+  inside b k = (all_of_fold (conflict_at h) (alone s.free) s.parts b).1 (inr (p, last_in s.parts p last, k))
 
-  below : (b : ℕ) → Contains us b → b < length h
-  below b k = let w = on_op (object_of a) (slice_get h b) (on b k) in slice_get_within h b w.0 w.1
-
-  in_part : (b : ℕ) → IsInOne gs b → Contains p.all b
-  in_part b w = of_part w.0 w.1 b w.2
-
-  abbrev other : ℕ
-  other = seen.rival.0
-
-  stands_beside : IsBeside d (length h) own p.all other
-  stands_beside =
-      let t = and_parts (not (d own (length h)) && d (length h) other) (d own other) seen.rival.2 in
-      let u = and_parts (not (d own (length h))) (d (length h) other) t.0 in record {
-        own = in_part own seen.in_one;
-        other = in_part other seen.rival.1;
-        calm = not-true (d own (length h)) u.0;
-        rival = u.1;
-        meets = t.1;
-      }
-
-  own_at : slice_get h own ≡ Some q
-  own_at = sym (same_before h a own (below own (inside own (in_part own seen.in_one)))) ∙ seen.at
-
-  not_there : holds (length h) p.all ≡ false
+  pub not_there : holds (length h) p.all ≡ false
   not_there = elim (cases_Bool (holds (length h) p.all)) [
     | inl y ↦
         let w = list_any_true (λ b. length h == b) p.all y in
@@ -247,72 +140,292 @@ module _ (h : List Op) (valid : IsValid h) (a : Op) (in_range : IsInRange a) (ac
     | inr n ↦ n
   ]
 
+  abbrev front : List PartState
+  front = take (length s.parts - 1) s.parts
+
+  -- what conflicts with a, where a knows all beside the last part, is of that
+  pub meets_last : (k : _) → CountsOthers h k s → IsWithin k a.past → conflicts_in d (length h) us ≡ true → touches d (length h) p ≡ true
+  meets_last k counts known clash =
+      let w = list_any_true (d (length h)) us clash in
+      let hit = w.2 in
+      elim ((all_of_fold d (alone s.free) s.parts w.0).0 w.1) [
+        | inl i ↦ let no = list_any_false (d (length h)) s.free (calm_free h a k known s counts) w.0 i in absurd cc
+        | inr q ↦ elim (Contains-push_cases front p q.0 (subst (λ zs. Contains zs q.0) (last_apart s.parts p last) q.1)) [
+          | inl i ↦
+              let yes = list_any_from (d (length h)) q.0.all w.0 q.2 hit in
+              let no = list_any_false (touches d (length h)) front (calm_before h a k known s counts) q.0 i in absurd cc
+          | inr e ↦ list_any_from (d (length h)) p.all w.0 (subst (λ (z : PartState). Contains z.all w.0) (sym e) q.2) hit
+        ]
+      ]
+
+  module _ (gs : List (List ℕ)) (kept : p.sets ≡ Some gs) where
+    sets_kept : IsKept d p.all (Some gs)
+    sets_kept = subst (IsKept d p.all) kept ((parts_longer h a s below parts).parts p (last_in s.parts p last)).sets
+
+    abbrev table : IsTable d p.all gs
+    table = sets_kept.0
+
+    largest : (g : List ℕ) → Contains gs g → IsLargest d (Contains p.all) (Contains g)
+    largest g i = ((table.each g).0 i).1
+
+    pub of_part : (g : List ℕ) → Contains gs g → (b : ℕ) → Contains g b → Contains us b
+    of_part g i b k = inside b ((largest g i).within b k)
+
+    among : (i : ℕ) (g : List ℕ) → slice_get gs i ≡ Some g → Contains gs g
+    among i g e = (i, slice_get_within gs i g e, get_or_from_slice_get gs i g g e)
+
+    module _ (m : SetsState) (told : TellsSets h m p.all gs) (w : Joined) (joined : IsJoined new m a v w) where
+      -- the tails tell whether a conflicts with one of the set
+      record AtIndex (i : ℕ) (g : List ℕ) : Type 0 where
+        pub es : List Tail
+        pub at : slice_get m.tails i ≡ Some es
+        pub tails : AreTails h g es
+        pub hits : hits_one new v a.past es ≡ conflicts_in d (length h) g
+
+      at_index : (i : ℕ) (g : List ℕ) → slice_get gs i ≡ Some g → AtIndex i g
+      at_index i g e =
+          let t = tells_at h m.tails gs told.tails i g e in
+          let f = of_part g (among i g e) in
+          record { es = t.0; at = t.1; tails = t.2; hits = quick h valid a in_range accepted g (λ b k. on b (f b k)) o v gives (λ b k. about b (f b k)) t.0 t.2 }
+
+      -- a setter of a set has a tail of its site
+      module _ (i : ℕ) (g : List ℕ) (e : slice_get gs i ≡ Some g) (b : ℕ) (k : Contains g b) where
+        abbrev here : IsHome h m.homes gs b
+        here = told.homes b ((largest g (among i g e)).within b k)
+
+        setter : HasSetter h g here.op.id here.given
+        setter = record { op = here.op; position = b; among = k; at = here.at; id = refl; object = here.object; change = here.change }
+
+        tail_there : (f : Tail) × Contains (at_index i g e).es f × (is_of here.op.id.site f ≡ true)
+        tail_there = (at_index i g e).tails.some here.op.id here.given setter
+
+        tail_site : here.op.id.site ≡ tail_there.0.last.site
+        tail_site = sym ((Decides-eqb tail_there.0.last.site here.op.id.site).0 tail_there.2)
+
+        tail_tells : (here.op.id.seq ≤ tail_there.0.last.seq) × ((here.given ≡ ((at_index i g e).tails.each tail_there.0 tail_there.1).value) ⊎ IsUpTo here.op.id.seq tail_there.0.other)
+        tail_tells = ((at_index i g e).tails.each tail_there.0 tail_there.1).tells here.op.id here.given setter tail_site
+
+        -- where the set is known, a knows it
+        known_by : is_known a.past (at_index i g e).es ≡ true → Precedes here.op a
+        known_by y =
+            let l = known_last a.past (at_index i g e).es y tail_there.0 tail_there.1 in
+            let n = tail_tells.0 in
+            subst (λ z. here.op.id.seq ≤ entry a.past z) (sym tail_site) (omega (arith, l, n))
+
+      abbrev home : (b : ℕ) → Contains p.all b → IsHome h m.homes gs b
+      home = told.homes
+
+      -- what of the part a knows is of its own site
+      own_site : (b : ℕ) (k : Contains p.all b) → Precedes (home b k).op a → (home b k).op.id.site ≡ a.id.site
+      own_site b k before =
+          let t = home b k in
+          let r = told.before b k in
+          let same : r.op ≡ t.op = one_op (slice_get h b) r.op t.op r.at t.at in
+          elim (cases_Bool (t.op.id.site == a.id.site)) [
+            | inl y ↦ (Decides-eqb t.op.id.site a.id.site).0 y
+            | inr n ↦
+                let differ : r.op.id.site ≢ a.id.site = λ e. let y = (Decides-eqb t.op.id.site a.id.site).1 (sym (ap (λ (x : Op). x.id.site) same) ∙ e) in absurd cc in
+                let l = joined.alone r.op.id.site r.site differ in
+                let missed = r.missed in
+                let known : r.op.id.seq ≤ entry a.past r.op.id.site = subst (λ (x : Op). x.id.seq ≤ entry a.past x.id.site) (sym same) before in
+                absurd (omega (arith, l, missed, known))
+          ]
+
+      same_site : (b c : ℕ) (k : Contains p.all b) (l : Contains p.all c) → (home b k).op.id.site ≡ (home c l).op.id.site → d b c ≡ false
+      same_site b c k l same = elim (cases_Bool (d b c)) [
+        | inl y ↦
+            let x = home b k in
+            let z = home c l in
+            let q = conflict_with (slice_get new b) (slice_get new c) x.op (got_before h a b x.op x.at) y in
+            let one : q.0 ≡ z.op = one_op (slice_get new c) q.0 z.op q.1 (got_before h a c z.op z.at) in
+            absurd (one_site h valid x.op z.op (contained_at h b x.op x.at) (contained_at h c z.op z.at) same (subst (Conflict x.op) one q.2))
+        | inr n ↦ n
+      ]
+
+      -- the set of all that a knows
+      same_length : (ess : List (List Tail)) (ks : List (List ℕ)) → TellsTails h ess ks → length ess ≡ length ks
+      same_length [] [] t = refl
+      same_length (es ∷ ess) (g ∷ ks) t = ap suc (same_length ess ks t.1)
+      same_length [] (g ∷ ks) t = absurd t
+      same_length (es ∷ ess) [] t = absurd t
+
+      pub own_within : w.own < length gs
+      own_within = let l = joined.within in let e = same_length m.tails gs told.tails in omega (arith, l, e)
+
+      abbrev own : List ℕ
+      own = slice_index_or gs w.own []
+
+      own_at : slice_get gs w.own ≡ Some own
+      own_at = slice_get-get_or gs w.own [] own_within
+
+      abbrev own_in : Contains gs own
+      own_in = among w.own own own_at
+
+      own_known : (b : ℕ) (k : Contains own b) → Precedes (home b ((largest own own_in).within b k)).op a
+      own_known b k = let t = at_index w.own own own_at in known_by w.own own own_at b k (joined.known t.es t.at)
+
+      own_calm : conflicts_in d (length h) own ≡ false
+      own_calm = elim (cases_Bool (conflicts_in d (length h) own)) [
+        | inl y ↦
+            let r = list_any_true (d (length h)) own y in
+            let t = home r.0 ((largest own own_in).within r.0 r.1) in
+            let no = calm_known h a r.0 t.op t.at (own_known r.0 r.1) in
+            let yes = r.2 in absurd cc
+        | inr n ↦ n
+      ]
+
+      in_own : (b : ℕ) (k : Contains p.all b) → Precedes (home b k).op a → Contains own b
+      in_own b k before = elim ((largest own own_in).largest b k) [
+        | inl i ↦ i
+        | inr r ↦
+            let l = (largest own own_in).within r.0 r.1 in
+            let no = same_site b r.0 k l (own_site b k before ∙ sym (own_site r.0 l (own_known r.0 r.1))) in
+            let yes = r.2 in absurd cc
+      ]
+
+      -- what does not conflict with a, a knows, or it gives v
+      known_or_given : (b : ℕ) (k : Contains p.all b) → d (length h) b ≡ false → Precedes (home b k).op a ⊎ ((home b k).given ≡ v)
+      known_or_given b k calm =
+          let t = home b k in
+          elim (cases_Bool (nat_le t.op.id.seq (entry a.past t.op.id.site))) [
+            | inl y ↦ inl (leb-true t.op.id.seq (entry a.past t.op.id.site) y)
+            | inr n ↦ elim (cases_Bool (value_eq t.given v)) [
+              | inl y ↦ inr (value_eq-true t.given v y)
+              | inr f ↦
+                  let s : HasSetter h us t.op.id t.given = record { op = t.op; position = b; among = inside b k; at = t.at; id = refl; object = t.object; change = t.change } in
+                  let late = leb-false t.op.id.seq (entry a.past t.op.id.site) n in
+                  let hit = met h valid a in_range accepted us on o v gives about t.op.id t.given s (λ e. let y : value_eq t.given v ≡ true = subst (λ z. value_eq t.given z ≡ true) e (value_eq-same t.given) in absurd cc) (λ l. absurd (omega (arith, late, l))) in
+                  absurd cc
+            ]
+          ]
+
+      -- what gives v is at its home
+      given_home : (b : ℕ) (k : Contains p.all b) → (home b k).given ≡ v → Contains (slice_index_or gs (unwrap_or w.other w.own) []) b
+      given_home b k e =
+          let t = home b k in
+          let found : home_of m.homes (print_of v) ≡ Some t.home = subst (λ z. home_of m.homes (print_of z) ≡ Some t.home) e t.found in
+          t.inside (unwrap_or w.other w.own) (goes_home (home_of m.homes (print_of v)) w.own w.other t.home joined.home found)
+
+      -- the other set
+      module _ (k : ℕ) (e : w.other ≡ Some k) where
+        two : w.own ≢ k
+        two = two_sets (home_of m.homes (print_of v)) w.own k (subst (GoesHome (home_of m.homes (print_of v)) w.own) e joined.home)
+
+        other_calm : (g : List ℕ) → slice_get gs k ≡ Some g → conflicts_in d (length h) g ≡ false
+        other_calm g at = let t = at_index k g at in sym t.hits ∙ calm_of new a v w k t.es e two (joined.rest k t.es t.at)
+
+        pub other_within : k < length gs
+        other_within = let l : k < length m.tails = subst (λ r. IfSome r (λ i. i < length m.tails)) e joined.other_within in let f = same_length m.tails gs told.tails in omega (arith, l, f)
+
+      -- another set
+      module _ (i : ℕ) (g : List ℕ) (at : slice_get gs i ≡ Some g) (n : i ≢ w.own) (r : w.other ≢ Some i) where
+        abbrev t : AtIndex i g
+        t = at_index i g at
+
+        clash : (hits_one new v a.past t.es ≡ true) × ((w.other ≡ None) ⊎ (is_apart new a v t.es ≡ true))
+        clash = clash_parts new a v w.other t.es (clash_of new a v w i t.es n r (joined.rest i t.es t.at))
+
+        hit : conflicts_in d (length h) g ≡ true
+        hit = sym t.hits ∙ clash.0
+
+        abbrev of : (b : ℕ) → Contains g b → Contains p.all b
+        of b k = (largest g (among i g at)).within b k
+
+        by_own : ((b : ℕ) (k : Contains g b) → d (length h) b ≡ false → Contains own b) → IsShared d (length h) gs g
+        by_own f = record { other = own; among = own_in; calm = own_calm; holds = f }
+
+        shared_none : w.other ≡ None → IsShared d (length h) gs g
+        shared_none e = by_own (λ b k calm. elim (known_or_given b (of b k) calm) [
+          | inl before ↦ in_own b (of b k) before
+          | inr same ↦ subst (λ z. Contains (slice_index_or gs (unwrap_or z w.own) []) b) e (given_home b (of b k) same)
+        ])
+
+        -- none of it is of a's site
+        shared_site : (k : ℕ) → w.other ≡ Some k → has_site a.id.site t.es ≡ false → IsShared d (length h) gs g
+        shared_site k e absent = record {
+          other = slice_index_or gs k [];
+          among = among k (slice_index_or gs k []) (slice_get-get_or gs k [] (other_within k e));
+          calm = other_calm k e (slice_index_or gs k []) (slice_get-get_or gs k [] (other_within k e));
+          holds = λ b l calm. elim (known_or_given b (of b l) calm) [
+            | inl before ↦
+                let f = tail_there i g at b l in
+                let off = list_any_false (is_of a.id.site) t.es absent f.0 f.1 in
+                let yes : is_of a.id.site f.0 ≡ true = subst (λ z. is_of z f.0 ≡ true) (own_site b (of b l) before) f.2 in
+                absurd cc
+            | inr same ↦ subst (λ z. Contains (slice_index_or gs (unwrap_or z w.own) []) b) e (given_home b (of b l) same)
+          ];
+        }
+
+        -- or none of it gives v
+        shared_lacking : all_lack new v t.es ≡ true → IsShared d (length h) gs g
+        shared_lacking y = by_own (λ b l calm. elim (known_or_given b (of b l) calm) [
+          | inl before ↦ in_own b (of b l) before
+          | inr same ↦
+              let f = tail_there i g at b l in
+              let lack = list_all_true (lacks new v) t.es y f.0 f.1 in
+              absurd (not_given f.0 (((t.tails).each f.0 f.1)) b l (tail_tells i g at b l).1 same f.0.other refl lack)
+        ])
+          where
+            not_given : (f : Tail) (q : IsTail h g f) (b : ℕ) (l : Contains g b) → ((home b (of b l)).given ≡ q.value) ⊎ IsUpTo (home b (of b l)).op.id.seq f.other → (home b (of b l)).given ≡ v →
+                (x : Option ℕ) → f.other ≡ x → ¬ (lacks new v f ≡ true)
+            not_given f q b l told same (Some x) e y = let z : lacks new v f ≡ false = rw e refl in absurd cc
+            not_given f q b l told same None e y = elim told [
+              | inl u ↦
+                  let one : q.value ≡ v = sym u ∙ same in
+                  let here : op_gives (slice_get new f.position) v ≡ true = tail_gives_new f q ∙ subst (λ z. value_eq q.value z ≡ true) one (value_eq-same q.value) in
+                  let z : lacks new v f ≡ false = rw (e, here) refl in absurd cc
+              | inr u ↦ absurd (subst (IsUpTo (home b (of b l)).op.id.seq) e u)
+            ]
+              where
+                tail_gives_new : (z : Tail) (q : IsTail h g z) → op_gives (slice_get new z.position) v ≡ value_eq q.value v
+                tail_gives_new z q = tail_gives new g z (tail_kept h a g (λ x y. below x (of_part g (among i g at) x y)) z q) v
+
+        shared : IsShared d (length h) gs g
+        shared = elim clash.1 [
+          | inl none ↦ shared_none none
+          | inr y ↦ elim (or_cases (not (has_site a.id.site t.es)) (all_lack new v t.es) y) [
+            | inl f ↦ by_other w.other refl (not-true (has_site a.id.site t.es) f)
+            | inr all ↦ shared_lacking all
+          ]
+        ]
+          where
+            by_other : (x : Option ℕ) → w.other ≡ x → has_site a.id.site t.es ≡ false → IsShared d (length h) gs g
+            by_other None e absent = shared_none e
+            by_other (Some k) e absent = shared_site k e absent
+
+      pub joins_sets : JoinsSets d (length h) gs w.own w.other
+      joins_sets = record {
+        one = λ g at. let same : own ≡ g = ap (λ r. unwrap_or r own) (sym own_at ∙ at) in subst (λ z. conflicts_in d (length h) z ≡ false) same own_calm;
+        other = λ k e. (two k e, other_calm k e);
+        hit = λ i n r g at. hit i g at n r;
+      }
+
+      -- what a set shares with a lies in one that a joins
+      all_shared : (g : List ℕ) → Contains gs g → conflicts_in d (length h) g ≡ true → IsShared d (length h) gs g
+      all_shared g c y =
+          let at : slice_get gs c.0 ≡ Some g = slice_get-get_or gs c.0 g c.1 ∙ ap (λ z. Some z) c.2 in
+          elim (cases_Bool (c.0 == w.own)) [
+            | inl e ↦
+                let same : own ≡ g = ap (λ r. unwrap_or r own) (sym own_at ∙ subst (λ z. slice_get gs z ≡ Some g) ((Decides-eqb c.0 w.own).0 e) at) in
+                let no = subst (λ z. conflicts_in d (length h) z ≡ false) same own_calm in absurd cc
+            | inr n ↦ by_other c.0 at (λ e. let t = (Decides-eqb c.0 w.own).1 e in absurd cc) w.other refl
+          ]
+        where
+          by_other : (i : ℕ) → slice_get gs i ≡ Some g → i ≢ w.own → (x : Option ℕ) → w.other ≡ x → IsShared d (length h) gs g
+          by_other i at n None e = shared i g at n (λ f. let z = sym e ∙ f in absurd cc)
+          by_other i at n (Some k) e = elim (cases_Bool (k == i)) [
+            | inl q ↦ let no = other_calm k e g (subst (λ z. slice_get gs z ≡ Some g) (sym ((Decides-eqb k i).0 q)) at) in absurd cc
+            | inr f ↦ shared i g at n (λ q. let t = (Decides-eqb k i).1 (ap (λ r. unwrap_or r k) (sym e ∙ q)) in absurd cc)
+          ]
+
+      pub grows : grown_sets d p.all (length h) p.sets ≡ option_map (sets_with w.own w.other (length h)) p.sets
+      grows =
+          let fresh : ¬ (Contains p.all (length h)) = λ i. let l = below (length h) (inside (length h) i) in absurd (omega (arith, l)) in
+          let step = next_joined d (length h) (conflict_at_test new) p.all gs table fresh w.own w.other joins_sets all_shared in
+          rw kept (kept_joined d (length h) p.all w.own w.other gs sets_kept.1 step)
+
   -- THE SHORT WAY is the long one
-  joins_at : with_part d (length h) s ≡ last_with j (length h) s
-  joins_at =
-      let b = stands_beside in
-      let others : CountsOthers h (attribute_of v) m.others s = subst (λ t. CountsOthers h t m.others s) (sym seen.joined.attribute) told.others in
-      let calm = one_calm h valid a in_range accepted us on o v gives m seen.joined.attribute seen.joined.fresh p.all inside tells.positions own q own_at b.calm j m.spans gs of_part tells.sets seen.joined.spans in
-      joins_last d (length h) s front p gs j (last_apart s.parts p seen.last) seen.sets kept.1
-      (calm_free h a o v gives m.others seen.joined.others s others)
-      (calm_before h a o v gives m.others seen.joined.others s others)
-      (list_any_from (d (length h)) p.all other b.other b.rival)
-      not_there
-      (next_one d (length h) own p.all j gs calm other b)
-
-  abbrev new : List Op
-  new = h ++ a ∷ []
-
-  -- the summary with the operation, whose set has the span e
-  abbrev with_it : Span → SummaryState
-  with_it e = record { attribute = m.attribute; spans = slice_set m.spans j e; prints = insert_key print_cmp m.prints (print_of v); others = m.others }
-
-  -- it tells of the last part, which has the operation too, and beside that nothing changed
-  told_then : (e : Span) → Widens (slice_index_or m.spans j e) a.id e → TellsParts new (with_it e) (last_with j (length h) s)
-  told_then e w =
-      let grown : (part_with j (length h) p).sets ≡ Some (set_with j (length h) gs) = ap (λ r. option_map (set_with j (length h)) r) seen.sets in
-      let own : IsPrinted new m.attribute (length h) (print_of v) = record { op = a; at = got_last h a; gives = record { object = o; given = v; change = gives; attribute = seen.joined.attribute; print = refl } } in
-      summed new (with_it e) (last_with j (length h) s) (part_with j (length h) p) front (set_with j (length h) gs) (last_joined d (length h) s front p j (last_apart s.parts p seen.last)) grown
-      (record {
-        positions = positions_more new m.attribute m.prints p.all (length h) (print_of v) (positions_longer h a m.attribute m.prints p.all tells.positions) own;
-        sets = sets_with new a (length h) (got_last h a) j m.spans gs e (sets_longer h a m.spans gs tells.sets) w;
-      }) (beside_longer h a m.attribute m.others s.free front told.others)
-
-  -- and the new summary tells of it
-  told_at : (k : Option SummaryState) → NotesIn (Some m) j a.id v k → TellsLast new (last_with j (length h) s) k
-  told_at None n = tt
-  told_at (Some k) n =
-      let is : with_it n.span ≡ k = λ i. record { attribute = sym n.attribute i; spans = sym n.spans i; prints = sym n.prints i; others = sym n.others i } in
-      subst (λ (z : SummaryState). TellsParts new z (last_with j (length h) s)) is (told_then n.span n.widens)
-
--- ---- as it is called
-
-module _ (g : List Op) (a : Op) (n : ℕ) (s : PartsState) (r : NotesState) (before : IsNextOf g a n s r) (v : Value) (gives : Gives a v)
-    (m : SummaryState) (p : PartState) (gs : List (List ℕ)) (j own : ℕ) (q : Op) (some : r.summary ≡ Some m) (seen : IsSeen g a v n s m p gs j own q) where
-  abbrev next : IsNextTo g a n s
-  next = before.next
-
-  abbrev h : List Op
-  h = next.history
-
-  abbrev us : List ℕ
-  us = (whole s).all
-
-  on : (i : ℕ) → Contains us i → is_on (object_of a) (slice_get h i) ≡ true
-  on i k = about_on (subject_of a) (slice_get h i) ((next.positions i).0 k)
-
-  told_some : TellsParts h m s
-  told_some = subst (TellsLast h s) some before.notes.summary
-
-  seen_at : IsSeen (h ++ a ∷ []) a v (length h) s m p gs j own q
-  seen_at = subst (λ z. IsSeen z a v (length h) s m p gs j own q) next.longer (subst (λ k. IsSeen g a v k s m p gs j own q) next.position seen)
-
-  pub joins : with_part (conflict_at g) n s ≡ last_with j n s
-  joins =
-      let e = joins_at h next.valid a next.in_range next.accepted us on gives.0 v gives.1 s next.parts (λ i. (λ k. k, λ k. k)) m p gs j own q told_some seen_at in
-      subst (λ z. with_part (conflict_at z) n s ≡ last_with j n s) (sym next.longer) (subst (λ k. with_part (conflict_at (h ++ a ∷ [])) k s ≡ last_with j k s) (sym next.position) e)
-
-  pub joined_told : (k : Option SummaryState) → NotesIn r.summary j a.id v k → TellsLast g (last_with j n s) k
-  joined_told k notes =
-      let t = told_at h next.valid a next.in_range next.accepted us on gives.0 v gives.1 s next.parts (λ i. (λ l. l, λ l. l)) m p gs j own q told_some seen_at k (subst (λ z. NotesIn z j a.id v k) some notes) in
-      subst (λ z. TellsLast z (last_with j n s) k) (sym next.longer) (subst (λ i. TellsLast (h ++ a ∷ []) (last_with j i s) k) (sym next.position) t)
+  pub joins_at : (w : Joined) (k : _) → CountsOthers h k s → IsWithin k a.past → conflicts_in d (length h) us ≡ true →
+      grown_sets d p.all (length h) p.sets ≡ option_map (sets_with w.own w.other (length h)) p.sets → with_part d (length h) s ≡ last_with w.own w.other (length h) s
+  joins_at w k counts known clash grown =
+      joins_last d (length h) s front p w.own w.other (last_apart s.parts p last) (calm_free h a k known s counts) (calm_before h a k known s counts) (meets_last k counts known clash) not_there grown

@@ -1,14 +1,9 @@
 -- The order of prints is total, and only one print ties with another: itself.
-use Rattle.std.proofs.Common.{[], ◌∷◌, List, inl, inr}
-use Rattle.std.specs.Prelude.{Contains}
-use Rattle.std.specs.BTreeSet.{insert_key}
 use Rattle.std.specs.Cmp.{IsTotalOrder}
 use Rattle.std.specs.Ordering.{int_cmp}
 use Rattle.std.specs.FinMap.{IsAntisymmetric, int_cmp-IsAntisymmetric}
 use Rattle.std.proofs.lemmas.Cmp.{int_cmp_total, on_total, then_total}
-use Rattle.gf_ops.proofs.ListLemmas.{Contains-cons_head}
 use Rattle.gf_groups.proofs.IdLemmas.{both_tied}
-use Rattle.gf_groups.proofs.SortedLemmas.{holds_all}
 use Rattle.gf_notes.specs.declared.prints.Print.{Print}
 use Rattle.gf_notes.specs.Prints.{print_cmp}
 
@@ -19,11 +14,3 @@ pub print_cmp_exact : IsAntisymmetric print_cmp
 print_cmp_exact p q e =
     let t = both_tied (int_cmp p.first q.first) (int_cmp p.second q.second) e in
     λ k. record { first = int_cmp-IsAntisymmetric p.first q.first t.0 k; second = int_cmp-IsAntisymmetric p.second q.second t.1 k }
-
--- what was there is there when one more comes
-pub Contains-insert_other : (ps : List Print) (p q : Print) → Contains ps q → Contains (insert_key print_cmp ps p) q
-Contains-insert_other ps p q i = (holds_all print_cmp print_cmp_total print_cmp_exact (p ∷ []) ps q).1 (inl i)
-
--- so is that one
-pub Contains-insert_same : (ps : List Print) (p : Print) → Contains (insert_key print_cmp ps p) p
-Contains-insert_same ps p = (holds_all print_cmp print_cmp_total print_cmp_exact (p ∷ []) ps p).1 (inr (Contains-cons_head p []))

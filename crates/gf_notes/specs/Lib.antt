@@ -1,6 +1,6 @@
 pub mod Prints
-pub mod Spans
-pub mod Others
+pub mod Clocks
+pub mod Sets
 pub mod Summaries
 pub mod Setters
 pub mod Notes

@@ -1,5 +1,5 @@
 -- The next operation behind a history, and the parts of its subject.
-use Rattle.std.specs.Prelude.{◌≡◌, ◌↔◌, ℕ, Bool, true, not, ◌&&◌, List, [], ◌∷◌, ◌++◌, Contains, length, slice_get}
+use Rattle.std.specs.Prelude.{◌≡◌, ◌↔◌, ℕ, true, List, [], ◌∷◌, ◌++◌, Contains, length, slice_get}
 use Rattle.gf_ops.specs.declared.op.Op.{Op}
 use Rattle.gf_ops.specs.declared.op.ObjectId.{ObjectId}
 use Rattle.gf_ops.specs.declared.change.Change.TheVariants.{Set}
@@ -32,15 +32,3 @@ pub record IsNextOf (g : List Op) (a : Op) (n : ℕ) (s : PartsState) (m : Notes
 -- a gives an object the value v
 abbrev pub Gives : Op → Value → Type 0
 Gives a v = (o : ObjectId) × (a.change ≡ Set o v)
-
--- a is in one of the sets
-abbrev pub IsInOne : List (List ℕ) → ℕ → Type 0
-IsInOne gs a = (g : List ℕ) × Contains gs g × Contains g a
-
--- a is compatible with x, and both conflict with r
-abbrev pub are_beside : (ℕ → ℕ → Bool) → ℕ → ℕ → ℕ → Bool
-are_beside c x a r = not (c a x) && c x r && c a r
-
--- so it is with one that is in one of the sets
-abbrev pub HasRival : (ℕ → ℕ → Bool) → List (List ℕ) → ℕ → ℕ → Type 0
-HasRival c gs x a = (r : ℕ) × IsInOne gs r × (are_beside c x a r ≡ true)

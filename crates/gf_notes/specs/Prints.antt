@@ -1,15 +1,10 @@
--- Two numbers of a value, to tell most values of an attribute apart, and when prints tell of operations.
-use Rattle.std.specs.Prelude.{◌≡◌, ℕ, pos, List, Contains, Option, Some, None, slice_get}
+-- Two numbers of a value, to tell most values of an attribute apart.
+use Rattle.std.specs.Prelude.{pos, Option, Some, None, slice_get}
 use Rattle.std.specs.declared.cmp.Ordering.{Ordering}
 use Rattle.std.specs.Ordering.{int_cmp, ordering_then}
 use Rattle.gf_shape.specs.declared.point.Point.{Point}
-use Rattle.gf_ops.specs.declared.op.Op.{Op}
-use Rattle.gf_ops.specs.declared.op.ObjectId.{ObjectId}
-use Rattle.gf_ops.specs.declared.change.Attr.{Attr}
-use Rattle.gf_ops.specs.declared.change.Change.TheVariants.{Set}
 use Rattle.gf_ops.specs.declared.change.Value.{Value}
 use Rattle.gf_ops.specs.declared.change.Value.TheVariants as value
-use Rattle.gf_ops.specs.Attribute.{attribute_of}
 use Rattle.gf_notes.specs.declared.prints.Print.{Print}
 
 -- the two numbers of a point, if there is one
@@ -29,21 +24,3 @@ print_of (value.Shown b) = record { first = pos 0; second = pos 0 }
 -- the order of prints, by their first numbers and then their second ones
 abbrev pub print_cmp : Print → Print → Ordering
 print_cmp p q = ordering_then (int_cmp p.first q.first) (int_cmp p.second q.second)
-
--- the operation gives the attribute t a value of the print p
-pub record GivesPrint (op : Op) (t : Attr) (p : Print) : Type 0 where
-  pub object : ObjectId
-  pub given : Value
-  pub change : op.change ≡ Set object given
-  pub attribute : attribute_of given ≡ t
-  pub print : print_of given ≡ p
-
--- so does the operation of h at the position b
-pub record IsPrinted (h : List Op) (t : Attr) (b : ℕ) (p : Print) : Type 0 where
-  pub op : Op
-  pub at : slice_get h b ≡ Some op
-  pub gives : GivesPrint op t p
-
--- each operation of h at the positions us gives the attribute t a value of one of the prints ps
-abbrev pub TellsPositions : List Op → Attr → List Print → List ℕ → Type 0
-TellsPositions h t ps us = (b : ℕ) → Contains us b → (p : Print) × Contains ps p × IsPrinted h t b p

@@ -52,6 +52,7 @@ ListsMore None op n (Some rs) = ⊥
 
 -- ---- which of them conflict with the next operation
 
+-- two prints are one
 abbrev pub print_eq : Print → Print → Bool
 print_eq p q = int_eq p.first q.first && int_eq p.second q.second
 
@@ -62,15 +63,6 @@ is_rival h v p past s = misses past s.id.site (Some s.id.seq) && (not (print_eq 
 -- one of them at the position q does
 abbrev pub rival_at : List Op → Value → Print → Clock → List Setter → ℕ → Bool
 rival_at h v p past ss q = list_any (λ (s : Setter). s.position == q && is_rival h v p past s) ss
-
--- one of the setters has the print p
-abbrev pub has_print : List Setter → Print → Bool
-has_print ss p = list_any (λ (s : Setter). print_eq p s.print) ss
-
--- so has one, if they are listed
-abbrev pub is_given : Option (List Setter) → Print → Bool
-is_given None p = false
-is_given (Some ss) p = has_print ss p
 
 -- ---- marks of positions
 

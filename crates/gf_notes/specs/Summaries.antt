@@ -1,70 +1,43 @@
--- What is kept of the last part of an object's operations, to tell without a look at each operation which of its sets the next one joins.
-use Rattle.std.specs.Prelude.{◌≡◌, ℕ, ◌-◌, List, Contains, length, slice_set, slice_index_or, Option, Some, None, slice_get, ⊤}
-use Rattle.std.specs.BTreeSet.{insert_key}
+-- What is kept of the last part of a subject's operations, to tell without a look at each operation which of its sets the next one joins.
+use Rattle.std.specs.Prelude.{◌≡◌, ℕ, ◌-◌, List, length, Option, Some, None, slice_get, ⊤}
 use Rattle.gf_ops.specs.declared.op.Op.{Op}
-use Rattle.gf_ops.specs.declared.op.OpId.{OpId}
 use Rattle.gf_ops.specs.declared.op.Clock.{Clock}
-use Rattle.gf_ops.specs.declared.change.Attr.{Attr}
 use Rattle.gf_ops.specs.declared.change.Value.{Value}
-use Rattle.gf_ops.specs.Attribute.{attribute_of}
-use Rattle.gf_ops.specs.ValidHistory.{IsWithin}
 use Rattle.gf_parts.specs.Parts.{PartState, PartsState}
-use Rattle.gf_notes.specs.declared.prints.Print.{Print}
-use Rattle.gf_notes.specs.declared.spans.Span.{Span}
-use Rattle.gf_notes.specs.Others.{CountsToo, CountsOthers}
-use Rattle.gf_notes.specs.Prints.{print_cmp, print_of, TellsPositions}
-use Rattle.gf_notes.specs.Spans.{Widens, TellsSets, OneKnown}
+use Rattle.gf_notes.specs.declared.sets.Joined.{Joined}
+use Rattle.gf_notes.specs.Clocks.{CountsToo, CountsOthers}
+use Rattle.gf_notes.specs.Sets.{SetsState, TellsSome, NotesSome}
 
--- an attribute, a span for each set, prints, and what a clock counts beside the part
+-- what is kept of its sets, mostly, and what a clock counts beside the part
 pub record SummaryState : Type 0 where
-  pub attribute : Attr
-  pub spans : List Span
-  pub prints : List Print
+  pub sets : Option SetsState
   pub others : Clock
-
--- the summary tells of the sets gs of the positions us
-pub record TellsOf (h : List Op) (m : SummaryState) (us : List ℕ) (gs : List (List ℕ)) : Type 0 where
-  pub positions : TellsPositions h m.attribute m.prints us
-  pub sets : TellsSets h m.spans gs
 
 -- the summary tells of the last part, if that keeps its sets, and its clock of what is beside that
 pub record TellsParts (h : List Op) (m : SummaryState) (s : PartsState) : Type 0 where
-  pub last : (p : PartState) (gs : List (List ℕ)) → slice_get s.parts (length s.parts - 1) ≡ Some p → p.sets ≡ Some gs → TellsOf h m p.all gs
-  pub others : CountsOthers h m.attribute m.others s
+  pub last : (p : PartState) (gs : List (List ℕ)) → slice_get s.parts (length s.parts - 1) ≡ Some p → p.sets ≡ Some gs → TellsSome h m.sets p.all gs
+  pub others : CountsOthers h m.others s
 
 -- so it does, if there is one
 abbrev pub TellsLast : List Op → PartsState → Option SummaryState → Type 0
 TellsLast h s None = ⊤
 TellsLast h s (Some m) = TellsParts h m s
 
--- an operation with this past gives v: none of the part gave v, it knows all beside the part and all of the set j, and not all of another set, of which own counts what it knows
-pub record IsJoined (m : SummaryState) (v : Value) (past own : Clock) (j : ℕ) : Type 0 where
-  pub attribute : attribute_of v ≡ m.attribute
-  pub fresh : ¬ (Contains m.prints (print_of v))
-  pub others : IsWithin m.others past
-  pub spans : OneKnown past own j m.spans
-
--- the summary k is m with the operation i, which gives v, in the set j
-pub record Notes (m : SummaryState) (j : ℕ) (i : OpId) (v : Value) (k : SummaryState) : Type 0 where
-  pub attribute : k.attribute ≡ m.attribute
-  pub prints : k.prints ≡ insert_key print_cmp m.prints (print_of v)
+-- the summary k is m with the operation at the position n, which gives v, in the sets that it joined
+pub record Notes (h : List Op) (m : SummaryState) (a : Op) (v : Value) (n : ℕ) (w : Joined) (k : SummaryState) : Type 0 where
+  pub sets : NotesSome h m.sets a v n w k.sets
   pub others : k.others ≡ m.others
-  pub span : Span
-  pub widens : Widens (slice_index_or m.spans j span) i span
-  pub spans : k.spans ≡ slice_set m.spans j span
 
 -- so is the new summary the old one, where there is one
-abbrev pub NotesIn : Option SummaryState → ℕ → OpId → Value → Option SummaryState → Type 0
-NotesIn m j i v None = ⊤
-NotesIn (Some m) j i v (Some k) = Notes m j i v k
-NotesIn None j i v (Some k) = ⊥
+abbrev pub NotesIn : List Op → Option SummaryState → Op → Value → ℕ → Joined → Option SummaryState → Type 0
+NotesIn h m a v n w None = ⊤
+NotesIn h (Some m) a v n w (Some k) = Notes h m a v n w k
+NotesIn h None a v n w (Some k) = ⊥
 
 -- the summary k is m with the operation beside the part
 pub record NotesOther (m : SummaryState) (op : Op) (k : SummaryState) : Type 0 where
-  pub attribute : k.attribute ≡ m.attribute
-  pub spans : k.spans ≡ m.spans
-  pub prints : k.prints ≡ m.prints
-  pub others : CountsToo m.others m.attribute op k.others
+  pub sets : k.sets ≡ m.sets
+  pub others : CountsToo m.others op k.others
 
 -- so is the new summary the old one, where there is one
 abbrev pub NotesOtherIn : Option SummaryState → Op → Option SummaryState → Type 0

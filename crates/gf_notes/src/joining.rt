@@ -1,84 +1,55 @@
 //! How an operation comes to the parts of its object.
 
-ghost use Rattle.std.specs.Prelude.{◌≡◌, option_map, IfSome, IsTrue, OnOk, OnErr};
-ghost use Rattle.gf_groups.specs.Growing.{conflict_at};
+ghost use Rattle.std.specs.Prelude.{◌≡◌, true, option_map, IfSome, OnOk, OnErr};
+ghost use Rattle.gf_groups.specs.Growing.{conflict_at, conflicts_in};
 ghost use Rattle.gf_ops.specs.Limits.{IsInRange};
 ghost use Rattle.gf_parts.specs.Parts.{whole, with_free, with_part, last_with};
-ghost use Rattle.gf_notes.specs.Next.{IsNextTo, IsNextOf, Gives, IsInOne, are_beside, HasRival};
+ghost use Rattle.gf_notes.specs.Next.{IsNextTo, IsNextOf, Gives};
 ghost use Rattle.gf_notes.specs.Notes.{AreNotes, unboxed};
 ghost use Rattle.gf_notes.specs.Setters.{ListsAll};
 ghost use Rattle.gf_notes.specs.Summaries.{TellsLast, NotesIn};
 
 use crate::notes::Notes;
 use crate::scratch::Scratch;
-use crate::setters::{Setter, is_given, setters_of, with_setter};
+use crate::sets::Joined;
+use crate::setters::{Setter, setters_of, with_setter};
 use crate::summary::{Summary, noted};
-use gf_groups::{Positions, Timeline, conflict_at};
+use gf_groups::Timeline;
 use gf_ops::{Op, Value};
 use gf_parts::Parts;
 use gf_shape::OutOfMemory;
 use std::alloc::Global;
 
-/// The last position of the set with this index.
-fn last_of(sets: &[Positions], set: usize) -> Option<usize>
-    ensures { IfSome result (λ position. IsInOne sets.now position) }
-{
-    sets.get(set)?.as_slice().last().copied()
-}
-
-/// Whether the operation at the position `own` does not conflict with that at this position, and
-/// both conflict with that at the position `other`.
-fn are_beside(timeline: &Timeline<'_>, position: usize, own: usize, other: usize) -> bool
-    ensures { result ≡ are_beside (conflict_at timeline.now) position own other }
-{
-    !conflict_at(timeline, own, position)
-        && conflict_at(timeline, position, other)
-        && conflict_at(timeline, own, other)
-}
-
-/// Whether that holds of the last position of one of the sets.
-fn has_rival(timeline: &Timeline<'_>, sets: &[Positions], position: usize, own: usize) -> bool
-    ensures { IsTrue result → HasRival (conflict_at timeline.now) sets.now position own }
-{
-    for set in 0..sets.len() {
-        if let Some(other) = last_of(sets, set) {
-            if are_beside(timeline, position, own, other) {
-                return true;
-            }
-        }
-    }
-    false
-}
-
-/// The index of the one set of the last part that the operation joins, where nothing else changes,
-/// if the summary tells it.
-fn joined_set(
+/// The sets of the last part that the operation joins, where nothing else changes, if the summary
+/// tells them. Where the part has too many sets to keep them, there are none to join.
+fn joined_sets(
     timeline: &Timeline<'_>,
     op: &Op,
     value: &Value,
     position: usize,
     parts: &Parts,
     notes: &Notes,
-) -> Option<usize>
+) -> Option<Joined>
     requires next { IsNextOf timeline.now op.now position parts.now notes.now }
     requires gives { Gives op.now value.now }
-    ensures joins { IfSome result (λ set. with_part (conflict_at timeline.now) position parts.now
-        ≡ last_with set position parts.now) }
-    ensures told { IfSome result (λ set. (m : _) → NotesIn notes.now.summary set op.now.id value.now m
-        → TellsLast timeline.now (last_with set position parts.now) m) }
+    requires clash { conflicts_in (conflict_at timeline.now) position (whole parts.now).all ≡ true }
+    ensures joins { IfSome result (λ joined. with_part (conflict_at timeline.now) position parts.now
+        ≡ last_with joined.own joined.other position parts.now) }
+    ensures told { IfSome result (λ joined. (m : _)
+        → NotesIn timeline.now notes.now.summary op.now value.now position joined m
+        → TellsLast timeline.now (last_with joined.own joined.other position parts.now) m) }
 {
     let part = parts.parts().last()?;
-    let sets = part.sets()?;
     let summary = notes.summary.as_ref()?;
-    let set = summary.known_set(&op.past)?;
-    let own = last_of(sets, set)?;
-    let heard = &timeline.get(own)?.past;
-    if summary.tells_joined(value, &op.past, heard, set)
-        && has_rival(timeline, sets, position, own)
-    {
-        Some(set)
-    } else {
-        None
+    if !summary.others.is_within(&op.past) {
+        return None;
+    }
+    match part.sets() {
+        Some(_) => summary.sets.as_ref()?.joined(timeline, op, value),
+        None => Some(Joined {
+            own: 0,
+            other: None,
+        }),
     }
 }
 
@@ -150,8 +121,7 @@ fn relisted(
 }
 
 /// Adds the operation at this position, which gives the value and conflicts with another one. It
-/// grows one set in place where the summary tells that the others stay. A value that was given
-/// before leaves no summary: where values come again, it would not tell of the next one either.
+/// grows sets in place where the summary tells that the others stay.
 pub fn connect(
     scratch: &mut Scratch,
     timeline: &Timeline<'_>,
@@ -163,24 +133,20 @@ pub fn connect(
 ) -> Result<(), OutOfMemory>
     requires next { IsNextOf timeline.now op.now position parts.old notes.old }
     requires gives { Gives op.now value.now }
+    requires clash { conflicts_in (conflict_at timeline.now) position (whole parts.old).all ≡ true }
     ensures ok { OnOk result (parts.new ≡ with_part (conflict_at timeline.now) position parts.old) }
     ensures told { OnOk result (AreNotes timeline.now parts.new notes.new) }
     ensures err { OnErr result (parts.new ≡ parts.old) }
     ensures err_notes { OnErr result (notes.new ≡ notes.old) }
 {
-    if let Some(set) = joined_set(timeline, op, value, position, parts, notes) {
-        parts.join_last(set, position)?;
-        notes.summary = noted(notes.summary.take(), set, op, value);
+    if let Some(joined) = joined_sets(timeline, op, value, position, parts, notes) {
+        parts.join_last(joined.own, joined.other, position)?;
+        notes.summary = noted(notes.summary.take(), timeline, op, value, position, &joined);
         notes.setters = with_setter(notes.setters.take(), op, position);
         return Ok(());
     }
-    let is_new = !is_given(&notes.setters, value);
     connect_parts(scratch, timeline, op, value, position, parts, notes)?;
-    notes.summary = if is_new {
-        Summary::of(scratch.alloc, timeline, value.attribute(), parts)
-    } else {
-        None
-    };
+    notes.summary = Summary::of(scratch.alloc, timeline, op, parts);
     notes.setters = relisted(
         scratch.alloc,
         timeline,

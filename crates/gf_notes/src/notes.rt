@@ -1,6 +1,6 @@
 //! What is kept of the operations about a subject beside their parts.
 
-ghost use Rattle.std.specs.Prelude.{◌≡◌, IfOk, OnErr};
+ghost use Rattle.std.specs.Prelude.{◌≡◌, None, IfOk, OnOk, OnErr};
 ghost use Rattle.gf_ops.specs.Limits.{IsInRange};
 ghost use Rattle.gf_notes.specs.Notes.{no_notes, unboxed};
 ghost use Rattle.gf_notes.specs.Setters.{ListsMore};
@@ -82,6 +82,7 @@ pub fn copied_notes(
 /// The notes out of their place, or new ones where there is none.
 pub fn taken_notes(alloc: Global, notes: &mut Option<Box<Notes>>) -> Result<Box<Notes>, OutOfMemory>
     ensures ok { IfOk result (λ taken. taken.value ≡ unboxed notes.old) }
+    ensures left { OnOk result (notes.new ≡ None) }
     ensures err { OnErr result (notes.new ≡ notes.old) }
 {
     match notes.take() {

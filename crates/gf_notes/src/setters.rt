@@ -4,15 +4,14 @@
 ghost use Rattle.std.specs.Prelude.{◌≡◌, ◌++◌, option_map, IfOk, IfSome};
 ghost use Rattle.gf_parts.specs.Parts.{whole};
 ghost use Rattle.gf_notes.specs.Setters.{IsSetterOf, IsSetterAt, AreSetters, ListsMore};
-ghost use Rattle.gf_notes.specs.Setters.{print_eq, has_print, is_given, is_rival};
-ghost use Rattle.gf_notes.specs.Prints.{print_of};
+ghost use Rattle.gf_notes.specs.Setters.{print_eq, is_rival};
 
-use crate::giving::{misses, op_gives};
 use crate::prints::{Print, print_of};
 use gf_groups::Timeline;
 use gf_ops::{Change, Clock, Op, OpId, Value};
 use gf_parts::Parts;
 use gf_shape::OutOfMemory;
+use gf_tails::{misses, op_gives};
 use std::alloc::Global;
 
 /// An operation that sets the attribute: its id, its position, and the print of its value.
@@ -38,7 +37,7 @@ fn setter_of(op: &Op, position: usize) -> Option<Setter>
 }
 
 /// The setter at this position, if it is one.
-fn setter_at(timeline: &Timeline<'_>, position: usize) -> Option<Setter>
+pub(crate) fn setter_at(timeline: &Timeline<'_>, position: usize) -> Option<Setter>
     ensures { IfSome result (λ setter. IsSetterAt timeline.now position setter) }
 {
     setter_of(timeline.get(position)?, position)
@@ -112,24 +111,7 @@ pub(crate) fn copied(
 fn print_eq(print: &Print, other: &Print) -> bool
     ensures { result ≡ print_eq print.now other.now }
 {
-    print.first == other.first && print.second == other.second
-}
-
-/// Whether one of the setters has the print.
-fn has_print(setters: &[Setter], print: &Print) -> bool
-    ensures { result ≡ has_print setters.now print.now }
-{
-    setters.iter().any(|setter| print_eq(print, &setter.print))
-}
-
-/// Whether one of those that are listed has the print of the value.
-pub(crate) fn is_given(setters: &Option<Vec<Setter>>, value: &Value) -> bool
-    ensures { result ≡ is_given (option_map (λ v. v.items) setters.now) (print_of value.now) }
-{
-    match setters {
-        Some(setters) => has_print(setters, &print_of(value)),
-        None => false,
-    }
+    print == other
 }
 
 /// Whether the setter conflicts with what gives the value, with this print, and knows what the clock

@@ -1,128 +1,91 @@
-//! What is kept of the last part of an object's operations, to tell without a look at each operation
+//! What is kept of the last part of a subject's operations, to tell without a look at each of them
 //! which of its sets the next one joins.
 
-ghost use Rattle.std.specs.Prelude.{◌≡◌, ◌<◌, length, slice_get, IsTrue, IfOk, IfSome};
+ghost use Rattle.std.specs.Prelude.{◌≡◌, Some, IfOk, IfSome};
 ghost use Rattle.gf_ops.specs.Limits.{IsInRange};
-ghost use Rattle.gf_ops.specs.ValidHistory.{IsWithin};
-ghost use Rattle.gf_notes.specs.Summaries.{TellsParts, IsJoined, NotesIn, NotesOtherIn};
+ghost use Rattle.gf_groups.specs.Growing.{conflict_at};
+ghost use Rattle.gf_parts.specs.Parted.{AreParts};
+ghost use Rattle.gf_notes.specs.Sets.{AreIn, TellsSome};
+ghost use Rattle.gf_notes.specs.Summaries.{TellsParts, NotesIn, NotesOtherIn};
 
-use crate::others::{clock_beside, count_setter};
-use crate::prints::{Print, holds_print, print_of, prints_at};
-use crate::spans::{Span, known_set, others_stay, spans_of, widen};
+use crate::clocks::{clock_beside, count};
+use crate::sets::{self, Joined, SetNotes};
 use gf_groups::Timeline;
-use gf_ops::{Attr, Clock, Op, Value};
-use gf_parts::Parts;
+use gf_ops::{Clock, Op, Value};
+use gf_parts::{Part, Parts};
 use gf_shape::OutOfMemory;
 use std::alloc::Global;
-use std::collections::BTreeSet;
 use std::marker::Model;
 
-/// The attribute that the part's operations set, a span for each of its sets, the print of each
-/// value, and a clock that counts what may set the attribute beside the part.
+/// Mostly what is kept of the sets, where the part keeps them, and a clock that counts all beside
+/// the part.
 #[derive(Debug, Drop)]
 pub(crate) struct Summary {
-    attribute: Attr,
-    spans: Vec<Span>,
-    prints: BTreeSet<Print>,
-    others: Clock,
+    pub(crate) sets: Option<SetNotes>,
+    pub(crate) others: Clock,
 }
 
 impl Model for Summary {
-    ghost use Rattle.gf_notes.specs.Summaries.{SummaryState};
+    ghost use Rattle.gf_notes.specs.Sets.{AreIn, TellsSome};
+ghost use Rattle.gf_notes.specs.Summaries.{SummaryState};
 
     ghost Value = { SummaryState };
 
-    ghost view = { λ m. record {
-      attribute = m.attribute;
-      spans = m.spans.items;
-      prints = m.prints.keys;
-      others = m.others;
-    } };
+    ghost view = { λ m. record { sets = m.sets; others = m.others } };
+}
+
+/// What is kept of the sets of the part, if it has them.
+fn sets_of(alloc: Global, timeline: &Timeline<'_>, op: &Op, part: &Part) -> Option<SetNotes>
+    ensures { (gs : _) → part.now.sets ≡ Some gs → AreIn part.now.all gs
+        → TellsSome timeline.now result part.now.all gs }
+{
+    SetNotes::of(alloc, timeline, op, part.all(), part.sets()?)
 }
 
 impl Summary {
-    /// Of the last part, if it keeps its sets, all of its operations set the attribute, and there
-    /// is memory.
+    /// Of the last part, after the operation came to it.
     pub(crate) fn of(
         alloc: Global,
         timeline: &Timeline<'_>,
-        attribute: Attr,
+        op: &Op,
         parts: &Parts,
     ) -> Option<Summary>
-        ensures { IfSome result (λ summary. TellsParts timeline.now summary parts.now) }
+        ensures { IfSome result (λ summary. AreParts (conflict_at timeline.now) parts.now
+            → TellsParts timeline.now summary parts.now) }
     {
         let (last, before) = parts.parts().split_last()?;
-        let spans = spans_of(alloc, timeline, last.sets()?)?;
-        let prints = prints_at(alloc, timeline, attribute, last.all())?;
-        let others = clock_beside(timeline, attribute, parts.free(), before)?;
-        Some(Summary {
-            attribute,
-            spans,
-            prints,
-            others,
-        })
+        let others = clock_beside(timeline, parts.free(), before)?;
+        let sets = sets_of(alloc, timeline, op, last);
+        Some(Summary { sets, others })
     }
 
     /// The same once more.
     pub(crate) fn copy(&self, alloc: Global) -> Result<Summary, OutOfMemory>
         ensures { IfOk result (λ copy. copy ≡ self.now) }
     {
-        let mut spans = Vec::new(alloc);
-        spans.extend_from_slice(&self.spans)?;
-        let prints = self.prints.clone()?;
+        let sets = sets::copied(alloc, &self.sets)?;
         Ok(Summary {
-            attribute: self.attribute,
-            spans,
-            prints,
+            sets,
             others: self.others,
         })
     }
-
-    /// The index of a set all of whose operations the clock counts.
-    pub(crate) fn known_set(&self, past: &Clock) -> Option<usize>
-        ensures within { IfSome result (λ set. set < length self.now.spans) }
-        ensures known { IfSome result (λ set. (e : _) → slice_get self.now.spans set ≡ Some e
-            → IsWithin e.last past.now) }
-    {
-        known_set(&self.spans, past)
-    }
-
-    /// Whether no operation of the part gave the value, and one with this past, which knows all of
-    /// this set, knows all beside the part, and of each other set not all, and no more than the
-    /// clock `own` counts.
-    pub(crate) fn tells_joined(&self, value: &Value, past: &Clock, own: &Clock, set: usize) -> bool
-        requires within { set < length self.now.spans }
-        requires known { (e : _) → slice_get self.now.spans set ≡ Some e
-            → IsWithin e.last past.now }
-        ensures { IsTrue result → IsJoined self.now value.now past.now own.now set }
-    {
-        value.attribute() == self.attribute
-            && self.others.is_within(past)
-            && !holds_print(&print_of(value), &self.prints)
-            && others_stay(&self.spans, past, own, set)
-    }
 }
 
-/// The summary after the operation, which gives the value, joined the set with this index, if there
-/// is memory.
-pub(crate) fn noted(summary: Option<Summary>, set: usize, op: &Op, value: &Value) -> Option<Summary>
+/// The summary after the operation, which gives the value, joined these sets.
+pub(crate) fn noted(
+    summary: Option<Summary>,
+    timeline: &Timeline<'_>,
+    op: &Op,
+    value: &Value,
+    position: usize,
+    joined: &Joined,
+) -> Option<Summary>
     requires { IsInRange op.now }
-    ensures { NotesIn summary set op.now.id value.now result }
+    ensures { NotesIn timeline.now summary op.now value.now position joined.now result }
 {
-    let Summary {
-        attribute,
-        mut spans,
-        mut prints,
-        others,
-    } = summary?;
-    prints.insert(print_of(value)).ok()?;
-    widen(op, spans.get_mut(set)?);
-    Some(Summary {
-        attribute,
-        spans,
-        prints,
-        others,
-    })
+    let Summary { sets, others } = summary?;
+    let sets = sets::noted(sets, timeline, op, value, position, joined);
+    Some(Summary { sets, others })
 }
 
 /// The summary after the operation came and conflicts with none.
@@ -130,19 +93,9 @@ pub(crate) fn noted_other(summary: Option<Summary>, op: &Op) -> Option<Summary>
     requires { IsInRange op.now }
     ensures { NotesOtherIn summary op.now result }
 {
-    let Summary {
-        attribute,
-        spans,
-        prints,
-        mut others,
-    } = summary?;
-    count_setter(op, attribute, &mut others);
-    Some(Summary {
-        attribute,
-        spans,
-        prints,
-        others,
-    })
+    let Summary { sets, mut others } = summary?;
+    count(op, &mut others);
+    Some(Summary { sets, others })
 }
 
 /// The same once more, if there is one.

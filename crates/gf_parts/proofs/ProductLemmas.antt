@@ -20,6 +20,7 @@ use Rattle.gf_ops.proofs.ListLemmas.{Contains-cons_cases, Contains-cons_head, Co
 use Rattle.gf_parts.specs.Parts.{united, products}
 use Rattle.gf_groups.specs.Tables.{IsLargest, IsRising, IsTable}
 use Rattle.gf_parts.specs.Parted.{Apart}
+use Rattle.gf_groups.proofs.ExtendingLemmas.{extended}
 use Rattle.gf_groups.proofs.LargestLemmas.{IsConflict, largest_alike}
 use Rattle.gf_groups.proofs.ListLemmas.{Contains-filter, list_any_true, list_any_from}
 use Rattle.gf_groups.proofs.RisingLemmas.{one_rising, rising_nil}
@@ -271,3 +272,26 @@ table_alike c us vs gs same t = record {
   );
   once = t.once;
 }
+
+-- each position is in one of its sets
+pub in_a_set : (c : ℕ → ℕ → Bool) → IsConflict c → (us : List ℕ) (gs : List (List ℕ)) → IsTable c us gs → (b : ℕ) → Contains us b → (g : List ℕ) × Contains gs g × Contains g b
+in_a_set c test us gs table b m =
+    let one : (i j : ℕ) → Contains (b ∷ []) i → Contains (b ∷ []) j → c i j ≡ false = λ i j k l.
+    subst (λ z. c z j ≡ false) (sym (only i k)) (subst (λ z. c b z ≡ false) (sym (only j l)) (test.alone b)) in
+    let r = extended c test us (b ∷ []) one in
+    let same : (a : ℕ) → Contains r.0 a ↔ Contains (united r.0 []) a = λ a. (
+      λ i. (Contains-united r.0 [] a).1 (inl i),
+      λ i. elim ((Contains-united r.0 [] a).0 i) [ inl j ↦ j | inr j ↦ absurd (not_Contains-nil a j) ],
+    ) in
+    let large = largest_alike c (Contains us) (Contains us) (Contains r.0) (Contains (united r.0 [])) (λ a. (λ h. h, λ h. h)) same (record {
+      within = λ a h. elim (r.1.from a h) [ inl i ↦ subst (Contains us) (sym (only a i)) m | inr u ↦ u ];
+      compatible = r.1.compatible;
+      largest = r.1.covers;
+    }) in (
+      united r.0 [],
+      (table.each (united r.0 [])).1 (united_rises r.0 [], large),
+      (same b).0 (r.1.kept b (Contains-cons_head b [])),
+    )
+  where
+    only : (i : ℕ) → Contains (b ∷ []) i → i ≡ b
+    only i k = elim (Contains-cons_cases b [] i k) [ inl e ↦ e | inr j ↦ absurd (not_Contains-nil i j) ]

@@ -37,14 +37,14 @@ module _ (h : List Op) (a : Op) (us : List ℕ) (within : (i : ℕ) → Contains
   abbrev new : List Op
   new = h ++ a ∷ []
 
-  setter_longer : (i : OpId) (v : Value) → HasSetter h us i v → HasSetter new us i v
+  pub setter_longer : (i : OpId) (v : Value) → HasSetter h us i v → HasSetter new us i v
   setter_longer i v s = record { op = s.op; position = s.position; among = s.among; at = got_before h a s.position s.op s.at; id = s.id; object = s.object; change = s.change }
 
   -- what stands at a position below stood there
   abbrev pub setter_before : (i : OpId) (v : Value) → HasSetter new us i v → HasSetter h us i v
   setter_before i v s = record { op = s.op; position = s.position; among = s.among; at = sym (same_before h a s.position (within s.position s.among)) ∙ s.at; id = s.id; object = s.object; change = s.change }
 
-  tail_kept : (e : Tail) → IsTail h us e → IsTail new us e
+  abbrev pub tail_kept : (e : Tail) → IsTail h us e → IsTail new us e
   tail_kept e t = record {
     value = t.value;
     last = record { op = t.last.op; position = t.last.position; among = t.last.among; at = got_before h a t.last.position t.last.op t.last.at; id = t.last.id; object = t.last.object; change = t.last.change };

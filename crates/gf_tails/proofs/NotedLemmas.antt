@@ -188,8 +188,15 @@ tails_behind h us a n at o v gives es tails behind = tails_with h us a n at o v 
     omega (arith, l, k))
 
 -- a comes behind h and gives v to the object o, which has the positions us
-pub tails_noted : (h : List Op) → IsValid h → (a : Op) → IsInRange a → IsAccepted h a → (us : List ℕ) → ((i : ℕ) → Contains us i → i < length h) →
-    (o : ObjectId) (v : Value) → a.change ≡ Set o v → (es : List Tail) → AreTails h us es → AreTails (h ++ a ∷ []) (us ++ length h ∷ []) (noted (h ++ a ∷ []) a.id v (length h) es)
-tails_noted h valid a in_range accepted us within o v gives es tails = tails_with (h ++ a ∷ []) us a (length h) (got_last h a) o v gives es (tails_kept h a us within es tails) (λ i w s same.
-    let b = setter_before h a us within i w s in
-    subst (λ (j : OpId). j.seq < a.id.seq) b.id (earlier h valid a in_range accepted b.op (contained_at h b.position b.op b.at) (ap (λ (j : OpId). j.site) b.id ∙ same)))
+module _ (h : List Op) (valid : IsValid h) (a : Op) (in_range : IsInRange a) (accepted : IsAccepted h a) (us : List ℕ) (within : (i : ℕ) → Contains us i → i < length h)
+    (o : ObjectId) (v : Value) (gives : a.change ≡ Set o v) (es : List Tail) where
+  abbrev new : List Op
+  new = h ++ a ∷ []
+
+  pub tails_next : AreTails new us es → AreTails new (us ++ length h ∷ []) (noted new a.id v (length h) es)
+  tails_next tails = tails_with new us a (length h) (got_last h a) o v gives es tails (λ i w s same.
+      let b = setter_before h a us within i w s in
+      subst (λ (j : OpId). j.seq < a.id.seq) b.id (earlier h valid a in_range accepted b.op (contained_at h b.position b.op b.at) (ap (λ (j : OpId). j.site) b.id ∙ same)))
+
+  pub tails_noted : AreTails h us es → AreTails new (us ++ length h ∷ []) (noted new a.id v (length h) es)
+  tails_noted tails = tails_next (tails_kept h a us within es tails)

@@ -2,7 +2,7 @@
 //! it whether an operation conflicts with one of them.
 //!
 //! - [`Subject`]: what an operation is about.
-//! - [`Tail`]: the last setters of a site; [`note`], [`hits_one`].
+//! - [`Tail`]: the last setters of a site; [`note`], [`hits_one`], [`is_of`].
 //! - [`op_gives`], [`misses`]: whether an operation gives a value, and a clock does not count one.
 #![tactic(auto)]
 
@@ -12,4 +12,4 @@ mod tails;
 
 pub use giving::{misses, op_gives};
 pub use subject::Subject;
-pub use tails::{Tail, hits_one, note};
+pub use tails::{Tail, hits_one, is_of, note};

@@ -20,7 +20,7 @@ pub struct Tail {
 }
 
 /// Whether the tail is that of the site.
-fn is_of(site: u8, tail: &Tail) -> bool
+pub fn is_of(site: u8, tail: &Tail) -> bool
     ensures { result ≡ is_of site tail.now }
 {
     tail.last.site == site
