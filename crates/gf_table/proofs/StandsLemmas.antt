@@ -19,8 +19,9 @@ use Rattle.gf_ops.specs.ValidHistory.{IsValid}
 use Rattle.gf_tails.specs.declared.subject.Subject.{Subject}
 use Rattle.gf_tails.specs.Subjects.{subject_cmp, subject_of, is_about, positions_about}
 use Rattle.gf_table.specs.SubjectState.{SubjectState, nothing, with_op}
-use Rattle.gf_table.specs.Standing.{IsStateOf, Stands, StandsFor, state_of}
-use Rattle.gf_notes.specs.Next.{IsNextOf}
+use Rattle.gf_parts.specs.Parts.{whole}
+use Rattle.gf_tails.proofs.KeptTailsLemmas.{tails_alike}
+use Rattle.gf_table.specs.Standing.{IsStateOf, IsNextState, Stands, StandsFor, state_of}
 use Rattle.gf_notes.specs.Notes.{NotesState, AreNotes}
 use Rattle.gf_tails.proofs.LongerLemmas.{positions_with_last, positions_without_last}
 use Rattle.gf_table.proofs.StateLemmas.{first_state, state_kept, state_more}
@@ -112,7 +113,7 @@ module _ (h : List Op) (valid : IsValid h) (a : Op) (in_range : IsInRange a) (ac
       }
 
   -- the next operation finds the parts of its subject
-  pub next_from : (t : List (Subject × SubjectState)) → StandsFor h t → (k : Subject) (r : SubjectState) (g : List Op) (n : ℕ) → k ≡ subject_of a → unwrap_or (state_of t k) nothing ≡ r → g ≡ new → n ≡ length h → IsNextOf g a n r.parts r.notes
+  pub next_from : (t : List (Subject × SubjectState)) → StandsFor h t → (k : Subject) (r : SubjectState) (g : List Op) (n : ℕ) → k ≡ subject_of a → unwrap_or (state_of t k) nothing ≡ r → g ≡ new → n ≡ length h → IsNextState g a n r
   next_from t stands k r g n same was long last =
       let o = subject_of a in
       let us = positions_about h o (length h) in
@@ -120,16 +121,19 @@ module _ (h : List Op) (valid : IsValid h) (a : Op) (in_range : IsInRange a) (ac
       let state : IsStateOf h us r = subst (IsStateOf h us) old (or_nothing us (state_of t o) (stands o)) in
       record {
         next = record {
-          history = h;
-          longer = long;
-          position = last;
-          valid = valid;
-          in_range = in_range;
-          accepted = accepted;
-          parts = state.parts;
-          positions = λ i. (λ m. about o i ((state.positions i).0 m), λ y. (state.positions i).1 (all_about o i y));
+          next = record {
+            history = h;
+            longer = long;
+            position = last;
+            valid = valid;
+            in_range = in_range;
+            accepted = accepted;
+            parts = state.parts;
+            positions = λ i. (λ m. about o i ((state.positions i).0 m), λ y. (state.positions i).1 (all_about o i y));
+          };
+          notes = state.notes;
         };
-        notes = state.notes;
+        tails = tails_alike h us (whole r.parts).all (λ i. ((state.positions i).1, (state.positions i).0)) r.tails state.tails;
       }
 
 -- two facts of one success

@@ -22,18 +22,20 @@ use Rattle.gf_groups.proofs.TableLemmas.{conflict_at_test}
 use Rattle.gf_parts.specs.Parted.{AreParts}
 use Rattle.gf_parts.specs.Parts.{PartState, PartsState, alone, whole, touches, is_calm, with_free, with_part, after}
 use Rattle.gf_parts.proofs.PartsLemmas.{all_of_fold, first_parts, parts_after, all_after}
-use Rattle.gf_notes.proofs.CalmLemmas.{no_free, right_step}
+use Rattle.gf_notes.proofs.CalmLemmas.{right_step}
 use Rattle.gf_table.specs.SubjectState.{SubjectState, nothing, with_change, with_op}
 use Rattle.gf_tails.specs.Giving.{HasSetter}
 use Rattle.gf_tails.specs.Tails.{AreTails}
-use Rattle.gf_table.specs.Standing.{IsStateOf}
+use Rattle.gf_notes.specs.Next.{Gives}
+use Rattle.gf_table.specs.Standing.{IsStateOf, IsNextState}
 use Rattle.gf_tails.specs.Subjects.{subject_of, is_about}
 use Rattle.gf_notes.specs.Notes.{NotesState, AreNotes}
 use Rattle.gf_tails.specs.Tails.{hits_one}
 use Rattle.gf_tails.proofs.KeptTailsLemmas.{tails_kept}
 use Rattle.gf_tails.proofs.LongerLemmas.{got_last}
 use Rattle.gf_tails.proofs.NotedLemmas.{tails_noted}
-use Rattle.gf_notes.proofs.NotesLemmas.{notes_longer, parts_longer}
+use Rattle.gf_notes.proofs.LongerPartsLemmas.{parts_longer}
+use Rattle.gf_notes.proofs.NotesLemmas.{notes_longer}
 use Rattle.gf_tails.proofs.PutTailLemmas.{none_once}
 use Rattle.gf_tails.proofs.GivenLemmas.{made_none, one_op}
 use Rattle.gf_tails.proofs.QuickLemmas.{quick}
@@ -54,7 +56,7 @@ module _ (h : List Op) (a : Op) (us : List ℕ) (within : (i : ℕ) → Contains
 
   -- it stays where the operation is on another object
   pub state_kept : IsStateOf (h ++ a ∷ []) us t
-  state_kept = record { parts = still_parts; positions = state.positions; tails = tails_kept h a us within t.tails state.tails; notes = notes_longer h a t.parts t.notes state.notes }
+  state_kept = record { parts = still_parts; positions = state.positions; tails = tails_kept h a us within t.tails state.tails; notes = notes_longer h a t.parts below state.parts t.notes state.notes }
 
   parts_more : AreParts c (after c (length h) t.parts)
   parts_more = parts_after c (conflict_at_test (h ++ a ∷ [])) t.parts still_parts (length h) below
@@ -134,3 +136,13 @@ first_state h = record {
   };
   notes = record { summary = tt; setters = tt };
 }
+
+-- what the tails tell of the next operation, it conflicts with
+pub next_clash : (g : List Op) (a : Op) (n : ℕ) (t : SubjectState) → IsNextState g a n t → (v : Value) → Gives a v → hits_one g v a.past t.tails ≡ true → conflicts_in (conflict_at g) n (whole t.parts).all ≡ true
+next_clash g a n t before v gives hit =
+    let next = before.next.next in
+    let h = next.history in
+    let us = (whole t.parts).all in
+    let told = quick h next.valid a next.in_range next.accepted us (λ i m. about_on (subject_of a) (slice_get h i) ((next.positions i).0 m)) gives.0 v gives.1 (λ i m. (next.positions i).0 m) t.tails before.tails in
+    let there : conflicts_in (conflict_at (h ++ a ∷ [])) (length h) us ≡ true = sym told ∙ subst (λ z. hits_one z v a.past t.tails ≡ true) next.longer hit in
+    subst (λ z. conflicts_in (conflict_at z) n us ≡ true) (sym next.longer) (subst (λ k. conflicts_in (conflict_at (h ++ a ∷ [])) k us ≡ true) (sym next.position) there)

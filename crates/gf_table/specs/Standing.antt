@@ -1,25 +1,22 @@
 -- When a table stands for a history: for each subject it has the parts of the operations about it, the tails of their setters, and notes that tell of the parts.
-use Rattle.std.specs.Prelude.{◌≡◌, ◌≢◌, ◌⊎◌, ◌↔◌, ℕ, ◌≤◌, true, List, [], AllPairs, Contains, length, Option, Some, None, option_map}
+use Rattle.std.specs.Prelude.{◌≡◌, ◌≢◌, ◌↔◌, ℕ, List, [], AllPairs, Contains, length, Option, Some, None, option_map}
 use Rattle.std.specs.BTreeMap.{is_at}
-use Rattle.std.specs.List.{IsDistinct, fold, filter_map}
+use Rattle.std.specs.List.{fold, filter_map}
 use Rattle.std.specs.Map.{lookup}
 use Rattle.gf_ops.specs.declared.op.Op.{Op}
-use Rattle.gf_ops.specs.declared.op.OpId.{OpId}
 use Rattle.gf_ops.specs.declared.op.ObjectId.{ObjectId}
-use Rattle.gf_ops.specs.declared.change.Value.{Value}
 use Rattle.gf_ops.specs.declared.change.Attr.{Attr}
 use Rattle.gf_groups.specs.declared.group.Group.{Group}
 use Rattle.gf_groups.specs.Growing.{conflict_at}
 use Rattle.gf_groups.specs.Versions.{IsVersionGroup}
 use Rattle.gf_parts.specs.Parted.{AreParts}
 use Rattle.gf_parts.specs.Parts.{PartsState, whole, no_parts, together}
-use Rattle.gf_tails.specs.Giving.{HasSetter}
-use Rattle.gf_tails.specs.declared.tails.Tail.{Tail}
 use Rattle.gf_tails.specs.declared.subject.Subject.{Subject}
 use Rattle.gf_tails.specs.Subjects.{kinds, subject_cmp, positions_about}
 use Rattle.gf_table.specs.SubjectState.{SubjectState}
+use Rattle.gf_notes.specs.Next.{IsNextOf}
 use Rattle.gf_notes.specs.Notes.{AreNotes}
-use Rattle.gf_tails.specs.Tails.{is_of, are_one}
+use Rattle.gf_tails.specs.Tails.{AreTails}
 
 -- the state is that of the operations of h at the positions us
 pub record IsStateOf (h : List Op) (us : List ℕ) (t : SubjectState) : Type 0 where
@@ -27,6 +24,11 @@ pub record IsStateOf (h : List Op) (us : List ℕ) (t : SubjectState) : Type 0 w
   pub positions : (i : ℕ) → Contains (whole t.parts).all i ↔ Contains us i
   pub tails : AreTails h us t.tails
   pub notes : AreNotes h t.parts t.notes
+
+-- a comes at the position n, next behind a history that the state t is of
+pub record IsNextState (g : List Op) (a : Op) (n : ℕ) (t : SubjectState) : Type 0 where
+  pub next : IsNextOf g a n t.parts t.notes
+  pub tails : AreTails next.next.history (whole t.parts).all t.tails
 
 -- the table's state of a subject, if it has one, is that of the positions us, and else there is no position
 abbrev pub Stands : List Op → List ℕ → Option SubjectState → Type 0

@@ -8,7 +8,6 @@
 mod laws;
 mod subject;
 mod table;
-mod tails;
 
 pub use laws::the_versions_are_what_is_free_with_one_set_of_each_part;
 pub use table::GroupTable;

@@ -3,16 +3,17 @@
 ghost use Rattle.std.specs.Prelude.{◌≡◌, cond, IfOk, OnOk, OnErr};
 ghost use Rattle.gf_groups.specs.Growing.{conflict_at};
 ghost use Rattle.gf_parts.specs.Parts.{with_free, with_part};
-ghost use Rattle.gf_notes.specs.Next.{IsNextOf, Gives};
+ghost use Rattle.gf_notes.specs.Next.{Gives};
+ghost use Rattle.gf_table.specs.Standing.{IsNextState};
 ghost use Rattle.gf_table.specs.SubjectState.{nothing, with_setter, with_op};
 ghost use Rattle.gf_notes.specs.Notes.{AreNotes};
 
-use crate::tails::{Tail, hits_one, note};
 use gf_groups::Timeline;
 use gf_notes::{Notes, Scratch, add_free, connect, copied_notes, taken_notes};
 use gf_ops::{Change, Op, Value};
 use gf_parts::Parts;
 use gf_shape::OutOfMemory;
+use gf_tails::{Tail, hits_one, note};
 use std::alloc::Global;
 use std::marker::Model;
 
@@ -69,7 +70,7 @@ impl SubjectTable {
         op: &Op,
         position: usize,
     ) -> Result<(), OutOfMemory>
-        requires { IsNextOf timeline.now op.now position self.old.parts self.old.notes }
+        requires { IsNextState timeline.now op.now position self.old }
         ensures ok { OnOk result (self.new
             ≡ with_op timeline.now op.now position self.new.notes self.old) }
         ensures told { OnOk result (AreNotes timeline.now self.new.parts self.new.notes) }
@@ -91,7 +92,7 @@ impl SubjectTable {
         value: &Value,
         position: usize,
     ) -> Result<(), OutOfMemory>
-        requires next { IsNextOf timeline.now op.now position self.old.parts self.old.notes }
+        requires next { IsNextState timeline.now op.now position self.old }
         requires gives { Gives op.now value.now }
         ensures ok { OnOk result (self.new
             ≡ with_setter timeline.now op.now value.now position self.new.notes self.old) }

@@ -15,10 +15,11 @@ ghost use Rattle.gf_tails.specs.Subjects.{kinds, subject_cmp};
 
 use crate::subject::SubjectTable;
 use gf_groups::{GroupFault, Groups, Positions, Timeline, groups_from, is_made};
-use gf_notes::{Scratch, Subject};
+use gf_notes::Scratch;
 use gf_ops::{Attr, History, ObjectId, Op};
 use gf_parts::{Parts, Together};
 use gf_shape::OutOfMemory;
+use gf_tails::Subject;
 use std::alloc::Global;
 use std::collections::BTreeMap;
 use std::collections::btree_map::Entry;

@@ -1,6 +1,6 @@
 -- Tails stay true at more positions, and in a history that got longer.
 use Rattle.std.proofs.Common.{◌≡◌, ℕ, ◌<◌, List, [], ◌∷◌, ◌++◌, length, ap, subst, sym, ◌∙◌}
-use Rattle.std.specs.Prelude.{Contains, Some, slice_get}
+use Rattle.std.specs.Prelude.{◌↔◌, Contains, Some, slice_get}
 use Rattle.gf_ops.specs.declared.op.Op.{Op}
 use Rattle.gf_ops.specs.declared.op.OpId.{OpId}
 use Rattle.gf_ops.specs.declared.change.Value.{Value}
@@ -24,6 +24,14 @@ module _ (h : List Op) where
     position = t.position;
     other = λ k x. let w = t.other k x in (w.0, setter_more us vs f (record { site = e.last.site; seq = k }) w.0 w.1, w.2);
     tells = λ i w s same. t.tells i w (back i w s same) same;
+  }
+
+  -- the tails of one list of positions are those of another one with the same
+  pub tails_alike : (us vs : List ℕ) → ((k : ℕ) → Contains us k ↔ Contains vs k) → (es : List Tail) → AreTails h us es → AreTails h vs es
+  tails_alike us vs same es tails = record {
+    each = λ e m. tail_more us vs (λ k i. (same k).0 i) e (λ i v s at. setter_more vs us (λ k j. (same k).1 j) i v s) (tails.each e m);
+    some = λ i v s. tails.some i v (setter_more vs us (λ k j. (same k).1 j) i v s);
+    once = tails.once;
   }
 
   -- whether the last setter of a tail gives v
