@@ -1,6 +1,6 @@
 -- The summary after an operation joined sets tells of the last part, which has the operation too.
-use Rattle.std.proofs.Common.{◌≡◌, ◌≢◌, ℕ, zero, suc, ◌-◌, ◌<◌, List, [], ◌∷◌, ◌++◌, length, take, refl, subst, sym, ap, ◌∙◌, inl, inr, arith}
-use Rattle.std.specs.Prelude.{◌⊎◌, Contains, Option, Some, None, slice_get, slice_set, slice_index_or, unwrap_or, option_map}
+use Rattle.std.proofs.Common.{◌≡◌, ◌≢◌, ℕ, zero, suc, ◌<◌, List, [], ◌∷◌, ◌++◌, length, refl, subst, sym, ap, ◌∙◌, inl, inr, arith}
+use Rattle.std.specs.Prelude.{◌⊎◌, Contains, Option, Some, None, slice_get, slice_index_or, unwrap_or}
 use Rattle.std.proofs.lemmas.List.Elements.{Contains-append_left, Contains-push, Contains-push_cases}
 use Rattle.gf_ops.specs.declared.op.Op.{Op}
 use Rattle.gf_ops.specs.declared.op.ObjectId.{ObjectId}
@@ -11,12 +11,9 @@ use Rattle.gf_ops.specs.Limits.{IsInRange}
 use Rattle.gf_parts.specs.Parts.{set_with, sets_with}
 use Rattle.gf_tails.specs.declared.tails.Tail.{Tail}
 use Rattle.gf_tails.specs.Tails.{noted, AreTails}
-use Rattle.gf_tails.proofs.LongerLemmas.{got_last}
-use Rattle.gf_notes.specs.declared.prints.Print.{Print}
 use Rattle.gf_notes.specs.declared.setters.Setter.{Setter}
 use Rattle.gf_notes.specs.declared.sets.Joined.{Joined}
 use Rattle.gf_notes.specs.Prints.{print_of}
-use Rattle.gf_notes.specs.Setters.{IsSetterAt}
 use Rattle.gf_notes.specs.Sets.{SetsState, TellsTails, TellsSets, IsHome, GoesHome, NotesSets, home_of, tails_at, tails_with}
 use Rattle.gf_notes.proofs.ClockLemmas.{missed_more}
 use Rattle.gf_notes.proofs.HomeLemmas.{put_kept, put_own}
@@ -97,8 +94,8 @@ module _ (h : List Op) (a : Op) (n : ℕ) (at : slice_get h n ≡ Some a) (in_ra
   at_home b i = elim (Contains-push_cases us n b i) [
     | inl j ↦ put_kept m.homes k.homes (print_of v) r notes.homes h gs ks (λ i b. kept_both w.own w.other n i gs b) (home_kept (home_of m.homes (print_of v)) w.own w.other home) b (told.homes b j)
     | inr e ↦ subst (IsHome h k.homes ks) e (put_own m.homes k.homes (print_of v) r notes.homes h ks n setter
-    (record { op = a; at = at; tells = record { id = refl; position = refl; object = o; given = v; change = gives; print = refl } }) refl
-    (λ i e. subst (λ z. Contains (slice_index_or ks z []) n) (ap (λ q. unwrap_or q i) e) (got_both w.own w.other n gs own_within other_within)))
+        (record { op = a; at = at; tells = record { id = refl; position = refl; object = o; given = v; change = gives; print = refl } }) refl
+        (λ i e. subst (λ z. Contains (slice_index_or ks z []) n) (ap (λ q. unwrap_or q i) e) (got_both w.own w.other n gs own_within other_within)))
   ]
 
   -- THE NOTES with a

@@ -1,13 +1,11 @@
 -- Where a summary tells which sets an operation joins, and that nothing else changes, so it is.
-use Rattle.std.proofs.Common.{◌≡◌, ◌≢◌, ℕ, zero, suc, ◌-◌, ◌≤◌, ◌<◌, Bool, true, false, List, [], ◌∷◌, ◌++◌, length, take, refl, subst, sym, ap, ◌∙◌, inl, inr, arith}
-use Rattle.std.specs.Prelude.{◌↔◌, ◌⊎◌, ◌&&◌, ◌||◌, ◌==◌, cond, not, nat_le, Contains, IfSome, Option, Some, None, slice_get, slice_set, slice_index_or, unwrap_or, option_map}
-use Rattle.std.specs.List.{list_any, list_all}
+use Rattle.std.proofs.Common.{◌≡◌, ◌≢◌, ℕ, suc, ◌-◌, ◌≤◌, ◌<◌, Bool, true, false, List, [], ◌∷◌, ◌++◌, length, take, refl, subst, sym, ap, ◌∙◌, inl, inr, arith}
+use Rattle.std.specs.Prelude.{◌↔◌, ◌⊎◌, ◌==◌, not, nat_le, Contains, IfSome, Option, Some, None, slice_get, slice_index_or, unwrap_or, option_map}
 use Rattle.std.proofs.lemmas.Bool.{cases_Bool, cases_lt, and_parts, cond-true, cond-false, not-true, or_cases, leb-true, leb-false}
 use Rattle.std.proofs.lemmas.Bool.Decides.{Decides-eqb}
 use Rattle.std.proofs.lemmas.List.Elements.{Contains-push_cases}
 use Rattle.std.proofs.lemmas.Option.{slice_get_within, slice_get-get_or, get_or_from_slice_get}
 use Rattle.gf_ops.specs.declared.op.Op.{Op}
-use Rattle.gf_ops.specs.declared.op.OpId.{OpId}
 use Rattle.gf_ops.specs.declared.op.ObjectId.{ObjectId}
 use Rattle.gf_ops.specs.declared.change.Change.TheVariants.{Set}
 use Rattle.gf_ops.specs.declared.change.Value.{Value}
@@ -27,7 +25,7 @@ use Rattle.gf_groups.proofs.OnPositionLemmas.{conflict_with, contained_at}
 use Rattle.gf_groups.proofs.TableLemmas.{conflict_at_test}
 use Rattle.gf_parts.specs.Parted.{AreParts, IsKept}
 use Rattle.gf_parts.specs.Parts.{PartState, PartsState, alone, whole, touches, holds, grown_sets, with_part, sets_with, last_with}
-use Rattle.gf_parts.proofs.JoiningLemmas.{IsCalm, IsHit, JoinsSets, IsShared, next_joined, kept_joined, joins_last}
+use Rattle.gf_parts.proofs.JoiningLemmas.{JoinsSets, IsShared, next_joined, kept_joined, joins_last}
 use Rattle.gf_parts.proofs.PartsLemmas.{all_of_fold}
 use Rattle.gf_tails.specs.declared.tails.Tail.{Tail}
 use Rattle.gf_tails.specs.Giving.{HasSetter, op_gives}
@@ -35,11 +33,11 @@ use Rattle.gf_tails.specs.Subjects.{subject_of, is_about}
 use Rattle.gf_tails.specs.Tails.{is_of, hits_one, IsUpTo, IsTail, AreTails}
 use Rattle.gf_tails.proofs.GivenLemmas.{met, one_op}
 use Rattle.gf_tails.proofs.KeptTailsLemmas.{tail_gives, tail_kept}
-use Rattle.gf_tails.proofs.LongerLemmas.{got_last, got_before}
+use Rattle.gf_tails.proofs.LongerLemmas.{got_before}
 use Rattle.gf_tails.proofs.QuickLemmas.{quick}
 use Rattle.gf_tails.proofs.SubjectLemmas.{about_on, about_op}
 use Rattle.gf_notes.specs.declared.sets.Joined.{Joined}
-use Rattle.gf_notes.specs.Clocks.{CountsOthers, KnowsOwnAlone}
+use Rattle.gf_notes.specs.Clocks.{CountsOthers}
 use Rattle.gf_notes.specs.Prints.{print_of}
 use Rattle.gf_notes.specs.Sets.{SetsState, TellsSets, TellsTails, IsHome, GoesHome, IsJoined, home_of, has_site, lacks, all_lack, is_apart, is_known, clashes, fits_other, fits}
 use Rattle.gf_notes.proofs.ClockLemmas.{calm_free, calm_before, calm_known}

@@ -1,6 +1,6 @@
 -- The tails of a set, and of several: with one position more, one set more, and in a history that got longer.
-use Rattle.std.proofs.Common.{◌≡◌, ℕ, zero, suc, ◌<◌, ◌≤◌, true, false, List, [], ◌∷◌, ◌++◌, length, refl, subst, sym, arith, inl, inr}
-use Rattle.std.specs.Prelude.{Contains, Some, ◌&&◌, nat_le, not, slice_get, slice_set, slice_index_or}
+use Rattle.std.proofs.Common.{◌≡◌, ℕ, zero, suc, ◌<◌, ◌≤◌, true, false, List, [], ◌∷◌, ◌++◌, length, refl, subst, arith, inl, inr}
+use Rattle.std.specs.Prelude.{Contains, Some, nat_le, slice_get}
 use Rattle.std.specs.List.{find}
 use Rattle.std.proofs.lemmas.Bool.{cases_Bool, and_from, leb-false, leb-true, not-true}
 use Rattle.gf_ops.specs.declared.op.Op.{Op}

@@ -7,14 +7,11 @@ use Rattle.std.proofs.lemmas.Option.{slice_get_read, slice_get_within, get_or_fr
 use Rattle.std.proofs.Math.Seq.{get_or-append_seam, take-append_seam}
 use Rattle.gf_ops.specs.declared.op.Op.{Op}
 use Rattle.gf_groups.specs.Growing.{conflict_at}
-use Rattle.gf_groups.specs.Tables.{IsTable}
 use Rattle.gf_groups.proofs.TableLemmas.{conflict_at_test}
 use Rattle.gf_parts.specs.Parted.{AreParts, IsKept}
 use Rattle.gf_parts.specs.Parts.{PartState, PartsState, with_free}
 use Rattle.gf_parts.proofs.ProductLemmas.{in_a_set}
 use Rattle.gf_notes.specs.Clocks.{CountsBeside}
-use Rattle.gf_notes.specs.Next.{IsNextOf}
-use Rattle.gf_notes.specs.Notes.{NotesState}
 use Rattle.gf_notes.specs.Sets.{SetsState, IsHome, AreIn, TellsSets, TellsSome}
 use Rattle.gf_notes.specs.Summaries.{SummaryState, TellsParts, TellsLast, NotesOtherIn}
 use Rattle.gf_notes.proofs.ClockLemmas.{beside_longer, beside_with, missed_longer}

@@ -1,5 +1,5 @@
 -- What is kept of the sets of a part: of each its tails, of each print a set that has all of its operations, and a clock that counts none of the part.
-use Rattle.std.specs.Prelude.{◌≡◌, ◌≢◌, ℕ, ◌<◌, ◌≤◌, Bool, true, false, cond, not, ◌&&◌, ◌||◌, ◌==◌, nat_le, List, [], ◌∷◌, Contains, length, Option, Some, None, slice_get, slice_set, slice_index_or, unwrap_or, IfSome, ⊤}
+use Rattle.std.specs.Prelude.{◌≡◌, ◌≢◌, ℕ, ◌<◌, Bool, true, false, cond, not, ◌&&◌, ◌||◌, ◌==◌, nat_le, List, [], ◌∷◌, Contains, length, Option, Some, None, slice_get, slice_set, slice_index_or, unwrap_or, IfSome, ⊤}
 use Rattle.std.specs.List.{list_any, list_all}
 use Rattle.std.specs.BTreeMap.{is_at}
 use Rattle.std.specs.Map.{lookup}
@@ -9,7 +9,6 @@ use Rattle.gf_ops.specs.declared.op.OpId.{OpId}
 use Rattle.gf_ops.specs.declared.op.Clock.{Clock}
 use Rattle.gf_ops.specs.declared.change.Change.TheVariants.{Set}
 use Rattle.gf_ops.specs.declared.change.Value.{Value}
-use Rattle.gf_ops.specs.OperationOrder.{entry}
 use Rattle.gf_tails.specs.declared.tails.Tail.{Tail}
 use Rattle.gf_tails.specs.Giving.{op_gives, misses}
 use Rattle.gf_tails.specs.Tails.{is_of, hits_one, noted, AreTails}

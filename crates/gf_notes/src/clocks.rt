@@ -42,11 +42,7 @@ fn counting(timeline: &Timeline<'_>, positions: &[usize], clock: Clock) -> Optio
 
 /// A clock that counts what is free or of one of these parts, if there is an operation at each
 /// position.
-pub(crate) fn clock_beside(
-    timeline: &Timeline<'_>,
-    free: &[usize],
-    parts: &[Part],
-) -> Option<Clock>
+pub(crate) fn clock_beside(timeline: &Timeline<'_>, free: &[usize], parts: &[Part]) -> Option<Clock>
     ensures { IfSome result (λ clock. CountsBeside timeline.now clock free.now parts.now) }
 {
     let mut clock = counting(timeline, free, Clock([0; 8]))?;

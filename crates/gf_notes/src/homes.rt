@@ -105,11 +105,7 @@ fn house_set(timeline: &Timeline<'_>, sets: &[Positions], set: usize, homes: &mu
 
 /// The homes of the sets, of which a later one comes before an earlier one: it is one of equal
 /// values, where these are of more than one site. None where one is no setter, or for want of memory.
-pub(crate) fn homes_of(
-    alloc: Global,
-    timeline: &Timeline<'_>,
-    sets: &[Positions],
-) -> Option<Homes>
+pub(crate) fn homes_of(alloc: Global, timeline: &Timeline<'_>, sets: &[Positions]) -> Option<Homes>
     ensures { IfSome result (λ homes. (b : _) → IsInOne sets.now b
         → IsHome timeline.now homes.entries sets.now b) }
 {

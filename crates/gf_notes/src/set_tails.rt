@@ -146,7 +146,8 @@ impl SetTails {
         };
         match &op.change {
             Change::Set { value, .. } => {
-                !one_ahead(op.id, &self.tails) && self.note(timeline, op.id, value, position).is_ok()
+                !one_ahead(op.id, &self.tails)
+                    && self.note(timeline, op.id, value, position).is_ok()
             }
             Change::Create(_) => false,
         }
@@ -184,10 +185,7 @@ pub(crate) fn tails_of_sets(
 }
 
 /// The same tails once more.
-pub(crate) fn copied_tails(
-    alloc: Global,
-    all: &[SetTails],
-) -> Result<Vec<SetTails>, OutOfMemory>
+pub(crate) fn copied_tails(alloc: Global, all: &[SetTails]) -> Result<Vec<SetTails>, OutOfMemory>
     ensures { IfOk result (λ copy. copy.items ≡ all.now) }
 {
     let mut copy = Vec::new(alloc);

@@ -77,9 +77,7 @@ fn clashes(
 {
     match other {
         None => tails.hits(timeline, value, &op.past),
-        Some(_) => {
-            tails.hits(timeline, value, &op.past) && tails.is_apart(timeline, op, value)
-        }
+        Some(_) => { tails.hits(timeline, value, &op.past) && tails.is_apart(timeline, op, value) }
     }
 }
 
@@ -226,12 +224,7 @@ impl SetNotes {
     }
 
     /// The sets that the operation, which gives the value, joins, where no new one comes of it.
-    pub(crate) fn joined(
-        &self,
-        timeline: &Timeline<'_>,
-        op: &Op,
-        value: &Value,
-    ) -> Option<Joined>
+    pub(crate) fn joined(&self, timeline: &Timeline<'_>, op: &Op, value: &Value) -> Option<Joined>
         ensures { IfSome result (λ joined.
             IsJoined timeline.now self.now op.now value.now joined) }
     {

@@ -27,7 +27,7 @@ pub(crate) struct Summary {
 
 impl Model for Summary {
     ghost use Rattle.gf_notes.specs.Sets.{AreIn, TellsSome};
-ghost use Rattle.gf_notes.specs.Summaries.{SummaryState};
+    ghost use Rattle.gf_notes.specs.Summaries.{SummaryState};
 
     ghost Value = { SummaryState };
 

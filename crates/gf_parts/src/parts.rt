@@ -59,12 +59,7 @@ impl Part {
 
     /// Adds a position, to the set with this index too, and to that with the other one, if there is
     /// one.
-    fn join(
-        &mut self,
-        set: usize,
-        other: Option<usize>,
-        position: usize,
-    ) -> Result<(), OutOfMemory>
+    fn join(&mut self, set: usize, other: Option<usize>, position: usize) -> Result<(), OutOfMemory>
         ensures ok { OnOk result (self.new ≡ part_with set other position self.old) }
         ensures err { OnErr result (self.new ≡ self.old) }
     {

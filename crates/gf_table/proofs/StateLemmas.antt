@@ -1,8 +1,7 @@
 -- The state of an object after one more operation, on it or on another one.
 use Rattle.std.proofs.Common.{◌≡◌, ℕ, ◌<◌, Bool, true, false, List, [], ◌∷◌, ◌++◌, length, inl, inr, refl, subst, sym, ◌∙◌}
-use Rattle.std.specs.Prelude.{◌↔◌, Contains, cond, not, Some, slice_get}
-use Rattle.std.specs.List.{list_any}
-use Rattle.std.proofs.lemmas.Bool.{cases_Bool, cond-true, cond-false, and_from, and_parts, not-true, not_from_false}
+use Rattle.std.specs.Prelude.{◌↔◌, Contains, Some, slice_get}
+use Rattle.std.proofs.lemmas.Bool.{cases_Bool}
 use Rattle.std.proofs.lemmas.List.Elements.{Contains-append_left, Contains-push, Contains-push_cases}
 use Rattle.gf_ops.specs.declared.op.Op.{Op}
 use Rattle.gf_ops.specs.declared.op.OpId.{OpId}
@@ -17,11 +16,11 @@ use Rattle.gf_ops.specs.ValidHistory.{IsValid}
 use Rattle.gf_ops.proofs.ListLemmas.{not_Contains-nil}
 use Rattle.gf_groups.specs.Growing.{conflict_at, conflicts_in}
 use Rattle.gf_groups.specs.GroupedPositions.{is_on}
-use Rattle.gf_groups.proofs.ListLemmas.{list_any_true, list_any_from}
+use Rattle.gf_groups.proofs.ListLemmas.{list_any_true}
 use Rattle.gf_groups.proofs.TableLemmas.{conflict_at_test}
 use Rattle.gf_parts.specs.Parted.{AreParts}
-use Rattle.gf_parts.specs.Parts.{PartState, PartsState, alone, whole, touches, is_calm, with_free, with_part, after}
-use Rattle.gf_parts.proofs.PartsLemmas.{all_of_fold, first_parts, parts_after, all_after}
+use Rattle.gf_parts.specs.Parts.{PartsState, whole, after}
+use Rattle.gf_parts.proofs.PartsLemmas.{first_parts, parts_after, all_after}
 use Rattle.gf_notes.proofs.CalmLemmas.{right_step}
 use Rattle.gf_table.specs.SubjectState.{SubjectState, nothing, with_change, with_op}
 use Rattle.gf_tails.specs.Giving.{HasSetter}

@@ -1,5 +1,5 @@
-use Rattle.std.proofs.Common.{ℕ, [], take}
-use Rattle.std.specs.Prelude.{◌⊎◌, Contains, slice_index_or}
+use Rattle.std.proofs.Common.{ℕ, take}
+use Rattle.std.specs.Prelude.{◌⊎◌, Contains}
 use Rattle.gf_notes.specs.Sets.{IsHome}
 use Rattle.gf_notes.proofs.homes.house_set.Given as goal
 

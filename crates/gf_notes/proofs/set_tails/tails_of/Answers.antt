@@ -1,6 +1,5 @@
-use Rattle.std.proofs.Common.{take, get_or, rules, refl, subst}
-use Rattle.std.proofs.lemmas.List.{take_all, take_more}
-use Rattle.gf_tails.specs.Tails.{AreTails}
+use Rattle.std.proofs.Common.{take, rules}
+use Rattle.std.proofs.lemmas.List.{take_more}
 use Rattle.gf_notes.proofs.SetTailLemmas.{no_tails}
 use Rattle.gf_notes.proofs.set_tails.tails_of.Goals as goal
 

@@ -1,4 +1,4 @@
-use Rattle.std.proofs.Common.{◌≡◌, List, ℕ, rules, ap, subst, sym, ◌∙◌}
+use Rattle.std.proofs.Common.{◌≡◌, rules, ap, subst, ◌∙◌}
 use Rattle.std.specs.Prelude.{IfSome, Some, unwrap_or}
 use Rattle.gf_notes.specs.Sets.{SetsState, AreIn, TellsSets}
 use Rattle.gf_notes.proofs.SummaryLemmas.{some_told}

@@ -1,5 +1,4 @@
-use Rattle.std.proofs.Common.{[], subst, sym, ap, ◌∙◌}
-use Rattle.gf_parts.specs.Parts.{set_with}
+use Rattle.std.proofs.Common.{[], ◌∙◌}
 use Rattle.gf_parts.proofs.JoiningLemmas.{taken_back}
 use Rattle.gf_parts.proofs.sets.pop_from.Goals as goal
 

@@ -1,6 +1,5 @@
 use Rattle.std.proofs.Common.{◌≡◌, rules}
 use Rattle.std.specs.Prelude.{false, Some, slice_get}
-use Rattle.gf_ops.specs.declared.change.Change.TheVariants.{Set}
 use Rattle.gf_tails.specs.Tails.{noted}
 use Rattle.gf_notes.specs.Sets.{one_ahead}
 use Rattle.gf_notes.proofs.SetTailLemmas.{tails_more}
