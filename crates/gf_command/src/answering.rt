@@ -2,14 +2,14 @@
 
 ghost use Rattle.std.specs.Prelude.{◌≡◌, ◌≤◌, ◌⊎◌, IfSome, IfErr, OnOk, IsTrue};
 ghost use Rattle.gf_command.specs.Outputs.{Answers, AnswersFront};
-ghost use Rattle.gf_command.specs.declared.asking.Run.{Run};
+ghost use Rattle.gf_words.specs.declared.asking.Run.{Run};
 
-use crate::asking::{Asked, Canvas, QueryFault, Run, parse};
 use clap::Error;
 use clap::error::ErrorKind;
 use gf_bytes::{Sink, Source, write_whole};
 use gf_session_run::session_run;
 use gf_studio::{OpenGate, StudioError, fig_run, inspect_run, paint_run, repaint_run};
+use gf_words::{Asked, Canvas, QueryFault, Run, parse};
 use std::alloc::Global;
 use std::io;
 use std::sync::Wait;

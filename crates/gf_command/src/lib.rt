@@ -1,9 +1,12 @@
 //! The command line of figgroup, over any source and sinks.
+//!
+//! - [`command`]: runs what the words ask for, and answers the status; [`refuse_words`]: the status
+//!   of words that could not be read.
+//!
+//! [`Run`] and [`Canvas`] are those of `gf_words`.
 #![tactic(auto)]
 
 mod answering;
-mod asking;
-mod querying;
 
 pub use answering::{command, refuse_words};
-pub use asking::{Canvas, Run};
+pub use gf_words::{Canvas, Run};

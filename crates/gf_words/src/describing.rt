@@ -1,0 +1,208 @@
+//! The command line as clap reads it and its help tells it.
+
+use clap::builder::ValueParser;
+use clap::{Arg, Command};
+use std::alloc::{AllocError, Global};
+
+/// How the help tells a run, and which options it takes.
+#[derive(Clone, Copy)]
+struct Usage {
+    name: &'static str,
+    about: &'static str,
+    example: &'static str,
+    takes: Takes,
+}
+
+/// Which options a run takes.
+#[derive(Clone, Copy)]
+enum Takes {
+    None,
+    Canvas,
+    Query,
+    Sites,
+}
+
+const RUNS: [Usage; 5] = [
+    Usage {
+        name: "fig",
+        about: "Read operation lines from standard input and write the FIG text of their drawing",
+        example: "Example: cat site-*.jsonl | figgroup fig > drawing.fig",
+        takes: Takes::None,
+    },
+    Usage {
+        name: "paint",
+        about: "Read operation lines from standard input and write a picture of their drawing, as raw PPM",
+        example: "Example: figgroup paint --step 15 --width 800 --height 560 < edits.jsonl > drawing.ppm",
+        takes: Takes::Canvas,
+    },
+    Usage {
+        name: "repaint",
+        about: "Read a FIG text from standard input and write a picture of its drawing, as raw PPM",
+        example: "Example: figgroup repaint --step 15 --width 800 --height 560 < drawing.fig > drawing.ppm",
+        takes: Takes::Canvas,
+    },
+    Usage {
+        name: "inspect",
+        about: "Read operation lines from standard input and write the versions of an object, or what is \
+                on top at a point; one of the two is given",
+        example: "Example: figgroup inspect --object 1.2 < edits.jsonl",
+        takes: Takes::Query,
+    },
+    Usage {
+        name: "session",
+        about: "Read script lines from standard input, run the scripts of all sites at the same time, \
+                and write what became of their commands and the FIG text of their common history",
+        example: "Example: figgroup session --sites 3 < script.jsonl",
+        takes: Takes::Sites,
+    },
+];
+
+/// The program, with a command for each run.
+pub(crate) fn program<'a>(alloc: Global) -> Result<Command<'a>, AllocError> {
+    let runs = commands(alloc)?;
+    Command::new(alloc, "figgroup")
+        .version("0.1.0")
+        .about("Figures drawn by a group")
+        .after_help("Example: figgroup fig < edits.jsonl > drawing.fig")
+        .subcommand_required(true)
+        .arg_required_else_help(true)
+        .subcommands(runs)
+}
+
+/// The commands of all runs.
+fn commands<'a>(alloc: Global) -> Result<Vec<Command<'a>>, AllocError> {
+    let mut commands = Vec::new(alloc);
+    for run in RUNS.iter() {
+        commands.push(command(alloc, run)?)?;
+    }
+    Ok(commands)
+}
+
+/// The command of a run.
+fn command<'a>(alloc: Global, run: &Usage) -> Result<Command<'a>, AllocError> {
+    let options = options(alloc, run.takes)?;
+    Command::new(alloc, run.name)
+        .about(run.about)
+        .after_help(run.example)
+        .args(options)
+}
+
+/// The options that a run takes.
+fn options<'a>(alloc: Global, takes: Takes) -> Result<Vec<Arg<'a>>, AllocError> {
+    match takes {
+        Takes::None => Ok(Vec::new(alloc)),
+        Takes::Canvas => canvas(alloc),
+        Takes::Query => query(alloc),
+        Takes::Sites => sites(alloc),
+    }
+}
+
+/// The options of a picture.
+fn canvas<'a>(alloc: Global) -> Result<Vec<Arg<'a>>, AllocError> {
+    Ok(vec![in alloc;
+        place(
+            alloc,
+            "x",
+            "The x of the first column, -2,000,000 to 2,000,000",
+        ),
+        place(
+            alloc,
+            "y",
+            "The y of the first row, -2,000,000 to 2,000,000",
+        ),
+        count(
+            alloc,
+            "step",
+            "1",
+            10_000,
+            "How far the points of neighbouring pixels are apart, 1 to 10,000",
+        ),
+        count(
+            alloc,
+            "width",
+            "64",
+            4_096,
+            "How many columns the picture has, 1 to 4,096",
+        ),
+        count(
+            alloc,
+            "height",
+            "64",
+            4_096,
+            "How many rows the picture has, 1 to 4,096",
+        ),
+        count(
+            alloc,
+            "workers",
+            "1",
+            16,
+            "How many workers paint it, 1 to 16",
+        ),
+    ]?)
+}
+
+/// The options of a query.
+fn query<'a>(alloc: Global) -> Result<Vec<Arg<'a>>, AllocError> {
+    Ok(vec![in alloc;
+        text(
+            alloc,
+            "object",
+            "SITE.SEQ",
+            "Tell the versions of this object, hidden ones too, topmost first; SITE is 1 to 8, SEQ 1 to \
+             10,000",
+        ),
+        text(
+            alloc,
+            "at",
+            "X,Y",
+            "Tell the version on top at this point, as --at=-5,7; X and Y are -2,147,483,648 to \
+             2,147,483,647",
+        ),
+    ]?)
+}
+
+/// The option of a session.
+fn sites<'a>(alloc: Global) -> Result<Vec<Arg<'a>>, AllocError> {
+    let sites = number(
+        alloc,
+        "sites",
+        "2",
+        ValueParser::unsigned(2, 8),
+        "How many sites there are, 2 to 8",
+    );
+    Ok(vec![in alloc; sites]?)
+}
+
+/// An option for a coordinate, 0 where it is not given.
+fn place<'a>(alloc: Global, name: &'a str, help: &'a str) -> Arg<'a> {
+    number(
+        alloc,
+        name,
+        "0",
+        ValueParser::signed(-2_000_000, 2_000_000),
+        help,
+    )
+}
+
+/// An option for a number from 1 to `most`.
+fn count<'a>(alloc: Global, name: &'a str, default: &'a str, most: u64, help: &'a str) -> Arg<'a> {
+    number(alloc, name, default, ValueParser::unsigned(1, most), help)
+}
+
+/// An option for a number that this parser takes.
+fn number<'a>(
+    alloc: Global,
+    name: &'a str,
+    default: &'a str,
+    within: ValueParser<'a>,
+    help: &'a str,
+) -> Arg<'a> {
+    text(alloc, name, "N", help)
+        .default_value(default)
+        .value_parser(within)
+}
+
+/// An option for a text of this form.
+fn text<'a>(alloc: Global, name: &'a str, form: &'a str, help: &'a str) -> Arg<'a> {
+    Arg::new(alloc, name).long(name).value_name(form).help(help)
+}
