@@ -79,6 +79,30 @@ plain 1.1                            | [ 1.1 1.2 1.3 1.4 ][ 1.1 1.2 3.1 3.2 ][ 1
 groups 1.1                           | [ 1.1 1.2 1.3 1.4 ][ 1.1 1.2 3.1 3.2 ][ 1.1 1.3 2.3 ][ 1.1 2.1 2.2 2.3 ]
 copied 1.1                           | [ 1.1 1.2 1.3 1.4 ][ 1.1 1.2 3.1 3.2 ][ 1.1 1.3 2.3 ][ 1.1 2.1 2.2 2.3 ]
 
+// a_value_that_several_sites_gave
+new                                  | ok
+add 1.1: box 10 10                   | ok
+add 1.2 after 1: 1.1 place 1,0       | ok
+add 2.1 after 1: 1.1 place 2,0       | ok
+add 3.1 after 1: 1.1 place 3,0       | ok
+groups 1.1                           | [ 1.1 1.2 ][ 1.1 2.1 ][ 1.1 3.1 ]
+// Site 2 gives what site 1 gave.
+add 2.2 after 1 1: 1.1 place 1,0     | ok
+groups 1.1                           | [ 1.1 1.2 2.2 ][ 1.1 2.1 2.2 ][ 1.1 3.1 ]
+// So does site 3, beside what it gave before.
+add 3.2 after 1 0 1: 1.1 place 1,0   | ok
+groups 1.1                           | [ 1.1 1.2 2.2 3.2 ][ 1.1 2.1 2.2 ][ 1.1 3.1 3.2 ]
+add 1.3 after 2: 1.1 place 4,0       | ok
+groups 1.1                           | [ 1.1 1.2 1.3 ][ 1.1 1.2 2.2 3.2 ][ 1.1 2.1 2.2 ][ 1.1 3.1 3.2 ]
+// Once more by site 1, which knows its own alone.
+add 1.4 after 3: 1.1 place 1,0       | ok
+groups 1.1                           | [ 1.1 1.2 1.3 1.4 ][ 1.1 1.2 1.4 2.2 3.2 ][ 1.1 2.1 2.2 ][ 1.1 3.1 3.2 ]
+add 3.3 after 1 0 2: 1.1 place 5,0   | ok
+add 2.3 after 1 2: 1.1 place 5,0     | ok
+plain 1.1                            | [ 1.1 1.2 1.3 1.4 ][ 1.1 1.2 1.4 2.2 3.2 ][ 1.1 2.1 2.2 2.3 ][ 1.1 2.3 3.3 ][ 1.1 3.1 3.2 3.3 ]
+groups 1.1                           | [ 1.1 1.2 1.3 1.4 ][ 1.1 1.2 1.4 2.2 3.2 ][ 1.1 2.1 2.2 2.3 ][ 1.1 2.3 3.3 ][ 1.1 3.1 3.2 3.3 ]
+copied 1.1                           | [ 1.1 1.2 1.3 1.4 ][ 1.1 1.2 1.4 2.2 3.2 ][ 1.1 2.1 2.2 2.3 ][ 1.1 2.3 3.3 ][ 1.1 3.1 3.2 3.3 ]
+
 // what_stands_beside_a_part
 new                                    | ok
 add 1.1: box 10 10                     | ok
