@@ -64,5 +64,6 @@ for count in (30, 200):
 for apart, name in ((False, "causal"), (True, "apart")):
     write_orders("equal_" + name, changed(9_875, "colour", lambda rng: "00ff00", apart))
     write(folder, "moves_" + name, changed(2_000, "place", lambda rng: value(rng, "box", "place"), apart))
-    write(folder, "places_" + name, changed(500, "place", lambda rng: [rng.randrange(50), 0], apart))
+    write(folder, "grid_" + name, changed(2_000, "place", lambda rng: [rng.randrange(1_000), rng.randrange(1_000)], apart))
+    write(folder, "fifty_" + name, changed(2_000, "place", lambda rng: [rng.randrange(50), 0], apart))
     write(folder, "busy_" + name, busy(9_900, apart))
