@@ -11,12 +11,12 @@ use Rattle.gf_ops.specs.Limits.{IsInRange}
 use Rattle.gf_parts.specs.Parts.{set_with, sets_with}
 use Rattle.gf_tails.specs.declared.tails.Tail.{Tail}
 use Rattle.gf_tails.specs.Tails.{noted, AreTails}
-use Rattle.gf_notes.specs.declared.setters.Setter.{Setter}
-use Rattle.gf_notes.specs.declared.sets.Joined.{Joined}
-use Rattle.gf_notes.specs.Prints.{print_of}
-use Rattle.gf_notes.specs.Sets.{SetsState, TellsTails, TellsSets, IsHome, GoesHome, NotesSets, home_of, tails_at, tails_with}
-use Rattle.gf_notes.proofs.ClockLemmas.{missed_more}
-use Rattle.gf_notes.proofs.HomeLemmas.{put_kept, put_own}
+use Rattle.gf_sets.specs.declared.setters.Setter.{Setter}
+use Rattle.gf_sets.specs.declared.sets.Joined.{Joined}
+use Rattle.gf_sets.specs.Prints.{print_of}
+use Rattle.gf_sets.specs.Sets.{SetsState, TellsTails, TellsSets, IsHome, GoesHome, NotesSets, home_of, tails_at, tails_with}
+use Rattle.gf_sets.proofs.ClockLemmas.{missed_more}
+use Rattle.gf_sets.proofs.HomeLemmas.{put_kept, put_own}
 
 -- ---- a set that gets one position more
 

@@ -16,15 +16,15 @@ use Rattle.gf_parts.proofs.JoiningLemmas.{last_joined}
 use Rattle.gf_tails.specs.Subjects.{subject_of, is_about}
 use Rattle.gf_tails.proofs.LongerLemmas.{got_last}
 use Rattle.gf_tails.proofs.NotedLemmas.{tails_next}
-use Rattle.gf_notes.specs.declared.sets.Joined.{Joined}
-use Rattle.gf_notes.specs.Clocks.{CountsBeside}
+use Rattle.gf_sets.specs.declared.sets.Joined.{Joined}
+use Rattle.gf_sets.specs.Clocks.{CountsBeside}
 use Rattle.gf_notes.specs.Next.{IsNextTo, IsNextOf, Gives}
 use Rattle.gf_notes.specs.Notes.{NotesState}
-use Rattle.gf_notes.specs.Prints.{print_of}
-use Rattle.gf_notes.specs.Sets.{SetsState, TellsSets, TellsSome, GoesHome, IsJoined, NotesSome, home_of}
+use Rattle.gf_sets.specs.Prints.{print_of}
+use Rattle.gf_sets.specs.Sets.{SetsState, TellsSets, TellsSome, GoesHome, IsJoined, NotesSome, home_of}
 use Rattle.gf_notes.specs.Summaries.{SummaryState, TellsParts, TellsLast, NotesIn}
 use Rattle.gf_notes.proofs.AfterLemmas.{told_with}
-use Rattle.gf_notes.proofs.ClockLemmas.{beside_longer}
+use Rattle.gf_sets.proofs.ClockLemmas.{beside_longer}
 use Rattle.gf_notes.proofs.JoinedLemmas.{below, of_part, two_sets, own_within, other_within, grows, joins_at}
 use Rattle.gf_notes.proofs.SummaryLemmas.{last_apart, summed, told_longer}
 

@@ -36,13 +36,13 @@ use Rattle.gf_tails.proofs.KeptTailsLemmas.{tail_gives, tail_kept}
 use Rattle.gf_tails.proofs.LongerLemmas.{got_before}
 use Rattle.gf_tails.proofs.QuickLemmas.{quick}
 use Rattle.gf_tails.proofs.SubjectLemmas.{about_on, about_op}
-use Rattle.gf_notes.specs.declared.sets.Joined.{Joined}
-use Rattle.gf_notes.specs.Clocks.{CountsOthers}
-use Rattle.gf_notes.specs.Prints.{print_of}
-use Rattle.gf_notes.specs.Sets.{SetsState, TellsSets, TellsTails, IsHome, GoesHome, IsJoined, home_of, has_site, lacks, all_lack, is_apart, is_known, clashes, fits_other, fits}
-use Rattle.gf_notes.proofs.ClockLemmas.{calm_free, calm_before, calm_known}
+use Rattle.gf_sets.specs.declared.sets.Joined.{Joined}
+use Rattle.gf_sets.specs.Clocks.{CountsOthers}
+use Rattle.gf_sets.specs.Prints.{print_of}
+use Rattle.gf_sets.specs.Sets.{SetsState, TellsSets, TellsTails, IsHome, GoesHome, IsJoined, home_of, has_site, lacks, all_lack, is_apart, is_known, clashes, fits_other, fits}
+use Rattle.gf_sets.proofs.ClockLemmas.{calm_free, calm_before, calm_known}
 use Rattle.gf_notes.proofs.LongerPartsLemmas.{parts_longer}
-use Rattle.gf_notes.proofs.SetTailLemmas.{known_last, tells_at}
+use Rattle.gf_sets.proofs.SetTailLemmas.{known_last, tells_at}
 use Rattle.gf_notes.proofs.SummaryLemmas.{last_apart, last_in}
 
 -- ---- what a home tells

@@ -1,14 +1,9 @@
 pub mod AfterLemmas
 pub mod CallLemmas
 pub mod CalmLemmas
-pub mod ClockLemmas
-pub mod HomeLemmas
 pub mod JoinedLemmas
 pub mod LongerPartsLemmas
 pub mod MarkLemmas
 pub mod NotesLemmas
-pub mod PrintLemmas
 pub mod RivalLemmas
-pub mod SetTailLemmas
-pub mod SetterLemmas
 pub mod SummaryLemmas

@@ -10,8 +10,8 @@ use Rattle.std.proofs.Math.Seq.{drop-cons}
 use Rattle.gf_ops.proofs.ListLemmas.{Contains-cons_cases, Contains-cons_head, Contains-cons_tail, not_Contains-nil}
 use Rattle.gf_groups.specs.Rivals.{is_marked}
 use Rattle.gf_groups.proofs.ListLemmas.{list_any_true}
-use Rattle.gf_notes.specs.declared.setters.Setter.{Setter}
-use Rattle.gf_notes.specs.Setters.{IsClean, MarksOnly}
+use Rattle.gf_sets.specs.declared.setters.Setter.{Setter}
+use Rattle.gf_sets.specs.Setters.{IsClean, MarksOnly}
 
 -- what is among the first is in the list
 Contains-take : {X : Type 0} (n : ℕ) (xs : List X) (x : X) → Contains (take n xs) x → Contains xs x

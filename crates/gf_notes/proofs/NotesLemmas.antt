@@ -8,13 +8,13 @@ use Rattle.gf_groups.proofs.TableLemmas.{conflict_at_test}
 use Rattle.gf_parts.specs.Parted.{AreParts, IsKept}
 use Rattle.gf_parts.specs.Parts.{PartState, PartsState, alone, whole, is_calm, with_free, with_part, after}
 use Rattle.gf_parts.proofs.PartsLemmas.{all_connected, all_free, all_of_fold, parts_after}
-use Rattle.gf_notes.specs.declared.setters.Setter.{Setter}
+use Rattle.gf_sets.specs.declared.setters.Setter.{Setter}
 use Rattle.gf_notes.specs.Next.{IsNextTo, IsNextOf}
 use Rattle.gf_notes.specs.Notes.{NotesState, AreNotes}
-use Rattle.gf_notes.specs.Setters.{AreSetters, ListsAll, ListsMore}
+use Rattle.gf_sets.specs.Setters.{AreSetters, ListsAll, ListsMore}
 use Rattle.gf_notes.specs.Summaries.{SummaryState, NotesOtherIn, TellsParts, TellsLast}
 use Rattle.gf_tails.specs.Subjects.{subject_of}
-use Rattle.gf_notes.proofs.SetterLemmas.{lists_longer, lists_more, setters_longer}
+use Rattle.gf_sets.proofs.SetterLemmas.{lists_longer, lists_more, setters_longer}
 use Rattle.gf_tails.proofs.SubjectLemmas.{about_op}
 use Rattle.std.proofs.lemmas.Bool.{cond-false}
 use Rattle.gf_notes.proofs.CalmLemmas.{not_calm_if}

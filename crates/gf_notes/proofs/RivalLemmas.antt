@@ -24,11 +24,11 @@ use Rattle.gf_groups.specs.Rivals.{is_marked, AreRivals}
 use Rattle.gf_groups.proofs.ListLemmas.{list_any_true, list_any_from}
 use Rattle.gf_groups.proofs.OnPositionLemmas.{conflict_with}
 use Rattle.gf_parts.specs.Parts.{PartsState, whole}
-use Rattle.gf_notes.specs.declared.prints.Print.{Print}
-use Rattle.gf_notes.specs.declared.setters.Setter.{Setter}
+use Rattle.gf_sets.specs.declared.prints.Print.{Print}
+use Rattle.gf_sets.specs.declared.setters.Setter.{Setter}
 use Rattle.gf_notes.specs.Next.{IsNextTo, Gives}
-use Rattle.gf_notes.specs.Prints.{print_of}
-use Rattle.gf_notes.specs.Setters.{AreSetters, print_eq, is_rival, rival_at}
+use Rattle.gf_sets.specs.Prints.{print_of}
+use Rattle.gf_sets.specs.Setters.{AreSetters, print_eq, is_rival, rival_at}
 use Rattle.gf_tails.specs.Giving.{HasSetter}
 use Rattle.gf_tails.specs.Subjects.{attribute_set, subject_of, is_about}
 use Rattle.gf_tails.specs.Giving.{op_gives, misses}

@@ -11,11 +11,11 @@ use Rattle.gf_groups.proofs.TableLemmas.{conflict_at_test}
 use Rattle.gf_parts.specs.Parted.{AreParts, IsKept}
 use Rattle.gf_parts.specs.Parts.{PartState, PartsState, with_free}
 use Rattle.gf_parts.proofs.ProductLemmas.{in_a_set}
-use Rattle.gf_notes.specs.Clocks.{CountsBeside}
-use Rattle.gf_notes.specs.Sets.{SetsState, IsHome, AreIn, TellsSets, TellsSome}
+use Rattle.gf_sets.specs.Clocks.{CountsBeside}
+use Rattle.gf_sets.specs.Sets.{SetsState, IsHome, AreIn, TellsSets, TellsSome}
 use Rattle.gf_notes.specs.Summaries.{SummaryState, TellsParts, TellsLast, NotesOtherIn}
-use Rattle.gf_notes.proofs.ClockLemmas.{beside_longer, beside_with, missed_longer}
-use Rattle.gf_notes.proofs.SetTailLemmas.{sets_longer}
+use Rattle.gf_sets.proofs.ClockLemmas.{beside_longer, beside_with, missed_longer}
+use Rattle.gf_sets.proofs.SetTailLemmas.{sets_longer}
 use Rattle.gf_tails.proofs.LongerLemmas.{got_before}
 
 -- ---- lists

@@ -3,8 +3,8 @@ use Rattle.std.specs.Prelude.{List, Option, Some, None}
 use Rattle.std.specs.Global.{Box}
 use Rattle.gf_ops.specs.declared.op.Op.{Op}
 use Rattle.gf_parts.specs.Parts.{PartsState, whole}
-use Rattle.gf_notes.specs.declared.setters.Setter.{Setter}
-use Rattle.gf_notes.specs.Setters.{ListsAll}
+use Rattle.gf_sets.specs.declared.setters.Setter.{Setter}
+use Rattle.gf_sets.specs.Setters.{ListsAll}
 use Rattle.gf_notes.specs.Summaries.{SummaryState, TellsLast}
 
 pub record NotesState : Type 0 where

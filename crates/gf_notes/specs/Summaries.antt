@@ -4,9 +4,9 @@ use Rattle.gf_ops.specs.declared.op.Op.{Op}
 use Rattle.gf_ops.specs.declared.op.Clock.{Clock}
 use Rattle.gf_ops.specs.declared.change.Value.{Value}
 use Rattle.gf_parts.specs.Parts.{PartState, PartsState}
-use Rattle.gf_notes.specs.declared.sets.Joined.{Joined}
-use Rattle.gf_notes.specs.Clocks.{CountsToo, CountsOthers}
-use Rattle.gf_notes.specs.Sets.{SetsState, TellsSome, NotesSome}
+use Rattle.gf_sets.specs.declared.sets.Joined.{Joined}
+use Rattle.gf_sets.specs.Clocks.{CountsToo, CountsOthers}
+use Rattle.gf_sets.specs.Sets.{SetsState, TellsSome, NotesSome}
 
 -- what is kept of its sets, mostly, and what a clock counts beside the part
 pub record SummaryState : Type 0 where

@@ -6,17 +6,16 @@ ghost use Rattle.gf_ops.specs.Limits.{IsInRange};
 ghost use Rattle.gf_parts.specs.Parts.{whole, with_free, with_part, last_with};
 ghost use Rattle.gf_notes.specs.Next.{IsNextTo, IsNextOf, Gives};
 ghost use Rattle.gf_notes.specs.Notes.{AreNotes, unboxed};
-ghost use Rattle.gf_notes.specs.Setters.{ListsAll};
+ghost use Rattle.gf_sets.specs.Setters.{ListsAll};
 ghost use Rattle.gf_notes.specs.Summaries.{TellsLast, NotesIn};
 
 use crate::notes::Notes;
 use crate::scratch::Scratch;
-use crate::sets::Joined;
-use crate::setters::{Setter, setters_of, with_setter};
 use crate::summary::{Summary, noted};
 use gf_groups::Timeline;
 use gf_ops::{Op, Value};
 use gf_parts::Parts;
+use gf_sets::{Joined, Setter, setters_of, with_setter};
 use gf_shape::OutOfMemory;
 use std::alloc::Global;
 

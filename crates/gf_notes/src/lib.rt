@@ -6,15 +6,9 @@
 //! - [`Scratch`]: marks of what it conflicts with.
 #![tactic(auto)]
 
-mod clocks;
-mod homes;
 mod joining;
 mod notes;
-mod prints;
 mod scratch;
-mod set_tails;
-mod sets;
-mod setters;
 mod summary;
 
 pub use joining::{add_free, connect};

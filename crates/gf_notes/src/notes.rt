@@ -3,12 +3,12 @@
 ghost use Rattle.std.specs.Prelude.{◌≡◌, None, IfOk, OnOk, OnErr};
 ghost use Rattle.gf_ops.specs.Limits.{IsInRange};
 ghost use Rattle.gf_notes.specs.Notes.{no_notes, unboxed};
-ghost use Rattle.gf_notes.specs.Setters.{ListsMore};
+ghost use Rattle.gf_sets.specs.Setters.{ListsMore};
 ghost use Rattle.gf_notes.specs.Summaries.{NotesOtherIn};
 
-use crate::setters::{self, Setter, with_setter};
 use crate::summary::{self, Summary, noted_other};
 use gf_ops::Op;
+use gf_sets::{Setter, copied_setters, with_setter};
 use gf_shape::OutOfMemory;
 use std::alloc::Global;
 use std::marker::Model;
@@ -48,7 +48,7 @@ impl Notes {
         ensures { IfOk result (λ copy. copy ≡ self.now) }
     {
         let summary = summary::copied(alloc, &self.summary)?;
-        let setters = setters::copied(alloc, &self.setters)?;
+        let setters = copied_setters(alloc, &self.setters)?;
         Ok(Notes { summary, setters })
     }
 

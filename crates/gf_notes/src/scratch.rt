@@ -5,14 +5,13 @@ ghost use Rattle.gf_groups.specs.Growing.{conflict_at};
 ghost use Rattle.gf_groups.specs.Rivals.{is_marked};
 ghost use Rattle.gf_parts.specs.Parts.{whole, with_part};
 ghost use Rattle.gf_notes.specs.Next.{IsNextTo, Gives};
-ghost use Rattle.gf_notes.specs.Prints.{print_of};
-ghost use Rattle.gf_notes.specs.Setters.{AreSetters, rival_at, IsClean, MarksOnly};
+ghost use Rattle.gf_sets.specs.Prints.{print_of};
+ghost use Rattle.gf_sets.specs.Setters.{AreSetters, rival_at, IsClean, MarksOnly};
 
-use crate::prints::print_of;
-use crate::setters::{Setter, is_rival};
 use gf_groups::{Rivals, Timeline};
 use gf_ops::{Op, Value};
 use gf_parts::Parts;
+use gf_sets::{Setter, is_rival, print_of};
 use gf_shape::OutOfMemory;
 use std::alloc::Global;
 use std::marker::Model;
@@ -26,7 +25,7 @@ pub struct Scratch {
 
 impl Model for Scratch {
     ghost use Rattle.std.specs.Prelude.{⊤};
-    ghost use Rattle.gf_notes.specs.Setters.{IsClean};
+    ghost use Rattle.gf_sets.specs.Setters.{IsClean};
 
     ghost Value = { ⊤ };
 

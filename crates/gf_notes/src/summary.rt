@@ -5,14 +5,13 @@ ghost use Rattle.std.specs.Prelude.{◌≡◌, Some, IfOk, IfSome};
 ghost use Rattle.gf_ops.specs.Limits.{IsInRange};
 ghost use Rattle.gf_groups.specs.Growing.{conflict_at};
 ghost use Rattle.gf_parts.specs.Parted.{AreParts};
-ghost use Rattle.gf_notes.specs.Sets.{AreIn, TellsSome};
+ghost use Rattle.gf_sets.specs.Sets.{AreIn, TellsSome};
 ghost use Rattle.gf_notes.specs.Summaries.{TellsParts, NotesIn, NotesOtherIn};
 
-use crate::clocks::{clock_beside, count};
-use crate::sets::{self, Joined, SetNotes};
 use gf_groups::Timeline;
 use gf_ops::{Clock, Op, Value};
 use gf_parts::{Part, Parts};
+use gf_sets::{Joined, SetNotes, clock_beside, copied_sets, count, noted_sets};
 use gf_shape::OutOfMemory;
 use std::alloc::Global;
 use std::marker::Model;
@@ -26,7 +25,7 @@ pub(crate) struct Summary {
 }
 
 impl Model for Summary {
-    ghost use Rattle.gf_notes.specs.Sets.{AreIn, TellsSome};
+    ghost use Rattle.gf_sets.specs.Sets.{AreIn, TellsSome};
     ghost use Rattle.gf_notes.specs.Summaries.{SummaryState};
 
     ghost Value = { SummaryState };
@@ -63,7 +62,7 @@ impl Summary {
     pub(crate) fn copy(&self, alloc: Global) -> Result<Summary, OutOfMemory>
         ensures { IfOk result (λ copy. copy ≡ self.now) }
     {
-        let sets = sets::copied(alloc, &self.sets)?;
+        let sets = copied_sets(alloc, &self.sets)?;
         Ok(Summary {
             sets,
             others: self.others,
@@ -84,7 +83,7 @@ pub(crate) fn noted(
     ensures { NotesIn timeline.now summary op.now value.now position joined.now result }
 {
     let Summary { sets, others } = summary?;
-    let sets = sets::noted(sets, timeline, op, value, position, joined);
+    let sets = noted_sets(sets, timeline, op, value, position, joined);
     Some(Summary { sets, others })
 }
 

@@ -1,5 +1,5 @@
 use Rattle.std.proofs.Common.{rules}
-use Rattle.gf_notes.specs.Setters.{ListsMore}
+use Rattle.gf_sets.specs.Setters.{ListsMore}
 use Rattle.gf_notes.specs.Summaries.{NotesOtherIn}
 use Rattle.gf_notes.proofs.NotesLemmas.{free_notes}
 use Rattle.gf_notes.proofs.joining.add_free.Goals as goal

@@ -3,8 +3,8 @@ use Rattle.std.specs.Prelude.{IfSome, option_map}
 use Rattle.gf_groups.specs.Growing.{conflict_at}
 use Rattle.gf_parts.specs.Parted.{AreParts}
 use Rattle.gf_parts.specs.Parts.{whole}
-use Rattle.gf_notes.specs.declared.setters.Setter.{Setter}
-use Rattle.gf_notes.specs.Setters.{ListsAll, ListsMore}
+use Rattle.gf_sets.specs.declared.setters.Setter.{Setter}
+use Rattle.gf_sets.specs.Setters.{ListsAll, ListsMore}
 use Rattle.gf_notes.specs.Summaries.{SummaryState, NotesIn, TellsParts, TellsLast}
 use Rattle.gf_notes.proofs.NotesLemmas.{connected_notes, summary_told}
 use Rattle.gf_notes.proofs.joining.connect.Goals as goal

@@ -3,8 +3,8 @@ use Rattle.std.specs.Prelude.{Option, Some, None, slice_get}
 use Rattle.gf_ops.specs.ValidHistory.{IsWithin}
 use Rattle.gf_groups.specs.Growing.{conflict_at}
 use Rattle.gf_parts.specs.Parts.{with_part, last_with}
-use Rattle.gf_notes.specs.declared.sets.Joined.{Joined}
-use Rattle.gf_notes.specs.Sets.{IsJoined}
+use Rattle.gf_sets.specs.declared.sets.Joined.{Joined}
+use Rattle.gf_sets.specs.Sets.{IsJoined}
 use Rattle.gf_notes.specs.Summaries.{SummaryState, TellsLast, NotesIn}
 use Rattle.gf_notes.proofs.CallLemmas.{call_joins, call_told, if_some_weaker}
 use Rattle.gf_notes.proofs.joining.joined_sets.Goals as goal

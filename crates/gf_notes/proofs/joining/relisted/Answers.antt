@@ -1,6 +1,6 @@
 use Rattle.std.proofs.Common.{Vec, Global}
 use Rattle.std.specs.Prelude.{Some, option_map}
-use Rattle.gf_notes.specs.declared.setters.Setter.{Setter}
+use Rattle.gf_sets.specs.declared.setters.Setter.{Setter}
 use Rattle.gf_notes.proofs.NotesLemmas.{connected_listed}
 use Rattle.gf_notes.proofs.joining.relisted.Goals as goal
 

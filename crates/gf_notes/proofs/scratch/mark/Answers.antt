@@ -1,8 +1,8 @@
 use Rattle.std.proofs.Common.{pos, rules}
 use Rattle.std.proofs.lemmas.List.Elements.{Contains-get_or}
-use Rattle.gf_notes.specs.declared.setters.Setter.{Setter}
-use Rattle.gf_notes.specs.Prints.{print_of}
-use Rattle.gf_notes.specs.Setters.{is_rival}
+use Rattle.gf_sets.specs.declared.setters.Setter.{Setter}
+use Rattle.gf_sets.specs.Prints.{print_of}
+use Rattle.gf_sets.specs.Setters.{is_rival}
 use Rattle.gf_notes.proofs.MarkLemmas.{marked_kept, marked_more, only_marked, only_more}
 use Rattle.gf_notes.proofs.scratch.mark.Goals as goal
 use Rattle.gf_notes.proofs.scratch.mark.Goals.{else-is_rival-via-then-is_rival+else-not-set_mark, else-is_rival-via-else-is_rival}

@@ -1,6 +1,6 @@
 use Rattle.std.proofs.Common.{take}
-use Rattle.gf_notes.specs.Prints.{print_of}
-use Rattle.gf_notes.specs.Setters.{is_rival}
+use Rattle.gf_sets.specs.Prints.{print_of}
+use Rattle.gf_sets.specs.Setters.{is_rival}
 use Rattle.gf_notes.proofs.MarkLemmas.{AreMarked}
 use Rattle.gf_notes.proofs.scratch.mark.Given as goal
 

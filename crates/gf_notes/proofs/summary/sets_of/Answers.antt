@@ -1,6 +1,6 @@
 use Rattle.std.proofs.Common.{◌≡◌, rules, ap, subst, ◌∙◌}
 use Rattle.std.specs.Prelude.{IfSome, Some, unwrap_or}
-use Rattle.gf_notes.specs.Sets.{SetsState, AreIn, TellsSets}
+use Rattle.gf_sets.specs.Sets.{SetsState, AreIn, TellsSets}
 use Rattle.gf_notes.proofs.SummaryLemmas.{some_told}
 use Rattle.gf_notes.proofs.summary.sets_of.Goals as goal
 

@@ -1,5 +1,5 @@
 use Rattle.std.proofs.Common.{◌≡◌, ◌++◌, ◌∷◌, [], rules}
-use Rattle.gf_notes.specs.Clocks.{CountsBeside}
+use Rattle.gf_sets.specs.Clocks.{CountsBeside}
 use Rattle.gf_notes.specs.Summaries.{SummaryState}
 use Rattle.gf_notes.proofs.SummaryLemmas.{summed, all_in, in_parts}
 use Rattle.gf_notes.proofs.summary.Summary.of.Goals as goal

@@ -1,7 +1,0 @@
-use Rattle.std.proofs.Common.{take}
-use Rattle.gf_ops.specs.ValidHistory.{IsWithin}
-use Rattle.gf_notes.specs.Clocks.{CountsEach}
-use Rattle.gf_notes.proofs.clocks.counting.Given as goal
-
-abbrev pub invariant-loop-position : goal.invariant-loop-position
-invariant-loop-position l = IsWithin l.fn.clock l.new × CountsEach l.timeline l.new (take l.position-index l.positions)

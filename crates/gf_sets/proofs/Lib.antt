@@ -1,0 +1,5 @@
+pub mod ClockLemmas
+pub mod HomeLemmas
+pub mod PrintLemmas
+pub mod SetTailLemmas
+pub mod SetterLemmas

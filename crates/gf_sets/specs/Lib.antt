@@ -1,0 +1,4 @@
+pub mod Prints
+pub mod Clocks
+pub mod Sets
+pub mod Setters

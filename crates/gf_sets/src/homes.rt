@@ -1,0 +1,119 @@
+//! For each print of a part's values a set that has all operations of the part with it.
+
+ghost use Rattle.std.specs.Prelude.{◌≡◌, ◌⊎◌, [], None, Some, Contains, slice_index_or};
+ghost use Rattle.std.specs.Prelude.{IfSome, IsTrue, OnOk};
+ghost use Rattle.gf_sets.specs.Sets.{IsHome, IsInOne, PutsHome};
+
+use crate::prints::Print;
+use crate::setters::setter_at;
+use gf_groups::{Positions, Timeline};
+use gf_shape::OutOfMemory;
+use std::alloc::Global;
+use std::collections::BTreeMap;
+
+/// Of each print the index of such a set, or None where none is told.
+pub(crate) type Homes = BTreeMap<Print, Option<usize>>;
+
+/// Whether the set with this index has the position.
+fn holds(sets: &[Positions], set: usize, position: usize) -> bool
+    ensures { IsTrue result → Contains (slice_index_or sets.now set []) position }
+{
+    match sets.get(set) {
+        Some(set) => match set.as_slice().binary_search(&position) {
+            Ok(_) => true,
+            Err(_) => false,
+        },
+        None => false,
+    }
+}
+
+/// The home of the print of what stands at a position of the set with this index, by what it was.
+fn home_with(
+    sets: &[Positions],
+    set: usize,
+    position: usize,
+    home: Option<Option<usize>>,
+) -> Option<usize>
+    requires { Contains (slice_index_or sets.now set []) position }
+    ensures inside { IfSome result (λ new. Contains (slice_index_or sets.now new []) position) }
+    ensures kept { IfSome result (λ new. (home ≡ None) ⊎ (home ≡ Some (Some new))) }
+{
+    match home {
+        None => Some(set),
+        Some(Some(home)) => {
+            if holds(sets, home, position) {
+                Some(home)
+            } else {
+                None
+            }
+        }
+        Some(None) => None,
+    }
+}
+
+/// Puts the home of the print.
+pub(crate) fn put_home(
+    homes: &mut Homes,
+    print: Print,
+    home: Option<usize>,
+) -> Result<(), OutOfMemory>
+    ensures { OnOk result (PutsHome homes.old.entries print home homes.new.entries) }
+{
+    match homes.insert(print, home) {
+        Ok(_) => Ok(()),
+        Err(_) => Err(OutOfMemory),
+    }
+}
+
+/// Puts what stands at a position of the set with this index into the homes. Whether it is a
+/// setter, and there is memory.
+fn house(
+    timeline: &Timeline<'_>,
+    sets: &[Positions],
+    set: usize,
+    position: usize,
+    homes: &mut Homes,
+) -> bool
+    requires { Contains (slice_index_or sets.now set []) position }
+    ensures { IsTrue result → (b : _)
+        → IsHome timeline.now homes.old.entries sets.now b ⊎ (position ≡ b)
+        → IsHome timeline.now homes.new.entries sets.now b }
+{
+    let Some(setter) = setter_at(timeline, position) else {
+        return false;
+    };
+    let home = home_with(sets, set, position, homes.get(&setter.print).copied());
+    put_home(homes, setter.print, home).is_ok()
+}
+
+/// So with all of that set.
+fn house_set(timeline: &Timeline<'_>, sets: &[Positions], set: usize, homes: &mut Homes) -> bool
+    ensures { IsTrue result → (b : _) → IsHome timeline.now homes.old.entries sets.now b
+        ⊎ Contains (slice_index_or sets.now set []) b
+        → IsHome timeline.now homes.new.entries sets.now b }
+{
+    let Some(positions) = sets.get(set) else {
+        return true;
+    };
+    for position in positions.as_slice() {
+        if !house(timeline, sets, set, *position, homes) {
+            return false;
+        }
+    }
+    true
+}
+
+/// The homes of the sets, of which a later one comes before an earlier one: it is one of equal
+/// values, where these are of more than one site. None where one is no setter, or for want of memory.
+pub(crate) fn homes_of(alloc: Global, timeline: &Timeline<'_>, sets: &[Positions]) -> Option<Homes>
+    ensures { IfSome result (λ homes. (b : _) → IsInOne sets.now b
+        → IsHome timeline.now homes.entries sets.now b) }
+{
+    let mut homes = BTreeMap::new(alloc);
+    for before in 0..sets.len() {
+        if !house_set(timeline, sets, sets.len() - 1 - before, &mut homes) {
+            return None;
+        }
+    }
+    Some(homes)
+}
