@@ -2,7 +2,7 @@
 use Rattle.std.specs.Prelude.{◌⊎◌, ℕ, List, Option}
 use Rattle.gf_studio.specs.FigRun.{Exports, WritesFront}
 use Rattle.gf_studio.specs.PaintRun.{IsDenoted, IsMeant, WritesBands, WritesPicture, WritesPictureFront}
-use Rattle.gf_studio.specs.InspectRun.{WritesLook, WritesLookFront}
+use Rattle.gf_looks.specs.InspectRun.{WritesLook, WritesLookFront}
 use Rattle.gf_session_run.specs.SessionRun.{WritesSession, WritesSessionFront}
 use Rattle.gf_words.specs.declared.asking.Run.{Run}
 use Rattle.gf_words.specs.declared.asking.Run.TheVariants.{Fig, Paint, Repaint, Inspect, Session}

@@ -7,10 +7,8 @@ use Rattle.gf_fig_read.specs.FigGrammar.{Fails}
 use Rattle.gf_studio.specs.declared.studio_error.StudioError.{StudioError}
 use Rattle.gf_studio.specs.declared.studio_error.StudioError.TheVariants as studio
 use Rattle.gf_session.specs.declared.session.SessionError.TheVariants as session
-use Rattle.gf_studio.specs.declared.looks.Query.{Query}
 use Rattle.gf_reading.specs.Refusing.{Drops, HasFault}
 use Rattle.gf_studio.specs.FigRun.{RefusesCompiling}
-use Rattle.gf_studio.specs.InspectRun.{LooksForNone}
 
 -- an input has at most `most` bytes; those that are left go from old to new, and the count of failures from was to is
 module _ (most : ℕ) (old new : Option (List ℕ)) (was is : ℕ) where
@@ -75,16 +73,3 @@ RefusesFig text studio.ReadFailed = ⊤
 RefusesFig text studio.TooLong = ⊤
 RefusesFig text studio.WriteFailed = ⊤
 RefusesFig text studio.OutOfMemory = ⊤
-
--- why an inspecting run is refused
-abbrev pub RefusesLook : Query → List ℕ → StudioError → Type 0
-RefusesLook query bytes (studio.Line n cause) = HasFault bytes n cause
-RefusesLook query bytes (studio.Dropped id fault) = Drops bytes id fault
-RefusesLook query bytes (studio.Fig e) = ⊥
-RefusesLook query bytes (studio.Compile fault) = ⊥
-RefusesLook query bytes (studio.Session e) = ⊥
-RefusesLook query bytes (studio.NoObject o) = LooksForNone bytes query o
-RefusesLook query bytes studio.ReadFailed = ⊤
-RefusesLook query bytes studio.TooLong = ⊤
-RefusesLook query bytes studio.WriteFailed = ⊤
-RefusesLook query bytes studio.OutOfMemory = ⊤

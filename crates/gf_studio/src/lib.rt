@@ -1,11 +1,10 @@
 //! Whole runs over bytes: from the lines of an input to a history, its drawing, and the drawing's
-//! text or picture, from such lines to the lines of versions, and from FIG text to a picture.
+//! text or picture, and from FIG text to a picture.
 //!
 //! - [`fig_run`]: reads operation lines and writes the FIG text of their drawing; [`StudioError`]
 //!   with [`LineCause`] tells why not.
 //! - [`paint_run`]: reads operation lines and writes the picture of their drawing in a [`Window`].
 //! - [`repaint_run`]: reads a FIG text and writes the picture of the drawing that it reads as.
-//! - [`inspect_run`]: reads operation lines and writes what their history answers to a [`Query`].
 //! - [`input`], [`draw_site`]: what a run begins with, and the drawing of a site's history.
 //! - [`the_same_operations_draw_alike`], [`the_same_histories_draw_alike`]: the laws that neither
 //!   order nor repeats change a drawing.
@@ -21,7 +20,6 @@
 
 mod drawings;
 mod laws;
-mod looks;
 mod runs;
 mod studio_error;
 
@@ -36,6 +34,5 @@ pub use laws::{
     a_text_is_repainted_as_its_history_is_painted, the_same_histories_draw_alike,
     the_same_operations_draw_alike, what_denotes_a_history_is_not_refused,
 };
-pub use looks::{Query, inspect_run};
 pub use runs::{fig_run, paint_run, repaint_run};
 pub use studio_error::StudioError;

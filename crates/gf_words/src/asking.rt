@@ -6,7 +6,8 @@ use crate::describing::program;
 use crate::querying::{object_query, point_query};
 use clap::error::ErrorKind;
 use clap::{ArgMatches, Error};
-use gf_studio::{Query, Window};
+use gf_looks::Query;
+use gf_studio::Window;
 use std::alloc::{AllocError, Global};
 
 /// What the words ask for.

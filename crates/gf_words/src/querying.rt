@@ -2,9 +2,9 @@
 
 ghost use Rattle.std.specs.Prelude.{◌≤◌, IfSome};
 
+use gf_looks::Query;
 use gf_ops::{ObjectId, OpId};
 use gf_shape::Point;
-use gf_studio::Query;
 use std::str::FromStr;
 
 /// The query about an object spelt `SITE.SEQ`, with site 1 to 8 and seq 1 to 10,000.

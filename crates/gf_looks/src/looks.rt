@@ -4,19 +4,18 @@ ghost use Rattle.std.specs.Prelude.{◌≡◌, ◌≢◌, ◌+◌, ◌≤◌, �
 ghost use Rattle.std.specs.Prelude.{IsTrue};
 ghost use Rattle.gf_bytes.specs.Counts.{Rises};
 ghost use Rattle.gf_bytes.specs.Reads.{ConsumesAtMost};
-ghost use Rattle.gf_studio.specs.InspectRun.{Looks, Tells, TellsTop, TellsVersions, WritesLook};
-ghost use Rattle.gf_studio.specs.InspectRun.{WritesLookFront};
-ghost use Rattle.gf_studio.specs.RefusedParts.{RefusesAsking, RefusesQuery};
-ghost use Rattle.gf_studio.specs.RunAnswers.{ReadsFor, RefusesLook};
+ghost use Rattle.gf_studio.specs.RunAnswers.{ReadsFor};
+ghost use Rattle.gf_looks.specs.InspectRun.{Looks, RefusesLook, Tells, TellsTop, TellsVersions};
+ghost use Rattle.gf_looks.specs.InspectRun.{WritesLook, WritesLookFront};
+ghost use Rattle.gf_looks.specs.RefusedParts.{RefusesAsking, RefusesQuery};
 
-use crate::StudioError;
-use crate::drawings::input;
 use gf_bytes::{MOST_INPUT_BYTES, Sink, SinkFault, Source, write_whole};
 use gf_groups::GroupFault;
 use gf_inspect::{lines, top_at, top_line, versions};
 use gf_ops::{History, ObjectId};
 use gf_reading::read_site;
 use gf_shape::{OutOfMemory, Point};
+use gf_studio::{StudioError, input};
 use std::alloc::Global;
 
 /// What is asked of a history.

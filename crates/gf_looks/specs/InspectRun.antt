@@ -1,5 +1,5 @@
--- What the inspecting run writes: the versions of an object, or the version on top at a point (this project's choice).
-use Rattle.std.specs.Prelude.{◌≡◌, ℕ, List, Option, flat_map}
+-- What the inspecting run writes, the versions of an object or the version on top at a point, and why it is refused (this project's choice).
+use Rattle.std.specs.Prelude.{◌≡◌, ℕ, List, Option, flat_map, ⊤}
 use Rattle.std.specs.Io.KnownBytes.{Appends}
 use Rattle.gf_shape.specs.declared.point.Point.{Point}
 use Rattle.gf_ops.specs.declared.op.Op.{Op}
@@ -12,8 +12,11 @@ use Rattle.gf_inspect.specs.TopVersion.{NamesTop}
 use Rattle.gf_inspect.specs.VersionLines.{top_line, version_line}
 use Rattle.gf_bytes.specs.Taken.{AppendsFront}
 use Rattle.gf_reading.specs.Denoting.{Denotes}
-use Rattle.gf_studio.specs.declared.looks.Query.{Query}
-use Rattle.gf_studio.specs.declared.looks.Query.TheVariants as asked
+use Rattle.gf_reading.specs.Refusing.{Drops, HasFault}
+use Rattle.gf_studio.specs.declared.studio_error.StudioError.{StudioError}
+use Rattle.gf_studio.specs.declared.studio_error.StudioError.TheVariants as studio
+use Rattle.gf_looks.specs.declared.looks.Query.{Query}
+use Rattle.gf_looks.specs.declared.looks.Query.TheVariants as asked
 
 -- h has no operation that made the object o
 abbrev pub IsMissing : List Op → ObjectId → Type 0
@@ -61,3 +64,16 @@ pub record LooksForNone (bytes : List ℕ) (query : Query) (o : ObjectId) : Type
   pub history : List Op
   pub denoted : Denotes bytes history
   pub missing : IsMissing history o
+
+-- why an inspecting run is refused
+abbrev pub RefusesLook : Query → List ℕ → StudioError → Type 0
+RefusesLook query bytes (studio.Line n cause) = HasFault bytes n cause
+RefusesLook query bytes (studio.Dropped id fault) = Drops bytes id fault
+RefusesLook query bytes (studio.Fig e) = ⊥
+RefusesLook query bytes (studio.Compile fault) = ⊥
+RefusesLook query bytes (studio.Session e) = ⊥
+RefusesLook query bytes (studio.NoObject o) = LooksForNone bytes query o
+RefusesLook query bytes studio.ReadFailed = ⊤
+RefusesLook query bytes studio.TooLong = ⊤
+RefusesLook query bytes studio.WriteFailed = ⊤
+RefusesLook query bytes studio.OutOfMemory = ⊤

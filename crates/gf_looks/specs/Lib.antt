@@ -1,0 +1,2 @@
+pub mod InspectRun
+pub mod RefusedParts
