@@ -92,20 +92,20 @@ housed_more h first old new gs us i d l f g b (inr m) = elim (Contains-push_case
   | inr e ↦ g b (inr e)
 ]
 
--- one set more, from behind
-pub sets_housed : (h : List Op) (old new : List (Print × Option ℕ)) (gs : List (List ℕ)) (i : ℕ) → i < length gs → ((j b : ℕ) → length gs ≤ j + i → Contains (slice_index_or gs j []) b → IsHome h old gs b) →
-    ((b : ℕ) → IsHome h old gs b ⊎ Contains (slice_index_or gs (length gs - 1 - i) []) b → IsHome h new gs b) → (j b : ℕ) → length gs ≤ j + (i + 1) → Contains (slice_index_or gs j []) b → IsHome h new gs b
-sets_housed h old new gs i l f g j b m k = elim (cases_lt (j + i) (length gs)) [
-  | inl n ↦ let e : j ≡ length gs - 1 - i = omega (arith, l, m, n) in g b (inr (subst (λ z. Contains (slice_index_or gs z []) b) e k))
-  | inr n ↦ g b (inl (f j b n k))
+-- one set more
+pub sets_housed : (h : List Op) (old new : List (Print × Option ℕ)) (gs : List (List ℕ)) (i : ℕ) → ((j b : ℕ) → j < i → Contains (slice_index_or gs j []) b → IsHome h old gs b) →
+    ((b : ℕ) → IsHome h old gs b ⊎ Contains (slice_index_or gs i []) b → IsHome h new gs b) → (j b : ℕ) → j < i + 1 → Contains (slice_index_or gs j []) b → IsHome h new gs b
+sets_housed h old new gs i f g j b m k = elim (cases_lt j i) [
+  | inl n ↦ g b (inl (f j b n k))
+  | inr n ↦ let e : j ≡ i = omega (arith, m, n) in g b (inr (subst (λ z. Contains (slice_index_or gs z []) b) e k))
 ]
 
 -- what is in one of the sets is at its index
-pub one_housed : (P : ℕ → Type 0) (gs : List (List ℕ)) → ((j b : ℕ) → Contains (slice_index_or gs j []) b → P b) → (b : ℕ) → IsInOne gs b → P b
+pub one_housed : (P : ℕ → Type 0) (gs : List (List ℕ)) → ((j b : ℕ) → j < length gs → Contains (slice_index_or gs j []) b → P b) → (b : ℕ) → IsInOne gs b → P b
 one_housed P gs f b w =
     let m = w.1 in
     let at = slice_get-get_or gs m.0 w.0 m.1 ∙ ap (λ z. Some z) m.2 in
-    f m.0 b (subst (λ z. Contains z b) (sym (get_or_from_slice_get gs m.0 w.0 [] at)) w.2)
+    f m.0 b m.1 (subst (λ z. Contains z b) (sym (get_or_from_slice_get gs m.0 w.0 [] at)) w.2)
 
 -- what a search finds is there
 pub found_there : (us : List ℕ) (x i : ℕ) → i < length us → ((d : ℕ) → nat_cmp (slice_index_or us i d) x ≡ Equal) → Contains us x

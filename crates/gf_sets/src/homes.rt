@@ -5,6 +5,7 @@ ghost use Rattle.std.specs.Prelude.{IfSome, IsTrue, OnOk};
 ghost use Rattle.gf_sets.specs.Sets.{IsHome, IsInOne, PutsHome};
 
 use crate::prints::Print;
+use crate::set_tails::SetTails;
 use crate::setters::setter_at;
 use gf_groups::{Positions, Timeline};
 use gf_shape::OutOfMemory;
@@ -103,15 +104,33 @@ fn house_set(timeline: &Timeline<'_>, sets: &[Positions], set: usize, homes: &mu
     true
 }
 
-/// The homes of the sets, of which a later one comes before an earlier one: it is one of equal
-/// values, where these are of more than one site. None where one is no setter, or for want of memory.
-pub(crate) fn homes_of(alloc: Global, timeline: &Timeline<'_>, sets: &[Positions]) -> Option<Homes>
+/// Whether the tails of the set with this index are of several sites.
+fn is_shared(all: &[SetTails], set: usize) -> bool {
+    match all.get(set) {
+        Some(tails) => tails.are_several(),
+        None => false,
+    }
+}
+
+/// The homes of the sets with these tails. A set of several sites is mostly one of equal values, so
+/// those come first. None where one is no setter, or for want of memory.
+pub(crate) fn homes_of(
+    alloc: Global,
+    timeline: &Timeline<'_>,
+    sets: &[Positions],
+    tails: &[SetTails],
+) -> Option<Homes>
     ensures { IfSome result (λ homes. (b : _) → IsInOne sets.now b
         → IsHome timeline.now homes.entries sets.now b) }
 {
     let mut homes = BTreeMap::new(alloc);
-    for before in 0..sets.len() {
-        if !house_set(timeline, sets, sets.len() - 1 - before, &mut homes) {
+    for set in 0..sets.len() {
+        if is_shared(tails, set) && !house_set(timeline, sets, set, &mut homes) {
+            return None;
+        }
+    }
+    for set in 0..sets.len() {
+        if !house_set(timeline, sets, set, &mut homes) {
             return None;
         }
     }

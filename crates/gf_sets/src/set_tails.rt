@@ -106,6 +106,11 @@ impl SetTails {
         hits_one(timeline, value, past, &self.tails)
     }
 
+    /// Whether there are several, each of another site.
+    pub(crate) fn are_several(&self) -> bool {
+        1 < self.tails.len()
+    }
+
     /// Whether the clock counts all of the set.
     pub(crate) fn is_known(&self, past: &Clock) -> bool
         ensures { result ≡ is_known past.now self.now }

@@ -195,7 +195,7 @@ impl SetNotes {
             return None;
         }
         let tails = tails_of_sets(alloc, timeline, sets)?;
-        let homes = homes_of(alloc, timeline, sets)?;
+        let homes = homes_of(alloc, timeline, sets, &tails)?;
         Some(SetNotes {
             tails,
             homes,
