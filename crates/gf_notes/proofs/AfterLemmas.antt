@@ -13,7 +13,7 @@ use Rattle.gf_tails.specs.declared.tails.Tail.{Tail}
 use Rattle.gf_tails.specs.Tails.{noted, AreTails}
 use Rattle.gf_sets.specs.declared.setters.Setter.{Setter}
 use Rattle.gf_sets.specs.declared.sets.Joined.{Joined}
-use Rattle.gf_sets.specs.Prints.{print_of}
+use Rattle.gf_tails.specs.Prints.{print_of}
 use Rattle.gf_sets.specs.Sets.{SetsState, TellsTails, TellsSets, IsHome, GoesHome, NotesSets, home_of, tails_at, tails_with}
 use Rattle.gf_sets.proofs.ClockLemmas.{missed_more}
 use Rattle.gf_sets.proofs.HomeLemmas.{put_kept, put_own}

@@ -20,7 +20,7 @@ use Rattle.gf_sets.specs.declared.sets.Joined.{Joined}
 use Rattle.gf_sets.specs.Clocks.{CountsBeside}
 use Rattle.gf_notes.specs.Next.{IsNextTo, IsNextOf, Gives}
 use Rattle.gf_notes.specs.Notes.{NotesState}
-use Rattle.gf_sets.specs.Prints.{print_of}
+use Rattle.gf_tails.specs.Prints.{print_of}
 use Rattle.gf_sets.specs.Sets.{SetsState, TellsSets, TellsSome, GoesHome, IsJoined, NotesSome, home_of}
 use Rattle.gf_notes.specs.Summaries.{SummaryState, TellsParts, TellsLast, NotesIn}
 use Rattle.gf_notes.proofs.AfterLemmas.{told_with}

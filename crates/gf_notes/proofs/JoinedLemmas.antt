@@ -28,9 +28,9 @@ use Rattle.gf_parts.specs.Parts.{PartState, PartsState, alone, whole, touches, h
 use Rattle.gf_parts.proofs.JoiningLemmas.{JoinsSets, IsShared, next_joined, kept_joined, joins_last}
 use Rattle.gf_parts.proofs.PartsLemmas.{all_of_fold}
 use Rattle.gf_tails.specs.declared.tails.Tail.{Tail}
-use Rattle.gf_tails.specs.Giving.{HasSetter, op_gives}
+use Rattle.gf_tails.specs.Giving.{HasSetter}
 use Rattle.gf_tails.specs.Subjects.{subject_of, is_about}
-use Rattle.gf_tails.specs.Tails.{is_of, hits_one, IsUpTo, IsTail, AreTails}
+use Rattle.gf_tails.specs.Tails.{is_of, gave, hits_one, IsUpTo, IsTail, AreTails}
 use Rattle.gf_tails.proofs.GivenLemmas.{met, one_op}
 use Rattle.gf_tails.proofs.KeptTailsLemmas.{tail_gives, tail_kept}
 use Rattle.gf_tails.proofs.LongerLemmas.{got_before}
@@ -38,7 +38,7 @@ use Rattle.gf_tails.proofs.QuickLemmas.{quick}
 use Rattle.gf_tails.proofs.SubjectLemmas.{about_on, about_op}
 use Rattle.gf_sets.specs.declared.sets.Joined.{Joined}
 use Rattle.gf_sets.specs.Clocks.{CountsOthers}
-use Rattle.gf_sets.specs.Prints.{print_of}
+use Rattle.gf_tails.specs.Prints.{print_of}
 use Rattle.gf_sets.specs.Sets.{SetsState, TellsSets, TellsTails, IsHome, GoesHome, IsJoined, home_of, has_site, lacks, all_lack, is_apart, is_known, clashes, fits_other, fits}
 use Rattle.gf_sets.proofs.ClockLemmas.{calm_free, calm_before, calm_known}
 use Rattle.gf_notes.proofs.LongerPartsLemmas.{parts_longer}
@@ -370,12 +370,12 @@ module _ (h : List Op) (valid : IsValid h) (a : Op) (in_range : IsInRange a) (ac
             not_given f q b l told same None e y = elim told [
               | inl u ↦
                   let one : q.value ≡ v = sym u ∙ same in
-                  let here : op_gives (slice_get new f.position) v ≡ true = tail_gives_new f q ∙ subst (λ z. value_eq q.value z ≡ true) one (value_eq-same q.value) in
+                  let here : gave new v f ≡ true = tail_gives_new f q ∙ subst (λ z. value_eq q.value z ≡ true) one (value_eq-same q.value) in
                   let z : lacks new v f ≡ false = rw (e, here) refl in absurd cc
               | inr u ↦ absurd (subst (IsUpTo (home b (of b l)).op.id.seq) e u)
             ]
               where
-                tail_gives_new : (z : Tail) (q : IsTail h g z) → op_gives (slice_get new z.position) v ≡ value_eq q.value v
+                tail_gives_new : (z : Tail) (q : IsTail h g z) → gave new v z ≡ value_eq q.value v
                 tail_gives_new z q = tail_gives new g z (tail_kept h a g (λ x y. below x (of_part g (among i g at) x y)) z q) v
 
         shared : IsShared d (length h) gs g

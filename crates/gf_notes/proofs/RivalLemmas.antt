@@ -1,9 +1,8 @@
 -- The setters that are rivals of the next operation are exactly the operations that it conflicts with.
-use Rattle.std.proofs.Common.{◌≡◌, ◌≢◌, ℕ, ◌≤◌, ◌<◌, Bool, true, false, List, [], ◌∷◌, ◌++◌, length, inl, inr, refl, subst, sym, ap, ◌∙◌, arith}
-use Rattle.std.specs.Prelude.{◌↔◌, ◌&&◌, ◌||◌, ◌==◌, not, Contains, Option, Some, slice_get}
-use Rattle.std.proofs.lemmas.Bool.{cases_Bool, cases_lt, and_parts, and_from, or_cases, or_right, not-true, not_from_false}
-use Rattle.std.specs.Ordering.{int_eq}
-use Rattle.std.proofs.lemmas.Bool.Decides.{Decides-eqb, Decides-int_eq}
+use Rattle.std.proofs.Common.{◌≡◌, ◌≢◌, ℕ, ◌≤◌, ◌<◌, Bool, true, false, List, [], ◌∷◌, ◌++◌, length, inl, inr, subst, sym, ap, ◌∙◌, arith}
+use Rattle.std.specs.Prelude.{◌↔◌, ◌&&◌, ◌==◌, not, Contains, Some, slice_get}
+use Rattle.std.proofs.lemmas.Bool.{cases_Bool, cases_lt, and_parts, and_from, not-true, not_from_false}
+use Rattle.std.proofs.lemmas.Bool.Decides.{Decides-eqb}
 use Rattle.std.proofs.lemmas.Option.{slice_get_within}
 use Rattle.gf_ops.specs.declared.op.Op.{Op}
 use Rattle.gf_ops.specs.declared.op.OpId.{OpId}
@@ -24,30 +23,23 @@ use Rattle.gf_groups.specs.Rivals.{is_marked, AreRivals}
 use Rattle.gf_groups.proofs.ListLemmas.{list_any_true, list_any_from}
 use Rattle.gf_groups.proofs.OnPositionLemmas.{conflict_with}
 use Rattle.gf_parts.specs.Parts.{PartsState, whole}
-use Rattle.gf_sets.specs.declared.prints.Print.{Print}
 use Rattle.gf_sets.specs.declared.setters.Setter.{Setter}
 use Rattle.gf_notes.specs.Next.{IsNextTo, Gives}
-use Rattle.gf_sets.specs.Prints.{print_of}
-use Rattle.gf_sets.specs.Setters.{AreSetters, print_eq, is_rival, rival_at}
+use Rattle.gf_sets.specs.Setters.{AreSetters, is_rival, rival_at}
 use Rattle.gf_tails.specs.Giving.{HasSetter}
 use Rattle.gf_tails.specs.Subjects.{attribute_set, subject_of, is_about}
-use Rattle.gf_tails.specs.Giving.{op_gives, misses}
+use Rattle.gf_tails.specs.Giving.{gives_at, misses}
+use Rattle.gf_sets.proofs.SetterLemmas.{setter_gives}
+use Rattle.gf_tails.proofs.NotedLemmas.{same_value}
 use Rattle.gf_tails.proofs.LongerLemmas.{got_last, length-longer, same_before}
 use Rattle.gf_tails.proofs.GivenLemmas.{gives_other, met, missed, not_counted, one_op, same_answer}
 use Rattle.gf_tails.proofs.SubjectLemmas.{about_on, about_op, about_to}
 
-print_itself : (p : Print) → print_eq p p ≡ true
-print_itself p = and_from (int_eq p.first p.first) (int_eq p.second p.second) ((Decides-int_eq p.first p.first).1 refl) ((Decides-int_eq p.second p.second).1 refl)
-
--- what gives v and what gives the same are no rivals
-given_itself : (r : Option Op) (b : Op) (o : ObjectId) (v : Value) → r ≡ Some b → b.change ≡ Set o v → op_gives r v ≡ true
-given_itself r b o v at change = ap (λ q. op_gives q v) at ∙ (ap (λ k. op_gives (Some (record { id = b.id; past = b.past; change = k })) v) change ∙ value_eq-same v)
-
-given_other : (r : Option Op) (b : Op) (o : ObjectId) (u v : Value) → r ≡ Some b → b.change ≡ Set o u → u ≢ v → op_gives r v ≡ false
-given_other r b o u v at change differ = ap (λ q. op_gives q v) at ∙ (ap (λ k. op_gives (Some (record { id = b.id; past = b.past; change = k })) v) change ∙ elim (cases_Bool (value_eq u v)) [
+other_value : (u v : Value) → u ≢ v → value_eq u v ≡ false
+other_value u v differ = elim (cases_Bool (value_eq u v)) [
   | inl y ↦ absurd (differ (value_eq-true u v y))
   | inr n ↦ n
-])
+]
 
 -- a comes behind h and gives v to the object o; us are all positions of its subject, and ss their setters
 module _ (h : List Op) (valid : IsValid h) (a : Op) (in_range : IsInRange a) (accepted : IsAccepted h a) (us : List ℕ) (exactly : (i : ℕ) → Contains us i ↔ (is_about (subject_of a) (slice_get h i) ≡ true))
@@ -59,7 +51,7 @@ module _ (h : List Op) (valid : IsValid h) (a : Op) (in_range : IsInRange a) (ac
   c = conflict_at new
 
   abbrev rival : Setter → Bool
-  rival = is_rival new v (print_of v) a.past
+  rival = is_rival new v a.past
 
   on : (i : ℕ) → Contains us i → is_on (object_of a) (slice_get h i) ≡ true
   on i m = about_on (subject_of a) (slice_get h i) ((exactly i).0 m)
@@ -72,9 +64,8 @@ module _ (h : List Op) (valid : IsValid h) (a : Op) (in_range : IsInRange a) (ac
   rival_meets s m y =
       let w = listed.each s m in
       let t = w.1 in
-      let e = print_eq (print_of v) s.print in
-      let g = op_gives (slice_get new s.position) v in
-      let k = and_parts (misses a.past s.id.site (Some s.id.seq)) (not e || not g) y in
+      let g = gives_at new s.position s.print v in
+      let k = and_parts (misses a.past s.id.site (Some s.id.seq)) (not g) y in
       let setter : HasSetter h us s.id t.tells.given = record {
         op = t.op;
         position = s.position;
@@ -85,16 +76,10 @@ module _ (h : List Op) (valid : IsValid h) (a : Op) (in_range : IsInRange a) (ac
         change = t.tells.change;
       } in
       met h valid a in_range accepted us on o v gives (λ i j. (exactly i).0 j) s.id t.tells.given setter
-      (λ same. elim (or_cases (not e) (not g) k.1) [
-        | inl n ↦
-            let no = not-true e n in
-            let yes : e ≡ true = subst (λ p. print_eq (print_of v) p ≡ true) (ap print_of (sym same) ∙ t.tells.print) (print_itself (print_of v)) in
-            absurd cc
-        | inr n ↦
-            let no = not-true g n in
-            let yes : g ≡ true = given_itself (slice_get new s.position) t.op t.tells.object v t.at (subst (λ u. t.op.change ≡ Set t.tells.object u) same t.tells.change) in
-            absurd cc
-      ])
+      (λ same.
+      let no = not-true g k.1 in
+      let yes : g ≡ true = setter_gives new s t v ∙ subst (λ u. value_eq t.tells.given u ≡ true) same (value_eq-same t.tells.given) in
+      absurd cc)
       (not_counted a.past s.id.site s.id.seq k.0)
 
   -- what conflicts is there before
@@ -118,7 +103,7 @@ module _ (h : List Op) (valid : IsValid h) (a : Op) (in_range : IsInRange a) (ac
       (exactly q).1 (subst (λ r. is_about (subject_of a) r ≡ true) (sym at) (about_to (subject_of a) b one))
 
   -- what conflicts is a rival
-  meets_rival : (q : ℕ) → c (length h) q ≡ true → rival_at new v (print_of v) a.past ss q ≡ true
+  meets_rival : (q : ℕ) → c (length h) q ≡ true → rival_at new v a.past ss q ≡ true
   meets_rival q y =
       let k = conflict_with (slice_get new (length h)) (slice_get new q) a (got_last h a) y in
       let b = k.0 in
@@ -131,27 +116,27 @@ module _ (h : List Op) (valid : IsValid h) (a : Op) (in_range : IsInRange a) (ac
       let same : t.op ≡ b = one_op (slice_get new s.position) t.op b t.at here in
       let id : b.id ≡ s.id = sym (ap (λ (z : Op). z.id) same) ∙ t.tells.id in
       let late : ¬ (s.id.seq ≤ entry a.past s.id.site) = subst (λ (i : OpId). ¬ (i.seq ≤ entry a.past i.site)) id k.2.concurrent.not_after in
-      let e = print_eq (print_of v) s.print in
-      let f = op_gives (slice_get new s.position) v in
-      let other : f ≡ false = given_other (slice_get new s.position) b g.object g.given v here g.change g.differ in
+      let f = gives_at new s.position s.print v in
+      let given : g.given ≡ t.tells.given = same_value b.change t.tells.object g.object t.tells.given g.given (subst (λ (z : Op). z.change ≡ Set t.tells.object t.tells.given) same t.tells.change) g.change in
+      let other : f ≡ false = setter_gives new s t v ∙ other_value t.tells.given v (λ d. g.differ (given ∙ d)) in
       list_any_from (λ (z : Setter). z.position == q && rival z) ss s w.1
       (and_from (s.position == q) (rival s) ((Decides-eqb s.position q).1 w.2)
-      (and_from (misses a.past s.id.site (Some s.id.seq)) (not e || not f) (missed a.past s.id.site s.id.seq late) (or_right (not e) (not f) (not_from_false f other))))
+      (and_from (misses a.past s.id.site (Some s.id.seq)) (not f) (missed a.past s.id.site s.id.seq late) (not_from_false f other)))
 
-  only_rivals : (q : ℕ) → rival_at new v (print_of v) a.past ss q ≡ true → c (length h) q ≡ true
+  only_rivals : (q : ℕ) → rival_at new v a.past ss q ≡ true → c (length h) q ≡ true
   only_rivals q y =
       let w = list_any_true (λ (z : Setter). z.position == q && rival z) ss y in
       let k = and_parts (w.0.position == q) (rival w.0) w.2 in
       subst (λ i. c (length h) i ≡ true) ((Decides-eqb w.0.position q).0 k.0) (rival_meets w.0 w.1 k.1)
 
-  pub told_rivals : (ms : List Bool) → ((q : ℕ) → is_marked ms q ≡ rival_at new v (print_of v) a.past ss q) → AreRivals new (length h) ms
-  told_rivals ms marked q = marked q ∙ same_answer (rival_at new v (print_of v) a.past ss q) (c (length h) q) (only_rivals q) (meets_rival q)
+  pub told_rivals : (ms : List Bool) → ((q : ℕ) → is_marked ms q ≡ rival_at new v a.past ss q) → AreRivals new (length h) ms
+  told_rivals ms marked q = marked q ∙ same_answer (rival_at new v a.past ss q) (c (length h) q) (only_rivals q) (meets_rival q)
 
 -- THE RIVALS, as they are marked
 pub known_rivals : (g : List Op) (a : Op) (n : ℕ) (s : PartsState) → IsNextTo g a n s → (v : Value) → Gives a v → (ss : List Setter) → AreSetters g (whole s).all ss → (ms : List Bool) →
-    ((q : ℕ) → is_marked ms q ≡ rival_at g v (print_of v) a.past ss q) → AreRivals g n ms
+    ((q : ℕ) → is_marked ms q ≡ rival_at g v a.past ss q) → AreRivals g n ms
 known_rivals g a n s next v gives ss listed ms marked =
     let h = next.history in
     let told = told_rivals h next.valid a next.in_range next.accepted (whole s).all next.positions gives.0 v gives.1 ss (subst (λ z. AreSetters z (whole s).all ss) next.longer listed) ms
-    (subst (λ z. (q : ℕ) → is_marked ms q ≡ rival_at z v (print_of v) a.past ss q) next.longer marked) in
+    (subst (λ z. (q : ℕ) → is_marked ms q ≡ rival_at z v a.past ss q) next.longer marked) in
     subst (λ z. AreRivals z n ms) (sym next.longer) (subst (λ i. AreRivals (h ++ a ∷ []) i ms) (sym next.position) told)

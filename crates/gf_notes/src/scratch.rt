@@ -5,13 +5,12 @@ ghost use Rattle.gf_groups.specs.Growing.{conflict_at};
 ghost use Rattle.gf_groups.specs.Rivals.{is_marked};
 ghost use Rattle.gf_parts.specs.Parts.{whole, with_part};
 ghost use Rattle.gf_notes.specs.Next.{IsNextTo, Gives};
-ghost use Rattle.gf_sets.specs.Prints.{print_of};
 ghost use Rattle.gf_sets.specs.Setters.{AreSetters, rival_at, IsClean, MarksOnly};
 
 use gf_groups::{Rivals, Timeline};
 use gf_ops::{Op, Value};
 use gf_parts::Parts;
-use gf_sets::{Setter, is_rival, print_of};
+use gf_sets::{Setter, is_rival};
 use gf_shape::OutOfMemory;
 use std::alloc::Global;
 use std::marker::Model;
@@ -60,17 +59,14 @@ fn mark(
 ) -> bool
     requires { IsClean marks.old.items }
     ensures rivals { IsTrue result → (q : _) → is_marked marks.new.items q
-        ≡ rival_at timeline.now value.now (print_of value.now) op.now.past setters.now q }
+        ≡ rival_at timeline.now value.now op.now.past setters.now q }
     ensures only { MarksOnly setters.now marks.new.items }
 {
     let Ok(()) = marks.resize(position, false) else {
         return false;
     };
-    let print = print_of(value);
     for setter in setters {
-        if is_rival(timeline, value, &print, &op.past, setter)
-            && !set_mark(marks, setter.position, true)
-        {
+        if is_rival(timeline, value, &op.past, setter) && !set_mark(marks, setter.position, true) {
             return false;
         }
     }

@@ -2,28 +2,26 @@
 use Rattle.std.proofs.Common.{◌≡◌, ℕ, List, [], ◌+◌, ◌<◌, take, length, get_or, inl, inr, refl, subst, sym, ap, ◌∙◌, arith}
 use Rattle.std.specs.Prelude.{◌⊎◌, Contains, IfSome, Option, Some, None, unwrap_or, slice_index_or}
 use Rattle.std.specs.BTreeMap.{is_at}
-use Rattle.std.specs.Ordering.{is_eq, nat_cmp}
+use Rattle.std.specs.Ordering.{nat_cmp}
 use Rattle.std.specs.declared.cmp.Ordering.TheVariants.{Equal}
 use Rattle.gf_parts.proofs.ProductLemmas.{nat_exact}
 use Rattle.std.proofs.lemmas.Bool.{cases_Bool, cases_lt, cond-true, cond-false}
 use Rattle.std.proofs.lemmas.Option.{slice_get-get_or, get_or_from_slice_get}
-use Rattle.std.proofs.lemmas.Cmp.{tied_itself}
 use Rattle.std.proofs.lemmas.List.{take_more}
 use Rattle.std.proofs.lemmas.List.Elements.{Contains-push_cases}
 use Rattle.gf_ops.specs.declared.op.Op.{Op}
-use Rattle.gf_groups.proofs.SortedLemmas.{equal_left}
-use Rattle.gf_sets.specs.declared.prints.Print.{Print}
+use Rattle.gf_tails.specs.declared.prints.Print.{Print}
+use Rattle.gf_tails.specs.Prints.{print_of, print_cmp}
+use Rattle.gf_tails.proofs.PrintLemmas.{print_at_itself, print_told}
 use Rattle.gf_sets.specs.declared.setters.Setter.{Setter}
-use Rattle.gf_sets.specs.Prints.{print_of, print_cmp}
 use Rattle.gf_sets.specs.Sets.{home_of, IsHome, IsInOne, PutsHome}
 use Rattle.gf_sets.specs.Setters.{IsSetterAt}
-use Rattle.gf_sets.proofs.PrintLemmas.{print_cmp_total, print_cmp_exact}
 
 -- the home r of the print p was put, where it was none, or r if that is one
 module _ (old new : List (Print × Option ℕ)) (p : Print) (r : Option ℕ) (put : PutsHome old p r new) where
   -- the print's home
   pub put_there : home_of new p ≡ Some r
-  put_there = put p ∙ cond-true (is_at (print_cmp p) p) (Some r) (home_of old p) (ap is_eq (tied_itself print_cmp_total p))
+  put_there = put p ∙ cond-true (is_at (print_cmp p) p) (Some r) (home_of old p) (print_at_itself p)
 
   -- whose print has a home has one
   pub put_kept : (h : List Op) (gs ks : List (List ℕ)) → ((j b : ℕ) → Contains (slice_index_or gs j []) b → Contains (slice_index_or ks j []) b) →
@@ -32,7 +30,7 @@ module _ (old new : List (Print × Option ℕ)) (p : Print) (r : Option ℕ) (pu
       let q = print_of t.given in
       elim (cases_Bool (is_at (print_cmp p) q)) [
         | inl y ↦
-            let same : p ≡ q = print_cmp_exact p q (equal_left (print_cmp p q) y) in
+            let same : p ≡ q = print_told p q y in
             let was : home_of old p ≡ Some t.home = subst (λ z. home_of old z ≡ Some t.home) (sym same) t.found in
             record {
               op = t.op;
@@ -68,7 +66,7 @@ module _ (old new : List (Print × Option ℕ)) (p : Print) (r : Option ℕ) (pu
     given = t.tells.given;
     change = t.tells.change;
     home = r;
-    found = subst (λ z. home_of new z ≡ Some r) (sym (t.tells.print ∙ print)) put_there;
+    found = subst (λ z. home_of new z ≡ Some r) (sym (sym t.tells.print ∙ print)) put_there;
     inside = inside;
   }
 

@@ -1,5 +1,4 @@
 pub mod ClockLemmas
 pub mod HomeLemmas
-pub mod PrintLemmas
 pub mod SetTailLemmas
 pub mod SetterLemmas

@@ -1,14 +1,22 @@
--- The setters that are listed: with one more, at other positions, and of a longer history.
+-- The setters that are listed: what they give, with one more, at other positions, and of a longer history.
 use Rattle.std.proofs.Common.{◌≡◌, ℕ, false, List, [], ◌∷◌, ◌++◌, length, inl, inr, refl, subst, sym, ◌∙◌}
 use Rattle.std.specs.Prelude.{◌⊎◌, ◌↔◌, Contains, Option, Some, None, slice_get}
 use Rattle.std.proofs.lemmas.List.Elements.{Contains-append_cases, Contains-append_left, Contains-append_right, Contains-push, Contains-push_cases}
 use Rattle.gf_ops.specs.declared.op.Op.{Op}
+use Rattle.gf_ops.specs.declared.change.Value.{Value}
+use Rattle.gf_ops.specs.ConflictTests.{value_eq}
 use Rattle.gf_ops.proofs.ListLemmas.{not_Contains-nil}
 use Rattle.gf_parts.specs.Parts.{PartState, alone, whole}
 use Rattle.gf_parts.proofs.PartsLemmas.{all_of_fold}
 use Rattle.gf_sets.specs.declared.setters.Setter.{Setter}
 use Rattle.gf_sets.specs.Setters.{IsSetterAt, AreSetters, ListsAll, AddsSetter, ListsMore}
+use Rattle.gf_tails.specs.Giving.{gives_at}
+use Rattle.gf_tails.proofs.PrintLemmas.{print_tells}
 use Rattle.gf_tails.proofs.LongerLemmas.{got_last, got_before}
+
+-- whether it gives v
+pub setter_gives : (h : List Op) (s : Setter) (t : IsSetterAt h s.position s) (v : Value) → gives_at h s.position s.print v ≡ value_eq t.tells.given v
+setter_gives h s t v = subst (λ p. gives_at h s.position p v ≡ value_eq t.tells.given v) (sym t.tells.print) (print_tells h s.position t.op t.at t.tells.object t.tells.given t.tells.change v)
 
 -- no setter
 pub no_setter : (h : List Op) → AreSetters h [] []

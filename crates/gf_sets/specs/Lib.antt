@@ -1,4 +1,3 @@
-pub mod Prints
 pub mod Clocks
 pub mod Sets
 pub mod Setters

@@ -1,5 +1,5 @@
 -- What is kept of the sets of a part: of each its tails, of each print a set that has all of its operations, and a clock that counts none of the part.
-use Rattle.std.specs.Prelude.{◌≡◌, ◌≢◌, ℕ, ◌<◌, Bool, true, false, cond, not, ◌&&◌, ◌||◌, ◌==◌, nat_le, List, [], ◌∷◌, Contains, length, Option, Some, None, slice_get, slice_set, slice_index_or, unwrap_or, IfSome, ⊤}
+use Rattle.std.specs.Prelude.{◌≡◌, ◌≢◌, ℕ, ◌<◌, Bool, true, cond, not, ◌&&◌, ◌||◌, ◌==◌, nat_le, List, [], ◌∷◌, Contains, length, Option, Some, None, is_none, slice_get, slice_set, slice_index_or, unwrap_or, IfSome, ⊤}
 use Rattle.std.specs.List.{list_any, list_all}
 use Rattle.std.specs.BTreeMap.{is_at}
 use Rattle.std.specs.Map.{lookup}
@@ -9,13 +9,13 @@ use Rattle.gf_ops.specs.declared.op.OpId.{OpId}
 use Rattle.gf_ops.specs.declared.op.Clock.{Clock}
 use Rattle.gf_ops.specs.declared.change.Change.TheVariants.{Set}
 use Rattle.gf_ops.specs.declared.change.Value.{Value}
+use Rattle.gf_tails.specs.declared.prints.Print.{Print}
 use Rattle.gf_tails.specs.declared.tails.Tail.{Tail}
-use Rattle.gf_tails.specs.Giving.{op_gives, misses}
-use Rattle.gf_tails.specs.Tails.{is_of, hits_one, noted, AreTails}
-use Rattle.gf_sets.specs.declared.prints.Print.{Print}
+use Rattle.gf_tails.specs.Giving.{misses}
+use Rattle.gf_tails.specs.Prints.{print_of, print_cmp}
+use Rattle.gf_tails.specs.Tails.{is_of, gave, hits_one, noted, AreTails}
 use Rattle.gf_sets.specs.declared.sets.Joined.{Joined}
 use Rattle.gf_sets.specs.Clocks.{CountsLess, MissesEach, KnowsOwnAlone}
-use Rattle.gf_sets.specs.Prints.{print_of, print_cmp}
 
 -- the tails of each set, for each print the index of a set unless none is told, and a clock
 pub record SetsState : Type 0 where
@@ -79,14 +79,9 @@ misses_one past es = list_any (misses_last past) es
 abbrev pub is_known : Clock → List Tail → Bool
 is_known past es = not (misses_one past es)
 
--- where the number of a setter of another value is r, and at the position n one does not give v, none gives it
-abbrev pub lacks_at : List Op → Value → ℕ → Option ℕ → Bool
-lacks_at h v n None = not (op_gives (slice_get h n) v)
-lacks_at h v n (Some k) = false
-
--- no setter of the tail's site gave v
+-- the tail has no number of a setter of another value, and its last one did not give v: none of its site gave v
 abbrev pub lacks : List Op → Value → Tail → Bool
-lacks h v e = lacks_at h v e.position e.other
+lacks h v e = is_none e.other && not (gave h v e)
 
 abbrev pub all_lack : List Op → Value → List Tail → Bool
 all_lack h v es = list_all (lacks h v) es

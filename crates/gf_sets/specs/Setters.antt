@@ -1,17 +1,15 @@
--- The setters of an attribute of an object, side by side: of each its id, its position, and two numbers of its value.
-use Rattle.std.specs.Prelude.{◌≡◌, ℕ, Bool, true, false, not, ◌&&◌, ◌||◌, ◌==◌, List, [], ◌∷◌, ◌++◌, Contains, Option, Some, None, slice_get, ⊤}
+-- The setters of an attribute of an object, side by side: of each its id, its position, and the print of its value.
+use Rattle.std.specs.Prelude.{◌≡◌, ℕ, Bool, true, false, not, ◌&&◌, ◌==◌, List, [], ◌∷◌, ◌++◌, Contains, Option, Some, None, slice_get, ⊤}
 use Rattle.std.specs.List.{list_any}
-use Rattle.std.specs.Ordering.{int_eq}
 use Rattle.gf_ops.specs.declared.op.Op.{Op}
 use Rattle.gf_ops.specs.declared.op.ObjectId.{ObjectId}
 use Rattle.gf_ops.specs.declared.op.Clock.{Clock}
 use Rattle.gf_ops.specs.declared.change.Change.TheVariants.{Set}
 use Rattle.gf_ops.specs.declared.change.Value.{Value}
 use Rattle.gf_groups.specs.Rivals.{is_marked}
-use Rattle.gf_sets.specs.declared.prints.Print.{Print}
 use Rattle.gf_sets.specs.declared.setters.Setter.{Setter}
-use Rattle.gf_sets.specs.Prints.{print_of}
-use Rattle.gf_tails.specs.Giving.{op_gives, misses}
+use Rattle.gf_tails.specs.Giving.{gives_at, misses}
+use Rattle.gf_tails.specs.Prints.{print_of}
 
 -- the setter tells of the operation, which stands at the position n
 pub record IsSetterOf (op : Op) (n : ℕ) (s : Setter) : Type 0 where
@@ -20,7 +18,7 @@ pub record IsSetterOf (op : Op) (n : ℕ) (s : Setter) : Type 0 where
   pub object : ObjectId
   pub given : Value
   pub change : op.change ≡ Set object given
-  pub print : print_of given ≡ s.print
+  pub print : s.print ≡ print_of given
 
 -- it tells of the operation of h at the position n
 pub record IsSetterAt (h : List Op) (n : ℕ) (s : Setter) : Type 0 where
@@ -52,17 +50,13 @@ ListsMore None op n (Some rs) = ⊥
 
 -- ---- which of them conflict with the next operation
 
--- two prints are one
-abbrev pub print_eq : Print → Print → Bool
-print_eq p q = int_eq p.first q.first && int_eq p.second q.second
-
--- the setter conflicts with what gives v, with the print p, and knows what the clock counts
-abbrev pub is_rival : List Op → Value → Print → Clock → Setter → Bool
-is_rival h v p past s = misses past s.id.site (Some s.id.seq) && (not (print_eq p s.print) || not (op_gives (slice_get h s.position) v))
+-- the setter conflicts with what gives v, and knows what the clock counts
+abbrev pub is_rival : List Op → Value → Clock → Setter → Bool
+is_rival h v past s = misses past s.id.site (Some s.id.seq) && not (gives_at h s.position s.print v)
 
 -- one of them at the position q does
-abbrev pub rival_at : List Op → Value → Print → Clock → List Setter → ℕ → Bool
-rival_at h v p past ss q = list_any (λ (s : Setter). s.position == q && is_rival h v p past s) ss
+abbrev pub rival_at : List Op → Value → Clock → List Setter → ℕ → Bool
+rival_at h v past ss q = list_any (λ (s : Setter). s.position == q && is_rival h v past s) ss
 
 -- ---- marks of positions
 

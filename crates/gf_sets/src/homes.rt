@@ -4,11 +4,11 @@ ghost use Rattle.std.specs.Prelude.{◌≡◌, ◌⊎◌, [], None, Some, Contai
 ghost use Rattle.std.specs.Prelude.{IfSome, IsTrue, OnOk};
 ghost use Rattle.gf_sets.specs.Sets.{IsHome, IsInOne, PutsHome};
 
-use crate::prints::Print;
 use crate::set_tails::SetTails;
 use crate::setters::setter_at;
 use gf_groups::{Positions, Timeline};
 use gf_shape::OutOfMemory;
+use gf_tails::Print;
 use std::alloc::Global;
 use std::collections::BTreeMap;
 

@@ -5,17 +5,14 @@
 //!   [`copied_setters`], and [`is_rival`], whether one conflicts with the next operation.
 //! - [`SetNotes`]: what is kept of the sets of a part; [`Joined`], [`noted_sets`], [`copied_sets`].
 //! - [`count`], [`clock_beside`]: a clock that counts all of some operations.
-//! - [`Print`], [`print_of`]: two numbers of a value.
 #![tactic(auto)]
 
 mod clocks;
 mod homes;
-mod prints;
 mod set_tails;
 mod sets;
 mod setters;
 
 pub use clocks::{clock_beside, count};
-pub use prints::{Print, print_of};
 pub use sets::{Joined, SetNotes, copied_sets, noted_sets};
 pub use setters::{Setter, copied_setters, is_rival, setters_of, with_setter};

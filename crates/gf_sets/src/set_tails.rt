@@ -9,7 +9,7 @@ ghost use Rattle.gf_sets.specs.Sets.{misses_last, misses_one, is_known, is_ahead
 use gf_groups::{Positions, Timeline};
 use gf_ops::{Change, Clock, Op, OpId, Value};
 use gf_shape::OutOfMemory;
-use gf_tails::{Tail, hits_one, is_of, misses, note, op_gives};
+use gf_tails::{Tail, gave, hits_one, is_of, misses, note};
 use std::alloc::Global;
 use std::marker::Model;
 
@@ -32,10 +32,7 @@ impl Model for SetTails {
 fn lacks(timeline: &Timeline<'_>, value: &Value, tail: &Tail) -> bool
     ensures { result ≡ lacks timeline.now value.now tail.now }
 {
-    match tail.other {
-        None => !op_gives(timeline.get(tail.position), value),
-        Some(_) => false,
-    }
+    tail.other.is_none() && !gave(timeline, value, tail)
 }
 
 /// Whether one of the tails is of the site.

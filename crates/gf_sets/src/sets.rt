@@ -1,18 +1,18 @@
 //! What is kept of the sets of a part, and which of them the next operation joins.
 
 ghost use Rattle.std.specs.Prelude.{◌≡◌, ◌<◌, IfOk, IfSome, IsTrue, OnOk};
-ghost use Rattle.gf_sets.specs.Prints.{print_of};
+ghost use Rattle.gf_tails.specs.Prints.{print_of};
 ghost use Rattle.gf_ops.specs.Limits.{IsInRange};
 ghost use Rattle.gf_sets.specs.Sets.{TellsSets, AreIn, IsJoined, NotesSome, GoesHome};
 ghost use Rattle.gf_sets.specs.Sets.{clashes, fits_other, fits, FitsAll, home_of, tails_at, tails_with};
 
 use crate::clocks::{clock_before, knows_own_alone, lower};
 use crate::homes::{Homes, homes_of, put_home};
-use crate::prints::print_of;
 use crate::set_tails::{SetTails, copied_tails, known_set, tails_of_sets};
 use gf_groups::{Positions, Timeline};
 use gf_ops::{Clock, Op, Value};
 use gf_shape::OutOfMemory;
+use gf_tails::print_of;
 use std::alloc::Global;
 use std::marker::Model;
 

@@ -1,17 +1,15 @@
-//! The setters of an attribute side by side, to tell without a look at the history which of them the
-//! next operation conflicts with.
+//! The setters of an attribute side by side, to tell which of them the next operation conflicts with.
 
 ghost use Rattle.std.specs.Prelude.{◌≡◌, ◌++◌, option_map, IfOk, IfSome};
 ghost use Rattle.gf_parts.specs.Parts.{whole};
 ghost use Rattle.gf_sets.specs.Setters.{IsSetterOf, IsSetterAt, AreSetters, ListsMore};
-ghost use Rattle.gf_sets.specs.Setters.{print_eq, is_rival};
+ghost use Rattle.gf_sets.specs.Setters.{is_rival};
 
-use crate::prints::{Print, print_of};
 use gf_groups::Timeline;
 use gf_ops::{Change, Clock, Op, OpId, Value};
 use gf_parts::Parts;
 use gf_shape::OutOfMemory;
-use gf_tails::{misses, op_gives};
+use gf_tails::{Print, gives_at, misses, print_of};
 use std::alloc::Global;
 
 /// An operation that sets the attribute: its id, its position, and the print of its value.
@@ -99,24 +97,10 @@ pub fn copied_setters(
     Ok(Some(copy))
 }
 
-/// Whether two prints are one.
-fn print_eq(print: &Print, other: &Print) -> bool
-    ensures { result ≡ print_eq print.now other.now }
-{
-    print == other
-}
-
-/// Whether the setter conflicts with what gives the value, with this print, and knows what the clock
-/// counts. The history is asked only where the prints are one.
-pub fn is_rival(
-    timeline: &Timeline<'_>,
-    value: &Value,
-    print: &Print,
-    past: &Clock,
-    setter: &Setter,
-) -> bool
-    ensures { result ≡ is_rival timeline.now value.now print.now past.now setter.now }
+/// Whether the setter conflicts with what gives the value, and knows what the clock counts.
+pub fn is_rival(timeline: &Timeline<'_>, value: &Value, past: &Clock, setter: &Setter) -> bool
+    ensures { result ≡ is_rival timeline.now value.now past.now setter.now }
 {
     misses(past, setter.id.site, Some(setter.id.seq))
-        && (!print_eq(print, &setter.print) || !op_gives(timeline.get(setter.position), value))
+        && !gives_at(timeline, setter.position, &setter.print, value)
 }

@@ -1,5 +1,5 @@
 -- Tails stay true at more positions, and in a history that got longer.
-use Rattle.std.proofs.Common.{◌≡◌, ℕ, ◌<◌, List, [], ◌∷◌, ◌++◌, length, ap, subst, sym, ◌∙◌}
+use Rattle.std.proofs.Common.{◌≡◌, ℕ, ◌<◌, List, [], ◌∷◌, ◌++◌, length, subst, sym, ◌∙◌}
 use Rattle.std.specs.Prelude.{◌↔◌, Contains, Some, slice_get}
 use Rattle.gf_ops.specs.declared.op.Op.{Op}
 use Rattle.gf_ops.specs.declared.op.OpId.{OpId}
@@ -7,9 +7,10 @@ use Rattle.gf_ops.specs.declared.change.Value.{Value}
 use Rattle.gf_ops.specs.ConflictTests.{value_eq}
 use Rattle.gf_tails.specs.declared.tails.Tail.{Tail}
 use Rattle.gf_tails.specs.Giving.{HasSetter}
-use Rattle.gf_tails.specs.Tails.{IsTail, AreTails}
-use Rattle.gf_tails.specs.Giving.{op_gives}
+use Rattle.gf_tails.specs.Tails.{gave, IsTail, AreTails}
+use Rattle.gf_tails.specs.Giving.{gives_at}
 use Rattle.gf_tails.proofs.LongerLemmas.{got_before, same_before}
+use Rattle.gf_tails.proofs.PrintLemmas.{print_tells}
 
 module _ (h : List Op) where
   -- a setter is one at more positions
@@ -22,6 +23,7 @@ module _ (h : List Op) where
     value = t.value;
     last = record { op = t.last.op; position = t.last.position; among = f t.last.position t.last.among; at = t.last.at; id = t.last.id; object = t.last.object; change = t.last.change };
     position = t.position;
+    print = t.print;
     other = λ k x. let w = t.other k x in (w.0, setter_more us vs f (record { site = e.last.site; seq = k }) w.0 w.1, w.2);
     tells = λ i w s same. t.tells i w (back i w s same) same;
   }
@@ -35,11 +37,11 @@ module _ (h : List Op) where
   }
 
   -- whether the last setter of a tail gives v
-  pub tail_gives : (us : List ℕ) (e : Tail) (t : IsTail h us e) (v : Value) → op_gives (slice_get h e.position) v ≡ value_eq t.value v
+  pub tail_gives : (us : List ℕ) (e : Tail) (t : IsTail h us e) (v : Value) → gave h v e ≡ value_eq t.value v
   tail_gives us e t v =
       let l = t.last in
       let at : slice_get h e.position ≡ Some l.op = subst (λ i. slice_get h i ≡ Some l.op) t.position l.at in
-      ap (λ r. op_gives r v) at ∙ ap (λ k. op_gives (Some (record { id = l.op.id; past = l.op.past; change = k })) v) l.change
+      subst (λ p. gives_at h e.position p v ≡ value_eq t.value v) (sym t.print) (print_tells h e.position l.op at l.object t.value l.change v)
 
 module _ (h : List Op) (a : Op) (us : List ℕ) (within : (i : ℕ) → Contains us i → i < length h) where
   abbrev new : List Op
@@ -57,6 +59,7 @@ module _ (h : List Op) (a : Op) (us : List ℕ) (within : (i : ℕ) → Contains
     value = t.value;
     last = record { op = t.last.op; position = t.last.position; among = t.last.among; at = got_before h a t.last.position t.last.op t.last.at; id = t.last.id; object = t.last.object; change = t.last.change };
     position = t.position;
+    print = t.print;
     other = λ k x. let w = t.other k x in (w.0, setter_longer (record { site = e.last.site; seq = k }) w.0 w.1, w.2);
     tells = λ i w s same. t.tells i w (setter_before i w s) same;
   }

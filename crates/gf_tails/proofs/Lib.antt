@@ -3,6 +3,7 @@ pub mod KeptTailsLemmas
 pub mod LongerLemmas
 pub mod NextLemmas
 pub mod NotedLemmas
+pub mod PrintLemmas
 pub mod PutTailLemmas
 pub mod QuickLemmas
 pub mod SubjectLemmas

@@ -22,8 +22,7 @@ use Rattle.gf_groups.proofs.ExposedLemmas.{found_in}
 use Rattle.gf_tails.specs.declared.tails.Tail.{Tail}
 use Rattle.gf_tails.specs.Giving.{HasSetter}
 use Rattle.gf_tails.specs.Tails.{IsUpTo, IsTail, AreTails}
-use Rattle.gf_tails.specs.Giving.{op_gives}
-use Rattle.gf_tails.specs.Tails.{is_of, other_than, new_tail, put_tail, noted}
+use Rattle.gf_tails.specs.Tails.{is_of, gave, other_than, new_tail, put_tail, noted}
 use Rattle.gf_tails.proofs.KeptTailsLemmas.{setter_before, setter_more, tail_gives, tail_more, tails_kept}
 use Rattle.gf_tails.proofs.LongerLemmas.{got_last}
 use Rattle.gf_tails.proofs.NextLemmas.{earlier}
@@ -47,7 +46,7 @@ value_in : Change → Value → Value
 value_in (Set o v) w = v
 value_in (Create start) w = w
 
-same_value : (k : Change) (o p : ObjectId) (v w : Value) → k ≡ Set o v → k ≡ Set p w → w ≡ v
+pub same_value : (k : Change) (o p : ObjectId) (v w : Value) → k ≡ Set o v → k ≡ Set p w → w ≡ v
 unfolding value_in
 same_value k o p v w e f = ap (λ q. value_in q v) (sym f ∙ e)
 
@@ -91,11 +90,11 @@ module _ (h : List Op) (us : List ℕ) (a : Op) (n : ℕ) (at : slice_get h n �
 
     -- it gave v: the other one stays
     kept_other : value_eq t.value v ≡ true → last.other ≡ f.other
-    kept_other y = ap (other_than h v) found ∙ cond-true (op_gives (slice_get h f.position) v) f.other (Some f.last.seq) (tail_gives h us f t v ∙ y)
+    kept_other y = ap (other_than h v) found ∙ cond-true (gave h v f) f.other (Some f.last.seq) (tail_gives h us f t v ∙ y)
 
     -- it gave another value: it is the other one
     new_other : value_eq t.value v ≡ false → last.other ≡ Some f.last.seq
-    new_other n = ap (other_than h v) found ∙ cond-false (op_gives (slice_get h f.position) v) f.other (Some f.last.seq) (tail_gives h us f t v ∙ n)
+    new_other n = ap (other_than h v) found ∙ cond-false (gave h v f) f.other (Some f.last.seq) (tail_gives h us f t v ∙ n)
 
     abbrev numbered : ℕ → OpId
     numbered k = record { site = a.id.site; seq = k }
@@ -139,6 +138,7 @@ module _ (h : List Op) (us : List ℕ) (a : Op) (n : ℕ) (at : slice_get h n �
     value = v;
     last = own_setter;
     position = refl;
+    print = refl;
     other = other_at (find own es) refl;
     tells = λ i w s same. elim (setter_cases i w s) [
       | inl old ↦ (let l = earlier_setter i w old same in omega (arith, l), told_at i w old same)

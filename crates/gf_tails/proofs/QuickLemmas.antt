@@ -21,10 +21,10 @@ use Rattle.gf_groups.specs.GroupedPositions.{is_on}
 use Rattle.gf_groups.proofs.ListLemmas.{list_any_true, list_any_from}
 use Rattle.gf_groups.proofs.OnPositionLemmas.{conflict_with}
 use Rattle.gf_tails.specs.declared.tails.Tail.{Tail}
-use Rattle.gf_tails.specs.Giving.{HasSetter, op_gives, misses}
+use Rattle.gf_tails.specs.Giving.{HasSetter, misses}
 use Rattle.gf_tails.specs.Tails.{IsUpTo, IsTail, AreTails}
 use Rattle.gf_tails.specs.Subjects.{subject_of, is_about}
-use Rattle.gf_tails.specs.Tails.{hits, hits_one}
+use Rattle.gf_tails.specs.Tails.{gave, hits, hits_one}
 use Rattle.gf_tails.proofs.KeptTailsLemmas.{setter_before, tail_gives, tails_kept}
 use Rattle.std.proofs.lemmas.Option.{slice_get_within}
 use Rattle.gf_tails.proofs.GivenLemmas.{gives_other, met, missed, not_counted, one_op, same_answer, there}
@@ -59,7 +59,7 @@ module _ (h : List Op) (valid : IsValid h) (a : Op) (in_range : IsInRange a) (ac
   hit_tail e t i w s site differ later =
       let told = t.tells i w s site in
       let late : ¬ (i.seq ≤ entry a.past e.last.site) = subst (λ z. ¬ (i.seq ≤ entry a.past z)) site later in
-      let p = op_gives (slice_get new e.position) v in
+      let p = gave new v e in
       let q = misses a.past e.last.site e.other in
       and_from (misses a.past e.last.site (Some e.last.seq)) (not p || q) (up_to i.seq e.last.site (Some e.last.seq) told.0 late) (elim (cases_Bool (value_eq t.value v)) [
         | inl y ↦ elim told.1 [
@@ -97,7 +97,7 @@ module _ (h : List Op) (valid : IsValid h) (a : Op) (in_range : IsInRange a) (ac
       let w = list_any_true (hits new v a.past) es y in
       let e = w.0 in
       let t = tails.each e w.1 in
-      let p = op_gives (slice_get new e.position) v in
+      let p = gave new v e in
       let q = misses a.past e.last.site e.other in
       let k = and_parts (misses a.past e.last.site (Some e.last.seq)) (not p || q) w.2 in
       elim (cases_Bool (value_eq t.value v)) [

@@ -24,10 +24,10 @@ use Rattle.gf_groups.proofs.SortedLemmas.{equal_left}
 use Rattle.gf_tails.specs.declared.subject.Subject.{Subject}
 use Rattle.gf_tails.specs.Subjects.{attribute_cmp, subject_cmp, subject_of, is_about, positions_about}
 
-attribute_cmp_total : IsTotalOrder attribute_cmp
+pub attribute_cmp_total : IsTotalOrder attribute_cmp
 attribute_cmp_total = total-law
 
-attribute_cmp_exact : CmpEqualImpliesEq attribute_cmp
+pub attribute_cmp_exact : CmpEqualImpliesEq attribute_cmp
 attribute_cmp_exact attr.Place attr.Place e = refl
 attribute_cmp_exact attr.Points attr.Points e = refl
 attribute_cmp_exact attr.Size attr.Size e = refl

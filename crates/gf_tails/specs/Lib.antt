@@ -1,3 +1,4 @@
 pub mod Giving
+pub mod Prints
 pub mod Subjects
 pub mod Tails

@@ -3,8 +3,10 @@
 ghost use Rattle.std.specs.Prelude.{◌≡◌, nat_le, option_copied};
 ghost use Rattle.gf_ops.specs.ConflictTests.{value_eq};
 ghost use Rattle.gf_ops.specs.OperationOrder.{entry};
-ghost use Rattle.gf_tails.specs.Giving.{change_gives, op_gives, misses};
+ghost use Rattle.gf_tails.specs.Giving.{change_gives, op_gives, gives_at, misses};
 
+use crate::prints::{Print, is_whole, print_of};
+use gf_groups::Timeline;
 use gf_ops::{Change, Clock, Op, Value};
 
 /// Whether they are one value of one attribute.
@@ -36,13 +38,21 @@ fn change_gives(change: &Change, value: &Value) -> bool
 }
 
 /// Whether the operation is there and gives the value.
-pub fn op_gives(op: Option<&Op>, value: &Value) -> bool
+fn op_gives(op: Option<&Op>, value: &Value) -> bool
     ensures { result ≡ op_gives (option_copied op.entry) value.now }
 {
     match op {
         Some(op) => change_gives(&op.change, value),
         None => false,
     }
+}
+
+/// Whether the operation at the position, whose value has this print, gives the value. The history
+/// is asked only where the prints are one, and that does not tell it.
+pub fn gives_at(timeline: &Timeline<'_>, position: usize, print: &Print, value: &Value) -> bool
+    ensures { result ≡ gives_at timeline.now position print.now value.now }
+{
+    *print == print_of(value) && (is_whole(value) || op_gives(timeline.get(position), value))
 }
 
 /// Whether the clock counts this number of the site.

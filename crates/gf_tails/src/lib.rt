@@ -2,14 +2,17 @@
 //! it whether an operation conflicts with one of them.
 //!
 //! - [`Subject`]: what an operation is about.
-//! - [`Tail`]: the last setters of a site; [`note`], [`hits_one`], [`is_of`].
-//! - [`op_gives`], [`misses`]: whether an operation gives a value, and a clock does not count one.
+//! - [`Tail`]: the last setters of a site; [`note`], [`hits_one`], [`gave`], [`is_of`].
+//! - [`Print`], [`print_of`]: an attribute and three numbers, which tell most values apart.
+//! - [`gives_at`], [`misses`]: whether an operation gives a value, and a clock does not count one.
 #![tactic(auto)]
 
 mod giving;
+mod prints;
 mod subject;
 mod tails;
 
-pub use giving::{misses, op_gives};
+pub use giving::{gives_at, misses};
+pub use prints::{Print, print_of};
 pub use subject::Subject;
-pub use tails::{Tail, hits_one, is_of, note};
+pub use tails::{Tail, gave, hits_one, is_of, note};

@@ -3,19 +3,21 @@
 
 ghost use Rattle.std.specs.Prelude.{◌≡◌, ◌<◌, vec_len, vec_capacity, option_copied};
 ghost use Rattle.std.specs.List.{position};
-ghost use Rattle.gf_tails.specs.Tails.{is_of, other_than};
+ghost use Rattle.gf_tails.specs.Tails.{is_of, gave, other_than};
 ghost use Rattle.gf_tails.specs.Tails.{new_tail, noted, hits, hits_one};
 
-use crate::giving::{misses, op_gives};
+use crate::giving::{gives_at, misses};
+use crate::prints::{Print, print_of};
 use gf_groups::Timeline;
 use gf_ops::{Clock, OpId, Value};
 
-/// The last setter by a site and its position, and the number of the site's last one with another
-/// value than that.
+/// The last setter by a site, its position and the print of its value, and the number of the site's
+/// last one with another value than that.
 #[derive(Clone, Copy, Debug)]
 pub struct Tail {
     pub last: OpId,
     pub position: usize,
+    pub print: Print,
     pub other: Option<u32>,
 }
 
@@ -33,12 +35,19 @@ fn place(site: u8, tails: &[Tail]) -> Option<usize>
     tails.iter().position(|tail| is_of(site, tail))
 }
 
+/// Whether the tail's last setter gave the value.
+pub fn gave(timeline: &Timeline<'_>, value: &Value, tail: &Tail) -> bool
+    ensures { result ≡ gave timeline.now value.now tail.now }
+{
+    gives_at(timeline, tail.position, &tail.print, value)
+}
+
 /// The number of the last setter with another value than this, once this is the last.
 fn other_than(timeline: &Timeline<'_>, value: &Value, tail: Option<&Tail>) -> Option<u32>
     ensures { result ≡ other_than timeline.now value.now (option_copied tail.entry) }
 {
     match tail {
-        Some(tail) if op_gives(timeline.get(tail.position), value) => tail.other,
+        Some(tail) if gave(timeline, value, tail) => tail.other,
         Some(tail) => Some(tail.last.seq),
         None => None,
     }
@@ -57,6 +66,7 @@ fn new_tail(
     Tail {
         last: id,
         position,
+        print: print_of(value),
         other: other_than(timeline, value, tail),
     }
 }
@@ -89,7 +99,7 @@ fn hits(timeline: &Timeline<'_>, value: &Value, past: &Clock, tail: &Tail) -> bo
 {
     let site = tail.last.site;
     misses(past, site, Some(tail.last.seq))
-        && (!op_gives(timeline.get(tail.position), value) || misses(past, site, tail.other))
+        && (!gave(timeline, value, tail) || misses(past, site, tail.other))
 }
 
 /// Whether what gives the value, and knows what the clock counts, conflicts with one that the tails
