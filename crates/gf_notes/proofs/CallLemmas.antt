@@ -26,7 +26,8 @@ use Rattle.gf_notes.specs.Summaries.{SummaryState, TellsParts, TellsLast, NotesI
 use Rattle.gf_notes.proofs.AfterLemmas.{told_with}
 use Rattle.gf_sets.proofs.ClockLemmas.{beside_longer}
 use Rattle.gf_notes.proofs.JoinedLemmas.{below, of_part, two_sets, own_within, other_within, grows, joins_at}
-use Rattle.gf_notes.proofs.SummaryLemmas.{last_apart, summed, told_longer}
+use Rattle.gf_sets.proofs.EndLemmas.{last_apart}
+use Rattle.gf_notes.proofs.SummaryLemmas.{summed, told_longer}
 
 -- from one result to another
 pub if_some_weaker : {X : Type 0} (P Q : X → Type 0) (r : Option X) → ((x : X) → P x → Q x) → IfSome r P → IfSome r Q
@@ -61,7 +62,7 @@ module _ (h : List Op) (valid : IsValid h) (a : Op) (in_range : IsInRange a) (ac
       tells gs j = subst (λ r. TellsSome h r p.all gs) j.some (told.last p gs last j.kept)
 
   pub joins : IsSure → IsWithin m.others a.past → conflicts_in (conflict_at new) n (whole s).all ≡ true → with_part (conflict_at new) n s ≡ last_with w.own w.other n s
-  joins sure known clash = joins_at h valid a in_range accepted s parts exactly o v gives p last w m.others told.others known clash (grown sure)
+  joins sure known clash = joins_at h valid a in_range accepted s parts exactly o v gives p last m.others told.others known clash w (grown sure)
 
   -- what is then kept of the sets tells of them
   sets_then : (gs : List (List ℕ)) (j : AreJoined gs) (x : Option SetsState) → NotesSome new (Some j.notes) a v n w x → TellsSome new x (p.all ++ n ∷ []) (sets_with w.own w.other n gs)

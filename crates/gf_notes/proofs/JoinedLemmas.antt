@@ -24,8 +24,8 @@ use Rattle.gf_groups.proofs.ListLemmas.{list_any_true, list_any_false, list_any_
 use Rattle.gf_groups.proofs.OnPositionLemmas.{conflict_with, contained_at}
 use Rattle.gf_groups.proofs.TableLemmas.{conflict_at_test}
 use Rattle.gf_parts.specs.Parted.{AreParts, IsKept}
-use Rattle.gf_parts.specs.Parts.{PartState, PartsState, alone, whole, touches, holds, grown_sets, with_part, sets_with, last_with}
-use Rattle.gf_parts.proofs.JoiningLemmas.{JoinsSets, IsShared, next_joined, kept_joined, joins_last}
+use Rattle.gf_parts.specs.Parts.{PartState, PartsState, alone, whole, touches, holds, grown_sets, grown_part, with_part, sets_with, last_with}
+use Rattle.gf_parts.proofs.JoiningLemmas.{JoinsSets, IsShared, next_joined, kept_joined, grows_last, joins_last}
 use Rattle.gf_parts.proofs.PartsLemmas.{all_of_fold}
 use Rattle.gf_tails.specs.declared.tails.Tail.{Tail}
 use Rattle.gf_tails.specs.Giving.{HasSetter}
@@ -43,7 +43,7 @@ use Rattle.gf_sets.specs.Sets.{SetsState, TellsSets, TellsTails, IsHome, GoesHom
 use Rattle.gf_sets.proofs.ClockLemmas.{calm_free, calm_before, calm_known}
 use Rattle.gf_notes.proofs.LongerPartsLemmas.{parts_longer}
 use Rattle.gf_sets.proofs.SetTailLemmas.{known_last, tells_at}
-use Rattle.gf_notes.proofs.SummaryLemmas.{last_apart, last_in}
+use Rattle.gf_sets.proofs.EndLemmas.{last_apart, last_in}
 
 -- ---- what a home tells
 
@@ -142,7 +142,7 @@ module _ (h : List Op) (valid : IsValid h) (a : Op) (in_range : IsInRange a) (ac
   front = take (length s.parts - 1) s.parts
 
   -- what conflicts with a, where a knows all beside the last part, is of that
-  pub meets_last : (k : _) → CountsOthers h k s → IsWithin k a.past → conflicts_in d (length h) us ≡ true → touches d (length h) p ≡ true
+  meets_last : (k : _) → CountsOthers h k s → IsWithin k a.past → conflicts_in d (length h) us ≡ true → touches d (length h) p ≡ true
   meets_last k counts known clash =
       let w = list_any_true (d (length h)) us clash in
       let hit = w.2 in
@@ -422,8 +422,11 @@ module _ (h : List Op) (valid : IsValid h) (a : Op) (in_range : IsInRange a) (ac
           let step = next_joined d (length h) (conflict_at_test new) p.all gs table fresh w.own w.other joins_sets all_shared in
           rw kept (kept_joined d (length h) p.all w.own w.other gs sets_kept.1 step)
 
-  -- THE SHORT WAY is the long one
-  pub joins_at : (w : Joined) (k : _) → CountsOthers h k s → IsWithin k a.past → conflicts_in d (length h) us ≡ true →
-      grown_sets d p.all (length h) p.sets ≡ option_map (sets_with w.own w.other (length h)) p.sets → with_part d (length h) s ≡ last_with w.own w.other (length h) s
-  joins_at w k counts known clash grown =
-      joins_last d (length h) s front p w.own w.other (last_apart s.parts p last) (calm_free h a k known s counts) (calm_before h a k known s counts) (meets_last k counts known clash) not_there grown
+  -- what a connects is the last part
+  module _ (k : _) (counts : CountsOthers h k s) (known : IsWithin k a.past) (clash : conflicts_in d (length h) us ≡ true) where
+    pub grows_at : with_part d (length h) s ≡ record { free = s.free; parts = front ++ grown_part d (length h) p ∷ [] }
+    grows_at = grows_last d (length h) s front p (last_apart s.parts p last) (calm_free h a k known s counts) (calm_before h a k known s counts) (meets_last k counts known clash) not_there
+
+    -- THE SHORT WAY is the long one
+    pub joins_at : (w : Joined) → grown_sets d p.all (length h) p.sets ≡ option_map (sets_with w.own w.other (length h)) p.sets → with_part d (length h) s ≡ last_with w.own w.other (length h) s
+    joins_at w = joins_last d (length h) s front p (last_apart s.parts p last) (calm_free h a k known s counts) (calm_before h a k known s counts) (meets_last k counts known clash) not_there w.own w.other

@@ -1,6 +1,7 @@
 pub mod AfterLemmas
 pub mod CallLemmas
 pub mod CalmLemmas
+pub mod GrownLemmas
 pub mod JoinedLemmas
 pub mod LongerPartsLemmas
 pub mod MarkLemmas

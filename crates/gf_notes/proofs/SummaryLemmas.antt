@@ -2,9 +2,6 @@
 use Rattle.std.proofs.Common.{◌≡◌, ℕ, ◌+◌, ◌-◌, ◌<◌, List, [], ◌∷◌, ◌++◌, length, take, get_or, refl, subst, sym, ap, ◌∙◌, arith}
 use Rattle.std.specs.Prelude.{Contains, IfSome, Option, Some, None, slice_get, unwrap_or}
 use Rattle.std.proofs.lemmas.List.Elements.{Contains-push}
-use Rattle.std.proofs.lemmas.List.{length-append, take_all, take_more}
-use Rattle.std.proofs.lemmas.Option.{slice_get_read, slice_get_within, get_or_from_slice_get}
-use Rattle.std.proofs.Math.Seq.{get_or-append_seam, take-append_seam}
 use Rattle.gf_ops.specs.declared.op.Op.{Op}
 use Rattle.gf_groups.specs.Growing.{conflict_at}
 use Rattle.gf_groups.proofs.TableLemmas.{conflict_at_test}
@@ -15,35 +12,9 @@ use Rattle.gf_sets.specs.Clocks.{CountsBeside}
 use Rattle.gf_sets.specs.Sets.{SetsState, IsHome, AreIn, TellsSets, TellsSome}
 use Rattle.gf_notes.specs.Summaries.{SummaryState, TellsParts, TellsLast, NotesOtherIn}
 use Rattle.gf_sets.proofs.ClockLemmas.{beside_longer, beside_with, missed_longer}
+use Rattle.gf_sets.proofs.EndLemmas.{got_end, before_end, last_in}
 use Rattle.gf_sets.proofs.SetTailLemmas.{sets_longer}
 use Rattle.gf_tails.proofs.LongerLemmas.{got_before}
-
--- ---- lists
-
--- the end of a list
-got_end : {X : Type 0} (xs : List X) (y : X) → slice_get (xs ++ y ∷ []) (length (xs ++ y ∷ []) - 1) ≡ Some y
-got_end xs y =
-    let len = length-append xs (y ∷ []) in
-    let at : length (xs ++ y ∷ []) - 1 ≡ length xs = omega (arith, len) in
-    slice_get_read (xs ++ y ∷ []) (length (xs ++ y ∷ [])) (length (xs ++ y ∷ []) - 1) y refl (omega (arith, len)) (sym (ap (λ n. get_or (xs ++ y ∷ []) n y) at ∙ get_or-append_seam xs y [] y))
-
--- what stands before the end
-before_end : {X : Type 0} (xs : List X) (y : X) → take (length (xs ++ y ∷ []) - 1) (xs ++ y ∷ []) ≡ xs
-before_end xs y =
-    let len = length-append xs (y ∷ []) in
-    let at : length (xs ++ y ∷ []) - 1 ≡ length xs = omega (arith, len) in
-    ap (λ n. take n (xs ++ y ∷ [])) at ∙ take-append_seam xs (y ∷ [])
-
--- the last element, and what stands before it
-pub last_apart : {X : Type 0} (xs : List X) (x : X) → slice_get xs (length xs - 1) ≡ Some x → xs ≡ take (length xs - 1) xs ++ x ∷ []
-last_apart xs x e =
-    let n = length xs - 1 in
-    let l = slice_get_within xs n x e in
-    let at = get_or_from_slice_get xs n x x e in
-    sym (take_all (n + 1) xs (omega (arith, l))) ∙ (take_more xs n x l ∙ ap (λ z. take n xs ++ z ∷ []) at)
-
-pub last_in : {X : Type 0} (xs : List X) (x : X) → slice_get xs (length xs - 1) ≡ Some x → Contains xs x
-last_in xs x e = (length xs - 1, slice_get_within xs (length xs - 1) x e, get_or_from_slice_get xs (length xs - 1) x x e)
 
 -- ---- the last part
 

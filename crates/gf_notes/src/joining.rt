@@ -11,7 +11,7 @@ ghost use Rattle.gf_notes.specs.Summaries.{TellsLast, NotesIn};
 
 use crate::notes::Notes;
 use crate::scratch::Scratch;
-use crate::summary::{Summary, noted};
+use crate::summary::{noted, renewed};
 use gf_groups::Timeline;
 use gf_ops::{Op, Value};
 use gf_parts::Parts;
@@ -145,7 +145,8 @@ pub fn connect(
         return Ok(());
     }
     connect_parts(scratch, timeline, op, value, position, parts, notes)?;
-    notes.summary = Summary::of(scratch.alloc, timeline, op, parts);
+    let summary = notes.summary.take();
+    notes.summary = renewed(scratch.alloc, timeline, op, position, parts, summary);
     notes.setters = relisted(
         scratch.alloc,
         timeline,

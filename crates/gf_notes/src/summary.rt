@@ -6,7 +6,8 @@ ghost use Rattle.gf_ops.specs.Limits.{IsInRange};
 ghost use Rattle.gf_groups.specs.Growing.{conflict_at};
 ghost use Rattle.gf_parts.specs.Parted.{AreParts};
 ghost use Rattle.gf_sets.specs.Sets.{AreIn, TellsSome};
-ghost use Rattle.gf_notes.specs.Summaries.{TellsParts, NotesIn, NotesOtherIn};
+ghost use Rattle.gf_notes.specs.Next.{IsAfter};
+ghost use Rattle.gf_notes.specs.Summaries.{TellsParts, TellsLast, NotesIn, NotesOtherIn};
 
 use gf_groups::Timeline;
 use gf_ops::{Clock, Op, Value};
@@ -58,6 +59,31 @@ impl Summary {
         Some(Summary { sets, others })
     }
 
+    /// After the operation at this position came to the last part alone, and knows of other sites
+    /// none of it, if there is memory.
+    fn grown(
+        self,
+        alloc: Global,
+        timeline: &Timeline<'_>,
+        op: &Op,
+        position: usize,
+        parts: &Parts,
+    ) -> Option<Summary>
+        ensures { IfSome result (λ summary. IsAfter timeline.now op.now position (Some self) parts.now
+            → TellsParts timeline.now summary parts.now) }
+    {
+        let Summary { sets, others } = self;
+        if !others.is_within(&op.past) {
+            return None;
+        }
+        let last = parts.parts().last()?;
+        let sets = sets?.grown(alloc, timeline, position, last.sets()?)?;
+        Some(Summary {
+            sets: Some(sets),
+            others,
+        })
+    }
+
     /// The same once more.
     pub(crate) fn copy(&self, alloc: Global) -> Result<Summary, OutOfMemory>
         ensures { IfOk result (λ copy. copy ≡ self.now) }
@@ -67,6 +93,25 @@ impl Summary {
             sets,
             others: self.others,
         })
+    }
+}
+
+/// The summary of the parts after the operation at this position came to them: it grows where it
+/// can, or else is made anew.
+pub(crate) fn renewed(
+    alloc: Global,
+    timeline: &Timeline<'_>,
+    op: &Op,
+    position: usize,
+    parts: &Parts,
+    old: Option<Summary>,
+) -> Option<Summary>
+    ensures { IsAfter timeline.now op.now position old parts.now
+        → TellsLast timeline.now parts.now result }
+{
+    match old.and_then(|old| old.grown(alloc, timeline, op, position, parts)) {
+        Some(summary) => Some(summary),
+        None => Summary::of(alloc, timeline, op, parts),
     }
 }
 

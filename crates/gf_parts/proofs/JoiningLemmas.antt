@@ -207,8 +207,8 @@ module _ (c : ℕ → ℕ → Bool) (x : ℕ) where
       ap (λ n. slice_set ps n (part_with j r x (slice_index_or ps n (alone [])))) at
       ∙ (ap (λ q. slice_set ps (length front) (part_with j r x q)) (get_or-append_seam front p [] (alone [])) ∙ set_last front p (part_with j r x p))
 
-  module _ (f : List ℕ) (front : List PartState) (p : PartState) (j : ℕ) (r : Option ℕ)
-      (calm : conflicts_in c x f ≡ false) (spared : list_any (touches c x) front ≡ false) (met : touches c x p ≡ true) (new : holds x p.all ≡ false) (grows : grown_sets c p.all x p.sets ≡ option_map (sets_with j r x) p.sets) where
+  module _ (f : List ℕ) (front : List PartState) (p : PartState)
+      (calm : conflicts_in c x f ≡ false) (spared : list_any (touches c x) front ≡ false) (met : touches c x p ≡ true) (new : holds x p.all ≡ false) where
     abbrev ps : List PartState
     ps = front ++ p ∷ []
 
@@ -216,10 +216,7 @@ module _ (c : ℕ → ℕ → Bool) (x : ℕ) where
     state = record { free = f; parts = ps }
 
     abbrev grown : PartState
-    grown = part_with j r x p
-
-    grown_is : grown_part c x p ≡ grown
-    grown_is = λ i. record { all = p.all ++ x ∷ []; sets = grows i }
+    grown = grown_part c x p
 
     touched_is : touched c x state ≡ p
     touched_is =
@@ -240,11 +237,10 @@ module _ (c : ℕ → ℕ → Bool) (x : ℕ) where
         let old : filter (stays c x) ps ≡ front = filter-append (stays c x) front (p ∷ []) ∙ (ap (λ zs. zs ++ filter (stays c x) (p ∷ [])) before ∙ (ap (λ zs. front ++ zs) last ∙ append-nil front)) in
         filter-append (stays c x) ps (grown ∷ []) ∙ (ap (λ zs. zs ++ filter (stays c x) (grown ∷ [])) old ∙ ap (λ zs. front ++ zs) own)
 
-    one_part : with_part c x state ≡ last_with j r x state
+    one_part : with_part c x state ≡ record { free = f; parts = front ++ grown ∷ [] }
     one_part =
         let free : filter (λ a. not (c x a)) f ≡ f = filter_full (λ a. not (c x a)) f (λ a i. not_from_false (c x a) (list_any_false (c x) f calm a i)) in
-        let made : grown_part c x (touched c x state) ≡ grown = ap (λ q. grown_part c x q) touched_is ∙ grown_is in
-        let parts : (with_part c x state).parts ≡ (last_with j r x state).parts = ap (λ q. filter (stays c x) (ps ++ q ∷ [])) made ∙ (rest_is ∙ sym (last_set f front p j r)) in
+        let parts : (with_part c x state).parts ≡ front ++ grown ∷ [] = ap (λ q. filter (stays c x) (ps ++ grown_part c x q ∷ [])) touched_is ∙ rest_is in
         λ i. record { free = free i; parts = parts i }
 
   -- what the last part is then
@@ -253,10 +249,18 @@ module _ (c : ℕ → ℕ → Bool) (x : ℕ) where
       let same : s ≡ record { free = s.free; parts = front ++ p ∷ [] } = λ i. record { free = s.free; parts = e i } in
       ap (λ (z : PartsState). (last_with j r x z).parts) same ∙ last_set s.free front p j r
 
-  -- THE STEP of the parts
-  pub joins_last : (s : PartsState) (front : List PartState) (p : PartState) (j : ℕ) (r : Option ℕ) → s.parts ≡ front ++ p ∷ [] →
-      conflicts_in c x s.free ≡ false → list_any (touches c x) front ≡ false → touches c x p ≡ true → holds x p.all ≡ false → grown_sets c p.all x p.sets ≡ option_map (sets_with j r x) p.sets → with_part c x s ≡ last_with j r x s
-  joins_last s front p j r e calm spared met new grows =
-      let same : s ≡ record { free = s.free; parts = front ++ p ∷ [] } = λ i. record { free = s.free; parts = e i } in
-      ap (λ (z : PartsState). with_part c x z) same
-      ∙ (one_part s.free front p j r calm spared met new grows ∙ sym (ap (λ (z : PartsState). last_with j r x z) same))
+  -- s are the parts before, p the last of them, which alone x conflicts with
+  module _ (s : PartsState) (front : List PartState) (p : PartState) (e : s.parts ≡ front ++ p ∷ [])
+      (calm : conflicts_in c x s.free ≡ false) (spared : list_any (touches c x) front ≡ false) (met : touches c x p ≡ true) (new : holds x p.all ≡ false) where
+    -- THE STEP of the parts
+    pub grows_last : with_part c x s ≡ record { free = s.free; parts = front ++ grown_part c x p ∷ [] }
+    grows_last =
+        let same : s ≡ record { free = s.free; parts = front ++ p ∷ [] } = λ i. record { free = s.free; parts = e i } in
+        ap (λ (z : PartsState). with_part c x z) same ∙ one_part s.free front p calm spared met new
+
+    -- and where x joins sets of it
+    pub joins_last : (j : ℕ) (r : Option ℕ) → grown_sets c p.all x p.sets ≡ option_map (sets_with j r x) p.sets → with_part c x s ≡ last_with j r x s
+    joins_last j r grows =
+        let made : grown_part c x p ≡ part_with j r x p = λ i. record { all = p.all ++ x ∷ []; sets = grows i } in
+        let parts : front ++ grown_part c x p ∷ [] ≡ (last_with j r x s).parts = ap (λ q. front ++ q ∷ []) made ∙ sym (last_joined s front p j r e) in
+        grows_last ∙ (λ i. record { free = s.free; parts = parts i })

@@ -23,15 +23,14 @@ module _ (old new : List (Print × Option ℕ)) (p : Print) (r : Option ℕ) (pu
   pub put_there : home_of new p ≡ Some r
   put_there = put p ∙ cond-true (is_at (print_cmp p) p) (Some r) (home_of old p) (print_at_itself p)
 
-  -- whose print has a home has one
-  pub put_kept : (h : List Op) (gs ks : List (List ℕ)) → ((j b : ℕ) → Contains (slice_index_or gs j []) b → Contains (slice_index_or ks j []) b) →
-      ((j : ℕ) → r ≡ Some j → (home_of old p ≡ None) ⊎ (home_of old p ≡ Some (Some j))) → (b : ℕ) → IsHome h old gs b → IsHome h new ks b
-  put_kept h gs ks more kept b t =
+  -- what has a home has one, if what is of that print is in the set r, where there is one
+  pub put_moved : (h : List Op) (gs ks : List (List ℕ)) → ((j b : ℕ) → Contains (slice_index_or gs j []) b → Contains (slice_index_or ks j []) b) →
+      ((b : ℕ) (t : IsHome h old gs b) → print_of t.given ≡ p → (j : ℕ) → r ≡ Some j → Contains (slice_index_or ks j []) b) → (b : ℕ) → IsHome h old gs b → IsHome h new ks b
+  put_moved h gs ks more moved b t =
       let q = print_of t.given in
       elim (cases_Bool (is_at (print_cmp p) q)) [
         | inl y ↦
             let same : p ≡ q = print_told p q y in
-            let was : home_of old p ≡ Some t.home = subst (λ z. home_of old z ≡ Some t.home) (sym same) t.found in
             record {
               op = t.op;
               at = t.at;
@@ -40,10 +39,7 @@ module _ (old new : List (Print × Option ℕ)) (p : Print) (r : Option ℕ) (pu
               change = t.change;
               home = r;
               found = subst (λ z. home_of new z ≡ Some r) same put_there;
-              inside = λ j e. elim (kept j e) [
-                | inl n ↦ absurd (let z = sym was ∙ n in cc)
-                | inr s ↦ let z : t.home ≡ Some j = ap (λ o. unwrap_or o t.home) (sym was ∙ s) in more j b (t.inside j z)
-              ];
+              inside = moved b t (sym same);
             }
         | inr n ↦ record {
           op = t.op;
@@ -56,6 +52,16 @@ module _ (old new : List (Print × Option ℕ)) (p : Print) (r : Option ℕ) (pu
           inside = λ j e. more j b (t.inside j e);
         }
       ]
+
+  -- so it is where the home is what it was, or there was none
+  pub put_kept : (h : List Op) (gs ks : List (List ℕ)) → ((j b : ℕ) → Contains (slice_index_or gs j []) b → Contains (slice_index_or ks j []) b) →
+      ((j : ℕ) → r ≡ Some j → (home_of old p ≡ None) ⊎ (home_of old p ≡ Some (Some j))) → (b : ℕ) → IsHome h old gs b → IsHome h new ks b
+  put_kept h gs ks more kept = put_moved h gs ks more (λ b t same j e.
+      let was : home_of old p ≡ Some t.home = subst (λ z. home_of old z ≡ Some t.home) same t.found in
+      elim (kept j e) [
+        | inl n ↦ absurd (let z = sym was ∙ n in cc)
+        | inr s ↦ let z : t.home ≡ Some j = ap (λ o. unwrap_or o t.home) (sym was ∙ s) in more j b (t.inside j z)
+      ])
 
   -- so has the setter at the position x, whose print that is
   pub put_own : (h : List Op) (gs : List (List ℕ)) (x : ℕ) (s : Setter) → IsSetterAt h x s → s.print ≡ p → ((j : ℕ) → r ≡ Some j → Contains (slice_index_or gs j []) x) → IsHome h new gs x

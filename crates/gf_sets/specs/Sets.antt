@@ -1,5 +1,5 @@
 -- What is kept of the sets of a part: of each its tails, of each print a set that has all of its operations, and a clock that counts none of the part.
-use Rattle.std.specs.Prelude.{◌≡◌, ◌≢◌, ℕ, ◌<◌, Bool, true, cond, not, ◌&&◌, ◌||◌, ◌==◌, nat_le, List, [], ◌∷◌, Contains, length, Option, Some, None, is_none, slice_get, slice_set, slice_index_or, unwrap_or, IfSome, ⊤}
+use Rattle.std.specs.Prelude.{◌≡◌, ◌≢◌, ℕ, ◌<◌, Bool, true, cond, not, ◌&&◌, ◌||◌, ◌==◌, nat_le, List, [], ◌∷◌, ◌++◌, ◌⊎◌, Contains, length, Option, Some, None, is_none, slice_get, slice_set, slice_index_or, unwrap_or, IfSome, ⊤}
 use Rattle.std.specs.List.{list_any, list_all}
 use Rattle.std.specs.BTreeMap.{is_at}
 use Rattle.std.specs.Map.{lookup}
@@ -16,6 +16,8 @@ use Rattle.gf_tails.specs.Prints.{print_of, print_cmp}
 use Rattle.gf_tails.specs.Tails.{is_of, gave, hits_one, noted, AreTails}
 use Rattle.gf_sets.specs.declared.sets.Joined.{Joined}
 use Rattle.gf_sets.specs.Clocks.{CountsLess, MissesEach, KnowsOwnAlone}
+use Rattle.gf_sets.specs.declared.setters.Setter.{Setter}
+use Rattle.gf_sets.specs.Setters.{IsSetterAt}
 
 -- the tails of each set, for each print the index of a set unless none is told, and a clock
 pub record SetsState : Type 0 where
@@ -162,3 +164,26 @@ abbrev pub NotesSome : List Op → Option SetsState → Op → Value → ℕ →
 NotesSome h m a v n w None = ⊤
 NotesSome h (Some m) a v n w (Some k) = NotesSets h m a v n w k
 NotesSome h None a v n w (Some k) = ⊥
+
+-- ---- after it came, and made new sets
+
+-- a set that lacked the position n is as it was, or got that behind all
+abbrev pub GrowsTo : List ℕ → ℕ → List ℕ → Type 0
+GrowsTo g n k = ((k ≡ g) × (¬ (Contains g n))) ⊎ (k ≡ g ++ n ∷ [])
+
+-- es are the tails of what the set k was before that
+abbrev pub WereTails : List Op → Option (List Tail) → ℕ → List ℕ → Type 0
+WereTails h None n k = ⊤
+WereTails h (Some es) n k = (g : List ℕ) × GrowsTo g n k × AreTails h g es
+
+-- the sets ks are those of gs, each so, and any others behind them
+abbrev pub AreGrown : List (List ℕ) → ℕ → List (List ℕ) → Type 0
+AreGrown [] n ks = ⊤
+AreGrown (g ∷ gs) n (k ∷ ks) = GrowsTo g n k × AreGrown gs n ks
+AreGrown (g ∷ gs) n [] = ⊥
+
+-- what has the print p and was at its old home, if it had one, is in the set k
+abbrev pub TakesAll : List Op → List (List ℕ) → Print → Option (Option ℕ) → ℕ → Type 0
+TakesAll h gs p None k = ⊤
+TakesAll h gs p (Some None) k = ⊥
+TakesAll h gs p (Some (Some j)) k = (b : ℕ) (s : Setter) → Contains (slice_index_or gs j []) b → IsSetterAt h b s → s.print ≡ p → Contains (slice_index_or gs k []) b

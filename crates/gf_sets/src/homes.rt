@@ -1,8 +1,9 @@
 //! For each print of a part's values a set that has all operations of the part with it.
 
-ghost use Rattle.std.specs.Prelude.{◌≡◌, ◌⊎◌, [], None, Some, Contains, slice_index_or};
-ghost use Rattle.std.specs.Prelude.{IfSome, IsTrue, OnOk};
-ghost use Rattle.gf_sets.specs.Sets.{IsHome, IsInOne, PutsHome};
+ghost use Rattle.std.specs.Prelude.{◌≡◌, ◌⊎◌, ◌++◌, ◌∷◌, [], None, Some, Contains};
+ghost use Rattle.std.specs.Prelude.{slice_index_or, IfSome, IsTrue, OnOk};
+ghost use Rattle.gf_sets.specs.Sets.{IsHome, IsInOne, PutsHome, AreGrown, TakesAll};
+ghost use Rattle.gf_sets.specs.Setters.{IsSetterAt};
 
 use crate::set_tails::SetTails;
 use crate::setters::setter_at;
@@ -135,4 +136,101 @@ pub(crate) fn homes_of(
         }
     }
     Some(homes)
+}
+
+/// Whether the setter at a position has another print, or is in the set with this index.
+fn may_stay_out(
+    timeline: &Timeline<'_>,
+    sets: &[Positions],
+    set: usize,
+    print: &Print,
+    position: usize,
+) -> bool
+    ensures { IsTrue result → (s : _) → IsSetterAt timeline.now position s → s.print ≡ print.now
+        → Contains (slice_index_or sets.now set []) position }
+{
+    match setter_at(timeline, position) {
+        Some(setter) => setter.print != *print || holds(sets, set, position),
+        None => false,
+    }
+}
+
+/// Whether all setters of one set with this print are in the other one.
+fn has_all(
+    timeline: &Timeline<'_>,
+    sets: &[Positions],
+    from: usize,
+    to: usize,
+    print: &Print,
+) -> bool
+    ensures { IsTrue result → (b : _) (s : _) → Contains (slice_index_or sets.now from []) b
+        → IsSetterAt timeline.now b s → s.print ≡ print.now
+        → Contains (slice_index_or sets.now to []) b }
+{
+    let Some(positions) = sets.get(from) else {
+        return true;
+    };
+    for position in positions.as_slice() {
+        if !may_stay_out(timeline, sets, to, print, *position) {
+            return false;
+        }
+    }
+    true
+}
+
+/// Whether the set with this index can be the print's home, by what was that before.
+fn takes_all(
+    timeline: &Timeline<'_>,
+    sets: &[Positions],
+    print: &Print,
+    old: Option<Option<usize>>,
+    set: usize,
+) -> bool
+    ensures { IsTrue result → TakesAll timeline.now sets.now print.now old set }
+{
+    match old {
+        None => true,
+        Some(Some(home)) => has_all(timeline, sets, home, set, print),
+        Some(None) => false,
+    }
+}
+
+/// The first set with the position that can be so.
+fn new_home(
+    timeline: &Timeline<'_>,
+    sets: &[Positions],
+    position: usize,
+    print: &Print,
+    old: Option<Option<usize>>,
+) -> Option<usize>
+    ensures inside { IfSome result (λ new. Contains (slice_index_or sets.now new []) position) }
+    ensures all { IfSome result (λ new. TakesAll timeline.now sets.now print.now old new) }
+{
+    for set in 0..sets.len() {
+        if holds(sets, set, position) && takes_all(timeline, sets, print, old, set) {
+            return Some(set);
+        }
+    }
+    None
+}
+
+/// Puts the home of what the operation at this position gives, which came to the sets. Whether it
+/// gives a value, and there is memory.
+pub(crate) fn rehouse(
+    timeline: &Timeline<'_>,
+    sets: &[Positions],
+    position: usize,
+    homes: &mut Homes,
+) -> bool
+    ensures { IsTrue result → (us : _) (gs : _) → AreGrown gs position sets.now
+        → ((b : _) → Contains us b → IsHome timeline.now homes.old.entries gs b)
+        → (b : _) → Contains (us ++ position ∷ []) b
+        → IsHome timeline.now homes.new.entries sets.now b }
+{
+    let Some(setter) = setter_at(timeline, position) else {
+        return false;
+    };
+    let old = homes.get(&setter.print).copied();
+    let home = new_home(timeline, sets, position, &setter.print, old);
+    put_home(homes, setter.print, home).is_ok()
 }

@@ -1,10 +1,11 @@
 //! The tails of the sets of a part.
 
-ghost use Rattle.std.specs.Prelude.{◌≡◌, ◌<◌, ◌++◌, ◌∷◌, [], length, slice_get};
+ghost use Rattle.std.specs.Prelude.{◌≡◌, ◌↔◌, ◌<◌, ◌-◌, ◌++◌, ◌∷◌, [], length, slice_get};
 ghost use Rattle.std.specs.Prelude.{Some, true, IfOk, IfSome, IsTrue, OnOk};
 ghost use Rattle.gf_tails.specs.Tails.{hits_one, noted, AreTails};
 ghost use Rattle.gf_sets.specs.Sets.{lacks, has_site, all_lack, is_apart, TellsTails};
 ghost use Rattle.gf_sets.specs.Sets.{misses_last, misses_one, is_known, is_ahead, one_ahead};
+ghost use Rattle.gf_sets.specs.Sets.{WereTails, AreGrown};
 
 use gf_groups::{Positions, Timeline};
 use gf_ops::{Change, Clock, Op, OpId, Value};
@@ -75,6 +76,17 @@ fn one_ahead(id: OpId, tails: &[Tail]) -> bool
     ensures { result ≡ one_ahead id tails.now }
 {
     tails.iter().any(|tail| is_ahead(id, tail))
+}
+
+/// Whether the position is the last one of these.
+fn is_last(position: usize, positions: &[usize]) -> bool
+    ensures { IsTrue result
+        ↔ (slice_get positions.now (length positions.now - 1) ≡ Some position) }
+{
+    match positions.last() {
+        Some(last) => *last == position,
+        None => false,
+    }
 }
 
 impl SetTails {
@@ -154,6 +166,25 @@ impl SetTails {
             Change::Create(_) => false,
         }
     }
+
+    /// The tails of what the set has become when the operation at this position came, if there is
+    /// memory.
+    fn grown(
+        &self,
+        alloc: Global,
+        timeline: &Timeline<'_>,
+        position: usize,
+        set: &[usize],
+    ) -> Option<SetTails>
+        ensures { IfSome result (λ tails. WereTails timeline.now (Some self.now) position set.now
+            → AreTails timeline.now set.now tails) }
+    {
+        let mut tails = self.copy(alloc).ok()?;
+        if is_last(position, set) && !tails.note_at(timeline, position) {
+            return None;
+        }
+        Some(tails)
+    }
 }
 
 /// The tails of the operations at these positions, if all are setters, those of a site in their
@@ -181,6 +212,45 @@ pub(crate) fn tails_of_sets(
     let mut all = Vec::new(alloc);
     for set in sets {
         let tails = tails_of(alloc, timeline, set.as_slice())?;
+        all.push(tails).ok()?;
+    }
+    Some(all)
+}
+
+/// Those of the set with this index after the operation at this position came, by those of the sets
+/// before, if there is memory.
+fn tails_now(
+    alloc: Global,
+    timeline: &Timeline<'_>,
+    position: usize,
+    set: &[usize],
+    index: usize,
+    old: &[SetTails],
+) -> Option<SetTails>
+    ensures { IfSome result (λ tails. WereTails timeline.now (slice_get old.now index) position set.now
+        → AreTails timeline.now set.now tails) }
+{
+    match old.get(index) {
+        Some(tails) => tails.grown(alloc, timeline, position, set),
+        None => tails_of(alloc, timeline, set),
+    }
+}
+
+/// Those of each of the sets after the operation at this position came, from those of the sets
+/// before, if there is memory.
+pub(crate) fn grown_tails(
+    alloc: Global,
+    timeline: &Timeline<'_>,
+    position: usize,
+    sets: &[Positions],
+    old: &[SetTails],
+) -> Option<Vec<SetTails>>
+    ensures { IfSome result (λ all. (gs : _) → AreGrown gs position sets.now
+        → TellsTails timeline.now old.now gs → TellsTails timeline.now all.items sets.now) }
+{
+    let mut all = Vec::new(alloc);
+    for (index, set) in sets.iter().enumerate() {
+        let tails = tails_now(alloc, timeline, position, set.as_slice(), index, old)?;
         all.push(tails).ok()?;
     }
     Some(all)

@@ -1,14 +1,14 @@
 //! What is kept of the sets of a part, and which of them the next operation joins.
 
-ghost use Rattle.std.specs.Prelude.{◌≡◌, ◌<◌, IfOk, IfSome, IsTrue, OnOk};
+ghost use Rattle.std.specs.Prelude.{◌≡◌, ◌<◌, ◌++◌, ◌∷◌, [], IfOk, IfSome, IsTrue, OnOk};
 ghost use Rattle.gf_tails.specs.Prints.{print_of};
 ghost use Rattle.gf_ops.specs.Limits.{IsInRange};
-ghost use Rattle.gf_sets.specs.Sets.{TellsSets, AreIn, IsJoined, NotesSome, GoesHome};
+ghost use Rattle.gf_sets.specs.Sets.{TellsSets, AreIn, AreGrown, IsJoined, NotesSome, GoesHome};
 ghost use Rattle.gf_sets.specs.Sets.{clashes, fits_other, fits, FitsAll, home_of, tails_at, tails_with};
 
 use crate::clocks::{clock_before, knows_own_alone, lower};
-use crate::homes::{Homes, homes_of, put_home};
-use crate::set_tails::{SetTails, copied_tails, known_set, tails_of_sets};
+use crate::homes::{Homes, homes_of, put_home, rehouse};
+use crate::set_tails::{SetTails, copied_tails, grown_tails, known_set, tails_of_sets};
 use gf_groups::{Positions, Timeline};
 use gf_ops::{Clock, Op, Value};
 use gf_shape::OutOfMemory;
@@ -196,6 +196,41 @@ impl SetNotes {
         }
         let tails = tails_of_sets(alloc, timeline, sets)?;
         let homes = homes_of(alloc, timeline, sets, &tails)?;
+        Some(SetNotes {
+            tails,
+            homes,
+            before,
+        })
+    }
+
+    /// After the operation at this position came to the part, which has these sets now: those that
+    /// it had, with the operation or without it, and new ones behind them. None where the operation
+    /// knows of other sites some of the part, or for want of memory.
+    pub fn grown(
+        self,
+        alloc: Global,
+        timeline: &Timeline<'_>,
+        position: usize,
+        sets: &[Positions],
+    ) -> Option<SetNotes>
+        ensures { IfSome result (λ notes. (us : _) (gs : _) → AreGrown gs position sets.now
+            → TellsSets timeline.now self us gs
+            → TellsSets timeline.now notes (us ++ position ∷ []) sets.now) }
+    {
+        let op = timeline.get(position)?;
+        let SetNotes {
+            tails,
+            mut homes,
+            mut before,
+        } = self;
+        if !knows_own_alone(op, &before) {
+            return None;
+        }
+        let tails = grown_tails(alloc, timeline, position, sets, &tails)?;
+        if !rehouse(timeline, sets, position, &mut homes) {
+            return None;
+        }
+        lower(op, &mut before);
         Some(SetNotes {
             tails,
             homes,

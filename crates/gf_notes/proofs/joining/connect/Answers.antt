@@ -26,11 +26,22 @@ returns-clause-told c =
     let op = c.args.op.now in
     let n = c.args.position in
     let s = c.args.parts.now in
+    let old = c.args.notes.now in
     let next = c.requires.next.next in
     let new = c.connect_parts.new.parts in
-    let old : ListsAll next.history (whole s).all (option_map (λ (v : Vec Setter Global). v.items) c.take-2.result) = search rules in
-    let tells : IfSome c.of.result (λ (k : SummaryState). AreParts (conflict_at g) new → TellsParts g k new) = search rules in
+    let listed : ListsAll next.history (whole s).all (option_map (λ (v : Vec Setter Global). v.items) c.take-3.result) = search rules in
+    let same : old.summary ≡ c.take-summary.result = search rules in
+    let after : IsAfter g op n c.take-summary.result new = record {
+      parts = s;
+      notes = old;
+      next = c.requires.next;
+      summary = same;
+      value = c.args.value.now;
+      gives = c.requires.gives;
+      clash = c.requires.clash;
+      after = c.in_ok-connect_parts.ensures.ok;
+    } in
     record {
-      summary = summary_told g op n s c.args.notes.now c.requires.next new c.of.result c.in_ok-connect_parts.ensures.ok c.requires.clash tells;
-      setters = c.relisted.ensures s next old c.in_ok-connect_parts.ensures.ok;
+      summary = c.renewed.ensures after;
+      setters = c.relisted.ensures s next listed c.in_ok-connect_parts.ensures.ok;
     }
