@@ -1,10 +1,9 @@
 -- The summary after an operation came to the last part alone, and maybe made new sets, tells of the parts.
-use Rattle.std.proofs.Common.{◌≡◌, ℕ, ◌-◌, ◌<◌, ◌≤◌, Bool, true, false, List, [], ◌∷◌, ◌++◌, map, length, take, refl, subst, sym, ap, ◌∙◌, inl, inr, arith}
-use Rattle.std.specs.Prelude.{◌⊎◌, ◌↔◌, nat_le, Contains, Option, Some, None, slice_get, unwrap_or}
+use Rattle.std.proofs.Common.{◌≡◌, ℕ, ◌-◌, ◌<◌, ◌≤◌, Bool, true, List, [], ◌∷◌, ◌++◌, map, length, take, refl, subst, sym, ap, ◌∙◌, inl, inr, arith}
+use Rattle.std.specs.Prelude.{◌↔◌, nat_le, Contains, Option, Some, None, slice_get, unwrap_or}
 use Rattle.std.proofs.lemmas.Bool.{cases_Bool, cond-true, cond-false}
 use Rattle.std.proofs.lemmas.Option.{slice_get_cases}
 use Rattle.gf_ops.specs.declared.op.Op.{Op}
-use Rattle.gf_ops.specs.declared.op.Clock.{Clock}
 use Rattle.gf_ops.specs.declared.op.ObjectId.{ObjectId}
 use Rattle.gf_ops.specs.declared.change.Change.TheVariants.{Set}
 use Rattle.gf_ops.specs.declared.change.Value.{Value}
@@ -18,7 +17,6 @@ use Rattle.gf_parts.specs.Parted.{AreParts}
 use Rattle.gf_parts.specs.Parts.{PartState, PartsState, most_sets, alone, kept, whole, grown_sets, grown_part, with_part}
 use Rattle.gf_parts.proofs.PartsLemmas.{all_of_fold}
 use Rattle.gf_tails.specs.Subjects.{subject_of, is_about}
-use Rattle.gf_sets.specs.Clocks.{CountsOthers, CountsBeside}
 use Rattle.gf_sets.specs.Sets.{SetsState, TellsSets, TellsSome, GrowsTo, AreGrown}
 use Rattle.gf_sets.proofs.ClockLemmas.{calm_free, beside_longer}
 use Rattle.gf_sets.proofs.EndLemmas.{got_end}
@@ -118,7 +116,7 @@ module _ (h : List Op) (valid : IsValid h) (a : Op) (in_range : IsInRange a) (ac
 
   told_then : TellsParts new then r
   told_then = elim (slice_get_cases s.parts (length s.parts - 1)).1 [
-    | inl w ↦ told_by w.0 w.2.0
+    | inl w ↦ told_by w.0 w.2
     | inr w ↦ absurd (one_was w.0)
   ]
 
@@ -127,17 +125,17 @@ module _ (h : List Op) (valid : IsValid h) (a : Op) (in_range : IsInRange a) (ac
 module _ (g : List Op) (a : Op) (n : ℕ) (m : SummaryState) (r : PartsState) (after : IsAfter g a n (Some m) r) (known : IsWithin m.others a.past)
     (q : PartState) (last : slice_get r.parts (length r.parts - 1) ≡ Some q) (ks : List (List ℕ)) (has : q.sets ≡ Some ks) (j k : SetsState) (was : m.sets ≡ Some j)
     (tells : (us : List ℕ) (gs : List (List ℕ)) → AreGrown gs n ks → TellsSets g j us gs → TellsSets g k (us ++ n ∷ []) ks) where
-  abbrev next : IsNextTo g a n after.parts
-  next = after.next.next
+  abbrev before : IsNextTo g a n after.parts
+  before = after.next.next
 
   abbrev past : List Op
-  past = next.history
+  past = before.history
 
   -- THE SUMMARY of the parts
   pub grown_told : TellsParts g (record { sets = Some k; others = m.others }) r
   grown_told =
       let here : Came after.parts r ks j k (past ++ a ∷ []) (length past) =
-      subst (Came after.parts r ks j k (past ++ a ∷ [])) next.position (subst (λ z. Came after.parts r ks j k z n) next.longer (record { clash = after.clash; after = after.after; tells = tells })) in
+      subst (Came after.parts r ks j k (past ++ a ∷ [])) before.position (subst (λ z. Came after.parts r ks j k z n) before.longer (record { clash = after.clash; after = after.after; tells = tells })) in
       let told : TellsParts past m after.parts = subst (TellsLast past after.parts) after.summary after.next.notes.summary in
-      subst (λ z. TellsParts z (record { sets = Some k; others = m.others }) r) (sym next.longer)
-      (told_then past next.valid a next.in_range next.accepted after.parts next.parts next.positions after.gives.0 after.value after.gives.1 m told known r q last ks has j k was here)
+      subst (λ z. TellsParts z (record { sets = Some k; others = m.others }) r) (sym before.longer)
+      (told_then past before.valid a before.in_range before.accepted after.parts before.parts before.positions after.gives.0 after.value after.gives.1 m told known r q last ks has j k was here)

@@ -1,5 +1,5 @@
 -- The summary of the last part tells of that, in a history that got longer, and after an operation that is free.
-use Rattle.std.proofs.Common.{◌≡◌, ℕ, ◌+◌, ◌-◌, ◌<◌, List, [], ◌∷◌, ◌++◌, length, take, get_or, refl, subst, sym, ap, ◌∙◌, arith}
+use Rattle.std.proofs.Common.{◌≡◌, ℕ, ◌-◌, ◌<◌, List, [], ◌∷◌, ◌++◌, length, take, subst, sym, ap, ◌∙◌}
 use Rattle.std.specs.Prelude.{Contains, IfSome, Option, Some, None, slice_get, unwrap_or}
 use Rattle.std.proofs.lemmas.List.Elements.{Contains-push}
 use Rattle.gf_ops.specs.declared.op.Op.{Op}

@@ -59,31 +59,6 @@ impl Summary {
         Some(Summary { sets, others })
     }
 
-    /// After the operation at this position came to the last part alone, and knows of other sites
-    /// none of it, if there is memory.
-    fn grown(
-        self,
-        alloc: Global,
-        timeline: &Timeline<'_>,
-        op: &Op,
-        position: usize,
-        parts: &Parts,
-    ) -> Option<Summary>
-        ensures { IfSome result (λ summary. IsAfter timeline.now op.now position (Some self) parts.now
-            → TellsParts timeline.now summary parts.now) }
-    {
-        let Summary { sets, others } = self;
-        if !others.is_within(&op.past) {
-            return None;
-        }
-        let last = parts.parts().last()?;
-        let sets = sets?.grown(alloc, timeline, position, last.sets()?)?;
-        Some(Summary {
-            sets: Some(sets),
-            others,
-        })
-    }
-
     /// The same once more.
     pub(crate) fn copy(&self, alloc: Global) -> Result<Summary, OutOfMemory>
         ensures { IfOk result (λ copy. copy ≡ self.now) }
@@ -94,6 +69,31 @@ impl Summary {
             others: self.others,
         })
     }
+}
+
+/// The summary after the operation at this position came to the parts, if that was to the last one
+/// alone, of which it knows of other sites nothing, and there is memory.
+fn grown(
+    alloc: Global,
+    timeline: &Timeline<'_>,
+    op: &Op,
+    position: usize,
+    parts: &Parts,
+    old: Option<Summary>,
+) -> Option<Summary>
+    ensures { IfSome result (λ summary. IsAfter timeline.now op.now position old parts.now
+        → TellsParts timeline.now summary parts.now) }
+{
+    let Summary { sets, others } = old?;
+    if !others.is_within(&op.past) {
+        return None;
+    }
+    let last = parts.parts().last()?;
+    let sets = sets?.grown(alloc, timeline, position, last.sets()?)?;
+    Some(Summary {
+        sets: Some(sets),
+        others,
+    })
 }
 
 /// The summary of the parts after the operation at this position came to them: it grows where it
@@ -109,7 +109,7 @@ pub(crate) fn renewed(
     ensures { IsAfter timeline.now op.now position old parts.now
         → TellsLast timeline.now parts.now result }
 {
-    match old.and_then(|old| old.grown(alloc, timeline, op, position, parts)) {
+    match grown(alloc, timeline, op, position, parts, old) {
         Some(summary) => Some(summary),
         None => Summary::of(alloc, timeline, op, parts),
     }

@@ -1,12 +1,11 @@
-use Rattle.std.proofs.Common.{◌∙◌, sym, rules, Vec, Global}
-use Rattle.std.specs.Prelude.{IfSome, option_map}
-use Rattle.gf_groups.specs.Growing.{conflict_at}
-use Rattle.gf_parts.specs.Parted.{AreParts}
+use Rattle.std.proofs.Common.{◌≡◌, ◌∙◌, sym, rules, Vec, Global}
+use Rattle.std.specs.Prelude.{option_map}
 use Rattle.gf_parts.specs.Parts.{whole}
 use Rattle.gf_sets.specs.declared.setters.Setter.{Setter}
 use Rattle.gf_sets.specs.Setters.{ListsAll, ListsMore}
-use Rattle.gf_notes.specs.Summaries.{SummaryState, NotesIn, TellsParts, TellsLast}
-use Rattle.gf_notes.proofs.NotesLemmas.{connected_notes, summary_told}
+use Rattle.gf_notes.specs.Next.{IsAfter}
+use Rattle.gf_notes.specs.Summaries.{NotesIn, TellsLast}
+use Rattle.gf_notes.proofs.NotesLemmas.{connected_notes}
 use Rattle.gf_notes.proofs.joining.connect.Goals as goal
 
 pub returns-in-Some-clause-told : goal.returns-in-Some-clause-told
@@ -29,7 +28,7 @@ returns-clause-told c =
     let old = c.args.notes.now in
     let next = c.requires.next.next in
     let new = c.connect_parts.new.parts in
-    let listed : ListsAll next.history (whole s).all (option_map (λ (v : Vec Setter Global). v.items) c.take-3.result) = search rules in
+    let listed : ListsAll next.history (whole s).all (option_map (λ (v : Vec Setter Global). v.items) c.take-2.result) = search rules in
     let same : old.summary ≡ c.take-summary.result = search rules in
     let after : IsAfter g op n c.take-summary.result new = record {
       parts = s;
