@@ -3,12 +3,12 @@ use Rattle.std.proofs.Common.{◌≡◌, ℕ, ◌-◌, Bool, false, List, [], �
 use Rattle.std.specs.Prelude.{Some, slice_get}
 use Rattle.std.specs.List.{list_any}
 use Rattle.std.proofs.lemmas.Bool.{cases_Bool}
-use Rattle.std.proofs.lemmas.List.Elements.{Contains-push_cases}
+use Rattle.std.proofs.lemmas.List.Elements.{Contains-append_left, Contains-push, Contains-push_cases}
 use Rattle.gf_ops.specs.declared.op.Op.{Op}
 use Rattle.gf_ops.specs.declared.op.Clock.{Clock}
 use Rattle.gf_ops.specs.Conflict.{Conflict}
 use Rattle.gf_ops.specs.OperationOrder.{IsSite, Precedes}
-use Rattle.gf_ops.specs.ValidHistory.{IsWithin}
+use Rattle.gf_ops.specs.ValidHistory.{IsWithin, Counts}
 use Rattle.gf_groups.specs.Growing.{conflict_at, conflicts_in}
 use Rattle.gf_groups.proofs.ListLemmas.{list_any_true}
 use Rattle.gf_groups.proofs.OnPositionLemmas.{conflict_with}
@@ -39,6 +39,14 @@ each_with h k us x f own b m = elim (Contains-push_cases us x b m) [
 pub counted_more : (h : List Op) (j k : Clock) (us : List ℕ) (x : ℕ) (op : Op) → slice_get h x ≡ Some op → CountsToo j op k → CountsEach h j us → CountsEach h k (us ++ x ∷ [])
 counted_more h j k us x op at n f = each_with h k us x (each_more h j k us n.more f) (record { op = op; at = at; counted = n.own })
 
+-- and k is the least such clock
+pub least_more : (h : List Op) (i j k : Clock) (us : List ℕ) (x : ℕ) (op : Op) → slice_get h x ≡ Some op → CountsToo j op k → ((l : Clock) → IsWithin i l → CountsEach h l us → IsWithin j l) →
+    (l : Clock) → IsWithin i l → CountsEach h l (us ++ x ∷ []) → IsWithin k l
+least_more h i j k us x op at n f l w each =
+    let r = each x (Contains-push us x) in
+    let same : r.op ≡ op = one_op (slice_get h x) r.op op r.at at in
+    n.least l (f l w (λ b m. each b (Contains-append_left us (x ∷ []) b m))) (subst (λ (z : Op). Counts l z.id) same r.counted)
+
 pub within_more : (b c d : Clock) → IsWithin b c → IsWithin c d → IsWithin b d
 within_more b c d f g s i = let l = f s i in let m = g s i in omega (arith, l, m)
 
@@ -51,6 +59,10 @@ parts_more h j k us ps p w own r = record {
     | inr e ↦ subst (λ (z : PartState). CountsEach h k z.all) e own
   ];
 }
+
+pub least_parts : (h : List Op) (j k : Clock) (us : List ℕ) (ps : List PartState) (p : PartState) → ((l : Clock) → IsWithin j l → CountsEach h l p.all → IsWithin k l) →
+    ((l : Clock) → CountsBeside h l us ps → IsWithin j l) → (l : Clock) → CountsBeside h l us (ps ++ p ∷ []) → IsWithin k l
+least_parts h j k us ps p own f l r = own l (f l (record { free = r.free; parts = λ q m. r.parts q (Contains-append_left ps (p ∷ []) q m) })) (r.parts p (Contains-push ps p))
 
 -- ---- a clock that counts none
 

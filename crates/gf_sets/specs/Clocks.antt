@@ -8,10 +8,11 @@ use Rattle.gf_parts.specs.Parts.{PartState, PartsState}
 
 -- ---- a clock that counts all
 
--- the clock k counts what j counts, and the operation too
+-- the clock k counts what j counts, and the operation too, and is the least that does
 pub record CountsToo (j : Clock) (op : Op) (k : Clock) : Type 0 where
   pub more : IsWithin j k
   pub own : Counts k op.id
+  pub least : (i : Clock) → IsWithin j i → Counts i op.id → IsWithin k i
 
 -- the clock counts the operation of h at the position b
 pub record CountsAt (h : List Op) (k : Clock) (b : ℕ) : Type 0 where
@@ -34,10 +35,11 @@ CountsOthers h k s = CountsBeside h k s.free (take (length s.parts - 1) s.parts)
 
 -- ---- a clock that counts none
 
--- the clock k counts at most what j counts, and not the operation
+-- the clock k counts at most what j counts, and not the operation, and is the greatest that does so
 pub record CountsLess (j : Clock) (op : Op) (k : Clock) : Type 0 where
   pub less : IsWithin k j
   pub missed : entry k op.id.site < op.id.seq
+  pub greatest : (i : Clock) → IsWithin i j → entry i op.id.site < op.id.seq → IsWithin i k
 
 -- the clock does not count the operation of h at the position b, which is of a site
 pub record MissesAt (h : List Op) (k : Clock) (b : ℕ) : Type 0 where

@@ -32,6 +32,8 @@ pub(crate) fn lower(op: &Op, clock: &mut Clock)
 fn counting(timeline: &Timeline<'_>, positions: &[usize], clock: Clock) -> Option<Clock>
     ensures more { IfSome result (λ new. IsWithin clock new) }
     ensures each { IfSome result (λ new. CountsEach timeline.now new positions.now) }
+    ensures least { IfSome result (λ new. (k : _) → IsWithin clock k
+        → CountsEach timeline.now k positions.now → IsWithin new k) }
 {
     let mut new = clock;
     for position in positions {
@@ -40,10 +42,12 @@ fn counting(timeline: &Timeline<'_>, positions: &[usize], clock: Clock) -> Optio
     Some(new)
 }
 
-/// A clock that counts what is free or of one of these parts, if there is an operation at each
-/// position.
+/// The least clock that counts what is free or of one of these parts, if there is an operation at
+/// each position.
 pub fn clock_beside(timeline: &Timeline<'_>, free: &[usize], parts: &[Part]) -> Option<Clock>
-    ensures { IfSome result (λ clock. CountsBeside timeline.now clock free.now parts.now) }
+    ensures counts { IfSome result (λ clock. CountsBeside timeline.now clock free.now parts.now) }
+    ensures least { IfSome result (λ clock. (k : _) → CountsBeside timeline.now k free.now parts.now
+        → IsWithin clock k) }
 {
     let mut clock = counting(timeline, free, Clock([0; 8]))?;
     for part in parts {

@@ -1,7 +1,7 @@
 //! For each print of a part's values a set that has all operations of the part with it.
 
-ghost use Rattle.std.specs.Prelude.{◌≡◌, ◌⊎◌, ◌++◌, ◌∷◌, [], None, Some, Contains};
-ghost use Rattle.std.specs.Prelude.{slice_index_or, IfSome, IsTrue, OnOk};
+ghost use Rattle.std.specs.Prelude.{◌≡◌, ◌↔◌, ◌⊎◌, ◌<◌, ◌++◌, ◌∷◌, [], None, Some, Contains};
+ghost use Rattle.std.specs.Prelude.{length, slice_index_or, IfSome, IsTrue, OnOk};
 ghost use Rattle.gf_sets.specs.Sets.{IsHome, IsInOne, PutsHome, AreGrown, TakesAll};
 ghost use Rattle.gf_sets.specs.Setters.{IsSetterAt};
 
@@ -106,7 +106,9 @@ fn house_set(timeline: &Timeline<'_>, sets: &[Positions], set: usize, homes: &mu
 }
 
 /// Whether the tails of the set with this index are of several sites.
-fn is_shared(all: &[SetTails], set: usize) -> bool {
+fn is_shared(all: &[SetTails], set: usize) -> bool
+    ensures { IsTrue result ↔ (1 < length (slice_index_or all.now set [])) }
+{
     match all.get(set) {
         Some(tails) => tails.are_several(),
         None => false,

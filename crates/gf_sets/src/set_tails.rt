@@ -116,7 +116,9 @@ impl SetTails {
     }
 
     /// Whether there are several, each of another site.
-    pub(crate) fn are_several(&self) -> bool {
+    pub(crate) fn are_several(&self) -> bool
+        ensures { IsTrue result ↔ (1 < length self.now) }
+    {
         1 < self.tails.len()
     }
 

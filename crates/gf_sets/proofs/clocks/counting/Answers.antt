@@ -1,8 +1,8 @@
-use Rattle.std.proofs.Common.{◌≡◌, take, get_or, rules, subst}
+use Rattle.std.proofs.Common.{◌≡◌, take, get_or, rules, subst, sym}
 use Rattle.std.specs.Prelude.{Some, slice_get}
 use Rattle.std.proofs.lemmas.List.{take_all, take_more}
 use Rattle.gf_sets.specs.Clocks.{CountsEach}
-use Rattle.gf_sets.proofs.ClockLemmas.{counted_more, within_more}
+use Rattle.gf_sets.proofs.ClockLemmas.{counted_more, least_more, within_more}
 use Rattle.gf_sets.proofs.clocks.counting.Goals as goal
 
 pub loop-position-preserved : goal.loop-position-preserved
@@ -18,7 +18,11 @@ loop-position-preserved c =
     let n = c.count.ensures in (
       within_more c.args.clock old new c.loop-position.invariant.0 n.more,
       rw (take_more us i 0 c.loop-position-test.true) (counted_more h old new (take i us) x op at n c.loop-position.invariant.1),
+      rw (take_more us i 0 c.loop-position-test.true) (least_more h c.args.clock old new (take i us) x op at n c.loop-position.invariant.2),
     )
 
 pub returns-clause-each : goal.returns-clause-each
 returns-clause-each c = subst (CountsEach c.args.timeline.now c.loop-position.new) (take_all c.loop-position.position-index c.args.positions.now c.loop-position-test.false) c.loop-position.invariant.1
+
+pub returns-clause-least : goal.returns-clause-least
+returns-clause-least c = λ k w each. c.loop-position.invariant.2 k w (subst (CountsEach c.args.timeline.now k) (sym (take_all c.loop-position.position-index c.args.positions.now c.loop-position-test.false)) each)
