@@ -1,7 +1,6 @@
 //! Worked examples: from histories to drawings.
 
-use crate::figures::{seen, table, told};
-use crate::printing::printed;
+use drawing_parts::{printed, seen, table, told};
 use example_parts::{BLUE, RED, created, plain};
 use gf_drawing::{CompileFault, Drawing, compile};
 use gf_groups::Ids;

@@ -1,6 +1,6 @@
 //! Runs over sources and sinks in memory, and the texts of their refusals.
 
-use crate::printing::printed;
+use drawing_parts::printed;
 use example_parts::RED_BOX;
 use gf_bytes::{Reel, Tape};
 use gf_drawing::CompileFault;

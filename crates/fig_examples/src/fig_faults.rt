@@ -1,7 +1,7 @@
 //! Worked examples of the faults of FIG texts.
 
-use crate::printing::printed;
 use crate::readings::{fault_of, text};
+use drawing_parts::printed;
 use gf_fig_read::{FigError, FigFault};
 use std::alloc::{AllocError, Global};
 use std::test::Fail;

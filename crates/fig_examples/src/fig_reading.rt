@@ -1,7 +1,7 @@
 //! Worked examples of reading FIG texts.
 
-use crate::figures::seen;
 use crate::readings::text;
+use drawing_parts::seen;
 use example_parts::at;
 use gf_drawing::Drawing;
 use gf_fig_read::{every_text_reads_as_one_drawing_or_fails_once, read_fig};

@@ -4,7 +4,7 @@ use std::alloc::{AllocError, Global};
 use std::fmt::Display;
 
 /// The texts of these values, a line each.
-pub(crate) fn printed<T: Display>(alloc: Global, values: &[T]) -> Result<String, AllocError> {
+pub fn printed<T: Display>(alloc: Global, values: &[T]) -> Result<String, AllocError> {
     let mut text = String::new(alloc);
     for value in values {
         let line = format!(in alloc; "{value}\n")?;

@@ -8,7 +8,8 @@ use gf_shape::{Bounds, Point, Rgb, Shape};
 use std::alloc::{AllocError, Global};
 use std::test::Fail;
 
-pub(crate) fn figure<S>(shape: S, colour: u16, depth: u16) -> Figure<S>
+/// The figure of these parts.
+pub fn figure<S>(shape: S, colour: u16, depth: u16) -> Figure<S>
     ensures { result ≡ record { shape = shape; colour = colour; depth = depth } }
 {
     Figure {
@@ -28,7 +29,7 @@ fn point(text: &str) -> Result<Point, Fail> {
 }
 
 /// The colours at points, as ` ff0000 00ff00` at `0 0, 600 -300`.
-pub(crate) fn seen<S: Shape>(
+pub fn seen<S: Shape>(
     alloc: Global,
     drawing: Drawing<S>,
     points: &str,
@@ -47,7 +48,7 @@ fn colours<S: Shape>(alloc: Global, drawing: &Drawing<S>, points: &str) -> Resul
 }
 
 /// The figures in file order: each one's colour, depth and bounds.
-pub(crate) fn told<S: Shape>(alloc: Global, drawing: Drawing<S>) -> Result<String, AllocError> {
+pub fn told<S: Shape>(alloc: Global, drawing: Drawing<S>) -> Result<String, AllocError> {
     each_figure(alloc, drawing.figures())
 }
 
@@ -66,7 +67,7 @@ fn each_figure<S: Shape>(alloc: Global, figures: &[Figure<S>]) -> Result<String,
 }
 
 /// How many colours the table has, whether it has none, and its first three.
-pub(crate) fn table<S: Shape>(drawing: Drawing<S>) -> (usize, bool, [Option<(u16, Rgb)>; 3]) {
+pub fn table<S: Shape>(drawing: Drawing<S>) -> (usize, bool, [Option<(u16, Rgb)>; 3]) {
     let table = drawing.colours();
     let entries = [table.at(0), table.at(1), table.at(2)];
     (table.len(), table.is_empty(), entries)

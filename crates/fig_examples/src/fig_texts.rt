@@ -1,6 +1,6 @@
 //! Worked examples of the FIG text and of its writing.
 
-use crate::figures::figure;
+use drawing_parts::figure;
 use example_parts::{BLUE, EMPTY_FIG, GREEN, RED, RED_BOX_FIG, at};
 use gf_bytes::{Tape, WriteError};
 use gf_drawing::Drawing;

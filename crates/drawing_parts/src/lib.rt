@@ -1,0 +1,9 @@
+//! What the worked examples of drawings and of FIG text share: figures, what is seen and told of a
+//! drawing, and printed texts.
+#![tactic(auto)]
+
+mod figures;
+mod printing;
+
+pub use figures::{figure, seen, table, told};
+pub use printing::printed;
