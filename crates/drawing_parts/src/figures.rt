@@ -29,11 +29,7 @@ fn point(text: &str) -> Result<Point, Fail> {
 }
 
 /// The colours at points, as ` ff0000 00ff00` at `0 0, 600 -300`.
-pub fn seen<S: Shape>(
-    alloc: Global,
-    drawing: Drawing<S>,
-    points: &str,
-) -> Result<String, Fail> {
+pub fn seen<S: Shape>(alloc: Global, drawing: Drawing<S>, points: &str) -> Result<String, Fail> {
     colours(alloc, &drawing, points)
 }
 
