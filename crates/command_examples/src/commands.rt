@@ -1,61 +1,14 @@
 //! The command line, over sources and sinks in memory.
 
+use command_parts::{fig, run, told};
 use example_parts::RED_BOX;
 use gf_bytes::{MOST_INPUT_BYTES, Reel, Tape};
-use gf_command::{command, refuse_words};
+use gf_command::refuse_words;
 use std::alloc::{AllocError, Global};
 use std::io;
 use std::sync::Wait;
 use std::test::Fail;
 use std::thread::Threads;
-
-pub(crate) fn words(alloc: Global, text: &str) -> Result<Vec<String>, AllocError> {
-    let mut words = Vec::new(alloc);
-    for word in text.split_whitespace() {
-        words.push(String::from_str(alloc, word)?)?;
-    }
-    Ok(words)
-}
-
-/// A run over this source, with so much room for its output and its faults: the status, the output,
-/// a line of dashes, and the faults.
-fn run<T: AllocGlobal + Threads + Wait + Sync>(
-    rt: &T,
-    text: &str,
-    source: &mut Reel,
-    room: (Option<u64>, Option<u64>),
-) -> Result<String, Fail> {
-    let alloc = rt.alloc();
-    let words = words(alloc, text)?;
-    let mut output = Tape::new(alloc, room.0);
-    let mut faults = Tape::new(alloc, room.1);
-    let status = command(rt, alloc, &words, source, &mut output, &mut faults);
-    told(alloc, status, output.bytes(), faults.bytes())
-}
-
-fn told(alloc: Global, status: u8, output: &[u8], faults: &[u8]) -> Result<String, Fail> {
-    let output = std::str::from_utf8(output)?;
-    let faults = std::str::from_utf8(faults)?;
-    Ok(format!(in alloc; "{status}\n{output}--\n{faults}")?)
-}
-
-/// A run of these words over this text, with room for all.
-pub(crate) fn run_over<T: AllocGlobal + Threads + Wait + Sync>(
-    rt: &T,
-    words: &str,
-    input: &str,
-) -> Result<String, Fail> {
-    let mut source = Reel::new(input.as_bytes(), None);
-    run(rt, words, &mut source, (None, None))
-}
-
-/// A run of `figgroup fig` over this text, with room for all.
-pub(crate) fn fig<T: AllocGlobal + Threads + Wait + Sync>(
-    rt: &T,
-    input: &str,
-) -> Result<String, Fail> {
-    run_over(rt, "figgroup fig", input)
-}
 
 /// Lines of so many boxes, the n-th at (n, 0), of so many colours in turn.
 fn boxes(alloc: Global, count: u32, colours: u32) -> Result<String, AllocError> {

@@ -1,9 +1,7 @@
-//! Worked examples of drawings, by public calls alone: drawings, how they are compiled, and runs.
+//! Worked examples of drawings, by public calls alone: drawings, and how they are compiled.
 #![tactic(auto)]
 
 #[cfg(test)]
 mod compiling;
 #[cfg(test)]
 mod drawings;
-#[cfg(test)]
-mod runs;

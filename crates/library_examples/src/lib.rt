@@ -10,6 +10,4 @@ mod lines;
 #[cfg(test)]
 mod picture;
 #[cfg(test)]
-mod session;
-#[cfg(test)]
 mod site;

@@ -7,3 +7,5 @@ mod gates;
 mod scripts;
 #[cfg(test)]
 mod sessions;
+#[cfg(test)]
+mod two_sites;

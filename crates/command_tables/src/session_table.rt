@@ -1,8 +1,7 @@
 //! A table of sessions: runs of `session`, with the answers that the reports, the formats and the
 //! faults ask for. No script of it awaits another one in a circle, so each run ends.
 
-use crate::commands::run_over;
-use crate::run_table::{joined, wanted};
+use command_parts::{joined, run_over, wanted};
 use std::alloc::{AllocError, Global};
 use std::sync::Wait;
 use std::test::Fail;

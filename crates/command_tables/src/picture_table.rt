@@ -1,8 +1,7 @@
 //! A table of pictures: runs of `paint` and `repaint`, with the answers that the formats and the
 //! faults ask for.
 
-use crate::commands::words;
-use crate::run_table::joined;
+use command_parts::{joined, words};
 use gf_bytes::{Reel, Tape};
 use gf_command::command;
 use std::sync::Wait;

@@ -1,57 +1,8 @@
-//! One table of runs, with the answers that the formats and the faults ask for.
+//! The pieces of inputs and answers by their names.
 
-use crate::commands::fig;
 use example_parts::{EMPTY_FIG, RED_BOX, RED_BOX_FIG};
 use std::alloc::Global;
-use std::sync::Wait;
 use std::test::Fail;
-use std::thread::Threads;
-
-/// Each row: the status, the pieces of the input, and the pieces of the output or, at status 1,
-/// the fault.
-const RUNS: &str = r#"
-// lines_become_fig_text
-0 |                                              | empty_fig
-0 | / space_cr /                                 | empty_fig
-0 | red_box                                      | red_box_fig
-0 | red / blue_behind /                          | empty_fig red_over_blue_fig
-// The keys in another order, upper-case digits, blank lines, CRLF, and no last newline.
-0 | cr / / red_otherwise cr / cr / blank / blue_otherwise | empty_fig red_over_blue_fig
-// The blue box is another site's, which didn't know the red one.
-0 | blue_of_site_2 / red /                       | empty_fig red_over_blue_fig
-0 | unit_circle /                                | empty_fig unit_circle_fig
-0 | far_triangle /                               | empty_fig far_triangle_fig
-
-// refusals_are_told
-1 | {                                            | line 1: Json
-1 | red_box / / { /                              | line 3: Json
-1 | {}                                           | line 1: Field
-1 | star                                         | line 1: Field
-1 | unequal_circle                               | line 1: Field
-1 | two_points /                                 | line 1: Range
-1 | far_layer                                    | line 1: Range
-
-// every_order_draws_the_same
-0 | box / blue / green /                         | empty_fig two_colours_fig
-0 | green / blue / box /                         | empty_fig two_colours_fig
-0 | box / blue / blue_too / green /              | empty_fig two_colours_fig
-0 | blue_too / green / blue / box /              | empty_fig two_colours_fig
-0 | box / blue / raised /                        | empty_fig one_blue_fig
-0 | box / blue / green / moved / moved_again /   | empty_fig both_moved_fig
-0 | moved_again / moved / green / blue / box /   | empty_fig both_moved_fig
-0 | green / moved / green / box / moved_again / moved / blue / box / green / | empty_fig both_moved_fig
-0 | box / box /                                  | empty_fig one_red_fig
-0 | blue /                                       | empty_fig
-0 | box / moved_again /                          | empty_fig one_red_fig
-
-// what_does_not_fit_is_told
-1 | box_of_site_2 / box_after_site_2 / box_of_site_3 / | operation 3.1 dropped: BadClock
-1 | box / green_box /                            | line 2: Clash
-1 | blue / / green_as_blue /                     | line 3: Clash
-1 | box_after_itself /                           | operation 1.1 dropped: BadClock
-1 | box / green_too_early /                      | operation 2.1 dropped: NoObject
-1 | box / points_of_a_box /                      | operation 2.1 dropped: WrongKind
-"#;
 
 /// Each row: the name of a piece, and the piece, with its ends of lines and tabs spelt `\n` and `\t`.
 const PIECES: &str = r#"
@@ -154,7 +105,7 @@ fn piece(name: &str) -> Result<&'static str, Fail> {
 }
 
 /// The pieces of these names, with nothing between them.
-pub(crate) fn joined(alloc: Global, names: &str) -> Result<String, Fail> {
+pub fn joined(alloc: Global, names: &str) -> Result<String, Fail> {
     let mut text = String::new(alloc);
     for name in names.split_whitespace() {
         text.push_str(piece(name)?)?;
@@ -164,32 +115,10 @@ pub(crate) fn joined(alloc: Global, names: &str) -> Result<String, Fail> {
 }
 
 /// The run that a row asks for, as `run` tells it.
-pub(crate) fn wanted(alloc: Global, status: &str, cell: &str) -> Result<String, Fail> {
+pub fn wanted(alloc: Global, status: &str, cell: &str) -> Result<String, Fail> {
     if status == "0" {
         let output = joined(alloc, cell)?;
         return Ok(format!(in alloc; "0\n{output}--\n")?);
     }
     Ok(format!(in alloc; "{status}\n--\nfiggroup: {cell}\n")?)
-}
-
-/// The run over the pieces of these names.
-fn answer<T: AllocGlobal + Threads + Wait + Sync>(rt: &T, names: &str) -> Result<String, Fail> {
-    fig(rt, joined(rt.alloc(), names)?.as_str())
-}
-
-#[test]
-fn answers_each_input(rt: HostRuntime) -> Result<(), Fail> {
-    assert_eq!(rt; (EMPTY_FIG.len(), RED_BOX_FIG.len()), (60, 156));
-    for row in RUNS.lines() {
-        let Some((status, rest)) = row.split_once('|') else {
-            continue;
-        };
-        let Some((input, cell)) = rest.split_once('|') else {
-            return Err(Fail::new("a row lacks a cell"));
-        };
-        let want = wanted(rt.alloc(), status.trim(), cell.trim())?;
-        let answer = answer(&rt, input)?;
-        assert_eq!(rt; answer.as_str(), want.as_str(), "of {row}");
-    }
-    Ok(())
 }

@@ -1,0 +1,75 @@
+//! One table of runs, with the answers that the formats and the faults ask for.
+
+use command_parts::{fig, joined, wanted};
+use example_parts::{EMPTY_FIG, RED_BOX_FIG};
+use std::sync::Wait;
+use std::test::Fail;
+use std::thread::Threads;
+
+/// Each row: the status, the pieces of the input, and the pieces of the output or, at status 1,
+/// the fault.
+const RUNS: &str = r#"
+// lines_become_fig_text
+0 |                                              | empty_fig
+0 | / space_cr /                                 | empty_fig
+0 | red_box                                      | red_box_fig
+0 | red / blue_behind /                          | empty_fig red_over_blue_fig
+// The keys in another order, upper-case digits, blank lines, CRLF, and no last newline.
+0 | cr / / red_otherwise cr / cr / blank / blue_otherwise | empty_fig red_over_blue_fig
+// The blue box is another site's, which didn't know the red one.
+0 | blue_of_site_2 / red /                       | empty_fig red_over_blue_fig
+0 | unit_circle /                                | empty_fig unit_circle_fig
+0 | far_triangle /                               | empty_fig far_triangle_fig
+
+// refusals_are_told
+1 | {                                            | line 1: Json
+1 | red_box / / { /                              | line 3: Json
+1 | {}                                           | line 1: Field
+1 | star                                         | line 1: Field
+1 | unequal_circle                               | line 1: Field
+1 | two_points /                                 | line 1: Range
+1 | far_layer                                    | line 1: Range
+
+// every_order_draws_the_same
+0 | box / blue / green /                         | empty_fig two_colours_fig
+0 | green / blue / box /                         | empty_fig two_colours_fig
+0 | box / blue / blue_too / green /              | empty_fig two_colours_fig
+0 | blue_too / green / blue / box /              | empty_fig two_colours_fig
+0 | box / blue / raised /                        | empty_fig one_blue_fig
+0 | box / blue / green / moved / moved_again /   | empty_fig both_moved_fig
+0 | moved_again / moved / green / blue / box /   | empty_fig both_moved_fig
+0 | green / moved / green / box / moved_again / moved / blue / box / green / | empty_fig both_moved_fig
+0 | box / box /                                  | empty_fig one_red_fig
+0 | blue /                                       | empty_fig
+0 | box / moved_again /                          | empty_fig one_red_fig
+
+// what_does_not_fit_is_told
+1 | box_of_site_2 / box_after_site_2 / box_of_site_3 / | operation 3.1 dropped: BadClock
+1 | box / green_box /                            | line 2: Clash
+1 | blue / / green_as_blue /                     | line 3: Clash
+1 | box_after_itself /                           | operation 1.1 dropped: BadClock
+1 | box / green_too_early /                      | operation 2.1 dropped: NoObject
+1 | box / points_of_a_box /                      | operation 2.1 dropped: WrongKind
+"#;
+
+/// The run over the pieces of these names.
+fn answer<T: AllocGlobal + Threads + Wait + Sync>(rt: &T, names: &str) -> Result<String, Fail> {
+    fig(rt, joined(rt.alloc(), names)?.as_str())
+}
+
+#[test]
+fn answers_each_input(rt: HostRuntime) -> Result<(), Fail> {
+    assert_eq!(rt; (EMPTY_FIG.len(), RED_BOX_FIG.len()), (60, 156));
+    for row in RUNS.lines() {
+        let Some((status, rest)) = row.split_once('|') else {
+            continue;
+        };
+        let Some((input, cell)) = rest.split_once('|') else {
+            return Err(Fail::new("a row lacks a cell"));
+        };
+        let want = wanted(rt.alloc(), status.trim(), cell.trim())?;
+        let answer = answer(&rt, input)?;
+        assert_eq!(rt; answer.as_str(), want.as_str(), "of {row}");
+    }
+    Ok(())
+}

@@ -1,0 +1,5 @@
+//! Worked examples of runs, by public calls alone.
+#![tactic(auto)]
+
+#[cfg(test)]
+mod runs;
