@@ -1,5 +1,4 @@
-//! Worked examples of shapes, by public calls alone: boxes, circles, polygons, shapes of any kind, and
-//! the rows of all these.
+//! Worked examples of shapes, by public calls alone: boxes, circles, polygons and shapes of any kind.
 #![tactic(auto)]
 
 #[cfg(test)]
@@ -13,8 +12,4 @@ mod questions;
 #[cfg(test)]
 mod refusals;
 #[cfg(test)]
-mod rows;
-#[cfg(test)]
 mod shapes;
-#[cfg(test)]
-mod trials;
