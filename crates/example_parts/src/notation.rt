@@ -16,6 +16,21 @@ pub fn id(text: &str) -> Option<OpId> {
     })
 }
 
+/// Ids in brackets, as `[ 1.1 2.1 ]`, behind a text.
+pub fn push_ids(alloc: Global, text: &mut String, ids: &[OpId]) -> Option<()> {
+    text.push_str("[").ok()?;
+    for id in ids {
+        let id = format!(in alloc; " {id}").ok()?;
+        text.push_str(id.as_str()).ok()?;
+    }
+    text.push_str(" ]").ok()
+}
+
+/// An answer of yes or no.
+pub fn yes(answer: bool) -> &'static str {
+    if answer { "yes" } else { "no" }
+}
+
 /// `1 0 3`: what is known of the first sites. Of the others nothing is known.
 pub fn clock(text: &str) -> Option<Clock> {
     let mut known = [0; 8];

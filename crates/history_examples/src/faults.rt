@@ -2,7 +2,6 @@
 
 use example_parts::prints;
 use gf_causal::OfferFault;
-use gf_groups::GroupFault;
 use gf_ops::{AddFault, OpFault};
 use std::test::Fail;
 
@@ -20,7 +19,5 @@ fn faults_read_as_their_names(rt: HostRuntime) -> Result<(), Fail> {
     prints(alloc, AddFault::OutOfMemory, "out of memory")?;
     prints(alloc, OfferFault::Range, "Range")?;
     prints(alloc, OfferFault::Clash, "Clash")?;
-    prints(alloc, OfferFault::OutOfMemory, "out of memory")?;
-    prints(alloc, GroupFault::NoObject, "NoObject")?;
-    prints(alloc, GroupFault::OutOfMemory, "out of memory")
+    prints(alloc, OfferFault::OutOfMemory, "out of memory")
 }

@@ -1,5 +1,5 @@
-//! Worked examples of the history and its meaning, by public calls alone: operations, buffers, groups
-//! and versions, as tables of commands with their answers.
+//! Worked examples of the history, by public calls alone: operations, their conflicts, histories and
+//! buffers, as tables of commands with their answers.
 #![tactic(auto)]
 
 #[cfg(test)]
@@ -11,8 +11,6 @@ mod conflicts;
 #[cfg(test)]
 mod faults;
 #[cfg(test)]
-mod groups;
-#[cfg(test)]
 mod histories;
 #[cfg(test)]
 mod history_commands;
@@ -22,9 +20,3 @@ mod operation_commands;
 mod operations;
 #[cfg(test)]
 mod script;
-#[cfg(test)]
-mod small_histories;
-#[cfg(test)]
-mod version_commands;
-#[cfg(test)]
-mod versions;

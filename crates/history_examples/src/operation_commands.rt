@@ -1,6 +1,6 @@
 //! Commands about operations and their parts.
 
-use example_parts::notation::{change, clock, id, operation, points, value};
+use example_parts::notation::{change, clock, id, operation, points, value, yes};
 use gf_ops::{Attr, Op, Points, before, concurrent, conflicts};
 use std::alloc::Global;
 
@@ -23,10 +23,6 @@ fn word(alloc: Global, verb: &str, text: &str) -> Option<&'static str> {
         "equal" => equal(alloc, text),
         _ => None,
     }
-}
-
-pub(crate) fn yes(answer: bool) -> &'static str {
-    if answer { "yes" } else { "no" }
 }
 
 fn in_range(alloc: Global, text: &str) -> Option<&'static str> {

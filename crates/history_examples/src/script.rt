@@ -1,6 +1,6 @@
 //! The commands of the tables, each with what it acts on.
 
-use crate::{buffer_commands, history_commands, operation_commands, version_commands};
+use crate::{buffer_commands, history_commands, operation_commands};
 use example_parts::{Answers, ask};
 use gf_causal::Buffer;
 use gf_ops::History;
@@ -62,14 +62,6 @@ fn told_of(alloc: Global, history: &History, verb: &str, text: &str) -> Option<S
         "count" => history_commands::count(alloc, history, text),
         "get" => history_commands::get(alloc, history, text),
         "alone" => buffer_commands::alone(alloc, history, text),
-        "groups" => version_commands::groups(alloc, history, text),
-        "versions" => version_commands::versions(alloc, history, text),
-        "all" => version_commands::all(alloc, history),
-        "total" => version_commands::total(alloc, history),
-        "ranked" => version_commands::ranking(alloc, history),
-        "looks" => version_commands::looks(alloc, history, text),
-        "covers" => version_commands::covers(alloc, history, text),
-        "settled" => version_commands::settled(alloc, history),
         _ => operation_commands::answer(alloc, verb, text),
     }
 }

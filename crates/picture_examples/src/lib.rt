@@ -5,4 +5,5 @@
 mod gates;
 #[cfg(test)]
 mod pictures;
+#[cfg(test)]
 mod questions;

@@ -1,6 +1,6 @@
 //! The questions of the tables: a shape, `;`, and what is asked of it.
 
-use example_parts::notation::{point, points};
+use example_parts::notation::{point, points, yes};
 use example_parts::{Answers, ask};
 use gf_shape::{
     AnyShape, Bounds, Circle, Outline, Point, Polygon, PolygonError, Range, Rect, Shape,
@@ -117,7 +117,7 @@ fn moves<S: Shape + PartialEq>(alloc: Global, shape: &S, d: Point, to: &S) -> Op
     if !shape.movable(d) {
         return None;
     }
-    yes(alloc, shape.moved(alloc, d).ok()? == *to)
+    String::from_str(alloc, yes(shape.moved(alloc, d).ok()? == *to)).ok()
 }
 
 /// The answer of a shape, after a move where the question begins with one.
@@ -135,21 +135,17 @@ fn of_moved<S: Shape>(alloc: Global, shape: &S, question: &str) -> Option<String
 
 fn of_shape<S: Shape>(alloc: Global, shape: &S, question: &str) -> Option<String> {
     if let Some(p) = question.strip_prefix("outline holds ") {
-        return yes(alloc, shape.outline(alloc).ok()?.holds(point(p)?));
+        return String::from_str(alloc, yes(shape.outline(alloc).ok()?.holds(point(p)?))).ok();
     }
     let (verb, p) = first(question);
     match verb {
         "made" => String::from_str(alloc, "ok").ok(),
-        "holds" => yes(alloc, shape.holds(point(p)?)),
-        "movable" => yes(alloc, shape.movable(point(p)?)),
+        "holds" => String::from_str(alloc, yes(shape.holds(point(p)?))).ok(),
+        "movable" => String::from_str(alloc, yes(shape.movable(point(p)?))).ok(),
         "bounds" => bounds(alloc, shape.bounds()),
         "outline" => drawn(alloc, &shape.outline(alloc).ok()?),
         _ => None,
     }
-}
-
-fn yes(alloc: Global, answer: bool) -> Option<String> {
-    String::from_str(alloc, if answer { "yes" } else { "no" }).ok()
 }
 
 fn bounds(alloc: Global, bounds: Bounds) -> Option<String> {

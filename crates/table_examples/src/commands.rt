@@ -2,10 +2,10 @@
 
 ghost use Rattle.std.specs.Prelude.{◌≤◌, IfSome};
 
-use example_parts::notation::id;
+use example_parts::notation::{id, push_ids};
 use gf_drawing::{CompileFault, Drawing, compile};
 use gf_groups::{Group, GroupFault, Groups, groups_of, is_made};
-use gf_ops::{ObjectId, OpId};
+use gf_ops::ObjectId;
 use gf_shape::AnyShape;
 use gf_shown::{ranked_with, ranked_within, visible_groups};
 use gf_site::Site;
@@ -45,15 +45,6 @@ fn text_of(alloc: Global, groups: &[Group]) -> Option<String> {
         push_ids(alloc, &mut text, group.ops.as_slice())?;
     }
     Some(text)
-}
-
-fn push_ids(alloc: Global, text: &mut String, ids: &[OpId]) -> Option<()> {
-    text.push_str("[").ok()?;
-    for id in ids {
-        let id = format!(in alloc; " {id}").ok()?;
-        text.push_str(id.as_str()).ok()?;
-    }
-    text.push_str(" ]").ok()
 }
 
 /// How many visible versions an object has, as `1.1 within 4`, or that they are more.

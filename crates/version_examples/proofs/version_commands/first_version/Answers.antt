@@ -1,6 +1,6 @@
 use Rattle.std.proofs.Common.{arith, sym}
 use Rattle.std.specs.Prelude.{Contains}
-use Rattle.history_examples.proofs.version_commands.first_version.Goals as goal
+use Rattle.version_examples.proofs.version_commands.first_version.Goals as goal
 
 pub settle-requires : goal.settle-requires
 settle-requires c =

@@ -1,7 +1,6 @@
 //! Commands about the versions of a history: its groups, how they are ranked, and what they look like.
 
-use crate::operation_commands::yes;
-use example_parts::notation::{id, point};
+use example_parts::notation::{id, point, push_ids, yes};
 use gf_groups::{GroupFault, Groups, all_groups, groups_of};
 use gf_ops::{Form, History, ObjectId, OpId};
 use gf_shape::{AnyShape, Bounds, OutOfMemory, Point, Rgb, Shape};
@@ -51,15 +50,6 @@ pub(crate) fn text_of(alloc: Global, groups: &Groups) -> Option<String> {
         push_ids(alloc, &mut text, group.ops.as_slice())?;
     }
     Some(text)
-}
-
-pub(crate) fn push_ids(alloc: Global, text: &mut String, ids: &[OpId]) -> Option<()> {
-    text.push_str("[").ok()?;
-    for id in ids {
-        let id = format!(in alloc; " {id}").ok()?;
-        text.push_str(id.as_str()).ok()?;
-    }
-    text.push_str(" ]").ok()
 }
 
 /// The ranked versions by object and operations, topmost first, each above the next.

@@ -1,6 +1,7 @@
 //! All histories of at most four changes of a box by two sites, against the definition of versions.
 
-use crate::version_commands::{push_ids, text_of};
+use crate::version_commands::text_of;
+use example_parts::notation::push_ids;
 use example_parts::{BLUE, GREEN, changed, create};
 use gf_groups::groups_of;
 use gf_ops::{AddFault, Form, History, ObjectId, Op, OpId, Value, conflicts};
