@@ -1,10 +1,10 @@
 //! A history and its versions.
 
-use crate::lines::history;
 use gf_groups::groups_of;
 use gf_ops::{ObjectId, OpId};
 use gf_shape::Rgb;
 use gf_versions::ranked;
+use library_parts::history;
 use std::test::Fail;
 
 #[test]

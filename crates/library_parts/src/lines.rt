@@ -5,14 +5,14 @@ use gf_ops::History;
 use std::alloc::Global;
 use std::test::Fail;
 
-pub(crate) const LINES: [&str; 3] = [
+pub const LINES: [&str; 3] = [
     r#"{"op":"create","id":[1,1],"past":[0,0,0,0,0,0,0,0],"kind":"box","place":[0,0],"size":[3,1],"colour":"ffffff","layer":0,"shown":true}"#,
     r#"{"op":"set","id":[1,2],"past":[1,0,0,0,0,0,0,0],"object":[1,1],"set":"colour","to":"ff0000"}"#,
     r#"{"op":"set","id":[2,1],"past":[1,0,0,0,0,0,0,0],"object":[1,1],"set":"colour","to":"0000ff"}"#,
 ];
 
 /// Their history.
-pub(crate) fn history(alloc: Global) -> Result<History, Fail> {
+pub fn history(alloc: Global) -> Result<History, Fail> {
     let mut history = History::new(alloc);
     for line in LINES {
         history.add(read_op(alloc, line.as_bytes())?)?;

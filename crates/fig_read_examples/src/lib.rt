@@ -1,4 +1,4 @@
-//! Worked examples of FIG text, by public calls alone: as written and as read.
+//! Worked examples of reading FIG text, by public calls alone.
 #![tactic(auto)]
 
 #[cfg(test)]
@@ -7,7 +7,5 @@ mod fig_faults;
 mod fig_reading;
 #[cfg(test)]
 mod fig_reading_cuts;
-#[cfg(test)]
-mod fig_texts;
 #[cfg(test)]
 mod readings;

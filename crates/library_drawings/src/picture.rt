@@ -1,10 +1,10 @@
 //! A picture of a drawing.
 
-use crate::lines::history;
 use gf_bytes::Tape;
 use gf_drawing::compile;
 use gf_raster::{OpenGate, Window, ppm_to};
 use gf_versions::ranked;
+use library_parts::history;
 use std::test::Fail;
 
 #[test]
