@@ -1,4 +1,4 @@
--- The positions of the operations on an object, and what groups of positions stand for. No public clause cites this module.
+-- The positions of the operations on an object, and what groups of positions stand for (this project's choice).
 use Rattle.std.specs.Prelude.{ℕ, zero, suc, Bool, false, cond, List, [], ◌∷◌, ◌++◌, map, filter_map, option_map, Option, Some, None, slice_get}
 use Rattle.std.specs.List.{fold}
 use Rattle.std.specs.BTreeSet.{insert_key}

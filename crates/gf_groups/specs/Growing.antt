@@ -1,4 +1,4 @@
--- The groups of an object's operations, as lists of positions in the history, when one operation comes. No public clause cites this module.
+-- The groups of an object's operations, as lists of positions in the history, when one operation comes (after Sun and Chen's maximal compatible groups, ACM TOCHI 9(1), 2002).
 use Rattle.std.specs.Prelude.{ℕ, Bool, false, cond, not, ◌&&◌, ◌||◌, ◌==◌, List, [], ◌∷◌, ◌++◌, filter, map, Option, Some, None, slice_get}
 use Rattle.std.specs.List.{list_any, list_all, fold}
 use Rattle.std.specs.Cmp.Lexicographic.{pointwise}

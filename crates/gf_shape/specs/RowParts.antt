@@ -1,4 +1,4 @@
--- What a row of a chain is found from: where its edges pass or touch a height. No public clause cites this module.
+-- What a row of a chain is found from: where its edges pass or touch a height (half-open even-odd rule; this project's choice).
 use Rattle.std.specs.Prelude.{Bool, cond, ◌&&◌, ◌||◌, ℤ, pos, ◌-ℤ◌, int_le, List, [], ◌∷◌, ◌++◌, Option, Some, None, option_to_list}
 use Rattle.std.specs.Ordering.{int_eq}
 use Rattle.std.specs.Int.{int_min, int_max}

@@ -1,4 +1,4 @@
--- What the errors of the parts of a run say. No public clause cites this module.
+-- What the errors of the parts of a run say (this project's choice).
 use Rattle.std.specs.Prelude.{ℕ, List, ⊤}
 use Rattle.gf_fig_read.specs.FigGrammar.{Fails}
 use Rattle.gf_reading.specs.Refusing.{Drops, HasFault}
