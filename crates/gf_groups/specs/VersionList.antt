@@ -17,13 +17,13 @@ id_eq i j = i.site == j.site && i.seq == j.seq
 abbrev pub is_before : Op → Op → Bool
 is_before a b = nat_le a.id.seq (entry b.past a.id.site)
 
--- a and b are two operations, neither of which comes before the other
-abbrev pub are_concurrent : Op → Op → Bool
-are_concurrent a b = not (id_eq a.id b.id) && not (is_before a b) && not (is_before b a)
+-- neither of a and b comes before the other
+abbrev pub are_unordered : Op → Op → Bool
+are_unordered a b = not (is_before a b) && not (is_before b a)
 
--- a and b conflict
+-- a and b conflict; operations that give an attribute different values are two
 abbrev pub in_conflict : Op → Op → Bool
-in_conflict a b = are_concurrent a b && id_eq (object_of a).0 (object_of b).0 && are_apart a.change b.change
+in_conflict a b = are_unordered a b && id_eq (object_of a).0 (object_of b).0 && are_apart a.change b.change
 
 -- a is one of the group's operations
 abbrev pub is_in : List OpId → Op → Bool

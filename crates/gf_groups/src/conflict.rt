@@ -37,5 +37,5 @@ fn in_conflict(a: &Op, b: &Op) -> bool
     requires b { IsInRange b.now }
     ensures { result ≡ in_conflict a.now b.now }
 {
-    a.id != b.id && conflicts(a, b)
+    conflicts(a, b)
 }

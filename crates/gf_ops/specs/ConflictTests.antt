@@ -1,12 +1,13 @@
--- Tests for a conflict: whether two changes of one object give an attribute different values (after Sun and Chen, ACM TOCHI 9(1), 2002).
-use Rattle.std.specs.Prelude.{Bool, false, not, ◌&&◌, ◌==◌, Option, Some, None}
+-- Tests for a conflict: whether two changes give an attribute different values (after Sun and Chen, ACM TOCHI 9(1), 2002).
+use Rattle.std.specs.Prelude.{Bool, false, not, ◌&&◌, ◌||◌, ◌==◌, Option, Some, None}
 use Rattle.std.specs.Bool.{beq}
 use Rattle.gf_shape.specs.declared.colour.Rgb.{Rgb}
+use Rattle.gf_ops.specs.declared.change.Start.{Start}
 use Rattle.gf_ops.specs.declared.change.Change.{Change}
 use Rattle.gf_ops.specs.declared.change.Change.TheVariants.{Create, Set}
 use Rattle.gf_ops.specs.declared.change.Value.{Value}
 use Rattle.gf_ops.specs.declared.change.Value.TheVariants.{Place, Points, Size, Colour, Layer, Shown}
-use Rattle.gf_ops.specs.Attribute.{attribute_of, change_value}
+use Rattle.gf_ops.specs.Attribute.{attribute_of, change_value, form_value}
 use Rattle.gf_ops.specs.SamePoints.{point_eq, points_eq}
 
 -- c and d are one colour
@@ -37,8 +38,14 @@ is_another (Some v) w = not (value_eq v w)
 abbrev pub sets_another : Change → Value → Bool
 sets_another c w = is_another (change_value c (attribute_of w)) w
 
--- the changes of two operations on one object give an attribute different values; two creations are of two objects
+-- an attribute that begins with a value in s and in t begins with different ones
+abbrev pub begins_apart : Start → Start → Bool
+begins_apart s t =
+    sets_another (Create s) (Place t.place) || sets_another (Create s) (Colour t.colour) || sets_another (Create s) (Layer t.layer)
+    || sets_another (Create s) (Shown t.shown) || sets_another (Create s) (form_value t.form)
+
+-- two changes give an attribute different values
 abbrev pub are_apart : Change → Change → Bool
 are_apart c (Set o w) = sets_another c w
 are_apart (Set o v) (Create start) = sets_another (Create start) v
-are_apart (Create s) (Create t) = false
+are_apart (Create s) (Create t) = begins_apart s t

@@ -1,5 +1,5 @@
 -- Causal order and concurrency of operations (Sun and Chen, ACM TOCHI 9(1), 2002).
-use Rattle.std.specs.Prelude.{◌≡◌, ◌≢◌, ℕ, ◌-◌, ◌≤◌, List, slice_index, count_by, nat_eq}
+use Rattle.std.specs.Prelude.{◌≢◌, ℕ, ◌-◌, ◌≤◌, List, slice_index, count_by, nat_eq}
 use Rattle.std.specs.declared.cmp.Ordering.{Ordering}
 use Rattle.std.specs.Ordering.{ordering_then, nat_cmp}
 use Rattle.gf_ops.specs.declared.op.Op.{Op}
@@ -22,13 +22,9 @@ count_of h s = count_by (λ a. nat_eq a.id.site s) h
 abbrev pub Precedes : Op → Op → Type 0
 Precedes a b = a.id.seq ≤ entry b.past a.id.site
 
--- if a and b have one id, they are one operation
-abbrev pub IsOneById : Op → Op → Type 0
-IsOneById a b = a.id ≡ b.id → a ≡ b
-
--- a and b are different, and neither comes before the other; operations are told apart by their ids
+-- a and b are different, and neither comes before the other
 pub record IsConcurrent (a b : Op) : Type 0 where
-  pub different : a.id ≢ b.id
+  pub different : a ≢ b
   pub not_before : ¬ (Precedes a b)
   pub not_after : ¬ (Precedes b a)
 

@@ -2,22 +2,22 @@
 
 ghost use Rattle.std.specs.Prelude.{◌≡◌, ◌↔◌, IsTrue};
 ghost use Rattle.gf_ops.specs.Attribute.{attribute_of, start_value, set_value, object_of};
+ghost use Rattle.gf_ops.specs.Attribute.{form_value};
 ghost use Rattle.gf_ops.specs.Conflict.{Conflict};
-ghost use Rattle.gf_ops.specs.ConflictTests.{is_another, sets_another, are_apart};
+ghost use Rattle.gf_ops.specs.ConflictTests.{is_another, sets_another, begins_apart, are_apart};
 ghost use Rattle.gf_ops.specs.Limits.{IsInRange};
-ghost use Rattle.gf_ops.specs.OperationOrder.{IsOneById};
 
-use crate::{Change, Form, ObjectId, Op, Start, Value, concurrent};
+use crate::order::unordered;
+use crate::{Change, Form, ObjectId, Op, Start, Value};
 
-/// Whether they are concurrent, concern one object and set one attribute to different values. What
-/// has one id is to be one operation, as in a history.
+/// Whether they are concurrent, concern one object and set one attribute to different values.
+/// Operations that set it to different values are two.
 pub fn conflicts(a: &Op, b: &Op) -> bool
     requires a { IsInRange a.now }
     requires b { IsInRange b.now }
-    requires one { IsOneById a.now b.now }
     ensures { IsTrue result ↔ Conflict a.now b.now }
 {
-    concurrent(a, b) && a.object() == b.object() && are_apart(&a.change, &b.change)
+    unordered(a, b) && a.object() == b.object() && are_apart(&a.change, &b.change)
 }
 
 impl Op {
@@ -40,7 +40,35 @@ fn are_apart(a: &Change, b: &Change) -> bool
     match (a, b) {
         (_, Change::Set { value, .. }) => sets_another(a, value),
         (Change::Set { value, .. }, Change::Create(_)) => sets_another(b, value),
-        (Change::Create(_), Change::Create(_)) => false,
+        (Change::Create(own), Change::Create(start)) => begins_apart(own, start),
+    }
+}
+
+/// Whether an attribute begins with different values.
+fn begins_apart(own: &Start, start: &Start) -> bool
+    ensures { result ≡ begins_apart own.now start.now }
+{
+    own.place != start.place
+        || own.colour != start.colour
+        || own.layer != start.layer
+        || own.shown != start.shown
+        || begins_with_another_form(own, &start.form)
+}
+
+/// Whether an attribute of the form begins with another value than the form has.
+fn begins_with_another_form(own: &Start, form: &Form) -> bool
+    ensures { result ≡ is_another (start_value own.now (attribute_of (form_value form.now)))
+        (form_value form.now) }
+{
+    match (&own.form, form) {
+        (Form::Polygon(own), Form::Polygon(points)) => own != points,
+        (Form::Rect(own_width, own_height), Form::Rect(width, height)) => {
+            !(own_width == width && own_height == height)
+        }
+        (Form::Rect(width, height), Form::Circle(radius)) => !(width == radius && height == radius),
+        (Form::Circle(radius), Form::Rect(width, height)) => !(radius == width && radius == height),
+        (Form::Circle(own), Form::Circle(radius)) => !(own == radius && own == radius),
+        (Form::Polygon(_), _) | (_, Form::Polygon(_)) => false,
     }
 }
 

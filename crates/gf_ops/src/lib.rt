@@ -4,6 +4,7 @@
 //! - [`Start`] with its [`Form`] and [`Points`], [`ObjectId`]: what a new object begins with, and
 //!   its name.
 //! - [`Value`], [`Attr`]: what a change of an object sets.
+//! - [`same_op`]: whether two operations agree in everything.
 //! - [`before`], [`concurrent`]: the causal order of operations.
 //! - [`conflicts`]: whether two operations cannot stand in one version.
 //! - [`History`]: the operations that a site has, always a valid history.
@@ -21,6 +22,7 @@ mod limits;
 mod op;
 mod order;
 mod points;
+mod same;
 
 pub use change::{Attr, Change, Form, Start, Value};
 pub use conflict::conflicts;
@@ -30,3 +32,4 @@ pub use laws::{before_is_a_strict_order, conflict_is_symmetric_and_irreflexive};
 pub use op::{Clock, ObjectId, Op, OpId};
 pub use order::{before, concurrent};
 pub use points::Points;
+pub use same::same_op;
