@@ -63,7 +63,7 @@ number_counted (next {h} {a = b} r q) a c = elim (Contains-push_cases h b a c) [
   | inr e ↦ subst (λ (x : Op). x.id.seq ≤ count_of (h ++ b ∷ []) x.id.site) e (rw (count_push_same h b b.id.site refl) (let s = q.seq in omega arith))
 ]
 
--- a course whose operations are in another has no more of any site
+-- operations that are among others have no more of any site
 pub count_within : {h k : List Op} → AreReady h → AreReady k → ((a : Op) → Contains h a → Contains k a) → (s : ℕ) → count_of h s ≤ count_of k s
 count_within {h} {k} r q within s = elim (cases_lt 0 (count_of h s)) [
   | inl m ↦
@@ -77,10 +77,10 @@ count_within {h} {k} r q within s = elim (cases_lt 0 (count_of h s)) [
 pub same_id : (a b : Op) → a.id.site ≡ b.id.site → a.id.seq ≡ b.id.seq → a.id ≡ b.id
 same_id a b s n j = record { site = s j; seq = n j }
 
-module _ (offered course : List Op) (one : AreOneById offered) (l : IsLastDelivery offered course) where
+module _ (offered added : List Op) (one : AreOneById offered) (l : IsLastDelivery offered added) where
   -- an operation that is ready behind a part of a last delivery is in it
-  has_ready : (h : List Op) (b : Op) → Contains offered b → ((s : ℕ) → count_of h s ≤ count_of course s) → IsReady h b → Contains course b
-  has_ready h b c le q = elim (cases_lt (count_of course b.id.site) b.id.seq) [
+  has_ready : (h : List Op) (b : Op) → Contains offered b → ((s : ℕ) → count_of h s ≤ count_of added s) → IsReady h b → Contains added b
+  has_ready h b c le q = elim (cases_lt (count_of added b.id.site) b.id.seq) [
     | inl m ↦
         let n = q.seq in
         let w = le b.id.site in
@@ -88,31 +88,31 @@ module _ (offered course : List Op) (one : AreOneById offered) (l : IsLastDelive
     | inr m ↦
         let n = q.seq in
         let t = has_counted l.delivery.in_turn b.id (omega arith) m in
-        subst (Contains course) (one t.op b (l.delivery.from_offered t.op t.contained) c (same_id t.op b t.site t.seq)) t.contained
+        subst (Contains added) (one t.op b (l.delivery.from_offered t.op t.contained) c (same_id t.op b t.site t.seq)) t.contained
   ]
 
   -- so each delivery is within a last one
-  within_last : {h : List Op} → AreReady h → ((a : Op) → Contains h a → Contains offered a) → (a : Op) → Contains h a → Contains course a
+  within_last : {h : List Op} → AreReady h → ((a : Op) → Contains h a → Contains offered a) → (a : Op) → Contains h a → Contains added a
   within_last none from a c = absurd (not_Contains-nil a c)
   within_last (next {h} {a = b} r q) from a c =
       let before = within_last r (λ x k. from x (Contains-append_left h (b ∷ []) x k)) in
       elim (Contains-push_cases h b a c) [
         | inl k ↦ before a k
-        | inr e ↦ subst (Contains course) e (has_ready h b (from b (Contains-push h b)) (count_within r l.delivery.in_turn before) q)
+        | inr e ↦ subst (Contains added) e (has_ready h b (from b (Contains-push h b)) (count_within r l.delivery.in_turn before) q)
       ]
 
-  pub delivered_part : IsDeliveredPart offered course
+  pub delivered_part : IsDeliveredPart offered added
   delivered_part a = (
-    λ c. record { course = course; delivery = l.delivery; contained = c },
+    λ c. record { added = added; delivery = l.delivery; contained = c },
     λ t. within_last t.delivery.in_turn t.delivery.from_offered a t.contained,
   )
 
 -- a delivery of the same operations
-delivery_of_same : (offered others course : List Op) → HaveSame offered others → IsDelivery others course → IsDelivery offered course
-delivery_of_same offered others course same d = record { from_offered = λ a c. (same a).1 (d.from_offered a c); once = d.once; in_turn = d.in_turn }
+delivery_of_same : (offered others added : List Op) → HaveSame offered others → IsDelivery others added → IsDelivery offered added
+delivery_of_same offered others added same d = record { from_offered = λ a c. (same a).1 (d.from_offered a c); once = d.once; in_turn = d.in_turn }
 
-last_of_same : (offered others course : List Op) → HaveSame offered others → IsLastDelivery others course → IsLastDelivery offered course
-last_of_same offered others course same l = record { delivery = delivery_of_same offered others course same l.delivery; last = λ a c. l.last a ((same a).0 c) }
+last_of_same : (offered others added : List Op) → HaveSame offered others → IsLastDelivery others added → IsLastDelivery offered added
+last_of_same offered others added same l = record { delivery = delivery_of_same offered others added same l.delivery; last = λ a c. l.last a ((same a).0 c) }
 
 pub same_delivered : (offered others c d : List Op) → AreOneById offered → HaveSame offered others → IsLastDelivery offered c → IsLastDelivery others d → HaveSame c d
 same_delivered offered others c d one same l m a =

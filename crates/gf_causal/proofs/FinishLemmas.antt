@@ -1,4 +1,4 @@
--- Each list of operations has a delivery that cannot go on: while one is ready it is put behind the course.
+-- Each list of operations has a delivery that cannot go on: while one is ready it is put behind those that were added.
 use Rattle.std.proofs.Common.{◌≡◌, ◌≢◌, ℕ, zero, suc, ◌+◌, ◌≤◌, List, [], ◌∷◌, ◌++◌, length, get_or, length-append, inl, inr, refl, ap, subst, sym, arith}
 use Rattle.std.specs.Prelude.{◌⊎◌, Contains}
 use Rattle.std.proofs.lemmas.Bool.{cases_lt, cases_eq}
@@ -54,45 +54,45 @@ some_ready h (x ∷ xs) = elim (ready_or_not h x) [
 ]
 
 -- what was delivered is not ready any more
-not_again : (offered course : List Op) → IsDelivery offered course → (a : Op) → Contains course a → ¬ (IsReady course a)
-not_again offered course d a c r = let l = number_counted d.in_turn a c in let s = r.seq in absurd (omega arith)
+not_again : (offered added : List Op) → IsDelivery offered added → (a : Op) → Contains added a → ¬ (IsReady added a)
+not_again offered added d a c r = let l = number_counted d.in_turn a c in let s = r.seq in absurd (omega arith)
 
--- a ready operation goes behind the course
-pub delivery-push : (offered course : List Op) (a : Op) → IsDelivery offered course → Contains offered a → IsReady course a → IsDelivery offered (course ++ a ∷ [])
-delivery-push offered course a d c r = record {
-  from_offered = λ b k. elim (Contains-push_cases course a b k) [ inl m ↦ d.from_offered b m | inr e ↦ subst (Contains offered) e c ];
-  once = all_pairs_push (λ x y. x.id ≢ y.id) course a d.once (λ k e l q.
-      let m = number_counted d.in_turn (get_or course k e) (Contains-get_or course k e l) in
-      let w = subst (λ i. i.seq ≤ count_of course i.site) q m in
+-- a ready operation goes behind those that were added
+pub delivery-push : (offered added : List Op) (a : Op) → IsDelivery offered added → Contains offered a → IsReady added a → IsDelivery offered (added ++ a ∷ [])
+delivery-push offered added a d c r = record {
+  from_offered = λ b k. elim (Contains-push_cases added a b k) [ inl m ↦ d.from_offered b m | inr e ↦ subst (Contains offered) e c ];
+  once = all_pairs_push (λ x y. x.id ≢ y.id) added a d.once (λ k e l q.
+      let m = number_counted d.in_turn (get_or added k e) (Contains-get_or added k e l) in
+      let w = subst (λ i. i.seq ≤ count_of added i.site) q m in
       let s = r.seq in absurd (omega arith));
   in_turn = next d.in_turn r;
 }
 
 -- where what is left has no ready operation, none of the offered is ready
-finished : (offered course left : List Op) → IsDelivery offered course → ((a : Op) → Contains offered a → Contains left a ⊎ Contains course a) →
-    NoneIsReady course left → HasLastDelivery offered
-finished offered course left d all none_left = record {
-  course = course;
-  is_last = record { delivery = d; last = λ a c. elim (all a c) [ inl k ↦ none_left a k | inr k ↦ not_again offered course d a k ] };
+finished : (offered added left : List Op) → IsDelivery offered added → ((a : Op) → Contains offered a → Contains left a ⊎ Contains added a) →
+    NoneIsReady added left → HasLastDelivery offered
+finished offered added left d all none_left = record {
+  added = added;
+  is_last = record { delivery = d; last = λ a c. elim (all a c) [ inl k ↦ none_left a k | inr k ↦ not_again offered added d a k ] };
 }
 
-go_on : (n : ℕ) (offered course left : List Op) → length left ≤ n → IsDelivery offered course → ((a : Op) → Contains left a → Contains offered a) →
-    ((a : Op) → Contains offered a → Contains left a ⊎ Contains course a) → HasLastDelivery offered
-go_on zero offered course left l d from all = finished offered course left d all (λ a (k, m, e) r. absurd (omega arith))
-go_on (suc n) offered course left l d from all = elim (some_ready course left) [
-  | inr none_left ↦ finished offered course left d all none_left
+go_on : (n : ℕ) (offered added left : List Op) → length left ≤ n → IsDelivery offered added → ((a : Op) → Contains left a → Contains offered a) →
+    ((a : Op) → Contains offered a → Contains left a ⊎ Contains added a) → HasLastDelivery offered
+go_on zero offered added left l d from all = finished offered added left d all (λ a (k, m, e) r. absurd (omega arith))
+go_on (suc n) offered added left l d from all = elim (some_ready added left) [
+  | inr none_left ↦ finished offered added left d all none_left
   | inl t ↦
       let at : Contains left t.op = subst (λ r. Contains r t.op) (sym t.is) (Contains-between_itself t.before t.op t.after) in
-      go_on n offered (course ++ t.op ∷ []) (t.before ++ t.after)
+      go_on n offered (added ++ t.op ∷ []) (t.before ++ t.after)
       (let e = ap length t.is in omega (arith, length-append t.before (t.op ∷ t.after), length-append t.before t.after))
-      (delivery-push offered course t.op d (from t.op at) t.ready)
+      (delivery-push offered added t.op d (from t.op at) t.ready)
       (λ a c. from a (subst (λ r. Contains r a) (sym t.is) (Contains-between t.before t.op t.after a c)))
       (λ a c. elim (all a c) [
         | inl k ↦ elim (Contains-between_cases t.before t.op t.after a (subst (λ r. Contains r a) t.is k)) [
-          | inl e ↦ inr (subst (Contains (course ++ t.op ∷ [])) (sym e) (Contains-push course t.op))
+          | inl e ↦ inr (subst (Contains (added ++ t.op ∷ [])) (sym e) (Contains-push added t.op))
           | inr m ↦ inl m
         ]
-        | inr k ↦ inr (Contains-append_left course (t.op ∷ []) a k)
+        | inr k ↦ inr (Contains-append_left added (t.op ∷ []) a k)
       ])
 ]
 

@@ -39,18 +39,18 @@ sum_to-lt f g (suc n) t le a b l = elim (cases_eq t (suc n)) [
 abbrev known : Clock → ℕ
 known c = sum_to (entry c) 8
 
-module _ (offered h course : List Op) (valid : IsValid h) (same : HaveSame offered h) (l : IsLastDelivery offered course) where
+module _ (offered h added : List Op) (valid : IsValid h) (same : HaveSame offered h) (l : IsLastDelivery offered added) where
   -- an operation whose known ones are all delivered is delivered
-  delivered_next : (a : Op) → Contains h a → ((s : ℕ) → IsSite s → entry a.past s ≤ count_of course s) → Contains course a
+  delivered_next : (a : Op) → Contains h a → ((s : ℕ) → IsSite s → entry a.past s ≤ count_of added s) → Contains added a
   delivered_next a c le =
       let own = valid.own a c in
       let w = le a.id.site (site_in_range a (valid.in_range a c)) in
-      elim (cases_lt (count_of course a.id.site) a.id.seq) [
+      elim (cases_lt (count_of added a.id.site) a.id.seq) [
         | inl m ↦ absurd (l.last a ((same a).1 c) (record { seq = omega arith; others = λ s i n. le s i }))
         | inr m ↦
             let t = has_counted l.delivery.in_turn a.id (omega arith) m in
             let k = (same t.op).0 (l.delivery.from_offered t.op t.contained) in
-            subst (Contains course) (one_of_pairs h valid.distinct t.op a k c (same_id t.op a t.site t.seq)) t.contained
+            subst (Contains added) (one_of_pairs h valid.distinct t.op a k c (same_id t.op a t.site t.seq)) t.contained
       ]
 
   -- an operation that a knows knew less
@@ -60,7 +60,7 @@ module _ (offered h course : List Op) (valid : IsValid h) (same : HaveSame offer
       let s = site_in_range b (valid.in_range b c) in
       sum_to-lt (entry b.past) (entry a.past) 8 b.id.site (λ t f m. w t (f, m)) s.0 s.1 (omega arith)
 
-  all_delivered : (n : ℕ) (a : Op) → Contains h a → known a.past < n → Contains course a
+  all_delivered : (n : ℕ) (a : Op) → Contains h a → known a.past < n → Contains added a
   all_delivered zero a c k = absurd (omega arith)
   all_delivered (suc n) a c k = delivered_next a c (λ s i. elim (cases_lt 0 (entry a.past s)) [
     | inl m ↦
@@ -70,7 +70,7 @@ module _ (offered h course : List Op) (valid : IsValid h) (same : HaveSame offer
         let e : t.op.id.seq ≤ entry a.past t.op.id.site = rw p (omega arith) in
         let w = knew_less a t.op t.contained t.past e in
         let x = number_counted l.delivery.in_turn t.op (all_delivered n t.op t.contained (omega arith)) in
-        let y = subst (λ s. t.op.id.seq ≤ count_of course s) p x in omega arith
+        let y = subst (λ s. t.op.id.seq ≤ count_of added s) p x in omega arith
     | inr m ↦ omega arith
   ])
 
@@ -78,6 +78,6 @@ pub whole_delivered : (offered h : List Op) → IsValid h → HaveSame offered h
 whole_delivered offered h valid same a = (
   λ c.
       let f = last_delivery offered in
-      record { course = f.course; delivery = f.is_last.delivery; contained = all_delivered offered h f.course valid same f.is_last (known a.past + 1) a c (omega arith) },
+      record { added = f.added; delivery = f.is_last.delivery; contained = all_delivered offered h f.added valid same f.is_last (known a.past + 1) a c (omega arith) },
   λ t. (same a).0 (t.delivery.from_offered a t.contained),
 )

@@ -16,27 +16,27 @@ pub data AreReady : List Op → Type 0 where
   none : AreReady []
   next : {h : List Op} {a : Op} → AreReady h → IsReady h a → AreReady (h ++ a ∷ [])
 
--- the course has offered operations without repeats, and each is ready behind those before it
-pub record IsDelivery (offered course : List Op) : Type 0 where
-  pub from_offered : (a : Op) → Contains course a → Contains offered a
-  pub once : HaveOwnIds course
-  pub in_turn : AreReady course
+-- the added operations are offered ones without repeats, and each is ready behind those before it
+pub record IsDelivery (offered added : List Op) : Type 0 where
+  pub from_offered : (a : Op) → Contains added a → Contains offered a
+  pub once : HaveOwnIds added
+  pub in_turn : AreReady added
 
--- the course is a delivery of the offered operations behind which none of them is ready
-pub record IsLastDelivery (offered course : List Op) : Type 0 where
-  pub delivery : IsDelivery offered course
-  pub last : NoneIsReady course offered
+-- the added operations are a delivery of the offered ones behind which none of these is ready
+pub record IsLastDelivery (offered added : List Op) : Type 0 where
+  pub delivery : IsDelivery offered added
+  pub last : NoneIsReady added offered
 
 -- the offered operations have a delivery behind which none of them is ready
 pub record HasLastDelivery (offered : List Op) : Type 0 where
-  pub course : List Op
-  pub is_last : IsLastDelivery offered course
+  pub added : List Op
+  pub is_last : IsLastDelivery offered added
 
 -- a stands in a delivery of the offered operations
 pub record IsDelivered (offered : List Op) (a : Op) : Type 0 where
-  pub course : List Op
-  pub delivery : IsDelivery offered course
-  pub contained : Contains course a
+  pub added : List Op
+  pub delivery : IsDelivery offered added
+  pub contained : Contains added a
 
 -- the list has the delivered part of the offered operations: those that stand in some delivery, and no others
 abbrev pub IsDeliveredPart : List Op → List Op → Type 0

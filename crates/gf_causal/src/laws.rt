@@ -12,8 +12,8 @@ ghost use Rattle.gf_causal.specs.Ready.{IsReady};
 /// added behind those before it, as soon as none of them is ready exactly the delivered part was
 /// added, whatever the order of the offers.
 pub fn a_last_delivery_has_the_delivered_part()
-    ensures part { (offered course : List Op) → AreOneById offered → IsLastDelivery offered course
-        → IsDeliveredPart offered course }
+    ensures part { (offered added : List Op) → AreOneById offered → IsLastDelivery offered added
+        → IsDeliveredPart offered added }
     ensures same { (offered others c d : List Op) → AreOneById offered → HaveSame offered others
         → IsLastDelivery offered c → IsLastDelivery others d → HaveSame c d }
 {}

@@ -13,7 +13,6 @@ mod by_id;
 mod faults;
 mod laws;
 mod ready;
-mod same;
 mod standing;
 
 pub use buffer::{Buffer, Offered};

@@ -3,8 +3,7 @@
 ghost use Rattle.std.specs.Prelude.{◌≡◌, option_copied};
 ghost use Rattle.gf_causal.specs.Keeping.{Compares, Among, joined};
 
-use crate::same::same_op;
-use gf_ops::{History, Op};
+use gf_ops::{History, Op, same_op};
 
 /// What stands under the id of an operation.
 #[derive(Clone, Copy, Debug, PartialEq, Eq)]

@@ -110,7 +110,7 @@ module _ (h : List Op) (valid : IsValid h) (a : Op) (in_range : IsInRange a) (ac
         let w = there k m in
         let same : w.0 ≡ b = one_op (slice_get h k) w.0 b w.1 at in
         conflict_from (slice_get (h ++ a ∷ []) (length h)) (slice_get (h ++ a ∷ []) k) a b (got_last h a) (got_before h a k b at) (record {
-          concurrent = record { different = λ e. fresh h valid a in_range accepted b inside (sym e); not_before = unknown h valid a in_range accepted b inside; not_after = later };
+          concurrent = record { different = λ e. fresh h valid a in_range accepted b inside (sym (ap (λ (x : Op). x.id) e)); not_before = unknown h valid a in_range accepted b inside; not_after = later };
           one_object = sym (subst (λ (x : Op). object_of x ≡ object_of a) same w.2);
           apart = record {
             attribute = attribute_of v;

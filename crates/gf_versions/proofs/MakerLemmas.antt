@@ -100,7 +100,7 @@ module _ (h : List Op) (valid : IsValid h) (o : ObjectId) where
         let member = clash.member in
         let apart = clash.conflict.concurrent in
         absurd (elim (maker_or_after made.op member made.contained made.id clash.is_member.contained member.change refl (sym clash.conflict.one_object ∙ made.object)) [
-          | inl e ↦ apart.different (made.id ∙ sym e)
+          | inl e ↦ apart.different (same_op h valid made.op member made.contained clash.is_member.contained (made.id ∙ sym e))
           | inr before ↦ apart.not_before before
         ])
   ]

@@ -124,10 +124,9 @@ module _ (h : List Op) (valid : IsValid h) (o : ObjectId) (g : List OpId) (versi
       differ : value_eq v w ≡ false → v ≢ w
       differ f e = let s = value_eq-same v in let n = subst (λ u. value_eq v u ≡ false) (sym e) f in absurd cc
 
-      two : value_eq v w ≡ false → x.setter.id ≢ y.setter.id
+      two : value_eq v w ≡ false → x.setter ≢ y.setter
       two f e =
-          let one = same_op h valid x.setter y.setter x.member.contained y.member.contained e in
-          let same : Some v ≡ Some w = sym x.gives ∙ (ap (λ (a : Op). value_given a t) one ∙ y.gives) in
+          let same : Some v ≡ Some w = sym x.gives ∙ (ap (λ (a : Op). value_given a t) e ∙ y.gives) in
           differ f cc
 
       apart : value_eq v w ≡ false → Conflict x.setter y.setter
