@@ -17,6 +17,7 @@ use Rattle.gf_ops.specs.Limits.{IsInRange}
 use Rattle.gf_ops.specs.OperationOrder.{Precedes, entry}
 use Rattle.gf_ops.specs.ValidHistory.{IsValid, IsWithin}
 use Rattle.gf_ops.proofs.SameLemmas.{value_eq-same, value_eq-true}
+use Rattle.gf_ops.proofs.ValidityLemmas.{same_op}
 use Rattle.gf_groups.specs.Growing.{conflict_at, conflicts_in}
 use Rattle.gf_groups.specs.GroupedPositions.{is_on}
 use Rattle.gf_groups.specs.Tables.{IsLargest, IsTable}
@@ -99,7 +100,7 @@ one_site h valid x y m n same c = elim (cases_lt x.id.seq y.id.seq) [
   | inl l ↦ let own = valid.own y n in c.concurrent.not_before (subst (λ s. x.id.seq ≤ entry y.past s) (sym same) (omega (arith, l, own)))
   | inr l ↦ elim (cases_lt y.id.seq x.id.seq) [
     | inl k ↦ let own = valid.own x m in c.concurrent.not_after (subst (λ s. y.id.seq ≤ entry x.past s) same (omega (arith, k, own)))
-    | inr k ↦ let e : x.id.seq ≡ y.id.seq = omega (arith, l, k) in c.concurrent.different (λ i. record { site = same i; seq = e i })
+    | inr k ↦ let e : x.id.seq ≡ y.id.seq = omega (arith, l, k) in c.concurrent.different (same_op h valid x y m n (λ i. record { site = same i; seq = e i }))
   ]
 ]
 

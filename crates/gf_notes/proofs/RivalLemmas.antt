@@ -91,7 +91,7 @@ module _ (h : List Op) (valid : IsValid h) (a : Op) (in_range : IsInRange a) (ac
         let n = length-longer h a in
         let e : length h ≡ q = omega (arith, k, l, n) in
         let one : a ≡ b = one_op (slice_get new q) a b (subst (λ i. slice_get new i ≡ Some a) e (got_last h a)) at in
-        absurd (x.concurrent.different (ap (λ (z : Op). z.id) one))
+        absurd (x.concurrent.different one)
   ]
 
   -- and is about the same subject
