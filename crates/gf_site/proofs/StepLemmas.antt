@@ -4,7 +4,6 @@ use Rattle.std.specs.Prelude.{◌↔◌, Result, Err}
 use Rattle.gf_ops.specs.declared.op.Op.{Op}
 use Rattle.gf_ops.specs.declared.faults.OpFault.{OpFault}
 use Rattle.gf_ops.specs.declared.faults.OpFault.TheVariants.{BadClock, NoObject, WrongKind}
-use Rattle.gf_ops.specs.declared.op.ObjectId.{ObjectId}
 use Rattle.gf_ops.specs.declared.change.Change.{Change}
 use Rattle.gf_ops.specs.declared.change.Change.TheVariants.{Create, Set}
 use Rattle.gf_ops.specs.KnownObject.{IsFounded, IsSuited}
