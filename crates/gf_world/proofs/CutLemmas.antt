@@ -7,23 +7,24 @@ use Rattle.gf_ops.specs.ValidHistory.{IsValid}
 use Rattle.gf_ops.proofs.ListLemmas.{not_Contains-nil, Contains-cons_cases}
 use Rattle.gf_site.specs.SiteState.{clock_of}
 use Rattle.gf_site.specs.Course.{IsCourse, none, next}
+use Rattle.gf_site.proofs.CourseLemmas.{course_ready, last_accepted}
 
 -- a list with an element inside, or as its last
-record IsLater {X : Type 0} (h front : List X) (a b : X) (rest : List X) : Type 0 where
-  left : List X
-  rest_is : rest ≡ left ++ b ∷ []
-  whole : h ≡ front ++ a ∷ left
+pub record IsLater {X : Type 0} (h front : List X) (a b : X) (rest : List X) : Type 0 where
+  pub left : List X
+  pub rest_is : rest ≡ left ++ b ∷ []
+  pub whole : h ≡ front ++ a ∷ left
 
-record IsLast {X : Type 0} (h front : List X) (a b : X) (rest : List X) : Type 0 where
-  rest_is : rest ≡ []
-  whole : h ≡ front
-  same : b ≡ a
+pub record IsLast {X : Type 0} (h front : List X) (a b : X) (rest : List X) : Type 0 where
+  pub rest_is : rest ≡ []
+  pub whole : h ≡ front
+  pub same : b ≡ a
 
-not_inside : {X : Type 0} (front : List X) (a : X) (rest : List X) → ¬ ([] ≡ front ++ a ∷ rest)
+pub not_inside : {X : Type 0} (front : List X) (a : X) (rest : List X) → ¬ ([] ≡ front ++ a ∷ rest)
 not_inside [] a rest e = absurd cc
 not_inside (x ∷ front) a rest e = absurd cc
 
-last_view : {X : Type 0} (h front : List X) (a b : X) (rest : List X) → h ++ b ∷ [] ≡ front ++ a ∷ rest → IsLast h front a b rest ⊎ IsLater h front a b rest
+pub last_view : {X : Type 0} (h front : List X) (a b : X) (rest : List X) → h ++ b ∷ [] ≡ front ++ a ∷ rest → IsLast h front a b rest ⊎ IsLater h front a b rest
 last_view [] [] a b rest e = let p : b ≡ a = cc in let q : [] ≡ rest = cc in inl (record { rest_is = sym q; whole = refl; same = p })
 last_view [] (x ∷ front) a b rest e = absurd (not_inside front a rest (let q : [] ≡ front ++ a ∷ rest = cc in q))
 last_view (y ∷ h) [] a b rest e = let p : y ≡ a = cc in let q : h ++ b ∷ [] ≡ rest = cc in inr (record { left = h; rest_is = sym q; whole = ap (λ z. z ∷ h) p })
@@ -44,8 +45,8 @@ pub record Comes (s : ℕ) (h : List Op) (a : Op) : Type 0 where
 
 pub course_cut : {s : ℕ} {all : List Op} → IsCourse s all → (h : List Op) (a : Op) (rest : List Op) → all ≡ h ++ a ∷ rest → Comes s h a
 course_cut none h a rest e = absurd (not_inside h a rest e)
-course_cut {s = s} (next {h = g} {a = b} c t v o) h a rest e = elim (last_view g h a b rest e) [
-  | inl l ↦ subst (λ (w : List Op × Op). Comes s w.0 w.1) (λ i. (l.whole i, l.same i)) (record { course = c; accepted = t; valid = v; own = o })
+course_cut {s = s} (next {h = g} b c v o) h a rest e = elim (last_view g h a b rest e) [
+  | inl l ↦ subst (λ (w : List Op × Op). Comes s w.0 w.1) (λ i. (l.whole i, l.same i)) (record { course = c; accepted = last_accepted g b (course_ready c) v; valid = v; own = o })
   | inr l ↦ course_cut c h a l.left l.whole
 ]
 

@@ -4,7 +4,7 @@ use Rattle.std.proofs.Common.{◌≡◌, ℕ, zero, suc, ◌+◌, ◌<◌, ◌�
 use Rattle.std.specs.Prelude.{Contains, Some, slice_get}
 use Rattle.std.proofs.lemmas.List.{length-set}
 use Rattle.std.proofs.lemmas.List.Elements.{Contains-append_left, Contains-append_right, Contains-append_cases, Contains-push, Contains-push_cases}
-use Rattle.std.proofs.lemmas.Option.{slice_get_within, slice_get-get_or, get_or_from_slice_get}
+use Rattle.std.proofs.lemmas.Option.{slice_get_within}
 use Rattle.gf_ops.specs.declared.op.Op.{Op}
 use Rattle.gf_ops.specs.Limits.{IsInRange}
 use Rattle.gf_ops.specs.OperationOrder.{entry, count_of}
@@ -20,13 +20,13 @@ use Rattle.gf_causal.proofs.ReadyLemmas.{least_ready}
 use Rattle.gf_site.specs.SiteState.{SiteState, clock_of, authored}
 use Rattle.gf_site.specs.Course.{IsCourse, none as course_none, next as course_next}
 use Rattle.gf_site.proofs.AuthorLemmas.{entry-clock_of}
-use Rattle.gf_site.proofs.CourseLemmas.{accepted_ready, all_ready}
+use Rattle.gf_site.proofs.CourseLemmas.{accepted_ready, course_ready, last_accepted}
 use Rattle.gf_world.specs.declared.event.Event.{Event}
 use Rattle.gf_world.specs.declared.event.Event.TheVariants.{Author, Offer, Step}
 use Rattle.gf_world.specs.World.{new_sites, holds, authors, receives, applies, offer_in, IsWorld, start, next}
 use Rattle.gf_world.specs.Courses.{AreCourses, HaveEvents}
 use Rattle.gf_world.proofs.SitesLemmas.{length-new_sites, new_at}
-use Rattle.gf_world.proofs.GrowingLemmas.{fresh_id, course_accepted, course_valid}
+use Rattle.gf_world.proofs.GrowingLemmas.{fresh_id, course_valid}
 use Rattle.gf_world.proofs.CutLemmas.{Comes, course_cut, Split, split_at}
 
 -- the site at the place k, with these operations
@@ -96,7 +96,7 @@ take_all : (n : ℕ) (messages : List Op) (k : ℕ) (all : List Op) → IsCourse
 take_all n messages k all c [] h more e among sites at w = subst (λ l. Reached n l messages) (sym (set_itself sites k (resting k h) at) ∙ ap (λ g. set sites k (resting k g)) (sym (append-nil h))) w
 take_all n messages k all c (a ∷ rest) h more e among sites at w =
     let t = course_cut c h a (rest ++ more) (e ∙ append_assoc h (a ∷ rest) more) in
-    let one = take_one n sites messages k h a w at (all_ready (course_accepted t.course)) t.accepted (t.valid.in_range a (Contains-push h a)) (among a (Contains-cons_head a rest)) in
+    let one = take_one n sites messages k h a w at (course_ready t.course) t.accepted (t.valid.in_range a (Contains-push h a)) (among a (Contains-cons_head a rest)) in
     let there = got_set_same sites k (resting k (h ++ a ∷ [])) (resting k h) at in
     let all_rest = take_all n messages k all c rest (h ++ a ∷ []) more (e ∙ ap (λ l. l ++ more) (sym (append_assoc h (a ∷ []) rest))) (λ b d. among b (Contains-cons_tail a rest b d)) (set sites k (resting k (h ++ a ∷ []))) there one in
     subst (λ l. Reached n l messages) (set_set sites k (resting k (h ++ a ∷ [])) (resting k ((h ++ a ∷ []) ++ rest)) ∙ ap (λ g. set sites k (resting k g)) (append_assoc h (a ∷ []) rest)) all_rest
@@ -165,7 +165,7 @@ module _ (lists : List (List Op)) (courses : AreCourses lists) (c : List Op) (in
           let here = Contains-append_right now.ops cut.before f d in
           let in_range = (course_valid comes.course).in_range f here in
           let known : entry a.past f.id.site ≡ count_of (now.ops ++ cut.before) f.id.site = ap (λ p. entry p f.id.site) past_is ∙ entry-clock_of (now.ops ++ cut.before) f.id.site (site_in_range f in_range) in
-          let few = number_counted (all_ready (course_accepted comes.course)) f here in
+          let few = number_counted (course_ready comes.course) f here in
           let most = accepted.next.known f.id.site (site_in_range f in_range) in
           let t = has_counted ready f.id (seq_in_range f in_range).0 (omega (arith, known, few, most)) in
           let same = same_op h (course_valid course_h) t.op f (in_h t.op (within t.op t.contained)) (subst (λ l. Contains l f) (sym h_is) (Contains-append_left (now.ops ++ cut.before) (a ∷ cut.after) f here)) (same_id t.op f t.site t.seq) in
@@ -176,7 +176,7 @@ module _ (lists : List (List Op)) (courses : AreCourses lists) (c : List Op) (in
           let at : slice_get w.sites k ≡ Some (resting k now.ops) = x_at ∙ ap Some now.is in
           let taken = take_all (length lists) q k h course_h cut.before now.ops (a ∷ cut.after) h_is before_authored w.sites at w.reached in
           let there = got_set_same w.sites k (resting k (now.ops ++ cut.before)) (resting k now.ops) at in
-          let own = make_one (length lists) (set w.sites k (resting k (now.ops ++ cut.before))) q k (now.ops ++ cut.before) a taken there (all_ready (course_accepted comes.course)) comes.accepted (valid.in_range a in_c) site past_is in
+          let own = make_one (length lists) (set w.sites k (resting k (now.ops ++ cut.before))) q k (now.ops ++ cut.before) a taken there (course_ready comes.course) comes.accepted (valid.in_range a in_c) site past_is in
           subst (λ l. Reached (length lists) l (q ++ a ∷ [])) (set_set w.sites k (resting k (now.ops ++ cut.before)) (resting k ((now.ops ++ cut.before) ++ a ∷ []))) own
 
       from_grown : (b : Op) → Contains ((now.ops ++ cut.before) ++ a ∷ []) b → Contains (q ++ a ∷ []) b
@@ -208,9 +208,9 @@ module _ (lists : List (List Op)) (courses : AreCourses lists) (c : List Op) (in
 
   authored_all : {s : ℕ} {q : List Op} → IsCourse s q → ((b : Op) → Contains q b → Contains c b) → Come lists 0 q
   authored_all course_none within = begin lists
-  authored_all (course_next {h = q} {a = a} r t v o) within =
+  authored_all (course_next {h = q} a r v o) within =
       let inner : (b : Op) → Contains q b → Contains c b = λ b d. within b (Contains-append_left q (a ∷ []) b d) in
-      forward q a inner (within a (Contains-push q a)) (all_ready (course_accepted r)) t (authored_all r inner)
+      forward q a inner (within a (Contains-push q a)) (course_ready r) (last_accepted q a (course_ready r) v) (authored_all r inner)
 
   -- each of the first j sites takes the rest
   taken_all : (j : ℕ) → j ≤ length lists → Come lists 0 c → Come lists j c

@@ -5,7 +5,7 @@ use Rattle.gf_ops.specs.declared.op.Op.{Op}
 use Rattle.gf_ops.specs.declared.op.OpId.{OpId}
 use Rattle.gf_ops.specs.Limits.{IsInRange}
 use Rattle.gf_ops.specs.OperationOrder.{count_of}
-use Rattle.gf_ops.specs.Accepted.{IsAccepted, AreAccepted, none, next}
+use Rattle.gf_ops.specs.Accepted.{IsAccepted, AreAccepted}
 use Rattle.gf_ops.specs.ValidHistory.{IsValid}
 use Rattle.gf_ops.proofs.ListLemmas.{not_Contains-nil}
 use Rattle.gf_ops.proofs.ValidityLemmas.{IsValid-push}
@@ -37,10 +37,6 @@ valid_push h run valid a in_range accepted =
     IsValid-push h a valid in_range accepted.next accepted.suited (fresh_id h ready a accepted)
     (λ i site first last. let t = has_counted ready i first last in record { op = t.op; contained = t.contained; id = λ j. record { site = t.site j; seq = t.seq j } })
 
-pub course_accepted : {s : ℕ} {h : List Op} → IsCourse s h → AreAccepted h
-course_accepted course_none = none
-course_accepted (course_next c a v k) = next (course_accepted c) a
-
 pub course_valid : {s : ℕ} {h : List Op} → IsCourse s h → IsValid h
 course_valid course_none = valid_nil
-course_valid (course_next c a v k) = v
+course_valid (course_next a c v k) = v

@@ -1,5 +1,5 @@
 -- What the calls on one site make of the world.
-use Rattle.std.proofs.Common.{Bor, ◌≡◌, ◌≢◌, Option, ℕ, zero, suc, ◌+◌, List, [], ◌∷◌, ◌++◌, Some, None, Ok, Err, inl, inr, refl, sym, ap, subst, ◌∙◌, add-one, set, get_or, length, ◌<◌}
+use Rattle.std.proofs.Common.{Bor, ◌≡◌, ◌≢◌, Option, ℕ, suc, ◌+◌, List, [], ◌∷◌, ◌++◌, Some, None, Ok, Err, inl, inr, refl, sym, ap, subst, ◌∙◌, add-one, get_or, length, ◌<◌}
 use Rattle.std.specs.Prelude.{◌↔◌, Result, OnOk, Contains, slice_get, slice_set, option_copied}
 use Rattle.std.proofs.lemmas.Option.{slice_get_read}
 use Rattle.gf_ops.specs.declared.op.Op.{Op}
@@ -22,12 +22,11 @@ use Rattle.gf_site.specs.declared.site.Step.{Step}
 use Rattle.gf_site.specs.declared.site.Step.TheVariants.{Applied, Dropped, Idle}
 use Rattle.gf_site.specs.SiteState.{SiteState}
 use Rattle.gf_site.specs.Events.{Refuses, Authors, Steps, Drops}
-use Rattle.gf_site.proofs.CourseLemmas.{all_ready}
+use Rattle.gf_site.proofs.CourseLemmas.{course_ready}
 use Rattle.gf_site.proofs.StepLemmas.{not_refused}
 use Rattle.gf_world.specs.declared.event.Event.TheVariants.{Author, Offer, Step as step_event}
 use Rattle.gf_world.specs.World.{WorldState, site_at, with_site, Receives, already, holds, Happens, authors, refuses, receives, applies, idle}
 use Rattle.gf_world.specs.Sound.{IsSiteOf, IsSound}
-use Rattle.gf_world.proofs.GrowingLemmas.{course_accepted}
 
 -- the site at a place
 pub stands_at : (sites seen : List SiteState) (k : ℕ) (x : SiteState) → seen ≡ sites → k < length seen → x ≡ get_or sites k x → slice_get sites k ≡ Some x
@@ -66,7 +65,7 @@ received messages s x y a (Err OutOfMemory) valid w there m range clash known he
 never_dropped : (messages : List Op) (s : ℕ) (x y : SiteState) (i : OpId) (f : OpFault) → IsValid messages → IsSiteOf messages s x → ¬ (Drops x i f y)
 never_dropped messages s x y i f valid w d =
     let first = d.takes.first in
-    let accepted = part_accepts messages x.ops valid w.has (all_ready (course_accepted w.course)) d.op (w.holds d.op first.contained) first.ready in
+    let accepted = part_accepts messages x.ops valid w.has (course_ready w.course) d.op (w.holds d.op first.contained) first.ready in
     not_refused x.ops d.op f accepted d.refused
 
 module _ (world : WorldState) (n k : ℕ) (e : n ≡ k + 1) (x y : SiteState) (at : slice_get world.sites k ≡ Some x) where

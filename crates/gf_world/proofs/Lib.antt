@@ -5,3 +5,4 @@ pub mod HappenLemmas
 pub mod SettledLemmas
 pub mod CutLemmas
 pub mod EventLemmas
+pub mod OfferedLemmas

@@ -20,14 +20,14 @@ use Rattle.gf_site.specs.declared.site.Step.{Step}
 use Rattle.gf_site.specs.declared.site.Step.TheVariants.{Applied, Dropped, Idle}
 use Rattle.gf_site.specs.SiteState.{SiteState, new_site}
 use Rattle.gf_site.specs.Events.{Steps, Applies, Drops}
-use Rattle.gf_site.proofs.CourseLemmas.{all_ready}
+use Rattle.gf_site.proofs.CourseLemmas.{course_ready}
 use Rattle.gf_site.proofs.StepLemmas.{not_refused}
 use Rattle.gf_world.specs.declared.event.Event.{Event}
 use Rattle.gf_world.specs.declared.event.Event.TheVariants.{Author, Offer, Step as step_event}
 use Rattle.gf_world.specs.World.{WorldState, site_at, with_site, Receives, already, holds, Happens, authors, refuses, receives, no_message, applies, idle, no_site, sent, offer_in, IsWorld, start, next}
 use Rattle.gf_world.specs.Visits.{IsOffered, new, offer, step}
 use Rattle.gf_world.specs.Settled.{IsSettled}
-use Rattle.gf_world.proofs.GrowingLemmas.{course_accepted, course_valid}
+use Rattle.gf_world.proofs.GrowingLemmas.{course_valid}
 use Rattle.gf_world.proofs.SitesLemmas.{site_cases}
 use Rattle.gf_world.proofs.SoundLemmas.{taken_from, world_sound}
 
@@ -139,7 +139,7 @@ pub world_settled : {n : ℕ} {events : List Event} {offers : List (ℕ × Op)} 
 world_settled {world} w s x at told =
     let sound = world_sound w in
     let site = sound.sites s x at in
-    let d : IsDelivery world.messages x.ops = record { from_offered = site.has; once = (course_valid site.course).distinct; in_turn = all_ready (course_accepted site.course) } in
+    let d : IsDelivery world.messages x.ops = record { from_offered = site.has; once = (course_valid site.course).distinct; in_turn = course_ready site.course } in
     settled world.messages x sound.valid d (λ a m. elim (cases_eq a.id.site s) [
       | inl e ↦ inr (site.own a m e)
       | inr o ↦ offered_kept w s a x (told.offered a m o) at

@@ -1,8 +1,7 @@
 -- Every world is sound: its messages are a valid history, and each site has a course of them with all of its own.
 use Rattle.std.proofs.Common.{◌≡◌, ◌≢◌, ℕ, ◌+◌, ◌≤◌, List, [], ◌∷◌, ◌++◌, Some, inl, inr, refl, sym, ap, subst, ◌∙◌, arith}
-use Rattle.std.specs.Prelude.{Contains, slice_get}
+use Rattle.std.specs.Prelude.{Contains}
 use Rattle.std.proofs.lemmas.Bool.{cases_lt}
-use Rattle.std.proofs.lemmas.Option.{slice_get_within, get_or_from_slice_get}
 use Rattle.std.proofs.lemmas.List.Elements.{Contains-append_left, Contains-push, Contains-push_cases}
 use Rattle.gf_ops.specs.declared.op.Op.{Op}
 use Rattle.gf_ops.specs.declared.op.OpId.{OpId}
@@ -25,8 +24,8 @@ use Rattle.gf_site.specs.Course.{none as course_none, next as course_next}
 use Rattle.gf_world.specs.World.{WorldState, new_sites, site_at, with_site, Receives, already, holds, Happens, authors, refuses, receives, no_message, applies, idle, no_site, IsWorld, start, next as world_next}
 use Rattle.gf_world.specs.Sound.{IsSiteOf, IsSound}
 use Rattle.gf_site.proofs.AuthorLemmas.{entry-clock_of}
-use Rattle.gf_site.proofs.CourseLemmas.{all_ready}
-use Rattle.gf_world.proofs.GrowingLemmas.{valid_nil, valid_push, fresh_id, course_accepted, course_valid}
+use Rattle.gf_site.proofs.CourseLemmas.{all_ready, course_accepted, course_ready}
+use Rattle.gf_world.proofs.GrowingLemmas.{valid_nil, valid_push, fresh_id, course_valid}
 use Rattle.gf_world.proofs.SitesLemmas.{new_at, site_cases}
 
 -- ---- what a site adds
@@ -36,7 +35,7 @@ site_adds : (messages : List Op) (s : ℕ) (x : SiteState) (a : Op) (more : List
     (a.id.site ≡ s → a.past ≡ clock_of x.ops) → ((b : Op) → Contains more b → Contains x.held b) → IsSiteOf messages s (record { number = x.number; ops = x.ops ++ a ∷ []; held = more })
 site_adds messages s x a more w there accepted valid past from = record {
   number = w.number;
-  course = course_next w.course accepted valid past;
+  course = course_next a w.course valid past;
   has = λ b m. elim (Contains-push_cases x.ops a b m) [ inl k ↦ w.has b k | inr e ↦ subst (Contains messages) e there ];
   holds = λ b m. w.holds b (from b m);
   own = λ b m e. Contains-append_left x.ops (a ∷ []) b (w.own b m e);
@@ -65,7 +64,7 @@ taken_from less a all adds b m = subst (λ l. Contains l b) (sym adds.with_it) (
 
 -- a ready operation of a course is none of it
 not_own : (messages : List Op) (s : ℕ) (x : SiteState) (a : Op) → IsSiteOf messages s x → Contains messages a → IsAccepted x.ops a → a.id.site ≢ s
-not_own messages s x a w there accepted e = fresh_id x.ops (all_ready (course_accepted w.course)) a accepted a (w.own a there e) refl
+not_own messages s x a w there accepted e = fresh_id x.ops (course_ready w.course) a accepted a (w.own a there e) refl
 
 site_applies : (messages : List Op) (s : ℕ) (x y : SiteState) (i : OpId) → IsSiteOf messages s x → Applies x i y → IsSiteOf messages s y
 site_applies messages s x y i w t =
@@ -93,11 +92,11 @@ module _ (messages : List Op) (valid : IsValid messages) (run : AreAccepted mess
   -- the site has as many operations of its own as there are messages of it
   all_own : count_of messages s ≡ count_of x.ops s
   all_own =
-      let few = count_within (all_ready (course_accepted w.course)) (all_ready run) w.has s in
+      let few = count_within (course_ready w.course) (all_ready run) w.has s in
       elim (cases_lt 0 (count_of messages s)) [
         | inl m ↦
             let t = has_counted (all_ready run) (record { site = s; seq = count_of messages s }) m (omega arith) in
-            let l = number_counted (all_ready (course_accepted w.course)) t.op (w.own t.op t.contained t.site) in
+            let l = number_counted (course_ready w.course) t.op (w.own t.op t.contained t.site) in
             let n = subst (λ r. t.op.id.seq ≤ count_of x.ops r) t.site l in
             let e = t.seq in omega arith
         | inr m ↦ omega arith
@@ -109,7 +108,7 @@ module _ (messages : List Op) (valid : IsValid messages) (run : AreAccepted mess
       let r = valid.in_range b m in
       let e = entry-clock_of x.ops b.id.site (site_in_range b r) in
       let k : entry a.past b.id.site ≡ entry (clock_of x.ops) b.id.site = ap (λ c. entry c b.id.site) past in
-      let t = has_counted (all_ready (course_accepted w.course)) b.id (seq_in_range b r).0 (omega arith) in
+      let t = has_counted (course_ready w.course) b.id (seq_in_range b r).0 (omega arith) in
       subst (Contains x.ops) (same_op messages valid t.op b (w.has t.op t.contained) m (same_id t.op b t.site t.seq)) t.contained
 
   suited_more : (c : Change) → IsSuited x.ops a c → IsSuited messages a c
@@ -124,7 +123,7 @@ module _ (messages : List Op) (valid : IsValid messages) (run : AreAccepted mess
       numbered = record { seq = let q = subst (λ r. a.id.seq ≡ count_of x.ops r + 1) site accepted.next.numbered.seq in let e = all_own in subst (λ r. a.id.seq ≡ count_of messages r + 1) (sym site) (let z : a.id.seq ≡ count_of messages s + 1 = omega arith in z); own = accepted.next.numbered.own };
       known = λ t i.
           let k = accepted.next.known t i in
-          let m = count_within (all_ready (course_accepted w.course)) (all_ready run) w.has t in omega arith;
+          let m = count_within (course_ready w.course) (all_ready run) w.has t in omega arith;
       closed = λ b m before. accepted.next.closed b (knows b m before) before;
     };
     suited = suited_more a.change accepted.suited;
@@ -143,7 +142,7 @@ sound_authors world s c x y a sound at made =
     let valid = valid_push x.ops (course_accepted w.course) (course_valid w.course) a made.in_range made.accepted in
     subst (IsSiteOf (world.messages ++ a ∷ []) s) (sym made.state) (record {
       number = w.number;
-      course = course_next w.course made.accepted valid (λ e. past);
+      course = course_next a w.course valid (λ e. past);
       has = λ b m. elim (Contains-push_cases x.ops a b m) [
         | inl k ↦ Contains-append_left world.messages (a ∷ []) b (w.has b k)
         | inr e ↦ subst (Contains (world.messages ++ a ∷ [])) e (Contains-push world.messages a)

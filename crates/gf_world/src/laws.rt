@@ -1,6 +1,6 @@
 //! Laws of worlds and of sites, each the contract of a function that does nothing.
 
-ghost use Rattle.std.specs.Prelude.{◌≡◌, ℕ, List, Some, Contains};
+ghost use Rattle.std.specs.Prelude.{◌≡◌, ℕ, List, Some, Contains, slice_get};
 ghost use Rattle.gf_ops.specs.declared.op.Op.{Op};
 ghost use Rattle.gf_ops.specs.declared.op.OpId.{OpId};
 ghost use Rattle.gf_ops.specs.declared.faults.OpFault.{OpFault};
@@ -12,7 +12,7 @@ ghost use Rattle.gf_site.specs.Events.{Drops};
 ghost use Rattle.gf_world.specs.declared.event.Event.{Event};
 ghost use Rattle.gf_world.specs.World.{WorldState, site_at, IsWorld};
 ghost use Rattle.gf_world.specs.Sound.{IsSound};
-ghost use Rattle.gf_world.specs.Settled.{IsSettled};
+ghost use Rattle.gf_world.specs.Settled.{IsSettled, IsOfferedLast};
 ghost use Rattle.gf_world.specs.Visits.{IsOffered};
 ghost use Rattle.gf_world.specs.Courses.{AreCourses, HaveEvents};
 
@@ -30,6 +30,13 @@ pub fn settled_sites_have_all_messages()
     ensures { (n : ℕ) (events : List Event) (offers : List (ℕ × Op)) (w : WorldState)
         → IsWorld n events offers w → (s : ℕ) (x : SiteState) → site_at w.sites s ≡ Some x
         → IsSettled w offers s x → HaveSame x.ops w.messages }
+{}
+
+/// What is offered to a site once the last change was made is among the offers to it.
+pub fn what_is_offered_behind_the_last_change_is_an_offer()
+    ensures { (n : ℕ) (events : List Event) (offers : List (ℕ × Op)) (w : WorldState)
+        → IsWorld n events offers w → (s m : ℕ) (a : Op) → IsOfferedLast events s m
+        → slice_get w.messages m ≡ Some a → Contains offers (s, a) }
 {}
 
 /// A new site that is offered the operations of a valid history, each at least once, in any order,

@@ -2,6 +2,7 @@
 //!
 //! - [`world_run`]: the [`World`] that new sites come to by [`Event`]s.
 //! - [`each_site_of_a_world_has_a_course`], [`settled_sites_have_all_messages`],
+//!   [`what_is_offered_behind_the_last_change_is_an_offer`],
 //!   [`a_site_that_is_offered_a_history_has_it`], [`courses_of_the_same_operations_have_events`]:
 //!   the laws.
 #![tactic(auto)]
@@ -14,5 +15,6 @@ pub use event::Event;
 pub use laws::{
     a_site_that_is_offered_a_history_has_it, courses_of_the_same_operations_have_events,
     each_site_of_a_world_has_a_course, settled_sites_have_all_messages,
+    what_is_offered_behind_the_last_change_is_an_offer,
 };
 pub use world::{World, world_run};

@@ -1,7 +1,7 @@
 //! A world: the sites that work on one drawing, and what they tell each other.
 
 ghost use Rattle.std.specs.Prelude.{◌≡◌, ◌≢◌, ◌+◌, ◌<◌, None, Err, length, slice_get};
-ghost use Rattle.std.specs.Prelude.{option_copied, IfOk, OnOk, IfSome, IfNone};
+ghost use Rattle.std.specs.Prelude.{option_copied, IfOk, OnOk, OnErr, IfSome, IfNone};
 ghost use Rattle.gf_ops.specs.OperationOrder.{IsSite};
 ghost use Rattle.gf_world.specs.declared.event.Event.{Event};
 ghost use Rattle.gf_causal.specs.declared.faults.OfferFault.{OfferFault};
@@ -126,7 +126,8 @@ fn message_at(messages: &[Op], message: usize) -> Option<&Op>
 
 /// The want of memory that an offer met.
 fn unless_full(answer: Result<Offered, OfferFault>) -> Result<(), OutOfMemory>
-    ensures { OnOk result (answer ≢ Err OfferFault.OutOfMemory) }
+    ensures ok { OnOk result (answer ≢ Err OfferFault.OutOfMemory) }
+    ensures err { OnErr result (answer ≡ Err OfferFault.OutOfMemory) }
 {
     match answer {
         Err(OfferFault::OutOfMemory) => Err(OutOfMemory),
@@ -138,7 +139,8 @@ fn unless_full(answer: Result<Offered, OfferFault>) -> Result<(), OutOfMemory>
 
 /// The want of memory that a change met.
 fn unless_memory(fault: AuthorFault) -> Result<(), OutOfMemory>
-    ensures { OnOk result (fault ≢ AuthorFault.OutOfMemory) }
+    ensures ok { OnOk result (fault ≢ AuthorFault.OutOfMemory) }
+    ensures err { OnErr result (fault ≡ AuthorFault.OutOfMemory) }
 {
     match fault {
         AuthorFault::OutOfMemory => Err(OutOfMemory),

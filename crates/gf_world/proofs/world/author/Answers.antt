@@ -21,4 +21,4 @@ returns-in-Err c =
     let found = c.in-Some.ensures.found in
     let x = c.index_mut.result.now in
     let at = stands_at world.sites c.deref.result.now c.in-Some.place x c.deref.ensures.value found.1 c.index_mut.ensures.value in
-    ok_gives c.unless_memory.result (λ n. refuses_here world c.args.number c.in-Some.place found.0 x c.author.new.self at c.args.change c.in-Err.fault c.in-Err.ensures.err n c.in-Err.ensures.same) c.unless_memory.ensures
+    ok_gives c.unless_memory.result (λ n. refuses_here world c.args.number c.in-Some.place found.0 x c.author.new.self at c.args.change c.in-Err.fault c.in-Err.ensures.err n c.in-Err.ensures.same) c.unless_memory.ensures.ok

@@ -19,4 +19,4 @@ returns c =
     let a = c.in_ok-copy.copy in
     let message = message_there world.messages c.deref-2.result.now c.args.message c.message_at.result c.in-Some-message_at.op a c.deref-2.ensures.value c.message_at.ensures c.in-Some-message_at.is c.in_ok-copy.ensures in
     let told = c.receive.ensures in
-    ok_gives c.unless_full.result (λ n. receives_here world c.args.number c.in-Some.place found.0 x c.receive.new.self at c.args.message a c.receive.result c.requires message n told.range told.clash told.already told.held told.same told.kept) c.unless_full.ensures
+    ok_gives c.unless_full.result (λ n. receives_here world c.args.number c.in-Some.place found.0 x c.receive.new.self at c.args.message a c.receive.result c.requires message n told.range told.clash told.already told.held told.same told.kept) c.unless_full.ensures.ok
