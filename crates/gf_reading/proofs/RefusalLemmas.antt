@@ -73,6 +73,6 @@ module _ (bytes : List ℕ) (h : List Op) (d : Denotes bytes h) where
       let all = subst (λ last. (a : Op) → Contains (x.at.ops ++ last ∷ []) a → Contains d.ops a) same (among x.at.ops k.rest k.last k.whole) in
       let delivery : IsDelivery d.ops x.history = record { from_offered = λ a i. all a (x.delivery.from_offered a i); once = x.delivery.once; in_turn = x.delivery.in_turn } in
       let longer = delivery-push d.ops x.history x.op delivery (all x.op x.there) x.ready in
-      let within = λ (a : Op) (i : Contains x.history a). (d.delivers.delivered a).1 (record { course = x.history; delivery = delivery; contained = i }) in
-      let there = (d.delivers.delivered x.op).1 (record { course = x.history ++ x.op ∷ []; delivery = longer; contained = Contains-push x.history x.op }) in
+      let within = λ (a : Op) (i : Contains x.history a). (d.delivers.delivered a).1 (record { added = x.history; delivery = delivery; contained = i }) in
+      let there = (d.delivers.delivered x.op).1 (record { added = x.history ++ x.op ∷ []; delivery = longer; contained = Contains-push x.history x.op }) in
       not_refused x.history x.op fault (part_accepts h x.history d.delivers.valid within x.delivery.in_turn x.op there x.ready) x.refused

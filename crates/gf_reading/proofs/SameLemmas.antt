@@ -19,7 +19,7 @@ one_denoted (a ∷ ops) [] e = absurd cc
 -- what is delivered of some operations is delivered of the same ones in another order
 delivered_of_same : (ops others : List Op) → HaveSame ops others → (a : Op) → IsDelivered ops a → IsDelivered others a
 delivered_of_same ops others same a d = record {
-  course = d.course;
+  added = d.added;
   delivery = record { from_offered = λ b i. (same b).0 (d.delivery.from_offered b i); once = d.delivery.once; in_turn = d.delivery.in_turn };
   contained = d.contained;
 }

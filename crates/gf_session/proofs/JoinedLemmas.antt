@@ -20,7 +20,7 @@ use Rattle.gf_worker.specs.declared.worker.WorkerEnd.{WorkerEnd}
 use Rattle.gf_worker.specs.Messages.{own}
 use Rattle.gf_worker.specs.Coming.{HasCome, AreForeign}
 use Rattle.gf_session.specs.Joined.{AreJoined, HaveOne}
-use Rattle.gf_worker.proofs.CourseLemmas.{course_ready}
+use Rattle.gf_site.proofs.CourseLemmas.{course_ready}
 
 -- ---- the operations of one site
 
@@ -108,25 +108,25 @@ module _ (ends : List WorkerEnd) (joined : AreJoined ends) where
   whole = last_delivery (all_ops ends)
 
   -- each list is a delivery, so its operations stand in the last one
-  pub within_whole : (e : WorkerEnd) → Contains ends e → (a : Op) → Contains e.site.ops a → Contains whole.course a
+  pub within_whole : (e : WorkerEnd) → Contains ends e → (a : Op) → Contains e.site.ops a → Contains whole.added a
   within_whole e c a k =
       let t = joined.complete e c in
-      (delivered_part (all_ops ends) whole.course one_by_id whole.is_last a).1 (record {
-        course = e.site.ops;
+      (delivered_part (all_ops ends) whole.added one_by_id whole.is_last a).1 (record {
+        added = e.site.ops;
         delivery = record { from_offered = λ b m. among_all ends e b c m; once = t.valid.distinct; in_turn = course_ready t.course };
         contained = k;
       })
 
-  from_some : (a : Op) → Contains whole.course a → At ends a
+  from_some : (a : Op) → Contains whole.added a → At ends a
   from_some a c = at_some ends a (whole.is_last.delivery.from_offered a c)
 
-  suited_more : (e : WorkerEnd) → Contains ends e → (a : Op) (c : Change) → IsSuited e.site.ops a c → IsSuited whole.course a c
+  suited_more : (e : WorkerEnd) → Contains ends e → (a : Op) (c : Change) → IsSuited e.site.ops a c → IsSuited whole.added a c
   suited_more e c a (Create start) s = tt
   suited_more e c a (Set o v) s =
       let k = s.known in
       record { kind = s.kind; known = record { maker = k.maker; contained = within_whole e c k.maker k.contained; id = k.id; kind = k.kind; before = k.before }; suited = s.suited }
 
-  pub whole_valid : IsValid whole.course
+  pub whole_valid : IsValid whole.added
   whole_valid = record {
     in_range = λ a c. let t = from_some a c in (joined.complete t.end t.contained).valid.in_range a t.has;
     distinct = whole.is_last.delivery.once;
@@ -144,7 +144,7 @@ module _ (ends : List WorkerEnd) (joined : AreJoined ends) where
       let m = own_from t.end.site.number t.end.site.ops b (subst (λ l. Contains l b) t.all h.among) in
       t.other (sym m.1 ∙ q)
 
-  has_or_came : (e : WorkerEnd) → Contains ends e → (a : Op) → Contains whole.course a → Contains e.site.ops a ⊎ HasCome e.seats.items a
+  has_or_came : (e : WorkerEnd) → Contains ends e → (a : Op) → Contains whole.added a → Contains e.site.ops a ⊎ HasCome e.seats.items a
   has_or_came e c a k =
       let t = from_some a k in
       let o = origin t.end a t.contained t.has in
@@ -156,9 +156,9 @@ module _ (ends : List WorkerEnd) (joined : AreJoined ends) where
       ]
 
   -- and each site has all of it
-  has_whole : (e : WorkerEnd) → Contains ends e → (a : Op) → Contains whole.course a → Contains e.site.ops a
+  has_whole : (e : WorkerEnd) → Contains ends e → (a : Op) → Contains whole.added a → Contains e.site.ops a
   has_whole e c a k =
-      (joined.complete e c).all whole.course (record {
+      (joined.complete e c).all whole.added (record {
         whole = record {
           valid = whole_valid;
           has = within_whole e c;
@@ -168,4 +168,4 @@ module _ (ends : List WorkerEnd) (joined : AreJoined ends) where
       }) (foreign_came e c) a k
 
   pub one_history : HaveOne ends
-  one_history = record { history = whole.course; valid = whole_valid; same = λ e c a. (within_whole e c a, has_whole e c a) }
+  one_history = record { history = whole.added; valid = whole_valid; same = λ e c a. (within_whole e c a, has_whole e c a) }

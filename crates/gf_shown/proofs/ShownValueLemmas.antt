@@ -161,8 +161,7 @@ module _ (h : List Op) (valid : IsValid h) where
             let k : Conflict a.0 b.0 = record {
               concurrent = record {
                 different = λ e.
-                    let one = same_op h valid a.0 b.0 (contained_at h i a.0 a.1) (contained_at h j b.0 b.1) e in
-                    let says : shown_by a.0.change ≡ shown_by b.0.change = ap (λ (z : Op). shown_by z.change) one in
+                    let says : shown_by a.0.change ≡ shown_by b.0.change = ap (λ (z : Op). shown_by z.change) e in
                     n (one_value (shown_by a.0.change) (shown_by b.0.change) x.0 y.0 says x.1 y.1);
                 not_before = λ p. no_later no_i (from_told (slice_get h i) (slice_get h j) a.0 b.0 a.1 b.1 b.2 p);
                 not_after = λ p. no_later no_j (from_told (slice_get h j) (slice_get h i) b.0 a.0 b.1 a.1 a.2 p);

@@ -163,7 +163,7 @@ module _ (old : Work) (c : Change) (report : Report) (peers : Vec Peer Global) (
 
   underway_made : (commands : List Command) → IsUnderway commands old → IsUnderway (commands ++ Author c ∷ []) now
   underway_made commands u = record {
-    course = next u.course accepted valid (λ e. refl);
+    course = next made u.course valid (λ e. refl);
     played = played_author old.site.number commands old.site.ops old.report report u.played c ra rr;
     silent = made_silent commands u;
   }

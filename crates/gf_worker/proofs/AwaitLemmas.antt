@@ -14,7 +14,7 @@ use Rattle.gf_worker.specs.Played.{IsPlayed}
 use Rattle.gf_worker.specs.Working.{AreTold, Gathers, IsUnderway, IsSilent, Continues, Judges}
 use Rattle.gf_worker.proofs.TellLemmas.{told_continues}
 use Rattle.gf_worker.specs.Playing.{IsRefusal, PlaysOn}
-use Rattle.gf_worker.proofs.CourseLemmas.{course_ready}
+use Rattle.gf_site.proofs.CourseLemmas.{course_ready}
 use Rattle.gf_worker.proofs.PlayLemmas.{played_turn}
 
 -- what was judged is one more turn

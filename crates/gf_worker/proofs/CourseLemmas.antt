@@ -20,48 +20,6 @@ use Rattle.gf_site.specs.Course.{IsCourse, none, next}
 use Rattle.gf_site.proofs.CourseLemmas.{accepted_ready}
 use Rattle.gf_worker.specs.Turns.{ComesAfter, NothingComes}
 
-pub course_ready : {s : ℕ} {h : List Op} → IsCourse s h → AreReady h
-course_ready none = ready_none
-course_ready (next {h} {a} r c v o) = ready_next (course_ready r) (accepted_ready h a c)
-
--- ---- within a valid history what is ready is accepted
-
-module _ (h ops : List Op) (valid : IsValid h) (within : (a : Op) → Contains ops a → Contains h a) (ready : AreReady ops) (a : Op) (there : Contains h a) (is : IsReady ops a) where
-  known_counted : (s : ℕ) → IsSite s → entry a.past s ≤ count_of ops s
-  known_counted s i = elim (cases_eq s a.id.site) [
-    | inl e ↦ let o = valid.own a there in let q = is.seq in rw e (omega arith)
-    | inr d ↦ is.others s i d
-  ]
-
-  suited_within : (c : Change) → IsSuited h a c → IsSuited ops a c
-  suited_within (Create start) s = tt
-  suited_within (Set o v) s =
-      let k = s.known in
-      let r = valid.in_range k.maker k.contained in
-      let b = k.before in
-      let f = (seq_in_range k.maker r).0 in
-      let m = known_counted k.maker.id.site (site_in_range k.maker r) in
-      let t = has_counted ready k.maker.id f (omega arith) in
-      let same = same_op h valid t.op k.maker (within t.op t.contained) k.contained (same_id t.op k.maker t.site t.seq) in
-      record {
-        kind = s.kind;
-        known = record { maker = k.maker; contained = subst (Contains ops) same t.contained; id = k.id; kind = k.kind; before = k.before };
-        suited = s.suited;
-      }
-
-  pub whole_accepts : IsAccepted ops a
-  whole_accepts = record {
-    next = record {
-      numbered = record { seq = is.seq; own = valid.own a there };
-      known = known_counted;
-      closed = λ b c p s i.
-          let r = valid.in_range b (within b c) in
-          let t = valid.closed a there b.id (record { site = site_in_range b r; first = (seq_in_range b r).0; last = p }) in
-          subst (λ (x : Op). entry x.past s ≤ entry a.past s) (same_op h valid t.op b t.contained (within b c) t.id) (t.past s i);
-    };
-    suited = suited_within a.change (valid.suited a there);
-  }
-
 -- a longer list counts no less
 count_grows : (h k : List Op) (s : ℕ) → count_of h s ≤ count_of (h ++ k) s
 count_grows h k s = let e = sum_by-append (λ (x : Op). cond (nat_eq x.id.site s) 1 0) h k in omega (arith, e)

@@ -30,7 +30,7 @@ use Rattle.gf_worker.specs.Telling.{IsOpen}
 use Rattle.gf_worker.specs.Working.{Gathers, IsUnderway, Continues, Plays}
 use Rattle.gf_worker.specs.Playing.{IsBegun, Through}
 use Rattle.gf_worker.specs.Ending.{HasSent, HasWorked}
-use Rattle.gf_worker.proofs.CourseLemmas.{course_ready}
+use Rattle.gf_site.proofs.CourseLemmas.{course_ready}
 use Rattle.gf_worker.proofs.TellLemmas.{all_from, plays_open, seats_told, same_image, placed_by_seats, come_by_takes, ended_by_takes}
 
 -- ---- at the beginning

@@ -21,13 +21,14 @@ use Rattle.gf_site.specs.Events.{Steps}
 use Rattle.gf_site.specs.Course.{next}
 use Rattle.gf_site.specs.declared.site.Step.{Step}
 use Rattle.gf_site.specs.declared.site.Step.TheVariants as step
-use Rattle.gf_site.proofs.CourseLemmas.{all_ready}
+use Rattle.gf_causal.proofs.PartLemmas.{part_accepts}
+use Rattle.gf_site.proofs.CourseLemmas.{all_ready, course_ready}
 use Rattle.gf_site.proofs.StepLemmas.{founded}
 use Rattle.gf_json.specs.declared.script_line.Command.{Command}
 use Rattle.gf_worker.specs.declared.work.Work.{Work}
 use Rattle.gf_worker.specs.Coming.{HasCome}
 use Rattle.gf_worker.specs.Working.{Gathers, IsUnderway, Continues, goes_on}
-use Rattle.gf_worker.proofs.CourseLemmas.{course_ready, whole_accepts, comes_after}
+use Rattle.gf_worker.proofs.CourseLemmas.{comes_after}
 use Rattle.gf_worker.proofs.TurnLemmas.{own_other, played_more}
 use Rattle.gf_worker.proofs.HearLemmas.{continues_refl}
 
@@ -58,7 +59,7 @@ module _ (old : Work) (a : Op) (held : List Op) (site : IsSite old.site.number) 
   unfolding played_more
   underway_applied commands g u =
       let foreign = (g.holds a there).0 in record {
-        course = next u.course accepted valid (λ e. absurd (foreign e));
+        course = next a u.course valid (λ e. absurd (foreign e));
         played = played_more old.site.number commands old.site.ops old.report a u.played foreign (λ t c e k.
             let w = u.played.right t c in
             let q = u.silent t c e in
@@ -100,7 +101,7 @@ module _ (old : Work) (a : Op) (held : List Op) (f : OpFault) (taken : Adds held
     keeps = λ e h w x c d. elim (g.keeps e h w x c d) [
       | inl k ↦ inl k
       | inr k ↦ elim (Contains-between_cases taken.before a taken.after x (subst (λ l. Contains l x) taken.with_it k)) [
-        | inl q ↦ absurd (not_accepted old.site.ops a f refused (whole_accepts h old.site.ops w.valid w.has all a (w.come a (g.holds a there).1) ready))
+        | inl q ↦ absurd (not_accepted old.site.ops a f refused (part_accepts h old.site.ops w.valid w.has all a (w.come a (g.holds a there).1) ready))
         | inr m ↦ inr (subst (λ l. Contains l x) (sym taken.without) m)
       ]
     ];

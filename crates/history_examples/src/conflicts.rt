@@ -33,6 +33,16 @@ relation 1.1: box 3 4 ; 2.1: 1.1 place 0,1          | conflict
 // Two creations are of two objects, and no operation is concurrent with itself.
 relation 1.1: box 1 1 ; 2.1: box 1 1 | concurrent
 itself 1.1: box 1 1                  | ordered
+// Different operations under one id are two.
+relation 1.1: box 1 1 ; 1.1: box 1 1                 | ordered
+relation 1.1: box 1 1 ; 1.1: box 1 2                 | conflict
+relation 1.1: box 3 3 ; 1.1: circle 3                | concurrent
+relation 1.1: box 3 4 ; 1.1: circle 3                | conflict
+relation 1.1: box 3 4 ; 1.1: polygon 0,0*3           | concurrent
+relation 1.1: circle 3 ; 1.1: circle 4               | conflict
+relation 1.1: polygon 0,0*2 1,1 ; 1.1: polygon 0,0*3 | conflict
+relation 1.1: box 1 1 ; 1.1: box 1 1, layer 1        | conflict
+relation 1.1: box 1 1 ; 1.1: box 1 1, shown false    | conflict
 
 // tells_conflicts_of_points
 relation 1.2 after 1: 1.1 points 0,0*2 1,1 ; 2.1 after 1: 1.1 points 0,0*2 1,1 | concurrent

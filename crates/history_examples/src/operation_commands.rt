@@ -92,7 +92,7 @@ fn known(a: &Op, b: &Op) -> Option<&'static str> {
 }
 
 fn related(a: &Op, b: &Op) -> Option<&'static str> {
-    if a.in_range() && b.in_range() && a.id != b.id {
+    if a.in_range() && b.in_range() {
         standing(concurrent(a, b), conflicts(a, b))
     } else {
         None

@@ -18,6 +18,8 @@ operations                             | 1.1 2.1
 held                                   | 0
 versions 1.1                           | 1
 receive 1.1: box 10 10                 | Already, 0
+receive 2.1 after 1: 1.1 colour 0000ff | Already, 0
+receive 2.1 after 1: 1.1 colour 0000ff | Already, 0
 receive 1.1: box 10 11                 | Clash, 0
 receive 1.1: box 10 0                  | Range, 0
 
@@ -37,6 +39,48 @@ step       | Dropped 4.1 NoObject
 step       | Dropped 5.1 WrongKind
 step       | Idle
 operations | 1.1 2.1
+
+// drops_an_operation_that_does_not_know_what_another_one_knew: 3.1 knows 1.1, and not 2.1.
+site 4                         | 4
+receive 2.1: box 1 1           | Held, 1
+receive 1.1 after 0 1: box 1 1 | Held, 2
+receive 3.1 after 1: box 1 1   | Held, 3
+step                           | Applied 2.1
+step                           | Applied 1.1
+step                           | Dropped 3.1 BadClock
+receive 1.1: box 1 1           | Clash, 0
+held                           | 0
+operations                     | 2.1 1.1
+
+// refuses_forged_operations, each time at a site that has the box 1.1 alone.
+site 3                                 | 3
+receive 1.1: box 10 10                 | Held, 1
+step                                   | Applied 1.1
+copy                                   | ok
+receive 1.3 after 2: box 1 1           | Held, 1
+step                                   | Idle
+receive 2.1 after 2: box 1 1           | Held, 2
+step                                   | Idle
+swap                                   | ok
+copy                                   | ok
+receive 2.1 after 1 1: box 1 1         | Held, 1
+step                                   | Dropped 2.1 BadClock
+swap                                   | ok
+copy                                   | ok
+receive 2.1: 1.1 colour 0000ff         | Held, 1
+step                                   | Dropped 2.1 NoObject
+swap                                   | ok
+copy                                   | ok
+receive 2.1 after 1: 1.1 points 0,0*3  | Held, 1
+step                                   | Dropped 2.1 WrongKind
+receive 2.1 after 1: 1.1 colour 0000ff | Held, 1
+step                                   | Applied 2.1
+operations                             | 1.1 2.1
+swap                                   | ok
+receive 9.1: box 1 1                   | Range, 0
+receive 2.1 after 10001: box 1 1       | Range, 0
+receive 1.1: box 10 10, colour 0000ff  | Clash, 0
+operations                             | 1.1
 
 // takes_the_least_id_that_is_ready
 site 3                       | 3

@@ -52,7 +52,7 @@ fn small(alloc: Global, codes: &[u32]) -> Result<Option<History>, AddFault> {
 }
 
 fn clash(a: &Op, b: &Op) -> bool {
-    a.in_range() && b.in_range() && a.id != b.id && conflicts(a, b)
+    a.in_range() && b.in_range() && conflicts(a, b)
 }
 
 /// Whether the set has the operation with this index.
