@@ -5,12 +5,12 @@ use Rattle.gf_ops.specs.declared.op.Op.{Op}
 use Rattle.gf_ops.specs.declared.op.ObjectId.{ObjectId}
 use Rattle.gf_ops.specs.ValidHistory.{IsValid}
 use Rattle.gf_groups.specs.GroupedPositions.{is_on}
-use Rattle.gf_groups.specs.Growing.{conflict_at}
-use Rattle.gf_groups.specs.Tables.{IsTable}
+use Rattle.gf_groups.specs.Growing.{conflict_at, groups_at}
+use Rattle.gf_groups.specs.Tables.{IsRising, IsTable}
 use Rattle.gf_groups.proofs.LargestLemmas.{largest_alike}
-use Rattle.gf_groups.proofs.TableLemmas.{conflict_at_test}
-use Rattle.gf_parts.specs.Parted.{AreParts, IsKept}
-use Rattle.gf_parts.specs.Parts.{PartsState, most_sets, whole}
+use Rattle.gf_groups.proofs.TableLemmas.{conflict_at_test, table_groups}
+use Rattle.gf_parts.specs.Parted.{AreParts, IsKept, IsPart}
+use Rattle.gf_parts.specs.Parts.{PartState, PartsState, most_sets, whole}
 use Rattle.gf_parts.proofs.PartsLemmas.{table_whole}
 use Rattle.gf_shown.specs.Deciding.{deciding, shown_within}
 use Rattle.gf_shown.specs.ShownAt.{sets_at, shows_at, later_at}
@@ -21,14 +21,29 @@ use Rattle.gf_shown.proofs.ShownValueLemmas.{agree_at, later_order}
 kept_table : (c : ℕ → ℕ → Bool) (us : List ℕ) (r : Option (List (List ℕ))) (gs : List (List ℕ)) → r ≡ Some gs → IsKept c us r → IsTable c us gs
 kept_table c us r gs e k = (subst (IsKept c us) e k).0
 
+-- what decides, as one part
+module _ (h : List Op) (valid : IsValid h) (t : PartsState) (parts : AreParts (conflict_at h) t) where
+  abbrev pub decider : PartState
+  decider = whole (deciding (sets_at h) (later_at h) (shows_at h) t)
+
+  decider_part : IsPart (conflict_at h) decider
+  decider_part = table_whole (conflict_at h) (conflict_at_test h) (deciding (sets_at h) (later_at h) (shows_at h) t) (first_parts (sets_at h) (later_at h) (shows_at h) (later_order h valid) (conflict_at h) (conflict_at_test h) t parts)
+
+  pub decider_rises : IsRising decider.all
+  decider_rises = decider_part.rises
+
+  -- its sets, where they are kept
+  pub table_kept : (gs : List (List ℕ)) → decider.sets ≡ Some gs → IsTable (conflict_at h) decider.all gs
+  table_kept gs made = kept_table (conflict_at h) decider.all decider.sets gs made decider_part.sets
+
+  -- and listed anew, where they are too many
+  pub table_anew : IsTable (conflict_at h) decider.all (groups_at (conflict_at h) decider.all)
+  table_anew = table_groups (conflict_at h) (conflict_at_test h) decider.all decider_rises
+
 -- t are the parts of the positions us, which are on the object o
 module _ (h : List Op) (valid : IsValid h) (o : ObjectId) (us : List ℕ) (on : (i : ℕ) → Contains us i → is_on o (slice_get h i) ≡ true)
     (t : PartsState) (parts : AreParts (conflict_at h) t) (same : (i : ℕ) → Contains (whole t).all i ↔ Contains us i)
-    (gs : List (List ℕ)) (made : (whole (deciding (sets_at h) (later_at h) (shows_at h) t)).sets ≡ Some gs) (n : ℕ) (low : n ≤ most_sets) where
-  some : IsTable (conflict_at h) (whole (deciding (sets_at h) (later_at h) (shows_at h) t)).all gs
-  some = kept_table (conflict_at h) (whole (deciding (sets_at h) (later_at h) (shows_at h) t)).all (whole (deciding (sets_at h) (later_at h) (shows_at h) t)).sets gs made
-      (table_whole (conflict_at h) (conflict_at_test h) (deciding (sets_at h) (later_at h) (shows_at h) t) (first_parts (sets_at h) (later_at h) (shows_at h) (later_order h valid) (conflict_at h) (conflict_at_test h) t parts)).sets
-
+    (gs : List (List ℕ)) (some : IsTable (conflict_at h) (whole (deciding (sets_at h) (later_at h) (shows_at h) t)).all gs) (n : ℕ) (low : n ≤ most_sets) where
   agree : (i j : ℕ) → Contains (whole t).all i → Contains (whole t).all j → conflict_at h i j ≡ false → sets_at h i ≡ true → sets_at h j ≡ true → later_at h i j ≡ false → later_at h j i ≡ false → shows_at h i ≡ shows_at h j
   agree i j x y = agree_at h valid o i j (on i ((same i).0 x)) (on j ((same j).0 y))
 

@@ -12,7 +12,6 @@ use Rattle.std.proofs.lemmas.List.Kept.{AllPairs-cons}
 use Rattle.std.proofs.lemmas.Map.Keys.{sorted_tail}
 use Rattle.gf_groups.proofs.GroupLemmas.{group_cmp_total}
 use Rattle.gf_groups.proofs.RisingLemmas.{below_tail}
-use Rattle.gf_versions.proofs.RankingLemmas.{ranked_of_all}
 use Rattle.gf_shape.specs.declared.any_shape.AnyShape.{AnyShape}
 use Rattle.gf_ops.specs.declared.op.Op.{Op}
 use Rattle.gf_ops.specs.declared.op.ObjectId.{ObjectId}
@@ -28,7 +27,7 @@ use Rattle.gf_groups.proofs.IdPositionLemmas.{same_position}
 use Rattle.gf_groups.proofs.TakingLemmas.{AllPairs-append}
 use Rattle.gf_parts.proofs.CountLemmas.{no_longer}
 use Rattle.gf_shown.specs.ShownVersions.{IsVisibleGroup, AreVisibleOn, HasMoreOn, HasMoreVisible}
-use Rattle.gf_shown.specs.VisibleSoFar.{AreGroupsOf, AreVersionGroupsOf, AreVisibleGroupsOf, HasMoreGroups, IsGroupListing}
+use Rattle.gf_shown.specs.VisibleSoFar.{AreGroupsOf, AreVersionGroupsOf, AreVisibleGroupsOf, HaveVisibleOf, HasMoreGroups, IsGroupListing}
 use Rattle.gf_versions.specs.declared.placed.Placed.{Placed}
 use Rattle.gf_versions.specs.Ranking.{AreRanked, AreRankedOf, group_of, placed_version}
 use Rattle.gf_versions.proofs.MakerLemmas.{version_kind}
@@ -175,21 +174,6 @@ module _ (h : List Op) where
 
   -- ---- of all
 
-  pub all_versions : IsValid h → (groups : List Group) → AreVisibleGroupsOf h h groups → (g : Group) → Contains groups g → IsVersionGroup h g
-  all_versions valid groups all g i = let w = ((all.exactly g).0 i).0 in subst (IsVersionGroup h) w.group w.visible.version.version
-
-  -- ranked, they are the history's ranked list
-  pub ranked_all : IsValid h → (groups : List Group) → AreVisibleGroupsOf h h groups → (items : List (Placed AnyShape)) → AreRankedOf h groups items → AreRanked h items
-  ranked_all valid groups all items ranked = record {
-    exactly = λ i. (
-      λ is.
-          let g : IsVisibleGroup h (group_of is.version) = record { version = is.version; visible = is.visible; group = refl } in
-          (ranked.exactly i).0 (record { version = is.version; visible = is.visible; grouped = (all.exactly (group_of is.version)).1 (g, visible_made h valid (group_of is.version) g); placed = is.placed }),
-      λ c. let w = (ranked.exactly i).1 c in record { version = w.version; visible = w.visible; placed = w.placed },
-    );
-    falling = ranked.falling;
-  }
-
   abbrev group_of_item : Placed AnyShape → Group
   group_of_item i = record { object = i.key.object; ops = i.key.ops }
 
@@ -206,11 +190,58 @@ module _ (h : List Op) where
       let many = w.many in
       record { items = all.0; ranked = all.1; many = omega (arith, long, same, many) }
 
--- ---- of all versions
+-- ---- versions among which are all visible ones
 
--- ranked, they are the history's ranked list
-pub ranked_of_versions : (h : List Op) → IsValid h → (groups : List Group) → AreVersionGroupsOf h h groups → (items : List (Placed AnyShape)) → AreRankedOf h groups items → AreRanked h items
-ranked_of_versions h valid groups all items ranked = ranked_of_all h groups items (λ g v. (all.exactly g).1 (v, version_made h valid g v)) ranked
+module _ (h : List Op) where
+  pub have_none : HaveVisibleOf h [] []
+  have_none = record {
+    each = λ g i. absurd (not_Contains-nil g i);
+    all = λ g v w. absurd (not_Contains-nil w.made.maker w.made.contained);
+    once = λ i j d l m. absurd (omega arith);
+  }
+
+  pub have_more : (ks ops : List Op) (groups more : List Group) → Fresh ks ops → HaveVisibleOf h ks groups → HaveVisibleOf h ops more → HaveVisibleOf h (ks ++ ops) (groups ++ more)
+  have_more ks ops groups more fresh first second = record {
+    each = λ g i. elim (Contains-append_cases groups more g i) [
+      | inl j ↦ let w = first.each g j in (w.0, made_weaker ks (ks ++ ops) g.object (λ a. Contains-append_left ks ops a) w.1)
+      | inr j ↦ let w = second.each g j in (w.0, made_weaker ops (ks ++ ops) g.object (λ a. Contains-append_right ks ops a) w.1)
+    ];
+    all = λ g v made. elim (made_cases ks ops g.object made) [
+      | inl w ↦ Contains-append_left groups more g (first.all g v w)
+      | inr w ↦ Contains-append_right groups more g (second.all g v w)
+    ];
+    once = once_more (IsVersionGroup h) ks ops groups more fresh first.each second.each first.once second.once;
+  }
+
+  version_group : (g : Group) → IsVisibleGroup h g → IsVersionGroup h g
+  version_group g w = subst (IsVersionGroup h) w.group w.visible.version.version
+
+  -- the visible ones, and all versions
+  pub have_visible : (ops : List Op) (groups : List Group) → AreVisibleGroupsOf h ops groups → HaveVisibleOf h ops groups
+  have_visible ops groups all = record {
+    each = λ g i. let w = (all.exactly g).0 i in (version_group g w.0, w.1);
+    all = λ g v made. (all.exactly g).1 (v, made);
+    once = all.once;
+  }
+
+  pub have_versions : (ops : List Op) (groups : List Group) → AreVersionGroupsOf h ops groups → HaveVisibleOf h ops groups
+  have_versions ops groups all = record {
+    each = λ g. (all.exactly g).0;
+    all = λ g v made. (all.exactly g).1 (version_group g v, made);
+    once = all.once;
+  }
+
+  -- ranked, they are the history's ranked list
+  pub ranked_have : IsValid h → (groups : List Group) → HaveVisibleOf h h groups → (items : List (Placed AnyShape)) → AreRankedOf h groups items → AreRanked h items
+  ranked_have valid groups have items ranked = record {
+    exactly = λ i. (
+      λ is.
+          let g : IsVisibleGroup h (group_of is.version) = record { version = is.version; visible = is.visible; group = refl } in
+          (ranked.exactly i).0 (record { version = is.version; visible = is.visible; grouped = have.all (group_of is.version) g (visible_made h valid (group_of is.version) g); placed = is.placed }),
+      λ c. let w = (ranked.exactly i).1 c in record { version = w.version; visible = w.visible; placed = w.placed },
+    );
+    falling = ranked.falling;
+  }
 
 -- the versions of the object that an operation made
 pub versions_of_one : (h : List Op) (a : Op) (o : ObjectId) → o.0 ≡ a.id → IsMade (a ∷ []) o → (groups : List Group) → AreVersions h o groups → AreVersionGroupsOf h (a ∷ []) groups

@@ -18,6 +18,12 @@ AreVersionGroupsOf h ops groups = AreGroupsOf (IsVersionGroup h) ops groups
 abbrev pub AreVisibleGroupsOf : List Op → List Op → List Group → Type 0
 AreVisibleGroupsOf h ops groups = AreGroupsOf (IsVisibleGroup h) ops groups
 
+-- the groups are versions of h whose objects these operations made, each once, and those of all its visible ones are among them
+pub record HaveVisibleOf (h ops : List Op) (groups : List Group) : Type 0 where
+  pub each : (g : Group) → Contains groups g → IsVersionGroup h g × IsMade ops g.object
+  pub all : (g : Group) → IsVisibleGroup h g → IsMade ops g.object → Contains groups g
+  pub once : AllPairs (λ g k. g ≢ k) groups
+
 -- more than m visible versions of h are on objects that these operations made
 pub record HasMoreGroups (h ops : List Op) (m : ℕ) : Type 0 where
   pub groups : List Group

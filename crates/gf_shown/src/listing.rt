@@ -10,7 +10,7 @@ ghost use Rattle.gf_shown.specs.ShownSets.{IsSetListing, is_shown};
 ghost use Rattle.gf_table.specs.Standing.{StandsFor};
 
 use crate::deciding::{decides, shows};
-use gf_groups::{Positions, Timeline};
+use gf_groups::{Positions, Timeline, groups_at};
 use gf_ops::{History, ObjectId};
 use gf_parts::{Part, Together, alone, copied, joined, products};
 use gf_shape::OutOfMemory;
@@ -122,8 +122,8 @@ fn shown_within(
 }
 
 /// The largest compatible sets of an object's positions that show, each once, if they are at most
-/// so many. Where those of what decides are more than a part keeps, they would ask for more memory
-/// than is taken.
+/// so many. Where those of what decides are more than a part keeps, they are listed anew, and
+/// nothing else of the object is multiplied out.
 pub(crate) fn shown_sets(
     alloc: Global,
     history: &History,
@@ -144,6 +144,9 @@ pub(crate) fn shown_sets(
     let deciding = whole_deciding(alloc, &timeline, &parts)?;
     match deciding.sets() {
         Some(sets) => shown_within(alloc, &timeline, &parts, sets, most),
-        None => Err(OutOfMemory),
+        None => {
+            let sets = groups_at(alloc, history, deciding.all())?;
+            shown_within(alloc, &timeline, &parts, &sets, most)
+        }
     }
 }

@@ -5,12 +5,13 @@ ghost use Rattle.std.specs.Prelude.{option_map};
 ghost use Rattle.gf_groups.specs.Versions.{IsMade};
 ghost use Rattle.gf_parts.specs.Parts.{most_sets};
 ghost use Rattle.gf_shown.specs.ShownVersions.{AreVisibleOn, HasMoreOn};
-ghost use Rattle.gf_shown.specs.VisibleSoFar.{AreVersionGroupsOf, IsGroupListing};
+ghost use Rattle.gf_shown.specs.VisibleSoFar.{AreVersionGroupsOf, HaveVisibleOf, IsGroupListing};
 ghost use Rattle.gf_table.specs.Standing.{StandsFor};
 
 use crate::listing::shown_sets;
-use gf_groups::{Group, add_groups};
+use gf_groups::{Group, GroupFault, add_groups};
 use gf_ops::{Change, History, ObjectId, Op};
+use gf_parts::MOST_SETS;
 use gf_shape::OutOfMemory;
 use gf_table::GroupTable;
 use std::alloc::Global;
@@ -19,9 +20,9 @@ use std::alloc::Global;
 /// most so many; None where they are more.
 ///
 /// The choices that do not decide whether a version shows are counted, and multiplied out only
-/// where some version shows and all that show are at most so many. So it makes no more than 1,000
-/// sets at a time, and an object that is hidden costs a look at its operations. Where what decides
-/// has more than 1,000 sets, that is `OutOfMemory`.
+/// where some version shows and all that show are at most so many. So an object that one who knows
+/// all of it hid costs a look at its operations. The choices that decide are listed, whatever their
+/// number: each conflict between showing and hiding that no later operation settles doubles them.
 pub fn visible_groups(
     alloc: Global,
     history: &History,
@@ -68,22 +69,43 @@ pub(crate) fn visible_made(
     }
 }
 
-/// The groups of the versions of the object that an operation of the history made, if it made one.
-pub(crate) fn versions_made(
+/// The groups of the versions of the object that an operation of the history made, if it made
+/// one.
+fn versions_made(
     alloc: Global,
     history: &History,
     table: &GroupTable,
     op: &Op,
 ) -> Result<Vec<Group>, OutOfMemory>
     requires stands { StandsFor history.now.ops table.now }
+    requires contained { Contains history.now.ops op.now }
     ensures { IfOk result (λ groups.
         AreVersionGroupsOf history.now.ops (op.now ∷ []) groups.items) }
 {
     match &op.change {
         Change::Create(_) => match table.groups(alloc, history, ObjectId(op.id)) {
             Ok(groups) => Ok(groups.into_vec()),
-            Err(_) => Err(OutOfMemory),
+            Err(GroupFault::NoObject) => unreachable!(),
+            Err(GroupFault::OutOfMemory) => Err(OutOfMemory),
         },
         Change::Set { .. } => Ok(Vec::new(alloc)),
+    }
+}
+
+/// The groups of the visible versions of the object that an operation of the history made, if it
+/// made one and they are at most [`MOST_SETS`]; else those of all its versions.
+pub(crate) fn visible_or_all(
+    alloc: Global,
+    history: &History,
+    table: &GroupTable,
+    op: &Op,
+) -> Result<Vec<Group>, OutOfMemory>
+    requires stands { StandsFor history.now.ops table.now }
+    requires contained { Contains history.now.ops op.now }
+    ensures { IfOk result (λ groups. HaveVisibleOf history.now.ops (op.now ∷ []) groups.items) }
+{
+    match visible_made(alloc, history, table, op, MOST_SETS)? {
+        Some(groups) => Ok(groups),
+        None => versions_made(alloc, history, table, op),
     }
 }

@@ -3,11 +3,11 @@
 ghost use Rattle.std.specs.Prelude.{◌≤◌, length, IfNone, IfOk, IfSome, option_map};
 ghost use Rattle.gf_parts.specs.Parts.{most_sets};
 ghost use Rattle.gf_shown.specs.ShownVersions.{HasMoreVisible};
-ghost use Rattle.gf_shown.specs.VisibleSoFar.{AreVersionGroupsOf, IsGroupListing};
+ghost use Rattle.gf_shown.specs.VisibleSoFar.{HaveVisibleOf, IsGroupListing};
 ghost use Rattle.gf_table.specs.Standing.{StandsFor};
 ghost use Rattle.gf_versions.specs.Ranking.{AreRanked};
 
-use crate::objects::{versions_made, visible_made};
+use crate::objects::{visible_made, visible_or_all};
 use gf_groups::Group;
 use gf_ops::History;
 use gf_shape::{AnyShape, OutOfMemory};
@@ -18,7 +18,7 @@ use std::alloc::Global;
 /// The visible versions of a history, topmost first, as `ranked` gives them. The table stands for
 /// the history.
 ///
-/// It lists all versions of each object, hidden ones too.
+/// Of an object with at most 1,000 visible versions it lists no others.
 pub fn ranked_with(
     alloc: Global,
     history: &History,
@@ -29,23 +29,23 @@ pub fn ranked_with(
 {
     // Its clause says that the history is valid.
     let _ = history.ops();
-    let groups = all_versions(alloc, history, table)?;
+    let groups = groups_to_rank(alloc, history, table)?;
     ranked_of(alloc, history, &groups)
 }
 
-/// The groups of all versions.
-fn all_versions(
+/// The groups of versions among which are all visible ones.
+fn groups_to_rank(
     alloc: Global,
     history: &History,
     table: &GroupTable,
 ) -> Result<Vec<Group>, OutOfMemory>
     requires { StandsFor history.now.ops table.now }
     ensures { IfOk result (λ groups.
-        AreVersionGroupsOf history.now.ops history.now.ops groups.items) }
+        HaveVisibleOf history.now.ops history.now.ops groups.items) }
 {
     let mut groups = Vec::new(alloc);
     for op in history.ops() {
-        let mut more = versions_made(alloc, history, table, op)?;
+        let mut more = visible_or_all(alloc, history, table, op)?;
         groups.append(&mut more)?;
     }
     Ok(groups)

@@ -15,7 +15,11 @@ fn shown_value(value: &Value) -> Option<bool>
 {
     match value {
         Value::Shown(shown) => Some(*shown),
-        _ => None,
+        Value::Place(_)
+        | Value::Points(_)
+        | Value::Size(_, _)
+        | Value::Colour(_)
+        | Value::Layer(_) => None,
     }
 }
 

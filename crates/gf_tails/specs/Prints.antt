@@ -27,7 +27,11 @@ print_of (value.Shown b) = record { attribute = attr.Shown; first = cond b (pos 
 -- no other value has the print of this one
 abbrev pub is_whole : Value → Bool
 is_whole (value.Points ps) = false
-is_whole v = true
+is_whole (value.Place p) = true
+is_whole (value.Size w h) = true
+is_whole (value.Colour c) = true
+is_whole (value.Layer n) = true
+is_whole (value.Shown b) = true
 
 -- the order of prints, by their attributes and then their numbers
 abbrev pub print_cmp : Print → Print → Ordering

@@ -67,5 +67,12 @@ pub fn print_of(value: &Value) -> Print
 pub(crate) fn is_whole(value: &Value) -> bool
     ensures { result ≡ is_whole value.now }
 {
-    !matches!(value, Value::Points(_))
+    match value {
+        Value::Points(_) => false,
+        Value::Place(_)
+        | Value::Size(_, _)
+        | Value::Colour(_)
+        | Value::Layer(_)
+        | Value::Shown(_) => true,
+    }
 }

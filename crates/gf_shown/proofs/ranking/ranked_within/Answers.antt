@@ -1,5 +1,5 @@
 use Rattle.std.proofs.Common.{arith}
-use Rattle.gf_shown.proofs.VisibleLemmas.{all_versions, more_visible, ranked_all}
+use Rattle.gf_shown.proofs.VisibleLemmas.{have_visible, more_visible, ranked_have}
 use Rattle.gf_shown.proofs.ranking.ranked_within.Goals as goal
 
 pub returns-in_default-clause-more : goal.returns-in_default-clause-more
@@ -11,7 +11,8 @@ pub ranked_of-requires-clause-versions : goal.ranked_of-requires-clause-versions
 ranked_of-requires-clause-versions c =
     let h = c.args.history.now.ops in
     let all = rw c.in-Some.is at c.in_ok-groups.ensures in
-    rw c.deref.ensures.value (all_versions h c.ops.ensures.valid c.in-Some.groups.items all.0)
+    let have = have_visible h h c.in-Some.groups.items all.0 in
+    rw c.deref.ensures.value (λ g i. (have.each g i).0)
 
 pub ranked_of-requires-clause-once : goal.ranked_of-requires-clause-once
 ranked_of-requires-clause-once c =
@@ -23,7 +24,7 @@ returns-clause-ranked c =
     let h = c.args.history.now.ops in
     let all = rw c.in-Some.is at c.in_ok-groups.ensures in
     let ranked = rw c.deref.ensures.value at c.in_ok-ranked.ensures.ranked in
-    ranked_all h c.ops.ensures.valid c.in-Some.groups.items all.0 c.in_ok-ranked.ranked.items.items ranked
+    ranked_have h c.ops.ensures.valid c.in-Some.groups.items (have_visible h h c.in-Some.groups.items all.0) c.in_ok-ranked.ranked.items.items ranked
 
 pub returns-clause-few : goal.returns-clause-few
 returns-clause-few c =
