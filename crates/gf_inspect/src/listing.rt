@@ -8,10 +8,12 @@ ghost use Rattle.gf_groups.specs.Versions.{IsMade, IsVersionGroup};
 ghost use Rattle.gf_versions.specs.ListedVersions.{AreSettled};
 ghost use Rattle.gf_inspect.specs.ObjectVersions.{AreVersionsOf};
 ghost use Rattle.gf_inspect.specs.Falling.{falling_cmp, IsSettledFalling};
+ghost use Rattle.gf_table.specs.Standing.{StandsFor};
 
 use gf_groups::{Group, GroupFault, groups_of};
 use gf_ops::{History, ObjectId};
 use gf_shape::OutOfMemory;
+use gf_table::GroupTable;
 use gf_versions::{Version, settle};
 use std::alloc::Global;
 
@@ -28,6 +30,27 @@ pub fn versions(
     // Its clause says that the history is valid.
     let _ = history.ops();
     let groups = groups_of(alloc, history, object)?;
+    match settled(alloc, history, groups.as_slice()) {
+        Ok(versions) => Ok(versions),
+        Err(OutOfMemory) => Err(GroupFault::OutOfMemory),
+    }
+}
+
+/// The same, listed from the table, which stands for the history.
+pub fn versions_with(
+    alloc: Global,
+    history: &History,
+    table: &GroupTable,
+    object: ObjectId,
+) -> Result<Vec<Version>, GroupFault>
+    requires { StandsFor history.now.ops table.now }
+    ensures versions { IfOk result (λ versions.
+        AreVersionsOf history.now.ops object versions.items) }
+    ensures no_object { result ≡ Err GroupFault.NoObject ↔ (¬ IsMade history.now.ops object) }
+{
+    // Its clause says that the history is valid.
+    let _ = history.ops();
+    let groups = table.groups(alloc, history, object)?;
     match settled(alloc, history, groups.as_slice()) {
         Ok(versions) => Ok(versions),
         Err(OutOfMemory) => Err(GroupFault::OutOfMemory),

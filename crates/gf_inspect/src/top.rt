@@ -5,10 +5,13 @@ ghost use Rattle.gf_shape.specs.declared.any_shape.AnyShape.{AnyShape};
 ghost use Rattle.gf_shape.specs.ShapeMeaning.{any_holds};
 ghost use Rattle.gf_versions.specs.declared.placed.Placed.{Placed};
 ghost use Rattle.gf_inspect.specs.TopVersion.{NamesTop, name_of};
+ghost use Rattle.gf_table.specs.Standing.{StandsFor};
 
 use gf_groups::Ids;
 use gf_ops::{History, ObjectId};
 use gf_shape::{AnyShape, OutOfMemory, Point, Shape};
+use gf_shown::ranked_with;
+use gf_table::GroupTable;
 use gf_versions::{Ranked, ranked};
 use std::alloc::Global;
 
@@ -29,6 +32,21 @@ pub fn top_at(
     ensures { IfOk result (λ name. NamesTop history.now.ops point name) }
 {
     let ranked = ranked(alloc, history)?;
+    Ok(first_name(ranked, point))
+}
+
+/// The same, by the visible versions that the table tells; it stands for the history. An object
+/// that is hidden costs a look at its operations, however many versions it has.
+pub fn top_at_with(
+    alloc: Global,
+    history: &History,
+    table: &GroupTable,
+    point: Point,
+) -> Result<Option<VersionName>, OutOfMemory>
+    requires { StandsFor history.now.ops table.now }
+    ensures { IfOk result (λ name. NamesTop history.now.ops point name) }
+{
+    let ranked = ranked_with(alloc, history, table)?;
     Ok(first_name(ranked, point))
 }
 
