@@ -1,4 +1,4 @@
--- What the type of a colour says of its values. No public clause cites this module.
+-- What the type of a colour says of its values.
 use Rattle.std.specs.Prelude.{◌<◌}
 use Rattle.gf_shape.specs.declared.colour.Rgb.{Rgb}
 

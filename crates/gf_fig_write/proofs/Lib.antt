@@ -6,3 +6,4 @@ pub mod PrintedObjects
 pub mod PrintedFigures
 pub mod PrintedDrawings
 pub mod ReadingBack
+pub mod CanonicalLemmas

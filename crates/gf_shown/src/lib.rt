@@ -1,5 +1,5 @@
-//! The visible versions of a history, listed within a bound from its table of versions: what is
-//! hidden is never multiplied out, and of what is too much no more than the bound.
+//! The visible versions of a history, listed within a bound from its table of versions. Choices
+//! that do not decide whether a version shows are counted before they are multiplied out.
 //!
 //! - [`visible_groups`]: the groups of the visible versions of one object.
 //! - [`ranked_within`]: the ranked list of the visible versions of a history; [`ranked_with`]: the
