@@ -1,4 +1,5 @@
 pub mod Ends
+pub mod Fresh
 pub mod Kept
 pub mod Seats
 pub mod Seated

@@ -1,8 +1,9 @@
 //! The link, what is done on it, and its end.
 
-ghost use Rattle.std.specs.Prelude.{◌≡◌, ◌<◌, ◌≤◌, ◌++◌, ◌∷◌, [], length, IfOk, IsTrue, IsFalse};
-ghost use Rattle.std.specs.Prelude.{MatchOption};
+ghost use Rattle.std.specs.Prelude.{◌≡◌, ◌<◌, ◌≤◌, ◌++◌, ◌∷◌, [], length, vec_len, All, IfOk};
+ghost use Rattle.std.specs.Prelude.{IsTrue, IsFalse, MatchOption};
 ghost use Rattle.gf_link.specs.Ends.{is_end, is_ended, ends_last, IsFront};
+ghost use Rattle.gf_link.specs.Fresh.{IsNewLink};
 
 use crate::rule::{Got, InOrder, Log, Roles, Sent, Total};
 use crate::{Message, SendSeat, TakeSeat};
@@ -47,8 +48,7 @@ pub struct Settled {
 impl Link {
     /// An empty link with its two seats, on which nothing was sent or taken.
     pub fn new<R: Wait>(_rt: &R, alloc: Global) -> Result<(Link, SendSeat, TakeSeat), OutOfMemory>
-        ensures send { IfOk result (λ l. l.1 ≡ record { link = l.0; sent = [] }) }
-        ensures take { IfOk result (λ l. l.2 ≡ record { link = l.0; taken = [] }) }
+        ensures { IfOk result (λ l. IsNewLink l.0 l.1 l.2) }
     {
         let (queue, mut pass) = RuledArrayQueue::<Message, Log, InOrder>::ruled(
             alloc,
@@ -103,6 +103,24 @@ impl Link {
     }
 }
 
+/// So many links, at most those between eight sites, each with its two seats, as [`Link::new`] gives
+/// it.
+pub fn links<R: Wait>(
+    rt: &R,
+    alloc: Global,
+    n: u8,
+) -> Result<Vec<(Link, SendSeat, TakeSeat)>, OutOfMemory>
+    requires { n ≤ 56 }
+    ensures count { IfOk result (λ links. vec_len links ≡ n) }
+    ensures new { IfOk result (λ links. All (λ l. IsNewLink l.0 l.1 l.2) links.items) }
+{
+    let mut links = Vec::new(alloc);
+    for _ in 0..n {
+        links.push(Link::new(rt, alloc)?)?;
+    }
+    Ok(links)
+}
+
 /// Compares the two seats of a link: what was taken is a front of what was sent, and all of it
 /// where an end was taken.
 pub fn settle<R: Wait>(_rt: &R, link: Link, send: SendSeat, take: TakeSeat) -> Settled
@@ -112,6 +130,7 @@ pub fn settle<R: Wait>(_rt: &R, link: Link, send: SendSeat, take: TakeSeat) -> S
     ensures taken { result.taken ≡ length take.taken }
     ensures front { IsFront take.taken send.sent }
     ensures whole { IsTrue (is_ended take.taken) → take.taken ≡ send.sent }
+    ensures lasts { IsTrue (ends_last send.sent) }
 {
     let SendSeat { mut pass, sent, .. } = send;
     let TakeSeat {
