@@ -1,5 +1,5 @@
 -- A worker goes on when its site steps.
-use Rattle.std.proofs.Common.{◌≡◌, true, false, List, [], ◌∷◌, ◌++◌, inl, inr, refl, sym, subst, true≢false}
+use Rattle.std.proofs.Common.{◌≡◌, ◌<◌, true, false, List, [], ◌∷◌, ◌++◌, length, length-append, inl, inr, refl, sym, ap, ◌∙◌, subst, true≢false, arith}
 use Rattle.std.specs.Prelude.{Contains}
 use Rattle.std.proofs.lemmas.List.Elements.{Contains-append_left, Contains-push, Contains-push_cases}
 use Rattle.gf_ops.specs.declared.op.Op.{Op}
@@ -158,3 +158,14 @@ pub idle_step : (old : SiteState) (st : Step) (new : SiteState) → goes_on st �
 idle_step old (step.Applied i) new e t = absurd (true≢false e)
 idle_step old (step.Dropped i f) new e t = absurd (true≢false e)
 idle_step old step.Idle new e t = subst (λ (n : SiteState). NoneIsReady n.ops n.held) (sym t.1) t.0
+
+-- with each other step one operation less is held
+shorter : (held all : List Op) (a : Op) → Adds held a all → length held < length all
+shorter held all a t =
+    let x = ap length t.without ∙ length-append t.before t.after in
+    let y = ap length t.with_it ∙ length-append t.before (a ∷ t.after) in omega (arith, x, y)
+
+pub fewer_held : (old : SiteState) (st : Step) (new : SiteState) → goes_on st ≡ true → Steps old st new → length new.held < length old.held
+fewer_held old (step.Applied i) new e t = shorter new.held old.held t.op t.takes.taken
+fewer_held old (step.Dropped i f) new e t = shorter new.held old.held t.op t.takes.taken
+fewer_held old step.Idle new e t = absurd (true≢false (sym e))

@@ -1,6 +1,6 @@
 //! What a worker has while it runs, and how its site takes what comes.
 
-ghost use Rattle.std.specs.Prelude.{◌≡◌, ◌<◌, ◌∷◌, [], false, vec_len};
+ghost use Rattle.std.specs.Prelude.{◌≡◌, ◌<◌, ◌∷◌, [], true, false, length, vec_len};
 ghost use Rattle.gf_causal.specs.Ready.{NoneIsReady};
 ghost use Rattle.gf_worker.specs.Peers.{ArePlaced, all_ended};
 ghost use Rattle.gf_worker.specs.Working.{Continues, Hears, ran_out, goes_on};
@@ -105,17 +105,12 @@ impl Work {
         }
     }
 
-    /// Steps until no held operation is ready.
-    pub(crate) fn settle<R: Wait>(&mut self, rt: &R)
+    /// Steps until no held operation is ready. With each step one less is held.
+    pub(crate) fn settle(&mut self)
         ensures continues { Continues self.old self.new }
         ensures idle { self.new.short ≡ false → NoneIsReady self.new.site.ops self.new.site.held }
     {
-        for _ in rt.forever() {
-            if !self.step() {
-                return;
-            }
-        }
-        unreachable!()
+        while self.step() {}
     }
 
     /// Whether the site stepped, and may step again.
@@ -123,6 +118,7 @@ impl Work {
         ensures continues { Continues self.old self.new }
         ensures idle { result ≡ false → self.new.short ≡ false →
             NoneIsReady self.new.site.ops self.new.site.held }
+        ensures fewer { result ≡ true → length self.new.site.held < length self.old.site.held }
     {
         let Ok(step) = self.site.step() else {
             self.short = true;

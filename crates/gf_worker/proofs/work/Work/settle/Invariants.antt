@@ -1,5 +1,9 @@
+use Rattle.std.proofs.Common.{length}
 use Rattle.gf_worker.specs.Working.{Continues}
 use Rattle.gf_worker.proofs.work.Work.settle.Given as goal
 
 abbrev pub invariant-loop : goal.invariant-loop
-invariant-loop g l = Continues l.initial.self l.self
+invariant-loop l = Continues l.initial.self l.self
+
+abbrev pub decreases-loop : goal.decreases-loop
+decreases-loop l = length l.self.site.held
