@@ -1,4 +1,6 @@
 pub mod MeshLemmas
 pub mod PlacedLemmas
+pub mod PairLemmas
 pub mod ExchangeLemmas
+pub mod LinkedLemmas
 pub mod RowLemmas

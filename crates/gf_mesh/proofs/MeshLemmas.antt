@@ -49,3 +49,10 @@ pub no_mesh : {X : Type 0} {R : List TableId → List TableId → X → X → Ty
 no_mesh none e n = refl
 no_mesh (meet {row = r} {y = z} m at q) e n = absurd (not_snoc r z (sym n))
 no_mesh (next {rows = rs} {row = r} m l) e n = absurd (not_snoc rs r (sym e))
+
+-- a mesh by one relation is one by each that follows of it
+pub mesh_weaker : {X : Type 0} (R S : List TableId → List TableId → X → X → Type 0) → ((table more : List TableId) (x y : X) → R table more x y → S table more x y) → {table : List TableId} {rows : List (List X)} {row : List X} → IsMesh R table rows row
+    → IsMesh S table rows row
+mesh_weaker R S f none = none
+mesh_weaker R S f (meet {table = t} {more = n} {x = x} {y = y} m at r) = meet (mesh_weaker R S f m) at (f t n x y r)
+mesh_weaker R S f (next m l) = next (mesh_weaker R S f m) l

@@ -8,8 +8,9 @@ use Rattle.atomic_table.specs.Seated.{TableId}
 use Rattle.gf_ops.proofs.PositionLemmas.{got_set_same, set_back, snoc_same, one_value}
 use Rattle.gf_link.specs.Ends.{is_ended}
 use Rattle.gf_worker.specs.declared.peer.Peer.{Peer}
-use Rattle.gf_mesh.specs.Mesh.{IsMesh, none, meet, next, rows_of, Connects, IsLinked}
-use Rattle.gf_mesh.specs.Settled.{HaveExchanged, Exchanged, AreSettled}
+use Rattle.gf_mesh.specs.Mesh.{IsMesh, none, meet, next, Connects, IsLinked, HaveExchanged, Exchanged}
+use Rattle.gf_mesh.specs.Linked.{rows_of}
+use Rattle.gf_mesh.specs.Settled.{AreSettled}
 use Rattle.gf_mesh.proofs.MeshLemmas.{Parted, open_mesh, no_mesh}
 use Rattle.gf_mesh.proofs.ExchangeLemmas.{settled_mesh}
 

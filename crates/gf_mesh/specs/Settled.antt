@@ -1,16 +1,6 @@
 -- Sites of which each took from every other all that it sent (this project's choice).
 use Rattle.std.specs.Prelude.{◌≡◌, ◌≢◌, ℕ, List, Contains, Some, slice_get}
-use Rattle.atomic_table.specs.Seated.{TableId}
 use Rattle.gf_worker.specs.declared.peer.Peer.{Peer}
-
--- each of the peers x and y took all that the other sent
-pub record HaveExchanged (x y : Peer) : Type 0 where
-  pub there : y.take.taken ≡ x.send.sent
-  pub back : x.take.taken ≡ y.send.sent
-
--- each of the peers x and y took all that the other sent, whatever the tables of links
-abbrev pub Exchanged : List TableId → List TableId → Peer → Peer → Type 0
-Exchanged table more x y = HaveExchanged x y
 
 -- a peer in xs took all that one in ys sent
 pub record TookAll (xs ys : List Peer) : Type 0 where

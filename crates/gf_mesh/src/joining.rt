@@ -1,26 +1,48 @@
 //! How sites are joined, one after the other.
 
 ghost use Rattle.std.specs.Prelude.{◌≡◌, [], length, IfOk, vec_len};
-ghost use Rattle.gf_mesh.specs.Mesh.{IsMesh, Connects, rows_of};
+ghost use Rattle.gf_mesh.specs.Linked.{AreLinked, rows_of, seats_of};
+ghost use Rattle.gf_mesh.specs.Mesh.{IsMesh, Connects};
 
 use gf_link::Link;
 use gf_shape::OutOfMemory;
 use gf_worker::Peer;
 use std::alloc::Global;
+use std::marker::Model;
+use std::snapshot::Snapshot;
 use std::sync::Wait;
 
-/// A table of links, and for each site its peers: the other sites, with their places in the table.
+/// A table of the links between some sites. Contracts see it as the links' names and the seats of
+/// each site.
 #[derive(Drop)]
 pub struct Mesh {
-    pub links: Vec<Link>,
-    pub peers: Vec<Vec<Peer>>,
+    pub(crate) links: Vec<Link>,
+    pub(crate) first: Snapshot<Vec<Vec<Peer>>>,
+}
+
+impl Model for Mesh {
+    ghost use Rattle.gf_mesh.specs.Linked.{MeshTable};
+
+    ghost Value = { MeshTable };
+
+    ghost use Rattle.gf_mesh.specs.Mesh.{table_of, IsMade};
+
+    ghost view = { table_of };
+
+    ghost invariant = { IsMade };
 }
 
 impl Mesh {
-    /// The links between so many sites, on which nothing was sent.
-    pub fn new<R: Wait>(rt: &R, alloc: Global, sites: usize) -> Result<Mesh, OutOfMemory>
-        ensures mesh { IfOk result (λ m. IsMesh Connects m.links.items (rows_of m.peers.items) []) }
-        ensures long { IfOk result (λ m. vec_len m.peers ≡ sites) }
+    /// The links between so many sites, on which nothing was sent, and the peers of each site: the
+    /// other sites, with their places in the table.
+    pub fn new<R: Wait>(
+        rt: &R,
+        alloc: Global,
+        sites: usize,
+    ) -> Result<(Mesh, Vec<Vec<Peer>>), OutOfMemory>
+        ensures long { IfOk result (λ m. vec_len m.1 ≡ sites) }
+        ensures seats { IfOk result (λ m. seats_of (rows_of m.1.items) ≡ m.0.seats) }
+        ensures linked { IfOk result (λ m. AreLinked m.0.links (rows_of m.1.items)) }
     {
         let mut links = Vec::new(alloc);
         let mut peers = Vec::new(alloc);
@@ -28,7 +50,15 @@ impl Mesh {
             let row = join(rt, alloc, &mut links, &mut peers)?;
             peers.push(row)?;
         }
-        Ok(Mesh { links, peers })
+        let first = Snapshot::of(&peers);
+        Ok((Mesh { links, first }, peers))
+    }
+
+    /// The links, by their places.
+    pub fn links(&self) -> &[Link]
+        ensures { result.now ≡ self.now.links }
+    {
+        self.links.as_slice()
     }
 }
 

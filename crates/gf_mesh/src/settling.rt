@@ -2,8 +2,9 @@
 
 ghost use Rattle.std.specs.Prelude.{◌≡◌, [], length, IsTrue};
 ghost use Rattle.gf_link.specs.Ends.{is_ended};
-ghost use Rattle.gf_mesh.specs.Mesh.{IsMesh, IsLinked, rows_of};
-ghost use Rattle.gf_mesh.specs.Settled.{HaveExchanged, Exchanged, AreSettled};
+ghost use Rattle.gf_mesh.specs.Linked.{HaveEnded, rows_of, seats_of};
+ghost use Rattle.gf_mesh.specs.Mesh.{IsMesh, IsLinked, HaveExchanged, Exchanged};
+ghost use Rattle.gf_mesh.specs.Settled.{AreSettled};
 
 use crate::Mesh;
 use gf_link::{Link, settle};
@@ -11,15 +12,14 @@ use gf_worker::Peer;
 use std::sync::Wait;
 
 impl Mesh {
-    /// Settles all links: each site took from every other all that it sent.
-    pub fn settle<R: Wait>(self, rt: &R)
-        requires { IsMesh IsLinked self.links.items (rows_of self.peers.items) [] }
-        ensures { AreSettled (rows_of self.peers.items) }
+    /// Settles all links, with the peers that the sites have by then: each site took from every
+    /// other all that it sent.
+    pub fn settle<R: Wait>(self, rt: &R, mut peers: Vec<Vec<Peer>>)
+        requires seats { seats_of (rows_of peers.items) ≡ self.seats }
+        requires ended { HaveEnded (rows_of peers.items) }
+        ensures { AreSettled (rows_of peers.items) }
     {
-        let Mesh {
-            mut links,
-            mut peers,
-        } = self;
+        let Mesh { mut links, .. } = self;
         while let Some(row) = peers.pop() {
             settle_row(rt, &mut links, &mut peers, row);
         }

@@ -1,5 +1,6 @@
 use Rattle.std.proofs.Common.{◌≡◌, vec_len}
-use Rattle.gf_mesh.specs.Mesh.{IsMesh, Connects, rows_of}
+use Rattle.gf_mesh.specs.Mesh.{IsMesh, Connects}
+use Rattle.gf_mesh.specs.Linked.{rows_of}
 use Rattle.gf_mesh.proofs.joining.join.Given as goal
 
 -- the new site has met the sites so far

@@ -1,5 +1,6 @@
 use Rattle.std.proofs.Common.{◌≡◌, [], vec_len}
-use Rattle.gf_mesh.specs.Mesh.{IsMesh, Connects, rows_of}
+use Rattle.gf_mesh.specs.Mesh.{IsMesh, Connects}
+use Rattle.gf_mesh.specs.Linked.{rows_of}
 use Rattle.gf_mesh.proofs.joining.Mesh.new.Given as goal
 
 -- the sites so far are joined

@@ -1,6 +1,6 @@
 use Rattle.std.proofs.Common.{[], length}
-use Rattle.gf_mesh.specs.Mesh.{IsMesh, IsLinked, rows_of}
-use Rattle.gf_mesh.specs.Settled.{Exchanged}
+use Rattle.gf_mesh.specs.Mesh.{IsMesh, IsLinked, Exchanged}
+use Rattle.gf_mesh.specs.Linked.{rows_of}
 use Rattle.gf_mesh.proofs.joining.Mesh.settle.Given as goal
 
 -- the rest is linked, and where it has exchanged, all has
