@@ -5,7 +5,7 @@ ghost use Rattle.gf_drawing.specs.Colours.{colour_in, rgb_of};
 ghost use Rattle.gf_fig_read.specs.Objects.{with_figure, colour_object, ellipse_object};
 ghost use Rattle.gf_fig_read.specs.Objects.{polyline_object, object};
 ghost use Rattle.gf_fig_text.specs.declared.faults.FigFault.TheVariants as fault;
-ghost use Rattle.gf_fig_read.specs.Stepping.{Draws};
+ghost use Rattle.gf_fig_read.specs.Stepping.{AddsObject};
 
 use crate::outlines::{chain, disc};
 use crate::styles::{Style, style_of};
@@ -26,7 +26,7 @@ fn is_free(drawing: &Drawing<Outline>, number: u16) -> bool
 /// Adds the colour whose fields follow.
 #[tactic(auto, unfolding(crate::specs::Objects::colour_object))]
 fn add_colour(tokens: &mut Tokens<'_>, drawing: &mut Drawing<Outline>) -> Result<(), FigFault>
-    ensures { Draws result drawing.new tokens.new (colour_object drawing.old tokens.old) }
+    ensures { AddsObject result drawing.new tokens.new (colour_object drawing.old tokens.old) }
 {
     if !drawing.figures().is_empty() {
         return Err(FigFault::LateColour);
@@ -59,7 +59,7 @@ fn add_figure(drawing: &mut Drawing<Outline>, style: Style, shape: Outline) -> R
 /// Adds the ellipse whose fields follow.
 #[tactic(auto, unfolding(crate::specs::Objects::ellipse_object))]
 fn add_ellipse(tokens: &mut Tokens<'_>, drawing: &mut Drawing<Outline>) -> Result<(), FigFault>
-    ensures { Draws result drawing.new tokens.new (ellipse_object drawing.old tokens.old) }
+    ensures { AddsObject result drawing.new tokens.new (ellipse_object drawing.old tokens.old) }
 {
     let style = style_of(tokens, 3, 4, drawing)?;
     let disc = disc(tokens)?;
@@ -73,7 +73,7 @@ fn add_polyline(
     tokens: &mut Tokens<'_>,
     drawing: &mut Drawing<Outline>,
 ) -> Result<(), FigFault>
-    ensures { Draws result drawing.new tokens.new (polyline_object drawing.old tokens.old) }
+    ensures { AddsObject result drawing.new tokens.new (polyline_object drawing.old tokens.old) }
 {
     let style = style_of(tokens, 2, 3, drawing)?;
     let chain = chain(alloc, tokens, style.sub_type == 2)?;
@@ -88,7 +88,7 @@ pub(crate) fn add_object(
     tokens: &mut Tokens<'_>,
     drawing: &mut Drawing<Outline>,
 ) -> Result<(), FigFault>
-    ensures { Draws result drawing.new tokens.new (object drawing.old (code.now ∷ tokens.old)) }
+    ensures { AddsObject result drawing.new tokens.new (object drawing.old (code.now ∷ tokens.old)) }
 {
     match whole(code) {
         None => Err(FigFault::Token),
