@@ -7,48 +7,48 @@ use Rattle.std.proofs.lemmas.List.Folds.{list_any-append, list_any_more}
 use Rattle.gf_shape.specs.declared.colour.Rgb.{Rgb}
 use Rattle.gf_strips.specs.declared.columns.Columns.{Columns}
 use Rattle.gf_strips.specs.Pixels.{pixels}
-use Rattle.gf_strips.specs.Strips.{AreSameOutside, is_between, is_among, is_free, over, Shown, IsPainted}
+use Rattle.gf_strips.specs.Strips.{AreSameOutside, is_from, is_among, is_free, over, Shown, IsPainted}
 use Rattle.gf_strips.proofs.PixelLemmas.{pixels_same, length_pixels}
 
 or_false : (p : Bool) → (p || false) ≡ p
 or_false true = refl
 or_false false = refl
 
-pub free_more : (gs : List Columns) (a b k : ℕ) → is_free (gs ++ record { from = a; to = b } ∷ []) k ≡ (is_free gs k || is_between a b k)
-free_more gs a b k = list_any-append (λ c. is_among c k) gs (record { from = a; to = b } ∷ []) ∙ ap (λ q. is_free gs k || q) (or_false (is_between a b k))
+pub free_more : (gs : List Columns) (a b k : ℕ) → is_free (gs ++ record { from = a; to = b } ∷ []) k ≡ (is_free gs k || is_from a b k)
+free_more gs a b k = list_any-append (λ c. is_among c k) gs (record { from = a; to = b } ∷ []) ∙ ap (λ q. is_free gs k || q) (or_false (is_from a b k))
 
-pub none_between : (a b k : ℕ) → b ≤ a → is_between a b k ≡ false
+pub none_between : (a b k : ℕ) → b ≤ a → is_from a b k ≡ false
 none_between a b k l = grind (arith, nat_tests)
 
-pub free_same : (p : Bool) (a b k : ℕ) → b ≤ a → p ≡ (p || is_between a b k)
+pub free_same : (p : Bool) (a b k : ℕ) → b ≤ a → p ≡ (p || is_from a b k)
 free_same p a b k l = let e = none_between a b k l in rw e (sym (or_false p))
 
 -- the columns of both, where they overlap from low to high
-pub both : (a b u v k : ℕ) → is_between (max a u) (min b v) k ≡ (is_between u v k && is_between a b k)
-both a b u v k = elim (cases_Bool (is_between u v k)) [
-  | inl e ↦ elim (cases_Bool (is_between a b k)) [
-    | inl d ↦ let h : is_between (max a u) (min b v) k ≡ true = grind (arith, nat_tests) in rw (e, d) h
-    | inr d ↦ let h : is_between (max a u) (min b v) k ≡ false = grind (arith, nat_tests) in rw (e, d) h
+pub both : (a b u v k : ℕ) → is_from (max a u) (min b v) k ≡ (is_from u v k && is_from a b k)
+both a b u v k = elim (cases_Bool (is_from u v k)) [
+  | inl e ↦ elim (cases_Bool (is_from a b k)) [
+    | inl d ↦ let h : is_from (max a u) (min b v) k ≡ true = grind (arith, nat_tests) in rw (e, d) h
+    | inr d ↦ let h : is_from (max a u) (min b v) k ≡ false = grind (arith, nat_tests) in rw (e, d) h
   ]
-  | inr e ↦ let h : is_between (max a u) (min b v) k ≡ false = grind (arith, nat_tests) in rw e h
+  | inr e ↦ let h : is_from (max a u) (min b v) k ≡ false = grind (arith, nat_tests) in rw e h
 ]
 
 -- what is left of free columns that are met
-pub pieces : (q : Bool) (a b u v k : ℕ) → max a u < min b v → ((q || is_between u (max a u) k) || is_between (min b v) v k) ≡ (q || (is_between u v k && not (is_between a b k)))
+pub pieces : (q : Bool) (a b u v k : ℕ) → max a u < min b v → ((q || is_from u (max a u) k) || is_from (min b v) v k) ≡ (q || (is_from u v k && not (is_from a b k)))
 pieces true a b u v k l = refl
-pieces false a b u v k l = elim (cases_Bool (is_between u v k)) [
-  | inl e ↦ elim (cases_Bool (is_between a b k)) [
-    | inl d ↦ let g : is_between u (max a u) k ≡ false = grind (arith, nat_tests) in let h : is_between (min b v) v k ≡ false = grind (arith, nat_tests) in rw (e, d, g, h) refl
-    | inr d ↦ let h : (is_between u (max a u) k || is_between (min b v) v k) ≡ true = grind (arith, nat_tests) in rw (e, d) h
+pieces false a b u v k l = elim (cases_Bool (is_from u v k)) [
+  | inl e ↦ elim (cases_Bool (is_from a b k)) [
+    | inl d ↦ let g : is_from u (max a u) k ≡ false = grind (arith, nat_tests) in let h : is_from (min b v) v k ≡ false = grind (arith, nat_tests) in rw (e, d, g, h) refl
+    | inr d ↦ let h : (is_from u (max a u) k || is_from (min b v) v k) ≡ true = grind (arith, nat_tests) in rw (e, d) h
   ]
-  | inr e ↦ let g : is_between u (max a u) k ≡ false = grind (arith, nat_tests) in let h : is_between (min b v) v k ≡ false = grind (arith, nat_tests) in rw (e, g, h) refl
+  | inr e ↦ let g : is_from u (max a u) k ≡ false = grind (arith, nat_tests) in let h : is_from (min b v) v k ≡ false = grind (arith, nat_tests) in rw (e, g, h) refl
 ]
 
 -- what is left of free columns that are not met
-pub whole : (q : Bool) (a b u v k : ℕ) → min b v ≤ max a u → (q || is_between u v k) ≡ (q || (is_between u v k && not (is_between a b k)))
+pub whole : (q : Bool) (a b u v k : ℕ) → min b v ≤ max a u → (q || is_from u v k) ≡ (q || (is_from u v k && not (is_from a b k)))
 whole true a b u v k l = refl
-whole false a b u v k l = elim (cases_Bool (is_between u v k)) [
-  | inl e ↦ let d : is_between a b k ≡ false = grind (arith, nat_tests) in rw (e, d) refl
+whole false a b u v k l = elim (cases_Bool (is_from u v k)) [
+  | inl e ↦ let d : is_from a b k ≡ false = grind (arith, nat_tests) in rw (e, d) refl
   | inr e ↦ rw e refl
 ]
 
@@ -108,7 +108,7 @@ painted_none target now n strip r g = record {
 }
   where
     first : (k : ℕ) → k < n → is_free (record { from = 0; to = n } ∷ []) k ≡ true
-    first k l = let e : is_between 0 n k ≡ true = grind (arith, nat_tests) in rw e refl
+    first k l = let e : is_from 0 n k ≡ true = grind (arith, nat_tests) in rw e refl
 
 -- all is painted
 pub painted_all : (target behind : ℕ → Rgb) (n : ℕ) (strip : Shown) → ((k : ℕ) → k < n → is_free strip.free k ≡ false) → IsPainted target behind n strip → strip.bytes ≡ pixels target 0 n
@@ -125,7 +125,7 @@ finished target c n old new g r h =
     let met : (k : ℕ) → k < n → all k ≡ true = λ k l. within k n (length old.bytes) l (omega (arith, wide)) in
     painted_all target (λ _. c) n new (λ k l. g k ∙ rw (met k l) (and_false (is_free old.free k))) (r (λ _. c) (record { now = h.now; bytes = h.bytes; shows = λ k l. h.shows k l ∙ rw (met k l) refl }))
   where
-    within : (k n m : ℕ) → k < n → n ≤ m → is_between 0 m k ≡ true
+    within : (k n m : ℕ) → k < n → n ≤ m → is_from 0 m k ≡ true
     within k n m l h = grind (arith, nat_tests)
 
     and_false : (p : Bool) → (p && not true) ≡ false

@@ -6,7 +6,7 @@ use Rattle.std.proofs.lemmas.Bool.Decides.{nat_tests}
 use Rattle.std.proofs.Math.Seq.{take-append_seam, drop-append_seam}
 use Rattle.gf_shape.specs.declared.colour.Rgb.{Rgb}
 use Rattle.gf_strips.specs.Pixels.{pixel, pixels}
-use Rattle.gf_strips.specs.Strips.{is_between, over}
+use Rattle.gf_strips.specs.Strips.{is_from, over}
 use Rattle.gf_strips.proofs.RangeLemmas.{ranged_more}
 
 zero_plus : (n : ℕ) → 0 + n ≡ n
@@ -55,23 +55,23 @@ drop_pixels f i m n l =
     parts m n l = omega arith
 
 -- the columns from a to before b in one colour
-pub stamped : (f : ℕ → Rgb) (c : Rgb) (a b n : ℕ) → a ≤ b → b ≤ n → pixels f 0 a ++ (pixels (λ _. c) 0 (b - a) ++ pixels f b (n - b)) ≡ pixels (over (is_between a b) c f) 0 n
+pub stamped : (f : ℕ → Rgb) (c : Rgb) (a b n : ℕ) → a ≤ b → b ≤ n → pixels f 0 a ++ (pixels (λ _. c) 0 (b - a) ++ pixels f b (n - b)) ≡ pixels (over (is_from a b) c f) 0 n
 stamped f c a b n l m =
-    let g = over (is_between a b) c f in
+    let g = over (is_from a b) c f in
     let one : pixels f 0 a ≡ pixels g 0 a = pixels_same f g 0 a (λ k p q. sym (left f c a b k (omega arith))) in
     let two : pixels (λ _. c) 0 (b - a) ≡ pixels g (0 + a) (b - a) = pixels_one c 0 (0 + a) (b - a) ∙ pixels_same (λ _. c) g (0 + a) (b - a) (λ k p q. sym (middle f c a b k (omega arith) (omega arith))) in
     let three : pixels f b (n - b) ≡ pixels g (0 + b) (n - b) = pixels_same f g b (n - b) (λ k p q. sym (right f c a b k (omega arith))) ∙ ap (λ j. pixels g j (n - b)) (sym (zero_plus b)) in
     let seam : pixels g 0 a ++ (pixels g (0 + a) (b - a) ++ pixels g (0 + b) (n - b)) ≡ pixels g 0 n = joined g a b n l m in
     rw (one, two, three) seam
   where
-    left : (f : ℕ → Rgb) (c : Rgb) (a b k : ℕ) → k < a → over (is_between a b) c f k ≡ f k
-    left f c a b k l = let e : is_between a b k ≡ false = grind (arith, nat_tests) in rw e refl
+    left : (f : ℕ → Rgb) (c : Rgb) (a b k : ℕ) → k < a → over (is_from a b) c f k ≡ f k
+    left f c a b k l = let e : is_from a b k ≡ false = grind (arith, nat_tests) in rw e refl
 
-    middle : (f : ℕ → Rgb) (c : Rgb) (a b k : ℕ) → a ≤ k → k < b → over (is_between a b) c f k ≡ c
-    middle f c a b k l m = let e : is_between a b k ≡ true = grind (arith, nat_tests) in rw e refl
+    middle : (f : ℕ → Rgb) (c : Rgb) (a b k : ℕ) → a ≤ k → k < b → over (is_from a b) c f k ≡ c
+    middle f c a b k l m = let e : is_from a b k ≡ true = grind (arith, nat_tests) in rw e refl
 
-    right : (f : ℕ → Rgb) (c : Rgb) (a b k : ℕ) → b ≤ k → over (is_between a b) c f k ≡ f k
-    right f c a b k l = let e : is_between a b k ≡ false = grind (arith, nat_tests) in rw e refl
+    right : (f : ℕ → Rgb) (c : Rgb) (a b k : ℕ) → b ≤ k → over (is_from a b) c f k ≡ f k
+    right f c a b k l = let e : is_from a b k ≡ false = grind (arith, nat_tests) in rw e refl
 
     joined : (g : ℕ → Rgb) (a b n : ℕ) → a ≤ b → b ≤ n → pixels g 0 a ++ (pixels g (0 + a) (b - a) ++ pixels g (0 + b) (n - b)) ≡ pixels g 0 n
     joined g a b n l m =
@@ -82,34 +82,34 @@ stamped f c a b n l m =
         ∙ (sym (pixels_more g 0 a ((b - a) + (n - b))) ∙ ap (λ j. pixels g 0 j) (sym d)))
 
 -- what a stamp leaves
-pub stamped_row : (f : ℕ → Rgb) (c : Rgb) (a b n : ℕ) (row pattern : List ℕ) → a ≤ b → b ≤ n → b - a ≤ 64 → pattern ≡ pixels (λ _. c) 0 64 → row ≡ pixels f 0 n → take (3 * a) row ++ (take (3 * (b - a)) pattern ++ drop (3 * b) row) ≡ pixels (over (is_between a b) c f) 0 n
+pub stamped_row : (f : ℕ → Rgb) (c : Rgb) (a b n : ℕ) (row pattern : List ℕ) → a ≤ b → b ≤ n → b - a ≤ 64 → pattern ≡ pixels (λ _. c) 0 64 → row ≡ pixels f 0 n → take (3 * a) row ++ (take (3 * (b - a)) pattern ++ drop (3 * b) row) ≡ pixels (over (is_from a b) c f) 0 n
 stamped_row f c a b n row pattern l m w p r =
     let one = take_pixels f 0 a n (omega arith) in
     let two = take_pixels (λ _. c) 0 (b - a) 64 w in
     let three : drop (3 * b) (pixels f 0 n) ≡ pixels f b (n - b) = drop_pixels f 0 b n m ∙ ap (λ j. pixels f j (n - b)) (zero_plus b) in
     rw (r, p, one, two, three) (stamped f c a b n l m)
 
-pub over_none : (f : ℕ → Rgb) (c : Rgb) (a n : ℕ) → pixels f 0 n ≡ pixels (over (is_between a a) c f) 0 n
-over_none f c a n = pixels_same f (over (is_between a a) c f) 0 n (λ k p q. none a k)
+pub over_none : (f : ℕ → Rgb) (c : Rgb) (a n : ℕ) → pixels f 0 n ≡ pixels (over (is_from a a) c f) 0 n
+over_none f c a n = pixels_same f (over (is_from a a) c f) 0 n (λ k p q. none a k)
   where
-    none : (a k : ℕ) → f k ≡ over (is_between a a) c f k
-    none a k = let e : is_between a a k ≡ false = grind (arith, nat_tests) in rw e refl
+    none : (a k : ℕ) → f k ≡ over (is_from a a) c f k
+    none a k = let e : is_from a a k ≡ false = grind (arith, nat_tests) in rw e refl
 
-pub over_more : (f : ℕ → Rgb) (c : Rgb) (a m b n : ℕ) → a ≤ m → m ≤ b → pixels (over (is_between m b) c (over (is_between a m) c f)) 0 n ≡ pixels (over (is_between a b) c f) 0 n
-over_more f c a m b n l h = pixels_same (over (is_between m b) c (over (is_between a m) c f)) (over (is_between a b) c f) 0 n (λ k p q. same k)
+pub over_more : (f : ℕ → Rgb) (c : Rgb) (a m b n : ℕ) → a ≤ m → m ≤ b → pixels (over (is_from m b) c (over (is_from a m) c f)) 0 n ≡ pixels (over (is_from a b) c f) 0 n
+over_more f c a m b n l h = pixels_same (over (is_from m b) c (over (is_from a m) c f)) (over (is_from a b) c f) 0 n (λ k p q. same k)
   where
-    same : (k : ℕ) → over (is_between m b) c (over (is_between a m) c f) k ≡ over (is_between a b) c f k
-    same k = elim (cases_Bool (is_between m b k)) [
-      | inl e ↦ let d : is_between a b k ≡ true = grind (arith, nat_tests) in rw (e, d) refl
-      | inr e ↦ elim (cases_Bool (is_between a m k)) [
-        | inl i ↦ let d : is_between a b k ≡ true = grind (arith, nat_tests) in rw (e, i, d) refl
-        | inr i ↦ let d : is_between a b k ≡ false = grind (arith, nat_tests) in rw (e, i, d) refl
+    same : (k : ℕ) → over (is_from m b) c (over (is_from a m) c f) k ≡ over (is_from a b) c f k
+    same k = elim (cases_Bool (is_from m b k)) [
+      | inl e ↦ let d : is_from a b k ≡ true = grind (arith, nat_tests) in rw (e, d) refl
+      | inr e ↦ elim (cases_Bool (is_from a m k)) [
+        | inl i ↦ let d : is_from a b k ≡ true = grind (arith, nat_tests) in rw (e, i, d) refl
+        | inr i ↦ let d : is_from a b k ≡ false = grind (arith, nat_tests) in rw (e, i, d) refl
       ]
     ]
 
 -- one stamp more
-pub stamp_more : (f : ℕ → Rgb) (c : Rgb) (a m b n : ℕ) (row pattern : List ℕ) → a ≤ m → m ≤ b → b ≤ n → b - m ≤ 64 → pattern ≡ pixels (λ _. c) 0 64 → row ≡ pixels (over (is_between a m) c f) 0 n → take (3 * m) row ++ (take (3 * (b - m)) pattern ++ drop (3 * b) row) ≡ pixels (over (is_between a b) c f) 0 n
-stamp_more f c a m b n row pattern l h t w p r = stamped_row (over (is_between a m) c f) c m b n row pattern h t w p r ∙ over_more f c a m b n l h
+pub stamp_more : (f : ℕ → Rgb) (c : Rgb) (a m b n : ℕ) (row pattern : List ℕ) → a ≤ m → m ≤ b → b ≤ n → b - m ≤ 64 → pattern ≡ pixels (λ _. c) 0 64 → row ≡ pixels (over (is_from a m) c f) 0 n → take (3 * m) row ++ (take (3 * (b - m)) pattern ++ drop (3 * b) row) ≡ pixels (over (is_from a b) c f) 0 n
+stamp_more f c a m b n row pattern l h t w p r = stamped_row (over (is_from a m) c f) c m b n row pattern h t w p r ∙ over_more f c a m b n l h
 
 pub pixels_last : (f : ℕ → Rgb) (n : ℕ) → pixels f 0 (n + 1) ≡ pixels f 0 n ++ pixel (f n)
 pixels_last f n = pixels_more f 0 n 1 ∙ ap (λ j. pixels f 0 n ++ pixel (f j)) (zero_plus n)

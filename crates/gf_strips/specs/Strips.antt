@@ -6,12 +6,12 @@ use Rattle.gf_strips.specs.declared.columns.Columns.{Columns}
 use Rattle.gf_strips.specs.Pixels.{pixels}
 
 -- k lies from a to before b
-abbrev pub is_between : ℕ → ℕ → ℕ → Bool
-is_between a b k = nat_le a k && nat_lt k b
+abbrev pub is_from : ℕ → ℕ → ℕ → Bool
+is_from a b k = nat_le a k && nat_lt k b
 
 -- k is one of the columns
 abbrev pub is_among : Columns → ℕ → Bool
-is_among c k = is_between c.from c.to k
+is_among c k = is_from c.from c.to k
 
 -- k is one of the columns of a list
 abbrev pub is_free : List Columns → ℕ → Bool

@@ -3,7 +3,7 @@
 ghost use Rattle.std.specs.Prelude.{◌≡◌, ℕ, ◌-◌, ◌*◌, ◌≤◌, ◌++◌, IfOk, length, take, drop};
 ghost use Rattle.gf_shape.specs.declared.colour.Rgb.{Rgb};
 ghost use Rattle.gf_strips.specs.Pixels.{pixels};
-ghost use Rattle.gf_strips.specs.Strips.{is_between, over};
+ghost use Rattle.gf_strips.specs.Strips.{is_from, over};
 
 use gf_shape::{OutOfMemory, Rgb};
 use std::alloc::Global;
@@ -45,7 +45,7 @@ impl Brush {
         requires { (a ≤ b) × (3 * b ≤ length row.old) }
         ensures len { length row.new ≡ length row.old }
         ensures painted { (f : ℕ → Rgb) (n : ℕ) → row.old ≡ pixels f 0 n
-            → row.new ≡ pixels (over (is_between a b) self.now f) 0 n }
+            → row.new ≡ pixels (over (is_from a b) self.now f) 0 n }
     {
         paint_pattern(row, a, b, &self.pattern);
     }
@@ -68,7 +68,7 @@ fn paint_pattern(row: &mut [u8], a: usize, b: usize, pattern: &[u8])
     requires { (a ≤ b) × (3 * b ≤ length row.old) × (length pattern.now ≡ 192) }
     ensures len { length row.new ≡ length row.old }
     ensures painted { (f : ℕ → Rgb) (c : Rgb) (n : ℕ) → b ≤ n → pattern.now ≡ pixels (λ _. c) 0 64
-        → row.old ≡ pixels f 0 n → row.new ≡ pixels (over (is_between a b) c f) 0 n }
+        → row.old ≡ pixels f 0 n → row.new ≡ pixels (over (is_from a b) c f) 0 n }
 {
     let mut at = a;
     while at < b {

@@ -4,7 +4,7 @@ ghost use Rattle.std.specs.Prelude.{◌≡◌, ◌↔◌, ℕ, ◌*◌, ◌≤�
 ghost use Rattle.std.specs.Prelude.{OnOk, IfOk, [], ◌∷◌, All, length, replicate};
 ghost use Rattle.gf_shape.specs.declared.colour.Rgb.{Rgb};
 ghost use Rattle.gf_strips.specs.Pixels.{pixels};
-ghost use Rattle.gf_strips.specs.Strips.{AreSameOutside, Fits, is_between, is_among, is_free, over};
+ghost use Rattle.gf_strips.specs.Strips.{AreSameOutside, Fits, is_from, is_among, is_free, over};
 ghost use Rattle.gf_strips.specs.Strips.{IsPainted};
 
 use crate::{Brush, Columns};
@@ -201,7 +201,7 @@ fn push_some(left: &mut Vec<Columns>, from: usize, to: usize) -> Result<(), OutO
     ensures within { (m : ℕ) → OnOk result (3 * to ≤ m → All (Fits m) left.old.items
         → All (Fits m) left.new.items) }
     ensures free { OnOk result ((k : ℕ)
-        → is_free left.new.items k ≡ (is_free left.old.items k || is_between from to k)) }
+        → is_free left.new.items k ≡ (is_free left.old.items k || is_from from to k)) }
 {
     if from < to {
         left.push(Columns { from, to })?;
