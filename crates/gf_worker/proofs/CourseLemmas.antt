@@ -1,23 +1,15 @@
 -- What holds of a site's list, and of what may come behind it.
 use Rattle.std.proofs.Common.{◌≢◌, ℕ, zero, suc, ◌+◌, ◌≤◌, ◌<◌, cond, nat_eq, List, ◌++◌, inl, inr, subst, arith}
-use Rattle.std.specs.Prelude.{◌⊎◌, Contains}
+use Rattle.std.specs.Prelude.{◌⊎◌}
 use Rattle.std.proofs.lemmas.Bool.{cases_lt, cases_eq}
 use Rattle.std.proofs.lemmas.List.Elements.{Contains-append_cases}
 use Rattle.std.proofs.lemmas.List.Sums.{sum_by-append}
 use Rattle.gf_ops.specs.declared.op.Op.{Op}
-use Rattle.gf_ops.specs.declared.change.Change.{Change}
-use Rattle.gf_ops.specs.declared.change.Change.TheVariants.{Create, Set}
 use Rattle.gf_ops.specs.OperationOrder.{IsSite, entry, count_of, Precedes}
-use Rattle.gf_ops.specs.ValidHistory.{IsValid}
-use Rattle.gf_ops.specs.KnownObject.{IsSuited}
 use Rattle.gf_ops.specs.Accepted.{IsAccepted}
-use Rattle.gf_ops.proofs.HistoryLemmas.{site_in_range, seq_in_range}
-use Rattle.gf_ops.proofs.ValidityLemmas.{same_op}
 use Rattle.gf_causal.specs.Ready.{IsReady}
-use Rattle.gf_causal.specs.DeliveredPart.{AreReady, none as ready_none, next as ready_next}
-use Rattle.gf_causal.proofs.CourseLemmas.{has_counted, number_counted, same_id}
-use Rattle.gf_site.specs.Course.{IsCourse, none, next}
-use Rattle.gf_site.proofs.CourseLemmas.{accepted_ready}
+use Rattle.gf_causal.specs.DeliveredPart.{AreReady}
+use Rattle.gf_causal.proofs.CourseLemmas.{has_counted, number_counted}
 use Rattle.gf_worker.specs.Turns.{ComesAfter, NothingComes}
 
 -- a longer list counts no less
