@@ -1,4 +1,4 @@
 pub mod JoinedLemmas
-pub mod HalfLemmas
+pub mod GaveLemmas
 pub mod SessionLemmas
 pub mod StartLemmas

@@ -1,5 +1,5 @@
 -- The outcome of a session.
-use Rattle.std.proofs.Common.{◌≡◌, ◌≢◌, ℕ, zero, suc, ◌+◌, Bool, true, false, List, [], ◌∷◌, ◌++◌, map, length, refl, sym, ap, subst, ◌∙◌, arith, true≢false}
+use Rattle.std.proofs.Common.{◌≡◌, ◌≢◌, ℕ, zero, suc, ◌+◌, Bool, true, false, List, [], ◌∷◌, ◌++◌, map, refl, sym, ap, subst, ◌∙◌, arith, true≢false}
 use Rattle.std.specs.Prelude.{◌||◌, Contains, Some, option_map, slice_get, IsTrue}
 use Rattle.std.specs.List.{list_any}
 use Rattle.std.proofs.lemmas.List.{append-nil, length-map}
@@ -27,6 +27,7 @@ use Rattle.gf_ops.proofs.ListLemmas.{Contains-map_from}
 use Rattle.gf_ops.proofs.PositionLemmas.{one_value, position_in, position_of as position_at}
 use Rattle.gf_world.specs.Courses.{AreCourses, HaveEvents}
 use Rattle.gf_world.proofs.EventLemmas.{courses_have_events}
+use Rattle.gf_session.proofs.GaveLemmas.{gave_number, gave_worked, same_long}
 use Rattle.gf_session.proofs.JoinedLemmas.{one_history, origin}
 
 ops_told : (ops : List Op) (short : Bool) → ops_of (told ops ++ last_message short ∷ []) ≡ ops
@@ -76,12 +77,6 @@ begun_at (s ∷ starts) [] g k e q = absurd cc
 begun_at (s ∷ starts) (x ∷ ends) g zero e q = let i : x ≡ e = cc in record { start = s; at = refl; gave = subst (Gave s) i g.0 }
 begun_at (s ∷ starts) (x ∷ ends) g (suc k) e q = let o = begun_at starts ends g.1 k e q in record { start = o.start; at = o.at; gave = o.gave }
 
-pub same_long : (starts : List Start) (ends : List WorkerEnd) → GaveAll starts ends → length ends ≡ length starts
-same_long [] [] g = refl
-same_long [] (x ∷ ends) g = absurd g
-same_long (s ∷ starts) [] g = absurd g
-same_long (s ∷ starts) (x ∷ ends) g = ap suc (same_long starts ends g.1)
-
 -- the worker's end and its start at a place of a session
 record Played (starts : List Start) (ends : List WorkerEnd) (k : ℕ) (p : Place) : Type 0 where
   start : Start
@@ -118,12 +113,12 @@ lists_are (e ∷ ends) = ap (λ l. e.site.ops ∷ l) (lists_are ends)
 
 module _ (scripts : List Script) (rows : List (List Peer)) (starts : List Start) (ends : List WorkerEnd) (begun : AreStarts scripts rows starts) (gave : GaveAll starts ends) (long : list_any (λ e. e.short) ends ≡ false) where
   number : (k : ℕ) (e : WorkerEnd) → slice_get ends k ≡ Some e → e.site.number ≡ k + 1
-  number k e q = let o = begun_at starts ends gave k e q in o.gave.number ∙ ap (λ (x : SiteState). x.number) (begun.sites_are k o.start o.at)
+  number k e q = let o = begun_at starts ends gave k e q in gave_number o.start e o.gave ∙ ap (λ (x : SiteState). x.number) (begun.sites_are k o.start o.at)
 
   worked : (k : ℕ) (e : WorkerEnd) (q : slice_get ends k ≡ Some e) → let o = begun_at starts ends gave k e q in HasWorked (k + 1) o.start.script.0.items o.start.peers.items e
   worked k e q =
       let o = begun_at starts ends gave k e q in
-      subst (λ n. HasWorked n o.start.script.0.items o.start.peers.items e) (ap (λ (x : SiteState). x.number) (begun.sites_are k o.start o.at)) (o.gave.worked (none_short ends long k e q))
+      subst (λ n. HasWorked n o.start.script.0.items o.start.peers.items e) (ap (λ (x : SiteState). x.number) (begun.sites_are k o.start o.at)) (gave_worked o.start e o.gave (none_short ends long k e q))
 
   pub ended : (k : ℕ) (e : WorkerEnd) → slice_get ends k ≡ Some e → (p : Peer) → Contains e.seats.items p → IsTrue (is_ended p.take.taken)
   ended k e q = (worked k e q).ended

@@ -11,18 +11,17 @@ use Rattle.gf_site.specs.SiteState.{SiteState, new_site}
 use Rattle.gf_worker.specs.declared.script.Script.{Script}
 use Rattle.gf_worker.specs.declared.peer.Peer.{Peer}
 use Rattle.gf_worker.specs.declared.worker.WorkerEnd.{WorkerEnd}
-use Rattle.gf_worker.specs.Peers.{IsPlaced, IsFresh, seat_of}
+use Rattle.gf_worker.specs.Peers.{IsPlaced, IsFresh}
 use Rattle.gf_worker.proofs.TellLemmas.{all_from}
-use Rattle.gf_mesh.specs.Mesh.{IsMesh, Connects, IsLinked}
-use Rattle.gf_mesh.proofs.PlacedLemmas.{mesh_new, linked_again}
+use Rattle.gf_mesh.specs.Linked.{AreLinked, HaveEnded, seats_of}
 use Rattle.gf_session.specs.declared.starting.Start.{Start}
 use Rattle.gf_session.specs.Starting.{AreStarts, IsReady, GaveAll}
+use Rattle.gf_session.proofs.GaveLemmas.{gave_seats}
 use Rattle.gf_session.proofs.SessionLemmas.{ended}
 
 -- each site is new, and its links stand in the table
-pub all_ready : (links : List TableId) (scripts : List Script) (rows : List (List Peer)) (starts : List Start) → IsMesh Connects links rows [] → AreStarts scripts rows starts → All (λ s. vec_len s.0 ≤ 1000) scripts → All (IsReady links) starts
+pub all_ready : (links : List TableId) (scripts : List Script) (rows : List (List Peer)) (starts : List Start) → AreLinked links rows → AreStarts scripts rows starts → All (λ s. vec_len s.0 ≤ 1000) scripts → All (IsReady links) starts
 all_ready links scripts rows starts m a few =
-    let new = mesh_new m in
     all_from (IsReady links) starts (λ s c.
     let k = position_of starts s c in
     let site = a.sites_are k.0 s k.1 in
@@ -31,24 +30,27 @@ all_ready links scripts rows starts m a few =
       ops = ap (λ (x : SiteState). x.ops) site;
       held = ap (λ (x : SiteState). x.held) site;
       few = All-contains (λ (x : Script). vec_len x.0 ≤ 1000) scripts s.script few (subst (λ l. Contains l s.script) a.scripts_are (Contains-map (λ (x : Start). x.script) starts s c));
-      placed = all_from (IsPlaced links) s.peers.items (λ p b. (new.rows_all s.peers.items row p b).placed);
-      fresh = all_from IsFresh s.peers.items (λ p b. (new.rows_all s.peers.items row p b).fresh);
+      placed = all_from (IsPlaced links) s.peers.items (m.placed s.peers.items row);
+      fresh = all_from IsFresh s.peers.items (m.fresh s.peers.items row);
     })
 
-same_seats : (starts : List Start) (ends : List WorkerEnd) → GaveAll starts ends → map (map seat_of) (map (λ e. e.seats.items) ends) ≡ map (map seat_of) (map (λ s. s.peers.items) starts)
-same_seats [] [] g = refl
-same_seats [] (e ∷ ends) g = absurd g
-same_seats (s ∷ starts) [] g = absurd g
-same_seats (s ∷ starts) (e ∷ ends) g = λ i. g.0.seats i ∷ same_seats starts ends g.1 i
+seats_given : (starts : List Start) (ends : List WorkerEnd) → GaveAll starts ends → seats_of (map (λ e. e.seats.items) ends) ≡ seats_of (map (λ s. s.peers.items) starts)
+seats_given [] [] g = refl
+seats_given [] (e ∷ ends) g = absurd g
+seats_given (s ∷ starts) [] g = absurd g
+seats_given (s ∷ starts) (e ∷ ends) g = λ i. gave_seats s e g.0 i ∷ seats_given starts ends g.1 i
+
+-- the workers give back the seats of the mesh
+pub same_seats : (scripts : List Script) (rows : List (List Peer)) (starts : List Start) (ends : List WorkerEnd) → AreStarts scripts rows starts → GaveAll starts ends → seats_of (map (λ e. e.seats.items) ends) ≡ seats_of rows
+same_seats scripts rows starts ends a g = seats_given starts ends g ∙ ap seats_of a.rows_are
 
 -- each worker took to the end of each of its links
-pub all_linked : (links : List TableId) (scripts : List Script) (rows : List (List Peer)) (starts : List Start) (ends : List WorkerEnd) → IsMesh Connects links rows [] → AreStarts scripts rows starts → GaveAll starts ends
-    → list_any (λ e. e.short) ends ≡ false → IsMesh IsLinked links (map (λ e. e.seats.items) ends) []
-all_linked links scripts rows starts ends m a g long =
-    linked_again links rows (map (λ e. e.seats.items) ends) m (same_seats starts ends g ∙ ap (map (map seat_of)) a.rows_are) (λ xs c p b.
+pub all_ended : (scripts : List Script) (rows : List (List Peer)) (starts : List Start) (ends : List WorkerEnd) → AreStarts scripts rows starts → GaveAll starts ends → list_any (λ e. e.short) ends ≡ false
+    → HaveEnded (map (λ e. e.seats.items) ends)
+all_ended scripts rows starts ends a g long xs c p b =
     let t = Contains-map_from (λ (e : WorkerEnd). e.seats.items) ends xs c in
     let k = position_of ends t.0 t.1 in
-    ended scripts rows starts ends a g long k.0 t.0 k.1 p (subst (λ l. Contains l p) t.2 b))
+    ended scripts rows starts ends a g long k.0 t.0 k.1 p (subst (λ l. Contains l p) t.2 b)
 
 -- ---- one more start
 

@@ -2,7 +2,7 @@
 
 ghost use Rattle.std.specs.Prelude.{◌≡◌, ◌↔◌, ◌⊎◌, ◌<◌, ◌≤◌, Err, All, IfOk, map, vec_len};
 ghost use Rattle.std.specs.List.{list_any};
-ghost use Rattle.gf_mesh.specs.Mesh.{rows_of};
+ghost use Rattle.gf_mesh.specs.Linked.{rows_of};
 ghost use Rattle.gf_session.specs.Session.{IsSession, done_of};
 ghost use Rattle.gf_session.specs.Starting.{AreStarts};
 ghost use denote.Param.Send.{IsSync};
@@ -16,14 +16,17 @@ use gf_worker::{Peer, Report, Script, WorkerEnd};
 use std::alloc::Global;
 use std::sync::Wait;
 use std::thread::Threads;
+use thiserror::Error;
 
 /// Why a session gave nothing, in the order of the checks.
-#[derive(Clone, Copy, Debug, PartialEq, Eq)]
+#[derive(Clone, Copy, Debug, PartialEq, Eq, Error)]
 pub enum SessionError {
     /// There are fewer than two scripts, or more than eight.
+    #[error("sites must be 2 to 8")]
     Sites,
     /// Memory was refused: for a link or a list of sites before any ran, for a thread that was to
     /// be started, to a site, or for the list of what the sites came to.
+    #[error("session: out of memory")]
     OutOfMemory,
 }
 
@@ -68,14 +71,15 @@ fn run_sites<R: Threads + Wait + Sync, G: Gate + Sync>(
     requires short { All (λ s. vec_len s.0 ≤ 1000) scripts.items }
     ensures { IfOk result (λ v. IsSession scripts.items v.items) }
 {
-    let Mesh { links, peers } = Mesh::new(rt, alloc, scripts.len())?;
+    let (mesh, peers) = Mesh::new(rt, alloc, scripts.len())?;
     let starts = starts_of(alloc, scripts, peers)?;
-    let ends = fork(rt, alloc, gate, &links, starts)?;
+    let room = Vec::with_capacity(alloc, starts.len())?;
+    let ends = fork(rt, alloc, gate, mesh.links(), starts, room);
     if any_short(&ends) {
         return Err(OutOfMemory);
     }
     let (dones, peers) = dones_of(alloc, ends)?;
-    Mesh { links, peers }.settle(rt);
+    mesh.settle(rt, peers);
     Ok(dones)
 }
 

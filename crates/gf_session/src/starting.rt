@@ -1,12 +1,13 @@
 //! How sites are run at the same time.
 
-ghost use Rattle.std.specs.Prelude.{All, IfOk};
+ghost use Rattle.std.specs.Prelude.{◌≡◌, ◌≤◌, ◌++◌, ◌∷◌, [], ◌+◌, All, length, vec_len};
+ghost use Rattle.std.specs.Vec.{vec_capacity};
 ghost use Rattle.gf_session.specs.Starting.{IsReady, Gave, GaveAll};
+ghost use Rattle.gf_worker.specs.Ending.{HasWorked, HasStopped};
 ghost use denote.Param.Send.{IsSync};
 
 use gf_gate::Gate;
 use gf_link::Link;
-use gf_shape::OutOfMemory;
 use gf_site::Site;
 use gf_worker::{Ends, Peer, Script, WorkerEnd, site_worker, stop_worker};
 use std::alloc::Global;
@@ -24,21 +25,20 @@ pub(crate) struct Start {
     pub(crate) peers: Vec<Peer>,
 }
 
-/// What a thread that runs some sites gives back.
+/// What the thread of a site gives back.
 #[derive(Drop)]
-struct Runs(Snapshot<Vec<Start>>);
+struct Runs(Snapshot<Start>);
 
-impl Promise<Result<Vec<WorkerEnd>, OutOfMemory>> for Runs {
-    ghost use Rattle.std.specs.Prelude.{IfOk};
-    ghost use Rattle.gf_session.specs.Starting.{GaveAll};
+impl Promise<WorkerEnd> for Runs {
+    ghost use Rattle.gf_session.specs.Starting.{Gave};
 
-    ghost kept_by = { λ p r. IfOk r (λ v. GaveAll p.0.value.items v.items) };
+    ghost kept_by = { λ p end. Gave p.0.value end };
 }
 
 /// Sends Stop for a site that does not run.
 fn stop_one<R: Wait>(rt: &R, alloc: Global, links: &[Link], start: Start) -> WorkerEnd
     requires { IsReady links.now start }
-    ensures { Gave start result }
+    ensures { HasStopped start.site start.peers.items result }
 {
     let Start { site, peers, .. } = start;
     stop_worker(rt, alloc, site, Ends { links, peers })
@@ -53,7 +53,7 @@ fn run_one<R: Wait, G: Gate>(
     start: Start,
 ) -> WorkerEnd
     requires { IsReady links.now start }
-    ensures { Gave start result }
+    ensures { HasWorked start.site.number start.script.0.items start.peers.items result }
 {
     let Start {
         site,
@@ -63,82 +63,67 @@ fn run_one<R: Wait, G: Gate>(
     site_worker(rt, alloc, site, script, Ends { links, peers }, gate)
 }
 
-/// Sends Stop for sites that do not run.
-fn stop_all<R: Wait>(rt: &R, alloc: Global, links: &[Link], starts: Vec<Start>)
-    requires { All (IsReady links.now) starts.items }
-{
-    for start in starts {
-        stop_one(rt, alloc, links, start);
-    }
-}
-
-/// Runs sites at the same time, each half of them in a thread of its own.
+/// Runs sites at the same time, the last of them in a thread of its own. If that is refused, this
+/// site is stopped before the others run, so that none of them waits for it. What the sites give back
+/// goes where `ends` has room.
 pub(crate) fn fork<R: Threads + Wait + Sync, G: Gate + Sync>(
     rt: &R,
     alloc: Global,
     gate: &G,
     links: &[Link],
     mut starts: Vec<Start>,
-) -> Result<Vec<WorkerEnd>, OutOfMemory>
-    requires { All (IsReady links.now) starts.items }
-    ensures { IfOk result (λ v. GaveAll starts.items v.items) }
+    mut ends: Vec<WorkerEnd>,
+) -> Vec<WorkerEnd>
+    requires ready { All (IsReady links.now) starts.items }
+    requires empty { ends.items ≡ [] }
+    requires room { vec_len starts ≤ vec_capacity ends }
+    ensures gave { GaveAll starts.items result.items }
+    ensures room { vec_capacity result ≡ vec_capacity ends }
 {
-    let mut ends = Vec::new(alloc);
-    if ends.reserve(1).is_err() {
-        stop_all(rt, alloc, links, starts);
-        return Err(OutOfMemory);
-    }
-    if starts.len() < 2 {
-        if let Some(start) = starts.pop() {
-            ends.push_reserved(run_one(rt, alloc, gate, links, start));
-        }
-        return Ok(ends);
-    }
-    let Ok(second) = starts.split_off(starts.len() / 2) else {
-        stop_all(rt, alloc, links, starts);
-        return Err(OutOfMemory);
+    let Some(last) = starts.pop() else {
+        return ends;
     };
-    let first = starts;
+    if starts.is_empty() {
+        ends.push_reserved(run_one(rt, alloc, gate, links, last));
+        return ends;
+    }
     let unstarted = AtomicBool::new(false);
     let flag = &unstarted;
-    let (a, b) = thread::scope(
+    thread::scope(
         thread::scope_env(),
         rt,
-        move |scope| -> (
-            Result<Vec<WorkerEnd>, OutOfMemory>,
-            Result<Vec<WorkerEnd>, OutOfMemory>,
-        )
-            requires { IsSync R.row × IsSync G.row × All (IsReady links.now) first.items
-                × All (IsReady links.now) second.items }
-            ensures { IfOk result.0 (λ v. GaveAll first.items v.items)
-                × IfOk result.1 (λ v. GaveAll second.items v.items) }
+        move |scope| -> Vec<WorkerEnd>
+            requires { IsSync R.row × IsSync G.row × All (IsReady links.now) starts.items
+                × IsReady links.now last × (ends.items ≡ [])
+                × (length starts.items + 1 ≤ vec_capacity ends) }
+            ensures { GaveAll (starts.items ++ last ∷ []) result.items
+                × (vec_capacity result ≡ vec_capacity ends) }
         {
-            let promise = Runs(Snapshot::of(&second));
-            let theirs = move || -> Result<Vec<WorkerEnd>, OutOfMemory>
-                requires { IsSync R.row × IsSync G.row × All (IsReady links.now) second.items }
-                ensures { IfOk result (λ v. GaveAll second.items v.items) }
+            let promise = Runs(Snapshot::of(&last));
+            let theirs = move || -> WorkerEnd
+                requires { IsSync R.row × IsSync G.row × IsReady links.now last }
+                ensures { Gave last result }
             {
                 if flag.load(Ordering::SeqCst) {
-                    stop_all(rt, alloc, links, second);
-                    return Err(OutOfMemory);
+                    return stop_one(rt, alloc, links, last);
                 }
-                fork(rt, alloc, gate, links, second)
+                run_one(rt, alloc, gate, links, last)
             };
             match scope.spawn_with(promise, theirs) {
                 Ok(child) => {
-                    let a = fork(rt, alloc, gate, links, first);
-                    (a, child.join(rt))
+                    let mut ends = fork(rt, alloc, gate, links, starts, ends);
+                    ends.push_reserved(child.join(rt));
+                    ends
                 }
                 Err(refused) => {
                     flag.store(true, Ordering::SeqCst);
                     let theirs = refused.value;
-                    let b = theirs();
-                    (fork(rt, alloc, gate, links, first), b)
+                    let end = theirs();
+                    let mut ends = fork(rt, alloc, gate, links, starts, ends);
+                    ends.push_reserved(end);
+                    ends
                 }
             }
         },
-    );
-    let mut all = a?;
-    all.append(&mut b?)?;
-    Ok(all)
+    )
 }

@@ -1,5 +1,5 @@
 use Rattle.std.proofs.Common.{◌≡◌, ◌++◌, map}
-use Rattle.gf_mesh.specs.Mesh.{rows_of}
+use Rattle.gf_mesh.specs.Linked.{rows_of}
 use Rattle.gf_session.specs.Session.{done_of}
 use Rattle.gf_session.proofs.session.dones_of.Given as goal
 

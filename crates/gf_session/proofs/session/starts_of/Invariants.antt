@@ -3,7 +3,7 @@ use Rattle.std.specs.Prelude.{Some, slice_get}
 use Rattle.std.specs.Iterator.Adapters.{zip_first, zip_second}
 use Rattle.std.specs.Vec.Iter.{into_iter_items, into_iter_len}
 use Rattle.gf_site.specs.SiteState.{new_site}
-use Rattle.gf_mesh.specs.Mesh.{rows_of}
+use Rattle.gf_mesh.specs.Linked.{rows_of}
 use Rattle.gf_session.specs.declared.starting.Start.{Start}
 use Rattle.gf_session.proofs.session.starts_of.Given as goal
 
