@@ -1,5 +1,5 @@
 -- The drawing of a history: what compiling its ranked versions makes, and that histories of the same operations have one.
-use Rattle.std.specs.Prelude.{◌↔◌, ◌<◌, ◌≤◌, IfErr, IfOk, OnOk, Result, Ok, Err}
+use Rattle.std.specs.Prelude.{◌↔◌, ◌<◌, ◌≤◌, IfErr, IfNone, IfOk, IfSome, None, OnOk, Option, Result, Ok, Err, Some}
 use Rattle.std.proofs.Common.{◌≡◌, ◌∙◌, ℕ, List, length, ap, refl, sym}
 use Rattle.gf_shape.specs.declared.any_shape.AnyShape.{AnyShape}
 use Rattle.gf_ops.specs.declared.op.Op.{Op}
@@ -13,7 +13,9 @@ use Rattle.gf_drawing.specs.CanonicalDrawing.{Fits, IsCanonical, canonical_drawi
 use Rattle.gf_drawing.specs.DrawingState.{DrawingState}
 use Rattle.gf_drawing.proofs.CanonicalColour.{canonical_colour, canonical_colour-outlined}
 use Rattle.gf_reading.specs.Denoting.{Denotes}
-use Rattle.gf_studio.specs.Refusals.{of_compile}
+use Rattle.gf_shape.specs.declared.refusals.OutOfMemory.{OutOfMemory}
+use Rattle.gf_shown.specs.ShownVersions.{HasMoreVisible}
+use Rattle.gf_studio.specs.Refusals.{of_compile, of_ranked}
 use Rattle.gf_studio.specs.FigRun.{IsDrawn, RefusesHistory}
 use Rattle.gf_studio.specs.RefusedParts.{RefusesDrawing}
 
@@ -47,6 +49,18 @@ module _ (h : List Op) (items : List (Placed AnyShape)) (ranked : AreRanked h it
 
 -- what refuses the history that the bytes denote, refuses them
 pub history_refused : (bytes : List ℕ) (h : List Op) → Denotes bytes h → (fault : CompileFault) → RefusesHistory h fault → RefusesDrawing bytes (of_compile fault)
-history_refused bytes h denoted compile.TooManyVersions r = record { history = h; denoted = denoted; items = r.items; ranked = r.ranked; many = r.many }
-history_refused bytes h denoted compile.TooManyColours r = record { history = h; denoted = denoted; items = r.items; ranked = r.ranked; few = r.few; many = r.many }
+history_refused bytes h denoted compile.TooManyVersions r = record { history = h; denoted = denoted; refused = r }
+history_refused bytes h denoted compile.TooManyColours r = record { history = h; denoted = denoted; refused = r }
 history_refused bytes h denoted compile.OutOfMemory r = tt
+
+-- a list that was made keeps what it has
+pub list_made : {T : Type 0} (P : T → Type 0) (found : Result (Option T) OutOfMemory) → IfOk found (λ f. IfSome f P) → IfOk (of_ranked found) P
+list_made P (Ok (Some ranked)) p = p
+list_made P (Ok None) p = tt
+list_made P (Err e) p = tt
+
+-- a list that was not made is too long, or memory was wanting
+pub list_refused : {T : Type 0} (h : List Op) (found : Result (Option T) OutOfMemory) → IfOk found (λ f. IfNone f (HasMoreVisible h 1000)) → IfErr (of_ranked found) (RefusesHistory h)
+list_refused h (Ok (Some ranked)) more = tt
+list_refused h (Ok None) more = more
+list_refused h (Err e) more = tt

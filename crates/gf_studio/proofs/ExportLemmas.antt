@@ -26,5 +26,5 @@ exported bytes old new drawing drawn written reads = record {
   denoted = drawn.denoted;
   text = fig_text any_outline drawing;
   written = written;
-  shown = shows drawn.history drawing drawn.figures reads;
+  shown = shows drawn.history drawing drawn.drawn.figures reads;
 }

@@ -26,7 +26,7 @@ use Rattle.gf_studio.specs.FigRun.{Draws, Writes}
 use Rattle.gf_studio.specs.PaintRun.{IsDenoted, IsMeant, WritesPicture}
 
 drawn_meant : (bytes : List ℕ) (drawing : DrawingState AnyShape) → Draws bytes drawing → IsMeant bytes (drawing_colour any_holds drawing.table drawing.figures)
-drawn_meant bytes drawing drawn = record { drawing = drawing; drawn = drawn; means = drawn.colours }
+drawn_meant bytes drawing drawn = record { drawing = drawing; drawn = drawn; means = drawn.drawn.colours }
 
 pub left_meant : (left : Option (List ℕ)) (r : Result (DrawingState AnyShape) StudioError) → IfOk r (λ d. IfSome left (λ bytes. Draws bytes d)) → IfOk r (λ d. IfSome left (λ bytes. IsMeant bytes (drawing_colour any_holds d.table d.figures)))
 left_meant None (Ok d) drawn = tt
@@ -40,7 +40,7 @@ one_picture w colour other same = let one : colour ≡ other = λ i p. same p i 
 -- what is meant is what the drawing paints
 drawn_colour : (bytes : List ℕ) (colour : Point → Rgb) (x : IsMeant bytes colour) (p : Point) → colour p ≡ drawing_colour any_holds x.drawing.table x.drawing.figures p
 drawn_colour bytes colour x p =
-    one_colour x.drawn.history p (colour p) (drawing_colour any_holds x.drawing.table x.drawing.figures p) x.drawn.denoted.delivers.valid (x.means p) (x.drawn.colours p)
+    one_colour x.drawn.history p (colour p) (drawing_colour any_holds x.drawing.table x.drawing.figures p) x.drawn.denoted.delivers.valid (x.means p) (x.drawn.drawn.colours p)
 
 -- inputs with one drawing mean one colour at every point
 pub drawn_colours : (bytes others : List ℕ) (colour other : Point → Rgb) (x : IsMeant bytes colour) (y : IsMeant others other) → x.drawing ≡ y.drawing → (p : Point) → colour p ≡ other p

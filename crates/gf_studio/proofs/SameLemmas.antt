@@ -24,15 +24,14 @@ module _ (bytes others : List ℕ) (h k : List Op) (d : Denotes bytes h) (e : De
       (λ i. second.0 ((same a).0 (first.0 i)), λ i. first.1 ((same a).1 (second.1 i)))
 
   pub histories_draw : (drawing other : DrawingState AnyShape) → Draws bytes drawing → Draws others other → drawing ≡ other
-  histories_draw drawing other x y = one_drawing x.history y.history (histories_alike drawing other x y) drawing other x.canonical y.canonical
+  histories_draw drawing other x y = one_drawing x.history y.history (histories_alike drawing other x y) drawing other x.drawn.canonical y.drawn.canonical
 
   -- what the one draws, the other draws
   pub histories_draw_both : (drawing : DrawingState AnyShape) → Draws bytes drawing → Draws others drawing
   histories_draw_both drawing x =
       let first = one_history bytes x.history h x.denoted d in
-      let canonical = both_canonical x.history k (λ a. (λ i. (same a).0 ((first a).0 i), λ i. (first a).1 ((same a).1 i))) drawing x.canonical in
-      let there = drawn k drawing canonical in
-      record { history = k; denoted = e; canonical = there.canonical; colours = there.colours; figures = there.figures }
+      let canonical = both_canonical x.history k (λ a. (λ i. (same a).0 ((first a).0 i), λ i. (first a).1 ((same a).1 i))) drawing x.drawn.canonical in
+      record { history = k; denoted = e; drawn = drawn k drawing canonical }
 
   -- and one text
   pub histories_write : (taken text other : List ℕ) → Writes bytes (Some taken) (Some text) → Writes others (Some taken) (Some other) → text ≡ other

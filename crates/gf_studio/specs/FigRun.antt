@@ -25,14 +25,11 @@ pub record IsDrawn (h : List Op) (drawing : DrawingState AnyShape) : Type 0 wher
   pub colours : Paints h drawing
   pub figures : PaintsAsFig h (outlined any_outline drawing)
 
--- the bytes denote a history with a canonical drawing, which has at every point the colour that the history means there,
--- by its shapes and by the outlines that FIG draws of them
+-- the bytes denote a history of which this is the drawing
 pub record Draws (bytes : List ℕ) (drawing : DrawingState AnyShape) : Type 0 where
   pub history : List Op
   pub denoted : Denotes bytes history
-  pub canonical : IsCanonical history drawing
-  pub colours : Paints history drawing
-  pub figures : PaintsAsFig history (outlined any_outline drawing)
+  pub drawn : IsDrawn history drawing
 
 -- the text reads as a drawing, and each drawing that it reads as has at every point of the grid the colour that h means there
 pub record Shows (text : List ℕ) (h : List Op) : Type 0 where
@@ -61,29 +58,6 @@ pub record WritesFront (bytes : List ℕ) (old new : Option (List ℕ)) : Type 0
   pub drawn : Draws bytes drawing
   pub written : AppendsFront old new (fig_text any_outline drawing)
 
--- the bytes denote a history with more than 1,000 visible versions
-pub record HasTooManyVersions (bytes : List ℕ) : Type 0 where
-  pub history : List Op
-  pub denoted : Denotes bytes history
-  pub items : List (Placed AnyShape)
-  pub ranked : AreRanked history items
-  pub many : 1000 < length items
-
--- the bytes denote a history with at most 1,000 visible versions, of more than 512 distinct colours
-pub record HasTooManyColours (bytes : List ℕ) : Type 0 where
-  pub history : List Op
-  pub denoted : Denotes bytes history
-  pub items : List (Placed AnyShape)
-  pub ranked : AreRanked history items
-  pub few : length items ≤ 1000
-  pub many : 512 < length (colours_of items)
-
--- what a compile fault says of the bytes
-abbrev pub RefusesCompiling : List ℕ → CompileFault → Type 0
-RefusesCompiling bytes compile.TooManyVersions = HasTooManyVersions bytes
-RefusesCompiling bytes compile.TooManyColours = HasTooManyColours bytes
-RefusesCompiling bytes compile.OutOfMemory = ⊥
-
 -- h has at most 1,000 visible versions, of more than 512 distinct colours
 pub record HasMoreColours (h : List Op) : Type 0 where
   pub items : List (Placed AnyShape)
@@ -96,3 +70,15 @@ abbrev pub RefusesHistory : List Op → CompileFault → Type 0
 RefusesHistory h compile.TooManyVersions = HasMoreVisible h 1000
 RefusesHistory h compile.TooManyColours = HasMoreColours h
 RefusesHistory h compile.OutOfMemory = ⊤
+
+-- the bytes denote a history that has no drawing for this reason
+pub record DrawsNothing (bytes : List ℕ) (fault : CompileFault) : Type 0 where
+  pub history : List Op
+  pub denoted : Denotes bytes history
+  pub refused : RefusesHistory history fault
+
+-- what a compile fault says of the bytes; want of memory is no fault of theirs
+abbrev pub RefusesCompiling : List ℕ → CompileFault → Type 0
+RefusesCompiling bytes compile.TooManyVersions = DrawsNothing bytes compile.TooManyVersions
+RefusesCompiling bytes compile.TooManyColours = DrawsNothing bytes compile.TooManyColours
+RefusesCompiling bytes compile.OutOfMemory = ⊥

@@ -1,4 +1,6 @@
 -- What the errors of a run's parts become (this project's choice).
+use Rattle.std.specs.Prelude.{Option, Some, None, Result, Ok, Err}
+use Rattle.gf_shape.specs.declared.refusals.OutOfMemory.{OutOfMemory}
 use Rattle.gf_drawing.specs.declared.compiling.CompileFault.{CompileFault}
 use Rattle.gf_drawing.specs.declared.compiling.CompileFault.TheVariants as compile
 use Rattle.gf_bytes.specs.declared.write_error.WriteError.{WriteError}
@@ -30,6 +32,12 @@ abbrev pub of_compile : CompileFault → StudioError
 of_compile compile.TooManyVersions = studio.Compile compile.TooManyVersions
 of_compile compile.TooManyColours = studio.Compile compile.TooManyColours
 of_compile compile.OutOfMemory = studio.OutOfMemory
+
+-- a list of visible versions that was not made, or that would be longer than a drawing's
+abbrev pub of_ranked : {T : Type 0} → Result (Option T) OutOfMemory → Result T CompileFault
+of_ranked (Ok (Some ranked)) = Ok ranked
+of_ranked (Ok None) = Err compile.TooManyVersions
+of_ranked (Err e) = Err compile.OutOfMemory
 
 -- a drawing that was not written
 abbrev pub of_write : WriteError → StudioError

@@ -5,7 +5,9 @@ ghost use Rattle.gf_bytes.specs.Reads.{ConsumesAtMost};
 ghost use Rattle.gf_shape.specs.ShapeMeaning.{any_holds};
 ghost use Rattle.gf_drawing.specs.DrawingColour.{drawing_colour};
 ghost use Rattle.gf_fig_read.specs.FigGrammar.{Reads};
+ghost use Rattle.gf_versions.specs.Ranking.{AreRanked};
 ghost use Rattle.gf_studio.specs.FigRun.{Draws, IsDrawn, RefusesHistory};
+ghost use Rattle.gf_studio.specs.Refusals.{of_ranked};
 ghost use Rattle.gf_studio.specs.RefusedParts.{IsOfInput, RefusesDrawing, RefusesOutlines};
 ghost use Rattle.gf_studio.specs.PaintRun.{IsMeant};
 ghost use Rattle.gf_studio.specs.RunAnswers.{ReadsFor, RefusesFig, RefusesLines};
@@ -18,6 +20,7 @@ use gf_reading::read_site;
 use gf_shape::{AnyShape, OutOfMemory, Outline};
 use gf_shown::ranked_within;
 use gf_site::Site;
+use gf_versions::Ranked;
 use std::alloc::Global;
 
 /// The drawing of the history that the lines of a source denote.
@@ -86,8 +89,26 @@ pub fn draw_site(alloc: Global, site: &Site) -> Result<Drawing<AnyShape>, Compil
     ensures ok { IfOk result (λ drawing. IsDrawn site.now.ops drawing) }
     ensures err { IfErr result (RefusesHistory site.now.ops) }
 {
-    match ranked_within(alloc, site.history(), site.table(), MOST_VERSIONS) {
-        Ok(Some(ranked)) => compile(alloc, ranked),
+    let ranked = ranked_site(alloc, site)?;
+    compile(alloc, ranked)
+}
+
+/// The visible versions of a site's history, if they are no more than a drawing has.
+fn ranked_site(alloc: Global, site: &Site) -> Result<Ranked<AnyShape>, CompileFault>
+    ensures ranked { IfOk result (λ ranked. AreRanked site.now.ops ranked.items.items) }
+    ensures err { IfErr result (RefusesHistory site.now.ops) }
+{
+    listed(ranked_within(alloc, site.history(), site.table(), MOST_VERSIONS))
+}
+
+/// The list that was made, or why there is none.
+fn listed(
+    found: Result<Option<Ranked<AnyShape>>, OutOfMemory>,
+) -> Result<Ranked<AnyShape>, CompileFault>
+    ensures { result ≡ of_ranked found }
+{
+    match found {
+        Ok(Some(ranked)) => Ok(ranked),
         Ok(None) => Err(CompileFault::TooManyVersions),
         Err(OutOfMemory) => Err(CompileFault::OutOfMemory),
     }

@@ -6,8 +6,7 @@ use Rattle.gf_studio.proofs.drawings.draw.Goals as goal
 
 pub returns-clause-ok : goal.returns-clause-ok
 returns-clause-ok c =
-    let drawn = c.in_ok-drawing.ensures.ok in
-    record { history = c.in_ok-site.site.ops; denoted = c.in_ok-site.ensures.ok; canonical = drawn.canonical; colours = drawn.colours; figures = drawn.figures }
+    record { history = c.in_ok-site.site.ops; denoted = c.in_ok-site.ensures.ok; drawn = c.in_ok-drawing.ensures.ok }
 
 pub returns-in_err-drawing-clause-err : goal.returns-in_err-drawing-clause-err
 returns-in_err-drawing-clause-err c =
