@@ -5,3 +5,4 @@ pub mod WrittenLemmas
 pub mod AgainLemmas
 pub mod OpAgainLemmas
 pub mod MissingKeys
+pub mod ByteLemmas

@@ -11,10 +11,11 @@ ghost use Rattle.gf_looks.specs.RefusedParts.{RefusesAsking, RefusesQuery};
 
 use gf_bytes::{MOST_INPUT_BYTES, Sink, SinkFault, Source, write_whole};
 use gf_groups::GroupFault;
-use gf_inspect::{lines, top_at, top_line, versions};
-use gf_ops::{History, ObjectId};
+use gf_inspect::{lines, top_at_with, top_line, versions_with};
+use gf_ops::ObjectId;
 use gf_reading::read_site;
 use gf_shape::{OutOfMemory, Point};
+use gf_site::Site;
 use gf_studio::{StudioError, input};
 use std::alloc::Global;
 
@@ -90,17 +91,17 @@ fn look(alloc: Global, bytes: Vec<u8>, query: Query) -> Result<Vec<u8>, StudioEr
     ensures err { IfErr result (RefusesAsking query bytes.items) }
 {
     let site = read_site(alloc, bytes)?;
-    tell(alloc, site.history(), query)
+    tell(alloc, &site, query)
 }
 
-/// The text that answers a query about a history.
-fn tell(alloc: Global, history: &History, query: Query) -> Result<Vec<u8>, StudioError>
-    ensures ok { IfOk result (λ text. Tells history.now.ops query text.items) }
-    ensures err { IfErr result (RefusesQuery history.now.ops query) }
+/// The text that answers a query about the history of a site.
+fn tell(alloc: Global, site: &Site, query: Query) -> Result<Vec<u8>, StudioError>
+    ensures ok { IfOk result (λ text. Tells site.now.ops query text.items) }
+    ensures err { IfErr result (RefusesQuery site.now.ops query) }
 {
     match query {
-        Query::Object(object) => tell_versions(alloc, history, object),
-        Query::At(point) => match tell_top(alloc, history, point) {
+        Query::Object(object) => tell_versions(alloc, site, object),
+        Query::At(point) => match tell_top(alloc, site, point) {
             Ok(text) => Ok(text),
             Err(OutOfMemory) => Err(StudioError::OutOfMemory),
         },
@@ -108,11 +109,11 @@ fn tell(alloc: Global, history: &History, query: Query) -> Result<Vec<u8>, Studi
 }
 
 /// The lines of the versions of an object.
-fn tell_versions(alloc: Global, history: &History, object: ObjectId) -> Result<Vec<u8>, StudioError>
-    ensures ok { IfOk result (λ text. TellsVersions history.now.ops object text.items) }
-    ensures err { IfErr result (RefusesQuery history.now.ops (Query.Object object)) }
+fn tell_versions(alloc: Global, site: &Site, object: ObjectId) -> Result<Vec<u8>, StudioError>
+    ensures ok { IfOk result (λ text. TellsVersions site.now.ops object text.items) }
+    ensures err { IfErr result (RefusesQuery site.now.ops (Query.Object object)) }
 {
-    match versions(alloc, history, object) {
+    match versions_with(alloc, site.history(), site.table(), object) {
         Ok(versions) => match lines(alloc, versions.as_slice()) {
             Ok(text) => Ok(text),
             Err(OutOfMemory) => Err(StudioError::OutOfMemory),
@@ -123,9 +124,9 @@ fn tell_versions(alloc: Global, history: &History, object: ObjectId) -> Result<V
 }
 
 /// The line of the version on top at a point.
-fn tell_top(alloc: Global, history: &History, point: Point) -> Result<Vec<u8>, OutOfMemory>
-    ensures { IfOk result (λ text. TellsTop history.now.ops point text.items) }
+fn tell_top(alloc: Global, site: &Site, point: Point) -> Result<Vec<u8>, OutOfMemory>
+    ensures { IfOk result (λ text. TellsTop site.now.ops point text.items) }
 {
-    let name = top_at(alloc, history, point)?;
+    let name = top_at_with(alloc, site.history(), site.table(), point)?;
     top_line(alloc, point, name.as_ref())
 }

@@ -12,10 +12,10 @@ use Rattle.gf_drawing.specs.DrawingState.{DrawingState}
 use Rattle.gf_drawing.specs.Outlined.{outlined}
 use Rattle.gf_fig_read.specs.FigGrammar.{Reads}
 use Rattle.gf_fig_write.specs.FigText.{fig_text}
+use Rattle.gf_fig_write.proofs.CanonicalLemmas.{shows}
 use Rattle.gf_studio.specs.declared.studio_error.StudioError.{StudioError}
 use Rattle.gf_studio.specs.declared.studio_error.StudioError.TheVariants as studio
 use Rattle.gf_studio.specs.FigRun.{IsDrawn}
-use Rattle.gf_studio.proofs.ExportLemmas.{shows}
 use Rattle.gf_worker.specs.declared.script.Script.{Script}
 use Rattle.gf_session.specs.declared.session.Done.{Done}
 use Rattle.gf_session.specs.Session.{IsSession, place_of, places}

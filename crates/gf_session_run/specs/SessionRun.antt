@@ -10,13 +10,14 @@ use Rattle.gf_drawing.specs.declared.compiling.CompileFault.{CompileFault}
 use Rattle.gf_drawing.specs.declared.compiling.CompileFault.TheVariants as compile
 use Rattle.gf_drawing.specs.DrawingState.{DrawingState}
 use Rattle.gf_fig_write.specs.FigText.{fig_text}
+use Rattle.gf_fig_write.specs.ShownHistory.{Shows}
 use Rattle.gf_worker.specs.declared.script.Script.{Script}
 use Rattle.gf_session.specs.declared.session.Done.{Done}
 use Rattle.gf_session.specs.declared.session.SessionError.TheVariants as session
 use Rattle.gf_session.specs.Session.{IsSession}
 use Rattle.gf_studio.specs.declared.studio_error.StudioError.{StudioError}
 use Rattle.gf_studio.specs.declared.studio_error.StudioError.TheVariants as studio
-use Rattle.gf_studio.specs.FigRun.{IsDrawn, RefusesHistory, Shows}
+use Rattle.gf_studio.specs.FigRun.{IsDrawn, RefusesHistory}
 use Rattle.gf_session_run.specs.DenotedScripts.{DenotesScripts, HasScriptFault}
 use Rattle.gf_session_run.specs.Reports.{report_text}
 

@@ -7,8 +7,9 @@ use Rattle.gf_bytes.specs.TextLines.{numbered_lines}
 use Rattle.gf_drawing.specs.declared.compiling.CompileFault.TheVariants as compile
 use Rattle.gf_drawing.specs.DrawingState.{DrawingState}
 use Rattle.gf_fig_write.specs.FigText.{fig_text}
+use Rattle.gf_fig_write.specs.ShownHistory.{Shows}
 use Rattle.gf_session.specs.declared.session.Done.{Done}
-use Rattle.gf_studio.specs.FigRun.{IsDrawn, RefusesHistory, Shows}
+use Rattle.gf_studio.specs.FigRun.{IsDrawn, RefusesHistory}
 use Rattle.gf_session_run.specs.Reports.{report_text}
 use Rattle.gf_json.specs.declared.line_error.LineError.{LineError}
 use Rattle.gf_json.specs.declared.line_error.LineError.TheVariants as line

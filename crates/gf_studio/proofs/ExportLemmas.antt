@@ -1,24 +1,15 @@
 -- The FIG text of what some bytes draw shows the history that they denote.
 use Rattle.std.specs.Prelude.{Option}
 use Rattle.std.specs.Io.KnownBytes.{Appends}
-use Rattle.std.proofs.Common.{ℕ, List, subst}
+use Rattle.std.proofs.Common.{ℕ, List}
 use Rattle.gf_shape.specs.declared.any_shape.AnyShape.{AnyShape}
 use Rattle.gf_shape.specs.Outlines.{any_outline}
 use Rattle.gf_drawing.specs.DrawingState.{DrawingState}
-use Rattle.gf_drawing.specs.Outlined.{PaintsAsFig, outlined}
+use Rattle.gf_drawing.specs.Outlined.{outlined}
 use Rattle.gf_fig_read.specs.FigGrammar.{Reads}
-use Rattle.gf_fig_read.proofs.GrammarLemmas.{one_drawing}
 use Rattle.gf_fig_write.specs.FigText.{fig_text}
-use Rattle.gf_ops.specs.declared.op.Op.{Op}
-use Rattle.gf_studio.specs.FigRun.{Draws, Exports, Shows}
-
--- the FIG text of a drawing with the colours that h means shows h
-pub shows : (h : List Op) (drawing : DrawingState AnyShape) → PaintsAsFig h (outlined any_outline drawing) → Reads (fig_text any_outline drawing) (outlined any_outline drawing) → Shows (fig_text any_outline drawing) h
-shows h drawing figures reads = record {
-  drawing = outlined any_outline drawing;
-  reads = reads;
-  colours = λ d other. subst (PaintsAsFig h) (one_drawing (fig_text any_outline drawing) (outlined any_outline drawing) d reads other) figures;
-}
+use Rattle.gf_fig_write.proofs.CanonicalLemmas.{shows}
+use Rattle.gf_studio.specs.FigRun.{Draws, Exports}
 
 pub exported : (bytes : List ℕ) (old new : Option (List ℕ)) (drawing : DrawingState AnyShape) → Draws bytes drawing → Appends old new (fig_text any_outline drawing) → Reads (fig_text any_outline drawing) (outlined any_outline drawing) → Exports bytes old new
 exported bytes old new drawing drawn written reads = record {

@@ -13,8 +13,8 @@ use Rattle.gf_drawing.specs.DrawingState.{DrawingState}
 use Rattle.gf_drawing.specs.Outlined.{PaintsAsFig, outlined}
 use Rattle.gf_bytes.specs.Taken.{AppendsFront}
 use Rattle.gf_fig_read.specs.FigGrammar.{Reads}
-use Rattle.gf_fig_read.specs.Objects.{Drawn}
 use Rattle.gf_fig_write.specs.FigText.{fig_text}
+use Rattle.gf_fig_write.specs.ShownHistory.{Shows}
 use Rattle.gf_reading.specs.Denoting.{Denotes}
 use Rattle.gf_shown.specs.ShownVersions.{HasMoreVisible}
 
@@ -30,12 +30,6 @@ pub record Draws (bytes : List ℕ) (drawing : DrawingState AnyShape) : Type 0 w
   pub history : List Op
   pub denoted : Denotes bytes history
   pub drawn : IsDrawn history drawing
-
--- the text reads as a drawing, and each drawing that it reads as has at every point of the grid the colour that h means there
-pub record Shows (text : List ℕ) (h : List Op) : Type 0 where
-  pub drawing : Drawn
-  pub reads : Reads text drawing
-  pub colours : (d : Drawn) → Reads text d → PaintsAsFig h d
 
 -- known bytes grow from old to new by a text that shows the history that the bytes denote
 pub record Exports (bytes : List ℕ) (old new : Option (List ℕ)) : Type 0 where

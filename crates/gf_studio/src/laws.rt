@@ -2,20 +2,35 @@
 
 ghost use Rattle.std.specs.Prelude.{◌≡◌, ℕ, List, ◌++◌, Some};
 ghost use Rattle.gf_shape.specs.declared.any_shape.AnyShape.{AnyShape};
+ghost use Rattle.gf_shape.specs.Outlines.{any_outline};
 ghost use Rattle.gf_ops.specs.declared.faults.OpFault.{OpFault};
 ghost use Rattle.gf_ops.specs.declared.op.Op.{Op};
 ghost use Rattle.gf_ops.specs.declared.op.OpId.{OpId};
 ghost use Rattle.gf_causal.specs.DeliveredPart.{HaveSame};
+ghost use Rattle.gf_drawing.specs.CanonicalDrawing.{IsCanonical};
 ghost use Rattle.gf_drawing.specs.declared.compiling.CompileFault.{CompileFault};
 ghost use Rattle.gf_drawing.specs.DrawingState.{DrawingState};
+ghost use Rattle.gf_drawing.specs.Outlined.{outlined};
 ghost use Rattle.gf_reading.specs.declared.reading_error.LineCause.{LineCause};
-ghost use Rattle.gf_fig_read.specs.FigGrammar.{Fails};
+ghost use Rattle.gf_fig_read.specs.FigGrammar.{Fails, Reads};
 ghost use Rattle.gf_fig_text.specs.declared.faults.FigFault.{FigFault};
+ghost use Rattle.gf_fig_write.specs.FigText.{fig_text};
+ghost use Rattle.gf_fig_write.specs.ShownHistory.{Shows};
 ghost use Rattle.gf_window.specs.Windows.{View};
 ghost use Rattle.gf_studio.specs.PaintRun.{IsDenoted, IsMeant, WritesPicture};
 ghost use Rattle.gf_reading.specs.Denoting.{Denotes, HaveSameOperations};
 ghost use Rattle.gf_reading.specs.Refusing.{Drops, HasFault};
 ghost use Rattle.gf_studio.specs.FigRun.{Draws, RefusesCompiling, Writes};
+
+/// Of what lines denote, the FIG text of the canonical drawing reads as the drawing of its outlines,
+/// and each drawing that it reads as has at every point of the grid the colour that the history
+/// means there. No run and no memory is in it.
+pub fn the_text_of_what_lines_denote_shows_it()
+    ensures reads { (bytes : List ℕ) (h : List Op) (d : DrawingState AnyShape) → Denotes bytes h →
+        IsCanonical h d → Reads (fig_text any_outline d) (outlined any_outline d) }
+    ensures shows { (bytes : List ℕ) (h : List Op) (d : DrawingState AnyShape) → Denotes bytes h →
+        IsCanonical h d → Shows (fig_text any_outline d) h }
+{}
 
 /// An input that denotes a history has no line at fault and drops no operation, and where that has
 /// a drawing, it is refused neither for its versions nor for its colours.

@@ -9,6 +9,7 @@
 //! - [`the_same_operations_draw_alike`], [`the_same_histories_draw_alike`]: the laws that neither
 //!   order nor repeats change a drawing.
 //! - [`what_denotes_a_history_is_not_refused`]: the law that a success rules a refusal out.
+//! - [`the_text_of_what_lines_denote_shows_it`]: the law on the FIG text of a history.
 //! - [`a_text_is_repainted_as_its_history_is_painted`]: the law that ties a repainted text to its
 //!   history.
 //!
@@ -32,7 +33,8 @@ pub use gf_reading::LineCause;
 pub use gf_session::SessionError;
 pub use laws::{
     a_text_is_repainted_as_its_history_is_painted, the_same_histories_draw_alike,
-    the_same_operations_draw_alike, what_denotes_a_history_is_not_refused,
+    the_same_operations_draw_alike, the_text_of_what_lines_denote_shows_it,
+    what_denotes_a_history_is_not_refused,
 };
 pub use runs::{fig_run, paint_run, repaint_run};
 pub use studio_error::StudioError;
