@@ -77,6 +77,43 @@ add 1.8 after 7 6: 1.1 shown false   | ok
 add 2.7 after 7 6: 1.1 shown true    | ok
 visible 1.1 within 64                | 64
 visible 1.1 within 63                | more
+
+// what_decides_has_more_choices_than_a_table_keeps
+new                                  | ok
+add 1.1: box 10 10                   | ok
+add 1.2 after 1: 1.1 shown false     | ok
+add 2.1 after 1: 1.1 shown true      | ok
+add 1.3 after 2 1: 1.1 shown false   | ok
+add 2.2 after 2 1: 1.1 shown true    | ok
+add 1.4 after 3 2: 1.1 shown false   | ok
+add 2.3 after 3 2: 1.1 shown true    | ok
+add 1.5 after 4 3: 1.1 shown false   | ok
+add 2.4 after 4 3: 1.1 shown true    | ok
+add 1.6 after 5 4: 1.1 shown false   | ok
+add 2.5 after 5 4: 1.1 shown true    | ok
+add 1.7 after 6 5: 1.1 shown false   | ok
+add 2.6 after 6 5: 1.1 shown true    | ok
+add 1.8 after 7 6: 1.1 shown false   | ok
+add 2.7 after 7 6: 1.1 shown true    | ok
+add 1.9 after 8 7: 1.1 shown false   | ok
+add 2.8 after 8 7: 1.1 shown true    | ok
+add 1.10 after 9 8: 1.1 shown false  | ok
+add 2.9 after 9 8: 1.1 shown true    | ok
+add 1.11 after 10 9: 1.1 shown false | ok
+add 2.10 after 10 9: 1.1 shown true  | ok
+// It knows none of the ten rounds, and joins them.
+add 3.1 after 1: 1.1 shown true      | ok
+visible 1.1 within 511               | more
+visible 1.1 within 512               | 512
+ranked 511                           | more
+total                                | 512
+drawn 1000                           | 512 figures to depth 511, 1 colours
+// It knows all but that one, which then stands in one version alone.
+add 1.12 after 11 10: 1.1 shown false | ok
+visible 1.1 within 0                 | more
+visible 1.1 within 1                 | 1
+total                                | 1
+drawn 1000                           | 1 figures to depth 0, 1 colours
 ";
 
 #[test]
