@@ -4,8 +4,8 @@ use Rattle.gf_studio.specs.FigRun.{Exports, WritesFront}
 use Rattle.gf_studio.specs.PaintRun.{IsDenoted, IsMeant, WritesBands, WritesPicture, WritesPictureFront}
 use Rattle.gf_looks.specs.InspectRun.{WritesLook, WritesLookFront}
 use Rattle.gf_session_run.specs.SessionRun.{WritesSession, WritesSessionFront}
-use Rattle.gf_words.specs.declared.asking.Run.{Run}
-use Rattle.gf_words.specs.declared.asking.Run.TheVariants.{Fig, Paint, Repaint, Inspect, Session}
+use Rattle.gf_words.specs.declared.runs.Run.{Run}
+use Rattle.gf_words.specs.declared.runs.Run.TheVariants.{Fig, Paint, Repaint, Inspect, Session}
 
 -- known bytes grow from old to new by what the run asks for: the FIG text of what the bytes denote, a picture of the colours that they mean, one of the drawing that they read as, the answer to a query, or what a session came to
 abbrev pub Answers : Run → List ℕ → Option (List ℕ) → Option (List ℕ) → Type 0

@@ -1,12 +1,14 @@
 //! The command line.
 
-ghost use Rattle.std.specs.Prelude.{◌≡◌, ◌≤◌, ◌⊎◌, IfSome, IfErr, OnOk, IsTrue};
+ghost use Rattle.std.specs.Prelude.{◌≡◌, ◌≤◌, ◌⊎◌, IfSome, IfErr, OnOk, IsTrue, map};
+ghost use Rattle.std.specs.Prelude.{string_bytes};
 ghost use Rattle.gf_command.specs.Outputs.{Answers, AnswersFront};
-ghost use Rattle.gf_words.specs.declared.asking.Run.{Run};
+ghost use Rattle.gf_words.specs.Asking.{Asks, AsksHelp};
+ghost use Rattle.gf_words.specs.declared.runs.Run.{Run};
 
 use clap::Error;
 use clap::error::ErrorKind;
-use gf_bytes::{Sink, Source, write_whole};
+use gf_bytes::{Sink, Source, WriteError, write_whole};
 use gf_looks::inspect_run;
 use gf_session_run::session_run;
 use gf_studio::{OpenGate, StudioError, fig_run, paint_run, repaint_run};
@@ -31,14 +33,16 @@ pub fn command<T: Threads + Wait + Sync, R: Source, W: Sink, E: Sink>(
     faults: &mut E,
 ) -> u8
     ensures status { result ≤ 2 }
-    // Status 0: a run wrote all that was asked for of its input, or help was, which reads no input.
-    ensures done { result ≡ 0 → (source.new ≡ source.old) ⊎ ((run : Run) ×
+    // Status 0: the run that the words ask for wrote all, or they ask for help, which reads no input.
+    ensures done { result ≡ 0 → (AsksHelp (map string_bytes words.now)
+        × (source.new ≡ source.old)) ⊎ ((run : Run) × Asks (map string_bytes words.now) run ×
         IfSome (R.left source.old) (λ bytes.
         Answers run bytes (W.taken output.old) (W.taken output.new))) }
-    ensures flushed { result ≡ 0 → (source.new ≡ source.old) ⊎ IsTrue (W.flushed output.new) }
-    // A refusal leaves the output as it was, or with a front of what was asked for.
-    ensures refused { result ≡ 1 → (output.new ≡ output.old) ⊎ ((run : Run) ×
-        IfSome (R.left source.old) (λ bytes.
+    ensures flushed { result ≡ 0 → AsksHelp (map string_bytes words.now)
+        ⊎ IsTrue (W.flushed output.new) }
+    // A refusal leaves the output as it was, or with a front of what the words ask for.
+    ensures refused { result ≡ 1 → (output.new ≡ output.old) ⊎ ((run : Run)
+        × Asks (map string_bytes words.now) run × IfSome (R.left source.old) (λ bytes.
         AnswersFront run bytes (W.taken output.old) (W.taken output.new))) }
     ensures mistake { result ≡ 2 → (source.new ≡ source.old) × (output.new ≡ output.old) }
 {
@@ -52,11 +56,11 @@ pub fn command<T: Threads + Wait + Sync, R: Source, W: Sink, E: Sink>(
             refuse(alloc, StudioError::OutOfMemory, faults)
         }
         Err(error) if error.use_stderr() => {
-            print(alloc, &error, faults);
+            let _ = print(alloc, &error, faults);
             2
         }
         Err(error) => {
-            print(alloc, &error, output);
+            let _ = print(alloc, &error, output);
             0
         }
     }
@@ -128,9 +132,11 @@ fn mistake<E: Sink>(fault: QueryFault, faults: &mut E) -> u8
     2
 }
 
-/// Writes what clap says.
-fn print<W: Sink>(alloc: Global, error: &Error, sink: &mut W) {
-    if let Ok(text) = format!(in alloc; "{error}") {
-        let _ = write_whole(sink, text.as_bytes());
-    }
+/// Writes what clap says, and flushes.
+fn print<W: Sink>(alloc: Global, error: &Error, sink: &mut W) -> Result<(), WriteError>
+    ensures { OnOk result (IsTrue (W.flushed sink.new)) }
+{
+    let text = format!(in alloc; "{error}")?;
+    write_whole(sink, text.as_bytes())?;
+    Ok(())
 }

@@ -1,5 +1,11 @@
 //! The command line as clap reads it and its help tells it.
 
+ghost use Rattle.std.specs.Prelude.{◌≡◌, IfOk, map};
+ghost use Rattle.clap.specs.Walk.{rule_of};
+ghost use Rattle.clap.specs.Simple.{app_of, shape_of};
+ghost use Rattle.gf_words.specs.CommandLine as line;
+ghost use Rattle.gf_words.specs.Usages.{options_of, usage_shape, leaf};
+
 use clap::builder::ValueParser;
 use clap::{Arg, Command};
 use std::alloc::{AllocError, Global};
@@ -58,7 +64,9 @@ const RUNS: [Usage; 5] = [
 ];
 
 /// The program, with a command for each run.
-pub(crate) fn program<'a>(alloc: Global) -> Result<Command<'a>, AllocError> {
+pub(crate) fn program<'a>(alloc: Global) -> Result<Command<'a>, AllocError>
+    ensures { IfOk result (λ c. app_of c ≡ line.program) }
+{
     let runs = commands(alloc)?;
     Command::new(alloc, "figgroup")
         .version("0.1.0")
@@ -70,7 +78,9 @@ pub(crate) fn program<'a>(alloc: Global) -> Result<Command<'a>, AllocError> {
 }
 
 /// The commands of all runs.
-fn commands<'a>(alloc: Global) -> Result<Vec<Command<'a>>, AllocError> {
+fn commands<'a>(alloc: Global) -> Result<Vec<Command<'a>>, AllocError>
+    ensures { IfOk result (λ cs. map shape_of cs.items ≡ line.commands) }
+{
     let mut commands = Vec::new(alloc);
     for run in RUNS.iter() {
         commands.push(command(alloc, run)?)?;
@@ -79,7 +89,9 @@ fn commands<'a>(alloc: Global) -> Result<Vec<Command<'a>>, AllocError> {
 }
 
 /// The command of a run.
-fn command<'a>(alloc: Global, run: &Usage) -> Result<Command<'a>, AllocError> {
+fn command<'a>(alloc: Global, run: &Usage) -> Result<Command<'a>, AllocError>
+    ensures { IfOk result (λ c. app_of c ≡ leaf (usage_shape run.now)) }
+{
     let options = options(alloc, run.takes)?;
     Command::new(alloc, run.name)
         .about(run.about)
@@ -88,7 +100,9 @@ fn command<'a>(alloc: Global, run: &Usage) -> Result<Command<'a>, AllocError> {
 }
 
 /// The options that a run takes.
-fn options<'a>(alloc: Global, takes: Takes) -> Result<Vec<Arg<'a>>, AllocError> {
+fn options<'a>(alloc: Global, takes: Takes) -> Result<Vec<Arg<'a>>, AllocError>
+    ensures { IfOk result (λ args. map rule_of args.items ≡ options_of takes) }
+{
     match takes {
         Takes::None => Ok(Vec::new(alloc)),
         Takes::Canvas => canvas(alloc),
@@ -98,7 +112,9 @@ fn options<'a>(alloc: Global, takes: Takes) -> Result<Vec<Arg<'a>>, AllocError> 
 }
 
 /// The options of a picture.
-fn canvas<'a>(alloc: Global) -> Result<Vec<Arg<'a>>, AllocError> {
+fn canvas<'a>(alloc: Global) -> Result<Vec<Arg<'a>>, AllocError>
+    ensures { IfOk result (λ args. map rule_of args.items ≡ line.canvas) }
+{
     Ok(vec![in alloc;
         place(
             alloc,
@@ -142,7 +158,9 @@ fn canvas<'a>(alloc: Global) -> Result<Vec<Arg<'a>>, AllocError> {
 }
 
 /// The options of a query.
-fn query<'a>(alloc: Global) -> Result<Vec<Arg<'a>>, AllocError> {
+fn query<'a>(alloc: Global) -> Result<Vec<Arg<'a>>, AllocError>
+    ensures { IfOk result (λ args. map rule_of args.items ≡ line.query) }
+{
     Ok(vec![in alloc;
         text(
             alloc,
@@ -162,7 +180,9 @@ fn query<'a>(alloc: Global) -> Result<Vec<Arg<'a>>, AllocError> {
 }
 
 /// The option of a session.
-fn sites<'a>(alloc: Global) -> Result<Vec<Arg<'a>>, AllocError> {
+fn sites<'a>(alloc: Global) -> Result<Vec<Arg<'a>>, AllocError>
+    ensures { IfOk result (λ args. map rule_of args.items ≡ line.sites) }
+{
     let sites = number(
         alloc,
         "sites",
@@ -174,7 +194,9 @@ fn sites<'a>(alloc: Global) -> Result<Vec<Arg<'a>>, AllocError> {
 }
 
 /// An option for a coordinate, 0 where it is not given.
-fn place<'a>(alloc: Global, name: &'a str, help: &'a str) -> Arg<'a> {
+fn place<'a>(alloc: Global, name: &'a str, help: &'a str) -> Arg<'a>
+    ensures { rule_of result ≡ line.place name.now }
+{
     number(
         alloc,
         name,
@@ -185,7 +207,9 @@ fn place<'a>(alloc: Global, name: &'a str, help: &'a str) -> Arg<'a> {
 }
 
 /// An option for a number from 1 to `most`.
-fn count<'a>(alloc: Global, name: &'a str, default: &'a str, most: u64, help: &'a str) -> Arg<'a> {
+fn count<'a>(alloc: Global, name: &'a str, default: &'a str, most: u64, help: &'a str) -> Arg<'a>
+    ensures { rule_of result ≡ line.count name.now default.now most }
+{
     number(alloc, name, default, ValueParser::unsigned(1, most), help)
 }
 
@@ -196,13 +220,17 @@ fn number<'a>(
     default: &'a str,
     within: ValueParser<'a>,
     help: &'a str,
-) -> Arg<'a> {
+) -> Arg<'a>
+    ensures { rule_of result ≡ line.number name.now default.now within.entry }
+{
     text(alloc, name, "N", help)
         .default_value(default)
         .value_parser(within)
 }
 
 /// An option for a text of this form.
-fn text<'a>(alloc: Global, name: &'a str, form: &'a str, help: &'a str) -> Arg<'a> {
+fn text<'a>(alloc: Global, name: &'a str, form: &'a str, help: &'a str) -> Arg<'a>
+    ensures { rule_of result ≡ line.text name.now }
+{
     Arg::new(alloc, name).long(name).value_name(form).help(help)
 }

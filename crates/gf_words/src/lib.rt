@@ -8,5 +8,7 @@
 mod asking;
 mod describing;
 mod querying;
+mod runs;
 
-pub use asking::{Asked, Canvas, QueryFault, Run, parse};
+pub use asking::parse;
+pub use runs::{Asked, Canvas, QueryFault, Run};

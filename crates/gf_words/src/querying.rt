@@ -1,43 +1,83 @@
 //! Objects and points as the words of the command line spell them.
 
-ghost use Rattle.std.specs.Prelude.{◌≤◌, IfSome};
+ghost use Rattle.std.specs.Prelude.{◌≡◌, ◌≤◌, ◌<◌, ◌^◌, ℕ, ℤ, MatchOption, IsTrue, FitsSigned};
+ghost use Rattle.std.specs.Int.{w32};
+ghost use Rattle.gf_ops.specs.Limits.{is_id};
+ghost use Rattle.gf_words.specs.Spelling.{AreOfId, AreOfPoint, SpellsId, SpellsNatural};
+ghost use Rattle.gf_words.specs.Spelling.{SpellsPoint, SpellsWhole};
 
-use gf_looks::Query;
-use gf_ops::{ObjectId, OpId};
+use gf_ops::OpId;
 use gf_shape::Point;
-use std::str::FromStr;
 
-/// The query about an object spelt `SITE.SEQ`, with site 1 to 8 and seq 1 to 10,000.
-pub(crate) fn object_query(text: &str) -> Option<Query> {
-    let (site, seq) = text.split_once('.')?;
-    Some(Query::Object(ObjectId(id_of(number(site)?, number(seq)?)?)))
-}
-
-/// The query about a point spelt `X,Y`, of 32 bits with sign.
-pub(crate) fn point_query(text: &str) -> Option<Query> {
-    let (x, y) = text.split_once(',')?;
-    Some(Query::At(Point {
-        x: number(x)?,
-        y: number(y)?,
-    }))
-}
-
-/// The id of these numbers, where they are in range.
-fn id_of(site: u8, seq: u32) -> Option<OpId>
-    ensures { IfSome result (λ id.
-        (1 ≤ id.site) × (id.site ≤ 8) × (1 ≤ id.seq) × (id.seq ≤ 10000)) }
+/// The id spelt `SITE.SEQ`, with site 1 to 8 and seq 1 to 10,000.
+pub(crate) fn spelt_id(text: &str) -> Option<OpId>
+    ensures { MatchOption result ((i : OpId) → ¬ (SpellsId text.now i)) (SpellsId text.now) }
 {
-    if (1..=8).contains(&site) && (1..=10_000).contains(&seq) {
-        Some(OpId { site, seq })
+    let (site, seq) = text.split_once('.')?;
+    id_of(site, seq)
+}
+
+/// The point spelt `X,Y`, of 32 bits with sign.
+pub(crate) fn spelt_point(text: &str) -> Option<Point>
+    ensures { MatchOption result ((p : Point) → FitsSigned w32 p.x → FitsSigned w32 p.y
+        → ¬ (SpellsPoint text.now p)) (SpellsPoint text.now) }
+{
+    let (x, y) = text.split_once(',')?;
+    point_of(x, y)
+}
+
+/// The id that two texts spell.
+fn id_of(site: &str, seq: &str) -> Option<OpId>
+    ensures { MatchOption result ((i : OpId) → ¬ (AreOfId site.now seq.now i))
+        (AreOfId site.now seq.now) }
+{
+    match (natural(site), natural(seq)) {
+        (Some(site), Some(seq)) => id(site, seq),
+        _ => None,
+    }
+}
+
+/// The id of two numbers, where they are in range.
+fn id(site: u32, seq: u32) -> Option<OpId>
+    ensures { MatchOption result ((i : OpId) → i.site ≡ site → i.seq ≡ seq → ¬ (IsTrue (is_id i)))
+        (λ i. (i.site ≡ site) × (i.seq ≡ seq) × IsTrue (is_id i)) }
+{
+    if 1 <= site && site <= 8 && 1 <= seq && seq <= 10_000 {
+        Some(OpId {
+            site: site as u8,
+            seq,
+        })
     } else {
         None
     }
 }
 
-/// The number that a text spells by its digits alone, behind a `-` where it is below zero.
-fn number<N: FromStr>(text: &str) -> Option<N>
-where
-    N::Err: Drop,
+/// The point that two texts spell.
+fn point_of(x: &str, y: &str) -> Option<Point>
+    ensures { MatchOption result ((p : Point) → FitsSigned w32 p.x → FitsSigned w32 p.y
+        → ¬ (AreOfPoint x.now y.now p)) (AreOfPoint x.now y.now) }
+{
+    match (whole(x), whole(y)) {
+        (Some(x), Some(y)) => Some(Point { x, y }),
+        _ => None,
+    }
+}
+
+/// The number that a text spells by its digits alone.
+fn natural(text: &str) -> Option<u32>
+    ensures { MatchOption result ((n : ℕ) → n < 2 ^ 32 → ¬ (SpellsNatural text.now n))
+        (SpellsNatural text.now) }
+{
+    if text.starts_with('+') {
+        return None;
+    }
+    text.parse().ok()
+}
+
+/// The number that a text spells by its digits, behind a `-` where it is below zero.
+fn whole(text: &str) -> Option<i32>
+    ensures { MatchOption result ((z : ℤ) → FitsSigned w32 z → ¬ (SpellsWhole text.now z))
+        (SpellsWhole text.now) }
 {
     if text.starts_with('+') {
         return None;

@@ -1,0 +1,3 @@
+mod AddingLemmas
+mod ReadingLemmas
+mod SpellingLemmas

@@ -1,0 +1,60 @@
+-- The command line of the program as clap reads it: its commands, and the options that each takes (this project's choice).
+use Rattle.std.specs.Prelude.{ℕ, List, [], ◌∷◌, Some, true, false, codes, pos, negsuc}
+use Rattle.clap.specs.Walk.{Rule, Text}
+use Rattle.clap.specs.Simple.{App, Shape, new_rule, new_shape}
+use Rattle.clap.specs.declared.builder.value_parser.ValueParser.{ValueParser}
+use Rattle.clap.specs.declared.builder.value_parser.ValueParser.TheVariants.{Signed, Unsigned}
+
+-- an option that takes one text, behind its name
+abbrev pub text : Text → Rule
+text name = record (new_rule name) { long = Some name; value_names = 1 }
+
+-- an option for a number that the parser takes, with the text that stands for it where it is not given
+abbrev pub number : Text → Text → ValueParser → Rule
+number name default within = record (text name) { defaults = default ∷ []; parser = Some within }
+
+-- an option for a coordinate of -2,000,000 to 2,000,000, or 0
+abbrev pub place : Text → Rule
+place name = number name (codes "0") (Signed (negsuc 1999999) (pos 2000000))
+
+-- an option for a number from 1 to most
+abbrev pub count : Text → Text → ℕ → Rule
+count name default most = number name default (Unsigned 1 most)
+
+-- the options of a picture
+abbrev pub canvas : List Rule
+canvas =
+    place (codes "x") ∷ place (codes "y") ∷
+    count (codes "step") (codes "1") 10000 ∷
+    count (codes "width") (codes "64") 4096 ∷ count (codes "height") (codes "64") 4096 ∷
+    count (codes "workers") (codes "1") 16 ∷ []
+
+-- the options of a query
+abbrev pub query : List Rule
+query = text (codes "object") ∷ text (codes "at") ∷ []
+
+-- the option of a session
+abbrev pub sites : List Rule
+sites = number (codes "sites") (codes "2") (Unsigned 2 8) ∷ []
+
+-- a command of this name, with these options
+abbrev pub command : Text → List Rule → Shape
+command name options = record (new_shape name) { rules = options }
+
+-- the commands of the program
+abbrev pub commands : List Shape
+commands =
+    command (codes "fig") [] ∷ command (codes "paint") canvas ∷ command (codes "repaint") canvas ∷
+    command (codes "inspect") query ∷ command (codes "session") sites ∷ []
+
+-- the program: one of its commands is wanted, and without a word its help is told
+abbrev pub program : App
+program = record {
+  top = record (new_shape (codes "figgroup")) {
+    is_leaf = false;
+    has_version = true;
+    arg_required_else_help = true;
+    subcommand_required = true;
+  };
+  subs = commands;
+}

@@ -1,0 +1,4 @@
+pub mod CommandLine
+pub mod Spelling
+pub mod Asking
+pub mod Usages
