@@ -22,8 +22,8 @@ use std::alloc::{AllocError, Global};
 use std::thread::Threads;
 
 /// Writes the picture of a window of a drawing as raw PPM, and flushes: the header, and then one
-/// band of 64 rows after another, each painted as [`paint`](crate::paint) does. No more than a band
-/// is in memory.
+/// band of 64 rows after another, each painted as [`paint`](crate::paint) does. Of the picture no more
+/// than a band is in memory, and with more than one worker each row of it twice.
 pub fn ppm_to<S: Shape + Sync, G: Gate + Sync, R: Threads + Sync, W: Sink>(
     rt: &R,
     alloc: Global,
