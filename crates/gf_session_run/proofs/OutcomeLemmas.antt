@@ -12,10 +12,12 @@ use Rattle.gf_drawing.specs.DrawingState.{DrawingState}
 use Rattle.gf_drawing.specs.Outlined.{outlined}
 use Rattle.gf_fig_read.specs.FigGrammar.{Reads}
 use Rattle.gf_fig_write.specs.FigText.{fig_text}
+use Rattle.gf_fig_write.specs.ShownHistory.{Shows}
 use Rattle.gf_fig_write.proofs.CanonicalLemmas.{shows}
 use Rattle.gf_studio.specs.declared.studio_error.StudioError.{StudioError}
 use Rattle.gf_studio.specs.declared.studio_error.StudioError.TheVariants as studio
 use Rattle.gf_studio.specs.FigRun.{IsDrawn}
+use Rattle.gf_studio.proofs.DrawnLemmas.{both_drawn, one_drawing}
 use Rattle.gf_worker.specs.declared.script.Script.{Script}
 use Rattle.gf_session.specs.declared.session.Done.{Done}
 use Rattle.gf_session.specs.Session.{IsSession, place_of, places}
@@ -42,6 +44,22 @@ common_history scripts dones session d e i j =
     let p = has_place scripts dones session.long d i in
     let q = has_place scripts dones session.long e j in
     session.outcome.same (place_of p.script d) (place_of q.script e) p.there q.there
+
+-- histories of the same operations have one FIG text, which shows both
+module _ (h k : List Op) (same : HaveSame h k) where
+  pub one_text : (drawing other : DrawingState AnyShape) → IsDrawn h drawing → IsDrawn k other → fig_text any_outline drawing ≡ fig_text any_outline other
+  one_text drawing other x y = ap (fig_text any_outline) (one_drawing h k same drawing other x.canonical y.canonical)
+
+  pub text_shows : (drawing : DrawingState AnyShape) → IsDrawn h drawing → Reads (fig_text any_outline drawing) (outlined any_outline drawing) → Shows (fig_text any_outline drawing) k
+  text_shows drawing x reads = shows k drawing (both_drawn h k same drawing x).figures reads
+
+-- each site has the common history, whose text is told
+module _ (n : ℕ) (bytes text : List ℕ) (t : TellsSession n bytes text) (d : Done) (i : Contains t.dones d) where
+  pub told_common : HaveSame t.history d.site.ops
+  told_common = let same = t.plays.common d i in λ a. ((same a).1, (same a).0)
+
+  pub told_shows : (drawing : DrawingState AnyShape) → IsDrawn d.site.ops drawing → Shows (fig_text any_outline drawing) t.history
+  told_shows drawing x = subst (λ (s : List ℕ). Shows s t.history) (sym (one_text d.site.ops t.history (t.plays.common d i) drawing t.drawing x t.drawn)) t.shown
 
 -- there is a first site
 pub first_there : (n : ℕ) (bytes : List ℕ) (scripts : List Script) (dones : List Done) (first : Done) → IsSiteCount n → DenotesScripts n bytes scripts → IsSession scripts dones → first ≡ get_or dones 0 first → Contains dones first

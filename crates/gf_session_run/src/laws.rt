@@ -2,7 +2,12 @@
 
 ghost use Rattle.std.specs.Prelude.{◌≡◌, ℕ, List, Contains};
 ghost use Rattle.gf_shape.specs.declared.any_shape.AnyShape.{AnyShape};
+ghost use Rattle.gf_shape.specs.Outlines.{any_outline};
 ghost use Rattle.gf_drawing.specs.DrawingState.{DrawingState};
+ghost use Rattle.gf_drawing.specs.Outlined.{outlined};
+ghost use Rattle.gf_fig_read.specs.FigGrammar.{Reads};
+ghost use Rattle.gf_fig_write.specs.FigText.{fig_text};
+ghost use Rattle.gf_fig_write.specs.ShownHistory.{Shows};
 ghost use Rattle.gf_worker.specs.declared.script.Script.{Script};
 ghost use Rattle.gf_session.specs.declared.session.Done.{Done};
 ghost use Rattle.gf_session.specs.Session.{IsSession};
@@ -10,8 +15,9 @@ ghost use Rattle.gf_studio.specs.FigRun.{IsDrawn};
 ghost use Rattle.gf_session_run.specs.SessionRun.{TellsSession};
 
 /// The histories of all sites of a session have one drawing: what one site's history draws, each
-/// site's draws, and no other, so each exports one FIG text. It is the text of the drawing that a
-/// run tells of them.
+/// site's draws, and no other. So the FIG text of every site's history is one and the same, and
+/// where it reads as the drawing of the outlines, it shows the history of each site. A run tells
+/// this text, and it shows the common history.
 pub fn the_sites_of_a_session_draw_alike()
     ensures one { (scripts : List Script) (dones : List Done) → IsSession scripts dones
         → (d e : Done) → Contains dones d → Contains dones e
@@ -21,6 +27,21 @@ pub fn the_sites_of_a_session_draw_alike()
         → (d e : Done) → Contains dones d → Contains dones e
         → (drawing : DrawingState AnyShape) → IsDrawn d.site.ops drawing
         → IsDrawn e.site.ops drawing }
+    ensures text { (scripts : List Script) (dones : List Done) → IsSession scripts dones
+        → (d e : Done) → Contains dones d → Contains dones e
+        → (drawing other : DrawingState AnyShape) → IsDrawn d.site.ops drawing
+        → IsDrawn e.site.ops other → fig_text any_outline drawing ≡ fig_text any_outline other }
+    ensures shows { (scripts : List Script) (dones : List Done) → IsSession scripts dones
+        → (d e : Done) → Contains dones d → Contains dones e
+        → (drawing : DrawingState AnyShape) → IsDrawn d.site.ops drawing
+        → Reads (fig_text any_outline drawing) (outlined any_outline drawing)
+        → Shows (fig_text any_outline drawing) e.site.ops }
     ensures told { (sites : ℕ) (bytes text : List ℕ) (t : TellsSession sites bytes text) (d : Done)
         → Contains t.dones d → IsDrawn d.site.ops t.drawing }
+    ensures told_text { (sites : ℕ) (bytes text : List ℕ) (t : TellsSession sites bytes text)
+        → (d : Done) → Contains t.dones d → (drawing : DrawingState AnyShape)
+        → IsDrawn d.site.ops drawing → fig_text any_outline drawing ≡ fig_text any_outline t.drawing }
+    ensures told_shows { (sites : ℕ) (bytes text : List ℕ) (t : TellsSession sites bytes text)
+        → (d : Done) → Contains t.dones d → (drawing : DrawingState AnyShape)
+        → IsDrawn d.site.ops drawing → Shows (fig_text any_outline drawing) t.history }
 {}

@@ -1,6 +1,7 @@
 //! From the bytes of a session text to the text that tells what came of it.
 
-ghost use Rattle.std.specs.Prelude.{◌≡◌, ◌++◌, IfOk, IfErr};
+ghost use Rattle.std.specs.Prelude.{◌≡◌, ◌≤◌, ◌++◌, All, IfOk, IfErr, vec_len};
+ghost use Rattle.gf_session.specs.Session.{IsSession};
 ghost use Rattle.gf_session_run.specs.Reports.{report_text};
 ghost use Rattle.gf_session_run.specs.SessionRun.{IsSiteCount, TellsSession};
 ghost use Rattle.gf_session_run.specs.SessionSteps.{RefusesPlaying, RefusesTelling, TellsHistory};
@@ -13,6 +14,7 @@ use gf_session::{Done, SessionError, run_session};
 use gf_shape::OutOfMemory;
 use gf_site::Site;
 use gf_studio::{StudioError, draw_site};
+use gf_worker::Script;
 use std::alloc::Global;
 use std::sync::Wait;
 use std::thread::Threads;
@@ -30,8 +32,24 @@ pub(crate) fn play<T: Threads + Wait + Sync, G: Gate + Sync>(
     ensures err { IfErr result (RefusesPlaying sites bytes.items) }
 {
     let scripts = read_scripts(alloc, bytes, sites)?;
+    let dones = run(rt, alloc, scripts, gate)?;
+    tell(alloc, dones.as_slice(), &dones[0].site)
+}
+
+/// What the sites of these scripts come to. Want of memory in a session is told as the session's.
+fn run<T: Threads + Wait + Sync, G: Gate + Sync>(
+    rt: &T,
+    alloc: Global,
+    scripts: Vec<Script>,
+    gate: &G,
+) -> Result<Vec<Done>, StudioError>
+    requires sites { IsSiteCount (vec_len scripts) }
+    requires few { All (λ s. vec_len s.0 ≤ 1000) scripts.items }
+    ensures ok { IfOk result (λ dones. IsSession scripts.items dones.items) }
+    ensures err { IfErr result (λ e. e ≡ StudioError.Session SessionError.OutOfMemory) }
+{
     match run_session(rt, alloc, scripts, gate) {
-        Ok(dones) => tell(alloc, dones.as_slice(), &dones[0].site),
+        Ok(dones) => Ok(dones),
         Err(SessionError::Sites) => unreachable!(),
         Err(SessionError::OutOfMemory) => Err(StudioError::Session(SessionError::OutOfMemory)),
     }
