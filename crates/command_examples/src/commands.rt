@@ -1,6 +1,6 @@
 //! The command line, over sources and sinks in memory.
 
-use command_parts::{fig, run, told};
+use command_parts::{fig, run, run_over, told};
 use example_parts::RED_BOX;
 use gf_bytes::{MOST_INPUT_BYTES, Reel, Tape};
 use gf_command::refuse_words;
@@ -138,6 +138,43 @@ fn each_round_doubles_the_figures(rt: HostRuntime) -> Result<(), Fail> {
     let answer = fig_of_rounds(&rt, 11)?;
     assert_eq!(rt; answer.as_str(), TOO_MANY_VERSIONS);
     Ok(())
+}
+
+/// A run of these words over rounds up to this operation of site 1, and more.
+fn look_at_rounds<T: AllocGlobal + Threads + Wait + Sync>(
+    rt: &T,
+    words: &str,
+    last: u32,
+    more: &str,
+) -> Result<String, Fail> {
+    let mut input = rounds(rt.alloc(), last)?;
+    input.push_str(more)?;
+    run_over(rt, words, input.as_str())
+}
+
+// Site 3 hides the box, and knows all of thirty rounds.
+const HIDES_THE_BOX: &str =
+    "{\"id\":[3,1],\"object\":[1,1],\"op\":\"set\",\"past\":[31,30,0,0,0,0,0,0],\"set\":\"shown\",\"to\":false}\n";
+
+#[test]
+fn what_is_hidden_is_not_looked_at(rt: HostRuntime) -> Result<(), Fail> {
+    let answer = look_at_rounds(&rt, "figgroup inspect --at=5,5", 31, HIDES_THE_BOX)?;
+    assert_eq!(rt; answer.as_str(), "0\ntop 5 5 is white\n--\n");
+    Ok(())
+}
+
+#[test]
+fn ten_rounds_are_told_in_1024_lines(rt: HostRuntime) -> Result<(), Fail> {
+    let answer = look_at_rounds(&rt, "figgroup inspect --object 1.1", 11, "")?;
+    assert_eq!(rt; lines_of_the_box(answer.as_str()), 1_024);
+    Ok(())
+}
+
+fn lines_of_the_box(answer: &str) -> usize {
+    answer
+        .lines()
+        .filter(|line| line.starts_with("version 1.1 [1.1 "))
+        .count()
 }
 
 const EMPTY_RUN: &str =

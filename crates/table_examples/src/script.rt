@@ -1,6 +1,6 @@
 //! The commands of the tables, each with what it acts on.
 
-use crate::{commands, rounds};
+use crate::{commands, looking, rounds};
 use example_parts::notation::operation;
 use example_parts::{Answers, ask};
 use gf_site::Site;
@@ -62,6 +62,10 @@ fn told_of(alloc: Global, site: &Site, verb: &str, text: &str) -> Option<String>
         "ranked" => commands::ranking(alloc, site, text),
         "total" => commands::total(alloc, site),
         "drawn" => commands::drawn(alloc, site, text),
+        "versions" => looking::all(alloc, site, text),
+        "plain_versions" => looking::plain_all(alloc, site, text),
+        "top" => looking::top(alloc, site, text),
+        "plain_top" => looking::plain_top(alloc, site, text),
         _ => None,
     }
 }
