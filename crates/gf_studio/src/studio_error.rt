@@ -35,7 +35,7 @@ pub enum StudioError {
     #[error("export refused: {0}")]
     Compile(CompileFault),
     /// The session was refused.
-    #[error("{}", session_text(.0))]
+    #[error("{0}")]
     Session(SessionError),
     /// The history has no such object.
     #[error("no object {}", .0.0)]
@@ -46,13 +46,6 @@ pub enum StudioError {
     /// A growth of memory was refused.
     #[error("out of memory")]
     OutOfMemory,
-}
-
-fn session_text(fault: &SessionError) -> &'static str {
-    match fault {
-        SessionError::Sites => "sites must be 2 to 8",
-        SessionError::OutOfMemory => "session: out of memory",
-    }
 }
 
 impl From<InputError> for StudioError {
