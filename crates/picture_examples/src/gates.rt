@@ -40,15 +40,15 @@ fn who_passed<R: Threads + Sync>(rt: &R, alloc: Global, row: &str) -> Result<[us
 fn each_tile_is_passed_once(rt: HostRuntime) -> Result<(), Fail> {
     for (row, want) in [
         (
-            "2000 box ; 0 0 1 3 130 1 | written 1183 P6 3 130 255",
+            r"2000 box ; 0 0 1 3 130 1 | written 1183 P6\n3 130\n255\n 33 ff0000 357 ffffff",
             [1, 1, 1, 0, 0, 0],
         ),
         (
-            "2000 box ; 0 0 1 3 130 16 | written 1183 P6 3 130 255",
+            r"2000 box ; 0 0 1 3 130 16 | written 1183 P6\n3 130\n255\n 33 ff0000 357 ffffff",
             [1, 1, 1, 0, 0, 0],
         ),
         (
-            "600 box ; 0 0 1 3 130 1 | write failed 600 P6 3 130 255",
+            r"600 box ; 0 0 1 3 130 1 | write failed 600 P6\n3 130\n255\n 33 ff0000 162 ffffff \xff\xff",
             [1, 1, 0, 0, 0, 0],
         ),
         ("nothing ; 0 0 1 129 65 2 | 8385 ffffff", [1, 1, 2, 1, 1, 2]),

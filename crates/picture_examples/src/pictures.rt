@@ -41,15 +41,23 @@ fn pixels_have_the_colours_of_the_drawing(rt: HostRuntime) -> Result<(), Fail> {
     answers(&rt, rt.alloc(), &OpenGate, RASTERS)
 }
 
-const PICTURES: &str = "\
-100 nothing ; 0 0 1 1 1 1 | written 14 P6 1 1 255
-100 corner ; 0 0 1 3 2 1 | written 29 P6 3 2 255
-2000 box ; 0 0 1 3 130 1 | written 1183 P6 3 130 255
-2000 box ; 0 0 1 3 130 3 | written 1183 P6 3 130 255
-2000 box ; 0 0 1 3 130 16 | written 1183 P6 3 130 255
-// A sink without room has a front.
-600 box ; 0 0 1 3 130 1 | write failed 600 P6 3 130 255
-5 box ; 0 0 1 3 130 1 | write failed 5 P6 3
+const PICTURES: &str = r"
+100 nothing ; 0 0 1 1 1 1 | written 14 P6\n1 1\n255\n 1 ffffff
+100 corner ; 0 0 1 3 2 1 | written 29 P6\n3 2\n255\n 2 ff0000 1 ffffff 2 ff0000 1 ffffff
+// Any number of workers writes the same, over seams of tiles and bands.
+402 seam ; 0 0 1 65 2 1 | written 402 P6\n65 2\n255\n 63 ffffff 2 ff0000 63 ffffff 2 ff0000
+402 seam ; 0 0 1 65 2 3 | written 402 P6\n65 2\n255\n 63 ffffff 2 ff0000 63 ffffff 2 ff0000
+402 seam ; 0 0 1 65 2 16 | written 402 P6\n65 2\n255\n 63 ffffff 2 ff0000 63 ffffff 2 ff0000
+2000 box ; 0 0 1 3 130 1 | written 1183 P6\n3 130\n255\n 33 ff0000 357 ffffff
+2000 box ; 0 0 1 3 130 3 | written 1183 P6\n3 130\n255\n 33 ff0000 357 ffffff
+2000 box ; 0 0 1 3 130 16 | written 1183 P6\n3 130\n255\n 33 ff0000 357 ffffff
+// A sink without room has a front: a part of a pixel, two bands, one, the header, a part of that, or nothing.
+1182 box ; 0 0 1 3 130 1 | write failed 1182 P6\n3 130\n255\n 33 ff0000 356 ffffff \xff\xff
+1165 box ; 0 0 1 3 130 1 | write failed 1165 P6\n3 130\n255\n 33 ff0000 351 ffffff
+600 box ; 0 0 1 3 130 1 | write failed 600 P6\n3 130\n255\n 33 ff0000 162 ffffff \xff\xff
+589 box ; 0 0 1 3 130 16 | write failed 589 P6\n3 130\n255\n 33 ff0000 159 ffffff
+13 box ; 0 0 1 3 130 3 | write failed 13 P6\n3 130\n255\n
+5 box ; 0 0 1 3 130 1 | write failed 5 P6\n3
 0 box ; 0 0 1 3 130 1 | write failed 0
 ";
 

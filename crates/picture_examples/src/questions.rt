@@ -180,7 +180,7 @@ fn push_run(alloc: Global, count: u64, pixel: [u8; 3], text: &mut String) -> Opt
     text.push_str(run.as_str()).ok()
 }
 
-/// How the picture was written, how many bytes, and its header.
+/// How the picture was written, how many bytes, and which.
 fn written<R: Threads + Sync, G: Gate + Sync>(
     rt: &R,
     alloc: Global,
@@ -205,18 +205,37 @@ fn written<R: Threads + Sync, G: Gate + Sync>(
         Err(WriteError::OutOfMemory) => "out of memory",
     };
     let bytes = tape.bytes();
-    format!(in alloc; "{how} {}{}", bytes.len(), header(alloc, bytes)?).ok()
+    format!(in alloc; "{how} {}{}", bytes.len(), spelt(alloc, bytes)?).ok()
 }
 
-/// The lines before the pixels, each behind a blank.
-fn header(alloc: Global, bytes: &[u8]) -> Option<String> {
-    let mut text = String::new(alloc);
-    for line in bytes[..bytes.len().min(14)].split(|b| *b == b'\n') {
-        if line.is_ascii() {
-            let line = std::str::from_utf8(line).ok()?;
-            text.push_str(" ").ok()?;
-            text.push_str(line).ok()?;
-        }
+/// The three lines before the pixels, then the pixels as runs of one colour, then what is left of a
+/// pixel.
+fn spelt(alloc: Global, bytes: &[u8]) -> Option<String> {
+    let (header, pixels) = bytes.split_at(header_len(bytes).min(bytes.len()));
+    let mut text = format!(in alloc; " {}", header.escape_ascii()).ok()?;
+    if !pixels.is_empty() {
+        text.push_str(runs(alloc, pixels)?.as_str()).ok()?;
+    }
+    let whole = pixels.len() - pixels.len() % 3;
+    if whole < pixels.len() {
+        let rest = format!(in alloc; " {}", pixels[whole..].escape_ascii()).ok()?;
+        text.push_str(rest.as_str()).ok()?;
     }
     Some(text)
+}
+
+/// How many bytes the first three lines have.
+fn header_len(bytes: &[u8]) -> usize {
+    let mut lines = 0u8;
+    let mut len = 0usize;
+    for byte in bytes {
+        if lines == 3 {
+            break;
+        }
+        if *byte == b'\n' {
+            lines = lines.saturating_add(1);
+        }
+        len = len.saturating_add(1);
+    }
+    len
 }
