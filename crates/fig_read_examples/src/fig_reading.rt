@@ -1,10 +1,10 @@
 //! Worked examples of reading FIG texts.
 
-use crate::readings::text;
+use crate::readings::{fault_at, fault_of, text};
 use drawing_parts::seen;
-use example_parts::at;
+use example_parts::{EMPTY_FIG, at};
 use gf_drawing::Drawing;
-use gf_fig_read::{every_text_reads_as_one_drawing_or_fails_once, read_fig};
+use gf_fig_read::{FigFault, every_text_reads_as_one_drawing_or_fails_once, read_fig};
 use gf_shape::Outline;
 use std::alloc::Global;
 use std::test::Fail;
@@ -87,5 +87,38 @@ fn other_spellings_make_the_same_drawing(rt: HostRuntime) -> Result<(), Fail> {
             "of {row}"
         );
     }
+    Ok(())
+}
+
+/// The text of a red polygon of so many points, (n, 0) or (n, 1) in turn.
+fn comb(alloc: Global, points: u32) -> Result<String, Fail> {
+    let count = points.saturating_add(1);
+    let mut text = format!(in alloc;
+        "{EMPTY_FIG}2 3 0 0 4 4 0 -1 20 0.000 0 0 -1 0 0 {count}\n\t"
+    )?;
+    for n in 0..points {
+        push_point(alloc, &mut text, n)?;
+    }
+    text.push_str(" 0 0\n")?;
+    Ok(text)
+}
+
+fn push_point(alloc: Global, text: &mut String, n: u32) -> Result<(), Fail> {
+    let point = format!(in alloc; " {n} {}", n % 2)?;
+    Ok(text.push_str(point.as_str())?)
+}
+
+#[test]
+fn a_polygon_may_have_many_points(rt: HostRuntime) -> Result<(), Fail> {
+    let alloc = rt.alloc();
+    // With the first point again they are 65,536.
+    let text = comb(alloc, 65_535)?;
+    let answer = answer(alloc, text.as_str(), "0 0, 65533 1, 65534 1")?;
+    assert_eq!(rt; answer.as_str(), "0 1 ff0000 ff0000 ffffff");
+    let more = comb(alloc, 65_536)?;
+    assert_eq!(rt;
+        fault_of(alloc, more.as_bytes()),
+        fault_at(FigFault::Count, 1)
+    );
     Ok(())
 }

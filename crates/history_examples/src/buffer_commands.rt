@@ -85,3 +85,33 @@ fn delivered(alloc: Global, id: OpId, answer: Result<(), AddFault>) -> Option<St
         Err(fault) => format!(in alloc; "{id} {fault}").ok(),
     }
 }
+
+/// What the buffer says to the first of so many operations of site 1, which are offered from the last
+/// one on, and how many it holds then.
+pub(crate) fn backwards(alloc: Global, scene: &mut Scene, count: u32) -> Option<String> {
+    let mut answer = None;
+    for later in 0..count {
+        let before = count - later - 1;
+        answer = offer_next(alloc, scene, before);
+    }
+    answer
+}
+
+/// What the buffer says to the operation of site 1 that knows so many of its own.
+fn offer_next(alloc: Global, scene: &mut Scene, before: u32) -> Option<String> {
+    let seq = before.checked_add(1)?;
+    let text = format!(in alloc; "1.{seq} after {before}: circle 1").ok()?;
+    offer(alloc, scene, text.as_str())
+}
+
+/// How many are delivered, one after another, and how many stay.
+pub(crate) fn deliver_all(alloc: Global, scene: &mut Scene) -> Option<String> {
+    let mut count = 0u32;
+    for _ in 0..10_000u32 {
+        if deliver(alloc, scene).is_none() {
+            break;
+        }
+        count = count.saturating_add(1);
+    }
+    format!(in alloc; "{count}, {}", scene.buffer.held()).ok()
+}

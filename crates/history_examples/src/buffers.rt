@@ -96,6 +96,11 @@ deliver                       | 1.1 ok
 // It knows 1.1, and not 2.1, which 1.1 knew: it is ready, and the history refuses it.
 deliver             | 3.1 BadClock
 offer 1.1: circle 2 | Clash, 0
+
+// holds_what_comes_backwards
+new            | ok
+backwards 1001 | Held, 1001
+deliver_all    | 1001, 0
 ";
 
 #[test]

@@ -45,6 +45,8 @@ fn told(alloc: Global, scene: &mut Scene, verb: &str, text: &str) -> Option<Stri
         "take" => buffer_commands::take(alloc, &mut scene.buffer, &scene.history),
         "take_out" => buffer_commands::take_out(alloc, &mut scene.buffer, text),
         "deliver" => buffer_commands::deliver(alloc, scene),
+        "backwards" => buffer_commands::backwards(alloc, scene, text.parse().ok()?),
+        "deliver_all" => buffer_commands::deliver_all(alloc, scene),
         _ => told_of(alloc, &scene.history, verb, text),
     }
 }

@@ -87,6 +87,34 @@ fn runs_answer_the_first_fault(rt: HostRuntime) -> Result<(), Fail> {
 }
 
 #[test]
+fn a_source_that_fails_anywhere_is_told(rt: HostRuntime) -> Result<(), Fail> {
+    let alloc = rt.alloc();
+    for count in 0..RED_BOX.len() {
+        let failing = format!(in alloc; "source {count}")?;
+        let answer = answer(alloc, failing.as_str(), "red_box")?;
+        assert_eq!(rt; answer.as_str(), "read failed, 0", "after {count}");
+    }
+    Ok(())
+}
+
+/// What a run answers to so many blank lines before the red box, and how many bytes its sink takes.
+fn answer_behind(alloc: Global, blank: usize) -> Result<String, Fail> {
+    let mut input = Vec::new(alloc);
+    input.resize(blank, b'\n')?;
+    input.extend_from_slice(RED_BOX.as_bytes())?;
+    let mut sink = Tape::new(alloc, None);
+    let result = fig_run(alloc, &mut Reel::new(&input, None), &mut sink);
+    Ok(format!(in alloc; "{result:?}, {}", sink.bytes().len())?)
+}
+
+#[test]
+fn an_input_may_have_many_lines(rt: HostRuntime) -> Result<(), Fail> {
+    let answer = answer_behind(rt.alloc(), 100_000)?;
+    assert_eq!(rt; answer.as_str(), "Ok(()), 156");
+    Ok(())
+}
+
+#[test]
 fn a_line_that_is_no_json_is_a_fault_of_its_own(rt: HostRuntime) {
     let mut sink = Tape::new(rt.alloc(), None);
     let result = fig_run(rt.alloc(), &mut Reel::new(b"{", None), &mut sink);
