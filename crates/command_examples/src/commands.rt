@@ -262,10 +262,12 @@ fn run_of_words<T: AllocGlobal + Threads + Wait + Sync>(
     )
 }
 
+const READ_FAILED: &str = "1\n--\nfiggroup: read failed\n";
+
 #[test]
 fn words_are_read_first(rt: HostRuntime) -> Result<(), Fail> {
-    // After a mistake the output is empty, and only then there are faults.
-    for (words, start, is_mistake) in [
+    // After a mistake or a refusal the output is empty, and only then there are faults.
+    for (words, start, is_refused) in [
         ("figgroup", "2\n--\n", true),
         ("figgroup draw", "2\n--\n", true),
         ("figgroup paint --workers 17", "2\n--\n", true),
@@ -287,6 +289,24 @@ fn words_are_read_first(rt: HostRuntime) -> Result<(), Fail> {
         ("figgroup fig input", "2\n--\n", true),
         ("figgroup --colour", "2\n--\n", true),
         ("", "2\n--\n", true),
+        // What is at its limit is taken, so that the input is read.
+        (
+            "figgroup paint --width 4096 --height 4096",
+            READ_FAILED,
+            true,
+        ),
+        (
+            "figgroup repaint --x=2000000 --y=-2000000",
+            READ_FAILED,
+            true,
+        ),
+        ("figgroup paint --x=-2000000 --y=2000000", READ_FAILED, true),
+        (
+            "figgroup repaint --step 10000 --workers 16",
+            READ_FAILED,
+            true,
+        ),
+        ("figgroup session --sites 8", READ_FAILED, true),
         ("figgroup --help", "0\nFigures drawn by a group", false),
         ("figgroup help", "0\nFigures drawn by a group", false),
         ("figgroup fig --help", "0\nRead operation lines", false),
@@ -298,7 +318,7 @@ fn words_are_read_first(rt: HostRuntime) -> Result<(), Fail> {
     ] {
         let answer = run_of_words(&rt, words)?;
         let answer = answer.as_str();
-        let is_told = answer.starts_with(start) && answer.ends_with("--\n") != is_mistake;
+        let is_told = answer.starts_with(start) && answer.ends_with("--\n") != is_refused;
         assert!(rt; is_told, "of {words}");
     }
     Ok(())

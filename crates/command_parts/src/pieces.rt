@@ -71,14 +71,18 @@ await_missing {"site":2,"do":"await","id":[1,9]}
 await_own {"site":2,"do":"await","id":[2,1]}
 await_ninth {"site":2,"do":"await","id":[9,1]}
 third_awaits {"site":3,"do":"await","id":[1,1]}
+third_awaits_the_paint {"site":3,"do":"await","id":[2,1]}
+third_moves_it {"site":3,"do":"set","object":[1,1],"set":"place","to":[5,5]}
 none_made site 1 accepted 0 refused 0\nsite 2 accepted 0 refused 0\n
 each_made_one site 1 accepted 1 refused 0\nsite 2 accepted 1 refused 0\n
 third_made_none site 3 accepted 0 refused 0\n
+third_made_one site 3 accepted 1 refused 0\n
 all_made_one site 1 accepted 1 refused 0\nsite 2 accepted 1 refused 0\nsite 3 accepted 1 refused 0\nsite 4 accepted 1 refused 0\nsite 5 accepted 1 refused 0\nsite 6 accepted 1 refused 0\nsite 7 accepted 1 refused 0\nsite 8 accepted 1 refused 0\n
 second_was_refused site 1 accepted 1 refused 0\nsite 2 accepted 1 refused 1\n
 it_never_comes site 2 command 3 NeverComes\n
 it_is_its_own site 2 command 3 OwnId\n
 blue_box_fig 0 32 #0000ff\n2 2 0 0 32 32 0 -1 20 0.000 0 0 -1 0 0 5\n\t 0 0 10 0 10 10 0 10 0 0\n
+moved_blue_box_fig 0 32 #0000ff\n2 2 0 0 32 32 0 -1 20 0.000 0 0 -1 0 0 5\n\t 5 5 15 5 15 15 5 15 5 5\n
 blue_over_red_fig 0 32 #0000ff\n0 33 #ff0000\n2 2 0 0 32 32 0 -1 20 0.000 0 0 -1 0 0 5\n\t 0 0 10 0 10 10 0 10 0 0\n2 2 0 0 33 33 1 -1 20 0.000 0 0 -1 0 0 5\n\t 0 0 10 0 10 10 0 10 0 0\n
 eight_boxes_fig 0 32 #000008\n0 33 #000007\n0 34 #000006\n0 35 #000005\n0 36 #000004\n0 37 #000003\n0 38 #0000ff\n0 39 #ff0000\n2 2 0 0 32 32 0 -1 20 0.000 0 0 -1 0 0 5\n\t 0 0 10 0 10 10 0 10 0 0\n2 2 0 0 33 33 1 -1 20 0.000 0 0 -1 0 0 5\n\t 0 0 10 0 10 10 0 10 0 0\n2 2 0 0 34 34 2 -1 20 0.000 0 0 -1 0 0 5\n\t 0 0 10 0 10 10 0 10 0 0\n2 2 0 0 35 35 3 -1 20 0.000 0 0 -1 0 0 5\n\t 0 0 10 0 10 10 0 10 0 0\n2 2 0 0 36 36 4 -1 20 0.000 0 0 -1 0 0 5\n\t 0 0 10 0 10 10 0 10 0 0\n2 2 0 0 37 37 5 -1 20 0.000 0 0 -1 0 0 5\n\t 0 0 10 0 10 10 0 10 0 0\n2 2 0 0 38 38 6 -1 20 0.000 0 0 -1 0 0 5\n\t 0 0 10 0 10 10 0 10 0 0\n2 2 0 0 39 39 7 -1 20 0.000 0 0 -1 0 0 5\n\t 0 0 10 0 10 10 0 10 0 0\n
 "#;

@@ -7,11 +7,11 @@ use std::sync::Wait;
 use std::test::Fail;
 use std::thread::Threads;
 
-/// The words of a text.
+/// The words of a text, in which `~` spells a blank within a word.
 pub fn words(alloc: Global, text: &str) -> Result<Vec<String>, AllocError> {
     let mut words = Vec::new(alloc);
     for word in text.split_whitespace() {
-        words.push(String::from_str(alloc, word)?)?;
+        words.push(word.replace(alloc, "~", " ")?)?;
     }
     Ok(words)
 }

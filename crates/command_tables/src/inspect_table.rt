@@ -48,10 +48,13 @@ inspect --object 1.0 | box / | 2 figgroup: bad object or point\n
 inspect --object 1.10001 | box / | 2 figgroup: bad object or point\n
 inspect --object +1.1 | box / | 2 figgroup: bad object or point\n
 inspect --object 1. | box / | 2 figgroup: bad object or point\n
+inspect --object 1.~1 | box / | 2 figgroup: bad object or point\n
+inspect --object ~1.1 | box / | 2 figgroup: bad object or point\n
 inspect --object 1.1.1 | box / | 2 figgroup: bad object or point\n
 inspect --at=y | { | 2 figgroup: bad object or point\n
 inspect --at=1,+1 | box / | 2 figgroup: bad object or point\n
 inspect --at=1, | box / | 2 figgroup: bad object or point\n
+inspect --at=1,~1 | box / | 2 figgroup: bad object or point\n
 inspect --at=-,1 | box / | 2 figgroup: bad object or point\n
 inspect --at=1,2,3 | box / | 2 figgroup: bad object or point\n
 inspect --at=2147483648,0 | box / | 2 figgroup: bad object or point\n

@@ -22,6 +22,9 @@ session           | first_box / await_first / second_box /                 | 0 |
 session --sites 3 | first_box / third_awaits / await_first / second_paints_it / | 0 | each_made_one third_made_none empty_fig blue_box_fig
 session --sites 8 | box_5 / box_3 / first_box / box_8 / second_box / box_4 / box_7 / box_6 / | 0 | all_made_one empty_fig eight_boxes_fig
 
+// a chain: the third moves the box of the first when the second has painted it
+session --sites 3 | first_box / await_first / second_paints_it / third_awaits_the_paint / third_moves_it / | 0 | each_made_one third_made_one empty_fig moved_blue_box_fig
+
 // what never comes, and what is its own
 session | first_box / await_first / second_paints_it / await_missing /     | 0 | second_was_refused it_never_comes empty_fig blue_box_fig
 session | first_box / await_first / second_paints_it / await_own /         | 0 | second_was_refused it_is_its_own empty_fig blue_box_fig
