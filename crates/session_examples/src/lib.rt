@@ -1,4 +1,5 @@
-//! Worked examples of sessions of two to eight sites in threads of their own, by public calls alone.
+//! Worked examples of sessions of two to eight sites in threads of their own, and of one worker, by
+//! public calls alone.
 #![tactic(auto)]
 
 #[cfg(test)]
@@ -9,3 +10,5 @@ mod scripts;
 mod sessions;
 #[cfg(test)]
 mod two_sites;
+#[cfg(test)]
+mod workers;

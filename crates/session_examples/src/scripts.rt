@@ -4,7 +4,7 @@ ghost use Rattle.std.specs.Prelude.{◌≤◌, All, IfSome, vec_len};
 
 use example_parts::notation::{change, id};
 use gf_json::Command;
-use gf_worker::Script;
+use gf_session::Script;
 use std::alloc::Global;
 
 /// `await 2.1`, or the change that is to be made.
@@ -16,7 +16,7 @@ fn command(alloc: Global, text: &str) -> Option<Command> {
 }
 
 /// The commands of one site, at most 1,000.
-fn script(alloc: Global, text: &str) -> Option<Script>
+pub(crate) fn script(alloc: Global, text: &str) -> Option<Script>
     ensures { IfSome result (λ s. vec_len s.0 ≤ 1000) }
 {
     let mut commands = Vec::new(alloc);

@@ -3,7 +3,7 @@
 
 use crate::scripts::scripts;
 use gf_gate::{Gate, OpenGate};
-use gf_session::{Done, SessionError, run_session};
+use gf_session::{Done, Report, SessionError, run_session};
 use std::alloc::Global;
 use std::sync::Wait;
 use std::test::Fail;
@@ -52,20 +52,24 @@ const SESSIONS: [(&str, &str); 12] = [
     ),
 ];
 
-/// What one site came to.
-fn told(alloc: Global, done: &Done) -> Option<String> {
+/// What became of the commands of a site.
+pub(crate) fn reported(alloc: Global, report: &Report) -> Option<String> {
     let mut text = String::new(alloc);
-    for id in done.report.accepted.iter() {
+    for id in report.accepted.iter() {
         let word = format!(in alloc; "{id} ").ok()?;
         text.push_str(word.as_str()).ok()?;
     }
-    for refused in done.report.refused.iter() {
+    for refused in report.refused.iter() {
         let word = format!(in alloc; "{}:{:?} ", refused.command, refused.cause).ok()?;
         text.push_str(word.as_str()).ok()?;
     }
-    let word = format!(in alloc; "has {} / ", done.site.history().ops().len()).ok()?;
-    text.push_str(word.as_str()).ok()?;
     Some(text)
+}
+
+/// What one site came to.
+fn told(alloc: Global, done: &Done) -> Option<String> {
+    let report = reported(alloc, &done.report)?;
+    format!(in alloc; "{report}has {} / ", done.site.history().ops().len()).ok()
 }
 
 /// What all sites came to.
@@ -99,5 +103,27 @@ fn each_session_has_its_outcome(rt: HostRuntime) -> Result<(), Fail> {
         };
         assert_eq!(rt; outcome.as_str(), want, "{text}");
     }
+    Ok(())
+}
+
+/// A script of 1,000 boxes, and one that awaits the last of them.
+fn long(alloc: Global) -> Option<String> {
+    let mut text = String::new(alloc);
+    for _ in 1..1_000u32 {
+        text.push_str("box 9 9; ").ok()?;
+    }
+    text.push_str("box 9 9 / await 1.1000").ok()?;
+    Some(text)
+}
+
+#[test]
+fn a_thousand_operations_come(rt: HostRuntime) -> Result<(), Fail> {
+    let Some(text) = long(rt.alloc()) else {
+        return Err(Fail::new("no memory"));
+    };
+    let Some(outcome) = ran(&rt, rt.alloc(), &OpenGate, text.as_str()) else {
+        return Err(Fail::new("no session"));
+    };
+    assert!(rt; outcome.ends_with("1.999 1.1000 has 1000 / has 1000 / "));
     Ok(())
 }

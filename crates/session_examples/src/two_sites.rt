@@ -4,8 +4,7 @@ ghost use Rattle.std.specs.Prelude.{◌≤◌, IfOk, vec_len};
 
 use gf_gate::OpenGate;
 use gf_json::{Command, read_script};
-use gf_session::run_session;
-use gf_worker::Script;
+use gf_session::{Script, run_session};
 use std::alloc::Global;
 use std::test::Fail;
 
