@@ -2,30 +2,28 @@
 
 ghost use Rattle.std.specs.Prelude.{◌≡◌};
 
+use example_parts::create;
 use example_parts::notation::id;
-use example_parts::{RED, changed};
 use gf_link::{Link, Message, SendSeat, TakeSeat, settle};
-use gf_ops::{Op, OpId, Value};
+use gf_ops::{Form, Op, OpId};
 use std::alloc::{AllocError, Global};
 use std::sync::Wait;
 use std::test::Fail;
-
-const BOX: OpId = OpId { site: 1, seq: 1 };
 
 /// Each row: what is sent, how many messages are taken then, and what came, with the numbers that were
 /// sent and taken.
 const LINKS: [(&str, u32, &str); 6] = [
     ("", 1, "-, 0 0"),
     ("1.2", 2, "1.2 -, 1 1"),
-    ("1.2 End", 3, "1.2 End -, 2 2"),
+    ("1.1 End", 3, "1.1 End -, 2 2"),
     ("1.2 1.3 2.1", 2, "1.2 1.3, 3 2"),
     ("1.3 1.2 Stop", 4, "1.3 1.2 Stop -, 3 3"),
     ("Stop", 0, ", 1 0"),
 ];
 
-/// An operation of this id, which makes the box red.
-fn recolour(id: OpId) -> Op {
-    changed(id, [0; 8], BOX, Value::Colour(RED))
+/// An operation of this id, which makes a circle.
+fn circle(id: OpId) -> Op {
+    create(id.site, id.seq, [0; 8], Form::Circle(3))
 }
 
 /// The message of a word such as `1.2` or `End`.
@@ -33,7 +31,7 @@ fn message(word: &str) -> Option<Message> {
     match word {
         "End" => Some(Message::End),
         "Stop" => Some(Message::Stop),
-        _ => Some(Message::Op(recolour(id(word)?))),
+        _ => Some(Message::Op(circle(id(word)?))),
     }
 }
 
@@ -108,5 +106,49 @@ fn what_is_sent_comes_in_its_order(rt: HostRuntime) -> Result<(), Fail> {
         let text = passed(&rt, rt.alloc(), words, takes)?;
         assert_eq!(rt; text.as_str(), want, "{words}");
     }
+    Ok(())
+}
+
+/// Sends 1.1 and so on to 1.1023, and End.
+fn fill<R: Wait>(rt: &R, link: &Link, seat: &mut SendSeat) -> Result<(), Fail>
+    requires { seat.old.link ≡ link.now }
+    ensures { seat.new.link ≡ link.now }
+{
+    for n in 1..=1_024u32 {
+        if seat.ended() || seat.sent() >= 1_024 {
+            return Err(Fail::new("nothing more may be sent"));
+        }
+        let message = if n <= 1_023 {
+            Message::Op(circle(OpId { site: 1, seq: n }))
+        } else {
+            Message::End
+        };
+        link.send(rt, seat, message);
+    }
+    Ok(())
+}
+
+/// Takes until there is no message, and tells how many operations came in their order before End.
+fn drain<R: Wait>(rt: &R, link: &Link, seat: &mut TakeSeat) -> Option<u32>
+    requires { seat.old.link ≡ link.now }
+    ensures { seat.new.link ≡ link.now }
+{
+    for n in 1..=2_000u32 {
+        match link.take(rt, seat) {
+            Some(Message::Op(op)) if op.id == (OpId { site: 1, seq: n }) => {}
+            Some(Message::End) => return Some(n - 1),
+            _ => return None,
+        }
+    }
+    None
+}
+
+#[test]
+fn a_link_takes_1024_messages(rt: HostRuntime) -> Result<(), Fail> {
+    let (link, mut send, mut take) = Link::new(&rt, rt.alloc())?;
+    fill(&rt, &link, &mut send)?;
+    assert_eq!(rt; drain(&rt, &link, &mut take), Some(1_023));
+    let settled = settle(&rt, link, send, take);
+    assert_eq!(rt; (settled.sent, settled.taken), (1_024, 1_024));
     Ok(())
 }
