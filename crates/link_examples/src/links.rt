@@ -4,7 +4,7 @@ ghost use Rattle.std.specs.Prelude.{◌≡◌};
 
 use example_parts::create;
 use example_parts::notation::id;
-use gf_link::{Link, Message, SendSeat, TakeSeat, settle};
+use gf_link::{Link, Message, SendSeat, TakeSeat, links, settle};
 use gf_ops::{Form, Op, OpId};
 use std::alloc::{AllocError, Global};
 use std::sync::Wait;
@@ -150,5 +150,14 @@ fn a_link_takes_1024_messages(rt: HostRuntime) -> Result<(), Fail> {
     assert_eq!(rt; drain(&rt, &link, &mut take), Some(1_023));
     let settled = settle(&rt, link, send, take);
     assert_eq!(rt; (settled.sent, settled.taken), (1_024, 1_024));
+    Ok(())
+}
+
+#[test]
+fn there_are_as_many_links_as_are_asked_for(rt: HostRuntime) -> Result<(), Fail> {
+    for count in [0, 1, 56] {
+        let links = links(&rt, rt.alloc(), count)?;
+        assert_eq!(rt; links.len(), usize::from(count));
+    }
     Ok(())
 }
