@@ -1,0 +1,167 @@
+//! Worked examples of who paints: workers meet in a shape, and rows are painted behind gates.
+
+ghost use Rattle.std.specs.Prelude.{false};
+ghost use Rattle.gf_shape.specs.Outlines.{rect_outline};
+ghost use Rattle.gf_shape.specs.ShapeMeaning.{rect_holds};
+ghost use Rattle.gf_shape.specs.ShapeMoves.{rect_moved};
+ghost use Rattle.gf_shape.specs.Laws.Shapes.{rect_moves, rect_outlines};
+
+use gf_drawing::{Drawing, Figure};
+use gf_raster::{Gate, Window, paint};
+use gf_shape::{Bounds, OutOfMemory, Outline, Point, Rect, Row, Shape};
+use std::alloc::Global;
+use std::sync::atomic::AtomicUsize;
+use std::sync::atomic::Ordering::SeqCst;
+use std::thread::Threads;
+
+/// What those who paint a window leave behind. The window is one tile wide.
+#[derive(Drop)]
+struct Painters {
+    /// How many passed for each tile.
+    passed: [AtomicUsize; 3],
+    /// How often a row was asked for.
+    asked: AtomicUsize,
+    /// How often that was before its tile was passed.
+    early: AtomicUsize,
+    /// How many saw `wanted` of them ask.
+    met: AtomicUsize,
+    wanted: usize,
+}
+
+impl Painters {
+    fn ask(&self, y: i32) {
+        if let Some(tile) = self.passed.get(y.max(0) as usize / 64)
+            && tile.load(SeqCst) == 0
+        {
+            self.early.fetch_add(1, SeqCst);
+        }
+        self.asked.fetch_add(1, SeqCst);
+        self.meet();
+    }
+
+    /// Waits for other painters, as long as it counts to 1,000,000,000.
+    fn meet(&self) {
+        for _ in 0..1_000_000_000u32 {
+            if self.wanted <= self.asked.load(SeqCst) {
+                self.met.fetch_add(1, SeqCst);
+                return;
+            }
+        }
+    }
+}
+
+/// A box that looks at its painters. It can't be moved.
+#[derive(Drop)]
+struct Watched {
+    rect: Rect,
+    painters: Painters,
+}
+
+impl Shape for Watched {
+    ghost holds = { λ w. rect_holds w.rect };
+
+    ghost is_movable = { λ _ _. false };
+
+    ghost moved = { λ w d. record w { rect = rect_moved w.rect d } };
+
+    ghost outline = { λ w. rect_outline w.rect };
+
+    fn holds(&self, p: Point) -> bool {
+        self.rect.holds(p)
+    }
+
+    fn bounds(&self) -> Bounds {
+        self.rect.bounds()
+    }
+
+    fn movable(&self, _d: Point) -> bool {
+        false
+    }
+
+    fn moved(&self, _alloc: Global, _d: Point) -> Result<Watched, OutOfMemory> {
+        Err(OutOfMemory)
+    }
+
+    fn outline(&self, alloc: Global) -> Result<Outline, OutOfMemory> {
+        self.rect.outline(alloc)
+    }
+
+    fn row_into(&self, y: i32, row: &mut Row) -> Result<(), OutOfMemory> {
+        self.painters.ask(y);
+        self.rect.row_into(y, row)
+    }
+
+    ghost moves = { λ w d. rect_moves w.rect d };
+
+    ghost outlines = { λ w. rect_outlines w.rect };
+}
+
+/// The gate before a watched box.
+#[derive(Drop)]
+struct Entrance<'a> {
+    drawing: &'a Drawing<Watched>,
+}
+
+impl Gate for Entrance<'_> {
+    fn enter(&self, _who: u8, piece: u32) {
+        for figure in self.drawing.figures() {
+            if let Some(tile) = figure.shape.painters.passed.get(piece as usize) {
+                tile.fetch_add(1, SeqCst);
+            }
+        }
+    }
+}
+
+fn none() -> AtomicUsize {
+    AtomicUsize::new(0)
+}
+
+/// A box of 300 rows, in which so many painters are to meet.
+fn drawing_of_box(alloc: Global, wanted: usize) -> Option<Drawing<Watched>> {
+    let painters = Painters {
+        passed: [none(), none(), none()],
+        asked: none(),
+        early: none(),
+        met: none(),
+        wanted,
+    };
+    let rect = Rect::new(Point { x: 0, y: 0 }, 300, 300).ok()?;
+    let mut drawing = Drawing::new(alloc);
+    drawing
+        .add_figure(Figure {
+            shape: Watched { rect, painters },
+            colour: 4,
+            depth: 0,
+        })
+        .ok()?;
+    Some(drawing)
+}
+
+/// How often a row of the box was asked for, how often before its gate, and how many painters met.
+fn told<R: Threads + Sync>(
+    rt: &R,
+    alloc: Global,
+    height: u32,
+    workers: u8,
+    wanted: usize,
+) -> Option<[usize; 3]> {
+    let window = Window::new(0, 0, 1, 3, height).ok()?;
+    let drawing = drawing_of_box(alloc, wanted)?;
+    let gate = Entrance { drawing: &drawing };
+    paint(rt, alloc, &drawing, window, workers.clamp(1, 16), &gate).ok()?;
+    let painters = &drawing.figures().first()?.shape.painters;
+    Some([&painters.asked, &painters.early, &painters.met].map(|count| count.load(SeqCst)))
+}
+
+#[test]
+fn two_workers_paint_rows_at_the_same_time(rt: HostRuntime) {
+    assert_eq!(rt; told(&rt, rt.alloc(), 2, 2, 2), Some([2, 0, 2]));
+}
+
+#[test]
+fn rows_are_painted_behind_the_gates_of_their_tiles(rt: HostRuntime) {
+    for workers in [1, 3, 16] {
+        let counts = told(&rt, rt.alloc(), 130, workers, 0);
+        assert_eq!(rt; counts, Some([130, 0, 130]), "{workers}");
+    }
+}
