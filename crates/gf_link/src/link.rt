@@ -103,8 +103,8 @@ impl Link {
     }
 }
 
-/// So many links, at most those between eight sites, each with its two seats, as [`Link::new`] gives
-/// it.
+/// As many links as are asked for, each with its two seats, as [`Link::new`] gives them. Eight sites
+/// have 56.
 pub fn links<R: Wait>(
     rt: &R,
     alloc: Global,

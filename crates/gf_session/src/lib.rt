@@ -5,7 +5,7 @@
 //!   it gives nothing.
 //! - [`Script`], [`Report`], [`Refused`], [`Cause`]: what a site is to do, and what became of it.
 //! - [`site_worker`], [`Ends`], [`WorkerEnd`]: the run of one site, what it begins with, and what it
-//!   gives back. All these are those of `gf_worker`.
+//!   gives back. The names of both come from `gf_worker`.
 //! - [`joined_workers_have_one_history`]: the law behind it, for any number of sites.
 #![tactic(auto)]
 
