@@ -1,15 +1,15 @@
 //! Worked examples of who paints: workers meet in a shape, and rows are painted behind gates.
 
-ghost use Rattle.std.specs.Prelude.{false};
 ghost use Rattle.gf_shape.specs.Outlines.{rect_outline};
 ghost use Rattle.gf_shape.specs.ShapeMeaning.{rect_holds};
-ghost use Rattle.gf_shape.specs.ShapeMoves.{rect_moved};
+ghost use Rattle.gf_shape.specs.ShapeMoves.{rect_movable, rect_moved};
 ghost use Rattle.gf_shape.specs.Laws.Shapes.{rect_moves, rect_outlines};
 
 use gf_drawing::{Drawing, Figure};
 use gf_raster::{Gate, Window, paint};
 use gf_shape::{Bounds, OutOfMemory, Outline, Point, Rect, Row, Shape};
 use std::alloc::Global;
+use std::marker::Model;
 use std::sync::atomic::AtomicUsize;
 use std::sync::atomic::Ordering::SeqCst;
 use std::thread::Threads;
@@ -29,6 +29,17 @@ struct Painters {
 }
 
 impl Painters {
+    /// Nobody has painted, and so many are to meet.
+    fn new(wanted: usize) -> Painters {
+        Painters {
+            passed: [none(), none(), none()],
+            asked: none(),
+            early: none(),
+            met: none(),
+            wanted,
+        }
+    }
+
     fn ask(&self, y: i32) {
         if let Some(tile) = self.passed.get(y.max(0) as usize / 64)
             && tile.load(SeqCst) == 0
@@ -50,21 +61,29 @@ impl Painters {
     }
 }
 
-/// A box that looks at its painters. It can't be moved.
+/// A box that looks at its painters. Contracts see the box alone.
 #[derive(Drop)]
 struct Watched {
     rect: Rect,
     painters: Painters,
 }
 
+impl Model for Watched {
+    ghost use Rattle.gf_shape.specs.Area.{Area};
+
+    ghost Value = { Area };
+
+    ghost view = { λ w. w.rect };
+}
+
 impl Shape for Watched {
-    ghost holds = { λ w. rect_holds w.rect };
+    ghost holds = { rect_holds };
 
-    ghost is_movable = { λ _ _. false };
+    ghost is_movable = { rect_movable };
 
-    ghost moved = { λ w d. record w { rect = rect_moved w.rect d } };
+    ghost moved = { rect_moved };
 
-    ghost outline = { λ w. rect_outline w.rect };
+    ghost outline = { rect_outline };
 
     fn holds(&self, p: Point) -> bool {
         self.rect.holds(p)
@@ -74,12 +93,15 @@ impl Shape for Watched {
         self.rect.bounds()
     }
 
-    fn movable(&self, _d: Point) -> bool {
-        false
+    fn movable(&self, d: Point) -> bool {
+        self.rect.movable(d)
     }
 
-    fn moved(&self, _alloc: Global, _d: Point) -> Result<Watched, OutOfMemory> {
-        Err(OutOfMemory)
+    fn moved(&self, alloc: Global, d: Point) -> Result<Watched, OutOfMemory> {
+        Ok(Watched {
+            rect: self.rect.moved(alloc, d)?,
+            painters: Painters::new(self.painters.wanted),
+        })
     }
 
     fn outline(&self, alloc: Global) -> Result<Outline, OutOfMemory> {
@@ -91,9 +113,9 @@ impl Shape for Watched {
         self.rect.row_into(y, row)
     }
 
-    ghost moves = { λ w d. rect_moves w.rect d };
+    ghost moves = { rect_moves };
 
-    ghost outlines = { λ w. rect_outlines w.rect };
+    ghost outlines = { rect_outlines };
 }
 
 /// The gate before a watched box.
@@ -118,13 +140,7 @@ fn none() -> AtomicUsize {
 
 /// A box of 300 rows, in which so many painters are to meet.
 fn drawing_of_box(alloc: Global, wanted: usize) -> Option<Drawing<Watched>> {
-    let painters = Painters {
-        passed: [none(), none(), none()],
-        asked: none(),
-        early: none(),
-        met: none(),
-        wanted,
-    };
+    let painters = Painters::new(wanted);
     let rect = Rect::new(Point { x: 0, y: 0 }, 300, 300).ok()?;
     let mut drawing = Drawing::new(alloc);
     drawing
