@@ -38,7 +38,7 @@ round_holds-within r p h =
     let y = side_within (p.y -ℤ r.centre.y) (p.x -ℤ r.centre.x) r.radius (rw (turned (p.y -ℤ r.centre.y) (p.x -ℤ r.centre.x)) h) in
     record { left = omega (arith, ints); right = omega (arith, ints); top = omega (arith, ints); bottom = omega (arith, ints) }
 
-gap_before : (a n : ℤ) → (a -ℤ n) -ℤ a ≡ pos 0 -ℤ n
+pub gap_before : (a n : ℤ) → (a -ℤ n) -ℤ a ≡ pos 0 -ℤ n
 gap_before a n = omega (arith, ints)
 
 -- a circle holds the four points on its axes

@@ -9,3 +9,4 @@ pub mod ChainBounds
 pub mod RowEdges
 pub mod RowPaths
 pub mod RowShapes
+pub mod OvalLemmas

@@ -1,8 +1,9 @@
 -- The rows of boxes and discs.
-use Rattle.std.specs.Prelude.{◌≡◌, ℕ, ◌+◌, ◌-◌, ◌*◌, length, take, drop, slice_get, Some, unwrap_or, ◌<◌, ◌≤◌, Bool, true, false, ◌&&◌, ◌||◌, List, [], ◌∷◌, ℤ, pos, negsuc, ◌+ℤ◌, ◌-ℤ◌, ◌*ℤ◌, ◌≤ℤ◌, ◌<ℤ◌, int_le, refl, unsigned_abs}
+use Rattle.std.specs.Prelude.{◌≡◌, ℕ, ◌+◌, ◌-◌, ◌*◌, length, take, drop, slice_get, Some, unwrap_or, ◌<◌, ◌≤◌, Bool, true, false, ◌&&◌, ◌||◌, List, [], ◌∷◌, ℤ, pos, negsuc, ◌+ℤ◌, ◌-ℤ◌, ◌*ℤ◌, ◌≤ℤ◌, ◌<ℤ◌, int_le, nat_le, refl, unsigned_abs}
 use Rattle.std.proofs.Common.{arith, ap, sym, subst, get_or, ◌∙◌}
 use Rattle.std.proofs.lemmas.List.{take_all}
 use Rattle.std.proofs.Math.Nat.{mul-le-mul}
+use Rattle.std.proofs.lemmas.Bool.Decides.{nat_tests}
 use Rattle.std.proofs.lemmas.Int.{ints, by_lt_z}
 use Rattle.gf_rows.specs.declared.span.Span.{Span}
 use Rattle.gf_shape.specs.declared.point.Point.{Point}
@@ -15,7 +16,7 @@ use Rattle.gf_shape.specs.RowParts.{end_of}
 use Rattle.gf_shape.specs.Rows.{IsRow}
 use Rattle.gf_shape.specs.ShapeMeaning.{polygon_holds, rect_holds, round_holds}
 use Rattle.gf_shape.proofs.RingLemmas.{chain_holds-closed}
-use Rattle.gf_shape.proofs.RowEdges.{le_yes, le_no}
+use Rattle.gf_shape.proofs.RowEdges.{le_no}
 
 and_true : (b : Bool) → ((b && true) && true) ≡ b
 and_true true = refl
@@ -30,6 +31,12 @@ low_moved x a = grind (arith, ints)
 
 high_moved : (x a w : ℤ) → int_le x (a +ℤ w) ≡ int_le (x -ℤ a) w
 high_moved x a w = grind (arith, ints)
+
+pub nat_le_no : (m n : ℕ) → n < m → nat_le m n ≡ false
+nat_le_no m n h = grind (arith, nat_tests)
+
+pub nat_le_yes : (m n : ℕ) → m ≤ n → nat_le m n ≡ true
+nat_le_yes m n h = grind (arith, nat_tests)
 
 module _ (a : Area) (y : ℤ) where
   pub rect_row : int_le (pos 0) (y -ℤ a.low.y) ≡ true → int_le (y -ℤ a.low.y) (pos a.height) ≡ true → IsRow (rect_holds a) y (record { first = a.low.x; last = a.low.x +ℤ pos a.width } ∷ [])
@@ -48,42 +55,36 @@ module _ (a : Area) (y : ℤ) where
       none true c d e = sym e
       none false c d e = refl
 
-square_abs : (u : ℤ) → u *ℤ u ≡ pos (unsigned_abs u * unsigned_abs u)
+pub square_abs : (u : ℤ) → u *ℤ u ≡ pos (unsigned_abs u * unsigned_abs u)
 square_abs (pos n) = refl
 square_abs (negsuc n) = refl
+
+-- what lies up to h on both sides of a centre
+abs_test : (u : ℤ) (h : ℕ) → nat_le (unsigned_abs u) h ≡ (int_le (pos 0 -ℤ pos h) u && int_le u (pos h))
+abs_test (pos n) h = grind (arith, ints, nat_tests)
+abs_test (negsuc n) h = grind (arith, ints, nat_tests)
+
+low_at : (x a : ℤ) (h : ℕ) → int_le (a -ℤ pos h) x ≡ int_le (pos 0 -ℤ pos h) (x -ℤ a)
+low_at x a h = grind (arith, ints)
+
+pub centred_row : (holds : Point → Bool) (y a : ℤ) (h : ℕ) → ((x : ℤ) → holds (record { x = x; y = y }) ≡ nat_le (unsigned_abs (x -ℤ a)) h) → IsRow holds y (record { first = a -ℤ pos h; last = a +ℤ pos h } ∷ [])
+centred_row holds y a h is = record {
+  exact = λ x. or_false _ ∙ rw (low_at x a h, high_moved x a (pos h)) (sym (is x ∙ abs_test (x -ℤ a) h));
+  apart = omega (arith, ints);
+}
 
 module _ (r : Round) (y : ℤ) where
   abbrev pub height_of : ℕ
   height_of = unsigned_abs (y -ℤ r.centre.y)
 
-  within : (u : ℤ) (h : ℕ) → h * h + height_of * height_of ≤ r.radius * r.radius → r.radius * r.radius < (h + 1) * (h + 1) + height_of * height_of → int_le (pos (unsigned_abs u * unsigned_abs u) +ℤ pos (height_of * height_of)) (pos (r.radius * r.radius)) ≡ (int_le (pos 0 -ℤ pos h) u && int_le u (pos h))
-  within u h low high =
-      by_lt_z (pos h) (pos (unsigned_abs u))
-      (λ past.
-      let m : (h + 1) * (h + 1) ≤ unsigned_abs u * unsigned_abs u = mul-le-mul (omega (arith, ints)) (omega (arith, ints)) in
-      let f : int_le (pos (unsigned_abs u * unsigned_abs u) +ℤ pos (height_of * height_of)) (pos (r.radius * r.radius)) ≡ false = le_no (pos (unsigned_abs u * unsigned_abs u) +ℤ pos (height_of * height_of)) (pos (r.radius * r.radius)) (omega (arith, ints)) in
-      f ∙ sym (outside u h past))
-      (λ upto.
-      let m : unsigned_abs u * unsigned_abs u ≤ h * h = mul-le-mul (omega (arith, ints)) (omega (arith, ints)) in
-      let f : int_le (pos (unsigned_abs u * unsigned_abs u) +ℤ pos (height_of * height_of)) (pos (r.radius * r.radius)) ≡ true = le_yes (pos (unsigned_abs u * unsigned_abs u) +ℤ pos (height_of * height_of)) (pos (r.radius * r.radius)) (omega (arith, ints)) in
-      f ∙ sym (inside u h upto))
-    where
-      outside : (u : ℤ) (h : ℕ) → pos h <ℤ pos (unsigned_abs u) → (int_le (pos 0 -ℤ pos h) u && int_le u (pos h)) ≡ false
-      outside (pos n) h l = grind (arith, ints)
-      outside (negsuc n) h l = grind (arith, ints)
-
-      inside : (u : ℤ) (h : ℕ) → pos (unsigned_abs u) ≤ℤ pos h → (int_le (pos 0 -ℤ pos h) u && int_le u (pos h)) ≡ true
-      inside (pos n) h l = grind (arith, ints)
-      inside (negsuc n) h l = grind (arith, ints)
-
-  low_at : (x a : ℤ) (h : ℕ) → int_le (a -ℤ pos h) x ≡ int_le (pos 0 -ℤ pos h) (x -ℤ a)
-  low_at x a h = grind (arith, ints)
+  within : (x h : ℕ) → h * h + height_of * height_of ≤ r.radius * r.radius → r.radius * r.radius < (h + 1) * (h + 1) + height_of * height_of → nat_le (x * x + height_of * height_of) (r.radius * r.radius) ≡ nat_le x h
+  within x h low high =
+      by_lt_z (pos h) (pos x)
+      (λ past. let m : (h + 1) * (h + 1) ≤ x * x = mul-le-mul (omega (arith, ints)) (omega (arith, ints)) in nat_le_no (x * x + height_of * height_of) (r.radius * r.radius) (omega arith) ∙ sym (nat_le_no x h (omega (arith, ints))))
+      (λ upto. let m : x * x ≤ h * h = mul-le-mul (omega (arith, ints)) (omega (arith, ints)) in nat_le_yes (x * x + height_of * height_of) (r.radius * r.radius) (omega arith) ∙ sym (nat_le_yes x h (omega (arith, ints))))
 
   pub round_row : (h : ℕ) → h * h + height_of * height_of ≤ r.radius * r.radius → r.radius * r.radius < (h + 1) * (h + 1) + height_of * height_of → IsRow (round_holds r) y (record { first = r.centre.x -ℤ pos h; last = r.centre.x +ℤ pos h } ∷ [])
-  round_row h low high = record {
-    exact = λ x. or_false _ ∙ rw (square_abs (x -ℤ r.centre.x), square_abs (y -ℤ r.centre.y), within (x -ℤ r.centre.x) h low high, low_at x r.centre.x h, high_moved x r.centre.x (pos h)) refl;
-    apart = omega (arith, ints);
-  }
+  round_row h low high = centred_row (round_holds r) y r.centre.x h (λ x. rw (square_abs (x -ℤ r.centre.x), square_abs (y -ℤ r.centre.y)) (within (unsigned_abs (x -ℤ r.centre.x)) h low high))
 
   pub round_no_row : r.radius < height_of → IsRow (round_holds r) y []
   round_no_row l = record {

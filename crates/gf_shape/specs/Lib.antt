@@ -5,6 +5,7 @@ pub mod Area
 pub mod Polygons
 pub mod Ring
 pub mod Round
+pub mod Oblong
 pub mod Edges
 pub mod ShapeMeaning
 pub mod ShapeMoves

@@ -3,7 +3,7 @@ use Rattle.std.specs.Prelude.{true, List}
 use Rattle.gf_shape.specs.declared.any_shape.AnyShape.{AnyShape}
 use Rattle.gf_shape.specs.declared.any_shape.AnyShape.TheVariants as any
 use Rattle.gf_shape.specs.declared.outline.Outline.{Outline}
-use Rattle.gf_shape.specs.declared.outline.Outline.TheVariants.{Chain, Disc}
+use Rattle.gf_shape.specs.declared.outline.Outline.TheVariants.{Chain, Disc, Oval}
 use Rattle.gf_shape.specs.declared.point.Point.{Point}
 use Rattle.gf_shape.specs.Area.{Area, corners_again}
 use Rattle.gf_shape.specs.Ring.{ring_of}
@@ -16,8 +16,9 @@ rect_outline a = Chain (record { boxed = true; points = corners_again a })
 abbrev pub polygon_outline : List Point → Outline
 polygon_outline ps = Chain (ring_of ps)
 
--- a shape of any kind; a circle is the disc of its centre and radius
+-- a shape of any kind; a circle is the disc of its centre and radius, an ellipse the oval of its centre and radii
 abbrev pub any_outline : AnyShape → Outline
 any_outline (any.Rect a) = rect_outline a
 any_outline (any.Circle r) = Disc r
+any_outline (any.Ellipse o) = Oval o
 any_outline (any.Polygon ps) = polygon_outline ps

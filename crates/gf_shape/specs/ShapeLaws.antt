@@ -3,11 +3,12 @@ use Rattle.std.specs.Prelude.{◌≡◌, Bool, IsTrue, ℤ, ◌≤ℤ◌}
 use Rattle.gf_shape.specs.declared.bounds.Bounds.{Bounds}
 use Rattle.gf_shape.specs.declared.point.Point.{Point}
 use Rattle.gf_shape.specs.declared.outline.Outline.{Outline}
-use Rattle.gf_shape.specs.declared.outline.Outline.TheVariants.{Chain, Disc}
+use Rattle.gf_shape.specs.declared.outline.Outline.TheVariants.{Chain, Disc, Oval}
 use Rattle.gf_shape.specs.FigureMeaning.{outline_holds}
 use Rattle.gf_shape.specs.Moving.{plus}
 use Rattle.gf_shape.specs.Ring.{IsRing}
 use Rattle.gf_shape.specs.Round.{is_round}
+use Rattle.gf_shape.specs.Oblong.{is_oblong}
 
 -- move law: new holds p + d exactly if old holds p
 abbrev pub IsMovedBy : Point → (Point → Bool) → (Point → Bool) → Type 0
@@ -36,6 +37,7 @@ pub record IsBounds (holds : Point → Bool) (bounds : Bounds) : Type 0 where
 abbrev pub IsLawful : Outline → Type 0
 IsLawful (Chain ring) = IsRing ring
 IsLawful (Disc round) = IsTrue (is_round round)
+IsLawful (Oval oblong) = IsTrue (is_oblong oblong)
 
 -- outline law: the outline holds by the figure meaning what the shape holds by its own
 abbrev pub IsOutlineOf : (Point → Bool) → Outline → Type 0

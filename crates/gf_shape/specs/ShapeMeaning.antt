@@ -1,4 +1,4 @@
--- Which points a shape holds, seen from its place (a box, a circle and an even-odd polygon, edges inside; this project's choice).
+-- Which points a shape holds, seen from its place (a box, a circle, an ellipse and an even-odd polygon, edges inside; this project's choice).
 use Rattle.std.specs.Prelude.{ℕ, ◌*◌, ◌%◌, Bool, ◌&&◌, ◌||◌, List, ◌++◌, zip, drop, take, count_by, pos, ◌+ℤ◌, ◌*ℤ◌, int_le, nat_eq}
 use Rattle.std.specs.List.{list_any}
 use Rattle.gf_shape.specs.declared.point.Point.{Point}
@@ -8,6 +8,7 @@ use Rattle.gf_shape.specs.Area.{Area}
 use Rattle.gf_shape.specs.Edges.{Edge, is_on_edge, crosses_right}
 use Rattle.gf_shape.specs.Moving.{minus}
 use Rattle.gf_shape.specs.Round.{Round}
+use Rattle.gf_shape.specs.Oblong.{Oblong}
 
 -- a box of this width and height holds d, seen from its least corner
 abbrev pub box_holds : ℕ → ℕ → Point → Bool
@@ -16,6 +17,10 @@ box_holds width height d = int_le (pos 0) d.x && int_le d.x (pos width) && int_l
 -- a circle of radius r holds d, seen from its centre
 abbrev pub circle_holds : ℕ → Point → Bool
 circle_holds r d = int_le (d.x *ℤ d.x +ℤ d.y *ℤ d.y) (pos (r * r))
+
+-- an ellipse of the radii rx and ry holds d, seen from its centre
+abbrev pub ellipse_holds : ℕ → ℕ → Point → Bool
+ellipse_holds rx ry d = int_le (d.x *ℤ d.x *ℤ pos (ry * ry) +ℤ d.y *ℤ d.y *ℤ pos (rx * rx)) (pos (rx * rx * (ry * ry)))
 
 -- the edges from each point to the next, and from the last to the first
 abbrev pub closed_edges : List Point → List Edge
@@ -33,8 +38,13 @@ rect_holds a p = box_holds a.width a.height (minus p a.low)
 abbrev pub round_holds : Round → Point → Bool
 round_holds r p = circle_holds r.radius (minus p r.centre)
 
+-- the ellipse o holds p
+abbrev pub oval_holds : Oblong → Point → Bool
+oval_holds o p = ellipse_holds o.rx o.ry (minus p o.centre)
+
 -- which points a shape of any kind holds; a polygon by its points as they are
 abbrev pub any_holds : AnyShape → Point → Bool
 any_holds (any.Rect a) = rect_holds a
 any_holds (any.Circle r) = round_holds r
+any_holds (any.Ellipse o) = oval_holds o
 any_holds (any.Polygon ps) = polygon_holds ps

@@ -6,7 +6,7 @@ ghost use Rattle.gf_shape.specs.ShapeMoves.{any_movable, any_moved};
 ghost use Rattle.gf_shape.specs.Outlines.{any_outline};
 ghost use Rattle.gf_shape.specs.Laws.Shapes.{any_moves, any_outlines};
 
-use crate::{Bounds, Circle, OutOfMemory, Outline, Point, Polygon, Rect, Row, Shape};
+use crate::{Bounds, Circle, Ellipse, OutOfMemory, Outline, Point, Polygon, Rect, Row, Shape};
 use std::alloc::Global;
 
 /// A shape of any kind that a designer draws.
@@ -14,6 +14,7 @@ use std::alloc::Global;
 pub enum AnyShape {
     Rect(Rect),
     Circle(Circle),
+    Ellipse(Ellipse),
     Polygon(Polygon),
 }
 
@@ -30,6 +31,7 @@ impl Shape for AnyShape {
         match self {
             AnyShape::Rect(rect) => rect.holds(p),
             AnyShape::Circle(circle) => circle.holds(p),
+            AnyShape::Ellipse(ellipse) => ellipse.holds(p),
             AnyShape::Polygon(polygon) => polygon.holds(p),
         }
     }
@@ -38,6 +40,7 @@ impl Shape for AnyShape {
         match self {
             AnyShape::Rect(rect) => rect.bounds(),
             AnyShape::Circle(circle) => circle.bounds(),
+            AnyShape::Ellipse(ellipse) => ellipse.bounds(),
             AnyShape::Polygon(polygon) => polygon.bounds(),
         }
     }
@@ -46,6 +49,7 @@ impl Shape for AnyShape {
         match self {
             AnyShape::Rect(rect) => rect.movable(d),
             AnyShape::Circle(circle) => circle.movable(d),
+            AnyShape::Ellipse(ellipse) => ellipse.movable(d),
             AnyShape::Polygon(polygon) => polygon.movable(d),
         }
     }
@@ -54,6 +58,7 @@ impl Shape for AnyShape {
         match self {
             AnyShape::Rect(rect) => Ok(AnyShape::Rect(rect.moved(alloc, d)?)),
             AnyShape::Circle(circle) => Ok(AnyShape::Circle(circle.moved(alloc, d)?)),
+            AnyShape::Ellipse(ellipse) => Ok(AnyShape::Ellipse(ellipse.moved(alloc, d)?)),
             AnyShape::Polygon(polygon) => Ok(AnyShape::Polygon(polygon.moved(alloc, d)?)),
         }
     }
@@ -62,6 +67,7 @@ impl Shape for AnyShape {
         match self {
             AnyShape::Rect(rect) => rect.outline(alloc),
             AnyShape::Circle(circle) => circle.outline(alloc),
+            AnyShape::Ellipse(ellipse) => ellipse.outline(alloc),
             AnyShape::Polygon(polygon) => polygon.outline(alloc),
         }
     }
@@ -70,6 +76,7 @@ impl Shape for AnyShape {
         match self {
             AnyShape::Rect(rect) => rect.row_into(y, row),
             AnyShape::Circle(circle) => circle.row_into(y, row),
+            AnyShape::Ellipse(ellipse) => ellipse.row_into(y, row),
             AnyShape::Polygon(polygon) => polygon.row_into(y, row),
         }
     }

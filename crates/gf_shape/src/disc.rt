@@ -9,6 +9,7 @@ ghost use Rattle.gf_shape.specs.ShapeLaws.{IsBounds};
 ghost use Rattle.gf_shape.specs.ShapeMeaning.{round_holds};
 ghost use Rattle.gf_shape.specs.ShapeMoves.{round_movable, round_moved};
 
+use crate::around::{apart, high_corner, less, low_corner, more};
 use crate::products::{gap, product};
 use crate::{Bounds, OutOfMemory, Point, Row};
 use std::marker::Model;
@@ -84,8 +85,8 @@ impl Disc {
         ensures { IsBounds (round_holds self.now) result }
     {
         Bounds {
-            low: low_corner(self.centre, self.radius),
-            high: high_corner(self.centre, self.radius),
+            low: low_corner(self.centre, self.radius, self.radius),
+            high: high_corner(self.centre, self.radius, self.radius),
         }
     }
 
@@ -132,13 +133,6 @@ fn is_within(x: i64, y: i64, radius: u32) -> bool
     product(x, x) + product(y, y) <= product(radius, radius)
 }
 
-/// How far two coordinates are apart.
-fn apart(a: i32, b: i32) -> u64
-    ensures { result ≡ unsigned_abs (b -ℤ a) }
-{
-    gap(a, b).unsigned_abs()
-}
-
 /// How far a disc reaches to both sides at a height `past` its centre: a root, rounded down.
 fn half_width(radius: u32, past: u64) -> u32
     requires radius { radius ≤ 10000000 }
@@ -156,46 +150,4 @@ fn square(n: u64) -> u64
     ensures { result ≡ n * n }
 {
     n * n
-}
-
-/// The point `n` before and above `p`.
-fn low_corner(p: Point, n: u32) -> Point
-    requires p { IsTrue (is_within_reach p) }
-    requires n { n ≤ 10000000 }
-    ensures { result ≡ record { x = p.x -ℤ pos n; y = p.y -ℤ pos n } }
-{
-    Point {
-        x: less(p.x, n),
-        y: less(p.y, n),
-    }
-}
-
-/// The point `n` past and below `p`.
-fn high_corner(p: Point, n: u32) -> Point
-    requires p { IsTrue (is_within_reach p) }
-    requires n { n ≤ 10000000 }
-    ensures { result ≡ record { x = p.x +ℤ pos n; y = p.y +ℤ pos n } }
-{
-    Point {
-        x: more(p.x, n),
-        y: more(p.y, n),
-    }
-}
-
-#[tactic(auto, using(std::proofs::lemmas::Int::ints), unfolding(crate::specs::Reach::is_reached))]
-fn less(at: i32, n: u32) -> i32
-    requires at { IsTrue (is_reached at) }
-    requires n { n ≤ 10000000 }
-    ensures { result ≡ at -ℤ pos n }
-{
-    at - n as i32
-}
-
-#[tactic(auto, using(std::proofs::lemmas::Int::ints), unfolding(crate::specs::Reach::is_reached))]
-fn more(at: i32, n: u32) -> i32
-    requires at { IsTrue (is_reached at) }
-    requires n { n ≤ 10000000 }
-    ensures { result ≡ at +ℤ pos n }
-{
-    at + n as i32
 }

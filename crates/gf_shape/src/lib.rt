@@ -4,20 +4,23 @@
 //! - [`Row`]: the spans of a shape at one height, with memory for the next ones; [`meet`]: where an
 //!   edge meets it.
 //! - [`Shape`]: what every shape can do, and the laws that it keeps.
-//! - [`Rect`], [`Circle`], [`Polygon`] and [`AnyShape`], which is one of these: what a designer
-//!   draws.
-//! - [`Outline`], which is a [`Chain`] or a [`Disc`]: what a FIG file draws.
+//! - [`Rect`], [`Circle`], [`Ellipse`], [`Polygon`] and [`AnyShape`], which is one of these: what a
+//!   designer draws.
+//! - [`Outline`], which is a [`Chain`], a [`Disc`] or an [`Oval`]: what a FIG file draws.
 //! - [`Range`], [`OutOfMemory`], [`PolygonError`]: why a call was refused.
 #![tactic(auto)]
 
 mod any_shape;
+mod around;
 mod bounds;
 mod chain;
 mod circle;
 mod colour;
 mod disc;
 mod edges;
+mod ellipse;
 mod outline;
+mod oval;
 mod passing;
 mod point;
 mod points;
@@ -34,8 +37,10 @@ pub use chain::Chain;
 pub use circle::Circle;
 pub use colour::Rgb;
 pub use disc::Disc;
+pub use ellipse::Ellipse;
 pub use gf_rows::Span;
 pub use outline::Outline;
+pub use oval::Oval;
 pub use passing::meet;
 pub use point::{Point, REACH};
 pub use polygon::Polygon;

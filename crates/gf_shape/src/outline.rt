@@ -5,7 +5,7 @@ ghost use Rattle.gf_shape.specs.FigureMeaning.{outline_holds};
 ghost use Rattle.gf_shape.specs.ShapeMoves.{outline_movable, outline_moved};
 ghost use Rattle.gf_shape.specs.Laws.Shapes.{outline_moves};
 
-use crate::{Bounds, Chain, Disc, OutOfMemory, Point, Row, Shape};
+use crate::{Bounds, Chain, Disc, OutOfMemory, Oval, Point, Row, Shape};
 use std::alloc::Global;
 
 /// The outline of a figure, filled.
@@ -13,6 +13,7 @@ use std::alloc::Global;
 pub enum Outline {
     Chain(Chain),
     Disc(Disc),
+    Oval(Oval),
 }
 
 impl Shape for Outline {
@@ -28,6 +29,7 @@ impl Shape for Outline {
         match self {
             Outline::Chain(chain) => chain.holds(p),
             Outline::Disc(disc) => disc.holds(p),
+            Outline::Oval(oval) => oval.holds(p),
         }
     }
 
@@ -35,6 +37,7 @@ impl Shape for Outline {
         match self {
             Outline::Chain(chain) => chain.bounds(),
             Outline::Disc(disc) => disc.bounds(),
+            Outline::Oval(oval) => oval.bounds(),
         }
     }
 
@@ -42,6 +45,7 @@ impl Shape for Outline {
         match self {
             Outline::Chain(chain) => chain.movable(d),
             Outline::Disc(disc) => disc.movable(d),
+            Outline::Oval(oval) => oval.movable(d),
         }
     }
 
@@ -49,6 +53,7 @@ impl Shape for Outline {
         match self {
             Outline::Chain(chain) => Ok(Outline::Chain(chain.moved(alloc, d)?)),
             Outline::Disc(disc) => Ok(Outline::Disc(disc.moved(d))),
+            Outline::Oval(oval) => Ok(Outline::Oval(oval.moved(d))),
         }
     }
 
@@ -57,6 +62,7 @@ impl Shape for Outline {
         match self {
             Outline::Chain(chain) => Ok(Outline::Chain(chain.copy(alloc)?)),
             Outline::Disc(disc) => Ok(Outline::Disc(disc.copy())),
+            Outline::Oval(oval) => Ok(Outline::Oval(oval.copy())),
         }
     }
 
@@ -64,6 +70,7 @@ impl Shape for Outline {
         match self {
             Outline::Chain(chain) => chain.row_into(y, row),
             Outline::Disc(disc) => disc.row_into(y, row),
+            Outline::Oval(oval) => oval.row_into(y, row),
         }
     }
 

@@ -1,6 +1,6 @@
 //! Gaps between coordinates and their products, which pass 64 bits.
 
-ghost use Rattle.std.specs.Prelude.{◌≡◌, ◌-ℤ◌, ◌*ℤ◌, ◌≤◌, ◌^◌, unsigned_abs};
+ghost use Rattle.std.specs.Prelude.{◌≡◌, ◌-ℤ◌, ◌*ℤ◌, ◌*◌, ◌≤◌, ◌^◌, unsigned_abs};
 
 /// How far `to` is past `from`.
 #[tactic(auto, using(std::proofs::lemmas::Int::ints))]
@@ -19,4 +19,13 @@ pub(crate) fn product(a: i64, b: i64) -> i128
     ensures small { unsigned_abs result ≤ 2 ^ 64 }
 {
     a as i128 * b as i128
+}
+
+/// A distance times itself.
+pub(crate) fn square(n: u64) -> u128
+    requires { n ≤ 2 ^ 32 }
+    ensures value { result ≡ n * n }
+    ensures small { result ≤ 2 ^ 64 }
+{
+    n as u128 * n as u128
 }

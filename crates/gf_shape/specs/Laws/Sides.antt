@@ -11,7 +11,7 @@ use Rattle.gf_shape.specs.Edges.{side, is_between, is_on_line, is_on_edge}
 pub lt_products : (m n k s : ℕ) → m < s → n ≤ k → 0 < k → m * n < k * s
 lt_products m n k s h l p = let x : m * n ≤ m * k = mul-le-mul_left m l in let y : k * (m + 1) ≤ k * s = mul-le-mul_left k (omega arith) in omega arith
 
-one_le_product : (k s : ℕ) → 0 < k → 0 < s → 0 < k * s
+pub one_le_product : (k s : ℕ) → 0 < k → 0 < s → 0 < k * s
 one_le_product k s h l = lt_products 0 0 k s l (omega arith) h
 
 -- the four signs of `side` where both ends are right of the point, or both left of it

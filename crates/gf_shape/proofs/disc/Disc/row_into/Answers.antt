@@ -10,7 +10,7 @@ returns-in_ok-set c =
     let h : FitsSigned w32 c.self.inside.centre.y = search rules in
     let k : FitsSigned w32 c.less.result = search rules in
     let m : FitsSigned w32 c.more.result = search rules in
-    let past = simp to_z-of_z at c.apart-past.ensures in
+    let past = simp to_z-of_z at c.apart-past.ensures.value in
     let set = simp to_z-of_z at c.in_ok-set.ensures in
     let left = simp to_z-of_z at c.less.ensures in
     let right = simp to_z-of_z at c.more.ensures in
@@ -20,6 +20,6 @@ pub returns-else-past-from : goal.returns-else-past-from
 returns-else-past-from c =
     let f = c.ranges.y in
     let h : FitsSigned w32 c.self.inside.centre.y = search rules in
-    let past = simp to_z-of_z at c.apart-past.ensures in
+    let past = simp to_z-of_z at c.apart-past.ensures.value in
     let l : c.self.inside.radius < c.apart-past.result = omega arith in
     rw (← c.self.view_is, c.clear.ensures) (round_no_row (record { centre = c.self.inside.centre; radius = c.self.inside.radius }) c.args.y (rw past at l))

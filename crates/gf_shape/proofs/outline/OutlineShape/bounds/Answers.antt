@@ -5,3 +5,6 @@ returns-in-Chain c = rw c.in-Chain.is c.bounds.ensures
 
 pub returns-in-Disc : goal.returns-in-Disc
 returns-in-Disc c = rw c.in-Disc.is c.bounds-in-Disc.ensures
+
+pub returns-in-Oval : goal.returns-in-Oval
+returns-in-Oval c = rw c.in-Oval.is c.bounds-in-Oval.ensures
