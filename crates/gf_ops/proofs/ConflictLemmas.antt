@@ -5,7 +5,7 @@ use Rattle.gf_ops.specs.declared.op.Op.{Op}
 use Rattle.gf_ops.specs.declared.op.ObjectId.{ObjectId}
 use Rattle.gf_ops.specs.declared.change.Attr.{Attr}
 use Rattle.gf_ops.specs.declared.change.Form.{Form}
-use Rattle.gf_ops.specs.declared.change.Form.TheVariants.{Rect, Polygon, Circle}
+use Rattle.gf_ops.specs.declared.change.Form.TheVariants.{Rect, Polygon, Circle, Ellipse}
 use Rattle.gf_ops.specs.declared.change.Start.{Start}
 use Rattle.gf_ops.specs.declared.change.Change.{Change}
 use Rattle.gf_ops.specs.declared.change.Change.TheVariants.{Create, Set}
@@ -81,10 +81,12 @@ form_given s = given s.form refl
     given (Rect w h) e = rw e refl
     given (Polygon ps) e = rw e refl
     given (Circle r) e = rw e refl
+    given (Ellipse m n) e = rw e refl
 
 size_is : (f : Form) (w : Value) → size_in (form_value f) ≡ Some w → (form_value f ≡ w) × (attribute_of w ≡ attr.Size)
 size_is (Rect v h) w e = let same : Size v h ≡ w = cc in (same, ap attribute_of (sym same))
 size_is (Circle r) w e = let same : Size r r ≡ w = cc in (same, ap attribute_of (sym same))
+size_is (Ellipse m n) w e = let same : Size m n ≡ w = cc in (same, ap attribute_of (sym same))
 size_is (Polygon ps) w e = absurd cc
 
 points_are : (f : Form) (w : Value) → points_in (form_value f) ≡ Some w → (form_value f ≡ w) × (attribute_of w ≡ attr.Points)

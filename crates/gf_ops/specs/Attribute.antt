@@ -17,6 +17,7 @@ use Rattle.gf_ops.specs.declared.change.Value.TheVariants as value
 pub data Kind : Type 0 where
   Box : Kind
   Circle : Kind
+  Ellipse : Kind
   Polygon : Kind
 
 -- the kind of an object of the form f
@@ -24,6 +25,7 @@ abbrev pub kind_of : Form → Kind
 kind_of (form.Rect width height) = Box
 kind_of (form.Polygon ps) = Polygon
 kind_of (form.Circle radius) = Circle
+kind_of (form.Ellipse rx ry) = Ellipse
 
 -- the kind of the object that the change c makes, if it makes one
 abbrev pub made_kind : Change → Option Kind
@@ -38,9 +40,11 @@ suits kind (value.Layer n) = true
 suits kind (value.Shown b) = true
 suits Box (value.Points ps) = false
 suits Circle (value.Points ps) = false
+suits Ellipse (value.Points ps) = false
 suits Polygon (value.Points ps) = true
 suits Box (value.Size width height) = true
 suits Circle (value.Size width height) = width == height
+suits Ellipse (value.Size width height) = true
 suits Polygon (value.Size width height) = false
 
 -- the attribute that v is a value of
@@ -57,12 +61,14 @@ abbrev pub form_attribute : Form → Attr
 form_attribute (form.Rect width height) = Size
 form_attribute (form.Polygon ps) = Points
 form_attribute (form.Circle radius) = Size
+form_attribute (form.Ellipse rx ry) = Size
 
 -- the value that the form f gives to its attribute
 abbrev pub form_value : Form → Value
 form_value (form.Rect width height) = value.Size width height
 form_value (form.Polygon ps) = value.Points ps
 form_value (form.Circle radius) = value.Size radius radius
+form_value (form.Ellipse rx ry) = value.Size rx ry
 
 -- the value v, if it is a size
 abbrev pub size_in : Value → Option Value

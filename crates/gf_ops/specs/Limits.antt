@@ -7,7 +7,7 @@ use Rattle.gf_ops.specs.declared.op.Op.{Op}
 use Rattle.gf_ops.specs.declared.op.OpId.{OpId}
 use Rattle.gf_ops.specs.declared.op.Clock.{Clock}
 use Rattle.gf_ops.specs.declared.change.Form.{Form}
-use Rattle.gf_ops.specs.declared.change.Form.TheVariants.{Rect, Polygon, Circle}
+use Rattle.gf_ops.specs.declared.change.Form.TheVariants.{Rect, Polygon, Circle, Ellipse}
 use Rattle.gf_ops.specs.declared.change.Change.{Change}
 use Rattle.gf_ops.specs.declared.change.Change.TheVariants.{Create, Set}
 use Rattle.gf_ops.specs.declared.change.Value.{Value}
@@ -37,11 +37,12 @@ is_size n = nat_le 1 n && nat_le n 1000000
 abbrev pub is_polygon : List Point → Bool
 is_polygon ps = is_polygon_count (length ps) && list_all is_near ps
 
--- both sides of a box and the radius of a circle are sizes, and a polygon has as many points as it may have, each of them near
+-- both sides of a box, the radius of a circle and both of an ellipse are sizes, and a polygon has as many points as it may have, each of them near
 abbrev pub is_form : Form → Bool
 is_form (Rect width height) = is_size width && is_size height
 is_form (Polygon ps) = is_polygon ps
 is_form (Circle radius) = is_size radius
+is_form (Ellipse rx ry) = is_size rx && is_size ry
 
 -- layers go up to 9,999
 abbrev pub is_layer : ℕ → Bool

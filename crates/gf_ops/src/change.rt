@@ -6,7 +6,7 @@ ghost use Rattle.gf_ops.specs.Attribute.{attribute_of};
 use crate::{ObjectId, Points};
 use gf_shape::{Point, Rgb};
 
-/// What an object has a value of. Boxes and circles have no `Points`, polygons no `Size`.
+/// What an object has a value of. Boxes, circles and ellipses have no `Points`, polygons no `Size`.
 #[derive(Clone, Copy, Debug, PartialEq, Eq, PartialOrd, Ord)]
 pub enum Attr {
     Place,
@@ -22,7 +22,7 @@ pub enum Attr {
 pub enum Value {
     Place(Point),
     Points(Points),
-    /// A box's width and height, or a circle's radius twice.
+    /// A box's width and height, a circle's radius twice, or an ellipse's two radii.
     Size(u32, u32),
     Colour(Rgb),
     Layer(u16),
@@ -38,6 +38,8 @@ pub enum Form {
     Polygon(Points),
     /// A circle of this radius; its place is its centre.
     Circle(u32),
+    /// An ellipse of these radii, to both sides and upwards and downwards; its place is its centre.
+    Ellipse(u32, u32),
 }
 
 /// The attributes that a new object begins with. Objects of a higher layer are above.

@@ -2,13 +2,14 @@
 
 ghost use Rattle.std.specs.Prelude.{◌≡◌, ◌↔◌, IsTrue};
 ghost use Rattle.gf_ops.specs.Attribute.{attribute_of, start_value, set_value, object_of};
-ghost use Rattle.gf_ops.specs.Attribute.{form_value};
+ghost use Rattle.gf_ops.specs.Attribute.{form_value, points_in, size_in};
+ghost use Rattle.gf_ops.specs.declared.change.Value.{Value};
 ghost use Rattle.gf_ops.specs.Conflict.{Conflict};
 ghost use Rattle.gf_ops.specs.ConflictTests.{is_another, sets_another, begins_apart, are_apart};
 ghost use Rattle.gf_ops.specs.Limits.{IsInRange};
 
 use crate::order::unordered;
-use crate::{Change, Form, ObjectId, Op, Start, Value};
+use crate::{Change, Form, ObjectId, Op, Points, Start, Value};
 
 /// Whether they are concurrent, concern one object and set one attribute to different values.
 /// Operations that set it to different values are two.
@@ -60,15 +61,11 @@ fn begins_with_another_form(own: &Start, form: &Form) -> bool
     ensures { result ≡ is_another (start_value own.now (attribute_of (form_value form.now)))
         (form_value form.now) }
 {
-    match (&own.form, form) {
-        (Form::Polygon(own), Form::Polygon(points)) => own != points,
-        (Form::Rect(own_width, own_height), Form::Rect(width, height)) => {
-            !(own_width == width && own_height == height)
-        }
-        (Form::Rect(width, height), Form::Circle(radius)) => !(width == radius && height == radius),
-        (Form::Circle(radius), Form::Rect(width, height)) => !(radius == width && radius == height),
-        (Form::Circle(own), Form::Circle(radius)) => !(own == radius && own == radius),
-        (Form::Polygon(_), _) | (_, Form::Polygon(_)) => false,
+    match form {
+        Form::Polygon(points) => begins_with_other_points(&own.form, points),
+        Form::Rect(width, height) => begins_with_another_size(&own.form, *width, *height),
+        Form::Circle(radius) => begins_with_another_size(&own.form, *radius, *radius),
+        Form::Ellipse(rx, ry) => begins_with_another_size(&own.form, *rx, *ry),
     }
 }
 
@@ -106,17 +103,32 @@ fn begins_with_another(start: &Start, value: &Value) -> bool
 {
     match value {
         Value::Place(place) => start.place != *place,
-        Value::Points(points) => match &start.form {
-            Form::Polygon(own) => own != points,
-            Form::Rect(_, _) | Form::Circle(_) => false,
-        },
-        Value::Size(width, height) => match &start.form {
-            Form::Rect(own_width, own_height) => !(own_width == width && own_height == height),
-            Form::Circle(radius) => !(radius == width && radius == height),
-            Form::Polygon(_) => false,
-        },
+        Value::Points(points) => begins_with_other_points(&start.form, points),
+        Value::Size(width, height) => begins_with_another_size(&start.form, *width, *height),
         Value::Colour(colour) => start.colour != *colour,
         Value::Layer(layer) => start.layer != *layer,
         Value::Shown(shown) => start.shown != *shown,
+    }
+}
+
+/// Whether a form has points, and other ones.
+fn begins_with_other_points(form: &Form, points: &Points) -> bool
+    ensures { result ≡ is_another (points_in (form_value form.now)) (Value.Points points.now) }
+{
+    match form {
+        Form::Polygon(own) => own != points,
+        Form::Rect(_, _) | Form::Circle(_) | Form::Ellipse(_, _) => false,
+    }
+}
+
+/// Whether a form has a size, and another one.
+fn begins_with_another_size(form: &Form, width: u32, height: u32) -> bool
+    ensures { result ≡ is_another (size_in (form_value form.now)) (Value.Size width height) }
+{
+    match form {
+        Form::Rect(own_width, own_height) => !(*own_width == width && *own_height == height),
+        Form::Circle(radius) => !(*radius == width && *radius == height),
+        Form::Ellipse(rx, ry) => !(*rx == width && *ry == height),
+        Form::Polygon(_) => false,
     }
 }

@@ -64,6 +64,7 @@ impl Form {
             Form::Rect(width, height) => Ok(Form::Rect(*width, *height)),
             Form::Polygon(points) => Ok(Form::Polygon(points.copy(alloc)?)),
             Form::Circle(radius) => Ok(Form::Circle(*radius)),
+            Form::Ellipse(rx, ry) => Ok(Form::Ellipse(*rx, *ry)),
         }
     }
 }

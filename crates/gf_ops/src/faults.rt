@@ -13,8 +13,8 @@ pub enum OpFault {
     /// It changes an object whose creation it doesn't know.
     #[error("NoObject")]
     NoObject,
-    /// It gives an object a value that doesn't suit its kind: a box or a circle points, a polygon a
-    /// size, a circle two numbers that are not one.
+    /// It gives an object a value that doesn't suit its kind: a box, a circle or an ellipse points,
+    /// a polygon a size, a circle two numbers that are not one.
     #[error("WrongKind")]
     WrongKind,
 }

@@ -271,10 +271,10 @@ fn suits(form: &Form, value: &Value) -> bool
         Value::Place(_) | Value::Colour(_) | Value::Layer(_) | Value::Shown(_) => true,
         Value::Points(_) => match form {
             Form::Polygon(_) => true,
-            Form::Rect(_, _) | Form::Circle(_) => false,
+            Form::Rect(_, _) | Form::Circle(_) | Form::Ellipse(_, _) => false,
         },
         Value::Size(width, height) => match form {
-            Form::Rect(_, _) => true,
+            Form::Rect(_, _) | Form::Ellipse(_, _) => true,
             Form::Circle(_) => width == height,
             Form::Polygon(_) => false,
         },

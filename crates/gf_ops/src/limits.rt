@@ -64,6 +64,7 @@ fn is_form(form: &Form) -> bool
         Form::Rect(width, height) => is_size(*width) && is_size(*height),
         Form::Polygon(points) => is_polygon(points.as_slice()),
         Form::Circle(radius) => is_size(*radius),
+        Form::Ellipse(rx, ry) => is_size(*rx) && is_size(*ry),
     }
 }
 

@@ -58,7 +58,9 @@ fn same_form(a: &Form, b: &Form) -> bool
         }
         (Form::Polygon(points), Form::Polygon(points_b)) => same_points(points, points_b),
         (Form::Circle(radius), Form::Circle(radius_b)) => *radius == *radius_b,
-        (Form::Rect(..), _) | (Form::Polygon(_), _) | (Form::Circle(_), _) => false,
+        (Form::Ellipse(rx, ry), Form::Ellipse(rx_b, ry_b)) => *rx == *rx_b && *ry == *ry_b,
+        (Form::Rect(..), _) | (Form::Polygon(_), _) => false,
+        (Form::Circle(_), _) | (Form::Ellipse(..), _) => false,
     }
 }
 
