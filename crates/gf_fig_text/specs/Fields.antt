@@ -3,7 +3,7 @@ use Rattle.std.specs.Prelude.{◌≡◌, ℕ, zero, suc, Bool, true, ◌&&◌, L
 use Rattle.gf_shape.specs.declared.point.Point.{Point}
 use Rattle.gf_shape.specs.Reach.{is_reached}
 use Rattle.gf_fig_text.specs.Layout.{Token}
-use Rattle.gf_fig_text.specs.Forms.{whole}
+use Rattle.gf_fig_text.specs.Forms.{whole, angle}
 use Rattle.gf_fig_text.specs.declared.faults.FigFault.{FigFault}
 use Rattle.gf_fig_text.specs.declared.faults.FigFault.TheVariants as fault
 
@@ -61,6 +61,12 @@ unfoldable pub natural : ℕ → ℕ → FigFault → Reader ℕ
 natural low high wrong = do
   n ← field whole (is_in (pos low) (pos high)) wrong
   give (nat_abs n)
+
+-- an angle of zero: level axes
+unfoldable pub no_angle : Reader ⊤
+no_angle = do
+  level ← any angle
+  check level fault.Angle
 
 -- a coordinate within reach
 abbrev pub coordinate : Reader ℤ

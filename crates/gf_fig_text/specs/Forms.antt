@@ -1,5 +1,5 @@
 -- The forms of tokens, and what a token of each form stands for (Xfig, FIG Format 3.2: numbers and colours; at most 18 digits is this project's choice).
-use Rattle.std.specs.Prelude.{ℕ, ◌+◌, ◌*◌, ◌-◌, Bool, true, false, ◌&&◌, ◌||◌, ◌==◌, nat_le, List, [], ◌∷◌, length, fold, Option, Some, None, ⊤, ℤ, pos, ◌-ℤ◌, if◌then◌else◌}
+use Rattle.std.specs.Prelude.{ℕ, ◌+◌, ◌*◌, ◌-◌, Bool, true, false, not, ◌&&◌, ◌||◌, ◌==◌, nat_le, List, [], ◌∷◌, length, fold, Option, Some, None, option_map, ⊤, ℤ, pos, ◌-ℤ◌, if◌then◌else◌}
 use Rattle.std.specs.List.{list_all}
 use Rattle.gf_shape.specs.declared.colour.Rgb.{Rgb}
 use Rattle.gf_digits.specs.HexDigits.{rgb_of_hex}
@@ -51,6 +51,14 @@ begins_with_digit (b ∷ bs) = is_digit b
 -- a decimal: an optional sign, at least one digit, and perhaps a fraction; its value is not kept
 unfoldable pub decimal : List ℕ → Option ⊤
 decimal t = if begins_with_digit (after_sign t) && are_digits_and_fraction (after_sign t) then Some tt else None
+
+-- each digit of the token is 0
+abbrev pub is_zero : List ℕ → Bool
+is_zero t = list_all (λ b. b == 48 || not (is_digit b)) t
+
+-- an angle: a decimal, of whose value is kept whether it is zero
+unfoldable pub angle : List ℕ → Option Bool
+angle t = option_map (λ u. is_zero t) (decimal t)
 
 -- a colour: '#' and six hexadecimal digits
 unfoldable pub colour : List ℕ → Option Rgb

@@ -21,8 +21,8 @@ pub enum FigFault {
     Cut,
     /// An object code is not 0, 1 or 2: a colour, an ellipse or a polyline.
     Object,
-    /// The sub type of a polyline is not 2 or 3, a box or a polygon, or that of an ellipse is not 3
-    /// or 4, a circle.
+    /// The sub type of a polyline is not 2 or 3, a box or a polygon, or that of an ellipse is not 1
+    /// or 2, one with two radii, and not 3 or 4, a circle.
     SubType,
     /// The thickness of a figure's outline is not 0.
     Outline,
@@ -34,7 +34,8 @@ pub enum FigFault {
     Count,
     /// The last point of a polyline is not its first.
     Open,
-    /// The first radius of an ellipse is not 1 to 10,000,000, or the second is not the first.
+    /// A radius of an ellipse is not 1 to 10,000,000, or the second radius of a circle is not its
+    /// first.
     Radius,
     /// A coordinate is not within 10,000,000 of 0, or the number of a colour is not 32 to 543.
     Range,
@@ -48,6 +49,8 @@ pub enum FigFault {
     Depth,
     /// Memory was refused; of the text it says nothing.
     OutOfMemory,
+    /// The angle of an ellipse that is no circle has a digit that is not 0.
+    Angle,
 }
 
 impl fmt::Display for FigFault {
