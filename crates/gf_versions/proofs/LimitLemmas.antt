@@ -26,11 +26,13 @@ one_fits v w fits e = let same : v ≡ w = cc in subst (λ u. IsTrue (is_value u
 form_fits : (f : Form) → IsTrue (is_form f) → IsTrue (is_value (form_value f))
 form_fits (form.Rect width height) fits = fits
 form_fits (form.Circle radius) fits = and_from (is_size radius) (is_size radius) fits fits
+form_fits (form.Ellipse rx ry) fits = fits
 form_fits (form.Polygon ps) fits = fits
 
 fits_form : (f : Form) → IsTrue (is_value (form_value f)) → IsTrue (is_form f)
 fits_form (form.Rect width height) fits = fits
 fits_form (form.Circle radius) fits = (and_parts (is_size radius) (is_size radius) fits).0
+fits_form (form.Ellipse rx ry) fits = fits
 fits_form (form.Polygon ps) fits = fits
 
 size_fits : (u v : Value) → IsTrue (is_value u) → size_in u ≡ Some v → IsTrue (is_value v)

@@ -55,6 +55,7 @@ some_value (Some v) s = (v, refl)
 form_sets : (s : Start) (f : Form) (t : Attr) → s.form ≡ f → IsTrue (has (kind_of f) t) → IsSome (start_value s t)
 form_sets s (form.Rect width height) attr.Size e i = rw e refl
 form_sets s (form.Circle radius) attr.Size e i = rw e refl
+form_sets s (form.Ellipse rx ry) attr.Size e i = rw e refl
 form_sets s (form.Polygon ps) attr.Points e i = rw e refl
 form_sets s f attr.Place e i = refl
 form_sets s f attr.Colour e i = refl

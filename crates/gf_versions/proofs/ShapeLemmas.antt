@@ -11,13 +11,14 @@ use Rattle.gf_shape.specs.Moving.{minus, plus}
 use Rattle.gf_shape.specs.Polygons.{is_polygon_count}
 use Rattle.gf_shape.specs.Reach.{is_reached, is_within_reach}
 use Rattle.gf_shape.specs.Round.{is_round}
-use Rattle.gf_shape.specs.ShapeMeaning.{any_holds, box_holds, circle_holds}
+use Rattle.gf_shape.specs.Oblong.{is_oblong}
+use Rattle.gf_shape.specs.ShapeMeaning.{any_holds, box_holds, circle_holds, ellipse_holds}
 use Rattle.gf_shape.specs.ShapeMoves.{any_movable}
 use Rattle.gf_shape.specs.Laws.Moved.{plus-minus}
 use Rattle.gf_shape.specs.Laws.Shapes.{any_moves}
 use Rattle.gf_ops.specs.Limits.{is_form, is_near, is_polygon, is_size}
 use Rattle.gf_ops.specs.declared.change.Form.{Form}
-use Rattle.gf_ops.specs.declared.change.Form.TheVariants.{Rect, Circle, Polygon}
+use Rattle.gf_ops.specs.declared.change.Form.TheVariants.{Rect, Circle, Ellipse, Polygon}
 use Rattle.gf_versions.specs.Ranking.{form_at, origin, shape_of}
 use Rattle.gf_versions.specs.Visible.{form_holds}
 
@@ -31,6 +32,7 @@ minus-origin p = rw (less_none p.x, less_none p.y) refl
 shape_of_holds : (form : Form) (d : Point) → any_holds (shape_of form) d ≡ form_holds form d
 shape_of_holds (Rect width height) d = ap (box_holds width height) (minus-origin d)
 shape_of_holds (Circle radius) d = ap (circle_holds radius) (minus-origin d)
+shape_of_holds (Ellipse rx ry) d = ap (ellipse_holds rx ry) (minus-origin d)
 shape_of_holds (Polygon ps) d = refl
 
 -- a form at its place holds p exactly if the form holds p seen from there, by the move law
@@ -46,6 +48,10 @@ is_area-sizes width height wide high = grind (arith, ints, nat_tests)
 pub is_round-size : (radius : ℕ) → IsTrue (is_size radius) → IsTrue (is_round (record { centre = origin; radius = radius }))
 unfolding is_reached
 is_round-size radius fits = grind (arith, ints, nat_tests)
+
+pub is_oblong-sizes : (rx ry : ℕ) → IsTrue (is_size rx) → IsTrue (is_size ry) → IsTrue (is_oblong (record { centre = origin; rx = rx; ry = ry }))
+unfolding is_reached
+is_oblong-sizes rx ry wide high = grind (arith, ints, nat_tests)
 
 -- a near point lies within reach
 is_within_reach-near : (p : Point) → IsTrue (is_near p) → IsTrue (is_within_reach p)
@@ -96,4 +102,5 @@ origin_movable-near d near = grind (arith, ints)
 pub shape_movable : (form : Form) (d : Point) → IsTrue (is_form form) → IsTrue (is_near d) → IsTrue (any_movable (shape_of form) d)
 shape_movable (Rect width height) d fits near = let sizes = and_parts _ _ fits in rect_movable-near width height d sizes.0 sizes.1 near
 shape_movable (Circle radius) d fits near = origin_movable-near d near
+shape_movable (Ellipse rx ry) d fits near = origin_movable-near d near
 shape_movable (Polygon ps) d fits near = all_movable-near ps d (and_parts _ (list_all is_near ps) fits).1 near

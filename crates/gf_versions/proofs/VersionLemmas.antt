@@ -14,7 +14,7 @@ use Rattle.gf_ops.specs.declared.change.Form.{Form}
 use Rattle.gf_ops.specs.declared.change.Form.TheVariants as form
 use Rattle.gf_ops.specs.declared.change.Value.{Value}
 use Rattle.gf_ops.specs.declared.change.Value.TheVariants.{Place, Points, Size, Colour, Layer, Shown}
-use Rattle.gf_ops.specs.Attribute.{Kind, Box, Circle, Polygon, change_value, form_attribute, form_value, kind_of, points_in, size_in}
+use Rattle.gf_ops.specs.Attribute.{Kind, Box, Circle, Ellipse, Polygon, change_value, form_attribute, form_value, kind_of, points_in, size_in}
 use Rattle.gf_ops.specs.SettledValue.{IsSettled}
 use Rattle.gf_ops.specs.ValidHistory.{IsValid}
 use Rattle.gf_ops.specs.Version.{IsOfKind, IsVersion}
@@ -57,6 +57,7 @@ shown_given (Set o w) v e = absurd cc
 form_size : (f : Form) (v : Value) → size_in (form_value f) ≡ Some v → (m : ℕ) × (n : ℕ) × (v ≡ Size m n)
 form_size (form.Rect width height) v e = (width, height, (cc))
 form_size (form.Circle radius) v e = (radius, radius, (cc))
+form_size (form.Ellipse rx ry) v e = (rx, ry, (cc))
 form_size (form.Polygon ps) v e = absurd cc
 
 size_given : (c : Change) (v : Value) → change_value c attr.Size ≡ Some v → (m : ℕ) × (n : ℕ) × (v ≡ Size m n)
@@ -92,6 +93,10 @@ module _ (h : List Op) (valid : IsValid h) (g : Group) (version : IsVersionGroup
       let settled = subst (IsSettled h g.ops attr.Size) size.2 s.1 in
       let round = round_settled size.0 size.1 x settled in
       (form.Circle size.0, record { kind = x; settled = subst (λ n. IsSettled h g.ops attr.Size (Size size.0 n)) (sym round) settled })
+  some_form Ellipse x =
+      let s = some_settled attr.Size (has_attribute h valid g.object Ellipse attr.Size x refl) in
+      let size = size_given s.1.setter.change s.0 s.1.gives in
+      (form.Ellipse size.0 size.1, record { kind = x; settled = subst (IsSettled h g.ops attr.Size) size.2 s.1 })
   some_form Polygon x =
       let s = some_settled attr.Points (has_attribute h valid g.object Polygon attr.Points x refl) in
       let points = points_given s.1.setter.change s.0 s.1.gives in
@@ -128,6 +133,7 @@ module _ (h : List Op) (valid : IsValid h) where
   same_form : (o : ObjectId) (g : List OpId) → IsVersion h o g → (e f : Form) → kind_of e ≡ kind_of f → IsSettled h g (form_attribute e) (form_value e) → IsSettled h g (form_attribute f) (form_value f) → e ≡ f
   same_form o g version (form.Rect w k) (form.Rect x l) kind s r = let e = settled_once h valid o g version attr.Size (Size w k) (Size x l) s r in cc
   same_form o g version (form.Circle q) (form.Circle p) kind s r = let e = settled_once h valid o g version attr.Size (Size q q) (Size p p) s r in cc
+  same_form o g version (form.Ellipse w k) (form.Ellipse x l) kind s r = let e = settled_once h valid o g version attr.Size (Size w k) (Size x l) s r in cc
   same_form o g version (form.Polygon ps) (form.Polygon qs) kind s r = let e = settled_once h valid o g version attr.Points (Points ps) (Points qs) s r in cc
   same_form o g version e f kind s r = absurd cc
 

@@ -7,7 +7,7 @@ use Rattle.gf_shape.specs.declared.any_shape.AnyShape.TheVariants as any
 use Rattle.gf_shape.specs.ShapeMoves.{any_moved}
 use Rattle.gf_ops.specs.declared.op.Op.{Op}
 use Rattle.gf_ops.specs.declared.change.Form.{Form}
-use Rattle.gf_ops.specs.declared.change.Form.TheVariants.{Rect, Circle, Polygon}
+use Rattle.gf_ops.specs.declared.change.Form.TheVariants.{Rect, Circle, Ellipse, Polygon}
 use Rattle.gf_groups.specs.declared.group.Group.{Group}
 use Rattle.gf_versions.specs.declared.key.Version.{Version}
 use Rattle.gf_versions.specs.declared.placed.Placed.{Placed}
@@ -23,6 +23,7 @@ origin = record { x = pos 0; y = pos 0 }
 abbrev pub shape_of : Form → AnyShape
 shape_of (Rect width height) = any.Rect (record { low = origin; width = width; height = height })
 shape_of (Circle radius) = any.Circle (record { centre = origin; radius = radius })
+shape_of (Ellipse rx ry) = any.Ellipse (record { centre = origin; rx = rx; ry = ry })
 shape_of (Polygon ps) = any.Polygon ps
 
 -- the form f moved to its place

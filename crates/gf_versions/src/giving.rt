@@ -16,8 +16,8 @@ pub(crate) fn sets(op: &Op, attribute: Attr) -> bool
         Change::Create(start) => match (attribute, &start.form) {
             (Attr::Place | Attr::Colour | Attr::Layer | Attr::Shown, _) => true,
             (Attr::Points, Form::Polygon(_)) => true,
-            (Attr::Points, Form::Rect(_, _) | Form::Circle(_)) => false,
-            (Attr::Size, Form::Rect(_, _) | Form::Circle(_)) => true,
+            (Attr::Points, Form::Rect(_, _) | Form::Circle(_) | Form::Ellipse(_, _)) => false,
+            (Attr::Size, Form::Rect(_, _) | Form::Circle(_) | Form::Ellipse(_, _)) => true,
             (Attr::Size, Form::Polygon(_)) => false,
         },
         Change::Set { value, .. } => value.attribute() == attribute,
@@ -47,7 +47,7 @@ pub(crate) fn points(op: &Op) -> &Points
     match &op.change {
         Change::Create(start) => match &start.form {
             Form::Polygon(points) => points,
-            Form::Rect(_, _) | Form::Circle(_) => unreachable!(),
+            Form::Rect(_, _) | Form::Circle(_) | Form::Ellipse(_, _) => unreachable!(),
         },
         Change::Set {
             value: Value::Points(points),
@@ -57,7 +57,7 @@ pub(crate) fn points(op: &Op) -> &Points
     }
 }
 
-/// The size that the operation gives: a width and a height, or a radius twice.
+/// The size that the operation gives: a width and a height, a radius twice, or two radii.
 pub(crate) fn size(op: &Op) -> (u32, u32)
     requires { IsSome (value_given op.now Attr.Size) }
     ensures { value_given op.now Attr.Size ≡ Some (Value.Size result.0 result.1) }
@@ -66,6 +66,7 @@ pub(crate) fn size(op: &Op) -> (u32, u32)
         Change::Create(start) => match &start.form {
             Form::Rect(width, height) => (*width, *height),
             Form::Circle(radius) => (*radius, *radius),
+            Form::Ellipse(rx, ry) => (*rx, *ry),
             Form::Polygon(_) => unreachable!(),
         },
         Change::Set {

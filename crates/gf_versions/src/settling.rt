@@ -51,6 +51,10 @@ fn settled_form(alloc: Global, history: &History, group: &Group) -> Result<Form,
             let (radius, _) = size(last_setter(history, group, Attr::Size));
             Ok(Form::Circle(radius))
         }
+        Form::Ellipse(_, _) => {
+            let (rx, ry) = size(last_setter(history, group, Attr::Size));
+            Ok(Form::Ellipse(rx, ry))
+        }
         Form::Polygon(_) => {
             let points = points(last_setter(history, group, Attr::Points));
             Ok(Form::Polygon(points.copy(alloc)?))

@@ -5,7 +5,7 @@ ghost use Rattle.gf_ops.specs.Limits.{is_form, is_near, is_polygon, is_size};
 ghost use Rattle.gf_versions.specs.Ranking.{form_at, origin, shape_of};
 
 use gf_ops::Form;
-use gf_shape::{AnyShape, Circle, OutOfMemory, Point, Polygon, PolygonError, Rect, Shape};
+use gf_shape::{AnyShape, Circle, Ellipse, OutOfMemory, Point, Polygon, PolygonError, Rect, Shape};
 use std::alloc::Global;
 
 /// The place of what is not moved.
@@ -28,6 +28,7 @@ fn shape(alloc: Global, form: &Form) -> Result<AnyShape, OutOfMemory>
     match form {
         Form::Rect(width, height) => Ok(AnyShape::Rect(rect(*width, *height))),
         Form::Circle(radius) => Ok(AnyShape::Circle(circle(*radius))),
+        Form::Ellipse(rx, ry) => Ok(AnyShape::Ellipse(ellipse(*rx, *ry))),
         Form::Polygon(points) => Ok(AnyShape::Polygon(polygon(alloc, points.as_slice())?)),
     }
 }
@@ -49,6 +50,17 @@ fn circle(radius: u32) -> Circle
 {
     match Circle::new(ORIGIN, radius) {
         Ok(circle) => circle,
+        Err(_) => unreachable!(),
+    }
+}
+
+fn ellipse(rx: u32, ry: u32) -> Ellipse
+    requires rx { IsTrue (is_size rx) }
+    requires ry { IsTrue (is_size ry) }
+    ensures { result ≡ record { centre = origin; rx = rx; ry = ry } }
+{
+    match Ellipse::new(ORIGIN, rx, ry) {
+        Ok(ellipse) => ellipse,
         Err(_) => unreachable!(),
     }
 }

@@ -2,7 +2,7 @@ use Rattle.std.proofs.Common.{refl, sym, subst}
 use Rattle.gf_ops.specs.declared.change.Attr.TheVariants as attr
 use Rattle.gf_ops.specs.declared.change.Form.TheVariants as form
 use Rattle.gf_ops.specs.declared.change.Value.TheVariants.{Size}
-use Rattle.gf_ops.specs.Attribute.{Box, Circle, Polygon}
+use Rattle.gf_ops.specs.Attribute.{Box, Circle, Ellipse, Polygon}
 use Rattle.gf_ops.specs.SettledValue.{IsSettled}
 use Rattle.gf_versions.proofs.MakerLemmas.{has_attribute, kind_by_form, not_set}
 use Rattle.gf_versions.proofs.SettlingLemmas.{settled_by}
@@ -27,6 +27,13 @@ last_setter-requires-in-Circle-clause-has c =
     let h = c.args.history.now.ops in
     let o = c.args.group.now.object in
     has_attribute h made.valid o Circle attr.Size (kind_by_form h made.valid o c.maker.result.now c.in-Create.start (form.Circle c.in-Circle.field-0) made.contained made.id c.in-Create.is c.in-Circle.is) refl
+
+pub last_setter-requires-in-Ellipse-clause-has : goal.last_setter-requires-in-Ellipse-clause-has
+last_setter-requires-in-Ellipse-clause-has c =
+    let made = c.maker.ensures in
+    let h = c.args.history.now.ops in
+    let o = c.args.group.now.object in
+    has_attribute h made.valid o Ellipse attr.Size (kind_by_form h made.valid o c.maker.result.now c.in-Create.start (form.Ellipse c.in-Ellipse.field-0 c.in-Ellipse.field-1) made.contained made.id c.in-Create.is c.in-Ellipse.is) refl
 
 pub last_setter-requires-in-Polygon-clause-has : goal.last_setter-requires-in-Polygon-clause-has
 last_setter-requires-in-Polygon-clause-has c =
