@@ -49,7 +49,7 @@ pub enum FigFault {
     Depth,
     /// Memory was refused; of the text it says nothing.
     OutOfMemory,
-    /// The angle of an ellipse that is no circle has a digit that is not 0.
+    /// The angle of an ellipse of sub type 1 or 2 has a digit that is not 0.
     Angle,
 }
 
