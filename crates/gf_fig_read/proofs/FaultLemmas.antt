@@ -7,10 +7,10 @@ use Rattle.gf_drawing.specs.Colours.{Table}
 use Rattle.gf_fig_text.specs.declared.faults.FigFault.{FigFault}
 use Rattle.gf_fig_text.specs.declared.faults.FigFault.TheVariants as fault
 use Rattle.gf_fig_text.specs.Layout.{Token, object_tokens, is_version, plain_lines, tokens, after_resolution}
-use Rattle.gf_fig_text.specs.Forms.{whole, decimal, colour}
-use Rattle.gf_fig_text.specs.Fields.{Read, Reader, ◌>>=◌, read_on, field, any, check, checked, give, is_in, natural, coordinate, point, points}
+use Rattle.gf_fig_text.specs.Forms.{whole, decimal, angle, colour}
+use Rattle.gf_fig_text.specs.Fields.{Read, Reader, ◌>>=◌, read_on, field, any, check, checked, give, is_in, natural, no_angle, coordinate, point, points}
 use Rattle.gf_fig_read.specs.Styles.{known_colour, is_known, filling, style}
-use Rattle.gf_fig_read.specs.Outlines.{count, chain, disc}
+use Rattle.gf_fig_read.specs.Outlines.{count, chain, disc, ellipse, oval}
 use Rattle.gf_fig_read.specs.Objects.{Drawn, colour_object, ellipse_object, polyline_object, object}
 use Rattle.gf_fig_read.specs.FigGrammar.{Fails, is_of_front}
 
@@ -126,6 +126,25 @@ blames_disc =
     blames_bind _ _ (blames_natural r r fault.Radius refl) (λ _. blames_bind _ _ any_whole (λ _. blames_bind _ _ any_whole (λ _. blames_bind _ _ any_whole (λ _.
     blames_bind _ _ any_whole (λ _. blames_give _)))))))))
 
+blames_no_angle : Blames no_angle
+unfolding no_angle
+blames_no_angle = blames_bind _ _ (blames_field angle (λ _. true) fault.Token refl) (λ level. blames_check level fault.Angle refl)
+
+blames_oval : Blames oval
+unfolding oval
+blames_oval =
+    blames_bind _ _ any_whole (λ _. blames_bind _ _ blames_no_angle (λ _. blames_bind _ _ blames_point (λ c. blames_bind _ _ (blames_natural 1 10000000 fault.Radius refl) (λ r.
+    blames_bind _ _ (blames_natural 1 10000000 fault.Radius refl) (λ _. blames_bind _ _ any_whole (λ _. blames_bind _ _ any_whole (λ _. blames_bind _ _ any_whole (λ _.
+    blames_bind _ _ any_whole (λ _. blames_give _)))))))))
+
+blames_either : (two_radii : Bool) → Blames (cond two_radii oval disc)
+blames_either true = blames_oval
+blames_either false = blames_disc
+
+blames_ellipse : (sub_type : ℕ) → Blames (ellipse sub_type)
+unfolding ellipse
+blames_ellipse sub_type = blames_either _
+
 blames_colour_object : (d : Drawn) → Blames (colour_object d)
 unfolding colour_object
 blames_colour_object d =
@@ -134,7 +153,7 @@ blames_colour_object d =
 
 blames_ellipse_object : (d : Drawn) → Blames (ellipse_object d)
 unfolding ellipse_object
-blames_ellipse_object d = blames_bind _ _ (blames_style 3 4 d.table) (λ s. blames_bind _ _ blames_disc (λ o. blames_give _))
+blames_ellipse_object d = blames_bind _ _ (blames_style 1 4 d.table) (λ s. blames_bind _ _ (blames_ellipse s.sub_type) (λ o. blames_give _))
 
 blames_polyline_object : (d : Drawn) → Blames (polyline_object d)
 unfolding polyline_object

@@ -9,11 +9,11 @@ use Rattle.gf_fig_text.specs.declared.faults.FigFault.{FigFault}
 use Rattle.gf_fig_text.specs.declared.faults.FigFault.TheVariants as fault
 use Rattle.gf_fig_read.specs.declared.styles.Style.{Style}
 use Rattle.gf_fig_text.specs.Layout.{Token}
-use Rattle.gf_fig_text.specs.Forms.{whole, decimal, colour}
-use Rattle.gf_fig_text.specs.Fields.{Read, Reader, ◌>>=◌, read_on, field, any, check, checked, give, is_in, natural, coordinate, point, points}
+use Rattle.gf_fig_text.specs.Forms.{whole, decimal, angle, colour}
+use Rattle.gf_fig_text.specs.Fields.{Read, Reader, ◌>>=◌, read_on, field, any, check, checked, give, is_in, natural, no_angle, coordinate, point, points}
 use Rattle.gf_fig_read.specs.Objects.{Drawn, with_figure, colour_object, ellipse_object, polyline_object, object}
 use Rattle.gf_fig_read.specs.Styles.{known_colour, is_known, filling, style}
-use Rattle.gf_fig_read.specs.Outlines.{count, chain, disc}
+use Rattle.gf_fig_read.specs.Outlines.{count, chain, disc, ellipse, oval}
 use Rattle.gf_fig_read.specs.FigGrammar.{Leads, none, more, nothing}
 
 -- whatever r gives has P, and r makes no tokens
@@ -137,6 +137,25 @@ gives_disc =
     gives_bind _ _ _ (gives_natural r r fault.Radius) (λ _. gives_bind _ _ _ any_whole (λ _. gives_bind _ _ _ any_whole (λ _. gives_bind _ _ _ any_whole (λ _.
     gives_bind _ _ _ any_whole (λ _. gives_give (λ (o : Outline). ⊤) _ tt)))))))))
 
+gives_no_angle : Any no_angle
+unfolding no_angle
+gives_no_angle = gives_bind _ _ _ (gives_field angle (λ _. true) fault.Token) (λ level. gives_check level fault.Angle)
+
+gives_oval : Any oval
+unfolding oval
+gives_oval =
+    gives_bind _ _ _ any_whole (λ _. gives_bind _ _ _ gives_no_angle (λ _. gives_bind _ _ _ gives_point (λ c. gives_bind _ _ _ (gives_natural 1 10000000 fault.Radius) (λ r.
+    gives_bind _ _ _ (gives_natural 1 10000000 fault.Radius) (λ s. gives_bind _ _ _ any_whole (λ _. gives_bind _ _ _ any_whole (λ _. gives_bind _ _ _ any_whole (λ _.
+    gives_bind _ _ _ any_whole (λ _. gives_give (λ (o : Outline). ⊤) _ tt)))))))))
+
+gives_either : (two_radii : Bool) → Any (cond two_radii oval disc)
+gives_either true = gives_oval
+gives_either false = gives_disc
+
+gives_ellipse : (sub_type : ℕ) → Any (ellipse sub_type)
+unfolding ellipse
+gives_ellipse sub_type = gives_either _
+
 -- ---- objects
 
 -- how many objects drawing d is made of
@@ -160,7 +179,7 @@ gives_colour_object d =
 
 gives_ellipse_object : (d : Drawn) → Gives (HasOneMore d) (ellipse_object d)
 unfolding ellipse_object
-gives_ellipse_object d = gives_bind _ _ _ (gives_style 3 4 d.table) (λ s. gives_bind _ _ _ gives_disc (λ o. gives_give (HasOneMore d) (with_figure d s o) (more_figures d s o)))
+gives_ellipse_object d = gives_bind _ _ _ (gives_style 1 4 d.table) (λ s. gives_bind _ _ _ (gives_ellipse s.sub_type) (λ o. gives_give (HasOneMore d) (with_figure d s o) (more_figures d s o)))
 
 gives_polyline_object : (d : Drawn) → Gives (HasOneMore d) (polyline_object d)
 unfolding polyline_object

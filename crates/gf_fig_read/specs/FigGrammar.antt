@@ -1,4 +1,4 @@
--- The FIG grammar: which drawing a text reads as, and with which fault of which object it fails (Xfig, FIG Format 3.2); the profile is this project's: filled closed chains and circles without outline or arrows.
+-- The FIG grammar: which drawing a text reads as, and with which fault of which object it fails (Xfig, FIG Format 3.2); the profile is this project's: filled closed chains, circles and ellipses with level axes, without outline or arrows.
 use Rattle.std.specs.Prelude.{◌≡◌, ◌≢◌, ◌⊎◌, ℕ, ◌+◌, Bool, true, false, List, [], length, Ok, Err}
 use Rattle.gf_fig_text.specs.Layout.{Token, object_tokens}
 use Rattle.gf_fig_read.specs.Objects.{Drawn, object}

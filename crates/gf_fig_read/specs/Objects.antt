@@ -6,7 +6,7 @@ use Rattle.gf_drawing.specs.DrawingState.{DrawingState}
 use Rattle.gf_fig_text.specs.Forms.{colour}
 use Rattle.gf_fig_text.specs.Fields.{Reader, ◌>>=◌, any, check, give, natural}
 use Rattle.gf_fig_read.specs.Styles.{style}
-use Rattle.gf_fig_read.specs.Outlines.{chain, disc}
+use Rattle.gf_fig_read.specs.Outlines.{chain, ellipse}
 use Rattle.gf_fig_read.specs.declared.styles.Style.{Style}
 use Rattle.gf_fig_text.specs.declared.faults.FigFault.TheVariants as fault
 
@@ -27,11 +27,11 @@ colour_object d = do
 abbrev pub with_figure : Drawn → Style → Outline → Drawn
 with_figure d s o = record d { figures = d.figures ++ record { shape = o; colour = s.colour; depth = s.depth } ∷ [] }
 
--- an ellipse behind its code 1: sub type 3 is a circle by its radius, 4 one by its diameter
+-- an ellipse behind its code 1: sub type 1 has its radii given, 2 its diameters, 3 is a circle by its radius, 4 one by its diameter
 unfoldable pub ellipse_object : Drawn → Reader Drawn
 ellipse_object d = do
-  s ← style 3 4 d.table
-  o ← disc
+  s ← style 1 4 d.table
+  o ← ellipse s.sub_type
   give (with_figure d s o)
 
 -- a polyline behind its code 2: sub type 2 is a box, 3 a polygon

@@ -1,11 +1,11 @@
 -- The outlines of polylines and ellipses, field by field (Xfig, FIG Format 3.2: join_style to the points, direction to end_y); the limits and the faults are this project's profile.
-use Rattle.std.specs.Prelude.{ℕ, ◌-◌, Bool, false, ◌&&◌, List, length, Option, Some, slice_get, if◌then◌else◌}
+use Rattle.std.specs.Prelude.{ℕ, ◌-◌, nat_le, Bool, false, ◌&&◌, List, length, Option, Some, slice_get, if◌then◌else◌}
 use Rattle.std.specs.Ordering.{int_eq}
 use Rattle.gf_shape.specs.declared.point.Point.{Point}
 use Rattle.gf_shape.specs.declared.outline.Outline.{Outline}
-use Rattle.gf_shape.specs.declared.outline.Outline.TheVariants.{Chain, Disc}
+use Rattle.gf_shape.specs.declared.outline.Outline.TheVariants.{Chain, Disc, Oval}
 use Rattle.gf_fig_text.specs.Forms.{whole, decimal}
-use Rattle.gf_fig_text.specs.Fields.{Reader, ◌>>=◌, any, check, give, natural, point, points}
+use Rattle.gf_fig_text.specs.Fields.{Reader, ◌>>=◌, any, check, give, natural, no_angle, point, points}
 use Rattle.gf_fig_text.specs.declared.faults.FigFault.TheVariants as fault
 
 -- both are there and are one point
@@ -35,7 +35,7 @@ chain boxed = do
   closed ← check (is_closed ps) fault.Open
   give (Chain (record { boxed = boxed; points = ps }))
 
--- the fields of an ellipse from direction to end_y: a circle, the same at every angle
+-- the fields of a circle from direction to end_y; it is the same at every angle
 unfoldable pub disc : Reader Outline
 disc = do
   direction ← any whole
@@ -48,3 +48,21 @@ disc = do
   end_x ← any whole
   end_y ← any whole
   give (Disc (record { centre = centre; radius = radius_x }))
+
+-- the fields of an ellipse with two radii from direction to end_y; its axes are level
+unfoldable pub oval : Reader Outline
+oval = do
+  direction ← any whole
+  angle ← no_angle
+  centre ← point
+  radius_x ← natural 1 10000000 fault.Radius
+  radius_y ← natural 1 10000000 fault.Radius
+  start_x ← any whole
+  start_y ← any whole
+  end_x ← any whole
+  end_y ← any whole
+  give (Oval (record { centre = centre; rx = radius_x; ry = radius_y }))
+
+-- the fields of an ellipse of this sub type from direction to end_y: 1 and 2 have two radii, 3 and 4 are circles
+unfoldable pub ellipse : ℕ → Reader Outline
+ellipse sub_type = if nat_le sub_type 2 then oval else disc

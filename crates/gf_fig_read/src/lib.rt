@@ -1,7 +1,8 @@
 //! Drawings from FIG text (Xfig, FIG Format 3.2).
 //!
 //! - [`read_fig`]: the drawing that a text reads as, by the FIG grammar of the profile that this
-//!   project reads: closed chains and circles, filled, without outline.
+//!   project reads: closed chains, circles and ellipses with level axes, filled, without
+//!   outline.
 //! - [`FigError`]: the first fault of a text that reads as none, a [`FigFault`], and its object.
 //! - [`every_text_reads_as_one_drawing_or_fails_once`]: the law of the grammar.
 #![tactic(auto)]

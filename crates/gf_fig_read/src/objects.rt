@@ -7,7 +7,7 @@ ghost use Rattle.gf_fig_read.specs.Objects.{polyline_object, object};
 ghost use Rattle.gf_fig_text.specs.declared.faults.FigFault.TheVariants as fault;
 ghost use Rattle.gf_fig_read.specs.Stepping.{AddsObject};
 
-use crate::outlines::{chain, disc};
+use crate::outlines::{chain, ellipse};
 use crate::styles::{Style, style_of};
 use gf_drawing::{Drawing, Figure};
 use gf_fig_text::{FigFault, Tokens, whole};
@@ -61,9 +61,9 @@ fn add_figure(drawing: &mut Drawing<Outline>, style: Style, shape: Outline) -> R
 fn add_ellipse(tokens: &mut Tokens<'_>, drawing: &mut Drawing<Outline>) -> Result<(), FigFault>
     ensures { AddsObject result drawing.new tokens.new (ellipse_object drawing.old tokens.old) }
 {
-    let style = style_of(tokens, 3, 4, drawing)?;
-    let disc = disc(tokens)?;
-    add_figure(drawing, style, disc)
+    let style = style_of(tokens, 1, 4, drawing)?;
+    let ellipse = ellipse(tokens, style.sub_type)?;
+    add_figure(drawing, style, ellipse)
 }
 
 /// Adds the polyline whose fields follow.

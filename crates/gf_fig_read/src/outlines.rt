@@ -3,16 +3,46 @@
 ghost use Rattle.std.specs.Prelude.{◌≡◌, ◌≤◌, true, length, All, Some, IfOk, IsTrue};
 ghost use Rattle.gf_shape.specs.Reach.{is_within_reach};
 ghost use Rattle.gf_fig_text.specs.Fields.{Steps, points};
-ghost use Rattle.gf_fig_read.specs.Outlines.{same_point, is_closed, count, chain, disc};
+ghost use Rattle.gf_fig_read.specs.Outlines.{same_point, is_closed, count, chain, disc, oval};
+ghost use Rattle.gf_fig_read.specs.Outlines.{ellipse};
 ghost use Rattle.gf_fig_read.specs.Stepping.{Recalls};
 
 use gf_fig_text::{FigFault, Tokens};
-use gf_shape::{Chain, Disc, Outline, Point};
+use gf_shape::{Chain, Disc, Outline, Oval, Point};
 use std::alloc::Global;
 
-/// The fields of an ellipse behind its style.
+/// The fields of an ellipse of this sub type behind its style.
+#[tactic(auto, unfolding(crate::specs::Outlines::ellipse))]
+pub(crate) fn ellipse(tokens: &mut Tokens<'_>, sub_type: u32) -> Result<Outline, FigFault>
+    ensures { Steps result tokens.new (ellipse sub_type tokens.old) }
+{
+    if sub_type <= 2 {
+        oval(tokens)
+    } else {
+        disc(tokens)
+    }
+}
+
+/// The fields of an ellipse with two radii.
+#[tactic(auto, unfolding(crate::specs::Outlines::oval))]
+fn oval(tokens: &mut Tokens<'_>) -> Result<Outline, FigFault>
+    ensures { Steps result tokens.new (oval tokens.old) }
+{
+    tokens.whole()?;
+    tokens.no_angle()?;
+    let centre = tokens.point()?;
+    let rx = tokens.natural(1, 10_000_000, FigFault::Radius)?;
+    let ry = tokens.natural(1, 10_000_000, FigFault::Radius)?;
+    tokens.whole()?;
+    tokens.whole()?;
+    tokens.whole()?;
+    tokens.whole()?;
+    Ok(Outline::Oval(Oval::new(centre, rx, ry)))
+}
+
+/// The fields of a circle.
 #[tactic(auto, unfolding(crate::specs::Outlines::disc))]
-pub(crate) fn disc(tokens: &mut Tokens<'_>) -> Result<Outline, FigFault>
+fn disc(tokens: &mut Tokens<'_>) -> Result<Outline, FigFault>
     ensures { Steps result tokens.new (disc tokens.old) }
 {
     tokens.whole()?;
