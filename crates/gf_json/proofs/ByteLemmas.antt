@@ -20,7 +20,7 @@ use Rattle.gf_json.specs.declared.line_error.LineError.TheVariants as fault
 use Rattle.gf_json.specs.ColourBytes.{ChangeHasBytes, ValueHasBytes}
 use Rattle.gf_json.specs.LineChanges.{change, creation, named_value, new_value, setting, start}
 use Rattle.gf_json.specs.LineColours.{hex_colour}
-use Rattle.gf_json.specs.LineFields.{at, box_size, circle_size, colour, id, layer, object, past, place, polygon_points, shown, value_at}
+use Rattle.gf_json.specs.LineFields.{at, box_size, circle_size, colour, ellipse_size, id, layer, object, past, place, polygon_points, shown, value_at}
 use Rattle.gf_json.specs.LineKeys.{creates, op_keys, says, sets}
 use Rattle.gf_json.specs.LineLimits.{level, point, points, size}
 use Rattle.gf_json.specs.LineValues.{Got, mapped, and_then, ◌&◌, truth}
@@ -132,9 +132,10 @@ module _ (d : Data) where
   change_bytes : (verb : List ℕ) (beside : List (List ℕ)) (c : Change) → change verb beside d ≡ Ok c → ChangeHasBytes c
   change_bytes verb beside = got_if (creates verb beside (codes "box") (codes "size") d) _ _ ChangeHasBytes (creation_bytes (box_size d))
       (got_if (creates verb beside (codes "circle") (codes "size") d) _ _ ChangeHasBytes (creation_bytes (circle_size d))
+      (got_if (creates verb beside (codes "ellipse") (codes "size") d) _ _ ChangeHasBytes (creation_bytes (ellipse_size d))
       (got_if (creates verb beside (codes "polygon") (codes "points") d) _ _ ChangeHasBytes (creation_bytes (polygon_points d))
       (got_if (sets verb beside d) _ _ ChangeHasBytes (setting_bytes (new_value d) new_bytes)
-      (λ c e. absurd cc))))
+      (λ c e. absurd cc)))))
 
   op_bytes : (a : Op) → op_of d ≡ Ok a → ChangeHasBytes a.change
   op_bytes = got_mapped _ (λ (a : Op). ChangeHasBytes a.change) (id d & past d & change (codes "op") op_keys d) (λ p e.

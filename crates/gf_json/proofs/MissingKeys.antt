@@ -1,6 +1,6 @@
 -- A key that is not there is a fault of form where it is read, so how many keys a line has and its words tell which line it is.
 use native.Mathlib.Omega.{arith}
-use Rattle.std.proofs.Common.{◌≡◌, [], ◌∷◌, ℕ, ◌+◌, ◌==◌, List, ◌++◌, length, refl, sym, Ok, Err, Bool, true, false, ◌&&◌, inl, inr, codes, if◌then◌else◌}
+use Rattle.std.proofs.Common.{◌≡◌, [], ◌∷◌, ℕ, ◌+◌, ◌==◌, List, ◌++◌, length, refl, sym, ap, ◌∙◌, Ok, Err, Bool, true, false, ◌&&◌, ◌||◌, inl, inr, codes, if◌then◌else◌}
 use Rattle.std.specs.Prelude.{Option, Some, None, is_some, option_and_then}
 use Rattle.std.specs.Option.{ok_or}
 use Rattle.std.specs.List.{list_all}
@@ -14,7 +14,7 @@ use Rattle.gf_json.specs.declared.line_error.LineError.TheVariants as fault
 use Rattle.serde_json.specs.Data.{Data, Members}
 use Rattle.serde_json.specs.Find.{get, as_str, as_object}
 use Rattle.gf_json.specs.LineValues.{Got, and_then, fault_beside, ◌&◌}
-use Rattle.gf_json.specs.LineFields.{at, id, past, site, object, place, box_size, circle_size, polygon_points, colour, layer, shown}
+use Rattle.gf_json.specs.LineFields.{at, id, past, site, object, place, box_size, circle_size, ellipse_size, polygon_points, colour, layer, shown}
 use Rattle.gf_json.specs.LineKeys.{op_keys, author_keys, create_keys, set_keys, await_keys, has_count, has_exactly, is_word, says, member_count}
 use Rattle.gf_json.specs.LineChanges.{new_value, named_value, creation, setting, change}
 use Rattle.gf_json.specs.OperationLines.{op_with, op_of}
@@ -134,6 +134,27 @@ setting-missing d h =
 
 -- ---- which change
 
+-- two kinds with the same keys, as one
+two_kinds : (A S K L : Bool) (b c x : Got Change) → (if A && S && K then b else (if A && S && L then c else x)) ≡ (if A && S && (K || L) then (if K then b else c) else x)
+two_kinds false S K L b c x = refl
+two_kinds true false K L b c x = refl
+two_kinds true true true L b c x = refl
+two_kinds true true false true b c x = refl
+two_kinds true true false false b c x = refl
+
+two_words : (K L : Bool) (b c x : Got Change) → (if K then b else (if L then c else x)) ≡ (if K || L then (if K then b else c) else x)
+two_words true L b c x = refl
+two_words false true b c x = refl
+two_words false false b c x = refl
+
+missing_either : (K L P : Bool) (b c : Got Change) → (K ≡ true → P ≡ false → b ≡ Err fault.Field) → (L ≡ true → P ≡ false → c ≡ Err fault.Field) → (K || L) ≡ true → P ≡ false → (if K then b else c) ≡ Err fault.Field
+missing_either true L P b c f g h n = f refl n
+missing_either false L P b c f g h n = g h n
+
+word_either : (K L M : Bool) → (K ≡ true → M ≡ false) → (L ≡ true → M ≡ false) → (K || L) ≡ true → M ≡ false
+word_either true L M f g h = f refl
+word_either false L M f g h = g h
+
 -- of three kinds to create, and a setting
 one_of : (C S K1 K2 K3 P1 P3 T U Q : Bool) (b c p s : Got Change)
     → (K1 ≡ true → P1 ≡ false → b ≡ Err fault.Field) → (K2 ≡ true → P1 ≡ false → c ≡ Err fault.Field) → (K3 ≡ true → P3 ≡ false → p ≡ Err fault.Field) → (Q ≡ false → s ≡ Err fault.Field)
@@ -165,6 +186,17 @@ one_of true true false false false false true false U Q b c p s x y z w e f t = 
 one_of true true false false false true false false U Q b c p s x y z w e f t = refl
 one_of true true false false false false false false U Q b c p s x y z w e f t = refl
 
+-- of four kinds, where the second and the third have the same keys
+one_of_four : (C S K1 K2 K3 K4 P1 P4 T U Q : Bool) (b c e p s : Got Change)
+    → (K1 ≡ true → P1 ≡ false → b ≡ Err fault.Field) → (K2 ≡ true → P1 ≡ false → c ≡ Err fault.Field) → (K3 ≡ true → P1 ≡ false → e ≡ Err fault.Field) → (K4 ≡ true → P4 ≡ false → p ≡ Err fault.Field) → (Q ≡ false → s ≡ Err fault.Field)
+    → (K1 ≡ true → K4 ≡ false) → (K2 ≡ true → K4 ≡ false) → (K3 ≡ true → K4 ≡ false) → (C ≡ true → T ≡ false)
+    → (if (C && P1) && S && K1 then b else (if (C && P1) && S && K2 then c else (if (C && P1) && S && K3 then e else (if (C && P4) && S && K4 then p else (if (T && Q) && U then s else Err fault.Field)))))
+    ≡ (if C && S then (if K1 then b else (if K2 then c else (if K3 then e else (if K4 then p else Err fault.Field)))) else (if T && U then s else Err fault.Field))
+one_of_four C S K1 K2 K3 K4 P1 P4 T U Q b c e p s f g h k l m n o t =
+    ap (λ (x : Got Change). if (C && P1) && S && K1 then b else x) (two_kinds (C && P1) S K2 K3 c e (if (C && P4) && S && K4 then p else (if (T && Q) && U then s else Err fault.Field)))
+    ∙ (one_of C S K1 (K2 || K3) K4 P1 P4 T U Q b (if K2 then c else e) p s f (missing_either K2 K3 P1 c e g h) k l m (word_either K2 K3 K4 n o) t
+    ∙ ap (λ (x : Got Change). if C && S then (if K1 then b else x) else (if T && U then s else Err fault.Field)) (sym (two_words K2 K3 c e (if K4 then p else Err fault.Field))))
+
 -- where each key beside those of the change is there
 complete : (beside keys : List (List ℕ)) (d : Data) → list_all (λ key. is_some (get key d)) beside ≡ true
     → has_exactly (beside ++ keys) d ≡ (has_count (length beside + length keys) (as_object d) && list_all (λ key. is_some (get key d)) keys)
@@ -173,15 +205,18 @@ complete beside keys d h = rw (length-append, list_all-append, h) refl
 change-read : (verb : List ℕ) (beside : List (List ℕ)) (d : Data) → list_all (λ key. is_some (get key d)) beside ≡ true → change verb beside d ≡ read_change verb (length beside) d
 change-read verb beside d h =
     rw (complete beside (create_keys (codes "size")) d h, complete beside (create_keys (codes "points")) d h, complete beside set_keys d h)
-    (one_of (has_count (length beside + 6) (as_object d)) (says verb (codes "create") d) (says (codes "kind") (codes "box") d) (says (codes "kind") (codes "circle") d) (says (codes "kind") (codes "polygon") d)
+    (one_of_four (has_count (length beside + 6) (as_object d)) (says verb (codes "create") d)
+    (says (codes "kind") (codes "box") d) (says (codes "kind") (codes "circle") d) (says (codes "kind") (codes "ellipse") d) (says (codes "kind") (codes "polygon") d)
     (list_all (λ key. is_some (get key d)) (create_keys (codes "size"))) (list_all (λ key. is_some (get key d)) (create_keys (codes "points")))
     (has_count (length beside + 3) (as_object d)) (says verb (codes "set") d) (list_all (λ key. is_some (get key d)) set_keys)
-    (creation (box_size d) d) (creation (circle_size d) d) (creation (polygon_points d) d) (setting (new_value d) d)
+    (creation (box_size d) d) (creation (circle_size d) d) (creation (ellipse_size d) d) (creation (polygon_points d) d) (setting (new_value d) d)
     (λ k. creation-missing (box_size d) (codes "size") (codes "box") d k (λ n. rw (missing (codes "size") _ d n) refl))
     (λ k. creation-missing (circle_size d) (codes "size") (codes "circle") d k (λ n. rw (missing (codes "size") _ d n) refl))
+    (λ k. creation-missing (ellipse_size d) (codes "size") (codes "ellipse") d k (λ n. rw (missing (codes "size") _ d n) refl))
     (λ k. creation-missing (polygon_points d) (codes "points") (codes "polygon") d k (λ n. rw (missing (codes "points") _ d n) refl))
     (setting-missing d)
-    (one_word (codes "kind") (codes "box") (codes "polygon") d refl) (one_word (codes "kind") (codes "circle") (codes "polygon") d refl) (one_count (length beside) (as_object d)))
+    (one_word (codes "kind") (codes "box") (codes "polygon") d refl) (one_word (codes "kind") (codes "circle") (codes "polygon") d refl) (one_word (codes "kind") (codes "ellipse") (codes "polygon") d refl)
+    (one_count (length beside) (as_object d)))
 
 -- where one is not
 incomplete : (beside keys : List (List ℕ)) (d : Data) → list_all (λ key. is_some (get key d)) beside ≡ false → has_exactly (beside ++ keys) d ≡ false

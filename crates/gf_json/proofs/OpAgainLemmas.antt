@@ -8,7 +8,7 @@ use Rattle.gf_ops.specs.declared.op.OpId.{OpId}
 use Rattle.gf_ops.specs.declared.op.ObjectId.{ObjectId}
 use Rattle.gf_ops.specs.declared.op.Clock.{Clock}
 use Rattle.gf_ops.specs.declared.change.Form.{Form}
-use Rattle.gf_ops.specs.declared.change.Form.TheVariants.{Rect, Polygon, Circle}
+use Rattle.gf_ops.specs.declared.change.Form.TheVariants.{Rect, Polygon, Circle, Ellipse}
 use Rattle.gf_ops.specs.declared.change.Start.{Start}
 use Rattle.gf_ops.specs.declared.change.Change.{Change}
 use Rattle.gf_ops.specs.declared.change.Change.TheVariants.{Create, Set}
@@ -18,7 +18,7 @@ use Rattle.gf_ops.specs.Limits.{is_id, is_clock, is_near, is_form, is_layer, is_
 use Rattle.serde_json.specs.Data.{Data}
 use Rattle.gf_json.specs.LineValues.{Got, mapped, and_then, ◌&◌, array}
 use Rattle.gf_json.specs.LineLimits.{name, clock}
-use Rattle.gf_json.specs.LineFields.{id, past, object, place, box_size, circle_size, polygon_points, colour, layer, shown}
+use Rattle.gf_json.specs.LineFields.{id, past, object, place, box_size, circle_size, ellipse_size, polygon_points, colour, layer, shown}
 use Rattle.gf_json.specs.LineKeys.{op_keys}
 use Rattle.gf_json.specs.LineChanges.{change, new_value}
 use Rattle.gf_json.specs.OperationLines.{op_of}
@@ -61,6 +61,10 @@ creation_again i p s (Circle radius) form near level bytes =
     let d = creation_data i p s (Circle radius) in
     start_parts (circle_size d) (place d) (colour d) (layer d) (shown d) (Circle radius) s
     (mapped-Ok Circle _ radius (radius_again radius form)) (point_again s.place near) (colour_again s.colour bytes) (level_again s.layer level) refl
+creation_again i p s (Ellipse rx ry) form near level bytes =
+    let d = creation_data i p s (Ellipse rx ry) in
+    start_parts (ellipse_size d) (place d) (colour d) (layer d) (shown d) (Ellipse rx ry) s
+    (mapped-Ok (λ q. Ellipse q.0 q.1) _ (rx, ry) (size_again rx ry form)) (point_again s.place near) (colour_again s.colour bytes) (level_again s.layer level) refl
 
 -- ---- settings
 
@@ -93,6 +97,7 @@ id-creation_data : (i p : Data) (s : Start) (f : Form) → id (creation_data i p
 id-creation_data i p s (Rect width height) = refl
 id-creation_data i p s (Polygon ps) = refl
 id-creation_data i p s (Circle radius) = refl
+id-creation_data i p s (Ellipse rx ry) = refl
 
 id-change_data : (i p : Data) (c : Change) → id (change_data i p c) ≡ name i
 id-change_data i p (Create s) = id-creation_data i p s s.form
@@ -102,6 +107,7 @@ past-creation_data : (i p : Data) (s : Start) (f : Form) → past (creation_data
 past-creation_data i p s (Rect width height) = refl
 past-creation_data i p s (Polygon ps) = refl
 past-creation_data i p s (Circle radius) = refl
+past-creation_data i p s (Ellipse rx ry) = refl
 
 past-change_data : (i p : Data) (c : Change) → past (change_data i p c) ≡ and_then clock (array p)
 past-change_data i p (Create s) = past-creation_data i p s s.form

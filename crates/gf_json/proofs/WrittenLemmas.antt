@@ -5,7 +5,7 @@ use Rattle.gf_ops.specs.declared.op.Op.{Op}
 use Rattle.gf_ops.specs.declared.op.OpId.{OpId}
 use Rattle.gf_ops.specs.declared.op.Clock.{Clock}
 use Rattle.gf_ops.specs.declared.change.Form.{Form}
-use Rattle.gf_ops.specs.declared.change.Form.TheVariants.{Rect, Polygon, Circle}
+use Rattle.gf_ops.specs.declared.change.Form.TheVariants.{Rect, Polygon, Circle, Ellipse}
 use Rattle.gf_ops.specs.declared.change.Start.{Start}
 use Rattle.gf_ops.specs.declared.change.Change.{Change}
 use Rattle.gf_ops.specs.declared.change.Change.TheVariants.{Create, Set}
@@ -50,6 +50,7 @@ has_float-creation_data : (i : OpId) (c : Clock) (s : Start) (f : Form) → has_
 has_float-creation_data i c s (Rect width height) = rw (has_float-clock_data c, has_float-point_data s.place) refl
 has_float-creation_data i c s (Polygon ps) = rw (has_float-clock_data c, has_float-point_data s.place, has_float-points_data ps) refl
 has_float-creation_data i c s (Circle radius) = rw (has_float-clock_data c, has_float-point_data s.place) refl
+has_float-creation_data i c s (Ellipse rx ry) = rw (has_float-clock_data c, has_float-point_data s.place) refl
 
 has_float-change_data : (i : OpId) (c : Clock) (d : Change) → has_float (change_data (name_data i) (clock_data c) d) ≡ false
 has_float-change_data i c (Create s) = has_float-creation_data i c s s.form
@@ -82,6 +83,7 @@ depth-creation_data : (i : OpId) (c : Clock) (s : Start) (f : Form) → depth (c
 depth-creation_data i c s (Rect width height) = let k = depth-clock_data c in omega (arith, k)
 depth-creation_data i c s (Polygon ps) = let k = depth-clock_data c in let l = depth-points_data ps in omega (arith, k, l)
 depth-creation_data i c s (Circle radius) = let k = depth-clock_data c in omega (arith, k)
+depth-creation_data i c s (Ellipse rx ry) = let k = depth-clock_data c in omega (arith, k)
 
 depth-change_data : (i : OpId) (c : Clock) (d : Change) → depth (change_data (name_data i) (clock_data c) d) ≤ 3
 depth-change_data i c (Create s) = depth-creation_data i c s s.form

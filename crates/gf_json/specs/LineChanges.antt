@@ -11,7 +11,7 @@ use Rattle.serde_json.specs.Data.{Data}
 use Rattle.gf_json.specs.LineValues.{Got, mapped, ◌&◌, truth}
 use Rattle.gf_json.specs.LineLimits.{size, level, point, points}
 use Rattle.gf_json.specs.LineColours.{hex_colour}
-use Rattle.gf_json.specs.LineFields.{at, object, place, box_size, circle_size, polygon_points, colour, layer, shown}
+use Rattle.gf_json.specs.LineFields.{at, object, place, box_size, circle_size, ellipse_size, polygon_points, colour, layer, shown}
 use Rattle.gf_json.specs.LineKeys.{says, creates, sets}
 
 -- what a new object of the form begins with
@@ -48,6 +48,7 @@ abbrev pub change : List ℕ → List (List ℕ) → Data → Got Change
 change verb beside d =
     if creates verb beside (codes "box") (codes "size") d then creation (box_size d) d
     else (if creates verb beside (codes "circle") (codes "size") d then creation (circle_size d) d
+    else (if creates verb beside (codes "ellipse") (codes "size") d then creation (ellipse_size d) d
     else (if creates verb beside (codes "polygon") (codes "points") d then creation (polygon_points d) d
     else (if sets verb beside d then setting (new_value d) d
-    else Err fault.Field)))
+    else Err fault.Field))))

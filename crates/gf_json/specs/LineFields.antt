@@ -7,7 +7,7 @@ use Rattle.gf_ops.specs.declared.op.OpId.{OpId}
 use Rattle.gf_ops.specs.declared.op.ObjectId.{ObjectId}
 use Rattle.gf_ops.specs.declared.op.Clock.{Clock}
 use Rattle.gf_ops.specs.declared.change.Form.{Form}
-use Rattle.gf_ops.specs.declared.change.Form.TheVariants.{Rect, Polygon, Circle}
+use Rattle.gf_ops.specs.declared.change.Form.TheVariants.{Rect, Polygon, Circle, Ellipse}
 use Rattle.gf_json.specs.declared.line_error.LineError.TheVariants as fault
 use Rattle.serde_json.specs.Data.{Data}
 use Rattle.serde_json.specs.Find.{get}
@@ -50,6 +50,10 @@ box_size d = mapped (λ p. Rect p.0 p.1) (at (codes "size") size d)
 -- a circle, by its radius twice
 abbrev pub circle_size : Data → Got Form
 circle_size d = mapped Circle (at (codes "size") radius d)
+
+-- an ellipse, by its two radii
+abbrev pub ellipse_size : Data → Got Form
+ellipse_size d = mapped (λ p. Ellipse p.0 p.1) (at (codes "size") size d)
 
 -- a polygon, by its points
 abbrev pub polygon_points : Data → Got Form

@@ -37,7 +37,7 @@ entry d = natural 0 10000 d
 abbrev pub name : Data → Got OpId
 name d = mapped (λ p. record { site = p.0; seq = p.1 }) (pair (natural 1 8) (natural 1 10000) d)
 
--- the two sides of a box
+-- the two sides of a box, or the two radii of an ellipse
 abbrev pub size : Data → Got (ℕ × ℕ)
 size d = pair side side d
 

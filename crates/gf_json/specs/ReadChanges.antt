@@ -5,7 +5,7 @@ use Rattle.gf_json.specs.declared.line_error.LineError.TheVariants as fault
 use Rattle.serde_json.specs.Data.{Data}
 use Rattle.serde_json.specs.Find.{as_object}
 use Rattle.gf_json.specs.LineValues.{Got}
-use Rattle.gf_json.specs.LineFields.{box_size, circle_size, polygon_points}
+use Rattle.gf_json.specs.LineFields.{box_size, circle_size, ellipse_size, polygon_points}
 use Rattle.gf_json.specs.LineKeys.{has_count, says}
 use Rattle.gf_json.specs.LineChanges.{new_value, creation, setting}
 
@@ -18,8 +18,9 @@ abbrev pub named_creation : Data → Got Change
 named_creation d =
     if says (codes "kind") (codes "box") d then creation (box_size d) d
     else (if says (codes "kind") (codes "circle") d then creation (circle_size d) d
+    else (if says (codes "kind") (codes "ellipse") d then creation (ellipse_size d) d
     else (if says (codes "kind") (codes "polygon") d then creation (polygon_points d) d
-    else Err fault.Field))
+    else Err fault.Field)))
 
 -- the change of a line whose verb stands at this key, and which has so many keys beside those of the change
 abbrev pub read_change : List ℕ → ℕ → Data → Got Change

@@ -3,7 +3,7 @@ use Rattle.std.specs.Prelude.{ℕ, List, [], ◌∷◌, codes}
 use Rattle.gf_ops.specs.declared.op.Op.{Op}
 use Rattle.gf_ops.specs.declared.op.ObjectId.{ObjectId}
 use Rattle.gf_ops.specs.declared.change.Form.{Form}
-use Rattle.gf_ops.specs.declared.change.Form.TheVariants.{Rect, Polygon, Circle}
+use Rattle.gf_ops.specs.declared.change.Form.TheVariants.{Rect, Polygon, Circle, Ellipse}
 use Rattle.gf_ops.specs.declared.change.Start.{Start}
 use Rattle.gf_ops.specs.declared.change.Change.{Change}
 use Rattle.gf_ops.specs.declared.change.Change.TheVariants.{Create, Set}
@@ -40,7 +40,7 @@ created id past s kind last = object (in_order (
     ∷ (codes "place", point_data s.place)
     ∷ last))
 
--- the last members of a line that creates a box or a circle
+-- the last members of a line that creates a box, a circle or an ellipse
 abbrev pub with_size : Start → ℕ → ℕ → List (List ℕ × Data)
 with_size s width height = (codes "shown", boolean s.shown) ∷ (codes "size", size_data width height) ∷ []
 
@@ -53,6 +53,7 @@ abbrev pub creation_data : Data → Data → Start → Form → Data
 creation_data id past s (Rect width height) = created id past s (codes "box") (with_size s width height)
 creation_data id past s (Polygon ps) = created id past s (codes "polygon") (with_points s ps)
 creation_data id past s (Circle radius) = created id past s (codes "circle") (with_size s radius radius)
+creation_data id past s (Ellipse rx ry) = created id past s (codes "ellipse") (with_size s rx ry)
 
 -- the line that sets an attribute of the object o to v
 abbrev pub setting_data : Data → Data → ObjectId → Value → Data

@@ -2,7 +2,7 @@
 use Rattle.std.specs.Prelude.{ℕ, List, [], ◌∷◌, codes}
 use Rattle.gf_ops.specs.declared.op.Op.{Op}
 use Rattle.gf_ops.specs.declared.change.Form.{Form}
-use Rattle.gf_ops.specs.declared.change.Form.TheVariants.{Rect, Polygon, Circle}
+use Rattle.gf_ops.specs.declared.change.Form.TheVariants.{Rect, Polygon, Circle, Ellipse}
 use Rattle.gf_ops.specs.declared.change.Start.{Start}
 use Rattle.serde_json.specs.Data.{Data, boolean, string, Members, put}
 use Rattle.gf_json.specs.WrittenValues.{natural_data, name_data, clock_data, point_data, points_data, size_data, colour_data}
@@ -39,3 +39,4 @@ abbrev pub form_members : Form → List (List ℕ × Data)
 form_members (Rect width height) = shape_members (codes "box") (codes "size") (size_data width height)
 form_members (Polygon ps) = shape_members (codes "polygon") (codes "points") (points_data ps)
 form_members (Circle radius) = shape_members (codes "circle") (codes "size") (size_data radius radius)
+form_members (Ellipse rx ry) = shape_members (codes "ellipse") (codes "size") (size_data rx ry)

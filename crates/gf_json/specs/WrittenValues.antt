@@ -39,7 +39,7 @@ point_data p = pair_data (integer_data p.x) (integer_data p.y)
 abbrev pub points_data : List Point → Data
 points_data ps = array (items_of (map point_data ps))
 
--- a width and a height
+-- a width and a height, or two radii
 abbrev pub size_data : ℕ → ℕ → Data
 size_data width height = pair_data (natural_data width) (natural_data height)
 

@@ -110,6 +110,10 @@ fn put_form(alloc: Global, members: &mut Map<String, Value>, form: &Form) -> Res
             let size = size_data(alloc, *radius, *radius)?;
             put_shape(alloc, members, "circle", "size", size)
         }
+        Form::Ellipse(rx, ry) => {
+            let size = size_data(alloc, *rx, *ry)?;
+            put_shape(alloc, members, "ellipse", "size", size)
+        }
     }
 }
 

@@ -11,7 +11,8 @@ ghost use Rattle.gf_json.specs.ReadChanges.{named_creation, read_change};
 use crate::LineError;
 use crate::reading::colours::hex_colour;
 use crate::reading::fields::{
-    box_size, circle_size, colour, layer, object, place, polygon_points, shown, value_at,
+    box_size, circle_size, colour, ellipse_size, layer, object, place, polygon_points, shown,
+    value_at,
 };
 use crate::reading::keys::{is_word, tells, word_at};
 use crate::reading::points::points;
@@ -55,6 +56,8 @@ fn named_creation(alloc: Global, line: &Value) -> Result<Change, LineError>
         creation(box_size(line), line)
     } else if is_word(kind, "circle") {
         creation(circle_size(line), line)
+    } else if is_word(kind, "ellipse") {
+        creation(ellipse_size(line), line)
     } else if is_word(kind, "polygon") {
         polygon_creation(alloc, line)
     } else {

@@ -5,7 +5,7 @@ ghost use Rattle.serde_json.specs.View.{view};
 ghost use Rattle.gf_ops.specs.Limits.{is_site, is_id, is_clock, is_near, is_form, is_layer};
 ghost use Rattle.gf_json.specs.LineValues.{mapped};
 ghost use Rattle.gf_json.specs.LineFields.{value_at, id, past, site, object, place, box_size};
-ghost use Rattle.gf_json.specs.LineFields.{circle_size, polygon_points, colour, layer, shown};
+ghost use Rattle.gf_json.specs.LineFields.{circle_size, ellipse_size, polygon_points, colour, layer, shown};
 
 use crate::LineError;
 use crate::reading::colours::hex_colour;
@@ -65,6 +65,14 @@ pub(crate) fn circle_size(line: &Value) -> Result<Form, LineError>
     ensures in_range { IfOk result (λ f. IsTrue (is_form f)) }
 {
     value_at(line, "size").and_then(radius).map(Form::Circle)
+}
+
+pub(crate) fn ellipse_size(line: &Value) -> Result<Form, LineError>
+    ensures value { result ≡ ellipse_size (view line.now) }
+    ensures in_range { IfOk result (λ f. IsTrue (is_form f)) }
+{
+    let (rx, ry) = value_at(line, "size").and_then(size)?;
+    Ok(Form::Ellipse(rx, ry))
 }
 
 pub(crate) fn polygon_points(alloc: Global, line: &Value) -> Result<Form, LineError>

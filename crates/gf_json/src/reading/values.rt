@@ -104,7 +104,7 @@ pub(crate) fn name(value: &Value) -> Result<OpId, LineError>
     })
 }
 
-/// A width and a height.
+/// A width and a height, or two radii.
 pub(crate) fn size(value: &Value) -> Result<(u32, u32), LineError>
     ensures value { result ≡ size (view value.now) }
     ensures within { IfOk result (λ s. IsTrue (is_size s.0 && is_size s.1)) }
