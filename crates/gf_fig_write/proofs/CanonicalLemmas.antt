@@ -11,6 +11,7 @@ use Rattle.gf_shape.specs.declared.colour.Rgb.{Rgb}
 use Rattle.gf_shape.specs.declared.point.Point.{Point}
 use Rattle.gf_shape.specs.Area.{Area}
 use Rattle.gf_shape.specs.Moving.{plus}
+use Rattle.gf_shape.specs.Oblong.{is_radius}
 use Rattle.gf_shape.specs.Outlines.{any_outline}
 use Rattle.gf_shape.specs.Polygons.{is_polygon_count}
 use Rattle.gf_shape.specs.Reach.{is_within_reach}
@@ -24,7 +25,7 @@ use Rattle.gf_ops.specs.Limits.{is_form, is_near, is_size}
 use Rattle.gf_ops.specs.ValidHistory.{IsValid}
 use Rattle.gf_ops.specs.declared.op.Op.{Op}
 use Rattle.gf_ops.specs.declared.change.Form.{Form}
-use Rattle.gf_ops.specs.declared.change.Form.TheVariants.{Rect, Circle, Polygon}
+use Rattle.gf_ops.specs.declared.change.Form.TheVariants.{Rect, Circle, Ellipse, Polygon}
 use Rattle.gf_versions.specs.declared.placed.Placed.{Placed}
 use Rattle.gf_versions.specs.Ranking.{AreRanked, form_at, origin}
 use Rattle.gf_versions.proofs.LimitLemmas.{version_fits}
@@ -53,6 +54,12 @@ moved_within (p ∷ ps) d movable =
 abbrev box_of : ℕ → ℕ → Area
 box_of width height = record { low = origin; width = width; height = height }
 
+size_as_radius : (n : ℕ) → IsTrue (is_size n) → IsTrue (is_radius n)
+size_as_radius n size =
+    let parts = and_parts (nat_le 1 n) (nat_le n 1000000) size in
+    let most = leb-true n 1000000 parts.1 in
+    and_from (nat_le 1 n) (nat_le n 10000000) parts.0 (le-leb n 10000000 (omega (arith, most)))
+
 -- a form at a place has a lawful outline where both keep their limits
 form_outlined : (f : Form) (place : Point) → IsTrue (is_form f) → IsTrue (is_near place) → IsLawful (any_outline (form_at f place))
 form_outlined (Rect width height) place fits near =
@@ -62,6 +69,9 @@ form_outlined (Circle radius) place fits near =
     let size = and_parts (nat_le 1 radius) (nat_le radius 1000000) fits in
     let most = leb-true radius 1000000 size.1 in
     and_from _ _ (and_from _ _ (shape_movable (Circle radius) place fits near) size.0) (le-leb radius 10000000 (omega (arith, most)))
+form_outlined (Ellipse rx ry) place fits near =
+    let sizes = and_parts (is_size rx) (is_size ry) fits in
+    and_from _ _ (and_from _ _ (shape_movable (Ellipse rx ry) place fits near) (size_as_radius rx sizes.0)) (size_as_radius ry sizes.1)
 form_outlined (Polygon ps) place fits near =
     let lawful = is_polygon-lawful ps fits in
     let count = subst (λ n. IsTrue (is_polygon_count n)) (sym (length-map ps (λ p. plus p place))) lawful.0 in

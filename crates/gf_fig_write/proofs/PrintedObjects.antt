@@ -8,20 +8,21 @@ use Rattle.std.proofs.lemmas.Bool.{and_parts, and_from, le-leb, leb-true}
 use Rattle.std.proofs.lemmas.Bool.Decides.{Decides-int_eq}
 use Rattle.gf_shape.specs.declared.point.Point.{Point}
 use Rattle.gf_shape.specs.declared.colour.Rgb.{Rgb}
-use Rattle.gf_shape.specs.declared.outline.Outline.TheVariants.{Chain, Disc}
+use Rattle.gf_shape.specs.declared.outline.Outline.TheVariants.{Chain, Disc, Oval}
 use Rattle.gf_shape.specs.Reach.{is_reached, is_within_reach}
 use Rattle.gf_shape.specs.Ring.{Ring, IsRing}
 use Rattle.gf_shape.specs.Round.{Round, is_round}
+use Rattle.gf_shape.specs.Oblong.{Oblong, is_oblong, is_radius}
 use Rattle.gf_digits.specs.ColourBytes.{HasBytes}
 use Rattle.gf_drawing.specs.Colours.{Table, colour_in, rgb_of}
 use Rattle.gf_drawing.specs.DrawingState.{IsFreeNumber, is_table_number}
 use Rattle.gf_fig_text.specs.declared.faults.FigFault.{FigFault}
 use Rattle.gf_fig_text.specs.declared.faults.FigFault.TheVariants as fault
 use Rattle.gf_fig_text.specs.Layout.{Token}
-use Rattle.gf_fig_text.specs.Forms.{whole, decimal as decimal_form}
-use Rattle.gf_fig_text.specs.Fields.{is_in, natural, point, points}
+use Rattle.gf_fig_text.specs.Forms.{whole, decimal as decimal_form, angle}
+use Rattle.gf_fig_text.specs.Fields.{is_in, natural, no_angle, point, points}
 use Rattle.gf_fig_read.specs.Styles.{known_colour, filling, style}
-use Rattle.gf_fig_read.specs.Outlines.{same_point, is_closed, count, chain, disc}
+use Rattle.gf_fig_read.specs.Outlines.{same_point, is_closed, count, chain, disc, oval}
 use Rattle.gf_fig_read.specs.Objects.{Drawn, colour_object, object}
 use Rattle.gf_fig_write.proofs.PrintedNumbers.{whole_decimal, whole_signed, rgb_word, rgb_read}
 
@@ -58,6 +59,10 @@ three_places_read = refl
 four_places_read : decimal_form (codes "0.0000") ≡ Some tt
 unfolding decimal_form
 four_places_read = refl
+
+no_angle_read : (rest : List Token) → no_angle (codes "0.0000" ∷ rest) ≡ Ok (tt, rest)
+unfolding no_angle angle decimal_form
+no_angle_read rest = refl
 
 -- ---- limits
 
@@ -203,4 +208,54 @@ disc_read r rest h =
       coordinate_whole y c.1,
       whole_signed (x +ℤ pos r.radius) (omega (arith, end)),
       coordinate_whole y c.1,
+    ) refl
+
+-- ---- ovals
+
+abbrev pub oval_words : Oblong → List Token
+oval_words o =
+    codes "1" ∷ codes "0.0000" ∷ signed_decimal o.centre.x ∷ signed_decimal o.centre.y ∷ decimal o.rx ∷ decimal o.ry
+    ∷ signed_decimal o.centre.x ∷ signed_decimal o.centre.y ∷ signed_decimal (o.centre.x +ℤ pos o.rx) ∷ signed_decimal (o.centre.y +ℤ pos o.ry) ∷ []
+
+-- the limits of an oval one by one
+pub record Limits (o : Oblong) : Type 0 where
+  pub near : IsTrue (is_within_reach o.centre)
+  pub x : IsTrue (is_reached o.centre.x)
+  pub y : IsTrue (is_reached o.centre.y)
+  pub least_rx : 1 ≤ o.rx
+  pub most_rx : o.rx ≤ 10000000
+  pub least_ry : 1 ≤ o.ry
+  pub most_ry : o.ry ≤ 10000000
+
+pub limits : (o : Oblong) → IsTrue (is_oblong o) → Limits o
+limits o h =
+    let p = and_parts (is_within_reach o.centre && is_radius o.rx) (is_radius o.ry) h in
+    let q = and_parts (is_within_reach o.centre) (is_radius o.rx) p.0 in
+    let c = and_parts (is_reached o.centre.x) (is_reached o.centre.y) q.0 in
+    let m = and_parts (nat_le 1 o.rx) (nat_le o.rx 10000000) q.1 in
+    let n = and_parts (nat_le 1 o.ry) (nat_le o.ry 10000000) p.1 in
+    record { near = q.0; x = c.0; y = c.1; least_rx = leb-true 1 o.rx m.0; most_rx = leb-true o.rx 10000000 m.1; least_ry = leb-true 1 o.ry n.0; most_ry = leb-true o.ry 10000000 n.1 }
+
+radius_read : (n : ℕ) (rest : List Token) → 1 ≤ n → n ≤ 10000000 → natural 1 10000000 fault.Radius (decimal n ∷ rest) ≡ Ok (n, rest)
+radius_read n rest least most = natural_read 1 10000000 n fault.Radius (decimal n) rest (whole_decimal n (omega (arith, most))) least most
+
+pub oval_read : (o : Oblong) (rest : List Token) → IsTrue (is_oblong o) → oval (oval_words o ++ rest) ≡ Ok (Oval o, rest)
+unfolding oval
+oval_read o rest h =
+    let l = limits o h in
+    let x = o.centre.x in
+    let y = o.centre.y in
+    let end_x = sum_small x o.rx (reached_small x l.x) l.most_rx in
+    let end_y = sum_small y o.ry (reached_small y l.y) l.most_ry in
+    let behind : List Token = signed_decimal x ∷ signed_decimal y ∷ signed_decimal (x +ℤ pos o.rx) ∷ signed_decimal (y +ℤ pos o.ry) ∷ rest in
+    rw (
+      one_read,
+      no_angle_read (signed_decimal x ∷ signed_decimal y ∷ decimal o.rx ∷ decimal o.ry ∷ behind),
+      point_read o.centre (decimal o.rx ∷ decimal o.ry ∷ behind) l.near,
+      radius_read o.rx (decimal o.ry ∷ behind) l.least_rx l.most_rx,
+      radius_read o.ry behind l.least_ry l.most_ry,
+      coordinate_whole x l.x,
+      coordinate_whole y l.y,
+      whole_signed (x +ℤ pos o.rx) (omega (arith, end_x)),
+      whole_signed (y +ℤ pos o.ry) (omega (arith, end_y)),
     ) refl

@@ -8,10 +8,11 @@ use Rattle.std.proofs.lemmas.List.Elements.{All-head, All-tail, All-map}
 use Rattle.gf_shape.specs.declared.point.Point.{Point}
 use Rattle.gf_shape.specs.declared.colour.Rgb.{Rgb}
 use Rattle.gf_shape.specs.declared.outline.Outline.{Outline}
-use Rattle.gf_shape.specs.declared.outline.Outline.TheVariants.{Chain, Disc}
+use Rattle.gf_shape.specs.declared.outline.Outline.TheVariants.{Chain, Disc, Oval}
 use Rattle.gf_shape.specs.Reach.{is_reached, is_within_reach}
 use Rattle.gf_shape.specs.Ring.{Ring}
 use Rattle.gf_shape.specs.Round.{Round, is_round}
+use Rattle.gf_shape.specs.Oblong.{Oblong, is_oblong}
 use Rattle.gf_shape.specs.ShapeLaws.{IsLawful}
 use Rattle.gf_digits.specs.ColourBytes.{HasBytes}
 use Rattle.gf_digits.specs.HexDigits.{hex_rgb}
@@ -23,10 +24,10 @@ use Rattle.gf_fig_text.specs.Layout.{Token, lines, plain, tokens, object_tokens,
 use Rattle.gf_fig_read.specs.FigGrammar.{Reads}
 use Rattle.gf_fig_write.proofs.PrintedLines.{is_word, led, led_in_line, line_of_words, tokens_printed, words_all_led}
 use Rattle.gf_fig_write.proofs.PrintedNumbers.{decimal_word, signed_word, rgb_word, rgb_dark}
-use Rattle.gf_fig_write.proofs.PrintedObjects.{colour_words, point_words, style_words, count_words, disc_words, reached_small, sum_small}
+use Rattle.gf_fig_write.proofs.PrintedObjects.{colour_words, point_words, style_words, count_words, disc_words, oval_words, limits, reached_small, sum_small}
 use Rattle.gf_fig_write.proofs.PrintedFigures.{outline_words, figure_words}
 use Rattle.gf_fig_write.proofs.PrintedDrawings.{drawing_words, drawing_leads, known_small, IsTableEntry, HasLawfulShape}
-use Rattle.gf_fig_write.specs.FigText.{fig_header, colour_line, spaced_point, filling, sub_type, disc_numbers, chain_line, points_line, right_end, disc_line, outline_lines, figure_lines, fig_text}
+use Rattle.gf_fig_write.specs.FigText.{fig_header, colour_line, spaced_point, filling, sub_type, disc_numbers, chain_line, points_line, right_end, disc_line, low_end, oval_numbers, oval_line, outline_lines, figure_lines, fig_text}
 
 -- the tokens of a text behind the header
 abbrev body : List ℕ → List Token
@@ -170,6 +171,39 @@ disc_cut c d r rest x y h =
     rw (decimal_word c x, decimal_word d y, coordinate_word r.centre.x near.0, coordinate_word r.centre.y near.1, decimal_word r.radius (omega (arith, most)), signed_word (r.centre.x +ℤ pos r.radius) (omega (arith, end))) refl in
     ap body (disc_regrouped c d r rest) ∙ line_of_words 49 (codes "3" ∷ style_words c d ++ disc_words r) rest refl all refl
 
+-- ---- ovals
+
+oval_numbers_led : (o : Oblong) (rest : List ℕ) → oval_numbers o ++ rest ≡ 32 ∷ (signed_decimal o.centre.x ++ (32 ∷ (signed_decimal o.centre.y ++ (32 ∷ (decimal o.rx ++ (32 ∷ (decimal o.ry
+    ++ (32 ∷ (signed_decimal o.centre.x ++ (32 ∷ (signed_decimal o.centre.y ++ (32 ∷ (signed_decimal (o.centre.x +ℤ pos o.rx) ++ (32 ∷ (signed_decimal (o.centre.y +ℤ pos o.ry) ++ rest)))))))))))))))
+oval_numbers_led o rest =
+    let x = signed_decimal o.centre.x in
+    let y = signed_decimal o.centre.y in
+    let m = decimal o.rx in
+    let n = decimal o.ry in
+    let last = spaced_point_led (low_end o) rest in
+    let fourth = spaced_point_led o.centre (spaced_point (low_end o) ++ rest) in
+    let first = spaced_point_led o.centre (32 ∷ (m ++ (32 ∷ (n ++ (spaced_point o.centre ++ (spaced_point (low_end o) ++ rest)))))) in
+    five (spaced_point o.centre) (codes " " ++ m) (codes " " ++ n) (spaced_point o.centre) (spaced_point (low_end o)) rest
+    ∙ first
+    ∙ ap (λ (z : List ℕ). 32 ∷ (x ++ (32 ∷ (y ++ (32 ∷ (m ++ (32 ∷ (n ++ z)))))))) (fourth ∙ ap (λ (z : List ℕ). 32 ∷ (x ++ (32 ∷ (y ++ z)))) last)
+
+oval_regrouped : (c d : ℕ) (o : Oblong) (rest : List ℕ) → oval_line c d o ++ rest ≡ (49 ∷ led (codes "1" ∷ style_words c d ++ oval_words o)) ++ 10 ∷ rest
+oval_regrouped c d o rest =
+    let behind : List ℕ = codes "\n" ++ rest in
+    five (codes "1 1 0 0 ") (filling c d) (codes " 1 0.0000") (oval_numbers o) (codes "\n") rest
+    ∙ ap (λ (x : List ℕ). codes "1 1 0 0 " ++ x) (filling_led c d (codes " 1 0.0000" ++ (oval_numbers o ++ behind)))
+    ∙ ap (λ (x : List ℕ). codes "1 1 0 0 " ++ (decimal c ++ (32 ∷ (decimal c ++ (32 ∷ (decimal d ++ (codes " -1 20 0.000" ++ (codes " 1 0.0000" ++ x)))))))) (oval_numbers_led o behind)
+    ∙ sym (led_end 49 (codes "1" ∷ style_words c d ++ oval_words o) (10 ∷ rest))
+
+oval_cut : (c d : ℕ) (o : Oblong) (rest : List ℕ) → c < 2 ^ 64 → d < 2 ^ 64 → IsTrue (is_oblong o) → body (oval_line c d o ++ rest) ≡ codes "1" ∷ codes "1" ∷ style_words c d ++ oval_words o ++ body rest
+oval_cut c d o rest x y h =
+    let l = limits o h in
+    let end_x = sum_small o.centre.x o.rx (reached_small o.centre.x l.x) l.most_rx in
+    let end_y = sum_small o.centre.y o.ry (reached_small o.centre.y l.y) l.most_ry in
+    let all : list_all is_word (codes "1" ∷ style_words c d ++ oval_words o) ≡ true =
+    rw (decimal_word c x, decimal_word d y, coordinate_word o.centre.x l.x, coordinate_word o.centre.y l.y, decimal_word o.rx (omega (arith, l.most_rx)), decimal_word o.ry (omega (arith, l.most_ry)), signed_word (o.centre.x +ℤ pos o.rx) (omega (arith, end_x)), signed_word (o.centre.y +ℤ pos o.ry) (omega (arith, end_y))) refl in
+    ap body (oval_regrouped c d o rest) ∙ line_of_words 49 (codes "1" ∷ style_words c d ++ oval_words o) rest refl all refl
+
 -- ---- figures
 
 outline_cut : (c d : ℕ) (o : Outline) (rest : List ℕ) → c < 2 ^ 64 → d < 2 ^ 64 → IsLawful o → body (outline_lines c d o ++ rest) ≡ outline_words c d o ++ body rest
@@ -179,6 +213,7 @@ outline_cut c d (Chain r) rest x y h =
     ∙ (chain_cut c d r (points_line r.points ++ rest) x y (omega (arith, most))
     ∙ ap (λ (ts : List Token). codes "2" ∷ decimal (sub_type r.boxed) ∷ style_words c d ++ count_words (length r.points) ++ ts) (points_cut r.points rest h.reach))
 outline_cut c d (Disc r) rest x y h = disc_cut c d r rest x y h
+outline_cut c d (Oval o) rest x y h = oval_cut c d o rest x y h
 
 abbrev IsByteEntry : ℕ × Rgb → Type 0
 IsByteEntry e = HasBytes e.1
