@@ -113,7 +113,7 @@ fn edges<S: Shape>(
             let edges = Edges::between(alloc, chain, low, high)?;
             Ok(Some(edges))
         }
-        Outline::Chain(_) | Outline::Disc(_) => Ok(None),
+        Outline::Chain(_) | Outline::Disc(_) | Outline::Oval(_) => Ok(None),
     }
 }
 
