@@ -7,7 +7,7 @@ use Rattle.gf_shape.specs.declared.point.Point.{Point}
 use Rattle.gf_ops.specs.declared.op.OpId.{OpId}
 use Rattle.gf_ops.specs.declared.op.ObjectId.{ObjectId}
 use Rattle.gf_ops.specs.declared.change.Form.{Form}
-use Rattle.gf_ops.specs.declared.change.Form.TheVariants.{Rect, Circle, Polygon}
+use Rattle.gf_ops.specs.declared.change.Form.TheVariants.{Rect, Circle, Ellipse, Polygon}
 use Rattle.gf_versions.specs.declared.key.Version.{Version}
 use Rattle.gf_inspect.specs.declared.top.VersionName.{VersionName}
 
@@ -40,9 +40,10 @@ corner_text p = codes " " ++ signed_decimal p.x ++ codes "," ++ signed_decimal p
 abbrev pub kind_word : Form → List ℕ
 kind_word (Rect width height) = codes "box"
 kind_word (Circle radius) = codes "circle"
+kind_word (Ellipse rx ry) = codes "ellipse"
 kind_word (Polygon ps) = codes "polygon"
 
--- a width and a height
+-- a width and a height, or two radii
 abbrev pub size_text : ℕ → ℕ → List ℕ
 size_text width height = codes " size " ++ decimal width ++ codes " " ++ decimal height
 
@@ -54,6 +55,7 @@ points_text ps = codes " points" ++ flat_map corner_text ps
 abbrev pub measure_text : Form → List ℕ
 measure_text (Rect width height) = size_text width height
 measure_text (Circle radius) = size_text radius radius
+measure_text (Ellipse rx ry) = size_text rx ry
 measure_text (Polygon ps) = points_text ps
 
 -- a colour in six hexadecimal digits

@@ -83,6 +83,7 @@ fn push_measure(out: &mut Vec<u8>, form: &Form) -> Result<(), AllocError>
     match form {
         Form::Rect(width, height) => push_size(out, *width, *height),
         Form::Circle(radius) => push_size(out, *radius, *radius),
+        Form::Ellipse(rx, ry) => push_size(out, *rx, *ry),
         Form::Polygon(points) => push_points(out, points.as_slice()),
     }
 }
@@ -197,6 +198,7 @@ fn kind_word(form: &Form) -> &'static [u8]
     match form {
         Form::Rect(_, _) => b"box",
         Form::Circle(_) => b"circle",
+        Form::Ellipse(_, _) => b"ellipse",
         Form::Polygon(_) => b"polygon",
     }
 }
