@@ -1,6 +1,6 @@
 //! Worked examples: rows at given heights.
 
-use gf_shape::{Circle, Point, Polygon, Rect, Row, Shape};
+use gf_shape::{Circle, Ellipse, Point, Polygon, Rect, Row, Shape};
 use std::alloc::Global;
 use std::test::Fail;
 
@@ -102,6 +102,33 @@ fn circles_have_one_span(rt: HostRuntime) -> Result<(), Fail> {
         assert!(rt;
             has_row(rt.alloc(), &circle, y, span, None)?,
             "{circle:?} {y}"
+        );
+    }
+    Ok(())
+}
+
+#[test]
+fn ellipses_have_one_span(rt: HostRuntime) -> Result<(), Fail> {
+    let rows = [
+        (3, 2, -3, None),
+        (3, 2, -2, Some((0, 0))),
+        (3, 2, 0, Some((-3, 3))),
+        (3, 2, 1, Some((-2, 2))),
+        (3, 2, 2, Some((0, 0))),
+        (3, 2, i32::MIN, None),
+        (10_000_000, 1, 0, Some((-10_000_000, 10_000_000))),
+        (10_000_000, 1, 1, Some((0, 0))),
+        (10_000_000, 5, 3, Some((-8_000_000, 8_000_000))),
+        (10_000_000, 5, 4, Some((-6_000_000, 6_000_000))),
+        (1, 10_000_000, 1, Some((0, 0))),
+        (10_000_000, 10_000_000, 8_000_000, Some((-6_000_000, 6_000_000))),
+        (10_000_000, 10_000_000, 10_000_001, None),
+    ];
+    for (rx, ry, y, span) in rows {
+        let ellipse = Ellipse::new(corner((0, 0)), rx, ry)?;
+        assert!(rt;
+            has_row(rt.alloc(), &ellipse, y, span, None)?,
+            "{ellipse:?} {y}"
         );
     }
     Ok(())

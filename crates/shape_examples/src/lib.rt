@@ -1,10 +1,13 @@
-//! Worked examples of shapes, by public calls alone: boxes, circles, polygons and shapes of any kind.
+//! Worked examples of shapes, by public calls alone: boxes, circles, ellipses, polygons and
+//! shapes of any kind.
 #![tactic(auto)]
 
 #[cfg(test)]
 mod boxes;
 #[cfg(test)]
 mod circles;
+#[cfg(test)]
+mod ellipses;
 #[cfg(test)]
 mod polygons;
 #[cfg(test)]

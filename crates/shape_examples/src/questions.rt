@@ -3,7 +3,7 @@
 use example_parts::notation::{point, points, yes};
 use example_parts::{Answers, ask};
 use gf_shape::{
-    AnyShape, Bounds, Circle, Outline, Point, Polygon, PolygonError, Range, Rect, Shape,
+    AnyShape, Bounds, Circle, Ellipse, Outline, Point, Polygon, PolygonError, Range, Rect, Shape,
 };
 use std::alloc::Global;
 use std::test::Fail;
@@ -35,6 +35,7 @@ fn told(alloc: Global, text: &str) -> Option<String> {
     match kind {
         "box" => of_box(alloc, rect(shape)?, question),
         "circle" => of_circle(alloc, circle(shape)?, question),
+        "ellipse" => of_ellipse(alloc, ellipse(shape)?, question),
         "polygon" => of_polygon(alloc, polygon(alloc, shape)?, question),
         "any" => of_moved(alloc, &any(alloc, shape)?, question),
         "outline" => of_moved(alloc, &outline_of(alloc, shape)?, question),
@@ -55,6 +56,13 @@ fn circle(text: &str) -> Option<Result<Circle, Range>> {
     Some(Circle::new(point(centre)?, radius.parse().ok()?))
 }
 
+/// `3,4 5 6`: the centre and the radii.
+fn ellipse(text: &str) -> Option<Result<Ellipse, Range>> {
+    let (centre, radii) = first(text);
+    let (rx, ry) = first(radii);
+    Some(Ellipse::new(point(centre)?, rx.parse().ok()?, ry.parse().ok()?))
+}
+
 /// `0,0 8,0 0,8`: the corners.
 fn polygon(alloc: Global, text: &str) -> Option<Result<Polygon, PolygonError>> {
     let corners = points(alloc, text)?;
@@ -66,6 +74,7 @@ fn any(alloc: Global, text: &str) -> Option<AnyShape> {
     match kind {
         "box" => Some(AnyShape::Rect(rect(shape)?.ok()?)),
         "circle" => Some(AnyShape::Circle(circle(shape)?.ok()?)),
+        "ellipse" => Some(AnyShape::Ellipse(ellipse(shape)?.ok()?)),
         "polygon" => Some(AnyShape::Polygon(polygon(alloc, shape)?.ok()?)),
         _ => None,
     }
@@ -94,6 +103,18 @@ fn of_circle(alloc: Global, made: Result<Circle, Range>, question: &str) -> Opti
         (Ok(shape), ("moves", way)) => {
             let (by, to) = way.split_once(" to ")?;
             moves(alloc, &shape, point(by)?, &circle(to)?.ok()?)
+        }
+        (Ok(shape), _) => of_moved(alloc, &shape, question),
+        (Err(_), _) => None,
+    }
+}
+
+fn of_ellipse(alloc: Global, made: Result<Ellipse, Range>, question: &str) -> Option<String> {
+    match (made, first(question)) {
+        (Err(fault), ("made", _)) => format!(in alloc; "{fault}").ok(),
+        (Ok(shape), ("moves", way)) => {
+            let (by, to) = way.split_once(" to ")?;
+            moves(alloc, &shape, point(by)?, &ellipse(to)?.ok()?)
         }
         (Ok(shape), _) => of_moved(alloc, &shape, question),
         (Err(_), _) => None,
@@ -160,6 +181,10 @@ fn drawn(alloc: Global, outline: &Outline) -> Option<String> {
         Outline::Disc(disc) => {
             let Point { x, y } = disc.centre();
             format!(in alloc; "disc {x},{y} {}", disc.radius()).ok()
+        }
+        Outline::Oval(oval) => {
+            let Point { x, y } = oval.centre();
+            format!(in alloc; "oval {x},{y} {} {}", oval.rx(), oval.ry()).ok()
         }
     }
 }

@@ -19,6 +19,11 @@ outline of circle 0,0 8 ; moved 100,-100 outline holds 92,-100        | yes
 any circle 0,0 8 ; moved 100,-100 holds -8,0                          | no
 any circle 0,0 8 ; moved 100,-100 outline holds -8,0                  | no
 any circle 0,0 8 ; moved 2147483647,0 holds -8,0                      | fixed
+any ellipse 0,0 8 4 ; moved 100,-100 holds 92,-100                    | yes
+any ellipse 0,0 8 4 ; moved 100,-100 outline holds 92,-100            | yes
+outline of ellipse 0,0 8 4 ; moved 100,-100 holds 92,-100             | yes
+outline of ellipse 0,0 8 4 ; moved 100,-100 outline holds 92,-100     | yes
+any ellipse 0,0 8 4 ; moved 2147483647,0 holds -8,0                   | fixed
 any polygon 0,0 8,0 0,8 ; moved 100,-100 holds 104,-96                | yes
 any polygon 0,0 8,0 0,8 ; moved 100,-100 outline holds 104,-96        | yes
 outline of polygon 0,0 8,0 0,8 ; moved 100,-100 holds 104,-96         | yes
@@ -31,6 +36,8 @@ any box 0,0 8 8 ; bounds                | 0,0 to 8,8
 outline of box 0,0 8 8 ; bounds         | 0,0 to 8,8
 any circle 0,0 8 ; bounds               | -8,-8 to 8,8
 outline of circle 0,0 8 ; bounds        | -8,-8 to 8,8
+any ellipse 0,0 8 4 ; bounds            | -8,-4 to 8,4
+outline of ellipse 0,0 8 4 ; bounds     | -8,-4 to 8,4
 any polygon 0,0 8,0 0,8 ; bounds        | 0,0 to 8,8
 outline of polygon 0,0 8,0 0,8 ; bounds | 0,0 to 8,8
 
