@@ -34,6 +34,17 @@ const FAULTS: &str = r"
 1 Open        | triangle: 2 3 0 0 4 4 50 -1 20 0.000 0 0 -1 0 0 4\n\t 0 0 1200 0\n\t 600 900 0 1\n
 1 Range       | triangle: 2 3 0 0 4 4 50 -1 20 0.000 0 0 -1 0 0 4\n\t 10000001 0 1200 0\n\t 600 900 0 0\n
 
+// the_first_wrong_field_of_an_ellipse_decides
+1 Angle       | empty: 1 1 0 0 4 4 50 -1 20 0.000 1 0.5000 0 0 3 2 0 0 3 2\n
+1 Angle       | empty: 1 2 0 0 4 4 50 -1 20 0.000 1 0.0001 10000001 0 3 2 0 0 3 2\n
+1 Token       | empty: 1 1 0 0 4 4 50 -1 20 0.000 1 0.0.0 0 0 3 2 0 0 3 2\n
+1 Cut         | empty: 1 1 0 0 4 4 50 -1 20 0.000 1
+1 SubType     | empty: 1 5 0 0 4 4 50 -1 20 0.000 1 0.5000 0 0 3 2 0 0 3 2\n
+1 SubType     | empty: 1 0 0 0 4 4 50 -1 20 0.000 1 0 0 0 3 2 0 0 3 2\n
+1 Radius      | empty: 1 1 0 0 4 4 50 -1 20 0.000 1 0 0 0 3 0 0 0 3 0\n
+1 Radius      | empty: 1 1 0 0 4 4 50 -1 20 0.000 1 0 0 0 10000001 2 0 0 3 2\n
+1 Range       | empty: 1 1 0 0 4 4 50 -1 20 0.000 1 0 10000001 0 0 2 0 0 3 2\n
+
 // colours_count_as_objects
 2 Radius      | empty: 0 32 #00ff00\n1 3 0 0 32 32 0 -1 20 0.000 1 0.0000 0 0 1 2 0 0 1 0\n
 1 Range       | empty: 0 31 #00ff00\n1 3 0 0 32 32 0 -1 20 0.000 1 0.0000 0 0 1 1 0 0 1 0\n
@@ -94,12 +105,13 @@ fn faults_have_their_names(rt: HostRuntime) -> Result<(), Fail> {
         FigFault::ColourTwice,
         FigFault::NoColour,
         FigFault::Depth,
+        FigFault::Angle,
         FigFault::OutOfMemory,
     ];
     let text = printed(rt.alloc(), &faults)?;
     assert_eq!(rt;
         text.as_str(),
-        "Version\nHeader\nResolution\nToken\nCut\nObject\nSubType\nOutline\nFill\nArrow\nCount\nOpen\nRadius\nRange\nLateColour\nColourTwice\nNoColour\nDepth\nout of memory\n"
+        "Version\nHeader\nResolution\nToken\nCut\nObject\nSubType\nOutline\nFill\nArrow\nCount\nOpen\nRadius\nRange\nLateColour\nColourTwice\nNoColour\nDepth\nAngle\nout of memory\n"
     );
     Ok(())
 }

@@ -25,6 +25,18 @@ const DRAWINGS: &str = r"
 // circles_are_read_by_radius_and_by_diameter
 1 1 00ff00 ffffff | 0 -1, 1 1      | empty: 0 32 #00ff00\n1 3 0 0 32 32 0 -1 20 0.000 1 0.0000 0 0 1 1 0 0 1 0\n
 1 1 00ff00 ffffff | 0 -1, 1 1      | empty: 0 32 #00FF00\n1 4 0 0 32 32 0 -1 20 0.000 1 1.5708 0 0 1 1 -1 0 1 0\n
+
+// ellipses_are_read_by_radii_and_by_diameters
+0 1 ff0000 ff0000 ffffff | 3 0, 2 1, 1 2 | empty: 1 1 0 0 4 4 50 -1 20 0.000 1 0.0000 0 0 3 2 0 0 3 2\n
+0 1 ff0000 ff0000 ffffff | 3 0, 2 1, 1 2 | empty: 1 1 0 0 4 4 50 -1 20 0.000 1 -0.000 0 0 3 2 0 0 3 2\n
+0 1 ff0000 ff0000 ffffff | 3 0, 2 1, 1 2 | empty: 1 2 0 0 4 4 50 -1 20 0.000 1 0 0 0 3 2 0 0 3 2\n
+0 1 ff0000 ff0000 ffffff | -3 0, 0 -2, -3 -1 | empty: 1 1 0 0 4 4 50 -1 20 0.000 1 +00. 0 0 3 2 9 9 9 9\n
+// of equal radii one holds what the circle holds, and is read as an oval all the same
+0 1 ff0000 ff0000 ffffff | 5 0, 3 4, 4 4 | empty: 1 3 0 0 4 4 50 -1 20 0.000 1 0.5000 0 0 5 5 0 0 5 0\n
+0 1 ff0000 ff0000 ffffff | 5 0, 3 4, 4 4 | empty: 1 1 0 0 4 4 50 -1 20 0.000 1 0.0000 0 0 5 5 0 0 5 5\n
+0 1 ff0000 ff0000 ffffff | 5 0, 3 4, 4 4 | empty: 1 2 0 0 4 4 50 -1 20 0.000 1 0.0000 0 0 5 5 0 0 5 5\n
+// the greatest radii, at the edge of the plane
+0 1 ff0000 ff0000 ffffff | 20000000 -10000000, 16000000 -2000000, 16000000 -1999999 | empty: 1 1 0 0 4 4 50 -1 20 0.000 1 0.0000 10000000 -10000000 10000000 10000000 0 0 0 0\n
 ";
 
 /// What is seen of the drawing of a text.
@@ -69,7 +81,7 @@ fn is_the_triangle(drawing: Drawing<Outline>) -> bool {
         [figure] => {
             let shape_fits = match &figure.shape {
                 Outline::Chain(chain) => !chain.boxed() && chain.points() == corners.as_slice(),
-                Outline::Disc(_) => false,
+                Outline::Disc(_) | Outline::Oval(_) => false,
             };
             shape_fits && figure.colour == 4 && figure.depth == 50 && drawing.colours().is_empty()
         }
