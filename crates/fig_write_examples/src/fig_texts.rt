@@ -5,7 +5,7 @@ use example_parts::{BLUE, EMPTY_FIG, GREEN, RED, RED_BOX_FIG, at};
 use gf_bytes::{Tape, WriteError};
 use gf_drawing::Drawing;
 use gf_fig_write::{fig_bytes, write_fig};
-use gf_shape::{AnyShape, Chain, Circle, Disc, Outline, Polygon, Rect, Shape};
+use gf_shape::{AnyShape, Chain, Circle, Disc, Outline, Oval, Polygon, Rect, Shape};
 use std::alloc::Global;
 use std::test::Fail;
 
@@ -108,7 +108,7 @@ fn shapes_are_written_as_their_outlines(rt: HostRuntime) -> Result<(), Fail> {
 }
 
 const FAR_OUTLINES: &[u8] =
-    b"#FIG 3.2\nLandscape\nCenter\nMetric\nA4\n100.00\nSingle\n-2\n1200 2\n0 543 #ff0000\n1 3 0 0 543 543 999 -1 20 0.000 1 0.0000 -7 40 1000 1000 -7 40 993 40\n2 3 0 0 4 4 0 -1 20 0.000 0 0 -1 0 0 4\n\t -1000000 -1000000 -2000000 -1000000 -1000000 -2000000 -1000000 -1000000\n";
+    b"#FIG 3.2\nLandscape\nCenter\nMetric\nA4\n100.00\nSingle\n-2\n1200 2\n0 543 #ff0000\n1 3 0 0 543 543 999 -1 20 0.000 1 0.0000 -7 40 1000 1000 -7 40 993 40\n2 3 0 0 4 4 0 -1 20 0.000 0 0 -1 0 0 4\n\t -1000000 -1000000 -2000000 -1000000 -1000000 -2000000 -1000000 -1000000\n1 1 0 0 4 4 1 -1 20 0.000 1 0.0000 10000000 -10000000 10000000 1 10000000 -10000000 20000000 -9999999\n";
 
 #[tactic(auto, unfolding(gf_shape::specs::Reach::is_reached))]
 fn far_chain(alloc: Global) -> Result<Outline, Fail> {
@@ -129,6 +129,8 @@ fn far_outlines(alloc: Global) -> Result<Drawing<Outline>, Fail> {
     drawing.add_colour(543, RED)?;
     drawing.add_figure(figure(Outline::Disc(Disc::new(at(-7, 40), 1_000)), 543, 999))?;
     drawing.add_figure(figure(far_chain(alloc)?, 4, 0))?;
+    let oval = Oval::new(at(10_000_000, -10_000_000), 10_000_000, 1);
+    drawing.add_figure(figure(Outline::Oval(oval), 4, 1))?;
     Ok(drawing)
 }
 
