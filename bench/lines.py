@@ -27,7 +27,7 @@ class Lines:
 class Object:
     def __init__(self, lines, rng, number):
         site = number % SITES
-        self.kind = ("box", "circle", "polygon")[number % 3]
+        self.kind = ("box", "circle", "ellipse", "polygon")[number % 4]
         key = "points" if self.kind == "polygon" else "size"
         self.knows = lines.make(site, {
             "op": "create", "kind": self.kind, "layer": rng.randrange(10), "shown": True,

@@ -11,7 +11,7 @@ trap 'rm -rf "$folder"' EXIT
 
 TIMEFORMAT=%3R
 side=4096
-names=(boxes circles polygons large stars combs many)
+names=(boxes circles ellipses polygons large stars combs many)
 
 build figgroup --version
 python3 "$root/bench/paint_inputs.py" "$folder"

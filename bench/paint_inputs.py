@@ -49,6 +49,13 @@ def disc(rng, colour, depth, radius):
     return f"1 3 0 0 {colour} {colour} {depth} -1 20 0.000 1 0.0000 {x} {y} {radius} {radius} {x} {y} {x + radius} {y}\n"
 
 
+def oval(rng, colour, depth, rx, ry):
+    """The line of an ellipse of these radii."""
+    x, y = rng.randrange(SIDE), rng.randrange(SIDE)
+    end = f"{x + rx} {y + ry}"
+    return f"1 1 0 0 {colour} {colour} {depth} -1 20 0.000 1 0.0000 {x} {y} {rx} {ry} {x} {y} {end}\n"
+
+
 def drawing(count, figure):
     """A text of so many figures, the first ones at the back, in the colours of a table."""
     rng = random.Random(5)
@@ -65,6 +72,7 @@ def write(name, text):
 
 write("boxes", drawing(1_000, lambda rng, colour, depth: chain(2, colour, depth, box(rng, 475))))
 write("circles", drawing(1_000, lambda rng, colour, depth: disc(rng, colour, depth, 237)))
+write("ellipses", drawing(1_000, lambda rng, colour, depth: oval(rng, colour, depth, 237, 158)))
 write("polygons", drawing(1_000, lambda rng, colour, depth: chain(3, colour, depth, ring(rng, 475, SIDE // 2))))
 write("large", drawing(1_000, lambda rng, colour, depth: chain(3, colour, depth, ring(rng, SIDE, 50))))
 write("stars", drawing(1_000, lambda rng, colour, depth: chain(3, colour, depth, ring(rng, SIDE, 50, 0.3))))
