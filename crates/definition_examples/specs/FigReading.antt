@@ -1,15 +1,15 @@
 -- Worked examples of the FIG grammar, checked by computing: the drawing that a text reads as, and the fault with which one fails.
 use Rattle.std.specs.Prelude.{refl, ℕ, ℤ, pos, false, List, [], ◌∷◌, ◌++◌, codes}
 use Rattle.gf_shape.specs.declared.point.Point.{Point}
-use Rattle.gf_shape.specs.declared.outline.Outline.TheVariants.{Chain, Disc}
+use Rattle.gf_shape.specs.declared.outline.Outline.TheVariants.{Chain, Disc, Oval}
 use Rattle.gf_shape.specs.Reach.{is_reached}
 use Rattle.gf_drawing.specs.Colours.{rgb}
 use Rattle.gf_fig_text.specs.declared.faults.FigFault.TheVariants as fault
 use Rattle.gf_fig_text.specs.Layout.{object_tokens}
-use Rattle.gf_fig_text.specs.Forms.{whole, decimal, colour}
-use Rattle.gf_fig_text.specs.Fields.{natural, point, points}
+use Rattle.gf_fig_text.specs.Forms.{whole, decimal, colour, angle}
+use Rattle.gf_fig_text.specs.Fields.{natural, no_angle, point, points}
 use Rattle.gf_fig_read.specs.Styles.{known_colour, filling, style}
-use Rattle.gf_fig_read.specs.Outlines.{count, chain, disc}
+use Rattle.gf_fig_read.specs.Outlines.{count, chain, disc, oval, ellipse}
 use Rattle.gf_fig_read.specs.Objects.{Drawn, object, colour_object, ellipse_object, polyline_object}
 use Rattle.gf_fig_read.specs.FigGrammar.{Reads, Fails, nothing}
 use Rattle.gf_fig_read.specs.Computed.{outcome_of, objects_of}
@@ -93,21 +93,56 @@ circle = record {
 }
 
 pub a_circle : Reads circle_text circle
-unfolding outcome_of objects_of object_tokens object natural colour_object ellipse_object known_colour filling style disc point whole decimal colour is_reached
+unfolding outcome_of objects_of object_tokens object natural colour_object ellipse_object known_colour filling style ellipse disc point whole decimal colour is_reached
 a_circle = reads_by circle_text circle refl
 
-abbrev pub oval_text : List ℕ
-oval_text = head ++ codes "0 32 #00ff00\n1 3 0 0 32 32 0 -1 20 0.000 1 0.0000 0 0 1 2 0 0 1 0\n"
+abbrev pub unequal_text : List ℕ
+unequal_text = head ++ codes "0 32 #00ff00\n1 3 0 0 32 32 0 -1 20 0.000 1 0.0000 0 0 1 2 0 0 1 0\n"
 
-pub unequal_radii : Fails oval_text fault.Radius 2
-unfolding outcome_of objects_of object_tokens object natural colour_object ellipse_object known_colour filling style disc point whole decimal colour is_reached
-unequal_radii = fails_by oval_text fault.Radius 2 refl
+pub unequal_radii : Fails unequal_text fault.Radius 2
+unfolding outcome_of objects_of object_tokens object natural colour_object ellipse_object known_colour filling style ellipse disc point whole decimal colour is_reached
+unequal_radii = fails_by unequal_text fault.Radius 2 refl
+
+-- ---- ellipses
+
+-- an ellipse three wide and two high, of this sub type and angle
+abbrev pub oval_text : List ℕ → List ℕ → List ℕ
+oval_text sub_type turn = head ++ codes "1 " ++ sub_type ++ codes " 0 0 4 4 50 -1 20 0.000 1 " ++ turn ++ codes " 0 0 3 2 0 0 3 2\n"
+
+abbrev pub flat : Drawn
+flat = record {
+  table = [];
+  figures = record { shape = Oval (record { centre = at 0 0; rx = 3; ry = 2 }); colour = 4; depth = 50 } ∷ [];
+}
+
+pub an_oval : Reads (oval_text (codes "1") (codes "-0.000")) flat
+unfolding outcome_of objects_of object_tokens object natural ellipse_object known_colour filling style ellipse oval no_angle point whole decimal angle is_reached
+an_oval = reads_by (oval_text (codes "1") (codes "-0.000")) flat refl
+
+pub an_oval_by_diameters : Reads (oval_text (codes "2") (codes "0")) flat
+unfolding outcome_of objects_of object_tokens object natural ellipse_object known_colour filling style ellipse oval no_angle point whole decimal angle is_reached
+an_oval_by_diameters = reads_by (oval_text (codes "2") (codes "0")) flat refl
+
+pub a_turned_oval : Fails (oval_text (codes "1") (codes "0.5000")) fault.Angle 1
+unfolding outcome_of objects_of object_tokens object natural ellipse_object known_colour filling style ellipse oval no_angle point whole decimal angle is_reached
+a_turned_oval = fails_by (oval_text (codes "1") (codes "0.5000")) fault.Angle 1 refl
+
+pub no_sub_type : Fails (oval_text (codes "5") (codes "0")) fault.SubType 1
+unfolding outcome_of objects_of object_tokens object natural ellipse_object known_colour filling style ellipse oval no_angle point whole decimal angle is_reached
+no_sub_type = fails_by (oval_text (codes "5") (codes "0")) fault.SubType 1 refl
+
+abbrev pub flattened_text : List ℕ
+flattened_text = head ++ codes "1 1 0 0 4 4 50 -1 20 0.000 1 0 0 0 3 0 0 0 3 0\n"
+
+pub no_height : Fails flattened_text fault.Radius 1
+unfolding outcome_of objects_of object_tokens object natural ellipse_object known_colour filling style ellipse oval no_angle point whole decimal angle is_reached
+no_height = fails_by flattened_text fault.Radius 1 refl
 
 abbrev pub late_text : List ℕ
 late_text = circle_text ++ codes "0 33 #00ff00\n"
 
 pub a_late_colour : Fails late_text fault.LateColour 3
-unfolding outcome_of objects_of object_tokens object natural colour_object ellipse_object known_colour filling style disc point whole decimal colour is_reached
+unfolding outcome_of objects_of object_tokens object natural colour_object ellipse_object known_colour filling style ellipse disc point whole decimal colour is_reached
 a_late_colour = fails_by late_text fault.LateColour 3 refl
 
 abbrev pub twice_text : List ℕ

@@ -3,7 +3,7 @@ use Rattle.std.specs.Prelude.{◌≡◌, refl, ℤ, pos, negsuc, false, List, []
 use Rattle.std.specs.Fmt.{digits}
 use Rattle.gf_shape.specs.declared.point.Point.{Point}
 use Rattle.gf_shape.specs.declared.outline.Outline.{Outline}
-use Rattle.gf_shape.specs.declared.outline.Outline.TheVariants.{Chain, Disc}
+use Rattle.gf_shape.specs.declared.outline.Outline.TheVariants.{Chain, Disc, Oval}
 use Rattle.gf_shape.specs.Area.{Area}
 use Rattle.gf_shape.specs.Outlines.{rect_outline}
 use Rattle.gf_drawing.specs.Colours.{rgb}
@@ -43,6 +43,11 @@ red_box_length = refl
 pub unit_disc : outline_lines 32 0 (Disc (record { centre = at (pos 0) (pos 0); radius = 1 })) ≡ codes "1 3 0 0 32 32 0 -1 20 0.000 1 0.0000 0 0 1 1 0 0 1 0\n"
 unfolding digits
 unit_disc = refl
+
+-- an oval three wide and two high round the origin
+pub flat_oval : outline_lines 32 0 (Oval (record { centre = at (pos 0) (pos 0); rx = 3; ry = 2 })) ≡ codes "1 1 0 0 32 32 0 -1 20 0.000 1 0.0000 0 0 3 2 0 0 3 2\n"
+unfolding digits
+flat_oval = refl
 
 -- a drawing of that disc alone, where each shape is its own outline
 abbrev pub disc_drawing : DrawingState Outline

@@ -2,7 +2,7 @@
 use Rattle.std.specs.Prelude.{◌≡◌, ℕ, List, [], ◌∷◌, ◌++◌, Ok, Err, refl, codes, pos, negsuc}
 use Rattle.std.specs.Str.{is_utf8, chars}
 use Rattle.std.specs.Fmt.{digits}
-use Rattle.gf_ops.specs.declared.change.Form.TheVariants.{Polygon, Circle}
+use Rattle.gf_ops.specs.declared.change.Form.TheVariants.{Polygon, Circle, Ellipse}
 use Rattle.gf_json.specs.declared.line_error.LineError.TheVariants as fault
 use Rattle.gf_json.specs.OperationLines.{denoted}
 use Rattle.definition_examples.specs.BoxLines.{red}
@@ -31,6 +31,14 @@ pub circle_of_no_radius : denoted (shaped (codes "circle") (codes "\"size\":[0,0
 unfolding serde_json_on_literals digits is_utf8 chars
 circle_of_no_radius = refl
 
+pub red_ellipse_read : denoted (shaped (codes "ellipse") (codes "\"size\":[3,2]")) ≡ Ok (red (Ellipse 3 2))
+unfolding serde_json_on_literals digits is_utf8 chars
+red_ellipse_read = refl
+
+pub ellipse_of_no_height : denoted (shaped (codes "ellipse") (codes "\"size\":[3,0]")) ≡ Err fault.Range
+unfolding serde_json_on_literals digits is_utf8 chars
+ellipse_of_no_height = refl
+
 pub red_polygon_read : denoted (shaped (codes "polygon") (codes "\"points\":[[0,0],[10,-20],[0,30]]")) ≡ Ok (red (Polygon (record { x = pos 0; y = pos 0 } ∷ record { x = pos 10; y = negsuc 19 } ∷ record { x = pos 0; y = pos 30 } ∷ [])))
 unfolding serde_json_on_literals digits is_utf8 chars
 red_polygon_read = refl
@@ -52,6 +60,6 @@ pub polygon_with_a_size : denoted (shaped (codes "polygon") (codes "\"size\":[7,
 unfolding serde_json_on_literals digits is_utf8 chars
 polygon_with_a_size = refl
 
-pub another_kind : denoted (shaped (codes "ellipse") (codes "\"size\":[7,7]")) ≡ Err fault.Field
+pub another_kind : denoted (shaped (codes "star") (codes "\"size\":[7,7]")) ≡ Err fault.Field
 unfolding serde_json_on_literals digits is_utf8 chars
 another_kind = refl

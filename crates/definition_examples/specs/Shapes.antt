@@ -2,8 +2,8 @@
 use Rattle.std.specs.Prelude.{◌≡◌, refl, true, false, List, [], ◌∷◌, pos, negsuc, ℤ}
 use Rattle.gf_shape.specs.declared.point.Point.{Point}
 use Rattle.gf_shape.specs.Edges.{side, is_between, is_on_line}
-use Rattle.gf_shape.specs.ShapeMeaning.{box_holds, circle_holds, polygon_holds}
-use Rattle.gf_shape.specs.FigureMeaning.{chain_holds, disc_holds}
+use Rattle.gf_shape.specs.ShapeMeaning.{box_holds, circle_holds, ellipse_holds, polygon_holds}
+use Rattle.gf_shape.specs.FigureMeaning.{chain_holds, disc_holds, oval_figure_holds}
 
 abbrev pub at : ℤ → ℤ → Point
 at x y = record { x = x; y = y }
@@ -21,6 +21,26 @@ circle_side = refl
 
 pub circle_corner : circle_holds 1 (at (negsuc 0) (negsuc 0)) ≡ false
 circle_corner = refl
+
+-- an ellipse three wide and two high holds its ends and what lies within its line
+pub ellipse_side : ellipse_holds 3 2 (at (pos 3) (pos 0)) ≡ true
+ellipse_side = refl
+
+pub ellipse_end : ellipse_holds 3 2 (at (pos 0) (pos 2)) ≡ true
+ellipse_end = refl
+
+pub ellipse_inside : ellipse_holds 3 2 (at (pos 2) (pos 1)) ≡ true
+ellipse_inside = refl
+
+pub ellipse_beside : ellipse_holds 3 2 (at (pos 3) (pos 1)) ≡ false
+ellipse_beside = refl
+
+pub ellipse_below : ellipse_holds 3 2 (at (pos 1) (pos 2)) ≡ false
+ellipse_below = refl
+
+-- an oval away from the origin
+pub oval_inside : oval_figure_holds (at (pos 100) (negsuc 99)) 3 2 (at (pos 102) (negsuc 98)) ≡ true
+oval_inside = refl
 
 -- a star with five arms: even-odd, so its middle is outside
 abbrev pub star : List Point

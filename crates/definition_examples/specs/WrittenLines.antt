@@ -1,7 +1,7 @@
 -- Worked examples of written lines, checked by computing.
 use Rattle.std.specs.Prelude.{◌≡◌, [], ◌∷◌, refl, codes, pos, negsuc, false}
 use Rattle.std.specs.Fmt.{digits}
-use Rattle.gf_ops.specs.declared.change.Form.TheVariants.{Polygon, Circle}
+use Rattle.gf_ops.specs.declared.change.Form.TheVariants.{Polygon, Circle, Ellipse}
 use Rattle.gf_ops.specs.declared.change.Value.TheVariants as value
 use Rattle.gf_json.specs.WrittenLines.{op_text}
 use Rattle.definition_examples.specs.BoxLines.{red, red_box}
@@ -15,6 +15,10 @@ red_box_written = refl
 pub red_circle_written : op_text (red (Circle 7)) ≡ codes "{\"colour\":\"ff0000\",\"id\":[1,1],\"kind\":\"circle\",\"layer\":0,\"op\":\"create\",\"past\":[0,0,0,0,0,0,0,0],\"place\":[100,200],\"shown\":true,\"size\":[7,7]}"
 unfolding serde_json_on_literals digits
 red_circle_written = refl
+
+pub red_ellipse_written : op_text (red (Ellipse 3 2)) ≡ codes "{\"colour\":\"ff0000\",\"id\":[1,1],\"kind\":\"ellipse\",\"layer\":0,\"op\":\"create\",\"past\":[0,0,0,0,0,0,0,0],\"place\":[100,200],\"shown\":true,\"size\":[3,2]}"
+unfolding serde_json_on_literals digits
+red_ellipse_written = refl
 
 pub red_polygon_written : op_text (red (Polygon (record { x = pos 0; y = pos 0 } ∷ record { x = pos 10; y = negsuc 19 } ∷ record { x = pos 0; y = pos 30 } ∷ []))) ≡ codes "{\"colour\":\"ff0000\",\"id\":[1,1],\"kind\":\"polygon\",\"layer\":0,\"op\":\"create\",\"past\":[0,0,0,0,0,0,0,0],\"place\":[100,200],\"points\":[[0,0],[10,-20],[0,30]],\"shown\":true}"
 unfolding serde_json_on_literals digits

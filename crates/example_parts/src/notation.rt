@@ -102,7 +102,7 @@ pub fn value(alloc: Global, text: &str) -> Option<Value> {
     }
 }
 
-/// `box 3 4`, `circle 3`, `polygon 0,0 8,0 0,8`.
+/// `box 3 4`, `circle 3`, `ellipse 3 2`, `polygon 0,0 8,0 0,8`.
 pub fn form(alloc: Global, text: &str) -> Option<Form> {
     let (kind, size) = text.split_once(' ')?;
     match kind {
@@ -111,6 +111,10 @@ pub fn form(alloc: Global, text: &str) -> Option<Form> {
             Some(Form::Rect(width, height))
         }
         "circle" => Some(Form::Circle(size.parse().ok()?)),
+        "ellipse" => {
+            let (rx, ry) = pair(size)?;
+            Some(Form::Ellipse(rx, ry))
+        }
         "polygon" => Some(Form::Polygon(Points::new(points(alloc, size)?))),
         _ => None,
     }
