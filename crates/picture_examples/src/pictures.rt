@@ -7,6 +7,8 @@ use std::test::Fail;
 const RASTERS: &str = "\
 nothing ; 0 0 1 1 1 1 | 1 ffffff
 circle ; -1 -1 1 3 3 1 | 1 ffffff 1 00ff00 1 ffffff 3 00ff00 1 ffffff 1 00ff00 1 ffffff
+ellipse ; -4 0 1 9 3 1 | 1 ffffff 7 0000ff 3 ffffff 5 0000ff 6 ffffff 1 0000ff 4 ffffff
+round ; -1 -1 1 3 3 1 | 1 ffffff 1 00ff00 1 ffffff 3 00ff00 1 ffffff 1 00ff00 1 ffffff
 corner ; 0 0 1 3 2 1 | 2 ff0000 1 ffffff 2 ff0000 1 ffffff
 house ; 0 4 1 5 3 1 | 5 ff0000 1 ffffff 3 ff0000 3 ffffff 1 ff0000 2 ffffff
 // The foremost figure is seen: the later one of its depth, and the lesser depth.
