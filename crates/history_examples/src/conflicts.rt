@@ -24,6 +24,9 @@ relation 1.1: box 3 4 ; 2.1: 1.1 size 3 4           | concurrent
 relation 1.1: box 3 4 ; 2.1: 1.1 size 4 3           | conflict
 relation 1.1: circle 3 ; 2.1: 1.1 size 3 3          | concurrent
 relation 1.1: circle 3 ; 2.1: 1.1 size 3 4          | conflict
+relation 1.1: ellipse 3 4 ; 2.1: 1.1 size 3 4       | concurrent
+relation 1.1: ellipse 3 4 ; 2.1: 1.1 size 4 3       | conflict
+relation 1.1: ellipse 3 4 ; 2.1: 1.1 points 0,0*3   | concurrent
 relation 1.1: polygon 0,0*3 5,5 ; 2.1: 1.1 size 3 4 | concurrent
 relation 1.1: box 3 4 ; 2.1: 1.1 layer 0            | concurrent
 relation 1.1: box 3 4 ; 2.1: 1.1 layer 1            | conflict
@@ -40,6 +43,11 @@ relation 1.1: box 3 3 ; 1.1: circle 3                | concurrent
 relation 1.1: box 3 4 ; 1.1: circle 3                | conflict
 relation 1.1: box 3 4 ; 1.1: polygon 0,0*3           | concurrent
 relation 1.1: circle 3 ; 1.1: circle 4               | conflict
+relation 1.1: ellipse 3 3 ; 1.1: circle 3            | concurrent
+relation 1.1: circle 3 ; 1.1: ellipse 3 4            | conflict
+relation 1.1: ellipse 3 4 ; 1.1: box 3 4             | concurrent
+relation 1.1: ellipse 3 4 ; 1.1: ellipse 4 3         | conflict
+relation 1.1: ellipse 3 4 ; 1.1: polygon 0,0*3       | concurrent
 relation 1.1: polygon 0,0*2 1,1 ; 1.1: polygon 0,0*3 | conflict
 relation 1.1: box 1 1 ; 1.1: box 1 1, layer 1        | conflict
 relation 1.1: box 1 1 ; 1.1: box 1 1, shown false    | conflict
@@ -53,6 +61,7 @@ relation 1.1: polygon 0,0*2 1,1 ; 2.1: 1.1 points 0,0*2 1,2            | conflic
 // a_copy_equals_its_source
 copy 1.1: box 3 4                        | yes
 copy 8.9 after 1 2 3 4 5 6 7 8: circle 5 | yes
+copy 1.1: ellipse 3 4                    | yes
 copy 1.2 after 1: polygon 0,0*2 7,-7     | yes
 copy 1.2 after 1: 1.1 place 7,-7         | yes
 copy 1.2 after 1: 1.1 points 0,0*2 7,-7  | yes

@@ -73,6 +73,15 @@ check 2.1 after 3: 1.3 layer 9999    | ok
 check 2.1 after 3: 1.3 shown false   | ok
 // The history says the same when it is asked to add.
 add 2.1 after 3: 1.2 size 5 6 | WrongKind
+// An ellipse has a size of any two numbers.
+add 1.4 after 3: ellipse 3 2         | ok
+check 2.1 after 4: 1.4 size 5 6      | ok
+check 2.1 after 4: 1.4 size 5 5      | ok
+check 2.1 after 4: 1.4 points 0,0*4  | WrongKind
+check 2.1 after 4: 1.4 place 0,0     | ok
+check 2.1 after 4: 1.4 colour ff0000 | ok
+check 2.1 after 4: 1.4 layer 9999    | ok
+check 2.1 after 4: 1.4 shown false   | ok
 
 // refuses_and_stays
 new                          | ok

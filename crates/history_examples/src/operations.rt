@@ -30,6 +30,13 @@ range 1.1: circle 1       | yes
 range 1.1: circle 1000000 | yes
 range 1.1: circle 1000001 | no
 
+// keeps_the_limits_of_ellipses
+range 1.1: ellipse 1 1000000 | yes
+range 1.1: ellipse 0 1       | no
+range 1.1: ellipse 1 0       | no
+range 1.1: ellipse 1 1000001 | no
+range 1.1: ellipse 1000001 1 | no
+
 // keeps_the_limits_of_polygons
 range 1.1: polygon 0,0                    | no
 range 1.1: polygon 0,0 0,0                | no
