@@ -176,7 +176,8 @@ Field | box        | "create"             | "Create"
 Field | box        | "create"             | 1
 Field | box        | "box"                | "circle"
 Field | box        | "box"                | "polygon"
-Field | box        | "box"                | "ellipse"
+Field | box        | "box"                | "star"
+ok    | box        | "box"                | "ellipse"
 Field | box        | "box"                | "Box"
 Field | box        | "box"                | 3
 ok    | circle     | "circle"             | "box"
@@ -194,6 +195,7 @@ Field | do create  | "do":"create"        | "op":"create"
 Field | do create  | "do":"create"        | "do":"wait"
 Field | do create  | "do":"create"        | "do":0
 ok    | do create  | "box"                | "circle"
+ok    | do create  | "box"                | "ellipse"
 Field | do create  | "size":[10,10]       | "points":[[0,0],[1,0],[0,1]]
 Field | do set     | "do":"set"           | "op":"set"
 Field | do set     | "do":"set"           | "do":"wait"
@@ -359,6 +361,22 @@ Field | circle     | "size":[7,7]         | "size":[7]
 Field | circle     | "size":[7,7]         | "size":[7,7,7]
 Field | circle     | "size":[7,7]         | "size":[7,7.0]
 Field | circle     | "size":[7,7]         | "size":7
+
+// The size of an ellipse.
+ok    | circle     | "circle","place":[100,200],"size":[7,7] | "ellipse","place":[0,0],"size":[7,7]
+ok    | circle     | "circle","place":[100,200],"size":[7,7] | "ellipse","place":[0,0],"size":[1,1000000]
+ok    | circle     | "circle","place":[100,200],"size":[7,7] | "ellipse","place":[0,0],"size":[1000000,1]
+Range | circle     | "circle","place":[100,200],"size":[7,7] | "ellipse","place":[0,0],"size":[0,1]
+Range | circle     | "circle","place":[100,200],"size":[7,7] | "ellipse","place":[0,0],"size":[1,0]
+Range | circle     | "circle","place":[100,200],"size":[7,7] | "ellipse","place":[0,0],"size":[1000001,1]
+Range | circle     | "circle","place":[100,200],"size":[7,7] | "ellipse","place":[0,0],"size":[1,1000001]
+Range | circle     | "circle","place":[100,200],"size":[7,7] | "ellipse","place":[0,0],"size":[1,-1]
+Field | circle     | "circle","place":[100,200],"size":[7,7] | "ellipse","place":[0,0],"size":[3]
+Field | circle     | "circle","place":[100,200],"size":[7,7] | "ellipse","place":[0,0],"size":[3,2,1]
+Field | circle     | "circle","place":[100,200],"size":[7,7] | "ellipse","place":[0,0],"size":[3,2.0]
+Field | circle     | "circle","place":[100,200],"size":[7,7] | "ellipse","place":[0,0],"points":[[0,0],[1,0],[0,1]]
+Field | circle     | "circle","place":[100,200],"size":[7,7] | "Ellipse","place":[0,0],"size":[3,2]
+Field | polygon    | "polygon"            | "ellipse"
 ok    | set        | "set":"colour","to":"0000ff" | "set":"size","to":[7,7]
 
 // The points.

@@ -16,6 +16,7 @@ const ROWS: &str = r#"
 // reads_each_kind
 {"colour":"ff0000","id":[1,1],"kind":"box","layer":0,"op":"create","past":[0,0,0,0,0,0,0,0],"place":[100,200],"shown":true,"size":[7,7]} | 1.1: box 7 7, place 100,200, colour ff0000
 {"colour":"ff0000","id":[1,1],"kind":"circle","layer":0,"op":"create","past":[0,0,0,0,0,0,0,0],"place":[100,200],"shown":true,"size":[7,7]} | 1.1: circle 7, place 100,200, colour ff0000
+{"colour":"ff0000","id":[1,1],"kind":"ellipse","layer":0,"op":"create","past":[0,0,0,0,0,0,0,0],"place":[100,200],"shown":true,"size":[3,2]} | 1.1: ellipse 3 2, place 100,200, colour ff0000
 {"colour":"ff0000","id":[1,1],"kind":"circle","layer":0,"op":"create","past":[0,0,0,0,0,0,0,0],"place":[100,200],"shown":true,"size":[1,1]} | 1.1: circle 1, place 100,200, colour ff0000
 {"colour":"ff0000","id":[1,1],"kind":"circle","layer":0,"op":"create","past":[0,0,0,0,0,0,0,0],"place":[100,200],"shown":true,"size":[1000000,1000000]} | 1.1: circle 1000000, place 100,200, colour ff0000
 {"colour":"ff0000","id":[1,1],"kind":"polygon","layer":0,"op":"create","past":[0,0,0,0,0,0,0,0],"place":[100,200],"shown":true,"points":[[0,0],[10,-20],[-1000000,1000000]]} | 1.1: polygon 0,0 10,-20 -1000000,1000000, place 100,200, colour ff0000
