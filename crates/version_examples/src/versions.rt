@@ -102,6 +102,20 @@ add 1.2 after 1: 1.1 size 30 30                                   | ok
 ranked                                                            | 1.1[ 1.1 1.2 ]
 looks 0                                                           | layer 7, colour 0000ff, from -29,-30 to 31,30
 new                                                               | ok
+add 1.1: ellipse 10 20, place 1,0, layer 7, colour 0000ff         | ok
+ranked                                                            | 1.1[ 1.1 ]
+looks 0                                                           | layer 7, colour 0000ff, from -9,-20 to 11,20
+covers 12,0                                                       | no
+covers 11,0                                                       | yes
+add 1.2 after 1: 1.1 size 30 20                                   | ok
+ranked                                                            | 1.1[ 1.1 1.2 ]
+looks 0                                                           | layer 7, colour 0000ff, from -29,-20 to 31,20
+// Two sizes at once make two versions.
+add 2.1 after 1: 1.1 size 10 40                                   | ok
+ranked                                                            | 1.1[ 1.1 2.1 ]1.1[ 1.1 1.2 ]
+looks 0                                                           | layer 7, colour 0000ff, from -9,-40 to 11,40
+looks 1                                                           | layer 7, colour 0000ff, from -29,-20 to 31,20
+new                                                               | ok
 add 1.1: polygon 0,0 10,0 0,10, place 1,0, layer 7, colour 0000ff | ok
 ranked                                                            | 1.1[ 1.1 ]
 looks 0                                                           | layer 7, colour 0000ff, from 1,0 to 11,10
