@@ -29,6 +29,13 @@ versions 1.1                     | version 1.1 [1.1 1.2 1.3] box place 0 0 size 
 plain_versions 1.1               | version 1.1 [1.1 1.2 1.3] box place 0 0 size 10 10 colour 000000 layer 4 hidden
 top 0,3                          | top 0 3 is 2.1 [2.1]
 plain_top 10,10                  | top 10 10 is white
+add 3.1: ellipse 3 2             | ok
+versions 3.1                     | version 3.1 [3.1] ellipse place 0 0 size 3 2 colour 000000 layer 0 shown
+plain_versions 3.1               | version 3.1 [3.1] ellipse place 0 0 size 3 2 colour 000000 layer 0 shown
+top 2,1                          | top 2 1 is 3.1 [3.1]
+plain_top 2,1                    | top 2 1 is 3.1 [3.1]
+top 1,2                          | top 1 2 is 2.1 [2.1]
+top 3,1                          | top 3 1 is white
 
 // ten_rounds_are_1024_versions
 new                              | ok
