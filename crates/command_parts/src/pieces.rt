@@ -15,6 +15,11 @@ blue_of_site_2 {"colour":"0000ff","id":[2,1],"kind":"box","layer":0,"op":"create
 red_otherwise {"size":[10,10],"shown":true,"place":[0,0],"past":[0,0,0,0,0,0,0,0],"op":"create","layer":5,"kind":"box","id":[1,1],"colour":"FF0000"}
 blue_otherwise  { "id" : [1, 2], "op" : "create", "kind" : "box", "past" : [1,0,0,0,0,0,0,0], "place" : [0,0], "size" : [10,10], "shown" : true, "layer" : 0, "colour" : "0000Ff" }
 unit_circle {"colour":"00ff00","id":[1,1],"kind":"circle","layer":0,"op":"create","past":[0,0,0,0,0,0,0,0],"place":[0,0],"shown":true,"size":[1,1]}
+flat_ellipse {"colour":"0000ff","id":[1,1],"kind":"ellipse","layer":0,"op":"create","past":[0,0,0,0,0,0,0,0],"place":[0,0],"shown":true,"size":[3,2]}
+round_ellipse {"colour":"00ff00","id":[1,1],"kind":"ellipse","layer":0,"op":"create","past":[0,0,0,0,0,0,0,0],"place":[0,0],"shown":true,"size":[1,1]}
+far_ellipse {"colour":"0000ff","id":[1,1],"kind":"ellipse","layer":0,"op":"create","past":[0,0,0,0,0,0,0,0],"place":[1000000,-1000000],"shown":true,"size":[1000000,1]}
+ellipse_of_no_height {"colour":"0000ff","id":[1,1],"kind":"ellipse","layer":0,"op":"create","past":[0,0,0,0,0,0,0,0],"place":[0,0],"shown":true,"size":[3,0]}
+grown {"op":"set","id":[2,1],"past":[1,0,0,0,0,0,0,0],"object":[1,1],"set":"size","to":[2,3]}
 far_triangle {"colour":"ff0000","id":[1,1],"kind":"polygon","layer":0,"op":"create","past":[0,0,0,0,0,0,0,0],"place":[-1000000,-1000000],"points":[[0,0],[-1000000,0],[0,-1000000]],"shown":true}
 two_points {"colour":"ff0000","id":[1,1],"kind":"polygon","layer":0,"op":"create","past":[0,0,0,0,0,0,0,0],"place":[-1000000,-1000000],"points":[[0,0],[-1000000,0]],"shown":true}
 far_layer {"colour":"ff0000","id":[1,1],"kind":"box","layer":10000,"op":"create","past":[0,0,0,0,0,0,0,0],"place":[100,200],"shown":true,"size":[300,400]}
@@ -46,6 +51,10 @@ points_of_a_box {"op":"set","id":[2,1],"past":[1,0,0,0,0,0,0,0],"object":[1,1],"
 // What stands behind the text of the drawing of nothing.
 red_over_blue_fig 0 32 #ff0000\n0 33 #0000ff\n2 2 0 0 32 32 0 -1 20 0.000 0 0 -1 0 0 5\n\t 0 0 10 0 10 10 0 10 0 0\n2 2 0 0 33 33 1 -1 20 0.000 0 0 -1 0 0 5\n\t 0 0 10 0 10 10 0 10 0 0\n
 unit_circle_fig 0 32 #00ff00\n1 3 0 0 32 32 0 -1 20 0.000 1 0.0000 0 0 1 1 0 0 1 0\n
+flat_ellipse_fig 0 32 #0000ff\n1 1 0 0 32 32 0 -1 20 0.000 1 0.0000 0 0 3 2 0 0 3 2\n
+round_ellipse_fig 0 32 #00ff00\n1 1 0 0 32 32 0 -1 20 0.000 1 0.0000 0 0 1 1 0 0 1 1\n
+far_ellipse_fig 0 32 #0000ff\n1 1 0 0 32 32 0 -1 20 0.000 1 0.0000 1000000 -1000000 1000000 1 1000000 -1000000 2000000 -999999\n
+high_ellipse_fig 0 32 #0000ff\n1 1 0 0 32 32 0 -1 20 0.000 1 0.0000 0 0 2 3 0 0 2 3\n
 far_triangle_fig 0 32 #ff0000\n2 3 0 0 32 32 0 -1 20 0.000 0 0 -1 0 0 4\n\t -1000000 -1000000 -2000000 -1000000 -1000000 -2000000 -1000000 -1000000\n
 two_colours_fig 0 32 #00ff00\n0 33 #0000ff\n2 2 0 0 32 32 0 -1 20 0.000 0 0 -1 0 0 5\n\t 0 0 10 0 10 10 0 10 0 0\n2 2 0 0 33 33 1 -1 20 0.000 0 0 -1 0 0 5\n\t 0 0 10 0 10 10 0 10 0 0\n
 both_moved_fig 0 32 #00ff00\n0 33 #0000ff\n2 2 0 0 32 32 0 -1 20 0.000 0 0 -1 0 0 5\n\t 200 0 210 0 210 10 200 10 200 0\n2 2 0 0 33 33 1 -1 20 0.000 0 0 -1 0 0 5\n\t 200 0 210 0 210 10 200 10 200 0\n
@@ -55,6 +64,7 @@ one_red_fig 0 32 #ff0000\n2 2 0 0 32 32 0 -1 20 0.000 0 0 -1 0 0 5\n\t 0 0 10 0 
 // A text of another program, and what makes a text fail.
 foreign_triangle #FIG 3.2  Produced by xfig version 3.2.5\nLandscape\nCenter\nInches\nLetter  \n100.00\nSingle\n-2\n1200 2\n# a triangle\n2 3 0 0 4 4 50 -1 20 0.000 0 0 -1 0 0 4\n\t 0 0 1200 0\n\t 600 900 0 0\n
 open_polyline 2 1 0 0 4 4 50 -1 20 0.000 0 0 -1 0 0 4\n\t 0 0 1200 0 600 900 0 0\n
+turned_ellipse 1 1 0 0 4 4 50 -1 20 0.000 1 0.5000 0 0 3 2 0 0 3 2\n
 late_colour 0 33 #00ff00\n
 first_box {"site":1,"do":"create","kind":"box","place":[0,0],"size":[10,10],"colour":"ff0000","layer":0,"shown":true}
 second_box {"site":2,"do":"create","kind":"box","place":[0,0],"size":[10,10],"colour":"0000ff","layer":0,"shown":true}

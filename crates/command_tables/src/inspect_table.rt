@@ -17,6 +17,10 @@ inspect --object 1.1 | box / hidden / | 0 version 1.1 [1.1 2.1] box place 0 0 si
 inspect --at=5,5 | box / hidden / | 0 top 5 5 is white\n
 inspect --at=5,5 | box / hidden / box_of_site_3 / | 0 top 5 5 is 3.1 [3.1]\n
 inspect --object 1.1 | far_triangle / | 0 version 1.1 [1.1] polygon place -1000000 -1000000 points 0,0 -1000000,0 0,-1000000 colour ff0000 layer 0 shown\n
+inspect --object 1.1 | flat_ellipse / | 0 version 1.1 [1.1] ellipse place 0 0 size 3 2 colour 0000ff layer 0 shown\n
+inspect --object 1.1 | flat_ellipse / grown / | 0 version 1.1 [1.1 2.1] ellipse place 0 0 size 2 3 colour 0000ff layer 0 shown\n
+inspect --at=2,1 | flat_ellipse / | 0 top 2 1 is 1.1 [1.1]\n
+inspect --at=1,2 | flat_ellipse / | 0 top 1 2 is white\n
 inspect --object 1.1 | unit_circle / | 0 version 1.1 [1.1] circle place 0 0 size 1 1 colour 00ff00 layer 0 shown\n
 inspect --object 1.2 | red / blue_behind / | 0 version 1.2 [1.2] box place 0 0 size 10 10 colour 0000ff layer 0 shown\n
 inspect --at=0,10 | red / blue_behind / | 0 top 0 10 is 1.1 [1.1]\n

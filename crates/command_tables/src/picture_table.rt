@@ -14,6 +14,8 @@ const PICTURES: &str = r#"
 // what is painted: the ground, the circle of radius 1, the box with its edge, and the farthest corner of a triangle
 paint --width 1 --height 1 | | 0 P6\n1 1\n255\n\xff\xff\xff
 paint --x=-1 --y=-1 --width 3 --height 3 | unit_circle / | 0 P6\n3 3\n255\n\xff\xff\xff\x00\xff\x00\xff\xff\xff\x00\xff\x00\x00\xff\x00\x00\xff\x00\xff\xff\xff\x00\xff\x00\xff\xff\xff
+paint --x=-1 --y=-1 --width 3 --height 3 | round_ellipse / | 0 P6\n3 3\n255\n\xff\xff\xff\x00\xff\x00\xff\xff\xff\x00\xff\x00\x00\xff\x00\x00\xff\x00\xff\xff\xff\x00\xff\x00\xff\xff\xff
+paint --x=1 --y=1 --width 3 --height 2 | flat_ellipse / | 0 P6\n3 2\n255\n\x00\x00\xff\x00\x00\xff\xff\xff\xff\xff\xff\xff\xff\xff\xff\xff\xff\xff
 paint --width 3 --height 2 --step 10 | box / | 0 P6\n3 2\n255\n\xff\x00\x00\xff\x00\x00\xff\xff\xff\xff\x00\x00\xff\x00\x00\xff\xff\xff
 paint --x=-2000000 --y=-1000000 --step 10000 --width 1 --height 2 --workers 16 | far_triangle / | 0 P6\n1 2\n255\n\xff\x00\x00\xff\xff\xff
 
@@ -24,12 +26,14 @@ paint --x=199 --width 2 --height 1 --workers 3 | moved_again / moved / green / b
 // what is repainted: another program's triangle, and what this one wrote
 repaint --x=600 --y=300 --width 1 --height 1 | foreign_triangle | 0 P6\n1 1\n255\n\xff\x00\x00
 repaint --y=900 --width 1 --height 1 | foreign_triangle | 0 P6\n1 1\n255\n\xff\xff\xff
+repaint --x=1 --y=1 --width 3 --height 1 | empty_fig flat_ellipse_fig | 0 P6\n3 1\n255\n\x00\x00\xff\x00\x00\xff\xff\xff\xff
 repaint --x=199 --width 2 --height 1 | empty_fig both_moved_fig | 0 P6\n2 1\n255\n\xff\xff\xff\x00\xff\x00
 
 // refusals are told
 paint | { | 1 figgroup: line 1: Json\n
 repaint | | 1 figgroup: figure object 0: Version\n
 repaint | empty_fig open_polyline | 1 figgroup: figure object 1: SubType\n
+repaint | empty_fig turned_ellipse | 1 figgroup: figure object 1: Angle\n
 repaint | red_box_fig late_colour | 1 figgroup: figure object 3: LateColour\n
 "#;
 

@@ -19,6 +19,11 @@ const RUNS: &str = r#"
 // The blue box is another site's, which didn't know the red one.
 0 | blue_of_site_2 / red /                       | empty_fig red_over_blue_fig
 0 | unit_circle /                                | empty_fig unit_circle_fig
+0 | flat_ellipse /                               | empty_fig flat_ellipse_fig
+0 | grown / flat_ellipse /                       | empty_fig high_ellipse_fig
+// The same points as the circle's, and another line.
+0 | round_ellipse /                              | empty_fig round_ellipse_fig
+0 | far_ellipse /                                | empty_fig far_ellipse_fig
 0 | far_triangle /                               | empty_fig far_triangle_fig
 
 // refusals_are_told
@@ -27,6 +32,7 @@ const RUNS: &str = r#"
 1 | {}                                           | line 1: Field
 1 | star                                         | line 1: Field
 1 | unequal_circle                               | line 1: Field
+1 | ellipse_of_no_height                         | line 1: Range
 1 | two_points /                                 | line 1: Range
 1 | far_layer                                    | line 1: Range
 
