@@ -37,7 +37,7 @@ is_size n = nat_le 1 n && nat_le n 1000000
 abbrev pub is_polygon : List Point → Bool
 is_polygon ps = is_polygon_count (length ps) && list_all is_near ps
 
--- both sides of a box, the radius of a circle and both of an ellipse are sizes, and a polygon has as many points as it may have, each of them near
+-- sides and radii are sizes, and a polygon has as many points as it may have, each of them near
 abbrev pub is_form : Form → Bool
 is_form (Rect width height) = is_size width && is_size height
 is_form (Polygon ps) = is_polygon ps

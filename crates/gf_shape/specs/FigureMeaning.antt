@@ -22,7 +22,8 @@ disc_holds centre r p = int_le ((p.x -ℤ centre.x) *ℤ (p.x -ℤ centre.x) +�
 abbrev pub oval_figure_holds : Point → ℕ → ℕ → Point → Bool
 oval_figure_holds centre rx ry p =
     int_le
-    ((p.x -ℤ centre.x) *ℤ (p.x -ℤ centre.x) *ℤ pos (ry * ry) +ℤ (p.y -ℤ centre.y) *ℤ (p.y -ℤ centre.y) *ℤ pos (rx * rx))
+    ((p.x -ℤ centre.x) *ℤ (p.x -ℤ centre.x) *ℤ pos (ry * ry)
+    +ℤ (p.y -ℤ centre.y) *ℤ (p.y -ℤ centre.y) *ℤ pos (rx * rx))
     (pos (rx * rx * (ry * ry)))
 
 -- which points an outline holds

@@ -1,4 +1,4 @@
--- Which points a shape holds, seen from its place (a box, a circle, an ellipse and an even-odd polygon, edges inside; this project's choice).
+-- Which points a shape holds, seen from its place (edges inside, polygons even-odd; this project's choice).
 use Rattle.std.specs.Prelude.{ℕ, ◌*◌, ◌%◌, Bool, ◌&&◌, ◌||◌, List, ◌++◌, zip, drop, take, count_by, pos, ◌+ℤ◌, ◌*ℤ◌, int_le, nat_eq}
 use Rattle.std.specs.List.{list_any}
 use Rattle.gf_shape.specs.declared.point.Point.{Point}
@@ -20,7 +20,10 @@ circle_holds r d = int_le (d.x *ℤ d.x +ℤ d.y *ℤ d.y) (pos (r * r))
 
 -- an ellipse of the radii rx and ry holds d, seen from its centre
 abbrev pub ellipse_holds : ℕ → ℕ → Point → Bool
-ellipse_holds rx ry d = int_le (d.x *ℤ d.x *ℤ pos (ry * ry) +ℤ d.y *ℤ d.y *ℤ pos (rx * rx)) (pos (rx * rx * (ry * ry)))
+ellipse_holds rx ry d =
+    int_le
+    (d.x *ℤ d.x *ℤ pos (ry * ry) +ℤ d.y *ℤ d.y *ℤ pos (rx * rx))
+    (pos (rx * rx * (ry * ry)))
 
 -- the edges from each point to the next, and from the last to the first
 abbrev pub closed_edges : List Point → List Edge

@@ -13,7 +13,7 @@ use crate::{Bounds, OutOfMemory, Outline, Oval, Point, Range, Row, Shape};
 use std::alloc::Global;
 use std::marker::Model;
 
-/// An ellipse with level axes, by its centre and radii. What it surrounds and its line belong to it.
+/// An ellipse with level axes, by its centre and radii. Its line and all within belong to it.
 #[derive(Clone, Copy, Debug, PartialEq, Eq)]
 pub struct Ellipse {
     oval: Oval,

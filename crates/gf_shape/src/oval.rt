@@ -29,7 +29,8 @@ impl Model for Oval {
 
     ghost view = { λ o. record { centre = o.centre; rx = o.rx; ry = o.ry } };
 
-    ghost invariant = { λ o. IsTrue (is_oblong (record { centre = o.centre; rx = o.rx; ry = o.ry })) };
+    ghost invariant = { λ o. IsTrue (is_oblong
+        (record { centre = o.centre; rx = o.rx; ry = o.ry })) };
 
     ghost inverse = { λ o. record { centre = o.centre; rx = o.rx; ry = o.ry } };
 }
@@ -133,7 +134,7 @@ pub(crate) fn is_radius(n: u32) -> bool
     1 <= n && n <= MOST_RADIUS
 }
 
-/// Whether an oval of these radii holds what is `x` to a side of its centre and `y` above or below it.
+/// Whether an oval of these radii holds what is `x` beside its centre and `y` above or below it.
 fn is_within(x: u64, y: u64, rx: u32, ry: u32) -> bool
     requires x { x ≤ 2 ^ 32 }
     requires y { y ≤ 2 ^ 32 }
@@ -162,7 +163,8 @@ fn half_width(rx: u32, ry: u32, past: u64) -> u32
     requires some { 1 ≤ ry }
     requires past { past ≤ ry }
     ensures low { result * result * (ry * ry) + past * past * (rx * rx) ≤ rx * rx * (ry * ry) }
-    ensures high { rx * rx * (ry * ry) < (result + 1) * (result + 1) * (ry * ry) + past * past * (rx * rx) }
+    ensures high { rx * rx * (ry * ry)
+        < (result + 1) * (result + 1) * (ry * ry) + past * past * (rx * rx) }
     ensures small { result ≤ 10000000 }
 {
     part(rx.into(), ry.into(), past).isqrt() as u32
