@@ -1,0 +1,166 @@
+#!/usr/bin/env python3
+"""Runs each public call and each command with its first allocation refused, with its second, and so on to its last.
+
+A refused call has to answer want of memory, leave what was there, and answer rightly when it is called again: trial_memory
+tells by one line whether it did. A refused command has to end with status 1, want of memory for an answer, and no output but the
+header and whole bands of a picture. Where the program does without what was refused, the answer has to be the expected one:
+of calls, only those may do so of which trial_memory says it. The threads of paint and session are refused likewise."""
+
+import os
+import re
+import subprocess
+import sys
+import tempfile
+from concurrent.futures import ThreadPoolExecutor
+from pathlib import Path
+
+ROOT = Path(__file__).resolve().parent.parent
+EXAMPLES = ROOT / "examples"
+LIMIT = 60  # seconds that one run may take
+
+
+def input_of(example, pattern="*.jsonl"):
+    return b"".join(path.read_bytes() for path in sorted((EXAMPLES / example).glob(pattern)))
+
+
+def words_of(example, name):
+    return (EXAMPLES / example / name).read_text().split()
+
+
+class Refuser:
+    """Runs a program with one of its allocations or threads refused."""
+
+    def __init__(self, folder):
+        self.library = Path(folder) / "refuse.so"
+        compiler = os.environ.get("CC", "cc")
+        source = ROOT / "bench" / "refuse.c"
+        subprocess.run([compiler, "-O2", "-shared", "-fPIC", "-o", self.library, source], check=True)
+
+    def run(self, words, given, what, number, between):
+        """The run, and whether anything was refused in it."""
+        ended, told = os.pipe()
+        environment = {"LD_PRELOAD": str(self.library), what: str(number), "TOLD": str(told)}
+        if between:
+            environment["BETWEEN"] = "1"
+        try:
+            run = subprocess.run(words, input=given, env=environment, pass_fds=[told], capture_output=True, timeout=LIMIT)
+        finally:
+            os.close(told)
+        refused = os.read(ended, 1)
+        os.close(ended)
+        return run, refused != b""
+
+
+class Call:
+    """A public call on its worked example, as trial_memory runs it."""
+
+    what = "ALLOCATION"
+    between = True
+    given = b""
+
+    def __init__(self, program, line):
+        self.name, answer = line.split(": ", 1)
+        self.words = [program, self.name]
+        self.may_do_without = answer == "right; may do without"
+        if not self.may_do_without and answer != "right":
+            sys.exit(f"{line}, with nothing refused")
+
+    def came(self, run, refused):
+        """What came of a run, or none where it must not come."""
+        answer = run.stdout.decode().strip()
+        if run.returncode != 0:
+            return None
+        if answer == "right":
+            return "right" if self.may_do_without or not refused else None
+        return answer if re.fullmatch(r"(OutOfMemory|WriteFailed), then right", answer) and refused else None
+
+
+class Command:
+    """A command on an example."""
+
+    between = False
+
+    def __init__(self, program, words, given, what="ALLOCATION"):
+        self.name = "figgroup " + " ".join(words) + (", its threads" if what == "THREAD" else "")
+        self.words, self.given, self.what = [program, *words], given, what
+        self.expected = subprocess.run(self.words, input=given, capture_output=True, check=True).stdout
+
+    def is_front(self, output):
+        """Whether this is nothing, or the header and whole bands of a picture."""
+        header = re.match(rb"P6\n(\d+) \d+\n255\n", self.expected)
+        if output == b"" or header is None:
+            return output == b""
+        band = 64 * 3 * int(header[1])
+        return self.expected.startswith(output) and (len(output) - header.end()) % band == 0
+
+    def came(self, run, refused):
+        """What came of a run, or none where it must not come."""
+        if run.returncode == 0 and run.stdout == self.expected:
+            return "as expected"
+        answers_so = re.fullmatch(rb"figgroup: (session: )?out of memory\n", run.stderr)
+        return "out of memory" if refused and run.returncode == 1 and answers_so and self.is_front(run.stdout) else None
+
+
+def refuse_each(refuser, trial):
+    """Refuses the first, the second and so on, until a run meets no refusal: how often what came."""
+    came = {}
+    number = 1
+    while True:
+        run, refused = refuser.run(trial.words, trial.given, trial.what, number, trial.between)
+        answer = trial.came(run, refused)
+        if answer is None:
+            raise SystemExit(f"{trial.name}, number {number}: status {run.returncode}, {run.stdout[:200]}, {run.stderr[:200]}")
+        if not refused:
+            break
+        came[answer] = came.get(answer, 0) + 1
+        number += 1
+    told = ", ".join(f"{count} {answer}" for answer, count in sorted(came.items()))
+    return f"{trial.name}: {number - 1} refused" + (f", {told}" if told else "")
+
+
+def is_current(program):
+    """Whether the program is there and no older than its sources."""
+    sources = [path for path in (ROOT / "crates").rglob("*") if path.is_file() and "out" not in path.parts]
+    newest = max(path.stat().st_mtime for path in [ROOT / "crates.txt", *sources])
+    return program.exists() and program.stat().st_mtime >= newest
+
+
+def built(name):
+    """The program of this name, proved and built where it is missing or older than its sources."""
+    program = ROOT / "crates" / name / "out" / name
+    if not is_current(program):
+        print(f"{name}: proving and building", file=sys.stderr)
+        subprocess.run(["rt", "run"], cwd=ROOT / "crates" / name, check=True, stdin=subprocess.DEVNULL, capture_output=True)
+        program.touch()
+    return program
+
+
+def commands(program):
+    lines, places = input_of("three-sites"), input_of("two-places")
+    window, figure = words_of("two-places", "window"), input_of("two-places", "expected.fig")
+    session = ["session", "--sites", *words_of("session", "sites")]
+    return [
+        Command(program, ["fig"], lines),
+        Command(program, ["paint", *window, "--workers", "3"], places),
+        Command(program, ["paint", *window, "--workers", "3"], places, "THREAD"),
+        Command(program, ["repaint", *window], figure),
+        Command(program, ["inspect", "--object", "1.1"], lines),
+        Command(program, ["inspect", "--at", "0,0"], lines),
+        Command(program, session, input_of("session")),
+        Command(program, session, input_of("session"), "THREAD"),
+    ]
+
+
+def main():
+    subprocess.run([ROOT / "figgroup", "--version"], check=True, stdout=subprocess.DEVNULL)
+    figgroup = ROOT / "crates" / "figgroup" / "out" / "figgroup"
+    calls = built("trial_memory")
+    listed = subprocess.run([calls], capture_output=True, text=True, check=True).stdout
+    trials = [Call(calls, line) for line in listed.splitlines()] + commands(figgroup)
+    with tempfile.TemporaryDirectory() as folder, ThreadPoolExecutor(os.cpu_count()) as threads:
+        refuser = Refuser(folder)
+        for line in threads.map(lambda trial: refuse_each(refuser, trial), trials):
+            print(line, flush=True)
+
+
+main()
