@@ -5,12 +5,16 @@
 //! the call alone. After a refusal it looks whether all is as it was, and calls again.
 #![tactic(auto)]
 
+mod drawings;
+mod examples;
 mod history;
+mod pictures;
 mod runs;
 mod sessions;
 mod shapes;
 mod sites;
 mod trial;
+mod versions;
 
 use crate::trial::{Came, Marks};
 use gf_bytes::{Out, Sink, write_all};
@@ -58,6 +62,15 @@ fn tried<T: Threads + Wait + Sync>(
     if let Some(came) = sites::tried(alloc, name, marks) {
         return Some(came);
     }
+    if let Some(came) = versions::tried(alloc, name, marks) {
+        return Some(came);
+    }
+    if let Some(came) = drawings::tried(alloc, name, marks) {
+        return Some(came);
+    }
+    if let Some(came) = pictures::tried(rt, alloc, name, marks) {
+        return Some(came);
+    }
     if let Some(came) = runs::tried(rt, alloc, name, marks) {
         return Some(came);
     }
@@ -71,6 +84,9 @@ fn all<T: Threads + Wait + Sync, W: Sink>(rt: &T, alloc: Global, output: &mut W)
         shapes::NAMES,
         history::NAMES,
         sites::NAMES,
+        versions::NAMES,
+        drawings::NAMES,
+        pictures::NAMES,
         runs::NAMES,
         sessions::NAMES,
     ] {

@@ -1,0 +1,55 @@
+//! What the worked examples begin with: sites with their histories, and what is told of them.
+
+use example_parts::notation::{operation, push_ids};
+use gf_groups::{Group, GroupFault, Groups};
+use gf_ops::OpId;
+use gf_site::{Site, Step};
+use std::alloc::Global;
+
+/// The object of all examples.
+pub(crate) const BOX: OpId = OpId { site: 1, seq: 1 };
+
+/// The red box.
+pub(crate) const RED_BOX: &str = "1.1: box 300 400, place 100,200, colour ff0000";
+
+/// A box to which two sites give a colour.
+pub(crate) const TWO_COLOURS: &str = "\
+1.1: box 10 10, colour ff0000
+1.2 after 1: 1.1 colour 0000ff
+2.1 after 1: 1.1 colour 00ff00";
+
+/// The third site, once it added the operations, a line each.
+pub(crate) fn site(alloc: Global, operations: &str) -> Option<Site> {
+    let mut site = Site::new(alloc, 3);
+    for line in operations.lines() {
+        add(&mut site, alloc, line)?;
+    }
+    Some(site)
+}
+
+fn add(site: &mut Site, alloc: Global, line: &str) -> Option<()> {
+    site.receive(operation(alloc, line)?).ok()?;
+    match site.step() {
+        Ok(Step::Applied(_)) => Some(()),
+        _ => None,
+    }
+}
+
+/// Whether the groups are these, each in brackets.
+pub(crate) fn are_groups(alloc: Global, answer: Result<Groups, GroupFault>, want: &str) -> bool {
+    match answer {
+        Ok(groups) => are_told(alloc, groups.as_slice(), want),
+        Err(_) => false,
+    }
+}
+
+/// Whether these are the groups, each in brackets.
+pub(crate) fn are_told(alloc: Global, groups: &[Group], want: &str) -> bool {
+    let mut text = String::new(alloc);
+    for group in groups {
+        if push_ids(alloc, &mut text, group.ops.as_slice()).is_none() {
+            return false;
+        }
+    }
+    text.as_str() == want
+}
