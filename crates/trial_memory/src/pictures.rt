@@ -11,11 +11,11 @@ use std::alloc::Global;
 use std::thread::Threads;
 
 pub(crate) const NAMES: &str = "
-paint
-paint_rows
+paint may do without
+paint_rows may do without
 ppm_to
 ppm_to_bands
-ppm_to_shared
+ppm_to_shared may do without
 ";
 
 /// What comes of the trial of this name, if there is one.

@@ -35,17 +35,16 @@ fn red_box() -> Option<Rect> {
 }
 
 fn moved(alloc: Global, marks: &mut Marks) -> Option<Came> {
+    let d = at(-5, 7);
     let (rect, want) = (red_box()?, Rect::new(at(95, 207), 300, 400));
-    if !rect.movable(at(-5, 7)) {
+    if !rect.movable(d) {
         return None;
     }
     marks.begin();
-    let first = rect.moved(alloc, at(-5, 7));
+    let first = rect.moved(alloc, d);
     marks.end();
     Some(match first {
-        Err(OutOfMemory) => {
-            Came::after_memory(true, rect.moved(alloc, at(-5, 7)).ok() == want.ok())
-        }
+        Err(OutOfMemory) => Came::after_memory(true, rect.moved(alloc, d).ok() == want.ok()),
         first => Came::first(first.ok() == want.ok()),
     })
 }

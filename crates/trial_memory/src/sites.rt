@@ -20,7 +20,7 @@ receive
 step
 author
 site_copy
-table_add
+table_add may do without
 table_copy
 world_run
 ";
@@ -183,12 +183,25 @@ fn is_table(
 /// The table of a box that one site gave a colour gets the other colour.
 fn table_add(alloc: Global, marks: &mut Marks) -> Option<Came> {
     let site = site(alloc, "1.1: box 10 10\n1.2 after 1: 1.1 colour 0000ff")?;
+    let table = site.table().copy(alloc).ok()?;
+    add_to(alloc, marks, site.history(), table)
+}
+
+fn add_to(
+    alloc: Global,
+    marks: &mut Marks,
+    history: &History,
+    mut table: GroupTable,
+) -> Option<Came>
+    requires { StandsFor history.now.ops table }
+{
     let op = operation(alloc, "2.1 after 1: 1.1 colour 00ff00")?;
-    let history = site.history();
-    let mut table = site.table().copy(alloc).ok()?;
-    if !op.in_range() || history.check(&op).is_err() {
+    if !op.in_range() {
         return None;
     }
+    let Ok(()) = history.check(&op) else {
+        return None;
+    };
     marks.begin();
     let first = table.add(history, &op);
     marks.end();

@@ -136,11 +136,25 @@ fn are_visible(alloc: Global, answer: Result<Option<Vec<Group>>, OutOfMemory>) -
 
 fn settle(alloc: Global, marks: &mut Marks) -> Option<Came> {
     let site = site(alloc, RED_BOX)?;
-    let groups = gf_groups::groups_of(alloc, site.history(), ObjectId(BOX)).ok()?;
-    settle_in(alloc, marks, site.history(), groups.as_slice().first()?)
+    settle_first(alloc, marks, site.history()).ok()?
 }
 
-fn settle_in(alloc: Global, marks: &mut Marks, history: &History, group: &Group) -> Option<Came>
+/// Settles the first group of a history.
+fn settle_first(
+    alloc: Global,
+    marks: &mut Marks,
+    history: &History,
+) -> Result<Option<Came>, OutOfMemory> {
+    let groups = gf_groups::all_groups(alloc, history)?;
+    let groups = groups.as_slice();
+    if groups.len() > 0 {
+        Ok(settle_group(alloc, marks, history, &groups[0]))
+    } else {
+        Ok(None)
+    }
+}
+
+fn settle_group(alloc: Global, marks: &mut Marks, history: &History, group: &Group) -> Option<Came>
     requires { IsVersionGroup history.now.ops group.now }
 {
     marks.begin();
