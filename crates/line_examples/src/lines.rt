@@ -122,6 +122,7 @@ fn refuses_what_is_no_line(rt: HostRuntime) {
     for (line, want) in [
         (&b"{"[..], LineError::Json),
         (b"", LineError::Json),
+        (b"\xff", LineError::Json),
         (b"{\"op\":\"\xff\"}", LineError::Json),
         (b"{}", LineError::Field),
         (b"[]", LineError::Field),

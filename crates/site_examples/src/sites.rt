@@ -52,14 +52,18 @@ receive 1.1: box 1 1           | Clash, 0
 held                           | 0
 operations                     | 2.1 1.1
 
-// refuses_forged_operations, each time at a site that has the box 1.1 alone.
+// refuses_forged_operations, each time at a copy of a site that has the box 1.1 alone.
 site 3                                 | 3
 receive 1.1: box 10 10                 | Held, 1
 step                                   | Applied 1.1
 copy                                   | ok
+swap                                   | ok
+copy                                   | ok
 receive 1.3 after 2: box 1 1           | Held, 1
 step                                   | Idle
-receive 2.1 after 2: box 1 1           | Held, 2
+swap                                   | ok
+copy                                   | ok
+receive 2.1 after 2: box 1 1           | Held, 1
 step                                   | Idle
 swap                                   | ok
 copy                                   | ok
@@ -73,12 +77,18 @@ swap                                   | ok
 copy                                   | ok
 receive 2.1 after 1: 1.1 points 0,0*3  | Held, 1
 step                                   | Dropped 2.1 WrongKind
+// The same id again, right this time.
 receive 2.1 after 1: 1.1 colour 0000ff | Held, 1
 step                                   | Applied 2.1
 operations                             | 1.1 2.1
 swap                                   | ok
+copy                                   | ok
 receive 9.1: box 1 1                   | Range, 0
+swap                                   | ok
+copy                                   | ok
 receive 2.1 after 10001: box 1 1       | Range, 0
+swap                                   | ok
+copy                                   | ok
 receive 1.1: box 10 10, colour 0000ff  | Clash, 0
 operations                             | 1.1
 
