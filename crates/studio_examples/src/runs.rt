@@ -1,7 +1,7 @@
 //! Runs over sources and sinks in memory, and the texts of their refusals.
 
 use drawing_parts::printed;
-use example_parts::RED_BOX;
+use example_parts::{RED_BOX, RED_BOX_FIG};
 use gf_bytes::{Reel, Tape};
 use gf_drawing::CompileFault;
 use gf_ops::{OpFault, OpId};
@@ -95,6 +95,32 @@ fn a_source_that_fails_anywhere_is_told(rt: HostRuntime) -> Result<(), Fail> {
         assert_eq!(rt; answer.as_str(), "read failed, 0", "after {count}");
     }
     Ok(())
+}
+
+/// What a run over the red box onto a tape of this limit answers, and whether the tape then holds
+/// these bytes.
+fn taken(alloc: Global, limit: u64, want: &[u8]) -> (Result<(), StudioError>, bool) {
+    let mut sink = Tape::new(alloc, Some(limit));
+    let mut source = Reel::new(RED_BOX.as_bytes(), None);
+    let result = fig_run(alloc, &mut source, &mut sink);
+    (result, sink.bytes() == want)
+}
+
+#[test]
+fn a_sink_that_fails_anywhere_has_a_front(rt: HostRuntime) {
+    for limit in 0..=156u64 {
+        let front = &RED_BOX_FIG.as_bytes()[..limit as usize];
+        let want = if limit < 156 {
+            Err(StudioError::WriteFailed)
+        } else {
+            Ok(())
+        };
+        assert_eq!(rt;
+            taken(rt.alloc(), limit, front),
+            (want, true),
+            "limit {limit}"
+        );
+    }
 }
 
 /// What a run answers to so many blank lines before the red box, and how many bytes its sink takes.
