@@ -1,4 +1,4 @@
-//! Trials of drawings and of FIG texts: the red box, and the drawing of nothing.
+//! Trials of drawings and of FIG texts: the red box, two versions of a box, and the drawing of nothing.
 
 use crate::examples::{RED_BOX, site};
 use crate::trial::{Came, Marks};
@@ -16,7 +16,7 @@ pub(crate) const NAMES: &str = "
 compile
 add_colour
 add_figure
-front_to_back
+front_to_back may do without
 fig_bytes
 write_fig
 write_fig_cut
@@ -112,26 +112,34 @@ fn add_figure(alloc: Global, marks: &mut Marks) -> Option<Came> {
     })
 }
 
-/// The drawing of the red box.
-fn drawing(alloc: Global) -> Option<Drawing<Rect>> {
-    let rect = red_box()?;
-    let mut drawing = Drawing::new(alloc);
-    drawing.add_colour(32, RED).ok()?;
-    drawing.add_figure(figure(rect, 32, 0)).ok()?;
-    Some(drawing)
+/// A box to which two sites give a colour, and of which one then moves both versions.
+const MOVED: &str = "\
+1.1: box 10 10, colour ff0000
+1.2 after 1: 1.1 colour 0000ff
+2.1 after 1: 1.1 colour 00ff00
+1.3 after 2 1: 1.1 place 100,0
+1.4 after 3 1: 1.1 place 200,0";
+
+const MOVED_FIG: &str =
+    "#FIG 3.2\nLandscape\nCenter\nMetric\nA4\n100.00\nSingle\n-2\n1200 2\n0 32 #00ff00\n0 33 #0000ff\n2 2 0 0 32 32 0 -1 20 0.000 0 0 -1 0 0 5\n\t 200 0 210 0 210 10 200 10 200 0\n2 2 0 0 33 33 1 -1 20 0.000 0 0 -1 0 0 5\n\t 200 0 210 0 210 10 200 10 200 0\n";
+
+fn moved(alloc: Global) -> Option<Drawing<AnyShape>> {
+    let site = site(alloc, MOVED)?;
+    let ranked = ranked(alloc, site.history()).ok()?;
+    gf_drawing::compile(alloc, ranked).ok()
 }
 
 fn fig_bytes(alloc: Global, marks: &mut Marks) -> Option<Came> {
-    let drawing = drawing(alloc)?;
+    let drawing = moved(alloc)?;
     marks.begin();
     let first = gf_fig_write::fig_bytes(alloc, &drawing);
     marks.end();
     Some(match first {
         Err(OutOfMemory) => {
             let next = gf_fig_write::fig_bytes(alloc, &drawing);
-            Came::after_memory(true, is_text(next, RED_BOX_FIG))
+            Came::after_memory(true, is_text(next, MOVED_FIG))
         }
-        first => Came::first(is_text(first, RED_BOX_FIG)),
+        first => Came::first(is_text(first, MOVED_FIG)),
     })
 }
 

@@ -13,8 +13,8 @@ use std::thread::Threads;
 pub(crate) const NAMES: &str = "
 paint may do without
 paint_rows may do without
-ppm_to
-ppm_to_bands
+ppm_to may do without
+ppm_to_bands may do without
 ppm_to_shared may do without
 ";
 

@@ -13,18 +13,18 @@ use gf_versions::{Placed, Ranked, Version};
 use std::alloc::Global;
 
 pub(crate) const NAMES: &str = "
-groups_of
-all_groups
-table_groups
-visible_groups
+groups_of may do without
+all_groups may do without
+table_groups may do without
+visible_groups may do without
 settle
-ranked
-ranked_with
-ranked_within
-versions
-versions_with
-top_at
-top_at_with
+ranked may do without
+ranked_with may do without
+ranked_within may do without
+versions may do without
+versions_with may do without
+top_at may do without
+top_at_with may do without
 lines
 top_line
 ";
