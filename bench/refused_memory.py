@@ -114,8 +114,8 @@ def refuse_each(refuser, trial):
             break
         came[answer] = came.get(answer, 0) + 1
         number += 1
-    told = ", ".join(f"{count} {answer}" for answer, count in sorted(came.items()))
-    return f"{trial.name}: {number - 1} refused" + (f", {told}" if told else "")
+    told = "; ".join(f"{count} {answer}" for answer, count in sorted(came.items()))
+    return f"{trial.name}: {number - 1} refused" + (f": {told}" if told else "")
 
 
 def is_current(program):
