@@ -1,6 +1,6 @@
 //! Trials of whole runs: from the bytes of an input to those of a tape.
 
-use crate::examples::TWO_COLOURS;
+use crate::examples::{BOX, TWO_COLOURS};
 use crate::sessions::SCRIPT;
 use crate::trial::{Came, Marks};
 use example_parts::notation::operation;
@@ -8,7 +8,7 @@ use example_parts::{RED_BOX, RED_BOX_FIG, at};
 use gf_bytes::{Reel, Tape};
 use gf_json::op_line;
 use gf_looks::{Query, inspect_run};
-use gf_ops::{ObjectId, OpId};
+use gf_ops::ObjectId;
 use gf_session_run::session_run;
 use gf_studio::{OpenGate, SessionError, StudioError, Window, fig_run, paint_run, repaint_run};
 use std::alloc::Global;
@@ -16,12 +16,12 @@ use std::sync::Wait;
 use std::thread::Threads;
 
 pub(crate) const NAMES: &str = "
-fig_run
+fig_run may do without
 paint_run may do without
 repaint_run may do without
-inspect_run
-inspect_run_at
-session_run
+inspect_run may do without
+inspect_run_at may do without
+session_run may do without
 ";
 
 /// What comes of the trial of this name, if there is one.
@@ -35,8 +35,8 @@ pub(crate) fn tried<T: Threads + Wait + Sync>(
         "fig_run" => Some(fig(rt, alloc, marks)),
         "paint_run" => paint(rt, alloc, marks),
         "repaint_run" => repaint(rt, alloc, marks),
-        "inspect_run" => inspect_object(rt, alloc, marks),
-        "inspect_run_at" => inspect_point(rt, alloc, marks),
+        "inspect_run" => inspect(rt, alloc, marks, Query::Object(ObjectId(BOX)), TWO_VERSIONS),
+        "inspect_run_at" => inspect(rt, alloc, marks, Query::At(at(10, 10)), TOP),
         "session_run" => Some(session(rt, alloc, marks)),
         _ => return None,
     };
@@ -64,15 +64,16 @@ struct Example<'a> {
 }
 
 impl Example<'_> {
-    fn tried<T: Threads + Wait + Sync>(self, rt: &T, alloc: Global, marks: &mut Marks) -> Came {
+    fn tried<T: Threads + Wait + Sync>(&self, rt: &T, alloc: Global, marks: &mut Marks) -> Came {
+        let whole = self.whole;
         let mut tape = Tape::new(alloc, None);
         marks.begin();
         let first = self.run(rt, alloc, &mut tape);
         marks.end();
         match first {
-            Ok(()) => Came::first(tape.bytes() == self.whole),
+            Ok(()) => Came::first(tape.bytes() == whole),
             Err(StudioError::WriteFailed) => {
-                let is_front = self.whole.starts_with(tape.bytes());
+                let is_front = whole.starts_with(tape.bytes());
                 Came::after_write(is_front, self.is_right(rt, alloc))
             }
             Err(error) if self.is_want(error) => {
@@ -85,7 +86,7 @@ impl Example<'_> {
 
     /// Runs onto this tape; painters are two.
     fn run<T: Threads + Wait + Sync>(
-        self,
+        &self,
         rt: &T,
         alloc: Global,
         tape: &mut Tape,
@@ -101,13 +102,14 @@ impl Example<'_> {
     }
 
     /// Whether a run with memory writes the whole.
-    fn is_right<T: Threads + Wait + Sync>(self, rt: &T, alloc: Global) -> bool {
+    fn is_right<T: Threads + Wait + Sync>(&self, rt: &T, alloc: Global) -> bool {
+        let whole = self.whole;
         let mut tape = Tape::new(alloc, None);
-        self.run(rt, alloc, &mut tape) == Ok(()) && tape.bytes() == self.whole
+        self.run(rt, alloc, &mut tape) == Ok(()) && tape.bytes() == whole
     }
 
     /// Whether this tells want of memory: of the run, or of the session in it.
-    fn is_want(self, error: StudioError) -> bool {
+    fn is_want(&self, error: StudioError) -> bool {
         match self.run {
             Run::Session if error == StudioError::Session(SessionError::OutOfMemory) => true,
             _ => error == StudioError::OutOfMemory,
@@ -115,7 +117,7 @@ impl Example<'_> {
     }
 
     /// Whether a run that wanted memory may leave these bytes.
-    fn is_cut(self, bytes: &[u8]) -> bool {
+    fn is_cut(&self, bytes: &[u8]) -> bool {
         self.cuts.contains(&bytes.len()) && self.whole.starts_with(bytes)
     }
 }
@@ -150,8 +152,8 @@ fn lines(alloc: Global, text: &str) -> Option<String> {
     Some(lines)
 }
 
-/// The box that two sites coloured at once, as it lies once it was moved twice: its left edge stands
-/// in the second column, and its lower one in the eleventh row.
+/// The picture of the moved box: its left edge is the second column, and its lower edge the eleventh
+/// row.
 fn moved_box(alloc: Global) -> Option<Vec<u8>> {
     let mut bytes = Vec::from_slice(alloc, b"P6\n3 130\n255\n").ok()?;
     for _ in 0..11 {
@@ -191,27 +193,12 @@ fn repaint<T: Threads + Wait + Sync>(rt: &T, alloc: Global, marks: &mut Marks) -
     Some(example.tried(rt, alloc, marks))
 }
 
-/// The versions of the box that two sites coloured at once.
+/// The versions of the box to which two sites give a colour.
 const TWO_VERSIONS: &[u8] =
     b"version 1.1 [1.1 2.1] box place 0 0 size 10 10 colour 00ff00 layer 0 shown\nversion 1.1 [1.1 1.2] box place 0 0 size 10 10 colour 0000ff layer 0 shown\n";
 
-fn inspect_object<T: Threads + Wait + Sync>(
-    rt: &T,
-    alloc: Global,
-    marks: &mut Marks,
-) -> Option<Came> {
-    let query = Query::Object(ObjectId(OpId { site: 1, seq: 1 }));
-    inspect(rt, alloc, marks, query, TWO_VERSIONS)
-}
-
-fn inspect_point<T: Threads + Wait + Sync>(
-    rt: &T,
-    alloc: Global,
-    marks: &mut Marks,
-) -> Option<Came> {
-    let query = Query::At(at(10, 10));
-    inspect(rt, alloc, marks, query, b"top 10 10 is 1.1 [1.1 2.1]\n")
-}
+/// The version of it that is on top.
+const TOP: &[u8] = b"top 10 10 is 1.1 [1.1 2.1]\n";
 
 fn inspect<T: Threads + Wait + Sync>(
     rt: &T,

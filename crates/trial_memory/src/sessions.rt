@@ -1,8 +1,9 @@
 //! Trials of sessions: two sites, of which the second paints the box of the first, and waits for an
 //! operation that nobody makes.
 
-ghost use Rattle.std.specs.Prelude.{◌≤◌, All, IfSome, vec_len};
+ghost use Rattle.std.specs.Prelude.{◌≡◌, ◌≤◌, All, IfSome, vec_len};
 ghost use Rattle.gf_link.specs.Fresh.{IsNewLink};
+ghost use Rattle.gf_worker.specs.Peers.{IsFresh, IsPlaced};
 
 use crate::examples::BOX;
 use crate::trial::{Came, Marks};
@@ -167,44 +168,117 @@ fn worker<R: Wait>(rt: &R, alloc: Global, marks: &mut Marks) -> Option<Came> {
     Some(Came::after_memory(is_right, next == (false, true)))
 }
 
-/// Whether the worker of the second site is short, and whether it came to what it has to then. The
-/// first site has made its box, and ended.
-fn worked<R: Wait>(rt: &R, alloc: Global, marks: &mut Marks) -> Option<(bool, bool)> {
-    let made = operation(alloc, "1.1: box 10 10, colour ff0000")?;
-    let (out, send, mut takes) = Link::new(rt, alloc).ok()?;
-    let (into, mut sends, take) = Link::new(rt, alloc).ok()?;
-    into.send(rt, &mut sends, Message::Op(made));
-    into.send(rt, &mut sends, Message::End);
+/// The links between two sites, the peer of the second, and that of the first.
+fn two_sites<R: Wait>(rt: &R, alloc: Global) -> Option<(Vec<Link>, Peer, Peer)>
+    ensures placed { IfSome result (λ t. IsPlaced t.0.items t.1) }
+    ensures fresh { IfSome result (λ t. IsFresh t.1) }
+    ensures other { IfSome result (λ t. IsPlaced t.0.items t.2) }
+{
+    let Ok((first, send, taking)) = Link::new(rt, alloc) else {
+        return None;
+    };
+    let Ok((second, sending, take)) = Link::new(rt, alloc) else {
+        return None;
+    };
+    let Ok(links) = Vec::from_array(alloc, [first, second]) else {
+        return None;
+    };
     let peer = Peer {
         out: 0,
         send,
         into: 1,
         take,
     };
-    let peers = Vec::from_array(alloc, [peer]).ok()?;
-    let script = second_script(alloc)?;
-    let site = Site::new(alloc, 2);
-    let links = [out, into];
-    let ends = Ends {
-        links: &links,
-        peers,
+    let other = Peer {
+        out: 1,
+        send: sending,
+        into: 0,
+        take: taking,
     };
-    marks.begin();
-    let end = site_worker(rt, alloc, site, script, ends, &OpenGate);
-    marks.end();
-    let is_right = match came(rt, &links[0], &mut takes) {
-        (is_told, Some(Message::Stop)) => end.short && is_stopped(&end, is_told),
-        (is_told, Some(Message::End)) => !end.short && is_told && is_whole(&end),
-        _ => false,
-    };
-    Some((end.short, is_right))
+    Some((links, peer, other))
 }
 
-/// What comes from the second site: whether first its paint, and the message that ends the link.
-fn came<R: Wait>(rt: &R, link: &Link, seat: &mut TakeSeat) -> (bool, Option<Message>) {
+/// A site's list of peers, where it has one.
+fn alone(alloc: Global, links: &[Link], peer: Peer) -> Option<Vec<Peer>>
+    requires placed { IsPlaced links.now peer }
+    requires fresh { IsFresh peer }
+    ensures placed { IfSome result (λ v. All (IsPlaced links.now) v.items) }
+    ensures fresh { IfSome result (λ v. All IsFresh v.items) }
+{
+    Vec::from_array(alloc, [peer]).ok()
+}
+
+/// Sends a message to the peer.
+fn send<R: Wait>(rt: &R, links: &[Link], peer: &mut Peer, message: Message) -> Option<()>
+    requires { IsPlaced links.now peer.old }
+    ensures { IsPlaced links.now peer.new }
+{
+    if peer.send.ended() || peer.send.sent() >= 1_024 {
+        return None;
+    }
+    links[peer.out].send(rt, &mut peer.send, message);
+    Some(())
+}
+
+/// What is taken from a link.
+#[derive(Clone, Copy, PartialEq, Eq)]
+enum Taken {
+    Op(OpId),
+    End,
+    Stop,
+    Nothing,
+}
+
+/// Takes what comes next from the peer.
+fn take_next<R: Wait>(rt: &R, links: &[Link], peer: &mut Peer) -> Taken
+    requires { IsPlaced links.now peer.old }
+    ensures { IsPlaced links.now peer.new }
+{
+    take_on(rt, &links[peer.into], &mut peer.take)
+}
+
+/// Takes what comes next on a link.
+fn take_on<R: Wait>(rt: &R, link: &Link, seat: &mut TakeSeat) -> Taken
+    requires { seat.old.link ≡ link.now }
+    ensures { seat.new.link ≡ link.now }
+{
     match link.take(rt, seat) {
-        Some(Message::Op(op)) => (op.id == PAINT, link.take(rt, seat)),
-        last => (false, last),
+        Some(Message::Op(op)) => Taken::Op(op.id),
+        Some(Message::End) => Taken::End,
+        Some(Message::Stop) => Taken::Stop,
+        None => Taken::Nothing,
+    }
+}
+
+/// Whether the worker of the second site is short, and whether it came to what it has to then. The
+/// first site has made its box, and ended.
+fn worked<R: Wait>(rt: &R, alloc: Global, marks: &mut Marks) -> Option<(bool, bool)> {
+    let (links, peer, mut other) = two_sites(rt, alloc)?;
+    let links = links.as_slice();
+    let peers = alone(alloc, links, peer)?;
+    let made = operation(alloc, "1.1: box 10 10, colour ff0000")?;
+    send(rt, links, &mut other, Message::Op(made))?;
+    send(rt, links, &mut other, Message::End)?;
+    let script = second_script(alloc)?;
+    let site = Site::new(alloc, 2);
+    marks.begin();
+    let end = site_worker(rt, alloc, site, script, Ends { links, peers }, &OpenGate);
+    marks.end();
+    let came = [
+        take_next(rt, links, &mut other),
+        take_next(rt, links, &mut other),
+    ];
+    Some((end.short, is_worked(&end, came)))
+}
+
+/// Whether this comes from a worker that ended so.
+fn is_worked(end: &WorkerEnd, came: [Taken; 2]) -> bool {
+    let is_told = came[0] == Taken::Op(PAINT);
+    if end.short {
+        (is_told && came[1] == Taken::Stop || came == [Taken::Stop, Taken::Nothing])
+            && is_stopped(end, is_told)
+    } else {
+        is_told && came[1] == Taken::End && is_whole(end)
     }
 }
 
@@ -260,20 +334,16 @@ fn passes<R: Wait>(rt: &R, new: (Link, SendSeat, TakeSeat), op: Op) -> bool
     requires { IsNewLink new.0 new.1 new.2 }
 {
     let (link, mut send, mut take) = new;
-    let id = op.id;
+    let want = [Taken::Op(op.id), Taken::End, Taken::Nothing];
     link.send(rt, &mut send, Message::Op(op));
     link.send(rt, &mut send, Message::End);
-    let is_op = match link.take(rt, &mut take) {
-        Some(Message::Op(op)) => op.id == id,
-        _ => false,
-    };
-    let is_end = match link.take(rt, &mut take) {
-        Some(Message::End) => true,
-        _ => false,
-    };
-    let is_all = link.take(rt, &mut take).is_none();
+    let came = [
+        take_on(rt, &link, &mut take),
+        take_on(rt, &link, &mut take),
+        take_on(rt, &link, &mut take),
+    ];
     let settled = settle(rt, link, send, take);
-    is_op && is_end && is_all && settled.sent == 2 && settled.taken == 2
+    came == want && settled.sent == 2 && settled.taken == 2
 }
 
 /// Three sites have six links.
