@@ -1,7 +1,9 @@
 //! One table of runs, with the answers that the formats and the faults ask for.
 
-use command_parts::{fig, joined, wanted};
-use example_parts::{EMPTY_FIG, RED_BOX_FIG};
+use command_parts::{fig, joined, run, wanted};
+use example_parts::{EMPTY_FIG, RED_BOX, RED_BOX_FIG};
+use gf_bytes::Reel;
+use std::alloc::Global;
 use std::sync::Wait;
 use std::test::Fail;
 use std::thread::Threads;
@@ -77,5 +79,30 @@ fn answers_each_input(rt: HostRuntime) -> Result<(), Fail> {
         let answer = answer(&rt, input)?;
         assert_eq!(rt; answer.as_str(), want.as_str(), "of {row}");
     }
+    Ok(())
+}
+
+/// A run over the red box, with so much room for its output.
+fn fig_in_room<T: AllocGlobal + Threads + Wait + Sync>(rt: &T, room: u64) -> Result<String, Fail> {
+    let mut source = Reel::new(RED_BOX.as_bytes(), None);
+    run(rt, "figgroup fig", &mut source, (Some(room), None))
+}
+
+/// That run where its output ends behind these bytes.
+fn cut_behind(alloc: Global, front: &[u8]) -> Result<String, Fail> {
+    let front = std::str::from_utf8(front)?;
+    Ok(format!(in alloc; "1\n{front}--\nfiggroup: write failed\n")?)
+}
+
+#[test]
+fn an_output_that_is_full_anywhere_has_a_front(rt: HostRuntime) -> Result<(), Fail> {
+    for room in 0..156u64 {
+        let answer = fig_in_room(&rt, room)?;
+        let want = cut_behind(rt.alloc(), &RED_BOX_FIG.as_bytes()[..room as usize])?;
+        assert_eq!(rt; answer.as_str(), want.as_str(), "room for {room}");
+    }
+    let answer = fig_in_room(&rt, 156)?;
+    let want = wanted(rt.alloc(), "0", "red_box_fig")?;
+    assert_eq!(rt; answer.as_str(), want.as_str());
     Ok(())
 }

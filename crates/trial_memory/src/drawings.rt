@@ -1,6 +1,6 @@
 //! Trials of drawings and of FIG texts: the red box, two versions of a box, and the drawing of nothing.
 
-use crate::examples::{RED_BOX, site};
+use crate::examples::{MOVED, RED_BOX, site};
 use crate::trial::{Came, Marks};
 use drawing_parts::figure;
 use example_parts::{EMPTY_FIG, RED, RED_BOX_FIG, at};
@@ -112,14 +112,7 @@ fn add_figure(alloc: Global, marks: &mut Marks) -> Option<Came> {
     })
 }
 
-/// A box to which two sites give a colour, and of which one then moves both versions.
-const MOVED: &str = "\
-1.1: box 10 10, colour ff0000
-1.2 after 1: 1.1 colour 0000ff
-2.1 after 1: 1.1 colour 00ff00
-1.3 after 2 1: 1.1 place 100,0
-1.4 after 3 1: 1.1 place 200,0";
-
+/// The FIG text of a box of which one site moved both versions.
 const MOVED_FIG: &str =
     "#FIG 3.2\nLandscape\nCenter\nMetric\nA4\n100.00\nSingle\n-2\n1200 2\n0 32 #00ff00\n0 33 #0000ff\n2 2 0 0 32 32 0 -1 20 0.000 0 0 -1 0 0 5\n\t 200 0 210 0 210 10 200 10 200 0\n2 2 0 0 33 33 1 -1 20 0.000 0 0 -1 0 0 5\n\t 200 0 210 0 210 10 200 10 200 0\n";
 

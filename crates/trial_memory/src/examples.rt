@@ -18,6 +18,14 @@ pub(crate) const TWO_COLOURS: &str = "\
 1.2 after 1: 1.1 colour 0000ff
 2.1 after 1: 1.1 colour 00ff00";
 
+/// A box to which two sites give a colour, and of which one then moves both versions.
+pub(crate) const MOVED: &str = "\
+1.1: box 10 10, colour ff0000
+1.2 after 1: 1.1 colour 0000ff
+2.1 after 1: 1.1 colour 00ff00
+1.3 after 2 1: 1.1 place 100,0
+1.4 after 3 1: 1.1 place 200,0";
+
 /// The third site, once it added the operations, a line each.
 pub(crate) fn site(alloc: Global, operations: &str) -> Option<Site> {
     let mut site = Site::new(alloc, 3);

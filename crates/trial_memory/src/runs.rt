@@ -1,6 +1,6 @@
 //! Trials of whole runs: from the bytes of an input to those of a tape.
 
-use crate::examples::{BOX, TWO_COLOURS};
+use crate::examples::{BOX, MOVED, TWO_COLOURS};
 use crate::sessions::SCRIPT;
 use crate::trial::{Came, Marks};
 use example_parts::notation::operation;
@@ -132,15 +132,6 @@ fn fig<T: Threads + Wait + Sync>(rt: &T, alloc: Global, marks: &mut Marks) -> Ca
     example.tried(rt, alloc, marks)
 }
 
-/// A box to which two sites give a colour, and two moves of both versions.
-const MOVES: &str = "\
-1.1: box 10 10, colour ff0000
-1.2 after 1: 1.1 colour 0000ff
-2.1 after 1: 1.1 colour 00ff00
-1.3 after 2 1: 1.1 place 100,0
-1.4 after 3 1: 1.1 place 200,0
-";
-
 /// The lines of the operations that a text tells.
 fn lines(alloc: Global, text: &str) -> Option<String> {
     let mut lines = String::new(alloc);
@@ -167,7 +158,7 @@ fn moved_box(alloc: Global) -> Option<Vec<u8>> {
 
 fn paint<T: Threads + Wait + Sync>(rt: &T, alloc: Global, marks: &mut Marks) -> Option<Came> {
     let window = Window::new(199, 0, 1, 3, 130).ok()?;
-    let input = lines(alloc, MOVES)?;
+    let input = lines(alloc, MOVED)?;
     let whole = moved_box(alloc)?;
     let example = Example {
         run: Run::Paint(window),
