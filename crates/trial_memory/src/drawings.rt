@@ -1,6 +1,6 @@
 //! Trials of drawings and of FIG texts: the red box, two versions of a box, and the drawing of nothing.
 
-use crate::examples::{MOVED, RED_BOX, site};
+use crate::examples::{MOVED, RED_BOX_MADE, is_text, red_box, site};
 use crate::trial::{Came, Marks};
 use drawing_parts::figure;
 use example_parts::{EMPTY_FIG, RED, RED_BOX_FIG, at};
@@ -42,7 +42,7 @@ pub(crate) fn tried(alloc: Global, name: &str, marks: &mut Marks) -> Option<Came
 }
 
 fn compile(alloc: Global, marks: &mut Marks) -> Option<Came> {
-    let site = site(alloc, RED_BOX)?;
+    let site = site(alloc, RED_BOX_MADE)?;
     let used = ranked(alloc, site.history()).ok()?;
     let same = ranked(alloc, site.history()).ok()?;
     marks.begin();
@@ -64,13 +64,6 @@ fn is_compiled(alloc: Global, answer: Result<Drawing<AnyShape>, CompileFault>) -
     }
 }
 
-fn is_text(answer: Result<Vec<u8>, OutOfMemory>, want: &str) -> bool {
-    match answer {
-        Ok(text) => text.as_slice() == want.as_bytes(),
-        Err(OutOfMemory) => false,
-    }
-}
-
 fn add_colour(alloc: Global, marks: &mut Marks) -> Option<Came> {
     let mut drawing: Drawing<Rect> = Drawing::new(alloc);
     marks.begin();
@@ -88,10 +81,6 @@ fn add_colour(alloc: Global, marks: &mut Marks) -> Option<Came> {
 
 fn has_red(drawing: &Drawing<Rect>) -> bool {
     drawing.colours().at(0) == Some((32, RED)) && drawing.rgb(32) == Some(RED)
-}
-
-fn red_box() -> Option<Rect> {
-    Rect::new(at(100, 200), 300, 400).ok()
 }
 
 fn add_figure(alloc: Global, marks: &mut Marks) -> Option<Came> {

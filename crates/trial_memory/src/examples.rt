@@ -1,16 +1,18 @@
 //! What the worked examples begin with: sites with their histories, and what is told of them.
 
+use example_parts::at;
 use example_parts::notation::{operation, push_ids};
 use gf_groups::{Group, GroupFault, Groups};
 use gf_ops::OpId;
+use gf_shape::{OutOfMemory, Rect};
 use gf_site::{Site, Step};
 use std::alloc::Global;
 
 /// The object of all examples.
 pub(crate) const BOX: OpId = OpId { site: 1, seq: 1 };
 
-/// The red box.
-pub(crate) const RED_BOX: &str = "1.1: box 300 400, place 100,200, colour ff0000";
+/// The operation that makes the red box.
+pub(crate) const RED_BOX_MADE: &str = "1.1: box 300 400, place 100,200, colour ff0000";
 
 /// A box to which two sites give a colour.
 pub(crate) const TWO_COLOURS: &str = "\
@@ -25,6 +27,11 @@ pub(crate) const MOVED: &str = "\
 2.1 after 1: 1.1 colour 00ff00
 1.3 after 2 1: 1.1 place 100,0
 1.4 after 3 1: 1.1 place 200,0";
+
+/// The red box as a shape.
+pub(crate) fn red_box() -> Option<Rect> {
+    Rect::new(at(100, 200), 300, 400).ok()
+}
 
 /// The third site, once it added the operations, a line each.
 pub(crate) fn site(alloc: Global, operations: &str) -> Option<Site> {
@@ -60,4 +67,12 @@ pub(crate) fn are_told(alloc: Global, groups: &[Group], want: &str) -> bool {
         }
     }
     text.as_str() == want
+}
+
+/// Whether these bytes are this text.
+pub(crate) fn is_text(answer: Result<Vec<u8>, OutOfMemory>, want: &str) -> bool {
+    match answer {
+        Ok(text) => text.as_slice() == want.as_bytes(),
+        Err(OutOfMemory) => false,
+    }
 }

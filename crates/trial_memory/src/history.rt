@@ -1,8 +1,9 @@
 //! Trials of operations, histories and buffers: the red box as a line, and a box with its changes by
 //! two sites.
 
-use crate::examples::{BOX, RED_BOX, TWO_COLOURS, site};
+use crate::examples::{BOX, RED_BOX_MADE, TWO_COLOURS, site};
 use crate::trial::{Came, Marks};
+use example_parts::RED_BOX;
 use example_parts::notation::operation;
 use gf_causal::{Buffer, OfferFault, Offered};
 use gf_json::LineError;
@@ -38,8 +39,8 @@ pub(crate) fn tried(alloc: Global, name: &str, marks: &mut Marks) -> Option<Came
 }
 
 fn read_op(alloc: Global, marks: &mut Marks) -> Option<Came> {
-    let line = example_parts::RED_BOX.as_bytes();
-    let want = operation(alloc, RED_BOX)?;
+    let line = RED_BOX.as_bytes();
+    let want = operation(alloc, RED_BOX_MADE)?;
     marks.begin();
     let first = gf_json::read_op(alloc, line);
     marks.end();
@@ -52,7 +53,7 @@ fn read_op(alloc: Global, marks: &mut Marks) -> Option<Came> {
 }
 
 fn op_line(alloc: Global, marks: &mut Marks) -> Option<Came> {
-    let op = operation(alloc, RED_BOX)?;
+    let op = operation(alloc, RED_BOX_MADE)?;
     marks.begin();
     let first = gf_json::op_line(alloc, &op);
     marks.end();
@@ -64,7 +65,7 @@ fn op_line(alloc: Global, marks: &mut Marks) -> Option<Came> {
 
 fn is_red_line(answer: Result<String, OutOfMemory>) -> bool {
     match answer {
-        Ok(line) => line.as_str() == example_parts::RED_BOX,
+        Ok(line) => line.as_str() == RED_BOX,
         Err(OutOfMemory) => false,
     }
 }
@@ -103,7 +104,10 @@ fn room(alloc: Global, marks: &mut Marks) -> Option<Came> {
 }
 
 fn add(alloc: Global, marks: &mut Marks) -> Option<Came> {
-    let (op, same) = (operation(alloc, RED_BOX)?, operation(alloc, RED_BOX)?);
+    let (op, same) = (
+        operation(alloc, RED_BOX_MADE)?,
+        operation(alloc, RED_BOX_MADE)?,
+    );
     if !op.in_range() || !same.in_range() {
         return None;
     }
@@ -172,7 +176,9 @@ fn buffer_copy(alloc: Global, marks: &mut Marks) -> Option<Came> {
     let history = History::new(alloc);
     let mut buffer = Buffer::new(alloc);
     buffer.offer(operation(alloc, RECOLOURED)?, &history).ok()?;
-    buffer.offer(operation(alloc, RED_BOX)?, &history).ok()?;
+    buffer
+        .offer(operation(alloc, RED_BOX_MADE)?, &history)
+        .ok()?;
     marks.begin();
     let first = buffer.copy(alloc);
     marks.end();

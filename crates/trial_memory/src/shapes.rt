@@ -1,5 +1,6 @@
 //! Trials of shapes: the red box, a triangle far out, and a star.
 
+use crate::examples::red_box;
 use crate::trial::{Came, Marks};
 use example_parts::at;
 use gf_shape::{OutOfMemory, Outline, Point, Polygon, PolygonError, Rect, Row, Shape, Span};
@@ -28,10 +29,6 @@ pub(crate) fn tried(alloc: Global, name: &str, marks: &mut Marks) -> Option<Came
         _ => return None,
     };
     Some(came.unwrap_or(Came::TooEarly))
-}
-
-fn red_box() -> Option<Rect> {
-    Rect::new(at(100, 200), 300, 400).ok()
 }
 
 fn moved(alloc: Global, marks: &mut Marks) -> Option<Came> {

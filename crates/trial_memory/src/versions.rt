@@ -2,7 +2,7 @@
 
 ghost use Rattle.gf_groups.specs.Versions.{IsVersionGroup};
 
-use crate::examples::{BOX, RED_BOX, TWO_COLOURS, are_groups, are_told, site};
+use crate::examples::{BOX, RED_BOX_MADE, TWO_COLOURS, are_groups, are_told, is_text, site};
 use crate::trial::{Came, Marks};
 use example_parts::{RED, at};
 use gf_groups::{Group, GroupFault, Groups, is_made};
@@ -135,7 +135,7 @@ fn are_visible(alloc: Global, answer: Result<Option<Vec<Group>>, OutOfMemory>) -
 }
 
 fn settle(alloc: Global, marks: &mut Marks) -> Option<Came> {
-    let site = site(alloc, RED_BOX)?;
+    let site = site(alloc, RED_BOX_MADE)?;
     settle_first(alloc, marks, site.history()).ok()?
 }
 
@@ -184,15 +184,8 @@ fn is_settled(alloc: Global, answer: Result<Version, OutOfMemory>) -> bool {
     }
 }
 
-fn is_text(answer: Result<Vec<u8>, OutOfMemory>, want: &str) -> bool {
-    match answer {
-        Ok(text) => text.as_slice() == want.as_bytes(),
-        Err(OutOfMemory) => false,
-    }
-}
-
 fn ranked(alloc: Global, marks: &mut Marks) -> Option<Came> {
-    let site = site(alloc, RED_BOX)?;
+    let site = site(alloc, RED_BOX_MADE)?;
     marks.begin();
     let first = gf_versions::ranked(alloc, site.history());
     marks.end();
@@ -206,7 +199,7 @@ fn ranked(alloc: Global, marks: &mut Marks) -> Option<Came> {
 }
 
 fn ranked_with(alloc: Global, marks: &mut Marks) -> Option<Came> {
-    let site = site(alloc, RED_BOX)?;
+    let site = site(alloc, RED_BOX_MADE)?;
     marks.begin();
     let first = gf_shown::ranked_with(alloc, site.history(), site.table());
     marks.end();
@@ -220,7 +213,7 @@ fn ranked_with(alloc: Global, marks: &mut Marks) -> Option<Came> {
 }
 
 fn ranked_within(alloc: Global, marks: &mut Marks) -> Option<Came> {
-    let site = site(alloc, RED_BOX)?;
+    let site = site(alloc, RED_BOX_MADE)?;
     marks.begin();
     let first = gf_shown::ranked_within(alloc, site.history(), site.table(), 1);
     marks.end();
