@@ -52,7 +52,8 @@ AsksObject text other = ⊥
 -- what the text of a point asks for
 abbrev pub AsksPoint : Text → Asked → Type 0
 AsksPoint text (asked.Run (Inspect (At p))) = SpellsPoint text p
-AsksPoint text (asked.Mistake Unreadable) = (p : Point) → FitsSigned w32 p.x → FitsSigned w32 p.y → ¬ (SpellsPoint text p)
+AsksPoint text (asked.Mistake Unreadable) =
+    (p : Point) → FitsSigned w32 p.x → FitsSigned w32 p.y → ¬ (SpellsPoint text p)
 AsksPoint text other = ⊥
 
 -- what the texts of an object and of a point ask for, of which one is to be given
@@ -75,13 +76,16 @@ abbrev pub AsksRun : Option (Text × List Row) → Run → Type 0
 AsksRun met Fig = Meets met (codes "fig") (λ _. ⊤)
 AsksRun met (Paint canvas) = Meets met (codes "paint") (λ rows. IsCanvas rows canvas)
 AsksRun met (Repaint canvas) = Meets met (codes "repaint") (λ rows. IsCanvas rows canvas)
-AsksRun met (Inspect query) = Meets met (codes "inspect") (λ rows. IsInspected rows (asked.Run (Inspect query)))
-AsksRun met (Session sites) = Meets met (codes "session") (λ rows. HasNatural rows (codes "sites") sites)
+AsksRun met (Inspect query) =
+    Meets met (codes "inspect") (λ rows. IsInspected rows (asked.Run (Inspect query)))
+AsksRun met (Session sites) =
+    Meets met (codes "session") (λ rows. HasNatural rows (codes "sites") sites)
 
 -- what is asked for by the command that was met, or why nothing is
 abbrev pub IsAsked : Option (Text × List Row) → Asked → Type 0
 IsAsked met (asked.Run run) = AsksRun met run
-IsAsked met (asked.Mistake fault) = Meets met (codes "inspect") (λ rows. IsInspected rows (asked.Mistake fault))
+IsAsked met (asked.Mistake fault) =
+    Meets met (codes "inspect") (λ rows. IsInspected rows (asked.Mistake fault))
 
 -- the words ask for this run
 abbrev pub Asks : List Text → Run → Type 0

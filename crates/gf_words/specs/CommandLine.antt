@@ -1,4 +1,4 @@
--- The command line of the program as clap reads it: its commands, and the options that each takes (this project's choice).
+-- The program's commands and the options of each, as clap reads them (this project's choice).
 use Rattle.std.specs.Prelude.{ℕ, List, [], ◌∷◌, Some, true, false, codes, pos, negsuc}
 use Rattle.clap.specs.Walk.{Rule, Text}
 use Rattle.clap.specs.Simple.{App, Shape, new_rule, new_shape}
@@ -9,7 +9,7 @@ use Rattle.clap.specs.declared.builder.value_parser.ValueParser.TheVariants.{Sig
 abbrev pub text : Text → Rule
 text name = record (new_rule name) { long = Some name; value_names = 1 }
 
--- an option for a number that the parser takes, with the text that stands for it where it is not given
+-- an option for a number that the parser takes, with the text for it where it is not given
 abbrev pub number : Text → Text → ValueParser → Rule
 number name default within = record (text name) { defaults = default ∷ []; parser = Some within }
 

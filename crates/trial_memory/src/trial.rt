@@ -45,10 +45,10 @@ impl Marks {
 pub(crate) enum Came {
     /// The call answered as its worked example does.
     Right,
-    /// It wanted memory, left all as it was, and then answered as its worked example does.
+    /// The call wanted memory, left all as it was, and then answered as its worked example does.
     RightAfterMemory,
-    /// Its tape wanted memory, it wrote a front of the text, and then it answered as its worked
-    /// example does.
+    /// The tape wanted memory, the call left a front of the text there, and then answered as its
+    /// worked example does.
     RightAfterWrite,
     /// Memory was refused before the call.
     TooEarly,
