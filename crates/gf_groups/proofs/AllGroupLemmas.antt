@@ -19,7 +19,7 @@ use Rattle.gf_ops.proofs.ListLemmas.{Contains-cons_cases, Contains-cons_head, Co
 use Rattle.gf_groups.specs.declared.group.Group.{Group}
 use Rattle.gf_groups.specs.Versions.{IsMade, IsVersionGroup, AreAllVersions}
 use Rattle.gf_groups.specs.Growing.{conflict_at, groups_at}
-use Rattle.gf_groups.specs.Tables.{IsTable}
+use Rattle.gf_maximal.specs.Tables.{IsTable}
 use Rattle.gf_groups.specs.GroupedPositions.{is_on, positions_below, groups_on}
 use Rattle.gf_groups.specs.Parting.{object_cmp, HasPositionsBelow, HasAllPositions, groups_of_entries}
 use Rattle.gf_groups.proofs.TableLemmas.{conflict_at_test, table_groups}
@@ -27,7 +27,7 @@ use Rattle.gf_groups.proofs.GroupLemmas.{groups_once, group_on, groups_exactly}
 use Rattle.gf_groups.proofs.OnPositionLemmas.{on_op, on_to, all_positions, contained_at, position_of_op}
 use Rattle.gf_groups.proofs.PartingLemmas.{object_cmp_total, entries_parts, entry_position, entry_of}
 use Rattle.gf_groups.proofs.PositionLemmas.{positions_below-rising}
-use Rattle.gf_groups.proofs.RisingLemmas.{below_tail}
+use Rattle.gf_maximal.proofs.RisingLemmas.{below_tail}
 use Rattle.gf_groups.proofs.TakingLemmas.{AllPairs-append}
 
 -- ---- lists in a row

@@ -6,7 +6,7 @@ use Rattle.std.proofs.lemmas.Bool.{cases_Bool, cond-true, cond-false, and_from}
 use Rattle.std.proofs.lemmas.List.{reverse-append}
 use Rattle.std.proofs.lemmas.List.Elements.{Contains-push_cases}
 use Rattle.gf_groups.specs.Growing.{take_up, same_group, is_covered, covers, leaves, rivals, exposed, conflicts_in, largest_of}
-use Rattle.gf_groups.proofs.ListLemmas.{Contains-filter, list_all_true}
+use Rattle.gf_maximal.proofs.ListLemmas.{Contains-filter, list_all_true}
 use Rattle.gf_ops.proofs.ListLemmas.{Contains-cons_head, Contains-cons_tail}
 
 -- some that pass one test pass another

@@ -18,11 +18,11 @@ use Rattle.gf_groups.specs.declared.group.Group.{Group}
 use Rattle.gf_groups.specs.Versions.{IsMade, IsVersionGroup, AreVersions, group_cmp}
 use Rattle.gf_groups.specs.Growing.{conflict_at}
 use Rattle.gf_groups.specs.GroupedPositions.{is_on, rising_ids, group_at}
-use Rattle.gf_groups.specs.Tables.{IsRising, IsTable}
+use Rattle.gf_maximal.specs.Tables.{IsRising, IsTable}
 use Rattle.gf_groups.proofs.IdLemmas.{id_cmp_total, id_cmp_exact}
 use Rattle.gf_groups.proofs.IdPositionLemmas.{Contains-rising_ids, same_position}
 use Rattle.gf_groups.proofs.OnPositionLemmas.{on_op}
-use Rattle.gf_groups.proofs.RisingLemmas.{one_rising}
+use Rattle.gf_maximal.proofs.RisingLemmas.{one_rising}
 use Rattle.gf_groups.proofs.SortedLemmas.{ties, equal_left, rising_sorted}
 use Rattle.gf_groups.proofs.TakingLemmas.{AllPairs-map}
 use Rattle.gf_groups.proofs.VersionLemmas.{version_of_largest, largest_of_version, same_ids, positions_in, positions_in-rising}

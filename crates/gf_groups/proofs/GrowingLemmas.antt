@@ -14,12 +14,12 @@ use Rattle.std.proofs.lemmas.List.Kept.{IsStrictlySortedBy-filter}
 use Rattle.std.proofs.lemmas.Slice.Eq.{slice_eq-Decides}
 use Rattle.gf_ops.proofs.ListLemmas.{Contains-cons_cases, Contains-cons_head, not_Contains-nil, Contains-map, Contains-map_from}
 use Rattle.gf_groups.specs.Growing.{same_group, conflicts_in, step, part, parts, is_covered, covers, rivals, exposed, largest_of, next}
-use Rattle.gf_groups.specs.Tables.{Hits, IsLargest, IsRising, IsTable}
-use Rattle.gf_groups.proofs.LargestLemmas.{With, Part, IsConflict, largest_with, largest_stays, largest_was, largest_is_part, compatible_part, largest_alike}
-use Rattle.gf_groups.proofs.ListLemmas.{Contains-filter, list_any_true, list_any_false, list_any_from, list_all_true, list_all_from}
-use Rattle.gf_groups.proofs.RisingLemmas.{one_rising, rising_nil, rising_push}
+use Rattle.gf_maximal.specs.Tables.{Hits, IsLargest, IsRising, IsTable}
+use Rattle.gf_maximal.proofs.LargestLemmas.{With, Part, IsConflict, largest_with, largest_stays, largest_was, largest_is_part, compatible_part, largest_alike}
+use Rattle.gf_maximal.proofs.ListLemmas.{Contains-filter, list_any_true, list_any_false, list_any_from, list_all_true, list_all_from}
+use Rattle.gf_maximal.proofs.RisingLemmas.{one_rising, rising_nil, rising_push}
 use Rattle.gf_groups.proofs.TakingLemmas.{AllPairs-append, AllPairs-map, taken_up, IsTakenUp}
-use Rattle.gf_groups.proofs.ExtendingLemmas.{extended}
+use Rattle.gf_maximal.proofs.ExtendingLemmas.{extended}
 
 -- nothing has one group, the empty one
 pub table_first : (c : ℕ → ℕ → Bool) → IsTable c [] ([] ∷ [])

@@ -1,17 +1,13 @@
 pub mod AllGroupLemmas
 pub mod ConflictTestLemmas
 pub mod ExposedLemmas
-pub mod ExtendingLemmas
 pub mod GroupLemmas
 pub mod GrowingLemmas
 pub mod IdLemmas
 pub mod IdPositionLemmas
-pub mod LargestLemmas
-pub mod ListLemmas
 pub mod OnPositionLemmas
 pub mod PartingLemmas
 pub mod PositionLemmas
-pub mod RisingLemmas
 pub mod SortedLemmas
 pub mod SublistLemmas
 pub mod TableLemmas

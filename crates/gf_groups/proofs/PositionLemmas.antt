@@ -15,8 +15,8 @@ use Rattle.gf_ops.specs.declared.op.ObjectId.{ObjectId}
 use Rattle.gf_ops.specs.Attribute.{object_of}
 use Rattle.gf_groups.specs.GroupedPositions.{is_on, positions_below}
 use Rattle.gf_groups.specs.VersionList.{id_eq}
-use Rattle.gf_groups.specs.Tables.{IsRising}
-use Rattle.gf_groups.proofs.RisingLemmas.{rising_nil, rising_push}
+use Rattle.gf_maximal.specs.Tables.{IsRising}
+use Rattle.gf_maximal.proofs.RisingLemmas.{rising_nil, rising_push}
 
 -- what `get` gives
 pub got_at : {X : Type 0} (xs : List X) (i : ℕ) (r : Option (Bor X)) → MatchOption r (length xs ≤ i) (λ x. (i < length xs) × HoldsAt (λ y. x.now ≡ y) xs i) → option_copied r ≡ slice_get xs i

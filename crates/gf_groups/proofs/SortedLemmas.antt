@@ -15,7 +15,7 @@ use Rattle.std.proofs.lemmas.List.Sorted.{Contains-permutation, IsPermutation-sy
 use Rattle.std.proofs.lemmas.Map.Keys.{sorted_head, sorted_tail, IsDistinct-from_apart, IsDistinct-IsPermutation, apart_from_distinct, sorted_from_all_adjacent}
 use Rattle.std.proofs.lemmas.Map.Views.{All-insert_key}
 use Rattle.gf_ops.proofs.ListLemmas.{Contains-cons_cases, Contains-cons_head, Contains-cons_tail, not_Contains-nil}
-use Rattle.gf_groups.proofs.RisingLemmas.{one_rising, rising_cons, rising_nil}
+use Rattle.gf_maximal.proofs.RisingLemmas.{one_rising, rising_cons, rising_nil}
 
 pub equal_left : (o : Ordering) → is_eq o ≡ true → o ≡ Equal
 equal_left Less e = absurd cc

@@ -12,40 +12,11 @@ use Rattle.std.proofs.lemmas.List.Elements.{Contains-append_left, Contains-appen
 use Rattle.std.proofs.lemmas.Map.Keys.{sorted_tail}
 use Rattle.gf_ops.proofs.ListLemmas.{Contains-cons_cases, Contains-cons_head, Contains-cons_tail, not_Contains-nil, Contains-map, Contains-map_from}
 use Rattle.gf_groups.specs.VersionList.{sublists}
-use Rattle.gf_groups.specs.Pairs.{Pairs}
-use Rattle.gf_groups.proofs.ListLemmas.{Contains-filter}
-use Rattle.gf_groups.proofs.RisingLemmas.{below_tail, rising_cons}
+use Rattle.gf_maximal.specs.Pairs.{Pairs}
+use Rattle.gf_maximal.proofs.PairLemmas.{Pairs-append, Pairs-map}
+use Rattle.gf_maximal.proofs.RisingLemmas.{below_tail, rising_cons}
 
 -- ---- each element stands to all later ones as R says
-
-pub Pairs-append : {X : Type 0} (R : X → X → Type 0) (xs ys : List X) → Pairs R xs → Pairs R ys → ((x y : X) → Contains xs x → Contains ys y → R x y) → Pairs R (xs ++ ys)
-Pairs-append R [] ys p q r = q
-Pairs-append R (x ∷ xs) ys p q r = (
-  λ y i. elim (Contains-append_cases xs ys y i) [ inl j ↦ p.0 y j | inr j ↦ r x y (Contains-cons_head x xs) j ],
-  Pairs-append R xs ys p.1 q (λ z y i j. r z y (Contains-cons_tail x xs z i) j),
-)
-
-pub Pairs-map : {X Y : Type 0} (R : X → X → Type 0) (S : Y → Y → Type 0) (f : X → Y) (xs : List X) → ((a b : X) → R a b → S (f a) (f b)) → Pairs R xs → Pairs S (map f xs)
-Pairs-map R S f [] g p = tt
-Pairs-map R S f (x ∷ xs) g p = (
-  λ y i. let w = Contains-map_from f xs y i in subst (S (f x)) (sym w.2) (g x w.0 (p.0 w.0 w.1)),
-  Pairs-map R S f xs g p.1,
-)
-
-pub Pairs-filter : {X : Type 0} (R : X → X → Type 0) (p : X → Bool) (xs : List X) → Pairs R xs → Pairs R (filter p xs)
-Pairs-filter R p [] q = tt
-Pairs-filter R p (x ∷ xs) q = elim (cases_Bool (p x)) [
-  | inl k ↦ rw (cond-true (p x) (x ∷ filter p xs) (filter p xs) k) (λ y i. q.0 y ((Contains-filter p xs y).0 i).0, Pairs-filter R p xs q.1)
-  | inr k ↦ rw (cond-false (p x) (x ∷ filter p xs) (filter p xs) k) (Pairs-filter R p xs q.1)
-]
-
--- a relation that follows from another on the elements
-pub Pairs-from : {X : Type 0} (R S : X → X → Type 0) (xs : List X) → ((a b : X) → Contains xs a → Contains xs b → R a b → S a b) → Pairs R xs → Pairs S xs
-Pairs-from R S [] f p = tt
-Pairs-from R S (x ∷ xs) f p = (
-  λ y i. f x y (Contains-cons_head x xs) (Contains-cons_tail x xs y i) (p.0 y i),
-  Pairs-from R S xs (λ a b i j. f a b (Contains-cons_tail x xs a i) (Contains-cons_tail x xs b j)) p.1,
-)
 
 pub rising_from_Pairs : {X : Type 0} (c : X → X → Ordering) (total : IsTotalOrder c) (xs : List X) → Pairs (λ a b. c a b ≡ Less) xs → IsStrictlySortedBy c xs
 unfolding IsStrictlySortedBy

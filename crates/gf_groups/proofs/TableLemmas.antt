@@ -9,11 +9,11 @@ use Rattle.std.proofs.lemmas.List.{append-nil}
 use Rattle.std.proofs.lemmas.List.Elements.{All-weaker, All-contains_itself}
 use Rattle.gf_ops.specs.declared.op.Op.{Op}
 use Rattle.gf_groups.specs.Growing.{both_conflict, conflict_at, next, grown, groups_at}
-use Rattle.gf_groups.specs.Tables.{IsRising, IsTable}
+use Rattle.gf_maximal.specs.Tables.{IsRising, IsTable}
 use Rattle.gf_groups.proofs.ConflictTestLemmas.{in_conflict-sym, in_conflict-alone}
 use Rattle.gf_groups.proofs.GrowingLemmas.{table_first, table_next}
-use Rattle.gf_groups.proofs.LargestLemmas.{IsConflict}
-use Rattle.gf_groups.proofs.RisingLemmas.{rising_front, rising_below}
+use Rattle.gf_maximal.proofs.LargestLemmas.{IsConflict}
+use Rattle.gf_maximal.proofs.RisingLemmas.{rising_front, rising_below}
 
 both_conflict-sym : (r s : Option Op) → both_conflict r s ≡ both_conflict s r
 both_conflict-sym (Some a) (Some b) = in_conflict-sym a b

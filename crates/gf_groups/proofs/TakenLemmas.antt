@@ -9,8 +9,8 @@ use Rattle.gf_ops.specs.declared.op.Clock.{Clock}
 use Rattle.gf_ops.proofs.ListLemmas.{Contains-cons_head, Contains-cons_tail}
 use Rattle.gf_groups.specs.Growing.{conflict_at, conflicts_in, step, part, exposed, largest_of, next, pushed, grown, groups_at}
 use Rattle.gf_groups.specs.Taken.{KnowsAll, CountsMore, CountsAll}
-use Rattle.gf_groups.specs.Tables.{IsRising}
-use Rattle.gf_groups.proofs.ListLemmas.{list_any_true}
+use Rattle.gf_maximal.specs.Tables.{IsRising}
+use Rattle.gf_maximal.proofs.ListLemmas.{list_any_true}
 use Rattle.gf_groups.proofs.OnPositionLemmas.{conflict_with}
 use Rattle.gf_groups.proofs.TableLemmas.{conflict_at_test, table_groups}
 

@@ -10,7 +10,7 @@ use Rattle.std.proofs.lemmas.List.Quantifiers.{all_pairs_push}
 use Rattle.std.proofs.lemmas.List.{length-map, get_or-map}
 use Rattle.gf_ops.proofs.ListLemmas.{Contains-cons_cases, Contains-cons_head, Contains-cons_tail, not_Contains-nil}
 use Rattle.gf_groups.specs.Growing.{take_up}
-use Rattle.gf_groups.proofs.ListLemmas.{list_any_true, list_any_false}
+use Rattle.gf_maximal.proofs.ListLemmas.{list_any_true, list_any_false}
 
 -- different elements stay different under a map that tells them apart
 pub AllPairs-map : {Y Z : Type 0} (f : Y → Z) (ys : List Y) → ((a b : Y) → Contains ys a → Contains ys b → f a ≡ f b → a ≡ b) → AllPairs (λ a b. a ≢ b) ys → AllPairs (λ a b. a ≢ b) (map f ys)

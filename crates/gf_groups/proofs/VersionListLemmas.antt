@@ -21,12 +21,13 @@ use Rattle.gf_groups.specs.Versions.{IsMade, IsVersionGroup, AreVersions, group_
 use Rattle.gf_groups.specs.VersionList.{id_eq, in_conflict, is_in, ops_on, members, is_compatible, is_largest, sublists, ids_on, versions_of}
 use Rattle.gf_groups.proofs.ConflictTestLemmas.{id_decided, conflict_decided}
 use Rattle.gf_groups.proofs.IdLemmas.{id_cmp_total, id_cmp_exact}
-use Rattle.gf_groups.proofs.ListLemmas.{Contains-filter, list_any_true, list_any_from, list_all_true, list_all_from}
+use Rattle.gf_maximal.proofs.ListLemmas.{Contains-filter, list_any_true, list_any_from, list_all_true, list_all_from}
 use Rattle.gf_groups.proofs.GroupLemmas.{group_cmp_total}
 use Rattle.gf_groups.proofs.OnPositionLemmas.{made_object}
-use Rattle.gf_groups.proofs.RisingLemmas.{one_rising}
+use Rattle.gf_maximal.proofs.RisingLemmas.{one_rising}
 use Rattle.gf_groups.proofs.SortedLemmas.{inserted_all, holds_all}
-use Rattle.gf_groups.proofs.SublistLemmas.{Pairs-filter, Pairs-from, Pairs-map, Pairs_from_rising, StandsBefore, rising_from_Pairs, rising_sublist, sublist_rising, sublist_within, sublists_in_order}
+use Rattle.gf_maximal.proofs.PairLemmas.{Pairs-filter, Pairs-from, Pairs-map}
+use Rattle.gf_groups.proofs.SublistLemmas.{Pairs_from_rising, StandsBefore, rising_from_Pairs, rising_sublist, sublist_rising, sublist_within, sublists_in_order}
 
 module _ (h : List Op) (o : ObjectId) where
   in_group : (g : List OpId) (a : Op) → (is_in g a ≡ true) ↔ Contains g a.id

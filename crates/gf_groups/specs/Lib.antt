@@ -4,6 +4,4 @@ pub mod Growing
 pub mod GroupedPositions
 pub mod Parting
 pub mod Taken
-pub mod Tables
-pub mod Pairs
 pub mod Rivals

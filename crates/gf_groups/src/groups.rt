@@ -5,7 +5,7 @@ ghost use Rattle.std.specs.List.Sorted.{IsPermutation, IsSorted};
 ghost use Rattle.gf_groups.specs.declared.faults.GroupFault.{GroupFault};
 ghost use Rattle.gf_groups.specs.Growing.{conflict_at};
 ghost use Rattle.gf_groups.specs.GroupedPositions.{positions_below};
-ghost use Rattle.gf_groups.specs.Tables.{IsTable};
+ghost use Rattle.gf_maximal.specs.Tables.{IsTable};
 ghost use Rattle.gf_groups.specs.Versions.{IsMade, AreVersions, AreAllVersions, group_cmp};
 
 use crate::growth::groups_at;

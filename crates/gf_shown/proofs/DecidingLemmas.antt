@@ -9,12 +9,12 @@ use Rattle.std.proofs.lemmas.Cmp.{nat_cmp_total}
 use Rattle.std.proofs.lemmas.List.Kept.{AllPairs-filter}
 use Rattle.gf_ops.proofs.ListLemmas.{Contains-cons_cases, not_Contains-nil}
 use Rattle.gf_groups.specs.Growing.{groups_at}
-use Rattle.gf_groups.specs.Pairs.{Pairs}
-use Rattle.gf_groups.specs.Tables.{IsLargest, IsRising, IsTable}
-use Rattle.gf_groups.proofs.LargestLemmas.{IsConflict}
-use Rattle.gf_groups.proofs.ListLemmas.{Contains-filter, list_any_true, list_any_false, list_all_true}
-use Rattle.gf_groups.proofs.RisingLemmas.{rising_nil}
-use Rattle.gf_groups.proofs.SublistLemmas.{Pairs-filter}
+use Rattle.gf_maximal.specs.Pairs.{Pairs}
+use Rattle.gf_maximal.specs.Tables.{IsLargest, IsRising, IsTable}
+use Rattle.gf_maximal.proofs.LargestLemmas.{IsConflict}
+use Rattle.gf_maximal.proofs.ListLemmas.{Contains-filter, list_any_true, list_any_false, list_all_true}
+use Rattle.gf_maximal.proofs.RisingLemmas.{rising_nil}
+use Rattle.gf_maximal.proofs.PairLemmas.{Pairs-filter}
 use Rattle.gf_parts.specs.Parted.{Apart, IsKept, AreParts}
 use Rattle.gf_parts.specs.Parts.{PartState, PartsState, most_sets, united, products, alone, whole, full, listed}
 use Rattle.gf_parts.proofs.CountLemmas.{length-products, number_of_table}

@@ -13,7 +13,7 @@ use Rattle.gf_ops.proofs.ListLemmas.{Contains-map, Contains-map_from}
 use Rattle.gf_groups.specs.declared.group.Group.{Group}
 use Rattle.gf_groups.specs.GroupedPositions.{is_on, positions_below, rising_ids, group_at}
 use Rattle.gf_groups.specs.Growing.{conflict_at, groups_at}
-use Rattle.gf_groups.specs.Tables.{IsRising, IsTable}
+use Rattle.gf_maximal.specs.Tables.{IsRising, IsTable}
 use Rattle.gf_groups.specs.Versions.{IsMade, IsVersionGroup}
 use Rattle.gf_groups.proofs.GroupLemmas.{groups_exactly, same_group_at}
 use Rattle.gf_groups.proofs.OnPositionLemmas.{all_positions}

@@ -6,8 +6,8 @@ use Rattle.gf_ops.specs.declared.op.ObjectId.{ObjectId}
 use Rattle.gf_ops.specs.ValidHistory.{IsValid}
 use Rattle.gf_groups.specs.GroupedPositions.{is_on}
 use Rattle.gf_groups.specs.Growing.{conflict_at, groups_at}
-use Rattle.gf_groups.specs.Tables.{IsRising, IsTable}
-use Rattle.gf_groups.proofs.LargestLemmas.{largest_alike}
+use Rattle.gf_maximal.specs.Tables.{IsRising, IsTable}
+use Rattle.gf_maximal.proofs.LargestLemmas.{largest_alike}
 use Rattle.gf_groups.proofs.TableLemmas.{conflict_at_test, table_groups}
 use Rattle.gf_parts.specs.Parted.{AreParts, IsKept, IsPart}
 use Rattle.gf_parts.specs.Parts.{PartState, PartsState, most_sets, whole}

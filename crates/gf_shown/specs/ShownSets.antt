@@ -2,7 +2,7 @@
 use Rattle.std.specs.Prelude.{◌≡◌, ◌≢◌, ◌↔◌, ℕ, ◌<◌, ◌≤◌, Bool, true, List, AllPairs, Contains, length, Option, Some, None}
 use Rattle.gf_ops.specs.declared.op.Op.{Op}
 use Rattle.gf_groups.specs.Growing.{conflict_at}
-use Rattle.gf_groups.specs.Tables.{IsLargest, IsRising}
+use Rattle.gf_maximal.specs.Tables.{IsLargest, IsRising}
 use Rattle.gf_shown.specs.Deciding.{shows}
 use Rattle.gf_shown.specs.ShownAt.{sets_at, shows_at, later_at}
 

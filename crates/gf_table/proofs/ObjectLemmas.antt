@@ -21,11 +21,11 @@ use Rattle.gf_ops.proofs.ListLemmas.{Contains-cons_cases, Contains-cons_head, Co
 use Rattle.gf_ops.proofs.ValidityLemmas.{same_op}
 use Rattle.gf_groups.specs.Growing.{conflict_at}
 use Rattle.gf_groups.specs.GroupedPositions.{is_on, positions_below, group_at}
-use Rattle.gf_groups.specs.Pairs.{Pairs}
-use Rattle.gf_groups.specs.Tables.{IsTable}
+use Rattle.gf_maximal.specs.Pairs.{Pairs}
+use Rattle.gf_maximal.specs.Tables.{IsTable}
 use Rattle.gf_groups.specs.Versions.{IsMade}
 use Rattle.gf_groups.proofs.GroupLemmas.{groups_exactly, groups_once}
-use Rattle.gf_groups.proofs.ListLemmas.{list_any_from}
+use Rattle.gf_maximal.proofs.ListLemmas.{list_any_from}
 use Rattle.gf_groups.proofs.OnPositionLemmas.{all_positions, conflict_with, contained_at, on_op, on_to}
 use Rattle.gf_groups.proofs.PositionLemmas.{positions_below-rising}
 use Rattle.gf_groups.proofs.TableLemmas.{conflict_at_test}

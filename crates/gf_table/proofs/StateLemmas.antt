@@ -16,7 +16,7 @@ use Rattle.gf_ops.specs.ValidHistory.{IsValid}
 use Rattle.gf_ops.proofs.ListLemmas.{not_Contains-nil}
 use Rattle.gf_groups.specs.Growing.{conflict_at, conflicts_in}
 use Rattle.gf_groups.specs.GroupedPositions.{is_on}
-use Rattle.gf_groups.proofs.ListLemmas.{list_any_true}
+use Rattle.gf_maximal.proofs.ListLemmas.{list_any_true}
 use Rattle.gf_groups.proofs.TableLemmas.{conflict_at_test}
 use Rattle.gf_parts.specs.Parted.{AreParts}
 use Rattle.gf_parts.specs.Parts.{PartsState, whole, after}

@@ -8,7 +8,7 @@ ghost use Rattle.gf_ops.specs.Limits.{IsInRange};
 ghost use Rattle.gf_groups.specs.declared.faults.GroupFault.{GroupFault};
 ghost use Rattle.gf_groups.specs.Growing.{conflict_at};
 ghost use Rattle.gf_groups.specs.GroupedPositions.{positions_below};
-ghost use Rattle.gf_groups.specs.Tables.{IsTable};
+ghost use Rattle.gf_maximal.specs.Tables.{IsTable};
 ghost use Rattle.gf_groups.specs.Versions.{IsMade, AreVersions};
 ghost use Rattle.gf_table.specs.Standing.{StandsFor, parts_at, parts_of};
 ghost use Rattle.gf_tails.specs.Subjects.{kinds, subject_cmp};

@@ -6,7 +6,7 @@ use Rattle.gf_ops.specs.declared.op.Op.{Op}
 use Rattle.gf_ops.specs.declared.op.ObjectId.{ObjectId}
 use Rattle.gf_groups.specs.Growing.{conflict_at, groups_at}
 use Rattle.gf_groups.specs.GroupedPositions.{group_at, groups_on}
-use Rattle.gf_groups.specs.Tables.{IsRising}
+use Rattle.gf_maximal.specs.Tables.{IsRising}
 use Rattle.gf_groups.specs.Parting.{HasPositionsBelow, HasAllPositions, groups_of_entries}
 use Rattle.gf_groups.proofs.AllGroupLemmas.{all_versions}
 use Rattle.gf_groups.proofs.PartingLemmas.{entries_parts}

@@ -4,8 +4,8 @@ use Rattle.std.proofs.lemmas.List.{take_more}
 use Rattle.std.proofs.lemmas.Cmp.{nat_cmp_total}
 use Rattle.std.specs.Ordering.{nat_cmp}
 use Rattle.gf_groups.specs.Growing.{conflict_at, next}
-use Rattle.gf_groups.specs.Tables.{IsRising}
-use Rattle.gf_groups.proofs.RisingLemmas.{rising_front}
+use Rattle.gf_maximal.specs.Tables.{IsRising}
+use Rattle.gf_maximal.proofs.RisingLemmas.{rising_front}
 use Rattle.gf_groups.proofs.TakenLemmas.{groups_at-push, groups_known, counts_more}
 use Rattle.gf_groups.proofs.growth.groups_at.Goals as goal
 use Rattle.gf_groups.proofs.growth.groups_at.Goals.{then-knows_all+in_ok-push_to_all, else-knows_all+in_ok-grow}

@@ -3,7 +3,7 @@ use Rattle.std.specs.Prelude.{Some}
 use Rattle.std.proofs.lemmas.Result.{IfOk-weaker}
 use Rattle.gf_groups.specs.GroupedPositions.{positions_below}
 use Rattle.gf_groups.specs.Growing.{conflict_at, groups_at}
-use Rattle.gf_groups.specs.Tables.{IsRising, IsTable}
+use Rattle.gf_maximal.specs.Tables.{IsRising, IsTable}
 use Rattle.gf_groups.proofs.OnPositionLemmas.{all_positions}
 use Rattle.gf_parts.specs.Parts.{PartState, PartsState, whole}
 use Rattle.gf_shown.specs.Deciding.{deciding, shown_within}

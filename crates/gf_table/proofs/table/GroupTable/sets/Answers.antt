@@ -2,7 +2,7 @@ use Rattle.std.proofs.Common.{length, ap, subst, sym, ◌∙◌}
 use Rattle.std.proofs.lemmas.Result.{IfOk-weaker}
 use Rattle.gf_groups.specs.Growing.{conflict_at}
 use Rattle.gf_groups.specs.GroupedPositions.{positions_below}
-use Rattle.gf_groups.specs.Tables.{IsTable}
+use Rattle.gf_maximal.specs.Tables.{IsTable}
 use Rattle.gf_parts.specs.Parted.{AreParts}
 use Rattle.gf_parts.specs.Parts.{listed}
 use Rattle.gf_table.proofs.ObjectLemmas.{object_parts, sets_listed}

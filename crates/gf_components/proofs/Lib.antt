@@ -1,0 +1,4 @@
+pub mod ProductLemmas
+pub mod CountLemmas
+pub mod ComponentLemmas
+pub mod AgreeLemmas

@@ -1,0 +1,97 @@
+-- Numbers in components, which no conflict connects.
+use Rattle.std.specs.Prelude.{ℕ, ◌*◌, Bool, cond, ◌||◌, nat_le, List, [], ◌∷◌, ◌++◌, filter, map, length, Option, Some, None}
+use Rattle.std.specs.List.{fold, flat_map}
+use Rattle.gf_maximal.specs.Growing.{is_in, meets, misses, without, common, joined, united, next}
+
+-- a component keeps its sets while they are at most so many
+abbrev pub most_sets : ℕ
+most_sets = 1000
+
+-- numbers, and their largest compatible sets unless these are too many
+pub record ComponentState : Type 0 where
+  pub all : List ℕ
+  pub sets : Option (List (List ℕ))
+
+-- numbers that are in every version, and the components of which each gives a version one set
+pub record ComponentsState : Type 0 where
+  pub free : List ℕ
+  pub parts : List ComponentState
+
+-- the sets gs, unless they are too many
+abbrev pub kept : List (List ℕ) → Option (List (List ℕ))
+kept gs = cond (nat_le (length gs) most_sets) (Some gs) None
+
+-- each of gs with each of ks
+abbrev pub products : List (List ℕ) → List (List ℕ) → List (List ℕ)
+products gs ks = flat_map (λ g. map (united g) ks) gs
+
+-- the products, unless they are too many
+abbrev pub kept_products : List (List ℕ) → List (List ℕ) → Option (List (List ℕ))
+kept_products gs ks = cond (nat_le (length gs * length ks) most_sets) (Some (products gs ks)) None
+
+-- the products of what is kept
+abbrev pub times : Option (List (List ℕ)) → Option (List (List ℕ)) → Option (List (List ℕ))
+times (Some gs) (Some ks) = kept_products gs ks
+times r s = None
+
+-- all numbers of two components, and their sets
+abbrev pub both : ComponentState → ComponentState → ComponentState
+both p q = record { all = united p.all q.all; sets = times p.sets q.sets }
+
+-- that of p with the numbers us, and of q
+abbrev pub merged_to : List ℕ → ComponentState → ComponentState → ComponentState
+merged_to [] p q = q
+merged_to (x ∷ us) p q = both p q
+
+-- two components as one: the second alone, where the first has no number
+abbrev pub merged : ComponentState → ComponentState → ComponentState
+merged p q = merged_to p.all p q
+
+-- numbers as a component of one set
+abbrev pub alone : List ℕ → ComponentState
+alone us = record { all = us; sets = Some (us ∷ []) }
+
+-- all of it as one component
+abbrev pub whole : ComponentsState → ComponentState
+whole s = fold merged (alone s.free) s.parts
+
+-- of no number
+abbrev pub no_components : ComponentsState
+no_components = record { free = []; parts = [] }
+
+-- one of d is of the component
+abbrev pub touches : List ℕ → ComponentState → Bool
+touches d p = meets d p.all
+
+-- all that d connects, as one component
+abbrev pub touched : List ℕ → ComponentsState → ComponentState
+touched d s = fold merged (alone (common d s.free)) (filter (touches d) s.parts)
+
+-- the sets after x came, which conflicts with d of the numbers
+abbrev pub grown_sets : List ℕ → ℕ → Option (List (List ℕ)) → Option (List (List ℕ))
+grown_sets d x (Some gs) = kept (next d x gs)
+grown_sets d x None = None
+
+-- the component after x came to it
+abbrev pub grown : List ℕ → ℕ → ComponentState → ComponentState
+grown d x p = record { all = joined x p.all; sets = grown_sets d x p.sets }
+
+-- the component has x, or none of d
+abbrev pub stays : List ℕ → ℕ → ComponentState → Bool
+stays d x p = is_in p.all x || misses d p.all
+
+-- x came, and conflicts with none
+abbrev pub with_free : ℕ → ComponentsState → ComponentsState
+with_free x s = record { free = joined x s.free; parts = s.parts }
+
+-- x came, and connects the numbers d, with which it conflicts
+abbrev pub connected : List ℕ → ℕ → ComponentsState → ComponentsState
+connected d x s = record {
+  free = without d s.free;
+  parts = filter (stays d x) (s.parts ++ grown d x (touched d s) ∷ []);
+}
+
+-- x came, and conflicts with the numbers d
+abbrev pub after : List ℕ → ℕ → ComponentsState → ComponentsState
+after [] x s = with_free x s
+after (a ∷ d) x s = connected (a ∷ d) x s

@@ -1,0 +1,34 @@
+-- Components that no conflict connects, each with its largest compatible sets: a version is what is free with one set of each.
+use Rattle.std.specs.Prelude.{◌≡◌, ◌≢◌, ◌↔◌, ℕ, ◌<◌, ◌≤◌, Bool, true, false, List, Contains, length, Option, Some, None}
+use Rattle.gf_maximal.specs.Pairs.{Pairs}
+use Rattle.gf_maximal.specs.Tables.{IsRising, IsTable}
+use Rattle.gf_components.specs.Components.{ComponentState, ComponentsState, most_sets, whole}
+
+-- c tells whether two numbers conflict
+module _ (c : ℕ → ℕ → Bool) where
+  -- no number is in both, and no conflict connects them
+  abbrev pub Apart : List ℕ → List ℕ → Type 0
+  Apart us vs = (a b : ℕ) → Contains us a → Contains vs b → (a ≢ b) × (c a b ≡ false)
+
+  -- what is kept of the numbers us: their largest sets, or that they are too many
+  abbrev pub IsKept : List ℕ → Option (List (List ℕ)) → Type 0
+  IsKept us (Some gs) = IsTable c us gs × (length gs ≤ most_sets)
+  IsKept us None = (gs : List (List ℕ)) → IsTable c us gs → most_sets < length gs
+
+  -- a component keeps its sets
+  pub record IsComponent (p : ComponentState) : Type 0 where
+    pub rises : IsRising p.all
+    pub sets : IsKept p.all p.sets
+
+  -- no conflict stands outside of one component
+  pub record AreComponents (s : ComponentsState) : Type 0 where
+    pub rises : IsRising s.free
+    pub calm : (a b : ℕ) → Contains s.free a → Contains s.free b → c a b ≡ false
+    pub parts : (p : ComponentState) → Contains s.parts p → IsComponent p
+    pub loose : (p : ComponentState) → Contains s.parts p → Apart s.free p.all
+    pub apart : Pairs (λ (p q : ComponentState). Apart p.all q.all) s.parts
+
+  -- x is new to s, and d are those of its numbers that conflict with x
+  pub record ComesTo (s : ComponentsState) (x : ℕ) (d : List ℕ) : Type 0 where
+    pub fresh : ¬ (Contains (whole s).all x)
+    pub rivals : (a : ℕ) → Contains d a ↔ (Contains (whole s).all a × (c x a ≡ true))

@@ -1,0 +1,246 @@
+//! Numbers in components: what is in every version, and components that no conflict connects, of
+//! which each gives a version one of its sets.
+
+ghost use Rattle.std.specs.Prelude.{◌≡◌, ◌+◌, ◌^◌, ◌<◌, cond, filter, option_copied, option_map, IfOk, OnOk, OnErr};
+ghost use Rattle.gf_components.specs.Components.{merged, alone, touches, touched, grown, stays};
+ghost use Rattle.gf_components.specs.Components.{no_components, with_free, connected, after};
+
+use crate::sets::Sets;
+use gf_maximal::Numbers;
+use gf_shape::OutOfMemory;
+use std::alloc::Global;
+use std::marker::Model;
+
+/// Numbers that no conflict connects with others, and their largest compatible sets.
+#[derive(Debug, Drop)]
+pub struct Component {
+    all: Numbers,
+    sets: Sets,
+}
+
+impl Model for Component {
+    ghost use Rattle.gf_components.specs.Components.{ComponentState};
+
+    ghost Value = { ComponentState };
+
+    ghost view = { λ p. record { all = p.all; sets = p.sets } };
+}
+
+/// The numbers that are in every version, and the components.
+#[derive(Debug, Drop)]
+pub struct Components {
+    free: Numbers,
+    parts: Vec<Component>,
+}
+
+impl Model for Components {
+    ghost use Rattle.gf_components.specs.Components.{ComponentsState};
+
+    ghost Value = { ComponentsState };
+
+    ghost view = { λ p. record { free = p.free; parts = p.parts.items } };
+}
+
+impl Component {
+    /// These numbers, with their largest compatible sets or none.
+    pub fn new(all: Numbers, sets: Option<Vec<Numbers>>) -> Component
+        ensures { result ≡ record { all = all; sets = option_map (λ v. v.items) sets } }
+    {
+        Component {
+            all,
+            sets: Sets::new(sets),
+        }
+    }
+
+    /// Its numbers.
+    pub fn all(&self) -> &Numbers
+        ensures { result.now ≡ self.now.all }
+    {
+        &self.all
+    }
+
+    /// Its largest compatible sets, where they are at most [`MOST_SETS`](crate::MOST_SETS).
+    pub fn sets(&self) -> Option<&[Numbers]>
+        ensures { option_copied result ≡ self.now.sets }
+    {
+        self.sets.get()
+    }
+
+    /// A copy.
+    fn copy(&self, alloc: Global) -> Result<Component, OutOfMemory>
+        ensures { IfOk result (λ copy. copy ≡ self.now) }
+    {
+        let sets = self.sets.copy(alloc)?;
+        let all = self.all.copy(alloc)?;
+        Ok(Component { all, sets })
+    }
+
+    /// Whether one of the rivals is of it.
+    fn touches(&self, rivals: &Numbers) -> bool
+        ensures { result ≡ touches rivals.now self.now }
+    {
+        rivals.meets(&self.all)
+    }
+
+    /// Whether it has the number, or none of the rivals.
+    fn stays(&self, rivals: &Numbers, number: usize) -> bool
+        requires { number + 1 < 2 ^ 64 }
+        ensures { result ≡ stays rivals.now number self.now }
+    {
+        self.all.has(number) || !rivals.meets(&self.all)
+    }
+
+    /// The component after a number came, which conflicts with these rivals.
+    fn grown(self, alloc: Global, rivals: &Numbers, number: usize) -> Result<Component, OutOfMemory>
+        requires { number + 1 < 2 ^ 64 }
+        ensures { IfOk result (λ component. component ≡ grown rivals.now number self) }
+    {
+        let Component { mut all, sets } = self;
+        all.join(number)?;
+        let sets = sets.grown(alloc, rivals, number)?;
+        Ok(Component { all, sets })
+    }
+}
+
+/// Two components as one, a copy of the second where the first has no number. Where the sets of
+/// both make too many, none is made.
+pub fn merged(alloc: Global, part: &Component, other: &Component) -> Result<Component, OutOfMemory>
+    ensures { IfOk result (λ both. both ≡ merged part.now other.now) }
+{
+    if part.all.is_empty() {
+        return other.copy(alloc);
+    }
+    let sets = part.sets.times(alloc, &other.sets)?;
+    let all = part.all.united(alloc, &other.all)?;
+    Ok(Component { all, sets })
+}
+
+/// Numbers as a component of one set.
+pub fn alone(alloc: Global, numbers: Numbers) -> Result<Component, OutOfMemory>
+    ensures { IfOk result (λ part. part ≡ alone numbers) }
+{
+    let set = numbers.copy(alloc)?;
+    Ok(Component {
+        all: numbers,
+        sets: Sets::of(Vec::from_array(alloc, [set])?),
+    })
+}
+
+/// The component with another one, if one of the rivals is of that.
+fn with_touched(
+    alloc: Global,
+    rivals: &Numbers,
+    part: Component,
+    other: &Component,
+) -> Result<Component, OutOfMemory>
+    ensures { IfOk result (λ both. both
+        ≡ cond (touches rivals.now other.now) (merged part other.now) part) }
+{
+    if other.touches(rivals) {
+        merged(alloc, &part, other)
+    } else {
+        Ok(part)
+    }
+}
+
+/// Copies of the components.
+fn copied_components(alloc: Global, parts: &[Component]) -> Result<Vec<Component>, OutOfMemory>
+    ensures { IfOk result (λ copy. copy.items ≡ parts.now) }
+{
+    let mut copy = Vec::new(alloc);
+    for part in parts {
+        copy.push(part.copy(alloc)?)?;
+    }
+    Ok(copy)
+}
+
+/// Drops the components that have one of the rivals and not the number.
+fn drop_touched(rivals: &Numbers, number: usize, parts: &mut Vec<Component>)
+    requires { number + 1 < 2 ^ 64 }
+    ensures { parts.new.items ≡ filter (stays rivals.now number) parts.old.items }
+{
+    parts.retain(|part| part.stays(rivals, number));
+}
+
+impl Components {
+    /// Of no number.
+    pub fn new(alloc: Global) -> Components
+        ensures { result ≡ no_components }
+    {
+        Components {
+            free: Numbers::new(alloc),
+            parts: Vec::new(alloc),
+        }
+    }
+
+    /// These numbers in every version, and these components.
+    pub fn of(free: Numbers, parts: Vec<Component>) -> Components
+        ensures { result ≡ record { free = free; parts = parts.items } }
+    {
+        Components { free, parts }
+    }
+
+    /// The numbers that are in every version.
+    pub fn free(&self) -> &Numbers
+        ensures { result.now ≡ self.now.free }
+    {
+        &self.free
+    }
+
+    /// The components that no conflict connects.
+    pub fn parts(&self) -> &[Component]
+        ensures { result.now ≡ self.now.parts }
+    {
+        &self.parts
+    }
+
+    /// A copy.
+    pub fn copy(&self, alloc: Global) -> Result<Components, OutOfMemory>
+        ensures { IfOk result (λ copy. copy ≡ self.now) }
+    {
+        let free = self.free.copy(alloc)?;
+        let parts = copied_components(alloc, &self.parts)?;
+        Ok(Components { free, parts })
+    }
+
+    /// All that the rivals are of, as one component.
+    fn touched(&self, alloc: Global, rivals: &Numbers) -> Result<Component, OutOfMemory>
+        ensures { IfOk result (λ part. part ≡ touched rivals.now self.now) }
+    {
+        let lone = self.free.common(alloc, rivals)?;
+        let mut part = alone(alloc, lone)?;
+        for other in &self.parts {
+            part = with_touched(alloc, rivals, part, other)?;
+        }
+        Ok(part)
+    }
+
+    /// Adds a number, which conflicts with these rivals, and makes one component of all that it
+    /// connects. It changes nothing before all memory is there.
+    fn connect(&mut self, alloc: Global, rivals: &Numbers, number: usize) -> Result<(), OutOfMemory>
+        requires { number + 1 < 2 ^ 64 }
+        ensures ok { OnOk result (self.new ≡ connected rivals.now number self.old) }
+        ensures err { OnErr result (self.new ≡ self.old) }
+    {
+        let free = self.free.without(alloc, rivals)?;
+        let part = self.touched(alloc, rivals)?.grown(alloc, rivals, number)?;
+        self.parts.push(part)?;
+        drop_touched(rivals, number, &mut self.parts);
+        self.free = free;
+        Ok(())
+    }
+
+    /// Adds a number, which conflicts with these rivals among the others. It changes nothing before
+    /// all memory is there.
+    pub fn add(&mut self, alloc: Global, rivals: &Numbers, number: usize) -> Result<(), OutOfMemory>
+        requires { number + 1 < 2 ^ 64 }
+        ensures ok { OnOk result (self.new ≡ after rivals.now number self.old) }
+        ensures err { OnErr result (self.new ≡ self.old) }
+    {
+        if rivals.is_empty() {
+            self.free.join(number)
+        } else {
+            self.connect(alloc, rivals, number)
+        }
+    }
+}

@@ -1,0 +1,13 @@
+pub mod ListLemmas
+pub mod RisingLemmas
+pub mod LargestLemmas
+pub mod ExtendingLemmas
+pub mod InsertLemmas
+pub mod PairLemmas
+pub mod MaximalLemmas
+pub mod GrowingLemmas
+pub mod RunLemmas
+pub mod RunSetLemmas
+pub mod RunEditLemmas
+pub mod UnitedLemmas
+pub mod ImageLemmas

@@ -1,0 +1,53 @@
+-- How the largest compatible sets of some numbers grow when one number comes (after Sun and Chen's maximal compatible groups, ACM TOCHI 9(1), 2002).
+use Rattle.std.specs.Prelude.{ℕ, Bool, not, ◌||◌, ◌==◌, cond, List, [], ◌∷◌, ◌++◌, filter, map}
+use Rattle.std.specs.List.{list_any, list_all, fold}
+use Rattle.std.specs.BTreeSet.{insert_key}
+use Rattle.std.specs.Ordering.{nat_cmp}
+
+-- a is one of g
+abbrev pub is_in : List ℕ → ℕ → Bool
+is_in g a = list_any (λ b. a == b) g
+
+-- g has one of d
+abbrev pub meets : List ℕ → List ℕ → Bool
+meets d g = list_any (is_in d) g
+
+-- g has none of d
+abbrev pub misses : List ℕ → List ℕ → Bool
+misses d g = not (meets d g)
+
+-- those of g that are none of d
+abbrev pub without : List ℕ → List ℕ → List ℕ
+without d g = filter (λ a. not (is_in d a)) g
+
+-- k has all of g
+abbrev pub is_within : List ℕ → List ℕ → Bool
+is_within g k = list_all (is_in k) g
+
+-- g and x, rising
+abbrev pub joined : ℕ → List ℕ → List ℕ
+joined x g = insert_key nat_cmp g x
+
+-- the numbers of g and of k, rising
+abbrev pub united : List ℕ → List ℕ → List ℕ
+united g k = fold (insert_key nat_cmp) (fold (insert_key nat_cmp) [] g) k
+
+-- those of g that are in d
+abbrev pub common : List ℕ → List ℕ → List ℕ
+common d g = filter (is_in d) g
+
+-- g lies within none of those to the list, unless it lies within one of them or of others; then those go that lie within it
+abbrev pub take_up : List (List ℕ) → List (List ℕ) → List ℕ → List (List ℕ)
+take_up others gs g = cond (list_any (is_within g) others || list_any (is_within g) gs) gs (filter (λ k. not (is_within k g)) gs ++ g ∷ [])
+
+-- those of gs that lie within no other one and within none of the others, each once
+abbrev pub maximal : List (List ℕ) → List (List ℕ) → List (List ℕ)
+maximal others gs = fold (take_up others) [] gs
+
+-- the largest sets gs, after x came, which conflicts with the numbers d of them: sets that meet d stay, the others and the maximal remainders without d get x
+abbrev pub next : List ℕ → ℕ → List (List ℕ) → List (List ℕ)
+next d x gs = filter (meets d) gs ++ map (joined x) (filter (misses d) gs ++ maximal (filter (misses d) gs) (map (without d) (filter (meets d) gs)))
+
+-- what f makes of the numbers g, rising
+abbrev pub image : (ℕ → ℕ) → List ℕ → List ℕ
+image f g = fold (insert_key nat_cmp) [] (map f g)

@@ -1,0 +1,4 @@
+pub mod Tables
+pub mod Pairs
+pub mod Growing
+pub mod Runs

@@ -1,0 +1,134 @@
+//! The largest compatible sets of some numbers, grown by one number.
+
+ghost use Rattle.std.specs.Prelude.{◌≡◌, ◌+◌, ◌^◌, ◌<◌, map, filter, not, IfOk, OnOk, OnErr};
+ghost use Rattle.std.specs.Prelude.{◌++◌, ◌≤◌};
+ghost use Rattle.std.specs.Vec.{vec_len, vec_capacity};
+ghost use Rattle.std.specs.List.{list_any};
+ghost use Rattle.gf_maximal.specs.Growing.{meets, misses, without, is_within, joined, take_up, maximal, next};
+
+use crate::numbers::Numbers;
+use gf_shape::OutOfMemory;
+use std::alloc::Global;
+
+/// Copies of the sets that have none of the numbers.
+fn copies_missing(
+    alloc: Global,
+    numbers: &Numbers,
+    sets: &[Numbers],
+) -> Result<Vec<Numbers>, OutOfMemory>
+    ensures { IfOk result (λ found. found.items ≡ filter (misses numbers.now) sets.now) }
+{
+    let mut found = Vec::new(alloc);
+    for set in sets {
+        if !numbers.meets(set) {
+            found.push(set.copy(alloc)?)?;
+        }
+    }
+    Ok(found)
+}
+
+/// Whether the set lies within one of the others.
+fn is_within_one(set: &Numbers, others: &[Numbers]) -> bool
+    ensures { result ≡ list_any (is_within set.now) others.now }
+{
+    others.iter().any(|other| set.is_within(other))
+}
+
+/// Drops the sets that lie within this one.
+fn drop_within(set: &Numbers, sets: &mut Vec<Numbers>)
+    ensures { sets.new.items ≡ filter (λ k. not (is_within k set.now)) sets.old.items }
+{
+    sets.retain(|other| !other.is_within(set));
+}
+
+/// Takes up a set that lies within none of the others and none of those taken up, in place of those
+/// that lie within it.
+fn take_up(others: &[Numbers], set: Numbers, taken: &mut Vec<Numbers>) -> Result<(), OutOfMemory>
+    ensures { OnOk result (taken.new.items ≡ take_up others.now taken.old.items set) }
+{
+    if is_within_one(&set, others) || is_within_one(&set, taken) {
+        return Ok(());
+    }
+    drop_within(&set, taken);
+    taken.push(set)?;
+    Ok(())
+}
+
+/// What remains of the sets that have one of the numbers, without these: the maximal ones that lie
+/// within none of the others.
+fn maximal_remainders(
+    alloc: Global,
+    numbers: &Numbers,
+    sets: &[Numbers],
+    others: &[Numbers],
+) -> Result<Vec<Numbers>, OutOfMemory>
+    ensures { IfOk result (λ found. found.items
+        ≡ maximal others.now (map (without numbers.now) (filter (meets numbers.now) sets.now))) }
+{
+    let mut taken = Vec::new(alloc);
+    for set in sets {
+        if numbers.meets(set) {
+            take_up(others, set.without(alloc, numbers)?, &mut taken)?;
+        }
+    }
+    Ok(taken)
+}
+
+/// Adds a number to each set.
+fn join_all(number: usize, sets: &mut Vec<Numbers>) -> Result<(), OutOfMemory>
+    requires { number + 1 < 2 ^ 64 }
+    ensures { OnOk result (sets.new.items ≡ map (joined number) sets.old.items) }
+{
+    for set in sets.iter_mut() {
+        set.join(number)?;
+    }
+    Ok(())
+}
+
+/// Drops the sets that have none of the numbers.
+fn keep_meeting(numbers: &Numbers, sets: &mut Vec<Numbers>)
+    ensures items { sets.new.items ≡ filter (meets numbers.now) sets.old.items }
+    ensures len { vec_len sets.new ≤ vec_len sets.old }
+    ensures capacity { vec_capacity sets.new ≡ vec_capacity sets.old }
+{
+    sets.retain(|set| numbers.meets(set));
+}
+
+/// The sets that come when a number comes that conflicts with these numbers.
+fn new_sets(
+    alloc: Global,
+    rivals: &Numbers,
+    number: usize,
+    sets: &[Numbers],
+) -> Result<Vec<Numbers>, OutOfMemory>
+    requires { number + 1 < 2 ^ 64 }
+    ensures { IfOk result (λ found. found.items
+        ≡ map (joined number) (filter (misses rivals.now) sets.now
+        ++ maximal (filter (misses rivals.now) sets.now)
+        (map (without rivals.now) (filter (meets rivals.now) sets.now)))) }
+{
+    let mut found = copies_missing(alloc, rivals, sets)?;
+    let mut remainders = maximal_remainders(alloc, rivals, sets, &found)?;
+    found.append(&mut remainders)?;
+    join_all(number, &mut found)?;
+    Ok(found)
+}
+
+/// Turns the largest compatible sets of some numbers into those of these and one more, which
+/// conflicts with the rivals among them. All memory is there before it changes anything.
+pub fn grow(
+    alloc: Global,
+    rivals: &Numbers,
+    number: usize,
+    sets: &mut Vec<Numbers>,
+) -> Result<(), OutOfMemory>
+    requires { number + 1 < 2 ^ 64 }
+    ensures ok { OnOk result (sets.new.items ≡ next rivals.now number sets.old.items) }
+    ensures err { OnErr result (sets.new.items ≡ sets.old.items) }
+{
+    let mut found = new_sets(alloc, rivals, number, sets)?;
+    sets.reserve(found.len())?;
+    keep_meeting(rivals, sets);
+    sets.append(&mut found)?;
+    Ok(())
+}

@@ -1,0 +1,179 @@
+//! Sets of numbers.
+
+ghost use Rattle.std.specs.Prelude.{◌≡◌, ◌+◌, ◌-◌, ◌^◌, ◌<◌, [], IfOk, OnOk, OnErr, IsTrue, ◌↔◌};
+ghost use Rattle.std.specs.Prelude.{All};
+ghost use Rattle.std.specs.BTreeSet.{insert_key};
+ghost use Rattle.std.specs.List.{fold, list_any, list_all, range_with_len};
+ghost use Rattle.std.specs.Ordering.{nat_cmp};
+ghost use Rattle.gf_maximal.specs.Growing.{is_in, meets, without, is_within, joined, united, common};
+ghost use Rattle.gf_maximal.specs.Runs.{is_inside, members, numbers_of};
+
+use crate::run::{Run, all_cut, covers, numbers_in, one_run, put, runs_of, touches, united};
+use gf_shape::OutOfMemory;
+use std::alloc::Global;
+use std::marker::Model;
+
+/// A set of numbers, kept as runs and seen as the rising list of its numbers.
+#[derive(Debug, Drop)]
+pub struct Numbers {
+    runs: Vec<Run>,
+}
+
+impl Model for Numbers {
+    ghost use Rattle.std.specs.Prelude.{List, ℕ};
+    ghost use Rattle.gf_maximal.specs.Runs.{AreRuns, members};
+
+    ghost Value = { List ℕ };
+
+    ghost view = { λ s. members s.runs.items };
+
+    ghost invariant = { λ s. AreRuns s.runs.items };
+}
+
+/// Whether one of these runs has one of the numbers.
+fn any_touches(runs: &[Run], numbers: &Numbers) -> bool
+    ensures { result ≡ list_any (λ r. list_any (is_inside r) numbers.now) runs.now }
+{
+    runs.iter().any(|run| numbers.touches(*run))
+}
+
+/// Whether all of these runs are of the numbers.
+fn all_covered(runs: &[Run], numbers: &Numbers) -> bool
+    ensures { result ≡ list_all (λ r. list_all (is_in numbers.now) (numbers_of r)) runs.now }
+{
+    runs.iter().all(|run| numbers.covers(*run))
+}
+
+impl Numbers {
+    /// No number.
+    pub fn new(alloc: Global) -> Numbers
+        ensures { result ≡ [] }
+    {
+        Numbers {
+            runs: Vec::new(alloc),
+        }
+    }
+
+    /// The numbers from `start` on that are below `end`.
+    pub fn between(alloc: Global, start: usize, end: usize) -> Result<Numbers, OutOfMemory>
+        ensures { IfOk result (λ numbers. numbers ≡ range_with_len start (end - start)) }
+    {
+        Ok(Numbers {
+            runs: one_run(alloc, Run { start, end })?,
+        })
+    }
+
+    /// These numbers, which may stand in any order.
+    pub fn of(alloc: Global, numbers: &[usize]) -> Result<Numbers, OutOfMemory>
+        requires { All (λ n. n + 1 < 2 ^ 64) numbers.now }
+        ensures { IfOk result (λ set. set ≡ fold (insert_key nat_cmp) [] numbers.now) }
+    {
+        Ok(Numbers {
+            runs: runs_of(alloc, numbers)?,
+        })
+    }
+
+    /// The runs of the numbers, in their order.
+    pub fn runs(&self) -> &[Run]
+        ensures { members result.now ≡ self.now }
+    {
+        &self.runs
+    }
+
+    /// The numbers, rising.
+    pub fn to_vec(&self, alloc: Global) -> Result<Vec<usize>, OutOfMemory>
+        ensures { IfOk result (λ numbers. numbers.items ≡ self.now) }
+    {
+        numbers_in(alloc, &self.runs)
+    }
+
+    /// A copy.
+    pub fn copy(&self, alloc: Global) -> Result<Numbers, OutOfMemory>
+        ensures { IfOk result (λ copy. copy ≡ self.now) }
+    {
+        Ok(Numbers {
+            runs: Vec::from_slice(alloc, &self.runs)?,
+        })
+    }
+
+    /// Whether one of its numbers is in this run.
+    fn touches(&self, run: Run) -> bool
+        ensures { result ≡ list_any (is_inside run) self.now }
+    {
+        touches(run, &self.runs)
+    }
+
+    /// Whether it has all numbers of this run.
+    fn covers(&self, run: Run) -> bool
+        ensures { result ≡ list_all (is_in self.now) (numbers_of run) }
+    {
+        covers(run, &self.runs)
+    }
+
+    /// Whether it has this number.
+    pub fn has(&self, number: usize) -> bool
+        requires { number + 1 < 2 ^ 64 }
+        ensures { result ≡ is_in self.now number }
+    {
+        self.touches(Run {
+            start: number,
+            end: number + 1,
+        })
+    }
+
+    /// Whether one of its numbers is one of the others.
+    pub fn meets(&self, others: &Numbers) -> bool
+        ensures { result ≡ meets self.now others.now }
+    {
+        any_touches(&self.runs, others)
+    }
+
+    /// Whether each of its numbers is one of the others.
+    pub fn is_within(&self, others: &Numbers) -> bool
+        ensures { result ≡ is_within self.now others.now }
+    {
+        all_covered(&self.runs, others)
+    }
+
+    /// Those that are none of the others.
+    pub fn without(&self, alloc: Global, others: &Numbers) -> Result<Numbers, OutOfMemory>
+        ensures { IfOk result (λ left. left ≡ without others.now self.now) }
+    {
+        Ok(Numbers {
+            runs: all_cut(alloc, &self.runs, &others.runs)?,
+        })
+    }
+
+    /// Adds a number, unless it is there.
+    pub fn join(&mut self, number: usize) -> Result<(), OutOfMemory>
+        requires { number + 1 < 2 ^ 64 }
+        ensures ok { OnOk result (self.new ≡ joined number self.old) }
+        ensures err { OnErr result (self.new ≡ self.old) }
+    {
+        put(&mut self.runs, number)
+    }
+
+    /// Those that are some of the others.
+    pub fn common(&self, alloc: Global, others: &Numbers) -> Result<Numbers, OutOfMemory>
+        ensures { IfOk result (λ found. found ≡ common others.now self.now) }
+    {
+        let rest = self.without(alloc, others)?;
+        self.without(alloc, &rest)
+    }
+
+    /// Its numbers and the others.
+    pub fn united(&self, alloc: Global, others: &Numbers) -> Result<Numbers, OutOfMemory>
+        ensures { IfOk result (λ all. all ≡ united self.now others.now) }
+    {
+        Ok(Numbers {
+            runs: united(alloc, &self.runs, &others.runs)?,
+        })
+    }
+
+    /// Whether it has no number.
+    pub fn is_empty(&self) -> bool
+        ensures { IsTrue result ↔ (self.now ≡ []) }
+    {
+        self.runs.is_empty()
+    }
+}

@@ -1,0 +1,317 @@
+//! Runs of numbers that follow each other, and lists of such runs.
+
+ghost use Rattle.std.specs.Prelude.{◌≡◌, ◌++◌, ◌+◌, ◌^◌, ◌<◌, ◌≤◌, take, drop, length, slice_index_or};
+ghost use Rattle.std.specs.Prelude.{◌&&◌, ◌||◌, nat_lt, nat_le, IfOk};
+ghost use Rattle.std.specs.Prelude.{OnOk, OnErr};
+ghost use Rattle.gf_maximal.specs.Runs.{AreRuns, after, first_touches, first_covers, piece, cut, all_cut};
+ghost use Rattle.gf_maximal.specs.Runs.{absorb, settled, put, IsFirstFrom, pushed, IsGathered};
+ghost use Rattle.gf_maximal.specs.Runs.{numbers_of, members, single};
+ghost use Rattle.std.specs.Prelude.{[], map, All};
+ghost use Rattle.std.specs.List.{fold};
+ghost use Rattle.std.specs.List.Sorted.{IsPermutation, IsNonDecreasingBy};
+
+use gf_shape::OutOfMemory;
+use std::alloc::Global;
+
+/// The numbers from `start` on that are below `end`.
+#[derive(Clone, Copy, Debug)]
+pub struct Run {
+    pub start: usize,
+    pub end: usize,
+}
+
+/// The runs from the first one on that has this number or one above it, found by halves.
+fn searched(runs: &[Run], number: usize) -> &[Run]
+    requires { AreRuns runs.now }
+    ensures { result.now ≡ after number runs.now }
+{
+    let index = runs.partition_point(|run| run.end <= number);
+    runs.split_at(index).1
+}
+
+/// The runs without the first one, if that ends before this number or at it.
+fn skip_one(runs: &[Run], number: usize) -> &[Run]
+    requires { AreRuns runs.now }
+    ensures runs { AreRuns result.now }
+    ensures value { after number result.now ≡ after number runs.now }
+{
+    match runs.split_first() {
+        Some((first, rest)) if first.end <= number => rest,
+        _ => runs,
+    }
+}
+
+/// The runs from the first one on that has this number or one above it: mostly one of the first.
+fn after(runs: &[Run], number: usize) -> &[Run]
+    requires { AreRuns runs.now }
+    ensures { result.now ≡ after number runs.now }
+{
+    let rest = skip_one(skip_one(runs, number), number);
+    match rest.first() {
+        Some(first) if first.end <= number => searched(rest, number),
+        _ => rest,
+    }
+}
+
+/// Whether the first of these runs begins before this one ends.
+fn first_touches(run: Run, runs: &[Run]) -> bool
+    ensures { result ≡ first_touches run runs.now }
+{
+    match runs.first() {
+        Some(first) => first.start < run.end,
+        None => false,
+    }
+}
+
+/// Whether the first of these runs has all of this one.
+fn first_covers(run: Run, runs: &[Run]) -> bool
+    ensures { result ≡ first_covers run runs.now }
+{
+    match runs.first() {
+        Some(first) => first.start <= run.start && run.end <= first.end,
+        None => false,
+    }
+}
+
+/// Adds a run behind the others, unless it is empty.
+fn push_piece(run: Run, pieces: &mut Vec<Run>) -> Result<(), OutOfMemory>
+    ensures { OnOk result (pieces.new.items ≡ pieces.old.items ++ piece run) }
+{
+    if run.start < run.end {
+        pieces.push(run)?;
+    }
+    Ok(())
+}
+
+/// Adds what is in the run and in none of the others, which end after it begins.
+fn cut(run: Run, others: &[Run], pieces: &mut Vec<Run>) -> Result<(), OutOfMemory>
+    ensures { OnOk result (pieces.new.items ≡ pieces.old.items ++ cut run others.now) }
+{
+    let mut left = run;
+    for other in others {
+        if left.end <= other.start {
+            return push_piece(left, pieces);
+        }
+        push_piece(
+            Run {
+                start: left.start,
+                end: other.start,
+            },
+            pieces,
+        )?;
+        left = Run {
+            start: other.end,
+            end: left.end,
+        };
+    }
+    push_piece(left, pieces)
+}
+
+/// A run alone, or none where it is empty.
+pub(crate) fn one_run(alloc: Global, run: Run) -> Result<Vec<Run>, OutOfMemory>
+    ensures { IfOk result (λ runs. runs.items ≡ piece run) }
+{
+    let mut runs = Vec::new(alloc);
+    push_piece(run, &mut runs)?;
+    Ok(runs)
+}
+
+/// Whether one of these runs has a number of this one.
+pub(crate) fn touches(run: Run, runs: &[Run]) -> bool
+    requires { AreRuns runs.now }
+    ensures { result ≡ (nat_lt run.start run.end && first_touches run (after run.start runs.now)) }
+{
+    run.start < run.end && first_touches(run, after(runs, run.start))
+}
+
+/// Whether these runs have all numbers of this one.
+pub(crate) fn covers(run: Run, runs: &[Run]) -> bool
+    requires { AreRuns runs.now }
+    ensures { result ≡ (nat_le run.end run.start || first_covers run (after run.start runs.now)) }
+{
+    run.end <= run.start || first_covers(run, after(runs, run.start))
+}
+
+/// What is in the runs and in none of the others.
+pub(crate) fn all_cut(alloc: Global, runs: &[Run], others: &[Run]) -> Result<Vec<Run>, OutOfMemory>
+    requires runs { AreRuns runs.now }
+    requires others { AreRuns others.now }
+    ensures { IfOk result (λ pieces. pieces.items ≡ all_cut others.now runs.now) }
+{
+    let mut pieces = Vec::new(alloc);
+    let mut rest = others;
+    for run in runs {
+        rest = after(rest, run.start);
+        cut(*run, rest, &mut pieces)?;
+    }
+    Ok(pieces)
+}
+
+/// The index of the first run that ends at this number or above it.
+fn first_from(runs: &[Run], number: usize) -> usize
+    requires { AreRuns runs.now }
+    ensures { IsFirstFrom number runs.now result }
+{
+    runs.partition_point(|run| run.end < number)
+}
+
+/// Lets the run at this index end behind a number, and take up the next one if it begins there.
+fn lengthen(runs: &mut Vec<Run>, index: usize, number: usize)
+    requires index { index < length runs.old.items }
+    requires number { number + 1 < 2 ^ 64 }
+    ensures { (d : Run) → runs.new.items ≡ take index runs.old.items ++ absorb (record {
+      start = (slice_index_or runs.old.items index d).start;
+      end = number + 1;
+    }) (drop (index + 1) runs.old.items) }
+{
+    let start = runs[index].start;
+    if index + 1 < runs.len() && runs[index + 1].start == number + 1 {
+        let end = runs[index + 1].end;
+        runs[index] = Run { start, end };
+        runs.remove(index + 1);
+    } else {
+        runs[index] = Run {
+            start,
+            end: number + 1,
+        };
+    }
+}
+
+/// Adds a number at the index of the first run that ends at it or above it.
+fn settle(runs: &mut Vec<Run>, index: usize, number: usize) -> Result<(), OutOfMemory>
+    requires index { index ≤ length runs.old.items }
+    requires number { number + 1 < 2 ^ 64 }
+    ensures ok { OnOk result (runs.new.items
+        ≡ take index runs.old.items ++ settled number (drop index runs.old.items)) }
+    ensures err { OnErr result (runs.new.items ≡ runs.old.items) }
+{
+    if index < runs.len() {
+        let run = runs[index];
+        if run.end == number {
+            lengthen(runs, index, number);
+            return Ok(());
+        }
+        if run.start <= number {
+            return Ok(());
+        }
+        if run.start == number + 1 {
+            runs[index] = Run {
+                start: number,
+                end: run.end,
+            };
+            return Ok(());
+        }
+    }
+    runs.insert(
+        index,
+        Run {
+            start: number,
+            end: number + 1,
+        },
+    )?;
+    Ok(())
+}
+
+/// Adds a number.
+pub(crate) fn put(runs: &mut Vec<Run>, number: usize) -> Result<(), OutOfMemory>
+    requires runs { AreRuns runs.old.items }
+    requires number { number + 1 < 2 ^ 64 }
+    ensures ok { OnOk result (runs.new.items ≡ put number runs.old.items) }
+    ensures err { OnErr result (runs.new.items ≡ runs.old.items) }
+{
+    let index = first_from(runs, number);
+    settle(runs, index, number)
+}
+
+/// Adds a run behind others, which begin no later than it does, and joins it to the last one where
+/// it touches that.
+fn push_run(run: Run, runs: &mut Vec<Run>) -> Result<(), OutOfMemory>
+    ensures { OnOk result (runs.new.items ≡ pushed runs.old.items run) }
+{
+    let len = runs.len();
+    if 0 < len {
+        let last = runs[len - 1];
+        if run.start <= last.end {
+            runs[len - 1] = Run {
+                start: last.start,
+                end: last.end.max(run.end),
+            };
+            return Ok(());
+        }
+    }
+    runs.push(run)?;
+    Ok(())
+}
+
+/// The runs, by where they begin.
+fn sorted(mut runs: Vec<Run>) -> Result<Vec<Run>, OutOfMemory>
+    ensures permutation { IfOk result (λ all. IsPermutation runs.items all.items) }
+    ensures sorted { IfOk result (λ all. IsNonDecreasingBy (λ r. r.start) all.items) }
+{
+    runs.sort_by_key(|run| run.start)?;
+    Ok(runs)
+}
+
+/// Runs of all numbers of these ones, which may overlap and stand in any order.
+fn gathered(alloc: Global, runs: Vec<Run>) -> Result<Vec<Run>, OutOfMemory>
+    ensures { IfOk result (λ all. IsGathered runs.items all.items) }
+{
+    let mut all = Vec::new(alloc);
+    for run in sorted(runs)? {
+        push_run(run, &mut all)?;
+    }
+    Ok(all)
+}
+
+/// Runs with the numbers of both lists.
+pub(crate) fn united(alloc: Global, some: &[Run], others: &[Run]) -> Result<Vec<Run>, OutOfMemory>
+    ensures { IfOk result (λ runs. IsGathered (some.now ++ others.now) runs.items) }
+{
+    let mut runs = Vec::from_slice(alloc, some)?;
+    runs.extend_from_slice(others)?;
+    gathered(alloc, runs)
+}
+
+/// A run of each number.
+fn singles(alloc: Global, numbers: &[usize]) -> Result<Vec<Run>, OutOfMemory>
+    requires { All (λ n. n + 1 < 2 ^ 64) numbers.now }
+    ensures { IfOk result (λ runs. runs.items ≡ map single numbers.now) }
+{
+    let mut runs = Vec::new(alloc);
+    for number in numbers {
+        runs.push(Run {
+            start: *number,
+            end: *number + 1,
+        })?;
+    }
+    Ok(runs)
+}
+
+/// Runs with these numbers, which may stand in any order.
+pub(crate) fn runs_of(alloc: Global, numbers: &[usize]) -> Result<Vec<Run>, OutOfMemory>
+    requires { All (λ n. n + 1 < 2 ^ 64) numbers.now }
+    ensures { IfOk result (λ runs. IsGathered (map single numbers.now) runs.items) }
+{
+    gathered(alloc, singles(alloc, numbers)?)
+}
+
+/// Adds the numbers of a run behind others.
+fn push_numbers(run: Run, numbers: &mut Vec<usize>) -> Result<(), OutOfMemory>
+    ensures { OnOk result (numbers.new.items ≡ numbers.old.items ++ numbers_of run) }
+{
+    for number in run.start..run.end {
+        numbers.push(number)?;
+    }
+    Ok(())
+}
+
+/// The numbers of all runs.
+pub(crate) fn numbers_in(alloc: Global, runs: &[Run]) -> Result<Vec<usize>, OutOfMemory>
+    ensures { IfOk result (λ numbers. numbers.items ≡ members runs.now) }
+{
+    let mut numbers = Vec::new(alloc);
+    for run in runs {
+        push_numbers(*run, &mut numbers)?;
+    }
+    Ok(numbers)
+}

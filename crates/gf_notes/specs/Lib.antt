@@ -1,3 +1,0 @@
-pub mod Summaries
-pub mod Notes
-pub mod Next

@@ -1,0 +1,4 @@
+pub mod SetterLemmas
+pub mod RivalLemmas
+pub mod TellsLemmas
+pub mod PositionLemmas

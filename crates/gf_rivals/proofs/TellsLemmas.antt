@@ -1,0 +1,233 @@
+-- Chains tell the setters of an object, as the history becomes longer.
+use Rattle.std.proofs.Common.{◌≡◌, ◌≢◌, ℕ, zero, suc, ◌<◌, ◌+◌, ◌*◌, List, [], ◌∷◌, ◌++◌, length, get_or, set, inl, inr, refl, subst, sym, ap, ◌∙◌, arith}
+use Rattle.std.specs.Prelude.{◌⊎◌, ◌↔◌, Contains, Some, slice_get}
+use Rattle.std.proofs.lemmas.Bool.{cases_lt}
+use Rattle.gf_ops.specs.declared.op.Op.{Op}
+use Rattle.gf_ops.specs.declared.op.ObjectId.{ObjectId}
+use Rattle.gf_ops.specs.declared.change.Attr.{Attr}
+use Rattle.gf_ops.specs.declared.change.Change.TheVariants.{Set}
+use Rattle.gf_ops.specs.declared.change.Value.{Value}
+use Rattle.gf_ops.specs.Attribute.{attribute_of}
+use Rattle.gf_rivals.specs.declared.chain.Setter.{Setter}
+use Rattle.gf_rivals.specs.Setters.{block}
+use Rattle.gf_rivals.specs.Chains.{rank, chain_of, setters, with_setter}
+use Rattle.gf_rivals.specs.Rivals.{IsSetter, IsNumber, Tells, GivesAt, AreEqual}
+use Rattle.gf_rivals.proofs.RivalLemmas.{some_one, rank_one, rank_below}
+
+-- ---- a list that becomes longer
+
+get_front : {X : Type 0} (xs : List X) (y : X) (i : ℕ) (x : X) → slice_get xs i ≡ Some x → slice_get (xs ++ y ∷ []) i ≡ Some x
+get_front [] y i x e = absurd cc
+get_front (z ∷ xs) y zero x e = e
+get_front (z ∷ xs) y (suc i) x e = get_front xs y i x e
+
+get_last : {X : Type 0} (xs : List X) (y : X) → slice_get (xs ++ y ∷ []) (length xs) ≡ Some y
+get_last [] y = refl
+get_last (z ∷ xs) y = get_last xs y
+
+get_cases : {X : Type 0} (xs : List X) (y : X) (i : ℕ) (x : X) → slice_get (xs ++ y ∷ []) i ≡ Some x → (slice_get xs i ≡ Some x) ⊎ ((i ≡ length xs) × (y ≡ x))
+get_cases [] y zero x e = inr (refl, some_one y x e)
+get_cases [] y (suc i) x e = absurd cc
+get_cases (z ∷ xs) y zero x e = inl e
+get_cases (z ∷ xs) y (suc i) x e = elim (get_cases xs y i x e) [ inl a ↦ inl a | inr b ↦ inr (let k = b.0 in omega arith, b.1) ]
+
+set_here : (cs : List (List Setter)) (k : ℕ) (x d : List Setter) → k < length cs → get_or (set cs k x) k d ≡ x
+set_here [] k x d l = absurd (omega arith)
+set_here (c ∷ cs) zero x d l = refl
+set_here (c ∷ cs) (suc k) x d l = set_here cs k x d (omega arith)
+
+set_else : (cs : List (List Setter)) (k j : ℕ) (x d : List Setter) → j ≢ k → get_or (set cs k x) j d ≡ get_or cs j d
+set_else [] k j x d n = refl
+set_else (c ∷ cs) zero zero x d n = absurd (n refl)
+set_else (c ∷ cs) zero (suc j) x d n = refl
+set_else (c ∷ cs) (suc k) zero x d n = refl
+set_else (c ∷ cs) (suc k) (suc j) x d n = set_else cs k j x d (λ e. n (omega (arith, e)))
+
+module _ (h : List Op) (o : ObjectId) (cs : List (List Setter)) (tells : Tells h o cs) (a : Op) where
+  abbrev longer : List Op
+  longer = h ++ a ∷ []
+
+  still : (t : Attr) (s : ℕ) (e : Setter) → IsSetter h o t s e → IsSetter longer o t s e
+  still t s e i = record { op = i.op; at = get_front h a e.position i.op i.at; site = i.site; seq = i.seq; value = i.value; change = i.change; attribute = i.attribute }
+
+  -- an operation that does not set anything of the object
+  pub tells_other : ((v : Value) → a.change ≢ Set o v) → Tells longer o cs
+  tells_other n = record {
+    each = λ t s p e l i. still t s e (tells.each t s p e l i);
+    all = λ q b v g c. elim (get_cases h a q b g) [
+      | inl i ↦ tells.all q b v i c
+      | inr w ↦ absurd (n v (ap (λ (z : Op). z.change) w.1 ∙ c))
+    ];
+    short = tells.short;
+  }
+
+  module _ (v : Value) (change : a.change ≡ Set o v) (s : ℕ) (in_range : s < 8) (site : a.id.site ≡ s + 1) (all : length cs ≡ 48) (room : length (setters cs (attribute_of v) s) + 1 < block) where
+    abbrev t : Attr
+    t = attribute_of v
+
+    abbrev last : Setter
+    last = record { seq = a.id.seq; position = length h }
+
+    abbrev new : List (List Setter)
+    new = with_setter cs t s last
+
+    there : chain_of t s < length cs
+    there = let r = rank_below t in omega (arith, r, in_range, all)
+
+    own : setters new t s ≡ setters cs t s ++ last ∷ []
+    own = set_here cs (chain_of t s) (setters cs t s ++ last ∷ []) [] there
+
+    same_chain : (u : Attr) (r : ℕ) → r < 8 → (((u ≡ t) × (r ≡ s)) ⊎ (setters new u r ≡ setters cs u r))
+    same_chain u r l = elim (cases_lt (chain_of u r) (chain_of t s)) [
+      | inl k ↦ inr (set_else cs (chain_of t s) (chain_of u r) (setters cs t s ++ last ∷ []) [] (λ e. omega (arith, k, e)))
+      | inr k ↦ elim (cases_lt (chain_of t s) (chain_of u r)) [
+        | inl m ↦ inr (set_else cs (chain_of t s) (chain_of u r) (setters cs t s ++ last ∷ []) [] (λ e. omega (arith, m, e)))
+        | inr m ↦
+            let x : r ≡ s = omega (arith, k, m, l, in_range) in
+            let y : rank u ≡ rank t = omega (arith, k, m, l, in_range) in inl (rank_one u t y, x)
+      ]
+    ]
+
+    -- what stood stands
+    kept : (u : Attr) (r p : ℕ) (e : Setter) → r < 8 → slice_get (setters cs u r) p ≡ Some e → slice_get (setters new u r) p ≡ Some e
+    kept u r p e l i = elim (same_chain u r l) [
+      | inl w ↦
+          let old : slice_get (setters cs t s) p ≡ Some e = subst (λ z. slice_get (setters cs z s) p ≡ Some e) w.0 (subst (λ z. slice_get (setters cs u z) p ≡ Some e) w.1 i) in
+          let here : slice_get (setters new t s) p ≡ Some e = ap (λ z. slice_get z p) own ∙ get_front (setters cs t s) last p e old in
+          subst (λ z. slice_get (setters new z r) p ≡ Some e) (sym w.0) (subst (λ z. slice_get (setters new t z) p ≡ Some e) (sym w.1) here)
+      | inr w ↦ ap (λ z. slice_get z p) w ∙ i
+    ]
+
+    is_last : IsSetter longer o t s last
+    is_last = record { op = a; at = get_last h a; site = site; seq = refl; value = v; change = change; attribute = refl }
+
+    each_new : (u : Attr) (r p : ℕ) (e : Setter) → r < 8 → slice_get (setters new u r) p ≡ Some e → IsSetter longer o u r e
+    each_new u r p e l i = elim (same_chain u r l) [
+      | inl w ↦
+          let here : slice_get (setters new t s) p ≡ Some e = subst (λ z. slice_get (setters new z s) p ≡ Some e) w.0 (subst (λ z. slice_get (setters new u z) p ≡ Some e) w.1 i) in
+          let found : IsSetter longer o t s e = elim (get_cases (setters cs t s) last p e (ap (λ z. slice_get z p) (sym own) ∙ here)) [
+            | inl k ↦ still t s e (tells.each t s p e in_range k)
+            | inr k ↦ subst (IsSetter longer o t s) k.1 is_last
+          ] in
+          subst (λ z. IsSetter longer o z r e) (sym w.0) (subst (λ z. IsSetter longer o t z e) (sym w.1) found)
+      | inr w ↦ still u r e (tells.each u r p e l (ap (λ z. slice_get z p) (sym w) ∙ i))
+    ]
+
+    numbered : (n q : ℕ) → IsNumber cs n q → IsNumber new n q
+    numbered n q k = record {
+      attribute = k.attribute;
+      site = k.site;
+      within = k.within;
+      place = k.place;
+      setter = k.setter;
+      at = kept k.attribute k.site k.place k.setter k.within k.at;
+      number = k.number;
+      position = k.position;
+    }
+
+    -- the number of the new setter
+    pub last_number : IsNumber new (chain_of t s * block + length (setters cs t s)) (length h)
+    last_number = record {
+      attribute = t;
+      site = s;
+      within = in_range;
+      place = length (setters cs t s);
+      setter = last;
+      at = ap (λ z. slice_get z (length (setters cs t s))) own ∙ get_last (setters cs t s) last;
+      number = refl;
+      position = refl;
+    }
+
+    longer_one : (ss : List Setter) → length (ss ++ last ∷ []) ≡ length ss + 1
+    longer_one [] = refl
+    longer_one (x ∷ ss) = let r = longer_one ss in omega arith
+
+    short_new : (u : Attr) (r : ℕ) → r < 8 → length (setters new u r) < block
+    short_new u r l = elim (same_chain u r l) [
+      | inl w ↦
+          let here : length (setters new t s) < block = let e = longer_one (setters cs t s) in subst (λ z. length z < block) (sym own) (omega (arith, e, room)) in
+          subst (λ z. length (setters new z r) < block) (sym w.0) (subst (λ z. length (setters new t z) < block) (sym w.1) here)
+      | inr w ↦ subst (λ z. length z < block) (sym w) (tells.short u r l)
+    ]
+
+    -- ONE MORE SETTER
+    pub tells_setter : Tells longer o new
+    tells_setter = record {
+      each = each_new;
+      all = λ q b w g c. elim (get_cases h a q b g) [
+        | inl i ↦ let k = tells.all q b w i c in (k.0, numbered k.0 q k.1)
+        | inr z ↦ (chain_of t s * block + length (setters cs t s), subst (IsNumber new (chain_of t s * block + length (setters cs t s))) (sym z.0) last_number)
+      ];
+      short = short_new;
+    }
+
+    abbrev x : ℕ
+    x = chain_of t s * block + length (setters cs t s)
+
+    -- a number is an old one or the new one
+    number_cases : (n q : ℕ) → IsNumber new n q → IsNumber cs n q ⊎ ((n ≡ x) × (q ≡ length h))
+    number_cases n q k = elim (same_chain k.attribute k.site k.within) [
+      | inl w ↦
+          let here : slice_get (setters new t s) k.place ≡ Some k.setter = subst (λ z. slice_get (setters new z s) k.place ≡ Some k.setter) w.0 (subst (λ z. slice_get (setters new k.attribute z) k.place ≡ Some k.setter) w.1 k.at) in
+          let number : n ≡ chain_of t s * block + k.place = subst (λ z. n ≡ chain_of z s * block + k.place) w.0 (subst (λ z. n ≡ chain_of k.attribute z * block + k.place) w.1 k.number) in
+          elim (get_cases (setters cs t s) last k.place k.setter (ap (λ z. slice_get z k.place) (sym own) ∙ here)) [
+            | inl old ↦ inl (record { attribute = t; site = s; within = in_range; place = k.place; setter = k.setter; at = old; number = number; position = k.position })
+            | inr z ↦ inr (number ∙ ap (λ y. chain_of t s * block + y) z.0, sym k.position ∙ ap (λ (y : Setter). y.position) (sym z.1))
+          ]
+      | inr w ↦ inl (record {
+        attribute = k.attribute;
+        site = k.site;
+        within = k.within;
+        place = k.place;
+        setter = k.setter;
+        at = ap (λ z. slice_get z k.place) (sym w) ∙ k.at;
+        number = k.number;
+        position = k.position;
+      })
+    ]
+
+    gives_still : (q : ℕ) (w : Value) → GivesAt h o q w → GivesAt longer o q w
+    gives_still q w g = record { op = g.op; at = get_front h a q g.op g.at; change = g.change }
+
+    gives_back : (q : ℕ) (w : Value) → q ≢ length h → GivesAt longer o q w → GivesAt h o q w
+    gives_back q w n g = elim (get_cases h a q g.op g.at) [
+      | inl i ↦ record { op = g.op; at = i; change = g.change }
+      | inr z ↦ absurd (n z.0)
+    ]
+
+    gives_new : GivesAt longer o (length h) v
+    gives_new = record { op = a; at = get_last h a; change = change }
+
+    gives_one : (w : Value) → GivesAt longer o (length h) w → Set o v ≡ Set o w
+    gives_one w g = sym change ∙ (ap (λ (z : Op). z.change) (some_one a g.op (sym (get_last h a) ∙ g.at)) ∙ g.change)
+
+    within_old : (n q : ℕ) → IsNumber cs n q → q < length h
+    within_old n q k = let i = tells.each k.attribute k.site k.place k.setter k.within k.at in subst (λ z. z < length h) k.position (in_list h k.setter.position i.op i.at)
+      where
+        in_list : {X : Type 0} (xs : List X) (i : ℕ) (y : X) → slice_get xs i ≡ Some y → i < length xs
+        in_list [] i y e = absurd cc
+        in_list (z ∷ xs) zero y e = omega arith
+        in_list (z ∷ xs) (suc i) y e = let r = in_list xs i y e in omega arith
+
+    -- those that give the new value
+    pub equal_new : (e f : List ℕ) → AreEqual h o cs v e → ((n : ℕ) → Contains f n ↔ (Contains e n ⊎ (n ≡ x))) → AreEqual longer o new v f
+    equal_new e f k g n = (
+      λ i. elim ((g n).0 i) [
+        | inl j ↦ let w = (k n).0 j in (w.0, numbered n w.0 w.1, gives_still w.0 v w.2)
+        | inr d ↦ (length h, subst (λ z. IsNumber new z (length h)) (sym d) last_number, gives_new)
+      ],
+      λ w. (g n).1 (elim (number_cases n w.0 w.1) [
+        | inl old ↦ let l = within_old n w.0 old in inl ((k n).1 (w.0, old, gives_back w.0 v (λ d. omega (arith, l, d)) w.2))
+        | inr z ↦ inr z.0
+      ]),
+    )
+
+    -- and those that give another one
+    pub equal_other : (w : Value) (e : List ℕ) → Set o v ≢ Set o w → AreEqual h o cs w e → AreEqual longer o new w e
+    equal_other w e apart k n = (
+      λ i. let u = (k n).0 i in (u.0, numbered n u.0 u.1, gives_still u.0 w u.2),
+      λ u. elim (number_cases n u.0 u.1) [
+        | inl old ↦ let l = within_old n u.0 old in (k n).1 (u.0, old, gives_back u.0 w (λ d. omega (arith, l, d)) u.2)
+        | inr z ↦ absurd (apart (gives_one w (subst (λ y. GivesAt longer o y w) z.1 u.2)))
+      ],
+    )

@@ -1,0 +1,44 @@
+-- The setters of an object, by attribute and site.
+use Rattle.std.specs.Prelude.{ℕ, ◌+◌, ◌*◌, ◌/◌, ◌%◌, ◌<◌, List, [], ◌∷◌, ◌++◌, slice_index_or, slice_get, slice_set, Option, Some, None, option_map}
+use Rattle.gf_ops.specs.declared.change.Attr.{Attr}
+use Rattle.gf_ops.specs.declared.change.Attr.TheVariants.{Place, Points, Size, Colour, Layer, Shown}
+use Rattle.gf_ops.specs.declared.op.Clock.{Clock}
+use Rattle.gf_ops.specs.OperationOrder.{entry}
+use Rattle.gf_rivals.specs.declared.chain.Setter.{Setter}
+use Rattle.gf_rivals.specs.Setters.{block, IsAbove}
+
+-- the index of the attribute
+abbrev pub rank : Attr → ℕ
+rank Place = 0
+rank Points = 1
+rank Size = 2
+rank Colour = 3
+rank Layer = 4
+rank Shown = 5
+
+-- the index of the chain of the attribute t and the site s + 1
+abbrev pub chain_of : Attr → ℕ → ℕ
+chain_of t s = rank t * 8 + s
+
+-- the setters of the attribute t by the site s + 1
+abbrev pub setters : List (List Setter) → Attr → ℕ → List Setter
+setters cs t s = slice_index_or cs (chain_of t s) []
+
+-- n is the number of a setter of t by one of the first m sites, which the clock does not count
+pub record IsUnknown (cs : List (List Setter)) (t : Attr) (past : Clock) (m n : ℕ) : Type 0 where
+  pub site : ℕ
+  pub within : site < m
+  pub setter : IsAbove (setters cs t site) (chain_of t site * block) (entry past (site + 1)) n
+
+-- what f gives where there is one
+abbrev pub option_and_then : {X Y : Type 0} → Option X → (X → Option Y) → Option Y
+option_and_then None f = None
+option_and_then (Some x) f = f x
+
+-- the position of the setter with the number n
+abbrev pub position_of : List (List Setter) → ℕ → Option ℕ
+position_of cs n = option_map (λ (e : Setter). e.position) (option_and_then (slice_get cs (n / block)) (λ ss. slice_get ss (n % block)))
+
+-- the setter e of t by the site s + 1 behind the others
+abbrev pub with_setter : List (List Setter) → Attr → ℕ → Setter → List (List Setter)
+with_setter cs t s e = slice_set cs (chain_of t s) (setters cs t s ++ e ∷ [])

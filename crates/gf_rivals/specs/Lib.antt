@@ -1,0 +1,3 @@
+pub mod Setters
+pub mod Chains
+pub mod Rivals

@@ -1,0 +1,8 @@
+//! The setters of an object's attributes, and which of them conflict with the next operation.
+#![tactic(auto)]
+
+mod chain;
+mod chains;
+
+pub use chain::{Chain, Setter};
+pub use chains::Chains;

@@ -1,9 +1,0 @@
-pub mod GivenLemmas
-pub mod KeptTailsLemmas
-pub mod LongerLemmas
-pub mod NextLemmas
-pub mod NotedLemmas
-pub mod PrintLemmas
-pub mod PutTailLemmas
-pub mod QuickLemmas
-pub mod SubjectLemmas

@@ -1,4 +1,0 @@
-pub mod Giving
-pub mod Prints
-pub mod Subjects
-pub mod Tails
