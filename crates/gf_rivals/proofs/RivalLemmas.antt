@@ -131,7 +131,7 @@ module _ (h : List Op) (o : ObjectId) (cs : List (List Setter)) (tells : Tells h
           at = is.at;
           conflict = record {
             concurrent = record {
-              different = λ f. fresh is.op (contained e.position is.op is.at) (sym f);
+              different = λ f. fresh is.op (contained e.position is.op is.at) (sym (ap (λ (z : Op). z.id) f));
               not_before = unknown is.op (contained e.position is.op is.at);
               not_after = λ p.
                   let late : entry a.past (u.site + 1) < e.seq = u.setter.unknown in
