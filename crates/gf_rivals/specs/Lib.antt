@@ -1,3 +1,4 @@
 pub mod Setters
+pub mod KeptChains
 pub mod Chains
 pub mod Rivals

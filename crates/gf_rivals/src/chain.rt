@@ -87,4 +87,20 @@ impl Chain {
         self.setters.push(Setter { seq, position })?;
         Ok(())
     }
+
+    /// Takes the last setter away, if there is one.
+    pub fn pop(&mut self)
+        ensures { (us : _) (e : _) → self.old ≡ us ++ e ∷ [] → self.new ≡ us }
+    {
+        self.setters.pop();
+    }
+
+    /// A copy.
+    pub fn copy(&self, alloc: Global) -> Result<Chain, OutOfMemory>
+        ensures { IfOk result (λ copy. copy ≡ self.now) }
+    {
+        Ok(Chain {
+            setters: Vec::from_slice(alloc, &self.setters)?,
+        })
+    }
 }

@@ -3,6 +3,7 @@
 
 mod chain;
 mod chains;
+mod kept;
 
 pub use chain::{Chain, Setter};
 pub use chains::Chains;
