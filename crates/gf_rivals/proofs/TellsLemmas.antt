@@ -10,7 +10,8 @@ use Rattle.gf_ops.specs.declared.change.Value.{Value}
 use Rattle.gf_ops.specs.Attribute.{attribute_of}
 use Rattle.gf_rivals.specs.declared.chain.Setter.{Setter}
 use Rattle.gf_rivals.specs.Setters.{block}
-use Rattle.gf_rivals.specs.Chains.{rank, chain_of, setters, with_setter}
+use Rattle.std.specs.List.{repeat}
+use Rattle.gf_rivals.specs.Chains.{rank, chain_of, no_chains, setters, with_setter}
 use Rattle.gf_rivals.specs.Rivals.{IsSetter, IsNumber, Tells, GivesAt, AreEqual}
 use Rattle.gf_rivals.proofs.RivalLemmas.{some_one, rank_one, rank_below}
 
@@ -42,6 +43,23 @@ set_else (c ∷ cs) zero zero x d n = absurd (n refl)
 set_else (c ∷ cs) zero (suc j) x d n = refl
 set_else (c ∷ cs) (suc k) zero x d n = refl
 set_else (c ∷ cs) (suc k) (suc j) x d n = set_else cs k j x d (λ e. n (omega (arith, e)))
+
+-- ---- no setter
+
+abbrev none : List Setter
+none = []
+
+none_at : (k i : ℕ) → get_or (repeat k (none ∷ [])) i [] ≡ []
+none_at zero i = refl
+none_at (suc k) zero = refl
+none_at (suc k) (suc i) = none_at k i
+
+pub empty_tells : (o : ObjectId) → Tells [] o no_chains
+empty_tells o = record {
+  each = λ t s p e l i. absurd (let n : setters no_chains t s ≡ [] = none_at 48 (chain_of t s) in let j = ap (λ z. slice_get z p) (sym n) ∙ i in cc);
+  all = λ q b v e c. absurd cc;
+  short = λ t s l. let n : setters no_chains t s ≡ [] = none_at 48 (chain_of t s) in rw n (omega arith);
+}
 
 module _ (h : List Op) (o : ObjectId) (cs : List (List Setter)) (tells : Tells h o cs) (a : Op) where
   abbrev longer : List Op
@@ -113,7 +131,7 @@ module _ (h : List Op) (o : ObjectId) (cs : List (List Setter)) (tells : Tells h
       | inr w ↦ still u r e (tells.each u r p e l (ap (λ z. slice_get z p) (sym w) ∙ i))
     ]
 
-    numbered : (n q : ℕ) → IsNumber cs n q → IsNumber new n q
+    pub numbered : (n q : ℕ) → IsNumber cs n q → IsNumber new n q
     numbered n q k = record {
       attribute = k.attribute;
       site = k.site;
@@ -165,7 +183,7 @@ module _ (h : List Op) (o : ObjectId) (cs : List (List Setter)) (tells : Tells h
     x = chain_of t s * block + length (setters cs t s)
 
     -- a number is an old one or the new one
-    number_cases : (n q : ℕ) → IsNumber new n q → IsNumber cs n q ⊎ ((n ≡ x) × (q ≡ length h))
+    pub number_cases : (n q : ℕ) → IsNumber new n q → IsNumber cs n q ⊎ ((n ≡ x) × (q ≡ length h))
     number_cases n q k = elim (same_chain k.attribute k.site k.within) [
       | inl w ↦
           let here : slice_get (setters new t s) k.place ≡ Some k.setter = subst (λ z. slice_get (setters new z s) k.place ≡ Some k.setter) w.0 (subst (λ z. slice_get (setters new k.attribute z) k.place ≡ Some k.setter) w.1 k.at) in

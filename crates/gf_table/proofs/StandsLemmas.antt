@@ -1,31 +1,40 @@
 -- A table after one more operation stands for the longer history.
-use Rattle.std.proofs.Common.{arith, ◌≡◌, ℕ, ◌<◌, true, false, List, [], ◌∷◌, ◌++◌, length, inl, inr, refl, subst, sym, ap, ◌∙◌}
-use Rattle.std.specs.Prelude.{Contains, cond, Option, Some, None, Result, Ok, Err, OnOk, unwrap_or, slice_get}
+use Rattle.std.proofs.Common.{◌≡◌, ◌≢◌, ℕ, ◌<◌, ◌+◌, ◌*◌, true, false, List, [], ◌∷◌, ◌++◌, length, inl, inr, refl, subst, sym, ap, ◌∙◌, arith}
+use Rattle.std.specs.Prelude.{◌↔◌, Contains, cond, Option, Some, None, slice_get, unwrap_or}
 use Rattle.std.specs.BTreeMap.{is_at, insert_entry}
-use Rattle.std.specs.Map.{keys_of, lookup}
-use Rattle.std.specs.Ordering.{is_eq, match_ordering}
 use Rattle.std.specs.Cmp.{IsTotalOrder}
 use Rattle.std.specs.List.Sorted.{IsStrictlySortedBy}
+use Rattle.std.specs.Map.{keys_of, lookup}
+use Rattle.std.specs.Ordering.{is_eq, match_ordering}
 use Rattle.std.specs.declared.cmp.Ordering.{Ordering}
 use Rattle.std.specs.declared.cmp.Ordering.TheVariants.{Less, Equal, Greater}
+use Rattle.std.proofs.lemmas.Bool.{cases_Bool, cases_lt, cond-true, cond-false}
+use Rattle.std.proofs.lemmas.Cmp.{tied_itself}
+use Rattle.std.proofs.lemmas.List.Elements.{Contains-push_cases}
+use Rattle.gf_ops.proofs.ListLemmas.{not_Contains-nil}
+use Rattle.gf_maximal.proofs.ImageLemmas.{Made}
 use Rattle.std.proofs.lemmas.Map.Entries.{lookup_at_gap}
 use Rattle.std.proofs.lemmas.Map.Keys.{sorted_tail}
-use Rattle.std.proofs.lemmas.Bool.{cases_Bool, cond-true, cond-false}
-use Rattle.std.proofs.lemmas.Option.{slice_get_within}
 use Rattle.gf_ops.specs.declared.op.Op.{Op}
-use Rattle.gf_ops.specs.Accepted.{IsAccepted}
-use Rattle.gf_ops.specs.Limits.{IsInRange}
-use Rattle.gf_ops.specs.ValidHistory.{IsValid}
-use Rattle.gf_tails.specs.declared.subject.Subject.{Subject}
-use Rattle.gf_tails.specs.Subjects.{subject_cmp, subject_of, is_about, positions_about}
-use Rattle.gf_table.specs.SubjectState.{SubjectState, nothing, with_op}
-use Rattle.gf_parts.specs.Parts.{whole}
-use Rattle.gf_tails.proofs.KeptTailsLemmas.{tails_alike}
-use Rattle.gf_table.specs.Standing.{IsStateOf, IsNextState, Stands, StandsFor, state_of}
-use Rattle.gf_notes.specs.Notes.{NotesState, AreNotes}
-use Rattle.gf_tails.proofs.LongerLemmas.{positions_with_last, positions_without_last}
-use Rattle.gf_table.proofs.StateLemmas.{first_state, state_kept, state_more}
-use Rattle.gf_tails.proofs.SubjectLemmas.{Contains-positions_about, about_from, about_op, about_to, at_itself, at_told}
+use Rattle.gf_ops.specs.declared.op.ObjectId.{ObjectId}
+use Rattle.gf_ops.specs.declared.change.Change.TheVariants.{Set}
+use Rattle.gf_ops.specs.declared.change.Value.{Value}
+use Rattle.gf_ops.specs.Attribute.{changed_object, object_of}
+use Rattle.gf_groups.specs.Growing.{conflict_at}
+use Rattle.gf_groups.specs.GroupedPositions.{is_on, positions_below}
+use Rattle.gf_groups.specs.Parting.{object_cmp}
+use Rattle.gf_groups.proofs.OnPositionLemmas.{all_positions, contained_at, made_object, on_from, on_op, on_to}
+use Rattle.gf_groups.proofs.PartingLemmas.{object_cmp_total, object_cmp_exact}
+use Rattle.gf_groups.proofs.SortedLemmas.{equal_left}
+use Rattle.gf_groups.proofs.TableLemmas.{conflict_at_test}
+use Rattle.gf_components.specs.Components.{ComponentsState, no_components, whole}
+use Rattle.gf_components.proofs.ComponentLemmas.{first_parts}
+use Rattle.gf_rivals.specs.Rivals.{IsNumber}
+use Rattle.gf_table.specs.ByPosition.{components_at}
+use Rattle.gf_table.specs.ObjectState.{ObjectState, maker_number, number_conflict, position_in}
+use Rattle.gf_table.specs.Standing.{AreComponentsOn, IsStateOf, Stands, StandsFor, state_of}
+use Rattle.gf_table.proofs.ByPositionLemmas.{components_image, whole_image}
+use Rattle.gf_table.proofs.StateLemmas.{maker_position, number_position, numbers_test, one_number, setter_at, state_kept}
 
 -- the value that is there, put again
 pub put_again : {K X : Type 0} {R : K → K → Ordering} → IsTotalOrder R → (k : K) (es : List (K × X)) (w : X) → IsStrictlySortedBy R (keys_of es) → lookup (is_at (R k)) es ≡ Some w → insert_entry R es k w ≡ es
@@ -43,100 +52,69 @@ put_again {R = R} o k (d ∷ es) w s e = by_order (R k d.0) refl (put_again o k 
         ap (λ r. match_ordering r ((k, w) ∷ d ∷ es) ((d.0, w) ∷ es) (d ∷ insert_entry R es k w)) p
         ∙ ap (λ xs. d ∷ xs) (rest (sym (cond-false (is_at (R k) d.0) (Some d.1) (lookup (is_at (R k)) es) (ap is_eq p)) ∙ e))
 
+at_told : (o q : ObjectId) → is_at (object_cmp o) q ≡ true → o ≡ q
+at_told o q t = object_cmp_exact o q (equal_left (object_cmp o q) t)
+
 -- ---- one more operation
 
-module _ (h : List Op) (valid : IsValid h) (a : Op) (in_range : IsInRange a) (accepted : IsAccepted h a) where
-  abbrev new : List Op
-  new = h ++ a ∷ []
+module _ (h : List Op) (a : Op) where
+  abbrev longer : List Op
+  longer = h ++ a ∷ []
 
-  within : (k : Subject) (i : ℕ) → Contains (positions_about h k (length h)) i → i < length h
-  within k i m = ((Contains-positions_about h k (length h) i).0 m).0
+  -- the state of an object that the operation is not on
+  stands_kept : (q : ObjectId) → object_of a ≢ q → (r : Option ObjectState) → Stands h q r → Stands longer q r
+  stands_kept q off (Some t) s = state_kept h q t s a (λ v e. off (ap (changed_object a.id) e))
+  stands_kept q off None s = λ b i. elim (Contains-push_cases h a b i) [ inl j ↦ s b j | inr e ↦ subst (λ (z : Op). object_of z ≢ q) (sym e) off ]
 
-  about : (k : Subject) (i : ℕ) → Contains (positions_about h k (length h)) i → is_about k (slice_get h i) ≡ true
-  about k i m = ((Contains-positions_about h k (length h) i).0 m).1
+  -- the operation's object has the new state, and the rest stays
+  pub stands_after : (t u : List (ObjectId × ObjectState)) (o : ObjectId) (w : ObjectState) → StandsFor h t → object_of a ≡ o → IsStateOf longer o w →
+      ((q : ObjectId) → state_of u q ≡ cond (is_at (object_cmp o) q) (Some w) (state_of t q)) → StandsFor longer u
+  stands_after t u o w stands on new puts q = elim (cases_Bool (is_at (object_cmp o) q)) [
+    | inl y ↦
+        let here : state_of u q ≡ Some w = puts q ∙ cond-true (is_at (object_cmp o) q) (Some w) (state_of t q) y in
+        rw here (subst (λ z. IsStateOf longer z w) (at_told o q y) new)
+    | inr n ↦
+        let here : state_of u q ≡ state_of t q = puts q ∙ cond-false (is_at (object_cmp o) q) (Some w) (state_of t q) n in
+        let off : object_of a ≢ q = λ e.
+            let same : o ≡ q = sym on ∙ e in
+            let itself : is_at (object_cmp o) o ≡ true = ap is_eq (tied_itself object_cmp_total o) in
+            let there : is_at (object_cmp o) q ≡ true = subst (λ z. is_at (object_cmp o) z ≡ true) same itself in
+            absurd cc in
+        rw here (stands_kept q off (state_of t q) (stands q))
+  ]
 
-  all_about : (k : Subject) (i : ℕ) → is_about k (slice_get h i) ≡ true → Contains (positions_about h k (length h)) i
-  all_about k i y = let w = about_op k (slice_get h i) y in (Contains-positions_about h k (length h) i).1 (slice_get_within h i w.0 w.1, y)
+-- ---- components by position
 
-  -- the state of a's subject, or nothing, is right
-  or_nothing : (us : List ℕ) (r : Option SubjectState) → Stands h us r → IsStateOf h us (unwrap_or r nothing)
-  or_nothing us (Some t) s = s
-  or_nothing us None s = subst (λ vs. IsStateOf h vs nothing) (sym s) (first_state h)
+module _ (h : List Op) (o : ObjectId) where
+  pub none_on : ((a : Op) → Contains h a → object_of a ≢ o) → AreComponentsOn h o no_components
+  none_on none = record {
+    components = first_parts (conflict_at h) (conflict_at_test h);
+    all = λ i. (
+      λ j. absurd (not_Contains-nil i j),
+      λ j. let w = on_op o (slice_get h i) ((all_positions h o i).0 j) in absurd (none w.0 (contained_at h i w.0 w.1) w.2),
+    );
+  }
 
-  kept : (us : List ℕ) → ((i : ℕ) → Contains us i → i < length h) → (r : Option SubjectState) → Stands h us r → Stands new us r
-  kept us f (Some t) s = state_kept h a us f t s
-  kept us f None s = s
+  module _ (t : ObjectState) (s : IsStateOf h o t) where
+    abbrev f : ℕ → ℕ
+    f = position_in t
 
-  -- what the table has for a's subject is with a, and its summary tells of the last part; the rest stays
-  pub record Adds (t s : List (Subject × SubjectState)) : Type 0 where
-    pub notes : NotesState
-    pub told : AreNotes new (with_op new a (length h) notes (unwrap_or (state_of t (subject_of a)) nothing)).parts notes
-    pub puts : (q : Subject) → state_of s q ≡ cond (is_at (subject_cmp (subject_of a)) q) (Some (with_op new a (length h) notes (unwrap_or (state_of t (subject_of a)) nothing))) (state_of t q)
+    found : AreComponentsOn h o (components_at f t.components)
+    found = record {
+      components = components_image f (number_conflict h t) (conflict_at h) (numbers_test h t) (conflict_at_test h) t.components s.components
+          (λ i j a b e. one_number h o t s i j a b e) (λ i j a b. refl);
+      all = λ i. (
+        λ j. let w = (image i).0 j in (all_positions h o i).1 (subst (λ z. is_on o (slice_get h z) ≡ true) (sym w.2) (on_it w.0 w.1)),
+        λ j. (image i).1 (numbered i ((all_positions h o i).0 j)),
+      );
+    }
+      where
+        image : (i : ℕ) → Contains (whole (components_at f t.components)).all i ↔ Made f (whole t.components).all i
+        image i = whole_image f (number_conflict h t) (conflict_at h) (numbers_test h t) (conflict_at_test h) t.components s.components
+            (λ i j a b e. one_number h o t s i j a b e) (λ i j a b. refl) i
 
-  pub stands_after : (t s : List (Subject × SubjectState)) → StandsFor h t → Adds t s → StandsFor new s
-  stands_after t s stands adds q =
-      let us = positions_about h q (length h) in
-      let k = subject_of a in
-      elim (cases_Bool (is_at (subject_cmp k) q)) [
-        | inl y ↦
-            let same : k ≡ q = at_told k q y in
-            let own : Stands h us (state_of t k) = subst (λ p. Stands h us (state_of t p)) (sym same) (stands q) in
-            let own_about : (i : ℕ) → Contains us i → is_about k (slice_get h i) ≡ true = subst (λ p. (i : ℕ) → Contains us i → is_about p (slice_get h i) ≡ true) (sym same) (about q) in
-            let more = state_more h a us (within q) (unwrap_or (state_of t k) nothing) (or_nothing us (state_of t k) own) valid in_range accepted own_about adds.notes adds.told in
-            let positions = positions_with_last h a q (about_to q a same) in
-            let here : state_of s q ≡ Some (with_op new a (length h) adds.notes (unwrap_or (state_of t k) nothing)) =
-            adds.puts q ∙ cond-true (is_at (subject_cmp k) q) (Some (with_op new a (length h) adds.notes (unwrap_or (state_of t k) nothing))) (state_of t q) y in
-            rw (positions, here) more
-        | inr n ↦
-            let off : is_about q (Some a) ≡ false = elim (cases_Bool (is_about q (Some a))) [
-              | inl m ↦ let same : k ≡ q = about_from q a m in let y : is_at (subject_cmp k) q ≡ true = subst (λ p. is_at (subject_cmp k) p ≡ true) same (at_itself k) in absurd cc
-              | inr m ↦ m
-            ] in
-            let positions = positions_without_last h a q off in
-            let here : state_of s q ≡ state_of t q = adds.puts q ∙ cond-false (is_at (subject_cmp k) q) (Some (with_op new a (length h) adds.notes (unwrap_or (state_of t k) nothing))) (state_of t q) n in
-            rw (positions, here) (kept us (within q) (state_of t q) (stands q))
-      ]
+        on_it : (n : ℕ) → Contains (whole t.components).all n → is_on o (slice_get h (f n)) ≡ true
+        on_it n j = ?
 
-  -- by what stands in its position
-  pub adds_from : (t s : List (Subject × SubjectState)) (k : Subject) (r w : SubjectState) (g : List Op) (n : ℕ) → k ≡ subject_of a → unwrap_or (state_of t k) nothing ≡ r → g ≡ new → n ≡ length h →
-      w ≡ with_op g a n w.notes r → AreNotes g w.parts w.notes → ((q : Subject) → state_of s q ≡ cond (is_at (subject_cmp k) q) (Some w) (state_of t q)) → Adds t s
-  adds_from t s k r w g n same was long last made told f =
-      let m = w.notes in
-      let old : r ≡ unwrap_or (state_of t (subject_of a)) nothing = sym was ∙ ap (λ o. unwrap_or (state_of t o) nothing) same in
-      let one : w ≡ with_op new a (length h) m (unwrap_or (state_of t (subject_of a)) nothing) =
-      made ∙ (ap (λ z. with_op z a n m r) long ∙ (ap (λ z. with_op new a z m r) last ∙ ap (λ (z : SubjectState). with_op new a (length h) m z) old)) in
-      record {
-        notes = m;
-        told = subst (λ (z : SubjectState). AreNotes new z.parts m) one (subst (λ z. AreNotes z w.parts m) long told);
-        puts = λ q. subst (λ o. state_of s q ≡ cond (is_at (subject_cmp o) q) (Some w) (state_of t q)) same (f q)
-            ∙ ap (λ (z : SubjectState). cond (is_at (subject_cmp (subject_of a)) q) (Some z) (state_of t q)) one;
-      }
-
-  -- the next operation finds the parts of its subject
-  pub next_from : (t : List (Subject × SubjectState)) → StandsFor h t → (k : Subject) (r : SubjectState) (g : List Op) (n : ℕ) → k ≡ subject_of a → unwrap_or (state_of t k) nothing ≡ r → g ≡ new → n ≡ length h → IsNextState g a n r
-  next_from t stands k r g n same was long last =
-      let o = subject_of a in
-      let us = positions_about h o (length h) in
-      let old : unwrap_or (state_of t o) nothing ≡ r = ap (λ p. unwrap_or (state_of t p) nothing) (sym same) ∙ was in
-      let state : IsStateOf h us r = subst (IsStateOf h us) old (or_nothing us (state_of t o) (stands o)) in
-      record {
-        next = record {
-          next = record {
-            history = h;
-            longer = long;
-            position = last;
-            valid = valid;
-            in_range = in_range;
-            accepted = accepted;
-            parts = state.parts;
-            positions = λ i. (λ m. about o i ((state.positions i).0 m), λ y. (state.positions i).1 (all_about o i y));
-          };
-          notes = state.notes;
-        };
-        tails = tails_alike h us (whole r.parts).all (λ i. ((state.positions i).1, (state.positions i).0)) r.tails state.tails;
-      }
-
--- two facts of one success
-pub both_ok : {T E : Type 0} (X Y : Type 0) (r : Result T E) → OnOk r X → OnOk r Y → OnOk r (X × Y)
-both_ok X Y (Ok t) x y = (x, y)
-both_ok X Y (Err e) x y = tt
+        numbered : (i : ℕ) → is_on o (slice_get h i) ≡ true → Made f (whole t.components).all i
+        numbered i y = ?
