@@ -28,7 +28,7 @@ use Rattle.gf_groups.proofs.OnPositionLemmas.{on_op, on_to, all_positions, conta
 use Rattle.gf_groups.proofs.PartingLemmas.{object_cmp_total, entries_parts, entry_position, entry_of}
 use Rattle.gf_groups.proofs.PositionLemmas.{positions_below-rising}
 use Rattle.gf_maximal.proofs.RisingLemmas.{below_tail}
-use Rattle.gf_groups.proofs.TakingLemmas.{AllPairs-append}
+use Rattle.gf_maximal.proofs.PairLemmas.{AllPairs-append}
 
 -- ---- lists in a row
 

@@ -24,7 +24,7 @@ use Rattle.gf_groups.proofs.IdPositionLemmas.{Contains-rising_ids, same_position
 use Rattle.gf_groups.proofs.OnPositionLemmas.{on_op}
 use Rattle.gf_maximal.proofs.RisingLemmas.{one_rising}
 use Rattle.gf_groups.proofs.SortedLemmas.{ties, equal_left, rising_sorted}
-use Rattle.gf_groups.proofs.TakingLemmas.{AllPairs-map}
+use Rattle.gf_maximal.proofs.PairLemmas.{AllPairs-map}
 use Rattle.gf_groups.proofs.VersionLemmas.{version_of_largest, largest_of_version, same_ids, positions_in, positions_in-rising}
 
 pub group_cmp_total : IsTotalOrder group_cmp

@@ -19,7 +19,8 @@ use Rattle.gf_groups.specs.GroupedPositions.{ids_at, rising_ids}
 use Rattle.gf_maximal.specs.Tables.{IsRising}
 use Rattle.gf_groups.proofs.IdLemmas.{id_cmp_total, id_cmp_exact}
 use Rattle.gf_maximal.proofs.RisingLemmas.{below_tail, rising_nil}
-use Rattle.gf_groups.proofs.SortedLemmas.{inserted_all, holds_all, same_sorted}
+use Rattle.gf_maximal.proofs.InsertLemmas.{inserted_all, holds_all}
+use Rattle.gf_groups.proofs.SortedLemmas.{same_sorted}
 use Rattle.gf_groups.proofs.TableLemmas.{below_from_less}
 
 -- j is the id of the operation at a position of g

@@ -1,8 +1,6 @@
 pub mod AllGroupLemmas
 pub mod ConflictTestLemmas
-pub mod ExposedLemmas
 pub mod GroupLemmas
-pub mod GrowingLemmas
 pub mod IdLemmas
 pub mod IdPositionLemmas
 pub mod OnPositionLemmas
@@ -11,7 +9,5 @@ pub mod PositionLemmas
 pub mod SortedLemmas
 pub mod SublistLemmas
 pub mod TableLemmas
-pub mod TakenLemmas
-pub mod TakingLemmas
 pub mod VersionLemmas
 pub mod VersionListLemmas

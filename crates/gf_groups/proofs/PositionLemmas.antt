@@ -1,13 +1,13 @@
 -- What stands at a position of a list, and the positions of the operations on an object.
 use Rattle.std.proofs.Common.{◌≡◌, ℕ, zero, suc, ◌+◌, ◌<◌, ◌≤◌, true, false, List, [], ◌∷◌, ◌++◌, length, get_or, add-one, inl, inr, sym, subst, refl, arith, Bor}
-use Rattle.std.specs.Prelude.{Option, Some, None, MatchOption, IfSome, Contains, ◌↔◌, option_copied, slice_get}
+use Rattle.std.specs.Prelude.{All, Option, Some, None, MatchOption, IfSome, Contains, ◌↔◌, option_copied, slice_get}
 use Rattle.std.specs.Cmp.{nat_cmp_is}
 use Rattle.std.specs.List.{HoldsAt}
 use Rattle.std.specs.Ordering.{nat_cmp}
 use Rattle.std.specs.declared.cmp.Ordering.TheVariants.{Less}
 use Rattle.std.proofs.lemmas.Bool.{cases_Bool, cond-true, cond-false, cases_eq}
 use Rattle.std.proofs.lemmas.Cmp.{nat_cmp_total}
-use Rattle.std.proofs.lemmas.List.Elements.{Contains-append_left, Contains-push, Contains-push_cases}
+use Rattle.std.proofs.lemmas.List.Elements.{All-weaker, All-contains_itself, Contains-append_left, Contains-push, Contains-push_cases}
 use Rattle.std.proofs.lemmas.Option.{slice_get_past, slice_get_read}
 use Rattle.gf_ops.proofs.ListLemmas.{not_Contains-nil}
 use Rattle.gf_ops.specs.declared.op.Op.{Op}
@@ -86,3 +86,6 @@ module _ (h : List Op) (o : ObjectId) where
         (rising_push nat_cmp nat_cmp_total (positions_below h o n) n (positions_below-rising n) (λ a i. sym (nat_cmp_is a n Less ((position_of n a i).0))))
     | inr t ↦ rw (cond-false (is_on o (slice_get h n)) (positions_below h o n ++ n ∷ []) (positions_below h o n) t) (positions_below-rising n)
   ]
+
+  pub positions_below-bounded : (n m : ℕ) → n < m → All (λ i. i + 1 < m) (positions_below h o n)
+  positions_below-bounded n m l = All-weaker (Contains (positions_below h o n)) (λ i. i + 1 < m) (λ i c. let k = (position_of n i c).0 in omega arith) (positions_below h o n) (All-contains_itself (positions_below h o n))

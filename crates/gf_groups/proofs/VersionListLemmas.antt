@@ -25,7 +25,7 @@ use Rattle.gf_maximal.proofs.ListLemmas.{Contains-filter, list_any_true, list_an
 use Rattle.gf_groups.proofs.GroupLemmas.{group_cmp_total}
 use Rattle.gf_groups.proofs.OnPositionLemmas.{made_object}
 use Rattle.gf_maximal.proofs.RisingLemmas.{one_rising}
-use Rattle.gf_groups.proofs.SortedLemmas.{inserted_all, holds_all}
+use Rattle.gf_maximal.proofs.InsertLemmas.{inserted_all, holds_all}
 use Rattle.gf_maximal.proofs.PairLemmas.{Pairs-filter, Pairs-from, Pairs-map}
 use Rattle.gf_groups.proofs.SublistLemmas.{Pairs_from_rising, StandsBefore, rising_from_Pairs, rising_sublist, sublist_rising, sublist_within, sublists_in_order}
 

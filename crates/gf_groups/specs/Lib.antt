@@ -3,5 +3,3 @@ pub mod VersionList
 pub mod Growing
 pub mod GroupedPositions
 pub mod Parting
-pub mod Taken
-pub mod Rivals

@@ -12,10 +12,7 @@ use gf_ops::{Op, conflicts};
 pub fn conflict_at(timeline: &Timeline<'_>, i: usize, j: usize) -> bool
     ensures { result ≡ conflict_at timeline.now i j }
 {
-    match timeline.known_conflict(i, j) {
-        Some(known) => known,
-        None => both_conflict(timeline.get(i), timeline.get(j)),
-    }
+    both_conflict(timeline.get(i), timeline.get(j))
 }
 
 /// Whether both operations are there, and conflict.

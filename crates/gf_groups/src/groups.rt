@@ -11,7 +11,8 @@ ghost use Rattle.gf_groups.specs.Versions.{IsMade, AreVersions, AreAllVersions, 
 use crate::growth::groups_at;
 use crate::listing::{add_groups, positions_on};
 use crate::parting::positions_by_object;
-use crate::{Group, GroupFault, Groups, Positions};
+use crate::{Group, GroupFault, Groups};
+use gf_maximal::Numbers;
 use gf_ops::{Change, History, ObjectId};
 use gf_shape::OutOfMemory;
 use std::alloc::Global;
@@ -73,7 +74,7 @@ pub fn groups_from(
     alloc: Global,
     history: &History,
     object: ObjectId,
-    sets: Vec<Positions>,
+    sets: Vec<Numbers>,
 ) -> Result<Groups, OutOfMemory>
     requires made { IsMade history.now.ops object }
     requires table { IsTable (conflict_at history.now.ops)

@@ -7,7 +7,8 @@ ghost use Rattle.gf_maximal.specs.Tables.{IsRising};
 ghost use Rattle.gf_groups.specs.GroupedPositions.{positions_below, id_at, ids_at, rising_ids};
 ghost use Rattle.gf_groups.specs.GroupedPositions.{group_at};
 
-use crate::{Group, Ids, Positions};
+use crate::{Group, Ids};
+use gf_maximal::Numbers;
 use gf_ops::{History, ObjectId, Op, OpId};
 use gf_shape::OutOfMemory;
 use std::alloc::Global;
@@ -64,7 +65,7 @@ pub fn add_groups(
     alloc: Global,
     history: &History,
     object: ObjectId,
-    sets: Vec<Positions>,
+    sets: Vec<Numbers>,
     groups: &mut Vec<Group>,
 ) -> Result<(), OutOfMemory>
     requires { All IsRising sets.items }
@@ -72,7 +73,7 @@ pub fn add_groups(
         ≡ groups.old.items ++ map (group_at history.now.ops object) sets.items) }
 {
     for set in sets {
-        let ops = rising_ids(alloc, history, set.as_slice())?;
+        let ops = rising_ids(alloc, history, &set.to_vec(alloc)?)?;
         groups.push(Group { object, ops })?;
     }
     Ok(())

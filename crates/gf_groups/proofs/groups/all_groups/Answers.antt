@@ -1,16 +1,17 @@
-use Rattle.std.proofs.Common.{◌≡◌, ℕ, List, [], ◌∷◌, ◌++◌, length, append_assoc, ap, map, ◌∙◌}
+use Rattle.std.proofs.Common.{◌≡◌, ◌<◌, ◌+◌, ◌^◌, ℕ, List, [], ◌∷◌, ◌++◌, length, append_assoc, ap, map, subst, sym, ◌∙◌, rules}
+use Rattle.std.specs.Prelude.{All}
 use Rattle.std.specs.List.{flat_map}
 use Rattle.std.proofs.lemmas.List.{append-nil}
 use Rattle.std.proofs.lemmas.List.Elements.{All-head, All-rest}
 use Rattle.gf_ops.specs.declared.op.Op.{Op}
 use Rattle.gf_ops.specs.declared.op.ObjectId.{ObjectId}
 use Rattle.gf_groups.specs.Growing.{conflict_at, groups_at}
-use Rattle.gf_groups.specs.GroupedPositions.{group_at, groups_on}
+use Rattle.gf_groups.specs.GroupedPositions.{group_at, groups_on, positions_below}
 use Rattle.gf_maximal.specs.Tables.{IsRising}
 use Rattle.gf_groups.specs.Parting.{HasPositionsBelow, HasAllPositions, groups_of_entries}
 use Rattle.gf_groups.proofs.AllGroupLemmas.{all_versions}
 use Rattle.gf_groups.proofs.PartingLemmas.{entries_parts}
-use Rattle.gf_groups.proofs.PositionLemmas.{positions_below-rising}
+use Rattle.gf_groups.proofs.PositionLemmas.{positions_below-bounded, positions_below-rising}
 use Rattle.gf_groups.proofs.TableLemmas.{groups_rise}
 use Rattle.gf_groups.proofs.groups.all_groups.Goals as goal
 
@@ -28,20 +29,29 @@ loop-object-init c =
       parts = rw gives.0 (entries_parts h c.in_ok-parts.parts parts gives.5);
     }
 
-entry_rises : (h : List Op) (e : ObjectId × List ℕ) (us : List ℕ) → us ≡ e.1 → HasAllPositions h e → IsRising us
-entry_rises h e us same all = rw (same, all) (positions_below-rising h e.0 (length h))
+-- the positions of the next entry
+next_has : (P : List ℕ → Type 0) (h : List Op) (e : ObjectId × List ℕ) (es rest : List (ObjectId × List ℕ)) (us : List ℕ) → es ≡ e ∷ rest → All (HasAllPositions h) es → us ≡ e.1 → P (positions_below h e.0 (length h)) → P us
+next_has P h e es rest us steps all same p = let one = All-head (HasAllPositions h) e rest (subst (All (HasAllPositions h)) steps all) in subst P (sym (same ∙ one)) p
 
-pub groups_at-requires : goal.groups_at-requires
-groups_at-requires c =
+pub groups_at-requires-clause-rising : goal.groups_at-requires-clause-rising
+groups_at-requires-clause-rising c =
     let h = c.args.history.now.ops in
     let e : ObjectId × List ℕ = (c.in-Some.object.now, c.in-Some.positions.now) in
-    entry_rises h e c.as_slice.result.now c.as_slice.ensures (All-head (HasAllPositions h) e c.next.new.self (rw c.in-Some.ensures.steps at c.loop-object.invariant.parts))
+    next_has IsRising h e c.loop-object.object-iterator c.next.new.self c.as_slice.result.now c.in-Some.ensures.steps c.loop-object.invariant.parts c.as_slice.ensures (positions_below-rising h e.0 (length h))
+
+pub groups_at-requires-clause-bounded : goal.groups_at-requires-clause-bounded
+groups_at-requires-clause-bounded c =
+    let h = c.args.history.now.ops in
+    let e : ObjectId × List ℕ = (c.in-Some.object.now, c.in-Some.positions.now) in
+    let l : length c.ops.result.now < 2 ^ 64 = search rules in
+    let bounded = positions_below-bounded h e.0 (length h) (2 ^ 64) (rw c.ops.ensures.ops at l) in
+    next_has (All (λ n. n + 1 < 2 ^ 64)) h e c.loop-object.object-iterator c.next.new.self c.as_slice.result.now c.in-Some.ensures.steps c.loop-object.invariant.parts c.as_slice.ensures bounded
 
 pub add_groups-requires : goal.add_groups-requires
 add_groups-requires c =
     let h = c.args.history.now.ops in
     let e : ObjectId × List ℕ = (c.in-Some.object.now, c.in-Some.positions.now) in
-    let rises = entry_rises h e c.as_slice.result.now c.as_slice.ensures (All-head (HasAllPositions h) e c.next.new.self (rw c.in-Some.ensures.steps at c.loop-object.invariant.parts)) in
+    let rises = next_has IsRising h e c.loop-object.object-iterator c.next.new.self c.as_slice.result.now c.in-Some.ensures.steps c.loop-object.invariant.parts c.as_slice.ensures (positions_below-rising h e.0 (length h)) in
     rw c.in_ok-sets.ensures (groups_rise h c.as_slice.result.now rises)
 
 pub loop-object-preserved : goal.loop-object-preserved

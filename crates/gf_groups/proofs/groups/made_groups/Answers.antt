@@ -1,13 +1,18 @@
-use Rattle.std.proofs.Common.{◌≡◌, length, ap, subst, sym, ◌∙◌}
+use Rattle.std.proofs.Common.{◌≡◌, ◌<◌, ◌^◌, length, ap, subst, sym, ◌∙◌, rules}
 use Rattle.gf_groups.specs.Growing.{conflict_at, groups_at}
 use Rattle.gf_groups.specs.GroupedPositions.{positions_below}
 use Rattle.gf_maximal.specs.Tables.{IsTable}
-use Rattle.gf_groups.proofs.PositionLemmas.{positions_below-rising}
+use Rattle.gf_groups.proofs.PositionLemmas.{positions_below-bounded, positions_below-rising}
 use Rattle.gf_groups.proofs.TableLemmas.{conflict_at_test, table_groups}
 use Rattle.gf_groups.proofs.groups.made_groups.Goals as goal
 
-pub groups_at-requires : goal.groups_at-requires
-groups_at-requires c = rw (c.deref.ensures.value, c.in_ok-positions.ensures) (positions_below-rising c.ops.result.now c.args.object (length c.ops.result.now))
+pub groups_at-requires-clause-rising : goal.groups_at-requires-clause-rising
+groups_at-requires-clause-rising c = rw (c.deref.ensures.value, c.in_ok-positions.ensures) (positions_below-rising c.ops.result.now c.args.object (length c.ops.result.now))
+
+pub groups_at-requires-clause-bounded : goal.groups_at-requires-clause-bounded
+groups_at-requires-clause-bounded c =
+    let l : length c.ops.result.now < 2 ^ 64 = search rules in
+    rw (c.deref.ensures.value, c.in_ok-positions.ensures) (positions_below-bounded c.ops.result.now c.args.object (length c.ops.result.now) (2 ^ 64) l)
 
 pub groups_from-requires-clause-table : goal.groups_from-requires-clause-table
 groups_from-requires-clause-table c =

@@ -1,10 +1,6 @@
 use Rattle.std.proofs.Common.{◌≡◌, take}
 use Rattle.gf_groups.specs.Growing.{conflict_at, groups_at}
-use Rattle.gf_groups.specs.Taken.{CountsAll}
 use Rattle.gf_groups.proofs.growth.groups_at.Given as goal
 
 abbrev pub invariant-loop-index : goal.invariant-loop-index
-invariant-loop-index l = record {
-  groups : l.groups.items ≡ groups_at (conflict_at l.timeline) (take l.index l.positions);
-  counted : CountsAll l.timeline (take l.index l.positions) l.taken;
-}
+invariant-loop-index l = l.sets.items ≡ groups_at (conflict_at l.timeline) (take l.index l.positions)

@@ -7,4 +7,4 @@ pub returns-else-position-self-clause-in_range : goal.returns-else-position-self
 returns-else-position-self-clause-in_range c =
     let old = c.self.inside.history.now in
     let new = c.self.inside.coming.now in
-    got_all IsInRange new _ c.get-else-position-self.result (λ a i. c.self.invariant.0 a (Contains-append_right old new a i)) c.get-else-position-self.ensures.lookup.3
+    got_all IsInRange new _ c.get-else-position-self.result (λ a i. c.self.invariant a (Contains-append_right old new a i)) c.get-else-position-self.ensures.lookup.3
