@@ -1,5 +1,6 @@
+pub mod NextLemmas
 pub mod SetterLemmas
+pub mod NumberLemmas
 pub mod RivalLemmas
 pub mod TellsLemmas
-pub mod PositionLemmas
 pub mod KeptLemmas

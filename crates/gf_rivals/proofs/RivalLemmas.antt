@@ -10,7 +10,10 @@ use Rattle.gf_ops.specs.declared.change.Attr.TheVariants.{Place, Points, Size, C
 use Rattle.gf_ops.specs.declared.change.Change.TheVariants.{Set}
 use Rattle.gf_ops.specs.declared.change.Value.{Value}
 use Rattle.gf_ops.specs.declared.change.Value.TheVariants as value
+use Rattle.gf_ops.specs.Accepted.{IsAccepted}
 use Rattle.gf_ops.specs.Attribute.{attribute_of, change_value, set_value, object_of}
+use Rattle.gf_ops.specs.Limits.{IsInRange}
+use Rattle.gf_ops.specs.ValidHistory.{IsValid}
 use Rattle.gf_ops.specs.OperationOrder.{entry, Precedes}
 use Rattle.gf_maximal.specs.Growing.{without}
 use Rattle.gf_maximal.proofs.MaximalLemmas.{Contains-without}
@@ -18,7 +21,8 @@ use Rattle.gf_rivals.specs.declared.chain.Setter.{Setter}
 use Rattle.gf_rivals.specs.Setters.{block}
 use Rattle.gf_rivals.specs.Chains.{rank, chain_of, setters, IsUnknown}
 use Rattle.gf_rivals.specs.Rivals.{IsNumber, Tells, GivesAt, AreRivals, AreEqual, IsConflict}
-use Rattle.gf_rivals.proofs.SetterLemmas.{from_place}
+use Rattle.gf_rivals.proofs.NextLemmas.{fresh, unknown}
+use Rattle.gf_rivals.proofs.NumberLemmas.{some_one, contained_at, one_position}
 
 -- ---- values and attributes
 
@@ -30,9 +34,6 @@ own_value (value.Colour c) = refl
 own_value (value.Layer n) = refl
 own_value (value.Shown b) = refl
 
-pub some_one : {X : Type 0} (a b : X) → Some a ≡ Some b → a ≡ b
-some_one a b e = ap (λ o. unwrap_or o a) e
-
 -- what a value gives to an attribute is itself, and the attribute is its own
 given_is : (v : Value) (t : Attr) (w : Value) → set_value v t ≡ Some w → (t ≡ attribute_of v) × (w ≡ v)
 given_is (value.Place p) Place w e = (refl, sym (some_one (value.Place p) w e))
@@ -43,64 +44,10 @@ given_is (value.Layer n) Layer w e = (refl, sym (some_one (value.Layer n) w e))
 given_is (value.Shown b) Shown w e = (refl, sym (some_one (value.Shown b) w e))
 given_is v t w e = absurd cc
 
-pub rank_below : (t : Attr) → rank t < 6
-rank_below Place = omega arith
-rank_below Points = omega arith
-rank_below Size = omega arith
-rank_below Colour = omega arith
-rank_below Layer = omega arith
-rank_below Shown = omega arith
-
-unranked : ℕ → Attr
-unranked zero = Place
-unranked (suc zero) = Points
-unranked (suc (suc zero)) = Size
-unranked (suc (suc (suc zero))) = Colour
-unranked (suc (suc (suc (suc zero)))) = Layer
-unranked (suc (suc (suc (suc (suc k))))) = Shown
-
-rank_back : (t : Attr) → unranked (rank t) ≡ t
-unfolding unranked
-rank_back Place = refl
-rank_back Points = refl
-rank_back Size = refl
-rank_back Colour = refl
-rank_back Layer = refl
-rank_back Shown = refl
-
-pub rank_one : (t u : Attr) → rank t ≡ rank u → t ≡ u
-rank_one t u e = sym (rank_back t) ∙ (ap unranked e ∙ rank_back u)
-
--- ---- a number is that of one setter
-
-one_block : (k l p q : ℕ) → p < block → q < block → k * block + p ≡ l * block + q → (k ≡ l) × (p ≡ q)
-one_block k l p q a b e = elim (cases_lt k l) [
-  | inl x ↦ absurd (omega arith)
-  | inr x ↦ elim (cases_lt l k) [
-    | inl y ↦ absurd (omega arith)
-    | inr y ↦ (omega arith, omega arith)
-  ]
-]
+-- ---- one direction, and the other
 
 module _ (h : List Op) (o : ObjectId) (cs : List (List Setter)) (tells : Tells h o cs) where
-  place_short : (t : Attr) (s p : ℕ) (e : Setter) → s < 8 → slice_get (setters cs t s) p ≡ Some e → p < block
-  place_short t s p e l a = let w = (from_place (setters cs t s) p e a).0 in let k = tells.short t s l in omega (arith, w, k)
-
-  one_setter : (n : ℕ) (t u : Attr) (s r p q : ℕ) (e f : Setter) → s < 8 → r < 8 → slice_get (setters cs t s) p ≡ Some e → slice_get (setters cs u r) q ≡ Some f →
-      n ≡ chain_of t s * block + p → n ≡ chain_of u r * block + q → (t ≡ u) × (s ≡ r) × (e ≡ f)
-  one_setter n t u s r p q e f l m a b x y =
-      let w = one_block (chain_of t s) (chain_of u r) p q (place_short t s p e l a) (place_short u r q f m b) (sym x ∙ y) in
-      let c = w.0 in
-      let same_site : s ≡ r = omega (arith, c, l, m) in
-      let same_rank : rank t ≡ rank u = omega (arith, c, l, m) in
-      let same : t ≡ u = rank_one t u same_rank in (
-        same,
-        same_site,
-        some_one e f (sym a ∙ (ap (λ z. slice_get (setters cs t s) z) w.1 ∙ (ap (λ z. slice_get (setters cs t z) q) same_site ∙ (ap (λ z. slice_get (setters cs z r) q) same ∙ b)))),
-      )
-
-  module _ (a : Op) (v : Value) (change : a.change ≡ Set o v) (fresh : (b : Op) → Contains h b → b.id ≢ a.id) (unknown : (b : Op) → Contains h b → ¬ (Precedes a b))
-      (contained : (q : ℕ) (b : Op) → slice_get h q ≡ Some b → Contains h b) (d : List ℕ) (rivals : AreRivals h o cs v a.past d) where
+  module _ (valid : IsValid h) (a : Op) (in_range : IsInRange a) (accepted : IsAccepted h a) (v : Value) (change : a.change ≡ Set o v) (d : List ℕ) (rivals : AreRivals h o cs v a.past d) where
     abbrev t : Attr
     t = attribute_of v
 
@@ -131,8 +78,8 @@ module _ (h : List Op) (o : ObjectId) (cs : List (List Setter)) (tells : Tells h
           at = is.at;
           conflict = record {
             concurrent = record {
-              different = λ f. fresh is.op (contained e.position is.op is.at) (sym (ap (λ (z : Op). z.id) f));
-              not_before = unknown is.op (contained e.position is.op is.at);
+              different = λ f. fresh h valid a in_range accepted is.op (contained_at h e.position is.op is.at) (sym (ap (λ (z : Op). z.id) f));
+              not_before = unknown h valid a in_range accepted is.op (contained_at h e.position is.op is.at);
               not_after = λ p.
                   let late : entry a.past (u.site + 1) < e.seq = u.setter.unknown in
                   let early : is.op.id.seq ≤ entry a.past (u.site + 1) = subst (λ z. is.op.id.seq ≤ entry a.past z) is.site p in
@@ -179,8 +126,7 @@ module _ (h : List Op) (o : ObjectId) (cs : List (List Setter)) (tells : Tells h
             };
           },
           λ q m g.
-              let w = one_setter n k.attribute m.attribute k.site m.site k.place m.place k.setter m.setter k.within m.within k.at m.at k.number m.number in
-              let there : c.position ≡ q = sym k.position ∙ (ap (λ (z : Setter). z.position) w.2 ∙ m.position) in
+              let there : c.position ≡ q = one_position h o cs tells n c.position q k m in
               let b : c.op ≡ g.op = some_one c.op g.op (sym c.at ∙ (ap (slice_get h) there ∙ g.at)) in
               let gave : set_value v apart.attribute ≡ Some apart.second =
               ap (λ z. change_value z apart.attribute) (sym g.change) ∙ (ap (λ (z : Op). change_value z.change apart.attribute) (sym b) ∙ apart.second_given) in

@@ -19,9 +19,14 @@ seq_up_to : (m n : ℕ) → nat_le m n ≡ true → m ≤ n
 seq_up_to m n h = grind (arith, nat_tests)
 
 pub seqs_parted : (ss : List Setter) → AreSetters ss → (m : ℕ) (i j : ℕ) (d : Setter) → i ≤ j → j < length ss → nat_le (get_or ss j d).seq m ≡ true → nat_le (get_or ss i d).seq m ≡ true
-seqs_parted ss a m i j d l k h = let w = a.rise i j d l k in let v = seq_up_to (get_or ss j d).seq m h in grind (arith, nat_tests)
+seqs_parted ss a m i j d l k h =
+    let w : (get_or ss i d).seq ≤ (get_or ss j d).seq = elim (cases_lt i j) [
+      | inl n ↦ let u = a.rise i j d n k in omega (arith, u)
+      | inr n ↦ let e : i ≡ j = omega (arith, l, n) in let u : (get_or ss i d).seq ≡ (get_or ss j d).seq = ap (λ z. (get_or ss z d).seq) e in omega (arith, u)
+    ] in
+    let v = seq_up_to (get_or ss j d).seq m h in grind (arith, nat_tests)
 
-at_place : (ss : List Setter) (i : ℕ) (d : Setter) → i < length ss → slice_get ss i ≡ Some (get_or ss i d)
+pub at_place : (ss : List Setter) (i : ℕ) (d : Setter) → i < length ss → slice_get ss i ≡ Some (get_or ss i d)
 at_place [] i d l = absurd (omega arith)
 at_place (s ∷ ss) zero d l = refl
 at_place (s ∷ ss) (suc i) d l = at_place ss i d (omega arith)
@@ -105,12 +110,12 @@ pub setters_push : (ss qs : List Setter) (s : Setter) → qs ≡ ss ++ s ∷ [] 
 setters_push ss qs s e a f z b = subst AreSetters (sym e) (record {
   rise = λ i j d l m. elim (pushed_at ss s j d m) [
     | inl w ↦ elim (pushed_at ss s i d (let k = w.0 in let n = longer ss in omega arith)) [
-      | inl v ↦ let k = a.rise i j d l w.0 in subst (λ (x : Setter). x.seq ≤ (get_or (ss ++ s ∷ []) j d).seq) (sym v.1) (subst (λ (y : Setter). (get_or ss i d).seq ≤ y.seq) (sym w.1) k)
+      | inl v ↦ let k = a.rise i j d l w.0 in subst (λ (x : Setter). x.seq < (get_or (ss ++ s ∷ []) j d).seq) (sym v.1) (subst (λ (y : Setter). (get_or ss i d).seq < y.seq) (sym w.1) k)
       | inr v ↦ let k = w.0 in let n = v.0 in absurd (omega arith)
     ]
     | inr w ↦ elim (pushed_at ss s i d (let n = longer ss in omega arith)) [
-      | inl v ↦ let k = f i d v.0 in subst (λ (x : Setter). x.seq ≤ (get_or (ss ++ s ∷ []) j d).seq) (sym v.1) (subst (λ (y : Setter). (get_or ss i d).seq ≤ y.seq) (sym w.1) (omega arith))
-      | inr v ↦ subst (λ (x : Setter). x.seq ≤ (get_or (ss ++ s ∷ []) j d).seq) (sym v.1) (subst (λ (y : Setter). s.seq ≤ y.seq) (sym w.1) (omega arith))
+      | inl v ↦ let k = f i d v.0 in subst (λ (x : Setter). x.seq < (get_or (ss ++ s ∷ []) j d).seq) (sym v.1) (subst (λ (y : Setter). (get_or ss i d).seq < y.seq) (sym w.1) k)
+      | inr v ↦ let k = w.0 in let n = v.0 in absurd (omega (arith, k, n, l))
     ]
   ];
   above = λ i d l. elim (pushed_at ss s i d l) [

@@ -1,19 +1,28 @@
 -- Chains tell the setters of an object, as the history becomes longer.
-use Rattle.std.proofs.Common.{◌≡◌, ◌≢◌, ℕ, zero, suc, ◌<◌, ◌+◌, ◌*◌, List, [], ◌∷◌, ◌++◌, length, get_or, set, inl, inr, refl, subst, sym, ap, ◌∙◌, arith}
+use Rattle.std.proofs.Common.{◌≡◌, ◌≢◌, ℕ, zero, suc, ◌<◌, ◌+◌, ◌-◌, ◌*◌, List, [], ◌∷◌, ◌++◌, length, get_or, set, inl, inr, refl, subst, sym, ap, ◌∙◌, arith}
 use Rattle.std.specs.Prelude.{◌⊎◌, ◌↔◌, Contains, Some, slice_get}
+use Rattle.std.specs.List.{repeat}
 use Rattle.std.proofs.lemmas.Bool.{cases_lt}
+use Rattle.std.proofs.lemmas.List.{length-set}
 use Rattle.gf_ops.specs.declared.op.Op.{Op}
 use Rattle.gf_ops.specs.declared.op.ObjectId.{ObjectId}
 use Rattle.gf_ops.specs.declared.change.Attr.{Attr}
-use Rattle.gf_ops.specs.declared.change.Change.TheVariants.{Set}
+use Rattle.gf_ops.specs.declared.change.Change.TheVariants.{Create, Set}
 use Rattle.gf_ops.specs.declared.change.Value.{Value}
-use Rattle.gf_ops.specs.Attribute.{attribute_of}
+use Rattle.gf_ops.specs.declared.change.Start.{Start}
+use Rattle.gf_ops.specs.Accepted.{IsAccepted}
+use Rattle.gf_ops.specs.Attribute.{attribute_of, object_of, changed_object}
+use Rattle.gf_ops.specs.Limits.{IsInRange}
+use Rattle.gf_ops.specs.OperationOrder.{IsSite}
+use Rattle.gf_ops.specs.ValidHistory.{IsValid}
+use Rattle.gf_ops.proofs.HistoryLemmas.{site_in_range, seq_in_range}
 use Rattle.gf_rivals.specs.declared.chain.Setter.{Setter}
-use Rattle.gf_rivals.specs.Setters.{block}
-use Rattle.std.specs.List.{repeat}
-use Rattle.gf_rivals.specs.Chains.{rank, chain_of, no_chains, setters, with_setter}
+use Rattle.gf_rivals.specs.Setters.{block, AreSetters}
+use Rattle.gf_rivals.specs.Chains.{rank, chain_of, setters, no_chains, with_chain, with_setter}
 use Rattle.gf_rivals.specs.Rivals.{IsSetter, IsNumber, Tells, GivesAt, AreEqual}
-use Rattle.gf_rivals.proofs.RivalLemmas.{some_one, rank_one, rank_below}
+use Rattle.gf_rivals.proofs.NextLemmas.{earlier}
+use Rattle.gf_rivals.proofs.NumberLemmas.{some_one, rank_one, rank_below, got_at, contained_at, number_within}
+use Rattle.gf_rivals.proofs.SetterLemmas.{setters_push, at_place}
 
 -- ---- a list that becomes longer
 
@@ -44,21 +53,43 @@ set_else (c ∷ cs) zero (suc j) x d n = refl
 set_else (c ∷ cs) (suc k) zero x d n = refl
 set_else (c ∷ cs) (suc k) (suc j) x d n = set_else cs k j x d (λ e. n (omega (arith, e)))
 
--- ---- no setter
+set_back : (cs : List (List Setter)) (k : ℕ) (x : List Setter) → set (set cs k x) k (get_or cs k []) ≡ cs
+set_back [] k x = refl
+set_back (c ∷ cs) zero x = refl
+set_back (c ∷ cs) (suc k) x = let r = set_back cs k x in λ i. c ∷ r i
 
-abbrev none : List Setter
-none = []
+-- a setter that was put behind the others and taken away again leaves the chains as they were
+pub taken_back : (cs now new : List (List Setter)) (t : Attr) (s : ℕ) (e : Setter) → length cs ≡ 48 → s < 8 → now ≡ with_setter cs t s e →
+    ((us : List Setter) (d : Setter) → setters now t s ≡ us ++ d ∷ [] → new ≡ with_chain now t s us) → new ≡ cs
+taken_back cs now new t s e all l m f =
+    let r = rank_below t in
+    let there : chain_of t s < length cs = omega (arith, r, l, all) in
+    let own : setters now t s ≡ setters cs t s ++ e ∷ [] = ap (λ z. setters z t s) m ∙ set_here cs (chain_of t s) (setters cs t s ++ e ∷ []) [] there in
+    f (setters cs t s) e own ∙ (ap (λ z. set z (chain_of t s) (setters cs t s)) m ∙ set_back cs (chain_of t s) (setters cs t s ++ e ∷ []))
 
-none_at : (k i : ℕ) → get_or (repeat k (none ∷ [])) i [] ≡ []
-none_at zero i = refl
-none_at (suc k) zero = refl
-none_at (suc k) (suc i) = none_at k i
+abbrev no_setter : List Setter
+no_setter = []
 
+empty : (k n : ℕ) → get_or (repeat n (no_setter ∷ [])) k [] ≡ []
+empty k zero = refl
+empty zero (suc n) = refl
+empty (suc k) (suc n) = empty k n
+
+as_many : (n : ℕ) → length (repeat n (no_setter ∷ [])) ≡ n
+as_many zero = refl
+as_many (suc n) = let r = as_many n in omega arith
+
+-- no operation has set anything
 pub empty_tells : (o : ObjectId) → Tells [] o no_chains
 empty_tells o = record {
-  each = λ t s p e l i. absurd (let n : setters no_chains t s ≡ [] = none_at 48 (chain_of t s) in let j = ap (λ z. slice_get z p) (sym n) ∙ i in cc);
-  all = λ q b v e c. absurd cc;
-  short = λ t s l. let n : setters no_chains t s ≡ [] = none_at 48 (chain_of t s) in rw n (omega arith);
+  each = λ t s p e l i. absurd (let n : slice_get [] p ≡ Some e = ap (λ z. slice_get z p) (sym (empty (chain_of t s) 48)) ∙ i in cc);
+  all = λ q b v g c. absurd cc;
+  ordered = λ t s l. subst AreSetters (sym (empty (chain_of t s) 48)) (record {
+    rise = λ i j d k m. absurd (omega (arith, m));
+    above = λ i d k. absurd (omega (arith, k));
+    short = omega arith;
+  });
+  count = as_many 48;
 }
 
 module _ (h : List Op) (o : ObjectId) (cs : List (List Setter)) (tells : Tells h o cs) (a : Op) where
@@ -76,12 +107,48 @@ module _ (h : List Op) (o : ObjectId) (cs : List (List Setter)) (tells : Tells h
       | inl i ↦ tells.all q b v i c
       | inr w ↦ absurd (n v (ap (λ (z : Op). z.change) w.1 ∙ c))
     ];
-    short = tells.short;
+    ordered = tells.ordered;
+    count = tells.count;
   }
 
-  module _ (v : Value) (change : a.change ≡ Set o v) (s : ℕ) (in_range : s < 8) (site : a.id.site ≡ s + 1) (all : length cs ≡ 48) (room : length (setters cs (attribute_of v) s) + 1 < block) where
+  -- one that makes an object
+  pub tells_made : (start : Start) → a.change ≡ Create start → Tells longer o cs
+  tells_made start e = tells_other (λ v f. apart (sym e ∙ f))
+    where
+      apart : {v : Value} → Create start ≢ Set o v
+      apart f = absurd cc
+
+  -- one on another object
+  pub tells_elsewhere : object_of a ≢ o → Tells longer o cs
+  tells_elsewhere n = tells_other (λ v f. n (ap (λ c. changed_object a.id c) f))
+
+  module _ (valid : IsValid h) (in_range : IsInRange a) (accepted : IsAccepted h a) (v : Value) (change : a.change ≡ Set o v) where
     abbrev t : Attr
     t = attribute_of v
+
+    abbrev s : ℕ
+    s = a.id.site - 1
+
+    pub own_site : IsSite a.id.site
+    own_site = site_in_range a in_range
+
+    within : s < 8
+    within = let l = own_site in omega (arith, l.0, l.1)
+
+    site : a.id.site ≡ s + 1
+    site = let l = own_site in omega (arith, l.0)
+
+    pub first_number : 0 < a.id.seq
+    first_number = let l = (seq_in_range a in_range).0 in omega (arith, l)
+
+    -- the setters of its site have smaller numbers
+    pub behind_all : (i : ℕ) (d : Setter) → i < length (setters cs t s) → (get_or (setters cs t s) i d).seq < a.id.seq
+    behind_all i d l =
+        let e = get_or (setters cs t s) i d in
+        let is = tells.each t s i e within (at_place (setters cs t s) i d l) in
+        let k = earlier h valid a in_range accepted is.op (contained_at h e.position is.op is.at) (is.site ∙ sym site) in
+        let q = is.seq in
+        omega (arith, k, q)
 
     abbrev last : Setter
     last = record { seq = a.id.seq; position = length h }
@@ -90,7 +157,7 @@ module _ (h : List Op) (o : ObjectId) (cs : List (List Setter)) (tells : Tells h
     new = with_setter cs t s last
 
     there : chain_of t s < length cs
-    there = let r = rank_below t in omega (arith, r, in_range, all)
+    there = let r = rank_below t in let w = within in let k = tells.count in omega (arith, r, w, k)
 
     own : setters new t s ≡ setters cs t s ++ last ∷ []
     own = set_here cs (chain_of t s) (setters cs t s ++ last ∷ []) [] there
@@ -101,8 +168,8 @@ module _ (h : List Op) (o : ObjectId) (cs : List (List Setter)) (tells : Tells h
       | inr k ↦ elim (cases_lt (chain_of t s) (chain_of u r)) [
         | inl m ↦ inr (set_else cs (chain_of t s) (chain_of u r) (setters cs t s ++ last ∷ []) [] (λ e. omega (arith, m, e)))
         | inr m ↦
-            let x : r ≡ s = omega (arith, k, m, l, in_range) in
-            let y : rank u ≡ rank t = omega (arith, k, m, l, in_range) in inl (rank_one u t y, x)
+            let x : r ≡ s = let w = within in omega (arith, k, m, l, w) in
+            let y : rank u ≡ rank t = let w = within in omega (arith, k, m, l, w) in inl (rank_one u t y, x)
       ]
     ]
 
@@ -124,7 +191,7 @@ module _ (h : List Op) (o : ObjectId) (cs : List (List Setter)) (tells : Tells h
       | inl w ↦
           let here : slice_get (setters new t s) p ≡ Some e = subst (λ z. slice_get (setters new z s) p ≡ Some e) w.0 (subst (λ z. slice_get (setters new u z) p ≡ Some e) w.1 i) in
           let found : IsSetter longer o t s e = elim (get_cases (setters cs t s) last p e (ap (λ z. slice_get z p) (sym own) ∙ here)) [
-            | inl k ↦ still t s e (tells.each t s p e in_range k)
+            | inl k ↦ still t s e (tells.each t s p e within k)
             | inr k ↦ subst (IsSetter longer o t s) k.1 is_last
           ] in
           subst (λ z. IsSetter longer o z r e) (sym w.0) (subst (λ z. IsSetter longer o t z e) (sym w.1) found)
@@ -148,7 +215,7 @@ module _ (h : List Op) (o : ObjectId) (cs : List (List Setter)) (tells : Tells h
     last_number = record {
       attribute = t;
       site = s;
-      within = in_range;
+      within = within;
       place = length (setters cs t s);
       setter = last;
       at = ap (λ z. slice_get z (length (setters cs t s))) own ∙ get_last (setters cs t s) last;
@@ -156,16 +223,13 @@ module _ (h : List Op) (o : ObjectId) (cs : List (List Setter)) (tells : Tells h
       position = refl;
     }
 
-    longer_one : (ss : List Setter) → length (ss ++ last ∷ []) ≡ length ss + 1
-    longer_one [] = refl
-    longer_one (x ∷ ss) = let r = longer_one ss in omega arith
-
-    short_new : (u : Attr) (r : ℕ) → r < 8 → length (setters new u r) < block
-    short_new u r l = elim (same_chain u r l) [
+    ordered_new : (u : Attr) (r : ℕ) → r < 8 → AreSetters (setters new u r)
+    ordered_new u r l = elim (same_chain u r l) [
       | inl w ↦
-          let here : length (setters new t s) < block = let e = longer_one (setters cs t s) in subst (λ z. length z < block) (sym own) (omega (arith, e, room)) in
-          subst (λ z. length (setters new z r) < block) (sym w.0) (subst (λ z. length (setters new t z) < block) (sym w.1) here)
-      | inr w ↦ subst (λ z. length z < block) (sym w) (tells.short u r l)
+          let k = (seq_in_range a in_range).1 in
+          let here : AreSetters (setters new t s) = setters_push (setters cs t s) (setters new t s) last own (tells.ordered t s within) behind_all first_number (omega (arith, k)) in
+          subst (λ z. AreSetters (setters new z r)) (sym w.0) (subst (λ z. AreSetters (setters new t z)) (sym w.1) here)
+      | inr w ↦ subst AreSetters (sym w) (tells.ordered u r l)
     ]
 
     -- ONE MORE SETTER
@@ -176,7 +240,8 @@ module _ (h : List Op) (o : ObjectId) (cs : List (List Setter)) (tells : Tells h
         | inl i ↦ let k = tells.all q b w i c in (k.0, numbered k.0 q k.1)
         | inr z ↦ (chain_of t s * block + length (setters cs t s), subst (IsNumber new (chain_of t s * block + length (setters cs t s))) (sym z.0) last_number)
       ];
-      short = short_new;
+      ordered = ordered_new;
+      count = length-set cs (chain_of t s) (setters cs t s ++ last ∷ []) ∙ tells.count;
     }
 
     abbrev x : ℕ
@@ -189,7 +254,7 @@ module _ (h : List Op) (o : ObjectId) (cs : List (List Setter)) (tells : Tells h
           let here : slice_get (setters new t s) k.place ≡ Some k.setter = subst (λ z. slice_get (setters new z s) k.place ≡ Some k.setter) w.0 (subst (λ z. slice_get (setters new k.attribute z) k.place ≡ Some k.setter) w.1 k.at) in
           let number : n ≡ chain_of t s * block + k.place = subst (λ z. n ≡ chain_of z s * block + k.place) w.0 (subst (λ z. n ≡ chain_of k.attribute z * block + k.place) w.1 k.number) in
           elim (get_cases (setters cs t s) last k.place k.setter (ap (λ z. slice_get z k.place) (sym own) ∙ here)) [
-            | inl old ↦ inl (record { attribute = t; site = s; within = in_range; place = k.place; setter = k.setter; at = old; number = number; position = k.position })
+            | inl old ↦ inl (record { attribute = t; site = s; within = within; place = k.place; setter = k.setter; at = old; number = number; position = k.position })
             | inr z ↦ inr (number ∙ ap (λ y. chain_of t s * block + y) z.0, sym k.position ∙ ap (λ (y : Setter). y.position) (sym z.1))
           ]
       | inr w ↦ inl (record {
@@ -203,6 +268,15 @@ module _ (h : List Op) (o : ObjectId) (cs : List (List Setter)) (tells : Tells h
         position = k.position;
       })
     ]
+
+    pub number_with : (n q : ℕ) → IsNumber new n q ↔ (IsNumber cs n q ⊎ ((n ≡ x) × (q ≡ length h)))
+    number_with n q = (
+      λ k. number_cases n q k,
+      λ k. elim k [
+        | inl old ↦ numbered n q old
+        | inr z ↦ subst (λ y. IsNumber new y q) (sym z.0) (subst (IsNumber new x) (sym z.1) last_number)
+      ],
+    )
 
     gives_still : (q : ℕ) (w : Value) → GivesAt h o q w → GivesAt longer o q w
     gives_still q w g = record { op = g.op; at = get_front h a q g.op g.at; change = g.change }
@@ -219,14 +293,6 @@ module _ (h : List Op) (o : ObjectId) (cs : List (List Setter)) (tells : Tells h
     gives_one : (w : Value) → GivesAt longer o (length h) w → Set o v ≡ Set o w
     gives_one w g = sym change ∙ (ap (λ (z : Op). z.change) (some_one a g.op (sym (get_last h a) ∙ g.at)) ∙ g.change)
 
-    within_old : (n q : ℕ) → IsNumber cs n q → q < length h
-    within_old n q k = let i = tells.each k.attribute k.site k.place k.setter k.within k.at in subst (λ z. z < length h) k.position (in_list h k.setter.position i.op i.at)
-      where
-        in_list : {X : Type 0} (xs : List X) (i : ℕ) (y : X) → slice_get xs i ≡ Some y → i < length xs
-        in_list [] i y e = absurd cc
-        in_list (z ∷ xs) zero y e = omega arith
-        in_list (z ∷ xs) (suc i) y e = let r = in_list xs i y e in omega arith
-
     -- those that give the new value
     pub equal_new : (e f : List ℕ) → AreEqual h o cs v e → ((n : ℕ) → Contains f n ↔ (Contains e n ⊎ (n ≡ x))) → AreEqual longer o new v f
     equal_new e f k g n = (
@@ -235,7 +301,7 @@ module _ (h : List Op) (o : ObjectId) (cs : List (List Setter)) (tells : Tells h
         | inr d ↦ (length h, subst (λ z. IsNumber new z (length h)) (sym d) last_number, gives_new)
       ],
       λ w. (g n).1 (elim (number_cases n w.0 w.1) [
-        | inl old ↦ let l = within_old n w.0 old in inl ((k n).1 (w.0, old, gives_back w.0 v (λ d. omega (arith, l, d)) w.2))
+        | inl old ↦ let l = number_within h o cs tells n w.0 old in inl ((k n).1 (w.0, old, gives_back w.0 v (λ d. omega (arith, l, d)) w.2))
         | inr z ↦ inr z.0
       ]),
     )
@@ -245,7 +311,7 @@ module _ (h : List Op) (o : ObjectId) (cs : List (List Setter)) (tells : Tells h
     equal_other w e apart k n = (
       λ i. let u = (k n).0 i in (u.0, numbered n u.0 u.1, gives_still u.0 w u.2),
       λ u. elim (number_cases n u.0 u.1) [
-        | inl old ↦ let l = within_old n u.0 old in (k n).1 (u.0, old, gives_back u.0 w (λ d. omega (arith, l, d)) u.2)
+        | inl old ↦ let l = number_within h o cs tells n u.0 old in (k n).1 (u.0, old, gives_back u.0 w (λ d. omega (arith, l, d)) u.2)
         | inr z ↦ absurd (apart (gives_one w (subst (λ y. GivesAt longer o y w) z.1 u.2)))
       ],
     )

@@ -9,7 +9,7 @@ use Rattle.gf_ops.specs.declared.change.Value.{Value}
 use Rattle.gf_ops.specs.Attribute.{attribute_of}
 use Rattle.gf_ops.specs.Conflict.{Conflict}
 use Rattle.gf_rivals.specs.declared.chain.Setter.{Setter}
-use Rattle.gf_rivals.specs.Setters.{block}
+use Rattle.gf_rivals.specs.Setters.{block, AreSetters}
 use Rattle.gf_rivals.specs.Chains.{chain_of, setters, IsUnknown}
 
 -- e stands for an operation of h by the site s + 1 that sets the attribute t of o
@@ -33,11 +33,12 @@ pub record IsNumber (cs : List (List Setter)) (n q : ℕ) : Type 0 where
   pub number : n ≡ chain_of attribute site * block + place
   pub position : setter.position ≡ q
 
--- the chains have the setters of o in h
+-- the chains have the setters of o in h, those of each site in their order
 pub record Tells (h : List Op) (o : ObjectId) (cs : List (List Setter)) : Type 0 where
   pub each : (t : Attr) (s p : ℕ) (e : Setter) → s < 8 → slice_get (setters cs t s) p ≡ Some e → IsSetter h o t s e
   pub all : (q : ℕ) (b : Op) (v : Value) → slice_get h q ≡ Some b → b.change ≡ Set o v → (n : ℕ) × IsNumber cs n q
-  pub short : (t : Attr) (s : ℕ) → s < 8 → length (setters cs t s) < block
+  pub ordered : (t : Attr) (s : ℕ) → s < 8 → AreSetters (setters cs t s)
+  pub count : length cs ≡ 48
 
 -- the operation at the position q gives the value v
 pub record GivesAt (h : List Op) (o : ObjectId) (q : ℕ) (v : Value) : Type 0 where
