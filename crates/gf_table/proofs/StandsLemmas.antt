@@ -13,28 +13,33 @@ use Rattle.std.proofs.lemmas.Cmp.{tied_itself}
 use Rattle.std.proofs.lemmas.List.Elements.{Contains-push_cases}
 use Rattle.gf_ops.proofs.ListLemmas.{not_Contains-nil}
 use Rattle.gf_maximal.proofs.ImageLemmas.{Made}
+use Rattle.std.proofs.lemmas.Option.{get_or_from_slice_get, slice_get_within}
 use Rattle.std.proofs.lemmas.Map.Entries.{lookup_at_gap}
 use Rattle.std.proofs.lemmas.Map.Keys.{sorted_tail}
 use Rattle.gf_ops.specs.declared.op.Op.{Op}
 use Rattle.gf_ops.specs.declared.op.ObjectId.{ObjectId}
-use Rattle.gf_ops.specs.declared.change.Change.TheVariants.{Set}
+use Rattle.gf_ops.specs.declared.change.Change.{Change}
+use Rattle.gf_ops.specs.declared.change.Change.TheVariants.{Create, Set}
+use Rattle.gf_ops.specs.ValidHistory.{IsValid}
+use Rattle.gf_ops.proofs.ValidityLemmas.{same_op}
 use Rattle.gf_ops.specs.declared.change.Value.{Value}
 use Rattle.gf_ops.specs.Attribute.{changed_object, object_of}
 use Rattle.gf_groups.specs.Growing.{conflict_at}
 use Rattle.gf_groups.specs.GroupedPositions.{is_on, positions_below}
 use Rattle.gf_groups.specs.Parting.{object_cmp}
 use Rattle.gf_groups.proofs.OnPositionLemmas.{all_positions, contained_at, made_object, on_from, on_op, on_to}
+use Rattle.gf_groups.proofs.PositionLemmas.{Contains-positions_below}
 use Rattle.gf_groups.proofs.PartingLemmas.{object_cmp_total, object_cmp_exact}
 use Rattle.gf_groups.proofs.SortedLemmas.{equal_left}
 use Rattle.gf_groups.proofs.TableLemmas.{conflict_at_test}
-use Rattle.gf_components.specs.Components.{ComponentsState, no_components, whole}
-use Rattle.gf_components.proofs.ComponentLemmas.{first_parts}
+use Rattle.gf_components.specs.Components.{ComponentState, ComponentsState, alone, no_components, whole}
+use Rattle.gf_components.proofs.ComponentLemmas.{all_of_fold, first_parts}
 use Rattle.gf_rivals.specs.Rivals.{IsNumber}
 use Rattle.gf_table.specs.ByPosition.{components_at}
 use Rattle.gf_table.specs.ObjectState.{ObjectState, maker_number, number_conflict, position_in}
 use Rattle.gf_table.specs.Standing.{AreComponentsOn, IsStateOf, Stands, StandsFor, state_of}
 use Rattle.gf_table.proofs.ByPositionLemmas.{components_image, whole_image}
-use Rattle.gf_table.proofs.StateLemmas.{maker_position, number_position, numbers_test, one_number, setter_at, state_kept}
+use Rattle.gf_table.proofs.StateLemmas.{maker_position, number_at, numbers_test, one_number, setter_at, state_kept}
 
 -- the value that is there, put again
 pub put_again : {K X : Type 0} {R : K → K → Ordering} → IsTotalOrder R → (k : K) (es : List (K × X)) (w : X) → IsStrictlySortedBy R (keys_of es) → lookup (is_at (R k)) es ≡ Some w → insert_entry R es k w ≡ es
@@ -64,7 +69,7 @@ module _ (h : List Op) (a : Op) where
   -- the state of an object that the operation is not on
   stands_kept : (q : ObjectId) → object_of a ≢ q → (r : Option ObjectState) → Stands h q r → Stands longer q r
   stands_kept q off (Some t) s = state_kept h q t s a (λ v e. off (ap (changed_object a.id) e))
-  stands_kept q off None s = λ b i. elim (Contains-push_cases h a b i) [ inl j ↦ s b j | inr e ↦ subst (λ (z : Op). object_of z ≢ q) (sym e) off ]
+  stands_kept q off None s = λ b i. elim (Contains-push_cases h a b i) [ inl j ↦ s b j | inr e ↦ subst (λ (z : Op). object_of z ≢ q) e off ]
 
   -- the operation's object has the new state, and the rest stays
   pub stands_after : (t u : List (ObjectId × ObjectState)) (o : ObjectId) (w : ObjectState) → StandsFor h t → object_of a ≡ o → IsStateOf longer o w →
@@ -85,6 +90,21 @@ module _ (h : List Op) (a : Op) where
 
 -- ---- components by position
 
+-- an operation stands at one position of a valid history
+one_position : (h : List Op) → IsValid h → (i j : ℕ) (b : Op) → slice_get h i ≡ Some b → slice_get h j ≡ Some b → i ≡ j
+one_position h valid i j b p q =
+    let l = slice_get_within h i b p in
+    let m = slice_get_within h j b q in
+    let x = get_or_from_slice_get h i b b p in
+    let y = get_or_from_slice_get h j b b q in
+    elim (cases_lt i j) [
+      | inl k ↦ absurd (valid.distinct i j b k m (ap (λ (z : Op). z.id) (x ∙ sym y)))
+      | inr k ↦ elim (cases_lt j i) [
+        | inl n ↦ absurd (valid.distinct j i b n l (ap (λ (z : Op). z.id) (y ∙ sym x)))
+        | inr n ↦ omega (arith, k, n)
+      ]
+    ]
+
 module _ (h : List Op) (o : ObjectId) where
   pub none_on : ((a : Op) → Contains h a → object_of a ≢ o) → AreComponentsOn h o no_components
   none_on none = record {
@@ -95,11 +115,17 @@ module _ (h : List Op) (o : ObjectId) where
     );
   }
 
-  module _ (t : ObjectState) (s : IsStateOf h o t) where
+  -- what is of a component stands in the history
+  pub part_below : (s : ComponentsState) → AreComponentsOn h o s → (p : ComponentState) → Contains s.parts p → (i : ℕ) → Contains p.all i → i < length h
+  part_below s on p inside i j =
+      let w = (on.all i).0 ((all_of_fold (conflict_at h) (alone s.free) s.parts i).1 (inr (p, inside, j))) in
+      ((Contains-positions_below h o (length h) i).0 w).0
+
+  module _ (valid : IsValid h) (t : ObjectState) (s : IsStateOf h o t) where
     abbrev f : ℕ → ℕ
     f = position_in t
 
-    found : AreComponentsOn h o (components_at f t.components)
+    pub found : AreComponentsOn h o (components_at f t.components)
     found = record {
       components = components_image f (number_conflict h t) (conflict_at h) (numbers_test h t) (conflict_at_test h) t.components s.components
           (λ i j a b e. one_number h o t s i j a b e) (λ i j a b. refl);
@@ -113,8 +139,41 @@ module _ (h : List Op) (o : ObjectId) where
         image i = whole_image f (number_conflict h t) (conflict_at h) (numbers_test h t) (conflict_at_test h) t.components s.components
             (λ i j a b e. one_number h o t s i j a b e) (λ i j a b. refl) i
 
+        stands_on : (i : ℕ) (b : Op) → slice_get h i ≡ Some b → object_of b ≡ o → is_on o (slice_get h i) ≡ true
+        stands_on i b at on = subst (λ r. is_on o r ≡ true) (sym at) (on_to o b on)
+
         on_it : (n : ℕ) → Contains (whole t.components).all n → is_on o (slice_get h (f n)) ≡ true
-        on_it n j = ?
+        on_it n j = elim ((s.exactly n).0 j) [
+          | inl e ↦ subst (λ z. is_on o (slice_get h (f z)) ≡ true) (sym e) (subst (λ z. is_on o (slice_get h z) ≡ true) (sym (maker_position h o t s.tells))
+              (stands_on t.maker s.maker.op s.maker.at (λ i. record { 0 = (made_object s.maker.op.id s.maker.op.change s.maker.kind s.maker.made ∙ s.maker.id) i })))
+          | inr w ↦
+              let k = setter_at h o t s n w.0 w.1 in
+              subst (λ z. is_on o (slice_get h z) ≡ true) (sym (number_at h o t s.tells n w.0 w.1)) (stands_on w.0 k.0 k.1 (ap (changed_object k.0.id) k.2.1))
+        ]
+
+        -- an operation of h on the object is its creation or a setter
+        of_op : (i : ℕ) (b : Op) → slice_get h i ≡ Some b → object_of b ≡ o → Made f (whole t.components).all i
+        of_op i b at on = by_change b.change refl
+          where
+            by_change : (d : Change) → b.change ≡ d → Made f (whole t.components).all i
+            by_change (Create start) e =
+                let id : b.id ≡ o.0 = ap (λ (x : Change). (changed_object b.id x).0) (sym e) ∙ ap (λ (x : ObjectId). x.0) on in
+                let one : b ≡ s.maker.op = same_op h valid b s.maker.op (contained_at h i b at) (contained_at h t.maker s.maker.op s.maker.at) (id ∙ sym s.maker.id) in
+                let same : i ≡ t.maker = one_position h valid i t.maker b at (s.maker.at ∙ ap (λ z. Some z) (sym one)) in
+                (maker_number, (s.exactly maker_number).1 (inl refl), same ∙ sym (maker_position h o t s.tells))
+            by_change (Set p v) e =
+                let named : p ≡ o = ap (changed_object b.id) (sym e) ∙ on in
+                let k = s.tells.all i b v at (subst (λ z. b.change ≡ Set z v) named e) in
+                (k.0, (s.exactly k.0).1 (inr (i, k.1)), sym (number_at h o t s.tells k.0 i k.1))
 
         numbered : (i : ℕ) → is_on o (slice_get h i) ≡ true → Made f (whole t.components).all i
-        numbered i y = ?
+        numbered i y = let w = on_op o (slice_get h i) y in of_op i w.0 w.1 w.2
+
+-- ---- what a look-up finds
+
+-- the object that the table has no state of
+pub absent : (h : List Op) (o : ObjectId) (r : Option ObjectState) → Stands h o r → r ≡ None → (a : Op) → Contains h a → object_of a ≢ o
+absent h o r s e = subst (Stands h o) e s
+
+pub there : (h : List Op) (o : ObjectId) (r : Option ObjectState) (t : ObjectState) → Stands h o r → r ≡ Some t → IsStateOf h o t
+there h o r t s e = subst (Stands h o) e s

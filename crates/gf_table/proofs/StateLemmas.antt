@@ -30,12 +30,12 @@ use Rattle.gf_groups.proofs.OnPositionLemmas.{conflict_from, conflict_with, cont
 use Rattle.gf_groups.proofs.TableLemmas.{conflict_at_test}
 use Rattle.gf_rivals.specs.declared.chain.Setter.{Setter}
 use Rattle.gf_rivals.specs.Setters.{block}
-use Rattle.gf_rivals.specs.Chains.{chain_of, no_chains, setters, with_setter}
+use Rattle.gf_rivals.specs.Chains.{chain_of, no_chains, position_of, setters, with_setter}
 use Rattle.gf_rivals.specs.Rivals.{AreRivals, IsNumber, IsSetter, Tells}
 use Rattle.gf_rivals.specs.Rivals.{IsConflict as ConflictsAt}
-use Rattle.gf_rivals.proofs.PositionLemmas.{position_is}
-use Rattle.gf_rivals.proofs.RivalLemmas.{rank_below, rivals_conflict}
-use Rattle.gf_rivals.proofs.SetterLemmas.{from_place}
+use Rattle.gf_rivals.proofs.NumberLemmas.{number_below, number_from, position_is, position_none}
+use Rattle.gf_rivals.proofs.NumberLemmas as numbers
+use Rattle.gf_rivals.proofs.RivalLemmas.{rivals_conflict}
 use Rattle.gf_rivals.proofs.TellsLemmas.{empty_tells, last_number, number_cases, numbered, tells_other, tells_setter}
 use Rattle.gf_table.specs.ObjectState.{ObjectState, made, maker_number, number_conflict, position_in}
 use Rattle.gf_table.specs.Standing.{IsMaker, IsStateOf}
@@ -48,26 +48,21 @@ numbers_test h t =
     record { symmetric = λ i j. test.symmetric (position_in t i) (position_in t j); alone = λ i. test.alone (position_in t i) }
 
 -- the creation stands in no chain
-pub maker_position : (t : ObjectState) → length t.chains ≡ 48 → position_in t maker_number ≡ t.maker
-maker_position t all = ap (λ (ss : List Setter). unwrap_or (option_map (λ (e : Setter). e.position) (slice_get ss 0)) t.maker) (get_or_past t.chains 48 [] (omega (arith, all)))
+pub maker_position : (h : List Op) (o : ObjectId) (t : ObjectState) → Tells h o t.chains → position_in t maker_number ≡ t.maker
+maker_position h o t tells = ap (λ r. unwrap_or r t.maker) (position_none h o t.chains tells maker_number (λ q k. let l = number_below h o t.chains tells maker_number q k in omega (arith, l)))
+
+-- a number stands for its setter's position
+pub number_at : (h : List Op) (o : ObjectId) (t : ObjectState) → Tells h o t.chains → (n q : ℕ) → IsNumber t.chains n q → position_in t n ≡ q
+number_at h o t tells n q k = ap (λ r. unwrap_or r t.maker) (position_is h o t.chains tells n q k)
 
 module _ (h : List Op) (o : ObjectId) (t : ObjectState) (s : IsStateOf h o t) where
-  place_short : (n q : ℕ) (k : IsNumber t.chains n q) → k.place < block
-  place_short n q k =
-      let w = (from_place (setters t.chains k.attribute k.site) k.place k.setter k.at).0 in
-      let l = s.tells.short k.attribute k.site k.within in omega (arith, w, l)
-
-  -- a setter stands at its position
-  pub number_position : (n q : ℕ) → IsNumber t.chains n q → position_in t n ≡ q
-  number_position n q k = ap (λ r. unwrap_or r t.maker) (position_is t.chains n q (λ p j e. subst (λ z. z < block) (sym e) (place_short n q j)) k)
-
   pub setter_at : (n q : ℕ) → IsNumber t.chains n q → (op : Op) × (slice_get h q ≡ Some op) × ((v : Value) × (op.change ≡ Set o v))
   setter_at n q k =
       let i = s.tells.each k.attribute k.site k.place k.setter k.within k.at in
       (i.op, subst (λ z. slice_get h z ≡ Some i.op) k.position i.at, (i.value, i.change))
 
   number_within : (n q : ℕ) → IsNumber t.chains n q → q < length h
-  number_within n q k = let w = setter_at n q k in slice_get_within h q w.0 w.1
+  number_within n q k = numbers.number_within h o t.chains s.tells n q k
 
   maker_within : t.maker < length h
   maker_within = slice_get_within h t.maker s.maker.op s.maker.at
@@ -75,9 +70,17 @@ module _ (h : List Op) (o : ObjectId) (t : ObjectState) (s : IsStateOf h o t) wh
   -- each operation of the object stands in the history
   pub position_within : (n : ℕ) → Contains (whole t.components).all n → position_in t n < length h
   position_within n i = elim ((s.exactly n).0 i) [
-    | inl e ↦ subst (λ z. position_in t z < length h) (sym e) (subst (λ z. z < length h) (sym (maker_position t s.chains)) maker_within)
-    | inr w ↦ subst (λ z. z < length h) (sym (number_position n w.0 w.1)) (number_within n w.0 w.1)
+    | inl e ↦ subst (λ z. position_in t z < length h) (sym e) (subst (λ z. z < length h) (sym (maker_position h o t s.tells)) maker_within)
+    | inr w ↦ subst (λ z. z < length h) (sym (number_at h o t s.tells n w.0 w.1)) (number_within n w.0 w.1)
   ]
+
+  -- no number leads out of the history
+  pub all_within : (n : ℕ) → position_in t n < length h
+  all_within n = by_case (position_of t.chains n) refl
+    where
+      by_case : (r : Option ℕ) → position_of t.chains n ≡ r → unwrap_or r t.maker < length h
+      by_case (Some q) e = number_within n q (number_from h o t.chains s.tells n q e)
+      by_case None e = maker_within
 
   not_set : (q : ℕ) (n : ℕ) → IsNumber t.chains n q → t.maker ≢ q
   not_set q n k e =
@@ -92,13 +95,13 @@ module _ (h : List Op) (o : ObjectId) (t : ObjectState) (s : IsStateOf h o t) wh
   one_number i j a b e = elim ((s.exactly i).0 a) [
     | inl x ↦ elim ((s.exactly j).0 b) [
       | inl y ↦ x ∙ sym y
-      | inr w ↦ absurd (not_set w.0 j w.1 (sym (maker_position t s.chains) ∙ (ap (position_in t) (sym x) ∙ (e ∙ number_position j w.0 w.1))))
+      | inr w ↦ absurd (not_set w.0 j w.1 (sym (maker_position h o t s.tells) ∙ (ap (position_in t) (sym x) ∙ (e ∙ number_at h o t s.tells j w.0 w.1))))
     ]
     | inr v ↦ elim ((s.exactly j).0 b) [
-      | inl y ↦ absurd (not_set v.0 i v.1 (sym (maker_position t s.chains) ∙ (ap (position_in t) (sym y) ∙ (sym e ∙ number_position i v.0 v.1))))
+      | inl y ↦ absurd (not_set v.0 i v.1 (sym (maker_position h o t s.tells) ∙ (ap (position_in t) (sym y) ∙ (sym e ∙ number_at h o t s.tells i v.0 v.1))))
       | inr w ↦
-          let q : v.0 ≡ w.0 = sym (number_position i v.0 v.1) ∙ (e ∙ number_position j w.0 w.1) in
-          s.once i j w.0 (subst (IsNumber t.chains i) q v.1) w.1
+          let q : v.0 ≡ w.0 = sym (number_at h o t s.tells i v.0 v.1) ∙ (e ∙ number_at h o t s.tells j w.0 w.1) in
+          numbers.one_number h o t.chains s.tells i j w.0 (subst (IsNumber t.chains i) q v.1) w.1
     ]
   ]
 
@@ -113,9 +116,7 @@ module _ (h : List Op) (o : ObjectId) (t : ObjectState) (s : IsStateOf h o t) wh
     pub state_kept : ((v : Value) → a.change ≢ Set o v) → IsStateOf longer o t
     state_kept n = record {
       maker = maker_still;
-      chains = s.chains;
       tells = tells_other h o t.chains s.tells a n;
-      once = s.once;
       components = components_agree (number_conflict h t) (number_conflict longer t) t.components
           (λ i j k l. same_conflict h a (position_in t i) (position_in t j) (position_within i k) (position_within j l)) s.components;
       exactly = s.exactly;
@@ -123,14 +124,12 @@ module _ (h : List Op) (o : ObjectId) (t : ObjectState) (s : IsStateOf h o t) wh
 
     -- ONE MORE SETTER, whose rivals are d
     module _ (valid : IsValid h) (in_range : IsInRange a) (accepted : IsAccepted h a) (v : Value) (change : a.change ≡ Set o v)
-        (site : ℕ) (in_site : site < 8) (own_site : a.id.site ≡ site + 1) (room : length (setters t.chains (attribute_of v) site) + 1 < block)
-        (fresh : (b : Op) → Contains h b → b.id ≢ a.id) (unknown : (b : Op) → Contains h b → ¬ (Precedes a b))
         (d : List ℕ) (rivals : AreRivals h o t.chains v a.past d) where
-      abbrev last : Setter
-      last = record { seq = a.id.seq; position = length h }
+      abbrev site : ℕ
+      site = a.id.site - 1
 
       abbrev chains : List (List Setter)
-      chains = with_setter t.chains (attribute_of v) site last
+      chains = with_setter t.chains (attribute_of v) site (record { seq = a.id.seq; position = length h })
 
       abbrev x : ℕ
       x = chain_of (attribute_of v) site * block + length (setters t.chains (attribute_of v) site)
@@ -138,38 +137,32 @@ module _ (h : List Op) (o : ObjectId) (t : ObjectState) (s : IsStateOf h o t) wh
       abbrev grown : ObjectState
       grown = record { chains = chains; components = after d x t.components; maker = t.maker }
 
-      all_chains : length chains ≡ 48
-      all_chains = length-set t.chains (chain_of (attribute_of v) site) (setters t.chains (attribute_of v) site ++ last ∷ []) ∙ s.chains
-
       tells : Tells longer o chains
-      tells = tells_setter h o t.chains s.tells a v change site in_site own_site s.chains room
+      tells = tells_setter h o t.chains s.tells a valid in_range accepted v change
 
       cases : (n q : ℕ) → IsNumber chains n q → IsNumber t.chains n q ⊎ ((n ≡ x) × (q ≡ length h))
-      cases n q k = number_cases h o t.chains s.tells a v change site in_site own_site s.chains room n q k
+      cases n q k = number_cases h o t.chains s.tells a valid in_range accepted v change n q k
 
       new_number : IsNumber chains x (length h)
-      new_number = last_number h o t.chains s.tells a v change site in_site own_site s.chains room
+      new_number = last_number h o t.chains s.tells a valid in_range accepted v change
 
       old_number : (n q : ℕ) → IsNumber t.chains n q → IsNumber chains n q
-      old_number n q k = numbered h o t.chains s.tells a v change site in_site own_site s.chains room n q k
+      old_number n q k = numbered h o t.chains s.tells a valid in_range accepted v change n q k
 
       position_new : (n q : ℕ) → IsNumber chains n q → position_in grown n ≡ q
-      position_new n q k = ap (λ r. unwrap_or r t.maker) (position_is chains n q (λ p j e.
-          let w = (from_place (setters chains j.attribute j.site) j.place j.setter j.at).0 in
-          let l = tells.short j.attribute j.site j.within in
-          subst (λ z. z < block) (sym e) (omega (arith, w, l))) k)
+      position_new n q k = number_at longer o grown tells n q k
 
       at_last : position_in grown x ≡ length h
       at_last = position_new x (length h) new_number
 
       at_maker : position_in grown maker_number ≡ t.maker
-      at_maker = maker_position grown all_chains
+      at_maker = maker_position longer o grown tells
 
       -- what was there stays where it was
       as_before : (n : ℕ) → Contains (whole t.components).all n → position_in grown n ≡ position_in t n
       as_before n i = elim ((s.exactly n).0 i) [
-        | inl e ↦ subst (λ z. position_in grown z ≡ position_in t z) (sym e) (at_maker ∙ sym (maker_position t s.chains))
-        | inr w ↦ position_new n w.0 (old_number n w.0 w.1) ∙ sym (number_position n w.0 w.1)
+        | inl e ↦ subst (λ z. position_in grown z ≡ position_in t z) (sym e) (at_maker ∙ sym (maker_position h o t s.tells))
+        | inr w ↦ position_new n w.0 (old_number n w.0 w.1) ∙ sym (number_at h o t s.tells n w.0 w.1)
       ]
 
       before : AreComponents (number_conflict longer grown) t.components
@@ -198,7 +191,7 @@ module _ (h : List Op) (o : ObjectId) (t : ObjectState) (s : IsStateOf h o t) wh
       at_old q l = same_before h a q l
 
       rivals_are : (n : ℕ) → Contains d n ↔ ConflictsAt h t.chains a n
-      rivals_are n = rivals_conflict h o t.chains s.tells a v change fresh unknown (λ q b e. contained_at h q b e) d rivals n
+      rivals_are n = rivals_conflict h o t.chains s.tells valid a in_range accepted v change d rivals n
 
       comes : ComesTo (number_conflict longer grown) t.components x d
       comes = record {
@@ -228,18 +221,7 @@ module _ (h : List Op) (o : ObjectId) (t : ObjectState) (s : IsStateOf h o t) wh
       pub state_more : IsStateOf longer o grown
       state_more = record {
         maker = maker_still;
-        chains = all_chains;
         tells = tells;
-        once = λ i j q k l. elim (cases i q k) [
-          | inl e ↦ elim (cases j q l) [
-            | inl f ↦ s.once i j q e f
-            | inr f ↦ absurd (let n = number_within i q e in let m = f.1 in omega (arith, n, m))
-          ]
-          | inr e ↦ elim (cases j q l) [
-            | inl f ↦ absurd (let n = number_within j q f in let m = e.1 in omega (arith, n, m))
-            | inr f ↦ e.0 ∙ sym f.0
-          ]
-        ];
         components = step.0;
         exactly = λ n. (
           λ i. elim ((step.1 n).0 i) [
@@ -271,13 +253,12 @@ module _ (h : List Op) (a : Op) (o : ObjectId) (k : Kind) (id : a.id ≡ o.0) (i
   pub state_made : IsStateOf (h ++ a ∷ []) o new
   state_made = record {
     maker = record { op = a; at = got_last h a; id = id; kind = k; made = is_made };
-    chains = refl;
     tells = record {
       each = λ t s p e l i. absurd (no_number (chain_of t s * block + p) e.position (record { attribute = t; site = s; within = l; place = p; setter = e; at = i; number = refl; position = refl }));
       all = λ q b v e c. elim (got_cases h a q b e) [ inl i ↦ absurd (none q b v i c) | inr i ↦ absurd (not_a v (ap (λ (z : Op). z.change) i ∙ c)) ];
-      short = (empty_tells o).short;
+      ordered = (empty_tells o).ordered;
+      count = (empty_tells o).count;
     };
-    once = λ i j q e f. absurd (no_number i q e);
     components = record {
       rises = rising_cons nat_cmp nat_cmp_total maker_number [] (λ i d l. absurd (omega arith)) (rising_nil nat_cmp nat_cmp_total);
       calm = λ i j e f.

@@ -33,9 +33,7 @@ pub record IsMaker (h : List Op) (o : ObjectId) (m : ℕ) : Type 0 where
 -- the state is that of the operations of h on the object o
 pub record IsStateOf (h : List Op) (o : ObjectId) (t : ObjectState) : Type 0 where
   pub maker : IsMaker h o t.maker
-  pub chains : length t.chains ≡ 48
   pub tells : Tells h o t.chains
-  pub once : (i j q : ℕ) → IsNumber t.chains i q → IsNumber t.chains j q → i ≡ j
   pub components : AreComponents (number_conflict h t) t.components
   pub exactly : (n : ℕ) → Contains (whole t.components).all n ↔ ((n ≡ maker_number) ⊎ ((q : ℕ) × IsNumber t.chains n q))
 
