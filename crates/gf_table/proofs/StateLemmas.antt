@@ -1,5 +1,5 @@
 -- The state of an object, when one operation comes: made, kept or grown.
-use Rattle.std.proofs.Common.{◌≡◌, ◌≢◌, ℕ, zero, suc, ◌+◌, ◌-◌, ◌*◌, ◌<◌, ◌≤◌, Bool, true, false, List, [], ◌∷◌, ◌++◌, length, length-set, inl, inr, refl, subst, sym, ap, ◌∙◌, arith}
+use Rattle.std.proofs.Common.{◌≡◌, ◌≢◌, ℕ, zero, suc, ◌+◌, ◌-◌, ◌*◌, ◌<◌, ◌≤◌, Bool, true, false, List, [], ◌∷◌, ◌++◌, get_or, length, inl, inr, refl, subst, sym, ap, ◌∙◌, arith}
 use Rattle.std.specs.Prelude.{◌⊎◌, ◌↔◌, Contains, Option, Some, None, option_map, slice_get, unwrap_or}
 use Rattle.std.specs.Ordering.{nat_cmp}
 use Rattle.std.proofs.lemmas.Bool.{cases_lt}
@@ -7,6 +7,7 @@ use Rattle.std.proofs.lemmas.Cmp.{nat_cmp_total}
 use Rattle.std.proofs.lemmas.Option.{slice_get_within}
 use Rattle.gf_ops.specs.declared.op.Op.{Op}
 use Rattle.gf_ops.specs.declared.op.ObjectId.{ObjectId}
+use Rattle.gf_ops.specs.declared.change.Attr.{Attr}
 use Rattle.gf_ops.specs.declared.change.Change.{Change}
 use Rattle.gf_ops.specs.declared.change.Change.TheVariants.{Create, Set}
 use Rattle.gf_ops.specs.declared.change.Value.{Value}
@@ -36,7 +37,7 @@ use Rattle.gf_rivals.specs.Rivals.{IsConflict as ConflictsAt}
 use Rattle.gf_rivals.proofs.NumberLemmas.{number_below, number_from, position_is, position_none}
 use Rattle.gf_rivals.proofs.NumberLemmas as numbers
 use Rattle.gf_rivals.proofs.RivalLemmas.{rivals_conflict}
-use Rattle.gf_rivals.proofs.TellsLemmas.{empty_tells, last_number, number_cases, numbered, tells_other, tells_setter}
+use Rattle.gf_rivals.proofs.TellsLemmas.{behind_all, empty_tells, last_number, number_cases, numbered, tells_other, tells_setter}
 use Rattle.gf_table.specs.ObjectState.{ObjectState, made, maker_number, number_conflict, position_in}
 use Rattle.gf_table.specs.Standing.{IsMaker, IsStateOf}
 use Rattle.gf_table.proofs.LongerLemmas.{got_before, got_cases, got_last, same_before, same_conflict}
@@ -134,7 +135,7 @@ module _ (h : List Op) (o : ObjectId) (t : ObjectState) (s : IsStateOf h o t) wh
       abbrev x : ℕ
       x = chain_of (attribute_of v) site * block + length (setters t.chains (attribute_of v) site)
 
-      abbrev grown : ObjectState
+      abbrev pub grown : ObjectState
       grown = record { chains = chains; components = after d x t.components; maker = t.maker }
 
       tells : Tells longer o chains
@@ -234,6 +235,28 @@ module _ (h : List Op) (o : ObjectId) (t : ObjectState) (s : IsStateOf h o t) wh
           ]),
         );
       }
+
+-- one more setter, by what the calls gave
+module _ (h : List Op) (o : ObjectId) (t : ObjectState) (s : IsStateOf h o t) (a : Op) (valid : IsValid h) (in_range : IsInRange a) (accepted : IsAccepted h a)
+    (v : Value) (change : a.change ≡ Set o v) (u : Attr) (own : u ≡ attribute_of v) where
+  abbrev place : ℕ
+  place = a.id.site - 1
+
+  pub behind : (i : ℕ) (e : Setter) → i < length (setters t.chains u place) → (get_or (setters t.chains u place) i e).seq < a.id.seq
+  behind = subst (λ z. (i : ℕ) (e : Setter) → i < length (setters t.chains z place) → (get_or (setters t.chains z place) i e).seq < a.id.seq) (sym own)
+      (behind_all h o t.chains s.tells a valid in_range accepted v change)
+
+  pub state_added : (d : List ℕ) → AreRivals h o t.chains v a.past d → (n p : ℕ) → n ≡ chain_of u place * block + length (setters t.chains u place) → p ≡ length h →
+      (cs : List (List Setter)) → cs ≡ with_setter t.chains u place (record { seq = a.id.seq; position = p }) → (k : ComponentsState) → k ≡ after d n t.components →
+      IsStateOf (h ++ a ∷ []) o (record { chains = cs; components = k; maker = t.maker })
+  state_added d rivals n p number position cs pushed k added =
+      let chains : cs ≡ with_setter t.chains (attribute_of v) place (record { seq = a.id.seq; position = length h }) =
+      pushed ∙ (ap (λ z. with_setter t.chains z place (record { seq = a.id.seq; position = p })) own
+      ∙ ap (λ z. with_setter t.chains (attribute_of v) place (record { seq = a.id.seq; position = z })) position) in
+      let components : k ≡ after d (chain_of (attribute_of v) place * block + length (setters t.chains (attribute_of v) place)) t.components =
+      added ∙ ap (λ z. after d z t.components) (number ∙ ap (λ z. chain_of z place * block + length (setters t.chains z place)) own) in
+      let whole_is : record { chains = cs; components = k; maker = t.maker } ≡ grown h o t s a valid in_range accepted v change d rivals = λ i. record { chains = chains i; components = components i; maker = t.maker } in
+      subst (IsStateOf (h ++ a ∷ []) o) (sym whole_is) (state_more h o t s a valid in_range accepted v change d rivals)
 
 -- A CREATION, of an object that no operation of h changes
 module _ (h : List Op) (a : Op) (o : ObjectId) (k : Kind) (id : a.id ≡ o.0) (is_made : made_kind a.change ≡ Some k)
