@@ -20,7 +20,11 @@ use Rattle.gf_ops.specs.declared.op.Op.{Op}
 use Rattle.gf_ops.specs.declared.op.ObjectId.{ObjectId}
 use Rattle.gf_ops.specs.declared.change.Change.{Change}
 use Rattle.gf_ops.specs.declared.change.Change.TheVariants.{Create, Set}
+use Rattle.gf_ops.specs.Accepted.{IsAccepted}
+use Rattle.gf_ops.specs.KnownObject.{IsSuited}
+use Rattle.gf_ops.specs.Limits.{IsInRange}
 use Rattle.gf_ops.specs.ValidHistory.{IsValid}
+use Rattle.gf_rivals.proofs.NextLemmas.{fresh}
 use Rattle.gf_ops.proofs.ValidityLemmas.{same_op}
 use Rattle.gf_ops.specs.declared.change.Value.{Value}
 use Rattle.gf_ops.specs.Attribute.{changed_object, object_of}
@@ -40,22 +44,6 @@ use Rattle.gf_table.specs.ObjectState.{ObjectState, maker_number, number_conflic
 use Rattle.gf_table.specs.Standing.{AreComponentsOn, IsStateOf, Stands, StandsFor, state_of}
 use Rattle.gf_table.proofs.ByPositionLemmas.{components_image, whole_image}
 use Rattle.gf_table.proofs.StateLemmas.{maker_position, number_at, numbers_test, one_number, setter_at, state_kept}
-
--- the value that is there, put again
-pub put_again : {K X : Type 0} {R : K → K → Ordering} → IsTotalOrder R → (k : K) (es : List (K × X)) (w : X) → IsStrictlySortedBy R (keys_of es) → lookup (is_at (R k)) es ≡ Some w → insert_entry R es k w ≡ es
-put_again {R = R} o k [] w s e = absurd cc
-put_again {R = R} o k (d ∷ es) w s e = by_order (R k d.0) refl (put_again o k es w (sorted_tail R d.0 (keys_of es) s))
-  where
-    by_order : (r : Ordering) → R k d.0 ≡ r → (lookup (is_at (R k)) es ≡ Some w → insert_entry R es k w ≡ es) → insert_entry R (d ∷ es) k w ≡ d ∷ es
-    by_order Less p rest =
-        let none : lookup (is_at (R k)) (d ∷ es) ≡ None = lookup_at_gap o k (d ∷ es) 0 s (λ j x lt. absurd (omega (arith, lt))) (λ x here. ap (λ z. R k (unwrap_or z x).0) (sym here) ∙ p) in
-        absurd cc
-    by_order Equal p rest =
-        let same : d.1 ≡ w = ap (λ u. unwrap_or u d.1) (sym (cond-true (is_at (R k) d.0) (Some d.1) (lookup (is_at (R k)) es) (ap is_eq p)) ∙ e) in
-        ap (λ r. match_ordering r ((k, w) ∷ d ∷ es) ((d.0, w) ∷ es) (d ∷ insert_entry R es k w)) p ∙ ap (λ x. (d.0, x) ∷ es) (sym same)
-    by_order Greater p rest =
-        ap (λ r. match_ordering r ((k, w) ∷ d ∷ es) ((d.0, w) ∷ es) (d ∷ insert_entry R es k w)) p
-        ∙ ap (λ xs. d ∷ xs) (rest (sym (cond-false (is_at (R k) d.0) (Some d.1) (lookup (is_at (R k)) es) (ap is_eq p)) ∙ e))
 
 at_told : (o q : ObjectId) → is_at (object_cmp o) q ≡ true → o ≡ q
 at_told o q t = object_cmp_exact o q (equal_left (object_cmp o q) t)
@@ -177,3 +165,21 @@ absent h o r s e = subst (Stands h o) e s
 
 pub there : (h : List Op) (o : ObjectId) (r : Option ObjectState) (t : ObjectState) → Stands h o r → r ≡ Some t → IsStateOf h o t
 there h o r t s e = subst (Stands h o) e s
+
+-- ---- the next operation
+
+module _ (h : List Op) (valid : IsValid h) (a : Op) (in_range : IsInRange a) (accepted : IsAccepted h a) where
+  -- no operation changes an object before it is created
+  pub none_before : (o : ObjectId) → o.0 ≡ a.id → (q : ℕ) (b : Op) (v : Value) → slice_get h q ≡ Some b → b.change ≢ Set o v
+  none_before o id q b v at e =
+      let inside = contained_at h q b at in
+      let suited : IsSuited h b (Set o v) = subst (IsSuited h b) e (valid.suited b inside) in
+      let maker = suited.known in
+      fresh h valid a in_range accepted maker.maker maker.contained (maker.id ∙ id)
+
+  -- a changed object has an operation before
+  pub some_before : (o : ObjectId) (v : Value) → a.change ≡ Set o v → ((b : Op) → Contains h b → object_of b ≢ o) → ⊥
+  some_before o v e none =
+      let suited : IsSuited h a (Set o v) = subst (IsSuited h a) e accepted.suited in
+      let maker = suited.known in
+      none maker.maker maker.contained (λ i. record { 0 = (made_object maker.maker.id maker.maker.change suited.kind maker.kind ∙ maker.id) i })

@@ -1,13 +1,13 @@
 //! The versions of all objects of a history in components, one operation at a time.
 
-ghost use Rattle.std.specs.Prelude.{◌≡◌, ◌↔◌, ◌∷◌, [], ◌++◌, Err, IfOk, OnOk, OnErr};
-ghost use Rattle.std.specs.BTreeMap.{insert_entry};
+ghost use Rattle.std.specs.Prelude.{◌≡◌, ◌↔◌, ◌∷◌, [], ◌++◌, Err, Some, cond, IfOk, OnOk, OnErr};
+ghost use Rattle.std.specs.BTreeMap.{insert_entry, is_at};
 ghost use Rattle.gf_ops.specs.Accepted.{IsAccepted};
 ghost use Rattle.gf_ops.specs.Limits.{IsInRange};
 ghost use Rattle.gf_groups.specs.declared.faults.GroupFault.{GroupFault};
 ghost use Rattle.gf_groups.specs.Parting.{object_cmp};
 ghost use Rattle.gf_groups.specs.Versions.{IsMade, AreVersions};
-ghost use Rattle.gf_table.specs.Standing.{StandsFor, AreComponentsOn};
+ghost use Rattle.gf_table.specs.Standing.{StandsFor, AreComponentsOn, state_of};
 
 
 use crate::listing::listed;
@@ -166,6 +166,8 @@ fn put(
 ) -> Result<(), OutOfMemory>
     ensures ok { OnOk result (objects.new.entries
         ≡ insert_entry object_cmp objects.old.entries object state) }
+    ensures puts { OnOk result ((o : _) → state_of objects.new.entries o
+        ≡ cond (is_at (object_cmp object) o) (Some state) (state_of objects.old.entries o)) }
     ensures err { OnErr result (objects.new.entries ≡ objects.old.entries) }
 {
     match objects.insert(object, state) {
