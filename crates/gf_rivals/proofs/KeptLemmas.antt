@@ -1,6 +1,7 @@
 -- The chains that are kept, and the list of all.
 use Rattle.std.proofs.Common.{◌≡◌, ◌≢◌, ℕ, zero, suc, ◌<◌, ◌≤◌, ◌+◌, List, [], ◌∷◌, ◌++◌, length, get_or, set, inl, inr, refl, subst, sym, ap, ◌∙◌, arith, true, false}
-use Rattle.std.specs.Prelude.{cond, Option, Some, None, slice_get, unwrap_or}
+use Rattle.std.specs.Borrow.{Bor}
+use Rattle.std.specs.Prelude.{cond, IfSome, Option, Some, None, unwrap_or, option_copied}
 use Rattle.std.specs.List.{repeat}
 use Rattle.std.specs.BTreeMap.{is_at}
 use Rattle.std.specs.Cmp.{Equal-is}
@@ -109,6 +110,11 @@ below_kept es fs f b k l = f k ∙ b k l
 
 pub below_put : (es fs : Kept) (ss : List Setter) (x : ℕ) → x < 48 → PutsChain es x ss fs → AreBelow 48 es → AreBelow 48 fs
 below_put es fs ss x m f b k l = f k ∙ (cond-false (is_at (nat_cmp x) k) (Some ss) (lookup (is_at (nat_cmp k)) es) (at_other x k (λ e. omega (arith, m, l, e))) ∙ b k l)
+
+-- a chain that is kept has an index below 48
+pub kept_below : (es : Kept) (k : ℕ) (r : Option (Bor (List Setter))) → AreBelow 48 es → option_copied r ≡ lookup (is_at (nat_cmp k)) es → IfSome r (λ z. k < 48)
+kept_below es k None b e = tt
+kept_below es k (Some c) b e = elim (cases_lt k 48) [ inl l ↦ l | inr l ↦ absurd (let n : Some c.now ≡ None = e ∙ b k l in cc) ]
 
 -- ---- of one attribute and site
 

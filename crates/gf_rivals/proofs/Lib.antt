@@ -4,3 +4,6 @@ pub mod NumberLemmas
 pub mod RivalLemmas
 pub mod TellsLemmas
 pub mod KeptLemmas
+pub mod FingerprintLemmas
+pub mod IndexLemmas
+pub mod GivingLemmas

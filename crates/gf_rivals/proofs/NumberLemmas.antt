@@ -99,6 +99,22 @@ setter_found (Some e) q f = (e, refl, some_one e.position q f)
 
 -- ---- numbers
 
+-- the number of the setter at a place of the chain with the index k
+pub number_in : (cs : List (List Setter)) (k p : ℕ) (e : Setter) → k < 48 → slice_get (get_or cs k []) p ≡ Some e → IsNumber cs (k * block + p) e.position
+number_in cs k p e l at =
+    let first : rank (unranked (k / 8)) ≡ k / 8 = rank_to (k / 8) (omega (arith, l)) in
+    let chain : k ≡ chain_of (unranked (k / 8)) (k % 8) = omega (arith, first) in
+    record {
+      attribute = unranked (k / 8);
+      site = k % 8;
+      within = omega arith;
+      place = p;
+      setter = e;
+      at = subst (λ z. slice_get (get_or cs z []) p ≡ Some e) chain at;
+      number = ap (λ z. z * block + p) chain;
+      position = refl;
+    }
+
 module _ (h : List Op) (o : ObjectId) (cs : List (List Setter)) (tells : Tells h o cs) where
   pub place_short : (t : Attr) (s p : ℕ) (e : Setter) → s < 8 → slice_get (setters cs t s) p ≡ Some e → p < block
   place_short t s p e l a = let w = (from_place (setters cs t s) p e a).0 in let k = (tells.ordered t s l).short in omega (arith, w, k)
@@ -207,18 +223,8 @@ module _ (h : List Op) (o : ObjectId) (cs : List (List Setter)) (tells : Tells h
         | inl l ↦ l
         | inr l ↦ absurd (let e : slice_get [] p ≡ Some w.0 = ap (λ z. slice_get z p) (sym (past_end cs k (omega (arith, l, all)))) ∙ w.1 in cc)
       ] in
-      let first : rank (unranked (k / 8)) ≡ k / 8 = rank_to (k / 8) (omega (arith, inside)) in
-      let chain : k ≡ chain_of (unranked (k / 8)) (k % 8) = omega (arith, first) in
-      record {
-        attribute = unranked (k / 8);
-        site = k % 8;
-        within = omega arith;
-        place = p;
-        setter = w.0;
-        at = subst (λ z. slice_get (get_or cs z []) p ≡ Some w.0) chain w.1;
-        number = let e : n ≡ k * block + p = omega arith in e ∙ ap (λ z. z * block + p) chain;
-        position = w.2;
-      }
+      let e : n ≡ k * block + p = omega arith in
+      subst (λ z. IsNumber cs z q) (sym e) (subst (IsNumber cs (k * block + p)) w.2 (number_in cs k p w.0 inside w.1))
 
   -- so what is no setter's number has no position
   pub position_none : (n : ℕ) → ((q : ℕ) → ¬ (IsNumber cs n q)) → position_of cs n ≡ None

@@ -1,6 +1,6 @@
 -- The rivals of the next operation are those that it conflicts with.
-use Rattle.std.proofs.Common.{◌≡◌, ◌≢◌, ℕ, zero, suc, ◌<◌, ◌≤◌, ◌+◌, ◌*◌, List, inl, inr, refl, subst, sym, ap, ◌∙◌, arith}
-use Rattle.std.specs.Prelude.{◌↔◌, Contains, Some, slice_get, unwrap_or}
+use Rattle.std.proofs.Common.{◌≡◌, ◌≢◌, ℕ, zero, suc, ◌<◌, ◌≤◌, ◌+◌, ◌*◌, true, List, [], inl, inr, refl, subst, sym, ap, ◌∙◌, arith}
+use Rattle.std.specs.Prelude.{◌↔◌, Contains, Option, Some, None, slice_get, unwrap_or}
 use Rattle.std.proofs.lemmas.Bool.{cases_lt}
 use Rattle.gf_ops.specs.declared.op.Op.{Op}
 use Rattle.gf_ops.specs.declared.op.ObjectId.{ObjectId}
@@ -15,14 +15,24 @@ use Rattle.gf_ops.specs.Attribute.{attribute_of, change_value, set_value, object
 use Rattle.gf_ops.specs.Limits.{IsInRange}
 use Rattle.gf_ops.specs.ValidHistory.{IsValid}
 use Rattle.gf_ops.specs.OperationOrder.{entry, Precedes}
-use Rattle.gf_maximal.specs.Growing.{without}
-use Rattle.gf_maximal.proofs.MaximalLemmas.{Contains-without}
+use Rattle.std.specs.BTreeMap.{is_at}
+use Rattle.std.specs.Map.{lookup}
+use Rattle.gf_maximal.specs.Growing.{is_in, without, common}
+use Rattle.gf_maximal.proofs.ListLemmas.{Contains-filter}
+use Rattle.gf_maximal.proofs.MaximalLemmas.{Contains-without, in_list}
+use Rattle.gf_ops.proofs.ListLemmas.{not_Contains-nil}
+use Rattle.gf_ops.proofs.SameLemmas.{value_eq-same, value_eq-true}
+use Rattle.gf_rivals.specs.declared.fingerprint.Fingerprint.{Fingerprint}
+use Rattle.gf_rivals.specs.Fingerprints.{fingerprint_of, fingerprint_cmp, has_own_fingerprint}
+use Rattle.gf_rivals.specs.Giving.{op_value, value_set, is_value, value_at, number_gives, fingerprint_given}
+use Rattle.gf_rivals.specs.Indexes.{numbers_at, IsIndex}
+use Rattle.gf_rivals.proofs.FingerprintLemmas.{told_one}
 use Rattle.gf_rivals.specs.declared.chain.Setter.{Setter}
 use Rattle.gf_rivals.specs.Setters.{block}
-use Rattle.gf_rivals.specs.Chains.{rank, chain_of, setters, IsUnknown}
-use Rattle.gf_rivals.specs.Rivals.{IsNumber, Tells, GivesAt, AreRivals, AreEqual, IsConflict}
+use Rattle.gf_rivals.specs.Chains.{chain_of, setters, position_of, IsUnknown}
+use Rattle.gf_rivals.specs.Rivals.{IsNumber, Tells, GivesAt, AreRivals, IsConflict}
 use Rattle.gf_rivals.proofs.NextLemmas.{fresh, unknown}
-use Rattle.gf_rivals.proofs.NumberLemmas.{some_one, contained_at, one_position}
+use Rattle.gf_rivals.proofs.NumberLemmas.{some_one, contained_at, one_position, position_is, number_from}
 
 -- ---- values and attributes
 
@@ -140,10 +150,78 @@ module _ (h : List Op) (o : ObjectId) (cs : List (List Setter)) (tells : Tells h
       λ c. (rivals n).1 (conflict_rivals n c),
     )
 
--- the unknown setters without those of the same value are the rivals
-pub rivals_from : (h : List Op) (o : ObjectId) (cs : List (List Setter)) (v : Value) (past : Clock) (u e d : List ℕ) →
-    ((n : ℕ) → Contains u n ↔ IsUnknown cs (attribute_of v) past 8 n) → AreEqual h o cs v e → d ≡ without e u → AreRivals h o cs v past d
-rivals_from h o cs v past u e d f g k n = (
-  λ i. let w = (Contains-without e u n).0 (subst (λ z. Contains z n) k i) in ((f n).0 w.0, λ q m a. w.1 ((g n).1 (q, m, a))),
-  λ i. subst (λ z. Contains z n) (sym k) ((Contains-without e u n).1 ((f n).1 i.0, λ j. let w = (g n).0 j in i.1 w.0 w.1 w.2)),
-)
+-- ---- by what is found
+
+module _ (h : List Op) (o : ObjectId) (cs : List (List Setter)) (tells : Tells h o cs) (ix : List (Fingerprint × List ℕ)) (index : IsIndex h cs ix) (v : Value) (past : Clock)
+    (u : List ℕ) (unknowns : (n : ℕ) → Contains u n ↔ IsUnknown cs (attribute_of v) past 8 n) where
+  -- a setter that gives v
+  Gives : ℕ → Type 0
+  Gives n = (q : ℕ) × IsNumber cs n q × GivesAt h o q v
+
+  -- the unknown ones without e, which give v and are all unknown ones that do
+  rivals_by : (e d : List ℕ) → ((n : ℕ) → Contains e n → Gives n) → ((n : ℕ) → Contains u n → Gives n → Contains e n) → ((n : ℕ) → Contains d n ↔ (Contains u n × (¬ Contains e n))) → AreRivals h o cs v past d
+  unfolding Gives
+  rivals_by e d f g k n = (
+    λ i. let w = (k n).0 i in ((unknowns n).0 w.0, λ q m a. w.1 (g n w.0 (q, m, a))),
+    λ i. (k n).1 ((unknowns n).1 i.0, λ j. let w = f n j in i.1 w.0 w.1 w.2),
+  )
+
+  -- what stands at a number's position sets a value of the object
+  value_set_at : (n q : ℕ) → IsNumber cs n q → (x : Value) × GivesAt h o q x
+  value_set_at n q k =
+      let i = tells.each k.attribute k.site k.place k.setter k.within k.at in
+      (i.value, record { op = i.op; at = ap (slice_get h) (sym k.position) ∙ i.at; change = i.change })
+
+  value_given_at : (q : ℕ) (x : Value) → GivesAt h o q x → op_value (slice_get h q) ≡ Some x
+  value_given_at q x g = ap op_value g.at ∙ ap value_set g.change
+
+  -- the index has each setter that gives v under the fingerprint of v
+  listed : (n : ℕ) → Gives n → Contains (numbers_at ix (fingerprint_of v)) n
+  unfolding Gives
+  listed n w = (index (fingerprint_of v) n).1 (record { position = w.0; number = w.1; given = ap fingerprint_given (value_given_at w.0 v w.2) })
+
+  -- no setter has the fingerprint of v
+  pub rivals_none : lookup (is_at (fingerprint_cmp (fingerprint_of v))) ix ≡ None → AreRivals h o cs v past u
+  rivals_none none = rivals_by [] u
+      (λ n i. absurd (not_Contains-nil n i))
+      (λ n i w. subst (λ z. Contains z n) (ap (λ (r : Option (List ℕ)). unwrap_or r []) none) (listed n w))
+      (λ n. (λ i. (i, not_Contains-nil n), λ i. i.0))
+
+  module _ (s : List ℕ) (some : lookup (is_at (fingerprint_cmp (fingerprint_of v))) ix ≡ Some s) where
+    there : numbers_at ix (fingerprint_of v) ≡ s
+    there = ap (λ (r : Option (List ℕ)). unwrap_or r []) some
+
+    -- all setters with the fingerprint of v give v
+    pub rivals_own : has_own_fingerprint v ≡ true → (d : List ℕ) → d ≡ without s u → AreRivals h o cs v past d
+    unfolding Gives
+    rivals_own own d e = rivals_by s d
+        (λ n i.
+        let f = (index (fingerprint_of v) n).0 (subst (λ z. Contains z n) (sym there) i) in
+        let x = value_set_at n f.position f.number in
+        let same : fingerprint_of x.0 ≡ fingerprint_of v =
+        some_one (fingerprint_of x.0) (fingerprint_of v) (ap fingerprint_given (sym (value_given_at f.position x.0 x.1)) ∙ f.given) in
+        (f.position, f.number, subst (GivesAt h o f.position) (told_one v x.0 own same) x.1))
+        (λ n i w. subst (λ z. Contains z n) there (listed n w))
+        (λ n. let w = Contains-without s u n in (λ i. w.0 (subst (λ z. Contains z n) e i), λ i. subst (λ z. Contains z n) (sym e) (w.1 i)))
+
+    -- only the setters e of those that are unknown give v
+    pub rivals_compared : (c e d : List ℕ) → c ≡ common s u → ((n : ℕ) → Contains e n ↔ (Contains c n × (number_gives h cs v n ≡ true))) → d ≡ without e u → AreRivals h o cs v past d
+    unfolding Gives
+    rivals_compared c e d both f k = rivals_by e d
+        (λ n i. gives_v n ((f n).0 i).1)
+        (λ n i w. (f n).1 (
+          subst (λ z. Contains z n) (sym both) ((Contains-filter (is_in s) u n).1 (i, in_list s n (subst (λ z. Contains z n) there (listed n w)))),
+          ap (λ r. is_value (value_at h r) v) (position_is h o cs tells n w.0 w.1) ∙ (ap (λ r. is_value r v) (value_given_at w.0 v w.2) ∙ value_eq-same v),
+        ))
+        (λ n. let w = Contains-without e u n in (λ i. w.0 (subst (λ z. Contains z n) k i), λ i. subst (λ z. Contains z n) (sym k) (w.1 i)))
+      where
+        gives_v : (n : ℕ) → number_gives h cs v n ≡ true → Gives n
+        gives_v n t = by_position (position_of cs n) refl t
+          where
+            by_position : (r : Option ℕ) → position_of cs n ≡ r → is_value (value_at h r) v ≡ true → Gives n
+            by_position None a b = absurd cc
+            by_position (Some q) a b =
+                let m = number_from h o cs tells n q a in
+                let x = value_set_at n q m in
+                let same : x.0 ≡ v = value_eq-true x.0 v (ap (λ r. is_value r v) (sym (value_given_at q x.0 x.1)) ∙ b) in
+                (q, m, subst (GivesAt h o q) same x.1)

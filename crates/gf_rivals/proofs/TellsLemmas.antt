@@ -19,7 +19,12 @@ use Rattle.gf_ops.proofs.HistoryLemmas.{site_in_range, seq_in_range}
 use Rattle.gf_rivals.specs.declared.chain.Setter.{Setter}
 use Rattle.gf_rivals.specs.Setters.{block, AreSetters}
 use Rattle.gf_rivals.specs.Chains.{rank, chain_of, setters, no_chains, with_chain, with_setter}
-use Rattle.gf_rivals.specs.Rivals.{IsSetter, IsNumber, Tells, GivesAt, AreEqual}
+use Rattle.gf_rivals.specs.Rivals.{IsSetter, IsNumber, Tells}
+use Rattle.gf_rivals.specs.declared.fingerprint.Fingerprint.{Fingerprint}
+use Rattle.gf_rivals.specs.Fingerprints.{fingerprint_of}
+use Rattle.gf_rivals.specs.Giving.{op_value, value_set, fingerprint_given}
+use Rattle.gf_rivals.specs.Indexes.{HasFingerprint, IsIndex, PutsNumber}
+use Rattle.gf_rivals.proofs.IndexLemmas.{Contains-numbers_at}
 use Rattle.gf_rivals.proofs.NextLemmas.{earlier}
 use Rattle.gf_rivals.proofs.NumberLemmas.{some_one, rank_one, rank_below, got_at, contained_at, number_within}
 use Rattle.gf_rivals.proofs.SetterLemmas.{setters_push, at_place}
@@ -30,6 +35,11 @@ get_front : {X : Type 0} (xs : List X) (y : X) (i : ℕ) (x : X) → slice_get x
 get_front [] y i x e = absurd cc
 get_front (z ∷ xs) y zero x e = e
 get_front (z ∷ xs) y (suc i) x e = get_front xs y i x e
+
+get_within : {X : Type 0} (xs : List X) (y : X) (i : ℕ) → i < length xs → slice_get (xs ++ y ∷ []) i ≡ slice_get xs i
+get_within [] y i l = absurd (omega arith)
+get_within (z ∷ xs) y zero l = refl
+get_within (z ∷ xs) y (suc i) l = get_within xs y i (omega arith)
 
 get_last : {X : Type 0} (xs : List X) (y : X) → slice_get (xs ++ y ∷ []) (length xs) ≡ Some y
 get_last [] y = refl
@@ -121,6 +131,28 @@ module _ (h : List Op) (o : ObjectId) (cs : List (List Setter)) (tells : Tells h
   -- one on another object
   pub tells_elsewhere : object_of a ≢ o → Tells longer o cs
   tells_elsewhere n = tells_other (λ v f. n (ap (λ c. changed_object a.id c) f))
+
+  -- what has a fingerprint keeps it
+  given_still : (p : Fingerprint) (n : ℕ) → HasFingerprint h cs p n → HasFingerprint longer cs p n
+  given_still p n f = record {
+    position = f.position;
+    number = f.number;
+    given = ap (λ r. fingerprint_given (op_value r)) (get_within h a f.position (number_within h o cs tells n f.position f.number)) ∙ f.given;
+  }
+
+  given_back : (p : Fingerprint) (n q : ℕ) → IsNumber cs n q → fingerprint_given (op_value (slice_get longer q)) ≡ Some p → HasFingerprint h cs p n
+  given_back p n q k g = record {
+    position = q;
+    number = k;
+    given = ap (λ r. fingerprint_given (op_value r)) (sym (get_within h a q (number_within h o cs tells n q k))) ∙ g;
+  }
+
+  -- the index stays one, whatever comes
+  pub index_other : (ix : List (Fingerprint × List ℕ)) → IsIndex h cs ix → IsIndex longer cs ix
+  index_other ix index p n = (
+    λ i. given_still p n ((index p n).0 i),
+    λ f. (index p n).1 (given_back p n f.position f.number f.given),
+  )
 
   module _ (valid : IsValid h) (in_range : IsInRange a) (accepted : IsAccepted h a) (v : Value) (change : a.change ≡ Set o v) where
     abbrev t : Attr
@@ -278,40 +310,17 @@ module _ (h : List Op) (o : ObjectId) (cs : List (List Setter)) (tells : Tells h
       ],
     )
 
-    gives_still : (q : ℕ) (w : Value) → GivesAt h o q w → GivesAt longer o q w
-    gives_still q w g = record { op = g.op; at = get_front h a q g.op g.at; change = g.change }
-
-    gives_back : (q : ℕ) (w : Value) → q ≢ length h → GivesAt longer o q w → GivesAt h o q w
-    gives_back q w n g = elim (get_cases h a q g.op g.at) [
-      | inl i ↦ record { op = g.op; at = i; change = g.change }
-      | inr z ↦ absurd (n z.0)
-    ]
-
-    gives_new : GivesAt longer o (length h) v
-    gives_new = record { op = a; at = get_last h a; change = change }
-
-    gives_one : (w : Value) → GivesAt longer o (length h) w → Set o v ≡ Set o w
-    gives_one w g = sym change ∙ (ap (λ (z : Op). z.change) (some_one a g.op (sym (get_last h a) ∙ g.at)) ∙ g.change)
-
-    -- those that give the new value
-    pub equal_new : (e f : List ℕ) → AreEqual h o cs v e → ((n : ℕ) → Contains f n ↔ (Contains e n ⊎ (n ≡ x))) → AreEqual longer o new v f
-    equal_new e f k g n = (
-      λ i. elim ((g n).0 i) [
-        | inl j ↦ let w = (k n).0 j in (w.0, numbered n w.0 w.1, gives_still w.0 v w.2)
-        | inr d ↦ (length h, subst (λ z. IsNumber new z (length h)) (sym d) last_number, gives_new)
-      ],
-      λ w. (g n).1 (elim (number_cases n w.0 w.1) [
-        | inl old ↦ let l = number_within h o cs tells n w.0 old in inl ((k n).1 (w.0, old, gives_back w.0 v (λ d. omega (arith, l, d)) w.2))
-        | inr z ↦ inr z.0
-      ]),
-    )
-
-    -- and those that give another one
-    pub equal_other : (w : Value) (e : List ℕ) → Set o v ≢ Set o w → AreEqual h o cs w e → AreEqual longer o new w e
-    equal_other w e apart k n = (
-      λ i. let u = (k n).0 i in (u.0, numbered n u.0 u.1, gives_still u.0 w u.2),
-      λ u. elim (number_cases n u.0 u.1) [
-        | inl old ↦ let l = number_within h o cs tells n u.0 old in (k n).1 (u.0, old, gives_back u.0 w (λ d. omega (arith, l, d)) u.2)
-        | inr z ↦ absurd (apart (gives_one w (subst (λ y. GivesAt longer o y w) z.1 u.2)))
-      ],
-    )
+    -- the index with the new setter
+    pub index_setter : (ix new_ix : List (Fingerprint × List ℕ)) → IsIndex h cs ix → PutsNumber ix (fingerprint_of v) x new_ix → IsIndex longer new new_ix
+    index_setter ix new_ix index puts p n =
+        let w = Contains-numbers_at ix new_ix (fingerprint_of v) x puts p n in
+        let own : fingerprint_given (op_value (slice_get longer (length h))) ≡ Some (fingerprint_of v) = ap (λ r. fingerprint_given (op_value r)) (get_last h a) ∙ ap (λ c. fingerprint_given (value_set c)) change in (
+          λ i. elim (w.0 i) [
+            | inl j ↦ let f = given_still p n ((index p n).0 j) in record { position = f.position; number = numbered n f.position f.number; given = f.given }
+            | inr j ↦ record { position = length h; number = subst (λ z. IsNumber new z (length h)) (sym j.1) last_number; given = own ∙ ap Some j.0 }
+          ],
+          λ f. w.1 (elim (number_cases n f.position f.number) [
+            | inl old ↦ inl ((index p n).1 (given_back p n f.position old f.given))
+            | inr z ↦ inr (some_one (fingerprint_of v) p (sym own ∙ (ap (λ q. fingerprint_given (op_value (slice_get longer q))) (sym z.1) ∙ f.given)), z.0)
+          ]),
+        )

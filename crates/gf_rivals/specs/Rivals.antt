@@ -57,7 +57,3 @@ pub record IsConflict (h : List Op) (cs : List (List Setter)) (a : Op) (n : ℕ)
   pub number : IsNumber cs n position
   pub at : slice_get h position ≡ Some op
   pub conflict : Conflict a op
-
--- e are the numbers of the setters of o that give the value v
-abbrev pub AreEqual : List Op → ObjectId → List (List Setter) → Value → List ℕ → Type 0
-AreEqual h o cs v e = (n : ℕ) → Contains e n ↔ ((q : ℕ) × IsNumber cs n q × GivesAt h o q v)

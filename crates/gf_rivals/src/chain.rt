@@ -52,6 +52,14 @@ impl Chain {
         self.setters.len()
     }
 
+    /// All of them.
+    pub fn setters(&self) -> &[Setter]
+        ensures value { result.now ≡ self.now }
+        ensures bound { length self.now < block }
+    {
+        &self.setters
+    }
+
     /// That at this place.
     pub fn get(&self, place: usize) -> Option<&Setter>
         ensures { option_copied result ≡ slice_get self.now place }

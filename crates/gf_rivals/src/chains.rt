@@ -1,7 +1,7 @@
 //! The setters of an object, by attribute and site.
 
 ghost use Rattle.std.specs.Prelude.{◌≡◌, ◌↔◌, ◌⊎◌, ◌+◌, ◌-◌, ◌*◌, ◌^◌, ◌<◌, ◌++◌, ◌∷◌, [], Contains};
-ghost use Rattle.std.specs.Prelude.{IfOk, OnOk, OnErr, length, slice_index_or, slice_set};
+ghost use Rattle.std.specs.Prelude.{IfOk, IfSome, OnOk, OnErr, length, slice_index_or, slice_set};
 ghost use Rattle.std.specs.Prelude.{option_copied, unwrap_or};
 ghost use Rattle.gf_ops.specs.OperationOrder.{IsSite};
 ghost use Rattle.gf_rivals.specs.Setters.{block, IsAbove};
@@ -18,7 +18,10 @@ use std::collections::BTreeMap;
 use std::marker::Model;
 
 /// The numbers that are kept for one chain.
-const BLOCK: usize = 4_294_967_296;
+pub(crate) const BLOCK: usize = 4_294_967_296;
+
+/// How many chains there are: one for each attribute and site.
+pub(crate) const CHAINS: usize = 48;
 
 /// The chains of all attributes and sites, of which those without a setter are not kept.
 #[derive(Debug, Drop)]
@@ -82,8 +85,9 @@ impl Chains {
     }
 
     /// The chain with this index, unless none is kept.
-    fn chain(&self, index: usize) -> Option<&Chain>
-        ensures { unwrap_or (option_copied result) [] ≡ slice_index_or self.now index [] }
+    pub(crate) fn chain(&self, index: usize) -> Option<&Chain>
+        ensures value { unwrap_or (option_copied result) [] ≡ slice_index_or self.now index [] }
+        ensures bound { IfSome result (λ _. index < 48) }
     {
         self.chains.get(&index)
     }
@@ -130,7 +134,8 @@ impl Chains {
 
     /// The position of the setter that has this number.
     pub fn position(&self, number: usize) -> Option<usize>
-        ensures { result ≡ position_of self.now number }
+        ensures value { result ≡ position_of self.now number }
+        ensures bound { IfSome result (λ _. number < 48 * block) }
     {
         let chain = self.chain(number / BLOCK)?;
         let setter = chain.get(number % BLOCK)?;
