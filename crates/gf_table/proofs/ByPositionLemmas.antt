@@ -32,8 +32,8 @@ module _ (f : ℕ → ℕ) (c e : ℕ → ℕ → Bool) (first : IsConflict c) (
   kept_image us rises w (Some gs) k = (
     table_image f c e us rises (λ a b i j. one a b (w a i) (w b j)) (λ a b i j. same a b (w a i) (w b j)) gs k.0,
     let long : length (map (image f) gs) ≡ length gs = length-map gs (image f) in
-    let few = k.1 in
-    omega (arith, long, few),
+        let few = k.1 in
+        omega (arith, long, few),
   )
   kept_image us rises w None k = λ gs t.
       let own = a_table c first us rises in

@@ -69,10 +69,10 @@ module _ (h : List Op) (a : Op) where
     | inr n ↦
         let here : state_of u q ≡ state_of t q = puts q ∙ cond-false (is_at (object_cmp o) q) (Some w) (state_of t q) n in
         let off : object_of a ≢ q = λ e.
-            let same : o ≡ q = sym on ∙ e in
-            let itself : is_at (object_cmp o) o ≡ true = ap is_eq (tied_itself object_cmp_total o) in
-            let there : is_at (object_cmp o) q ≡ true = subst (λ z. is_at (object_cmp o) z ≡ true) same itself in
-            absurd cc in
+        let same : o ≡ q = sym on ∙ e in
+        let itself : is_at (object_cmp o) o ≡ true = ap is_eq (tied_itself object_cmp_total o) in
+        let there : is_at (object_cmp o) q ≡ true = subst (λ z. is_at (object_cmp o) z ≡ true) same itself in
+        absurd cc in
         rw here (stands_kept q off (state_of t q) (stands q))
   ]
 

@@ -1,6 +1,6 @@
 -- The state of an object, when one operation comes: made, kept or grown.
 use Rattle.std.proofs.Common.{◌≡◌, ◌≢◌, ℕ, zero, suc, ◌+◌, ◌-◌, ◌*◌, ◌<◌, ◌≤◌, Bool, true, false, List, [], ◌∷◌, ◌++◌, get_or, length, inl, inr, refl, subst, sym, ap, ◌∙◌, arith}
-use Rattle.std.specs.Prelude.{◌⊎◌, ◌↔◌, Contains, Option, Some, None, option_map, slice_get, unwrap_or}
+use Rattle.std.specs.Prelude.{◌⊎◌, ◌↔◌, Contains, IfSome, Option, Some, None, option_map, slice_get, unwrap_or}
 use Rattle.std.specs.Ordering.{nat_cmp}
 use Rattle.std.proofs.lemmas.Bool.{cases_lt}
 use Rattle.std.proofs.lemmas.Cmp.{nat_cmp_total}
@@ -30,14 +30,18 @@ use Rattle.gf_groups.specs.Growing.{both_conflict, conflict_at}
 use Rattle.gf_groups.proofs.OnPositionLemmas.{conflict_from, conflict_with, contained_at}
 use Rattle.gf_groups.proofs.TableLemmas.{conflict_at_test}
 use Rattle.gf_rivals.specs.declared.chain.Setter.{Setter}
+use Rattle.gf_rivals.specs.declared.fingerprint.Fingerprint.{Fingerprint}
+use Rattle.gf_rivals.specs.Fingerprints.{fingerprint_of}
+use Rattle.gf_rivals.specs.Indexes.{IsIndex, PutsNumber}
 use Rattle.gf_rivals.specs.Setters.{block}
-use Rattle.gf_rivals.specs.Chains.{chain_of, no_chains, position_of, setters, with_setter}
+use Rattle.gf_ops.specs.declared.op.Clock.{Clock}
+use Rattle.gf_rivals.specs.Chains.{IsUnknown, chain_of, no_chains, position_of, setters, with_setter}
 use Rattle.gf_rivals.specs.Rivals.{AreRivals, IsNumber, IsSetter, Tells}
 use Rattle.gf_rivals.specs.Rivals.{IsConflict as ConflictsAt}
 use Rattle.gf_rivals.proofs.NumberLemmas.{number_below, number_from, position_is, position_none}
 use Rattle.gf_rivals.proofs.NumberLemmas as numbers
 use Rattle.gf_rivals.proofs.RivalLemmas.{rivals_conflict}
-use Rattle.gf_rivals.proofs.TellsLemmas.{behind_all, empty_tells, last_number, number_cases, numbered, tells_other, tells_setter}
+use Rattle.gf_rivals.proofs.TellsLemmas.{behind_all, empty_tells, index_other, index_setter, last_number, number_cases, numbered, tells_other, tells_setter}
 use Rattle.gf_table.specs.ObjectState.{ObjectState, made, maker_number, number_conflict, position_in}
 use Rattle.gf_table.specs.Standing.{IsMaker, IsStateOf}
 use Rattle.gf_table.proofs.LongerLemmas.{got_before, got_cases, got_last, same_before, same_conflict}
@@ -47,6 +51,11 @@ pub numbers_test : (h : List Op) (t : ObjectState) → IsConflict (number_confli
 numbers_test h t =
     let test = conflict_at_test h in
     record { symmetric = λ i j. test.symmetric (position_in t i) (position_in t j); alone = λ i. test.alone (position_in t i) }
+
+-- what holds of what there is, follows for it
+pub if_some : {X : Type 0} {P Q : X → Type 0} (r : Option X) → ((x : X) → P x → Q x) → IfSome r P → IfSome r Q
+if_some (Some x) f p = f x p
+if_some None f p = tt
 
 -- the creation stands in no chain
 pub maker_position : (h : List Op) (o : ObjectId) (t : ObjectState) → Tells h o t.chains → position_in t maker_number ≡ t.maker
@@ -118,6 +127,7 @@ module _ (h : List Op) (o : ObjectId) (t : ObjectState) (s : IsStateOf h o t) wh
     state_kept n = record {
       maker = maker_still;
       tells = tells_other h o t.chains s.tells a n;
+      index = if_some t.index (λ ix. index_other h o t.chains s.tells a ix) s.index;
       components = components_agree (number_conflict h t) (number_conflict longer t) t.components
           (λ i j k l. same_conflict h a (position_in t i) (position_in t j) (position_within i k) (position_within j l)) s.components;
       exactly = s.exactly;
@@ -135,106 +145,108 @@ module _ (h : List Op) (o : ObjectId) (t : ObjectState) (s : IsStateOf h o t) wh
       abbrev x : ℕ
       x = chain_of (attribute_of v) site * block + length (setters t.chains (attribute_of v) site)
 
-      abbrev pub grown : ObjectState
-      grown = record { chains = chains; components = after d x t.components; maker = t.maker }
+      module _ (i : Option (List (Fingerprint × List ℕ))) (index : IfSome i (IsIndex longer chains)) where
+        abbrev pub grown : ObjectState
+        grown = record { chains = chains; index = i; components = after d x t.components; maker = t.maker }
 
-      tells : Tells longer o chains
-      tells = tells_setter h o t.chains s.tells a valid in_range accepted v change
+        tells : Tells longer o chains
+        tells = tells_setter h o t.chains s.tells a valid in_range accepted v change
 
-      cases : (n q : ℕ) → IsNumber chains n q → IsNumber t.chains n q ⊎ ((n ≡ x) × (q ≡ length h))
-      cases n q k = number_cases h o t.chains s.tells a valid in_range accepted v change n q k
+        cases : (n q : ℕ) → IsNumber chains n q → IsNumber t.chains n q ⊎ ((n ≡ x) × (q ≡ length h))
+        cases n q k = number_cases h o t.chains s.tells a valid in_range accepted v change n q k
 
-      new_number : IsNumber chains x (length h)
-      new_number = last_number h o t.chains s.tells a valid in_range accepted v change
+        new_number : IsNumber chains x (length h)
+        new_number = last_number h o t.chains s.tells a valid in_range accepted v change
 
-      old_number : (n q : ℕ) → IsNumber t.chains n q → IsNumber chains n q
-      old_number n q k = numbered h o t.chains s.tells a valid in_range accepted v change n q k
+        old_number : (n q : ℕ) → IsNumber t.chains n q → IsNumber chains n q
+        old_number n q k = numbered h o t.chains s.tells a valid in_range accepted v change n q k
 
-      position_new : (n q : ℕ) → IsNumber chains n q → position_in grown n ≡ q
-      position_new n q k = number_at longer o grown tells n q k
+        position_new : (n q : ℕ) → IsNumber chains n q → position_in grown n ≡ q
+        position_new n q k = number_at longer o grown tells n q k
 
-      at_last : position_in grown x ≡ length h
-      at_last = position_new x (length h) new_number
+        at_last : position_in grown x ≡ length h
+        at_last = position_new x (length h) new_number
 
-      at_maker : position_in grown maker_number ≡ t.maker
-      at_maker = maker_position longer o grown tells
+        at_maker : position_in grown maker_number ≡ t.maker
+        at_maker = maker_position longer o grown tells
 
-      -- what was there stays where it was
-      as_before : (n : ℕ) → Contains (whole t.components).all n → position_in grown n ≡ position_in t n
-      as_before n i = elim ((s.exactly n).0 i) [
-        | inl e ↦ subst (λ z. position_in grown z ≡ position_in t z) (sym e) (at_maker ∙ sym (maker_position h o t s.tells))
-        | inr w ↦ position_new n w.0 (old_number n w.0 w.1) ∙ sym (number_at h o t s.tells n w.0 w.1)
-      ]
+        -- what was there stays where it was
+        as_before : (n : ℕ) → Contains (whole t.components).all n → position_in grown n ≡ position_in t n
+        as_before n i = elim ((s.exactly n).0 i) [
+          | inl e ↦ subst (λ z. position_in grown z ≡ position_in t z) (sym e) (at_maker ∙ sym (maker_position h o t s.tells))
+          | inr w ↦ position_new n w.0 (old_number n w.0 w.1) ∙ sym (number_at h o t s.tells n w.0 w.1)
+        ]
 
-      before : AreComponents (number_conflict longer grown) t.components
-      before = components_agree (number_conflict h t) (number_conflict longer grown) t.components (λ i j k l.
-          same_conflict h a (position_in t i) (position_in t j) (position_within i k) (position_within j l)
-          ∙ (ap (λ z. conflict_at longer z (position_in t j)) (sym (as_before i k)) ∙ ap (conflict_at longer (position_in grown i)) (sym (as_before j l)))) s.components
+        before : AreComponents (number_conflict longer grown) t.components
+        before = components_agree (number_conflict h t) (number_conflict longer grown) t.components (λ i j k l.
+            same_conflict h a (position_in t i) (position_in t j) (position_within i k) (position_within j l)
+            ∙ (ap (λ z. conflict_at longer z (position_in t j)) (sym (as_before i k)) ∙ ap (conflict_at longer (position_in grown i)) (sym (as_before j l)))) s.components
 
-      -- its number is new
-      is_new : ¬ (Contains (whole t.components).all x)
-      is_new i = let l = position_within x i in let e = as_before x i in let f = at_last in omega (arith, l, e, f)
+        -- its number is new
+        is_new : ¬ (Contains (whole t.components).all x)
+        is_new i = let l = position_within x i in let e = as_before x i in let f = at_last in omega (arith, l, e, f)
 
-      -- the creation does not conflict with it, since its site knew that
-      known_maker : (b : Op) → slice_get h t.maker ≡ Some b → Conflict a b → ⊥
-      known_maker b at k =
-          let suited : IsSuited h a (Set o v) = subst (IsSuited h a) change accepted.suited in
-          let knows = suited.known in
-          let mine : s.maker.op ≡ b = let y = s.maker.at in cc in
-          let id : b.id ≡ o.0 = subst (λ (z : Op). z.id ≡ o.0) mine s.maker.id in
-          let one : knows.maker ≡ b = same_op h valid knows.maker b knows.contained (contained_at h t.maker b at) (knows.id ∙ sym id) in
-          k.concurrent.not_after (subst (λ (z : Op). Precedes z a) one knows.before)
+        -- the creation does not conflict with it, since its site knew that
+        known_maker : (b : Op) → slice_get h t.maker ≡ Some b → Conflict a b → ⊥
+        known_maker b at k =
+            let suited : IsSuited h a (Set o v) = subst (IsSuited h a) change accepted.suited in
+            let knows = suited.known in
+            let mine : s.maker.op ≡ b = let y = s.maker.at in cc in
+            let id : b.id ≡ o.0 = subst (λ (z : Op). z.id ≡ o.0) mine s.maker.id in
+            let one : knows.maker ≡ b = same_op h valid knows.maker b knows.contained (contained_at h t.maker b at) (knows.id ∙ sym id) in
+            k.concurrent.not_after (subst (λ (z : Op). Precedes z a) one knows.before)
 
-      conflict_last : (n q : ℕ) → position_in grown n ≡ q → number_conflict longer grown x n ≡ both_conflict (Some a) (slice_get longer q)
-      conflict_last n q e = ap (λ z. both_conflict z (slice_get longer (position_in grown n))) (ap (slice_get longer) at_last ∙ got_last h a) ∙ ap (λ z. both_conflict (Some a) (slice_get longer z)) e
+        conflict_last : (n q : ℕ) → position_in grown n ≡ q → number_conflict longer grown x n ≡ both_conflict (Some a) (slice_get longer q)
+        conflict_last n q e = ap (λ z. both_conflict z (slice_get longer (position_in grown n))) (ap (slice_get longer) at_last ∙ got_last h a) ∙ ap (λ z. both_conflict (Some a) (slice_get longer z)) e
 
-      at_old : (q : ℕ) → q < length h → slice_get longer q ≡ slice_get h q
-      at_old q l = same_before h a q l
+        at_old : (q : ℕ) → q < length h → slice_get longer q ≡ slice_get h q
+        at_old q l = same_before h a q l
 
-      rivals_are : (n : ℕ) → Contains d n ↔ ConflictsAt h t.chains a n
-      rivals_are n = rivals_conflict h o t.chains s.tells valid a in_range accepted v change d rivals n
+        rivals_are : (n : ℕ) → Contains d n ↔ ConflictsAt h t.chains a n
+        rivals_are n = rivals_conflict h o t.chains s.tells valid a in_range accepted v change d rivals n
 
-      comes : ComesTo (number_conflict longer grown) t.components x d
-      comes = record {
-        fresh = is_new;
-        rivals = λ n. (
-          λ i.
-              let k = (rivals_are n).0 i in
-              let told = conflict_from (Some a) (slice_get longer k.position) a k.op refl (got_before h a k.position k.op k.at) k.conflict in
-              ((s.exactly n).1 (inr (k.position, k.number)), conflict_last n k.position (position_new n k.position (old_number n k.position k.number)) ∙ told),
-          λ w. elim ((s.exactly n).0 w.0) [
-            | inl e ↦
-                let p : position_in grown n ≡ t.maker = ap (position_in grown) e ∙ at_maker in
-                let k = conflict_with (Some a) (slice_get longer t.maker) a refl (sym (conflict_last n t.maker p) ∙ w.1) in
-                absurd (known_maker k.0 (sym (at_old t.maker maker_within) ∙ k.1) k.2)
-            | inr m ↦
-                let l = number_within n m.0 m.1 in
-                let p = position_new n m.0 (old_number n m.0 m.1) in
-                let k = conflict_with (Some a) (slice_get longer m.0) a refl (sym (conflict_last n m.0 p) ∙ w.1) in
-                (rivals_are n).1 (record { position = m.0; op = k.0; number = m.1; at = sym (at_old m.0 l) ∙ k.1; conflict = k.2 })
-          ],
-        );
-      }
+        comes : ComesTo (number_conflict longer grown) t.components x d
+        comes = record {
+          fresh = is_new;
+          rivals = λ n. (
+            λ i.
+                let k = (rivals_are n).0 i in
+                let told = conflict_from (Some a) (slice_get longer k.position) a k.op refl (got_before h a k.position k.op k.at) k.conflict in
+                ((s.exactly n).1 (inr (k.position, k.number)), conflict_last n k.position (position_new n k.position (old_number n k.position k.number)) ∙ told),
+            λ w. elim ((s.exactly n).0 w.0) [
+              | inl e ↦
+                  let p : position_in grown n ≡ t.maker = ap (position_in grown) e ∙ at_maker in
+                  let k = conflict_with (Some a) (slice_get longer t.maker) a refl (sym (conflict_last n t.maker p) ∙ w.1) in
+                  absurd (known_maker k.0 (sym (at_old t.maker maker_within) ∙ k.1) k.2)
+              | inr m ↦
+                  let l = number_within n m.0 m.1 in
+                  let p = position_new n m.0 (old_number n m.0 m.1) in
+                  let k = conflict_with (Some a) (slice_get longer m.0) a refl (sym (conflict_last n m.0 p) ∙ w.1) in
+                  (rivals_are n).1 (record { position = m.0; op = k.0; number = m.1; at = sym (at_old m.0 l) ∙ k.1; conflict = k.2 })
+            ],
+          );
+        }
 
-      step : AreComponents (number_conflict longer grown) (after d x t.components) × ((n : ℕ) → Contains (whole (after d x t.components)).all n ↔ (Contains (whole t.components).all n ⊎ (n ≡ x)))
-      step = components_after (number_conflict longer grown) (numbers_test longer grown) t.components before x d comes
+        step : AreComponents (number_conflict longer grown) (after d x t.components) × ((n : ℕ) → Contains (whole (after d x t.components)).all n ↔ (Contains (whole t.components).all n ⊎ (n ≡ x)))
+        step = components_after (number_conflict longer grown) (numbers_test longer grown) t.components before x d comes
 
-      pub state_more : IsStateOf longer o grown
-      state_more = record {
-        maker = maker_still;
-        tells = tells;
-        components = step.0;
-        exactly = λ n. (
-          λ i. elim ((step.1 n).0 i) [
-            | inl j ↦ elim ((s.exactly n).0 j) [ inl e ↦ inl e | inr w ↦ inr (w.0, old_number n w.0 w.1) ]
-            | inr e ↦ inr (length h, subst (λ z. IsNumber chains z (length h)) (sym e) new_number)
-          ],
-          λ w. (step.1 n).1 (elim w [
-            | inl e ↦ inl ((s.exactly n).1 (inl e))
-            | inr k ↦ elim (cases n k.0 k.1) [ inl j ↦ inl ((s.exactly n).1 (inr (k.0, j))) | inr e ↦ inr e.0 ]
-          ]),
-        );
-      }
+        pub state_more : IsStateOf longer o grown
+        state_more = record {
+          maker = maker_still;
+          tells = tells;
+          index = index;
+          components = step.0;
+          exactly = λ n. (
+            λ i. elim ((step.1 n).0 i) [
+              | inl j ↦ elim ((s.exactly n).0 j) [ inl e ↦ inl e | inr w ↦ inr (w.0, old_number n w.0 w.1) ]
+              | inr e ↦ inr (length h, subst (λ z. IsNumber chains z (length h)) (sym e) new_number)
+            ],
+            λ w. (step.1 n).1 (elim w [
+              | inl e ↦ inl ((s.exactly n).1 (inl e))
+              | inr k ↦ elim (cases n k.0 k.1) [ inl j ↦ inl ((s.exactly n).1 (inr (k.0, j))) | inr e ↦ inr e.0 ]
+            ]),
+          );
+        }
 
 -- one more setter, by what the calls gave
 module _ (h : List Op) (o : ObjectId) (t : ObjectState) (s : IsStateOf h o t) (a : Op) (valid : IsValid h) (in_range : IsInRange a) (accepted : IsAccepted h a)
@@ -248,15 +260,17 @@ module _ (h : List Op) (o : ObjectId) (t : ObjectState) (s : IsStateOf h o t) (a
 
   pub state_added : (d : List ℕ) → AreRivals h o t.chains v a.past d → (n p : ℕ) → n ≡ chain_of u place * block + length (setters t.chains u place) → p ≡ length h →
       (cs : List (List Setter)) → cs ≡ with_setter t.chains u place (record { seq = a.id.seq; position = p }) → (k : ComponentsState) → k ≡ after d n t.components →
-      IsStateOf (h ++ a ∷ []) o (record { chains = cs; components = k; maker = t.maker })
-  state_added d rivals n p number position cs pushed k added =
+      (i : Option (List (Fingerprint × List ℕ))) → IfSome i (λ new. (old : List (Fingerprint × List ℕ)) × IsIndex h t.chains old × PutsNumber old (fingerprint_of v) n new) →
+      IsStateOf (h ++ a ∷ []) o (record { chains = cs; index = i; components = k; maker = t.maker })
+  state_added d rivals n p number position cs pushed k added i index =
       let chains : cs ≡ with_setter t.chains (attribute_of v) place (record { seq = a.id.seq; position = length h }) =
       pushed ∙ (ap (λ z. with_setter t.chains z place (record { seq = a.id.seq; position = p })) own
       ∙ ap (λ z. with_setter t.chains (attribute_of v) place (record { seq = a.id.seq; position = z })) position) in
-      let components : k ≡ after d (chain_of (attribute_of v) place * block + length (setters t.chains (attribute_of v) place)) t.components =
-      added ∙ ap (λ z. after d z t.components) (number ∙ ap (λ z. chain_of z place * block + length (setters t.chains z place)) own) in
-      let whole_is : record { chains = cs; components = k; maker = t.maker } ≡ grown h o t s a valid in_range accepted v change d rivals = λ i. record { chains = chains i; components = components i; maker = t.maker } in
-      subst (IsStateOf (h ++ a ∷ []) o) (sym whole_is) (state_more h o t s a valid in_range accepted v change d rivals)
+      let last : n ≡ chain_of (attribute_of v) place * block + length (setters t.chains (attribute_of v) place) = number ∙ ap (λ z. chain_of z place * block + length (setters t.chains z place)) own in
+      let components : k ≡ after d (chain_of (attribute_of v) place * block + length (setters t.chains (attribute_of v) place)) t.components = added ∙ ap (λ z. after d z t.components) last in
+      let tells_new = if_some i (λ new w. index_setter h o t.chains s.tells a valid in_range accepted v change w.0 new w.1 (subst (λ z. PutsNumber w.0 (fingerprint_of v) z new) last w.2)) index in
+      let whole_is : record { chains = cs; index = i; components = k; maker = t.maker } ≡ grown h o t s a valid in_range accepted v change d rivals i tells_new = λ j. record { chains = chains j; index = i; components = components j; maker = t.maker } in
+      subst (IsStateOf (h ++ a ∷ []) o) (sym whole_is) (state_more h o t s a valid in_range accepted v change d rivals i tells_new)
 
 -- A CREATION, of an object that no operation of h changes
 module _ (h : List Op) (a : Op) (o : ObjectId) (k : Kind) (id : a.id ≡ o.0) (is_made : made_kind a.change ≡ Some k)
@@ -282,6 +296,7 @@ module _ (h : List Op) (a : Op) (o : ObjectId) (k : Kind) (id : a.id ≡ o.0) (i
       ordered = (empty_tells o).ordered;
       count = (empty_tells o).count;
     };
+    index = tt;
     components = record {
       rises = rising_cons nat_cmp nat_cmp_total maker_number [] (λ i d l. absurd (omega arith)) (rising_nil nat_cmp nat_cmp_total);
       calm = λ i j e f.
@@ -293,3 +308,17 @@ module _ (h : List Op) (a : Op) (o : ObjectId) (k : Kind) (id : a.id ≡ o.0) (i
     };
     exactly = λ n. (λ i. inl (alone n i), λ w. elim w [ inl e ↦ subst (Contains (maker_number ∷ [])) (sym e) (Contains-cons_head maker_number []) | inr j ↦ absurd (no_number n j.0 j.1) ]);
   }
+
+-- ---- the rivals of the next operation
+
+-- where no setter is unknown, there is no rival
+pub no_rivals : (h : List Op) (o : ObjectId) (cs : List (List Setter)) (v : Value) (past : Clock) (u : List ℕ) → u ≡ [] →
+    ((n : ℕ) → Contains u n ↔ IsUnknown cs (attribute_of v) past 8 n) → AreRivals h o cs v past u
+no_rivals h o cs v past u none f n = (
+  λ i. absurd (not_Contains-nil n (subst (λ z. Contains z n) none i)),
+  λ w. (f n).1 w.0,
+)
+
+-- an index that is there tells
+pub index_there : (h : List Op) (o : ObjectId) (t : ObjectState) → IsStateOf h o t → (ix : List (Fingerprint × List ℕ)) → t.index ≡ Some ix → IsIndex h t.chains ix
+index_there h o t s ix e = subst (λ r. IfSome r (IsIndex h t.chains)) e s.index

@@ -1,14 +1,16 @@
--- What the table has of one object: its setters by attribute and site, its components, and the position of its creation.
-use Rattle.std.specs.Prelude.{ℕ, ◌*◌, Bool, List, unwrap_or}
+-- What the table has of one object: its setters by attribute and site and by value, its components, and where its creation stands.
+use Rattle.std.specs.Prelude.{ℕ, ◌*◌, Bool, List, None, Option, unwrap_or}
 use Rattle.gf_ops.specs.declared.op.Op.{Op}
 use Rattle.gf_components.specs.Components.{ComponentsState, no_components, with_free}
 use Rattle.gf_groups.specs.Growing.{conflict_at}
 use Rattle.gf_rivals.specs.declared.chain.Setter.{Setter}
+use Rattle.gf_rivals.specs.declared.fingerprint.Fingerprint.{Fingerprint}
 use Rattle.gf_rivals.specs.Setters.{block}
 use Rattle.gf_rivals.specs.Chains.{no_chains, position_of}
 
 pub record ObjectState : Type 0 where
   pub chains : List (List Setter)
+  pub index : Option (List (Fingerprint × List ℕ))
   pub components : ComponentsState
   pub maker : ℕ
 
@@ -20,6 +22,7 @@ maker_number = 48 * block
 abbrev pub made : ℕ → ObjectState
 made m = record {
   chains = no_chains;
+  index = None;
   components = with_free maker_number no_components;
   maker = m;
 }

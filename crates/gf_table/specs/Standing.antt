@@ -1,6 +1,6 @@
 -- When a table stands for a history: for each object it has the chains of its setters and the components of its operations.
 use Rattle.std.specs.Prelude.{◌≡◌, ◌≢◌, ◌↔◌, ◌⊎◌, ℕ, Bool, List, [], ◌∷◌, AllPairs, Contains, length, Option, Some, None}
-use Rattle.std.specs.Prelude.{slice_get, unwrap_or}
+use Rattle.std.specs.Prelude.{IfSome, slice_get, unwrap_or}
 use Rattle.std.specs.BTreeMap.{is_at}
 use Rattle.std.specs.List.{fold}
 use Rattle.std.specs.Map.{lookup}
@@ -19,6 +19,7 @@ use Rattle.gf_groups.specs.Parting.{object_cmp}
 use Rattle.gf_groups.specs.Versions.{IsVersionGroup}
 use Rattle.gf_components.specs.Components.{ComponentState, ComponentsState, products, whole}
 use Rattle.gf_components.specs.Separate.{AreComponents}
+use Rattle.gf_rivals.specs.Indexes.{IsIndex}
 use Rattle.gf_rivals.specs.Rivals.{IsNumber, Tells}
 use Rattle.gf_table.specs.ObjectState.{ObjectState, maker_number, number_conflict}
 
@@ -34,6 +35,7 @@ pub record IsMaker (h : List Op) (o : ObjectId) (m : ℕ) : Type 0 where
 pub record IsStateOf (h : List Op) (o : ObjectId) (t : ObjectState) : Type 0 where
   pub maker : IsMaker h o t.maker
   pub tells : Tells h o t.chains
+  pub index : IfSome t.index (IsIndex h t.chains)
   pub components : AreComponents (number_conflict h t) t.components
   pub exactly : (n : ℕ) → Contains (whole t.components).all n ↔ ((n ≡ maker_number) ⊎ ((q : ℕ) × IsNumber t.chains n q))
 

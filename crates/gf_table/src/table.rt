@@ -9,7 +9,6 @@ ghost use Rattle.gf_groups.specs.Parting.{object_cmp};
 ghost use Rattle.gf_groups.specs.Versions.{IsMade, AreVersions};
 ghost use Rattle.gf_table.specs.Standing.{StandsFor, AreComponentsOn, state_of};
 
-
 use crate::listing::listed;
 use crate::object::ObjectTable;
 use gf_components::Components;

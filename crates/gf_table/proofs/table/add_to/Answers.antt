@@ -44,7 +44,7 @@ returns-in_ok-state-in-Create-clause-ok c =
     let kind : made_kind a.change ≡ made_kind (Create c.in-Create.field-0) = ap made_kind c.in-Create.is in
     let is : w ≡ made (length h) = c.in_ok-state-in-Create.ensures ∙ ap (λ z. made (length z)) c.ops-position.ensures.ops in
     let state : IsStateOf (h ++ a ∷ []) o w = subst (IsStateOf (h ++ a ∷ []) o) (sym is)
-        (state_made h a o _ refl kind (none_before h valid a c.requires.in_range c.requires.accepted o refl)) in
+    (state_made h a o _ refl kind (none_before h valid a c.requires.in_range c.requires.accepted o refl)) in
     on_ok_weaker c.put.result (λ puts. stands_after h a c.args.objects.now.entries c.put.new.objects.entries o w c.requires.stands (ap (changed_object a.id) c.in-Create.is) state puts) c.put.ensures.puts
 
 pub returns-in-Some-clause-ok : goal.returns-in-Some-clause-ok
