@@ -1,6 +1,6 @@
 -- Chains tell the setters of an object, as the history becomes longer.
 use Rattle.std.proofs.Common.{◌≡◌, ◌≢◌, ℕ, zero, suc, ◌<◌, ◌+◌, ◌-◌, ◌*◌, List, [], ◌∷◌, ◌++◌, length, get_or, set, inl, inr, refl, subst, sym, ap, ◌∙◌, arith}
-use Rattle.std.specs.Prelude.{◌⊎◌, ◌↔◌, Contains, Some, slice_get}
+use Rattle.std.specs.Prelude.{◌⊎◌, ◌↔◌, Some, slice_get}
 use Rattle.std.specs.List.{repeat}
 use Rattle.std.proofs.lemmas.Bool.{cases_lt}
 use Rattle.std.proofs.lemmas.List.{length-set}
@@ -26,7 +26,7 @@ use Rattle.gf_rivals.specs.Giving.{op_value, value_set, fingerprint_given}
 use Rattle.gf_rivals.specs.Indexes.{HasFingerprint, IsIndex, PutsNumber}
 use Rattle.gf_rivals.proofs.IndexLemmas.{Contains-numbers_at}
 use Rattle.gf_rivals.proofs.NextLemmas.{earlier}
-use Rattle.gf_rivals.proofs.NumberLemmas.{some_one, rank_one, rank_below, got_at, contained_at, number_within}
+use Rattle.gf_rivals.proofs.NumberLemmas.{some_one, rank_one, rank_below, contained_at, number_within}
 use Rattle.gf_rivals.proofs.SetterLemmas.{setters_push, at_place}
 
 -- ---- a list that becomes longer
