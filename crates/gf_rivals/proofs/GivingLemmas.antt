@@ -1,11 +1,11 @@
 -- Those of some numbers that pass a test, gathered one by one.
-use Rattle.std.proofs.Common.{◌≡◌, ℕ, ◌<◌, ◌≤◌, ◌+◌, Bool, true, List, [], ◌∷◌, ◌++◌, take, length, get_or, inl, inr, subst, sym, ap}
-use Rattle.std.specs.Prelude.{◌⊎◌, ◌↔◌, Contains}
+use Rattle.std.proofs.Common.{◌≡◌, ℕ, ◌<◌, ◌≤◌, ◌+◌, Bool, true, List, [], ◌∷◌, ◌++◌, take, length, get_or, inl, inr, subst, sym}
+use Rattle.std.specs.Prelude.{◌↔◌, Contains}
 use Rattle.std.proofs.lemmas.List.{take_all, take_more}
 use Rattle.std.proofs.lemmas.List.Elements.{Contains-append_left, Contains-push, Contains-push_cases}
 use Rattle.gf_maximal.specs.Growing.{joined}
 use Rattle.gf_ops.proofs.ListLemmas.{not_Contains-nil}
-use Rattle.gf_rivals.specs.Giving.{AddsIf}
+use Rattle.gf_rivals.specs.Comparing.{AddsIf}
 use Rattle.gf_rivals.proofs.IndexLemmas.{Contains-joined}
 
 pub adds_joined : (b : Bool) (x : ℕ) (old new : List ℕ) → b ≡ true → new ≡ joined x old → AddsIf b x old new

@@ -1,6 +1,6 @@
 -- An index has exactly the setters of the chains, as it is made and as the history becomes longer.
-use Rattle.std.proofs.Common.{◌≡◌, ◌≢◌, ℕ, zero, suc, ◌<◌, ◌+◌, ◌*◌, true, false, List, [], ◌∷◌, ◌++◌, length, get_or, inl, inr, refl, subst, sym, ap, ◌∙◌, arith}
-use Rattle.std.specs.Prelude.{◌⊎◌, ◌↔◌, Contains, cond, Option, Some, None, slice_get, unwrap_or}
+use Rattle.std.proofs.Common.{◌≡◌, ℕ, ◌<◌, ◌+◌, ◌*◌, true, List, [], length, get_or, inl, inr, refl, subst, sym, ap, ◌∙◌, arith}
+use Rattle.std.specs.Prelude.{◌⊎◌, ◌↔◌, Contains, Option, Some, None, slice_get, unwrap_or}
 use Rattle.std.specs.BTreeMap.{is_at}
 use Rattle.std.specs.FinMap.{nat_cmp-IsAntisymmetric}
 use Rattle.std.specs.Map.{lookup}
@@ -17,14 +17,12 @@ use Rattle.gf_rivals.specs.Setters.{block}
 use Rattle.gf_rivals.specs.Fingerprints.{fingerprint_cmp}
 use Rattle.gf_rivals.specs.Giving.{op_value, fingerprint_given}
 use Rattle.gf_rivals.specs.Rivals.{IsNumber}
-use Rattle.gf_rivals.specs.Chains.{chain_of, setters}
-use Rattle.gf_rivals.specs.Indexes.{numbers_at, HasFingerprint, IsIndex, PutsNumber, PutsGiven, IsListed, Lists, IsListedBelow, ListsChain}
-use Rattle.gf_rivals.proofs.FingerprintLemmas.{at_itself, at_told, at_other}
+use Rattle.gf_rivals.specs.Chains.{chain_of}
+use Rattle.gf_rivals.specs.Indexes.{Entries, numbers_at, IsIndex, PutsNumber}
+use Rattle.gf_rivals.specs.Indexing.{PutsGiven, IsListed, Lists, IsListedBelow, ListsChain}
+use Rattle.gf_rivals.proofs.FingerprintLemmas.{at_itself, at_told}
 use Rattle.gf_rivals.proofs.SetterLemmas.{at_place}
 use Rattle.gf_rivals.proofs.NumberLemmas.{some_one, got_at, rank_below, number_in}
-
-abbrev Entries : Type 0
-Entries = List (Fingerprint × List ℕ)
 
 -- ---- one more number
 

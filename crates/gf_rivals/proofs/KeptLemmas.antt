@@ -1,7 +1,7 @@
 -- The chains that are kept, and the list of all.
 use Rattle.std.proofs.Common.{◌≡◌, ◌≢◌, ℕ, zero, suc, ◌<◌, ◌≤◌, ◌+◌, List, [], ◌∷◌, ◌++◌, length, get_or, set, inl, inr, refl, subst, sym, ap, ◌∙◌, arith, true, false}
 use Rattle.std.specs.Borrow.{Bor}
-use Rattle.std.specs.Prelude.{cond, IfSome, Option, Some, None, unwrap_or, option_copied}
+use Rattle.std.specs.Prelude.{IfSome, Option, Some, None, unwrap_or, option_copied}
 use Rattle.std.specs.List.{repeat}
 use Rattle.std.specs.BTreeMap.{is_at}
 use Rattle.std.specs.Cmp.{Equal-is}
@@ -12,11 +12,8 @@ use Rattle.std.proofs.lemmas.Cmp.{nat_cmp_total, tied_itself}
 use Rattle.std.proofs.lemmas.Map.Lookups.{exact_unsigned}
 use Rattle.gf_ops.specs.declared.change.Attr.{Attr}
 use Rattle.gf_rivals.specs.declared.chain.Setter.{Setter}
-use Rattle.gf_rivals.specs.KeptChains.{chain_at, chains_from, all_chains, AreBelow, PutsChain, KeepsChains}
+use Rattle.gf_rivals.specs.KeptChains.{Kept, chain_at, chains_from, all_chains, AreBelow, PutsChain, KeepsChains}
 use Rattle.gf_rivals.specs.Chains.{no_chains, chain_of, setters, with_setter, with_chain}
-
-abbrev Kept : Type 0
-Kept = List (ℕ × List Setter)
 
 at_itself : (k : ℕ) → is_at (nat_cmp k) k ≡ true
 at_itself k = ap is_eq (tied_itself nat_cmp_total k)

@@ -1,6 +1,6 @@
 -- The numbers of setters and their positions: each number is that of one setter, and each position has one number.
 use Rattle.std.proofs.Common.{◌≡◌, ℕ, zero, suc, ◌<◌, ◌≤◌, ◌+◌, ◌*◌, ◌/◌, ◌%◌, List, [], ◌∷◌, length, get_or, inl, inr, refl, subst, sym, ap, ◌∙◌, arith}
-use Rattle.std.specs.Prelude.{◌↔◌, Contains, Option, Some, None, slice_get, unwrap_or, option_map}
+use Rattle.std.specs.Prelude.{Contains, Option, Some, None, slice_get, unwrap_or, option_map}
 use Rattle.std.proofs.lemmas.Bool.{cases_lt}
 use Rattle.std.proofs.lemmas.List.{get_or_default}
 use Rattle.gf_ops.specs.declared.op.Op.{Op}
@@ -13,7 +13,7 @@ use Rattle.gf_ops.specs.Attribute.{attribute_of}
 use Rattle.gf_rivals.specs.declared.chain.Setter.{Setter}
 use Rattle.gf_rivals.specs.Setters.{block}
 use Rattle.gf_rivals.specs.Chains.{rank, chain_of, setters, position_of}
-use Rattle.gf_rivals.specs.Rivals.{IsSetter, IsNumber, Tells}
+use Rattle.gf_rivals.specs.Rivals.{IsNumber, Tells}
 use Rattle.gf_rivals.proofs.SetterLemmas.{from_place}
 
 pub some_one : {X : Type 0} (a b : X) → Some a ≡ Some b → a ≡ b

@@ -1,5 +1,5 @@
 -- The rivals of the next operation are those that it conflicts with.
-use Rattle.std.proofs.Common.{◌≡◌, ◌≢◌, ℕ, zero, suc, ◌<◌, ◌≤◌, ◌+◌, ◌*◌, true, List, [], inl, inr, refl, subst, sym, ap, ◌∙◌, arith}
+use Rattle.std.proofs.Common.{◌≡◌, ℕ, ◌<◌, ◌≤◌, ◌+◌, ◌*◌, true, List, [], inl, inr, refl, subst, sym, ap, ◌∙◌, arith}
 use Rattle.std.specs.Prelude.{◌↔◌, Contains, Option, Some, None, slice_get, unwrap_or}
 use Rattle.std.proofs.lemmas.Bool.{cases_lt}
 use Rattle.gf_ops.specs.declared.op.Op.{Op}
@@ -24,7 +24,8 @@ use Rattle.gf_ops.proofs.ListLemmas.{not_Contains-nil}
 use Rattle.gf_ops.proofs.SameLemmas.{value_eq-same, value_eq-true}
 use Rattle.gf_rivals.specs.declared.fingerprint.Fingerprint.{Fingerprint}
 use Rattle.gf_rivals.specs.Fingerprints.{fingerprint_of, fingerprint_cmp, has_own_fingerprint}
-use Rattle.gf_rivals.specs.Giving.{op_value, value_set, is_value, value_at, number_gives, fingerprint_given}
+use Rattle.gf_rivals.specs.Giving.{op_value, value_set, fingerprint_given}
+use Rattle.gf_rivals.specs.Comparing.{is_value, value_at, number_gives}
 use Rattle.gf_rivals.specs.Indexes.{numbers_at, IsIndex}
 use Rattle.gf_rivals.proofs.FingerprintLemmas.{told_one}
 use Rattle.gf_rivals.specs.declared.chain.Setter.{Setter}

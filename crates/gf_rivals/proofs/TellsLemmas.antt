@@ -1,6 +1,6 @@
 -- Chains tell the setters of an object, as the history becomes longer.
 use Rattle.std.proofs.Common.{◌≡◌, ◌≢◌, ℕ, zero, suc, ◌<◌, ◌+◌, ◌-◌, ◌*◌, List, [], ◌∷◌, ◌++◌, length, get_or, set, inl, inr, refl, subst, sym, ap, ◌∙◌, arith}
-use Rattle.std.specs.Prelude.{◌⊎◌, ◌↔◌, Contains, Some, slice_get}
+use Rattle.std.specs.Prelude.{◌⊎◌, ◌↔◌, Some, slice_get}
 use Rattle.std.specs.List.{repeat}
 use Rattle.std.proofs.lemmas.Bool.{cases_lt}
 use Rattle.std.proofs.lemmas.List.{length-set}
@@ -26,7 +26,7 @@ use Rattle.gf_rivals.specs.Giving.{op_value, value_set, fingerprint_given}
 use Rattle.gf_rivals.specs.Indexes.{HasFingerprint, IsIndex, PutsNumber}
 use Rattle.gf_rivals.proofs.IndexLemmas.{Contains-numbers_at}
 use Rattle.gf_rivals.proofs.NextLemmas.{earlier}
-use Rattle.gf_rivals.proofs.NumberLemmas.{some_one, rank_one, rank_below, got_at, contained_at, number_within}
+use Rattle.gf_rivals.proofs.NumberLemmas.{some_one, rank_one, rank_below, contained_at, number_within}
 use Rattle.gf_rivals.proofs.SetterLemmas.{setters_push, at_place}
 
 -- ---- a list that becomes longer
@@ -324,3 +324,31 @@ module _ (h : List Op) (o : ObjectId) (cs : List (List Setter)) (tells : Tells h
             | inr z ↦ inr (some_one (fingerprint_of v) p (sym own ∙ (ap (λ q. fingerprint_given (op_value (slice_get longer q))) (sym z.1) ∙ f.given)), z.0)
           ]),
         )
+
+    -- ---- by what the calls are given and give
+
+    pub behind_pushed : (u : Attr) → u ≡ t → (i : ℕ) (d : Setter) → i < length (setters cs u s) → (get_or (setters cs u s) i d).seq < a.id.seq
+    behind_pushed u e = subst (λ z. (i : ℕ) (d : Setter) → i < length (setters cs z s) → (get_or (setters cs z s) i d).seq < a.id.seq) (sym e) behind_all
+
+    module _ (u : Attr) (p : ℕ) (now : List (List Setter)) (attribute : u ≡ t) (position : p ≡ length h) (pushed : now ≡ with_setter cs u s (record { seq = a.id.seq; position = p })) where
+      pushed_is : now ≡ new
+      pushed_is =
+          pushed
+          ∙ (ap (λ z. with_setter cs z s (record { seq = a.id.seq; position = p })) attribute
+          ∙ ap (λ z. with_setter cs t s (record { seq = a.id.seq; position = z })) position)
+
+      pub tells_pushed : Tells longer o now
+      tells_pushed = subst (Tells longer o) (sym pushed_is) tells_setter
+
+      module _ (y : ℕ) (number : y ≡ chain_of u s * block + length (setters cs u s)) where
+        number_is : y ≡ x
+        number_is = number ∙ ap (λ z. chain_of z s * block + length (setters cs z s)) attribute
+
+        pub number_pushed : (n q : ℕ) → IsNumber now n q ↔ (IsNumber cs n q ⊎ ((n ≡ y) × (q ≡ length h)))
+        number_pushed n q =
+            subst (λ z. IsNumber z n q ↔ (IsNumber cs n q ⊎ ((n ≡ y) × (q ≡ length h)))) (sym pushed_is)
+            (subst (λ z. IsNumber new n q ↔ (IsNumber cs n q ⊎ ((n ≡ z) × (q ≡ length h)))) (sym number_is) (number_with n q))
+
+        pub index_pushed : (ix new_ix : List (Fingerprint × List ℕ)) → IsIndex h cs ix → PutsNumber ix (fingerprint_of v) y new_ix → IsIndex longer now new_ix
+        index_pushed ix new_ix index puts =
+            subst (λ z. IsIndex longer z new_ix) (sym pushed_is) (index_setter ix new_ix index (subst (λ z. PutsNumber ix (fingerprint_of v) z new_ix) number_is puts))

@@ -33,7 +33,8 @@ pub record IsUnknown (cs : List (List Setter)) (t : Attr) (past : Clock) (m n : 
 
 -- the position of the setter with the number n
 abbrev pub position_of : List (List Setter) → ℕ → Option ℕ
-position_of cs n = option_map (λ (e : Setter). e.position) (slice_get (slice_index_or cs (n / block) []) (n % block))
+position_of cs n = option_map (λ (e : Setter). e.position)
+    (slice_get (slice_index_or cs (n / block) []) (n % block))
 
 -- the chains without a setter
 abbrev pub no_chains : List (List Setter)

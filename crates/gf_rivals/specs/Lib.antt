@@ -5,3 +5,5 @@ pub mod Rivals
 pub mod Fingerprints
 pub mod Giving
 pub mod Indexes
+pub mod Indexing
+pub mod Comparing

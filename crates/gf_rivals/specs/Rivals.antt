@@ -22,7 +22,7 @@ pub record IsSetter (h : List Op) (o : ObjectId) (t : Attr) (s : ℕ) (e : Sette
   pub change : op.change ≡ Set o value
   pub attribute : attribute_of value ≡ t
 
--- n is the number of the setter at the place p of the chain of t and s + 1, which stands at the position q
+-- n is the number of a setter of the chains, which stands at the position q
 pub record IsNumber (cs : List (List Setter)) (n q : ℕ) : Type 0 where
   pub attribute : Attr
   pub site : ℕ
@@ -46,9 +46,10 @@ pub record GivesAt (h : List Op) (o : ObjectId) (q : ℕ) (v : Value) : Type 0 w
   pub at : slice_get h q ≡ Some op
   pub change : op.change ≡ Set o v
 
--- d are the numbers of the setters of o that the clock does not count and that do not give the value v
+-- d are the numbers of the setters that the clock does not count and that do not give the value v
 abbrev pub AreRivals : List Op → ObjectId → List (List Setter) → Value → Clock → List ℕ → Type 0
-AreRivals h o cs v past d = (n : ℕ) → Contains d n ↔ (IsUnknown cs (attribute_of v) past 8 n × ((q : ℕ) → IsNumber cs n q → ¬ (GivesAt h o q v)))
+AreRivals h o cs v past d = (n : ℕ) → Contains d n
+    ↔ (IsUnknown cs (attribute_of v) past 8 n × ((q : ℕ) → IsNumber cs n q → ¬ (GivesAt h o q v)))
 
 -- n is the number of an operation of h that conflicts with a
 pub record IsConflict (h : List Op) (cs : List (List Setter)) (a : Op) (n : ℕ) : Type 0 where

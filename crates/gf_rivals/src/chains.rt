@@ -1,7 +1,7 @@
 //! The setters of an object, by attribute and site.
 
-ghost use Rattle.std.specs.Prelude.{◌≡◌, ◌↔◌, ◌⊎◌, ◌+◌, ◌-◌, ◌*◌, ◌^◌, ◌<◌, ◌++◌, ◌∷◌, [], Contains};
-ghost use Rattle.std.specs.Prelude.{IfOk, IfSome, OnOk, OnErr, length, slice_index_or, slice_set};
+ghost use Rattle.std.specs.Prelude.{◌≡◌, ◌↔◌, ◌⊎◌, ◌+◌, ◌-◌, ◌*◌, ◌^◌, ◌<◌, ◌++◌, ◌∷◌, []};
+ghost use Rattle.std.specs.Prelude.{Contains, IfOk, IfSome, OnOk, OnErr, length, slice_index_or};
 ghost use Rattle.std.specs.Prelude.{option_copied, unwrap_or};
 ghost use Rattle.gf_ops.specs.OperationOrder.{IsSite};
 ghost use Rattle.gf_rivals.specs.Setters.{block, IsAbove};
@@ -92,8 +92,8 @@ impl Chains {
         self.chains.get(&index)
     }
 
-    /// The numbers found, and those of the setters of the chain with this index whose number at their
-    /// site is above this one.
+    /// The numbers found, and those of the chain with this index: of the setters whose number at
+    /// their site is above this one.
     fn with_unknown(
         &self,
         alloc: Global,
@@ -102,8 +102,8 @@ impl Chains {
         count: u32,
     ) -> Result<Numbers, OutOfMemory>
         requires { index < 48 }
-        ensures { IfOk result (λ all. (n : _) → Contains all n
-            ↔ (Contains found n ⊎ IsAbove (slice_index_or self.now index []) (index * block) count n)) }
+        ensures { let ss = slice_index_or self.now index [] in IfOk result (λ all. (n : _)
+            → Contains all n ↔ (Contains found n ⊎ IsAbove ss (index * block) count n)) }
     {
         let Some(chain) = self.chain(index) else {
             return Ok(found);
@@ -122,7 +122,8 @@ impl Chains {
         attribute: Attr,
         past: &Clock,
     ) -> Result<Numbers, OutOfMemory>
-        ensures { IfOk result (λ found. (n : _) → Contains found n ↔ IsUnknown self.now attribute past.now 8 n) }
+        ensures { IfOk result (λ found. (n : _)
+            → Contains found n ↔ IsUnknown self.now attribute past.now 8 n) }
     {
         let first = rank(attribute) * 8;
         let mut found = Numbers::new(alloc);

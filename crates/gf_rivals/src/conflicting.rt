@@ -3,7 +3,7 @@
 ghost use Rattle.std.specs.Prelude.{◌≡◌, ◌↔◌, true, Contains, IfOk, OnOk};
 ghost use Rattle.gf_ops.specs.Attribute.{attribute_of};
 ghost use Rattle.gf_rivals.specs.Chains.{IsUnknown};
-ghost use Rattle.gf_rivals.specs.Giving.{number_gives, AddsIf};
+ghost use Rattle.gf_rivals.specs.Comparing.{number_gives, AddsIf};
 ghost use Rattle.gf_rivals.specs.Indexes.{IsIndex};
 ghost use Rattle.gf_rivals.specs.Rivals.{Tells, AreRivals};
 
@@ -24,7 +24,8 @@ fn add_giving(
     number: usize,
     some: &mut Numbers,
 ) -> Result<(), OutOfMemory>
-    ensures { OnOk result (AddsIf (number_gives ops.now chains.now value.now number) number some.old some.new) }
+    ensures { OnOk result
+        (AddsIf (number_gives ops.now chains.now value.now number) number some.old some.new) }
 {
     if number_gives(ops, chains, value, number) {
         some.join(number)
@@ -33,7 +34,7 @@ fn add_giving(
     }
 }
 
-/// Those of the numbers whose setters give the value.
+/// The numbers of which the setters give the value.
 fn giving(
     alloc: Global,
     ops: &[Op],
@@ -52,8 +53,9 @@ fn giving(
     Ok(some)
 }
 
-/// The unknown ones of an object's setters without those that give this value. Where they are those
-/// that an operation with the value does not know, it conflicts with exactly them.
+/// The rivals of the next operation of an object, which gives this value: of the setters that it
+/// does not know, the numbers of those that give another value. Only lists of points are compared in
+/// the history, and only with those that begin alike.
 pub fn rivals(
     alloc: Global,
     history: &History,

@@ -1,7 +1,8 @@
 //! The fingerprint of a value, which tells most values.
 
 ghost use Rattle.std.specs.Prelude.{◌≡◌, option_copied};
-ghost use Rattle.gf_rivals.specs.Fingerprints.{point_fingerprint, fingerprint_of, has_own_fingerprint};
+ghost use Rattle.gf_rivals.specs.Fingerprints.{point_fingerprint, fingerprint_of};
+ghost use Rattle.gf_rivals.specs.Fingerprints.{has_own_fingerprint};
 
 use gf_ops::{Attr, Value};
 use gf_shape::{Point, Rgb};
@@ -34,7 +35,7 @@ impl Fingerprint {
     }
 }
 
-/// That of the attribute and a point, if there is one.
+/// The fingerprint of the attribute and a point, if there is one.
 fn point_fingerprint(attribute: Attr, point: Option<&Point>) -> Fingerprint
     ensures { result ≡ point_fingerprint attribute (option_copied point.entry) }
 {

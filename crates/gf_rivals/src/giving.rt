@@ -2,7 +2,8 @@
 
 ghost use Rattle.std.specs.Prelude.{◌≡◌, ◌*◌, ◌<◌, IsTrue, option_copied};
 ghost use Rattle.gf_ops.specs.ConflictTests.{value_eq};
-ghost use Rattle.gf_rivals.specs.Giving.{op_value, is_value, number_gives};
+ghost use Rattle.gf_rivals.specs.Comparing.{is_value, number_gives};
+ghost use Rattle.gf_rivals.specs.Giving.{op_value};
 ghost use Rattle.gf_rivals.specs.Setters.{block};
 
 use crate::chains::Chains;

@@ -6,7 +6,8 @@ ghost use Rattle.std.specs.BTreeMap.{insert_entry, is_at};
 ghost use Rattle.std.specs.Map.{lookup};
 ghost use Rattle.gf_rivals.specs.Fingerprints.{fingerprint_cmp, fingerprint_of};
 ghost use Rattle.gf_rivals.specs.Giving.{op_value, fingerprint_given};
-ghost use Rattle.gf_rivals.specs.Indexes.{IsIndex, PutsNumber, PutsNumbers, PutsGiven, Lists, ListsChain};
+ghost use Rattle.gf_rivals.specs.Indexes.{IsIndex, PutsNumber, PutsNumbers};
+ghost use Rattle.gf_rivals.specs.Indexing.{PutsGiven, Lists, ListsChain};
 
 use crate::chain::Setter;
 use crate::chains::{BLOCK, CHAINS, Chains};
@@ -21,17 +22,17 @@ use std::marker::Model;
 
 type NumbersByFingerprint = BTreeMap<Fingerprint, Numbers>;
 
-/// For each fingerprint of a value the numbers of the setters with such a value.
+/// For each fingerprint of a value the numbers of the setters with such a value, none without a
+/// setter. An index can always be made anew from the history and the chains.
 #[derive(Debug, Drop)]
 pub struct Index {
     numbers: NumbersByFingerprint,
 }
 
 impl Model for Index {
-    ghost use Rattle.std.specs.Prelude.{List, ℕ};
-    ghost use Rattle.gf_rivals.specs.declared.fingerprint.Fingerprint.{Fingerprint as FingerprintState};
+    ghost use Rattle.gf_rivals.specs.Indexes.{Entries};
 
-    ghost Value = { List (FingerprintState × List ℕ) };
+    ghost Value = { Entries };
 
     ghost view = { λ i. i.numbers.entries };
 }
@@ -68,7 +69,8 @@ fn put(
     fingerprint: Fingerprint,
     some: Numbers,
 ) -> Result<(), OutOfMemory>
-    ensures puts { OnOk result (PutsNumbers numbers.old.entries fingerprint some numbers.new.entries) }
+    ensures puts { OnOk result
+        (PutsNumbers numbers.old.entries fingerprint some numbers.new.entries) }
     ensures entries { OnOk result (numbers.new.entries
         ≡ insert_entry fingerprint_cmp numbers.old.entries fingerprint some) }
 {
@@ -123,7 +125,8 @@ fn add_chain(
     numbers: &mut NumbersByFingerprint,
 ) -> Result<(), OutOfMemory>
     requires { index < 48 }
-    ensures { OnOk result (ListsChain ops.now chains.now index numbers.old.entries numbers.new.entries) }
+    ensures { OnOk result
+        (ListsChain ops.now chains.now index numbers.old.entries numbers.new.entries) }
 {
     match chains.chain(index) {
         Some(chain) => add_setters(alloc, ops, chain.setters(), index * BLOCK, numbers),
@@ -132,7 +135,7 @@ fn add_chain(
 }
 
 impl Index {
-    /// Of all setters of the chains, whose values stand in the history.
+    /// The index of all setters of the chains, whose values stand in the history.
     pub fn of(alloc: Global, history: &History, chains: &Chains) -> Result<Index, OutOfMemory>
         ensures { IfOk result (λ index. IsIndex history.now.ops chains.now index) }
     {
@@ -144,7 +147,7 @@ impl Index {
         Ok(Index { numbers })
     }
 
-    /// The index with one more setter. None where memory is refused: an index can be made anew.
+    /// The index with one more setter. Where memory is refused there is none.
     pub fn with(self, alloc: Global, value: &Value, number: usize) -> Option<Index>
         requires { number + 1 < 2 ^ 64 }
         ensures { IfSome result (λ index. PutsNumber self (fingerprint_of value.now) number index) }

@@ -1,6 +1,6 @@
 use Rattle.std.proofs.Common.{sym, ◌∙◌}
 use Rattle.std.proofs.lemmas.Result.{on_ok_weaker}
-use Rattle.gf_rivals.specs.Giving.{number_gives}
+use Rattle.gf_rivals.specs.Comparing.{number_gives}
 use Rattle.gf_rivals.proofs.GivingLemmas.{adds_joined}
 use Rattle.gf_rivals.proofs.conflicting.add_giving.Goals as goal
 

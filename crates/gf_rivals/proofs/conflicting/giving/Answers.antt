@@ -1,5 +1,5 @@
-use Rattle.std.proofs.Common.{rules, ◌∙◌}
-use Rattle.gf_rivals.specs.Giving.{number_gives}
+use Rattle.std.proofs.Common.{◌∙◌}
+use Rattle.gf_rivals.specs.Comparing.{number_gives}
 use Rattle.gf_rivals.proofs.GivingLemmas.{gathers_more, gathers_all}
 use Rattle.gf_rivals.proofs.conflicting.giving.Goals as goal
 

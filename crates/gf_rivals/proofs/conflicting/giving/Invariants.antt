@@ -1,6 +1,6 @@
 use Rattle.std.proofs.Common.{◌≡◌, ℕ, true, take}
 use Rattle.std.specs.Prelude.{◌↔◌, Contains}
-use Rattle.gf_rivals.specs.Giving.{number_gives}
+use Rattle.gf_rivals.specs.Comparing.{number_gives}
 use Rattle.gf_rivals.proofs.conflicting.giving.Given as goal
 
 abbrev pub invariant-loop-number : goal.invariant-loop-number

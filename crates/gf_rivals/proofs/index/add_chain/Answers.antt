@@ -1,6 +1,6 @@
-use Rattle.std.proofs.Common.{rules, ◌≡◌, ◌*◌, [], get_or, subst, length, ◌∙◌}
+use Rattle.std.proofs.Common.{rules, ◌≡◌, ◌*◌, [], get_or, subst, length}
 use Rattle.std.specs.Prelude.{OnOk}
-use Rattle.gf_rivals.specs.Indexes.{Lists}
+use Rattle.gf_rivals.specs.Indexing.{Lists}
 use Rattle.gf_rivals.specs.Setters.{block}
 use Rattle.gf_rivals.proofs.index.add_chain.Goals as goal
 

@@ -1,4 +1,4 @@
-use Rattle.std.proofs.Common.{rules, arith, ◌≡◌, ◌+◌, get_or}
+use Rattle.std.proofs.Common.{arith}
 use Rattle.gf_rivals.proofs.IndexLemmas.{lists_more, lists_all}
 use Rattle.gf_rivals.proofs.index.add_setters.Goals as goal
 

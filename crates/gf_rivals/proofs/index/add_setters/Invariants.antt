@@ -1,4 +1,4 @@
-use Rattle.gf_rivals.specs.Indexes.{Lists}
+use Rattle.gf_rivals.specs.Indexing.{Lists}
 use Rattle.gf_rivals.proofs.index.add_setters.Given as goal
 
 abbrev pub invariant-loop-place : goal.invariant-loop-place

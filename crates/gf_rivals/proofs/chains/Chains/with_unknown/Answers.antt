@@ -1,7 +1,6 @@
-use Rattle.std.proofs.Common.{rules, ◌≡◌, ◌*◌, ℕ, List, [], get_or, subst}
+use Rattle.std.proofs.Common.{rules, ◌≡◌, ◌*◌, ℕ, [], get_or, subst}
 use Rattle.std.specs.Prelude.{◌↔◌, Contains}
 use Rattle.std.proofs.lemmas.Result.{IfOk-weaker}
-use Rattle.gf_rivals.specs.declared.chain.Setter.{Setter}
 use Rattle.gf_rivals.specs.Setters.{block, IsAbove}
 use Rattle.gf_rivals.proofs.SetterLemmas.{found_more, found_none}
 use Rattle.gf_rivals.proofs.chains.Chains.with_unknown.Goals as goal

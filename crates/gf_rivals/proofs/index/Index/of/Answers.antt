@@ -1,4 +1,4 @@
-use Rattle.std.proofs.Common.{rules, arith}
+use Rattle.std.proofs.Common.{arith}
 use Rattle.gf_rivals.proofs.IndexLemmas.{below_more, index_made}
 use Rattle.gf_rivals.proofs.index.Index.of.Goals as goal
 

@@ -1,7 +1,8 @@
 use Rattle.std.proofs.Common.{ℕ}
 use Rattle.std.specs.Prelude.{◌↔◌, Contains}
 use Rattle.gf_rivals.specs.declared.fingerprint.Fingerprint.{Fingerprint}
-use Rattle.gf_rivals.specs.Indexes.{numbers_at, IsListedBelow}
+use Rattle.gf_rivals.specs.Indexes.{numbers_at}
+use Rattle.gf_rivals.specs.Indexing.{IsListedBelow}
 use Rattle.gf_rivals.proofs.index.Index.of.Given as goal
 
 abbrev pub invariant-loop-index : goal.invariant-loop-index
