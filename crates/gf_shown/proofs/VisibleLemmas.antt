@@ -24,8 +24,8 @@ use Rattle.gf_ops.proofs.ListLemmas.{Contains-cons_cases, Contains-cons_head, Co
 use Rattle.gf_groups.specs.declared.group.Group.{Group}
 use Rattle.gf_groups.specs.Versions.{IsMade, IsVersionGroup, AreVersions, group_cmp}
 use Rattle.gf_groups.proofs.IdPositionLemmas.{same_position}
-use Rattle.gf_groups.proofs.TakingLemmas.{AllPairs-append}
-use Rattle.gf_parts.proofs.CountLemmas.{no_longer}
+use Rattle.gf_maximal.proofs.PairLemmas.{AllPairs-append}
+use Rattle.gf_components.proofs.CountLemmas.{no_longer}
 use Rattle.gf_shown.specs.ShownVersions.{IsVisibleGroup, AreVisibleOn, HasMoreOn, HasMoreVisible}
 use Rattle.gf_shown.specs.VisibleSoFar.{AreGroupsOf, AreVersionGroupsOf, AreVisibleGroupsOf, HaveVisibleOf, HasMoreGroups, IsGroupListing}
 use Rattle.gf_versions.specs.declared.placed.Placed.{Placed}

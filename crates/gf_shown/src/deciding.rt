@@ -1,19 +1,19 @@
-//! Which parts decide whether the versions of an object show.
+//! Which components decide whether the versions of an object show.
 
-ghost use Rattle.std.specs.Prelude.{◌≡◌, option_copied};
-ghost use Rattle.std.specs.List.{list_any, list_all};
-ghost use Rattle.gf_shown.specs.DecidingAt.{taken_at, last_at, always_later_at, overruled_at};
-ghost use Rattle.gf_shown.specs.DecidingAt.{may_be_last_at, decides_at};
+ghost use Rattle.std.specs.Prelude.{◌≡◌, ◌-◌, option_copied};
+ghost use Rattle.std.specs.List.{list_any, list_all, range_with_len};
+ghost use Rattle.gf_shown.specs.Deciding.{taken, last_of, is_shown, always_later, overruled};
+ghost use Rattle.gf_shown.specs.Deciding.{may_be_last};
 ghost use Rattle.gf_shown.specs.ShownAt.{later_at};
-ghost use Rattle.gf_shown.specs.ShownSets.{is_shown};
 
 use crate::saying::{later_at, sets_at, shows_at};
-use gf_groups::{Positions, Timeline};
-use gf_parts::{Part, Together};
+use gf_components::{Component, Components};
+use gf_groups::Timeline;
+use gf_maximal::Numbers;
 
 /// The last setter so far, after the one at this position came too.
 fn taken(timeline: &Timeline<'_>, last: Option<usize>, position: usize) -> Option<usize>
-    ensures { result ≡ taken_at timeline.now last position }
+    ensures { result ≡ taken timeline.now last position }
 {
     match last {
         Some(last) => {
@@ -35,7 +35,7 @@ fn taken(timeline: &Timeline<'_>, last: Option<usize>, position: usize) -> Optio
 
 /// The last one of the group that shows or hides.
 fn last_of(timeline: &Timeline<'_>, group: &[usize]) -> Option<usize>
-    ensures { result ≡ last_at timeline.now group.now }
+    ensures { result ≡ last_of timeline.now group.now }
 {
     let mut last = None;
     for position in group {
@@ -54,26 +54,36 @@ pub(crate) fn shows(timeline: &Timeline<'_>, group: &[usize]) -> bool
     }
 }
 
+/// Whether one from `start` on that is below `end` comes later.
+fn later_between(timeline: &Timeline<'_>, position: usize, start: usize, end: usize) -> bool
+    ensures { result
+        ≡ list_any (later_at timeline.now position) (range_with_len start (end - start)) }
+{
+    (start..end).any(|other| later_at(timeline, position, other))
+}
+
 /// Whether one of the positions comes later.
-fn some_later(timeline: &Timeline<'_>, position: usize, positions: &[usize]) -> bool
+fn some_later(timeline: &Timeline<'_>, position: usize, positions: &Numbers) -> bool
     ensures { result ≡ list_any (later_at timeline.now position) positions.now }
 {
-    positions
-        .iter()
-        .any(|other| later_at(timeline, position, *other))
+    for run in positions.runs() {
+        if later_between(timeline, position, run.start, run.end) {
+            return true;
+        }
+    }
+    false
 }
 
 /// Whether each of the sets has a later one.
-fn all_later(timeline: &Timeline<'_>, position: usize, sets: &[Positions]) -> bool
+fn all_later(timeline: &Timeline<'_>, position: usize, sets: &[Numbers]) -> bool
     ensures { result ≡ list_all (list_any (later_at timeline.now position)) sets.now }
 {
-    sets.iter()
-        .all(|set| some_later(timeline, position, set.as_slice()))
+    sets.iter().all(|set| some_later(timeline, position, set))
 }
 
-/// Whether each set of the part has a later one.
-fn always_later(timeline: &Timeline<'_>, position: usize, part: &Part) -> bool
-    ensures { result ≡ always_later_at timeline.now position part.now }
+/// Whether each set of the component has a later one.
+fn always_later(timeline: &Timeline<'_>, position: usize, part: &Component) -> bool
+    ensures { result ≡ always_later timeline.now position part.now }
 {
     match part.sets() {
         Some(sets) => all_later(timeline, position, sets),
@@ -81,8 +91,9 @@ fn always_later(timeline: &Timeline<'_>, position: usize, part: &Part) -> bool
     }
 }
 
-fn one_always_later(timeline: &Timeline<'_>, position: usize, parts: &[&Part]) -> bool
-    ensures { result ≡ list_any (λ part. always_later_at timeline.now position part.now) parts.now }
+/// Whether one of the components has a later one in each of its sets.
+fn one_always_later(timeline: &Timeline<'_>, position: usize, parts: &[Component]) -> bool
+    ensures { result ≡ list_any (always_later timeline.now position) parts.now }
 {
     parts
         .iter()
@@ -90,31 +101,29 @@ fn one_always_later(timeline: &Timeline<'_>, position: usize, parts: &[&Part]) -
 }
 
 /// Whether in each version a later one stands.
-fn overruled(timeline: &Timeline<'_>, parts: &Together<'_>, position: usize) -> bool
-    ensures { result ≡ overruled_at timeline.now parts.now position }
+fn overruled(timeline: &Timeline<'_>, components: &Components, position: usize) -> bool
+    ensures { result ≡ overruled timeline.now components.now position }
 {
-    some_later(timeline, position, parts.free())
-        || one_always_later(timeline, position, parts.parts())
+    some_later(timeline, position, components.free())
+        || one_always_later(timeline, position, components.parts())
 }
 
-/// Whether it shows or hides and may be the last one.
-fn may_be_last(timeline: &Timeline<'_>, parts: &Together<'_>, position: usize) -> bool
-    ensures { result ≡ may_be_last_at timeline.now parts.now position }
+/// Whether the one at this position shows or hides, and may be the last that does.
+fn may_be_last(timeline: &Timeline<'_>, components: &Components, position: usize) -> bool
+    ensures { result ≡ may_be_last timeline.now components.now position }
 {
-    sets_at(timeline, position) && !overruled(timeline, parts, position)
+    sets_at(timeline, position) && !overruled(timeline, components, position)
 }
 
-fn one_may_be_last(timeline: &Timeline<'_>, parts: &Together<'_>, positions: &[usize]) -> bool
-    ensures { result ≡ list_any (may_be_last_at timeline.now parts.now) positions.now }
+/// Whether one of the positions may be the last one.
+pub(crate) fn one_may_be_last(
+    timeline: &Timeline<'_>,
+    components: &Components,
+    positions: &[usize],
+) -> bool
+    ensures { result ≡ list_any (may_be_last timeline.now components.now) positions.now }
 {
     positions
         .iter()
-        .any(|position| may_be_last(timeline, parts, *position))
-}
-
-/// Whether one of the part may be the last one.
-pub(crate) fn decides(timeline: &Timeline<'_>, parts: &Together<'_>, part: &Part) -> bool
-    ensures { result ≡ decides_at timeline.now parts.now part.now }
-{
-    one_may_be_last(timeline, parts, part.all())
+        .any(|position| may_be_last(timeline, components, *position))
 }

@@ -1,6 +1,6 @@
--- What the operations at positions say of `Shown`: a strict order of setters, which agree where they are compatible, and the settled value.
+-- What the operations at positions say of `Shown`: setters are in a strict order, and agree where they are compatible and neither is later.
 use Rattle.std.proofs.Common.{◌≡◌, ◌≢◌, ℕ, Bool, true, false, List, inl, inr, refl, subst, sym, ap, ◌∙◌}
-use Rattle.std.specs.Prelude.{◌⊎◌, Contains, Option, Some, None, IsSome, option_map, slice_get}
+use Rattle.std.specs.Prelude.{◌⊎◌, Option, Some, None, IsSome, option_map, slice_get}
 use Rattle.std.proofs.lemmas.Bool.{cases_Bool, and_parts, and_from}
 use Rattle.gf_ops.specs.declared.op.Op.{Op}
 use Rattle.gf_ops.specs.declared.op.ObjectId.{ObjectId}
@@ -12,24 +12,20 @@ use Rattle.gf_ops.specs.declared.change.Attr.TheVariants as attr
 use Rattle.gf_ops.specs.Attribute.{change_value}
 use Rattle.gf_ops.specs.Conflict.{Conflict}
 use Rattle.gf_ops.specs.OperationOrder.{Precedes}
-use Rattle.gf_ops.specs.SettledValue.{IsSettled}
 use Rattle.gf_ops.specs.ValidHistory.{IsValid}
-use Rattle.gf_ops.specs.Version.{IsMember}
 use Rattle.gf_ops.proofs.HistoryLemmas.{site_in_range, seq_in_range}
-use Rattle.gf_ops.proofs.ValidityLemmas.{precedes_irreflexive, precedes_transitive, same_op}
-use Rattle.gf_groups.specs.GroupedPositions.{is_on, rising_ids}
+use Rattle.gf_ops.proofs.ValidityLemmas.{precedes_irreflexive, precedes_transitive}
+use Rattle.gf_groups.specs.GroupedPositions.{is_on}
 use Rattle.gf_groups.specs.Growing.{conflict_at}
 use Rattle.gf_groups.specs.VersionList.{is_before}
 use Rattle.gf_groups.proofs.ConflictTestLemmas.{before_decided}
-use Rattle.gf_groups.proofs.IdPositionLemmas.{Contains-rising_ids}
 use Rattle.gf_groups.proofs.OnPositionLemmas.{conflict_from, contained_at, on_from}
 use Rattle.gf_shown.specs.ShownAt.{shown_by, is_said, is_yes, op_sets, op_shows, op_later, sets_at, shows_at, later_at}
-use Rattle.gf_shown.proofs.LastLemmas.{IsLater, Shows}
 
 -- ---- one operation
 
 -- what an operation says of `Shown` is what it gives to it
-same_given : (c : Change) → change_value c attr.Shown ≡ option_map value.Shown (shown_by c)
+pub same_given : (c : Change) → change_value c attr.Shown ≡ option_map value.Shown (shown_by c)
 same_given (Create start) = refl
 same_given (Set o (value.Shown b)) = refl
 same_given (Set o (value.Place p)) = refl
@@ -38,7 +34,7 @@ same_given (Set o (value.Size w h)) = refl
 same_given (Set o (value.Colour c)) = refl
 same_given (Set o (value.Layer n)) = refl
 
-yes_to : (r : Option Bool) → is_yes r ≡ true → option_map value.Shown r ≡ Some (value.Shown true)
+pub yes_to : (r : Option Bool) → is_yes r ≡ true → option_map value.Shown r ≡ Some (value.Shown true)
 yes_to (Some b) e = ap (λ d. Some (value.Shown d)) e
 yes_to None e = absurd cc
 
@@ -50,20 +46,20 @@ pub shown_once : (x y : Bool) → value.Shown x ≡ value.Shown y → x ≡ y
 unfolding shown_in
 shown_once x y e = ap (λ v. shown_in (Some v)) e
 
-yes_from : (r : Option Bool) → option_map value.Shown r ≡ Some (value.Shown true) → is_yes r ≡ true
+pub yes_from : (r : Option Bool) → option_map value.Shown r ≡ Some (value.Shown true) → is_yes r ≡ true
 unfolding shown_in
 yes_from (Some b) e = ap shown_in e
 yes_from None e = ap shown_in e
 
-yes_said : (r : Option Bool) → is_yes r ≡ true → is_said r ≡ true
+pub yes_said : (r : Option Bool) → is_yes r ≡ true → is_said r ≡ true
 yes_said (Some b) e = refl
 yes_said None e = absurd cc
 
-said_from : (r : Option Bool) → IsSome (option_map value.Shown r) → is_said r ≡ true
+pub said_from : (r : Option Bool) → IsSome (option_map value.Shown r) → is_said r ≡ true
 said_from (Some b) e = refl
 said_from None e = e
 
-said_to : (r : Option Bool) → is_said r ≡ true → IsSome (option_map value.Shown r)
+pub said_to : (r : Option Bool) → is_said r ≡ true → IsSome (option_map value.Shown r)
 said_to (Some b) e = refl
 said_to None e = absurd cc
 
@@ -79,7 +75,7 @@ two_bools false true = inr (λ e. cc)
 
 -- ---- an operation at a position
 
-op_of : (r : Option Op) → op_shows r ≡ true → (a : Op) × (r ≡ Some a) × (is_yes (shown_by a.change) ≡ true)
+pub op_of : (r : Option Op) → op_shows r ≡ true → (a : Op) × (r ≡ Some a) × (is_yes (shown_by a.change) ≡ true)
 op_of (Some a) e = (a, refl, e)
 op_of None e = absurd cc
 
@@ -87,10 +83,10 @@ op_said : (r : Option Op) → op_sets r ≡ true → (a : Op) × (r ≡ Some a) 
 op_said (Some a) e = (a, refl, e)
 op_said None e = absurd cc
 
-shows_from_op : (r : Option Op) (a : Op) → r ≡ Some a → is_yes (shown_by a.change) ≡ true → op_shows r ≡ true
+pub shows_from_op : (r : Option Op) (a : Op) → r ≡ Some a → is_yes (shown_by a.change) ≡ true → op_shows r ≡ true
 shows_from_op r a e y = rw e y
 
-sets_from_op : (r : Option Op) (a : Op) → r ≡ Some a → is_said (shown_by a.change) ≡ true → op_sets r ≡ true
+pub sets_from_op : (r : Option Op) (a : Op) → r ≡ Some a → is_said (shown_by a.change) ≡ true → op_sets r ≡ true
 sets_from_op r a e y = rw e y
 
 shows_value : (r : Option Op) (a : Op) (x : Bool) → r ≡ Some a → shown_by a.change ≡ Some x → op_shows r ≡ x
@@ -106,20 +102,23 @@ setter_told None None h = absurd cc
 abbrev pub Told : Option Op → Option Op → Type 0
 Told r q = (a : Op) × (b : Op) × (r ≡ Some a) × (q ≡ Some b) × (is_said (shown_by b.change) ≡ true) × Precedes a b
 
-told : (r q : Option Op) → op_later r q ≡ true → Told r q
+pub told : (r q : Option Op) → op_later r q ≡ true → Told r q
 told (Some a) (Some b) h = let w = and_parts (is_said (shown_by b.change)) (is_before a b) h in (a, b, refl, refl, w.0, (before_decided a b).0 w.1)
 told (Some a) None h = absurd cc
 told None (Some b) h = absurd cc
 told None None h = absurd cc
 
-from_told : (r q : Option Op) (a b : Op) → r ≡ Some a → q ≡ Some b → is_said (shown_by b.change) ≡ true → Precedes a b → op_later r q ≡ true
+pub from_told : (r q : Option Op) (a b : Op) → r ≡ Some a → q ≡ Some b → is_said (shown_by b.change) ≡ true → Precedes a b → op_later r q ≡ true
 from_told r q a b e f s p = rw (e, f) (and_from (is_said (shown_by b.change)) (is_before a b) s ((before_decided a b).1 p))
 
-one_op : (r : Option Op) (a b : Op) → r ≡ Some a → r ≡ Some b → a ≡ b
+pub one_op : (r : Option Op) (a b : Op) → r ≡ Some a → r ≡ Some b → a ≡ b
 one_op r a b e f = cc
 
+pub setter_later : (h : List Op) (i j : ℕ) → later_at h i j ≡ true → sets_at h j ≡ true
+setter_later h i j y = setter_told (slice_get h i) (slice_get h j) y
+
 module _ (h : List Op) (valid : IsValid h) where
-  itself : (i : ℕ) → later_at h i i ≡ false
+  pub itself : (i : ℕ) → later_at h i i ≡ false
   itself i = elim (cases_Bool (later_at h i i)) [
     | inl y ↦
         let w = told (slice_get h i) (slice_get h i) y in
@@ -128,7 +127,7 @@ module _ (h : List Op) (valid : IsValid h) where
     | inr n ↦ n
   ]
 
-  through : (i j k : ℕ) → later_at h i j ≡ true → later_at h j k ≡ true → later_at h i k ≡ true
+  pub through : (i j k : ℕ) → later_at h i j ≡ true → later_at h j k ≡ true → later_at h i k ≡ true
   through i j k x y =
       let v = told (slice_get h i) (slice_get h j) x in
       let w = told (slice_get h j) (slice_get h k) y in
@@ -139,13 +138,6 @@ module _ (h : List Op) (valid : IsValid h) where
       let second : Precedes v.1 w.1 = subst (λ (z : Op). Precedes z w.1) e w.5 in
       from_told (slice_get h i) (slice_get h k) v.0 w.1 v.2 w.3 w.4
       (precedes_transitive h valid v.0 v.1 w.1 b d (site_in_range v.0 (valid.in_range v.0 a)) (site_in_range v.1 (valid.in_range v.1 b)) (seq_in_range v.1 (valid.in_range v.1 b)).0 v.5 second)
-
-  pub later_order : IsLater (sets_at h) (later_at h)
-  later_order = record {
-    setter = λ i j y. setter_told (slice_get h i) (slice_get h j) y;
-    itself = itself;
-    through = through;
-  }
 
   -- setters of one object that are compatible and neither of which is later say the same
   pub agree_at : (o : ObjectId) (i j : ℕ) → is_on o (slice_get h i) ≡ true → is_on o (slice_get h j) ≡ true → conflict_at h i j ≡ false → sets_at h i ≡ true → sets_at h j ≡ true → later_at h i j ≡ false → later_at h j i ≡ false → shows_at h i ≡ shows_at h j
@@ -184,60 +176,3 @@ module _ (h : List Op) (valid : IsValid h) where
 
       one_value : (r q : Option Bool) (x y : Bool) → r ≡ q → r ≡ Some x → q ≡ Some y → x ≡ y
       one_value r q x y e f g = cc
-
--- ---- the settled value
-
-module _ (h : List Op) (valid : IsValid h) (g : List ℕ) where
-  -- a member of the group with its position
-  pub record At (b : Op) : Type 0 where
-    pub position : ℕ
-    pub within : Contains g position
-    pub at : slice_get h position ≡ Some b
-
-  position_of : (b : Op) → IsMember h (rising_ids h g) b → At b
-  position_of b m =
-      let t = (Contains-rising_ids h g b.id).0 m.grouped in
-      let e : t.op ≡ b = same_op h valid t.op b (contained_at h t.position t.op t.at) m.contained t.id in
-      record { position = t.position; within = t.contained; at = t.at ∙ ap (λ (z : Op). Some z) e }
-
-  member_at : (i : ℕ) (a : Op) → Contains g i → slice_get h i ≡ Some a → IsMember h (rising_ids h g) a
-  member_at i a c e = record {
-    contained = contained_at h i a e;
-    grouped = (Contains-rising_ids h g a.id).1 (record { position = i; op = a; contained = c; at = e; id = refl });
-  }
-
-  -- where a last setter of the group shows, the settled value is that it shows
-  pub to_settled : Shows (sets_at h) (later_at h) (shows_at h) (later_order h valid) g → IsSettled h (rising_ids h g) attr.Shown (value.Shown true)
-  to_settled w =
-      let a = op_of (slice_get h w.last) w.given in
-      record {
-        setter = a.0;
-        member = member_at w.last a.0 w.within a.1;
-        gives = same_given a.0.change ∙ yes_to (shown_by a.0.change) a.2;
-        last = λ b m s p.
-            let t = position_of b m in
-            let said = said_from (shown_by b.change) (subst (λ (o : Option Value). IsSome o) (same_given b.change) s) in
-            let y = from_told (slice_get h w.last) (slice_get h t.position) a.0 b a.1 t.at said p in
-            let n = w.none t.position t.within in
-            absurd cc;
-      }
-
-  -- and back
-  pub from_settled : IsSettled h (rising_ids h g) attr.Shown (value.Shown true) → Shows (sets_at h) (later_at h) (shows_at h) (later_order h valid) g
-  from_settled w =
-      let t = position_of w.setter w.member in
-      let yes = yes_from (shown_by w.setter.change) (sym (same_given w.setter.change) ∙ w.gives) in
-      record {
-        last = t.position;
-        within = t.within;
-        given = shows_from_op (slice_get h t.position) w.setter t.at yes;
-        setter = sets_from_op (slice_get h t.position) w.setter t.at (yes_said (shown_by w.setter.change) yes);
-        none = λ j c. elim (cases_Bool (later_at h t.position j)) [
-          | inl y ↦
-              let k = told (slice_get h t.position) (slice_get h j) y in
-              let e : k.0 ≡ w.setter = one_op (slice_get h t.position) k.0 w.setter k.2 t.at in
-              let before : Precedes w.setter k.1 = subst (λ (z : Op). Precedes z k.1) e k.5 in
-              absurd (w.last k.1 (member_at j k.1 c k.3) (subst (λ (o : Option Value). IsSome o) (sym (same_given k.1.change)) (said_to (shown_by k.1.change) k.4)) before)
-          | inr n ↦ n
-        ];
-      }
