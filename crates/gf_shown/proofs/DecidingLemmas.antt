@@ -1,6 +1,6 @@
 -- The largest sets that show are those that what decides shows, each with every choice of the other components.
-use Rattle.std.proofs.Common.{◌≡◌, ◌≢◌, ℕ, Bool, true, false, List, [], inl, inr, subst, sym, ◌∙◌}
-use Rattle.std.specs.Prelude.{◌⊎◌, ◌↔◌, Contains, Option, Some, None, filter, not, slice_get}
+use Rattle.std.proofs.Common.{◌≡◌, ◌≢◌, ℕ, Bool, true, false, List, [], length, inl, inr, subst, sym, ◌∙◌}
+use Rattle.std.specs.Prelude.{◌⊎◌, ◌↔◌, Contains, Option, Some, None, filter, not}
 use Rattle.std.specs.List.{list_any}
 use Rattle.std.specs.Ordering.{nat_cmp}
 use Rattle.std.proofs.lemmas.Bool.{cases_Bool, and_cases, or_cases, not-true, not-false, not_from_false}
@@ -10,8 +10,9 @@ use Rattle.gf_ops.specs.declared.op.Op.{Op}
 use Rattle.gf_ops.specs.declared.op.ObjectId.{ObjectId}
 use Rattle.gf_ops.specs.ValidHistory.{IsValid}
 use Rattle.gf_ops.proofs.ListLemmas.{not_Contains-nil}
-use Rattle.gf_groups.specs.GroupedPositions.{is_on}
+use Rattle.gf_groups.specs.GroupedPositions.{positions_below}
 use Rattle.gf_groups.specs.Growing.{conflict_at}
+use Rattle.gf_groups.proofs.OnPositionLemmas.{all_positions}
 use Rattle.gf_groups.proofs.TableLemmas.{conflict_at_test}
 use Rattle.gf_maximal.specs.Growing.{is_in, common, united}
 use Rattle.gf_maximal.specs.Tables.{IsLargest, IsRising, IsTable}
@@ -26,17 +27,24 @@ use Rattle.gf_components.specs.Separate.{Apart, AreComponents, IsKept}
 use Rattle.gf_components.proofs.ComponentLemmas.{IsInParts, all_of_fold}
 use Rattle.gf_components.proofs.ProductLemmas.{Contains-products, Contains-products_from, products_once, table_alike, table_product}
 use Rattle.gf_shown.specs.Deciding.{is_shown, each_later, always_later, overruled, may_be_last, decides, is_wanted, deciding, idle}
+use Rattle.gf_shown.specs.ObjectComponents.{AreComponentsOn}
 use Rattle.gf_shown.specs.ShownAt.{sets_at, later_at}
 use Rattle.gf_shown.specs.ShownSets.{IsShownSet, AreShownSets}
 use Rattle.gf_shown.proofs.LastLemmas.{never, Agree, IsLate, shows_to, shows_from, still_shows, shows_still}
 use Rattle.gf_shown.proofs.SetterLemmas.{agree_at}
 
-module _ (h : List Op) (t : ComponentsState) (m : AreComponents (conflict_at h) t) where
+module _ (h : List Op) (o : ObjectId) (t : ComponentsState) (on : AreComponentsOn h o t) where
   abbrev c : ℕ → ℕ → Bool
   c = conflict_at h
 
   s : IsConflict (conflict_at h)
   s = conflict_at_test h
+
+  m : AreComponents (conflict_at h) t
+  m = on.components
+
+  abbrev us : List ℕ
+  us = positions_below h o (length h)
 
   -- ---- two components
 
@@ -46,12 +54,12 @@ module _ (h : List Op) (t : ComponentsState) (m : AreComponents (conflict_at h) 
   two_apart : (p q : ComponentState) → Contains t.parts p → Contains t.parts q → (p ≡ q) ⊎ Apart (conflict_at h) p.all q.all
   two_apart = Pairs-two AreApart t.parts (λ p q w a b i j. let d = w b a j i in ((λ e. d.0 (sym e)), s.symmetric a b ∙ d.1)) m.apart
 
-  where_is : (a : ℕ) → Contains (whole t).all a ↔ (Contains t.free a ⊎ IsInParts (conflict_at h) t.parts a)
-  where_is = all_of_fold c (alone t.free) t.parts
+  where_is : (a : ℕ) → Contains (positions_below h o (length h)) a ↔ (Contains t.free a ⊎ IsInParts (conflict_at h) t.parts a)
+  where_is a = let w = all_of_fold c (alone t.free) t.parts a in (λ i. w.0 ((on.all a).1 i), λ i. (on.all a).0 (w.1 i))
 
   -- ---- what each version has
 
-  module _ (v : List ℕ) (rises : IsRising v) (l : IsLargest (conflict_at h) (Contains (whole t).all) (Contains v)) where
+  module _ (v : List ℕ) (rises : IsRising v) (l : IsLargest (conflict_at h) (Contains (positions_below h o (length h))) (Contains v)) where
     has_free : (a : ℕ) → Contains t.free a → Contains v a
     has_free a f = elim (l.largest a ((where_is a).1 (inl f))) [
       | inl i ↦ i
@@ -120,8 +128,8 @@ module _ (h : List Op) (t : ComponentsState) (m : AreComponents (conflict_at h) 
 
   -- ---- what decides, and the rest
 
-  of_filter : (us : List ℕ) (P : ComponentState → Bool) → IsRising us → ((a : ℕ) → Contains us a → Contains t.free a) → AreComponents (conflict_at h) (record { free = us; parts = filter P t.parts })
-  of_filter us P r w = record {
+  of_filter : (free : List ℕ) (P : ComponentState → Bool) → IsRising free → ((a : ℕ) → Contains free a → Contains t.free a) → AreComponents (conflict_at h) (record { free = free; parts = filter P t.parts })
+  of_filter free P r w = record {
     rises = r;
     calm = λ a b i j. m.calm a b (w a i) (w b j);
     parts = λ p i. m.parts p (of_parts p i);
@@ -144,30 +152,23 @@ module _ (h : List Op) (t : ComponentsState) (m : AreComponents (conflict_at h) 
   abbrev second : List ℕ
   second = (whole (idle h t)).all
 
-  -- a is of a component which decides or does not
+  -- a is of a component which decides or does not, as wanted
   abbrev IsOf : Bool → ℕ → Type 0
-  IsOf b a = (p : ComponentState) × Contains t.parts p × (decides h t p ≡ b) × Contains p.all a
+  IsOf b a = (p : ComponentState) × Contains t.parts p × (is_wanted h b t p ≡ true) × Contains p.all a
+
+  of_wanted : (b : Bool) (free : List ℕ) (a : ℕ) → Contains (whole (record { free = free; parts = filter (is_wanted h b t) t.parts })).all a ↔ (Contains free a ⊎ IsOf b a)
+  of_wanted b free a =
+      let e = all_of_fold c (alone free) (filter (is_wanted h b t) t.parts) a in
+      let f = Contains-filter (is_wanted h b t) t.parts in (
+        λ i. elim (e.0 i) [ inl j ↦ inl j | inr w ↦ let v = (f w.0).0 w.1 in inr (w.0, v.0, v.1, w.2) ],
+        λ i. e.1 (elim i [ inl j ↦ inl j | inr w ↦ inr (w.0, (f w.0).1 (w.1, w.2), w.3) ]),
+      )
 
   in_first : (a : ℕ) → Contains (whole (deciding h t)).all a ↔ (Contains t.free a ⊎ IsOf true a)
-  in_first a = (
-    λ i. elim ((all_of_fold c (alone t.free) (deciding h t).parts a).0 i) [
-      | inl f ↦ inl f
-      | inr w ↦ let v = (Contains-filter (is_wanted h true t) t.parts w.0).0 w.1 in inr (w.0, v.0, v.1, w.2)
-    ],
-    λ i. (all_of_fold c (alone t.free) (deciding h t).parts a).1 (elim i [
-      | inl f ↦ inl f
-      | inr w ↦ inr (w.0, (Contains-filter (is_wanted h true t) t.parts w.0).1 (w.1, w.2), w.3)
-    ]),
-  )
+  in_first = of_wanted true t.free
 
   in_second : (a : ℕ) → Contains (whole (idle h t)).all a ↔ IsOf false a
-  in_second a = (
-    λ i. elim ((all_of_fold c (alone []) (idle h t).parts a).0 i) [
-      | inl f ↦ absurd (not_Contains-nil a f)
-      | inr w ↦ let v = (Contains-filter (is_wanted h false t) t.parts w.0).0 w.1 in (w.0, v.0, not-true (decides h t w.0) v.1, w.2)
-    ],
-    λ w. (all_of_fold c (alone []) (idle h t).parts a).1 (inr (w.0, (Contains-filter (is_wanted h false t) t.parts w.0).1 (w.1, not_from_false (decides h t w.0) w.2), w.3)),
-  )
+  in_second a = let e = of_wanted false [] a in (λ i. elim (e.0 i) [ inl f ↦ absurd (not_Contains-nil a f) | inr w ↦ w ], λ w. e.1 (inr w))
 
   halves_apart : Apart (conflict_at h) (whole (deciding h t)).all (whole (idle h t)).all
   halves_apart a b i j =
@@ -175,12 +176,12 @@ module _ (h : List Op) (t : ComponentsState) (m : AreComponents (conflict_at h) 
       elim ((in_first a).0 i) [
         | inl f ↦ m.loose q.0 q.1 a b f q.3
         | inr p ↦ elim (two_apart p.0 q.0 p.1 q.1) [
-          | inl e ↦ never p.2 (subst (λ (z : ComponentState). decides h t z ≡ false) (sym e) q.2)
+          | inl e ↦ never p.2 (subst (λ (z : ComponentState). decides h t z ≡ false) (sym e) (not-true (decides h t q.0) q.2))
           | inr w ↦ w a b p.3 q.3
         ]
       ]
 
-  both_halves : (a : ℕ) → Contains (united (whole (deciding h t)).all (whole (idle h t)).all) a ↔ Contains (whole t).all a
+  both_halves : (a : ℕ) → Contains (united (whole (deciding h t)).all (whole (idle h t)).all) a ↔ Contains (positions_below h o (length h)) a
   both_halves a = (
     λ i. (where_is a).1 (elim ((Contains-united first second a).0 i) [
       | inl j ↦ elim ((in_first a).0 j) [ inl f ↦ inl f | inr w ↦ inr (w.0, w.1, w.3) ]
@@ -190,12 +191,12 @@ module _ (h : List Op) (t : ComponentsState) (m : AreComponents (conflict_at h) 
       | inl f ↦ inl ((in_first a).1 (inl f))
       | inr w ↦ elim (cases_Bool (decides h t w.0)) [
         | inl y ↦ inl ((in_first a).1 (inr (w.0, w.1, y, w.2)))
-        | inr n ↦ inr ((in_second a).1 (w.0, w.1, n, w.2))
+        | inr n ↦ inr ((in_second a).1 (w.0, w.1, not_from_false (decides h t w.0) n, w.2))
       ]
     ]),
   )
 
-  pub in_whole : (a : ℕ) → Contains (whole (deciding h t)).all a → Contains (whole t).all a
+  pub in_whole : (a : ℕ) → Contains (whole (deciding h t)).all a → Contains (positions_below h o (length h)) a
   in_whole a i = (both_halves a).0 ((Contains-united first second a).1 (inl i))
 
   -- gs are the largest sets of what decides, ks those of the other components
@@ -203,24 +204,23 @@ module _ (h : List Op) (t : ComponentsState) (m : AreComponents (conflict_at h) 
     abbrev shown : List (List ℕ)
     shown = filter (is_shown h) gs
 
-    halves : IsTable (conflict_at h) (whole t).all (products gs ks)
-    halves = table_alike c (united first second) (whole t).all (products gs ks) both_halves (table_product c s first second halves_apart gs ks some others)
+    halves : IsTable (conflict_at h) (positions_below h o (length h)) (products gs ks)
+    halves = table_alike c (united first second) us (products gs ks) both_halves (table_product c s first second halves_apart gs ks some others)
 
     -- a setter of a component that does not decide has one after it in each version
     late : (valid : IsValid h) (u k : List ℕ) → Contains gs u → Contains ks k → IsLate h valid u k
     late valid u k x y i j setter =
         let version = (halves.each (united u k)).0 (Contains-products gs ks u k x y) in
         let q = (in_second i).0 (((others.each k).0 y).1.within i j) in
-        let none = list_any_false (may_be_last h t) q.0.all q.2 i q.3 in
+        let none = list_any_false (may_be_last h t) q.0.all (not-true (decides h t q.0) q.2) i q.3 in
         has_later (united u k) version.0 version.1 i (elim (and_cases (sets_at h i) (not (overruled h t i)) none) [
           | inl n ↦ never setter n
           | inr n ↦ not-false (overruled h t i) n
         ])
 
-    -- all positions are on the object o
-    module _ (valid : IsValid h) (o : ObjectId) (on : (i : ℕ) → Contains (whole t).all i → is_on o (slice_get h i) ≡ true) where
-      agree : (q : List ℕ) → ((a : ℕ) → Contains q a → Contains (whole t).all a) → ((a b : ℕ) → Contains q a → Contains q b → c a b ≡ false) → Agree h valid q
-      agree q within calm i j x y = agree_at h valid o i j (on i (within i x)) (on j (within j y)) (calm i j x y)
+    module _ (valid : IsValid h) where
+      agree : (q : List ℕ) → ((a : ℕ) → Contains q a → Contains us a) → ((a b : ℕ) → Contains q a → Contains q b → c a b ≡ false) → Agree h valid q
+      agree q within calm i j x y = agree_at h valid o i j ((all_positions h o i).0 (within i x)) ((all_positions h o j).0 (within j y)) (calm i j x y)
 
       of_both : (u k : List ℕ) → Contains gs u → Contains ks k → is_shown h (united u k) ≡ true → is_shown h u ≡ true
       of_both u k x y e =
@@ -235,14 +235,14 @@ module _ (h : List Op) (t : ComponentsState) (m : AreComponents (conflict_at h) 
           (shows_still h valid u k (late valid u k x y) (shows_to h valid u e))
 
       -- THE SETS THAT SHOW, without a look at the choices of the components that do not decide
-      pub are_shown : AreShownSets h (whole t).all (products (filter (is_shown h) gs) ks)
+      pub are_shown : AreShownSets h (positions_below h o (length h)) (products (filter (is_shown h) gs) ks)
       are_shown = record {
         exactly = λ q. (
           λ i.
               let w = Contains-products_from shown ks q i in
               let u = (Contains-filter (is_shown h) gs w.0).0 w.2 in
               let l = (halves.each (united w.0 w.1)).0 (Contains-products gs ks w.0 w.1 u.0 w.3) in
-              subst (IsShownSet h (whole t).all) (sym w.4) (record { rises = l.0; largest = l.1; shown = to_both w.0 w.1 u.0 w.3 u.1 }),
+              subst (IsShownSet h us) (sym w.4) (record { rises = l.0; largest = l.1; shown = to_both w.0 w.1 u.0 w.3 u.1 }),
           λ d.
               let w = Contains-products_from gs ks q ((halves.each q).1 (d.rises, d.largest)) in
               let yes = of_both w.0 w.1 w.2 w.3 (subst (λ z. is_shown h z ≡ true) w.4 d.shown) in

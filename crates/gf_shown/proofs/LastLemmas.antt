@@ -13,7 +13,7 @@ use Rattle.gf_maximal.proofs.ListLemmas.{Contains-filter}
 use Rattle.gf_maximal.proofs.UnitedLemmas.{Contains-united}
 use Rattle.gf_shown.specs.Deciding.{taken, last_of, shown_by_last, is_shown}
 use Rattle.gf_shown.specs.ShownAt.{sets_at, shows_at, later_at}
-use Rattle.gf_shown.proofs.SetterLemmas.{setter_later, itself, through}
+use Rattle.gf_shown.proofs.SetterLemmas.{setter_shows, setter_later, itself, through}
 
 pub never : {G : Type 0} {b : Bool} → b ≡ true → b ≡ false → G
 never h k = cc
@@ -71,7 +71,6 @@ module _ (h : List Op) (valid : IsValid h) where
     pub last : ℕ
     pub within : Contains g last
     pub given : shows_at h last ≡ true
-    pub setter : sets_at h last ≡ true
     pub none : (j : ℕ) → Contains g j → later_at h last j ≡ false
 
   -- setters of g neither of which is later say the same
@@ -82,15 +81,15 @@ module _ (h : List Op) (valid : IsValid h) where
   shows_to g t = by_last (last_of h g) (is_last g) t
     where
       by_last : (o : Option ℕ) → IsLastOf g o → shown_by_last h o ≡ true → Shows g
-      by_last (Some i) p y = record { last = i; within = p.0; given = y; setter = p.1; none = p.2 }
+      by_last (Some i) p y = record { last = i; within = p.0; given = y; none = p.2 }
       by_last None p y = absurd cc
 
   pub shows_from : (g : List ℕ) → Agree g → Shows g → is_shown h g ≡ true
   shows_from g agree w = by_last (last_of h g) (is_last g)
     where
       by_last : (o : Option ℕ) → IsLastOf g o → shown_by_last h o ≡ true
-      by_last (Some i) p = agree i w.last p.0 w.within p.1 w.setter (p.2 w.last w.within) (w.none i p.0) ∙ w.given
-      by_last None p = never w.setter (p w.last w.within)
+      by_last (Some i) p = agree i w.last p.0 w.within p.1 (setter_shows h w.last w.given) (p.2 w.last w.within) (w.none i p.0) ∙ w.given
+      by_last None p = never (setter_shows h w.last w.given) (p w.last w.within)
 
   -- ---- what does not matter
 
@@ -104,10 +103,9 @@ module _ (h : List Op) (valid : IsValid h) where
     last = w.last;
     within = elim ((Contains-united u k w.last).0 w.within) [
       | inl i ↦ i
-      | inr i ↦ let v = late w.last i w.setter in never v.2 (w.none v.0 v.1)
+      | inr i ↦ let v = late w.last i (setter_shows h w.last w.given) in never v.2 (w.none v.0 v.1)
     ];
     given = w.given;
-    setter = w.setter;
     none = λ j i. w.none j ((Contains-united u k j).1 (inl i));
   }
 
@@ -133,7 +131,6 @@ module _ (h : List Op) (valid : IsValid h) where
     last = w.last;
     within = (Contains-united u k w.last).1 (inl w.within);
     given = w.given;
-    setter = w.setter;
     none = λ j i. elim (cases_Bool (later_at h w.last j)) [
       | inl y ↦ none_higher u k late w.last w.none j ((in_higher (united u k) w.last j).1 (i, y)) (last_of h (higher (united u k) w.last)) (is_last (higher (united u k) w.last))
       | inr n ↦ n

@@ -1,6 +1,7 @@
 -- The settled value of `Shown` is what a last setter gives.
-use Rattle.std.proofs.Common.{◌≡◌, ℕ, true, List, inl, inr, refl, subst, sym, ap, ◌∙◌}
-use Rattle.std.specs.Prelude.{Contains, Option, Some, IsSome, slice_get}
+use Rattle.std.proofs.Common.{◌≡◌, ℕ, Bool, true, false, List, inl, inr, refl, subst, sym, ap, ◌∙◌}
+use Rattle.std.specs.Prelude.{Contains, Option, Some, IsSome, option_map, slice_get, unwrap_or}
+use Rattle.std.specs.Option.{is_some}
 use Rattle.std.proofs.lemmas.Bool.{cases_Bool}
 use Rattle.gf_ops.specs.declared.op.Op.{Op}
 use Rattle.gf_ops.specs.declared.change.Value.{Value}
@@ -14,9 +15,9 @@ use Rattle.gf_ops.proofs.ValidityLemmas.{same_op}
 use Rattle.gf_groups.specs.GroupedPositions.{rising_ids}
 use Rattle.gf_groups.proofs.IdPositionLemmas.{Contains-rising_ids}
 use Rattle.gf_groups.proofs.OnPositionLemmas.{contained_at}
-use Rattle.gf_shown.specs.ShownAt.{shown_by, later_at}
+use Rattle.gf_shown.specs.ShownAt.{shown_by, sets_at, later_at}
 use Rattle.gf_shown.proofs.LastLemmas.{Shows}
-use Rattle.gf_shown.proofs.SetterLemmas.{same_given, yes_to, yes_from, yes_said, said_from, said_to, op_of, shows_from_op, sets_from_op, told, from_told, one_op}
+use Rattle.gf_shown.proofs.SetterLemmas.{same_given, yes_from, said_from, said_to, says_yes, said_op, setter_later, told, from_told, one_op}
 
 module _ (h : List Op) (valid : IsValid h) (g : List ℕ) where
   -- a member of the group with its position
@@ -40,15 +41,16 @@ module _ (h : List Op) (valid : IsValid h) (g : List ℕ) where
   -- where a last setter of the group shows, the settled value is that it shows
   pub to_settled : Shows h valid g → IsSettled h (rising_ids h g) attr.Shown (value.Shown true)
   to_settled w =
-      let a = op_of (slice_get h w.last) w.given in
+      let s = says_yes h w.last w.given in
       record {
-        setter = a.0;
-        member = member_at w.last a.0 w.within a.1;
-        gives = same_given a.0.change ∙ yes_to (shown_by a.0.change) a.2;
-        last = λ b m s p.
+        setter = s.0;
+        member = member_at w.last s.0 w.within s.1;
+        gives = same_given s.0.change ∙ ap (λ r. option_map value.Shown r) s.2;
+        last = λ b m gives p.
             let t = position_of b m in
-            let said = said_from (shown_by b.change) (subst (λ (o : Option Value). IsSome o) (same_given b.change) s) in
-            let y = from_told (slice_get h w.last) (slice_get h t.position) a.0 b a.1 t.at said p in
+            let said : is_some (shown_by b.change) ≡ true = said_from (shown_by b.change) (subst (λ (o : Option Value). IsSome o) (same_given b.change) gives) in
+            let set : sets_at h t.position ≡ true = ap (λ (r : Option Bool). is_some r) (said_op h t.position b (shown_by b.change) t.at refl) ∙ said in
+            let y = from_told h w.last t.position s.0 b s.1 t.at set p in
             let n = w.none t.position t.within in
             absurd cc;
       }
@@ -61,14 +63,14 @@ module _ (h : List Op) (valid : IsValid h) (g : List ℕ) where
       record {
         last = t.position;
         within = t.within;
-        given = shows_from_op (slice_get h t.position) w.setter t.at yes;
-        setter = sets_from_op (slice_get h t.position) w.setter t.at (yes_said (shown_by w.setter.change) yes);
+        given = ap (λ (r : Option Bool). unwrap_or r false) (said_op h t.position w.setter (Some true) t.at yes);
         none = λ j c. elim (cases_Bool (later_at h t.position j)) [
           | inl y ↦
-              let k = told (slice_get h t.position) (slice_get h j) y in
+              let k = told h t.position j y in
               let e : k.0 ≡ w.setter = one_op (slice_get h t.position) k.0 w.setter k.2 t.at in
-              let before : Precedes w.setter k.1 = subst (λ (z : Op). Precedes z k.1) e k.5 in
-              absurd (w.last k.1 (member_at j k.1 c k.3) (subst (λ (o : Option Value). IsSome o) (sym (same_given k.1.change)) (said_to (shown_by k.1.change) k.4)) before)
+              let before : Precedes w.setter k.1 = subst (λ (z : Op). Precedes z k.1) e k.4 in
+              let said : is_some (shown_by k.1.change) ≡ true = ap (λ (r : Option Bool). is_some r) (sym (said_op h j k.1 (shown_by k.1.change) k.3 refl)) ∙ setter_later h t.position j y in
+              absurd (w.last k.1 (member_at j k.1 c k.3) (subst (λ (o : Option Value). IsSome o) (sym (same_given k.1.change)) (said_to (shown_by k.1.change) said)) before)
           | inr n ↦ n
         ];
       }

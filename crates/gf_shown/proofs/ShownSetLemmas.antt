@@ -14,14 +14,13 @@ use Rattle.gf_groups.specs.Growing.{conflict_at, groups_at}
 use Rattle.gf_groups.proofs.OnPositionLemmas.{all_positions, on_op}
 use Rattle.gf_groups.proofs.TableLemmas.{conflict_at_test, table_groups}
 use Rattle.gf_maximal.specs.Tables.{IsRising, IsTable}
-use Rattle.gf_maximal.proofs.LargestLemmas.{largest_alike}
 use Rattle.gf_components.specs.Components.{ComponentState, ComponentsState, most_sets, products, whole}
-use Rattle.gf_components.specs.Separate.{AreComponents, IsComponent, IsKept}
+use Rattle.gf_components.specs.Separate.{IsComponent, IsKept}
 use Rattle.gf_components.proofs.ComponentLemmas.{table_whole}
 use Rattle.gf_components.proofs.CountLemmas.{HasTable, a_table, length-products}
 use Rattle.gf_shown.specs.Deciding.{at_most, deciding, idle, is_shown, with_idle, shown_within}
 use Rattle.gf_shown.specs.ObjectComponents.{AreComponentsOn}
-use Rattle.gf_shown.specs.ShownSets.{IsShownSet, AreShownSets, IsSetListing}
+use Rattle.gf_shown.specs.ShownSets.{AreShownSets, IsSetListing}
 use Rattle.gf_shown.proofs.DecidingLemmas.{are_shown, components_deciding, components_idle, in_whole}
 
 -- ---- what decides, as one component p
@@ -31,7 +30,7 @@ kept_table c us r gs e k = (subst (IsKept c us) (sym e) k).0
 
 module _ (h : List Op) (o : ObjectId) (t : ComponentsState) (on : AreComponentsOn h o t) (p : ComponentState) (is : p ≡ whole (deciding h t)) where
   decider : IsComponent (conflict_at h) p
-  decider = subst (IsComponent (conflict_at h)) (sym is) (table_whole (conflict_at h) (conflict_at_test h) (deciding h t) (components_deciding h t on.components))
+  decider = subst (IsComponent (conflict_at h)) (sym is) (table_whole (conflict_at h) (conflict_at_test h) (deciding h t) (components_deciding h o t on))
 
   pub decider_rises : (us : List ℕ) → us ≡ p.all → IsRising us
   decider_rises us e = subst IsRising (sym e) decider.rises
@@ -39,8 +38,8 @@ module _ (h : List Op) (o : ObjectId) (t : ComponentsState) (on : AreComponentsO
   pub decider_fits : (m : ℕ) → length h < m → (us : List ℕ) → us ≡ p.all → All (λ n. n + 1 < m) us
   decider_fits m l us e = All-weaker (Contains us) (λ n. n + 1 < m)
       (λ i x.
-      let there = in_whole h t on.components i (subst (λ z. Contains z i) (e ∙ ap (λ (q : ComponentState). q.all) is) x) in
-      let w = on_op o (slice_get h i) ((all_positions h o i).0 ((on.all i).0 there)) in
+      let there = in_whole h o t on i (subst (λ z. Contains z i) (e ∙ ap (λ (q : ComponentState). q.all) is) x) in
+      let w = on_op o (slice_get h i) ((all_positions h o i).0 there) in
       let k = slice_get_within h i w.0 w.1 in
       omega (arith, k, l))
       us (All-contains_itself us)
@@ -60,16 +59,15 @@ module _ (h : List Op) (o : ObjectId) (t : ComponentsState) (on : AreComponentsO
 more_times : (n a b : ℕ) → 1 ≤ a → n < b → n < a * b
 more_times n a b o l = let e : 1 * b ≤ a * b = mul-le-mul_right b o in let d = one-mul b in omega (arith, e, d, l)
 
--- t are the components of the positions us, gs the largest sets of what decides
-module _ (h : List Op) (us : List ℕ) (n : ℕ) (low : n ≤ most_sets) (t : ComponentsState) (m : AreComponents (conflict_at h) t) where
+module _ (h : List Op) (o : ObjectId) (t : ComponentsState) (on : AreComponentsOn h o t) (n : ℕ) (low : n ≤ most_sets) where
   rest : IsComponent (conflict_at h) (whole (idle h t))
-  rest = table_whole (conflict_at h) (conflict_at_test h) (idle h t) (components_idle h t m)
+  rest = table_whole (conflict_at h) (conflict_at_test h) (idle h t) (components_idle h o t on)
 
   all_rest : HasTable (conflict_at h) (conflict_at_test h) (whole (idle h t)).all
   all_rest = a_table (conflict_at h) (conflict_at_test h) (whole (idle h t)).all rest.rises
 
-  module _ (shown : List (List ℕ)) (lists : (ks : List (List ℕ)) → IsTable (conflict_at h) (whole (idle h t)).all ks → AreShownSets h us (products shown ks)) where
-    by_idle : 1 ≤ length shown → (r : Option (List (List ℕ))) → IsKept (conflict_at h) (whole (idle h t)).all r → IsSetListing h us n (at_most n shown r)
+  module _ (shown : List (List ℕ)) (lists : (ks : List (List ℕ)) → IsTable (conflict_at h) (whole (idle h t)).all ks → AreShownSets h (positions_below h o (length h)) (products shown ks)) where
+    by_idle : 1 ≤ length shown → (r : Option (List (List ℕ))) → IsKept (conflict_at h) (whole (idle h t)).all r → IsSetListing h (positions_below h o (length h)) n (at_most n shown r)
     by_idle some (Some ks) k =
         let all = lists ks k.0 in
         let len = length-products shown ks in
@@ -85,33 +83,15 @@ module _ (h : List Op) (us : List ℕ) (n : ℕ) (low : n ≤ most_sets) (t : Co
         let more = more_times n (length shown) (length ks) some (omega (arith, count, low)) in
         record { sets = products shown ks; all = lists ks all_rest.table; many = omega (arith, len, more) }
 
-  by_shown : (xs : List (List ℕ)) → ((ks : List (List ℕ)) → IsTable (conflict_at h) (whole (idle h t)).all ks → AreShownSets h us (products xs ks)) → IsSetListing h us n (with_idle h n t xs)
+  by_shown : (xs : List (List ℕ)) → ((ks : List (List ℕ)) → IsTable (conflict_at h) (whole (idle h t)).all ks → AreShownSets h (positions_below h o (length h)) (products xs ks)) → IsSetListing h (positions_below h o (length h)) n (with_idle h n t xs)
   by_shown [] lists = (lists all_rest.sets all_rest.table, omega arith)
   by_shown (g ∷ xs) lists = by_idle (g ∷ xs) lists (omega arith) (whole (idle h t)).sets rest.sets
-
-alike : (h : List Op) (us vs : List ℕ) → ((i : ℕ) → Contains us i ↔ Contains vs i) → (sets : List (List ℕ)) → AreShownSets h us sets → AreShownSets h vs sets
-alike h us vs same sets all = record {
-  exactly = λ q. (
-    λ i. let w = (all.exactly q).0 i in record { rises = w.rises; largest = largest_alike (conflict_at h) (Contains us) (Contains vs) (Contains q) (Contains q) same (λ a. (λ k. k, λ k. k)) w.largest; shown = w.shown },
-    λ w. (all.exactly q).1 (record {
-      rises = w.rises;
-      largest = largest_alike (conflict_at h) (Contains vs) (Contains us) (Contains q) (Contains q) (λ a. ((same a).1, (same a).0)) (λ a. (λ k. k, λ k. k)) w.largest;
-      shown = w.shown;
-    }),
-  );
-  once = all.once;
-}
 
 -- THE LISTING of an object's sets, told of a result
 pub listing_told : {X E : Type 0} (items : X → Option (List (List ℕ))) (r : Result X E) (h k : List Op) → IsValid h → k ≡ h → (o : ObjectId) (t : ComponentsState) → AreComponentsOn h o t →
     (p : ComponentState) → p ≡ whole (deciding h t) → (gs : List (List ℕ)) → IsTable (conflict_at h) p.all gs → (n : ℕ) → n ≤ most_sets →
     IfOk r (λ found. items found ≡ shown_within k n t gs) → IfOk r (λ found. IsSetListing h (positions_below h o (length h)) n (items found))
 listing_told items r h k valid same o t on p is gs table n low =
-    let us = positions_below h o (length h) in
-    let m = on.components in
     let some : IsTable (conflict_at h) (whole (deciding h t)).all gs = subst (λ (q : ComponentState). IsTable (conflict_at h) q.all gs) is table in
-    let lists : (ks : List (List ℕ)) → IsTable (conflict_at h) (whole (idle h t)).all ks → AreShownSets h us (products (filter (is_shown h) gs) ks) = λ ks others.
-    alike h (whole t).all us on.all (products (filter (is_shown h) gs) ks)
-    (are_shown h t m gs ks some others valid o (λ i x. (all_positions h o i).0 ((on.all i).0 x))) in
-    let listing : IsSetListing h us n (shown_within h n t gs) = by_shown h us n low t m (filter (is_shown h) gs) lists in
-    IfOk-weaker r _ _ (λ found e. subst (IsSetListing h us n) (sym (e ∙ ap (λ z. shown_within z n t gs) same)) listing)
+    let listing = by_shown h o t on n low (filter (is_shown h) gs) (λ ks others. are_shown h o t on gs ks some others valid) in
+    IfOk-weaker r _ _ (λ found e. subst (IsSetListing h (positions_below h o (length h)) n) (sym (e ∙ ap (λ z. shown_within z n t gs) same)) listing)

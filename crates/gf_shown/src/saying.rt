@@ -3,8 +3,8 @@
 ghost use Rattle.std.specs.Prelude.{◌≡◌, IfSome, option_copied};
 ghost use Rattle.gf_ops.specs.Limits.{IsInRange};
 ghost use Rattle.gf_groups.specs.VersionList.{is_before};
-ghost use Rattle.gf_shown.specs.ShownAt.{shown_value, shown_by, op_sets, op_shows, op_later};
-ghost use Rattle.gf_shown.specs.ShownAt.{sets_at, shows_at, later_at};
+ghost use Rattle.gf_shown.specs.ShownAt.{shown_value, shown_by, both_before};
+ghost use Rattle.gf_shown.specs.ShownAt.{said_at, sets_at, shows_at, later_at};
 
 use gf_groups::Timeline;
 use gf_ops::{Change, Op, Value, before};
@@ -33,24 +33,13 @@ fn shown_by(change: &Change) -> Option<bool>
     }
 }
 
-fn op_sets(op: Option<&Op>) -> bool
-    ensures { result ≡ op_sets (option_copied op.entry) }
+/// Whether the operation at this position shows its object, if it says that.
+fn said_at(timeline: &Timeline<'_>, position: usize) -> Option<bool>
+    ensures { result ≡ said_at timeline.now position }
 {
-    match op {
-        Some(op) => shown_by(&op.change).is_some(),
-        None => false,
-    }
-}
-
-fn op_shows(op: Option<&Op>) -> bool
-    ensures { result ≡ op_shows (option_copied op.entry) }
-{
-    match op {
-        Some(op) => match shown_by(&op.change) {
-            Some(shown) => shown,
-            None => false,
-        },
-        None => false,
+    match timeline.get(position) {
+        Some(op) => shown_by(&op.change),
+        None => None,
     }
 }
 
@@ -62,13 +51,14 @@ fn is_before(a: &Op, b: &Op) -> bool
     before(a, b)
 }
 
-fn op_later(a: Option<&Op>, b: Option<&Op>) -> bool
+/// Whether there are two operations, and the first comes before the second.
+fn both_before(a: Option<&Op>, b: Option<&Op>) -> bool
     requires a { IfSome a (λ op. IsInRange op.now) }
     requires b { IfSome b (λ op. IsInRange op.now) }
-    ensures { result ≡ op_later (option_copied a.entry) (option_copied b.entry) }
+    ensures { result ≡ both_before (option_copied a.entry) (option_copied b.entry) }
 {
     match (a, b) {
-        (Some(a), Some(b)) => shown_by(&b.change).is_some() && is_before(a, b),
+        (Some(a), Some(b)) => is_before(a, b),
         _ => false,
     }
 }
@@ -77,19 +67,19 @@ fn op_later(a: Option<&Op>, b: Option<&Op>) -> bool
 pub(crate) fn sets_at(timeline: &Timeline<'_>, position: usize) -> bool
     ensures { result ≡ sets_at timeline.now position }
 {
-    op_sets(timeline.get(position))
+    said_at(timeline, position).is_some()
 }
 
-/// Whether it shows.
+/// Whether the operation at this position shows.
 pub(crate) fn shows_at(timeline: &Timeline<'_>, position: usize) -> bool
     ensures { result ≡ shows_at timeline.now position }
 {
-    op_shows(timeline.get(position))
+    said_at(timeline, position).unwrap_or(false)
 }
 
 /// Whether the second one shows or hides, and comes after the first.
 pub(crate) fn later_at(timeline: &Timeline<'_>, position: usize, other: usize) -> bool
     ensures { result ≡ later_at timeline.now position other }
 {
-    op_later(timeline.get(position), timeline.get(other))
+    sets_at(timeline, other) && both_before(timeline.get(position), timeline.get(other))
 }
