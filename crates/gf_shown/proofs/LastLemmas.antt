@@ -1,5 +1,5 @@
 -- A last setter is found by one pass, and sets whose setters all have later ones do not matter for it.
-use Rattle.std.proofs.Common.{◌≡◌, ℕ, Bool, true, false, List, [], ◌∷◌, ◌++◌, inl, inr, refl, subst, ◌∙◌}
+use Rattle.std.proofs.Common.{◌≡◌, ℕ, Bool, true, false, List, [], ◌∷◌, ◌++◌, inl, inr, subst, ◌∙◌}
 use Rattle.std.specs.Prelude.{◌↔◌, Contains, Option, Some, None, filter}
 use Rattle.std.specs.List.{fold}
 use Rattle.std.proofs.lemmas.Bool.{cases_Bool, cond-true, cond-false}

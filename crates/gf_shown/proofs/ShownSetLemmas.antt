@@ -1,6 +1,6 @@
 -- The sets of an object's positions that show, listed within a bound.
-use Rattle.std.proofs.Common.{◌≡◌, ◌+◌, ◌*◌, ◌≤◌, ◌<◌, ℕ, List, [], ◌∷◌, length, inl, inr, refl, subst, sym, ap, ◌∙◌, arith}
-use Rattle.std.specs.Prelude.{◌↔◌, All, Contains, Option, Some, None, Result, IfOk, filter, nat_le, slice_get}
+use Rattle.std.proofs.Common.{◌≡◌, ◌+◌, ◌*◌, ◌≤◌, ◌<◌, ℕ, List, [], ◌∷◌, length, inl, inr, subst, sym, ap, ◌∙◌, arith}
+use Rattle.std.specs.Prelude.{All, Contains, Option, Some, None, Result, IfOk, filter, nat_le, slice_get}
 use Rattle.std.proofs.Math.Nat.{mul-le-mul_right, one-mul}
 use Rattle.std.proofs.lemmas.Bool.{cases_Bool, cond-true, cond-false, leb-true, leb-false}
 use Rattle.std.proofs.lemmas.List.Elements.{All-weaker, All-contains_itself}

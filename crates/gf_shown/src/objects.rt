@@ -5,7 +5,7 @@ ghost use Rattle.std.specs.Prelude.{option_map};
 ghost use Rattle.gf_groups.specs.Versions.{IsMade};
 ghost use Rattle.gf_components.specs.Components.{most_sets};
 ghost use Rattle.gf_shown.specs.ShownVersions.{AreVisibleOn, HasMoreOn};
-ghost use Rattle.gf_shown.specs.VisibleSoFar.{AreVersionGroupsOf, HaveVisibleOf, IsGroupListing};
+ghost use Rattle.gf_shown.specs.VisibleSoFar.{HaveVisibleOf, IsGroupListing};
 ghost use Rattle.gf_shown.specs.Pending.{StandsFor};
 
 use crate::listing::shown_sets;
@@ -80,7 +80,7 @@ fn versions_made(
     requires stands { StandsFor history.now.ops table.now }
     requires contained { Contains history.now.ops op.now }
     ensures { IfOk result (λ groups.
-        AreVersionGroupsOf history.now.ops (op.now ∷ []) groups.items) }
+        HaveVisibleOf history.now.ops (op.now ∷ []) groups.items) }
 {
     match &op.change {
         Change::Create(_) => match table.groups(alloc, history, ObjectId(op.id)) {
