@@ -88,10 +88,10 @@ module _ (h : List Op) (o : ObjectId) (t : ComponentsState) (on : AreComponentsO
   by_shown (g ∷ xs) lists = by_idle (g ∷ xs) lists (omega arith) (whole (idle h t)).sets rest.sets
 
 -- THE LISTING of an object's sets, told of a result
-pub listing_told : {X E : Type 0} (items : X → Option (List (List ℕ))) (r : Result X E) (h k : List Op) → IsValid h → k ≡ h → (o : ObjectId) (t : ComponentsState) → AreComponentsOn h o t →
+pub listing_told : {X E : Type 0} (items : X → Option (List (List ℕ))) (r : Result X E) (h : List Op) → IsValid h → (o : ObjectId) (t : ComponentsState) → AreComponentsOn h o t →
     (p : ComponentState) → p ≡ whole (deciding h t) → (gs : List (List ℕ)) → IsTable (conflict_at h) p.all gs → (n : ℕ) → n ≤ most_sets →
-    IfOk r (λ found. items found ≡ shown_within k n t gs) → IfOk r (λ found. IsSetListing h (positions_below h o (length h)) n (items found))
-listing_told items r h k valid same o t on p is gs table n low =
+    IfOk r (λ found. items found ≡ shown_within h n t gs) → IfOk r (λ found. IsSetListing h (positions_below h o (length h)) n (items found))
+listing_told items r h valid o t on p is gs table n low =
     let some : IsTable (conflict_at h) (whole (deciding h t)).all gs = subst (λ (q : ComponentState). IsTable (conflict_at h) q.all gs) is table in
     let listing = by_shown h o t on n low (filter (is_shown h) gs) (λ ks others. are_shown h o t on gs ks some others valid) in
-    IfOk-weaker r _ _ (λ found e. subst (IsSetListing h (positions_below h o (length h)) n) (sym (e ∙ ap (λ z. shown_within z n t gs) same)) listing)
+    IfOk-weaker r _ _ (λ found e. subst (IsSetListing h (positions_below h o (length h)) n) (sym e) listing)

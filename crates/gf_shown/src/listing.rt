@@ -12,7 +12,7 @@ ghost use Rattle.gf_shown.specs.ShownSets.{IsSetListing};
 use crate::deciding::{one_may_be_last, shows};
 use crate::pending::GroupTable;
 use gf_components::{Component, Components, alone, merged, products};
-use gf_groups::{Timeline, groups_at};
+use gf_groups::groups_at;
 use gf_maximal::Numbers;
 use gf_ops::{History, ObjectId};
 use gf_shape::OutOfMemory;
@@ -37,17 +37,17 @@ fn with_wanted(
 /// These positions, and the components that decide or those that do not, as one component.
 fn merged_wanted(
     alloc: Global,
-    timeline: &Timeline<'_>,
+    history: &History,
     components: &Components,
     positions: Numbers,
     wanted: bool,
 ) -> Result<Component, OutOfMemory>
     ensures { IfOk result (λ part. part ≡ fold merged (alone positions)
-        (filter (is_wanted timeline.now wanted components.now) components.now.parts)) }
+        (filter (is_wanted history.now.ops wanted components.now) components.now.parts)) }
 {
     let mut part = alone(alloc, positions)?;
     for other in components.parts() {
-        let decides = one_may_be_last(timeline, components, &other.all().to_vec(alloc)?);
+        let decides = one_may_be_last(history, components, &other.all().to_vec(alloc)?);
         part = with_wanted(alloc, part, other, decides == wanted)?;
     }
     Ok(part)
@@ -56,37 +56,33 @@ fn merged_wanted(
 /// What is free, with the components that decide, as one component.
 fn whole_deciding(
     alloc: Global,
-    timeline: &Timeline<'_>,
+    history: &History,
     components: &Components,
 ) -> Result<Component, OutOfMemory>
-    ensures { IfOk result (λ part. part ≡ whole (deciding timeline.now components.now)) }
+    ensures { IfOk result (λ part. part ≡ whole (deciding history.now.ops components.now)) }
 {
     let free = components.free().copy(alloc)?;
-    merged_wanted(alloc, timeline, components, free, true)
+    merged_wanted(alloc, history, components, free, true)
 }
 
 /// The other components as one.
 fn whole_idle(
     alloc: Global,
-    timeline: &Timeline<'_>,
+    history: &History,
     components: &Components,
 ) -> Result<Component, OutOfMemory>
-    ensures { IfOk result (λ part. part ≡ whole (idle timeline.now components.now)) }
+    ensures { IfOk result (λ part. part ≡ whole (idle history.now.ops components.now)) }
 {
-    merged_wanted(alloc, timeline, components, Numbers::new(alloc), false)
+    merged_wanted(alloc, history, components, Numbers::new(alloc), false)
 }
 
 /// Those of the sets that show.
-fn showing(
-    alloc: Global,
-    timeline: &Timeline<'_>,
-    sets: &[Numbers],
-) -> Result<Vec<Numbers>, OutOfMemory>
-    ensures { IfOk result (λ kept. kept.items ≡ filter (is_shown timeline.now) sets.now) }
+fn showing(alloc: Global, history: &History, sets: &[Numbers]) -> Result<Vec<Numbers>, OutOfMemory>
+    ensures { IfOk result (λ kept. kept.items ≡ filter (is_shown history.now.ops) sets.now) }
 {
     let mut kept = Vec::new(alloc);
     for set in sets {
-        if shows(timeline, &set.to_vec(alloc)?) {
+        if shows(history, &set.to_vec(alloc)?) {
             kept.push(set.copy(alloc)?)?;
         }
     }
@@ -120,20 +116,20 @@ fn at_most(
 /// The sets that show, each once, if they are at most so many; these are the sets of what decides.
 fn shown_within(
     alloc: Global,
-    timeline: &Timeline<'_>,
+    history: &History,
     components: &Components,
     sets: &[Numbers],
     most: usize,
 ) -> Result<Option<Vec<Numbers>>, OutOfMemory>
     requires { most < 2 ^ 64 - 1 }
     ensures { IfOk result (λ found.
-        option_map (λ v. v.items) found ≡ shown_within timeline.now most components.now sets.now) }
+        option_map (λ v. v.items) found ≡ shown_within history.now.ops most components.now sets.now) }
 {
-    let showing = showing(alloc, timeline, sets)?;
+    let showing = showing(alloc, history, sets)?;
     if showing.is_empty() {
         return Ok(Some(Vec::new(alloc)));
     }
-    let idle = whole_idle(alloc, timeline, components)?;
+    let idle = whole_idle(alloc, history, components)?;
     at_most(alloc, &showing, &idle, most)
 }
 
@@ -155,14 +151,13 @@ pub(crate) fn shown_sets(
 {
     // Its clause says that the history is valid.
     let _ = history.ops();
-    let timeline = Timeline::of(history);
     let components = table.components(alloc, history, object)?;
-    let deciding = whole_deciding(alloc, &timeline, &components)?;
+    let deciding = whole_deciding(alloc, history, &components)?;
     match deciding.sets() {
-        Some(sets) => shown_within(alloc, &timeline, &components, sets, most),
+        Some(sets) => shown_within(alloc, history, &components, sets, most),
         None => {
             let sets = groups_at(alloc, history, &deciding.all().to_vec(alloc)?)?;
-            shown_within(alloc, &timeline, &components, &sets, most)
+            shown_within(alloc, history, &components, &sets, most)
         }
     }
 }

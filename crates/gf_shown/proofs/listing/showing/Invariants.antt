@@ -4,4 +4,4 @@ use Rattle.gf_shown.specs.Deciding.{is_shown}
 use Rattle.gf_shown.proofs.listing.showing.Given as goal
 
 abbrev pub invariant-loop-set : goal.invariant-loop-set
-invariant-loop-set l = l.kept.items ≡ filter (is_shown l.timeline) (take l.set-index l.sets)
+invariant-loop-set l = l.kept.items ≡ filter (is_shown l.history.ops) (take l.set-index l.sets)
