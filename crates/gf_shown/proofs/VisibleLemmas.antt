@@ -1,6 +1,6 @@
 -- The groups of the versions of some objects, one object after another, and of all; and those of the visible ones.
 use Rattle.std.proofs.Common.{◌≡◌, ◌≢◌, ℕ, ◌-◌, ◌<◌, ◌≤◌, List, [], ◌∷◌, ◌++◌, length, map, take, get_or, inl, inr, refl, sym, ap, subst, ◌∙◌, arith}
-use Rattle.std.specs.Prelude.{◌⊎◌, ◌↔◌, AllPairs, Contains, IfNone, IfOk, IfSome, Option, Some, None, Result, Ok, Err, option_map}
+use Rattle.std.specs.Prelude.{◌⊎◌, AllPairs, Contains, IfNone, IfOk, IfSome, Option, Some, None, Result, Ok, Err, option_map}
 use Rattle.std.proofs.lemmas.List.{get_or-take, length-append, length-map, length-take}
 use Rattle.std.proofs.lemmas.List.Elements.{Contains-append_cases, Contains-append_left, Contains-append_right, Contains-push_cases}
 use Rattle.std.proofs.lemmas.Option.{slice_get_read}
@@ -24,10 +24,10 @@ use Rattle.gf_ops.proofs.ListLemmas.{Contains-cons_cases, Contains-cons_head, Co
 use Rattle.gf_groups.specs.declared.group.Group.{Group}
 use Rattle.gf_groups.specs.Versions.{IsMade, IsVersionGroup, AreVersions, group_cmp}
 use Rattle.gf_groups.proofs.IdPositionLemmas.{same_position}
-use Rattle.gf_groups.proofs.TakingLemmas.{AllPairs-append}
-use Rattle.gf_parts.proofs.CountLemmas.{no_longer}
+use Rattle.gf_maximal.proofs.PairLemmas.{AllPairs-append}
+use Rattle.gf_components.proofs.CountLemmas.{no_longer}
 use Rattle.gf_shown.specs.ShownVersions.{IsVisibleGroup, AreVisibleOn, HasMoreOn, HasMoreVisible}
-use Rattle.gf_shown.specs.VisibleSoFar.{AreGroupsOf, AreVersionGroupsOf, AreVisibleGroupsOf, HaveVisibleOf, HasMoreGroups, IsGroupListing}
+use Rattle.gf_shown.specs.VisibleSoFar.{HaveVisible, AreVisibleOf, HaveVisibleOf, HasMoreGroups, IsGroupListing}
 use Rattle.gf_versions.specs.declared.placed.Placed.{Placed}
 use Rattle.gf_versions.specs.Ranking.{AreRanked, AreRankedOf, group_of, placed_version}
 use Rattle.gf_versions.proofs.MakerLemmas.{version_kind}
@@ -44,15 +44,21 @@ made_cases ks ops o w = elim (Contains-append_cases ks ops w.made.maker w.made.c
   | inr i ↦ inr (record { kind = w.kind; made = record { maker = w.made.maker; contained = i; id = w.made.id; kind = w.made.kind } })
 ]
 
--- an operation that makes an object
-pub makes_one : (a : Op) (start : Start) → a.change ≡ Create start → (o : ObjectId) → o.0 ≡ a.id → IsMade (a ∷ []) o
-makes_one a start e o same = record {
+-- the object that an operation may make
+abbrev pub own : Op → ObjectId
+own a = record { 0 = a.id }
+
+pub makes_one : (a : Op) (start : Start) → a.change ≡ Create start → IsMade (a ∷ []) (own a)
+makes_one a start e = record {
   kind = kind_of start.form;
-  made = record { maker = a; contained = Contains-cons_head a []; id = sym same; kind = ap (λ c. made_kind c) e };
+  made = record { maker = a; contained = Contains-cons_head a []; id = refl; kind = ap (λ c. made_kind c) e };
 }
 
-pub made_in : (h : List Op) (a : Op) (o : ObjectId) → Contains h a → IsMade (a ∷ []) o → IsMade h o
-made_in h a o there w = made_weaker (a ∷ []) h o (λ b i. elim (Contains-cons_cases a [] b i) [ inl e ↦ subst (Contains h) (sym e) there | inr j ↦ absurd (not_Contains-nil b j) ]) w
+one_maker : (a : Op) (o : ObjectId) (w : IsMade (a ∷ []) o) → w.made.maker ≡ a
+one_maker a o w = elim (Contains-cons_cases a [] w.made.maker w.made.contained) [ inl e ↦ e | inr i ↦ absurd (not_Contains-nil w.made.maker i) ]
+
+pub made_in : (h : List Op) (a : Op) → Contains h a → IsMade (a ∷ []) (own a) → IsMade h (own a)
+made_in h a there w = made_weaker (a ∷ []) h (own a) (λ b i. elim (Contains-cons_cases a [] b i) [ inl e ↦ subst (Contains h) (sym e) there | inr j ↦ absurd (not_Contains-nil b j) ]) w
 
 no_maker : (c : Change) (o : ObjectId) (v : _) (k : Kind) → c ≡ Set o v → made_kind c ≡ Some k → ⊥
 no_maker c o v k e f = let g : made_kind (Set o v) ≡ Some k = subst (λ d. made_kind d ≡ Some k) e f in cc
@@ -82,93 +88,89 @@ each_once (g ∷ gs) rising = AllPairs-cons (λ k l. k ≢ l) g gs
 abbrev pub Fresh : List Op → List Op → Type 0
 Fresh ks ops = (a b : Op) → Contains ks a → Contains ops b → a.id ≢ b.id
 
-module _ (P : Group → Type 0) where
-  -- ---- of one operation
+once_more : (P : Group → Type 0) (ks ops : List Op) (groups more : List Group) → Fresh ks ops → ((g : Group) → Contains groups g → P g × IsMade ks g.object) → ((g : Group) → Contains more g → P g × IsMade ops g.object) →
+    AllPairs (λ g k. g ≢ k) groups → AllPairs (λ g k. g ≢ k) more → AllPairs (λ g k. g ≢ k) (groups ++ more)
+once_more P ks ops groups more fresh first second p q = AllPairs-append (λ g k. g ≢ k) groups more p q (λ g k x y e.
+    let v = (first g x).1 in
+    let w = (second k y).1 in
+    fresh v.made.maker w.made.maker v.made.contained w.made.contained
+    (v.made.id ∙ (ap (λ (z : Group). z.object.0) e ∙ sym w.made.id)))
 
-  -- one that makes no object
-  pub none_of : (a : Op) (o : ObjectId) (v : _) → a.change ≡ Set o v → AreGroupsOf P (a ∷ []) []
-  none_of a o v e = record {
-    exactly = λ g. (
-      λ i. absurd (not_Contains-nil g i),
-      λ t. elim (Contains-cons_cases a [] t.1.made.maker t.1.made.contained) [
-        | inl d ↦ absurd (no_maker t.1.made.maker.change o v t.1.kind (ap (λ (b : Op). b.change) d ∙ e) t.1.made.kind)
-        | inr i ↦ absurd (not_Contains-nil t.1.made.maker i)
-      ],
-    );
+module _ (h : List Op) (P : Group → Type 0) where
+  pub have_none : (ops : List Op) → ((o : ObjectId) → ¬ (IsMade ops o)) → HaveVisible P h ops []
+  have_none ops none = record {
+    each = λ g i. absurd (not_Contains-nil g i);
+    all = λ g v made. absurd (none g.object made);
     once = λ i j d l m. absurd (omega arith);
   }
 
-  -- and one that makes the object o
-  module _ (a : Op) (o : ObjectId) (same : o.0 ≡ a.id) (makes : IsMade (a ∷ []) o) where
-    object_of_made : (p : ObjectId) → IsMade (a ∷ []) p → p ≡ o
-    object_of_made p w = elim (Contains-cons_cases a [] w.made.maker w.made.contained) [
-      | inl d ↦ let e : p.0 ≡ o.0 = sym w.made.id ∙ (ap (λ (b : Op). b.id) d ∙ sym same) in λ i. record { 0 = e i }
-      | inr i ↦ absurd (not_Contains-nil w.made.maker i)
-    ]
+  pub have_none_yet : HaveVisible P h [] []
+  have_none_yet = have_none [] (λ o w. not_Contains-nil w.made.maker w.made.contained)
 
-    pub of_one : (groups : List Group) → ((g : Group) → Contains groups g ↔ ((g.object ≡ o) × P g)) → AllPairs (λ g k. g ≢ k) groups → AreGroupsOf P (a ∷ []) groups
-    of_one groups exactly once = record {
-      exactly = λ g. (
-        λ i. let w = (exactly g).0 i in (w.1, subst (IsMade (a ∷ [])) (sym w.0) makes),
-        λ t. (exactly g).1 (object_of_made g.object t.1, t.0),
-      );
-      once = once;
-    }
+  -- of an operation that makes no object
+  pub have_none_of : (a : Op) (o : ObjectId) (v : _) → a.change ≡ Set o v → HaveVisible P h (a ∷ []) []
+  have_none_of a o v e = have_none (a ∷ []) (λ p w. no_maker w.made.maker.change o v w.kind (ap (λ (b : Op). b.change) (one_maker a p w) ∙ e) w.made.kind)
 
-  -- ---- of several
-
-  pub none_yet : AreGroupsOf P [] []
-  none_yet = record {
-    exactly = λ g. (λ i. absurd (not_Contains-nil g i), λ t. absurd (not_Contains-nil t.1.made.maker t.1.made.contained));
-    once = λ i j d l m. absurd (omega arith);
+  -- and of one that makes one
+  pub have_of_one : (a : Op) → IsMade (a ∷ []) (own a) → (groups : List Group) → ((g : Group) → Contains groups g → (g.object ≡ own a) × P g) → ((g : Group) → g.object ≡ own a → IsVisibleGroup h g → Contains groups g) →
+      AllPairs (λ g k. g ≢ k) groups → HaveVisible P h (a ∷ []) groups
+  have_of_one a makes groups each all once = record {
+    each = λ g i. let w = each g i in (w.1, subst (IsMade (a ∷ [])) (sym w.0) makes);
+    all = λ g v made. let e : g.object.0 ≡ a.id = sym made.made.id ∙ ap (λ (b : Op). b.id) (one_maker a g.object made) in all g (λ i. record { 0 = e i }) v;
+    once = once;
   }
 
-  once_more : (ks ops : List Op) (groups more : List Group) → Fresh ks ops → ((g : Group) → Contains groups g → P g × IsMade ks g.object) → ((g : Group) → Contains more g → P g × IsMade ops g.object) →
-      AllPairs (λ g k. g ≢ k) groups → AllPairs (λ g k. g ≢ k) more → AllPairs (λ g k. g ≢ k) (groups ++ more)
-  once_more ks ops groups more fresh first second p q = AllPairs-append (λ g k. g ≢ k) groups more p q (λ g k x y e.
-      let v = (first g x).1 in
-      let w = (second k y).1 in
-      fresh v.made.maker w.made.maker v.made.contained w.made.contained
-      (v.made.id ∙ (ap (λ (z : Group). z.object.0) e ∙ sym w.made.id)))
-
-  pub groups_more : (ks ops : List Op) (groups more : List Group) → Fresh ks ops → AreGroupsOf P ks groups → AreGroupsOf P ops more → AreGroupsOf P (ks ++ ops) (groups ++ more)
-  groups_more ks ops groups more fresh first second = record {
-    exactly = λ g. (
-      λ i. elim (Contains-append_cases groups more g i) [
-        | inl j ↦ let w = (first.exactly g).0 j in (w.0, made_weaker ks (ks ++ ops) g.object (λ a. Contains-append_left ks ops a) w.1)
-        | inr j ↦ let w = (second.exactly g).0 j in (w.0, made_weaker ops (ks ++ ops) g.object (λ a. Contains-append_right ks ops a) w.1)
-      ],
-      λ t. elim (made_cases ks ops g.object t.1) [
-        | inl w ↦ Contains-append_left groups more g ((first.exactly g).1 (t.0, w))
-        | inr w ↦ Contains-append_right groups more g ((second.exactly g).1 (t.0, w))
-      ],
-    );
-    once = once_more ks ops groups more fresh (λ g. (first.exactly g).0) (λ g. (second.exactly g).0) first.once second.once;
+  pub have_more : (ks ops : List Op) (groups more : List Group) → Fresh ks ops → HaveVisible P h ks groups → HaveVisible P h ops more → HaveVisible P h (ks ++ ops) (groups ++ more)
+  have_more ks ops groups more fresh first second = record {
+    each = λ g i. elim (Contains-append_cases groups more g i) [
+      | inl j ↦ let w = first.each g j in (w.0, made_weaker ks (ks ++ ops) g.object (λ a. Contains-append_left ks ops a) w.1)
+      | inr j ↦ let w = second.each g j in (w.0, made_weaker ops (ks ++ ops) g.object (λ a. Contains-append_right ks ops a) w.1)
+    ];
+    all = λ g v made. elim (made_cases ks ops g.object made) [
+      | inl w ↦ Contains-append_left groups more g (first.all g v w)
+      | inr w ↦ Contains-append_right groups more g (second.all g v w)
+    ];
+    once = once_more P ks ops groups more fresh first.each second.each first.once second.once;
   }
 
 -- ---- of visible versions
 
-module _ (h : List Op) where
-  -- of one operation that makes the object o
-  module _ (a : Op) (o : ObjectId) (same : o.0 ≡ a.id) (makes : IsMade (a ∷ []) o) where
-    pub more_of_one : (m : ℕ) → HasMoreOn h o m → HasMoreGroups h (a ∷ []) m
-    more_of_one m w = let all = of_one (IsVisibleGroup h) a o same makes w.groups w.all.exactly w.all.once in record { groups = w.groups; each = λ g. (all.exactly g).0; once = all.once; many = w.many }
+version_group : (h : List Op) (g : Group) → IsVisibleGroup h g → IsVersionGroup h g
+version_group h g w = subst (IsVersionGroup h) w.group w.visible.version.version
 
-    pub found_of_one : {V E : Type 0} (items : V → List Group) (m : ℕ) (r : Result (Option V) E) → IfOk r (λ found. IfSome found (λ v. AreVisibleOn h o (items v))) → IfOk r (λ found. IfSome found (λ v. length (items v) ≤ m)) →
-        IfOk r (λ found. IfNone found (HasMoreOn h o m)) → IfOk r (λ found. IsGroupListing h (a ∷ []) m (option_map items found))
-    found_of_one items m (Ok (Some v)) x y z = (of_one (IsVisibleGroup h) a o same makes (items v) x.exactly x.once, y)
-    found_of_one items m (Ok None) x y z = more_of_one m z
+-- the visible ones are versions
+pub have_visible : (h ops : List Op) (groups : List Group) → AreVisibleOf h ops groups → HaveVisibleOf h ops groups
+have_visible h ops groups have = record {
+  each = λ g i. let w = have.each g i in (version_group h g w.0, w.1);
+  all = have.all;
+  once = have.once;
+}
+
+-- all versions of the object that an operation made
+pub versions_of_one : (h : List Op) (a : Op) → IsMade (a ∷ []) (own a) → (groups : List Group) → AreVersions h (own a) groups → HaveVisibleOf h (a ∷ []) groups
+versions_of_one h a makes groups all = have_of_one h (IsVersionGroup h) a makes groups (λ g. (all.exactly g).0) (λ g e v. (all.exactly g).1 (e, version_group h g v)) (each_once groups all.rising)
+
+module _ (h : List Op) where
+  -- the visible ones of the object that an operation made
+  module _ (a : Op) (makes : IsMade (a ∷ []) (own a)) where
+    all_of_one : (groups : List Group) → AreVisibleOn h (own a) groups → AreVisibleOf h (a ∷ []) groups
+    all_of_one groups all = have_of_one h (IsVisibleGroup h) a makes groups (λ g. (all.exactly g).0) (λ g e v. (all.exactly g).1 (e, v)) all.once
+
+    pub found_of_one : {V E : Type 0} (items : V → List Group) (m : ℕ) (r : Result (Option V) E) → IfOk r (λ found. IfSome found (λ v. AreVisibleOn h (own a) (items v))) → IfOk r (λ found. IfSome found (λ v. length (items v) ≤ m)) →
+        IfOk r (λ found. IfNone found (HasMoreOn h (own a) m)) → IfOk r (λ found. IsGroupListing h (a ∷ []) m (option_map items found))
+    found_of_one items m (Ok (Some v)) x y z = (all_of_one (items v) x, y)
+    found_of_one items m (Ok None) x y z = let all = all_of_one z.groups z.all in record { groups = z.groups; each = all.each; once = all.once; many = z.many }
     found_of_one items m (Err e) x y z = tt
 
   -- more groups of later operations than were left
-  pub more_in_all : (ks ops all : List Op) (groups : List Group) (m : ℕ) → ((a : Op) → Contains (ks ++ ops) a → Contains all a) → Fresh ks ops → AreVisibleGroupsOf h ks groups → length groups ≤ m → HasMoreGroups h ops (m - length groups) → HasMoreGroups h all m
+  pub more_in_all : (ks ops all : List Op) (groups : List Group) (m : ℕ) → ((a : Op) → Contains (ks ++ ops) a → Contains all a) → Fresh ks ops → AreVisibleOf h ks groups → length groups ≤ m → HasMoreGroups h ops (m - length groups) → HasMoreGroups h all m
   more_in_all ks ops all groups m within fresh first few w = record {
     groups = groups ++ w.groups;
     each = λ g i. elim (Contains-append_cases groups w.groups g i) [
-      | inl j ↦ let v = (first.exactly g).0 j in (v.0, made_weaker ks all g.object (λ a k. within a (Contains-append_left ks ops a k)) v.1)
+      | inl j ↦ let v = first.each g j in (v.0, made_weaker ks all g.object (λ a k. within a (Contains-append_left ks ops a k)) v.1)
       | inr j ↦ let v = w.each g j in (v.0, made_weaker ops all g.object (λ a k. within a (Contains-append_right ks ops a k)) v.1)
     ];
-    once = once_more (IsVisibleGroup h) ks ops groups w.groups fresh (λ g. (first.exactly g).0) w.each first.once w.once;
+    once = once_more (IsVisibleGroup h) ks ops groups w.groups fresh first.each w.each first.once w.once;
     many = let e = length-append groups w.groups in let k = w.many in omega (arith, e, k, few);
   }
 
@@ -190,47 +192,6 @@ module _ (h : List Op) where
       let many = w.many in
       record { items = all.0; ranked = all.1; many = omega (arith, long, same, many) }
 
--- ---- versions among which are all visible ones
-
-module _ (h : List Op) where
-  pub have_none : HaveVisibleOf h [] []
-  have_none = record {
-    each = λ g i. absurd (not_Contains-nil g i);
-    all = λ g v w. absurd (not_Contains-nil w.made.maker w.made.contained);
-    once = λ i j d l m. absurd (omega arith);
-  }
-
-  pub have_more : (ks ops : List Op) (groups more : List Group) → Fresh ks ops → HaveVisibleOf h ks groups → HaveVisibleOf h ops more → HaveVisibleOf h (ks ++ ops) (groups ++ more)
-  have_more ks ops groups more fresh first second = record {
-    each = λ g i. elim (Contains-append_cases groups more g i) [
-      | inl j ↦ let w = first.each g j in (w.0, made_weaker ks (ks ++ ops) g.object (λ a. Contains-append_left ks ops a) w.1)
-      | inr j ↦ let w = second.each g j in (w.0, made_weaker ops (ks ++ ops) g.object (λ a. Contains-append_right ks ops a) w.1)
-    ];
-    all = λ g v made. elim (made_cases ks ops g.object made) [
-      | inl w ↦ Contains-append_left groups more g (first.all g v w)
-      | inr w ↦ Contains-append_right groups more g (second.all g v w)
-    ];
-    once = once_more (IsVersionGroup h) ks ops groups more fresh first.each second.each first.once second.once;
-  }
-
-  version_group : (g : Group) → IsVisibleGroup h g → IsVersionGroup h g
-  version_group g w = subst (IsVersionGroup h) w.group w.visible.version.version
-
-  -- the visible ones, and all versions
-  pub have_visible : (ops : List Op) (groups : List Group) → AreVisibleGroupsOf h ops groups → HaveVisibleOf h ops groups
-  have_visible ops groups all = record {
-    each = λ g i. let w = (all.exactly g).0 i in (version_group g w.0, w.1);
-    all = λ g v made. (all.exactly g).1 (v, made);
-    once = all.once;
-  }
-
-  pub have_versions : (ops : List Op) (groups : List Group) → AreVersionGroupsOf h ops groups → HaveVisibleOf h ops groups
-  have_versions ops groups all = record {
-    each = λ g. (all.exactly g).0;
-    all = λ g v made. (all.exactly g).1 (version_group g v, made);
-    once = all.once;
-  }
-
   -- ranked, they are the history's ranked list
   pub ranked_have : IsValid h → (groups : List Group) → HaveVisibleOf h h groups → (items : List (Placed AnyShape)) → AreRankedOf h groups items → AreRanked h items
   ranked_have valid groups have items ranked = record {
@@ -242,10 +203,6 @@ module _ (h : List Op) where
     );
     falling = ranked.falling;
   }
-
--- the versions of the object that an operation made
-pub versions_of_one : (h : List Op) (a : Op) (o : ObjectId) → o.0 ≡ a.id → IsMade (a ∷ []) o → (groups : List Group) → AreVersions h o groups → AreVersionGroupsOf h (a ∷ []) groups
-versions_of_one h a o same makes groups all = of_one (IsVersionGroup h) a o same makes groups all.exactly (each_once groups all.rising)
 
 -- ---- the operations of a history, one after another
 

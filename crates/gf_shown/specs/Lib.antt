@@ -1,6 +1,7 @@
 pub mod Deciding
+pub mod ObjectComponents
+pub mod Pending
 pub mod ShownAt
-pub mod DecidingAt
 pub mod ShownSets
 pub mod ShownVersions
 pub mod VisibleSoFar

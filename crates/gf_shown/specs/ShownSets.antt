@@ -1,14 +1,9 @@
 -- The largest compatible sets of positions that show, listed unless they are too many. No public clause cites this module.
-use Rattle.std.specs.Prelude.{◌≡◌, ◌≢◌, ◌↔◌, ℕ, ◌<◌, ◌≤◌, Bool, true, List, AllPairs, Contains, length, Option, Some, None}
+use Rattle.std.specs.Prelude.{◌≡◌, ◌≢◌, ◌↔◌, ℕ, ◌<◌, ◌≤◌, true, List, AllPairs, Contains, length, Option, Some, None}
 use Rattle.gf_ops.specs.declared.op.Op.{Op}
 use Rattle.gf_groups.specs.Growing.{conflict_at}
 use Rattle.gf_maximal.specs.Tables.{IsLargest, IsRising}
-use Rattle.gf_shown.specs.Deciding.{shows}
-use Rattle.gf_shown.specs.ShownAt.{sets_at, shows_at, later_at}
-
--- the last operation of the positions g that shows or hides, shows
-abbrev pub is_shown : List Op → List ℕ → Bool
-is_shown h g = shows (sets_at h) (later_at h) (shows_at h) g
+use Rattle.gf_shown.specs.Deciding.{is_shown}
 
 -- g is a largest compatible set of the positions us, and shows
 pub record IsShownSet (h : List Op) (us g : List ℕ) : Type 0 where

@@ -1,28 +1,23 @@
--- The groups of the versions of some objects, and of those that are visible, gathered unless they are too many. No public clause cites this module.
-use Rattle.std.specs.Prelude.{◌≢◌, ◌↔◌, ℕ, ◌<◌, ◌≤◌, List, AllPairs, Contains, length, Option, Some, None}
+-- The groups of the visible versions of some objects, gathered unless they are too many. No public clause cites this module.
+use Rattle.std.specs.Prelude.{◌≢◌, ℕ, ◌<◌, ◌≤◌, List, AllPairs, Contains, length, Option, Some, None}
 use Rattle.gf_ops.specs.declared.op.Op.{Op}
 use Rattle.gf_groups.specs.declared.group.Group.{Group}
 use Rattle.gf_groups.specs.Versions.{IsMade, IsVersionGroup}
 use Rattle.gf_shown.specs.ShownVersions.{IsVisibleGroup}
 
--- the groups are those that P tells of, whose objects these operations made, each once
-pub record AreGroupsOf (P : Group → Type 0) (ops : List Op) (groups : List Group) : Type 0 where
-  pub exactly : (g : Group) → Contains groups g ↔ (P g × IsMade ops g.object)
-  pub once : AllPairs (λ g k. g ≢ k) groups
-
--- the groups are those of the versions of h whose objects these operations made
-abbrev pub AreVersionGroupsOf : List Op → List Op → List Group → Type 0
-AreVersionGroupsOf h ops groups = AreGroupsOf (IsVersionGroup h) ops groups
-
--- the groups are those of the visible versions of h whose objects these operations made
-abbrev pub AreVisibleGroupsOf : List Op → List Op → List Group → Type 0
-AreVisibleGroupsOf h ops groups = AreGroupsOf (IsVisibleGroup h) ops groups
-
--- the groups are versions of h whose objects these operations made, each once, and those of all its visible ones are among them
-pub record HaveVisibleOf (h ops : List Op) (groups : List Group) : Type 0 where
-  pub each : (g : Group) → Contains groups g → IsVersionGroup h g × IsMade ops g.object
+-- the groups are such as P tells of, each once, and those of all visible versions of h are among them, as far as these operations made the objects
+pub record HaveVisible (P : Group → Type 0) (h ops : List Op) (groups : List Group) : Type 0 where
+  pub each : (g : Group) → Contains groups g → P g × IsMade ops g.object
   pub all : (g : Group) → IsVisibleGroup h g → IsMade ops g.object → Contains groups g
   pub once : AllPairs (λ g k. g ≢ k) groups
+
+-- the groups are those of the visible versions of h whose objects these operations made
+abbrev pub AreVisibleOf : List Op → List Op → List Group → Type 0
+AreVisibleOf h ops groups = HaveVisible (IsVisibleGroup h) h ops groups
+
+-- the groups are versions of h whose objects these operations made, and all visible ones are among them
+abbrev pub HaveVisibleOf : List Op → List Op → List Group → Type 0
+HaveVisibleOf h ops groups = HaveVisible (IsVersionGroup h) h ops groups
 
 -- more than m visible versions of h are on objects that these operations made
 pub record HasMoreGroups (h ops : List Op) (m : ℕ) : Type 0 where
@@ -33,5 +28,5 @@ pub record HasMoreGroups (h ops : List Op) (m : ℕ) : Type 0 where
 
 -- the groups are those of the visible versions whose objects these operations made, and at most m; none, where they are more
 abbrev pub IsGroupListing : List Op → List Op → ℕ → Option (List Group) → Type 0
-IsGroupListing h ops m (Some groups) = AreVisibleGroupsOf h ops groups × (length groups ≤ m)
+IsGroupListing h ops m (Some groups) = AreVisibleOf h ops groups × (length groups ≤ m)
 IsGroupListing h ops m None = HasMoreGroups h ops m

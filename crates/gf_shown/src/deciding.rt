@@ -1,30 +1,30 @@
-//! Which parts decide whether the versions of an object show.
+//! Which components decide whether the versions of an object show.
 
-ghost use Rattle.std.specs.Prelude.{◌≡◌, option_copied};
-ghost use Rattle.std.specs.List.{list_any, list_all};
-ghost use Rattle.gf_shown.specs.DecidingAt.{taken_at, last_at, always_later_at, overruled_at};
-ghost use Rattle.gf_shown.specs.DecidingAt.{may_be_last_at, decides_at};
+ghost use Rattle.std.specs.Prelude.{◌≡◌, ◌-◌, option_copied};
+ghost use Rattle.std.specs.List.{list_any, list_all, range_with_len};
+ghost use Rattle.gf_shown.specs.Deciding.{taken, last_of, is_shown, always_later, overruled};
+ghost use Rattle.gf_shown.specs.Deciding.{may_be_last};
 ghost use Rattle.gf_shown.specs.ShownAt.{later_at};
-ghost use Rattle.gf_shown.specs.ShownSets.{is_shown};
 
 use crate::saying::{later_at, sets_at, shows_at};
-use gf_groups::{Positions, Timeline};
-use gf_parts::{Part, Together};
+use gf_components::{Component, Components};
+use gf_maximal::Numbers;
+use gf_ops::History;
 
 /// The last setter so far, after the one at this position came too.
-fn taken(timeline: &Timeline<'_>, last: Option<usize>, position: usize) -> Option<usize>
-    ensures { result ≡ taken_at timeline.now last position }
+fn taken(history: &History, last: Option<usize>, position: usize) -> Option<usize>
+    ensures { result ≡ taken history.now.ops last position }
 {
     match last {
         Some(last) => {
-            if later_at(timeline, last, position) {
+            if later_at(history, last, position) {
                 Some(position)
             } else {
                 Some(last)
             }
         }
         None => {
-            if sets_at(timeline, position) {
+            if sets_at(history, position) {
                 Some(position)
             } else {
                 None
@@ -34,87 +34,96 @@ fn taken(timeline: &Timeline<'_>, last: Option<usize>, position: usize) -> Optio
 }
 
 /// The last one of the group that shows or hides.
-fn last_of(timeline: &Timeline<'_>, group: &[usize]) -> Option<usize>
-    ensures { result ≡ last_at timeline.now group.now }
+fn last_of(history: &History, group: &[usize]) -> Option<usize>
+    ensures { result ≡ last_of history.now.ops group.now }
 {
     let mut last = None;
     for position in group {
-        last = taken(timeline, last, *position);
+        last = taken(history, last, *position);
     }
     last
 }
 
 /// Whether the last one of the group shows.
-pub(crate) fn shows(timeline: &Timeline<'_>, group: &[usize]) -> bool
-    ensures { result ≡ is_shown timeline.now group.now }
+pub(crate) fn shows(history: &History, group: &[usize]) -> bool
+    ensures { result ≡ is_shown history.now.ops group.now }
 {
-    match last_of(timeline, group) {
-        Some(last) => shows_at(timeline, last),
+    match last_of(history, group) {
+        Some(last) => shows_at(history, last),
         None => false,
     }
+}
+
+/// Whether one from `start` on that is below `end` comes later.
+fn later_between(history: &History, position: usize, start: usize, end: usize) -> bool
+    ensures { result
+        ≡ list_any (later_at history.now.ops position) (range_with_len start (end - start)) }
+{
+    (start..end).any(|other| later_at(history, position, other))
 }
 
 /// Whether one of the positions comes later.
-fn some_later(timeline: &Timeline<'_>, position: usize, positions: &[usize]) -> bool
-    ensures { result ≡ list_any (later_at timeline.now position) positions.now }
+fn some_later(history: &History, position: usize, positions: &Numbers) -> bool
+    ensures { result ≡ list_any (later_at history.now.ops position) positions.now }
 {
-    positions
-        .iter()
-        .any(|other| later_at(timeline, position, *other))
+    for run in positions.runs() {
+        if later_between(history, position, run.start, run.end) {
+            return true;
+        }
+    }
+    false
 }
 
 /// Whether each of the sets has a later one.
-fn all_later(timeline: &Timeline<'_>, position: usize, sets: &[Positions]) -> bool
-    ensures { result ≡ list_all (list_any (later_at timeline.now position)) sets.now }
+fn all_later(history: &History, position: usize, sets: &[Numbers]) -> bool
+    ensures { result ≡ list_all (list_any (later_at history.now.ops position)) sets.now }
 {
-    sets.iter()
-        .all(|set| some_later(timeline, position, set.as_slice()))
+    sets.iter().all(|set| some_later(history, position, set))
 }
 
-/// Whether each set of the part has a later one.
-fn always_later(timeline: &Timeline<'_>, position: usize, part: &Part) -> bool
-    ensures { result ≡ always_later_at timeline.now position part.now }
+/// Whether each set of the component has a later one.
+fn always_later(history: &History, position: usize, part: &Component) -> bool
+    ensures { result ≡ always_later history.now.ops position part.now }
 {
     match part.sets() {
-        Some(sets) => all_later(timeline, position, sets),
+        Some(sets) => all_later(history, position, sets),
         None => false,
     }
 }
 
-fn one_always_later(timeline: &Timeline<'_>, position: usize, parts: &[&Part]) -> bool
-    ensures { result ≡ list_any (λ part. always_later_at timeline.now position part.now) parts.now }
+/// Whether one of the components has a later one in each of its sets.
+fn one_always_later(history: &History, position: usize, parts: &[Component]) -> bool
+    ensures { result ≡ list_any (always_later history.now.ops position) parts.now }
 {
     parts
         .iter()
-        .any(|part| always_later(timeline, position, part))
+        .any(|part| always_later(history, position, part))
 }
 
 /// Whether in each version a later one stands.
-fn overruled(timeline: &Timeline<'_>, parts: &Together<'_>, position: usize) -> bool
-    ensures { result ≡ overruled_at timeline.now parts.now position }
+fn overruled(history: &History, components: &Components, position: usize) -> bool
+    ensures { result ≡ overruled history.now.ops components.now position }
 {
-    some_later(timeline, position, parts.free())
-        || one_always_later(timeline, position, parts.parts())
+    some_later(history, position, components.free())
+        || one_always_later(history, position, components.parts())
 }
 
-/// Whether it shows or hides and may be the last one.
-fn may_be_last(timeline: &Timeline<'_>, parts: &Together<'_>, position: usize) -> bool
-    ensures { result ≡ may_be_last_at timeline.now parts.now position }
+/// Whether the one at this position shows or hides, and may be the last that does.
+fn may_be_last(history: &History, components: &Components, position: usize) -> bool
+    ensures { result ≡ may_be_last history.now.ops components.now position }
 {
-    sets_at(timeline, position) && !overruled(timeline, parts, position)
+    sets_at(history, position) && !overruled(history, components, position)
 }
 
-fn one_may_be_last(timeline: &Timeline<'_>, parts: &Together<'_>, positions: &[usize]) -> bool
-    ensures { result ≡ list_any (may_be_last_at timeline.now parts.now) positions.now }
+/// Whether one of the positions may be the last one.
+pub(crate) fn one_may_be_last(
+    history: &History,
+    components: &Components,
+    positions: &[usize],
+) -> bool
+    ensures { result ≡ list_any (may_be_last history.now.ops components.now) positions.now }
 {
     positions
         .iter()
-        .any(|position| may_be_last(timeline, parts, *position))
-}
-
-/// Whether one of the part may be the last one.
-pub(crate) fn decides(timeline: &Timeline<'_>, parts: &Together<'_>, part: &Part) -> bool
-    ensures { result ≡ decides_at timeline.now parts.now part.now }
-{
-    one_may_be_last(timeline, parts, part.all())
+        .any(|position| may_be_last(history, components, *position))
 }

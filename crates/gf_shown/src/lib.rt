@@ -9,6 +9,7 @@
 mod deciding;
 mod listing;
 mod objects;
+mod pending;
 mod ranking;
 mod saying;
 

@@ -2,76 +2,88 @@
 
 ghost use Rattle.std.specs.Prelude.{◌≡◌, ◌≤◌, ◌<◌, ◌-◌, ◌^◌, cond, filter, length, IfOk};
 ghost use Rattle.std.specs.Prelude.{option_map};
+ghost use Rattle.std.specs.List.{fold};
+ghost use Rattle.gf_components.specs.Components.{alone, merged, most_sets, whole};
 ghost use Rattle.gf_groups.specs.GroupedPositions.{positions_below};
-ghost use Rattle.gf_parts.specs.Parts.{most_sets, joined, whole};
-ghost use Rattle.gf_shown.specs.Deciding.{at_most};
-ghost use Rattle.gf_shown.specs.DecidingAt.{deciding_at, idle_at, shown_within_at};
-ghost use Rattle.gf_shown.specs.ShownSets.{IsSetListing, is_shown};
-ghost use Rattle.gf_table.specs.Standing.{StandsFor};
+ghost use Rattle.gf_shown.specs.Deciding.{at_most, deciding, idle, is_shown, is_wanted, shown_within};
+ghost use Rattle.gf_shown.specs.Pending.{StandsFor};
+ghost use Rattle.gf_shown.specs.ShownSets.{IsSetListing};
 
-use crate::deciding::{decides, shows};
-use gf_groups::{Positions, Timeline, groups_at};
+use crate::deciding::{one_may_be_last, shows};
+use crate::pending::GroupTable;
+use gf_components::{Component, Components, alone, merged, products};
+use gf_groups::groups_at;
+use gf_maximal::Numbers;
 use gf_ops::{History, ObjectId};
-use gf_parts::{Part, Together, alone, copied, joined, products};
 use gf_shape::OutOfMemory;
-use gf_table::GroupTable;
 use std::alloc::Global;
 
-/// The part with another one, if it is wanted.
-fn with_wanted(alloc: Global, part: Part, other: &Part, wanted: bool) -> Result<Part, OutOfMemory>
-    ensures { IfOk result (λ both. both ≡ cond wanted (joined part other.now) part) }
+/// The component with another one, if it is wanted.
+fn with_wanted(
+    alloc: Global,
+    part: Component,
+    other: &Component,
+    wanted: bool,
+) -> Result<Component, OutOfMemory>
+    ensures { IfOk result (λ both. both ≡ cond wanted (merged part other.now) part) }
 {
     if wanted {
-        joined(alloc, &part, other)
+        merged(alloc, &part, other)
     } else {
         Ok(part)
     }
 }
 
-/// What is free, with the parts that decide, as one part.
-fn whole_deciding(
+/// These positions, and the components that decide or those that do not, as one component.
+fn merged_wanted(
     alloc: Global,
-    timeline: &Timeline<'_>,
-    parts: &Together<'_>,
-) -> Result<Part, OutOfMemory>
-    ensures { IfOk result (λ part. part ≡ whole (deciding_at timeline.now parts.now)) }
+    history: &History,
+    components: &Components,
+    positions: Numbers,
+    wanted: bool,
+) -> Result<Component, OutOfMemory>
+    ensures { IfOk result (λ part. part ≡ fold merged (alone positions)
+        (filter (is_wanted history.now.ops wanted components.now) components.now.parts)) }
 {
-    let mut free = Vec::new(alloc);
-    free.extend_from_slice(parts.free())?;
-    let mut part = alone(alloc, free)?;
-    for other in parts.parts() {
-        part = with_wanted(alloc, part, other, decides(timeline, parts, other))?;
+    let mut part = alone(alloc, positions)?;
+    for other in components.parts() {
+        let decides = one_may_be_last(history, components, &other.all().to_vec(alloc)?);
+        part = with_wanted(alloc, part, other, decides == wanted)?;
     }
     Ok(part)
 }
 
-/// The other parts as one.
+/// What is free, with the components that decide, as one component.
+fn whole_deciding(
+    alloc: Global,
+    history: &History,
+    components: &Components,
+) -> Result<Component, OutOfMemory>
+    ensures { IfOk result (λ part. part ≡ whole (deciding history.now.ops components.now)) }
+{
+    let free = components.free().copy(alloc)?;
+    merged_wanted(alloc, history, components, free, true)
+}
+
+/// The other components as one.
 fn whole_idle(
     alloc: Global,
-    timeline: &Timeline<'_>,
-    parts: &Together<'_>,
-) -> Result<Part, OutOfMemory>
-    ensures { IfOk result (λ part. part ≡ whole (idle_at timeline.now parts.now)) }
+    history: &History,
+    components: &Components,
+) -> Result<Component, OutOfMemory>
+    ensures { IfOk result (λ part. part ≡ whole (idle history.now.ops components.now)) }
 {
-    let mut part = alone(alloc, Vec::new(alloc))?;
-    for other in parts.parts() {
-        part = with_wanted(alloc, part, other, !decides(timeline, parts, other))?;
-    }
-    Ok(part)
+    merged_wanted(alloc, history, components, Numbers::new(alloc), false)
 }
 
 /// Those of the sets that show.
-fn showing(
-    alloc: Global,
-    timeline: &Timeline<'_>,
-    sets: &[Positions],
-) -> Result<Vec<Positions>, OutOfMemory>
-    ensures { IfOk result (λ kept. kept.items ≡ filter (is_shown timeline.now) sets.now) }
+fn showing(alloc: Global, history: &History, sets: &[Numbers]) -> Result<Vec<Numbers>, OutOfMemory>
+    ensures { IfOk result (λ kept. kept.items ≡ filter (is_shown history.now.ops) sets.now) }
 {
     let mut kept = Vec::new(alloc);
     for set in sets {
-        if shows(timeline, set.as_slice()) {
-            kept.push(copied(alloc, set.as_slice())?)?;
+        if shows(history, &set.to_vec(alloc)?) {
+            kept.push(set.copy(alloc)?)?;
         }
     }
     Ok(kept)
@@ -81,10 +93,10 @@ fn showing(
 /// many.
 fn at_most(
     alloc: Global,
-    sets: &[Positions],
-    others: &Part,
+    sets: &[Numbers],
+    others: &Component,
     most: usize,
-) -> Result<Option<Vec<Positions>>, OutOfMemory>
+) -> Result<Option<Vec<Numbers>>, OutOfMemory>
     requires { most < 2 ^ 64 - 1 }
     ensures { IfOk result (λ found.
         option_map (λ v. v.items) found ≡ at_most most sets.now others.now.sets) }
@@ -104,25 +116,25 @@ fn at_most(
 /// The sets that show, each once, if they are at most so many; these are the sets of what decides.
 fn shown_within(
     alloc: Global,
-    timeline: &Timeline<'_>,
-    parts: &Together<'_>,
-    sets: &[Positions],
+    history: &History,
+    components: &Components,
+    sets: &[Numbers],
     most: usize,
-) -> Result<Option<Vec<Positions>>, OutOfMemory>
+) -> Result<Option<Vec<Numbers>>, OutOfMemory>
     requires { most < 2 ^ 64 - 1 }
     ensures { IfOk result (λ found.
-        option_map (λ v. v.items) found ≡ shown_within_at timeline.now most parts.now sets.now) }
+        option_map (λ v. v.items) found ≡ shown_within history.now.ops most components.now sets.now) }
 {
-    let showing = showing(alloc, timeline, sets)?;
+    let showing = showing(alloc, history, sets)?;
     if showing.is_empty() {
         return Ok(Some(Vec::new(alloc)));
     }
-    let idle = whole_idle(alloc, timeline, parts)?;
+    let idle = whole_idle(alloc, history, components)?;
     at_most(alloc, &showing, &idle, most)
 }
 
 /// The largest compatible sets of an object's positions that show, each once, if they are at most
-/// so many. Where those of what decides are more than a part keeps, they are listed anew, and
+/// so many. Where those of what decides are more than a component keeps, they are listed anew, and
 /// nothing else of the object is multiplied out.
 pub(crate) fn shown_sets(
     alloc: Global,
@@ -130,7 +142,7 @@ pub(crate) fn shown_sets(
     table: &GroupTable,
     object: ObjectId,
     most: usize,
-) -> Result<Option<Vec<Positions>>, OutOfMemory>
+) -> Result<Option<Vec<Numbers>>, OutOfMemory>
     requires stands { StandsFor history.now.ops table.now }
     requires most { most ≤ most_sets }
     ensures { IfOk result (λ found. IsSetListing history.now.ops
@@ -139,14 +151,13 @@ pub(crate) fn shown_sets(
 {
     // Its clause says that the history is valid.
     let _ = history.ops();
-    let timeline = Timeline::of(history);
-    let parts = table.parts(alloc, object)?;
-    let deciding = whole_deciding(alloc, &timeline, &parts)?;
+    let components = table.components(alloc, history, object)?;
+    let deciding = whole_deciding(alloc, history, &components)?;
     match deciding.sets() {
-        Some(sets) => shown_within(alloc, &timeline, &parts, sets, most),
+        Some(sets) => shown_within(alloc, history, &components, sets, most),
         None => {
-            let sets = groups_at(alloc, history, deciding.all())?;
-            shown_within(alloc, &timeline, &parts, &sets, most)
+            let sets = groups_at(alloc, history, &deciding.all().to_vec(alloc)?)?;
+            shown_within(alloc, history, &components, &sets, most)
         }
     }
 }

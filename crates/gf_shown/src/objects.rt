@@ -3,17 +3,17 @@
 ghost use Rattle.std.specs.Prelude.{◌≤◌, ◌∷◌, [], length, Contains, IfNone, IfOk, IfSome};
 ghost use Rattle.std.specs.Prelude.{option_map};
 ghost use Rattle.gf_groups.specs.Versions.{IsMade};
-ghost use Rattle.gf_parts.specs.Parts.{most_sets};
+ghost use Rattle.gf_components.specs.Components.{most_sets};
 ghost use Rattle.gf_shown.specs.ShownVersions.{AreVisibleOn, HasMoreOn};
-ghost use Rattle.gf_shown.specs.VisibleSoFar.{AreVersionGroupsOf, HaveVisibleOf, IsGroupListing};
-ghost use Rattle.gf_table.specs.Standing.{StandsFor};
+ghost use Rattle.gf_shown.specs.VisibleSoFar.{HaveVisibleOf, IsGroupListing};
+ghost use Rattle.gf_shown.specs.Pending.{StandsFor};
 
 use crate::listing::shown_sets;
+use crate::pending::GroupTable;
+use gf_components::MOST_SETS;
 use gf_groups::{Group, GroupFault, add_groups};
 use gf_ops::{Change, History, ObjectId, Op};
-use gf_parts::MOST_SETS;
 use gf_shape::OutOfMemory;
-use gf_table::GroupTable;
 use std::alloc::Global;
 
 /// The groups of the visible versions of an object that the history made, each once, if they are at
@@ -80,7 +80,7 @@ fn versions_made(
     requires stands { StandsFor history.now.ops table.now }
     requires contained { Contains history.now.ops op.now }
     ensures { IfOk result (λ groups.
-        AreVersionGroupsOf history.now.ops (op.now ∷ []) groups.items) }
+        HaveVisibleOf history.now.ops (op.now ∷ []) groups.items) }
 {
     match &op.change {
         Change::Create(_) => match table.groups(alloc, history, ObjectId(op.id)) {

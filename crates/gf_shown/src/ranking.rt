@@ -1,17 +1,17 @@
 //! The visible versions of a history, ranked: all, or unless they are too many.
 
 ghost use Rattle.std.specs.Prelude.{◌≤◌, length, IfNone, IfOk, IfSome, option_map};
-ghost use Rattle.gf_parts.specs.Parts.{most_sets};
+ghost use Rattle.gf_components.specs.Components.{most_sets};
 ghost use Rattle.gf_shown.specs.ShownVersions.{HasMoreVisible};
 ghost use Rattle.gf_shown.specs.VisibleSoFar.{HaveVisibleOf, IsGroupListing};
-ghost use Rattle.gf_table.specs.Standing.{StandsFor};
+ghost use Rattle.gf_shown.specs.Pending.{StandsFor};
 ghost use Rattle.gf_versions.specs.Ranking.{AreRanked};
 
 use crate::objects::{visible_made, visible_or_all};
+use crate::pending::GroupTable;
 use gf_groups::Group;
 use gf_ops::History;
 use gf_shape::{AnyShape, OutOfMemory};
-use gf_table::GroupTable;
 use gf_versions::{Ranked, ranked_of};
 use std::alloc::Global;
 

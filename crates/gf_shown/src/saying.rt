@@ -1,13 +1,12 @@
 //! What the operations at positions say of `Shown`.
 
-ghost use Rattle.std.specs.Prelude.{◌≡◌, IfSome, option_copied};
+ghost use Rattle.std.specs.Prelude.{◌≡◌};
 ghost use Rattle.gf_ops.specs.Limits.{IsInRange};
 ghost use Rattle.gf_groups.specs.VersionList.{is_before};
-ghost use Rattle.gf_shown.specs.ShownAt.{shown_value, shown_by, op_sets, op_shows, op_later};
-ghost use Rattle.gf_shown.specs.ShownAt.{sets_at, shows_at, later_at};
+ghost use Rattle.gf_shown.specs.ShownAt.{shown_value, shown_by, before_at};
+ghost use Rattle.gf_shown.specs.ShownAt.{said_at, sets_at, shows_at, later_at};
 
-use gf_groups::Timeline;
-use gf_ops::{Change, Op, Value, before};
+use gf_ops::{Change, History, Op, Value, before};
 
 /// Whether the value shows, if it says that.
 fn shown_value(value: &Value) -> Option<bool>
@@ -33,24 +32,13 @@ fn shown_by(change: &Change) -> Option<bool>
     }
 }
 
-fn op_sets(op: Option<&Op>) -> bool
-    ensures { result ≡ op_sets (option_copied op.entry) }
+/// Whether the operation at this position shows its object, if it says that.
+fn said_at(history: &History, position: usize) -> Option<bool>
+    ensures { result ≡ said_at history.now.ops position }
 {
-    match op {
-        Some(op) => shown_by(&op.change).is_some(),
-        None => false,
-    }
-}
-
-fn op_shows(op: Option<&Op>) -> bool
-    ensures { result ≡ op_shows (option_copied op.entry) }
-{
-    match op {
-        Some(op) => match shown_by(&op.change) {
-            Some(shown) => shown,
-            None => false,
-        },
-        None => false,
+    match history.ops().get(position) {
+        Some(op) => shown_by(&op.change),
+        None => None,
     }
 }
 
@@ -62,34 +50,34 @@ fn is_before(a: &Op, b: &Op) -> bool
     before(a, b)
 }
 
-fn op_later(a: Option<&Op>, b: Option<&Op>) -> bool
-    requires a { IfSome a (λ op. IsInRange op.now) }
-    requires b { IfSome b (λ op. IsInRange op.now) }
-    ensures { result ≡ op_later (option_copied a.entry) (option_copied b.entry) }
+/// Whether there are two operations at these positions, and the first comes before the second.
+fn before_at(history: &History, position: usize, other: usize) -> bool
+    ensures { result ≡ before_at history.now.ops position other }
 {
-    match (a, b) {
-        (Some(a), Some(b)) => shown_by(&b.change).is_some() && is_before(a, b),
+    let ops = history.ops();
+    match (ops.get(position), ops.get(other)) {
+        (Some(a), Some(b)) => is_before(a, b),
         _ => false,
     }
 }
 
 /// Whether the operation at this position shows or hides.
-pub(crate) fn sets_at(timeline: &Timeline<'_>, position: usize) -> bool
-    ensures { result ≡ sets_at timeline.now position }
+pub(crate) fn sets_at(history: &History, position: usize) -> bool
+    ensures { result ≡ sets_at history.now.ops position }
 {
-    op_sets(timeline.get(position))
+    said_at(history, position).is_some()
 }
 
-/// Whether it shows.
-pub(crate) fn shows_at(timeline: &Timeline<'_>, position: usize) -> bool
-    ensures { result ≡ shows_at timeline.now position }
+/// Whether the operation at this position shows.
+pub(crate) fn shows_at(history: &History, position: usize) -> bool
+    ensures { result ≡ shows_at history.now.ops position }
 {
-    op_shows(timeline.get(position))
+    said_at(history, position).unwrap_or(false)
 }
 
 /// Whether the second one shows or hides, and comes after the first.
-pub(crate) fn later_at(timeline: &Timeline<'_>, position: usize, other: usize) -> bool
-    ensures { result ≡ later_at timeline.now position other }
+pub(crate) fn later_at(history: &History, position: usize, other: usize) -> bool
+    ensures { result ≡ later_at history.now.ops position other }
 {
-    op_later(timeline.get(position), timeline.get(other))
+    sets_at(history, other) && before_at(history, position, other)
 }

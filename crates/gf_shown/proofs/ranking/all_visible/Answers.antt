@@ -3,11 +3,11 @@ use Rattle.std.specs.Prelude.{vec_len}
 use Rattle.std.proofs.lemmas.List.{length-append, take_more}
 use Rattle.gf_ops.specs.declared.op.Op.{Op}
 use Rattle.gf_shown.specs.ShownVersions.{IsVisibleGroup}
-use Rattle.gf_shown.proofs.VisibleLemmas.{fresh_next, groups_more, more_in_all, next_in, none_yet}
+use Rattle.gf_shown.proofs.VisibleLemmas.{fresh_next, have_more, have_none_yet, more_in_all, next_in}
 use Rattle.gf_shown.proofs.ranking.all_visible.Goals as goal
 
 pub loop-op-init : goal.loop-op-init
-loop-op-init c = rw c.new-groups.ensures.items (record { visible = none_yet (IsVisibleGroup c.args.history.now.ops); few = omega arith })
+loop-op-init c = let h = c.args.history.now.ops in rw c.new-groups.ensures.items (record { visible = have_none_yet h (IsVisibleGroup h); few = omega arith })
 
 pub returns-in-None : goal.returns-in-None
 returns-in-None c =
@@ -38,6 +38,6 @@ loop-op-preserved c =
     let left = more.1 in
     let len = length-append groups c.in-Some.more.items in
     rw (c.in_ok-append-in-Some.ensures.items, grown) (record {
-      visible = groups_more (IsVisibleGroup h) (take i h) (a ∷ []) groups c.in-Some.more.items (fresh_next h c.ops-op-items.ensures.valid i a within is) c.loop-op.invariant.visible more.0;
+      visible = have_more h (IsVisibleGroup h) (take i h) (a ∷ []) groups c.in-Some.more.items (fresh_next h c.ops-op-items.ensures.valid i a within is) c.loop-op.invariant.visible more.0;
       few = omega (arith, few, left, len);
     })
