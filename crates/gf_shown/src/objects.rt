@@ -6,10 +6,10 @@ ghost use Rattle.gf_groups.specs.Versions.{IsMade};
 ghost use Rattle.gf_components.specs.Components.{most_sets};
 ghost use Rattle.gf_shown.specs.ShownVersions.{AreVisibleOn, HasMoreOn};
 ghost use Rattle.gf_shown.specs.VisibleSoFar.{HaveVisibleOf, IsGroupListing};
-ghost use Rattle.gf_shown.specs.Pending.{StandsFor};
+ghost use Rattle.gf_table.specs.Standing.{StandsFor};
 
 use crate::listing::shown_sets;
-use crate::pending::GroupTable;
+use gf_table::GroupTable;
 use gf_components::MOST_SETS;
 use gf_groups::{Group, GroupFault, add_groups};
 use gf_ops::{Change, History, ObjectId, Op};
