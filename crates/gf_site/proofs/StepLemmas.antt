@@ -8,8 +8,8 @@ use Rattle.gf_ops.specs.declared.change.Change.{Change}
 use Rattle.gf_ops.specs.declared.change.Change.TheVariants.{Create, Set}
 use Rattle.gf_ops.specs.KnownObject.{IsFounded, IsSuited}
 use Rattle.gf_ops.specs.Accepted.{IsAccepted, IsRefused, AreAccepted, next}
-use Rattle.gf_tails.specs.declared.subject.Subject.{Subject}
-use Rattle.gf_table.specs.SubjectState.{SubjectState}
+use Rattle.gf_ops.specs.declared.op.ObjectId.{ObjectId}
+use Rattle.gf_table.specs.ObjectState.{ObjectState}
 use Rattle.gf_table.specs.Standing.{StandsFor}
 
 -- an accepted operation goes on
@@ -31,7 +31,7 @@ pub accepted_same : (h old : List Op) (a b : Op) → old ≡ h → b ≡ a → I
 accepted_same h old a b e s c = subst (λ l. IsAccepted l b) (sym e) (subst (IsAccepted h) (sym s) c)
 
 -- the table stands for the history with the operation
-pub table_more : (h old new : List Op) (a : Op) (t : List (Subject × SubjectState)) → old ≡ h → new ≡ old ++ a ∷ [] → StandsFor (h ++ a ∷ []) t → StandsFor new t
+pub table_more : (h old new : List Op) (a : Op) (t : List (ObjectId × ObjectState)) → old ≡ h → new ≡ old ++ a ∷ [] → StandsFor (h ++ a ∷ []) t → StandsFor new t
 table_more h old new a t e n s = subst (λ l. StandsFor l t) (sym (n ∙ ap (λ l. l ++ a ∷ []) e)) s
 
 -- an accepted change makes an object, or changes one that its operation knows
