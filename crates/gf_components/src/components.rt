@@ -1,8 +1,11 @@
 //! Numbers in components: what is in every version, and components that no conflict connects, of
 //! which each gives a version one of its sets.
 
-ghost use Rattle.std.specs.Prelude.{◌≡◌, ◌+◌, ◌^◌, ◌<◌, cond, filter, option_copied, option_map, IfOk, OnOk, OnErr};
+ghost use Rattle.std.specs.Prelude.{◌≡◌, ◌+◌, ◌^◌, ◌<◌, ◌++◌, ◌∷◌, [], cond, filter, option_copied};
+ghost use Rattle.std.specs.Prelude.{option_map, IfOk, OnOk, OnErr, IsTrue};
+ghost use Rattle.std.specs.List.{list_any};
 ghost use Rattle.gf_components.specs.Components.{merged, alone, touches, touched, grown, stays};
+ghost use Rattle.gf_components.specs.LastComponent.{IsLastAlone};
 ghost use Rattle.gf_components.specs.Components.{no_components, with_free, connected, after};
 
 use crate::sets::Sets;
@@ -90,15 +93,18 @@ impl Component {
         self.all.has(number) || !rivals.meets(&self.all)
     }
 
-    /// The component after a number came, which conflicts with these rivals.
-    fn grown(self, alloc: Global, rivals: &Numbers, number: usize) -> Result<Component, OutOfMemory>
+    /// Adds a number, which conflicts with these rivals. It changes nothing before all memory is
+    /// there.
+    fn grow(&mut self, alloc: Global, rivals: &Numbers, number: usize) -> Result<(), OutOfMemory>
         requires { number + 1 < 2 ^ 64 }
-        ensures { IfOk result (λ component. component ≡ grown rivals.now number self) }
+        ensures ok { OnOk result (self.new ≡ grown rivals.now number self.old) }
+        ensures err { OnErr result (self.new ≡ self.old) }
     {
-        let Component { mut all, sets } = self;
+        let mut all = self.all.copy(alloc)?;
         all.join(number)?;
-        let sets = sets.grown(alloc, rivals, number)?;
-        Ok(Component { all, sets })
+        self.sets.grow(alloc, rivals, number)?;
+        self.all = all;
+        Ok(())
     }
 }
 
@@ -152,6 +158,43 @@ fn copied_components(alloc: Global, parts: &[Component]) -> Result<Vec<Component
         copy.push(part.copy(alloc)?)?;
     }
     Ok(copy)
+}
+
+/// Whether one of the components has one of the rivals.
+fn any_touched(rivals: &Numbers, parts: &[Component]) -> bool
+    ensures { result ≡ list_any (touches rivals.now) parts.now }
+{
+    parts.iter().any(|part| part.touches(rivals))
+}
+
+/// Whether the last component alone has some of the rivals, and lacks the number.
+fn is_last_alone(rivals: &Numbers, number: usize, parts: &[Component]) -> bool
+    requires { number + 1 < 2 ^ 64 }
+    ensures { IsTrue result → IsLastAlone rivals.now number parts.now }
+{
+    match parts.split_last() {
+        Some((last, others)) => !last.stays(rivals, number) && !any_touched(rivals, others),
+        None => false,
+    }
+}
+
+/// Adds a number to the last component, which conflicts with these rivals. It changes nothing
+/// before all memory is there.
+fn grow_last(
+    alloc: Global,
+    rivals: &Numbers,
+    number: usize,
+    parts: &mut Vec<Component>,
+) -> Result<(), OutOfMemory>
+    requires { number + 1 < 2 ^ 64 }
+    ensures ok { OnOk result ((before : _) (last : _) → parts.old.items ≡ before ++ last ∷ []
+        → parts.new.items ≡ before ++ grown rivals.now number last ∷ []) }
+    ensures err { OnErr result (parts.new.items ≡ parts.old.items) }
+{
+    match parts.last_mut() {
+        Some(last) => last.grow(alloc, rivals, number),
+        None => Ok(()),
+    }
 }
 
 /// Drops the components that have one of the rivals and not the number.
@@ -222,8 +265,12 @@ impl Components {
         ensures ok { OnOk result (self.new ≡ connected rivals.now number self.old) }
         ensures err { OnErr result (self.new ≡ self.old) }
     {
+        if is_last_alone(rivals, number, &self.parts) && !rivals.meets(&self.free) {
+            return grow_last(alloc, rivals, number, &mut self.parts);
+        }
         let free = self.free.without(alloc, rivals)?;
-        let part = self.touched(alloc, rivals)?.grown(alloc, rivals, number)?;
+        let mut part = self.touched(alloc, rivals)?;
+        part.grow(alloc, rivals, number)?;
         self.parts.push(part)?;
         drop_touched(rivals, number, &mut self.parts);
         self.free = free;

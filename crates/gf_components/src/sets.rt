@@ -1,6 +1,6 @@
 //! The largest compatible sets of a component, kept while they are not too many.
 
-ghost use Rattle.std.specs.Prelude.{◌≡◌, ◌+◌, ◌^◌, ◌<◌, ◌++◌, map, option_copied, option_map, IfOk, OnOk};
+ghost use Rattle.std.specs.Prelude.{◌≡◌, ◌+◌, ◌^◌, ◌<◌, ◌++◌, map, option_copied, option_map, IfOk, OnOk, OnErr};
 ghost use Rattle.gf_maximal.specs.Growing.{united};
 ghost use Rattle.gf_components.specs.Components.{kept, products, kept_products, times, grown_sets};
 
@@ -77,22 +77,30 @@ impl Sets {
         }
     }
 
-    /// The sets after a number came, which conflicts with these rivals.
-    pub(crate) fn grown(
-        self,
+    /// Adds a number, which conflicts with these rivals. It changes nothing before all memory is
+    /// there.
+    pub(crate) fn grow(
+        &mut self,
         alloc: Global,
         rivals: &Numbers,
         number: usize,
-    ) -> Result<Sets, OutOfMemory>
+    ) -> Result<(), OutOfMemory>
         requires { number + 1 < 2 ^ 64 }
-        ensures { IfOk result (λ sets. sets ≡ grown_sets rivals.now number self) }
+        ensures ok { OnOk result (self.new ≡ grown_sets rivals.now number self.old) }
+        ensures err { OnErr result (self.new ≡ self.old) }
     {
-        match self.sets {
-            Some(mut sets) => {
-                grow(alloc, rivals, number, &mut sets)?;
-                Ok(Sets::of(sets))
-            }
-            None => Ok(Sets { sets: None }),
+        match self.sets.take() {
+            Some(mut sets) => match grow(alloc, rivals, number, &mut sets) {
+                Ok(()) => {
+                    *self = Sets::of(sets);
+                    Ok(())
+                }
+                Err(OutOfMemory) => {
+                    self.sets = Some(sets);
+                    Err(OutOfMemory)
+                }
+            },
+            None => Ok(()),
         }
     }
 }

@@ -8,6 +8,7 @@ pub mod MaximalLemmas
 pub mod GrowingLemmas
 pub mod RunLemmas
 pub mod RunSetLemmas
+pub mod RunTestLemmas
 pub mod RunEditLemmas
 pub mod UnitedLemmas
 pub mod ImageLemmas

@@ -1,6 +1,6 @@
 -- Runs as sets of numbers.
 use Rattle.std.proofs.Common.{◌≡◌, length, get_or, take, drop, append_assoc, ℕ, zero, suc, ◌<◌, ◌≤◌, ◌+◌, ◌-◌, Bool, true, false, List, [], ◌∷◌, ◌++◌, inl, inr, refl, subst, sym, ap, ◌∙◌, arith, nat_le, nat_lt}
-use Rattle.std.specs.Prelude.{◌⊎◌, ◌↔◌, Contains, ◌==◌, ◌&&◌, ◌||◌}
+use Rattle.std.specs.Prelude.{◌⊎◌, ◌↔◌, Contains, ◌==◌}
 use Rattle.std.specs.Prelude.{Result, Ok, Err, OnOk, OnErr}
 use Rattle.std.specs.Cmp.{nat_cmp_is}
 use Rattle.std.specs.FinMap.{nat_cmp-IsAntisymmetric}
@@ -15,7 +15,7 @@ use Rattle.std.proofs.lemmas.List.Elements.{All-weaker, All-contains_itself, Con
 use Rattle.std.proofs.lemmas.List.Kept.{IsStrictlySortedBy-filter}
 use Rattle.gf_maximal.specs.declared.run.Run.{Run}
 use Rattle.gf_maximal.specs.Growing.{is_in, meets, without, is_within, joined}
-use Rattle.gf_maximal.specs.Runs.{numbers_of, members, AreRuns, Serves, after, is_inside, first_touches, first_covers, piece, cut, all_cut, absorb, settle, put, single}
+use Rattle.gf_maximal.specs.Runs.{numbers_of, members, AreRuns, Serves, after, is_inside, first_touches, first_covers, touches, covers, piece, cut, all_cut, absorb, settle, put, single}
 use Rattle.gf_maximal.specs.Tables.{IsRising}
 use Rattle.gf_ops.proofs.ListLemmas.{Contains-cons_cases, Contains-cons_head, Contains-cons_tail, not_Contains-nil}
 use Rattle.gf_maximal.proofs.ListLemmas.{list_any_true, list_any_from, list_all_true, list_all_from}
@@ -308,7 +308,6 @@ cut_is qs rs w v =
 
 -- ---- one more number
 
-
 abbrev pub longer : ℕ → Run → Run
 longer x q = record { start = q.start; end = x + 1 }
 
@@ -528,8 +527,8 @@ touch_from r (q ∷ qs) w a i h = let v = w.0 in let m = i.1 in nat_lt_from q.st
   | inr j ↦ let o = above_first q qs w a j in omega arith
 ])
 
-pub touches_is : (r : Run) (qs : List Run) → AreRuns qs → (nat_lt r.start r.end && first_touches r (after r.start qs)) ≡ list_any (is_inside r) (members qs)
-touches_is r qs w = bool_same (nat_lt r.start r.end && first_touches r (after r.start qs)) (list_any (is_inside r) (members qs))
+pub touches_is : (qs : List Run) (r : Run) → AreRuns qs → touches qs r ≡ list_any (is_inside r) (members qs)
+touches_is qs r w = bool_same (touches qs r) (list_any (is_inside r) (members qs))
     (λ t. let p = and_parts (nat_lt r.start r.end) (first_touches r (after r.start qs)) t in
     let o = touch_one r (after r.start qs) (nat_lt_true r.start r.end p.0) (after_runs r.start qs w) (after_ends r.start qs w) p.1 in
     list_any_from (is_inside r) (members qs) o.0 ((in_members qs o.0).1 ((after_has r.start qs o.0 o.1.0).0 o.2)) (inside_from r o.0 o.1))
@@ -559,8 +558,8 @@ cover_from r (q ∷ qs) l w f h =
       ]
     ])
 
-pub covers_is : (r : Run) (qs : List Run) → AreRuns qs → (nat_le r.end r.start || first_covers r (after r.start qs)) ≡ list_all (is_in (members qs)) (numbers_of r)
-covers_is r qs w = bool_same (nat_le r.end r.start || first_covers r (after r.start qs)) (list_all (is_in (members qs)) (numbers_of r))
+pub covers_is : (qs : List Run) (r : Run) → AreRuns qs → covers qs r ≡ list_all (is_in (members qs)) (numbers_of r)
+covers_is qs r w = bool_same (covers qs r) (list_all (is_in (members qs)) (numbers_of r))
     (λ t. list_all_from (is_in (members qs)) (numbers_of r) (λ a h. let i = (in_numbers r a).0 h in let l = i.0 in let m = i.1 in
     elim (or_cases (nat_le r.end r.start) (first_covers r (after r.start qs)) t) [
       | inl y ↦ let z = nat_le_true r.end r.start y in absurd (omega arith)
@@ -587,6 +586,14 @@ within_is rs g = bool_same (list_all (λ r. list_all (is_in g) (numbers_of r)) r
     (λ t. list_all_from (λ r. list_all (is_in g) (numbers_of r)) rs (λ r h. list_all_from (is_in g) (numbers_of r) (λ a i.
     list_all_true (is_in g) (members rs) t a ((in_members rs a).1 (has_one rs r a h ((in_numbers r a).0 i))))))
 
+list_any_same : (p q : Run → Bool) → ((r : Run) → p r ≡ q r) → (rs : List Run) → list_any p rs ≡ list_any q rs
+list_any_same p q f [] = refl
+list_any_same p q f (r ∷ rs) = rw (f r, list_any_same p q f rs) refl
+
+pub list_all_same : (p q : Run → Bool) → ((r : Run) → p r ≡ q r) → (rs : List Run) → list_all p rs ≡ list_all q rs
+list_all_same p q f [] = refl
+list_all_same p q f (r ∷ rs) = rw (f r, list_all_same p q f rs) refl
+
 -- ---- what calls leave
 
 pub put_kept : {A B : Type 0} (r : Result A B) (x : ℕ) (rs ss : List Run) → OnOk r (ss ≡ put x rs) → OnErr r (ss ≡ rs) → AreRuns rs → AreRuns ss
@@ -597,14 +604,15 @@ pub put_gives : {A B : Type 0} (r : Result A B) (x : ℕ) (rs ss : List Run) (g 
 put_gives (Ok a) x rs ss g f w e = rw (f, sym e) (put_is x rs w).1
 put_gives (Err b) x rs ss g f w e = tt
 
-pub touches_told : (r : Run) (qs ss : List Run) (g : List ℕ) (t : Bool) → ss ≡ qs → AreRuns qs → members qs ≡ g → t ≡ (nat_lt r.start r.end && first_touches r (after r.start ss)) → t ≡ list_any (is_inside r) g
-touches_told r qs ss g t e w v k = rw (← v) (subst (λ z. t ≡ (nat_lt r.start r.end && first_touches r (after r.start z))) e k ∙ touches_is r qs w)
+pub touches_told : (r : Run) (qs ss : List Run) (g : List ℕ) (t : Bool) → ss ≡ qs → AreRuns qs → members qs ≡ g → t ≡ touches ss r → t ≡ list_any (is_inside r) g
+touches_told r qs ss g t e w v k = rw (← v) (subst (λ z. t ≡ touches z r) e k ∙ touches_is qs r w)
 
-pub covers_told : (r : Run) (qs ss : List Run) (g : List ℕ) (t : Bool) → ss ≡ qs → AreRuns qs → members qs ≡ g → t ≡ (nat_le r.end r.start || first_covers r (after r.start ss)) → t ≡ list_all (is_in g) (numbers_of r)
-covers_told r qs ss g t e w v k = rw (← v) (subst (λ z. t ≡ (nat_le r.end r.start || first_covers r (after r.start z))) e k ∙ covers_is r qs w)
+pub covers_told : (r : Run) (qs ss : List Run) (g : List ℕ) (t : Bool) → ss ≡ qs → AreRuns qs → members qs ≡ g → t ≡ covers ss r → t ≡ list_all (is_in g) (numbers_of r)
+covers_told r qs ss g t e w v k = rw (← v) (subst (λ z. t ≡ covers z r) e k ∙ covers_is qs r w)
 
-pub meets_told : (rs ss : List Run) (g k : List ℕ) (t : Bool) → ss ≡ rs → members rs ≡ k → t ≡ list_any (λ r. list_any (is_inside r) g) ss → t ≡ meets k g
-meets_told rs ss g k t e v h = rw (← v) (subst (λ z. t ≡ list_any (λ r. list_any (is_inside r) g) z) e h ∙ meets_is rs g)
+pub meets_told : (rs qs rs2 qs2 : List Run) (k g : List ℕ) (t : Bool) → rs2 ≡ rs → qs2 ≡ qs → AreRuns qs → members rs ≡ k → members qs ≡ g → t ≡ list_any (touches qs2) rs2 → t ≡ meets k g
+meets_told rs qs rs2 qs2 k g t e f w v u h = rw (← v, ← u) (h ∙ (ap (λ z. list_any (touches z) rs2) f ∙ (ap (list_any (touches qs)) e
+    ∙ (list_any_same (touches qs) (λ r. list_any (is_inside r) (members qs)) (λ r. touches_is qs r w) rs ∙ meets_is rs (members qs)))))
 
 pub within_told : (rs ss : List Run) (g k : List ℕ) (t : Bool) → ss ≡ rs → members rs ≡ k → t ≡ list_all (λ r. list_all (is_in g) (numbers_of r)) ss → t ≡ is_within k g
 within_told rs ss g k t e v h = rw (← v) (subst (λ z. t ≡ list_all (λ r. list_all (is_in g) (numbers_of r)) z) e h ∙ within_is rs g)
@@ -654,12 +662,12 @@ serves_more rest new others r left w s e = subst (λ z. Serves z others left) (s
   same = λ q h. let l = w.1 q h in let k = w.0 in after_after r.start q.start rest (omega arith) ∙ s.same q (Contains-cons_tail r left q h);
 })
 
-drop_runs : (i : ℕ) (rs : List Run) → AreRuns rs → AreRuns (drop i rs)
+pub drop_runs : (i : ℕ) (rs : List Run) → AreRuns rs → AreRuns (drop i rs)
 drop_runs zero rs w = w
 drop_runs (suc i) [] w = tt
 drop_runs (suc i) (r ∷ rs) w = drop_runs i rs w.2
 
-drop_at : (rs : List Run) (i : ℕ) (d : Run) → i < length rs → drop i rs ≡ get_or rs i d ∷ drop (suc i) rs
+pub drop_at : (rs : List Run) (i : ℕ) (d : Run) → i < length rs → drop i rs ≡ get_or rs i d ∷ drop (suc i) rs
 drop_at [] i d l = absurd (omega arith)
 drop_at (r ∷ rs) zero d l = refl
 drop_at (r ∷ rs) (suc i) d l = drop_at rs i d (omega arith)

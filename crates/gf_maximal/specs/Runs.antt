@@ -1,5 +1,5 @@
 -- A set of numbers as runs of such that follow each other.
-use Rattle.std.specs.Prelude.{◌≡◌, ◌≤◌, max, true, length, slice_index_or, ℕ, ◌+◌, ◌-◌, ◌<◌, Bool, cond, ◌==◌, ◌&&◌, nat_le, nat_lt, List, [], ◌∷◌, ◌++◌, Contains, ⊤, false}
+use Rattle.std.specs.Prelude.{◌≡◌, ◌≤◌, max, true, length, slice_index_or, ℕ, ◌+◌, ◌-◌, ◌<◌, Bool, cond, ◌==◌, ◌&&◌, ◌||◌, nat_le, nat_lt, List, [], ◌∷◌, ◌++◌, Contains, ⊤, false}
 use Rattle.std.specs.List.{flat_map, range_with_len, fold}
 use Rattle.std.specs.List.Sorted.{IsPermutation, IsNonDecreasingBy}
 use Rattle.gf_maximal.specs.declared.run.Run.{Run}
@@ -35,6 +35,14 @@ first_touches r (q ∷ qs) = nat_lt q.start r.end
 abbrev pub first_covers : Run → List Run → Bool
 first_covers r [] = false
 first_covers r (q ∷ qs) = nat_le q.start r.start && nat_le r.end q.end
+
+-- one of these runs has a number of r
+abbrev pub touches : List Run → Run → Bool
+touches qs r = nat_lt r.start r.end && first_touches r (after r.start qs)
+
+-- these runs have all numbers of r
+abbrev pub covers : List Run → Run → Bool
+covers qs r = nat_le r.end r.start || first_covers r (after r.start qs)
 
 -- the run, unless it is empty
 abbrev pub piece : Run → List Run

@@ -8,7 +8,9 @@ ghost use Rattle.std.specs.Ordering.{nat_cmp};
 ghost use Rattle.gf_maximal.specs.Growing.{is_in, meets, without, is_within, joined, united, common};
 ghost use Rattle.gf_maximal.specs.Runs.{is_inside, members, numbers_of};
 
-use crate::run::{Run, all_cut, covers, numbers_in, one_run, put, runs_of, touches, united};
+use crate::run::{
+    Run, all_cut, any_touches, covers, numbers_in, one_run, put, runs_of, touches, united,
+};
 use gf_shape::OutOfMemory;
 use std::alloc::Global;
 use std::marker::Model;
@@ -28,13 +30,6 @@ impl Model for Numbers {
     ghost view = { λ s. members s.runs.items };
 
     ghost invariant = { λ s. AreRuns s.runs.items };
-}
-
-/// Whether one of these runs has one of the numbers.
-fn any_touches(runs: &[Run], numbers: &Numbers) -> bool
-    ensures { result ≡ list_any (λ r. list_any (is_inside r) numbers.now) runs.now }
-{
-    runs.iter().any(|run| numbers.touches(*run))
 }
 
 /// Whether all of these runs are of the numbers.
@@ -125,7 +120,7 @@ impl Numbers {
     pub fn meets(&self, others: &Numbers) -> bool
         ensures { result ≡ meets self.now others.now }
     {
-        any_touches(&self.runs, others)
+        any_touches(&self.runs, &others.runs)
     }
 
     /// Whether each of its numbers is one of the others.

@@ -1,13 +1,13 @@
 //! Runs of numbers that follow each other, and lists of such runs.
 
 ghost use Rattle.std.specs.Prelude.{◌≡◌, ◌++◌, ◌+◌, ◌^◌, ◌<◌, ◌≤◌, take, drop, length, slice_index_or};
-ghost use Rattle.std.specs.Prelude.{◌&&◌, ◌||◌, nat_lt, nat_le, IfOk};
-ghost use Rattle.std.specs.Prelude.{OnOk, OnErr};
-ghost use Rattle.gf_maximal.specs.Runs.{AreRuns, after, first_touches, first_covers, piece, cut, all_cut};
+ghost use Rattle.std.specs.Prelude.{◌&&◌, nat_lt, IfOk, OnOk, OnErr};
+ghost use Rattle.gf_maximal.specs.Runs.{AreRuns, after, first_touches, first_covers, touches, covers};
+ghost use Rattle.gf_maximal.specs.Runs.{piece, cut, all_cut};
 ghost use Rattle.gf_maximal.specs.Runs.{absorb, settled, put, IsFirstFrom, pushed, IsGathered};
 ghost use Rattle.gf_maximal.specs.Runs.{numbers_of, members, single};
 ghost use Rattle.std.specs.Prelude.{[], map, All};
-ghost use Rattle.std.specs.List.{fold};
+ghost use Rattle.std.specs.List.{fold, list_any};
 ghost use Rattle.std.specs.List.Sorted.{IsPermutation, IsNonDecreasingBy};
 
 use gf_shape::OutOfMemory;
@@ -116,20 +116,43 @@ pub(crate) fn one_run(alloc: Global, run: Run) -> Result<Vec<Run>, OutOfMemory>
     Ok(runs)
 }
 
+/// Whether the run has a number, and the first of these runs begins before it ends.
+fn touches_front(run: Run, runs: &[Run]) -> bool
+    ensures { result ≡ (nat_lt run.start run.end && first_touches run runs.now) }
+{
+    run.start < run.end && first_touches(run, runs)
+}
+
 /// Whether one of these runs has a number of this one.
 pub(crate) fn touches(run: Run, runs: &[Run]) -> bool
     requires { AreRuns runs.now }
-    ensures { result ≡ (nat_lt run.start run.end && first_touches run (after run.start runs.now)) }
+    ensures { result ≡ touches runs.now run }
 {
-    run.start < run.end && first_touches(run, after(runs, run.start))
+    touches_front(run, after(runs, run.start))
 }
 
 /// Whether these runs have all numbers of this one.
 pub(crate) fn covers(run: Run, runs: &[Run]) -> bool
     requires { AreRuns runs.now }
-    ensures { result ≡ (nat_le run.end run.start || first_covers run (after run.start runs.now)) }
+    ensures { result ≡ covers runs.now run }
 {
     run.end <= run.start || first_covers(run, after(runs, run.start))
+}
+
+/// Whether one of the others has a number of these runs.
+pub(crate) fn any_touches(runs: &[Run], others: &[Run]) -> bool
+    requires runs { AreRuns runs.now }
+    requires others { AreRuns others.now }
+    ensures { result ≡ list_any (touches others.now) runs.now }
+{
+    let mut rest = others;
+    for run in runs {
+        rest = after(rest, run.start);
+        if touches_front(*run, rest) {
+            return true;
+        }
+    }
+    false
 }
 
 /// What is in the runs and in none of the others.

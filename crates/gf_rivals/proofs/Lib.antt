@@ -1,4 +1,9 @@
+pub mod NextLemmas
 pub mod SetterLemmas
+pub mod NumberLemmas
 pub mod RivalLemmas
 pub mod TellsLemmas
-pub mod PositionLemmas
+pub mod KeptLemmas
+pub mod FingerprintLemmas
+pub mod IndexLemmas
+pub mod GivingLemmas

@@ -1,6 +1,6 @@
 -- The rivals of the next operation are those that it conflicts with.
-use Rattle.std.proofs.Common.{◌≡◌, ◌≢◌, ℕ, zero, suc, ◌<◌, ◌≤◌, ◌+◌, ◌*◌, List, inl, inr, refl, subst, sym, ap, ◌∙◌, arith}
-use Rattle.std.specs.Prelude.{◌↔◌, Contains, Some, slice_get, unwrap_or}
+use Rattle.std.proofs.Common.{◌≡◌, ℕ, ◌<◌, ◌≤◌, ◌+◌, ◌*◌, true, List, [], inl, inr, refl, subst, sym, ap, ◌∙◌, arith}
+use Rattle.std.specs.Prelude.{◌↔◌, Contains, Option, Some, None, slice_get, unwrap_or}
 use Rattle.std.proofs.lemmas.Bool.{cases_lt}
 use Rattle.gf_ops.specs.declared.op.Op.{Op}
 use Rattle.gf_ops.specs.declared.op.ObjectId.{ObjectId}
@@ -10,15 +10,30 @@ use Rattle.gf_ops.specs.declared.change.Attr.TheVariants.{Place, Points, Size, C
 use Rattle.gf_ops.specs.declared.change.Change.TheVariants.{Set}
 use Rattle.gf_ops.specs.declared.change.Value.{Value}
 use Rattle.gf_ops.specs.declared.change.Value.TheVariants as value
+use Rattle.gf_ops.specs.Accepted.{IsAccepted}
 use Rattle.gf_ops.specs.Attribute.{attribute_of, change_value, set_value, object_of}
+use Rattle.gf_ops.specs.Limits.{IsInRange}
+use Rattle.gf_ops.specs.ValidHistory.{IsValid}
 use Rattle.gf_ops.specs.OperationOrder.{entry, Precedes}
-use Rattle.gf_maximal.specs.Growing.{without}
-use Rattle.gf_maximal.proofs.MaximalLemmas.{Contains-without}
+use Rattle.std.specs.BTreeMap.{is_at}
+use Rattle.std.specs.Map.{lookup}
+use Rattle.gf_maximal.specs.Growing.{is_in, without, common}
+use Rattle.gf_maximal.proofs.ListLemmas.{Contains-filter}
+use Rattle.gf_maximal.proofs.MaximalLemmas.{Contains-without, in_list}
+use Rattle.gf_ops.proofs.ListLemmas.{not_Contains-nil}
+use Rattle.gf_ops.proofs.SameLemmas.{value_eq-same, value_eq-true}
+use Rattle.gf_rivals.specs.declared.fingerprint.Fingerprint.{Fingerprint}
+use Rattle.gf_rivals.specs.Fingerprints.{fingerprint_of, fingerprint_cmp, has_own_fingerprint}
+use Rattle.gf_rivals.specs.Giving.{op_value, value_set, fingerprint_given}
+use Rattle.gf_rivals.specs.Comparing.{is_value, value_at, number_gives}
+use Rattle.gf_rivals.specs.Indexes.{numbers_at, IsIndex}
+use Rattle.gf_rivals.proofs.FingerprintLemmas.{told_one}
 use Rattle.gf_rivals.specs.declared.chain.Setter.{Setter}
 use Rattle.gf_rivals.specs.Setters.{block}
-use Rattle.gf_rivals.specs.Chains.{rank, chain_of, setters, IsUnknown}
-use Rattle.gf_rivals.specs.Rivals.{IsNumber, Tells, GivesAt, AreRivals, AreEqual, IsConflict}
-use Rattle.gf_rivals.proofs.SetterLemmas.{from_place}
+use Rattle.gf_rivals.specs.Chains.{chain_of, setters, position_of, IsUnknown}
+use Rattle.gf_rivals.specs.Rivals.{IsNumber, Tells, GivesAt, AreRivals, IsConflict}
+use Rattle.gf_rivals.proofs.NextLemmas.{fresh, unknown}
+use Rattle.gf_rivals.proofs.NumberLemmas.{some_one, contained_at, one_position, position_is, number_from}
 
 -- ---- values and attributes
 
@@ -30,9 +45,6 @@ own_value (value.Colour c) = refl
 own_value (value.Layer n) = refl
 own_value (value.Shown b) = refl
 
-pub some_one : {X : Type 0} (a b : X) → Some a ≡ Some b → a ≡ b
-some_one a b e = ap (λ o. unwrap_or o a) e
-
 -- what a value gives to an attribute is itself, and the attribute is its own
 given_is : (v : Value) (t : Attr) (w : Value) → set_value v t ≡ Some w → (t ≡ attribute_of v) × (w ≡ v)
 given_is (value.Place p) Place w e = (refl, sym (some_one (value.Place p) w e))
@@ -43,64 +55,10 @@ given_is (value.Layer n) Layer w e = (refl, sym (some_one (value.Layer n) w e))
 given_is (value.Shown b) Shown w e = (refl, sym (some_one (value.Shown b) w e))
 given_is v t w e = absurd cc
 
-pub rank_below : (t : Attr) → rank t < 6
-rank_below Place = omega arith
-rank_below Points = omega arith
-rank_below Size = omega arith
-rank_below Colour = omega arith
-rank_below Layer = omega arith
-rank_below Shown = omega arith
-
-unranked : ℕ → Attr
-unranked zero = Place
-unranked (suc zero) = Points
-unranked (suc (suc zero)) = Size
-unranked (suc (suc (suc zero))) = Colour
-unranked (suc (suc (suc (suc zero)))) = Layer
-unranked (suc (suc (suc (suc (suc k))))) = Shown
-
-rank_back : (t : Attr) → unranked (rank t) ≡ t
-unfolding unranked
-rank_back Place = refl
-rank_back Points = refl
-rank_back Size = refl
-rank_back Colour = refl
-rank_back Layer = refl
-rank_back Shown = refl
-
-pub rank_one : (t u : Attr) → rank t ≡ rank u → t ≡ u
-rank_one t u e = sym (rank_back t) ∙ (ap unranked e ∙ rank_back u)
-
--- ---- a number is that of one setter
-
-one_block : (k l p q : ℕ) → p < block → q < block → k * block + p ≡ l * block + q → (k ≡ l) × (p ≡ q)
-one_block k l p q a b e = elim (cases_lt k l) [
-  | inl x ↦ absurd (omega arith)
-  | inr x ↦ elim (cases_lt l k) [
-    | inl y ↦ absurd (omega arith)
-    | inr y ↦ (omega arith, omega arith)
-  ]
-]
+-- ---- one direction, and the other
 
 module _ (h : List Op) (o : ObjectId) (cs : List (List Setter)) (tells : Tells h o cs) where
-  place_short : (t : Attr) (s p : ℕ) (e : Setter) → s < 8 → slice_get (setters cs t s) p ≡ Some e → p < block
-  place_short t s p e l a = let w = (from_place (setters cs t s) p e a).0 in let k = tells.short t s l in omega (arith, w, k)
-
-  one_setter : (n : ℕ) (t u : Attr) (s r p q : ℕ) (e f : Setter) → s < 8 → r < 8 → slice_get (setters cs t s) p ≡ Some e → slice_get (setters cs u r) q ≡ Some f →
-      n ≡ chain_of t s * block + p → n ≡ chain_of u r * block + q → (t ≡ u) × (s ≡ r) × (e ≡ f)
-  one_setter n t u s r p q e f l m a b x y =
-      let w = one_block (chain_of t s) (chain_of u r) p q (place_short t s p e l a) (place_short u r q f m b) (sym x ∙ y) in
-      let c = w.0 in
-      let same_site : s ≡ r = omega (arith, c, l, m) in
-      let same_rank : rank t ≡ rank u = omega (arith, c, l, m) in
-      let same : t ≡ u = rank_one t u same_rank in (
-        same,
-        same_site,
-        some_one e f (sym a ∙ (ap (λ z. slice_get (setters cs t s) z) w.1 ∙ (ap (λ z. slice_get (setters cs t z) q) same_site ∙ (ap (λ z. slice_get (setters cs z r) q) same ∙ b)))),
-      )
-
-  module _ (a : Op) (v : Value) (change : a.change ≡ Set o v) (fresh : (b : Op) → Contains h b → b.id ≢ a.id) (unknown : (b : Op) → Contains h b → ¬ (Precedes a b))
-      (contained : (q : ℕ) (b : Op) → slice_get h q ≡ Some b → Contains h b) (d : List ℕ) (rivals : AreRivals h o cs v a.past d) where
+  module _ (valid : IsValid h) (a : Op) (in_range : IsInRange a) (accepted : IsAccepted h a) (v : Value) (change : a.change ≡ Set o v) (d : List ℕ) (rivals : AreRivals h o cs v a.past d) where
     abbrev t : Attr
     t = attribute_of v
 
@@ -131,8 +89,8 @@ module _ (h : List Op) (o : ObjectId) (cs : List (List Setter)) (tells : Tells h
           at = is.at;
           conflict = record {
             concurrent = record {
-              different = λ f. fresh is.op (contained e.position is.op is.at) (sym f);
-              not_before = unknown is.op (contained e.position is.op is.at);
+              different = λ f. fresh h valid a in_range accepted is.op (contained_at h e.position is.op is.at) (sym (ap (λ (z : Op). z.id) f));
+              not_before = unknown h valid a in_range accepted is.op (contained_at h e.position is.op is.at);
               not_after = λ p.
                   let late : entry a.past (u.site + 1) < e.seq = u.setter.unknown in
                   let early : is.op.id.seq ≤ entry a.past (u.site + 1) = subst (λ z. is.op.id.seq ≤ entry a.past z) is.site p in
@@ -179,8 +137,7 @@ module _ (h : List Op) (o : ObjectId) (cs : List (List Setter)) (tells : Tells h
             };
           },
           λ q m g.
-              let w = one_setter n k.attribute m.attribute k.site m.site k.place m.place k.setter m.setter k.within m.within k.at m.at k.number m.number in
-              let there : c.position ≡ q = sym k.position ∙ (ap (λ (z : Setter). z.position) w.2 ∙ m.position) in
+              let there : c.position ≡ q = one_position h o cs tells n c.position q k m in
               let b : c.op ≡ g.op = some_one c.op g.op (sym c.at ∙ (ap (slice_get h) there ∙ g.at)) in
               let gave : set_value v apart.attribute ≡ Some apart.second =
               ap (λ z. change_value z apart.attribute) (sym g.change) ∙ (ap (λ (z : Op). change_value z.change apart.attribute) (sym b) ∙ apart.second_given) in
@@ -194,10 +151,78 @@ module _ (h : List Op) (o : ObjectId) (cs : List (List Setter)) (tells : Tells h
       λ c. (rivals n).1 (conflict_rivals n c),
     )
 
--- the unknown setters without those of the same value are the rivals
-pub rivals_from : (h : List Op) (o : ObjectId) (cs : List (List Setter)) (v : Value) (past : Clock) (u e d : List ℕ) →
-    ((n : ℕ) → Contains u n ↔ IsUnknown cs (attribute_of v) past 8 n) → AreEqual h o cs v e → d ≡ without e u → AreRivals h o cs v past d
-rivals_from h o cs v past u e d f g k n = (
-  λ i. let w = (Contains-without e u n).0 (subst (λ z. Contains z n) k i) in ((f n).0 w.0, λ q m a. w.1 ((g n).1 (q, m, a))),
-  λ i. subst (λ z. Contains z n) (sym k) ((Contains-without e u n).1 ((f n).1 i.0, λ j. let w = (g n).0 j in i.1 w.0 w.1 w.2)),
-)
+-- ---- by what is found
+
+module _ (h : List Op) (o : ObjectId) (cs : List (List Setter)) (tells : Tells h o cs) (ix : List (Fingerprint × List ℕ)) (index : IsIndex h cs ix) (v : Value) (past : Clock)
+    (u : List ℕ) (unknowns : (n : ℕ) → Contains u n ↔ IsUnknown cs (attribute_of v) past 8 n) where
+  -- a setter that gives v
+  Gives : ℕ → Type 0
+  Gives n = (q : ℕ) × IsNumber cs n q × GivesAt h o q v
+
+  -- the unknown ones without e, which give v and are all unknown ones that do
+  rivals_by : (e d : List ℕ) → ((n : ℕ) → Contains e n → Gives n) → ((n : ℕ) → Contains u n → Gives n → Contains e n) → ((n : ℕ) → Contains d n ↔ (Contains u n × (¬ Contains e n))) → AreRivals h o cs v past d
+  unfolding Gives
+  rivals_by e d f g k n = (
+    λ i. let w = (k n).0 i in ((unknowns n).0 w.0, λ q m a. w.1 (g n w.0 (q, m, a))),
+    λ i. (k n).1 ((unknowns n).1 i.0, λ j. let w = f n j in i.1 w.0 w.1 w.2),
+  )
+
+  -- what stands at a number's position sets a value of the object
+  value_set_at : (n q : ℕ) → IsNumber cs n q → (x : Value) × GivesAt h o q x
+  value_set_at n q k =
+      let i = tells.each k.attribute k.site k.place k.setter k.within k.at in
+      (i.value, record { op = i.op; at = ap (slice_get h) (sym k.position) ∙ i.at; change = i.change })
+
+  value_given_at : (q : ℕ) (x : Value) → GivesAt h o q x → op_value (slice_get h q) ≡ Some x
+  value_given_at q x g = ap op_value g.at ∙ ap value_set g.change
+
+  -- the index has each setter that gives v under the fingerprint of v
+  listed : (n : ℕ) → Gives n → Contains (numbers_at ix (fingerprint_of v)) n
+  unfolding Gives
+  listed n w = (index (fingerprint_of v) n).1 (record { position = w.0; number = w.1; given = ap fingerprint_given (value_given_at w.0 v w.2) })
+
+  -- no setter has the fingerprint of v
+  pub rivals_none : lookup (is_at (fingerprint_cmp (fingerprint_of v))) ix ≡ None → AreRivals h o cs v past u
+  rivals_none none = rivals_by [] u
+      (λ n i. absurd (not_Contains-nil n i))
+      (λ n i w. subst (λ z. Contains z n) (ap (λ (r : Option (List ℕ)). unwrap_or r []) none) (listed n w))
+      (λ n. (λ i. (i, not_Contains-nil n), λ i. i.0))
+
+  module _ (s : List ℕ) (some : lookup (is_at (fingerprint_cmp (fingerprint_of v))) ix ≡ Some s) where
+    there : numbers_at ix (fingerprint_of v) ≡ s
+    there = ap (λ (r : Option (List ℕ)). unwrap_or r []) some
+
+    -- all setters with the fingerprint of v give v
+    pub rivals_own : has_own_fingerprint v ≡ true → (d : List ℕ) → d ≡ without s u → AreRivals h o cs v past d
+    unfolding Gives
+    rivals_own own d e = rivals_by s d
+        (λ n i.
+        let f = (index (fingerprint_of v) n).0 (subst (λ z. Contains z n) (sym there) i) in
+        let x = value_set_at n f.position f.number in
+        let same : fingerprint_of x.0 ≡ fingerprint_of v =
+        some_one (fingerprint_of x.0) (fingerprint_of v) (ap fingerprint_given (sym (value_given_at f.position x.0 x.1)) ∙ f.given) in
+        (f.position, f.number, subst (GivesAt h o f.position) (told_one v x.0 own same) x.1))
+        (λ n i w. subst (λ z. Contains z n) there (listed n w))
+        (λ n. let w = Contains-without s u n in (λ i. w.0 (subst (λ z. Contains z n) e i), λ i. subst (λ z. Contains z n) (sym e) (w.1 i)))
+
+    -- only the setters e of those that are unknown give v
+    pub rivals_compared : (c e d : List ℕ) → c ≡ common s u → ((n : ℕ) → Contains e n ↔ (Contains c n × (number_gives h cs v n ≡ true))) → d ≡ without e u → AreRivals h o cs v past d
+    unfolding Gives
+    rivals_compared c e d both f k = rivals_by e d
+        (λ n i. gives_v n ((f n).0 i).1)
+        (λ n i w. (f n).1 (
+          subst (λ z. Contains z n) (sym both) ((Contains-filter (is_in s) u n).1 (i, in_list s n (subst (λ z. Contains z n) there (listed n w)))),
+          ap (λ r. is_value (value_at h r) v) (position_is h o cs tells n w.0 w.1) ∙ (ap (λ r. is_value r v) (value_given_at w.0 v w.2) ∙ value_eq-same v),
+        ))
+        (λ n. let w = Contains-without e u n in (λ i. w.0 (subst (λ z. Contains z n) k i), λ i. subst (λ z. Contains z n) (sym k) (w.1 i)))
+      where
+        gives_v : (n : ℕ) → number_gives h cs v n ≡ true → Gives n
+        gives_v n t = by_position (position_of cs n) refl t
+          where
+            by_position : (r : Option ℕ) → position_of cs n ≡ r → is_value (value_at h r) v ≡ true → Gives n
+            by_position None a b = absurd cc
+            by_position (Some q) a b =
+                let m = number_from h o cs tells n q a in
+                let x = value_set_at n q m in
+                let same : x.0 ≡ v = value_eq-true x.0 v (ap (λ r. is_value r v) (sym (value_given_at q x.0 x.1)) ∙ b) in
+                (q, m, subst (GivesAt h o q) same x.1)

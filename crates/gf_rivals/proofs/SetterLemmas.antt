@@ -1,5 +1,5 @@
 -- Setters by their places.
-use Rattle.std.proofs.Common.{◌≡◌, ℕ, zero, suc, ◌<◌, ◌≤◌, ◌+◌, ◌-◌, ◌*◌, List, [], ◌∷◌, ◌++◌, length, get_or, inl, inr, refl, subst, sym, ap, ◌∙◌, arith, nat_le, true, false}
+use Rattle.std.proofs.Common.{◌≡◌, ℕ, zero, suc, ◌<◌, ◌≤◌, ◌+◌, ◌-◌, ◌*◌, List, [], ◌∷◌, ◌++◌, length, get_or, inl, inr, refl, subst, sym, ap, arith, nat_le, true, false}
 use Rattle.std.specs.Prelude.{◌⊎◌, ◌↔◌, Contains, Option, Some, None, slice_get, Result, Ok, Err, IfOk}
 use Rattle.std.specs.List.{range_with_len}
 use Rattle.std.proofs.lemmas.Bool.{cases_lt}
@@ -19,9 +19,14 @@ seq_up_to : (m n : ℕ) → nat_le m n ≡ true → m ≤ n
 seq_up_to m n h = grind (arith, nat_tests)
 
 pub seqs_parted : (ss : List Setter) → AreSetters ss → (m : ℕ) (i j : ℕ) (d : Setter) → i ≤ j → j < length ss → nat_le (get_or ss j d).seq m ≡ true → nat_le (get_or ss i d).seq m ≡ true
-seqs_parted ss a m i j d l k h = let w = a.rise i j d l k in let v = seq_up_to (get_or ss j d).seq m h in grind (arith, nat_tests)
+seqs_parted ss a m i j d l k h =
+    let w : (get_or ss i d).seq ≤ (get_or ss j d).seq = elim (cases_lt i j) [
+      | inl n ↦ let u = a.rise i j d n k in omega (arith, u)
+      | inr n ↦ let e : i ≡ j = omega (arith, l, n) in let u : (get_or ss i d).seq ≡ (get_or ss j d).seq = ap (λ z. (get_or ss z d).seq) e in omega (arith, u)
+    ] in
+    let v = seq_up_to (get_or ss j d).seq m h in grind (arith, nat_tests)
 
-at_place : (ss : List Setter) (i : ℕ) (d : Setter) → i < length ss → slice_get ss i ≡ Some (get_or ss i d)
+pub at_place : (ss : List Setter) (i : ℕ) (d : Setter) → i < length ss → slice_get ss i ≡ Some (get_or ss i d)
 at_place [] i d l = absurd (omega arith)
 at_place (s ∷ ss) zero d l = refl
 at_place (s ∷ ss) (suc i) d l = at_place ss i d (omega arith)
@@ -105,12 +110,12 @@ pub setters_push : (ss qs : List Setter) (s : Setter) → qs ≡ ss ++ s ∷ [] 
 setters_push ss qs s e a f z b = subst AreSetters (sym e) (record {
   rise = λ i j d l m. elim (pushed_at ss s j d m) [
     | inl w ↦ elim (pushed_at ss s i d (let k = w.0 in let n = longer ss in omega arith)) [
-      | inl v ↦ let k = a.rise i j d l w.0 in subst (λ (x : Setter). x.seq ≤ (get_or (ss ++ s ∷ []) j d).seq) (sym v.1) (subst (λ (y : Setter). (get_or ss i d).seq ≤ y.seq) (sym w.1) k)
+      | inl v ↦ let k = a.rise i j d l w.0 in subst (λ (x : Setter). x.seq < (get_or (ss ++ s ∷ []) j d).seq) (sym v.1) (subst (λ (y : Setter). (get_or ss i d).seq < y.seq) (sym w.1) k)
       | inr v ↦ let k = w.0 in let n = v.0 in absurd (omega arith)
     ]
     | inr w ↦ elim (pushed_at ss s i d (let n = longer ss in omega arith)) [
-      | inl v ↦ let k = f i d v.0 in subst (λ (x : Setter). x.seq ≤ (get_or (ss ++ s ∷ []) j d).seq) (sym v.1) (subst (λ (y : Setter). (get_or ss i d).seq ≤ y.seq) (sym w.1) (omega arith))
-      | inr v ↦ subst (λ (x : Setter). x.seq ≤ (get_or (ss ++ s ∷ []) j d).seq) (sym v.1) (subst (λ (y : Setter). s.seq ≤ y.seq) (sym w.1) (omega arith))
+      | inl v ↦ let k = f i d v.0 in subst (λ (x : Setter). x.seq < (get_or (ss ++ s ∷ []) j d).seq) (sym v.1) (subst (λ (y : Setter). (get_or ss i d).seq < y.seq) (sym w.1) k)
+      | inr v ↦ let k = w.0 in let n = v.0 in absurd (omega (arith, k, n, l))
     ]
   ];
   above = λ i d l. elim (pushed_at ss s i d l) [
@@ -144,30 +149,33 @@ counted ss qs m k e b p = subst (λ z. IsCountUpTo z m k) (sym e) (record {
     seq_past : (a c : ℕ) → nat_le a c ≡ false → c < a
     seq_past a c h = grind (arith, nat_tests)
 
-get_list : (cs : List (List Setter)) (i : ℕ) (d e : List Setter) → i < length cs → get_or cs i d ≡ get_or cs i e
-get_list [] i d e l = absurd (omega arith)
-get_list (x ∷ cs) zero d e l = refl
-get_list (x ∷ cs) (suc i) d e l = get_list cs i d e (omega arith)
+-- the found ones and those of the chain ss, where it has some
+pub found_more : (found more new : List ℕ) (ss : List Setter) (b m : ℕ) → ((n : ℕ) → Contains more n ↔ IsAbove ss b m n) → new ≡ united found more → (n : ℕ) → Contains new n ↔ (Contains found n ⊎ IsAbove ss b m n)
+found_more found more new ss b m f e n = (
+  λ h. elim ((Contains-united found more n).0 (subst (λ z. Contains z n) e h)) [ inl i ↦ inl i | inr i ↦ inr ((f n).0 i) ],
+  λ h. subst (λ z. Contains z n) (sym e) ((Contains-united found more n).1 (elim h [ inl i ↦ inl i | inr i ↦ inr ((f n).1 i) ])),
+)
+
+pub found_none : (found more : List ℕ) (ss : List Setter) (b m : ℕ) → ((n : ℕ) → Contains more n ↔ IsAbove ss b m n) → more ≡ [] → (n : ℕ) → Contains found n ↔ (Contains found n ⊎ IsAbove ss b m n)
+found_none found more ss b m f e n = (
+  λ h. inl h,
+  λ h. elim h [ inl i ↦ i | inr i ↦ absurd (not_Contains-nil n (subst (λ z. Contains z n) e ((f n).1 i))) ],
+)
 
 -- the found ones, with those of one more site
-pub site_more : (cs qs : List (List Setter)) (t : Attr) (past : Clock) (m j f : ℕ) (ss : List Setter) (found more new : List ℕ) →
-    qs ≡ cs → length qs ≡ 48 → m < 8 → j ≡ m + 1 → f ≡ rank t * 8 → rank t < 6 → ss ≡ get_or qs (f + m) ss →
+pub site_more : (cs : List (List Setter)) (t : Attr) (past : Clock) (m j f : ℕ) (found new : List ℕ) → j ≡ m + 1 → f ≡ rank t * 8 →
     ((n : ℕ) → Contains found n ↔ IsUnknown cs t past m n) →
-    ((n : ℕ) → Contains more n ↔ IsAbove ss ((f + m) * block) (get_or past.0 m 0) n) →
-    new ≡ united found more → (n : ℕ) → Contains new n ↔ IsUnknown cs t past j n
-site_more cs qs t past m j f ss found more new q l u e g b r x y z n =
+    ((n : ℕ) → Contains new n ↔ (Contains found n ⊎ IsAbove (get_or cs (f + m) []) ((f + m) * block) (get_or past.0 m 0) n)) →
+    (n : ℕ) → Contains new n ↔ IsUnknown cs t past j n
+site_more cs t past m j f found new e g x y n =
     let at : f + m ≡ chain_of t m = ap (λ k. k + m) g in
-    let inside : chain_of t m < length qs = omega (arith, l, u, b) in
-    let same : ss ≡ setters cs t m = r ∙ (ap (λ k. get_or qs k ss) at ∙ (get_list qs (chain_of t m) ss [] inside ∙ ap (λ k. get_or k (chain_of t m) []) q)) in
     let known : get_or past.0 m 0 ≡ entry past (m + 1) = let d : m ≡ m + 1 - 1 = omega arith in ap (λ k. get_or past.0 k 0) d in
-    let one : Contains more n ↔ IsAbove (setters cs t m) (chain_of t m * block) (entry past (m + 1)) n =
-    subst (λ k. Contains more n ↔ IsAbove (setters cs t m) (chain_of t m * block) k n) known
-    (subst (λ k. Contains more n ↔ IsAbove (setters cs t m) (k * block) (get_or past.0 m 0) n) at
-    (subst (λ k. Contains more n ↔ IsAbove k ((f + m) * block) (get_or past.0 m 0) n) same (y n))) in
-    let all = Contains-united found more n in
+    let one : Contains new n ↔ (Contains found n ⊎ IsAbove (setters cs t m) (chain_of t m * block) (entry past (m + 1)) n) =
+    subst (λ k. Contains new n ↔ (Contains found n ⊎ IsAbove (setters cs t m) (chain_of t m * block) k n)) known
+    (subst (λ k. Contains new n ↔ (Contains found n ⊎ IsAbove (get_or cs k []) (k * block) (get_or past.0 m 0) n)) at (y n)) in
     let step = unknown_more cs t past m j n e in (
-      λ h. step.1 (elim (all.0 (subst (λ k. Contains k n) z h)) [ inl i ↦ inl ((x n).0 i) | inr i ↦ inr (one.0 i) ]),
-      λ h. subst (λ k. Contains k n) (sym z) (all.1 (elim (step.0 h) [ inl i ↦ inl ((x n).1 i) | inr i ↦ inr (one.1 i) ])),
+      λ h. step.1 (elim (one.0 h) [ inl i ↦ inl ((x n).0 i) | inr i ↦ inr i ]),
+      λ h. one.1 (elim (step.0 h) [ inl i ↦ inl ((x n).1 i) | inr i ↦ inr i ]),
     )
 
 pub first_site : (cs : List (List Setter)) (t : Attr) (past : Clock) (g : List ℕ) → g ≡ [] → (n : ℕ) → Contains g n ↔ IsUnknown cs t past 0 n

@@ -1,18 +1,33 @@
 -- Chains tell the setters of an object, as the history becomes longer.
-use Rattle.std.proofs.Common.{◌≡◌, ◌≢◌, ℕ, zero, suc, ◌<◌, ◌+◌, ◌*◌, List, [], ◌∷◌, ◌++◌, length, get_or, set, inl, inr, refl, subst, sym, ap, ◌∙◌, arith}
-use Rattle.std.specs.Prelude.{◌⊎◌, ◌↔◌, Contains, Some, slice_get}
+use Rattle.std.proofs.Common.{◌≡◌, ◌≢◌, ℕ, zero, suc, ◌<◌, ◌+◌, ◌-◌, ◌*◌, List, [], ◌∷◌, ◌++◌, length, get_or, set, inl, inr, refl, subst, sym, ap, ◌∙◌, arith}
+use Rattle.std.specs.Prelude.{◌⊎◌, ◌↔◌, Some, slice_get}
+use Rattle.std.specs.List.{repeat}
 use Rattle.std.proofs.lemmas.Bool.{cases_lt}
+use Rattle.std.proofs.lemmas.List.{length-set}
 use Rattle.gf_ops.specs.declared.op.Op.{Op}
 use Rattle.gf_ops.specs.declared.op.ObjectId.{ObjectId}
 use Rattle.gf_ops.specs.declared.change.Attr.{Attr}
-use Rattle.gf_ops.specs.declared.change.Change.TheVariants.{Set}
+use Rattle.gf_ops.specs.declared.change.Change.TheVariants.{Create, Set}
 use Rattle.gf_ops.specs.declared.change.Value.{Value}
-use Rattle.gf_ops.specs.Attribute.{attribute_of}
+use Rattle.gf_ops.specs.declared.change.Start.{Start}
+use Rattle.gf_ops.specs.Accepted.{IsAccepted}
+use Rattle.gf_ops.specs.Attribute.{attribute_of, object_of, changed_object}
+use Rattle.gf_ops.specs.Limits.{IsInRange}
+use Rattle.gf_ops.specs.OperationOrder.{IsSite}
+use Rattle.gf_ops.specs.ValidHistory.{IsValid}
+use Rattle.gf_ops.proofs.HistoryLemmas.{site_in_range, seq_in_range}
 use Rattle.gf_rivals.specs.declared.chain.Setter.{Setter}
-use Rattle.gf_rivals.specs.Setters.{block}
-use Rattle.gf_rivals.specs.Chains.{rank, chain_of, setters, with_setter}
-use Rattle.gf_rivals.specs.Rivals.{IsSetter, IsNumber, Tells, GivesAt, AreEqual}
-use Rattle.gf_rivals.proofs.RivalLemmas.{some_one, rank_one, rank_below}
+use Rattle.gf_rivals.specs.Setters.{block, AreSetters}
+use Rattle.gf_rivals.specs.Chains.{rank, chain_of, setters, no_chains, with_chain, with_setter}
+use Rattle.gf_rivals.specs.Rivals.{IsSetter, IsNumber, Tells}
+use Rattle.gf_rivals.specs.declared.fingerprint.Fingerprint.{Fingerprint}
+use Rattle.gf_rivals.specs.Fingerprints.{fingerprint_of}
+use Rattle.gf_rivals.specs.Giving.{op_value, value_set, fingerprint_given}
+use Rattle.gf_rivals.specs.Indexes.{HasFingerprint, IsIndex, PutsNumber}
+use Rattle.gf_rivals.proofs.IndexLemmas.{Contains-numbers_at}
+use Rattle.gf_rivals.proofs.NextLemmas.{earlier}
+use Rattle.gf_rivals.proofs.NumberLemmas.{some_one, rank_one, rank_below, contained_at, number_within}
+use Rattle.gf_rivals.proofs.SetterLemmas.{setters_push, at_place}
 
 -- ---- a list that becomes longer
 
@@ -20,6 +35,11 @@ get_front : {X : Type 0} (xs : List X) (y : X) (i : ℕ) (x : X) → slice_get x
 get_front [] y i x e = absurd cc
 get_front (z ∷ xs) y zero x e = e
 get_front (z ∷ xs) y (suc i) x e = get_front xs y i x e
+
+get_within : {X : Type 0} (xs : List X) (y : X) (i : ℕ) → i < length xs → slice_get (xs ++ y ∷ []) i ≡ slice_get xs i
+get_within [] y i l = absurd (omega arith)
+get_within (z ∷ xs) y zero l = refl
+get_within (z ∷ xs) y (suc i) l = get_within xs y i (omega arith)
 
 get_last : {X : Type 0} (xs : List X) (y : X) → slice_get (xs ++ y ∷ []) (length xs) ≡ Some y
 get_last [] y = refl
@@ -43,6 +63,45 @@ set_else (c ∷ cs) zero (suc j) x d n = refl
 set_else (c ∷ cs) (suc k) zero x d n = refl
 set_else (c ∷ cs) (suc k) (suc j) x d n = set_else cs k j x d (λ e. n (omega (arith, e)))
 
+set_back : (cs : List (List Setter)) (k : ℕ) (x : List Setter) → set (set cs k x) k (get_or cs k []) ≡ cs
+set_back [] k x = refl
+set_back (c ∷ cs) zero x = refl
+set_back (c ∷ cs) (suc k) x = let r = set_back cs k x in λ i. c ∷ r i
+
+-- a setter that was put behind the others and taken away again leaves the chains as they were
+pub taken_back : (cs now new : List (List Setter)) (t : Attr) (s : ℕ) (e : Setter) → length cs ≡ 48 → s < 8 → now ≡ with_setter cs t s e →
+    ((us : List Setter) (d : Setter) → setters now t s ≡ us ++ d ∷ [] → new ≡ with_chain now t s us) → new ≡ cs
+taken_back cs now new t s e all l m f =
+    let r = rank_below t in
+    let there : chain_of t s < length cs = omega (arith, r, l, all) in
+    let own : setters now t s ≡ setters cs t s ++ e ∷ [] = ap (λ z. setters z t s) m ∙ set_here cs (chain_of t s) (setters cs t s ++ e ∷ []) [] there in
+    f (setters cs t s) e own ∙ (ap (λ z. set z (chain_of t s) (setters cs t s)) m ∙ set_back cs (chain_of t s) (setters cs t s ++ e ∷ []))
+
+abbrev no_setter : List Setter
+no_setter = []
+
+empty : (k n : ℕ) → get_or (repeat n (no_setter ∷ [])) k [] ≡ []
+empty k zero = refl
+empty zero (suc n) = refl
+empty (suc k) (suc n) = empty k n
+
+as_many : (n : ℕ) → length (repeat n (no_setter ∷ [])) ≡ n
+as_many zero = refl
+as_many (suc n) = let r = as_many n in omega arith
+
+-- no operation has set anything
+pub empty_tells : (o : ObjectId) → Tells [] o no_chains
+empty_tells o = record {
+  each = λ t s p e l i. absurd (let n : slice_get [] p ≡ Some e = ap (λ z. slice_get z p) (sym (empty (chain_of t s) 48)) ∙ i in cc);
+  all = λ q b v g c. absurd cc;
+  ordered = λ t s l. subst AreSetters (sym (empty (chain_of t s) 48)) (record {
+    rise = λ i j d k m. absurd (omega (arith, m));
+    above = λ i d k. absurd (omega (arith, k));
+    short = omega arith;
+  });
+  count = as_many 48;
+}
+
 module _ (h : List Op) (o : ObjectId) (cs : List (List Setter)) (tells : Tells h o cs) (a : Op) where
   abbrev longer : List Op
   longer = h ++ a ∷ []
@@ -58,12 +117,70 @@ module _ (h : List Op) (o : ObjectId) (cs : List (List Setter)) (tells : Tells h
       | inl i ↦ tells.all q b v i c
       | inr w ↦ absurd (n v (ap (λ (z : Op). z.change) w.1 ∙ c))
     ];
-    short = tells.short;
+    ordered = tells.ordered;
+    count = tells.count;
   }
 
-  module _ (v : Value) (change : a.change ≡ Set o v) (s : ℕ) (in_range : s < 8) (site : a.id.site ≡ s + 1) (all : length cs ≡ 48) (room : length (setters cs (attribute_of v) s) + 1 < block) where
+  -- one that makes an object
+  pub tells_made : (start : Start) → a.change ≡ Create start → Tells longer o cs
+  tells_made start e = tells_other (λ v f. apart (sym e ∙ f))
+    where
+      apart : {v : Value} → Create start ≢ Set o v
+      apart f = absurd cc
+
+  -- one on another object
+  pub tells_elsewhere : object_of a ≢ o → Tells longer o cs
+  tells_elsewhere n = tells_other (λ v f. n (ap (λ c. changed_object a.id c) f))
+
+  -- what has a fingerprint keeps it
+  given_still : (p : Fingerprint) (n : ℕ) → HasFingerprint h cs p n → HasFingerprint longer cs p n
+  given_still p n f = record {
+    position = f.position;
+    number = f.number;
+    given = ap (λ r. fingerprint_given (op_value r)) (get_within h a f.position (number_within h o cs tells n f.position f.number)) ∙ f.given;
+  }
+
+  given_back : (p : Fingerprint) (n q : ℕ) → IsNumber cs n q → fingerprint_given (op_value (slice_get longer q)) ≡ Some p → HasFingerprint h cs p n
+  given_back p n q k g = record {
+    position = q;
+    number = k;
+    given = ap (λ r. fingerprint_given (op_value r)) (sym (get_within h a q (number_within h o cs tells n q k))) ∙ g;
+  }
+
+  -- the index stays one, whatever comes
+  pub index_other : (ix : List (Fingerprint × List ℕ)) → IsIndex h cs ix → IsIndex longer cs ix
+  index_other ix index p n = (
+    λ i. given_still p n ((index p n).0 i),
+    λ f. (index p n).1 (given_back p n f.position f.number f.given),
+  )
+
+  module _ (valid : IsValid h) (in_range : IsInRange a) (accepted : IsAccepted h a) (v : Value) (change : a.change ≡ Set o v) where
     abbrev t : Attr
     t = attribute_of v
+
+    abbrev s : ℕ
+    s = a.id.site - 1
+
+    pub own_site : IsSite a.id.site
+    own_site = site_in_range a in_range
+
+    within : s < 8
+    within = let l = own_site in omega (arith, l.0, l.1)
+
+    site : a.id.site ≡ s + 1
+    site = let l = own_site in omega (arith, l.0)
+
+    pub first_number : 0 < a.id.seq
+    first_number = let l = (seq_in_range a in_range).0 in omega (arith, l)
+
+    -- the setters of its site have smaller numbers
+    pub behind_all : (i : ℕ) (d : Setter) → i < length (setters cs t s) → (get_or (setters cs t s) i d).seq < a.id.seq
+    behind_all i d l =
+        let e = get_or (setters cs t s) i d in
+        let is = tells.each t s i e within (at_place (setters cs t s) i d l) in
+        let k = earlier h valid a in_range accepted is.op (contained_at h e.position is.op is.at) (is.site ∙ sym site) in
+        let q = is.seq in
+        omega (arith, k, q)
 
     abbrev last : Setter
     last = record { seq = a.id.seq; position = length h }
@@ -72,7 +189,7 @@ module _ (h : List Op) (o : ObjectId) (cs : List (List Setter)) (tells : Tells h
     new = with_setter cs t s last
 
     there : chain_of t s < length cs
-    there = let r = rank_below t in omega (arith, r, in_range, all)
+    there = let r = rank_below t in let w = within in let k = tells.count in omega (arith, r, w, k)
 
     own : setters new t s ≡ setters cs t s ++ last ∷ []
     own = set_here cs (chain_of t s) (setters cs t s ++ last ∷ []) [] there
@@ -83,8 +200,8 @@ module _ (h : List Op) (o : ObjectId) (cs : List (List Setter)) (tells : Tells h
       | inr k ↦ elim (cases_lt (chain_of t s) (chain_of u r)) [
         | inl m ↦ inr (set_else cs (chain_of t s) (chain_of u r) (setters cs t s ++ last ∷ []) [] (λ e. omega (arith, m, e)))
         | inr m ↦
-            let x : r ≡ s = omega (arith, k, m, l, in_range) in
-            let y : rank u ≡ rank t = omega (arith, k, m, l, in_range) in inl (rank_one u t y, x)
+            let x : r ≡ s = let w = within in omega (arith, k, m, l, w) in
+            let y : rank u ≡ rank t = let w = within in omega (arith, k, m, l, w) in inl (rank_one u t y, x)
       ]
     ]
 
@@ -106,14 +223,14 @@ module _ (h : List Op) (o : ObjectId) (cs : List (List Setter)) (tells : Tells h
       | inl w ↦
           let here : slice_get (setters new t s) p ≡ Some e = subst (λ z. slice_get (setters new z s) p ≡ Some e) w.0 (subst (λ z. slice_get (setters new u z) p ≡ Some e) w.1 i) in
           let found : IsSetter longer o t s e = elim (get_cases (setters cs t s) last p e (ap (λ z. slice_get z p) (sym own) ∙ here)) [
-            | inl k ↦ still t s e (tells.each t s p e in_range k)
+            | inl k ↦ still t s e (tells.each t s p e within k)
             | inr k ↦ subst (IsSetter longer o t s) k.1 is_last
           ] in
           subst (λ z. IsSetter longer o z r e) (sym w.0) (subst (λ z. IsSetter longer o t z e) (sym w.1) found)
       | inr w ↦ still u r e (tells.each u r p e l (ap (λ z. slice_get z p) (sym w) ∙ i))
     ]
 
-    numbered : (n q : ℕ) → IsNumber cs n q → IsNumber new n q
+    pub numbered : (n q : ℕ) → IsNumber cs n q → IsNumber new n q
     numbered n q k = record {
       attribute = k.attribute;
       site = k.site;
@@ -130,7 +247,7 @@ module _ (h : List Op) (o : ObjectId) (cs : List (List Setter)) (tells : Tells h
     last_number = record {
       attribute = t;
       site = s;
-      within = in_range;
+      within = within;
       place = length (setters cs t s);
       setter = last;
       at = ap (λ z. slice_get z (length (setters cs t s))) own ∙ get_last (setters cs t s) last;
@@ -138,16 +255,13 @@ module _ (h : List Op) (o : ObjectId) (cs : List (List Setter)) (tells : Tells h
       position = refl;
     }
 
-    longer_one : (ss : List Setter) → length (ss ++ last ∷ []) ≡ length ss + 1
-    longer_one [] = refl
-    longer_one (x ∷ ss) = let r = longer_one ss in omega arith
-
-    short_new : (u : Attr) (r : ℕ) → r < 8 → length (setters new u r) < block
-    short_new u r l = elim (same_chain u r l) [
+    ordered_new : (u : Attr) (r : ℕ) → r < 8 → AreSetters (setters new u r)
+    ordered_new u r l = elim (same_chain u r l) [
       | inl w ↦
-          let here : length (setters new t s) < block = let e = longer_one (setters cs t s) in subst (λ z. length z < block) (sym own) (omega (arith, e, room)) in
-          subst (λ z. length (setters new z r) < block) (sym w.0) (subst (λ z. length (setters new t z) < block) (sym w.1) here)
-      | inr w ↦ subst (λ z. length z < block) (sym w) (tells.short u r l)
+          let k = (seq_in_range a in_range).1 in
+          let here : AreSetters (setters new t s) = setters_push (setters cs t s) (setters new t s) last own (tells.ordered t s within) behind_all first_number (omega (arith, k)) in
+          subst (λ z. AreSetters (setters new z r)) (sym w.0) (subst (λ z. AreSetters (setters new t z)) (sym w.1) here)
+      | inr w ↦ subst AreSetters (sym w) (tells.ordered u r l)
     ]
 
     -- ONE MORE SETTER
@@ -158,20 +272,21 @@ module _ (h : List Op) (o : ObjectId) (cs : List (List Setter)) (tells : Tells h
         | inl i ↦ let k = tells.all q b w i c in (k.0, numbered k.0 q k.1)
         | inr z ↦ (chain_of t s * block + length (setters cs t s), subst (IsNumber new (chain_of t s * block + length (setters cs t s))) (sym z.0) last_number)
       ];
-      short = short_new;
+      ordered = ordered_new;
+      count = length-set cs (chain_of t s) (setters cs t s ++ last ∷ []) ∙ tells.count;
     }
 
     abbrev x : ℕ
     x = chain_of t s * block + length (setters cs t s)
 
     -- a number is an old one or the new one
-    number_cases : (n q : ℕ) → IsNumber new n q → IsNumber cs n q ⊎ ((n ≡ x) × (q ≡ length h))
+    pub number_cases : (n q : ℕ) → IsNumber new n q → IsNumber cs n q ⊎ ((n ≡ x) × (q ≡ length h))
     number_cases n q k = elim (same_chain k.attribute k.site k.within) [
       | inl w ↦
           let here : slice_get (setters new t s) k.place ≡ Some k.setter = subst (λ z. slice_get (setters new z s) k.place ≡ Some k.setter) w.0 (subst (λ z. slice_get (setters new k.attribute z) k.place ≡ Some k.setter) w.1 k.at) in
           let number : n ≡ chain_of t s * block + k.place = subst (λ z. n ≡ chain_of z s * block + k.place) w.0 (subst (λ z. n ≡ chain_of k.attribute z * block + k.place) w.1 k.number) in
           elim (get_cases (setters cs t s) last k.place k.setter (ap (λ z. slice_get z k.place) (sym own) ∙ here)) [
-            | inl old ↦ inl (record { attribute = t; site = s; within = in_range; place = k.place; setter = k.setter; at = old; number = number; position = k.position })
+            | inl old ↦ inl (record { attribute = t; site = s; within = within; place = k.place; setter = k.setter; at = old; number = number; position = k.position })
             | inr z ↦ inr (number ∙ ap (λ y. chain_of t s * block + y) z.0, sym k.position ∙ ap (λ (y : Setter). y.position) (sym z.1))
           ]
       | inr w ↦ inl (record {
@@ -186,48 +301,54 @@ module _ (h : List Op) (o : ObjectId) (cs : List (List Setter)) (tells : Tells h
       })
     ]
 
-    gives_still : (q : ℕ) (w : Value) → GivesAt h o q w → GivesAt longer o q w
-    gives_still q w g = record { op = g.op; at = get_front h a q g.op g.at; change = g.change }
-
-    gives_back : (q : ℕ) (w : Value) → q ≢ length h → GivesAt longer o q w → GivesAt h o q w
-    gives_back q w n g = elim (get_cases h a q g.op g.at) [
-      | inl i ↦ record { op = g.op; at = i; change = g.change }
-      | inr z ↦ absurd (n z.0)
-    ]
-
-    gives_new : GivesAt longer o (length h) v
-    gives_new = record { op = a; at = get_last h a; change = change }
-
-    gives_one : (w : Value) → GivesAt longer o (length h) w → Set o v ≡ Set o w
-    gives_one w g = sym change ∙ (ap (λ (z : Op). z.change) (some_one a g.op (sym (get_last h a) ∙ g.at)) ∙ g.change)
-
-    within_old : (n q : ℕ) → IsNumber cs n q → q < length h
-    within_old n q k = let i = tells.each k.attribute k.site k.place k.setter k.within k.at in subst (λ z. z < length h) k.position (in_list h k.setter.position i.op i.at)
-      where
-        in_list : {X : Type 0} (xs : List X) (i : ℕ) (y : X) → slice_get xs i ≡ Some y → i < length xs
-        in_list [] i y e = absurd cc
-        in_list (z ∷ xs) zero y e = omega arith
-        in_list (z ∷ xs) (suc i) y e = let r = in_list xs i y e in omega arith
-
-    -- those that give the new value
-    pub equal_new : (e f : List ℕ) → AreEqual h o cs v e → ((n : ℕ) → Contains f n ↔ (Contains e n ⊎ (n ≡ x))) → AreEqual longer o new v f
-    equal_new e f k g n = (
-      λ i. elim ((g n).0 i) [
-        | inl j ↦ let w = (k n).0 j in (w.0, numbered n w.0 w.1, gives_still w.0 v w.2)
-        | inr d ↦ (length h, subst (λ z. IsNumber new z (length h)) (sym d) last_number, gives_new)
-      ],
-      λ w. (g n).1 (elim (number_cases n w.0 w.1) [
-        | inl old ↦ let l = within_old n w.0 old in inl ((k n).1 (w.0, old, gives_back w.0 v (λ d. omega (arith, l, d)) w.2))
-        | inr z ↦ inr z.0
-      ]),
-    )
-
-    -- and those that give another one
-    pub equal_other : (w : Value) (e : List ℕ) → Set o v ≢ Set o w → AreEqual h o cs w e → AreEqual longer o new w e
-    equal_other w e apart k n = (
-      λ i. let u = (k n).0 i in (u.0, numbered n u.0 u.1, gives_still u.0 w u.2),
-      λ u. elim (number_cases n u.0 u.1) [
-        | inl old ↦ let l = within_old n u.0 old in (k n).1 (u.0, old, gives_back u.0 w (λ d. omega (arith, l, d)) u.2)
-        | inr z ↦ absurd (apart (gives_one w (subst (λ y. GivesAt longer o y w) z.1 u.2)))
+    pub number_with : (n q : ℕ) → IsNumber new n q ↔ (IsNumber cs n q ⊎ ((n ≡ x) × (q ≡ length h)))
+    number_with n q = (
+      λ k. number_cases n q k,
+      λ k. elim k [
+        | inl old ↦ numbered n q old
+        | inr z ↦ subst (λ y. IsNumber new y q) (sym z.0) (subst (IsNumber new x) (sym z.1) last_number)
       ],
     )
+
+    -- the index with the new setter
+    pub index_setter : (ix new_ix : List (Fingerprint × List ℕ)) → IsIndex h cs ix → PutsNumber ix (fingerprint_of v) x new_ix → IsIndex longer new new_ix
+    index_setter ix new_ix index puts p n =
+        let w = Contains-numbers_at ix new_ix (fingerprint_of v) x puts p n in
+        let own : fingerprint_given (op_value (slice_get longer (length h))) ≡ Some (fingerprint_of v) = ap (λ r. fingerprint_given (op_value r)) (get_last h a) ∙ ap (λ c. fingerprint_given (value_set c)) change in (
+          λ i. elim (w.0 i) [
+            | inl j ↦ let f = given_still p n ((index p n).0 j) in record { position = f.position; number = numbered n f.position f.number; given = f.given }
+            | inr j ↦ record { position = length h; number = subst (λ z. IsNumber new z (length h)) (sym j.1) last_number; given = own ∙ ap Some j.0 }
+          ],
+          λ f. w.1 (elim (number_cases n f.position f.number) [
+            | inl old ↦ inl ((index p n).1 (given_back p n f.position old f.given))
+            | inr z ↦ inr (some_one (fingerprint_of v) p (sym own ∙ (ap (λ q. fingerprint_given (op_value (slice_get longer q))) (sym z.1) ∙ f.given)), z.0)
+          ]),
+        )
+
+    -- ---- by what the calls are given and give
+
+    pub behind_pushed : (u : Attr) → u ≡ t → (i : ℕ) (d : Setter) → i < length (setters cs u s) → (get_or (setters cs u s) i d).seq < a.id.seq
+    behind_pushed u e = subst (λ z. (i : ℕ) (d : Setter) → i < length (setters cs z s) → (get_or (setters cs z s) i d).seq < a.id.seq) (sym e) behind_all
+
+    module _ (u : Attr) (p : ℕ) (now : List (List Setter)) (attribute : u ≡ t) (position : p ≡ length h) (pushed : now ≡ with_setter cs u s (record { seq = a.id.seq; position = p })) where
+      pushed_is : now ≡ new
+      pushed_is =
+          pushed
+          ∙ (ap (λ z. with_setter cs z s (record { seq = a.id.seq; position = p })) attribute
+          ∙ ap (λ z. with_setter cs t s (record { seq = a.id.seq; position = z })) position)
+
+      pub tells_pushed : Tells longer o now
+      tells_pushed = subst (Tells longer o) (sym pushed_is) tells_setter
+
+      module _ (y : ℕ) (number : y ≡ chain_of u s * block + length (setters cs u s)) where
+        number_is : y ≡ x
+        number_is = number ∙ ap (λ z. chain_of z s * block + length (setters cs z s)) attribute
+
+        pub number_pushed : (n q : ℕ) → IsNumber now n q ↔ (IsNumber cs n q ⊎ ((n ≡ y) × (q ≡ length h)))
+        number_pushed n q =
+            subst (λ z. IsNumber z n q ↔ (IsNumber cs n q ⊎ ((n ≡ y) × (q ≡ length h)))) (sym pushed_is)
+            (subst (λ z. IsNumber new n q ↔ (IsNumber cs n q ⊎ ((n ≡ z) × (q ≡ length h)))) (sym number_is) (number_with n q))
+
+        pub index_pushed : (ix new_ix : List (Fingerprint × List ℕ)) → IsIndex h cs ix → PutsNumber ix (fingerprint_of v) y new_ix → IsIndex longer now new_ix
+        index_pushed ix new_ix index puts =
+            subst (λ z. IsIndex longer z new_ix) (sym pushed_is) (index_setter ix new_ix index (subst (λ z. PutsNumber ix (fingerprint_of v) z new_ix) number_is puts))

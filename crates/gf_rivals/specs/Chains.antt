@@ -1,5 +1,6 @@
 -- The setters of an object, by attribute and site.
-use Rattle.std.specs.Prelude.{ℕ, ◌+◌, ◌*◌, ◌/◌, ◌%◌, ◌<◌, List, [], ◌∷◌, ◌++◌, slice_index_or, slice_get, slice_set, Option, Some, None, option_map}
+use Rattle.std.specs.Prelude.{ℕ, ◌+◌, ◌*◌, ◌/◌, ◌%◌, ◌<◌, List, [], ◌∷◌, ◌++◌, slice_index_or, slice_get, slice_set, Option, option_map}
+use Rattle.std.specs.List.{repeat}
 use Rattle.gf_ops.specs.declared.change.Attr.{Attr}
 use Rattle.gf_ops.specs.declared.change.Attr.TheVariants.{Place, Points, Size, Colour, Layer, Shown}
 use Rattle.gf_ops.specs.declared.op.Clock.{Clock}
@@ -30,15 +31,19 @@ pub record IsUnknown (cs : List (List Setter)) (t : Attr) (past : Clock) (m n : 
   pub within : site < m
   pub setter : IsAbove (setters cs t site) (chain_of t site * block) (entry past (site + 1)) n
 
--- what f gives where there is one
-abbrev pub option_and_then : {X Y : Type 0} → Option X → (X → Option Y) → Option Y
-option_and_then None f = None
-option_and_then (Some x) f = f x
-
 -- the position of the setter with the number n
 abbrev pub position_of : List (List Setter) → ℕ → Option ℕ
-position_of cs n = option_map (λ (e : Setter). e.position) (option_and_then (slice_get cs (n / block)) (λ ss. slice_get ss (n % block)))
+position_of cs n = option_map (λ (e : Setter). e.position)
+    (slice_get (slice_index_or cs (n / block) []) (n % block))
+
+-- the chains without a setter
+abbrev pub no_chains : List (List Setter)
+no_chains = repeat 48 ([] ∷ [])
+
+-- the setters of t by the site s + 1 are ss
+abbrev pub with_chain : List (List Setter) → Attr → ℕ → List Setter → List (List Setter)
+with_chain cs t s ss = slice_set cs (chain_of t s) ss
 
 -- the setter e of t by the site s + 1 behind the others
 abbrev pub with_setter : List (List Setter) → Attr → ℕ → Setter → List (List Setter)
-with_setter cs t s e = slice_set cs (chain_of t s) (setters cs t s ++ e ∷ [])
+with_setter cs t s e = with_chain cs t s (setters cs t s ++ e ∷ [])

@@ -9,7 +9,7 @@ use Rattle.gf_ops.specs.declared.change.Value.{Value}
 use Rattle.gf_ops.specs.Attribute.{attribute_of}
 use Rattle.gf_ops.specs.Conflict.{Conflict}
 use Rattle.gf_rivals.specs.declared.chain.Setter.{Setter}
-use Rattle.gf_rivals.specs.Setters.{block}
+use Rattle.gf_rivals.specs.Setters.{block, AreSetters}
 use Rattle.gf_rivals.specs.Chains.{chain_of, setters, IsUnknown}
 
 -- e stands for an operation of h by the site s + 1 that sets the attribute t of o
@@ -22,7 +22,7 @@ pub record IsSetter (h : List Op) (o : ObjectId) (t : Attr) (s : ℕ) (e : Sette
   pub change : op.change ≡ Set o value
   pub attribute : attribute_of value ≡ t
 
--- n is the number of the setter at the place p of the chain of t and s + 1, which stands at the position q
+-- n is the number of a setter of the chains, which stands at the position q
 pub record IsNumber (cs : List (List Setter)) (n q : ℕ) : Type 0 where
   pub attribute : Attr
   pub site : ℕ
@@ -33,11 +33,12 @@ pub record IsNumber (cs : List (List Setter)) (n q : ℕ) : Type 0 where
   pub number : n ≡ chain_of attribute site * block + place
   pub position : setter.position ≡ q
 
--- the chains have the setters of o in h
+-- the chains have the setters of o in h, those of each site in their order
 pub record Tells (h : List Op) (o : ObjectId) (cs : List (List Setter)) : Type 0 where
   pub each : (t : Attr) (s p : ℕ) (e : Setter) → s < 8 → slice_get (setters cs t s) p ≡ Some e → IsSetter h o t s e
   pub all : (q : ℕ) (b : Op) (v : Value) → slice_get h q ≡ Some b → b.change ≡ Set o v → (n : ℕ) × IsNumber cs n q
-  pub short : (t : Attr) (s : ℕ) → s < 8 → length (setters cs t s) < block
+  pub ordered : (t : Attr) (s : ℕ) → s < 8 → AreSetters (setters cs t s)
+  pub count : length cs ≡ 48
 
 -- the operation at the position q gives the value v
 pub record GivesAt (h : List Op) (o : ObjectId) (q : ℕ) (v : Value) : Type 0 where
@@ -45,9 +46,10 @@ pub record GivesAt (h : List Op) (o : ObjectId) (q : ℕ) (v : Value) : Type 0 w
   pub at : slice_get h q ≡ Some op
   pub change : op.change ≡ Set o v
 
--- d are the numbers of the setters of o that the clock does not count and that do not give the value v
+-- d are the numbers of the setters that the clock does not count and that do not give the value v
 abbrev pub AreRivals : List Op → ObjectId → List (List Setter) → Value → Clock → List ℕ → Type 0
-AreRivals h o cs v past d = (n : ℕ) → Contains d n ↔ (IsUnknown cs (attribute_of v) past 8 n × ((q : ℕ) → IsNumber cs n q → ¬ (GivesAt h o q v)))
+AreRivals h o cs v past d = (n : ℕ) → Contains d n
+    ↔ (IsUnknown cs (attribute_of v) past 8 n × ((q : ℕ) → IsNumber cs n q → ¬ (GivesAt h o q v)))
 
 -- n is the number of an operation of h that conflicts with a
 pub record IsConflict (h : List Op) (cs : List (List Setter)) (a : Op) (n : ℕ) : Type 0 where
@@ -56,7 +58,3 @@ pub record IsConflict (h : List Op) (cs : List (List Setter)) (a : Op) (n : ℕ)
   pub number : IsNumber cs n position
   pub at : slice_get h position ≡ Some op
   pub conflict : Conflict a op
-
--- e are the numbers of the setters of o that give the value v
-abbrev pub AreEqual : List Op → ObjectId → List (List Setter) → Value → List ℕ → Type 0
-AreEqual h o cs v e = (n : ℕ) → Contains e n ↔ ((q : ℕ) × IsNumber cs n q × GivesAt h o q v)

@@ -8,7 +8,7 @@ block = 4294967296
 
 -- their numbers rise, from one on
 pub record AreSetters (ss : List Setter) : Type 0 where
-  pub rise : (i j : ℕ) (d : Setter) → i ≤ j → j < length ss → (slice_index_or ss i d).seq ≤ (slice_index_or ss j d).seq
+  pub rise : (i j : ℕ) (d : Setter) → i < j → j < length ss → (slice_index_or ss i d).seq < (slice_index_or ss j d).seq
   pub above : (i : ℕ) (d : Setter) → i < length ss → i < (slice_index_or ss i d).seq
   pub short : length ss < block
 

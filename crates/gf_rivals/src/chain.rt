@@ -1,6 +1,7 @@
 //! The operations of one site that set one attribute of an object.
 
-ghost use Rattle.std.specs.Prelude.{◌≡◌, ◌↔◌, ◌++◌, ◌∷◌, [], ◌+◌, ◌^◌, ◌<◌, ◌≤◌, Contains, IfOk, OnOk, OnErr};
+ghost use Rattle.std.specs.Prelude.{◌≡◌, ◌↔◌, ◌++◌, ◌∷◌, [], ◌+◌, ◌^◌, ◌<◌, ◌≤◌, Contains};
+ghost use Rattle.std.specs.Prelude.{IfOk, OnOk, OnErr};
 ghost use Rattle.std.specs.Prelude.{option_copied, slice_get, slice_index_or, length};
 ghost use Rattle.gf_rivals.specs.Setters.{block, IsCountUpTo, IsAbove};
 
@@ -11,14 +12,14 @@ use std::marker::Model;
 
 /// An operation that sets the attribute: its number at its site, and its position in the history.
 #[derive(Clone, Copy, Debug)]
-pub struct Setter {
+pub(crate) struct Setter {
     pub seq: u32,
     pub position: usize,
 }
 
 /// The setters of one attribute by one site, in their order.
 #[derive(Debug, Drop)]
-pub struct Chain {
+pub(crate) struct Chain {
     setters: Vec<Setter>,
 }
 
@@ -44,7 +45,7 @@ impl Chain {
         }
     }
 
-    /// How many there are.
+    /// How many setters there are.
     pub fn len(&self) -> usize
         ensures value { result ≡ length self.now }
         ensures bound { result < block }
@@ -52,39 +53,66 @@ impl Chain {
         self.setters.len()
     }
 
-    /// That at this place.
+    /// All setters.
+    pub fn setters(&self) -> &[Setter]
+        ensures value { result.now ≡ self.now }
+        ensures bound { length self.now < block }
+    {
+        &self.setters
+    }
+
+    /// The setter at this place.
     pub fn get(&self, place: usize) -> Option<&Setter>
         ensures { option_copied result ≡ slice_get self.now place }
     {
         self.setters.get(place)
     }
 
-    /// How many of the first ones have a number up to this one.
+    /// How many of the first setters have a number up to this one.
     fn count_up_to(&self, count: u32) -> usize
         ensures { IsCountUpTo self.now count result }
     {
         self.setters.partition_point(|setter| setter.seq <= count)
     }
 
-    /// The numbers of those whose number at their site is above this one, where the first of all has
-    /// the number `base`.
+    /// The numbers of the setters whose number at their site is above this one. The first setter of
+    /// all has the number `base`.
     pub fn unknown(&self, alloc: Global, base: usize, count: u32) -> Result<Numbers, OutOfMemory>
         requires { base + block ≤ 2 ^ 64 }
-        ensures { IfOk result (λ found. (n : _) → Contains found n ↔ IsAbove self.now base count n) }
+        ensures { IfOk result (λ found. (n : _)
+            → Contains found n ↔ IsAbove self.now base count n) }
     {
         let len = self.len();
         let known = self.count_up_to(count);
         Numbers::between(alloc, base + known, base + len)
     }
 
-    /// Adds one behind the others, which have smaller numbers at their site.
+    /// Adds a setter behind the others, which have smaller numbers at their site.
     pub fn push(&mut self, seq: u32, position: usize) -> Result<(), OutOfMemory>
-        requires last { (i : _) (d : _) → i < length self.old → (slice_index_or self.old i d).seq < seq }
+        requires last { (i : _) (d : _) → i < length self.old
+            → (slice_index_or self.old i d).seq < seq }
         requires first { 0 < seq }
-        ensures ok { OnOk result (self.new ≡ self.old ++ record { seq = seq; position = position } ∷ []) }
+        ensures ok { OnOk result
+            (self.new ≡ self.old ++ record { seq = seq; position = position } ∷ []) }
         ensures err { OnErr result (self.new ≡ self.old) }
     {
         self.setters.push(Setter { seq, position })?;
         Ok(())
+    }
+
+    /// Takes the last setter away, if there is one.
+    pub fn pop(&mut self)
+        ensures { (us : _) (e : _) → self.old ≡ us ++ e ∷ [] → self.new ≡ us }
+    {
+        self.setters.pop();
+    }
+
+    /// A copy.
+    pub fn copy(&self, alloc: Global) -> Result<Chain, OutOfMemory>
+        ensures { IfOk result (λ copy. copy ≡ self.now) }
+    {
+        Ok(Chain {
+            setters: Vec::from_slice(alloc, &self.setters)?,
+        })
     }
 }

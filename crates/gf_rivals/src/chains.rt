@@ -1,36 +1,44 @@
 //! The setters of an object, by attribute and site.
 
-ghost use Rattle.std.specs.Prelude.{◌≡◌, ◌↔◌, ◌+◌, ◌-◌, ◌*◌, ◌^◌, ◌<◌, Contains, IfOk, OnOk, OnErr};
-ghost use Rattle.std.specs.Prelude.{length, slice_index_or};
+ghost use Rattle.std.specs.Prelude.{◌≡◌, ◌↔◌, ◌⊎◌, ◌+◌, ◌-◌, ◌*◌, ◌^◌, ◌<◌, ◌++◌, ◌∷◌, []};
+ghost use Rattle.std.specs.Prelude.{Contains, IfOk, IfSome, OnOk, OnErr, length, slice_index_or};
+ghost use Rattle.std.specs.Prelude.{option_copied, unwrap_or};
 ghost use Rattle.gf_ops.specs.OperationOrder.{IsSite};
-ghost use Rattle.gf_rivals.specs.Setters.{block};
-ghost use Rattle.gf_rivals.specs.Chains.{rank, chain_of, setters, position_of, with_setter, IsUnknown};
+ghost use Rattle.gf_rivals.specs.Setters.{block, IsAbove};
+ghost use Rattle.gf_rivals.specs.Chains.{rank, chain_of, setters, no_chains, position_of};
+ghost use Rattle.gf_rivals.specs.Chains.{with_setter, with_chain, IsUnknown};
 
 use crate::chain::Chain;
+use crate::kept::{KeptChains, copied, pop_from, push_to};
 use gf_maximal::Numbers;
 use gf_ops::{Attr, Clock, OpId};
 use gf_shape::OutOfMemory;
 use std::alloc::Global;
+use std::collections::BTreeMap;
 use std::marker::Model;
 
 /// The numbers that are kept for one chain.
-const BLOCK: usize = 4_294_967_296;
+pub(crate) const BLOCK: usize = 4_294_967_296;
 
-/// The chains of all attributes and sites.
+/// How many chains there are: one for each attribute and site.
+pub(crate) const CHAINS: usize = 48;
+
+/// The chains of all attributes and sites, of which those without a setter are not kept.
 #[derive(Debug, Drop)]
 pub struct Chains {
-    chains: Vec<Chain>,
+    chains: KeptChains,
 }
 
 impl Model for Chains {
-    ghost use Rattle.std.specs.Prelude.{◌≡◌, List, length};
+    ghost use Rattle.std.specs.Prelude.{List};
     ghost use Rattle.gf_rivals.specs.declared.chain.Setter.{Setter as SetterState};
+    ghost use Rattle.gf_rivals.specs.KeptChains.{all_chains, AreBelow};
 
     ghost Value = { List (List SetterState) };
 
-    ghost view = { λ c. c.chains.items };
+    ghost view = { λ c. all_chains c.chains.entries };
 
-    ghost invariant = { λ c. length c.chains.items ≡ 48 };
+    ghost invariant = { λ c. AreBelow 48 c.chains.entries };
 }
 
 /// The index of an attribute.
@@ -48,7 +56,65 @@ fn rank(attribute: Attr) -> usize
     }
 }
 
+/// The index of the chain of an attribute and a site.
+fn index_of(attribute: Attr, site: u8) -> usize
+    requires { IsSite site }
+    ensures value { result ≡ chain_of attribute (site - 1) }
+    ensures bound { result < 48 }
+{
+    rank(attribute) * 8 + (usize::from(site) - 1)
+}
+
 impl Chains {
+    /// No setter.
+    pub fn new(alloc: Global) -> Chains
+        ensures { result ≡ no_chains }
+    {
+        Chains {
+            chains: BTreeMap::new(alloc),
+        }
+    }
+
+    /// A copy.
+    pub fn copy(&self, alloc: Global) -> Result<Chains, OutOfMemory>
+        ensures { IfOk result (λ copy. copy ≡ self.now) }
+    {
+        Ok(Chains {
+            chains: copied(alloc, &self.chains)?,
+        })
+    }
+
+    /// The chain with this index, unless none is kept.
+    pub(crate) fn chain(&self, index: usize) -> Option<&Chain>
+        ensures value { unwrap_or (option_copied result) [] ≡ slice_index_or self.now index [] }
+        ensures bound { IfSome result (λ _. index < 48) }
+    {
+        self.chains.get(&index)
+    }
+
+    /// The numbers found, and those of the chain with this index: of the setters whose number at
+    /// their site is above this one.
+    fn with_unknown(
+        &self,
+        alloc: Global,
+        found: Numbers,
+        index: usize,
+        count: u32,
+    ) -> Result<Numbers, OutOfMemory>
+        requires { index < 48 }
+        ensures { let ss = slice_index_or self.now index [] in IfOk result (λ all. (n : _)
+            → Contains all n ↔ (Contains found n ⊎ IsAbove ss (index * block) count n)) }
+    {
+        let Some(chain) = self.chain(index) else {
+            return Ok(found);
+        };
+        let more = chain.unknown(alloc, index * BLOCK, count)?;
+        if more.is_empty() {
+            return Ok(found);
+        }
+        found.united(alloc, &more)
+    }
+
     /// The numbers of the setters of the attribute that the clock does not count.
     pub fn unknown(
         &self,
@@ -56,24 +122,23 @@ impl Chains {
         attribute: Attr,
         past: &Clock,
     ) -> Result<Numbers, OutOfMemory>
-        ensures { IfOk result (λ found. (n : _) → Contains found n ↔ IsUnknown self.now attribute past.now 8 n) }
+        ensures { IfOk result (λ found. (n : _)
+            → Contains found n ↔ IsUnknown self.now attribute past.now 8 n) }
     {
-        let chains = &self.chains;
         let first = rank(attribute) * 8;
         let mut found = Numbers::new(alloc);
         for site in 0..8 {
-            let chain = &chains[first + site];
-            let more = chain.unknown(alloc, (first + site) * BLOCK, past.0[site])?;
-            found = found.united(alloc, &more)?;
+            found = self.with_unknown(alloc, found, first + site, past.0[site])?;
         }
         Ok(found)
     }
 
     /// The position of the setter that has this number.
     pub fn position(&self, number: usize) -> Option<usize>
-        ensures { result ≡ position_of self.now number }
+        ensures value { result ≡ position_of self.now number }
+        ensures bound { IfSome result (λ _. number < 48 * block) }
     {
-        let chain = self.chains.get(number / BLOCK)?;
+        let chain = self.chain(number / BLOCK)?;
         let setter = chain.get(number % BLOCK)?;
         Some(setter.position)
     }
@@ -85,13 +150,21 @@ impl Chains {
             + length (setters self.now attribute (site - 1)) }
         ensures bound { result + 1 < 2 ^ 64 }
     {
-        let chains = &self.chains;
-        let index = rank(attribute) * 8 + (usize::from(site) - 1);
-        index * BLOCK + chains[index].len()
+        let index = index_of(attribute, site);
+        match self.chain(index) {
+            Some(chain) => index * BLOCK + chain.len(),
+            None => index * BLOCK,
+        }
     }
 
     /// Adds a setter of the attribute, which comes behind those of its site.
-    pub fn push(&mut self, attribute: Attr, id: OpId, position: usize) -> Result<(), OutOfMemory>
+    pub fn push(
+        &mut self,
+        alloc: Global,
+        attribute: Attr,
+        id: OpId,
+        position: usize,
+    ) -> Result<(), OutOfMemory>
         requires site { IsSite id.site }
         requires first { 0 < id.seq }
         requires last { (i : _) (d : _) → i < length (setters self.old attribute (id.site - 1))
@@ -100,8 +173,17 @@ impl Chains {
             (record { seq = id.seq; position = position })) }
         ensures err { OnErr result (self.new ≡ self.old) }
     {
-        let index = rank(attribute) * 8 + (usize::from(id.site) - 1);
-        let chains = &mut self.chains;
-        chains[index].push(id.seq, position)
+        let index = index_of(attribute, id.site);
+        push_to(alloc, &mut self.chains, index, id.seq, position)
+    }
+
+    /// Takes the last setter of the attribute by the site away, if there is one.
+    pub fn pop(&mut self, attribute: Attr, site: u8)
+        requires { IsSite site }
+        ensures { (us : _) (e : _) → setters self.old attribute (site - 1) ≡ us ++ e ∷ []
+            → self.new ≡ with_chain self.old attribute (site - 1) us }
+    {
+        let index = index_of(attribute, site);
+        pop_from(&mut self.chains, index);
     }
 }

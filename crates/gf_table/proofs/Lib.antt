@@ -1,4 +1,6 @@
-pub mod ObjectLemmas
-pub mod RangeLemmas
-pub mod StandsLemmas
+pub mod LongerLemmas
+pub mod ByPositionLemmas
 pub mod StateLemmas
+pub mod StandsLemmas
+pub mod FittingLemmas
+pub mod ListedLemmas

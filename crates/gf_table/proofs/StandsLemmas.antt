@@ -1,142 +1,185 @@
 -- A table after one more operation stands for the longer history.
-use Rattle.std.proofs.Common.{arith, ◌≡◌, ℕ, ◌<◌, true, false, List, [], ◌∷◌, ◌++◌, length, inl, inr, refl, subst, sym, ap, ◌∙◌}
-use Rattle.std.specs.Prelude.{Contains, cond, Option, Some, None, Result, Ok, Err, OnOk, unwrap_or, slice_get}
+use Rattle.std.proofs.Common.{◌≡◌, ◌≢◌, ℕ, ◌<◌, ◌+◌, ◌*◌, true, false, List, [], ◌∷◌, ◌++◌, length, inl, inr, refl, subst, sym, ap, ◌∙◌, arith}
+use Rattle.std.specs.Prelude.{◌↔◌, Contains, cond, Option, Some, None, slice_get, unwrap_or}
 use Rattle.std.specs.BTreeMap.{is_at, insert_entry}
-use Rattle.std.specs.Map.{keys_of, lookup}
-use Rattle.std.specs.Ordering.{is_eq, match_ordering}
 use Rattle.std.specs.Cmp.{IsTotalOrder}
 use Rattle.std.specs.List.Sorted.{IsStrictlySortedBy}
+use Rattle.std.specs.Map.{keys_of, lookup}
+use Rattle.std.specs.Ordering.{is_eq, match_ordering}
 use Rattle.std.specs.declared.cmp.Ordering.{Ordering}
 use Rattle.std.specs.declared.cmp.Ordering.TheVariants.{Less, Equal, Greater}
+use Rattle.std.proofs.lemmas.Bool.{cases_Bool, cases_lt, cond-true, cond-false}
+use Rattle.std.proofs.lemmas.Cmp.{tied_itself}
+use Rattle.std.proofs.lemmas.List.Elements.{Contains-push_cases}
+use Rattle.gf_ops.proofs.ListLemmas.{not_Contains-nil}
+use Rattle.gf_maximal.proofs.ImageLemmas.{Made}
+use Rattle.std.proofs.lemmas.Option.{get_or_from_slice_get, slice_get_within}
 use Rattle.std.proofs.lemmas.Map.Entries.{lookup_at_gap}
 use Rattle.std.proofs.lemmas.Map.Keys.{sorted_tail}
-use Rattle.std.proofs.lemmas.Bool.{cases_Bool, cond-true, cond-false}
-use Rattle.std.proofs.lemmas.Option.{slice_get_within}
 use Rattle.gf_ops.specs.declared.op.Op.{Op}
+use Rattle.gf_ops.specs.declared.op.ObjectId.{ObjectId}
+use Rattle.gf_ops.specs.declared.change.Change.{Change}
+use Rattle.gf_ops.specs.declared.change.Change.TheVariants.{Create, Set}
 use Rattle.gf_ops.specs.Accepted.{IsAccepted}
+use Rattle.gf_ops.specs.KnownObject.{IsSuited}
 use Rattle.gf_ops.specs.Limits.{IsInRange}
 use Rattle.gf_ops.specs.ValidHistory.{IsValid}
-use Rattle.gf_tails.specs.declared.subject.Subject.{Subject}
-use Rattle.gf_tails.specs.Subjects.{subject_cmp, subject_of, is_about, positions_about}
-use Rattle.gf_table.specs.SubjectState.{SubjectState, nothing, with_op}
-use Rattle.gf_parts.specs.Parts.{whole}
-use Rattle.gf_tails.proofs.KeptTailsLemmas.{tails_alike}
-use Rattle.gf_table.specs.Standing.{IsStateOf, IsNextState, Stands, StandsFor, state_of}
-use Rattle.gf_notes.specs.Notes.{NotesState, AreNotes}
-use Rattle.gf_tails.proofs.LongerLemmas.{positions_with_last, positions_without_last}
-use Rattle.gf_table.proofs.StateLemmas.{first_state, state_kept, state_more}
-use Rattle.gf_tails.proofs.SubjectLemmas.{Contains-positions_about, about_from, about_op, about_to, at_itself, at_told}
+use Rattle.gf_rivals.proofs.NextLemmas.{fresh}
+use Rattle.gf_ops.proofs.ValidityLemmas.{same_op}
+use Rattle.gf_ops.specs.declared.change.Value.{Value}
+use Rattle.gf_ops.specs.Attribute.{changed_object, object_of}
+use Rattle.gf_groups.specs.Growing.{conflict_at}
+use Rattle.gf_groups.specs.GroupedPositions.{is_on, positions_below}
+use Rattle.gf_groups.specs.Parting.{object_cmp}
+use Rattle.gf_groups.proofs.OnPositionLemmas.{all_positions, contained_at, made_object, on_from, on_op, on_to}
+use Rattle.gf_groups.proofs.PositionLemmas.{Contains-positions_below}
+use Rattle.gf_groups.proofs.PartingLemmas.{object_cmp_total, object_cmp_exact}
+use Rattle.gf_groups.proofs.SortedLemmas.{equal_left}
+use Rattle.gf_groups.proofs.TableLemmas.{conflict_at_test}
+use Rattle.gf_components.specs.Components.{ComponentState, ComponentsState, alone, no_components, whole}
+use Rattle.gf_components.proofs.ComponentLemmas.{all_of_fold, first_parts}
+use Rattle.gf_rivals.specs.Rivals.{IsNumber}
+use Rattle.gf_table.specs.ByPosition.{components_at}
+use Rattle.gf_table.specs.ObjectState.{ObjectState, maker_number, number_conflict, position_in}
+use Rattle.gf_table.specs.Standing.{AreComponentsOn, IsStateOf, Stands, StandsFor, state_of}
+use Rattle.gf_table.proofs.ByPositionLemmas.{components_image, whole_image}
+use Rattle.gf_table.proofs.StateLemmas.{maker_position, number_at, numbers_test, one_number, setter_at, state_kept}
 
--- the value that is there, put again
-pub put_again : {K X : Type 0} {R : K → K → Ordering} → IsTotalOrder R → (k : K) (es : List (K × X)) (w : X) → IsStrictlySortedBy R (keys_of es) → lookup (is_at (R k)) es ≡ Some w → insert_entry R es k w ≡ es
-put_again {R = R} o k [] w s e = absurd cc
-put_again {R = R} o k (d ∷ es) w s e = by_order (R k d.0) refl (put_again o k es w (sorted_tail R d.0 (keys_of es) s))
-  where
-    by_order : (r : Ordering) → R k d.0 ≡ r → (lookup (is_at (R k)) es ≡ Some w → insert_entry R es k w ≡ es) → insert_entry R (d ∷ es) k w ≡ d ∷ es
-    by_order Less p rest =
-        let none : lookup (is_at (R k)) (d ∷ es) ≡ None = lookup_at_gap o k (d ∷ es) 0 s (λ j x lt. absurd (omega (arith, lt))) (λ x here. ap (λ z. R k (unwrap_or z x).0) (sym here) ∙ p) in
-        absurd cc
-    by_order Equal p rest =
-        let same : d.1 ≡ w = ap (λ u. unwrap_or u d.1) (sym (cond-true (is_at (R k) d.0) (Some d.1) (lookup (is_at (R k)) es) (ap is_eq p)) ∙ e) in
-        ap (λ r. match_ordering r ((k, w) ∷ d ∷ es) ((d.0, w) ∷ es) (d ∷ insert_entry R es k w)) p ∙ ap (λ x. (d.0, x) ∷ es) (sym same)
-    by_order Greater p rest =
-        ap (λ r. match_ordering r ((k, w) ∷ d ∷ es) ((d.0, w) ∷ es) (d ∷ insert_entry R es k w)) p
-        ∙ ap (λ xs. d ∷ xs) (rest (sym (cond-false (is_at (R k) d.0) (Some d.1) (lookup (is_at (R k)) es) (ap is_eq p)) ∙ e))
+at_told : (o q : ObjectId) → is_at (object_cmp o) q ≡ true → o ≡ q
+at_told o q t = object_cmp_exact o q (equal_left (object_cmp o q) t)
 
 -- ---- one more operation
 
-module _ (h : List Op) (valid : IsValid h) (a : Op) (in_range : IsInRange a) (accepted : IsAccepted h a) where
-  abbrev new : List Op
-  new = h ++ a ∷ []
+module _ (h : List Op) (a : Op) where
+  abbrev longer : List Op
+  longer = h ++ a ∷ []
 
-  within : (k : Subject) (i : ℕ) → Contains (positions_about h k (length h)) i → i < length h
-  within k i m = ((Contains-positions_about h k (length h) i).0 m).0
+  -- the state of an object that the operation is not on
+  stands_kept : (q : ObjectId) → object_of a ≢ q → (r : Option ObjectState) → Stands h q r → Stands longer q r
+  stands_kept q off (Some t) s = state_kept h q t s a (λ v e. off (ap (changed_object a.id) e))
+  stands_kept q off None s = λ b i. elim (Contains-push_cases h a b i) [ inl j ↦ s b j | inr e ↦ subst (λ (z : Op). object_of z ≢ q) e off ]
 
-  about : (k : Subject) (i : ℕ) → Contains (positions_about h k (length h)) i → is_about k (slice_get h i) ≡ true
-  about k i m = ((Contains-positions_about h k (length h) i).0 m).1
+  -- the operation's object has the new state, and the rest stays
+  pub stands_after : (t u : List (ObjectId × ObjectState)) (o : ObjectId) (w : ObjectState) → StandsFor h t → object_of a ≡ o → IsStateOf longer o w →
+      ((q : ObjectId) → state_of u q ≡ cond (is_at (object_cmp o) q) (Some w) (state_of t q)) → StandsFor longer u
+  stands_after t u o w stands on new puts q = elim (cases_Bool (is_at (object_cmp o) q)) [
+    | inl y ↦
+        let here : state_of u q ≡ Some w = puts q ∙ cond-true (is_at (object_cmp o) q) (Some w) (state_of t q) y in
+        rw here (subst (λ z. IsStateOf longer z w) (at_told o q y) new)
+    | inr n ↦
+        let here : state_of u q ≡ state_of t q = puts q ∙ cond-false (is_at (object_cmp o) q) (Some w) (state_of t q) n in
+        let off : object_of a ≢ q = λ e.
+        let same : o ≡ q = sym on ∙ e in
+        let itself : is_at (object_cmp o) o ≡ true = ap is_eq (tied_itself object_cmp_total o) in
+        let there : is_at (object_cmp o) q ≡ true = subst (λ z. is_at (object_cmp o) z ≡ true) same itself in
+        absurd cc in
+        rw here (stands_kept q off (state_of t q) (stands q))
+  ]
 
-  all_about : (k : Subject) (i : ℕ) → is_about k (slice_get h i) ≡ true → Contains (positions_about h k (length h)) i
-  all_about k i y = let w = about_op k (slice_get h i) y in (Contains-positions_about h k (length h) i).1 (slice_get_within h i w.0 w.1, y)
+-- ---- components by position
 
-  -- the state of a's subject, or nothing, is right
-  or_nothing : (us : List ℕ) (r : Option SubjectState) → Stands h us r → IsStateOf h us (unwrap_or r nothing)
-  or_nothing us (Some t) s = s
-  or_nothing us None s = subst (λ vs. IsStateOf h vs nothing) (sym s) (first_state h)
-
-  kept : (us : List ℕ) → ((i : ℕ) → Contains us i → i < length h) → (r : Option SubjectState) → Stands h us r → Stands new us r
-  kept us f (Some t) s = state_kept h a us f t s
-  kept us f None s = s
-
-  -- what the table has for a's subject is with a, and its summary tells of the last part; the rest stays
-  pub record Adds (t s : List (Subject × SubjectState)) : Type 0 where
-    pub notes : NotesState
-    pub told : AreNotes new (with_op new a (length h) notes (unwrap_or (state_of t (subject_of a)) nothing)).parts notes
-    pub puts : (q : Subject) → state_of s q ≡ cond (is_at (subject_cmp (subject_of a)) q) (Some (with_op new a (length h) notes (unwrap_or (state_of t (subject_of a)) nothing))) (state_of t q)
-
-  pub stands_after : (t s : List (Subject × SubjectState)) → StandsFor h t → Adds t s → StandsFor new s
-  stands_after t s stands adds q =
-      let us = positions_about h q (length h) in
-      let k = subject_of a in
-      elim (cases_Bool (is_at (subject_cmp k) q)) [
-        | inl y ↦
-            let same : k ≡ q = at_told k q y in
-            let own : Stands h us (state_of t k) = subst (λ p. Stands h us (state_of t p)) (sym same) (stands q) in
-            let own_about : (i : ℕ) → Contains us i → is_about k (slice_get h i) ≡ true = subst (λ p. (i : ℕ) → Contains us i → is_about p (slice_get h i) ≡ true) (sym same) (about q) in
-            let more = state_more h a us (within q) (unwrap_or (state_of t k) nothing) (or_nothing us (state_of t k) own) valid in_range accepted own_about adds.notes adds.told in
-            let positions = positions_with_last h a q (about_to q a same) in
-            let here : state_of s q ≡ Some (with_op new a (length h) adds.notes (unwrap_or (state_of t k) nothing)) =
-            adds.puts q ∙ cond-true (is_at (subject_cmp k) q) (Some (with_op new a (length h) adds.notes (unwrap_or (state_of t k) nothing))) (state_of t q) y in
-            rw (positions, here) more
-        | inr n ↦
-            let off : is_about q (Some a) ≡ false = elim (cases_Bool (is_about q (Some a))) [
-              | inl m ↦ let same : k ≡ q = about_from q a m in let y : is_at (subject_cmp k) q ≡ true = subst (λ p. is_at (subject_cmp k) p ≡ true) same (at_itself k) in absurd cc
-              | inr m ↦ m
-            ] in
-            let positions = positions_without_last h a q off in
-            let here : state_of s q ≡ state_of t q = adds.puts q ∙ cond-false (is_at (subject_cmp k) q) (Some (with_op new a (length h) adds.notes (unwrap_or (state_of t k) nothing))) (state_of t q) n in
-            rw (positions, here) (kept us (within q) (state_of t q) (stands q))
+-- an operation stands at one position of a valid history
+one_position : (h : List Op) → IsValid h → (i j : ℕ) (b : Op) → slice_get h i ≡ Some b → slice_get h j ≡ Some b → i ≡ j
+one_position h valid i j b p q =
+    let l = slice_get_within h i b p in
+    let m = slice_get_within h j b q in
+    let x = get_or_from_slice_get h i b b p in
+    let y = get_or_from_slice_get h j b b q in
+    elim (cases_lt i j) [
+      | inl k ↦ absurd (valid.distinct i j b k m (ap (λ (z : Op). z.id) (x ∙ sym y)))
+      | inr k ↦ elim (cases_lt j i) [
+        | inl n ↦ absurd (valid.distinct j i b n l (ap (λ (z : Op). z.id) (y ∙ sym x)))
+        | inr n ↦ omega (arith, k, n)
       ]
+    ]
 
-  -- by what stands in its position
-  pub adds_from : (t s : List (Subject × SubjectState)) (k : Subject) (r w : SubjectState) (g : List Op) (n : ℕ) → k ≡ subject_of a → unwrap_or (state_of t k) nothing ≡ r → g ≡ new → n ≡ length h →
-      w ≡ with_op g a n w.notes r → AreNotes g w.parts w.notes → ((q : Subject) → state_of s q ≡ cond (is_at (subject_cmp k) q) (Some w) (state_of t q)) → Adds t s
-  adds_from t s k r w g n same was long last made told f =
-      let m = w.notes in
-      let old : r ≡ unwrap_or (state_of t (subject_of a)) nothing = sym was ∙ ap (λ o. unwrap_or (state_of t o) nothing) same in
-      let one : w ≡ with_op new a (length h) m (unwrap_or (state_of t (subject_of a)) nothing) =
-      made ∙ (ap (λ z. with_op z a n m r) long ∙ (ap (λ z. with_op new a z m r) last ∙ ap (λ (z : SubjectState). with_op new a (length h) m z) old)) in
-      record {
-        notes = m;
-        told = subst (λ (z : SubjectState). AreNotes new z.parts m) one (subst (λ z. AreNotes z w.parts m) long told);
-        puts = λ q. subst (λ o. state_of s q ≡ cond (is_at (subject_cmp o) q) (Some w) (state_of t q)) same (f q)
-            ∙ ap (λ (z : SubjectState). cond (is_at (subject_cmp (subject_of a)) q) (Some z) (state_of t q)) one;
-      }
+module _ (h : List Op) (o : ObjectId) where
+  pub none_on : ((a : Op) → Contains h a → object_of a ≢ o) → AreComponentsOn h o no_components
+  none_on none = record {
+    components = first_parts (conflict_at h) (conflict_at_test h);
+    all = λ i. (
+      λ j. absurd (not_Contains-nil i j),
+      λ j. let w = on_op o (slice_get h i) ((all_positions h o i).0 j) in absurd (none w.0 (contained_at h i w.0 w.1) w.2),
+    );
+  }
 
-  -- the next operation finds the parts of its subject
-  pub next_from : (t : List (Subject × SubjectState)) → StandsFor h t → (k : Subject) (r : SubjectState) (g : List Op) (n : ℕ) → k ≡ subject_of a → unwrap_or (state_of t k) nothing ≡ r → g ≡ new → n ≡ length h → IsNextState g a n r
-  next_from t stands k r g n same was long last =
-      let o = subject_of a in
-      let us = positions_about h o (length h) in
-      let old : unwrap_or (state_of t o) nothing ≡ r = ap (λ p. unwrap_or (state_of t p) nothing) (sym same) ∙ was in
-      let state : IsStateOf h us r = subst (IsStateOf h us) old (or_nothing us (state_of t o) (stands o)) in
-      record {
-        next = record {
-          next = record {
-            history = h;
-            longer = long;
-            position = last;
-            valid = valid;
-            in_range = in_range;
-            accepted = accepted;
-            parts = state.parts;
-            positions = λ i. (λ m. about o i ((state.positions i).0 m), λ y. (state.positions i).1 (all_about o i y));
-          };
-          notes = state.notes;
-        };
-        tails = tails_alike h us (whole r.parts).all (λ i. ((state.positions i).1, (state.positions i).0)) r.tails state.tails;
-      }
+  -- what is of a component stands in the history
+  pub part_below : (s : ComponentsState) → AreComponentsOn h o s → (p : ComponentState) → Contains s.parts p → (i : ℕ) → Contains p.all i → i < length h
+  part_below s on p inside i j =
+      let w = (on.all i).0 ((all_of_fold (conflict_at h) (alone s.free) s.parts i).1 (inr (p, inside, j))) in
+      ((Contains-positions_below h o (length h) i).0 w).0
 
--- two facts of one success
-pub both_ok : {T E : Type 0} (X Y : Type 0) (r : Result T E) → OnOk r X → OnOk r Y → OnOk r (X × Y)
-both_ok X Y (Ok t) x y = (x, y)
-both_ok X Y (Err e) x y = tt
+  module _ (valid : IsValid h) (t : ObjectState) (s : IsStateOf h o t) where
+    abbrev f : ℕ → ℕ
+    f = position_in t
+
+    pub found : AreComponentsOn h o (components_at f t.components)
+    found = record {
+      components = components_image f (number_conflict h t) (conflict_at h) (numbers_test h t) (conflict_at_test h) t.components s.components
+          (λ i j a b e. one_number h o t s i j a b e) (λ i j a b. refl);
+      all = λ i. (
+        λ j. let w = (image i).0 j in (all_positions h o i).1 (subst (λ z. is_on o (slice_get h z) ≡ true) (sym w.2) (on_it w.0 w.1)),
+        λ j. (image i).1 (numbered i ((all_positions h o i).0 j)),
+      );
+    }
+      where
+        image : (i : ℕ) → Contains (whole (components_at f t.components)).all i ↔ Made f (whole t.components).all i
+        image i = whole_image f (number_conflict h t) (conflict_at h) (numbers_test h t) (conflict_at_test h) t.components s.components
+            (λ i j a b e. one_number h o t s i j a b e) (λ i j a b. refl) i
+
+        stands_on : (i : ℕ) (b : Op) → slice_get h i ≡ Some b → object_of b ≡ o → is_on o (slice_get h i) ≡ true
+        stands_on i b at on = subst (λ r. is_on o r ≡ true) (sym at) (on_to o b on)
+
+        on_it : (n : ℕ) → Contains (whole t.components).all n → is_on o (slice_get h (f n)) ≡ true
+        on_it n j = elim ((s.exactly n).0 j) [
+          | inl e ↦ subst (λ z. is_on o (slice_get h (f z)) ≡ true) (sym e) (subst (λ z. is_on o (slice_get h z) ≡ true) (sym (maker_position h o t s.tells))
+              (stands_on t.maker s.maker.op s.maker.at (λ i. record { 0 = (made_object s.maker.op.id s.maker.op.change s.maker.kind s.maker.made ∙ s.maker.id) i })))
+          | inr w ↦
+              let k = setter_at h o t s n w.0 w.1 in
+              subst (λ z. is_on o (slice_get h z) ≡ true) (sym (number_at h o t s.tells n w.0 w.1)) (stands_on w.0 k.0 k.1 (ap (changed_object k.0.id) k.2.1))
+        ]
+
+        -- an operation of h on the object is its creation or a setter
+        of_op : (i : ℕ) (b : Op) → slice_get h i ≡ Some b → object_of b ≡ o → Made f (whole t.components).all i
+        of_op i b at on = by_change b.change refl
+          where
+            by_change : (d : Change) → b.change ≡ d → Made f (whole t.components).all i
+            by_change (Create start) e =
+                let id : b.id ≡ o.0 = ap (λ (x : Change). (changed_object b.id x).0) (sym e) ∙ ap (λ (x : ObjectId). x.0) on in
+                let one : b ≡ s.maker.op = same_op h valid b s.maker.op (contained_at h i b at) (contained_at h t.maker s.maker.op s.maker.at) (id ∙ sym s.maker.id) in
+                let same : i ≡ t.maker = one_position h valid i t.maker b at (s.maker.at ∙ ap (λ z. Some z) (sym one)) in
+                (maker_number, (s.exactly maker_number).1 (inl refl), same ∙ sym (maker_position h o t s.tells))
+            by_change (Set p v) e =
+                let named : p ≡ o = ap (changed_object b.id) (sym e) ∙ on in
+                let k = s.tells.all i b v at (subst (λ z. b.change ≡ Set z v) named e) in
+                (k.0, (s.exactly k.0).1 (inr (i, k.1)), sym (number_at h o t s.tells k.0 i k.1))
+
+        numbered : (i : ℕ) → is_on o (slice_get h i) ≡ true → Made f (whole t.components).all i
+        numbered i y = let w = on_op o (slice_get h i) y in of_op i w.0 w.1 w.2
+
+-- ---- what a look-up finds
+
+-- the object that the table has no state of
+pub absent : (h : List Op) (o : ObjectId) (r : Option ObjectState) → Stands h o r → r ≡ None → (a : Op) → Contains h a → object_of a ≢ o
+absent h o r s e = subst (Stands h o) e s
+
+pub there : (h : List Op) (o : ObjectId) (r : Option ObjectState) (t : ObjectState) → Stands h o r → r ≡ Some t → IsStateOf h o t
+there h o r t s e = subst (Stands h o) e s
+
+-- ---- the next operation
+
+module _ (h : List Op) (valid : IsValid h) (a : Op) (in_range : IsInRange a) (accepted : IsAccepted h a) where
+  -- no operation changes an object before it is created
+  pub none_before : (o : ObjectId) → o.0 ≡ a.id → (q : ℕ) (b : Op) (v : Value) → slice_get h q ≡ Some b → b.change ≢ Set o v
+  none_before o id q b v at e =
+      let inside = contained_at h q b at in
+      let suited : IsSuited h b (Set o v) = subst (IsSuited h b) e (valid.suited b inside) in
+      let maker = suited.known in
+      fresh h valid a in_range accepted maker.maker maker.contained (maker.id ∙ id)
+
+  -- a changed object has an operation before
+  pub some_before : (o : ObjectId) (v : Value) → a.change ≡ Set o v → ((b : Op) → Contains h b → object_of b ≢ o) → ⊥
+  some_before o v e none =
+      let suited : IsSuited h a (Set o v) = subst (IsSuited h a) e accepted.suited in
+      let maker = suited.known in
+      none maker.maker maker.contained (λ i. record { 0 = (made_object maker.maker.id maker.maker.change suited.kind maker.kind ∙ maker.id) i })

@@ -1,147 +1,324 @@
--- The state of an object after one more operation, on it or on another one.
-use Rattle.std.proofs.Common.{◌≡◌, ℕ, ◌<◌, Bool, true, false, List, [], ◌∷◌, ◌++◌, length, inl, inr, refl, subst, sym, ◌∙◌}
-use Rattle.std.specs.Prelude.{◌↔◌, Contains, Some, slice_get}
-use Rattle.std.proofs.lemmas.Bool.{cases_Bool}
-use Rattle.std.proofs.lemmas.List.Elements.{Contains-append_left, Contains-push, Contains-push_cases}
+-- The state of an object, when one operation comes: made, kept or grown.
+use Rattle.std.proofs.Common.{◌≡◌, ◌≢◌, ℕ, zero, suc, ◌+◌, ◌-◌, ◌*◌, ◌<◌, ◌≤◌, Bool, true, false, List, [], ◌∷◌, ◌++◌, get_or, length, inl, inr, refl, subst, sym, ap, ◌∙◌, arith}
+use Rattle.std.specs.Prelude.{◌⊎◌, ◌↔◌, Contains, IfSome, Option, Some, None, option_map, slice_get, unwrap_or}
+use Rattle.std.specs.Ordering.{nat_cmp}
+use Rattle.std.proofs.lemmas.Bool.{cases_lt}
+use Rattle.std.proofs.lemmas.Cmp.{nat_cmp_total}
+use Rattle.std.proofs.lemmas.Option.{slice_get_within}
 use Rattle.gf_ops.specs.declared.op.Op.{Op}
-use Rattle.gf_ops.specs.declared.op.OpId.{OpId}
 use Rattle.gf_ops.specs.declared.op.ObjectId.{ObjectId}
+use Rattle.gf_ops.specs.declared.change.Attr.{Attr}
 use Rattle.gf_ops.specs.declared.change.Change.{Change}
 use Rattle.gf_ops.specs.declared.change.Change.TheVariants.{Create, Set}
 use Rattle.gf_ops.specs.declared.change.Value.{Value}
 use Rattle.gf_ops.specs.Accepted.{IsAccepted}
-use Rattle.gf_ops.specs.Attribute.{object_of}
+use Rattle.gf_ops.specs.Attribute.{Kind, attribute_of, made_kind, object_of}
+use Rattle.gf_ops.specs.Conflict.{Conflict}
+use Rattle.gf_ops.specs.KnownObject.{IsSuited}
 use Rattle.gf_ops.specs.Limits.{IsInRange}
+use Rattle.gf_ops.specs.OperationOrder.{Precedes}
 use Rattle.gf_ops.specs.ValidHistory.{IsValid}
-use Rattle.gf_ops.proofs.ListLemmas.{not_Contains-nil}
-use Rattle.gf_groups.specs.Growing.{conflict_at, conflicts_in}
-use Rattle.gf_groups.specs.GroupedPositions.{is_on}
-use Rattle.gf_maximal.proofs.ListLemmas.{list_any_true}
+use Rattle.gf_ops.proofs.ListLemmas.{Contains-cons_cases, Contains-cons_head, not_Contains-nil}
+use Rattle.gf_ops.proofs.ValidityLemmas.{same_op}
+use Rattle.gf_maximal.proofs.LargestLemmas.{IsConflict}
+use Rattle.gf_maximal.proofs.RisingLemmas.{rising_cons, rising_nil}
+use Rattle.gf_components.specs.Components.{ComponentsState, after, no_components, whole, with_free}
+use Rattle.gf_components.specs.Separate.{AreComponents, ComesTo}
+use Rattle.gf_components.proofs.AgreeLemmas.{components_agree}
+use Rattle.gf_components.proofs.ComponentLemmas.{components_after, first_parts}
+use Rattle.gf_groups.specs.Growing.{both_conflict, conflict_at}
+use Rattle.gf_groups.proofs.OnPositionLemmas.{conflict_from, conflict_with, contained_at}
 use Rattle.gf_groups.proofs.TableLemmas.{conflict_at_test}
-use Rattle.gf_parts.specs.Parted.{AreParts}
-use Rattle.gf_parts.specs.Parts.{PartsState, whole, after}
-use Rattle.gf_parts.proofs.PartsLemmas.{first_parts, parts_after, all_after}
-use Rattle.gf_notes.proofs.CalmLemmas.{right_step}
-use Rattle.gf_table.specs.SubjectState.{SubjectState, nothing, with_change, with_op}
-use Rattle.gf_tails.specs.Giving.{HasSetter}
-use Rattle.gf_tails.specs.Tails.{AreTails}
-use Rattle.gf_notes.specs.Next.{Gives}
-use Rattle.gf_table.specs.Standing.{IsStateOf, IsNextState}
-use Rattle.gf_tails.specs.Subjects.{subject_of, is_about}
-use Rattle.gf_notes.specs.Notes.{NotesState, AreNotes}
-use Rattle.gf_tails.specs.Tails.{hits_one}
-use Rattle.gf_tails.proofs.KeptTailsLemmas.{tails_kept}
-use Rattle.gf_tails.proofs.LongerLemmas.{got_last}
-use Rattle.gf_tails.proofs.NotedLemmas.{tails_noted}
-use Rattle.gf_notes.proofs.LongerPartsLemmas.{parts_longer}
-use Rattle.gf_notes.proofs.NotesLemmas.{notes_longer}
-use Rattle.gf_tails.proofs.PutTailLemmas.{none_once}
-use Rattle.gf_tails.proofs.GivenLemmas.{made_none, one_op}
-use Rattle.gf_tails.proofs.QuickLemmas.{quick}
-use Rattle.gf_tails.proofs.SubjectLemmas.{about_on}
+use Rattle.gf_rivals.specs.declared.chain.Setter.{Setter}
+use Rattle.gf_rivals.specs.declared.fingerprint.Fingerprint.{Fingerprint}
+use Rattle.gf_rivals.specs.Fingerprints.{fingerprint_of}
+use Rattle.gf_rivals.specs.Indexes.{IsIndex, PutsNumber}
+use Rattle.gf_rivals.specs.Setters.{block}
+use Rattle.gf_ops.specs.declared.op.Clock.{Clock}
+use Rattle.gf_rivals.specs.Chains.{IsUnknown, chain_of, no_chains, position_of, setters, with_setter}
+use Rattle.gf_rivals.specs.Rivals.{AreRivals, IsNumber, IsSetter, Tells}
+use Rattle.gf_rivals.specs.Rivals.{IsConflict as ConflictsAt}
+use Rattle.gf_rivals.proofs.NumberLemmas.{number_below, number_from, position_is, position_none}
+use Rattle.gf_rivals.proofs.NumberLemmas as numbers
+use Rattle.gf_rivals.proofs.RivalLemmas.{rivals_conflict}
+use Rattle.gf_rivals.proofs.TellsLemmas.{behind_all, empty_tells, index_other, index_setter, last_number, number_cases, numbered, tells_other, tells_setter}
+use Rattle.gf_table.specs.ObjectState.{ObjectState, made, maker_number, number_conflict, position_in}
+use Rattle.gf_table.specs.Standing.{IsMaker, IsStateOf}
+use Rattle.gf_table.proofs.LongerLemmas.{got_before, got_cases, got_last, same_before, same_conflict}
 
--- ---- one more operation
+-- numbers conflict as what stands at their positions
+pub numbers_test : (h : List Op) (t : ObjectState) → IsConflict (number_conflict h t)
+numbers_test h t =
+    let test = conflict_at_test h in
+    record { symmetric = λ i j. test.symmetric (position_in t i) (position_in t j); alone = λ i. test.alone (position_in t i) }
 
--- us are positions of h
-module _ (h : List Op) (a : Op) (us : List ℕ) (within : (i : ℕ) → Contains us i → i < length h) (t : SubjectState) (state : IsStateOf h us t) where
-  abbrev c : ℕ → ℕ → Bool
-  c = conflict_at (h ++ a ∷ [])
+-- what holds of what there is, follows for it
+pub if_some : {X : Type 0} {P Q : X → Type 0} (r : Option X) → ((x : X) → P x → Q x) → IfSome r P → IfSome r Q
+if_some (Some x) f p = f x p
+if_some None f p = tt
 
-  below : (i : ℕ) → Contains (whole t.parts).all i → i < length h
-  below i m = within i ((state.positions i).0 m)
+-- the creation stands in no chain
+pub maker_position : (h : List Op) (o : ObjectId) (t : ObjectState) → Tells h o t.chains → position_in t maker_number ≡ t.maker
+maker_position h o t tells = ap (λ r. unwrap_or r t.maker) (position_none h o t.chains tells maker_number (λ q k. let l = number_below h o t.chains tells maker_number q k in omega (arith, l)))
 
-  still_parts : AreParts c t.parts
-  still_parts = parts_longer h a t.parts below state.parts
+-- a number stands for its setter's position
+pub number_at : (h : List Op) (o : ObjectId) (t : ObjectState) → Tells h o t.chains → (n q : ℕ) → IsNumber t.chains n q → position_in t n ≡ q
+number_at h o t tells n q k = ap (λ r. unwrap_or r t.maker) (position_is h o t.chains tells n q k)
 
-  -- it stays where the operation is on another object
-  pub state_kept : IsStateOf (h ++ a ∷ []) us t
-  state_kept = record { parts = still_parts; positions = state.positions; tails = tails_kept h a us within t.tails state.tails; notes = notes_longer h a t.parts below state.parts t.notes state.notes }
+module _ (h : List Op) (o : ObjectId) (t : ObjectState) (s : IsStateOf h o t) where
+  pub setter_at : (n q : ℕ) → IsNumber t.chains n q → (op : Op) × (slice_get h q ≡ Some op) × ((v : Value) × (op.change ≡ Set o v))
+  setter_at n q k =
+      let i = s.tells.each k.attribute k.site k.place k.setter k.within k.at in
+      (i.op, subst (λ z. slice_get h z ≡ Some i.op) k.position i.at, (i.value, i.change))
 
-  parts_more : AreParts c (after c (length h) t.parts)
-  parts_more = parts_after c (conflict_at_test (h ++ a ∷ [])) t.parts still_parts (length h) below
+  number_within : (n q : ℕ) → IsNumber t.chains n q → q < length h
+  number_within n q k = numbers.number_within h o t.chains s.tells n q k
 
-  positions_more : (i : ℕ) → Contains (whole (after c (length h) t.parts)).all i ↔ Contains (us ++ length h ∷ []) i
-  positions_more i =
-      let w = all_after c (conflict_at_test (h ++ a ∷ [])) t.parts still_parts (length h) below i in (
-        λ m. elim (w.0 m) [ inl k ↦ Contains-append_left us (length h ∷ []) i ((state.positions i).0 k) | inr e ↦ subst (Contains (us ++ length h ∷ [])) (sym e) (Contains-push us (length h)) ],
-        λ m. w.1 (elim (Contains-push_cases us (length h) i m) [ inl k ↦ inl ((state.positions i).1 k) | inr e ↦ inr (sym e) ]),
-      )
+  maker_within : t.maker < length h
+  maker_within = slice_get_within h t.maker s.maker.op s.maker.at
 
-  -- with the right parts and tails it is the state with a
-  made_state : (s : SubjectState) → s.parts ≡ after c (length h) t.parts → AreTails (h ++ a ∷ []) (us ++ length h ∷ []) s.tails → AreNotes (h ++ a ∷ []) s.parts s.notes → IsStateOf (h ++ a ∷ []) (us ++ length h ∷ []) s
-  made_state s e tails told = record {
-    parts = subst (AreParts c) (sym e) parts_more;
-    positions = subst (λ (p : PartsState). (i : ℕ) → Contains (whole p).all i ↔ Contains (us ++ length h ∷ []) i) (sym e) positions_more;
-    tails = tails;
-    notes = told;
-  }
+  -- each operation of the object stands in the history
+  pub position_within : (n : ℕ) → Contains (whole t.components).all n → position_in t n < length h
+  position_within n i = elim ((s.exactly n).0 i) [
+    | inl e ↦ subst (λ z. position_in t z < length h) (sym e) (subst (λ z. z < length h) (sym (maker_position h o t s.tells)) maker_within)
+    | inr w ↦ subst (λ z. z < length h) (sym (number_at h o t s.tells n w.0 w.1)) (number_within n w.0 w.1)
+  ]
 
-  module _ (valid : IsValid h) (in_range : IsInRange a) (accepted : IsAccepted h a) (about : (i : ℕ) → Contains us i → is_about (subject_of a) (slice_get h i) ≡ true) (m : NotesState) where
-    on : (i : ℕ) → Contains us i → is_on (object_of a) (slice_get h i) ≡ true
-    on i k = about_on (subject_of a) (slice_get h i) (about i k)
+  -- no number leads out of the history
+  pub all_within : (n : ℕ) → position_in t n < length h
+  all_within n = by_case (position_of t.chains n) refl
+    where
+      by_case : (r : Option ℕ) → position_of t.chains n ≡ r → unwrap_or r t.maker < length h
+      by_case (Some q) e = number_within n q (number_from h o t.chains s.tells n q e)
+      by_case None e = maker_within
 
-    no_clash : ((i : ℕ) → ¬ (Contains us i)) → conflicts_in c (length h) us ≡ false
-    no_clash none = elim (cases_Bool (conflicts_in c (length h) us)) [
-      | inl y ↦ let w = list_any_true (c (length h)) us y in absurd (none w.0 w.1)
-      | inr n ↦ n
+  not_set : (q : ℕ) (n : ℕ) → IsNumber t.chains n q → t.maker ≢ q
+  not_set q n k e =
+      let w = setter_at n q k in
+      let one : s.maker.op ≡ w.0 = let x = s.maker.at in let y = w.1 in let z : slice_get h t.maker ≡ Some w.0 = subst (λ p. slice_get h p ≡ Some w.0) (sym e) y in cc in
+      let made = s.maker.made in
+      let set : made_kind s.maker.op.change ≡ None = ap made_kind (ap (λ (z : Op). z.change) one ∙ w.2.1) in
+      absurd cc
+
+  -- two numbers of one position are one
+  pub one_number : (i j : ℕ) → Contains (whole t.components).all i → Contains (whole t.components).all j → position_in t i ≡ position_in t j → i ≡ j
+  one_number i j a b e = elim ((s.exactly i).0 a) [
+    | inl x ↦ elim ((s.exactly j).0 b) [
+      | inl y ↦ x ∙ sym y
+      | inr w ↦ absurd (not_set w.0 j w.1 (sym (maker_position h o t s.tells) ∙ (ap (position_in t) (sym x) ∙ (e ∙ number_at h o t s.tells j w.0 w.1))))
     ]
+    | inr v ↦ elim ((s.exactly j).0 b) [
+      | inl y ↦ absurd (not_set v.0 i v.1 (sym (maker_position h o t s.tells) ∙ (ap (position_in t) (sym y) ∙ (sym e ∙ number_at h o t s.tells i v.0 v.1))))
+      | inr w ↦
+          let q : v.0 ≡ w.0 = sym (number_at h o t s.tells i v.0 v.1) ∙ (e ∙ number_at h o t s.tells j w.0 w.1) in
+          numbers.one_number h o t.chains s.tells i j w.0 (subst (IsNumber t.chains i) q v.1) w.1
+    ]
+  ]
 
-    -- a new object has no setter
-    first_tails : (start : _) → a.change ≡ Create start → AreTails (h ++ a ∷ []) (us ++ length h ∷ []) t.tails
-    first_tails start e = record {
-      each = λ d m. absurd (never_before d.last (state.tails.each d m).value (state.tails.each d m).last);
-      some = λ i v s. absurd (never i v s);
-      once = state.tails.once;
+  module _ (a : Op) where
+    abbrev longer : List Op
+    longer = h ++ a ∷ []
+
+    maker_still : IsMaker longer o t.maker
+    maker_still = record { op = s.maker.op; at = got_before h a t.maker s.maker.op s.maker.at; id = s.maker.id; kind = s.maker.kind; made = s.maker.made }
+
+    -- ANOTHER OPERATION, which does not set anything of the object
+    pub state_kept : ((v : Value) → a.change ≢ Set o v) → IsStateOf longer o t
+    state_kept n = record {
+      maker = maker_still;
+      tells = tells_other h o t.chains s.tells a n;
+      index = if_some t.index (λ ix. index_other h o t.chains s.tells a ix) s.index;
+      components = components_agree (number_conflict h t) (number_conflict longer t) t.components
+          (λ i j k l. same_conflict h a (position_in t i) (position_in t j) (position_within i k) (position_within j l)) s.components;
+      exactly = s.exactly;
     }
-      where
-        creates : (k : Change) (o : ObjectId) (v : Value) → k ≡ Create start → ¬ (k ≡ Set o v)
-        creates k o v x y = cc
 
-        none : (i : ℕ) → ¬ (Contains us i)
-        none = made_none h valid a in_range accepted us on start e
+    -- ONE MORE SETTER, whose rivals are d
+    module _ (valid : IsValid h) (in_range : IsInRange a) (accepted : IsAccepted h a) (v : Value) (change : a.change ≡ Set o v)
+        (d : List ℕ) (rivals : AreRivals h o t.chains v a.past d) where
+      abbrev site : ℕ
+      site = a.id.site - 1
 
-        never_before : (i : OpId) (v : Value) → ¬ (HasSetter h us i v)
-        never_before i v s = none s.position s.among
+      abbrev chains : List (List Setter)
+      chains = with_setter t.chains (attribute_of v) site (record { seq = a.id.seq; position = length h })
 
-        never : (i : OpId) (v : Value) → ¬ (HasSetter (h ++ a ∷ []) (us ++ length h ∷ []) i v)
-        never i v s = elim (Contains-push_cases us (length h) s.position s.among) [
-          | inl k ↦ none s.position k
-          | inr d ↦
-              let same : s.op ≡ a = one_op (slice_get (h ++ a ∷ []) s.position) s.op a s.at (subst (λ j. slice_get (h ++ a ∷ []) j ≡ Some a) d (got_last h a)) in
-              creates a.change s.object v e (subst (λ (z : Op). z.change ≡ Set s.object v) same s.change)
+      abbrev x : ℕ
+      x = chain_of (attribute_of v) site * block + length (setters t.chains (attribute_of v) site)
+
+      module _ (i : Option (List (Fingerprint × List ℕ))) (index : IfSome i (IsIndex longer chains)) where
+        abbrev pub grown : ObjectState
+        grown = record { chains = chains; index = i; components = after d x t.components; maker = t.maker }
+
+        tells : Tells longer o chains
+        tells = tells_setter h o t.chains s.tells a valid in_range accepted v change
+
+        cases : (n q : ℕ) → IsNumber chains n q → IsNumber t.chains n q ⊎ ((n ≡ x) × (q ≡ length h))
+        cases n q k = number_cases h o t.chains s.tells a valid in_range accepted v change n q k
+
+        new_number : IsNumber chains x (length h)
+        new_number = last_number h o t.chains s.tells a valid in_range accepted v change
+
+        old_number : (n q : ℕ) → IsNumber t.chains n q → IsNumber chains n q
+        old_number n q k = numbered h o t.chains s.tells a valid in_range accepted v change n q k
+
+        position_new : (n q : ℕ) → IsNumber chains n q → position_in grown n ≡ q
+        position_new n q k = number_at longer o grown tells n q k
+
+        at_last : position_in grown x ≡ length h
+        at_last = position_new x (length h) new_number
+
+        at_maker : position_in grown maker_number ≡ t.maker
+        at_maker = maker_position longer o grown tells
+
+        -- what was there stays where it was
+        as_before : (n : ℕ) → Contains (whole t.components).all n → position_in grown n ≡ position_in t n
+        as_before n i = elim ((s.exactly n).0 i) [
+          | inl e ↦ subst (λ z. position_in grown z ≡ position_in t z) (sym e) (at_maker ∙ sym (maker_position h o t s.tells))
+          | inr w ↦ position_new n w.0 (old_number n w.0 w.1) ∙ sym (number_at h o t s.tells n w.0 w.1)
         ]
 
-    by_change : (k : Change) → a.change ≡ k → AreNotes (h ++ a ∷ []) (with_change (h ++ a ∷ []) a k (length h) m t).parts m → IsStateOf (h ++ a ∷ []) (us ++ length h ∷ []) (with_change (h ++ a ∷ []) a k (length h) m t)
-    by_change (Create start) e told = made_state (with_change (h ++ a ∷ []) a (Create start) (length h) m t)
-        (right_step c t.parts us state.positions (length h) false (sym (no_clash (made_none h valid a in_range accepted us on start e))))
-        (first_tails start e) told
-    by_change (Set o v) e told = made_state (with_change (h ++ a ∷ []) a (Set o v) (length h) m t)
-        (right_step c t.parts us state.positions (length h) (hits_one (h ++ a ∷ []) v a.past t.tails) (quick h valid a in_range accepted us on o v e about t.tails state.tails))
-        (tails_noted h valid a in_range accepted us within o v e t.tails state.tails) told
+        before : AreComponents (number_conflict longer grown) t.components
+        before = components_agree (number_conflict h t) (number_conflict longer grown) t.components (λ i j k l.
+            same_conflict h a (position_in t i) (position_in t j) (position_within i k) (position_within j l)
+            ∙ (ap (λ z. conflict_at longer z (position_in t j)) (sym (as_before i k)) ∙ ap (conflict_at longer (position_in grown i)) (sym (as_before j l)))) s.components
 
-    -- THE STEP on its own object
-    pub state_more : AreNotes (h ++ a ∷ []) (with_op (h ++ a ∷ []) a (length h) m t).parts m → IsStateOf (h ++ a ∷ []) (us ++ length h ∷ []) (with_op (h ++ a ∷ []) a (length h) m t)
-    state_more = by_change a.change refl
+        -- its number is new
+        is_new : ¬ (Contains (whole t.components).all x)
+        is_new i = let l = position_within x i in let e = as_before x i in let f = at_last in omega (arith, l, e, f)
 
--- no position, nothing
-pub first_state : (h : List Op) → IsStateOf h [] nothing
-first_state h = record {
-  parts = first_parts (conflict_at h) (conflict_at_test h);
-  positions = λ i. (λ m. m, λ m. m);
-  tails = record {
-    each = λ e m. absurd (not_Contains-nil e m);
-    some = λ i v s. absurd (not_Contains-nil s.position s.among);
-    once = none_once;
-  };
-  notes = record { summary = tt; setters = tt };
-}
+        -- the creation does not conflict with it, since its site knew that
+        known_maker : (b : Op) → slice_get h t.maker ≡ Some b → Conflict a b → ⊥
+        known_maker b at k =
+            let suited : IsSuited h a (Set o v) = subst (IsSuited h a) change accepted.suited in
+            let knows = suited.known in
+            let mine : s.maker.op ≡ b = let y = s.maker.at in cc in
+            let id : b.id ≡ o.0 = subst (λ (z : Op). z.id ≡ o.0) mine s.maker.id in
+            let one : knows.maker ≡ b = same_op h valid knows.maker b knows.contained (contained_at h t.maker b at) (knows.id ∙ sym id) in
+            k.concurrent.not_after (subst (λ (z : Op). Precedes z a) one knows.before)
 
--- what the tails tell of the next operation, it conflicts with
-pub next_clash : (g : List Op) (a : Op) (n : ℕ) (t : SubjectState) → IsNextState g a n t → (v : Value) → Gives a v → hits_one g v a.past t.tails ≡ true → conflicts_in (conflict_at g) n (whole t.parts).all ≡ true
-next_clash g a n t before v gives hit =
-    let next = before.next.next in
-    let h = next.history in
-    let us = (whole t.parts).all in
-    let told = quick h next.valid a next.in_range next.accepted us (λ i m. about_on (subject_of a) (slice_get h i) ((next.positions i).0 m)) gives.0 v gives.1 (λ i m. (next.positions i).0 m) t.tails before.tails in
-    let there : conflicts_in (conflict_at (h ++ a ∷ [])) (length h) us ≡ true = sym told ∙ subst (λ z. hits_one z v a.past t.tails ≡ true) next.longer hit in
-    subst (λ z. conflicts_in (conflict_at z) n us ≡ true) (sym next.longer) (subst (λ k. conflicts_in (conflict_at (h ++ a ∷ [])) k us ≡ true) (sym next.position) there)
+        conflict_last : (n q : ℕ) → position_in grown n ≡ q → number_conflict longer grown x n ≡ both_conflict (Some a) (slice_get longer q)
+        conflict_last n q e = ap (λ z. both_conflict z (slice_get longer (position_in grown n))) (ap (slice_get longer) at_last ∙ got_last h a) ∙ ap (λ z. both_conflict (Some a) (slice_get longer z)) e
+
+        at_old : (q : ℕ) → q < length h → slice_get longer q ≡ slice_get h q
+        at_old q l = same_before h a q l
+
+        rivals_are : (n : ℕ) → Contains d n ↔ ConflictsAt h t.chains a n
+        rivals_are n = rivals_conflict h o t.chains s.tells valid a in_range accepted v change d rivals n
+
+        comes : ComesTo (number_conflict longer grown) t.components x d
+        comes = record {
+          fresh = is_new;
+          rivals = λ n. (
+            λ i.
+                let k = (rivals_are n).0 i in
+                let told = conflict_from (Some a) (slice_get longer k.position) a k.op refl (got_before h a k.position k.op k.at) k.conflict in
+                ((s.exactly n).1 (inr (k.position, k.number)), conflict_last n k.position (position_new n k.position (old_number n k.position k.number)) ∙ told),
+            λ w. elim ((s.exactly n).0 w.0) [
+              | inl e ↦
+                  let p : position_in grown n ≡ t.maker = ap (position_in grown) e ∙ at_maker in
+                  let k = conflict_with (Some a) (slice_get longer t.maker) a refl (sym (conflict_last n t.maker p) ∙ w.1) in
+                  absurd (known_maker k.0 (sym (at_old t.maker maker_within) ∙ k.1) k.2)
+              | inr m ↦
+                  let l = number_within n m.0 m.1 in
+                  let p = position_new n m.0 (old_number n m.0 m.1) in
+                  let k = conflict_with (Some a) (slice_get longer m.0) a refl (sym (conflict_last n m.0 p) ∙ w.1) in
+                  (rivals_are n).1 (record { position = m.0; op = k.0; number = m.1; at = sym (at_old m.0 l) ∙ k.1; conflict = k.2 })
+            ],
+          );
+        }
+
+        step : AreComponents (number_conflict longer grown) (after d x t.components) × ((n : ℕ) → Contains (whole (after d x t.components)).all n ↔ (Contains (whole t.components).all n ⊎ (n ≡ x)))
+        step = components_after (number_conflict longer grown) (numbers_test longer grown) t.components before x d comes
+
+        pub state_more : IsStateOf longer o grown
+        state_more = record {
+          maker = maker_still;
+          tells = tells;
+          index = index;
+          components = step.0;
+          exactly = λ n. (
+            λ i. elim ((step.1 n).0 i) [
+              | inl j ↦ elim ((s.exactly n).0 j) [ inl e ↦ inl e | inr w ↦ inr (w.0, old_number n w.0 w.1) ]
+              | inr e ↦ inr (length h, subst (λ z. IsNumber chains z (length h)) (sym e) new_number)
+            ],
+            λ w. (step.1 n).1 (elim w [
+              | inl e ↦ inl ((s.exactly n).1 (inl e))
+              | inr k ↦ elim (cases n k.0 k.1) [ inl j ↦ inl ((s.exactly n).1 (inr (k.0, j))) | inr e ↦ inr e.0 ]
+            ]),
+          );
+        }
+
+-- one more setter, by what the calls gave
+module _ (h : List Op) (o : ObjectId) (t : ObjectState) (s : IsStateOf h o t) (a : Op) (valid : IsValid h) (in_range : IsInRange a) (accepted : IsAccepted h a)
+    (v : Value) (change : a.change ≡ Set o v) (u : Attr) (own : u ≡ attribute_of v) where
+  abbrev place : ℕ
+  place = a.id.site - 1
+
+  pub behind : (i : ℕ) (e : Setter) → i < length (setters t.chains u place) → (get_or (setters t.chains u place) i e).seq < a.id.seq
+  behind = subst (λ z. (i : ℕ) (e : Setter) → i < length (setters t.chains z place) → (get_or (setters t.chains z place) i e).seq < a.id.seq) (sym own)
+      (behind_all h o t.chains s.tells a valid in_range accepted v change)
+
+  pub state_added : (d : List ℕ) → AreRivals h o t.chains v a.past d → (n p : ℕ) → n ≡ chain_of u place * block + length (setters t.chains u place) → p ≡ length h →
+      (cs : List (List Setter)) → cs ≡ with_setter t.chains u place (record { seq = a.id.seq; position = p }) → (k : ComponentsState) → k ≡ after d n t.components →
+      (i : Option (List (Fingerprint × List ℕ))) → IfSome i (λ new. (old : List (Fingerprint × List ℕ)) × IsIndex h t.chains old × PutsNumber old (fingerprint_of v) n new) →
+      IsStateOf (h ++ a ∷ []) o (record { chains = cs; index = i; components = k; maker = t.maker })
+  state_added d rivals n p number position cs pushed k added i index =
+      let chains : cs ≡ with_setter t.chains (attribute_of v) place (record { seq = a.id.seq; position = length h }) =
+      pushed ∙ (ap (λ z. with_setter t.chains z place (record { seq = a.id.seq; position = p })) own
+      ∙ ap (λ z. with_setter t.chains (attribute_of v) place (record { seq = a.id.seq; position = z })) position) in
+      let last : n ≡ chain_of (attribute_of v) place * block + length (setters t.chains (attribute_of v) place) = number ∙ ap (λ z. chain_of z place * block + length (setters t.chains z place)) own in
+      let components : k ≡ after d (chain_of (attribute_of v) place * block + length (setters t.chains (attribute_of v) place)) t.components = added ∙ ap (λ z. after d z t.components) last in
+      let tells_new = if_some i (λ new w. index_setter h o t.chains s.tells a valid in_range accepted v change w.0 new w.1 (subst (λ z. PutsNumber w.0 (fingerprint_of v) z new) last w.2)) index in
+      let whole_is : record { chains = cs; index = i; components = k; maker = t.maker } ≡ grown h o t s a valid in_range accepted v change d rivals i tells_new = λ j. record { chains = chains j; index = i; components = components j; maker = t.maker } in
+      subst (IsStateOf (h ++ a ∷ []) o) (sym whole_is) (state_more h o t s a valid in_range accepted v change d rivals i tells_new)
+
+-- A CREATION, of an object that no operation of h changes
+module _ (h : List Op) (a : Op) (o : ObjectId) (k : Kind) (id : a.id ≡ o.0) (is_made : made_kind a.change ≡ Some k)
+    (none : (q : ℕ) (b : Op) (v : Value) → slice_get h q ≡ Some b → b.change ≢ Set o v) where
+  abbrev new : ObjectState
+  new = made (length h)
+
+  no_number : (n q : ℕ) → ¬ (IsNumber no_chains n q)
+  no_number n q j = let w = (empty_tells o).each j.attribute j.site j.place j.setter j.within j.at in let e = w.at in absurd cc
+
+  not_a : (v : Value) → a.change ≢ Set o v
+  not_a v e = let n : made_kind a.change ≡ None = ap made_kind e in absurd cc
+
+  alone : (n : ℕ) → Contains new.components.free n → n ≡ maker_number
+  alone n i = elim (Contains-cons_cases maker_number [] n i) [ inl e ↦ e | inr j ↦ absurd (not_Contains-nil n j) ]
+
+  pub state_made : IsStateOf (h ++ a ∷ []) o new
+  state_made = record {
+    maker = record { op = a; at = got_last h a; id = id; kind = k; made = is_made };
+    tells = record {
+      each = λ t s p e l i. absurd (no_number (chain_of t s * block + p) e.position (record { attribute = t; site = s; within = l; place = p; setter = e; at = i; number = refl; position = refl }));
+      all = λ q b v e c. elim (got_cases h a q b e) [ inl i ↦ absurd (none q b v i c) | inr i ↦ absurd (not_a v (ap (λ (z : Op). z.change) i ∙ c)) ];
+      ordered = (empty_tells o).ordered;
+      count = (empty_tells o).count;
+    };
+    index = tt;
+    components = record {
+      rises = rising_cons nat_cmp nat_cmp_total maker_number [] (λ i d l. absurd (omega arith)) (rising_nil nat_cmp nat_cmp_total);
+      calm = λ i j e f.
+          let x = alone i e in let y = alone j f in
+          ap (λ z. number_conflict (h ++ a ∷ []) new z j) x ∙ (ap (number_conflict (h ++ a ∷ []) new maker_number) y ∙ (numbers_test (h ++ a ∷ []) new).alone maker_number);
+      parts = λ p i. absurd (not_Contains-nil p i);
+      loose = λ p i. absurd (not_Contains-nil p i);
+      apart = tt;
+    };
+    exactly = λ n. (λ i. inl (alone n i), λ w. elim w [ inl e ↦ subst (Contains (maker_number ∷ [])) (sym e) (Contains-cons_head maker_number []) | inr j ↦ absurd (no_number n j.0 j.1) ]);
+  }
+
+-- ---- the rivals of the next operation
+
+-- where no setter is unknown, there is no rival
+pub no_rivals : (h : List Op) (o : ObjectId) (cs : List (List Setter)) (v : Value) (past : Clock) (u : List ℕ) → u ≡ [] →
+    ((n : ℕ) → Contains u n ↔ IsUnknown cs (attribute_of v) past 8 n) → AreRivals h o cs v past u
+no_rivals h o cs v past u none f n = (
+  λ i. absurd (not_Contains-nil n (subst (λ z. Contains z n) none i)),
+  λ w. (f n).1 w.0,
+)
+
+-- an index that is there tells
+pub index_there : (h : List Op) (o : ObjectId) (t : ObjectState) → IsStateOf h o t → (ix : List (Fingerprint × List ℕ)) → t.index ≡ Some ix → IsIndex h t.chains ix
+index_there h o t s ix e = subst (λ r. IfSome r (IsIndex h t.chains)) e s.index

@@ -1,2 +1,3 @@
-pub mod SubjectState
+pub mod ObjectState
+pub mod ByPosition
 pub mod Standing

@@ -1,60 +1,80 @@
--- When a table stands for a history: for each subject it has the parts of the operations about it, the tails of their setters, and notes that tell of the parts.
-use Rattle.std.specs.Prelude.{◌≡◌, ◌≢◌, ◌↔◌, ℕ, List, [], AllPairs, Contains, length, Option, Some, None, option_map}
+-- When a table stands for a history: for each object it has the chains of its setters and the components of its operations.
+use Rattle.std.specs.Prelude.{◌≡◌, ◌≢◌, ◌↔◌, ◌⊎◌, ℕ, Bool, List, [], ◌∷◌, AllPairs, Contains, length, Option, Some, None}
+use Rattle.std.specs.Prelude.{IfSome, slice_get, unwrap_or}
 use Rattle.std.specs.BTreeMap.{is_at}
-use Rattle.std.specs.List.{fold, filter_map}
+use Rattle.std.specs.List.{fold}
 use Rattle.std.specs.Map.{lookup}
 use Rattle.gf_ops.specs.declared.op.Op.{Op}
 use Rattle.gf_ops.specs.declared.op.ObjectId.{ObjectId}
-use Rattle.gf_ops.specs.declared.change.Attr.{Attr}
+use Rattle.gf_ops.specs.declared.change.Change.TheVariants.{Set}
+use Rattle.gf_ops.specs.declared.change.Value.{Value}
+use Rattle.gf_ops.specs.Accepted.{IsAccepted}
+use Rattle.gf_ops.specs.Attribute.{Kind, made_kind, object_of}
+use Rattle.gf_ops.specs.Limits.{IsInRange}
+use Rattle.gf_ops.specs.ValidHistory.{IsValid}
 use Rattle.gf_groups.specs.declared.group.Group.{Group}
-use Rattle.gf_groups.specs.Growing.{conflict_at}
+use Rattle.gf_groups.specs.Growing.{conflict_at, groups_at}
+use Rattle.gf_groups.specs.GroupedPositions.{positions_below}
+use Rattle.gf_groups.specs.Parting.{object_cmp}
 use Rattle.gf_groups.specs.Versions.{IsVersionGroup}
-use Rattle.gf_parts.specs.Parted.{AreParts}
-use Rattle.gf_parts.specs.Parts.{PartsState, whole, no_parts, together}
-use Rattle.gf_tails.specs.declared.subject.Subject.{Subject}
-use Rattle.gf_tails.specs.Subjects.{kinds, subject_cmp, positions_about}
-use Rattle.gf_table.specs.SubjectState.{SubjectState}
-use Rattle.gf_notes.specs.Next.{IsNextOf}
-use Rattle.gf_notes.specs.Notes.{AreNotes}
-use Rattle.gf_tails.specs.Tails.{AreTails}
+use Rattle.gf_components.specs.Components.{ComponentState, ComponentsState, products, whole}
+use Rattle.gf_components.specs.Separate.{AreComponents}
+use Rattle.gf_rivals.specs.Indexes.{IsIndex}
+use Rattle.gf_rivals.specs.Rivals.{IsNumber, Tells}
+use Rattle.gf_table.specs.ObjectState.{ObjectState, maker_number, number_conflict}
 
--- the state is that of the operations of h at the positions us
-pub record IsStateOf (h : List Op) (us : List ℕ) (t : SubjectState) : Type 0 where
-  pub parts : AreParts (conflict_at h) t.parts
-  pub positions : (i : ℕ) → Contains (whole t.parts).all i ↔ Contains us i
-  pub tails : AreTails h us t.tails
-  pub notes : AreNotes h t.parts t.notes
+-- the operation of h at the position m made the object o
+pub record IsMaker (h : List Op) (o : ObjectId) (m : ℕ) : Type 0 where
+  pub op : Op
+  pub at : slice_get h m ≡ Some op
+  pub id : op.id ≡ o.0
+  pub kind : Kind
+  pub made : made_kind op.change ≡ Some kind
 
--- a comes at the position n, next behind a history that the state t is of
-pub record IsNextState (g : List Op) (a : Op) (n : ℕ) (t : SubjectState) : Type 0 where
-  pub next : IsNextOf g a n t.parts t.notes
-  pub tails : AreTails next.next.history (whole t.parts).all t.tails
+-- the state is that of the operations of h on the object o
+pub record IsStateOf (h : List Op) (o : ObjectId) (t : ObjectState) : Type 0 where
+  pub maker : IsMaker h o t.maker
+  pub tells : Tells h o t.chains
+  pub index : IfSome t.index (IsIndex h t.chains)
+  pub components : AreComponents (number_conflict h t) t.components
+  pub exactly : (n : ℕ) → Contains (whole t.components).all n ↔ ((n ≡ maker_number) ⊎ ((q : ℕ) × IsNumber t.chains n q))
 
--- the table's state of a subject, if it has one, is that of the positions us, and else there is no position
-abbrev pub Stands : List Op → List ℕ → Option SubjectState → Type 0
-Stands h us (Some t) = IsStateOf h us t
-Stands h us None = us ≡ []
+-- a comes next behind h, and gives the object of the state t the value v
+pub record IsNextOf (h : List Op) (a : Op) (v : Value) (t : ObjectState) : Type 0 where
+  pub valid : IsValid h
+  pub in_range : IsInRange a
+  pub accepted : IsAccepted h a
+  pub object : ObjectId
+  pub change : a.change ≡ Set object v
+  pub state : IsStateOf h object t
 
--- what the table has for the subject k
-abbrev pub state_of : List (Subject × SubjectState) → Subject → Option SubjectState
-state_of t k = lookup (is_at (subject_cmp k)) t
+-- the table's state of an object, if it has one, is that of its operations, and else there is none
+abbrev pub Stands : List Op → ObjectId → Option ObjectState → Type 0
+Stands h o (Some t) = IsStateOf h o t
+Stands h o None = (a : Op) → Contains h a → object_of a ≢ o
 
--- the table has for each subject the state of the operations of h about it
-abbrev pub StandsFor : List Op → List (Subject × SubjectState) → Type 0
-StandsFor h t = (k : Subject) → Stands h (positions_about h k (length h)) (state_of t k)
+-- what the table has for the object o
+abbrev pub state_of : List (ObjectId × ObjectState) → ObjectId → Option ObjectState
+state_of t o = lookup (is_at (object_cmp o)) t
 
--- the parts that the table has of one kind of operations on the object o
-abbrev pub parts_at : List (Subject × SubjectState) → ObjectId → Option Attr → Option PartsState
-parts_at t o k = option_map (λ (s : SubjectState). s.parts) (state_of t (record { object = o; attribute = k }))
+-- the table has for each object the state of the operations of h on it
+abbrev pub StandsFor : List Op → List (ObjectId × ObjectState) → Type 0
+StandsFor h t = (o : ObjectId) → Stands h o (state_of t o)
 
--- all parts that the table has for the object o
-abbrev pub parts_of : List (Subject × SubjectState) → ObjectId → PartsState
-parts_of t o = fold together no_parts (filter_map (parts_at t o) kinds)
+-- s are the components of the operations of h on the object o, by their positions
+pub record AreComponentsOn (h : List Op) (o : ObjectId) (s : ComponentsState) : Type 0 where
+  pub components : AreComponents (conflict_at h) s
+  pub all : (i : ℕ) → Contains (whole s).all i ↔ Contains (positions_below h o (length h)) i
 
--- s are the parts of the operations of h at the positions us
-pub record ArePartsOf (h : List Op) (us : List ℕ) (s : PartsState) : Type 0 where
-  pub parts : AreParts (conflict_at h) s
-  pub positions : (i : ℕ) → Contains (whole s).all i ↔ Contains us i
+-- c tells whether the operations at two positions conflict
+module _ (c : ℕ → ℕ → Bool) where
+  -- all largest compatible sets of the component
+  abbrev pub full : ComponentState → List (List ℕ)
+  full p = unwrap_or p.sets (groups_at c p.all)
+
+  -- what is free, with one set of each component
+  abbrev pub listed : ComponentsState → List (List ℕ)
+  listed s = fold (λ gs p. products gs (full p)) (s.free ∷ []) s.parts
 
 -- the groups are the versions of the object o of h, each once
 pub record AreAllOf (h : List Op) (o : ObjectId) (groups : List Group) : Type 0 where

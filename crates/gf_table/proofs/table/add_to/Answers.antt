@@ -1,78 +1,68 @@
-use Rattle.std.proofs.Common.{◌≡◌, length, ap, subst, sym, ◌∙◌}
-use Rattle.std.specs.Prelude.{Some, None, unwrap_or}
+use Rattle.std.proofs.Common.{◌≡◌, [], ◌∷◌, ◌++◌, length, refl, ap, subst, sym, ◌∙◌}
+use Rattle.std.specs.BTreeMap.{is_at}
+use Rattle.std.specs.Prelude.{IsSome, Some, None, cond}
+use Rattle.std.proofs.lemmas.Map.Steps.{set_value_same}
 use Rattle.std.proofs.lemmas.Result.{on_ok_weaker, on_err_weaker}
-use Rattle.gf_table.specs.SubjectState.{SubjectState, nothing, with_op}
-use Rattle.gf_notes.specs.Notes.{AreNotes}
-use Rattle.gf_table.specs.Standing.{StandsFor, state_of}
-use Rattle.gf_tails.proofs.SubjectLemmas.{subject_cmp_total}
-use Rattle.gf_table.proofs.StandsLemmas.{adds_from, both_ok, next_from, stands_after, put_again}
+use Rattle.gf_ops.specs.declared.op.ObjectId.{ObjectId}
+use Rattle.gf_ops.specs.declared.change.Change.TheVariants.{Create}
+use Rattle.gf_ops.specs.Attribute.{Kind, changed_object, made_kind}
+use Rattle.gf_groups.specs.Parting.{object_cmp}
+use Rattle.gf_table.specs.ObjectState.{ObjectState, made}
+use Rattle.gf_table.specs.Standing.{IsStateOf, StandsFor, state_of}
+use Rattle.gf_table.proofs.StateLemmas.{state_made}
+use Rattle.gf_table.proofs.StandsLemmas.{absent, none_before, some_before, stands_after, there}
 use Rattle.gf_table.proofs.table.add_to.Goals as goal
 
 pub add-requires : goal.add-requires
 add-requires c =
-    let h = c.args.history.now.ops in
-    let a = c.args.op.now in
-    let t = c.args.subjects.now.entries in
-    let found : state_of t c.of-subject.result ≡ Some c.into_mut.result.now = sym (rw c.in-Ok-Occupied.field-0-is at c.in-Ok-Occupied.ensures.value) ∙ c.into_mut.ensures.value in
-    let stands : StandsFor h t = c.requires.stands in
-    next_from h c.ops-position.ensures.valid a c.requires.in_range c.requires.accepted t stands c.of-subject.result c.into_mut.result.now c.with-timeline.result (length c.ops-position.result.now)
-    c.of-subject.ensures (ap (λ r. unwrap_or r nothing) found) c.with-timeline.ensures (ap length c.ops-position.ensures.ops)
+    let o = c.in-Set.object in
+    let t = c.args.objects.now.entries in
+    record {
+      valid = c.ops-position.ensures.valid;
+      in_range = c.requires.in_range;
+      accepted = c.requires.accepted;
+      object = o;
+      change = c.in-Set.is;
+      state = there c.args.history.now.ops o (state_of t o) c.in-Some.state.now (c.requires.stands o) (sym c.in-Some.ensures.value);
+    }
 
-pub add-requires-in-Ok-Vacant : goal.add-requires-in-Ok-Vacant
-add-requires-in-Ok-Vacant c =
+pub unreachable-requires : goal.unreachable-requires
+unreachable-requires c =
     let h = c.args.history.now.ops in
-    let a = c.args.op.now in
-    let t = c.args.subjects.now.entries in
-    let none : state_of t c.of-subject.result ≡ None = rw c.in-Ok-Vacant.field-0-is at c.in-Ok-Vacant.ensures.found in
-    let stands : StandsFor h t = c.requires.stands in
-    let was = ap (λ r. unwrap_or r nothing) none ∙ sym c.new-state.ensures in
-    next_from h c.ops-position.ensures.valid a c.requires.in_range c.requires.accepted t stands c.of-subject.result c.new-state.result c.with-timeline.result (length c.ops-position.result.now)
-    c.of-subject.ensures was c.with-timeline.ensures (ap length c.ops-position.ensures.ops)
+    let o = c.in-Set.object in
+    let t = c.args.objects.now.entries in
+    some_before h c.ops-position.ensures.valid c.args.op.now c.requires.in_range c.requires.accepted o c.in-Set.value c.in-Set.is
+    (absent h o (state_of t o) (c.requires.stands o) (sym c.in-None.ensures.value))
 
-pub returns-in-Ok-Occupied-clause-ok : goal.returns-in-Ok-Occupied-clause-ok
-returns-in-Ok-Occupied-clause-ok c =
+pub returns-in_ok-state-in-Create-clause-ok : goal.returns-in_ok-state-in-Create-clause-ok
+returns-in_ok-state-in-Create-clause-ok c =
     let h = c.args.history.now.ops in
     let a = c.args.op.now in
-    let t = c.args.subjects.now.entries in
-    let found : state_of t c.of-subject.result ≡ Some c.into_mut.result.now = sym (rw c.in-Ok-Occupied.field-0-is at c.in-Ok-Occupied.ensures.value) ∙ c.into_mut.ensures.value in
-    let stands : StandsFor h t = c.requires.stands in
+    let o : ObjectId = record { 0 = a.id } in
+    let w = c.in_ok-state-in-Create.state in
+    let valid = c.ops-position.ensures.valid in
+    let kind : made_kind a.change ≡ made_kind (Create c.in-Create.field-0) = ap made_kind c.in-Create.is in
+    let is : w ≡ made (length h) = c.in_ok-state-in-Create.ensures ∙ ap (λ z. made (length z)) c.ops-position.ensures.ops in
+    let state : IsStateOf (h ++ a ∷ []) o w = subst (IsStateOf (h ++ a ∷ []) o) (sym is)
+    (state_made h a o _ refl kind (none_before h valid a c.requires.in_range c.requires.accepted o refl)) in
+    on_ok_weaker c.put.result (λ puts. stands_after h a c.args.objects.now.entries c.put.new.objects.entries o w c.requires.stands (ap (changed_object a.id) c.in-Create.is) state puts) c.put.ensures.puts
+
+pub returns-in-Some-clause-ok : goal.returns-in-Some-clause-ok
+returns-in-Some-clause-ok c =
+    let h = c.args.history.now.ops in
+    let a = c.args.op.now in
+    let o = c.in-Set.object in
+    let t = c.args.objects.now.entries in
     let w = c.add.new.self in
-    let m = c.subjects-in-Ok-Occupied-1.given.0 in
-    let now = c.subjects-in-Ok-Occupied-1.given.1 (sym (rw c.in-Ok-Occupied.field-0-is at c.in-Ok-Occupied.ensures.same_map)) in
-    let update = rw c.in-Ok-Occupied.field-0-is at c.in-Ok-Occupied.ensures.update in
-    let puts = rw (sym now) at (update.0 w).0 in
-    on_ok_weaker c.add.result (λ both.
-    stands_after h c.ops-position.ensures.valid a c.requires.in_range c.requires.accepted t m.entries stands
-    (adds_from h c.ops-position.ensures.valid a c.requires.in_range c.requires.accepted t m.entries c.of-subject.result c.into_mut.result.now w c.with-timeline.result (length c.ops-position.result.now)
-    c.of-subject.ensures (ap (λ r. unwrap_or r nothing) found) c.with-timeline.ensures (ap length c.ops-position.ensures.ops) both.0 both.1 puts)) (both_ok _ _ c.add.result c.add.ensures.ok c.add.ensures.told)
+    let now = c.get_mut.follows.lender w in
+    let some = subst IsSome c.in-Some.ensures.value refl in
+    let puts = ((c.get_mut.follows.holds w).3 some).0 in
+    on_ok_weaker c.add.result (λ state. stands_after h a t now.entries o w c.requires.stands (ap (changed_object a.id) c.in-Set.is) (state o c.in-Set.is) puts) c.add.ensures.ok
 
-pub returns-in-Ok-Occupied-clause-err : goal.returns-in-Ok-Occupied-clause-err
-returns-in-Ok-Occupied-clause-err c =
-    let t = c.args.subjects.now.entries in
-    let found : state_of t c.of-subject.result ≡ Some c.into_mut.result.now = sym (rw c.in-Ok-Occupied.field-0-is at c.in-Ok-Occupied.ensures.value) ∙ c.into_mut.ensures.value in
-    let now = c.subjects-in-Ok-Occupied-1.given.1 (sym (rw c.in-Ok-Occupied.field-0-is at c.in-Ok-Occupied.ensures.same_map)) in
-    let update = rw c.in-Ok-Occupied.field-0-is at c.in-Ok-Occupied.ensures.update in
+pub returns-in-Some-clause-err : goal.returns-in-Some-clause-err
+returns-in-Some-clause-err c =
+    let o = c.in-Set.object in
+    let t = c.args.objects.now.entries in
+    let w = c.add.new.self in
     on_err_weaker c.add.result (λ same.
-    ap (λ z. z.entries) now ∙ (update.1 c.add.new.self ∙ put_again subject_cmp_total c.of-subject.result t c.add.new.self c.entry.ensures.ordered (found ∙ ap (λ (z : SubjectState). Some z) (sym same)))) c.add.ensures.err
-
-pub returns-in_ok-add-in-Ok-Vacant-clause-ok : goal.returns-in_ok-add-in-Ok-Vacant-clause-ok
-returns-in_ok-add-in-Ok-Vacant-clause-ok c =
-    let h = c.args.history.now.ops in
-    let a = c.args.op.now in
-    let t = c.args.subjects.now.entries in
-    let none : state_of t c.of-subject.result ≡ None = rw c.in-Ok-Vacant.field-0-is at c.in-Ok-Vacant.ensures.found in
-    let stands : StandsFor h t = c.requires.stands in
-    let old : unwrap_or (state_of t c.of-subject.result) nothing ≡ nothing = ap (λ r. unwrap_or r nothing) none in
-    let w = c.insert.result.now in
-    let m = c.subjects-in-Ok-Vacant-2-1.given.0 in
-    let now = c.subjects-in-Ok-Vacant-2-1.given.1 (sym (rw c.in-Ok-Vacant.field-0-is at c.in-Ok-Vacant.ensures.same_map)) in
-    let update = rw c.in-Ok-Vacant.field-0-is at c.in-Ok-Vacant.ensures.update in
-    let puts = rw (sym now) at (update.0 w).0 in
-    let g = c.with-timeline.result in
-    let n = length c.ops-position.result.now in
-    let s = c.add-in-Ok-Vacant.new.self in
-    let made = c.in_ok-add-in-Ok-Vacant.ensures.ok ∙ ap (λ (z : SubjectState). with_op g a n s.notes z) c.new-state.ensures in
-    let both = subst (λ (z : SubjectState). (z ≡ with_op g a n z.notes nothing) × AreNotes g z.parts z.notes) (sym c.insert.ensures.value) (made, c.in_ok-add-in-Ok-Vacant.ensures.told) in
-    stands_after h c.ops-position.ensures.valid a c.requires.in_range c.requires.accepted t m.entries stands
-    (adds_from h c.ops-position.ensures.valid a c.requires.in_range c.requires.accepted t m.entries c.of-subject.result nothing w c.with-timeline.result (length c.ops-position.result.now)
-    c.of-subject.ensures old c.with-timeline.ensures (ap length c.ops-position.ensures.ops) both.0 both.1 puts)
+    (c.get_mut.follows.holds w).0 ∙ set_value_same (is_at (object_cmp o)) t w (sym c.in-Some.ensures.value ∙ ap (λ (z : ObjectState). Some z) (sym same))) c.add.ensures.err

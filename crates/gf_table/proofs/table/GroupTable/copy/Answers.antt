@@ -2,16 +2,16 @@ use Rattle.std.proofs.Common.{ap, ◌∙◌}
 use Rattle.std.specs.BTreeMap.{insert_entry}
 use Rattle.std.specs.List.Sorted.{IsStrictlySortedBy}
 use Rattle.std.specs.Map.{keys_of}
-use Rattle.gf_tails.specs.Subjects.{subject_cmp}
-use Rattle.gf_tails.proofs.SubjectLemmas.{subject_cmp_total}
-use Rattle.gf_table.specs.SubjectState.{SubjectState}
 use Rattle.gf_ops.proofs.EntryLemmas.{copied_more}
+use Rattle.gf_groups.specs.Parting.{object_cmp}
+use Rattle.gf_groups.proofs.PartingLemmas.{object_cmp_total}
+use Rattle.gf_table.specs.ObjectState.{ObjectState}
 use Rattle.gf_table.proofs.table.GroupTable.copy.Goals as goal
 
-pub loop-subject-preserved : goal.loop-subject-preserved
-loop-subject-preserved c =
-    let gives = c.into_iter-subject-iterator.ensures.into_iter_gives in
-    let sorted : IsStrictlySortedBy subject_cmp (keys_of c.into_iter-subject-iterator.result) = rw gives.0 gives.5 in
-    let made = c.in_ok-put.ensures ∙ ap (λ (s : SubjectState). insert_entry subject_cmp c.loop-subject.subjects.entries c.in-Some.subject.now s) c.in_ok-state.ensures in
-    copied_more subject_cmp subject_cmp_total c.loop-subject.subjects.entries c.put.new.subjects.entries c.into_iter-subject-iterator.result c.in-Some.subject.now c.in-Some.state.now c.next.new.self c.loop-subject.subject-iterator
-    sorted made c.in-Some.ensures.steps c.loop-subject.invariant
+pub loop-object-preserved : goal.loop-object-preserved
+loop-object-preserved c =
+    let gives = c.into_iter-object-iterator.ensures.into_iter_gives in
+    let sorted : IsStrictlySortedBy object_cmp (keys_of c.into_iter-object-iterator.result) = rw gives.0 gives.5 in
+    let made = c.in_ok-put.ensures.ok ∙ ap (λ (s : ObjectState). insert_entry object_cmp c.loop-object.objects.entries c.in-Some.object.now s) c.in_ok-state.ensures in
+    copied_more object_cmp object_cmp_total c.loop-object.objects.entries c.put.new.objects.entries c.into_iter-object-iterator.result c.in-Some.object.now c.in-Some.state.now c.next.new.self c.loop-object.object-iterator
+    sorted made c.in-Some.ensures.steps c.loop-object.invariant

@@ -1,0 +1,36 @@
+-- The chains that are kept, and the list of all chains that they are seen as. No public clause cites this module.
+use Rattle.std.specs.Prelude.{◌≡◌, ℕ, zero, suc, ◌≤◌, List, [], ◌∷◌, cond, None, Some, unwrap_or}
+use Rattle.std.specs.BTreeMap.{is_at}
+use Rattle.std.specs.Map.{lookup}
+use Rattle.std.specs.Ordering.{nat_cmp}
+use Rattle.gf_rivals.specs.declared.chain.Setter.{Setter}
+
+-- chains by their indices, in their order
+abbrev pub Kept : Type 0
+Kept = List (ℕ × List Setter)
+
+-- the chain that is kept under the index k, which has no setter where none is
+abbrev pub chain_at : Kept → ℕ → List Setter
+chain_at es k = unwrap_or (lookup (is_at (nat_cmp k)) es) []
+
+-- n chains from the index k on
+abbrev pub chains_from : Kept → ℕ → ℕ → List (List Setter)
+chains_from es k zero = []
+chains_from es k (suc n) = chain_at es k ∷ chains_from es (suc k) n
+
+-- the chains of all attributes and sites
+unfoldable pub all_chains : Kept → List (List Setter)
+all_chains es = chains_from es 0 48
+
+-- no chain is kept under an index from n on
+abbrev pub AreBelow : ℕ → Kept → Type 0
+AreBelow n es = (k : ℕ) → n ≤ k → lookup (is_at (nat_cmp k)) es ≡ None
+
+-- new has the chain ss under the index k, and the others of old
+abbrev pub PutsChain : Kept → ℕ → List Setter → Kept → Type 0
+PutsChain old k ss new = (j : ℕ) → lookup (is_at (nat_cmp j)) new
+    ≡ cond (is_at (nat_cmp k) j) (Some ss) (lookup (is_at (nat_cmp j)) old)
+
+-- new has the chains of old
+abbrev pub KeepsChains : Kept → Kept → Type 0
+KeepsChains old new = (j : ℕ) → lookup (is_at (nat_cmp j)) new ≡ lookup (is_at (nat_cmp j)) old

@@ -1,0 +1,82 @@
+//! The earlier setters that conflict with the next operation.
+
+ghost use Rattle.std.specs.Prelude.{◌≡◌, ◌↔◌, true, Contains, IfOk, OnOk};
+ghost use Rattle.gf_ops.specs.Attribute.{attribute_of};
+ghost use Rattle.gf_rivals.specs.Chains.{IsUnknown};
+ghost use Rattle.gf_rivals.specs.Comparing.{number_gives, AddsIf};
+ghost use Rattle.gf_rivals.specs.Indexes.{IsIndex};
+ghost use Rattle.gf_rivals.specs.Rivals.{Tells, AreRivals};
+
+use crate::chains::Chains;
+use crate::fingerprint::{fingerprint_of, has_own_fingerprint};
+use crate::giving::number_gives;
+use crate::index::Index;
+use gf_maximal::Numbers;
+use gf_ops::{History, Op, Value};
+use gf_shape::OutOfMemory;
+use std::alloc::Global;
+
+/// Adds the number, if its setter gives the value.
+fn add_giving(
+    ops: &[Op],
+    chains: &Chains,
+    value: &Value,
+    number: usize,
+    some: &mut Numbers,
+) -> Result<(), OutOfMemory>
+    ensures { OnOk result
+        (AddsIf (number_gives ops.now chains.now value.now number) number some.old some.new) }
+{
+    if number_gives(ops, chains, value, number) {
+        some.join(number)
+    } else {
+        Ok(())
+    }
+}
+
+/// The numbers of which the setters give the value.
+fn giving(
+    alloc: Global,
+    ops: &[Op],
+    chains: &Chains,
+    value: &Value,
+    numbers: &Numbers,
+) -> Result<Numbers, OutOfMemory>
+    ensures { IfOk result (λ some. (n : _) → Contains some n
+        ↔ (Contains numbers.now n × (number_gives ops.now chains.now value.now n ≡ true))) }
+{
+    let all = numbers.to_vec(alloc)?;
+    let mut some = Numbers::new(alloc);
+    for number in &all {
+        add_giving(ops, chains, value, *number, &mut some)?;
+    }
+    Ok(some)
+}
+
+/// The rivals of the next operation of an object, which gives this value: of the setters that it
+/// does not know, the numbers of those that give another value. Only lists of points are compared in
+/// the history, and only with those that begin alike.
+pub fn rivals(
+    alloc: Global,
+    history: &History,
+    chains: &Chains,
+    index: &Index,
+    value: &Value,
+    unknown: Numbers,
+) -> Result<Numbers, OutOfMemory>
+    ensures { IfOk result (λ found. (o : _) (past : _)
+        → Tells history.now.ops o chains.now
+        → IsIndex history.now.ops chains.now index.now
+        → ((n : _) → Contains unknown n ↔ IsUnknown chains.now (attribute_of value.now) past 8 n)
+        → AreRivals history.now.ops o chains.now value.now past found) }
+{
+    let Some(same) = index.get(fingerprint_of(value)) else {
+        return Ok(unknown);
+    };
+    if has_own_fingerprint(value) {
+        return unknown.without(alloc, same);
+    }
+    let may = unknown.common(alloc, same)?;
+    let equal = giving(alloc, history.ops(), chains, value, &may)?;
+    unknown.without(alloc, &equal)
+}

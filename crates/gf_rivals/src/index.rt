@@ -1,0 +1,180 @@
+//! The numbers of the setters of an object by their values.
+
+ghost use Rattle.std.specs.Prelude.{◌≡◌, ◌+◌, ◌^◌, ◌<◌, IfOk, IfSome, OnOk, option_copied};
+ghost use Rattle.std.specs.Prelude.{length, slice_get};
+ghost use Rattle.std.specs.BTreeMap.{insert_entry, is_at};
+ghost use Rattle.std.specs.Map.{lookup};
+ghost use Rattle.gf_rivals.specs.Fingerprints.{fingerprint_cmp, fingerprint_of};
+ghost use Rattle.gf_rivals.specs.Giving.{op_value, fingerprint_given};
+ghost use Rattle.gf_rivals.specs.Indexes.{IsIndex, PutsNumber, PutsNumbers};
+ghost use Rattle.gf_rivals.specs.Indexing.{PutsGiven, Lists, ListsChain};
+
+use crate::chain::Setter;
+use crate::chains::{BLOCK, CHAINS, Chains};
+use crate::fingerprint::{Fingerprint, fingerprint_of};
+use crate::giving::op_value;
+use gf_maximal::Numbers;
+use gf_ops::{History, Op, Value};
+use gf_shape::OutOfMemory;
+use std::alloc::Global;
+use std::collections::BTreeMap;
+use std::marker::Model;
+
+type NumbersByFingerprint = BTreeMap<Fingerprint, Numbers>;
+
+/// For each fingerprint of a value the numbers of the setters with such a value, none without a
+/// setter. An index can always be made anew from the history and the chains.
+#[derive(Debug, Drop)]
+pub struct Index {
+    numbers: NumbersByFingerprint,
+}
+
+impl Model for Index {
+    ghost use Rattle.gf_rivals.specs.Indexes.{Entries};
+
+    ghost Value = { Entries };
+
+    ghost view = { λ i. i.numbers.entries };
+}
+
+/// The fingerprint of the value that is set at a position, if there is one.
+fn fingerprint_at(ops: &[Op], position: usize) -> Option<Fingerprint>
+    ensures { result ≡ fingerprint_given (op_value (slice_get ops.now position)) }
+{
+    let value = op_value(ops.get(position))?;
+    Some(fingerprint_of(value))
+}
+
+/// Adds a number under a fingerprint.
+fn add_number(
+    alloc: Global,
+    numbers: &mut NumbersByFingerprint,
+    fingerprint: Fingerprint,
+    number: usize,
+) -> Result<(), OutOfMemory>
+    requires { number + 1 < 2 ^ 64 }
+    ensures { OnOk result (PutsNumber numbers.old.entries fingerprint number numbers.new.entries) }
+{
+    if let Some(some) = numbers.get_mut(&fingerprint) {
+        return some.join(number);
+    }
+    let mut some = Numbers::new(alloc);
+    some.join(number)?;
+    put(numbers, fingerprint, some)
+}
+
+/// Puts the numbers under the fingerprint.
+fn put(
+    numbers: &mut NumbersByFingerprint,
+    fingerprint: Fingerprint,
+    some: Numbers,
+) -> Result<(), OutOfMemory>
+    ensures puts { OnOk result
+        (PutsNumbers numbers.old.entries fingerprint some numbers.new.entries) }
+    ensures entries { OnOk result (numbers.new.entries
+        ≡ insert_entry fingerprint_cmp numbers.old.entries fingerprint some) }
+{
+    match numbers.insert(fingerprint, some) {
+        Ok(_) => Ok(()),
+        Err(_) => Err(OutOfMemory),
+    }
+}
+
+/// Adds the number of the setter that stands at a position.
+fn add_setter(
+    alloc: Global,
+    ops: &[Op],
+    position: usize,
+    number: usize,
+    numbers: &mut NumbersByFingerprint,
+) -> Result<(), OutOfMemory>
+    requires { number + 1 < 2 ^ 64 }
+    ensures { OnOk result (PutsGiven numbers.old.entries
+        (fingerprint_given (op_value (slice_get ops.now position))) number numbers.new.entries) }
+{
+    match fingerprint_at(ops, position) {
+        Some(fingerprint) => add_number(alloc, numbers, fingerprint, number),
+        None => Ok(()),
+    }
+}
+
+/// Adds the setters of a chain, the first of which has the number `base`.
+fn add_setters(
+    alloc: Global,
+    ops: &[Op],
+    setters: &[Setter],
+    base: usize,
+    numbers: &mut NumbersByFingerprint,
+) -> Result<(), OutOfMemory>
+    requires { base + length setters.now < 2 ^ 64 }
+    ensures { OnOk result (Lists ops.now setters.now base (length setters.now)
+        numbers.old.entries numbers.new.entries) }
+{
+    for (place, setter) in setters.iter().enumerate() {
+        add_setter(alloc, ops, setter.position, base + place, numbers)?;
+    }
+    Ok(())
+}
+
+/// Adds the setters of the chain with this index.
+fn add_chain(
+    alloc: Global,
+    ops: &[Op],
+    chains: &Chains,
+    index: usize,
+    numbers: &mut NumbersByFingerprint,
+) -> Result<(), OutOfMemory>
+    requires { index < 48 }
+    ensures { OnOk result
+        (ListsChain ops.now chains.now index numbers.old.entries numbers.new.entries) }
+{
+    match chains.chain(index) {
+        Some(chain) => add_setters(alloc, ops, chain.setters(), index * BLOCK, numbers),
+        None => Ok(()),
+    }
+}
+
+impl Index {
+    /// The index of all setters of the chains, whose values stand in the history.
+    pub fn of(alloc: Global, history: &History, chains: &Chains) -> Result<Index, OutOfMemory>
+        ensures { IfOk result (λ index. IsIndex history.now.ops chains.now index) }
+    {
+        let ops = history.ops();
+        let mut numbers = BTreeMap::new(alloc);
+        for index in 0..CHAINS {
+            add_chain(alloc, ops, chains, index, &mut numbers)?;
+        }
+        Ok(Index { numbers })
+    }
+
+    /// The index with one more setter. Where memory is refused there is none.
+    pub fn with(self, alloc: Global, value: &Value, number: usize) -> Option<Index>
+        requires { number + 1 < 2 ^ 64 }
+        ensures { IfSome result (λ index. PutsNumber self (fingerprint_of value.now) number index) }
+    {
+        let mut numbers = self.numbers;
+        match add_number(alloc, &mut numbers, fingerprint_of(value), number) {
+            Ok(()) => Some(Index { numbers }),
+            Err(OutOfMemory) => None,
+        }
+    }
+
+    /// A copy.
+    pub fn copy(&self, alloc: Global) -> Result<Index, OutOfMemory>
+        ensures { IfOk result (λ copy. copy ≡ self.now) }
+    {
+        let mut numbers = BTreeMap::new(alloc);
+        for (fingerprint, some) in &self.numbers {
+            let some = some.copy(alloc)?;
+            put(&mut numbers, *fingerprint, some)?;
+        }
+        Ok(Index { numbers })
+    }
+
+    /// The numbers of the setters whose value has this fingerprint.
+    pub(crate) fn get(&self, fingerprint: Fingerprint) -> Option<&Numbers>
+        ensures { option_copied result ≡ lookup (is_at (fingerprint_cmp fingerprint)) self.now }
+    {
+        self.numbers.get(&fingerprint)
+    }
+}

@@ -1,0 +1,36 @@
+-- What the table has of one object: its setters by attribute and site and by value, its components, and where its creation stands.
+use Rattle.std.specs.Prelude.{ℕ, ◌*◌, Bool, List, None, Option, unwrap_or}
+use Rattle.gf_ops.specs.declared.op.Op.{Op}
+use Rattle.gf_components.specs.Components.{ComponentsState, no_components, with_free}
+use Rattle.gf_groups.specs.Growing.{conflict_at}
+use Rattle.gf_rivals.specs.declared.chain.Setter.{Setter}
+use Rattle.gf_rivals.specs.declared.fingerprint.Fingerprint.{Fingerprint}
+use Rattle.gf_rivals.specs.Setters.{block}
+use Rattle.gf_rivals.specs.Chains.{no_chains, position_of}
+
+pub record ObjectState : Type 0 where
+  pub chains : List (List Setter)
+  pub index : Option (List (Fingerprint × List ℕ))
+  pub components : ComponentsState
+  pub maker : ℕ
+
+-- the number of the creation, above those of all setters
+abbrev pub maker_number : ℕ
+maker_number = 48 * block
+
+-- of an object whose creation stands at the position m
+abbrev pub made : ℕ → ObjectState
+made m = record {
+  chains = no_chains;
+  index = None;
+  components = with_free maker_number no_components;
+  maker = m;
+}
+
+-- the position of the operation with the number n
+abbrev pub position_in : ObjectState → ℕ → ℕ
+position_in t n = unwrap_or (position_of t.chains n) t.maker
+
+-- the operations of h with the numbers i and j conflict
+abbrev pub number_conflict : List Op → ObjectState → ℕ → ℕ → Bool
+number_conflict h t i j = conflict_at h (position_in t i) (position_in t j)

@@ -1,0 +1,243 @@
+//! What the table has of one object.
+
+ghost use Rattle.std.specs.Prelude.{◌≡◌, ◌∷◌, [], ◌++◌, ◌+◌, ◌^◌, ◌<◌, All, IfOk, OnOk, OnErr, map};
+ghost use Rattle.std.specs.Prelude.{◌⊎◌, IfSome, Some, option_map};
+ghost use Rattle.gf_maximal.specs.Growing.{image};
+ghost use Rattle.gf_rivals.specs.Rivals.{AreRivals};
+ghost use Rattle.gf_rivals.specs.Indexes.{IsIndex, PutsNumber};
+ghost use Rattle.gf_rivals.specs.Fingerprints.{fingerprint_of};
+ghost use Rattle.gf_ops.specs.declared.change.Change.TheVariants.{Set};
+ghost use Rattle.gf_table.specs.ByPosition.{sets_at, component_at, components_at};
+ghost use Rattle.gf_table.specs.ObjectState.{made, maker_number, position_in};
+ghost use Rattle.gf_table.specs.Standing.{IsNextOf, IsStateOf};
+
+use gf_components::{Component, Components};
+use gf_maximal::Numbers;
+use gf_ops::{Clock, History, Op, Value};
+use gf_rivals::{Chains, Index, rivals};
+use gf_shape::OutOfMemory;
+use std::alloc::Global;
+use std::marker::Model;
+
+/// The number of the creation, above those of all setters.
+const MAKER: usize = 206_158_430_208;
+
+/// A copy of the index, if there is one.
+fn copied(alloc: Global, index: &Option<Index>) -> Result<Option<Index>, OutOfMemory>
+    ensures { IfOk result (λ copy. copy ≡ index.now) }
+{
+    match index {
+        Some(index) => Ok(Some(index.copy(alloc)?)),
+        None => Ok(None),
+    }
+}
+
+/// The index that was made, or else the one that was kept, with one more setter; none where there is
+/// none, or memory is refused.
+fn with_setter(
+    alloc: Global,
+    made: Option<Index>,
+    kept: Option<Index>,
+    value: &Value,
+    number: usize,
+) -> Option<Index>
+    requires { number + 1 < 2 ^ 64 }
+    ensures { IfSome result (λ new. (old : _) × ((made ≡ Some old) ⊎ (kept ≡ Some old))
+        × PutsNumber old (fingerprint_of value.now) number new) }
+{
+    match made {
+        Some(index) => index.with(alloc, value, number),
+        None => match kept {
+            Some(index) => index.with(alloc, value, number),
+            None => None,
+        },
+    }
+}
+
+/// The operations on an object, by numbers: the chains of its setters, their components, and the
+/// position of the creation.
+#[derive(Debug, Drop)]
+pub(crate) struct ObjectTable {
+    chains: Chains,
+    index: Option<Index>,
+    components: Components,
+    maker: usize,
+}
+
+impl Model for ObjectTable {
+    ghost use Rattle.gf_table.specs.ObjectState.{ObjectState};
+
+    ghost Value = { ObjectState };
+
+    ghost view = { λ t. record {
+      chains = t.chains;
+      index = t.index;
+      components = t.components;
+      maker = t.maker;
+    } };
+}
+
+impl ObjectTable {
+    /// Of an object whose creation stands at this position.
+    pub(crate) fn made(alloc: Global, position: usize) -> Result<ObjectTable, OutOfMemory>
+        ensures { IfOk result (λ table. table ≡ made position) }
+    {
+        let mut components = Components::new(alloc);
+        components.add(alloc, &Numbers::new(alloc), MAKER)?;
+        Ok(ObjectTable {
+            chains: Chains::new(alloc),
+            index: None,
+            components,
+            maker: position,
+        })
+    }
+
+    /// The numbers of the operations that conflict with one that knows these and gives the value;
+    /// and an index, where one was made for it.
+    fn rivals(
+        &self,
+        alloc: Global,
+        history: &History,
+        past: &Clock,
+        value: &Value,
+    ) -> Result<(Numbers, Option<Index>), OutOfMemory>
+        ensures rivals { IfOk result (λ found. (o : _) → IsStateOf history.now.ops o self.now
+            → AreRivals history.now.ops o self.now.chains value.now past.now found.0) }
+        ensures made { IfOk result (λ found.
+            IfSome found.1 (IsIndex history.now.ops self.now.chains)) }
+    {
+        let unknown = self.chains.unknown(alloc, value.attribute(), past)?;
+        if unknown.is_empty() {
+            return Ok((unknown, None));
+        }
+        match &self.index {
+            Some(index) => {
+                let found = rivals(alloc, history, &self.chains, index, value, unknown)?;
+                Ok((found, None))
+            }
+            None => {
+                let index = Index::of(alloc, history, &self.chains)?;
+                let found = rivals(alloc, history, &self.chains, &index, value, unknown)?;
+                Ok((found, Some(index)))
+            }
+        }
+    }
+
+    /// Adds the operation, which gives the object the value.
+    pub(crate) fn add(
+        &mut self,
+        alloc: Global,
+        history: &History,
+        op: &Op,
+        value: &Value,
+    ) -> Result<(), OutOfMemory>
+        requires { IsNextOf history.now.ops op.now value.now self.old }
+        ensures ok { OnOk result ((o : _) → op.now.change ≡ Set o value.now
+            → IsStateOf (history.now.ops ++ op.now ∷ []) o self.new) }
+        ensures err { OnErr result (self.new ≡ self.old) }
+    {
+        let attribute = value.attribute();
+        let number = self.chains.next_number(attribute, op.id.site);
+        let (rivals, made) = self.rivals(alloc, history, &op.past, value)?;
+        self.chains
+            .push(alloc, attribute, op.id, history.ops().len())?;
+        match self.components.add(alloc, &rivals, number) {
+            Ok(()) => {
+                let kept = self.index.take();
+                self.index = with_setter(alloc, made, kept, value, number);
+                Ok(())
+            }
+            Err(OutOfMemory) => {
+                self.chains.pop(attribute, op.id.site);
+                Err(OutOfMemory)
+            }
+        }
+    }
+
+    /// The same once more.
+    pub(crate) fn copy(&self, alloc: Global) -> Result<ObjectTable, OutOfMemory>
+        ensures { IfOk result (λ copy. copy ≡ self.now) }
+    {
+        let chains = self.chains.copy(alloc)?;
+        let index = copied(alloc, &self.index)?;
+        let components = self.components.copy(alloc)?;
+        Ok(ObjectTable {
+            chains,
+            index,
+            components,
+            maker: self.maker,
+        })
+    }
+
+    /// The position of the operation that has this number.
+    fn position(&self, number: usize) -> usize
+        ensures { result ≡ position_in self.now number }
+    {
+        match self.chains.position(number) {
+            Some(position) => position,
+            None => self.maker,
+        }
+    }
+
+    /// The positions of the operations that have these numbers, in the order of the numbers.
+    fn positions(&self, alloc: Global, numbers: &[usize]) -> Result<Vec<usize>, OutOfMemory>
+        ensures { IfOk result (λ found. found.items ≡ map (position_in self.now) numbers.now) }
+    {
+        Ok(
+            numbers
+                .iter()
+                .map(|number| self.position(*number))
+                .collect(alloc)?,
+        )
+    }
+
+    /// The positions of the operations of a set.
+    fn set_by_position(&self, alloc: Global, set: &Numbers) -> Result<Numbers, OutOfMemory>
+        requires { (n : _) → position_in self.now n + 1 < 2 ^ 64 }
+        ensures { IfOk result (λ found. found ≡ image (position_in self.now) set.now) }
+    {
+        let positions = self.positions(alloc, &set.to_vec(alloc)?)?;
+        Numbers::of(alloc, &positions)
+    }
+
+    /// The positions of the operations of each set.
+    fn sets_by_position(&self, alloc: Global, sets: &[Numbers]) -> Result<Vec<Numbers>, OutOfMemory>
+        requires { (n : _) → position_in self.now n + 1 < 2 ^ 64 }
+        ensures { IfOk result (λ found. found.items ≡ map (image (position_in self.now)) sets.now) }
+    {
+        let mut found = Vec::new(alloc);
+        for set in sets {
+            found.push(self.set_by_position(alloc, set)?)?;
+        }
+        Ok(found)
+    }
+
+    /// A component, by positions.
+    fn component(&self, alloc: Global, part: &Component) -> Result<Component, OutOfMemory>
+        requires { (n : _) → position_in self.now n + 1 < 2 ^ 64 }
+        ensures { IfOk result (λ found. found ≡ component_at (position_in self.now) part.now) }
+    {
+        let all = self.set_by_position(alloc, part.all())?;
+        match part.sets() {
+            Some(sets) => {
+                let sets = self.sets_by_position(alloc, sets)?;
+                Ok(Component::new(all, Some(sets)))
+            }
+            None => Ok(Component::new(all, None)),
+        }
+    }
+
+    /// The components, by positions.
+    pub(crate) fn by_position(&self, alloc: Global) -> Result<Components, OutOfMemory>
+        requires { (n : _) → position_in self.now n + 1 < 2 ^ 64 }
+        ensures { IfOk result (λ found. found
+            ≡ components_at (position_in self.now) self.now.components) }
+    {
+        let free = self.set_by_position(alloc, self.components.free())?;
+        let mut parts = Vec::new(alloc);
+        for part in self.components.parts() {
+            parts.push(self.component(alloc, part)?)?;
+        }
+        Ok(Components::of(free, parts))
+    }
+}
