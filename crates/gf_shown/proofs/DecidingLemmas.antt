@@ -27,7 +27,7 @@ use Rattle.gf_components.specs.Separate.{Apart, AreComponents, IsKept}
 use Rattle.gf_components.proofs.ComponentLemmas.{IsInParts, all_of_fold}
 use Rattle.gf_components.proofs.ProductLemmas.{Contains-products, Contains-products_from, products_once, table_alike, table_product}
 use Rattle.gf_shown.specs.Deciding.{is_shown, each_later, always_later, overruled, may_be_last, decides, is_wanted, deciding, idle}
-use Rattle.gf_shown.specs.ObjectComponents.{AreComponentsOn}
+use Rattle.gf_table.specs.Standing.{AreComponentsOn}
 use Rattle.gf_shown.specs.ShownAt.{sets_at, later_at}
 use Rattle.gf_shown.specs.ShownSets.{IsShownSet, AreShownSets}
 use Rattle.gf_shown.proofs.LastLemmas.{never, Agree, IsLate, shows_to, shows_from, still_shows, shows_still}

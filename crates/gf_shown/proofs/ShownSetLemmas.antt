@@ -19,7 +19,7 @@ use Rattle.gf_components.specs.Separate.{IsComponent, IsKept}
 use Rattle.gf_components.proofs.ComponentLemmas.{table_whole}
 use Rattle.gf_components.proofs.CountLemmas.{HasTable, a_table, length-products}
 use Rattle.gf_shown.specs.Deciding.{at_most, deciding, idle, is_shown, with_idle, shown_within}
-use Rattle.gf_shown.specs.ObjectComponents.{AreComponentsOn}
+use Rattle.gf_table.specs.Standing.{AreComponentsOn}
 use Rattle.gf_shown.specs.ShownSets.{AreShownSets, IsSetListing}
 use Rattle.gf_shown.proofs.DecidingLemmas.{are_shown, components_deciding, components_idle, in_whole}
 

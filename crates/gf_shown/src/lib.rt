@@ -9,7 +9,6 @@
 mod deciding;
 mod listing;
 mod objects;
-mod pending;
 mod ranking;
 mod saying;
 

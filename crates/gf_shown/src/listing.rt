@@ -6,16 +6,16 @@ ghost use Rattle.std.specs.List.{fold};
 ghost use Rattle.gf_components.specs.Components.{alone, merged, most_sets, whole};
 ghost use Rattle.gf_groups.specs.GroupedPositions.{positions_below};
 ghost use Rattle.gf_shown.specs.Deciding.{at_most, deciding, idle, is_shown, is_wanted, shown_within};
-ghost use Rattle.gf_shown.specs.Pending.{StandsFor};
+ghost use Rattle.gf_table.specs.Standing.{StandsFor};
 ghost use Rattle.gf_shown.specs.ShownSets.{IsSetListing};
 
 use crate::deciding::{one_may_be_last, shows};
-use crate::pending::GroupTable;
 use gf_components::{Component, Components, alone, merged, products};
 use gf_groups::groups_at;
 use gf_maximal::Numbers;
 use gf_ops::{History, ObjectId};
 use gf_shape::OutOfMemory;
+use gf_table::GroupTable;
 use std::alloc::Global;
 
 /// The component with another one, if it is wanted.

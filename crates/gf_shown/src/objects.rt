@@ -6,14 +6,14 @@ ghost use Rattle.gf_groups.specs.Versions.{IsMade};
 ghost use Rattle.gf_components.specs.Components.{most_sets};
 ghost use Rattle.gf_shown.specs.ShownVersions.{AreVisibleOn, HasMoreOn};
 ghost use Rattle.gf_shown.specs.VisibleSoFar.{HaveVisibleOf, IsGroupListing};
-ghost use Rattle.gf_shown.specs.Pending.{StandsFor};
+ghost use Rattle.gf_table.specs.Standing.{StandsFor};
 
 use crate::listing::shown_sets;
-use crate::pending::GroupTable;
 use gf_components::MOST_SETS;
 use gf_groups::{Group, GroupFault, add_groups};
 use gf_ops::{Change, History, ObjectId, Op};
 use gf_shape::OutOfMemory;
+use gf_table::GroupTable;
 use std::alloc::Global;
 
 /// The groups of the visible versions of an object that the history made, each once, if they are at

@@ -4,14 +4,14 @@ ghost use Rattle.std.specs.Prelude.{◌≤◌, length, IfNone, IfOk, IfSome, opt
 ghost use Rattle.gf_components.specs.Components.{most_sets};
 ghost use Rattle.gf_shown.specs.ShownVersions.{HasMoreVisible};
 ghost use Rattle.gf_shown.specs.VisibleSoFar.{HaveVisibleOf, IsGroupListing};
-ghost use Rattle.gf_shown.specs.Pending.{StandsFor};
+ghost use Rattle.gf_table.specs.Standing.{StandsFor};
 ghost use Rattle.gf_versions.specs.Ranking.{AreRanked};
 
 use crate::objects::{visible_made, visible_or_all};
-use crate::pending::GroupTable;
 use gf_groups::Group;
 use gf_ops::History;
 use gf_shape::{AnyShape, OutOfMemory};
+use gf_table::GroupTable;
 use gf_versions::{Ranked, ranked_of};
 use std::alloc::Global;
 
