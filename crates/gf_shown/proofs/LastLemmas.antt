@@ -11,7 +11,7 @@ use Rattle.gf_ops.proofs.ListLemmas.{not_Contains-nil}
 use Rattle.gf_maximal.specs.Growing.{united}
 use Rattle.gf_maximal.proofs.ListLemmas.{Contains-filter}
 use Rattle.gf_maximal.proofs.UnitedLemmas.{Contains-united}
-use Rattle.gf_shown.specs.Deciding.{taken, last_of, shown_by_last, is_shown}
+use Rattle.gf_shown.specs.Deciding.{is_next, taken, last_of, shown_by_last, is_shown}
 use Rattle.gf_shown.specs.ShownAt.{sets_at, shows_at, later_at}
 use Rattle.gf_shown.proofs.SetterLemmas.{setter_shows, setter_later, itself, through}
 
@@ -29,32 +29,29 @@ module _ (h : List Op) (valid : IsValid h) where
   not_later : (i k : ℕ) → sets_at h k ≡ false → later_at h i k ≡ false
   not_later i k n = elim (cases_Bool (later_at h i k)) [ inl y ↦ never (setter_later h i k y) n | inr f ↦ f ]
 
+  -- none of xs comes after j, where j is the next last one
+  none_after : (xs : List ℕ) (o : Option ℕ) (j : ℕ) → IsLastOf xs o → is_next h o j ≡ true → (sets_at h j ≡ true) × ((k : ℕ) → Contains xs k → later_at h j k ≡ false)
+  none_after xs None j p y = (y, λ k i. not_later j k (p k i))
+  none_after xs (Some i) j p y = (setter_later h i j y, λ k d. elim (cases_Bool (later_at h j k)) [ inl l ↦ never (through h valid i j k y l) (p.2 k d) | inr f ↦ f ])
+
+  stays : (xs : List ℕ) (o : Option ℕ) (j : ℕ) → IsLastOf xs o → is_next h o j ≡ false → IsLastOf (xs ++ j ∷ []) o
+  stays xs None j p n = λ k m. elim (Contains-push_cases xs j k m) [ inl i ↦ p k i | inr e ↦ subst (λ z. sets_at h z ≡ false) e n ]
+  stays xs (Some i) j p n = (
+    Contains-append_left xs (j ∷ []) i p.0,
+    p.1,
+    λ k m. elim (Contains-push_cases xs j k m) [ inl d ↦ p.2 k d | inr e ↦ subst (λ z. later_at h i z ≡ false) e n ],
+  )
+
   one_more : (xs : List ℕ) (o : Option ℕ) (j : ℕ) → IsLastOf xs o → IsLastOf (xs ++ j ∷ []) (taken h o j)
-  one_more xs None j p = elim (cases_Bool (sets_at h j)) [
-    | inl y ↦ rw (cond-true (sets_at h j) (Some j) None y) (
-      Contains-push xs j,
-      y,
-      λ k m. elim (Contains-push_cases xs j k m) [
-        | inl i ↦ not_later j k (p k i)
-        | inr e ↦ subst (λ z. later_at h j z ≡ false) e (itself h valid j)
-      ],
-    )
-    | inr n ↦ rw (cond-false (sets_at h j) (Some j) None n) (λ k m. elim (Contains-push_cases xs j k m) [ inl i ↦ p k i | inr e ↦ subst (λ z. sets_at h z ≡ false) e n ])
-  ]
-  one_more xs (Some i) j p = elim (cases_Bool (later_at h i j)) [
-    | inl y ↦ rw (cond-true (later_at h i j) (Some j) (Some i) y) (
-      Contains-push xs j,
-      setter_later h i j y,
-      λ k m. elim (Contains-push_cases xs j k m) [
-        | inl d ↦ elim (cases_Bool (later_at h j k)) [ inl l ↦ never (through h valid i j k y l) (p.2 k d) | inr f ↦ f ]
-        | inr e ↦ subst (λ z. later_at h j z ≡ false) e (itself h valid j)
-      ],
-    )
-    | inr n ↦ rw (cond-false (later_at h i j) (Some j) (Some i) n) (
-      Contains-append_left xs (j ∷ []) i p.0,
-      p.1,
-      λ k m. elim (Contains-push_cases xs j k m) [ inl d ↦ p.2 k d | inr e ↦ subst (λ z. later_at h i z ≡ false) e n ],
-    )
+  one_more xs o j p = elim (cases_Bool (is_next h o j)) [
+    | inl y ↦
+        let w = none_after xs o j p y in
+        rw (cond-true (is_next h o j) (Some j) o y) (
+          Contains-push xs j,
+          w.0,
+          λ k m. elim (Contains-push_cases xs j k m) [ inl d ↦ w.1 k d | inr e ↦ subst (λ z. later_at h j z ≡ false) e (itself h valid j) ],
+        )
+    | inr n ↦ rw (cond-false (is_next h o j) (Some j) o n) (stays xs o j p n)
   ]
 
   all_taken : (seen xs : List ℕ) (o : Option ℕ) → IsLastOf seen o → IsLastOf (seen ++ xs) (fold (taken h) o xs)

@@ -1,4 +1,4 @@
--- Which components decide whether a version shows, and the versions that show, without multiplying out the others. No public clause cites this module.
+-- The components that decide whether a version shows, and the versions that show. No public clause cites this module.
 use Rattle.std.specs.Prelude.{ℕ, ◌*◌, Bool, true, false, cond, not, ◌&&◌, ◌||◌, nat_le}
 use Rattle.std.specs.Prelude.{List, [], ◌∷◌, length, filter, Option, Some, None}
 use Rattle.std.specs.List.{list_any, list_all, fold}
@@ -6,17 +6,21 @@ use Rattle.gf_ops.specs.declared.op.Op.{Op}
 use Rattle.gf_components.specs.Components.{ComponentState, ComponentsState, products, whole}
 use Rattle.gf_shown.specs.ShownAt.{sets_at, shows_at, later_at}
 
--- each of gs with each of the others, if these are kept and the products are at most m
+-- each of gs with each of the others, if the others are kept and the products are at most m
 abbrev pub at_most : ℕ → List (List ℕ) → Option (List (List ℕ)) → Option (List (List ℕ))
 at_most m gs (Some ks) = cond (nat_le (length gs * length ks) m) (Some (products gs ks)) None
 at_most m gs None = None
 
--- a setter is an operation of h that shows or hides; each is told by its position
+-- a setter is an operation of h that shows or hides, told by its position
 module _ (h : List Op) where
+  -- j becomes the last setter so far
+  abbrev pub is_next : Option ℕ → ℕ → Bool
+  is_next None j = sets_at h j
+  is_next (Some i) j = later_at h i j
+
   -- the last setter so far, after j came too
   abbrev pub taken : Option ℕ → ℕ → Option ℕ
-  taken None j = cond (sets_at h j) (Some j) None
-  taken (Some i) j = cond (later_at h i j) (Some j) (Some i)
+  taken o j = cond (is_next o j) (Some j) o
 
   -- the last setter of g
   abbrev pub last_of : List ℕ → Option ℕ

@@ -1,5 +1,6 @@
 -- The largest compatible sets of positions that show, listed unless they are too many. No public clause cites this module.
-use Rattle.std.specs.Prelude.{◌≡◌, ◌≢◌, ◌↔◌, ℕ, ◌<◌, ◌≤◌, true, List, AllPairs, Contains, length, Option, Some, None}
+use Rattle.std.specs.Prelude.{◌≡◌, ◌≢◌, ◌↔◌, ℕ, ◌<◌, ◌≤◌, true, List, AllPairs, Contains}
+use Rattle.std.specs.Prelude.{length, Option, Some, None}
 use Rattle.gf_ops.specs.declared.op.Op.{Op}
 use Rattle.gf_groups.specs.Growing.{conflict_at}
 use Rattle.gf_maximal.specs.Tables.{IsLargest, IsRising}
@@ -22,7 +23,7 @@ pub record HasMoreSets (h : List Op) (us : List ℕ) (m : ℕ) : Type 0 where
   pub all : AreShownSets h us sets
   pub many : m < length sets
 
--- the sets are all largest compatible sets of the positions us that show, and at most m; none, where more show
+-- the sets are all that show of the positions us, and at most m; None, where more show
 abbrev pub IsSetListing : List Op → List ℕ → ℕ → Option (List (List ℕ)) → Type 0
 IsSetListing h us m (Some sets) = AreShownSets h us sets × (length sets ≤ m)
 IsSetListing h us m None = HasMoreSets h us m

@@ -2,7 +2,7 @@
 
 ghost use Rattle.std.specs.Prelude.{◌≡◌, ◌-◌, option_copied};
 ghost use Rattle.std.specs.List.{list_any, list_all, range_with_len};
-ghost use Rattle.gf_shown.specs.Deciding.{taken, last_of, is_shown, always_later, overruled};
+ghost use Rattle.gf_shown.specs.Deciding.{is_next, last_of, is_shown, always_later, overruled};
 ghost use Rattle.gf_shown.specs.Deciding.{may_be_last};
 ghost use Rattle.gf_shown.specs.ShownAt.{later_at};
 
@@ -11,25 +11,13 @@ use gf_components::{Component, Components};
 use gf_maximal::Numbers;
 use gf_ops::History;
 
-/// The last setter so far, after the one at this position came too.
-fn taken(history: &History, last: Option<usize>, position: usize) -> Option<usize>
-    ensures { result ≡ taken history.now.ops last position }
+/// Whether the operation at this position becomes the last setter so far.
+fn is_next(history: &History, last: Option<usize>, position: usize) -> bool
+    ensures { result ≡ is_next history.now.ops last position }
 {
     match last {
-        Some(last) => {
-            if later_at(history, last, position) {
-                Some(position)
-            } else {
-                Some(last)
-            }
-        }
-        None => {
-            if sets_at(history, position) {
-                Some(position)
-            } else {
-                None
-            }
-        }
+        Some(last) => later_at(history, last, position),
+        None => sets_at(history, position),
     }
 }
 
@@ -39,7 +27,9 @@ fn last_of(history: &History, group: &[usize]) -> Option<usize>
 {
     let mut last = None;
     for position in group {
-        last = taken(history, last, *position);
+        if is_next(history, last, *position) {
+            last = Some(*position);
+        }
     }
     last
 }

@@ -10,12 +10,12 @@ ghost use Rattle.gf_table.specs.Standing.{StandsFor};
 ghost use Rattle.gf_shown.specs.ShownSets.{IsSetListing};
 
 use crate::deciding::{one_may_be_last, shows};
-use gf_table::GroupTable;
 use gf_components::{Component, Components, alone, merged, products};
 use gf_groups::groups_at;
 use gf_maximal::Numbers;
 use gf_ops::{History, ObjectId};
 use gf_shape::OutOfMemory;
+use gf_table::GroupTable;
 use std::alloc::Global;
 
 /// The component with another one, if it is wanted.

@@ -9,11 +9,11 @@ ghost use Rattle.gf_shown.specs.VisibleSoFar.{HaveVisibleOf, IsGroupListing};
 ghost use Rattle.gf_table.specs.Standing.{StandsFor};
 
 use crate::listing::shown_sets;
-use gf_table::GroupTable;
 use gf_components::MOST_SETS;
 use gf_groups::{Group, GroupFault, add_groups};
 use gf_ops::{Change, History, ObjectId, Op};
 use gf_shape::OutOfMemory;
+use gf_table::GroupTable;
 use std::alloc::Global;
 
 /// The groups of the visible versions of an object that the history made, each once, if they are at

@@ -8,10 +8,10 @@ ghost use Rattle.gf_table.specs.Standing.{StandsFor};
 ghost use Rattle.gf_versions.specs.Ranking.{AreRanked};
 
 use crate::objects::{visible_made, visible_or_all};
-use gf_table::GroupTable;
 use gf_groups::Group;
 use gf_ops::History;
 use gf_shape::{AnyShape, OutOfMemory};
+use gf_table::GroupTable;
 use gf_versions::{Ranked, ranked_of};
 use std::alloc::Global;
 

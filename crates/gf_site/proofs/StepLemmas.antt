@@ -8,9 +8,6 @@ use Rattle.gf_ops.specs.declared.change.Change.{Change}
 use Rattle.gf_ops.specs.declared.change.Change.TheVariants.{Create, Set}
 use Rattle.gf_ops.specs.KnownObject.{IsFounded, IsSuited}
 use Rattle.gf_ops.specs.Accepted.{IsAccepted, IsRefused, AreAccepted, next}
-use Rattle.gf_ops.specs.declared.op.ObjectId.{ObjectId}
-use Rattle.gf_table.specs.ObjectState.{ObjectState}
-use Rattle.gf_table.specs.Standing.{StandsFor}
 
 -- an accepted operation goes on
 pub run_more : (h old new : List Op) (a : Op) → AreAccepted h → old ≡ h → IsAccepted h a → new ≡ old ++ a ∷ [] → AreAccepted new
@@ -30,9 +27,9 @@ same_taken r a b e f = cc
 pub accepted_same : (h old : List Op) (a b : Op) → old ≡ h → b ≡ a → IsAccepted h a → IsAccepted old b
 accepted_same h old a b e s c = subst (λ l. IsAccepted l b) (sym e) (subst (IsAccepted h) (sym s) c)
 
--- the table stands for the history with the operation
-pub table_more : (h old new : List Op) (a : Op) (t : List (ObjectId × ObjectState)) → old ≡ h → new ≡ old ++ a ∷ [] → StandsFor (h ++ a ∷ []) t → StandsFor new t
-table_more h old new a t e n s = subst (λ l. StandsFor l t) (sym (n ∙ ap (λ l. l ++ a ∷ []) e)) s
+-- what holds of the history with the operation holds of the new one
+pub holds_more : (P : List Op → Type 0) (h old new : List Op) (a : Op) → old ≡ h → new ≡ old ++ a ∷ [] → P (h ++ a ∷ []) → P new
+holds_more P h old new a e n = subst P (sym (n ∙ ap (λ l. l ++ a ∷ []) e))
 
 -- an accepted change makes an object, or changes one that its operation knows
 pub founded : (h : List Op) (a : Op) (c : Change) → IsSuited h a c → IsFounded h a c

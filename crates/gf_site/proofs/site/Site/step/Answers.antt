@@ -2,7 +2,7 @@ use Rattle.std.proofs.Common.{◌++◌, ◌∷◌, [], refl, sym, subst, ◌∙�
 use Rattle.std.proofs.lemmas.Result.{err_from_is_err_and}
 use Rattle.gf_ops.specs.Limits.{IsInRange}
 use Rattle.gf_table.specs.Standing.{StandsFor}
-use Rattle.gf_site.proofs.StepLemmas.{run_more, refused_by, same_taken, accepted_same, table_more}
+use Rattle.gf_site.proofs.StepLemmas.{run_more, refused_by, same_taken, accepted_same, holds_more}
 use Rattle.gf_site.proofs.site.Site.step.Goals as goal
 
 pub returns-in_default-clause-ok : goal.returns-in_default-clause-ok
@@ -57,7 +57,7 @@ invariant_of-self-2 c =
     let same = same_taken c.take-2.result a b taken.0 c.in-Some-take.is in
     let stands = subst (λ a. StandsFor (h ++ a ∷ []) c.grow.new.table) (sym same) c.in_ok-grow.ensures.table in
     let accepted = accepted_same h h a b refl same (c.in_default-check.ensures.ok.0 refl) in
-    (c.self.invariant.0, run_more h old new b c.self.invariant.1 history accepted more, table_more h old new b c.grow.new.table history more stands)
+    (c.self.invariant.0, run_more h old new b c.self.invariant.1 history accepted more, holds_more (λ l. StandsFor l c.grow.new.table) h old new b history more stands)
 
 pub returns-clause-ok : goal.returns-clause-ok
 returns-clause-ok c =
