@@ -6,7 +6,7 @@ use Rattle.std.specs.FinMap.{nat_cmp-IsAntisymmetric}
 use Rattle.std.specs.Ordering.{nat_cmp}
 use Rattle.std.proofs.lemmas.Bool.{cases_Bool, cond-true, cond-false, not-true, not_from_false, or_left}
 use Rattle.std.proofs.lemmas.Cmp.{nat_cmp_total}
-use Rattle.std.proofs.lemmas.List.Elements.{Contains-append_cases, Contains-append_left, Contains-push, Contains-push_cases}
+use Rattle.std.proofs.lemmas.List.Elements.{Contains-append_left, Contains-push, Contains-push_cases}
 use Rattle.std.proofs.lemmas.List.{append-nil}
 use Rattle.std.proofs.lemmas.List.Elements.{filter-append}
 use Rattle.std.proofs.lemmas.List.Sums.{fold_push}
@@ -72,9 +72,6 @@ module _ (c : ℕ → ℕ → Bool) where
     | inl e ↦ inl (subst (λ (q : ComponentState). Contains q.all a) e h.2)
     | inr i ↦ inr (h.0, i, h.2)
   ]
-
-  pub in_append_cases : (ps qs : List ComponentState) (a : ℕ) → IsInParts (ps ++ qs) a → IsInParts ps a ⊎ IsInParts qs a
-  in_append_cases ps qs a h = elim (Contains-append_cases ps qs h.0 h.1) [ inl i ↦ inl (h.0, i, h.2) | inr i ↦ inr (h.0, i, h.2) ]
 
   -- ---- parts in one
 

@@ -1,5 +1,5 @@
 -- Largest compatible groups, as predicates, when the universe grows by one element.
-use Rattle.std.proofs.Common.{◌≡◌, Bool, true, false, inl, inr, subst, sym}
+use Rattle.std.proofs.Common.{◌≡◌, Bool, false, inl, inr, subst, sym}
 use Rattle.std.specs.Prelude.{◌⊎◌, ◌↔◌}
 use Rattle.gf_maximal.specs.Tables.{Hits, IsLargest}
 
@@ -8,16 +8,9 @@ module _ {X : Type 0} (c : X → X → Bool) where
   abbrev pub With : (X → Type 0) → X → X → Type 0
   With p x a = p a ⊎ (a ≡ x)
 
-  -- those of p that are compatible with x, and x
-  abbrev pub Part : (X → Type 0) → X → X → Type 0
-  Part p x a = (p a × (c a x ≡ false)) ⊎ (a ≡ x)
-
   pub record IsConflict : Type 0 where
     pub symmetric : (a b : X) → c a b ≡ c b a
     pub alone : (a : X) → c a a ≡ false
-
-  never : {G : Type 0} {t : Bool} → t ≡ true → t ≡ false → G
-  never h k = cc
 
   compatible_with : IsConflict → (p : X → Type 0) (x : X) → ((a b : X) → p a → p b → c a b ≡ false) → ((a : X) → p a → c a x ≡ false) → (a b : X) → With p x a → With p x b → c a b ≡ false
   compatible_with s p x k f a b (inl h) (inl g) = k a b h g
@@ -54,25 +47,6 @@ module _ {X : Type 0} (c : X → X → Bool) where
     compatible = m.compatible;
     largest = λ a u. m.largest a (inl u);
   }
-
-  -- a largest group that holds x is the part of any larger old group, with x
-  pub largest_is_part : IsConflict → (U p q : X → Type 0) (x : X) → IsLargest c (With U x) q → q x → IsLargest c U p → ((a : X) → q a → U a → p a) → (a : X) → q a ↔ Part p x a
-  largest_is_part s U p q x m here old more a = (
-    λ h. elim (m.within a h) [ inl u ↦ inl (more a h u, m.compatible a x h here) | inr e ↦ inr e ],
-    λ h. elim h [
-      | inl g ↦ elim (m.largest a (inl (old.within a g.0))) [
-        | inl i ↦ i
-        | inr w ↦ elim (m.within w.0 w.1) [
-          | inl u ↦ absurd (never w.2 (old.compatible a w.0 g.0 (more w.0 w.1 u)))
-          | inr e ↦ absurd (let i = g.1 in let j = w.2 in cc)
-        ]
-      ]
-      | inr e ↦ subst q (sym e) here
-    ],
-  )
-
-  pub compatible_part : IsConflict → (p : X → Type 0) (x : X) → ((a b : X) → p a → p b → c a b ≡ false) → (a b : X) → Part p x a → Part p x b → c a b ≡ false
-  compatible_part s p x k = compatible_with s (λ a. p a × (c a x ≡ false)) x (λ a b h g. k a b h.0 g.0) (λ a h. h.1)
 
   -- the same sets, told in other words
   pub largest_alike : (U V p q : X → Type 0) → ((a : X) → U a ↔ V a) → ((a : X) → p a ↔ q a) → IsLargest c U p → IsLargest c V q

@@ -1,7 +1,7 @@
 -- Runs that change at one index.
 use Rattle.std.proofs.Common.{◌≡◌, ℕ, zero, suc, ◌<◌, ◌≤◌, ◌+◌, true, false, List, [], ◌∷◌, ◌++◌, length, get_or, set, take, drop, ◌-◌, append_assoc, inl, inr, refl, subst, sym, ap, ◌∙◌, arith, max, nat_le, nat_lt}
 use Rattle.std.specs.Prelude.{◌==◌}
-use Rattle.std.specs.List.{insert, remove, range_with_len}
+use Rattle.std.specs.List.{remove, range_with_len}
 use Rattle.std.proofs.lemmas.Bool.{cases_Bool, cond-true, cond-false}
 use Rattle.std.proofs.lemmas.Bool.Decides.{Decides-eqb}
 use Rattle.std.proofs.lemmas.List.{append-nil}
@@ -55,12 +55,6 @@ drop_end [] (suc j) l = refl
 drop_end (r ∷ rs) zero l = absurd (omega arith)
 drop_end (r ∷ rs) (suc j) l = drop_end rs j (omega arith)
 
-take_drop : (rs : List Run) (i : ℕ) → take i rs ++ drop i rs ≡ rs
-take_drop [] zero = refl
-take_drop [] (suc i) = refl
-take_drop (r ∷ rs) zero = refl
-take_drop (r ∷ rs) (suc i) = ap (λ z. r ∷ z) (take_drop rs i)
-
 -- ---- the run at the index i becomes v
 
 pub absorb_none : (rs : List Run) (i : ℕ) (v : Run) → i < length rs → length rs ≤ i + 1 → set rs i v ≡ take i rs ++ absorb v (drop (i + 1) rs)
@@ -85,24 +79,8 @@ settled_at x rs i q l e =
     let d : drop i rs ≡ q ∷ drop (i + 1) rs = subst (λ z. drop i rs ≡ z ∷ drop (i + 1) rs) (sym e) (drop_one rs i (i + 1) q refl l) in
     ap (λ z. take i rs ++ settled x z) d
 
-pub settled_equal : (x : ℕ) (rs : List Run) (i : ℕ) (q : Run) → i < length rs → q ≡ get_or rs i q → (q.end == x) ≡ true → take i rs ++ absorb (record { start = q.start; end = x + 1 }) (drop (i + 1) rs) ≡ take i rs ++ settled x (drop i rs)
-settled_equal x rs i q l e t = sym (settled_at x rs i q l e ∙ ap (λ z. take i rs ++ z) (rw t refl))
-
-pub settled_inside : (x : ℕ) (rs : List Run) (i : ℕ) (q : Run) → i < length rs → q ≡ get_or rs i q → (q.end == x) ≡ false → nat_le q.start x ≡ true → rs ≡ take i rs ++ settled x (drop i rs)
-settled_inside x rs i q l e n t =
-    let d : drop i rs ≡ q ∷ drop (i + 1) rs = subst (λ z. drop i rs ≡ z ∷ drop (i + 1) rs) (sym e) (drop_one rs i (i + 1) q refl l) in
-    sym (settled_at x rs i q l e ∙ (ap (λ z. take i rs ++ z) (rw (n, t) (sym d)) ∙ take_drop rs i))
-
 pub settled_lower : (x : ℕ) (rs : List Run) (i : ℕ) (q : Run) → i < length rs → q ≡ get_or rs i q → (q.end == x) ≡ false → nat_le q.start x ≡ false → (q.start == x + 1) ≡ true → set rs i (record { start = x; end = q.end }) ≡ take i rs ++ settled x (drop i rs)
 settled_lower x rs i q l e n m t = set_is rs i (i + 1) (record { start = x; end = q.end }) refl l ∙ sym (settled_at x rs i q l e ∙ ap (λ z. take i rs ++ z) (rw (n, m, t) refl))
-
-pub settled_new : (x : ℕ) (rs : List Run) (i : ℕ) (q : Run) → i < length rs → q ≡ get_or rs i q → (q.end == x) ≡ false → nat_le q.start x ≡ false → (q.start == x + 1) ≡ false → insert rs i (record { start = x; end = x + 1 }) ≡ take i rs ++ settled x (drop i rs)
-settled_new x rs i q l e n m o =
-    let d : drop i rs ≡ q ∷ drop (i + 1) rs = subst (λ z. drop i rs ≡ z ∷ drop (i + 1) rs) (sym e) (drop_one rs i (i + 1) q refl l) in
-    sym (settled_at x rs i q l e ∙ ap (λ z. take i rs ++ z) (rw (n, m, o) (ap (λ z. record { start = x; end = x + 1 } ∷ z) (sym d))))
-
-pub settled_last : (x : ℕ) (rs : List Run) (i : ℕ) → length rs ≤ i → insert rs i (record { start = x; end = x + 1 }) ≡ take i rs ++ settled x (drop i rs)
-settled_last x rs i l = let d = drop_end rs i l in rw d refl
 
 get_any : (rs : List Run) (i : ℕ) (d e : Run) → i < length rs → get_or rs i d ≡ get_or rs i e
 get_any [] i d e l = absurd (omega arith)

@@ -653,9 +653,6 @@ after_after n m (r ∷ rs) l = elim (cases_Bool (nat_le r.end n)) [
   | inr t ↦ rw t refl
 ]
 
-pub serves_first : (others runs : List Run) → AreRuns others → Serves others others runs
-serves_first others runs w = record { runs = w; same = λ q h. refl }
-
 pub serves_more : (rest new others : List Run) (r : Run) (left : List Run) → AreRuns (r ∷ left) → Serves rest others (r ∷ left) → new ≡ after r.start rest → Serves new others left
 serves_more rest new others r left w s e = subst (λ z. Serves z others left) (sym e) (record {
   runs = after_runs r.start rest s.runs;

@@ -4,7 +4,6 @@ use Rattle.std.specs.Prelude.{◌↔◌, Contains}
 use Rattle.std.proofs.lemmas.List.{take_all, take_more}
 use Rattle.std.proofs.lemmas.List.Elements.{Contains-append_left, Contains-push, Contains-push_cases}
 use Rattle.gf_maximal.specs.Growing.{joined}
-use Rattle.gf_ops.proofs.ListLemmas.{not_Contains-nil}
 use Rattle.gf_rivals.specs.Comparing.{AddsIf}
 use Rattle.gf_rivals.proofs.IndexLemmas.{Contains-joined}
 
@@ -32,9 +31,6 @@ module _ (f : ℕ → Bool) where
           | inr e ↦ inr (subst (λ z. f z ≡ true) (sym e) j.1, sym e)
         ]),
       )
-
-  pub gathers_none : (g xs : List ℕ) → g ≡ [] → (n : ℕ) → Contains g n ↔ (Contains (take 0 xs) n × (f n ≡ true))
-  gathers_none g xs e n = (λ j. absurd (not_Contains-nil n (subst (λ z. Contains z n) e j)), λ j. absurd (not_Contains-nil n j.0))
 
   pub gathers_all : (g xs ys : List ℕ) (i : ℕ) → length xs ≤ i → xs ≡ ys → ((n : ℕ) → Contains g n ↔ (Contains (take i xs) n × (f n ≡ true))) → (n : ℕ) → Contains g n ↔ (Contains ys n × (f n ≡ true))
   gathers_all g xs ys i l e h n =

@@ -10,7 +10,6 @@ use Rattle.std.proofs.lemmas.Cmp.{nat_cmp_total}
 use Rattle.gf_maximal.specs.Growing.{joined}
 use Rattle.gf_maximal.proofs.InsertLemmas.{holds}
 use Rattle.gf_ops.specs.declared.op.Op.{Op}
-use Rattle.gf_ops.proofs.ListLemmas.{not_Contains-nil}
 use Rattle.gf_rivals.specs.declared.chain.Setter.{Setter}
 use Rattle.gf_rivals.specs.declared.fingerprint.Fingerprint.{Fingerprint}
 use Rattle.gf_rivals.specs.Setters.{block}
@@ -52,9 +51,6 @@ Contains-numbers_at old new p x f q n = elim (cases_Bool (is_at (fingerprint_cmp
 ]
 
 -- ---- chain by chain
-
-pub lists_none : (h : List Op) (ss : List Setter) (b : ℕ) (ix : Entries) → Lists h ss b 0 ix ix
-lists_none h ss b ix p n = (λ i. inl i, λ i. elim i [ inl j ↦ j | inr l ↦ absurd (let w = l.within in omega (arith, w)) ])
 
 listed_more : (h : List Op) (ss : List Setter) (b m : ℕ) (e : Setter) (old mid new : Entries) → slice_get ss m ≡ Some e →
     Lists h ss b m old mid → PutsGiven mid (fingerprint_given (op_value (slice_get h e.position))) (b + m) new → Lists h ss b (m + 1) old new
@@ -101,17 +97,7 @@ lists_more h ss b m d old mid new l f g = listed_more h ss b m (get_or ss m d) o
 pub lists_all : (h : List Op) (ss : List Setter) (b m : ℕ) (old new : Entries) → m ≡ length ss → Lists h ss b m old new → Lists h ss b (length ss) old new
 lists_all h ss b m old new e f = subst (λ z. Lists h ss b z old new) e f
 
--- a chain without setters lists none
-pub lists_empty : (h : List Op) (cs : List (List Setter)) (k : ℕ) (ix : Entries) → get_or cs k [] ≡ [] → ListsChain h cs k ix ix
-lists_empty h cs k ix e p n = (
-  λ i. inl i,
-  λ i. elim i [ inl j ↦ j | inr l ↦ absurd (let c : slice_get [] l.place ≡ Some l.setter = ap (λ z. slice_get z l.place) (sym e) ∙ l.at in cc) ],
-)
-
 -- ---- all chains
-
-pub below_none : (h : List Op) (cs : List (List Setter)) (ix : Entries) → ix ≡ [] → (p : Fingerprint) (n : ℕ) → Contains (numbers_at ix p) n ↔ IsListedBelow h cs 0 p n
-below_none h cs ix e p n = (λ i. absurd (not_Contains-nil n (subst (λ z. Contains (numbers_at z p) n) e i)), λ i. absurd (let w = i.below in omega (arith, w)))
 
 pub below_more : (h : List Op) (cs : List (List Setter)) (k : ℕ) (old new : Entries) → ((p : Fingerprint) (n : ℕ) → Contains (numbers_at old p) n ↔ IsListedBelow h cs k p n) → ListsChain h cs k old new →
     (p : Fingerprint) (n : ℕ) → Contains (numbers_at new p) n ↔ IsListedBelow h cs (k + 1) p n

@@ -26,10 +26,6 @@ at_other k j n = elim (cases_Bool (is_at (nat_cmp k) j)) [
 
 -- ---- places
 
-length-from : (es : Kept) (k n : ℕ) → length (chains_from es k n) ≡ n
-length-from es k zero = refl
-length-from es k (suc n) = let r = length-from es (suc k) n in omega arith
-
 get-from : (es : Kept) (k n i j : ℕ) (d : List Setter) → i < n → j ≡ k + i → get_or (chains_from es k n) i d ≡ chain_at es j
 get-from es k zero i j d l e = absurd (omega arith)
 get-from es k (suc n) zero j d l e = let s : k ≡ j = omega (arith, e) in ap (chain_at es) s
@@ -63,14 +59,6 @@ put-from es fs ss x k (suc n) (suc i) l e a f =
 
 -- ---- all chains
 
-pub length-all_chains : (es : Kept) → length (all_chains es) ≡ 48
-unfolding all_chains
-length-all_chains es = length-from es 0 48
-
-pub get-all_chains : (es : Kept) (i : ℕ) (d : List Setter) → i < 48 → get_or (all_chains es) i d ≡ chain_at es i
-unfolding all_chains
-get-all_chains es i d l = get-from es 0 48 i i d l (omega arith)
-
 -- what is not kept is seen as no setters
 pub chain_seen : (es : Kept) (i : ℕ) → AreBelow 48 es → chain_at es i ≡ get_or (all_chains es) i []
 unfolding all_chains
@@ -96,17 +84,6 @@ none_all es e = ap (λ z. chains_from z 0 48) e ∙ nothing 0 48
     nothing : (k n : ℕ) → chains_from [] k n ≡ repeat n ([] ∷ [])
     nothing k zero = refl
     nothing k (suc n) = let r = nothing (suc k) n in λ i. [] ∷ r i
-
--- ---- below
-
-pub below_none : (es : Kept) → es ≡ [] → AreBelow 48 es
-below_none es e k l = ap (λ z. lookup (is_at (nat_cmp k)) z) e
-
-pub below_kept : (es fs : Kept) → KeepsChains es fs → AreBelow 48 es → AreBelow 48 fs
-below_kept es fs f b k l = f k ∙ b k l
-
-pub below_put : (es fs : Kept) (ss : List Setter) (x : ℕ) → x < 48 → PutsChain es x ss fs → AreBelow 48 es → AreBelow 48 fs
-below_put es fs ss x m f b k l = f k ∙ (cond-false (is_at (nat_cmp x) k) (Some ss) (lookup (is_at (nat_cmp k)) es) (at_other x k (λ e. omega (arith, m, l, e))) ∙ b k l)
 
 -- a chain that is kept has an index below 48
 pub kept_below : (es : Kept) (k : ℕ) (r : Option (Bor (List Setter))) → AreBelow 48 es → option_copied r ≡ lookup (is_at (nat_cmp k)) es → IfSome r (λ z. k < 48)

@@ -2,6 +2,7 @@ pub mod NextLemmas
 pub mod SetterLemmas
 pub mod NumberLemmas
 pub mod RivalLemmas
+pub mod LongerLemmas
 pub mod TellsLemmas
 pub mod KeptLemmas
 pub mod FingerprintLemmas

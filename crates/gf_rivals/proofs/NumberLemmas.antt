@@ -189,21 +189,6 @@ module _ (h : List Op) (o : ObjectId) (cs : List (List Setter)) (tells : Tells h
       let i = tells.each k.attribute k.site k.place k.setter k.within k.at in
       subst (λ z. z < length h) k.position (got_at h k.setter.position i.op i.at).0
 
-  -- the number of the next setter is none yet
-  pub next_free : (t : Attr) (s q : ℕ) → s < 8 → ¬ (IsNumber cs (chain_of t s * block + length (setters cs t s)) q)
-  next_free t s q l k =
-      let n = length (setters cs t s) in
-      let w = one_block (chain_of t s) (chain_of k.attribute k.site) n k.place (tells.ordered t s l).short (place_short k.attribute k.site k.place k.setter k.within k.at) k.number in
-      let c = w.0 in
-      let m = k.within in
-      let site : k.site ≡ s = omega (arith, c, l, m) in
-      let same : rank k.attribute ≡ rank t = omega (arith, c, l, m) in
-      let at : slice_get (setters cs t s) k.place ≡ Some k.setter =
-      subst (λ z. slice_get (setters cs t z) k.place ≡ Some k.setter) site (subst (λ z. slice_get (setters cs z k.site) k.place ≡ Some k.setter) (rank_one k.attribute t same) k.at) in
-      let p = (got_at (setters cs t s) k.place k.setter at).0 in
-      let e = w.1 in
-      omega (arith, p, e)
-
   -- a setter's number leads to its position
   pub position_is : (n q : ℕ) → IsNumber cs n q → position_of cs n ≡ Some q
   position_is n q k =

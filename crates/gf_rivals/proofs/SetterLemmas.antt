@@ -80,9 +80,6 @@ above_told ss b m k n g c e =
 
 -- ---- site by site
 
-pub unknown_none : (cs : List (List Setter)) (t : Attr) (past : Clock) (n : ℕ) → ¬ (IsUnknown cs t past 0 n)
-unknown_none cs t past n h = let l = h.within in omega arith
-
 pub unknown_more : (cs : List (List Setter)) (t : Attr) (past : Clock) (m j n : ℕ) → j ≡ m + 1 → IsUnknown cs t past j n ↔ (IsUnknown cs t past m n ⊎ IsAbove (setters cs t m) (chain_of t m * block) (entry past (m + 1)) n)
 unknown_more cs t past m j n e = (
   λ h. let w = h.within in elim (cases_lt h.site m) [
@@ -177,9 +174,6 @@ site_more cs t past m j f found new e g x y n =
       λ h. step.1 (elim (one.0 h) [ inl i ↦ inl ((x n).0 i) | inr i ↦ inr i ]),
       λ h. one.1 (elim (step.0 h) [ inl i ↦ inl ((x n).1 i) | inr i ↦ inr i ]),
     )
-
-pub first_site : (cs : List (List Setter)) (t : Attr) (past : Clock) (g : List ℕ) → g ≡ [] → (n : ℕ) → Contains g n ↔ IsUnknown cs t past 0 n
-first_site cs t past g e n = (λ h. absurd (not_Contains-nil n (subst (λ k. Contains k n) e h)), λ h. absurd (unknown_none cs t past n h))
 
 pub all_sites : (cs : List (List Setter)) (t : Attr) (past : Clock) (m : ℕ) (g : List ℕ) → m ≡ 8 → ((n : ℕ) → Contains g n ↔ IsUnknown cs t past m n) → (n : ℕ) → Contains g n ↔ IsUnknown cs t past 8 n
 all_sites cs t past m g e f = subst (λ k. (n : ℕ) → Contains g n ↔ IsUnknown cs t past k n) e f

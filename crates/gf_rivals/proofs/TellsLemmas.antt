@@ -1,17 +1,16 @@
 -- Chains tell the setters of an object, as the history becomes longer.
 use Rattle.std.proofs.Common.{◌≡◌, ◌≢◌, ℕ, zero, suc, ◌<◌, ◌+◌, ◌-◌, ◌*◌, List, [], ◌∷◌, ◌++◌, length, get_or, set, inl, inr, refl, subst, sym, ap, ◌∙◌, arith}
-use Rattle.std.specs.Prelude.{◌⊎◌, ◌↔◌, Some, slice_get}
+use Rattle.std.specs.Prelude.{◌⊎◌, Some, slice_get}
 use Rattle.std.specs.List.{repeat}
 use Rattle.std.proofs.lemmas.Bool.{cases_lt}
 use Rattle.std.proofs.lemmas.List.{length-set}
 use Rattle.gf_ops.specs.declared.op.Op.{Op}
 use Rattle.gf_ops.specs.declared.op.ObjectId.{ObjectId}
 use Rattle.gf_ops.specs.declared.change.Attr.{Attr}
-use Rattle.gf_ops.specs.declared.change.Change.TheVariants.{Create, Set}
+use Rattle.gf_ops.specs.declared.change.Change.TheVariants.{Set}
 use Rattle.gf_ops.specs.declared.change.Value.{Value}
-use Rattle.gf_ops.specs.declared.change.Start.{Start}
 use Rattle.gf_ops.specs.Accepted.{IsAccepted}
-use Rattle.gf_ops.specs.Attribute.{attribute_of, object_of, changed_object}
+use Rattle.gf_ops.specs.Attribute.{attribute_of}
 use Rattle.gf_ops.specs.Limits.{IsInRange}
 use Rattle.gf_ops.specs.OperationOrder.{IsSite}
 use Rattle.gf_ops.specs.ValidHistory.{IsValid}
@@ -25,48 +24,10 @@ use Rattle.gf_rivals.specs.Fingerprints.{fingerprint_of}
 use Rattle.gf_rivals.specs.Giving.{op_value, value_set, fingerprint_given}
 use Rattle.gf_rivals.specs.Indexes.{HasFingerprint, IsIndex, PutsNumber}
 use Rattle.gf_rivals.proofs.IndexLemmas.{Contains-numbers_at}
+use Rattle.gf_rivals.proofs.LongerLemmas.{get_front, get_within, get_last, get_cases, set_here, set_else, set_back}
 use Rattle.gf_rivals.proofs.NextLemmas.{earlier}
 use Rattle.gf_rivals.proofs.NumberLemmas.{some_one, rank_one, rank_below, contained_at, number_within}
 use Rattle.gf_rivals.proofs.SetterLemmas.{setters_push, at_place}
-
--- ---- a list that becomes longer
-
-get_front : {X : Type 0} (xs : List X) (y : X) (i : ℕ) (x : X) → slice_get xs i ≡ Some x → slice_get (xs ++ y ∷ []) i ≡ Some x
-get_front [] y i x e = absurd cc
-get_front (z ∷ xs) y zero x e = e
-get_front (z ∷ xs) y (suc i) x e = get_front xs y i x e
-
-get_within : {X : Type 0} (xs : List X) (y : X) (i : ℕ) → i < length xs → slice_get (xs ++ y ∷ []) i ≡ slice_get xs i
-get_within [] y i l = absurd (omega arith)
-get_within (z ∷ xs) y zero l = refl
-get_within (z ∷ xs) y (suc i) l = get_within xs y i (omega arith)
-
-get_last : {X : Type 0} (xs : List X) (y : X) → slice_get (xs ++ y ∷ []) (length xs) ≡ Some y
-get_last [] y = refl
-get_last (z ∷ xs) y = get_last xs y
-
-get_cases : {X : Type 0} (xs : List X) (y : X) (i : ℕ) (x : X) → slice_get (xs ++ y ∷ []) i ≡ Some x → (slice_get xs i ≡ Some x) ⊎ ((i ≡ length xs) × (y ≡ x))
-get_cases [] y zero x e = inr (refl, some_one y x e)
-get_cases [] y (suc i) x e = absurd cc
-get_cases (z ∷ xs) y zero x e = inl e
-get_cases (z ∷ xs) y (suc i) x e = elim (get_cases xs y i x e) [ inl a ↦ inl a | inr b ↦ inr (let k = b.0 in omega arith, b.1) ]
-
-set_here : (cs : List (List Setter)) (k : ℕ) (x d : List Setter) → k < length cs → get_or (set cs k x) k d ≡ x
-set_here [] k x d l = absurd (omega arith)
-set_here (c ∷ cs) zero x d l = refl
-set_here (c ∷ cs) (suc k) x d l = set_here cs k x d (omega arith)
-
-set_else : (cs : List (List Setter)) (k j : ℕ) (x d : List Setter) → j ≢ k → get_or (set cs k x) j d ≡ get_or cs j d
-set_else [] k j x d n = refl
-set_else (c ∷ cs) zero zero x d n = absurd (n refl)
-set_else (c ∷ cs) zero (suc j) x d n = refl
-set_else (c ∷ cs) (suc k) zero x d n = refl
-set_else (c ∷ cs) (suc k) (suc j) x d n = set_else cs k j x d (λ e. n (omega (arith, e)))
-
-set_back : (cs : List (List Setter)) (k : ℕ) (x : List Setter) → set (set cs k x) k (get_or cs k []) ≡ cs
-set_back [] k x = refl
-set_back (c ∷ cs) zero x = refl
-set_back (c ∷ cs) (suc k) x = let r = set_back cs k x in λ i. c ∷ r i
 
 -- a setter that was put behind the others and taken away again leaves the chains as they were
 pub taken_back : (cs now new : List (List Setter)) (t : Attr) (s : ℕ) (e : Setter) → length cs ≡ 48 → s < 8 → now ≡ with_setter cs t s e →
@@ -120,17 +81,6 @@ module _ (h : List Op) (o : ObjectId) (cs : List (List Setter)) (tells : Tells h
     ordered = tells.ordered;
     count = tells.count;
   }
-
-  -- one that makes an object
-  pub tells_made : (start : Start) → a.change ≡ Create start → Tells longer o cs
-  tells_made start e = tells_other (λ v f. apart (sym e ∙ f))
-    where
-      apart : {v : Value} → Create start ≢ Set o v
-      apart f = absurd cc
-
-  -- one on another object
-  pub tells_elsewhere : object_of a ≢ o → Tells longer o cs
-  tells_elsewhere n = tells_other (λ v f. n (ap (λ c. changed_object a.id c) f))
 
   -- what has a fingerprint keeps it
   given_still : (p : Fingerprint) (n : ℕ) → HasFingerprint h cs p n → HasFingerprint longer cs p n
@@ -301,15 +251,6 @@ module _ (h : List Op) (o : ObjectId) (cs : List (List Setter)) (tells : Tells h
       })
     ]
 
-    pub number_with : (n q : ℕ) → IsNumber new n q ↔ (IsNumber cs n q ⊎ ((n ≡ x) × (q ≡ length h)))
-    number_with n q = (
-      λ k. number_cases n q k,
-      λ k. elim k [
-        | inl old ↦ numbered n q old
-        | inr z ↦ subst (λ y. IsNumber new y q) (sym z.0) (subst (IsNumber new x) (sym z.1) last_number)
-      ],
-    )
-
     -- the index with the new setter
     pub index_setter : (ix new_ix : List (Fingerprint × List ℕ)) → IsIndex h cs ix → PutsNumber ix (fingerprint_of v) x new_ix → IsIndex longer new new_ix
     index_setter ix new_ix index puts p n =
@@ -324,31 +265,3 @@ module _ (h : List Op) (o : ObjectId) (cs : List (List Setter)) (tells : Tells h
             | inr z ↦ inr (some_one (fingerprint_of v) p (sym own ∙ (ap (λ q. fingerprint_given (op_value (slice_get longer q))) (sym z.1) ∙ f.given)), z.0)
           ]),
         )
-
-    -- ---- by what the calls are given and give
-
-    pub behind_pushed : (u : Attr) → u ≡ t → (i : ℕ) (d : Setter) → i < length (setters cs u s) → (get_or (setters cs u s) i d).seq < a.id.seq
-    behind_pushed u e = subst (λ z. (i : ℕ) (d : Setter) → i < length (setters cs z s) → (get_or (setters cs z s) i d).seq < a.id.seq) (sym e) behind_all
-
-    module _ (u : Attr) (p : ℕ) (now : List (List Setter)) (attribute : u ≡ t) (position : p ≡ length h) (pushed : now ≡ with_setter cs u s (record { seq = a.id.seq; position = p })) where
-      pushed_is : now ≡ new
-      pushed_is =
-          pushed
-          ∙ (ap (λ z. with_setter cs z s (record { seq = a.id.seq; position = p })) attribute
-          ∙ ap (λ z. with_setter cs t s (record { seq = a.id.seq; position = z })) position)
-
-      pub tells_pushed : Tells longer o now
-      tells_pushed = subst (Tells longer o) (sym pushed_is) tells_setter
-
-      module _ (y : ℕ) (number : y ≡ chain_of u s * block + length (setters cs u s)) where
-        number_is : y ≡ x
-        number_is = number ∙ ap (λ z. chain_of z s * block + length (setters cs z s)) attribute
-
-        pub number_pushed : (n q : ℕ) → IsNumber now n q ↔ (IsNumber cs n q ⊎ ((n ≡ y) × (q ≡ length h)))
-        number_pushed n q =
-            subst (λ z. IsNumber z n q ↔ (IsNumber cs n q ⊎ ((n ≡ y) × (q ≡ length h)))) (sym pushed_is)
-            (subst (λ z. IsNumber new n q ↔ (IsNumber cs n q ⊎ ((n ≡ z) × (q ≡ length h)))) (sym number_is) (number_with n q))
-
-        pub index_pushed : (ix new_ix : List (Fingerprint × List ℕ)) → IsIndex h cs ix → PutsNumber ix (fingerprint_of v) y new_ix → IsIndex longer now new_ix
-        index_pushed ix new_ix index puts =
-            subst (λ z. IsIndex longer z new_ix) (sym pushed_is) (index_setter ix new_ix index (subst (λ z. PutsNumber ix (fingerprint_of v) z new_ix) number_is puts))

@@ -23,7 +23,8 @@ pub(crate) const BLOCK: usize = 4_294_967_296;
 /// How many chains there are: one for each attribute and site.
 pub(crate) const CHAINS: usize = 48;
 
-/// The chains of all attributes and sites, of which those without a setter are not kept.
+/// The chains of all attributes and sites. A chain is kept from its first setter on, so an object
+/// that few sites set in few attributes takes little memory.
 #[derive(Debug, Drop)]
 pub struct Chains {
     chains: KeptChains,
@@ -92,8 +93,8 @@ impl Chains {
         self.chains.get(&index)
     }
 
-    /// The numbers found, and those of the chain with this index: of the setters whose number at
-    /// their site is above this one.
+    /// The numbers found, with those of one chain's setters whose number at their site is above this
+    /// one.
     fn with_unknown(
         &self,
         alloc: Global,
