@@ -44,7 +44,7 @@ pub(crate) fn shows(history: &History, group: &[usize]) -> bool
     }
 }
 
-/// Whether one from `start` on that is below `end` comes later.
+/// Whether a position from `start` on and below `end` comes later.
 fn later_between(history: &History, position: usize, start: usize, end: usize) -> bool
     ensures { result
         ≡ list_any (later_at history.now.ops position) (range_with_len start (end - start)) }

@@ -76,7 +76,7 @@ fn whole_idle(
     merged_wanted(alloc, history, components, Numbers::new(alloc), false)
 }
 
-/// Those of the sets that show.
+/// Copies of the sets that show.
 fn showing(alloc: Global, history: &History, sets: &[Numbers]) -> Result<Vec<Numbers>, OutOfMemory>
     ensures { IfOk result (λ kept. kept.items ≡ filter (is_shown history.now.ops) sets.now) }
 {
@@ -89,7 +89,7 @@ fn showing(alloc: Global, history: &History, sets: &[Numbers]) -> Result<Vec<Num
     Ok(kept)
 }
 
-/// Each of the sets with each of the others, if these are kept and the products are at most so
+/// Each of the sets united with each of the others, if the others are kept and make at most so
 /// many.
 fn at_most(
     alloc: Global,
@@ -113,7 +113,7 @@ fn at_most(
     }
 }
 
-/// The sets that show, each once, if they are at most so many; these are the sets of what decides.
+/// The sets of the object that show, if they are at most so many, from the sets of what decides.
 fn shown_within(
     alloc: Global,
     history: &History,
@@ -134,8 +134,8 @@ fn shown_within(
 }
 
 /// The largest compatible sets of an object's positions that show, each once, if they are at most
-/// so many. Where those of what decides are more than a component keeps, they are listed anew, and
-/// nothing else of the object is multiplied out.
+/// so many. The sets of what decides are listed anew where a component does not keep so many.
+/// Nothing else of the object is multiplied out.
 pub(crate) fn shown_sets(
     alloc: Global,
     history: &History,

@@ -16,13 +16,14 @@ use gf_shape::OutOfMemory;
 use gf_table::GroupTable;
 use std::alloc::Global;
 
-/// The groups of the visible versions of an object that the history made, each once, if they are at
-/// most so many; None where they are more.
+/// The groups of the visible versions of an object that the history made, each once. None where
+/// they are more than `most`.
 ///
-/// The choices that do not decide whether a version shows are counted, and multiplied out only
-/// where some version shows and all that show are at most so many. So an object that one who knows
-/// all of it hid costs a look at its operations. The choices that decide are listed, whatever their
-/// number: each conflict between showing and hiding that no later operation settles doubles them.
+/// Choices that do not decide whether a version shows are counted first. They are multiplied out
+/// only where some version shows, and at most `most` do. An object that an operation hid which
+/// knows all others costs a look at its operations. The choices that decide are listed, whatever
+/// their number. Each conflict between showing and hiding that no later operation settles doubles
+/// them.
 pub fn visible_groups(
     alloc: Global,
     history: &History,

@@ -54,7 +54,7 @@ fn groups_to_rank(
 /// The visible versions of a history, topmost first, if they are at most so many; None where they
 /// are more. The table stands for the history.
 ///
-/// It stops as soon as it has seen more, and it multiplies out no choice that is not listed, as
+/// It stops as soon as it has seen more. It multiplies out no choice that is not listed, as
 /// [`visible_groups`](crate::visible_groups) tells.
 pub fn ranked_within(
     alloc: Global,
