@@ -48,7 +48,7 @@ merged_is p q P f g = by_numbers p.all refl
     by_numbers [] e = f e
     by_numbers (x ∷ us) e = g
 
-all_of_merged : (p q : ComponentState) (a : ℕ) → Contains (merged p q).all a ↔ (Contains p.all a ⊎ Contains q.all a)
+pub all_of_merged : (p q : ComponentState) (a : ℕ) → Contains (merged p q).all a ↔ (Contains p.all a ⊎ Contains q.all a)
 all_of_merged p q a = merged_is p q (λ r. Contains r.all a ↔ (Contains p.all a ⊎ Contains q.all a))
     (λ e. (λ h. inr h, λ h. elim h [ inl i ↦ absurd (not_Contains-nil a (subst (λ us. Contains us a) e i)) | inr i ↦ i ]))
     (Contains-united p.all q.all a)
