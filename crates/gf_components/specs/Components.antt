@@ -1,5 +1,6 @@
 -- Numbers in components, which no conflict connects.
-use Rattle.std.specs.Prelude.{ℕ, ◌*◌, Bool, cond, ◌||◌, nat_le, List, [], ◌∷◌, ◌++◌, filter, map, length, Option, Some, None}
+use Rattle.std.specs.Prelude.{ℕ, ◌*◌, Bool, cond, ◌||◌, nat_le, List, [], ◌∷◌, ◌++◌}
+use Rattle.std.specs.Prelude.{filter, map, length, Option, Some, None}
 use Rattle.std.specs.List.{fold, flat_map}
 use Rattle.gf_maximal.specs.Growing.{is_in, meets, misses, without, common, joined, united, next}
 

@@ -1,6 +1,7 @@
 //! The largest compatible sets of a component, kept while they are not too many.
 
-ghost use Rattle.std.specs.Prelude.{◌≡◌, ◌+◌, ◌^◌, ◌<◌, ◌++◌, map, option_copied, option_map, IfOk, OnOk, OnErr};
+ghost use Rattle.std.specs.Prelude.{◌≡◌, ◌+◌, ◌^◌, ◌<◌, ◌++◌, map, option_copied, option_map};
+ghost use Rattle.std.specs.Prelude.{IfOk, OnOk, OnErr};
 ghost use Rattle.gf_maximal.specs.Growing.{united};
 ghost use Rattle.gf_components.specs.Components.{kept, products, kept_products, times, grown_sets};
 

@@ -1,4 +1,4 @@
--- The largest compatible sets of positions in a history, one position after the other (after Sun and Chen's maximal compatible groups, ACM TOCHI 9(1), 2002).
+-- Largest compatible sets of positions, grown one by one (Sun and Chen, ACM TOCHI 9(1), 2002).
 use Rattle.std.specs.Prelude.{ℕ, Bool, false, List, [], ◌∷◌, ◌++◌, filter, Option, Some, slice_get}
 use Rattle.gf_ops.specs.declared.op.Op.{Op}
 use Rattle.gf_maximal.specs.Growing.{next}

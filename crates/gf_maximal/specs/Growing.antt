@@ -1,4 +1,4 @@
--- How the largest compatible sets of some numbers grow when one number comes (after Sun and Chen's maximal compatible groups, ACM TOCHI 9(1), 2002).
+-- Largest compatible sets of numbers, grown by one number (Sun and Chen, ACM TOCHI 9(1), 2002).
 use Rattle.std.specs.Prelude.{ℕ, Bool, not, ◌||◌, ◌==◌, cond, List, [], ◌∷◌, ◌++◌, filter, map}
 use Rattle.std.specs.List.{list_any, list_all, fold}
 use Rattle.std.specs.BTreeSet.{insert_key}
@@ -36,17 +36,23 @@ united g k = fold (insert_key nat_cmp) (fold (insert_key nat_cmp) [] g) k
 abbrev pub common : List ℕ → List ℕ → List ℕ
 common d g = filter (is_in d) g
 
--- g lies within none of those to the list, unless it lies within one of them or of others; then those go that lie within it
+-- gs with g in place of those within it, unless g lies within one of gs or of the others
 abbrev pub take_up : List (List ℕ) → List (List ℕ) → List ℕ → List (List ℕ)
-take_up others gs g = cond (list_any (is_within g) others || list_any (is_within g) gs) gs (filter (λ k. not (is_within k g)) gs ++ g ∷ [])
+take_up others gs g =
+    cond (list_any (is_within g) others || list_any (is_within g) gs) gs
+    (filter (λ k. not (is_within k g)) gs ++ g ∷ [])
 
 -- those of gs that lie within no other one and within none of the others, each once
 abbrev pub maximal : List (List ℕ) → List (List ℕ) → List (List ℕ)
 maximal others gs = fold (take_up others) [] gs
 
--- the largest sets gs, after x came, which conflicts with the numbers d of them: sets that meet d stay, the others and the maximal remainders without d get x
+-- the sets gs after x came, which conflicts with d: what meets d stays, and x joins the others
+-- and the maximal remainders without d
 abbrev pub next : List ℕ → ℕ → List (List ℕ) → List (List ℕ)
-next d x gs = filter (meets d) gs ++ map (joined x) (filter (misses d) gs ++ maximal (filter (misses d) gs) (map (without d) (filter (meets d) gs)))
+next d x gs =
+    filter (meets d) gs
+    ++ map (joined x) (filter (misses d) gs
+    ++ maximal (filter (misses d) gs) (map (without d) (filter (meets d) gs)))
 
 -- what f makes of the numbers g, rising
 abbrev pub image : (ℕ → ℕ) → List ℕ → List ℕ

@@ -1,5 +1,6 @@
 -- A set of numbers as runs of such that follow each other.
-use Rattle.std.specs.Prelude.{◌≡◌, ◌≤◌, max, true, length, slice_index_or, ℕ, ◌+◌, ◌-◌, ◌<◌, Bool, cond, ◌==◌, ◌&&◌, ◌||◌, nat_le, nat_lt, List, [], ◌∷◌, ◌++◌, Contains, ⊤, false}
+use Rattle.std.specs.Prelude.{◌≡◌, ◌≤◌, max, true, length, slice_index_or, ℕ, ◌+◌, ◌-◌, ◌<◌, Bool, cond}
+use Rattle.std.specs.Prelude.{◌==◌, ◌&&◌, ◌||◌, nat_le, nat_lt, List, [], ◌∷◌, ◌++◌, Contains, ⊤, false}
 use Rattle.std.specs.List.{flat_map, range_with_len, fold}
 use Rattle.std.specs.List.Sorted.{IsPermutation, IsNonDecreasingBy}
 use Rattle.gf_maximal.specs.declared.run.Run.{Run}
@@ -51,7 +52,10 @@ piece r = cond (nat_lt r.start r.end) (r ∷ []) []
 -- what is in r and in none of these runs, which end after it begins
 abbrev pub cut : Run → List Run → List Run
 cut r [] = piece r
-cut r (q ∷ qs) = cond (nat_le r.end q.start) (piece r) (piece (record { start = r.start; end = q.start }) ++ cut (record { start = q.end; end = r.end }) qs)
+cut r (q ∷ qs) =
+    cond (nat_le r.end q.start) (piece r)
+    (piece (record { start = r.start; end = q.start })
+    ++ cut (record { start = q.end; end = r.end }) qs)
 
 -- what is in the runs rs and in none of qs
 abbrev pub all_cut : List Run → List Run → List Run
@@ -60,7 +64,8 @@ all_cut qs rs = flat_map (λ r. cut r (after r.start qs)) rs
 -- a run before others, of which it takes up the first if it ends where that begins
 abbrev pub absorb : Run → List Run → List Run
 absorb r [] = r ∷ []
-absorb r (q ∷ qs) = cond (r.end == q.start) (record { start = r.start; end = q.end } ∷ qs) (r ∷ q ∷ qs)
+absorb r (q ∷ qs) =
+    cond (r.end == q.start) (record { start = r.start; end = q.end } ∷ qs) (r ∷ q ∷ qs)
 
 -- runs of which the first one ends at x or above it, and x
 abbrev pub settle : ℕ → Run → List Run → List Run
@@ -78,7 +83,8 @@ put x (q ∷ qs) = cond (nat_lt q.end x) (q ∷ put x qs) (settle x q qs)
 pub record IsFirstFrom (x : ℕ) (rs : List Run) (i : ℕ) : Type 0 where
   pub bound : i ≤ length rs
   pub below : (k : ℕ) (d : Run) → k < i → nat_lt (slice_index_or rs k d).end x ≡ true
-  pub above : (k : ℕ) (d : Run) → i ≤ k → k < length rs → nat_lt (slice_index_or rs k d).end x ≡ false
+  pub above : (k : ℕ) (d : Run) → i ≤ k → k < length rs
+      → nat_lt (slice_index_or rs k d).end x ≡ false
 
 -- what settle makes of the runs from such a one on
 abbrev pub settled : ℕ → List Run → List Run
@@ -88,7 +94,9 @@ settled x (q ∷ qs) = settle x q qs
 -- the runs and r, which begins where the last of them does or behind it
 abbrev pub pushed : List Run → Run → List Run
 pushed [] r = r ∷ []
-pushed (q ∷ []) r = cond (nat_le r.start q.end) (record { start = q.start; end = max q.end r.end } ∷ []) (q ∷ r ∷ [])
+pushed (q ∷ []) r =
+    cond (nat_le r.start q.end) (record { start = q.start; end = max q.end r.end } ∷ [])
+    (q ∷ r ∷ [])
 pushed (q ∷ p ∷ ps) r = q ∷ pushed (p ∷ ps) r
 
 -- the run of one number

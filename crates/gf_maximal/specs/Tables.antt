@@ -1,4 +1,4 @@
--- The largest compatible groups of positions, listed (after Sun and Chen's maximal compatible groups, ACM TOCHI 9(1), 2002).
+-- The largest compatible sets of numbers, listed (Sun and Chen, ACM TOCHI 9(1), 2002).
 use Rattle.std.specs.Prelude.{◌≡◌, ◌≢◌, ◌↔◌, ◌⊎◌, ℕ, Bool, true, false, List, AllPairs, Contains}
 use Rattle.std.specs.List.Sorted.{IsStrictlySortedBy}
 use Rattle.std.specs.Ordering.{nat_cmp}
@@ -15,11 +15,11 @@ module _ {X : Type 0} (c : X → X → Bool) where
     pub compatible : (a b : X) → p a → p b → c a b ≡ false
     pub largest : (a : X) → U a → p a ⊎ Hits p a
 
--- the positions g rise
+-- the numbers g rise
 abbrev pub IsRising : List ℕ → Type 0
 IsRising g = IsStrictlySortedBy nat_cmp g
 
--- gs are the largest compatible groups of us, each once
+-- gs are the largest compatible sets of us, each once
 pub record IsTable (c : ℕ → ℕ → Bool) (us : List ℕ) (gs : List (List ℕ)) : Type 0 where
   pub each : (g : List ℕ) → Contains gs g ↔ (IsRising g × IsLargest c (Contains us) (Contains g))
   pub once : AllPairs (λ g h. g ≢ h) gs

@@ -4,7 +4,8 @@ ghost use Rattle.std.specs.Prelude.{◌≡◌, ◌+◌, ◌^◌, ◌<◌, map, f
 ghost use Rattle.std.specs.Prelude.{◌++◌, ◌≤◌};
 ghost use Rattle.std.specs.Vec.{vec_len, vec_capacity};
 ghost use Rattle.std.specs.List.{list_any};
-ghost use Rattle.gf_maximal.specs.Growing.{meets, misses, without, is_within, joined, take_up, maximal, next};
+ghost use Rattle.gf_maximal.specs.Growing.{meets, misses, without, is_within, joined};
+ghost use Rattle.gf_maximal.specs.Growing.{take_up, maximal, next};
 
 use crate::numbers::Numbers;
 use gf_shape::OutOfMemory;

@@ -1,14 +1,13 @@
 //! Runs of numbers that follow each other, and lists of such runs.
 
-ghost use Rattle.std.specs.Prelude.{◌≡◌, ◌++◌, ◌+◌, ◌^◌, ◌<◌, ◌≤◌, take, drop, length, slice_index_or};
-ghost use Rattle.std.specs.Prelude.{◌&&◌, nat_lt, IfOk, OnOk, OnErr};
-ghost use Rattle.gf_maximal.specs.Runs.{AreRuns, after, first_touches, first_covers, touches, covers};
-ghost use Rattle.gf_maximal.specs.Runs.{piece, cut, all_cut};
-ghost use Rattle.gf_maximal.specs.Runs.{absorb, settled, put, IsFirstFrom, pushed, IsGathered};
-ghost use Rattle.gf_maximal.specs.Runs.{numbers_of, members, single};
-ghost use Rattle.std.specs.Prelude.{[], map, All};
+ghost use Rattle.std.specs.Prelude.{◌≡◌, ◌++◌, ◌+◌, ◌^◌, ◌<◌, ◌≤◌, ◌&&◌, nat_lt, [], map, All};
+ghost use Rattle.std.specs.Prelude.{take, drop, length, slice_index_or, IfOk, OnOk, OnErr};
 ghost use Rattle.std.specs.List.{fold, list_any};
 ghost use Rattle.std.specs.List.Sorted.{IsPermutation, IsNonDecreasingBy};
+ghost use Rattle.gf_maximal.specs.Runs.{AreRuns, numbers_of, members, single, after};
+ghost use Rattle.gf_maximal.specs.Runs.{first_touches, first_covers, touches, covers};
+ghost use Rattle.gf_maximal.specs.Runs.{piece, cut, all_cut, absorb, settled, put, IsFirstFrom};
+ghost use Rattle.gf_maximal.specs.Runs.{pushed, IsGathered};
 
 use gf_shape::OutOfMemory;
 use std::alloc::Global;
