@@ -50,6 +50,21 @@ def busy(count, apart):
     return lines.lines
 
 
+def heard(count, chance):
+    """One box that eight sites, which know it, move in turn, so many times each; before a move a
+    site hears by this chance all that another one knows."""
+    rng = random.Random(7)
+    lines = Lines()
+    box = Object(lines, rng, 0)
+    for site in range(SITES):
+        lines.knows[site] = list(map(max, lines.knows[site], box.knows))
+    for number in range(count * SITES):
+        other = rng.randrange(SITES)
+        learnt = lines.knows[other] if rng.random() < chance else [0] * SITES
+        lines.make(number % SITES, box.set("place", value(rng, "box", "place")), learnt)
+    return lines.lines
+
+
 def write_orders(name, lines):
     """The lines, and the same shuffled and backwards."""
     write(folder, name, lines)
@@ -67,3 +82,6 @@ for apart, name in ((False, "causal"), (True, "apart")):
     write(folder, "grid_" + name, changed(2_000, "place", lambda rng: [rng.randrange(1_000), rng.randrange(1_000)], apart))
     write(folder, "fifty_" + name, changed(2_000, "place", lambda rng: [rng.randrange(50), 0], apart))
     write(folder, "busy_" + name, busy(9_900, apart))
+for name, count, chance in (("rare", 1_000, 0.001), ("often", 200, 0.02)):
+    write(folder, name + "_causal", changed(count, "place", lambda rng: value(rng, "box", "place"), False))
+    write(folder, name + "_apart", heard(count, chance))

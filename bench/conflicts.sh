@@ -12,7 +12,7 @@ trap 'rm -rf "$folder"' EXIT
 rounds=(rounds_30 rounds_200)
 hidden=(hidden_30 hidden_200)
 equal=({equal_causal,equal_apart}{,_shuffled,_backwards})
-moves=({moves,grid,fifty,busy}_{causal,apart})
+moves=({moves,grid,fifty,busy,rare,often}_{causal,apart})
 
 "$root/figgroup" --version > /dev/null
 PYTHONDONTWRITEBYTECODE=1 python3 "$root/bench/conflict_inputs.py" "$folder"
@@ -64,8 +64,10 @@ echo "goal for the rounds, hidden or not: 0.10 s and 10240 KiB"
 compare equal_apart equal_causal 3
 compare moves_apart moves_causal 10
 compare grid_apart grid_causal 10
-compare fifty_apart fifty_causal 10
+compare fifty_apart fifty_causal 50
 compare busy_apart busy_causal 10
+compare rare_apart rare_causal 10
+compare often_apart often_causal 10
 for name in equal_{causal,apart}_{shuffled,backwards}; do
     echo "memory of $name to its input: $(quotient $((kib[$name] * 1024)) "$(stat -c %s "$folder/$name.jsonl")") (goal 3)"
 done

@@ -50,7 +50,7 @@ add 3.1 after 4 3: 1.1 shown false   | ok
 add 3.2 after 4 3 1: circle 10       | ok
 total                                | 1
 
-// one_operation_joins_thirty_parts
+// one_operation_joins_thirty_components
 new                                | ok
 add 1.1: box 10 10                 | ok
 rounds 30                          | ok

@@ -27,7 +27,7 @@ add 3.1 after 1: 1.1 colour 0000ff | ok
 groups 1.1                         | [ 1.1 1.2 3.1 ][ 1.1 2.1 ]
 copied 1.1                         | [ 1.1 1.2 3.1 ][ 1.1 2.1 ]
 
-// conflicts_on_two_attributes_are_two_parts
+// conflicts_on_two_attributes_are_two_components
 new                                | ok
 add 1.1: box 10 10                 | ok
 add 1.2 after 1: 1.1 colour 0000ff | ok
@@ -40,7 +40,7 @@ copied 1.1                         | [ 1.1 1.2 1.3 ][ 1.1 1.2 2.2 ][ 1.1 1.3 2.1
 visible 1.1 within 4               | 4
 visible 1.1 within 3               | more
 
-// one_operation_joins_two_parts
+// one_operation_joins_two_components
 new                                   | ok
 add 1.1: box 10 10                    | ok
 rounds 2                              | ok
@@ -136,7 +136,7 @@ add 1.3 after 2: 1.1 colour 0000fe | ok
 groups 1.1                         | [ 1.1 1.2 1.3 ][ 1.1 1.2 4.1 ][ 1.1 1.3 3.1 ][ 1.1 2.1 ]
 copied 1.1                         | [ 1.1 1.2 1.3 ][ 1.1 1.2 4.1 ][ 1.1 1.3 3.1 ][ 1.1 2.1 ]
 
-// objects_have_parts_of_their_own
+// objects_have_components_of_their_own
 new                                  | ok
 add 1.1: box 10 10                   | ok
 add 2.1: box 10 10                   | ok
