@@ -1,18 +1,25 @@
 //! Conflicts of operations, told by their positions in a history.
 
-ghost use Rattle.std.specs.Prelude.{◌≡◌, IfSome, option_copied};
+ghost use Rattle.std.specs.Prelude.{◌≡◌, IfSome, option_copied, slice_get};
 ghost use Rattle.gf_ops.specs.Limits.{IsInRange};
 ghost use Rattle.gf_groups.specs.Growing.{both_conflict, conflict_at};
 ghost use Rattle.gf_groups.specs.VersionList.{in_conflict};
 
-use crate::timeline::Timeline;
-use gf_ops::{Op, conflicts};
+use gf_ops::{History, Op, conflicts};
 
 /// Whether the operations at two positions conflict.
-pub fn conflict_at(timeline: &Timeline<'_>, i: usize, j: usize) -> bool
-    ensures { result ≡ conflict_at timeline.now i j }
+pub(crate) fn conflict_at(history: &History, i: usize, j: usize) -> bool
+    ensures { result ≡ conflict_at history.now.ops i j }
 {
-    both_conflict(timeline.get(i), timeline.get(j))
+    both_conflict(op_at(history, i), op_at(history, j))
+}
+
+/// The operation at a position, if there is one.
+fn op_at(history: &History, position: usize) -> Option<&Op>
+    ensures value { option_copied result ≡ slice_get history.now.ops position }
+    ensures in_range { IfSome result (λ op. IsInRange op.now) }
+{
+    history.ops().get(position)
 }
 
 /// Whether both operations are there, and conflict.

@@ -6,7 +6,6 @@ ghost use Rattle.std.specs.Ordering.{nat_cmp};
 ghost use Rattle.gf_groups.specs.Growing.{conflict_at, rivals, groups_at};
 
 use crate::conflict::conflict_at;
-use crate::timeline::Timeline;
 use gf_maximal::{Numbers, grow};
 use gf_ops::History;
 use gf_shape::OutOfMemory;
@@ -15,18 +14,18 @@ use std::alloc::Global;
 /// Those of these positions whose operations conflict with the one at a position.
 fn rivals(
     alloc: Global,
-    timeline: &Timeline<'_>,
+    history: &History,
     positions: &[usize],
     position: usize,
 ) -> Result<Numbers, OutOfMemory>
     requires rising { IsStrictlySortedBy nat_cmp positions.now }
     requires bounded { All (λ n. n + 1 < 2 ^ 64) positions.now }
     ensures { IfOk result (λ found. found
-        ≡ rivals (conflict_at timeline.now) positions.now position) }
+        ≡ rivals (conflict_at history.now.ops) positions.now position) }
 {
     let mut rivals = Numbers::new(alloc);
     for other in positions {
-        if conflict_at(timeline, position, *other) {
+        if conflict_at(history, position, *other) {
             rivals.join(*other)?;
         }
     }
@@ -46,10 +45,9 @@ pub fn groups_at(
     ensures { IfOk result (λ sets. sets.items
         ≡ groups_at (conflict_at history.now.ops) positions.now) }
 {
-    let timeline = Timeline::of(history);
     let mut sets = Vec::from_array(alloc, [Numbers::new(alloc)])?;
     for (index, position) in positions.iter().enumerate() {
-        let rivals = rivals(alloc, &timeline, &positions[..index], *position)?;
+        let rivals = rivals(alloc, history, &positions[..index], *position)?;
         grow(alloc, &rivals, *position, &mut sets)?;
     }
     Ok(sets)

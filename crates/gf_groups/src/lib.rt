@@ -7,8 +7,7 @@
 //! - [`GroupFault`]: why there is no such list.
 //! - [`the_versions_are_a_list_that_computes`]: the law.
 //!
-//! For tables of versions: operations by their positions in a [`Timeline`], whether two of them
-//! [conflict](conflict_at), the largest sets of positions without a conflict ([`groups_at`]), and
+//! For tables of versions: the largest sets of positions without a conflict ([`groups_at`]), and
 //! the groups of an object [from](groups_from) such sets, or [added](add_groups) to others.
 #![tactic(auto)]
 
@@ -22,9 +21,7 @@ mod laws;
 mod listing;
 mod parting;
 mod positions;
-mod timeline;
 
-pub use conflict::conflict_at;
 pub use faults::GroupFault;
 pub use group::{Group, Groups};
 pub use groups::{all_groups, groups_from, groups_of, is_made};
@@ -32,4 +29,3 @@ pub use growth::groups_at;
 pub use ids::Ids;
 pub use laws::the_versions_are_a_list_that_computes;
 pub use listing::add_groups;
-pub use timeline::Timeline;

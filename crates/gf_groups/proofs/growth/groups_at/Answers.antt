@@ -13,7 +13,7 @@ rivals-requires-clause-rising c = rising_front nat_cmp nat_cmp_total (take c.loo
 
 pub loop-index-preserved : goal.loop-index-preserved
 loop-index-preserved c =
-    let k = conflict_at c.of-timeline.result in
+    let k = conflict_at c.args.history.now.ops in
     let us = take c.loop-index.index c.args.positions.now in
     let x = get_or c.args.positions.now c.loop-index.index 0 in
     let all : take (c.loop-index.index + 1) c.args.positions.now ≡ us ++ x ∷ [] = take_more c.args.positions.now c.loop-index.index 0 c.loop-index-test.true in

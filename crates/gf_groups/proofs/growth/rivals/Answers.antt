@@ -12,7 +12,7 @@ use Rattle.gf_groups.proofs.growth.rivals.Goals.{then-conflict_at+in_ok-join, el
 
 pub loop-other-preserved : goal.loop-other-preserved
 loop-other-preserved c =
-    let k = conflict_at c.args.timeline.now in
+    let k = conflict_at c.args.history.now.ops in
     let us = c.args.positions.now in
     let i = c.loop-other.other-index in
     let x = get_or us i 0 in
