@@ -2,4 +2,4 @@ pub mod ProductLemmas
 pub mod CountLemmas
 pub mod ComponentLemmas
 pub mod AgreeLemmas
-pub mod LastLemmas
+pub mod OneTouchedLemmas

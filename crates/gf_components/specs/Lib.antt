@@ -1,3 +1,3 @@
 pub mod Components
 pub mod Separate
-pub mod LastComponent
+pub mod OneTouched

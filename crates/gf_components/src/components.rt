@@ -2,10 +2,11 @@
 //! which each gives a version one of its sets.
 
 ghost use Rattle.std.specs.Prelude.{◌≡◌, ◌+◌, ◌^◌, ◌<◌, ◌++◌, ◌∷◌, [], cond, filter, option_copied};
-ghost use Rattle.std.specs.Prelude.{option_map, IfOk, OnOk, OnErr, IsTrue};
-ghost use Rattle.std.specs.List.{list_any};
+ghost use Rattle.std.specs.Prelude.{option_map, take, drop, length};
+ghost use Rattle.std.specs.Prelude.{IfOk, IfSome, OnOk, OnErr, IsTrue};
+ghost use Rattle.std.specs.List.{list_any, position};
 ghost use Rattle.gf_components.specs.Components.{merged, alone, touches, touched, grown, stays};
-ghost use Rattle.gf_components.specs.LastComponent.{IsLastAlone};
+ghost use Rattle.gf_components.specs.OneTouched.{IsFirstAlone, IsOneTouched};
 ghost use Rattle.gf_components.specs.Components.{no_components, with_free, connected, after};
 
 use crate::sets::Sets;
@@ -167,34 +168,57 @@ fn any_touched(rivals: &Numbers, parts: &[Component]) -> bool
     parts.iter().any(|part| part.touches(rivals))
 }
 
-/// Whether the last component alone has some of the rivals, and lacks the number.
-fn is_last_alone(rivals: &Numbers, number: usize, parts: &[Component]) -> bool
+/// Whether the first component alone has some of the rivals, and lacks the number.
+fn is_first_alone(rivals: &Numbers, number: usize, parts: &[Component]) -> bool
     requires { number + 1 < 2 ^ 64 }
-    ensures { IsTrue result → IsLastAlone rivals.now number parts.now }
+    ensures { IsTrue result → IsFirstAlone rivals.now number parts.now }
 {
-    match parts.split_last() {
-        Some((last, others)) => !last.stays(rivals, number) && !any_touched(rivals, others),
+    match parts.split_first() {
+        Some((first, others)) => !first.stays(rivals, number) && !any_touched(rivals, others),
         None => false,
     }
 }
 
-/// Adds a number to the last component, which conflicts with these rivals. It changes nothing
-/// before all memory is there.
-fn grow_last(
+/// The index of the first component that has some of the rivals.
+fn first_touched(rivals: &Numbers, parts: &[Component]) -> Option<usize>
+    ensures { result ≡ position (touches rivals.now) parts.now }
+{
+    parts.iter().position(|part| part.touches(rivals))
+}
+
+/// The index of the component that alone has some of the rivals, if it lacks the number.
+fn one_touched(rivals: &Numbers, number: usize, parts: &[Component]) -> Option<usize>
+    requires { number + 1 < 2 ^ 64 }
+    ensures { IfSome result (λ index. IsOneTouched rivals.now number parts.now index) }
+{
+    let index = first_touched(rivals, parts)?;
+    if is_first_alone(rivals, number, parts.split_at(index).1) {
+        Some(index)
+    } else {
+        None
+    }
+}
+
+/// Adds a number, which conflicts with these rivals, to one component, and puts that behind the
+/// others. It changes nothing before all memory is there.
+fn grow_one(
     alloc: Global,
     rivals: &Numbers,
     number: usize,
+    index: usize,
     parts: &mut Vec<Component>,
 ) -> Result<(), OutOfMemory>
-    requires { number + 1 < 2 ^ 64 }
-    ensures ok { OnOk result ((before : _) (last : _) → parts.old.items ≡ before ++ last ∷ []
-        → parts.new.items ≡ before ++ grown rivals.now number last ∷ []) }
+    requires number { number + 1 < 2 ^ 64 }
+    requires index { index < length parts.old.items }
+    ensures ok { OnOk result ((part : _) (behind : _) → drop index parts.old.items ≡ part ∷ behind
+        → parts.new.items
+        ≡ (take index parts.old.items ++ behind) ++ grown rivals.now number part ∷ []) }
     ensures err { OnErr result (parts.new.items ≡ parts.old.items) }
 {
-    match parts.last_mut() {
-        Some(last) => last.grow(alloc, rivals, number),
-        None => Ok(()),
-    }
+    parts[index].grow(alloc, rivals, number)?;
+    let part = parts.remove(index);
+    parts.push_reserved(part);
+    Ok(())
 }
 
 /// Drops the components that have one of the rivals and not the number.
@@ -265,8 +289,10 @@ impl Components {
         ensures ok { OnOk result (self.new ≡ connected rivals.now number self.old) }
         ensures err { OnErr result (self.new ≡ self.old) }
     {
-        if is_last_alone(rivals, number, &self.parts) && !rivals.meets(&self.free) {
-            return grow_last(alloc, rivals, number, &mut self.parts);
+        if !rivals.meets(&self.free) {
+            if let Some(index) = one_touched(rivals, number, &self.parts) {
+                return grow_one(alloc, rivals, number, index, &mut self.parts);
+            }
         }
         let free = self.free.without(alloc, rivals)?;
         let mut part = self.touched(alloc, rivals)?;

@@ -1,6 +1,7 @@
 -- A set of numbers as runs of such that follow each other.
-use Rattle.std.specs.Prelude.{◌≡◌, ◌≤◌, max, true, length, slice_index_or, ℕ, ◌+◌, ◌-◌, ◌<◌, Bool, cond}
-use Rattle.std.specs.Prelude.{◌==◌, ◌&&◌, ◌||◌, nat_le, nat_lt, List, [], ◌∷◌, ◌++◌, Contains, ⊤, false}
+use Rattle.std.specs.Prelude.{◌≡◌, ◌≤◌, max, true, length, slice_index_or, ℕ, ◌+◌, ◌-◌, ◌<◌}
+use Rattle.std.specs.Prelude.{Bool, cond, ◌==◌, ◌&&◌, ◌||◌, nat_le, nat_lt, List, [], ◌∷◌}
+use Rattle.std.specs.Prelude.{◌++◌, Contains, ⊤, false}
 use Rattle.std.specs.List.{flat_map, range_with_len, fold}
 use Rattle.std.specs.List.Sorted.{IsPermutation, IsNonDecreasingBy}
 use Rattle.gf_maximal.specs.declared.run.Run.{Run}

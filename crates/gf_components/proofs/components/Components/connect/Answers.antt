@@ -1,12 +1,13 @@
-use Rattle.std.proofs.Common.{refl, sym, subst}
+use Rattle.std.proofs.Common.{sym, subst}
 use Rattle.gf_components.specs.Components.{ComponentsState}
-use Rattle.gf_components.specs.LastComponent.{IsLastAlone}
-use Rattle.gf_components.proofs.LastLemmas.{last_connected}
+use Rattle.gf_components.specs.OneTouched.{IsOneTouched}
+use Rattle.gf_components.proofs.OneTouchedLemmas.{one_connected}
 use Rattle.gf_components.proofs.components.Components.connect.Goals as goal
 
-pub returns-then-not-meets-clause-ok : goal.returns-then-not-meets-clause-ok
-returns-then-not-meets-clause-ok c =
+pub returns-in-Some-clause-ok : goal.returns-in-Some-clause-ok
+returns-in-Some-clause-ok c =
     let d = c.args.rivals.now in
+    let i = c.in-Some.index in
     let s : ComponentsState = record { free = c.self.inside.free; parts = c.self.inside.parts.items } in
-    let alone = subst (IsLastAlone d c.args.number) c.deref.ensures.value (c.if-is_last_alone.ensures refl) in
-    last_connected c.grow_last.result d c.args.number s c.args.self.now c.grow_last.new.parts.items alone (sym c.if-not-meets.ensures) c.self.view_is c.grow_last.ensures.ok
+    let one = subst (λ parts. IsOneTouched d c.args.number parts i) c.deref.ensures.value c.in-Some.ensures in
+    one_connected c.grow_one.result d c.args.number s c.args.self.now i c.grow_one.new.parts.items one (sym c.if-not-meets.ensures) c.self.view_is c.grow_one.ensures.ok
