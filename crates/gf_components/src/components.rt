@@ -56,14 +56,14 @@ impl Component {
         }
     }
 
-    /// Its numbers.
+    /// The numbers of the component.
     pub fn all(&self) -> &Numbers
         ensures { result.now ≡ self.now.all }
     {
         &self.all
     }
 
-    /// Its largest compatible sets, where they are at most [`MOST_SETS`](crate::MOST_SETS).
+    /// The largest compatible sets of the component, where they are at most [`MOST_SETS`](crate::MOST_SETS).
     pub fn sets(&self) -> Option<&[Numbers]>
         ensures { option_copied result ≡ self.now.sets }
     {
@@ -79,14 +79,14 @@ impl Component {
         Ok(Component { all, sets })
     }
 
-    /// Whether one of the rivals is of it.
+    /// Whether one of the rivals is of the component.
     fn touches(&self, rivals: &Numbers) -> bool
         ensures { result ≡ touches rivals.now self.now }
     {
         rivals.meets(&self.all)
     }
 
-    /// Whether it has the number, or none of the rivals.
+    /// Whether the component has the number, or none of the rivals.
     fn stays(&self, rivals: &Numbers, number: usize) -> bool
         requires { number + 1 < 2 ^ 64 }
         ensures { result ≡ stays rivals.now number self.now }

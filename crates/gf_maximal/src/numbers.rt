@@ -92,21 +92,21 @@ impl Numbers {
         })
     }
 
-    /// Whether one of its numbers is in this run.
+    /// Whether a number of the set is in this run.
     fn touches(&self, run: Run) -> bool
         ensures { result ≡ list_any (is_inside run) self.now }
     {
         touches(run, &self.runs)
     }
 
-    /// Whether it has all numbers of this run.
+    /// Whether the set has all numbers of this run.
     fn covers(&self, run: Run) -> bool
         ensures { result ≡ list_all (is_in self.now) (numbers_of run) }
     {
         covers(run, &self.runs)
     }
 
-    /// Whether it has this number.
+    /// Whether the set has this number.
     pub fn has(&self, number: usize) -> bool
         requires { number + 1 < 2 ^ 64 }
         ensures { result ≡ is_in self.now number }
@@ -117,21 +117,21 @@ impl Numbers {
         })
     }
 
-    /// Whether one of its numbers is one of the others.
+    /// Whether a number of the set is one of the others.
     pub fn meets(&self, others: &Numbers) -> bool
         ensures { result ≡ meets self.now others.now }
     {
         any_touches(&self.runs, &others.runs)
     }
 
-    /// Whether each of its numbers is one of the others.
+    /// Whether each number of the set is one of the others.
     pub fn is_within(&self, others: &Numbers) -> bool
         ensures { result ≡ is_within self.now others.now }
     {
         all_covered(&self.runs, others)
     }
 
-    /// Those that are none of the others.
+    /// The numbers that are none of the others.
     pub fn without(&self, alloc: Global, others: &Numbers) -> Result<Numbers, OutOfMemory>
         ensures { IfOk result (λ left. left ≡ without others.now self.now) }
     {
@@ -149,7 +149,7 @@ impl Numbers {
         put(&mut self.runs, number)
     }
 
-    /// Those that are some of the others.
+    /// The numbers that are some of the others.
     pub fn common(&self, alloc: Global, others: &Numbers) -> Result<Numbers, OutOfMemory>
         ensures { IfOk result (λ found. found ≡ common others.now self.now) }
     {
@@ -157,7 +157,7 @@ impl Numbers {
         self.without(alloc, &rest)
     }
 
-    /// Its numbers and the others.
+    /// The numbers of both sets.
     pub fn united(&self, alloc: Global, others: &Numbers) -> Result<Numbers, OutOfMemory>
         ensures { IfOk result (λ all. all ≡ united self.now others.now) }
     {
@@ -166,7 +166,7 @@ impl Numbers {
         })
     }
 
-    /// Whether it has no number.
+    /// Whether the set has no number.
     pub fn is_empty(&self) -> bool
         ensures { IsTrue result ↔ (self.now ≡ []) }
     {

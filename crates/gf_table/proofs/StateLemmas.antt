@@ -182,7 +182,7 @@ module _ (h : List Op) (o : ObjectId) (t : ObjectState) (s : IsStateOf h o t) wh
             same_conflict h a (position_in t i) (position_in t j) (position_within i k) (position_within j l)
             ∙ (ap (λ z. conflict_at longer z (position_in t j)) (sym (as_before i k)) ∙ ap (conflict_at longer (position_in grown i)) (sym (as_before j l)))) s.components
 
-        -- its number is new
+        -- the number of the operation is new
         is_new : ¬ (Contains (whole t.components).all x)
         is_new i = let l = position_within x i in let e = as_before x i in let f = at_last in omega (arith, l, e, f)
 
