@@ -59,8 +59,9 @@ def heard(count, chance):
     for site in range(SITES):
         lines.knows[site] = list(map(max, lines.knows[site], box.knows))
     for number in range(count * SITES):
-        other = rng.randrange(SITES)
-        learnt = lines.knows[other] if rng.random() < chance else [0] * SITES
+        learnt = [0] * SITES
+        if rng.random() < chance:
+            learnt = lines.knows[rng.randrange(SITES)]
         lines.make(number % SITES, box.set("place", value(rng, "box", "place")), learnt)
     return lines.lines
 
