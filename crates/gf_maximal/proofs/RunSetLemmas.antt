@@ -693,10 +693,3 @@ cut_step others runs rest new i j r o done next e l f w s g h =
       h ∙ (ap (λ z. z ++ cut r new) s.0 ∙ (ap (λ z. all_cut others (take i runs) ++ cut r z) same ∙ (sym (cut_more others (take i runs) r) ∙ ap (all_cut others) (sym t)))),
       serves_more rest new others r (drop (suc i) runs) good serves g,
     )
-
-pub skipped : (r : Run) (rs : List Run) (n : ℕ) → nat_le r.end n ≡ true → after n rs ≡ after n (r ∷ rs)
-skipped r rs n t = sym (cond-true (nat_le r.end n) (after n rs) (r ∷ rs) t)
-
-pub after_own : (rs : List Run) (n : ℕ) → ((r : Run) (qs : List Run) → rs ≡ r ∷ qs → nat_le r.end n ≡ false) → rs ≡ after n rs
-after_own [] n f = refl
-after_own (r ∷ rs) n f = sym (cond-false (nat_le r.end n) (after n rs) (r ∷ rs) (f r rs refl))

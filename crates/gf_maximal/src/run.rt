@@ -28,28 +28,19 @@ fn searched(runs: &[Run], number: usize) -> &[Run]
     runs.split_at(index).1
 }
 
-/// The runs without the first one, if that ends before this number or at it.
-fn skip_one(runs: &[Run], number: usize) -> &[Run]
-    requires { AreRuns runs.now }
-    ensures runs { AreRuns result.now }
-    ensures value { after number result.now ≡ after number runs.now }
-{
-    match runs.split_first() {
-        Some((first, rest)) if first.end <= number => rest,
-        _ => runs,
-    }
-}
-
 /// The runs from the first one on that has this number or one above it: mostly one of the first.
 fn after(runs: &[Run], number: usize) -> &[Run]
     requires { AreRuns runs.now }
     ensures { result.now ≡ after number runs.now }
 {
-    let rest = skip_one(skip_one(runs, number), number);
-    match rest.first() {
-        Some(first) if first.end <= number => searched(rest, number),
-        _ => rest,
+    let mut rest = runs;
+    for _ in 0..3 {
+        match rest.split_first() {
+            Some((first, others)) if first.end <= number => rest = others,
+            _ => return rest,
+        }
     }
+    searched(rest, number)
 }
 
 /// Whether the first of these runs begins before this one ends.
