@@ -1,18 +1,16 @@
 -- Components of numbers are components of what stands for them, as of positions in a history.
-use Rattle.std.proofs.Common.{◌≡◌, ℕ, ◌≤◌, ◌<◌, Bool, List, map, length, inl, inr, subst, sym, ap, ◌∙◌, arith}
-use Rattle.std.specs.Prelude.{◌⊎◌, ◌↔◌, Contains, Option, Some, None}
-use Rattle.std.specs.List.{fold}
+use Rattle.std.proofs.Common.{◌≡◌, ℕ, Bool, List, map, length, inl, inr, subst, sym, ap, ◌∙◌, arith}
+use Rattle.std.specs.Prelude.{◌↔◌, Contains, Option, Some, None}
 use Rattle.std.proofs.lemmas.List.{length-map}
 use Rattle.gf_ops.proofs.ListLemmas.{Contains-map, Contains-map_from}
 use Rattle.gf_maximal.specs.Growing.{image}
-use Rattle.gf_maximal.specs.Pairs.{Pairs}
-use Rattle.gf_maximal.specs.Tables.{IsRising, IsTable}
+use Rattle.gf_maximal.specs.Tables.{IsRising}
 use Rattle.gf_maximal.proofs.ImageLemmas.{Made, image_rises, in_image, table_image}
 use Rattle.gf_maximal.proofs.LargestLemmas.{IsConflict}
 use Rattle.gf_maximal.proofs.PairLemmas.{Pairs-from, Pairs-map}
-use Rattle.gf_components.specs.Components.{ComponentState, ComponentsState, alone, merged, most_sets, whole}
+use Rattle.gf_components.specs.Components.{ComponentState, ComponentsState, alone, whole}
 use Rattle.gf_components.specs.Separate.{Apart, AreComponents, IsComponent, IsKept}
-use Rattle.gf_components.proofs.ComponentLemmas.{IsInParts, all_of_fold}
+use Rattle.gf_components.proofs.ComponentLemmas.{all_of_fold}
 use Rattle.gf_components.proofs.CountLemmas.{a_table, tables_long}
 use Rattle.gf_table.specs.ByPosition.{sets_at, component_at, components_at}
 

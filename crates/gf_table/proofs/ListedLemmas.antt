@@ -1,5 +1,5 @@
 -- Components list the largest compatible sets of their positions, and so the versions of their object.
-use Rattle.std.proofs.Common.{◌≡◌, ℕ, Bool, List, [], ◌∷◌, length, map, inl, inr}
+use Rattle.std.proofs.Common.{ℕ, Bool, List, [], ◌∷◌, length, map, inl, inr}
 use Rattle.std.specs.Prelude.{Contains, Option, Some, None, unwrap_or}
 use Rattle.std.specs.List.{fold}
 use Rattle.gf_ops.specs.declared.op.Op.{Op}

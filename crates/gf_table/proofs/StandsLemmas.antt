@@ -1,21 +1,14 @@
 -- A table after one more operation stands for the longer history.
-use Rattle.std.proofs.Common.{◌≡◌, ◌≢◌, ℕ, ◌<◌, ◌+◌, ◌*◌, true, false, List, [], ◌∷◌, ◌++◌, length, inl, inr, refl, subst, sym, ap, ◌∙◌, arith}
-use Rattle.std.specs.Prelude.{◌↔◌, Contains, cond, Option, Some, None, slice_get, unwrap_or}
-use Rattle.std.specs.BTreeMap.{is_at, insert_entry}
-use Rattle.std.specs.Cmp.{IsTotalOrder}
-use Rattle.std.specs.List.Sorted.{IsStrictlySortedBy}
-use Rattle.std.specs.Map.{keys_of, lookup}
-use Rattle.std.specs.Ordering.{is_eq, match_ordering}
-use Rattle.std.specs.declared.cmp.Ordering.{Ordering}
-use Rattle.std.specs.declared.cmp.Ordering.TheVariants.{Less, Equal, Greater}
+use Rattle.std.proofs.Common.{◌≡◌, ◌≢◌, ℕ, ◌<◌, true, List, [], ◌∷◌, ◌++◌, length, inl, inr, refl, subst, sym, ap, ◌∙◌, arith}
+use Rattle.std.specs.Prelude.{◌↔◌, Contains, cond, Option, Some, None, slice_get}
+use Rattle.std.specs.BTreeMap.{is_at}
+use Rattle.std.specs.Ordering.{is_eq}
 use Rattle.std.proofs.lemmas.Bool.{cases_Bool, cases_lt, cond-true, cond-false}
 use Rattle.std.proofs.lemmas.Cmp.{tied_itself}
 use Rattle.std.proofs.lemmas.List.Elements.{Contains-push_cases}
 use Rattle.gf_ops.proofs.ListLemmas.{not_Contains-nil}
 use Rattle.gf_maximal.proofs.ImageLemmas.{Made}
 use Rattle.std.proofs.lemmas.Option.{get_or_from_slice_get, slice_get_within}
-use Rattle.std.proofs.lemmas.Map.Entries.{lookup_at_gap}
-use Rattle.std.proofs.lemmas.Map.Keys.{sorted_tail}
 use Rattle.gf_ops.specs.declared.op.Op.{Op}
 use Rattle.gf_ops.specs.declared.op.ObjectId.{ObjectId}
 use Rattle.gf_ops.specs.declared.change.Change.{Change}
@@ -29,16 +22,15 @@ use Rattle.gf_ops.proofs.ValidityLemmas.{same_op}
 use Rattle.gf_ops.specs.declared.change.Value.{Value}
 use Rattle.gf_ops.specs.Attribute.{changed_object, object_of}
 use Rattle.gf_groups.specs.Growing.{conflict_at}
-use Rattle.gf_groups.specs.GroupedPositions.{is_on, positions_below}
+use Rattle.gf_groups.specs.GroupedPositions.{is_on}
 use Rattle.gf_groups.specs.Parting.{object_cmp}
-use Rattle.gf_groups.proofs.OnPositionLemmas.{all_positions, contained_at, made_object, on_from, on_op, on_to}
+use Rattle.gf_groups.proofs.OnPositionLemmas.{all_positions, contained_at, made_object, on_op, on_to}
 use Rattle.gf_groups.proofs.PositionLemmas.{Contains-positions_below}
 use Rattle.gf_groups.proofs.PartingLemmas.{object_cmp_total, object_cmp_exact}
 use Rattle.gf_groups.proofs.SortedLemmas.{equal_left}
 use Rattle.gf_groups.proofs.TableLemmas.{conflict_at_test}
 use Rattle.gf_components.specs.Components.{ComponentState, ComponentsState, alone, no_components, whole}
 use Rattle.gf_components.proofs.ComponentLemmas.{all_of_fold, first_parts}
-use Rattle.gf_rivals.specs.Rivals.{IsNumber}
 use Rattle.gf_table.specs.ByPosition.{components_at}
 use Rattle.gf_table.specs.ObjectState.{ObjectState, maker_number, number_conflict, position_in}
 use Rattle.gf_table.specs.Standing.{AreComponentsOn, IsStateOf, Stands, StandsFor, state_of}

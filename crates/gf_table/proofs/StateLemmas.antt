@@ -1,18 +1,16 @@
 -- The state of an object, when one operation comes: made, kept or grown.
-use Rattle.std.proofs.Common.{◌≡◌, ◌≢◌, ℕ, zero, suc, ◌+◌, ◌-◌, ◌*◌, ◌<◌, ◌≤◌, Bool, true, false, List, [], ◌∷◌, ◌++◌, get_or, length, inl, inr, refl, subst, sym, ap, ◌∙◌, arith}
-use Rattle.std.specs.Prelude.{◌⊎◌, ◌↔◌, Contains, IfSome, Option, Some, None, option_map, slice_get, unwrap_or}
+use Rattle.std.proofs.Common.{◌≡◌, ◌≢◌, ℕ, ◌+◌, ◌-◌, ◌*◌, ◌<◌, List, [], ◌∷◌, ◌++◌, get_or, length, inl, inr, refl, subst, sym, ap, ◌∙◌, arith}
+use Rattle.std.specs.Prelude.{◌⊎◌, ◌↔◌, Contains, IfSome, Option, Some, None, slice_get, unwrap_or}
 use Rattle.std.specs.Ordering.{nat_cmp}
-use Rattle.std.proofs.lemmas.Bool.{cases_lt}
 use Rattle.std.proofs.lemmas.Cmp.{nat_cmp_total}
 use Rattle.std.proofs.lemmas.Option.{slice_get_within}
 use Rattle.gf_ops.specs.declared.op.Op.{Op}
 use Rattle.gf_ops.specs.declared.op.ObjectId.{ObjectId}
 use Rattle.gf_ops.specs.declared.change.Attr.{Attr}
-use Rattle.gf_ops.specs.declared.change.Change.{Change}
-use Rattle.gf_ops.specs.declared.change.Change.TheVariants.{Create, Set}
+use Rattle.gf_ops.specs.declared.change.Change.TheVariants.{Set}
 use Rattle.gf_ops.specs.declared.change.Value.{Value}
 use Rattle.gf_ops.specs.Accepted.{IsAccepted}
-use Rattle.gf_ops.specs.Attribute.{Kind, attribute_of, made_kind, object_of}
+use Rattle.gf_ops.specs.Attribute.{Kind, attribute_of, made_kind}
 use Rattle.gf_ops.specs.Conflict.{Conflict}
 use Rattle.gf_ops.specs.KnownObject.{IsSuited}
 use Rattle.gf_ops.specs.Limits.{IsInRange}
@@ -22,10 +20,10 @@ use Rattle.gf_ops.proofs.ListLemmas.{Contains-cons_cases, Contains-cons_head, no
 use Rattle.gf_ops.proofs.ValidityLemmas.{same_op}
 use Rattle.gf_maximal.proofs.LargestLemmas.{IsConflict}
 use Rattle.gf_maximal.proofs.RisingLemmas.{rising_cons, rising_nil}
-use Rattle.gf_components.specs.Components.{ComponentsState, after, no_components, whole, with_free}
+use Rattle.gf_components.specs.Components.{ComponentsState, after, whole}
 use Rattle.gf_components.specs.Separate.{AreComponents, ComesTo}
 use Rattle.gf_components.proofs.AgreeLemmas.{components_agree}
-use Rattle.gf_components.proofs.ComponentLemmas.{components_after, first_parts}
+use Rattle.gf_components.proofs.ComponentLemmas.{components_after}
 use Rattle.gf_groups.specs.Growing.{both_conflict, conflict_at}
 use Rattle.gf_groups.proofs.OnPositionLemmas.{conflict_from, conflict_with, contained_at}
 use Rattle.gf_groups.proofs.TableLemmas.{conflict_at_test}
@@ -36,7 +34,7 @@ use Rattle.gf_rivals.specs.Indexes.{IsIndex, PutsNumber}
 use Rattle.gf_rivals.specs.Setters.{block}
 use Rattle.gf_ops.specs.declared.op.Clock.{Clock}
 use Rattle.gf_rivals.specs.Chains.{IsUnknown, chain_of, no_chains, position_of, setters, with_setter}
-use Rattle.gf_rivals.specs.Rivals.{AreRivals, IsNumber, IsSetter, Tells}
+use Rattle.gf_rivals.specs.Rivals.{AreRivals, IsNumber, Tells}
 use Rattle.gf_rivals.specs.Rivals.{IsConflict as ConflictsAt}
 use Rattle.gf_rivals.proofs.NumberLemmas.{number_below, number_from, position_is, position_none}
 use Rattle.gf_rivals.proofs.NumberLemmas as numbers

@@ -1,14 +1,14 @@
 use Rattle.std.proofs.Common.{◌≡◌, [], ◌∷◌, ◌++◌, length, refl, ap, subst, sym, ◌∙◌}
 use Rattle.std.specs.BTreeMap.{is_at}
-use Rattle.std.specs.Prelude.{IsSome, Some, None, cond}
+use Rattle.std.specs.Prelude.{IsSome, Some}
 use Rattle.std.proofs.lemmas.Map.Steps.{set_value_same}
 use Rattle.std.proofs.lemmas.Result.{on_ok_weaker, on_err_weaker}
 use Rattle.gf_ops.specs.declared.op.ObjectId.{ObjectId}
 use Rattle.gf_ops.specs.declared.change.Change.TheVariants.{Create}
-use Rattle.gf_ops.specs.Attribute.{Kind, changed_object, made_kind}
+use Rattle.gf_ops.specs.Attribute.{changed_object, made_kind}
 use Rattle.gf_groups.specs.Parting.{object_cmp}
 use Rattle.gf_table.specs.ObjectState.{ObjectState, made}
-use Rattle.gf_table.specs.Standing.{IsStateOf, StandsFor, state_of}
+use Rattle.gf_table.specs.Standing.{IsStateOf, state_of}
 use Rattle.gf_table.proofs.StateLemmas.{state_made}
 use Rattle.gf_table.proofs.StandsLemmas.{absent, none_before, some_before, stands_after, there}
 use Rattle.gf_table.proofs.table.add_to.Goals as goal

@@ -1,5 +1,4 @@
 use Rattle.std.proofs.Common.{◌≡◌, ◌-◌, [], ◌∷◌, ◌++◌, length, inl, inr, ap, subst, sym, arith, ◌∙◌}
-use Rattle.gf_ops.specs.declared.op.ObjectId.{ObjectId}
 use Rattle.gf_ops.specs.Attribute.{changed_object}
 use Rattle.gf_ops.proofs.HistoryLemmas.{site_in_range}
 use Rattle.std.specs.Prelude.{IfSome}

@@ -1,5 +1,5 @@
-use Rattle.std.proofs.Common.{◌≡◌, List, ℕ, refl, ap, subst, sym, ◌∙◌}
-use Rattle.std.specs.Prelude.{◌↔◌, IfSome, Some, Contains}
+use Rattle.std.proofs.Common.{◌≡◌, ℕ, subst, sym}
+use Rattle.std.specs.Prelude.{◌↔◌, Some, Contains}
 use Rattle.gf_ops.specs.declared.change.Attr.{Attr}
 use Rattle.gf_rivals.specs.Chains.{IsUnknown}
 use Rattle.gf_rivals.specs.Indexes.{IsIndex}

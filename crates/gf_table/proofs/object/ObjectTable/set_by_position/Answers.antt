@@ -1,4 +1,4 @@
-use Rattle.std.proofs.Common.{ap, ◌∙◌}
+use Rattle.std.proofs.Common.{◌∙◌}
 use Rattle.gf_table.specs.ObjectState.{position_in}
 use Rattle.gf_table.proofs.FittingLemmas.{mapped_fit}
 use Rattle.gf_table.proofs.object.ObjectTable.set_by_position.Goals as goal
