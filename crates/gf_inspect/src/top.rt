@@ -10,9 +10,9 @@ ghost use Rattle.gf_table.specs.Standing.{StandsFor};
 use gf_groups::Ids;
 use gf_ops::{History, ObjectId};
 use gf_shape::{AnyShape, OutOfMemory, Point, Shape};
-use gf_shown::ranked_with;
 use gf_table::GroupTable;
 use gf_versions::{Ranked, ranked};
+use gf_visible::ranked_with;
 use std::alloc::Global;
 
 /// The name of a version: its object, and the ids of its operations, rising.

@@ -16,7 +16,7 @@ use Rattle.gf_fig_read.specs.FigGrammar.{Reads}
 use Rattle.gf_fig_write.specs.FigText.{fig_text}
 use Rattle.gf_fig_write.specs.ShownHistory.{Shows}
 use Rattle.gf_reading.specs.Denoting.{Denotes}
-use Rattle.gf_shown.specs.ShownVersions.{HasMoreVisible}
+use Rattle.gf_visible.specs.ShownVersions.{HasMoreVisible}
 
 -- the drawing is the canonical one of h, and has at every point the colour that h means there, by its shapes and by the
 -- outlines that FIG draws of them

@@ -18,9 +18,9 @@ use gf_drawing::{CompileFault, Drawing, MOST_VERSIONS, compile};
 use gf_fig_read::read_fig;
 use gf_reading::read_site;
 use gf_shape::{AnyShape, OutOfMemory, Outline};
-use gf_shown::ranked_within;
 use gf_site::Site;
 use gf_versions::Ranked;
+use gf_visible::ranked_within;
 use std::alloc::Global;
 
 /// The drawing of the history that the lines of a source denote.

@@ -7,9 +7,9 @@ use gf_drawing::{CompileFault, Drawing, compile};
 use gf_groups::{Group, GroupFault, Groups, groups_of, is_made};
 use gf_ops::ObjectId;
 use gf_shape::AnyShape;
-use gf_shown::{ranked_with, ranked_within, visible_groups};
 use gf_site::Site;
 use gf_versions::Ranked;
+use gf_visible::{ranked_with, ranked_within, visible_groups};
 use std::alloc::Global;
 
 /// The groups of an object, by the table.

@@ -116,11 +116,11 @@ fn visible_groups(alloc: Global, marks: &mut Marks) -> Option<Came> {
         return None;
     }
     marks.begin();
-    let first = gf_shown::visible_groups(alloc, history, table, object, 2);
+    let first = gf_visible::visible_groups(alloc, history, table, object, 2);
     marks.end();
     Some(match first {
         Err(OutOfMemory) => {
-            let next = gf_shown::visible_groups(alloc, history, table, object, 2);
+            let next = gf_visible::visible_groups(alloc, history, table, object, 2);
             Came::after_memory(true, are_visible(alloc, next))
         }
         first => Came::first(are_visible(alloc, first)),
@@ -201,11 +201,11 @@ fn ranked(alloc: Global, marks: &mut Marks) -> Option<Came> {
 fn ranked_with(alloc: Global, marks: &mut Marks) -> Option<Came> {
     let site = site(alloc, RED_BOX_MADE)?;
     marks.begin();
-    let first = gf_shown::ranked_with(alloc, site.history(), site.table());
+    let first = gf_visible::ranked_with(alloc, site.history(), site.table());
     marks.end();
     Some(match first {
         Err(OutOfMemory) => {
-            let next = gf_shown::ranked_with(alloc, site.history(), site.table());
+            let next = gf_visible::ranked_with(alloc, site.history(), site.table());
             Came::after_memory(true, is_red_box(next.ok()))
         }
         first => Came::first(is_red_box(first.ok())),
@@ -215,11 +215,11 @@ fn ranked_with(alloc: Global, marks: &mut Marks) -> Option<Came> {
 fn ranked_within(alloc: Global, marks: &mut Marks) -> Option<Came> {
     let site = site(alloc, RED_BOX_MADE)?;
     marks.begin();
-    let first = gf_shown::ranked_within(alloc, site.history(), site.table(), 1);
+    let first = gf_visible::ranked_within(alloc, site.history(), site.table(), 1);
     marks.end();
     Some(match first {
         Err(OutOfMemory) => {
-            let next = gf_shown::ranked_within(alloc, site.history(), site.table(), 1);
+            let next = gf_visible::ranked_within(alloc, site.history(), site.table(), 1);
             Came::after_memory(true, is_red_box(next.ok().flatten()))
         }
         first => Came::first(is_red_box(first.ok().flatten())),

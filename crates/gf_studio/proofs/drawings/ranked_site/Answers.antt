@@ -1,6 +1,6 @@
 use Rattle.std.specs.Prelude.{IfErr, IfNone, IfOk, IfSome}
 use Rattle.std.proofs.Common.{subst, sym}
-use Rattle.gf_shown.specs.ShownVersions.{HasMoreVisible}
+use Rattle.gf_visible.specs.ShownVersions.{HasMoreVisible}
 use Rattle.gf_versions.specs.Ranking.{AreRanked}
 use Rattle.gf_studio.specs.FigRun.{RefusesHistory}
 use Rattle.gf_studio.proofs.DrawnLemmas.{list_made, list_refused}

@@ -1,6 +1,0 @@
-use Rattle.std.proofs.Common.{take}
-use Rattle.gf_shown.specs.VisibleSoFar.{HaveVisibleOf}
-use Rattle.gf_shown.proofs.ranking.groups_to_rank.Given as goal
-
-abbrev pub invariant-loop-op : goal.invariant-loop-op
-invariant-loop-op l = HaveVisibleOf l.history.ops (take l.op-index l.history.ops) l.groups.items

@@ -1,0 +1,29 @@
+-- The largest compatible sets of positions that show, listed unless they are too many. No public clause cites this module.
+use Rattle.std.specs.Prelude.{◌≡◌, ◌≢◌, ◌↔◌, ℕ, ◌<◌, ◌≤◌, true, List, AllPairs, Contains}
+use Rattle.std.specs.Prelude.{length, Option, Some, None}
+use Rattle.gf_ops.specs.declared.op.Op.{Op}
+use Rattle.gf_groups.specs.Growing.{conflict_at}
+use Rattle.gf_maximal.specs.Tables.{IsLargest, IsRising}
+use Rattle.gf_visible.specs.Deciding.{is_shown}
+
+-- g is a largest compatible set of the positions us, and shows
+pub record IsShownSet (h : List Op) (us g : List ℕ) : Type 0 where
+  pub rises : IsRising g
+  pub largest : IsLargest (conflict_at h) (Contains us) (Contains g)
+  pub shown : is_shown h g ≡ true
+
+-- the sets are all largest compatible sets of the positions us that show, each once
+pub record AreShownSets (h : List Op) (us : List ℕ) (sets : List (List ℕ)) : Type 0 where
+  pub exactly : (g : List ℕ) → Contains sets g ↔ IsShownSet h us g
+  pub once : AllPairs (λ g k. g ≢ k) sets
+
+-- more than m largest compatible sets of the positions us show
+pub record HasMoreSets (h : List Op) (us : List ℕ) (m : ℕ) : Type 0 where
+  pub sets : List (List ℕ)
+  pub all : AreShownSets h us sets
+  pub many : m < length sets
+
+-- the sets are all that show of the positions us, and at most m; None, where more show
+abbrev pub IsSetListing : List Op → List ℕ → ℕ → Option (List (List ℕ)) → Type 0
+IsSetListing h us m (Some sets) = AreShownSets h us sets × (length sets ≤ m)
+IsSetListing h us m None = HasMoreSets h us m

@@ -1,0 +1,101 @@
+//! The visible versions of a history, ranked: all, or unless they are too many.
+
+ghost use Rattle.std.specs.Prelude.{◌≤◌, length, IfNone, IfOk, IfSome, option_map};
+ghost use Rattle.gf_components.specs.Components.{most_sets};
+ghost use Rattle.gf_visible.specs.ShownVersions.{HasMoreVisible};
+ghost use Rattle.gf_visible.specs.VisibleSoFar.{HaveVisibleOf, IsGroupListing};
+ghost use Rattle.gf_table.specs.Standing.{StandsFor};
+ghost use Rattle.gf_versions.specs.Ranking.{AreRanked};
+
+use crate::objects::{visible_made, visible_or_all};
+use gf_groups::Group;
+use gf_ops::History;
+use gf_shape::{AnyShape, OutOfMemory};
+use gf_table::GroupTable;
+use gf_versions::{Ranked, ranked_of};
+use std::alloc::Global;
+
+/// The visible versions of a history, topmost first, as `ranked` gives them. The table stands for
+/// the history.
+///
+/// Of an object with at most 1,000 visible versions it lists no others.
+pub fn ranked_with(
+    alloc: Global,
+    history: &History,
+    table: &GroupTable,
+) -> Result<Ranked<AnyShape>, OutOfMemory>
+    requires { StandsFor history.now.ops table.now }
+    ensures { IfOk result (λ ranked. AreRanked history.now.ops ranked.items.items) }
+{
+    // Its clause says that the history is valid.
+    let _ = history.ops();
+    let groups = groups_to_rank(alloc, history, table)?;
+    ranked_of(alloc, history, &groups)
+}
+
+/// The groups of versions among which are all visible ones.
+fn groups_to_rank(
+    alloc: Global,
+    history: &History,
+    table: &GroupTable,
+) -> Result<Vec<Group>, OutOfMemory>
+    requires { StandsFor history.now.ops table.now }
+    ensures { IfOk result (λ groups.
+        HaveVisibleOf history.now.ops history.now.ops groups.items) }
+{
+    let mut groups = Vec::new(alloc);
+    for op in history.ops() {
+        let mut more = visible_or_all(alloc, history, table, op)?;
+        groups.append(&mut more)?;
+    }
+    Ok(groups)
+}
+
+/// The visible versions of a history, topmost first, if they are at most so many; None where they
+/// are more. The table stands for the history.
+///
+/// It stops as soon as it has seen more. It multiplies out no choice that is not listed, as
+/// [`visible_groups`](crate::visible_groups) tells.
+pub fn ranked_within(
+    alloc: Global,
+    history: &History,
+    table: &GroupTable,
+    most: usize,
+) -> Result<Option<Ranked<AnyShape>>, OutOfMemory>
+    requires stands { StandsFor history.now.ops table.now }
+    requires most { most ≤ most_sets }
+    ensures ranked { IfOk result (λ found.
+        IfSome found (λ ranked. AreRanked history.now.ops ranked.items.items)) }
+    ensures few { IfOk result (λ found. IfSome found (λ ranked. length ranked.items.items ≤ most)) }
+    ensures more { IfOk result (λ found. IfNone found (HasMoreVisible history.now.ops most)) }
+{
+    // Its clause says that the history is valid.
+    let _ = history.ops();
+    let Some(groups) = all_visible(alloc, history, table, most)? else {
+        return Ok(None);
+    };
+    let ranked = ranked_of(alloc, history, &groups)?;
+    Ok(Some(ranked))
+}
+
+/// The groups of all visible versions, if they are at most so many.
+fn all_visible(
+    alloc: Global,
+    history: &History,
+    table: &GroupTable,
+    most: usize,
+) -> Result<Option<Vec<Group>>, OutOfMemory>
+    requires stands { StandsFor history.now.ops table.now }
+    requires most { most ≤ most_sets }
+    ensures { IfOk result (λ found.
+        IsGroupListing history.now.ops history.now.ops most (option_map (λ v. v.items) found)) }
+{
+    let mut groups = Vec::new(alloc);
+    for op in history.ops() {
+        match visible_made(alloc, history, table, op, most - groups.len())? {
+            Some(mut more) => groups.append(&mut more)?,
+            None => return Ok(None),
+        }
+    }
+    Ok(Some(groups))
+}

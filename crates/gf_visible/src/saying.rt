@@ -1,0 +1,83 @@
+//! What the operations at positions say of `Shown`.
+
+ghost use Rattle.std.specs.Prelude.{◌≡◌};
+ghost use Rattle.gf_ops.specs.Limits.{IsInRange};
+ghost use Rattle.gf_groups.specs.VersionList.{is_before};
+ghost use Rattle.gf_visible.specs.ShownAt.{shown_value, shown_by, before_at};
+ghost use Rattle.gf_visible.specs.ShownAt.{said_at, sets_at, shows_at, later_at};
+
+use gf_ops::{Change, History, Op, Value, before};
+
+/// Whether the value shows, if it says that.
+fn shown_value(value: &Value) -> Option<bool>
+    ensures { result ≡ shown_value value.now }
+{
+    match value {
+        Value::Shown(shown) => Some(*shown),
+        Value::Place(_)
+        | Value::Points(_)
+        | Value::Size(_, _)
+        | Value::Colour(_)
+        | Value::Layer(_) => None,
+    }
+}
+
+/// Whether the change shows its object, if it says that.
+fn shown_by(change: &Change) -> Option<bool>
+    ensures { result ≡ shown_by change.now }
+{
+    match change {
+        Change::Create(start) => Some(start.shown),
+        Change::Set { value, .. } => shown_value(value),
+    }
+}
+
+/// Whether the operation at this position shows its object, if it says that.
+fn said_at(history: &History, position: usize) -> Option<bool>
+    ensures { result ≡ said_at history.now.ops position }
+{
+    match history.ops().get(position) {
+        Some(op) => shown_by(&op.change),
+        None => None,
+    }
+}
+
+fn is_before(a: &Op, b: &Op) -> bool
+    requires a { IsInRange a.now }
+    requires b { IsInRange b.now }
+    ensures { result ≡ is_before a.now b.now }
+{
+    before(a, b)
+}
+
+/// Whether there are two operations at these positions, and the first comes before the second.
+fn before_at(history: &History, position: usize, other: usize) -> bool
+    ensures { result ≡ before_at history.now.ops position other }
+{
+    let ops = history.ops();
+    match (ops.get(position), ops.get(other)) {
+        (Some(a), Some(b)) => is_before(a, b),
+        _ => false,
+    }
+}
+
+/// Whether the operation at this position shows or hides.
+pub(crate) fn sets_at(history: &History, position: usize) -> bool
+    ensures { result ≡ sets_at history.now.ops position }
+{
+    said_at(history, position).is_some()
+}
+
+/// Whether the operation at this position shows.
+pub(crate) fn shows_at(history: &History, position: usize) -> bool
+    ensures { result ≡ shows_at history.now.ops position }
+{
+    said_at(history, position).unwrap_or(false)
+}
+
+/// Whether the second one shows or hides, and comes after the first.
+pub(crate) fn later_at(history: &History, position: usize, other: usize) -> bool
+    ensures { result ≡ later_at history.now.ops position other }
+{
+    sets_at(history, other) && before_at(history, position, other)
+}
