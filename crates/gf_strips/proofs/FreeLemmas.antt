@@ -110,6 +110,10 @@ painted_none target now n strip r g = record {
     first : (k : ℕ) → k < n → is_free (record { from = 0; to = n } ∷ []) k ≡ true
     first k l = let e : is_from 0 n k ≡ true = grind (arith, nat_tests) in rw e refl
 
+-- a strip of no column
+pub painted_empty : (target now : ℕ → Rgb) (n : ℕ) (strip : Shown) → n ≤ 0 → strip.bytes ≡ pixels now 0 n → IsPainted target target n strip
+painted_empty target now n strip none r = record { now = now; bytes = r; shows = λ k l. absurd (omega (arith, none, l)) }
+
 -- all is painted
 pub painted_all : (target behind : ℕ → Rgb) (n : ℕ) (strip : Shown) → ((k : ℕ) → k < n → is_free strip.free k ≡ false) → IsPainted target behind n strip → strip.bytes ≡ pixels target 0 n
 painted_all target behind n strip e h = h.bytes ∙ pixels_same h.now target 0 n (λ k a l. sym (here k (omega arith)))

@@ -1,3 +1,4 @@
 pub mod FreeLemmas
 pub mod PixelLemmas
 pub mod RangeLemmas
+pub mod RisingLemmas

@@ -1,2 +1,3 @@
 pub mod Pixels
 pub mod Strips
+pub mod Free

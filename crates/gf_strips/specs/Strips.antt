@@ -1,5 +1,6 @@
 -- Some columns of a row, painted from the front to the back: each once, while it is free (this project's choice).
-use Rattle.std.specs.Prelude.{ℕ, ◌*◌, ◌≤◌, ◌≡◌, ◌<◌, Bool, false, ◌&&◌, nat_le, nat_lt, List, if◌then◌else◌}
+use Rattle.std.specs.Prelude.{ℕ, ◌*◌, ◌≤◌, ◌≡◌, ◌<◌, Bool, false, ◌&&◌, nat_le, nat_lt, if◌then◌else◌}
+use Rattle.std.specs.Prelude.{List, [], ◌∷◌, Contains, ⊤}
 use Rattle.std.specs.List.{list_any}
 use Rattle.gf_shape.specs.declared.colour.Rgb.{Rgb}
 use Rattle.gf_strips.specs.declared.columns.Columns.{Columns}
@@ -24,6 +25,11 @@ over test c f k = if test k then c else f k
 -- of n columns, those that are not among c have the same colours
 abbrev pub AreSameOutside : Columns → ℕ → (ℕ → Rgb) → (ℕ → Rgb) → Type 0
 AreSameOutside c n f g = (k : ℕ) → k < n → is_among c k ≡ false → f k ≡ g k
+
+-- each of the lists of columns has some, and they rise: each ends before the next ones begin
+abbrev pub AreRising : List Columns → Type 0
+AreRising [] = ⊤
+AreRising (c ∷ cs) = (c.from < c.to) × ((d : Columns) → Contains cs d → c.to ≤ d.from) × AreRising cs
 
 -- the columns lie within a row of so many bytes
 abbrev pub Fits : ℕ → Columns → Type 0

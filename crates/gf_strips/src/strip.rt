@@ -1,10 +1,12 @@
 //! Some columns of a row, painted from the front to the back.
 
-ghost use Rattle.std.specs.Prelude.{◌≡◌, ◌↔◌, ℕ, ◌*◌, ◌≤◌, Bool, false, ◌&&◌, ◌||◌, not, IsTrue};
-ghost use Rattle.std.specs.Prelude.{OnOk, IfOk, [], ◌∷◌, All, length, replicate};
+ghost use Rattle.std.specs.Prelude.{◌≡◌, ◌↔◌, ℕ, ◌*◌, ◌≤◌, false, ◌&&◌, not, IsTrue};
+ghost use Rattle.std.specs.Prelude.{OnOk, IfOk, [], ◌++◌, All, length, replicate};
+ghost use Rattle.std.specs.List.{flat_map};
 ghost use Rattle.gf_shape.specs.declared.colour.Rgb.{Rgb};
 ghost use Rattle.gf_strips.specs.Pixels.{pixels};
-ghost use Rattle.gf_strips.specs.Strips.{AreSameOutside, Fits, is_from, is_among, is_free, over};
+ghost use Rattle.gf_strips.specs.Free.{IsFirstBehind, IsFirstFrom, IsParted, left_of, some_from};
+ghost use Rattle.gf_strips.specs.Strips.{AreRising, AreSameOutside, Fits, is_among, is_free, over};
 ghost use Rattle.gf_strips.specs.Strips.{IsPainted};
 
 use crate::{Brush, Columns};
@@ -24,13 +26,14 @@ pub struct Strip {
 
 impl Model for Strip {
     ghost use Rattle.std.specs.Prelude.{All, length};
-    ghost use Rattle.gf_strips.specs.Strips.{Fits, Shown};
+    ghost use Rattle.gf_strips.specs.Strips.{AreRising, Fits, Shown};
 
     ghost Value = { Shown };
 
     ghost view = { λ s. record { bytes = s.bytes.items; free = s.free.items } };
 
-    ghost invariant = { λ s. All (Fits (length s.bytes.items)) s.free.items };
+    ghost invariant = { λ s. All (Fits (length s.bytes.items)) s.free.items
+        × AreRising s.free.items };
 }
 
 impl Strip {
@@ -52,10 +55,12 @@ impl Strip {
     {
         self.free.clear();
         blank(&mut self.bytes, 3 * columns)?;
-        self.free.push(Columns {
-            from: 0,
-            to: columns,
-        })?;
+        if 0 < columns {
+            self.free.push(Columns {
+                from: 0,
+                to: columns,
+            })?;
+        }
         Ok(())
     }
 
@@ -79,7 +84,8 @@ impl Strip {
         is_any_free(&self.free, columns)
     }
 
-    /// Paints those of the columns that are still free.
+    /// Paints those of the columns that are still free: a search by halves, and where the columns meet
+    /// free ones, a look at each of these.
     pub fn paint(&mut self, columns: Columns, brush: &Brush) -> Result<(), OutOfMemory>
         ensures free { OnOk result ((k : ℕ)
             → is_free self.new.free k ≡ (is_free self.old.free k && not (is_among columns k))) }
@@ -87,14 +93,20 @@ impl Strip {
             → IsPainted target (over (is_among columns) brush.now behind) n self.old
             → IsPainted target behind n self.new) }
     {
+        if !is_any_free(&self.free, columns) {
+            return Ok(());
+        }
+        let (before, met, behind) = parted(&self.free, columns);
         self.left.clear();
+        self.left.extend_from_slice(before)?;
         cover_all(
-            &self.free,
+            met,
             self.bytes.as_mut_slice(),
             columns,
             brush,
             &mut self.left,
         )?;
+        self.left.extend_from_slice(behind)?;
         std::mem::swap(&mut self.free, &mut self.left);
         Ok(())
     }
@@ -113,17 +125,44 @@ impl Strip {
     }
 }
 
-/// Whether one of the columns is among free ones.
+/// How many of the first free columns end up to a column.
+fn first_behind(free: &[Columns], column: usize) -> usize
+    requires { AreRising free.now }
+    ensures { IsFirstBehind column free.now result }
+{
+    free.partition_point(|some| some.to <= column)
+}
+
+/// How many of the first free columns begin before a column.
+fn first_from(free: &[Columns], column: usize) -> usize
+    requires { AreRising free.now }
+    ensures { IsFirstFrom column free.now result }
+{
+    free.partition_point(|some| some.from < column)
+}
+
+/// The free columns that end before some columns, those that may meet them, and those that begin
+/// behind them.
+fn parted(free: &[Columns], columns: Columns) -> (&[Columns], &[Columns], &[Columns])
+    requires { AreRising free.now }
+    ensures { IsParted columns free.now result.0.now result.1.now result.2.now }
+{
+    let (before, rest) = free.split_at(first_behind(free, columns.from));
+    let (met, behind) = rest.split_at(first_from(rest, columns.to));
+    (before, met, behind)
+}
+
+/// Whether one of the columns is among free ones: only the first that does not end before them may
+/// have one.
 fn is_any_free(free: &[Columns], columns: Columns) -> bool
+    requires { AreRising free.now }
     ensures some { IsTrue result → (k : ℕ) × IsTrue (is_free free.now k && is_among columns k) }
     ensures none { result ≡ false → (k : ℕ) → (is_free free.now k && is_among columns k) ≡ false }
 {
-    for some in free {
-        if overlap(*some, columns) {
-            return true;
-        }
+    match free.get(first_behind(free, columns.from)) {
+        Some(some) => overlap(*some, columns),
+        None => false,
     }
-    false
 }
 
 fn overlap(a: Columns, b: Columns) -> bool
@@ -150,12 +189,10 @@ fn cover_all(
     brush: &Brush,
     left: &mut Vec<Columns>,
 ) -> Result<(), OutOfMemory>
-    requires none { left.old.items ≡ [] }
     requires within { All (Fits (length row.old)) free.now }
     ensures len { length row.new ≡ length row.old }
-    ensures within { OnOk result (All (Fits (length row.old)) left.new.items) }
-    ensures free { OnOk result ((k : ℕ)
-        → is_free left.new.items k ≡ (is_free free.now k && not (is_among columns k))) }
+    ensures left { OnOk result (left.new.items
+        ≡ left.old.items ++ flat_map (left_of columns) free.now) }
     ensures row { OnOk result ((f : ℕ → Rgb) (n : ℕ) → row.old ≡ pixels f 0 n
         → row.new ≡ pixels (over (λ k. is_free free.now k && is_among columns k) brush.now f) 0 n) }
 {
@@ -176,11 +213,7 @@ fn cover(
 ) -> Result<(), OutOfMemory>
     requires { 3 * free.to ≤ length row.old }
     ensures len { length row.new ≡ length row.old }
-    ensures within { OnOk result (All (Fits (length row.old)) left.old.items
-        → All (Fits (length row.old)) left.new.items) }
-    ensures free { OnOk result ((k : ℕ)
-        → is_free left.new.items k
-        ≡ (is_free left.old.items k || (is_among free k && not (is_among columns k)))) }
+    ensures left { OnOk result (left.new.items ≡ left.old.items ++ left_of columns free) }
     ensures row { OnOk result ((f : ℕ → Rgb) (n : ℕ) → row.old ≡ pixels f 0 n
         → row.new ≡ pixels (over (λ k. is_among free k && is_among columns k) brush.now f) 0 n) }
 {
@@ -198,10 +231,7 @@ fn cover(
 
 /// Adds the columns from one to before another, where there are any.
 fn push_some(left: &mut Vec<Columns>, from: usize, to: usize) -> Result<(), OutOfMemory>
-    ensures within { (m : ℕ) → OnOk result (3 * to ≤ m → All (Fits m) left.old.items
-        → All (Fits m) left.new.items) }
-    ensures free { OnOk result ((k : ℕ)
-        → is_free left.new.items k ≡ (is_free left.old.items k || is_from from to k)) }
+    ensures { OnOk result (left.new.items ≡ left.old.items ++ some_from from to) }
 {
     if from < to {
         left.push(Columns { from, to })?;
