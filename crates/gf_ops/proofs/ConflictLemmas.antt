@@ -1,216 +1,176 @@
--- The tests of conflicts tell conflicts, and conflicts are symmetric.
-use Rattle.std.proofs.Common.{◌≡◌, ◌≢◌, ◌||◌, Bool, true, Some, None, Option, refl, sym, ap, subst, ◌∙◌, inl, inr}
-use Rattle.std.proofs.lemmas.Bool.{cases_Bool, or_cases, or_left, or_right}
+-- Conflicts: what an operation of a valid history brings is compatible, and what conflicts with something that it aims at conflicts with it.
+use Rattle.std.proofs.Common.{◌≡◌, ◌≢◌, List, [], ◌∷◌, refl, sym, ap, subst, ◌∙◌, inl, inr}
+use Rattle.std.specs.Prelude.{◌⊎◌, ◌↔◌, Contains}
+use Rattle.std.proofs.lemmas.Bool.{cases_eq}
 use Rattle.gf_ops.specs.declared.op.Op.{Op}
+use Rattle.gf_ops.specs.declared.op.OpId.{OpId}
 use Rattle.gf_ops.specs.declared.op.ObjectId.{ObjectId}
-use Rattle.gf_ops.specs.declared.change.Attr.{Attr}
-use Rattle.gf_ops.specs.declared.change.Form.{Form}
-use Rattle.gf_ops.specs.declared.change.Form.TheVariants.{Rect, Polygon, Circle, Ellipse}
-use Rattle.gf_ops.specs.declared.change.Start.{Start}
-use Rattle.gf_ops.specs.declared.change.Change.{Change}
-use Rattle.gf_ops.specs.declared.change.Change.TheVariants.{Create, Set}
-use Rattle.gf_ops.specs.declared.change.Value.{Value}
-use Rattle.gf_ops.specs.declared.change.Value.TheVariants.{Place, Points, Size, Colour, Layer, Shown}
-use Rattle.gf_ops.specs.declared.change.Attr.TheVariants as attr
-use Rattle.gf_ops.specs.Attribute.{attribute_of, change_value, start_value, set_value, form_value, size_in, points_in, object_of}
-use Rattle.gf_ops.specs.Conflict.{SetApart, Conflict}
-use Rattle.gf_ops.specs.ConflictTests.{value_eq, is_another, sets_another, begins_apart, are_apart}
-use Rattle.gf_ops.specs.OperationOrder.{IsConcurrent, Precedes}
-use Rattle.gf_ops.proofs.SameLemmas.{value_eq-same, value_eq-true}
+use Rattle.gf_ops.specs.Aims.{AimsAt, Brings, HasNoAims}
+use Rattle.gf_ops.specs.Attribute.{aim_of, object_of}
+use Rattle.gf_ops.specs.Conflict.{Conflict, MeetsBrought, ConflictsByAim}
+use Rattle.gf_ops.specs.DirectConflict.{DirectConflict}
+use Rattle.gf_ops.specs.OperationOrder.{Precedes}
+use Rattle.gf_ops.specs.ValidHistory.{IsValid}
+use Rattle.gf_ops.specs.Version.{IsVersion, IsMember, IsLargestGroup}
+use Rattle.gf_ops.proofs.DirectConflictLemmas.{direct-sym}
+use Rattle.gf_ops.proofs.ListLemmas.{Contains-cons_cases, Contains-cons_head, Contains-cons_tail, not_Contains-nil}
+use Rattle.gf_ops.proofs.HistoryLemmas.{site_in_range, seq_in_range}
+use Rattle.gf_ops.proofs.ValidityLemmas.{same_op, precedes_transitive}
 
--- ---- values
-
--- what a Set gives to an attribute is its value, of that attribute
-set_value-given : (v w : Value) (t : Attr) → set_value v t ≡ Some w → (v ≡ w) × (attribute_of v ≡ t)
-set_value-given (Place p) w attr.Place e = (cc, refl)
-set_value-given (Points ps) w attr.Points e = (cc, refl)
-set_value-given (Size j k) w attr.Size e = (cc, refl)
-set_value-given (Colour c) w attr.Colour e = (cc, refl)
-set_value-given (Layer n) w attr.Layer e = (cc, refl)
-set_value-given (Shown b) w attr.Shown e = (cc, refl)
-set_value-given v w t e = absurd cc
-
-set_value-own : (v : Value) → set_value v (attribute_of v) ≡ Some v
-set_value-own (Place p) = refl
-set_value-own (Points ps) = refl
-set_value-own (Size j k) = refl
-set_value-own (Colour c) = refl
-set_value-own (Layer n) = refl
-set_value-own (Shown b) = refl
-
--- ---- changes
-
--- another value is given
-another_told : (g : Option Value) (w : Value) → is_another g w ≡ true → (v : Value) × (g ≡ Some v) × (v ≢ w)
-another_told None w t = absurd cc
-another_told (Some v) w t = (v, refl, λ e. let s = value_eq-same v in absurd cc)
-
-another_from : (v w : Value) → v ≢ w → is_another (Some v) w ≡ true
-another_from v w n = elim (cases_Bool (value_eq v w)) [ inl t ↦ absurd (n (value_eq-true v w t)) | inr f ↦ rw f refl ]
-
--- what is set apart is so from both sides
-apart-sym : (c d : Change) → SetApart c d → SetApart d c
-apart-sym c d s = record {
-  attribute = s.attribute;
-  first = s.second;
-  second = s.first;
-  first_given = s.second_given;
-  second_given = s.first_given;
-  differ = λ e. s.differ (sym e);
+pub conflict-sym : (h : List Op) (a b : Op) → Conflict h a b → Conflict h b a
+conflict-sym h a b c = record {
+  first = c.second;
+  second = c.first;
+  brings_first = c.brings_second;
+  brings_second = c.brings_first;
+  direct = direct-sym c.first c.second c.direct;
 }
 
--- a change that gives another value than a Set
-another_apart : (c : Change) (o : ObjectId) (w : Value) → sets_another c w ≡ true → SetApart c (Set o w)
-another_apart c o w t =
-    let (v, given, differ) = another_told (change_value c (attribute_of w)) w t in
-    record { attribute = attribute_of w; first = v; second = w; first_given = given; second_given = set_value-own w; differ = differ }
+-- each operation brings itself
+pub conflict_direct : (h : List Op) (a b : Op) → DirectConflict a b → Conflict h a b
+conflict_direct h a b d = record { first = a; second = b; brings_first = inl refl; brings_second = inl refl; direct = d }
 
-apart_another : (c : Change) (o : ObjectId) (w : Value) → SetApart c (Set o w) → sets_another c w ≡ true
-apart_another c o w s =
-    let (same, at) = set_value-given w s.second s.attribute s.second_given in
-    let given : change_value c (attribute_of w) ≡ Some s.first = ap (change_value c) at ∙ s.first_given in
-    rw given (another_from s.first w (λ e. s.differ (e ∙ same)))
+pub conflict_meets : (h : List Op) (a b : Op) → MeetsBrought h a b → Conflict h a b
+conflict_meets h a b m = record { first = a; second = m.second; brings_first = inl refl; brings_second = m.brings; direct = m.direct }
 
--- ---- what two objects begin with
-
--- an object begins with the value of its form
-form_given : (s : Start) → start_value s (attribute_of (form_value s.form)) ≡ Some (form_value s.form)
-form_given s = given s.form refl
-  where
-    given : (f : Form) → s.form ≡ f → start_value s (attribute_of (form_value f)) ≡ Some (form_value f)
-    given (Rect w h) e = rw e refl
-    given (Polygon ps) e = rw e refl
-    given (Circle r) e = rw e refl
-    given (Ellipse m n) e = rw e refl
-
-size_is : (f : Form) (w : Value) → size_in (form_value f) ≡ Some w → (form_value f ≡ w) × (attribute_of w ≡ attr.Size)
-size_is (Rect v h) w e = let same : Size v h ≡ w = cc in (same, ap attribute_of (sym same))
-size_is (Circle r) w e = let same : Size r r ≡ w = cc in (same, ap attribute_of (sym same))
-size_is (Ellipse m n) w e = let same : Size m n ≡ w = cc in (same, ap attribute_of (sym same))
-size_is (Polygon ps) w e = absurd cc
-
-points_are : (f : Form) (w : Value) → points_in (form_value f) ≡ Some w → (form_value f ≡ w) × (attribute_of w ≡ attr.Points)
-points_are (Polygon ps) w e = let same : Points ps ≡ w = cc in (same, ap attribute_of (sym same))
-points_are f w e = absurd cc
-
-begins_apart_told : (s t : Start) → begins_apart s t ≡ true → SetApart (Create s) (Create t)
-begins_apart_told s t e = elim (or_cases (place || colour || layer || shown) (begins (form_value t.form)) e) [
-  | inl g ↦ elim (or_cases (place || colour || layer) shown g) [
-    | inl h ↦ elim (or_cases (place || colour) layer h) [
-      | inl k ↦ elim (or_cases place colour k) [ inl x ↦ from (Place t.place) refl x | inr x ↦ from (Colour t.colour) refl x ]
-      | inr x ↦ from (Layer t.layer) refl x
-    ]
-    | inr x ↦ from (Shown t.shown) refl x
-  ]
-  | inr x ↦ from (form_value t.form) (form_given t) x
+pub conflict_parted : (h : List Op) (a b : Op) → Conflict h a b → MeetsBrought h a b ⊎ ConflictsByAim h a b
+conflict_parted h a b c = elim c.brings_first [
+  | inl e ↦ inl (record { second = c.second; brings = c.brings_second; direct = subst (λ x. DirectConflict x c.second) e c.direct })
+  | inr m ↦ inr (record {
+    aimed = c.first;
+    aims = m;
+    conflict = record { first = c.first; second = c.second; brings_first = inl refl; brings_second = c.brings_second; direct = c.direct };
+  })
 ]
-  where
-    begins : Value → Bool
-    begins w = sets_another (Create s) w
 
-    place : Bool
-    place = begins (Place t.place)
+-- ---- in a valid history
 
-    colour : Bool
-    colour = begins (Colour t.colour)
+module _ (h : List Op) (valid : IsValid h) where
+  -- what is aimed at comes before
+  aimed_before : (a x : Op) → Contains h a → AimsAt h a x → Precedes x a
+  aimed_before a x i m =
+      let t = (valid.aimed a i).each x.id m.aimed in
+      subst (λ y. Precedes y a) (same_op h valid t.op x t.contained m.contained t.id) t.before
 
-    layer : Bool
-    layer = begins (Layer t.layer)
+  -- concerns the same object
+  pub aimed_object : (a x : Op) → Contains h a → AimsAt h a x → object_of x ≡ object_of a
+  aimed_object a x i m =
+      let t = (valid.aimed a i).each x.id m.aimed in
+      subst (λ y. object_of y ≡ object_of a) (same_op h valid t.op x t.contained m.contained t.id) t.object
 
-    shown : Bool
-    shown = begins (Shown t.shown)
+  -- and brings no more
+  pub brings_more : (a x y : Op) → Contains h a → AimsAt h a x → Brings h x y → AimsAt h a y
+  brings_more a x y i m b = elim b [
+    | inl e ↦ subst (AimsAt h a) (sym e) m
+    | inr n ↦
+        let t = (valid.aimed a i).each x.id m.aimed in
+        let same = same_op h valid t.op x t.contained m.contained t.id in
+        record { contained = n.contained; aimed = subst (λ (z : Op). (j : OpId) → Contains (aim_of z) j → Contains (aim_of a) j) same t.within y.id n.aimed }
+  ]
 
-    from : (w : Value) → start_value t (attribute_of w) ≡ Some w → sets_another (Create s) w ≡ true → SetApart (Create s) (Create t)
-    from w given x =
-        let (v, first, differ) = another_told (start_value s (attribute_of w)) w x in
-        record { attribute = attribute_of w; first = v; second = w; first_given = first; second_given = given; differ = differ }
+  -- no two that an operation brings conflict directly
+  pub brought_calm : (a x y : Op) → Contains h a → Brings h a x → Brings h a y → ¬ (DirectConflict x y)
+  brought_calm a x y i b c d = elim b [
+    | inl e ↦ elim c [
+      | inl f ↦ d.concurrent.different (e ∙ sym f)
+      | inr n ↦ d.concurrent.not_after (subst (Precedes y) (sym e) (aimed_before a y i n))
+    ]
+    | inr m ↦ elim c [
+      | inl f ↦ d.concurrent.not_before (subst (Precedes x) (sym f) (aimed_before a x i m))
+      | inr n ↦ (valid.aimed a i).compatible x y m n d
+    ]
+  ]
 
-begins_apart_from : (s t : Start) → SetApart (Create s) (Create t) → begins_apart s t ≡ true
-begins_apart_from s t x = by x.attribute refl
-  where
-    begins : Value → Bool
-    begins w = sets_another (Create s) w
+  pub conflict_irreflexive : (a : Op) → Contains h a → ¬ (Conflict h a a)
+  conflict_irreflexive a i c = brought_calm a c.first c.second i c.brings_first c.brings_second c.direct
 
-    place : Bool
-    place = begins (Place t.place)
+  pub own_aim_calm : (a x : Op) → Contains h a → AimsAt h a x → ¬ (Conflict h a x)
+  own_aim_calm a x i m c = brought_calm a c.first c.second i c.brings_first (inr (brings_more a x c.second i m c.brings_second)) c.direct
 
-    colour : Bool
-    colour = begins (Colour t.colour)
+  pub conflict_carried : (a x b : Op) → Contains h a → AimsAt h a x → Conflict h x b → Conflict h a b
+  conflict_carried a x b i m c = record {
+    first = c.first;
+    second = c.second;
+    brings_first = inr (brings_more a x c.first i m c.brings_first);
+    brings_second = c.brings_second;
+    direct = c.direct;
+  }
 
-    layer : Bool
-    layer = begins (Layer t.layer)
+  -- ---- versions
 
-    shown : Bool
-    shown = begins (Shown t.shown)
+  id_cases : (i j : OpId) → (i ≡ j) ⊎ (i ≢ j)
+  id_cases i j = elim (cases_eq i.site j.site) [
+    | inl s ↦ elim (cases_eq i.seq j.seq) [
+      | inl n ↦ inl (λ k. record { site = s k; seq = n k })
+      | inr n ↦ inr (λ e. n (ap (λ (k : OpId). k.seq) e))
+    ]
+    | inr s ↦ inr (λ e. s (ap (λ (k : OpId). k.site) e))
+  ]
 
-    -- the second value is w, so the first one is another
-    from : (w : Value) → x.second ≡ w → x.attribute ≡ attribute_of w → begins w ≡ true
-    from w same at =
-        let first : start_value s (attribute_of w) ≡ Some x.first = ap (start_value s) (sym at) ∙ x.first_given in
-        rw first (another_from x.first w (λ e. x.differ (e ∙ sym same)))
+  held_cases : (g : List OpId) (i : OpId) → Contains g i ⊎ (¬ (Contains g i))
+  held_cases [] i = inr (λ c. not_Contains-nil i c)
+  held_cases (j ∷ js) i = elim (id_cases i j) [
+    | inl e ↦ inl (subst (Contains (j ∷ js)) (sym e) (Contains-cons_head j js))
+    | inr n ↦ elim (held_cases js i) [
+      | inl c ↦ inl (Contains-cons_tail j js i c)
+      | inr m ↦ inr (λ c. elim (Contains-cons_cases j js i c) [ inl e ↦ n e | inr d ↦ m d ])
+    ]
+  ]
 
-    told : (w : Value) → Some w ≡ Some x.second → x.second ≡ w
-    told w e = cc
+  -- a version holds the aims of its members
+  pub version_holds_aims : (o : ObjectId) (g : List OpId) → IsVersion h o g → (a : Op) → IsMember h g a → (i : OpId) → Contains (aim_of a) i → Contains g i
+  version_holds_aims o g v a m i c =
+      let t = (valid.aimed a m.contained).each i c in
+      let aims : AimsAt h a t.op = record { contained = t.contained; aimed = subst (Contains (aim_of a)) (sym t.id) c } in
+      let on = v.members a.id m.grouped in
+      let own : object_of a ≡ o = ap object_of (same_op h valid a on.op m.contained on.contained (sym on.id)) ∙ on.object in
+      elim (held_cases g t.op.id) [
+        | inl held ↦ subst (Contains g) t.id held
+        | inr lost ↦
+            let w = v.largest t.op t.contained (t.object ∙ own) lost in
+            absurd (v.compatible a w.member m w.is_member (conflict_carried a t.op w.member m.contained aims w.conflict))
+      ]
 
-    form : (w : Value) → form_value t.form ≡ w → x.second ≡ w → x.attribute ≡ attribute_of w → begins_apart s t ≡ true
-    form w f same at = or_right (place || colour || layer || shown) (begins (form_value t.form)) (subst (λ u. begins u ≡ true) (sym f) (from w same at))
+-- ---- without aims
 
-    by : (k : Attr) → x.attribute ≡ k → begins_apart s t ≡ true
-    by attr.Place e =
-        let one : Some (Place t.place) ≡ Some x.second = ap (start_value t) (sym e) ∙ x.second_given in
-        or_left _ _ (or_left _ _ (or_left _ _ (or_left place colour (from (Place t.place) (told (Place t.place) one) e))))
-    by attr.Colour e =
-        let one : Some (Colour t.colour) ≡ Some x.second = ap (start_value t) (sym e) ∙ x.second_given in
-        or_left _ _ (or_left _ _ (or_left _ _ (or_right place colour (from (Colour t.colour) (told (Colour t.colour) one) e))))
-    by attr.Layer e =
-        let one : Some (Layer t.layer) ≡ Some x.second = ap (start_value t) (sym e) ∙ x.second_given in
-        or_left _ _ (or_left _ _ (or_right (place || colour) layer (from (Layer t.layer) (told (Layer t.layer) one) e)))
-    by attr.Shown e =
-        let one : Some (Shown t.shown) ≡ Some x.second = ap (start_value t) (sym e) ∙ x.second_given in
-        or_left _ _ (or_right (place || colour || layer) shown (from (Shown t.shown) (told (Shown t.shown) one) e))
-    by attr.Size e =
-        let w = size_is t.form x.second (ap (start_value t) (sym e) ∙ x.second_given) in
-        form x.second w.0 refl (e ∙ sym w.1)
-    by attr.Points e =
-        let w = points_are t.form x.second (ap (start_value t) (sym e) ∙ x.second_given) in
-        form x.second w.0 refl (e ∙ sym w.1)
+module _ (h : List Op) (none : HasNoAims h) where
+  alone : (a x : Op) → Contains h a → Brings h a x → x ≡ a
+  alone a x i b = elim b [ inl e ↦ e | inr m ↦ absurd (not_Contains-nil x.id (subst (λ xs. Contains xs x.id) (none a i) m.aimed)) ]
 
--- ---- changes of two operations
+  pub conflict_is_direct : (a b : Op) → Contains h a → Contains h b → Conflict h a b → DirectConflict a b
+  conflict_is_direct a b i j c = subst (λ x. DirectConflict x b) (alone a c.first i c.brings_first) (subst (λ y. DirectConflict c.first y) (alone b c.second j c.brings_second) c.direct)
 
-apart_told : (c d : Change) → are_apart c d ≡ true → SetApart c d
-apart_told c (Set o w) t = another_apart c o w t
-apart_told (Set o v) (Create start) t = apart-sym (Create start) (Set o v) (another_apart (Create start) o v t)
-apart_told (Create s) (Create r) t = begins_apart_told s r t
+  pub version_is_direct : (o : ObjectId) (g : List OpId) → IsVersion h o g ↔ IsLargestGroup DirectConflict h o g
+  version_is_direct o g = (
+    λ v. record {
+      rising = v.rising;
+      created = v.created;
+      makes = v.makes;
+      members = v.members;
+      compatible = λ a b m n d. v.compatible a b m n (conflict_direct h a b d);
+      largest = λ a i e l. let w = v.largest a i e l in record { member = w.member; is_member = w.is_member; conflict = conflict_is_direct a w.member i w.is_member.contained w.conflict };
+    },
+    λ v. record {
+      rising = v.rising;
+      created = v.created;
+      makes = v.makes;
+      members = v.members;
+      compatible = λ a b m n c. v.compatible a b m n (conflict_is_direct a b m.contained n.contained c);
+      largest = λ a i e l. let w = v.largest a i e l in record { member = w.member; is_member = w.is_member; conflict = conflict_direct h a w.member w.conflict };
+    },
+  )
 
-pub apart_from : (c d : Change) → SetApart c d → are_apart c d ≡ true
-apart_from c (Set o w) s = apart_another c o w s
-apart_from (Set o v) (Create start) s = apart_another (Create start) o v (apart-sym (Set o v) (Create start) s)
-apart_from (Create s) (Create r) a = begins_apart_from s r a
+-- ---- what is known
 
--- ---- operations
-
--- an operation gives an attribute one value
-apart_differs : (a b : Op) → SetApart a.change b.change → a ≢ b
-apart_differs a b s e =
-    let one : Some s.first ≡ Some s.second = sym s.first_given ∙ (ap (λ (x : Op). change_value x.change s.attribute) e ∙ s.second_given) in
-    s.differ cc
-
-pub conflict_told : (a b : Op) → (¬ (Precedes a b)) × (¬ (Precedes b a)) → object_of a ≡ object_of b → are_apart a.change b.change ≡ true → Conflict a b
-conflict_told a b unordered object t =
-    let apart = apart_told a.change b.change t in
-    record { concurrent = record { different = apart_differs a b apart; not_before = unordered.0; not_after = unordered.1 }; one_object = object; apart = apart }
-
-pub conflict_from : (a b : Op) → Conflict a b → are_apart a.change b.change ≡ true
-conflict_from a b c = apart_from a.change b.change c.apart
-
--- concurrency is symmetric
-concurrent-sym : (a b : Op) → IsConcurrent a b → IsConcurrent b a
-concurrent-sym a b c = record { different = λ e. c.different (sym e); not_before = c.not_after; not_after = c.not_before }
-
--- conflict is symmetric
-pub conflict-sym : (a b : Op) → Conflict a b → Conflict b a
-conflict-sym a b c = record {
-  concurrent = concurrent-sym a b c.concurrent;
-  one_object = sym c.one_object;
-  apart = apart-sym a.change b.change c.apart;
-}
+-- one that aims at none and knows another one does not conflict with it
+pub unaimed_knows : (h : List Op) → IsValid h → (a b : Op) → Contains h a → Contains h b → aim_of a ≡ [] → Precedes b a → ¬ (Conflict h a b)
+unaimed_knows h valid a b i j none known c =
+    let first : c.first ≡ a = elim c.brings_first [ inl e ↦ e | inr m ↦ absurd (not_Contains-nil c.first.id (subst (λ xs. Contains xs c.first.id) none m.aimed)) ] in
+    let d : DirectConflict a c.second = subst (λ x. DirectConflict x c.second) first c.direct in
+    elim c.brings_second [
+      | inl e ↦ d.concurrent.not_after (subst (λ y. Precedes y a) (sym e) known)
+      | inr m ↦
+          let range = valid.in_range c.second m.contained in
+          let other = valid.in_range b j in
+          d.concurrent.not_after (precedes_transitive h valid c.second b a j i (site_in_range c.second range) (site_in_range b other) (seq_in_range b other).0 (aimed_before h valid b c.second j m) known)
+    ]

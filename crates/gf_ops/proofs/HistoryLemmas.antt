@@ -123,8 +123,8 @@ pub not_suited : (h : List Op) → IsValid h → (a : Op) (o : ObjectId) (k : Ki
 not_suited h valid a o k v x off s = let e = one_kind h valid a o k s.kind x s.known in absurd (true≢false (sym s.suited ∙ (ap (λ j. suits j v) (sym e) ∙ off)))
 
 -- what was set was not made
-pub not_made : (h : List Op) → IsValid h → (a maker : Op) (o p : ObjectId) (v : Value) → Contains h maker → maker.id ≡ o.0 → maker.change ≡ Set p v → ¬ (KnowsSome h a o)
-not_made h valid a maker o p v c id e s =
+pub not_made : (h : List Op) → IsValid h → (a maker : Op) (o p : ObjectId) (v : Value) (aim : List OpId) → Contains h maker → maker.id ≡ o.0 → maker.change ≡ Set p v aim → ¬ (KnowsSome h a o)
+not_made h valid a maker o p v aim c id e s =
     let x = s.known in
     let same = same_op h valid x.maker maker x.contained c (x.id ∙ sym id) in
     let none : made_kind x.maker.change ≡ None = ap (λ (b : Op). made_kind b.change) same ∙ ap made_kind e in

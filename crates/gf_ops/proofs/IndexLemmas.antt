@@ -159,7 +159,7 @@ module _ (h : List Op) (rows : List (List ℕ)) (counts : Clock) (a : Op) (row :
 
   pub IsHistory-push : IsHistory (h ++ a ∷ []) grown (record { 0 = set counts.0 (a.id.site - 1) a.id.seq })
   IsHistory-push = record {
-    valid = IsValid-push h a t.valid r p.next p.suited is_new (has_counted h rows counts t);
+    valid = IsValid-push h a t.valid r p.next p.suited p.aimed is_new (has_counted h rows counts t);
     counted = all_counted;
     reached = all_reached;
     wide = all_wide;

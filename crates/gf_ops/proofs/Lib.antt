@@ -2,7 +2,14 @@ pub mod ListLemmas
 pub mod PositionLemmas
 pub mod SameLemmas
 pub mod ValidityLemmas
+pub mod AimLemmas
+pub mod SetterLemmas
+pub mod AimWalkLemmas
+pub mod SiteWalkLemmas
 pub mod HistoryLemmas
+pub mod CountedLemmas
 pub mod IndexLemmas
+pub mod DirectConflictLemmas
 pub mod ConflictLemmas
+pub mod AimedLemmas
 pub mod EntryLemmas

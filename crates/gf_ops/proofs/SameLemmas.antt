@@ -1,4 +1,4 @@
--- The tests of points, colours and values tell whether two are one.
+-- The tests of points, ids, colours and values tell whether two are one.
 use Rattle.std.proofs.Common.{◌≡◌, true, ◌&&◌, ◌==◌, List, refl, sym, ap, subst, true≢false}
 use Rattle.std.specs.Bool.{Decides}
 use Rattle.std.specs.Cmp.{booleans_Decides}
@@ -8,10 +8,12 @@ use Rattle.std.proofs.lemmas.Bool.Decides.{Decides-eqb, Decides-int_eq}
 use Rattle.std.proofs.lemmas.Slice.Eq.{slice_eq-Decides}
 use Rattle.gf_shape.specs.declared.point.Point.{Point}
 use Rattle.gf_shape.specs.declared.colour.Rgb.{Rgb}
+use Rattle.gf_ops.specs.declared.op.OpId.{OpId}
 use Rattle.gf_ops.specs.declared.change.Value.{Value}
 use Rattle.gf_ops.specs.declared.change.Value.TheVariants.{Place, Points, Size, Colour, Layer, Shown}
 use Rattle.gf_ops.specs.ConflictTests.{colour_eq, value_eq}
 use Rattle.gf_ops.specs.SamePoints.{point_eq, points_eq}
+use Rattle.gf_ops.specs.SameIds.{same_id, ids_eq}
 
 points_told : (p q : Point) → Decides (point_eq p q) (p ≡ q)
 points_told p q = (
@@ -38,6 +40,20 @@ colours_told c d = (
 -- `==` of two lists of points says whether they are one
 pub points_decides : (ps qs : List Point) → Decides (points_eq ps qs) (ps ≡ qs)
 points_decides ps qs = slice_eq-Decides points_told ps qs (points_eq ps qs) refl
+
+-- `==` of two lists of ids says whether they are one
+ids_told : (i j : OpId) → Decides (same_id i j) (i ≡ j)
+ids_told i j = (
+  λ t.
+      let b = and_parts (i.site == j.site) (i.seq == j.seq) t in
+      let x = (Decides-eqb i.site j.site).0 b.0 in
+      let y = (Decides-eqb i.seq j.seq).0 b.1 in
+      λ k. record { site = x k; seq = y k },
+  λ e. subst (λ r. same_id i r ≡ true) e (rw ((Decides-eqb i.site i.site).1 refl, (Decides-eqb i.seq i.seq).1 refl) refl),
+)
+
+pub ids_decides : (is js : List OpId) → Decides (ids_eq is js) (is ≡ js)
+ids_decides is js = slice_eq-Decides ids_told is js (ids_eq is js) refl
 
 -- a value is the same as itself
 pub value_eq-same : (v : Value) → value_eq v v ≡ true

@@ -10,6 +10,7 @@ use Rattle.gf_ops.specs.declared.op.OpId.{OpId}
 use Rattle.gf_ops.specs.declared.op.Clock.{Clock}
 use Rattle.gf_ops.specs.declared.change.Change.{Change}
 use Rattle.gf_ops.specs.declared.change.Change.TheVariants.{Create, Set}
+use Rattle.gf_ops.specs.Aims.{AimsAt, IsAimed}
 use Rattle.gf_ops.specs.KnownObject.{IsSuited}
 use Rattle.gf_ops.specs.Limits.{IsInRange}
 use Rattle.gf_ops.specs.OperationOrder.{IsSite, Precedes, entry, count_of}
@@ -29,7 +30,7 @@ has_before h a c i t = record { op = t.op; contained = Contains-append_left h (a
 -- whom a knew and what suits it, it still knows and suits with another operation behind h
 suited_before : (h : List Op) (a b : Op) (c : Change) → IsSuited h b c → IsSuited (h ++ a ∷ []) b c
 suited_before h a b (Create start) s = tt
-suited_before h a b (Set o v) s =
+suited_before h a b (Set o v aim) s =
     let k = s.known in
     record {
       kind = s.kind;
@@ -41,6 +42,21 @@ suited_before h a b (Set o v) s =
 counted : (h : List Op) (a : Op) (i : OpId) → IsNext h a → Counts a.past i → i.seq ≤ count_of h i.site
 counted h a i next c = let most = next.known i.site c.site in let last = c.last in omega arith
 
+-- an aim is still one with another operation behind h
+aimed_before : (h : List Op) (a b : Op) → ((x : Op) → Contains h x → x.id ≢ a.id) → IsAimed h b → IsAimed (h ++ a ∷ []) b
+aimed_before h a b fresh t = record {
+  each = λ i c.
+      let m = t.each i c in
+      record { op = m.op; contained = Contains-append_left h (a ∷ []) m.op m.contained; id = m.id; object = m.object; before = m.before; within = m.within };
+  compatible = λ x y m n. t.compatible x y (was x m) (was y n);
+}
+  where
+    was : (x : Op) → AimsAt (h ++ a ∷ []) b x → AimsAt h b x
+    was x m = elim (Contains-push_cases h a x m.contained) [
+      | inl k ↦ record { contained = k; aimed = m.aimed }
+      | inr e ↦ let w = t.each x.id m.aimed in absurd (fresh w.op w.contained (w.id ∙ ap (λ (z : Op). z.id) (sym e)))
+    ]
+
 -- an operation that the next one knows is there, with all that it knows
 next_closed : (h : List Op) (a : Op) (i : OpId) → IsNext h a → Counts a.past i → Holds h i → Has h a.past i
 next_closed h a i next c t = record {
@@ -50,12 +66,12 @@ next_closed h a i next c t = record {
   past = next.closed t.op t.contained (subst (λ (j : OpId). j.seq ≤ entry a.past j.site) (sym t.id) c.last);
 }
 
--- the next operation, whose change suits, keeps a history valid, if its id is new and the history has as many operations of each site as it counts
-pub IsValid-push : (h : List Op) (a : Op) → IsValid h → IsInRange a → IsNext h a → IsSuited h a a.change →
+-- the next operation, whose change suits and whose aim is one, keeps a history valid, if its id is new and the history has as many operations of each site as it counts
+pub IsValid-push : (h : List Op) (a : Op) → IsValid h → IsInRange a → IsNext h a → IsSuited h a a.change → IsAimed h a →
     (fresh : (b : Op) → Contains h b → b.id ≢ a.id) →
     (known : (i : OpId) → IsSite i.site → 1 ≤ i.seq → i.seq ≤ count_of h i.site → Holds h i) →
     IsValid (h ++ a ∷ [])
-IsValid-push h a valid in_range next suited fresh known = record {
+IsValid-push h a valid in_range next suited aimed fresh known = record {
   in_range = λ b m. elim (Contains-push_cases h a b m) [ inl k ↦ valid.in_range b k | inr e ↦ subst IsInRange e in_range ];
   distinct = all_pairs_push (λ x y. x.id ≢ y.id) h a valid.distinct (λ k d l. fresh (get_or h k d) (Contains-get_or h k d l));
   own = λ b m. elim (Contains-push_cases h a b m) [
@@ -72,6 +88,10 @@ IsValid-push h a valid in_range next suited fresh known = record {
   suited = λ b m. elim (Contains-push_cases h a b m) [
     | inl k ↦ suited_before h a b b.change (valid.suited b k)
     | inr e ↦ subst (λ (x : Op). IsSuited (h ++ a ∷ []) x x.change) e (suited_before h a a a.change suited)
+  ];
+  aimed = λ b m. elim (Contains-push_cases h a b m) [
+    | inl k ↦ aimed_before h a b fresh (valid.aimed b k)
+    | inr e ↦ subst (IsAimed (h ++ a ∷ [])) e (aimed_before h a a fresh aimed)
   ];
 }
 

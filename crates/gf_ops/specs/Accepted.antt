@@ -4,6 +4,7 @@ use Rattle.gf_ops.specs.declared.op.Op.{Op}
 use Rattle.gf_ops.specs.declared.op.Clock.{Clock}
 use Rattle.gf_ops.specs.declared.faults.OpFault.{OpFault}
 use Rattle.gf_ops.specs.declared.faults.OpFault.TheVariants as fault
+use Rattle.gf_ops.specs.Aims.{IsAimed}
 use Rattle.gf_ops.specs.KnownObject.{IsFounded, IsSuited}
 use Rattle.gf_ops.specs.OperationOrder.{IsSite, entry, count_of, Precedes}
 use Rattle.gf_ops.specs.ValidHistory.{IsWithin}
@@ -27,16 +28,18 @@ pub record IsNext (h : List Op) (a : Op) : Type 0 where
   pub known : CountsAtMost a.past h
   pub closed : IsClosed h a
 
--- a may be added behind h: it is the next operation of its site, and makes an object or gives one that it knows a value that suits it
+-- a may be added behind h: it is the next operation of its site, makes an object or gives one that it knows a value that suits it, and its aim is one
 pub record IsAccepted (h : List Op) (a : Op) : Type 0 where
   pub next : IsNext h a
   pub suited : IsSuited h a a.change
+  pub aimed : IsAimed h a
 
 -- a may not be added behind h, and this is the first of its faults
 abbrev pub IsRefused : List Op → Op → OpFault → Type 0
 IsRefused h a fault.BadClock = ¬ (IsNext h a)
 IsRefused h a fault.NoObject = IsNext h a × (¬ (IsFounded h a a.change))
 IsRefused h a fault.WrongKind = IsNext h a × IsFounded h a a.change × (¬ (IsSuited h a a.change))
+IsRefused h a fault.BadAim = IsNext h a × IsSuited h a a.change × (¬ (IsAimed h a))
 
 -- operations each of which was accepted behind those before it
 pub data AreAccepted : List Op → Type 0 where

@@ -1,5 +1,5 @@
 -- The attributes of objects, and the value that an operation gives to each (this project's choice).
-use Rattle.std.specs.Prelude.{Bool, true, false, ◌==◌, Option, Some, None}
+use Rattle.std.specs.Prelude.{Bool, true, false, ◌==◌, List, [], Option, Some, None}
 use Rattle.gf_ops.specs.declared.op.Op.{Op}
 use Rattle.gf_ops.specs.declared.op.OpId.{OpId}
 use Rattle.gf_ops.specs.declared.op.ObjectId.{ObjectId}
@@ -30,7 +30,7 @@ kind_of (form.Ellipse rx ry) = Ellipse
 -- the kind of the object that the change c makes, if it makes one
 abbrev pub made_kind : Change → Option Kind
 made_kind (Create start) = Some (kind_of start.form)
-made_kind (Set object v) = None
+made_kind (Set object v aim) = None
 
 -- an object of the kind may have the value; the two numbers of a circle's size are its radius
 abbrev pub suits : Kind → Value → Bool
@@ -115,7 +115,7 @@ set_value (value.Shown b) t = None
 -- the value that the change c gives to the attribute t, if it sets it
 abbrev pub change_value : Change → Attr → Option Value
 change_value (Create start) t = start_value start t
-change_value (Set object v) t = set_value v t
+change_value (Set object v aim) t = set_value v t
 
 -- the value that the operation a gives to the attribute t, if it sets it
 abbrev pub value_given : Op → Attr → Option Value
@@ -124,8 +124,17 @@ value_given a t = change_value a.change t
 -- the object that the change c of the operation under the id i concerns
 abbrev pub changed_object : OpId → Change → ObjectId
 changed_object i (Create start) = record { 0 = i }
-changed_object i (Set object v) = object
+changed_object i (Set object v aim) = object
 
 -- the object that the operation a concerns
 abbrev pub object_of : Op → ObjectId
 object_of a = changed_object a.id a.change
+
+-- the ids that the change c aims at: a creation at none
+abbrev pub change_aim : Change → List OpId
+change_aim (Create start) = []
+change_aim (Set object v aim) = aim
+
+-- the ids that the operation a aims at
+abbrev pub aim_of : Op → List OpId
+aim_of a = change_aim a.change

@@ -1,23 +1,25 @@
--- Which operations cannot stand in one version (conflict and compatible, Sun and Chen, ACM TOCHI 9(1), 2002).
-use Rattle.std.specs.Prelude.{◌≡◌, ◌≢◌, Some}
+-- Which operations cannot stand in one version (conflict and compatible, Sun and Chen, ACM TOCHI 9(1), 2002; that an operation brings its aim is this project's choice).
+use Rattle.std.specs.Prelude.{List}
 use Rattle.gf_ops.specs.declared.op.Op.{Op}
-use Rattle.gf_ops.specs.declared.change.Attr.{Attr}
-use Rattle.gf_ops.specs.declared.change.Change.{Change}
-use Rattle.gf_ops.specs.declared.change.Value.{Value}
-use Rattle.gf_ops.specs.Attribute.{change_value, object_of}
-use Rattle.gf_ops.specs.OperationOrder.{IsConcurrent}
+use Rattle.gf_ops.specs.Aims.{AimsAt, Brings}
+use Rattle.gf_ops.specs.DirectConflict.{DirectConflict}
 
--- the changes c and d set one attribute, to different values
-pub record SetApart (c d : Change) : Type 0 where
-  pub attribute : Attr
-  pub first : Value
-  pub second : Value
-  pub first_given : change_value c attribute ≡ Some first
-  pub second_given : change_value d attribute ≡ Some second
-  pub differ : first ≢ second
+-- a or one that it aims at conflicts directly with b or one that b aims at
+pub record Conflict (h : List Op) (a b : Op) : Type 0 where
+  pub first : Op
+  pub second : Op
+  pub brings_first : Brings h a first
+  pub brings_second : Brings h b second
+  pub direct : DirectConflict first second
 
--- a and b are concurrent, concern one object and set one attribute to different values
-pub record Conflict (a b : Op) : Type 0 where
-  pub concurrent : IsConcurrent a b
-  pub one_object : object_of a ≡ object_of b
-  pub apart : SetApart a.change b.change
+-- a conflicts directly with b, or with one that b aims at
+pub record MeetsBrought (h : List Op) (a b : Op) : Type 0 where
+  pub second : Op
+  pub brings : Brings h b second
+  pub direct : DirectConflict a second
+
+-- one that a aims at conflicts with b
+pub record ConflictsByAim (h : List Op) (a b : Op) : Type 0 where
+  pub aimed : Op
+  pub aims : AimsAt h a aimed
+  pub conflict : Conflict h aimed b

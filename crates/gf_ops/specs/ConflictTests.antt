@@ -46,6 +46,6 @@ begins_apart s t =
 
 -- two changes give an attribute different values
 abbrev pub are_apart : Change → Change → Bool
-are_apart c (Set o w) = sets_another c w
-are_apart (Set o v) (Create start) = sets_another (Create start) v
+are_apart c (Set o w aim) = sets_another c w
+are_apart (Set o v aim) (Create start) = sets_another (Create start) v
 are_apart (Create s) (Create t) = begins_apart s t

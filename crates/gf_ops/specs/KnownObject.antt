@@ -30,9 +30,9 @@ pub record KnowsSuited (h : List Op) (a : Op) (o : ObjectId) (v : Value) : Type 
 -- by the change c, a makes an object or changes one that it knows
 abbrev pub IsFounded : List Op → Op → Change → Type 0
 IsFounded h a (Create start) = ⊤
-IsFounded h a (Set o v) = KnowsSome h a o
+IsFounded h a (Set o v aim) = KnowsSome h a o
 
 -- by the change c, a makes an object or gives one that it knows a value that suits it
 abbrev pub IsSuited : List Op → Op → Change → Type 0
 IsSuited h a (Create start) = ⊤
-IsSuited h a (Set o v) = KnowsSuited h a o v
+IsSuited h a (Set o v aim) = KnowsSuited h a o v

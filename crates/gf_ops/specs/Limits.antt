@@ -1,5 +1,5 @@
 -- The limits of an operation (this project's choice).
-use Rattle.std.specs.Prelude.{ℕ, pos, negsuc, Bool, true, IsTrue, ◌&&◌, nat_le, int_le, List, length}
+use Rattle.std.specs.Prelude.{ℕ, pos, negsuc, Bool, true, IsTrue, ◌&&◌, ◌||◌, ◌==◌, nat_lt, nat_le, int_le, List, [], ◌∷◌, length}
 use Rattle.std.specs.List.{list_all}
 use Rattle.gf_shape.specs.declared.point.Point.{Point}
 use Rattle.gf_shape.specs.Polygons.{is_polygon_count}
@@ -20,6 +20,10 @@ is_site s = nat_le 1 s && nat_le s 8
 -- an id names one of the first 10,000 operations of a site
 abbrev pub is_id : OpId → Bool
 is_id i = is_site i.site && nat_le 1 i.seq && nat_le i.seq 10000
+
+-- i is before j in the order of ids: by site, then by number
+abbrev pub id_less : OpId → OpId → Bool
+id_less i j = nat_lt i.site j.site || i.site == j.site && nat_lt i.seq j.seq
 
 -- no entry of the clock is above 10,000
 abbrev pub is_clock : Clock → Bool
@@ -57,10 +61,24 @@ is_value (value.Colour c) = true
 is_value (value.Layer n) = is_layer n
 is_value (value.Shown b) = true
 
--- a new object has a form in range, is near, and has a layer; an object is named by an id, and its new value is in range
+-- the ids rise behind i, by site and then by number
+abbrev pub rise_behind : OpId → List OpId → Bool
+rise_behind i [] = true
+rise_behind i (j ∷ js) = id_less i j && rise_behind j js
+
+-- the ids rise, each once
+abbrev pub ids_rise : List OpId → Bool
+ids_rise [] = true
+ids_rise (i ∷ is) = rise_behind i is
+
+-- an aim has at most 1,000 ids, which rise
+abbrev pub is_aim : List OpId → Bool
+is_aim aim = nat_le (length aim) 1000 && list_all is_id aim && ids_rise aim
+
+-- a new object has a form in range, is near, and has a layer; an object is named by an id, and its new value and the aim are in range
 abbrev pub is_change : Change → Bool
 is_change (Create start) = is_form start.form && is_near start.place && is_layer start.layer
-is_change (Set object v) = is_id object.0 && is_value v
+is_change (Set object v aim) = is_id object.0 && is_value v && is_aim aim
 
 -- the id, the clock and the change of a keep the limits
 abbrev pub is_in_range : Op → Bool

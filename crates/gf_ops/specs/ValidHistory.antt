@@ -3,6 +3,7 @@ use Rattle.std.specs.Prelude.{◌≡◌, ◌≢◌, ℕ, ◌+◌, ◌≤◌, Lis
 use Rattle.gf_ops.specs.declared.op.Op.{Op}
 use Rattle.gf_ops.specs.declared.op.OpId.{OpId}
 use Rattle.gf_ops.specs.declared.op.Clock.{Clock}
+use Rattle.gf_ops.specs.Aims.{IsAimed}
 use Rattle.gf_ops.specs.Limits.{IsInRange}
 use Rattle.gf_ops.specs.KnownObject.{IsSuited}
 use Rattle.gf_ops.specs.OperationOrder.{IsSite, entry}
@@ -25,10 +26,11 @@ pub record Has (h : List Op) (c : Clock) (i : OpId) : Type 0 where
   pub past : IsWithin op.past c
 
 -- the operations of h keep all limits, each under its own id; each knows all of its site before it, all that it knows is there and knew no more than it,
--- and it makes an object or gives one that it knows a value that suits it
+-- it makes an object or gives one that it knows a value that suits it, and its aim is a closed, compatible set of earlier operations of its object
 pub record IsValid (h : List Op) : Type 0 where
   pub in_range : (a : Op) → Contains h a → IsInRange a
   pub distinct : AllPairs (λ a b. a.id ≢ b.id) h
   pub own : (a : Op) → Contains h a → entry a.past a.id.site + 1 ≡ a.id.seq
   pub closed : (a : Op) → Contains h a → (i : OpId) → Counts a.past i → Has h a.past i
   pub suited : (a : Op) → Contains h a → IsSuited h a a.change
+  pub aimed : (a : Op) → Contains h a → IsAimed h a

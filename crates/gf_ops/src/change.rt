@@ -3,7 +3,7 @@
 ghost use Rattle.std.specs.Prelude.{◌≡◌};
 ghost use Rattle.gf_ops.specs.Attribute.{attribute_of};
 
-use crate::{ObjectId, Points};
+use crate::{Ids, ObjectId, Points};
 use gf_shape::{Point, Rgb};
 
 /// What an object has a value of. Boxes, circles and ellipses have no `Points`, polygons no `Size`.
@@ -57,8 +57,12 @@ pub struct Start {
 pub enum Change {
     /// Makes a new object, named by the operation's own id.
     Create(Start),
-    /// Gives an attribute of the object this value.
-    Set { object: ObjectId, value: Value },
+    /// Gives an attribute of the object this value, in the versions that hold all of the aim.
+    Set {
+        object: ObjectId,
+        value: Value,
+        aim: Ids,
+    },
 }
 
 impl Value {

@@ -4,21 +4,72 @@ ghost use Rattle.std.specs.Prelude.{◌≡◌, ◌↔◌, IsTrue};
 ghost use Rattle.gf_ops.specs.Attribute.{attribute_of, start_value, set_value, object_of};
 ghost use Rattle.gf_ops.specs.Attribute.{form_value, points_in, size_in};
 ghost use Rattle.gf_ops.specs.declared.change.Value.{Value};
-ghost use Rattle.gf_ops.specs.Conflict.{Conflict};
+ghost use Rattle.gf_ops.specs.DirectConflict.{DirectConflict};
+ghost use Rattle.gf_ops.specs.AimTests.{AimMeets, MemberMeets};
+ghost use Rattle.gf_ops.specs.Conflict.{Conflict, MeetsBrought};
 ghost use Rattle.gf_ops.specs.ConflictTests.{is_another, sets_another, begins_apart, are_apart};
 ghost use Rattle.gf_ops.specs.Limits.{IsInRange};
 
 use crate::order::unordered;
-use crate::{Change, Form, ObjectId, Op, Points, Start, Value};
+use crate::{Change, Form, History, ObjectId, Op, OpId, Points, Start, Value};
 
 /// Whether they are concurrent, concern one object and set one attribute to different values.
 /// Operations that set it to different values are two.
-pub fn conflicts(a: &Op, b: &Op) -> bool
+pub fn direct_conflict(a: &Op, b: &Op) -> bool
     requires a { IsInRange a.now }
     requires b { IsInRange b.now }
-    ensures { IsTrue result ↔ Conflict a.now b.now }
+    ensures { IsTrue result ↔ DirectConflict a.now b.now }
 {
     unordered(a, b) && a.object() == b.object() && are_apart(&a.change, &b.change)
+}
+
+/// Whether two operations cannot stand in one version: one, or an operation that it aims at,
+/// conflicts directly with the other or with one that that aims at. What an aim has and the history
+/// lacks counts for nothing.
+///
+/// It compares each of the one side with each of the other.
+pub fn conflicts(history: &History, a: &Op, b: &Op) -> bool
+    requires a { IsInRange a.now }
+    requires b { IsInRange b.now }
+    ensures { IsTrue result ↔ Conflict history.now.ops a.now b.now }
+{
+    meets_brought(history, a, b) || aim_meets(history, a.aim(), b)
+}
+
+/// Whether an operation conflicts directly with another one, or with one that that aims at.
+pub fn meets_brought(history: &History, a: &Op, b: &Op) -> bool
+    requires a { IsInRange a.now }
+    requires b { IsInRange b.now }
+    ensures { IsTrue result ↔ MeetsBrought history.now.ops a.now b.now }
+{
+    direct_conflict(a, b) || history.meets(a, b.aim())
+}
+
+/// Whether one under these ids conflicts directly with an operation, or with one that that aims
+/// at.
+fn aim_meets(history: &History, aim: &[OpId], b: &Op) -> bool
+    requires { IsInRange b.now }
+    ensures { IsTrue result ↔ AimMeets history.now.ops aim.now b.now }
+{
+    for id in aim {
+        if member_meets(history, *id, b) {
+            return true;
+        }
+    }
+    false
+}
+
+/// Whether the one under this id does.
+fn member_meets(history: &History, id: OpId, b: &Op) -> bool
+    requires { IsInRange b.now }
+    ensures { IsTrue result ↔ MemberMeets history.now.ops id b.now }
+{
+    // Its clause says that the history is valid.
+    let _ = history.ops();
+    match history.get(id) {
+        Some(member) => meets_brought(history, member, b),
+        None => false,
+    }
 }
 
 impl Op {
@@ -71,7 +122,7 @@ fn begins_with_another_form(own: &Start, form: &Form) -> bool
 
 /// Whether the change gives the attribute of this value another one.
 #[inline(always)]
-fn sets_another(change: &Change, value: &Value) -> bool
+pub(crate) fn sets_another(change: &Change, value: &Value) -> bool
     ensures { result ≡ sets_another change.now value.now }
 {
     match change {

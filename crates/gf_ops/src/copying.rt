@@ -36,9 +36,10 @@ impl Change {
     {
         match self {
             Change::Create(start) => Ok(Change::Create(copy_start(start, alloc)?)),
-            Change::Set { object, value } => Ok(Change::Set {
+            Change::Set { object, value, aim } => Ok(Change::Set {
                 object: *object,
                 value: value.copy(alloc)?,
+                aim: aim.copy(alloc)?,
             }),
         }
     }

@@ -10,6 +10,7 @@ ghost use Rattle.gf_ops.specs.Attribute.{kind_of, suits};
 ghost use Rattle.gf_ops.specs.KnownObject.{Knows, KnowsSome, IsFounded, IsSuited};
 ghost use Rattle.gf_ops.specs.Limits.{IsInRange};
 ghost use Rattle.gf_ops.specs.OperationOrder.{count_of};
+ghost use Rattle.gf_ops.specs.Standing.{StandsAt};
 ghost use Rattle.gf_ops.specs.ValidHistory.{IsWithin, IsValid};
 
 use crate::copying::copy_ops;
@@ -94,6 +95,20 @@ impl History {
         }
     }
 
+    /// Where the operation under this id stands in the order of adding. It takes constant time.
+    pub fn position(&self, id: OpId) -> Option<usize>
+        ensures found { IfSome result (λ k. StandsAt self.now.ops id k) }
+        ensures none { IfNone result ((op : Op) → Contains self.now.ops op → op.id ≢ id) }
+    {
+        let _ = &self.ops;
+        if 1 <= id.seq && id.seq <= self.count(id.site) {
+            let row = &self.positions[id.seq as usize - 1];
+            Some(row[usize::from(id.site) - 1])
+        } else {
+            None
+        }
+    }
+
     /// Its operations in the order of adding.
     pub fn ops(&self) -> &[Op]
         ensures ops { result.now ≡ self.now.ops }
@@ -102,9 +117,10 @@ impl History {
         &self.ops
     }
 
-    /// Whether the operation may be added now, with the first of its faults. It takes a look at the
-    /// last operation of each site that it knows, and one at the creation of the object that it
-    /// changes.
+    /// Whether the operation may be added now, with the first of its faults. It looks up the last
+    /// operation of each site that it knows, and the creation of the object that it changes. Each id
+    /// of its aim costs fewer than thirty look-ups. One that aims at others itself costs a walk over
+    /// both aims.
     pub fn check(&self, op: &Op) -> Result<(), OpFault>
         requires { IsInRange op.now }
         ensures ok { IsOk result ↔ IsAccepted self.now.ops op.now }
@@ -114,11 +130,17 @@ impl History {
             ↔ IsRefused self.now.ops op.now OpFault.NoObject }
         ensures wrong_kind { result ≡ Err OpFault.WrongKind
             ↔ IsRefused self.now.ops op.now OpFault.WrongKind }
+        ensures bad_aim { result ≡ Err OpFault.BadAim
+            ↔ IsRefused self.now.ops op.now OpFault.BadAim }
     {
-        if self.is_next(op) {
-            self.check_change(op)
+        if !self.is_next(op) {
+            return Err(OpFault::BadClock);
+        }
+        self.check_change(op)?;
+        if self.is_aimed(op) {
+            Ok(())
         } else {
-            Err(OpFault::BadClock)
+            Err(OpFault::BadAim)
         }
     }
 
@@ -175,9 +197,10 @@ impl History {
             ↔ (IsFounded self.now.ops op.now op.now.change
             × (¬ IsSuited self.now.ops op.now op.now.change)) }
         ensures clock { result ≢ Err OpFault.BadClock }
+        ensures aim { result ≢ Err OpFault.BadAim }
     {
         let _ = &self.ops;
-        let Change::Set { object, value } = &op.change else {
+        let Change::Set { object, value, .. } = &op.change else {
             return Ok(());
         };
         match self.known_form(op, *object) {
@@ -228,6 +251,8 @@ impl History {
             ↔ IsRefused self.old.ops op OpFault.NoObject }
         ensures wrong_kind { result ≡ Err (AddFault.Op OpFault.WrongKind)
             ↔ IsRefused self.old.ops op OpFault.WrongKind }
+        ensures bad_aim { result ≡ Err (AddFault.Op OpFault.BadAim)
+            ↔ IsRefused self.old.ops op OpFault.BadAim }
         ensures out_of_memory { result ≡ Err AddFault.OutOfMemory
             → IsAccepted self.old.ops op × (self.old.room ≡ 0) }
         ensures err { OnErr result (self.new ≡ self.old) }

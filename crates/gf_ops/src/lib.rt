@@ -6,17 +6,21 @@
 //! - [`Value`], [`Attr`]: what a change of an object sets.
 //! - [`same_op`]: whether two operations agree in everything.
 //! - [`before`], [`concurrent`]: the causal order of operations.
-//! - [`conflicts`]: whether two operations cannot stand in one version.
+//! - [`conflicts`]: whether two operations cannot stand in one version; [`direct_conflict`]: whether
+//!   they cannot by themselves, without a look at their aims, which are [`Ids`].
 //! - [`History`]: the operations that a site has, always a valid history.
 //! - [`OpFault`], [`AddFault`]: why an operation was not added.
 //! - [`before_is_a_strict_order`], [`conflict_is_symmetric_and_irreflexive`]: the laws.
 #![tactic(auto)]
 
+mod aim_walk;
+mod aims;
 mod change;
 mod conflict;
 mod copying;
 mod faults;
 mod history;
+mod ids;
 mod laws;
 mod limits;
 mod op;
@@ -25,10 +29,15 @@ mod points;
 mod same;
 
 pub use change::{Attr, Change, Form, Start, Value};
-pub use conflict::conflicts;
+pub use conflict::{conflicts, direct_conflict, meets_brought};
 pub use faults::{AddFault, OpFault};
 pub use history::History;
-pub use laws::{before_is_a_strict_order, conflict_is_symmetric_and_irreflexive};
+pub use ids::Ids;
+pub use laws::{
+    a_version_holds_the_aims_of_its_members, before_is_a_strict_order,
+    conflict_is_symmetric_and_irreflexive, conflicts_come_from_aims,
+    direct_conflict_is_symmetric_and_irreflexive, without_aims_conflicts_are_direct,
+};
 pub use op::{Clock, ObjectId, Op, OpId};
 pub use order::{before, concurrent};
 pub use points::Points;

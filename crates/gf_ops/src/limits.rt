@@ -5,6 +5,7 @@ ghost use Rattle.std.specs.List.{list_all};
 ghost use Rattle.gf_shape.specs.Polygons.{is_polygon_count};
 ghost use Rattle.gf_ops.specs.Limits.{is_site, is_size, is_near, is_id, is_clock, is_polygon};
 ghost use Rattle.gf_ops.specs.Limits.{is_form, is_layer, is_value, is_change, is_in_range};
+ghost use Rattle.gf_ops.specs.Limits.{id_less, rise_behind, ids_rise, is_aim};
 
 use crate::{Change, Clock, Form, Op, OpId, Value};
 use gf_shape::Point;
@@ -20,7 +21,7 @@ impl Op {
 
 impl Change {
     /// Whether its values keep the limits: coordinates ±1,000,000, sizes 1 to 1,000,000, 3 to 64
-    /// points, layers 0 to 9,999.
+    /// points, layers 0 to 9,999, aims of at most 1,000 rising ids.
     pub fn in_range(&self) -> bool
         ensures { result ≡ is_change self.now }
     {
@@ -28,7 +29,9 @@ impl Change {
             Change::Create(start) => {
                 is_form(&start.form) && is_near(start.place) && is_layer(start.layer)
             }
-            Change::Set { object, value } => is_id(object.0) && is_value(value),
+            Change::Set { object, value, aim } => {
+                is_id(object.0) && is_value(value) && is_aim(aim.as_slice())
+            }
         }
     }
 }
@@ -43,6 +46,48 @@ fn is_id(id: OpId) -> bool
     ensures { result ≡ is_id id }
 {
     is_site(id.site) && 1 <= id.seq && id.seq <= 10_000
+}
+
+/// Whether the first is before the second, by site and then by number.
+fn id_less(id: OpId, other: OpId) -> bool
+    ensures { result ≡ id_less id other }
+{
+    id.site < other.site || id.site == other.site && id.seq < other.seq
+}
+
+/// Whether these rise behind an id.
+fn rise_behind(id: OpId, ids: &[OpId]) -> bool
+    ensures { result ≡ rise_behind id ids.now }
+{
+    let mut last = id;
+    for next in ids {
+        if !id_less(last, *next) {
+            return false;
+        }
+        last = *next;
+    }
+    true
+}
+
+fn ids_rise(ids: &[OpId]) -> bool
+    ensures { result ≡ ids_rise ids.now }
+{
+    match ids.split_first() {
+        Some((first, rest)) => rise_behind(*first, rest),
+        None => true,
+    }
+}
+
+fn are_ids(ids: &[OpId]) -> bool
+    ensures { result ≡ list_all is_id ids.now }
+{
+    ids.iter().all(|id| is_id(*id))
+}
+
+fn is_aim(aim: &[OpId]) -> bool
+    ensures { result ≡ is_aim aim.now }
+{
+    aim.len() <= 1_000 && are_ids(aim) && ids_rise(aim)
 }
 
 fn is_clock(clock: &Clock) -> bool

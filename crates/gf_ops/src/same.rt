@@ -2,7 +2,7 @@
 
 ghost use Rattle.std.specs.Prelude.{◌≡◌, ◌↔◌, IsTrue};
 
-use crate::{Change, Form, Op, Points, Start, Value};
+use crate::{Change, Form, Ids, Op, Points, Start, Value};
 
 /// Whether they agree in everything.
 pub fn same_op(a: &Op, b: &Op) -> bool
@@ -29,12 +29,13 @@ fn same_change(a: &Change, b: &Change) -> bool
     match (a, b) {
         (Change::Create(start), Change::Create(other)) => same_start(start, other),
         (
-            Change::Set { object, value },
+            Change::Set { object, value, aim },
             Change::Set {
                 object: object_b,
                 value: value_b,
+                aim: aim_b,
             },
-        ) => *object == *object_b && same_value(value, value_b),
+        ) => *object == *object_b && same_value(value, value_b) && same_ids(aim, aim_b),
         (Change::Create(_), Change::Set { .. }) | (Change::Set { .. }, Change::Create(_)) => false,
     }
 }
@@ -79,6 +80,13 @@ fn same_value(a: &Value, b: &Value) -> bool
         (Value::Place(_) | Value::Points(_) | Value::Size(..), _) => false,
         (Value::Colour(_) | Value::Layer(_) | Value::Shown(_), _) => false,
     }
+}
+
+#[tactic(auto, using(crate::proofs::SameLemmas::ids_decides))]
+fn same_ids(a: &Ids, b: &Ids) -> bool
+    ensures { IsTrue result ↔ a.now ≡ b.now }
+{
+    a == b
 }
 
 #[tactic(auto, using(crate::proofs::SameLemmas::points_decides))]

@@ -9,4 +9,4 @@ pub returns-in-Set-clause-none : goal.returns-in-Set-clause-none
 returns-in-Set-clause-none c =
     let found = c.in_ok-maker.ensures.found in
     let there = rw (← c.self.view_is) at found.0 in
-    rw (← c.self.view_is) (not_made _ c.self.invariant.valid c.args.op.now c.in_ok-maker.maker.now c.args.object c.in-Set.object c.in-Set.value there found.1 c.in-Set.is)
+    rw (← c.self.view_is) (not_made _ c.self.invariant.valid c.args.op.now c.in_ok-maker.maker.now c.args.object c.in-Set.object c.in-Set.value c.in-Set.aim there found.1 c.in-Set.is)

@@ -1,0 +1,223 @@
+//! Whether the operations under the ids of an aim can stand in one version.
+
+ghost use Rattle.std.specs.Prelude.{◌≡◌, ◌↔◌, ◌≤◌, ◌<◌, ◌++◌, ◌∷◌, [], List, length, take, ℕ};
+ghost use Rattle.std.specs.Prelude.{slice_index_or, IsTrue, IfSome, IfNone};
+ghost use Rattle.gf_ops.specs.declared.op.OpId.{OpId};
+ghost use Rattle.gf_ops.specs.declared.change.Value.{Value};
+ghost use Rattle.gf_ops.specs.AimTests.{AreCalm};
+ghost use Rattle.gf_ops.specs.AimWalk.{place_of, AreOnOne, AreParted, ArePartedBelow, KnewAt};
+ghost use Rattle.gf_ops.specs.AimWalk.{SetsAt, SetsSome, GivesAnother, IsLatest};
+ghost use Rattle.gf_ops.specs.AimWalk.{TellsOne, Tells, NoneAbove, MeetsTable, IsNoted};
+ghost use Rattle.gf_ops.specs.Limits.{IsInRange, ids_rise};
+ghost use Rattle.gf_ops.specs.OperationOrder.{IsSite};
+
+use crate::conflict::sets_another;
+use crate::{Change, History, Op, OpId, Value};
+
+/// The last of some operations of a site that sets an attribute, and the last that gives another
+/// value than it. Where all give one value, the other is any of them.
+#[derive(Clone, Copy)]
+struct Latest {
+    nearest: OpId,
+    other: OpId,
+}
+
+/// The place in a table of the attribute that it is a value of.
+fn place_of(value: &Value) -> usize
+    ensures place { result ≡ place_of value.now }
+    ensures below { result < 6 }
+{
+    match value {
+        Value::Place(_) => 0,
+        Value::Points(_) => 1,
+        Value::Size(_, _) => 2,
+        Value::Colour(_) => 3,
+        Value::Layer(_) => 4,
+        Value::Shown(_) => 5,
+    }
+}
+
+impl History {
+    /// Whether no two operations under these ids, which rise, conflict directly. It walks over the
+    /// ids once for every two sites.
+    pub(crate) fn are_calm(&self, ids: &[OpId]) -> bool
+        requires rising { IsTrue (ids_rise ids.now) }
+        requires object { AreOnOne self.now.ops ids.now }
+        ensures { IsTrue result ↔ AreCalm self.now.ops ids.now }
+    {
+        // Its clause says that the history is valid.
+        let _ = self.ops();
+        for site in 1..9 {
+            if !self.are_parted_below(ids, site) {
+                return false;
+            }
+        }
+        true
+    }
+
+    /// Whether no operation of this site conflicts directly with one of a site of a lower number.
+    fn are_parted_below(&self, ids: &[OpId], site: u8) -> bool
+        requires rising { IsTrue (ids_rise ids.now) }
+        requires object { AreOnOne self.now.ops ids.now }
+        requires site { IsSite site }
+        ensures { IsTrue result ↔ ArePartedBelow self.now.ops ids.now site site }
+    {
+        for other in 1..site {
+            if !self.are_parted(ids, site, other) {
+                return false;
+            }
+        }
+        true
+    }
+
+    /// Whether no operation of the one site conflicts directly with one of the other site. For each
+    /// of the one, it notes those of the other that did not know it, and looks at the latest ones.
+    fn are_parted(&self, ids: &[OpId], site: u8, other: u8) -> bool
+        requires rising { IsTrue (ids_rise ids.now) }
+        requires object { AreOnOne self.now.ops ids.now }
+        requires site { IsSite site }
+        ensures { IsTrue result ↔ AreParted self.now.ops ids.now ids.now site other }
+    {
+        // Its clause says that the history is valid.
+        let _ = self.ops();
+        let mut table = [None; 6];
+        let mut noted = 0;
+        for id in ids {
+            if id.site == site {
+                noted = self.note_unknowing(*id, ids, other, noted, &mut table);
+                if self.meets_table(*id, &table) {
+                    return false;
+                }
+            }
+        }
+        true
+    }
+
+    /// Notes the operations of a site, from an index on, up to the first that knew this id.
+    fn note_unknowing(
+        &self,
+        id: OpId,
+        ids: &[OpId],
+        site: u8,
+        from: usize,
+        table: &mut [Option<Latest>; 6],
+    ) -> usize
+        requires rising { IsTrue (ids_rise ids.now) }
+        requires id { IsSite id.site }
+        requires noted { IsNoted self.now.ops ids.now site from id table.old }
+        ensures noted { IsNoted self.now.ops ids.now site result id table.new }
+        ensures stop { (d : OpId) → result < length ids.now
+            → KnewAt self.now.ops site id (slice_index_or ids.now result d) }
+    {
+        // Its clause says that the history is valid.
+        let _ = self.ops();
+        let mut noted = from;
+        while noted < ids.len() && !self.knew(ids[noted], site, id) {
+            self.note(ids[noted], site, table);
+            noted += 1;
+        }
+        noted
+    }
+
+    /// Whether the operation under an id is of this site, and knew another one.
+    fn knew(&self, by: OpId, site: u8, id: OpId) -> bool
+        requires { IsSite id.site }
+        ensures { IsTrue result ↔ KnewAt self.now.ops site id by }
+    {
+        // Its clause says that the history is valid.
+        let _ = self.ops();
+        if by.site != site {
+            return false;
+        }
+        match self.get(by) {
+            Some(op) => id.seq <= op.past.0[usize::from(id.site) - 1],
+            None => false,
+        }
+    }
+
+    /// Notes the operation under this id, if it is of this site and sets an attribute.
+    fn note(&self, id: OpId, site: u8, table: &mut [Option<Latest>; 6])
+        ensures { (ids : List OpId) → NoneAbove self.now.ops ids site id
+            → Tells self.now.ops ids site table.old
+            → Tells self.now.ops (ids ++ id ∷ []) site table.new }
+    {
+        // Its clause says that the history is valid.
+        let _ = self.ops();
+        if let Some(value) = self.setting(id, site) {
+            let place = place_of(value);
+            let latest = table[place];
+            table[place] = Some(self.next_latest(latest, id, value));
+        }
+    }
+
+    /// The value that the operation under this id sets an attribute to, if it is of this site.
+    fn setting(&self, id: OpId, site: u8) -> Option<&Value>
+        ensures found { IfSome result (λ value. SetsAt self.now.ops site id value.now) }
+        ensures none { IfNone result (¬ SetsSome self.now.ops site id) }
+    {
+        // Its clause says that the history is valid.
+        let _ = self.ops();
+        if id.site != site {
+            return None;
+        }
+        match &self.get(id)?.change {
+            Change::Set { value, .. } => Some(value),
+            Change::Create(_) => None,
+        }
+    }
+
+    /// The latest setters of an attribute once this one is behind them.
+    fn next_latest(&self, latest: Option<Latest>, id: OpId, value: &Value) -> Latest
+        ensures { (ids : List OpId) (site : ℕ) → NoneAbove self.now.ops ids site id
+            → TellsOne self.now.ops ids site (place_of value.now) latest
+            → SetsAt self.now.ops site id value.now
+            → IsLatest self.now.ops (ids ++ id ∷ []) site (place_of value.now) result }
+    {
+        // Its clause says that the history is valid.
+        let _ = self.ops();
+        let other = match latest {
+            Some(Latest { nearest, other }) => {
+                if self.gives_another(nearest, value) {
+                    nearest
+                } else {
+                    other
+                }
+            }
+            None => id,
+        };
+        Latest { nearest: id, other }
+    }
+
+    /// Whether the operation under this id gives the attribute of a value another one.
+    fn gives_another(&self, id: OpId, value: &Value) -> bool
+        ensures { IsTrue result ↔ GivesAnother self.now.ops id value.now }
+    {
+        // Its clause says that the history is valid.
+        let _ = self.ops();
+        match self.get(id) {
+            Some(op) => sets_another(&op.change, value),
+            None => false,
+        }
+    }
+
+    /// Whether the operation under this id conflicts directly with one of the two that the table
+    /// has for its attribute.
+    fn meets_table(&self, id: OpId, table: &[Option<Latest>; 6]) -> bool
+        ensures { IsTrue result ↔ MeetsTable self.now.ops table.now id }
+    {
+        // Its clause says that the history is valid.
+        let _ = self.ops();
+        let Some(op) = self.get(id) else {
+            return false;
+        };
+        let Change::Set { value, .. } = &op.change else {
+            return false;
+        };
+        match table[place_of(value)] {
+            Some(latest) => {
+                self.meets_one(op, latest.nearest) || self.meets_one(op, latest.other)
+            }
+            None => false,
+        }
+    }
+}

@@ -1,0 +1,152 @@
+//! What an operation aims at.
+
+ghost use Rattle.std.specs.Prelude.{◌≡◌, ◌↔◌, IsTrue};
+ghost use Rattle.std.specs.List.{fold};
+ghost use Rattle.gf_ops.specs.Aims.{IsAimed, MayAimAt};
+ghost use Rattle.gf_ops.specs.AimTests.{after_id, IsWithinAim, Fits, MayAim, MeetsAt};
+ghost use Rattle.gf_ops.specs.AimTests.{MeetsOne};
+ghost use Rattle.gf_ops.specs.Attribute.{aim_of, object_of};
+ghost use Rattle.gf_ops.specs.Limits.{IsInRange, ids_rise};
+
+use crate::{Change, History, Op, OpId, before, direct_conflict};
+
+impl Op {
+    /// The ids that it aims at, rising: a creation aims at none.
+    pub fn aim(&self) -> &[OpId]
+        ensures { result.now ≡ aim_of self.now }
+    {
+        match &self.change {
+            Change::Create(_) => &[],
+            Change::Set { aim, .. } => aim.as_slice(),
+        }
+    }
+}
+
+/// What is left of the ids after one was met: those behind the first, where that is it.
+fn after_id<'a>(ids: &'a [OpId], id: OpId) -> &'a [OpId]
+    ensures { result.now ≡ after_id ids.now id }
+{
+    match ids.split_first() {
+        Some((first, rest)) => {
+            if first.site == id.site && first.seq == id.seq {
+                rest
+            } else {
+                ids
+            }
+        }
+        None => ids,
+    }
+}
+
+/// What is left of the ids where they are met in the order of others.
+fn left_of<'a>(ids: &'a [OpId], others: &[OpId]) -> &'a [OpId]
+    ensures { result.now ≡ fold after_id ids.now others.now }
+{
+    let mut left = ids;
+    for other in others {
+        left = after_id(left, *other);
+    }
+    left
+}
+
+/// Whether the aim has each of these ids. Both rise, so one walk over the aim tells.
+fn is_within_aim(ids: &[OpId], aim: &[OpId]) -> bool
+    requires ids { IsTrue (ids_rise ids.now) }
+    requires aim { IsTrue (ids_rise aim.now) }
+    ensures { IsTrue result ↔ IsWithinAim ids.now aim.now }
+{
+    left_of(ids, aim).is_empty()
+}
+
+/// Whether the aim of an operation in range has all that another one aims at.
+fn aims_within(member: &Op, op: &Op) -> bool
+    requires member { IsInRange member.now }
+    requires op { IsInRange op.now }
+    ensures { IsTrue result ↔ IsWithinAim (aim_of member.now) (aim_of op.now) }
+{
+    let ids = member.aim();
+    ids.is_empty() || is_within_aim(ids, op.aim())
+}
+
+/// Whether they concern one object.
+fn on_one_object(op: &Op, other: &Op) -> bool
+    ensures { IsTrue result ↔ (object_of op.now ≡ object_of other.now) }
+{
+    op.object() == other.object()
+}
+
+/// Whether an operation is on the object of another one and before it, and that one aims at all
+/// that it aims at.
+fn fits(member: &Op, op: &Op) -> bool
+    requires member { IsInRange member.now }
+    requires op { IsInRange op.now }
+    ensures { IsTrue result ↔ Fits op.now member.now }
+{
+    on_one_object(member, op) && before(member, op) && aims_within(member, op)
+}
+
+impl History {
+    /// Whether what the operation aims at is there, comes before it, concerns its object and is
+    /// closed under aims, and no two of it conflict directly.
+    pub(crate) fn is_aimed(&self, op: &Op) -> bool
+        requires { IsInRange op.now }
+        ensures { IsTrue result ↔ IsAimed self.now.ops op.now }
+    {
+        // Its clause says that the history is valid.
+        let _ = self.ops();
+        self.may_aim(op) && self.are_calm(op.aim())
+    }
+
+    /// Whether it may aim at each that it aims at.
+    fn may_aim(&self, op: &Op) -> bool
+        requires { IsInRange op.now }
+        ensures { IsTrue result ↔ MayAim self.now.ops op.now (aim_of op.now) }
+    {
+        for id in op.aim() {
+            if !self.may_aim_at(op, *id) {
+                return false;
+            }
+        }
+        true
+    }
+
+    /// Whether there is an operation under this id, on its object and before it, of which the aim
+    /// is within its own.
+    fn may_aim_at(&self, op: &Op, id: OpId) -> bool
+        requires { IsInRange op.now }
+        ensures { IsTrue result ↔ MayAimAt self.now.ops op.now id }
+    {
+        // Its clause says that the history is valid.
+        let _ = self.ops();
+        match self.get(id) {
+            Some(member) => fits(member, op),
+            None => false,
+        }
+    }
+
+    /// Whether an operation conflicts directly with one under these ids.
+    pub(crate) fn meets(&self, op: &Op, ids: &[OpId]) -> bool
+        requires { IsInRange op.now }
+        ensures { IsTrue result ↔ MeetsOne self.now.ops op.now ids.now }
+    {
+        for id in ids {
+            if self.meets_one(op, *id) {
+                return true;
+            }
+        }
+        false
+    }
+
+    /// Whether an operation conflicts directly with the one under this id.
+    pub(crate) fn meets_one(&self, op: &Op, id: OpId) -> bool
+        requires { IsInRange op.now }
+        ensures { IsTrue result ↔ MeetsAt self.now.ops op.now id }
+    {
+        // Its clause says that the history is valid.
+        let _ = self.ops();
+        match self.get(id) {
+            Some(member) => direct_conflict(op, member),
+            None => false,
+        }
+    }
+}

@@ -1,0 +1,65 @@
+//! Lists of operation ids.
+
+ghost use Rattle.std.specs.Prelude.{◌≡◌, IfOk};
+ghost use Rattle.std.proofs.Common.{rules};
+ghost use Rattle.std.specs.Cmp.Rules.{comparing};
+ghost use Rattle.gf_ops.specs.SameIds.{ids_eq};
+
+use crate::OpId;
+use gf_shape::OutOfMemory;
+use std::alloc::Global;
+use std::marker::Model;
+
+/// The ids of some operations, seen as their list.
+#[derive(Debug, Drop)]
+pub struct Ids {
+    ids: Vec<OpId>,
+}
+
+impl Model for Ids {
+    ghost use Rattle.std.specs.Prelude.{List};
+    ghost use Rattle.gf_ops.specs.declared.op.OpId.{OpId};
+
+    ghost Value = { List OpId };
+
+    ghost view = { λ s. s.ids.items };
+}
+
+impl Ids {
+    /// These ids in their order.
+    pub fn new(ids: Vec<OpId>) -> Ids
+        ensures { result ≡ ids.items }
+    {
+        Ids { ids }
+    }
+
+    /// The ids in their order.
+    pub fn as_slice(&self) -> &[OpId]
+        ensures { result.now ≡ self.now }
+    {
+        &self.ids
+    }
+
+    /// The same ids once more.
+    pub fn copy(&self, alloc: Global) -> Result<Ids, OutOfMemory>
+        ensures { IfOk result (λ ids. ids ≡ self.now) }
+    {
+        let mut ids = Vec::new(alloc);
+        ids.extend_from_slice(self.as_slice())?;
+        Ok(Ids::new(ids))
+    }
+}
+
+impl PartialEq for Ids {
+    ghost eq = { ids_eq };
+
+    ghost laws = { Prim.search (comparing, rules) };
+
+    fn eq(&self, other: &Ids) -> bool {
+        self.ids == other.ids
+    }
+}
+
+impl Eq for Ids {
+    ghost laws = { Prim.search (comparing, rules) };
+}
