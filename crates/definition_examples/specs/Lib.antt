@@ -2,6 +2,7 @@ pub mod Shapes
 pub mod BoxLines
 pub mod KindLines
 pub mod SetLines
+pub mod AimLines
 pub mod ScriptLines
 pub mod WrittenLines
 pub mod TextLines

@@ -1,5 +1,5 @@
 -- Worked examples of script lines, checked by computing.
-use Rattle.std.specs.Prelude.{◌≡◌, Ok, Err, refl, codes, pos, true}
+use Rattle.std.specs.Prelude.{◌≡◌, [], Ok, Err, refl, codes, pos, true}
 use Rattle.std.specs.Str.{is_utf8, chars}
 use Rattle.std.specs.Fmt.{digits}
 use Rattle.gf_ops.specs.declared.change.Form.TheVariants.{Rect}
@@ -19,7 +19,7 @@ pub await_read : script_denoted (codes "{\"site\":2,\"do\":\"await\",\"id\":[1,1
 unfolding serde_json_on_literals digits is_utf8 chars
 await_read = refl
 
-pub set_read : script_denoted (codes "{\"site\":2,\"do\":\"set\",\"object\":[1,1],\"set\":\"colour\",\"to\":\"0000ff\"}") ≡ Ok (record { site = 2; command = Author (Set (record { 0 = record { site = 1; seq = 1 } }) blue) })
+pub set_read : script_denoted (codes "{\"site\":2,\"do\":\"set\",\"object\":[1,1],\"set\":\"colour\",\"to\":\"0000ff\"}") ≡ Ok (record { site = 2; command = Author (Set (record { 0 = record { site = 1; seq = 1 } }) blue []) })
 unfolding serde_json_on_literals digits is_utf8 chars
 set_read = refl
 

@@ -3,6 +3,7 @@ use Rattle.std.specs.Prelude.{◌≡◌, ℕ, List, [], ◌∷◌, ◌++◌, rep
 use Rattle.std.specs.Str.{is_utf8, chars}
 use Rattle.std.specs.Fmt.{digits}
 use Rattle.gf_ops.specs.declared.op.Op.{Op}
+use Rattle.gf_ops.specs.declared.op.OpId.{OpId}
 use Rattle.gf_ops.specs.declared.change.Change.TheVariants.{Set}
 use Rattle.gf_ops.specs.declared.change.Value.{Value}
 use Rattle.gf_ops.specs.declared.change.Value.TheVariants as value
@@ -10,13 +11,17 @@ use Rattle.gf_json.specs.declared.line_error.LineError.TheVariants as fault
 use Rattle.gf_json.specs.OperationLines.{denoted}
 use Rattle.serde_json.proofs.OnLiterals.{serde_json_on_literals}
 
--- the second operation of site 1, which gives the value v to the first object
-abbrev pub sets_to : Value → Op
-sets_to v = record {
+-- the second operation of site 1, which gives the value v to the first object and aims at these ids
+abbrev pub aims_to : List OpId → Value → Op
+aims_to ids v = record {
   id = record { site = 1; seq = 2 };
   past = record { 0 = 1 ∷ replicate 7 0 };
-  change = Set (record { 0 = record { site = 1; seq = 1 } }) v;
+  change = Set (record { 0 = record { site = 1; seq = 1 } }) v ids;
 }
+
+-- the same operation without an aim
+abbrev pub sets_to : Value → Op
+sets_to v = aims_to [] v
 
 -- the blue of an object
 abbrev pub blue : Value

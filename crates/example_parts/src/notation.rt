@@ -3,7 +3,7 @@
 //! value.
 
 use crate::plain;
-use gf_ops::{Change, Clock, Form, ObjectId, Op, OpId, Points, Start, Value};
+use gf_ops::{Change, Clock, Form, Ids, ObjectId, Op, OpId, Points, Start, Value};
 use gf_shape::{Point, Rgb};
 use std::alloc::Global;
 
@@ -137,14 +137,30 @@ pub fn start(alloc: Global, text: &str) -> Option<Start> {
     Some(start)
 }
 
+/// `1.1 1.2`.
+fn ids(alloc: Global, text: &str) -> Option<Ids> {
+    let mut ids = Vec::new(alloc);
+    for word in text.split_whitespace() {
+        ids.push(id(word)?).ok()?;
+    }
+    Some(Ids::new(ids))
+}
+
+/// `layer 3`, or `layer 3 aim 1.1 1.2`, of this object.
+fn set(alloc: Global, object: OpId, text: &str) -> Option<Change> {
+    let (to, aim) = text.split_once(" aim ").unwrap_or((text, ""));
+    Some(Change::Set {
+        object: ObjectId(object),
+        value: value(alloc, to)?,
+        aim: ids(alloc, aim)?,
+    })
+}
+
 /// `1.1 layer 3`, or what a new object is.
 pub fn change(alloc: Global, text: &str) -> Option<Change> {
     let (first, rest) = text.split_once(' ')?;
     match id(first) {
-        Some(object) => Some(Change::Set {
-            object: ObjectId(object),
-            value: value(alloc, rest)?,
-        }),
+        Some(object) => set(alloc, object, rest),
         None => Some(Change::Create(start(alloc, text)?)),
     }
 }

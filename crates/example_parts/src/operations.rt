@@ -1,7 +1,8 @@
 //! Operations by their ids and pasts.
 
-use gf_ops::{Change, Clock, Form, ObjectId, Op, OpId, Start, Value};
+use gf_ops::{Change, Clock, Form, Ids, ObjectId, Op, OpId, Start, Value};
 use gf_shape::{Point, Rgb};
+use std::alloc::Global;
 
 /// A black object of this form at the origin, on layer 0.
 pub fn plain(form: Form) -> Start {
@@ -24,13 +25,14 @@ pub fn created(id: OpId, past: [u32; 8], start: Start) -> Op {
 }
 
 /// An operation that gives an object a value.
-pub fn changed(id: OpId, past: [u32; 8], object: OpId, value: Value) -> Op {
+pub fn changed(alloc: Global, id: OpId, past: [u32; 8], object: OpId, value: Value) -> Op {
     Op {
         id,
         past: Clock(past),
         change: Change::Set {
             object: ObjectId(object),
             value,
+            aim: Ids::new(Vec::new(alloc)),
         },
     }
 }

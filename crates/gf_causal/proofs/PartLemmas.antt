@@ -3,14 +3,16 @@ use Rattle.std.proofs.Common.{◌≤◌, List, inl, inr, subst, arith}
 use Rattle.std.specs.Prelude.{Contains}
 use Rattle.std.proofs.lemmas.Bool.{cases_eq}
 use Rattle.gf_ops.specs.declared.op.Op.{Op}
+use Rattle.gf_ops.specs.declared.op.OpId.{OpId}
 use Rattle.gf_ops.specs.declared.change.Change.{Change}
 use Rattle.gf_ops.specs.declared.change.Change.TheVariants.{Create, Set}
 use Rattle.gf_ops.specs.OperationOrder.{entry}
-use Rattle.gf_ops.specs.ValidHistory.{IsValid}
+use Rattle.gf_ops.specs.ValidHistory.{Counts, IsValid}
 use Rattle.gf_ops.specs.KnownObject.{IsSuited}
 use Rattle.gf_ops.specs.Accepted.{CountsAtMost, IsClosed, IsAccepted}
 use Rattle.gf_ops.proofs.HistoryLemmas.{site_in_range, seq_in_range}
-use Rattle.gf_ops.proofs.ValidityLemmas.{same_op}
+use Rattle.gf_ops.proofs.ValidityLemmas.{Holds, same_op}
+use Rattle.gf_ops.proofs.AimedLemmas.{aimed_within}
 use Rattle.gf_causal.specs.Ready.{IsReady}
 use Rattle.gf_causal.specs.DeliveredPart.{AreReady}
 use Rattle.gf_causal.proofs.CourseLemmas.{has_counted, same_id}
@@ -33,7 +35,7 @@ module _ (h part : List Op) (valid : IsValid h) (within : (a : Op) → Contains 
   -- the creation that it knows in h is in the part, which has each number up to its count
   suited_within : (c : Change) → IsSuited h a c → IsSuited part a c
   suited_within (Create start) s = tt
-  suited_within (Set o v) s =
+  suited_within (Set o v aim) s =
       let k = s.known in
       let known = k.before in
       let r = valid.in_range k.maker k.contained in
@@ -47,6 +49,14 @@ module _ (h part : List Op) (valid : IsValid h) (within : (a : Op) → Contains 
         suited = s.suited;
       }
 
+  -- what it knows is in the part
+  counted_there : (i : OpId) → Counts a.past i → Holds part i
+  counted_there i c =
+      let most = counts_known i.site c.site in
+      let last = c.last in
+      let t = has_counted in_turn i c.first (omega arith) in
+      record { op = t.op; contained = t.contained; id = λ j. record { site = t.site j; seq = t.seq j } }
+
   pub part_accepts : IsAccepted part a
   part_accepts = record {
     next = record {
@@ -55,4 +65,5 @@ module _ (h part : List Op) (valid : IsValid h) (within : (a : Op) → Contains 
       closed = knew_within;
     };
     suited = suited_within a.change (valid.suited a there);
+    aimed = aimed_within h part valid within a counted_there (valid.aimed a there);
   }

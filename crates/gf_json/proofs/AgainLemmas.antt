@@ -83,11 +83,11 @@ point_again p h = rw (coordinate_again p.x (near_x p h), coordinate_again p.y (n
 
 -- ---- lists
 
-elements-items_of : (ds : List Data) → elements (items_of ds) ≡ ds
+pub elements-items_of : (ds : List Data) → elements (items_of ds) ≡ ds
 elements-items_of [] = refl
 elements-items_of (d ∷ ds) = ap (λ (es : List Data). d ∷ es) (elements-items_of ds)
 
-each_again : {A : Type 0} (form : Data → Got A) (f : A → Data) (p : A → Bool) → ((a : A) → p a ≡ true → form (f a) ≡ Ok a) → (xs : List A) → list_all p xs ≡ true → each form (map f xs) ≡ Ok xs
+pub each_again : {A : Type 0} (form : Data → Got A) (f : A → Data) (p : A → Bool) → ((a : A) → p a ≡ true → form (f a) ≡ Ok a) → (xs : List A) → list_all p xs ≡ true → each form (map f xs) ≡ Ok xs
 each_again form f p t [] h = refl
 each_again form f p t (x ∷ xs) h =
     let parts = both_true (p x) (list_all p xs) h in

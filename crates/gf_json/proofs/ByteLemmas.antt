@@ -8,6 +8,7 @@ use Rattle.gf_shape.specs.declared.colour.Rgb.{Rgb}
 use Rattle.gf_digits.specs.ColourBytes.{HasBytes}
 use Rattle.gf_digits.specs.HexDigits.{byte_of_hex, hex_value, rgb_of_hex}
 use Rattle.gf_ops.specs.declared.op.Op.{Op}
+use Rattle.gf_ops.specs.declared.op.OpId.{OpId}
 use Rattle.gf_ops.specs.declared.change.Attr.TheVariants as attr
 use Rattle.gf_ops.specs.declared.change.Change.{Change}
 use Rattle.gf_ops.specs.declared.change.Change.TheVariants.{Create, Set}
@@ -20,11 +21,11 @@ use Rattle.gf_json.specs.declared.line_error.LineError.TheVariants as fault
 use Rattle.gf_json.specs.ColourBytes.{ChangeHasBytes, ValueHasBytes}
 use Rattle.gf_json.specs.LineChanges.{change, creation, named_value, new_value, setting, start}
 use Rattle.gf_json.specs.LineColours.{hex_colour}
-use Rattle.gf_json.specs.LineFields.{at, box_size, circle_size, colour, ellipse_size, id, layer, object, past, place, polygon_points, shown, value_at}
-use Rattle.gf_json.specs.LineKeys.{creates, op_keys, says, sets}
+use Rattle.gf_json.specs.LineFields.{aim, box_size, circle_size, colour, ellipse_size, id, layer, object, past, place, polygon_points, shown, value_at}
+use Rattle.gf_json.specs.LineKeys.{creates, op_keys, says, sets, sets_aimed}
 use Rattle.gf_json.specs.LineLimits.{level, point, points, size}
 use Rattle.gf_json.specs.LineValues.{Got, mapped, and_then, ◌&◌, truth}
-use Rattle.gf_json.specs.OperationLines.{denoted, json, op_of, op_with}
+use Rattle.gf_json.specs.OperationLines.{denoted, json, op_of}
 
 -- ---- digits
 
@@ -126,16 +127,17 @@ module _ (d : Data) where
   creation_bytes : (form : Got Form) (c : Change) → creation form d ≡ Ok c → ChangeHasBytes c
   creation_bytes form = got_mapped Create ChangeHasBytes (start form d) (start_bytes form)
 
-  setting_bytes : (v : Got Value) → ((w : Value) → v ≡ Ok w → ValueHasBytes w) → (c : Change) → setting v d ≡ Ok c → ChangeHasBytes c
-  setting_bytes v bytes = got_mapped (λ p. Set p.0 p.1) ChangeHasBytes (object d & v) (λ p e. bytes p.1 (got_second (object d) v p e))
+  setting_bytes : (v : Got Value) (aims : Got (List OpId)) → ((w : Value) → v ≡ Ok w → ValueHasBytes w) → (c : Change) → setting v aims d ≡ Ok c → ChangeHasBytes c
+  setting_bytes v aims bytes = got_mapped (λ (o, (new, ids)). Set o new ids) ChangeHasBytes (object d & v & aims) (λ p e. bytes p.1.0 (got_first v aims p.1 (got_second (object d) (v & aims) p e)))
 
   change_bytes : (verb : List ℕ) (beside : List (List ℕ)) (c : Change) → change verb beside d ≡ Ok c → ChangeHasBytes c
   change_bytes verb beside = got_if (creates verb beside (codes "box") (codes "size") d) _ _ ChangeHasBytes (creation_bytes (box_size d))
       (got_if (creates verb beside (codes "circle") (codes "size") d) _ _ ChangeHasBytes (creation_bytes (circle_size d))
       (got_if (creates verb beside (codes "ellipse") (codes "size") d) _ _ ChangeHasBytes (creation_bytes (ellipse_size d))
       (got_if (creates verb beside (codes "polygon") (codes "points") d) _ _ ChangeHasBytes (creation_bytes (polygon_points d))
-      (got_if (sets verb beside d) _ _ ChangeHasBytes (setting_bytes (new_value d) new_bytes)
-      (λ c e. absurd cc)))))
+      (got_if (sets verb beside d) _ _ ChangeHasBytes (setting_bytes (new_value d) (Ok []) new_bytes)
+      (got_if (sets_aimed verb beside d) _ _ ChangeHasBytes (setting_bytes (new_value d) (aim d) new_bytes)
+      (λ c e. absurd cc))))))
 
   op_bytes : (a : Op) → op_of d ≡ Ok a → ChangeHasBytes a.change
   op_bytes = got_mapped _ (λ (a : Op). ChangeHasBytes a.change) (id d & past d & change (codes "op") op_keys d) (λ p e.
@@ -150,7 +152,7 @@ set_bytes v c bytes e = absurd cc
 
 given_bytes : (change : Change) (c : Rgb) → ChangeHasBytes change → change_value change attr.Colour ≡ Some (value.Colour c) → HasBytes c
 given_bytes (Create s) c bytes e = let same : s.colour ≡ c = cc in subst HasBytes same bytes
-given_bytes (Set o v) c bytes e = set_bytes v c bytes e
+given_bytes (Set o v ids) c bytes e = set_bytes v c bytes e
 
 -- the colour that the operation of a line gives, if it gives one
 pub line_bytes : (line : List ℕ) (a : Op) (c : Rgb) → denoted line ≡ Ok a → value_given a attr.Colour ≡ Some (value.Colour c) → HasBytes c

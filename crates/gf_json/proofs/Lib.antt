@@ -1,6 +1,7 @@
 pub mod ArrayLemmas
 pub mod KeyLemmas
 pub mod PointLemmas
+pub mod IdLemmas
 pub mod WrittenLemmas
 pub mod AgainLemmas
 pub mod OpAgainLemmas

@@ -8,14 +8,15 @@ use Rattle.std.specs.Str.{bytes_eq}
 use Rattle.std.proofs.lemmas.Bool.{cases_Bool}
 use Rattle.std.proofs.lemmas.Slice.Eq.{bytes_eq-Decides}
 use Rattle.std.proofs.lemmas.List.{length-append}
+use Rattle.gf_ops.specs.declared.op.OpId.{OpId}
 use Rattle.gf_ops.specs.declared.change.Form.{Form}
 use Rattle.gf_ops.specs.declared.change.Change.{Change}
 use Rattle.gf_json.specs.declared.line_error.LineError.TheVariants as fault
 use Rattle.serde_json.specs.Data.{Data, Members}
 use Rattle.serde_json.specs.Find.{get, as_str, as_object}
 use Rattle.gf_json.specs.LineValues.{Got, and_then, fault_beside, ◌&◌}
-use Rattle.gf_json.specs.LineFields.{at, id, past, site, object, place, box_size, circle_size, ellipse_size, polygon_points, colour, layer, shown}
-use Rattle.gf_json.specs.LineKeys.{op_keys, author_keys, create_keys, set_keys, await_keys, has_count, has_exactly, is_word, says, member_count}
+use Rattle.gf_json.specs.LineFields.{at, id, past, site, object, aim, place, box_size, circle_size, ellipse_size, polygon_points, colour, layer, shown}
+use Rattle.gf_json.specs.LineKeys.{op_keys, author_keys, create_keys, set_keys, aimed_keys, await_keys, has_count, has_exactly, is_word, says, member_count}
 use Rattle.gf_json.specs.LineChanges.{new_value, named_value, creation, setting, change}
 use Rattle.gf_json.specs.OperationLines.{op_with, op_of}
 use Rattle.gf_json.specs.ScriptLines.{authored, awaited, script_of}
@@ -81,9 +82,12 @@ one_word key word other d n h = of_text (option_and_then as_str (get key d)) h
     of_text (Some text) h = rw ((bytes_eq-Decides text word).0 h) n
 
 -- a line has one number of keys
-one_count : (n : ℕ) (o : Option Members) → has_count (n + 6) o ≡ true → has_count (n + 3) o ≡ false
-one_count n None h = absurd cc
-one_count n (Some ms) h = let k : (member_count ms == n + 6) ≡ true = h in grind (arith, k)
+one_count : (n m : ℕ) (o : Option Members) → has_count n o ≡ true → (n == m) ≡ false → has_count m o ≡ false
+one_count n m None h d = absurd cc
+one_count n m (Some ms) h d = let k : (member_count ms == n) ≡ true = h in grind (arith, k, d)
+
+other_count : (n : ℕ) → ((n + 6 == n + 3) ≡ false) × ((n + 6 == n + 4) ≡ false) × ((n + 3 == n + 4) ≡ false)
+other_count n = (grind arith, grind arith, grind arith)
 
 -- ---- creations and settings
 
@@ -120,16 +124,25 @@ unnamed d n = of_value (get (codes "to") d)
     of_value None = refl
     of_value (Some v) = rw (says-missing (codes "set") (codes "place") d n, says-missing (codes "set") (codes "points") d n, says-missing (codes "set") (codes "size") d n, says-missing (codes "set") (codes "colour") d n, says-missing (codes "set") (codes "layer") d n, says-missing (codes "set") (codes "shown") d n) refl
 
-setting-missing : (d : Data) → list_all (λ key. is_some (get key d)) set_keys ≡ false → setting (new_value d) d ≡ Err fault.Field
-setting-missing d h =
-    let e : (object d & new_value d) ≡ Err fault.Field =
-    by_key d set_keys (
-      (λ n. field_left (object d) _ (rw (missing (codes "object") _ d n) refl)),
-      (
-        (λ n. field_right (object d) _ (unnamed d n)),
-        ((λ n. field_right (object d) _ (missing (codes "to") _ d n)), tt),
-      ),
-    ) h in
+-- without one of the keys of a setting, whatever its aim is
+without_key : (g : Got (List OpId)) (d : Data) → EachMissing d ((object d & new_value d & g) ≡ Err fault.Field) set_keys
+without_key g d = (
+  (λ n. field_left (object d) _ (rw (missing (codes "object") _ d n) refl)),
+  (
+    (λ n. field_right (object d) _ (field_left (new_value d) _ (unnamed d n))),
+    ((λ n. field_right (object d) _ (field_left (new_value d) _ (missing (codes "to") _ d n))), tt),
+  ),
+)
+
+setting-missing : (g : Got (List OpId)) (d : Data) → list_all (λ key. is_some (get key d)) set_keys ≡ false → setting (new_value d) g d ≡ Err fault.Field
+setting-missing g d h =
+    let e : (object d & new_value d & g) ≡ Err fault.Field = by_key d set_keys (without_key g d) h in
+    rw e refl
+
+aimed-missing : (d : Data) → list_all (λ key. is_some (get key d)) aimed_keys ≡ false → setting (new_value d) (aim d) d ≡ Err fault.Field
+aimed-missing d h =
+    let e : (object d & new_value d & aim d) ≡ Err fault.Field =
+    by_key d aimed_keys ((λ n. field_right (object d) _ (field_right (new_value d) _ (missing (codes "aim") _ d n))), without_key (aim d) d) h in
     rw e refl
 
 -- ---- which change
@@ -155,47 +168,60 @@ word_either : (K L M : Bool) → (K ≡ true → M ≡ false) → (L ≡ true �
 word_either true L M f g h = f refl
 word_either false L M f g h = g h
 
--- of three kinds to create, and a setting
-one_of : (C S K1 K2 K3 P1 P3 T U Q : Bool) (b c p s : Got Change)
-    → (K1 ≡ true → P1 ≡ false → b ≡ Err fault.Field) → (K2 ≡ true → P1 ≡ false → c ≡ Err fault.Field) → (K3 ≡ true → P3 ≡ false → p ≡ Err fault.Field) → (Q ≡ false → s ≡ Err fault.Field)
-    → (K1 ≡ true → K3 ≡ false) → (K2 ≡ true → K3 ≡ false) → (C ≡ true → T ≡ false)
-    → (if (C && P1) && S && K1 then b else (if (C && P1) && S && K2 then c else (if (C && P3) && S && K3 then p else (if (T && Q) && U then s else Err fault.Field))))
-    ≡ (if C && S then (if K1 then b else (if K2 then c else (if K3 then p else Err fault.Field))) else (if T && U then s else Err fault.Field))
-one_of false S K1 K2 K3 P1 P3 false U Q b c p s x y z w e f t = refl
-one_of false S K1 K2 K3 P1 P3 true false true b c p s x y z w e f t = refl
-one_of false S K1 K2 K3 P1 P3 true false false b c p s x y z w e f t = refl
-one_of false S K1 K2 K3 P1 P3 true true true b c p s x y z w e f t = refl
-one_of false S K1 K2 K3 P1 P3 true true false b c p s x y z w e f t = sym (w refl)
-one_of true S K1 K2 K3 P1 P3 true U Q b c p s x y z w e f t = absurd (let n = t refl in cc)
-one_of true false K1 K2 K3 true true false U Q b c p s x y z w e f t = refl
-one_of true false K1 K2 K3 true false false U Q b c p s x y z w e f t = refl
-one_of true false K1 K2 K3 false true false U Q b c p s x y z w e f t = refl
-one_of true false K1 K2 K3 false false false U Q b c p s x y z w e f t = refl
-one_of true true true K2 K3 true P3 false U Q b c p s x y z w e f t = refl
-one_of true true true K2 K3 false true false U Q b c p s x y z w e f t = rw (e refl, x refl refl) refl
-one_of true true true K2 K3 false false false U Q b c p s x y z w e f t = sym (x refl refl)
-one_of true true false true K3 true P3 false U Q b c p s x y z w e f t = refl
-one_of true true false true K3 false true false U Q b c p s x y z w e f t = rw (f refl, y refl refl) refl
-one_of true true false true K3 false false false U Q b c p s x y z w e f t = sym (y refl refl)
-one_of true true false false true true true false U Q b c p s x y z w e f t = refl
-one_of true true false false true false true false U Q b c p s x y z w e f t = refl
-one_of true true false false true true false false U Q b c p s x y z w e f t = sym (z refl refl)
-one_of true true false false true false false false U Q b c p s x y z w e f t = sym (z refl refl)
-one_of true true false false false true true false U Q b c p s x y z w e f t = refl
-one_of true true false false false false true false U Q b c p s x y z w e f t = refl
-one_of true true false false false true false false U Q b c p s x y z w e f t = refl
-one_of true true false false false false false false U Q b c p s x y z w e f t = refl
+-- of three kinds to create, or another line
+one_of : (C S K1 K2 K3 P1 P3 : Bool) (b c p x y : Got Change)
+    → (K1 ≡ true → P1 ≡ false → b ≡ Err fault.Field) → (K2 ≡ true → P1 ≡ false → c ≡ Err fault.Field) → (K3 ≡ true → P3 ≡ false → p ≡ Err fault.Field) → (C ≡ true → x ≡ Err fault.Field)
+    → (K1 ≡ true → K3 ≡ false) → (K2 ≡ true → K3 ≡ false) → x ≡ y
+    → (if (C && P1) && S && K1 then b else (if (C && P1) && S && K2 then c else (if (C && P3) && S && K3 then p else x)))
+    ≡ (if C && S then (if K1 then b else (if K2 then c else (if K3 then p else Err fault.Field))) else y)
+one_of false S K1 K2 K3 P1 P3 b c p x y f g h n e k t = t
+one_of true false K1 K2 K3 true true b c p x y f g h n e k t = t
+one_of true false K1 K2 K3 true false b c p x y f g h n e k t = t
+one_of true false K1 K2 K3 false true b c p x y f g h n e k t = t
+one_of true false K1 K2 K3 false false b c p x y f g h n e k t = t
+one_of true true true K2 K3 true P3 b c p x y f g h n e k t = refl
+one_of true true true K2 K3 false true b c p x y f g h n e k t = rw (e refl, f refl refl) (n refl)
+one_of true true true K2 K3 false false b c p x y f g h n e k t = n refl ∙ sym (f refl refl)
+one_of true true false true K3 true P3 b c p x y f g h n e k t = refl
+one_of true true false true K3 false true b c p x y f g h n e k t = rw (k refl, g refl refl) (n refl)
+one_of true true false true K3 false false b c p x y f g h n e k t = n refl ∙ sym (g refl refl)
+one_of true true false false true true true b c p x y f g h n e k t = refl
+one_of true true false false true false true b c p x y f g h n e k t = refl
+one_of true true false false true true false b c p x y f g h n e k t = n refl ∙ sym (h refl refl)
+one_of true true false false true false false b c p x y f g h n e k t = n refl ∙ sym (h refl refl)
+one_of true true false false false true true b c p x y f g h n e k t = n refl
+one_of true true false false false false true b c p x y f g h n e k t = n refl
+one_of true true false false false true false b c p x y f g h n e k t = n refl
+one_of true true false false false false false b c p x y f g h n e k t = n refl
 
 -- of four kinds, where the second and the third have the same keys
-one_of_four : (C S K1 K2 K3 K4 P1 P4 T U Q : Bool) (b c e p s : Got Change)
-    → (K1 ≡ true → P1 ≡ false → b ≡ Err fault.Field) → (K2 ≡ true → P1 ≡ false → c ≡ Err fault.Field) → (K3 ≡ true → P1 ≡ false → e ≡ Err fault.Field) → (K4 ≡ true → P4 ≡ false → p ≡ Err fault.Field) → (Q ≡ false → s ≡ Err fault.Field)
-    → (K1 ≡ true → K4 ≡ false) → (K2 ≡ true → K4 ≡ false) → (K3 ≡ true → K4 ≡ false) → (C ≡ true → T ≡ false)
-    → (if (C && P1) && S && K1 then b else (if (C && P1) && S && K2 then c else (if (C && P1) && S && K3 then e else (if (C && P4) && S && K4 then p else (if (T && Q) && U then s else Err fault.Field)))))
-    ≡ (if C && S then (if K1 then b else (if K2 then c else (if K3 then e else (if K4 then p else Err fault.Field)))) else (if T && U then s else Err fault.Field))
-one_of_four C S K1 K2 K3 K4 P1 P4 T U Q b c e p s f g h k l m n o t =
-    ap (λ (x : Got Change). if (C && P1) && S && K1 then b else x) (two_kinds (C && P1) S K2 K3 c e (if (C && P4) && S && K4 then p else (if (T && Q) && U then s else Err fault.Field)))
-    ∙ (one_of C S K1 (K2 || K3) K4 P1 P4 T U Q b (if K2 then c else e) p s f (missing_either K2 K3 P1 c e g h) k l m (word_either K2 K3 K4 n o) t
-    ∙ ap (λ (x : Got Change). if C && S then (if K1 then b else x) else (if T && U then s else Err fault.Field)) (sym (two_words K2 K3 c e (if K4 then p else Err fault.Field))))
+one_of_four : (C S K1 K2 K3 K4 P1 P4 : Bool) (b c e p x y : Got Change)
+    → (K1 ≡ true → P1 ≡ false → b ≡ Err fault.Field) → (K2 ≡ true → P1 ≡ false → c ≡ Err fault.Field) → (K3 ≡ true → P1 ≡ false → e ≡ Err fault.Field) → (K4 ≡ true → P4 ≡ false → p ≡ Err fault.Field) → (C ≡ true → x ≡ Err fault.Field)
+    → (K1 ≡ true → K4 ≡ false) → (K2 ≡ true → K4 ≡ false) → (K3 ≡ true → K4 ≡ false) → x ≡ y
+    → (if (C && P1) && S && K1 then b else (if (C && P1) && S && K2 then c else (if (C && P1) && S && K3 then e else (if (C && P4) && S && K4 then p else x))))
+    ≡ (if C && S then (if K1 then b else (if K2 then c else (if K3 then e else (if K4 then p else Err fault.Field)))) else y)
+one_of_four C S K1 K2 K3 K4 P1 P4 b c e p x y f g h k l m n o t =
+    ap (λ (z : Got Change). if (C && P1) && S && K1 then b else z) (two_kinds (C && P1) S K2 K3 c e (if (C && P4) && S && K4 then p else x))
+    ∙ (one_of C S K1 (K2 || K3) K4 P1 P4 b (if K2 then c else e) p x y f (missing_either K2 K3 P1 c e g h) k l m (word_either K2 K3 K4 n o) t
+    ∙ ap (λ (z : Got Change). if C && S then (if K1 then b else z) else y) (sym (two_words K2 K3 c e (if K4 then p else Err fault.Field))))
+
+-- of two settings
+one_setting : (T V Q R U : Bool) (s a : Got Change) → (Q ≡ false → s ≡ Err fault.Field) → (R ≡ false → a ≡ Err fault.Field) → (T ≡ true → V ≡ false)
+    → (if (T && Q) && U then s else (if (V && R) && U then a else Err fault.Field)) ≡ (if T && U then s else (if V && U then a else Err fault.Field))
+one_setting true true Q R U s a f g t = absurd (let n = t refl in cc)
+one_setting true false true R true s a f g t = refl
+one_setting true false true R false s a f g t = refl
+one_setting true false false R true s a f g t = sym (f refl)
+one_setting true false false R false s a f g t = refl
+one_setting false true Q true true s a f g t = refl
+one_setting false true Q true false s a f g t = refl
+one_setting false true Q false true s a f g t = sym (g refl)
+one_setting false true Q false false s a f g t = refl
+one_setting false false Q R U s a f g t = refl
+
+-- a line with as many keys as one that creates is no setting
+no_setting : (T V Q R U : Bool) (s a : Got Change) → T ≡ false → V ≡ false → (if (T && Q) && U then s else (if (V && R) && U then a else Err fault.Field)) ≡ Err fault.Field
+no_setting T V Q R U s a h k = rw (h, k) refl
 
 -- where each key beside those of the change is there
 complete : (beside keys : List (List ℕ)) (d : Data) → list_all (λ key. is_some (get key d)) beside ≡ true
@@ -204,19 +230,28 @@ complete beside keys d h = rw (length-append, list_all-append, h) refl
 
 change-read : (verb : List ℕ) (beside : List (List ℕ)) (d : Data) → list_all (λ key. is_some (get key d)) beside ≡ true → change verb beside d ≡ read_change verb (length beside) d
 change-read verb beside d h =
-    rw (complete beside (create_keys (codes "size")) d h, complete beside (create_keys (codes "points")) d h, complete beside set_keys d h)
+    let counts = other_count (length beside) in
+    let plain = setting (new_value d) (Ok []) d in
+    let aimed = setting (new_value d) (aim d) d in
+    let has_plain = has_count (length beside + 3) (as_object d) in
+    let has_aimed = has_count (length beside + 4) (as_object d) in
+    let all_plain = list_all (λ key. is_some (get key d)) set_keys in
+    let all_aimed = list_all (λ key. is_some (get key d)) aimed_keys in
+    let set = says verb (codes "set") d in
+    rw (complete beside (create_keys (codes "size")) d h, complete beside (create_keys (codes "points")) d h, complete beside set_keys d h, complete beside aimed_keys d h)
     (one_of_four (has_count (length beside + 6) (as_object d)) (says verb (codes "create") d)
     (says (codes "kind") (codes "box") d) (says (codes "kind") (codes "circle") d) (says (codes "kind") (codes "ellipse") d) (says (codes "kind") (codes "polygon") d)
     (list_all (λ key. is_some (get key d)) (create_keys (codes "size"))) (list_all (λ key. is_some (get key d)) (create_keys (codes "points")))
-    (has_count (length beside + 3) (as_object d)) (says verb (codes "set") d) (list_all (λ key. is_some (get key d)) set_keys)
-    (creation (box_size d) d) (creation (circle_size d) d) (creation (ellipse_size d) d) (creation (polygon_points d) d) (setting (new_value d) d)
+    (creation (box_size d) d) (creation (circle_size d) d) (creation (ellipse_size d) d) (creation (polygon_points d) d)
+    (if (has_plain && all_plain) && set then plain else (if (has_aimed && all_aimed) && set then aimed else Err fault.Field))
+    (if has_plain && set then plain else (if has_aimed && set then aimed else Err fault.Field))
     (λ k. creation-missing (box_size d) (codes "size") (codes "box") d k (λ n. rw (missing (codes "size") _ d n) refl))
     (λ k. creation-missing (circle_size d) (codes "size") (codes "circle") d k (λ n. rw (missing (codes "size") _ d n) refl))
     (λ k. creation-missing (ellipse_size d) (codes "size") (codes "ellipse") d k (λ n. rw (missing (codes "size") _ d n) refl))
     (λ k. creation-missing (polygon_points d) (codes "points") (codes "polygon") d k (λ n. rw (missing (codes "points") _ d n) refl))
-    (setting-missing d)
+    (λ c. no_setting has_plain has_aimed all_plain all_aimed set plain aimed (one_count _ _ (as_object d) c counts.0) (one_count _ _ (as_object d) c counts.1))
     (one_word (codes "kind") (codes "box") (codes "polygon") d refl) (one_word (codes "kind") (codes "circle") (codes "polygon") d refl) (one_word (codes "kind") (codes "ellipse") (codes "polygon") d refl)
-    (one_count (length beside) (as_object d)))
+    (one_setting has_plain has_aimed all_plain all_aimed set plain aimed (setting-missing (Ok []) d) (aimed-missing d) (λ c. one_count _ _ (as_object d) c counts.2)))
 
 -- where one is not
 incomplete : (beside keys : List (List ℕ)) (d : Data) → list_all (λ key. is_some (get key d)) beside ≡ false → has_exactly (beside ++ keys) d ≡ false
@@ -224,13 +259,13 @@ incomplete beside keys d h = rw (list_all-append, h) (both_false (has_count (len
 
 change-missing : (verb : List ℕ) (beside : List (List ℕ)) (d : Data) → list_all (λ key. is_some (get key d)) beside ≡ false → change verb beside d ≡ Err fault.Field
 change-missing verb beside d h =
-    rw (incomplete beside (create_keys (codes "size")) d h, incomplete beside (create_keys (codes "points")) d h, incomplete beside set_keys d h) refl
+    rw (incomplete beside (create_keys (codes "size")) d h, incomplete beside (create_keys (codes "points")) d h, incomplete beside set_keys d h, incomplete beside aimed_keys d h) refl
 
 -- ---- operations and commands
 
 unread : (verb : List ℕ) (beside : ℕ) (d : Data) → is_some (get verb d) ≡ false → read_change verb beside d ≡ Err fault.Field
 unread verb beside d n =
-    rw (says-missing verb (codes "create") d n, says-missing verb (codes "set") d n, both_false (has_count (beside + 6) (as_object d)), both_false (has_count (beside + 3) (as_object d))) refl
+    rw (says-missing verb (codes "create") d n, says-missing verb (codes "set") d n, both_false (has_count (beside + 6) (as_object d)), both_false (has_count (beside + 3) (as_object d)), both_false (has_count (beside + 4) (as_object d))) refl
 
 -- the operation of a line
 pub op_of-read : (d : Data) → op_of d ≡ op_with (read_change (codes "op") 3 d) d
@@ -264,12 +299,11 @@ authored-read d = elim (cases_Bool (list_all (λ key. is_some (get key d)) autho
 ]
 
 -- a line that waits has too few keys to make a change
-few_keys : (o : Option Members) → has_count 3 o ≡ true → (has_count 8 o ≡ false) × (has_count 5 o ≡ false)
-few_keys None h = absurd cc
-few_keys (Some ms) h = let k : (member_count ms == 3) ≡ true = h in (grind (arith, k), grind (arith, k))
+few_keys : (o : Option Members) → has_count 3 o ≡ true → (has_count 8 o ≡ false) × (has_count 5 o ≡ false) × (has_count 6 o ≡ false)
+few_keys o h = (one_count 3 8 o h refl, one_count 3 5 o h refl, one_count 3 6 o h refl)
 
 no_change : (d : Data) → has_count 3 (as_object d) ≡ true → change (codes "do") author_keys d ≡ Err fault.Field
-no_change d h = let n = few_keys (as_object d) h in rw (n.0, n.1) refl
+no_change d h = let n = few_keys (as_object d) h in rw (n.0, n.1, n.2) refl
 
 -- the command of a line that waits
 pub awaited-read : (d : Data) → tells 3 (codes "do") (codes "await") d ≡ true → awaited d ≡ script_of d

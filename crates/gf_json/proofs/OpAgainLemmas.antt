@@ -1,5 +1,5 @@
 -- What is written for an operation is read as that operation.
-use Rattle.std.proofs.Common.{◌≡◌, ℕ, length, refl, Ok, Bool, true, ◌&&◌, ◌∙◌, codes}
+use Rattle.std.proofs.Common.{◌≡◌, ℕ, List, [], ◌∷◌, length, refl, Ok, Bool, true, ◌&&◌, ◌∙◌, codes}
 use Rattle.gf_shape.specs.declared.point.Point.{Point}
 use Rattle.gf_shape.specs.declared.colour.Rgb.{Rgb}
 use Rattle.gf_digits.specs.ColourBytes.{HasBytes}
@@ -14,17 +14,18 @@ use Rattle.gf_ops.specs.declared.change.Change.{Change}
 use Rattle.gf_ops.specs.declared.change.Change.TheVariants.{Create, Set}
 use Rattle.gf_ops.specs.declared.change.Value.{Value}
 use Rattle.gf_ops.specs.declared.change.Value.TheVariants as value
-use Rattle.gf_ops.specs.Limits.{is_id, is_clock, is_near, is_form, is_layer, is_value, is_change, IsInRange}
+use Rattle.gf_ops.specs.Limits.{is_id, is_clock, is_near, is_form, is_layer, is_value, is_aim, is_change, IsInRange}
 use Rattle.serde_json.specs.Data.{Data}
 use Rattle.gf_json.specs.LineValues.{Got, mapped, and_then, ◌&◌, array}
 use Rattle.gf_json.specs.LineLimits.{name, clock}
-use Rattle.gf_json.specs.LineFields.{id, past, object, place, box_size, circle_size, ellipse_size, polygon_points, colour, layer, shown}
+use Rattle.gf_json.specs.LineFields.{id, past, object, aim, place, box_size, circle_size, ellipse_size, polygon_points, colour, layer, shown}
 use Rattle.gf_json.specs.LineKeys.{op_keys}
 use Rattle.gf_json.specs.LineChanges.{change, new_value}
 use Rattle.gf_json.specs.OperationLines.{op_of}
 use Rattle.gf_json.specs.ColourBytes.{ValueHasBytes, ChangeHasBytes}
 use Rattle.gf_json.specs.WrittenValues.{name_data, clock_data}
 use Rattle.gf_json.specs.WrittenLines.{creation_data, setting_data, change_data, data_of}
+use Rattle.gf_json.proofs.IdLemmas.{ids_again}
 use Rattle.gf_json.proofs.AgainLemmas.{both_true, name_again, clock_again, size_again, radius_again, points_again, point_again, colour_again, level_again}
 
 -- ---- parts that are all read
@@ -42,8 +43,9 @@ start_parts : (u : Got Form) (v : Got Point) (w : Got Rgb) (x : Got ℕ) (y : Go
     ≡ Ok (Create (record { form = f; place = s.place; colour = s.colour; layer = s.layer; shown = s.shown }))
 start_parts u v w x y f s h k l m n = rw (h, k, l, m, n) refl
 
-setting_parts : (x : Got ObjectId) (y : Got Value) (o : ObjectId) (v : Value) → x ≡ Ok o → y ≡ Ok v → mapped (λ p. Set p.0 p.1) (x & y) ≡ Ok (Set o v)
-setting_parts x y o v h k = rw (h, k) refl
+setting_parts : (x : Got ObjectId) (y : Got Value) (z : Got (List OpId)) (o : ObjectId) (v : Value) (ids : List OpId) → x ≡ Ok o → y ≡ Ok v → z ≡ Ok ids
+    → mapped {B = Change} (λ (p, (new, is)). Set p new is) (x & y & z) ≡ Ok (Set o v ids)
+setting_parts x y z o v ids h k l = rw (h, k, l) refl
 
 -- ---- creations
 
@@ -68,7 +70,7 @@ creation_again i p s (Ellipse rx ry) form near level bytes =
 
 -- ---- settings
 
-value_again : (i p : Data) (o : ObjectId) (v : Value) → is_value v ≡ true → ValueHasBytes v → new_value (setting_data i p o v) ≡ Ok v
+value_again : (i p : Data) (o : ObjectId) (v : Value) → is_value v ≡ true → ValueHasBytes v → new_value (setting_data i p o v []) ≡ Ok v
 value_again i p o (value.Place q) h bytes = mapped-Ok value.Place _ q (point_again q h)
 value_again i p o (value.Points ps) h bytes = mapped-Ok value.Points _ ps (points_again ps h)
 value_again i p o (value.Size width height) h bytes = mapped-Ok (λ s. value.Size s.0 s.1) _ (width, height) (size_again width height h)
@@ -76,11 +78,24 @@ value_again i p o (value.Colour c) h bytes = mapped-Ok value.Colour _ c (colour_
 value_again i p o (value.Layer n) h bytes = mapped-Ok value.Layer _ n (level_again n h)
 value_again i p o (value.Shown b) h bytes = refl
 
-setting_again : (i p : Data) (o : ObjectId) (v : Value) → is_id o.0 ≡ true → is_value v ≡ true → ValueHasBytes v
-    → change (codes "op") op_keys (setting_data i p o v) ≡ Ok (Set o v)
-setting_again i p o v name h bytes =
-    let d = setting_data i p o v in
-    setting_parts (object d) (new_value d) o v (mapped-Ok {B = ObjectId} (λ n. record { 0 = n }) _ o.0 (name_again o.0 name)) (value_again i p o v h bytes)
+-- the key of an aim changes nothing of the value
+aimed_value : (i p : Data) (o : ObjectId) (v : Value) (j : OpId) (js : List OpId) → new_value (setting_data i p o v (j ∷ js)) ≡ new_value (setting_data i p o v [])
+aimed_value i p o (value.Place q) j js = refl
+aimed_value i p o (value.Points ps) j js = refl
+aimed_value i p o (value.Size width height) j js = refl
+aimed_value i p o (value.Colour c) j js = refl
+aimed_value i p o (value.Layer n) j js = refl
+aimed_value i p o (value.Shown b) j js = refl
+
+setting_again : (i p : Data) (o : ObjectId) (v : Value) (ids : List OpId) → is_id o.0 ≡ true → is_value v ≡ true → is_aim ids ≡ true → ValueHasBytes v
+    → change (codes "op") op_keys (setting_data i p o v ids) ≡ Ok (Set o v ids)
+setting_again i p o v [] name h few bytes =
+    let d = setting_data i p o v [] in
+    setting_parts (object d) (new_value d) (Ok []) o v [] (mapped-Ok {B = ObjectId} (λ n. record { 0 = n }) _ o.0 (name_again o.0 name)) (value_again i p o v h bytes) refl
+setting_again i p o v (j ∷ js) name h few bytes =
+    let d = setting_data i p o v (j ∷ js) in
+    setting_parts (object d) (new_value d) (aim d) o v (j ∷ js) (mapped-Ok {B = ObjectId} (λ n. record { 0 = n }) _ o.0 (name_again o.0 name))
+    (aimed_value i p o v j js ∙ value_again i p o v h bytes) (ids_again (j ∷ js) few)
 
 -- ---- operations
 
@@ -89,9 +104,10 @@ change_again i p (Create s) h bytes =
     let rest = both_true (is_form s.form && is_near s.place) (is_layer s.layer) h in
     let first = both_true (is_form s.form) (is_near s.place) rest.0 in
     creation_again i p s s.form first.0 first.1 rest.1 bytes
-change_again i p (Set o v) h bytes =
-    let parts = both_true (is_id o.0) (is_value v) h in
-    setting_again i p o v parts.0 parts.1 bytes
+change_again i p (Set o v ids) h bytes =
+    let rest = both_true (is_id o.0 && is_value v) (is_aim ids) h in
+    let first = both_true (is_id o.0) (is_value v) rest.0 in
+    setting_again i p o v ids first.0 first.1 rest.1 bytes
 
 id-creation_data : (i p : Data) (s : Start) (f : Form) → id (creation_data i p s f) ≡ name i
 id-creation_data i p s (Rect width height) = refl
@@ -101,7 +117,8 @@ id-creation_data i p s (Ellipse rx ry) = refl
 
 id-change_data : (i p : Data) (c : Change) → id (change_data i p c) ≡ name i
 id-change_data i p (Create s) = id-creation_data i p s s.form
-id-change_data i p (Set o v) = refl
+id-change_data i p (Set o v []) = refl
+id-change_data i p (Set o v (j ∷ js)) = refl
 
 past-creation_data : (i p : Data) (s : Start) (f : Form) → past (creation_data i p s f) ≡ and_then clock (array p)
 past-creation_data i p s (Rect width height) = refl
@@ -111,7 +128,8 @@ past-creation_data i p s (Ellipse rx ry) = refl
 
 past-change_data : (i p : Data) (c : Change) → past (change_data i p c) ≡ and_then clock (array p)
 past-change_data i p (Create s) = past-creation_data i p s s.form
-past-change_data i p (Set o v) = refl
+past-change_data i p (Set o v []) = refl
+past-change_data i p (Set o v (j ∷ js)) = refl
 
 -- an operation within the limits, with a clock of eight entries and colours of bytes
 pub op_of-data_of : (a : Op) → length a.past.0 ≡ 8 → ChangeHasBytes a.change → IsInRange a → op_of (data_of a) ≡ Ok a

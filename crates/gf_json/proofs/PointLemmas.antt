@@ -118,7 +118,7 @@ counted-within n m h = elim (cases_Bool (is_polygon_count n)) [
 ]
 
 -- as many are read as there are
-length-each : {A : Type 0} (form : Data → Got A) (ds : List Data) (found : List A) → each form ds ≡ Ok found → length found ≡ length ds
+pub length-each : {A : Type 0} (form : Data → Got A) (ds : List Data) (found : List A) → each form ds ≡ Ok found → length found ≡ length ds
 length-each form [] found h = let e : [] ≡ found = cc in rw (← e) refl
 length-each form (d ∷ ds) found h =
     let (q, b, e) = mapped-parts (λ r. r.0 ∷ r.1) (form d & each form ds) found h in

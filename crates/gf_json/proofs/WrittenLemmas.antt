@@ -16,7 +16,7 @@ use Rattle.serde_json.specs.Find.{of_integer, is_float}
 use Rattle.serde_json.specs.Read.{max_depth}
 use Rattle.serde_json.specs.View.{items_of}
 use Rattle.serde_json.specs.Written.{has_float, items_have_float}
-use Rattle.gf_json.specs.WrittenValues.{natural_data, name_data, clock_data, point_data, points_data, value_data}
+use Rattle.gf_json.specs.WrittenValues.{natural_data, name_data, ids_data, clock_data, point_data, points_data, value_data}
 use Rattle.gf_json.specs.WrittenLines.{creation_data, change_data, data_of}
 
 -- ---- no float
@@ -38,6 +38,9 @@ has_float-clock_data c = items_have_float-map natural_data (λ n. refl) c.0
 has_float-points_data : (ps : List Point) → has_float (points_data ps) ≡ false
 has_float-points_data ps = items_have_float-map point_data has_float-point_data ps
 
+has_float-ids_data : (ids : List OpId) → has_float (ids_data ids) ≡ false
+has_float-ids_data ids = items_have_float-map name_data (λ i. refl) ids
+
 has_float-value_data : (v : Value) → has_float (value_data v) ≡ false
 has_float-value_data (value.Place p) = has_float-point_data p
 has_float-value_data (value.Points ps) = has_float-points_data ps
@@ -54,7 +57,8 @@ has_float-creation_data i c s (Ellipse rx ry) = rw (has_float-clock_data c, has_
 
 has_float-change_data : (i : OpId) (c : Clock) (d : Change) → has_float (change_data (name_data i) (clock_data c) d) ≡ false
 has_float-change_data i c (Create s) = has_float-creation_data i c s s.form
-has_float-change_data i c (Set o v) = rw (has_float-clock_data c, has_float-value_data v) refl
+has_float-change_data i c (Set o v []) = rw (has_float-clock_data c, has_float-value_data v) refl
+has_float-change_data i c (Set o v (j ∷ js)) = rw (has_float-ids_data (j ∷ js), has_float-clock_data c, has_float-value_data v) refl
 
 pub has_float-data_of : (a : Op) → has_float (data_of a) ≡ false
 has_float-data_of a = has_float-change_data a.id a.past a.change
@@ -70,6 +74,9 @@ depth-clock_data c = let k = items_depth-map natural_data 0 (λ n. omega arith) 
 
 depth-points_data : (ps : List Point) → depth (points_data ps) ≤ 2
 depth-points_data ps = let k = items_depth-map point_data 1 (λ p. omega arith) ps in omega (arith, k)
+
+depth-ids_data : (ids : List OpId) → depth (ids_data ids) ≤ 2
+depth-ids_data ids = let k = items_depth-map name_data 1 (λ i. omega arith) ids in omega (arith, k)
 
 depth-value_data : (v : Value) → depth (value_data v) ≤ 2
 depth-value_data (value.Place p) = omega arith
@@ -87,7 +94,8 @@ depth-creation_data i c s (Ellipse rx ry) = let k = depth-clock_data c in omega 
 
 depth-change_data : (i : OpId) (c : Clock) (d : Change) → depth (change_data (name_data i) (clock_data c) d) ≤ 3
 depth-change_data i c (Create s) = depth-creation_data i c s s.form
-depth-change_data i c (Set o v) = let k = depth-clock_data c in let l = depth-value_data v in omega (arith, k, l)
+depth-change_data i c (Set o v []) = let k = depth-clock_data c in let l = depth-value_data v in omega (arith, k, l)
+depth-change_data i c (Set o v (j ∷ js)) = let h = depth-ids_data (j ∷ js) in let k = depth-clock_data c in let l = depth-value_data v in omega (arith, h, k, l)
 
 pub depth-data_of : (a : Op) → depth (data_of a) ≤ max_depth
 depth-data_of a = let k = depth-change_data a.id a.past a.change in omega (arith, k)

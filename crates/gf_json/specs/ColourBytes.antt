@@ -18,4 +18,4 @@ ValueHasBytes (value.Shown b) = ⊤
 -- each part of the colour that the change gives, if it gives one, is a byte
 abbrev pub ChangeHasBytes : Change → Type 0
 ChangeHasBytes (Create s) = HasBytes s.colour
-ChangeHasBytes (Set o v) = ValueHasBytes v
+ChangeHasBytes (Set o v aim) = ValueHasBytes v

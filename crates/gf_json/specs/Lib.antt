@@ -1,5 +1,6 @@
 pub mod LineValues
 pub mod LineLimits
+pub mod LineAims
 pub mod LineColours
 pub mod LineFields
 pub mod LineKeys
@@ -11,4 +12,5 @@ pub mod WrittenValues
 pub mod WrittenLines
 pub mod WrittenMembers
 pub mod CheckedPoints
+pub mod CheckedIds
 pub mod ColourBytes

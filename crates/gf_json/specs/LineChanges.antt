@@ -1,5 +1,6 @@
 -- The change that a line tells of (RFC 8259 by serde_json's value; words and forms are this project's choice).
-use Rattle.std.specs.Prelude.{ℕ, List, Err, codes, if◌then◌else◌}
+use Rattle.std.specs.Prelude.{ℕ, List, [], Ok, Err, codes, if◌then◌else◌}
+use Rattle.gf_ops.specs.declared.op.OpId.{OpId}
 use Rattle.gf_ops.specs.declared.change.Form.{Form}
 use Rattle.gf_ops.specs.declared.change.Start.{Start}
 use Rattle.gf_ops.specs.declared.change.Change.{Change}
@@ -11,8 +12,9 @@ use Rattle.serde_json.specs.Data.{Data}
 use Rattle.gf_json.specs.LineValues.{Got, mapped, ◌&◌, truth}
 use Rattle.gf_json.specs.LineLimits.{size, level, point, points}
 use Rattle.gf_json.specs.LineColours.{hex_colour}
-use Rattle.gf_json.specs.LineFields.{at, object, place, box_size, circle_size, ellipse_size, polygon_points, colour, layer, shown}
-use Rattle.gf_json.specs.LineKeys.{says, creates, sets}
+use Rattle.gf_json.specs.LineFields.{at, object, aim, place, box_size, circle_size, ellipse_size}
+use Rattle.gf_json.specs.LineFields.{polygon_points, colour, layer, shown}
+use Rattle.gf_json.specs.LineKeys.{says, creates, sets, sets_aimed}
 
 -- what a new object of the form begins with
 abbrev pub start : Got Form → Data → Got Start
@@ -39,9 +41,9 @@ new_value d = at (codes "to") (named_value d) d
 abbrev pub creation : Got Form → Data → Got Change
 creation form d = mapped Create (start form d)
 
--- the change that sets an attribute of an object to v
-abbrev pub setting : Got Value → Data → Got Change
-setting v d = mapped (λ p. Set p.0 p.1) (object d & v)
+-- the change that sets an attribute of an object to v, aimed at these
+abbrev pub setting : Got Value → Got (List OpId) → Data → Got Change
+setting v aim d = mapped (λ (o, (new, ids)). Set o new ids) (object d & v & aim)
 
 -- the change of a line whose verb stands at this key, and which has these keys beside those of the change
 abbrev pub change : List ℕ → List (List ℕ) → Data → Got Change
@@ -50,5 +52,6 @@ change verb beside d =
     else (if creates verb beside (codes "circle") (codes "size") d then creation (circle_size d) d
     else (if creates verb beside (codes "ellipse") (codes "size") d then creation (ellipse_size d) d
     else (if creates verb beside (codes "polygon") (codes "points") d then creation (polygon_points d) d
-    else (if sets verb beside d then setting (new_value d) d
-    else Err fault.Field))))
+    else (if sets verb beside d then setting (new_value d) (Ok []) d
+    else (if sets_aimed verb beside d then setting (new_value d) (aim d) d
+    else Err fault.Field)))))

@@ -13,6 +13,7 @@ use Rattle.serde_json.specs.Data.{Data}
 use Rattle.serde_json.specs.Find.{get}
 use Rattle.gf_json.specs.LineValues.{Got, mapped, and_then, array, truth}
 use Rattle.gf_json.specs.LineLimits.{natural, name, size, radius, level, clock, point, points}
+use Rattle.gf_json.specs.LineAims.{ids}
 use Rattle.gf_json.specs.LineColours.{hex_colour}
 
 -- the value at a key
@@ -38,6 +39,10 @@ site d = at (codes "site") (natural 1 8) d
 -- the object whose attribute is set
 abbrev pub object : Data → Got ObjectId
 object d = mapped (λ i. record { 0 = i }) (at (codes "object") name d)
+
+-- the ids that the operation aims at
+abbrev pub aim : Data → Got (List OpId)
+aim d = at (codes "aim") ids d
 
 -- where the new object is
 abbrev pub place : Data → Got Point

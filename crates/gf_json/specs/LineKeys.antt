@@ -27,6 +27,10 @@ create_keys shape = codes "kind" ∷ codes "place" ∷ shape ∷ codes "colour" 
 abbrev pub set_keys : List (List ℕ)
 set_keys = codes "object" ∷ codes "set" ∷ codes "to" ∷ []
 
+-- the keys of a change that sets an attribute and aims at operations
+abbrev pub aimed_keys : List (List ℕ)
+aimed_keys = codes "aim" ∷ set_keys
+
 -- ---- which line it is
 
 -- how many members an object has
@@ -60,6 +64,10 @@ creates verb beside kind shape d =
 -- the line, with these keys beside those of its change, sets an attribute
 abbrev pub sets : List ℕ → List (List ℕ) → Data → Bool
 sets verb beside d = has_exactly (beside ++ set_keys) d && says verb (codes "set") d
+
+-- the line sets an attribute, and aims at operations
+abbrev pub sets_aimed : List ℕ → List (List ℕ) → Data → Bool
+sets_aimed verb beside d = has_exactly (beside ++ aimed_keys) d && says verb (codes "set") d
 
 -- the line waits for an operation
 abbrev pub awaits : Data → Bool

@@ -1,11 +1,11 @@
 -- The change of a line by how many keys it has and by its words, without a look whether each key is there (this project's choice).
-use Rattle.std.specs.Prelude.{ℕ, ◌+◌, Bool, ◌&&◌, List, Err, codes, if◌then◌else◌}
+use Rattle.std.specs.Prelude.{ℕ, ◌+◌, Bool, ◌&&◌, List, [], Ok, Err, codes, if◌then◌else◌}
 use Rattle.gf_ops.specs.declared.change.Change.{Change}
 use Rattle.gf_json.specs.declared.line_error.LineError.TheVariants as fault
 use Rattle.serde_json.specs.Data.{Data}
 use Rattle.serde_json.specs.Find.{as_object}
 use Rattle.gf_json.specs.LineValues.{Got}
-use Rattle.gf_json.specs.LineFields.{box_size, circle_size, ellipse_size, polygon_points}
+use Rattle.gf_json.specs.LineFields.{aim, box_size, circle_size, ellipse_size, polygon_points}
 use Rattle.gf_json.specs.LineKeys.{has_count, says}
 use Rattle.gf_json.specs.LineChanges.{new_value, creation, setting}
 
@@ -26,5 +26,6 @@ named_creation d =
 abbrev pub read_change : List ℕ → ℕ → Data → Got Change
 read_change verb beside d =
     if tells (beside + 6) verb (codes "create") d then named_creation d
-    else (if tells (beside + 3) verb (codes "set") d then setting (new_value d) d
-    else Err fault.Field)
+    else (if tells (beside + 3) verb (codes "set") d then setting (new_value d) (Ok []) d
+    else (if tells (beside + 4) verb (codes "set") d then setting (new_value d) (aim d) d
+    else Err fault.Field))

@@ -1,6 +1,7 @@
 -- The line that is written for an operation (RFC 8259 by serde_json's compact text; the keys, in rising byte order, are this project's choice).
 use Rattle.std.specs.Prelude.{ℕ, List, [], ◌∷◌, codes}
 use Rattle.gf_ops.specs.declared.op.Op.{Op}
+use Rattle.gf_ops.specs.declared.op.OpId.{OpId}
 use Rattle.gf_ops.specs.declared.op.ObjectId.{ObjectId}
 use Rattle.gf_ops.specs.declared.change.Form.{Form}
 use Rattle.gf_ops.specs.declared.change.Form.TheVariants.{Rect, Polygon, Circle, Ellipse}
@@ -12,7 +13,8 @@ use Rattle.gf_ops.specs.declared.change.Value.TheVariants as value
 use Rattle.gf_shape.specs.declared.point.Point.{Point}
 use Rattle.serde_json.specs.Data.{Data, boolean, string, object, Members, no_members, member}
 use Rattle.serde_json.specs.Written.{compact_text}
-use Rattle.gf_json.specs.WrittenValues.{natural_data, name_data, clock_data, point_data, points_data, size_data, colour_data, value_data}
+use Rattle.gf_json.specs.WrittenValues.{natural_data, name_data, ids_data, clock_data, point_data}
+use Rattle.gf_json.specs.WrittenValues.{points_data, size_data, colour_data, value_data}
 
 -- the word for the attribute that v is a value of
 abbrev pub attribute_word : Value → List ℕ
@@ -55,21 +57,27 @@ creation_data id past s (Polygon ps) = created id past s (codes "polygon") (with
 creation_data id past s (Circle radius) = created id past s (codes "circle") (with_size s radius radius)
 creation_data id past s (Ellipse rx ry) = created id past s (codes "ellipse") (with_size s rx ry)
 
--- the line that sets an attribute of the object o to v
-abbrev pub setting_data : Data → Data → ObjectId → Value → Data
-setting_data id past o v = object (in_order (
+-- the members of a line that sets an attribute of the object o to v
+abbrev pub setting_members : Data → Data → ObjectId → Value → List (List ℕ × Data)
+setting_members id past o v =
     (codes "id", id)
     ∷ (codes "object", name_data o.0)
     ∷ (codes "op", string (codes "set"))
     ∷ (codes "past", past)
     ∷ (codes "set", string (attribute_word v))
     ∷ (codes "to", value_data v)
-    ∷ []))
+    ∷ []
+
+-- the line that does so and aims at these ids. It has the key of the aim only where there is an id
+abbrev pub setting_data : Data → Data → ObjectId → Value → List OpId → Data
+setting_data id past o v [] = object (in_order (setting_members id past o v))
+setting_data id past o v (i ∷ is) =
+    object (in_order ((codes "aim", ids_data (i ∷ is)) ∷ setting_members id past o v))
 
 -- the line of a change
 abbrev pub change_data : Data → Data → Change → Data
 change_data id past (Create s) = creation_data id past s s.form
-change_data id past (Set o v) = setting_data id past o v
+change_data id past (Set o v aim) = setting_data id past o v aim
 
 -- the value of the line that is written for the operation a
 abbrev pub data_of : Op → Data

@@ -1,11 +1,13 @@
 -- The members of a written line, part by part. No public clause cites this module.
 use Rattle.std.specs.Prelude.{ℕ, List, [], ◌∷◌, codes}
 use Rattle.gf_ops.specs.declared.op.Op.{Op}
+use Rattle.gf_ops.specs.declared.op.OpId.{OpId}
 use Rattle.gf_ops.specs.declared.change.Form.{Form}
 use Rattle.gf_ops.specs.declared.change.Form.TheVariants.{Rect, Polygon, Circle, Ellipse}
 use Rattle.gf_ops.specs.declared.change.Start.{Start}
 use Rattle.serde_json.specs.Data.{Data, boolean, string, Members, put}
-use Rattle.gf_json.specs.WrittenValues.{natural_data, name_data, clock_data, point_data, points_data, size_data, colour_data}
+use Rattle.gf_json.specs.WrittenValues.{natural_data, name_data, ids_data, clock_data, point_data}
+use Rattle.gf_json.specs.WrittenValues.{points_data, size_data, colour_data}
 use Rattle.gf_json.specs.WrittenLines.{in_order}
 
 -- ms, with the members of the list put one after the other
@@ -29,6 +31,11 @@ look_members s =
     ∷ (codes "place", point_data s.place)
     ∷ (codes "shown", boolean s.shown)
     ∷ []
+
+-- the member for an aim, if it has ids
+abbrev pub aim_members : List OpId → List (List ℕ × Data)
+aim_members [] = []
+aim_members (i ∷ is) = (codes "aim", ids_data (i ∷ is)) ∷ []
 
 -- the members for a kind, and for the form of the new object at its key
 abbrev pub shape_members : List ℕ → List ℕ → Data → List (List ℕ × Data)

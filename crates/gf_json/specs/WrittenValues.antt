@@ -27,6 +27,10 @@ pair_data a b = array (items_of (a ∷ b ∷ []))
 abbrev pub name_data : OpId → Data
 name_data i = pair_data (natural_data i.site) (natural_data i.seq)
 
+-- the ids of an aim
+abbrev pub ids_data : List OpId → Data
+ids_data ids = array (items_of (map name_data ids))
+
 -- the entries of a clock
 abbrev pub clock_data : Clock → Data
 clock_data c = array (items_of (map natural_data c.0))

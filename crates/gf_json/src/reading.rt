@@ -10,6 +10,7 @@ ghost use Rattle.gf_json.specs.OperationLines.{json, op_with, op_of, denoted};
 ghost use Rattle.gf_json.specs.ScriptLines.{authored, awaited, script_of, script_denoted};
 ghost use Rattle.gf_json.specs.ScriptLines.{IsScriptInRange};
 
+mod aims;
 mod changes;
 mod colours;
 mod fields;

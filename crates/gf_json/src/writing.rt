@@ -10,14 +10,14 @@ ghost use Rattle.gf_json.specs.WrittenValues.{name_data, clock_data};
 ghost use Rattle.gf_json.specs.WrittenLines.{creation_data, setting_data, attribute_word, data_of};
 ghost use Rattle.gf_json.specs.WrittenLines.{op_text};
 ghost use Rattle.gf_json.specs.WrittenMembers.{put_all, begun, look_members, form_members};
-ghost use Rattle.gf_json.specs.WrittenMembers.{shape_members};
+ghost use Rattle.gf_json.specs.WrittenMembers.{shape_members, aim_members};
 
 mod values;
 
 use crate::writing::values::{
-    clock_data, colour_data, name_data, point_data, points_data, size_data, value_data,
+    clock_data, colour_data, ids_data, name_data, point_data, points_data, size_data, value_data,
 };
-use gf_ops::{Change, Form, ObjectId, Op, Start};
+use gf_ops::{Change, Form, Ids, ObjectId, Op, Start};
 use gf_shape::OutOfMemory;
 use serde_json::{Map, Value, put};
 use std::alloc::{AllocError, Global};
@@ -48,7 +48,7 @@ fn data_of(alloc: Global, op: &Op) -> Result<Value, AllocError>
 {
     match &op.change {
         Change::Create(start) => creation_data(alloc, op, start),
-        Change::Set { object, value } => setting_data(alloc, op, *object, value),
+        Change::Set { object, value, aim } => setting_data(alloc, op, *object, value, aim),
     }
 }
 
@@ -138,9 +138,10 @@ fn setting_data(
     op: &Op,
     object: ObjectId,
     value: &gf_ops::Value,
+    aim: &Ids,
 ) -> Result<Value, AllocError>
     ensures value { IfOk result (λ v. view v
-        ≡ setting_data (name_data op.now.id) (clock_data op.now.past) object value.now) }
+        ≡ setting_data (name_data op.now.id) (clock_data op.now.past) object value.now aim.now) }
     ensures eight { OnOk result (length op.now.past.0 ≡ 8) }
     ensures bytes { OnOk result (ValueHasBytes value.now) }
 {
@@ -153,7 +154,19 @@ fn setting_data(
         Value::try_from_str(alloc, attribute_word(value))?,
     )?;
     put(&mut members, alloc, "to", value_data(alloc, value)?)?;
+    put_aim(alloc, &mut members, aim)?;
     Ok(Value::Object(members))
+}
+
+/// Puts the key of the aim, if that has ids.
+fn put_aim(alloc: Global, members: &mut Map<String, Value>, aim: &Ids) -> Result<(), AllocError>
+    ensures { OnOk result (members_view members.new.entries
+        ≡ put_all (aim_members aim.now) (members_view members.old.entries)) }
+{
+    if aim.as_slice().is_empty() {
+        return Ok(());
+    }
+    put(members, alloc, "aim", ids_data(alloc, aim)?)
 }
 
 /// The word for the attribute of a value.

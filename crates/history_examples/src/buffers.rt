@@ -25,6 +25,15 @@ offer 3.1 after 0 0 0 0 0 0 0 10001: circle 1     | Range, 1
 offer 3.10000 after 0 0 0 0 0 0 0 10000: circle 1 | Held, 2
 offer 1.3 after 1: circle 1                       | Held, 3
 
+// tells_aims_apart
+new                                          | ok
+offer 1.2 after 1: 1.1 layer 3 aim 1.1       | Held, 1
+offer 1.2 after 1: 1.1 layer 3 aim 1.1       | Already, 1
+offer 1.2 after 1: 1.1 layer 3               | Clash, 1
+offer 1.2 after 1: 1.1 layer 3 aim 2.1       | Clash, 1
+offer 1.2 after 1: 1.1 layer 3 aim 1.1 2.1   | Clash, 1
+offer 1.2 after 1: 1.1 layer 3 aim 1.1 1.1   | Range, 1
+
 // gives_out_what_is_ready: of a buffer that holds this alone, what is taken and how many stay.
 new                                       | ok
 add 1.1: circle 1                         | ok

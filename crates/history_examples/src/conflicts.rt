@@ -69,6 +69,7 @@ copy 1.2 after 1: 1.1 size 3 4           | yes
 copy 1.2 after 1: 1.1 colour 0000ff      | yes
 copy 1.2 after 1: 1.1 layer 9            | yes
 copy 1.2 after 1: 1.1 shown false        | yes
+copy 1.3 after 2: 1.1 layer 9 aim 1.1 1.2 | yes
 
 // tells_what_is_set
 attribute place 0,0                 | place

@@ -12,6 +12,7 @@ fn faults_read_as_their_names(rt: HostRuntime) -> Result<(), Fail> {
         (OpFault::BadClock, "BadClock"),
         (OpFault::NoObject, "NoObject"),
         (OpFault::WrongKind, "WrongKind"),
+        (OpFault::BadAim, "BadAim"),
     ] {
         prints(alloc, fault, text)?;
         prints(alloc, AddFault::Op(fault), text)?;

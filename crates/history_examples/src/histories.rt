@@ -83,6 +83,32 @@ check 2.1 after 4: 1.4 colour ff0000 | ok
 check 2.1 after 4: 1.4 layer 9999    | ok
 check 2.1 after 4: 1.4 shown false   | ok
 
+// wants_an_aim_that_can_stand_in_a_version
+new                                           | ok
+add 1.1: box 1 1                              | ok
+add 1.2 after 1: 1.1 colour 0000ff            | ok
+add 2.1 after 1: 1.1 colour 00ff00            | ok
+add 1.3 after 2: 1.1 layer 1 aim 1.1 1.2      | ok
+add 1.4 after 3: box 1 1                      | ok
+check 3.1 after 4 1: 1.1 layer 2 aim 1.1      | ok
+check 3.1 after 4 1: 1.1 layer 2 aim 1.2      | ok
+// 2.2 is not there, 2.1 was not known, and 1.4 is another object.
+check 3.1 after 4 1: 1.1 layer 2 aim 2.2      | BadAim
+check 3.1 after 4: 1.1 layer 2 aim 2.1        | BadAim
+check 3.1 after 4: 1.1 layer 2 aim 1.1 2.1    | BadAim
+check 3.1 after 4 1: 1.1 layer 2 aim 1.4      | BadAim
+// 1.2 and 2.1 conflict directly, and 1.3 aims at 1.1 and 1.2.
+check 3.1 after 4 1: 1.1 layer 2 aim 1.2 2.1  | BadAim
+check 3.1 after 4 1: 1.1 layer 2 aim 1.3      | BadAim
+check 3.1 after 4 1: 1.1 layer 2 aim 1.1 1.3  | BadAim
+check 3.1 after 4 1: 1.1 layer 2 aim 1.1 1.2 1.3 | ok
+// Each fault comes before those behind it.
+check 3.1 after 9: 1.1 layer 2 aim 2.2        | BadClock
+check 3.1: 1.1 layer 2 aim 2.2                | NoObject
+check 3.1 after 4 1: 1.1 points 0,0*3 aim 2.2 | WrongKind
+add 3.1 after 4 1: 1.1 layer 2 aim 2.2        | BadAim
+operations                                    | 1.1 1.2 2.1 1.3 1.4
+
 // refuses_and_stays
 new                          | ok
 add 1.1: box 1 1             | ok

@@ -1,7 +1,7 @@
 //! Commands about operations and their parts.
 
 use example_parts::notation::{change, clock, id, operation, points, value, yes};
-use gf_ops::{Attr, Op, Points, before, concurrent, conflicts};
+use gf_ops::{Attr, Op, Points, before, concurrent, direct_conflict};
 use std::alloc::Global;
 
 pub(crate) fn answer(alloc: Global, verb: &str, text: &str) -> Option<String> {
@@ -48,7 +48,7 @@ fn copy(alloc: Global, op: &Op) -> Option<&'static str> {
 
 fn itself(op: &Op) -> Option<&'static str> {
     if op.in_range() {
-        standing(concurrent(op, op), conflicts(op, op))
+        standing(concurrent(op, op), direct_conflict(op, op))
     } else {
         None
     }
@@ -93,7 +93,7 @@ fn known(a: &Op, b: &Op) -> Option<&'static str> {
 
 fn related(a: &Op, b: &Op) -> Option<&'static str> {
     if a.in_range() && b.in_range() {
-        standing(concurrent(a, b), conflicts(a, b))
+        standing(concurrent(a, b), direct_conflict(a, b))
     } else {
         None
     }

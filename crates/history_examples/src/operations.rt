@@ -75,6 +75,19 @@ range 1.1: 1.1 points 0,0*63 0,0      | yes
 range 1.1: 1.1 points 0,0*64 0,0      | no
 range 1.1: 1.1 points 0,0*2 1000001,0 | no
 
+// keeps_the_limits_of_aims
+range 1.2 after 1: 1.1 layer 0 aim 1.1             | yes
+range 1.2 after 1: 1.1 layer 0 aim 1.9 2.1 8.10000 | yes
+range 1.2 after 1: 1.1 layer 0 aim 2.1 1.9         | no
+range 1.2 after 1: 1.1 layer 0 aim 1.2 1.1         | no
+range 1.2 after 1: 1.1 layer 0 aim 1.1 1.1         | no
+range 1.2 after 1: 1.1 layer 0 aim 0.1             | no
+range 1.2 after 1: 1.1 layer 0 aim 9.1             | no
+range 1.2 after 1: 1.1 layer 0 aim 1.0             | no
+range 1.2 after 1: 1.1 layer 0 aim 1.10001         | no
+change 1.1 layer 0 aim 1.1                         | yes
+change 1.1 layer 0 aim 1.0                         | no
+
 // keeps_points_in_order
 equal 1,2 3,4 1,5 ; 1,2 3,4 1,5 | yes
 equal 1,2 3,4 1,5 ; 3,4 1,2 1,5 | no

@@ -506,6 +506,50 @@ Field | do set     | "set":"colour","to":"0000ff" | "set":"size","to":"0000ff"
 Field | do set     | "to":"0000ff"        | "to":null
 Range | do set     | "set":"colour","to":"0000ff" | "set":"layer","to":10000
 
+// The aim: an array of names in rising order, by the site and then by the number, each once.
+ok    | set        | }                    | ,"aim":[]}
+ok    | set        | }                    | ,"aim":[[1,1]]}
+ok    | set        | }                    | ,"aim":[[1,1],[1,2]]}
+ok    | set        | }                    | ,"aim":[[1,2],[2,1]]}
+ok    | set        | }                    | ,"aim":[[1,10000],[8,10000]]}
+Field | set        | }                    | ,"aim":[[1,2],[1,1]]}
+Field | set        | }                    | ,"aim":[[1,1],[1,1]]}
+Field | set        | }                    | ,"aim":[[2,1],[1,2]]}
+Field | set        | }                    | ,"aim":[[1,1],[2,2],[2,2]]}
+Field | set        | }                    | ,"aim":[1,1]}
+Field | set        | }                    | ,"aim":[[1]]}
+Field | set        | }                    | ,"aim":[[1,1,1]]}
+Field | set        | }                    | ,"aim":[[1,1.0]]}
+Field | set        | }                    | ,"aim":[[1,"1"]]}
+Field | set        | }                    | ,"aim":[[1,1],null]}
+Field | set        | }                    | ,"aim":[[1,9223372036854775808]]}
+Field | set        | }                    | ,"aim":{}}
+Field | set        | }                    | ,"aim":null}
+Field | set        | }                    | ,"aim":"1.1"}
+Range | set        | }                    | ,"aim":[[0,1]]}
+Range | set        | }                    | ,"aim":[[1,0]]}
+Range | set        | }                    | ,"aim":[[1,1],[9,1]]}
+Range | set        | }                    | ,"aim":[[1,1],[1,10001]]}
+Range | set        | }                    | ,"aim":[[-1,1],[1,1]]}
+Range | set        | }                    | ,"aim":[[1,9223372036854775807]]}
+Field | set        | }                    | ,"aim":[[9,1],[1,1]]}
+Field | set        | }                    | ,"aim":[[9,1],[9,1]]}
+Field | set        | }                    | ,"aim":[[9,1],null]}
+Field | set        | "id":[1,2]           | "id":[9,2],"aim":[[1,2],[1,1]]
+Field | set        | "to"                 | "aim"
+Field | set        | }                    | ,"aim":[],"extra":0}
+Field | set        | "set":"colour","to":"0000ff" | "aim":[],"to":"0000ff","extra":0
+Field | box        | }                    | ,"aim":[]}
+Field | box        | }                    | ,"aim":[[1,1]]}
+Field | circle     | }                    | ,"aim":[]}
+Field | polygon    | }                    | ,"aim":[]}
+ok    | do set     | }                    | ,"aim":[[1,1],[1,2]]}
+Field | do set     | }                    | ,"aim":[[1,2],[1,1]]}
+Range | do set     | }                    | ,"aim":[[1,1],[9,1]]}
+Field | do create  | }                    | ,"aim":[]}
+Field | do await   | }                    | ,"aim":[]}
+Field | do await   | }                    | ,"aim":[],"object":[1,1],"set":"layer"}
+
 // A fault of form comes before one of range.
 Field | box        | "layer":0            | "layer":-1,"extra":0
 Field | box        | "layer":0            | "layer":null,"id":[9,1]
@@ -569,6 +613,32 @@ fn answer(alloc: Global, cells: &str) -> Result<String, Fail> {
         Some(fault) => Ok(format!(in alloc; "{fault}")?),
         None => Ok(String::from_str(alloc, "ok")?),
     }
+}
+
+/// A line whose aim has so many ids.
+fn aimed(alloc: Global, count: u32) -> Result<String, Fail> {
+    let mut line = String::from_str(
+        alloc,
+        r#"{"op":"set","id":[1,2],"past":[1,0,0,0,0,0,0,0],"object":[1,1],"set":"layer","to":0,"aim":[[1,1]"#,
+    )?;
+    for seq in 2..=count {
+        line.push_str(format!(in alloc; ",[1,{seq}]")?.as_str())?;
+    }
+    line.push_str("]}")?;
+    Ok(line)
+}
+
+#[test]
+fn an_aim_has_at_most_1000_ids(rt: HostRuntime) -> Result<(), Fail> {
+    let alloc = rt.alloc();
+    let most = aimed(alloc, 1_000)?;
+    assert_eq!(rt; read_op(alloc, most.as_bytes()).err(), None);
+    let more = aimed(alloc, 1_001)?;
+    assert_eq!(rt;
+        read_op(alloc, more.as_bytes()).err(),
+        Some(LineError::Range)
+    );
+    Ok(())
 }
 
 #[test]

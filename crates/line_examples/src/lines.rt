@@ -32,9 +32,14 @@ const ROWS: &str = r#"
 {"op":"set","id":[1,2],"past":[1,0,0,0,0,0,0,0],"object":[1,1],"set":"shown","to":true} | 1.2 after 1: 1.1 shown true
 {"op":"set","id":[1,2],"past":[1,0,0,0,0,0,0,0],"object":[1,1],"set":"points","to":[[0,0],[10,-20],[-1000000,1000000]]} | 1.2 after 1: 1.1 points 0,0 10,-20 -1000000,1000000
 
+// reads_an_aim
+{"op":"set","id":[1,3],"past":[2,1,0,0,0,0,0,0],"object":[1,1],"set":"layer","to":5,"aim":[[1,1],[1,2]]} | 1.3 after 2 1: 1.1 layer 5 aim 1.1 1.2
+{"op":"set","id":[1,3],"past":[2,1,0,0,0,0,0,0],"object":[1,1],"set":"layer","to":5,"aim":[]} | 1.3 after 2 1: 1.1 layer 5
+
 // reads_a_script
 {"site":1,"do":"create","kind":"box","place":[0,0],"size":[10,10],"colour":"ff0000","layer":0,"shown":true} | site 1 box 10 10, colour ff0000
 {"site":2,"do":"set","object":[1,1],"set":"colour","to":"0000ff"} | site 2 1.1 colour 0000ff
+{"site":2,"do":"set","object":[1,1],"set":"layer","to":1,"aim":[[1,9]]} | site 2 1.1 layer 1 aim 1.9
 {"site":2,"do":"await","id":[1,1]} | site 2 await 1.1
 {"site":2,"do":"await","id":[1,9]} | site 2 await 1.9
 {"id":[8,10000], "do":"await","site":2} | site 2 await 8.10000

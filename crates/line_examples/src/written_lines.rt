@@ -16,6 +16,8 @@ const LINES: &str = r#"
 {"id":[1,2],"object":[1,1],"op":"set","past":[1,0,0,0,0,0,0,0],"set":"size","to":[1,1000000]}
 {"id":[1,2],"object":[1,1],"op":"set","past":[1,0,0,0,0,0,0,0],"set":"layer","to":17}
 {"id":[1,2],"object":[1,1],"op":"set","past":[1,0,0,0,0,0,0,0],"set":"shown","to":false}
+{"aim":[[1,1],[1,2]],"id":[1,3],"object":[1,1],"op":"set","past":[2,1,0,0,0,0,0,0],"set":"layer","to":5}
+{"aim":[[1,10000],[8,1]],"id":[1,3],"object":[1,1],"op":"set","past":[2,1,0,0,0,0,0,0],"set":"place","to":[-5,0]}
 "#;
 
 /// What is written of the operation that a line denotes.

@@ -1,23 +1,23 @@
 //! The change that a line tells of.
 
-ghost use Rattle.std.specs.Prelude.{◌≡◌, ◌≤◌, ◌⊎◌, ◌&&◌, Err, IfOk, IsTrue};
+ghost use Rattle.std.specs.Prelude.{◌≡◌, ◌≤◌, ◌⊎◌, ◌&&◌, [], Ok, Err, IfOk, IsTrue};
 ghost use Rattle.serde_json.specs.View.{view};
-ghost use Rattle.gf_ops.specs.Limits.{is_change, is_form, is_layer, is_near, is_value};
+ghost use Rattle.gf_ops.specs.Limits.{is_aim, is_change, is_form, is_layer, is_near, is_value};
 ghost use Rattle.gf_json.specs.LineValues.{◌&◌};
-ghost use Rattle.gf_json.specs.LineFields.{polygon_points, colour, layer, shown};
+ghost use Rattle.gf_json.specs.LineFields.{aim, polygon_points, colour, layer, shown};
 ghost use Rattle.gf_json.specs.LineChanges.{start, named_value, new_value, creation, setting};
 ghost use Rattle.gf_json.specs.ReadChanges.{named_creation, read_change};
 
 use crate::LineError;
 use crate::reading::colours::hex_colour;
 use crate::reading::fields::{
-    box_size, circle_size, colour, ellipse_size, layer, object, place, polygon_points, shown,
+    aim, box_size, circle_size, colour, ellipse_size, layer, object, place, polygon_points, shown,
     value_at,
 };
 use crate::reading::keys::{is_word, tells, word_at};
 use crate::reading::points::points;
 use crate::reading::values::{both, level, point, size, truth};
-use gf_ops::{Change, Form, Start};
+use gf_ops::{Change, Form, Ids, Start};
 use gf_shape::Rgb;
 use serde_json::Value;
 use std::alloc::Global;
@@ -40,6 +40,8 @@ pub(crate) fn change(
         named_creation(alloc, line)
     } else if tells(line, beside + 3, verb, "set") {
         set(alloc, line)
+    } else if tells(line, beside + 4, verb, "set") {
+        aimed_set(alloc, line)
     } else {
         Err(LineError::Field)
     }
@@ -112,26 +114,61 @@ fn look(line: &Value) -> Result<(Rgb, (u16, bool)), LineError>
     both(colour(line), both(layer(line), shown(line)))
 }
 
-/// The change that sets an attribute.
+/// The change that sets an attribute, and aims at no operation.
 fn set(alloc: Global, line: &Value) -> Result<Change, LineError>
     ensures value { (result ≡ Err LineError.OutOfMemory)
-        ⊎ (result ≡ setting (new_value (view line.now)) (view line.now)) }
+        ⊎ (result ≡ setting (new_value (view line.now)) (Ok []) (view line.now)) }
     ensures in_range { IfOk result (λ c. IsTrue (is_change c)) }
 {
     match new_value(alloc, line) {
         Err(LineError::OutOfMemory) => Err(LineError::OutOfMemory),
-        value => setting(value, line),
+        value => setting(value, Ok(Ids::new(Vec::new(alloc))), line),
     }
 }
 
-/// The change that sets an attribute to this value.
-fn setting(value: Result<gf_ops::Value, LineError>, line: &Value) -> Result<Change, LineError>
-    requires { IfOk value (λ v. IsTrue (is_value v)) }
-    ensures value { result ≡ setting value (view line.now) }
+/// The change that sets an attribute, and aims at the operations that the line names.
+fn aimed_set(alloc: Global, line: &Value) -> Result<Change, LineError>
+    ensures value { (result ≡ Err LineError.OutOfMemory)
+        ⊎ (result ≡ setting (new_value (view line.now)) (aim (view line.now)) (view line.now)) }
     ensures in_range { IfOk result (λ c. IsTrue (is_change c)) }
 {
-    let (object, value) = both(object(line), value)?;
-    Ok(Change::Set { object, value })
+    match new_value(alloc, line) {
+        Err(LineError::OutOfMemory) => Err(LineError::OutOfMemory),
+        value => aimed_setting(alloc, value, line),
+    }
+}
+
+/// The change that sets an attribute to this value, and aims at the operations that the line
+/// names.
+fn aimed_setting(
+    alloc: Global,
+    value: Result<gf_ops::Value, LineError>,
+    line: &Value,
+) -> Result<Change, LineError>
+    requires { IfOk value (λ v. IsTrue (is_value v)) }
+    ensures value { (result ≡ Err LineError.OutOfMemory)
+        ⊎ (result ≡ setting value (aim (view line.now)) (view line.now)) }
+    ensures in_range { IfOk result (λ c. IsTrue (is_change c)) }
+{
+    match aim(alloc, line) {
+        Err(LineError::OutOfMemory) => Err(LineError::OutOfMemory),
+        aim => setting(value, aim, line),
+    }
+}
+
+/// The change that sets an attribute to this value, and aims at these operations.
+fn setting(
+    value: Result<gf_ops::Value, LineError>,
+    aim: Result<Ids, LineError>,
+    line: &Value,
+) -> Result<Change, LineError>
+    requires value { IfOk value (λ v. IsTrue (is_value v)) }
+    requires aim { IfOk aim (λ is. IsTrue (is_aim is)) }
+    ensures value { result ≡ setting value aim (view line.now) }
+    ensures in_range { IfOk result (λ c. IsTrue (is_change c)) }
+{
+    let (object, (value, aim)) = both(object(line), both(value, aim))?;
+    Ok(Change::Set { object, value, aim })
 }
 
 fn new_value(alloc: Global, line: &Value) -> Result<gf_ops::Value, LineError>

@@ -2,16 +2,18 @@
 
 ghost use Rattle.std.specs.Prelude.{◌≡◌, ◌⊎◌, Err, IsTrue, IfOk};
 ghost use Rattle.serde_json.specs.View.{view};
-ghost use Rattle.gf_ops.specs.Limits.{is_site, is_id, is_clock, is_near, is_form, is_layer};
+ghost use Rattle.gf_ops.specs.Limits.{is_site, is_id, is_clock, is_aim, is_near, is_form, is_layer};
 ghost use Rattle.gf_json.specs.LineValues.{mapped};
-ghost use Rattle.gf_json.specs.LineFields.{value_at, id, past, site, object, place, box_size};
-ghost use Rattle.gf_json.specs.LineFields.{circle_size, ellipse_size, polygon_points, colour, layer, shown};
+ghost use Rattle.gf_json.specs.LineFields.{value_at, id, past, site, object, aim, place};
+ghost use Rattle.gf_json.specs.LineFields.{box_size, circle_size, ellipse_size, polygon_points};
+ghost use Rattle.gf_json.specs.LineFields.{colour, layer, shown};
 
 use crate::LineError;
+use crate::reading::aims::ids;
 use crate::reading::colours::hex_colour;
 use crate::reading::points::points;
 use crate::reading::values::{clock, elements, level, name, natural, point, radius, size, truth};
-use gf_ops::{Clock, Form, ObjectId, OpId};
+use gf_ops::{Clock, Form, Ids, ObjectId, OpId};
 use gf_shape::{Point, Rgb};
 use serde_json::Value;
 use std::alloc::Global;
@@ -43,6 +45,13 @@ pub(crate) fn object(line: &Value) -> Result<ObjectId, LineError>
     ensures in_range { IfOk result (λ o. IsTrue (is_id o.0)) }
 {
     value_at(line, "object").and_then(name).map(ObjectId)
+}
+
+pub(crate) fn aim(alloc: Global, line: &Value) -> Result<Ids, LineError>
+    ensures value { (result ≡ Err LineError.OutOfMemory) ⊎ (result ≡ aim (view line.now)) }
+    ensures in_range { IfOk result (λ is. IsTrue (is_aim is)) }
+{
+    ids(alloc, value_at(line, "aim")?)
 }
 
 pub(crate) fn place(line: &Value) -> Result<Point, LineError>

@@ -6,6 +6,7 @@ ghost use Rattle.gf_ops.specs.Limits.{is_id, is_clock, is_near, is_size, is_laye
 ghost use Rattle.gf_json.specs.LineValues.{◌&◌, mapped, whole, elements, array, two, truth};
 ghost use Rattle.gf_json.specs.LineLimits.{integer, natural, coordinate, side, side_twice, entry};
 ghost use Rattle.gf_json.specs.LineLimits.{name, size, radius, level, point, clock};
+ghost use Rattle.gf_json.specs.LineAims.{numbers};
 
 use crate::LineError;
 use gf_ops::{Clock, OpId};
@@ -102,6 +103,14 @@ pub(crate) fn name(value: &Value) -> Result<OpId, LineError>
         site: site as u8,
         seq,
     })
+}
+
+/// Two whole numbers, as a name has.
+pub(crate) fn numbers(value: &Value) -> Result<(i64, i64), LineError>
+    ensures { result ≡ numbers (view value.now) }
+{
+    let (first, second) = two(value)?;
+    both(whole(first), whole(second))
 }
 
 /// A width and a height, or two radii.

@@ -5,11 +5,11 @@ ghost use Rattle.gf_digits.specs.ColourBytes.{HasBytes};
 ghost use Rattle.gf_digits.specs.HexDigits.{hex_rgb};
 ghost use Rattle.serde_json.specs.View.{view};
 ghost use Rattle.gf_json.specs.ColourBytes.{ValueHasBytes};
-ghost use Rattle.gf_json.specs.WrittenValues.{natural_data, pair_data, name_data, clock_data};
-ghost use Rattle.gf_json.specs.WrittenValues.{point_data, points_data, size_data, colour_data};
-ghost use Rattle.gf_json.specs.WrittenValues.{value_data};
+ghost use Rattle.gf_json.specs.WrittenValues.{natural_data, pair_data, name_data, ids_data};
+ghost use Rattle.gf_json.specs.WrittenValues.{clock_data, point_data, points_data, size_data};
+ghost use Rattle.gf_json.specs.WrittenValues.{colour_data, value_data};
 
-use gf_ops::{Clock, OpId, Points};
+use gf_ops::{Clock, Ids, OpId, Points};
 use gf_shape::{Point, Rgb};
 use serde_json::{Value, json};
 use std::alloc::{AllocError, Global};
@@ -18,6 +18,23 @@ pub(crate) fn name_data(alloc: Global, name: OpId) -> Result<Value, AllocError>
     ensures { IfOk result (λ v. view v ≡ name_data name) }
 {
     pair_data(alloc, Value::from(name.site), Value::from(name.seq))
+}
+
+pub(crate) fn ids_data(alloc: Global, ids: &Ids) -> Result<Value, AllocError>
+    ensures { IfOk result (λ v. view v ≡ ids_data ids.now) }
+{
+    let values = name_values(alloc, ids.as_slice())?;
+    Ok(Value::Array(values))
+}
+
+fn name_values(alloc: Global, ids: &[OpId]) -> Result<Vec<Value>, AllocError>
+    ensures { IfOk result (λ vs. map view vs.items ≡ map name_data ids.now) }
+{
+    let mut values = Vec::new(alloc);
+    for id in ids {
+        values.push(name_data(alloc, *id)?)?;
+    }
+    Ok(values)
 }
 
 pub(crate) fn clock_data(alloc: Global, clock: &Clock) -> Result<Value, AllocError>
