@@ -12,7 +12,7 @@ use Rattle.std.proofs.lemmas.List.Elements.{filter-append}
 use Rattle.std.proofs.lemmas.List.Sums.{fold_push}
 use Rattle.std.proofs.lemmas.List.Kept.{IsStrictlySortedBy-filter}
 use Rattle.gf_ops.proofs.ListLemmas.{Contains-cons_cases, Contains-cons_head, Contains-cons_tail, not_Contains-nil}
-use Rattle.gf_maximal.specs.Growing.{is_in, meets, misses, without, common, united}
+use Rattle.gf_maximal.specs.Growing.{is_in, misses, without, common}
 use Rattle.gf_maximal.specs.Growing as sets
 use Rattle.gf_maximal.specs.Tables.{IsRising}
 use Rattle.gf_maximal.specs.Pairs.{Pairs}

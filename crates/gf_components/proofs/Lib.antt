@@ -3,3 +3,4 @@ pub mod CountLemmas
 pub mod ComponentLemmas
 pub mod AgreeLemmas
 pub mod OneTouchedLemmas
+pub mod ReachLemmas

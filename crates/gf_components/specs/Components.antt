@@ -1,5 +1,5 @@
 -- Numbers in components, which no conflict connects.
-use Rattle.std.specs.Prelude.{ℕ, ◌*◌, Bool, cond, ◌||◌, nat_le, List, [], ◌∷◌, ◌++◌}
+use Rattle.std.specs.Prelude.{◌≡◌, ℕ, ◌*◌, Bool, true, Contains, cond, ◌||◌, nat_le, List, [], ◌∷◌, ◌++◌}
 use Rattle.std.specs.Prelude.{filter, map, length, Option, Some, None}
 use Rattle.std.specs.List.{fold, flat_map}
 use Rattle.gf_maximal.specs.Growing.{is_in, meets, misses, without, common, joined, united, next}
@@ -67,6 +67,13 @@ touches d p = meets d p.all
 -- all that d connects, as one component
 abbrev pub touched : List ℕ → ComponentsState → ComponentState
 touched d s = fold merged (alone (common d s.free)) (filter (touches d) s.parts)
+
+-- n is a number of a component that has one of d
+pub record IsReached (d : List ℕ) (ps : List ComponentState) (n : ℕ) : Type 0 where
+  pub part : ComponentState
+  pub listed : Contains ps part
+  pub touched : touches d part ≡ true
+  pub reached : Contains part.all n
 
 -- the sets after x came, which conflicts with d of the numbers
 abbrev pub grown_sets : List ℕ → ℕ → Option (List (List ℕ)) → Option (List (List ℕ))

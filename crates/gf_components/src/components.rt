@@ -2,12 +2,12 @@
 //! which each gives a version one of its sets.
 
 ghost use Rattle.std.specs.Prelude.{◌≡◌, ◌+◌, ◌^◌, ◌<◌, ◌++◌, ◌∷◌, [], cond, filter, option_copied};
-ghost use Rattle.std.specs.Prelude.{option_map, take, drop, length};
+ghost use Rattle.std.specs.Prelude.{◌↔◌, ◌⊎◌, true, Contains, option_map, take, drop, length};
 ghost use Rattle.std.specs.Prelude.{IfOk, IfSome, OnOk, OnErr, IsTrue};
 ghost use Rattle.std.specs.List.{list_any, position};
 ghost use Rattle.gf_components.specs.Components.{merged, alone, touches, touched, grown, stays};
 ghost use Rattle.gf_components.specs.OneTouched.{IsFirstAlone, IsOneTouched};
-ghost use Rattle.gf_components.specs.Components.{no_components, with_free, connected, after};
+ghost use Rattle.gf_components.specs.Components.{IsReached, no_components, with_free, connected, after};
 
 use crate::sets::Sets;
 use gf_maximal::Numbers;
@@ -150,6 +150,23 @@ fn with_touched(
     }
 }
 
+/// The numbers found, with all of the component if it has one of these.
+fn with_reached(
+    alloc: Global,
+    numbers: &Numbers,
+    found: Numbers,
+    part: &Component,
+) -> Result<Numbers, OutOfMemory>
+    ensures { IfOk result (λ all. (n : _) → Contains all n
+        ↔ (Contains found n ⊎ ((touches numbers.now part.now ≡ true) × Contains part.now.all n))) }
+{
+    if part.touches(numbers) {
+        found.united(alloc, &part.all)
+    } else {
+        Ok(found)
+    }
+}
+
 /// Copies of the components.
 fn copied_components(alloc: Global, parts: &[Component]) -> Result<Vec<Component>, OutOfMemory>
     ensures { IfOk result (λ copy. copy.items ≡ parts.now) }
@@ -268,6 +285,18 @@ impl Components {
         let free = self.free.copy(alloc)?;
         let parts = copied_components(alloc, &self.parts)?;
         Ok(Components { free, parts })
+    }
+
+    /// All numbers of the components that have one of these.
+    pub fn reach(&self, alloc: Global, numbers: &Numbers) -> Result<Numbers, OutOfMemory>
+        ensures { IfOk result (λ found. (n : _)
+            → Contains found n ↔ IsReached numbers.now self.now.parts n) }
+    {
+        let mut found = Numbers::new(alloc);
+        for part in &self.parts {
+            found = with_reached(alloc, numbers, found, part)?;
+        }
+        Ok(found)
     }
 
     /// All that the rivals are of, as one component.

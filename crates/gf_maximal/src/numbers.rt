@@ -6,6 +6,7 @@ ghost use Rattle.std.specs.BTreeSet.{insert_key};
 ghost use Rattle.std.specs.List.{fold, list_any, list_all, range_with_len};
 ghost use Rattle.std.specs.Ordering.{nat_cmp};
 ghost use Rattle.gf_maximal.specs.Growing.{is_in, meets, without, is_within, joined};
+ghost use Rattle.gf_maximal.specs.Tables.{IsRising};
 ghost use Rattle.gf_maximal.specs.Growing.{united, common};
 ghost use Rattle.gf_maximal.specs.Runs.{is_inside, members, numbers_of};
 
@@ -78,7 +79,8 @@ impl Numbers {
 
     /// The numbers, rising.
     pub fn to_vec(&self, alloc: Global) -> Result<Vec<usize>, OutOfMemory>
-        ensures { IfOk result (λ numbers. numbers.items ≡ self.now) }
+        ensures value { IfOk result (λ numbers. numbers.items ≡ self.now) }
+        ensures rising { IfOk result (λ numbers. IsRising numbers.items) }
     {
         numbers_in(alloc, &self.runs)
     }

@@ -8,3 +8,8 @@ pub mod KeptLemmas
 pub mod FingerprintLemmas
 pub mod IndexLemmas
 pub mod GivingLemmas
+pub mod NamingLemmas
+pub mod AimedLemmas
+pub mod AimRivalLemmas
+pub mod AimedStateLemmas
+pub mod MemberLemmas

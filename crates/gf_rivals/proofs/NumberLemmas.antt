@@ -71,7 +71,7 @@ rank_to (suc (suc (suc (suc (suc (suc k)))))) l = absurd (omega arith)
 -- the attribute that a setter sets
 abbrev attribute_set : Change → Attr
 attribute_set (Create start) = Place
-attribute_set (Set o v) = attribute_of v
+attribute_set (Set o v aim) = attribute_of v
 
 -- ---- blocks
 

@@ -3,6 +3,7 @@ use Rattle.std.proofs.Common.{◌≡◌, ℕ, ◌<◌, ◌≤◌, ◌+◌, ◌*�
 use Rattle.std.specs.Prelude.{◌↔◌, Contains, Option, Some, None, slice_get, unwrap_or}
 use Rattle.std.proofs.lemmas.Bool.{cases_lt}
 use Rattle.gf_ops.specs.declared.op.Op.{Op}
+use Rattle.gf_ops.specs.declared.op.OpId.{OpId}
 use Rattle.gf_ops.specs.declared.op.ObjectId.{ObjectId}
 use Rattle.gf_ops.specs.declared.op.Clock.{Clock}
 use Rattle.gf_ops.specs.declared.change.Attr.{Attr}
@@ -31,13 +32,13 @@ use Rattle.gf_rivals.proofs.FingerprintLemmas.{told_one}
 use Rattle.gf_rivals.specs.declared.chain.Setter.{Setter}
 use Rattle.gf_rivals.specs.Setters.{block}
 use Rattle.gf_rivals.specs.Chains.{chain_of, setters, position_of, IsUnknown}
-use Rattle.gf_rivals.specs.Rivals.{IsNumber, Tells, GivesAt, AreRivals, IsConflict}
+use Rattle.gf_rivals.specs.Rivals.{IsNumber, Tells, GivesAt, AreRivals, IsDirect}
 use Rattle.gf_rivals.proofs.NextLemmas.{fresh, unknown}
 use Rattle.gf_rivals.proofs.NumberLemmas.{some_one, contained_at, one_position, position_is, number_from}
 
 -- ---- values and attributes
 
-own_value : (v : Value) → set_value v (attribute_of v) ≡ Some v
+pub own_value : (v : Value) → set_value v (attribute_of v) ≡ Some v
 own_value (value.Place p) = refl
 own_value (value.Points ps) = refl
 own_value (value.Size w k) = refl
@@ -46,7 +47,7 @@ own_value (value.Layer n) = refl
 own_value (value.Shown b) = refl
 
 -- what a value gives to an attribute is itself, and the attribute is its own
-given_is : (v : Value) (t : Attr) (w : Value) → set_value v t ≡ Some w → (t ≡ attribute_of v) × (w ≡ v)
+pub given_is : (v : Value) (t : Attr) (w : Value) → set_value v t ≡ Some w → (t ≡ attribute_of v) × (w ≡ v)
 given_is (value.Place p) Place w e = (refl, sym (some_one (value.Place p) w e))
 given_is (value.Points ps) Points w e = (refl, sym (some_one (value.Points ps) w e))
 given_is (value.Size x y) Size w e = (refl, sym (some_one (value.Size x y) w e))
@@ -58,18 +59,18 @@ given_is v t w e = absurd cc
 -- ---- one direction, and the other
 
 module _ (h : List Op) (o : ObjectId) (cs : List (List Setter)) (tells : Tells h o cs) where
-  module _ (valid : IsValid h) (a : Op) (in_range : IsInRange a) (accepted : IsAccepted h a) (v : Value) (change : a.change ≡ Set o v) (d : List ℕ) (rivals : AreRivals h o cs v a.past d) where
+  module _ (valid : IsValid h) (a : Op) (in_range : IsInRange a) (accepted : IsAccepted h a) (v : Value) {aim : List OpId} (change : a.change ≡ Set o v aim) (d : List ℕ) (rivals : AreRivals h o cs v a.past d) where
     abbrev t : Attr
     t = attribute_of v
 
-    own_object : (b : Op) (w : Value) → b.change ≡ Set o w → object_of b ≡ o
+    own_object : (b : Op) (w : Value) {aim : List OpId} → b.change ≡ Set o w aim → object_of b ≡ o
     own_object b w e = ap (λ c. Rattle.gf_ops.specs.Attribute.changed_object b.id c) e
 
-    gives : (b : Op) (w : Value) → b.change ≡ Set o w → change_value b.change (attribute_of w) ≡ Some w
+    gives : (b : Op) (w : Value) {aim : List OpId} → b.change ≡ Set o w aim → change_value b.change (attribute_of w) ≡ Some w
     gives b w e = ap (λ c. change_value c (attribute_of w)) e ∙ own_value w
 
     -- a rival conflicts
-    rival_conflicts : (n : ℕ) → IsUnknown cs t a.past 8 n → ((q : ℕ) → IsNumber cs n q → ¬ (GivesAt h o q v)) → IsConflict h cs a n
+    rival_conflicts : (n : ℕ) → IsUnknown cs t a.past 8 n → ((q : ℕ) → IsNumber cs n q → ¬ (GivesAt h o q v)) → IsDirect h cs a n
     rival_conflicts n u other =
         let e = u.setter.setter in
         let is = tells.each t u.site u.setter.place e u.within u.setter.at in
@@ -87,7 +88,7 @@ module _ (h : List Op) (o : ObjectId) (cs : List (List Setter)) (tells : Tells h
           op = is.op;
           number = number;
           at = is.at;
-          conflict = record {
+          direct = record {
             concurrent = record {
               different = λ f. fresh h valid a in_range accepted is.op (contained_at h e.position is.op is.at) (sym (ap (λ (z : Op). z.id) f));
               not_before = unknown h valid a in_range accepted is.op (contained_at h e.position is.op is.at);
@@ -104,25 +105,25 @@ module _ (h : List Op) (o : ObjectId) (cs : List (List Setter)) (tells : Tells h
               second = is.value;
               first_given = gives a v change;
               second_given = subst (λ z. change_value is.op.change z ≡ Some is.value) is.attribute (gives is.op is.value is.change);
-              differ = λ f. other e.position number (record { op = is.op; at = is.at; change = is.change ∙ ap (Set o) (sym f) });
+              differ = λ f. other e.position number (record { op = is.op; at = is.at; aim = is.aim; change = is.change ∙ ap (λ z. Set o z is.aim) (sym f) });
             };
           };
         }
 
     -- what conflicts is a rival
-    conflict_rivals : (n : ℕ) → IsConflict h cs a n → IsUnknown cs t a.past 8 n × ((q : ℕ) → IsNumber cs n q → ¬ (GivesAt h o q v))
+    conflict_rivals : (n : ℕ) → IsDirect h cs a n → IsUnknown cs t a.past 8 n × ((q : ℕ) → IsNumber cs n q → ¬ (GivesAt h o q v))
     conflict_rivals n c =
         let k = c.number in
         let is = tells.each k.attribute k.site k.place k.setter k.within k.at in
         let same_op : is.op ≡ c.op = some_one is.op c.op (sym is.at ∙ (ap (slice_get h) k.position ∙ c.at)) in
-        let set_to : c.op.change ≡ Set o is.value = ap (λ (z : Op). z.change) (sym same_op) ∙ is.change in
-        let apart = c.conflict.apart in
+        let set_to : c.op.change ≡ Set o is.value is.aim = ap (λ (z : Op). z.change) (sym same_op) ∙ is.change in
+        let apart = c.direct.apart in
         let first = given_is v apart.attribute apart.first (ap (λ z. change_value z apart.attribute) (sym change) ∙ apart.first_given) in
         let second = given_is is.value apart.attribute apart.second (ap (λ z. change_value z apart.attribute) (sym set_to) ∙ apart.second_given) in
         let one : k.attribute ≡ t = sym is.attribute ∙ (sym second.0 ∙ first.0) in
         let late : entry a.past (k.site + 1) < k.setter.seq = elim (cases_lt (entry a.past (k.site + 1)) k.setter.seq) [
           | inl l ↦ l
-          | inr l ↦ absurd (c.conflict.concurrent.not_after (subst (λ (z : Op). Precedes z a) same_op
+          | inr l ↦ absurd (c.direct.concurrent.not_after (subst (λ (z : Op). Precedes z a) same_op
               (subst (λ z. is.op.id.seq ≤ entry a.past z) (sym is.site) (let s = is.seq in omega (arith, l, s)))))
         ] in (
           record {
@@ -145,7 +146,7 @@ module _ (h : List Op) (o : ObjectId) (cs : List (List Setter)) (tells : Tells h
         )
 
     -- THE RIVALS are the direct conflicts among the object's setters
-    pub rivals_conflict : (n : ℕ) → Contains d n ↔ IsConflict h cs a n
+    pub rivals_conflict : (n : ℕ) → Contains d n ↔ IsDirect h cs a n
     rivals_conflict n = (
       λ i. let w = (rivals n).0 i in rival_conflicts n w.0 w.1,
       λ c. (rivals n).1 (conflict_rivals n c),
@@ -171,7 +172,7 @@ module _ (h : List Op) (o : ObjectId) (cs : List (List Setter)) (tells : Tells h
   value_set_at : (n q : ℕ) → IsNumber cs n q → (x : Value) × GivesAt h o q x
   value_set_at n q k =
       let i = tells.each k.attribute k.site k.place k.setter k.within k.at in
-      (i.value, record { op = i.op; at = ap (slice_get h) (sym k.position) ∙ i.at; change = i.change })
+      (i.value, record { op = i.op; at = ap (slice_get h) (sym k.position) ∙ i.at; aim = i.aim; change = i.change })
 
   value_given_at : (q : ℕ) (x : Value) → GivesAt h o q x → op_value (slice_get h q) ≡ Some x
   value_given_at q x g = ap op_value g.at ∙ ap value_set g.change

@@ -5,6 +5,7 @@ use Rattle.std.specs.List.{repeat}
 use Rattle.std.proofs.lemmas.Bool.{cases_lt}
 use Rattle.std.proofs.lemmas.List.{length-set}
 use Rattle.gf_ops.specs.declared.op.Op.{Op}
+use Rattle.gf_ops.specs.declared.op.OpId.{OpId}
 use Rattle.gf_ops.specs.declared.op.ObjectId.{ObjectId}
 use Rattle.gf_ops.specs.declared.change.Attr.{Attr}
 use Rattle.gf_ops.specs.declared.change.Change.TheVariants.{Set}
@@ -54,7 +55,7 @@ as_many (suc n) = let r = as_many n in omega arith
 pub empty_tells : (o : ObjectId) → Tells [] o no_chains
 empty_tells o = record {
   each = λ t s p e l i. absurd (let n : slice_get [] p ≡ Some e = ap (λ z. slice_get z p) (sym (empty (chain_of t s) 48)) ∙ i in cc);
-  all = λ q b v g c. absurd cc;
+  all = λ q b v m g c. absurd cc;
   ordered = λ t s l. subst AreSetters (sym (empty (chain_of t s) 48)) (record {
     rise = λ i j d k m. absurd (omega (arith, m));
     above = λ i d k. absurd (omega (arith, k));
@@ -68,15 +69,15 @@ module _ (h : List Op) (o : ObjectId) (cs : List (List Setter)) (tells : Tells h
   longer = h ++ a ∷ []
 
   still : (t : Attr) (s : ℕ) (e : Setter) → IsSetter h o t s e → IsSetter longer o t s e
-  still t s e i = record { op = i.op; at = get_front h a e.position i.op i.at; site = i.site; seq = i.seq; value = i.value; change = i.change; attribute = i.attribute }
+  still t s e i = record { op = i.op; at = get_front h a e.position i.op i.at; site = i.site; seq = i.seq; value = i.value; aim = i.aim; change = i.change; attribute = i.attribute }
 
   -- an operation that does not set anything of the object
-  pub tells_other : ((v : Value) → a.change ≢ Set o v) → Tells longer o cs
+  pub tells_other : ((v : Value) (aim : List OpId) → a.change ≢ Set o v aim) → Tells longer o cs
   tells_other n = record {
     each = λ t s p e l i. still t s e (tells.each t s p e l i);
-    all = λ q b v g c. elim (get_cases h a q b g) [
-      | inl i ↦ tells.all q b v i c
-      | inr w ↦ absurd (n v (ap (λ (z : Op). z.change) w.1 ∙ c))
+    all = λ q b v m g c. elim (get_cases h a q b g) [
+      | inl i ↦ tells.all q b v m i c
+      | inr w ↦ absurd (n v m (ap (λ (z : Op). z.change) w.1 ∙ c))
     ];
     ordered = tells.ordered;
     count = tells.count;
@@ -104,7 +105,7 @@ module _ (h : List Op) (o : ObjectId) (cs : List (List Setter)) (tells : Tells h
     λ f. (index p n).1 (given_back p n f.position f.number f.given),
   )
 
-  module _ (valid : IsValid h) (in_range : IsInRange a) (accepted : IsAccepted h a) (v : Value) (change : a.change ≡ Set o v) where
+  module _ (valid : IsValid h) (in_range : IsInRange a) (accepted : IsAccepted h a) (v : Value) {aim : List OpId} (change : a.change ≡ Set o v aim) where
     abbrev t : Attr
     t = attribute_of v
 
@@ -166,7 +167,7 @@ module _ (h : List Op) (o : ObjectId) (cs : List (List Setter)) (tells : Tells h
     ]
 
     is_last : IsSetter longer o t s last
-    is_last = record { op = a; at = get_last h a; site = site; seq = refl; value = v; change = change; attribute = refl }
+    is_last = record { op = a; at = get_last h a; site = site; seq = refl; value = v; aim = aim; change = change; attribute = refl }
 
     each_new : (u : Attr) (r p : ℕ) (e : Setter) → r < 8 → slice_get (setters new u r) p ≡ Some e → IsSetter longer o u r e
     each_new u r p e l i = elim (same_chain u r l) [
@@ -218,8 +219,8 @@ module _ (h : List Op) (o : ObjectId) (cs : List (List Setter)) (tells : Tells h
     pub tells_setter : Tells longer o new
     tells_setter = record {
       each = each_new;
-      all = λ q b w g c. elim (get_cases h a q b g) [
-        | inl i ↦ let k = tells.all q b w i c in (k.0, numbered k.0 q k.1)
+      all = λ q b w m g c. elim (get_cases h a q b g) [
+        | inl i ↦ let k = tells.all q b w m i c in (k.0, numbered k.0 q k.1)
         | inr z ↦ (chain_of t s * block + length (setters cs t s), subst (IsNumber new (chain_of t s * block + length (setters cs t s))) (sym z.0) last_number)
       ];
       ordered = ordered_new;

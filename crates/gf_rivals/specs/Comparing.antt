@@ -1,5 +1,5 @@
 -- Which setters give a value, compared one by one. No public clause cites this module.
-use Rattle.std.specs.Prelude.{◌≡◌, ◌↔◌, ◌⊎◌, ℕ, Bool, true, false, List, Contains, Option, Some, None, slice_get}
+use Rattle.std.specs.Prelude.{◌≡◌, ◌↔◌, ◌⊎◌, ℕ, Bool, false, List, Contains, Option, Some, None, slice_get}
 use Rattle.gf_ops.specs.declared.op.Op.{Op}
 use Rattle.gf_ops.specs.declared.change.Value.{Value}
 use Rattle.gf_ops.specs.ConflictTests.{value_eq}
@@ -21,6 +21,6 @@ value_at h None = None
 abbrev pub number_gives : List Op → List (List Setter) → Value → ℕ → Bool
 number_gives h cs v n = is_value (value_at h (position_of cs n)) v
 
--- new has what old has, and x if b is true
-abbrev pub AddsIf : Bool → ℕ → List ℕ → List ℕ → Type 0
-AddsIf b x old new = (n : ℕ) → Contains new n ↔ (Contains old n ⊎ ((b ≡ true) × (n ≡ x)))
+-- new has what old has, and x if P holds
+abbrev pub AddsIf : Type 0 → ℕ → List ℕ → List ℕ → Type 0
+AddsIf P x old new = (n : ℕ) → Contains new n ↔ (Contains old n ⊎ (P × (n ≡ x)))

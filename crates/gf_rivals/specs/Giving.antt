@@ -9,7 +9,7 @@ use Rattle.gf_rivals.specs.Fingerprints.{fingerprint_of}
 
 -- the value that the change sets, if it makes no object
 abbrev pub value_set : Change → Option Value
-value_set (Set o v) = Some v
+value_set (Set o v aim) = Some v
 value_set (Create start) = None
 
 -- the value that the operation sets, if it is there and makes no object

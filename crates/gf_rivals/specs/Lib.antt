@@ -7,3 +7,6 @@ pub mod Giving
 pub mod Indexes
 pub mod Indexing
 pub mod Comparing
+pub mod Aimed
+pub mod Naming
+pub mod Members

@@ -1,13 +1,14 @@
 -- Which setters of an object conflict with the next operation.
 use Rattle.std.specs.Prelude.{◌≡◌, ◌↔◌, ℕ, ◌+◌, ◌*◌, ◌<◌, List, Contains, Some, slice_get, length}
 use Rattle.gf_ops.specs.declared.op.Op.{Op}
+use Rattle.gf_ops.specs.declared.op.OpId.{OpId}
 use Rattle.gf_ops.specs.declared.op.ObjectId.{ObjectId}
 use Rattle.gf_ops.specs.declared.op.Clock.{Clock}
 use Rattle.gf_ops.specs.declared.change.Attr.{Attr}
 use Rattle.gf_ops.specs.declared.change.Change.TheVariants.{Set}
 use Rattle.gf_ops.specs.declared.change.Value.{Value}
 use Rattle.gf_ops.specs.Attribute.{attribute_of}
-use Rattle.gf_ops.specs.Conflict.{Conflict}
+use Rattle.gf_ops.specs.DirectConflict.{DirectConflict}
 use Rattle.gf_rivals.specs.declared.chain.Setter.{Setter}
 use Rattle.gf_rivals.specs.Setters.{block, AreSetters}
 use Rattle.gf_rivals.specs.Chains.{chain_of, setters, IsUnknown}
@@ -19,7 +20,8 @@ pub record IsSetter (h : List Op) (o : ObjectId) (t : Attr) (s : ℕ) (e : Sette
   pub site : op.id.site ≡ s + 1
   pub seq : op.id.seq ≡ e.seq
   pub value : Value
-  pub change : op.change ≡ Set o value
+  pub aim : List OpId
+  pub change : op.change ≡ Set o value aim
   pub attribute : attribute_of value ≡ t
 
 -- n is the number of a setter of the chains, which stands at the position q
@@ -36,7 +38,7 @@ pub record IsNumber (cs : List (List Setter)) (n q : ℕ) : Type 0 where
 -- the chains have the setters of o in h, those of each site in their order
 pub record Tells (h : List Op) (o : ObjectId) (cs : List (List Setter)) : Type 0 where
   pub each : (t : Attr) (s p : ℕ) (e : Setter) → s < 8 → slice_get (setters cs t s) p ≡ Some e → IsSetter h o t s e
-  pub all : (q : ℕ) (b : Op) (v : Value) → slice_get h q ≡ Some b → b.change ≡ Set o v → (n : ℕ) × IsNumber cs n q
+  pub all : (q : ℕ) (b : Op) (v : Value) (aim : List OpId) → slice_get h q ≡ Some b → b.change ≡ Set o v aim → (n : ℕ) × IsNumber cs n q
   pub ordered : (t : Attr) (s : ℕ) → s < 8 → AreSetters (setters cs t s)
   pub count : length cs ≡ 48
 
@@ -44,17 +46,18 @@ pub record Tells (h : List Op) (o : ObjectId) (cs : List (List Setter)) : Type 0
 pub record GivesAt (h : List Op) (o : ObjectId) (q : ℕ) (v : Value) : Type 0 where
   pub op : Op
   pub at : slice_get h q ≡ Some op
-  pub change : op.change ≡ Set o v
+  pub aim : List OpId
+  pub change : op.change ≡ Set o v aim
 
 -- d are the numbers of the setters that the clock does not count and that do not give the value v
 abbrev pub AreRivals : List Op → ObjectId → List (List Setter) → Value → Clock → List ℕ → Type 0
 AreRivals h o cs v past d = (n : ℕ) → Contains d n
     ↔ (IsUnknown cs (attribute_of v) past 8 n × ((q : ℕ) → IsNumber cs n q → ¬ (GivesAt h o q v)))
 
--- n is the number of an operation of h that conflicts with a
-pub record IsConflict (h : List Op) (cs : List (List Setter)) (a : Op) (n : ℕ) : Type 0 where
+-- n is the number of an operation of h that conflicts directly with a
+pub record IsDirect (h : List Op) (cs : List (List Setter)) (a : Op) (n : ℕ) : Type 0 where
   pub position : ℕ
   pub op : Op
   pub number : IsNumber cs n position
   pub at : slice_get h position ≡ Some op
-  pub conflict : Conflict a op
+  pub direct : DirectConflict a op

@@ -1,7 +1,8 @@
 //! The operations of one site that set one attribute of an object.
 
 ghost use Rattle.std.specs.Prelude.{◌≡◌, ◌↔◌, ◌++◌, ◌∷◌, [], ◌+◌, ◌^◌, ◌<◌, ◌≤◌, Contains};
-ghost use Rattle.std.specs.Prelude.{IfOk, OnOk, OnErr};
+ghost use Rattle.std.specs.Prelude.{IfOk, IfSome, OnOk, OnErr, Some};
+ghost use Rattle.gf_rivals.specs.Naming.{HasSeq};
 ghost use Rattle.std.specs.Prelude.{option_copied, slice_get, slice_index_or, length};
 ghost use Rattle.gf_rivals.specs.Setters.{block, IsCountUpTo, IsAbove};
 
@@ -69,10 +70,22 @@ impl Chain {
     }
 
     /// How many of the first setters have a number up to this one.
-    fn count_up_to(&self, count: u32) -> usize
-        ensures { IsCountUpTo self.now count result }
+    pub fn count_up_to(&self, count: u32) -> usize
+        ensures value { IsCountUpTo self.now count result }
+        ensures bound { result < block }
     {
         self.setters.partition_point(|setter| setter.seq <= count)
+    }
+
+    /// The place of the setter that has this number at its site.
+    pub fn place(&self, seq: u32) -> Option<usize>
+        ensures some { IfSome result (λ place. HasSeq self.now seq place) }
+        ensures all { (p : _) → HasSeq self.now seq p → result ≡ Some p }
+        ensures bound { IfSome result (λ place. place < block) }
+    {
+        let place = self.count_up_to(seq).checked_sub(1)?;
+        let setter = self.setters.get(place)?;
+        if setter.seq == seq { Some(place) } else { None }
     }
 
     /// The numbers of the setters whose number at their site is above this one. The first setter of

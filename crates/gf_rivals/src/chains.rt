@@ -2,7 +2,9 @@
 
 ghost use Rattle.std.specs.Prelude.{◌≡◌, ◌↔◌, ◌⊎◌, ◌+◌, ◌-◌, ◌*◌, ◌^◌, ◌<◌, ◌++◌, ◌∷◌, []};
 ghost use Rattle.std.specs.Prelude.{Contains, IfOk, IfSome, OnOk, OnErr, length, slice_index_or};
-ghost use Rattle.std.specs.Prelude.{option_copied, unwrap_or};
+ghost use Rattle.std.specs.Prelude.{Some, option_copied, unwrap_or};
+ghost use Rattle.gf_rivals.specs.Members.{IsFirstUnknown};
+ghost use Rattle.gf_rivals.specs.Naming.{IsNumbered};
 ghost use Rattle.gf_ops.specs.OperationOrder.{IsSite};
 ghost use Rattle.gf_rivals.specs.Setters.{block, IsAbove};
 ghost use Rattle.gf_rivals.specs.Chains.{rank, chain_of, setters, no_chains, position_of};
@@ -134,6 +136,19 @@ impl Chains {
         Ok(found)
     }
 
+    /// The first number of a setter of the attribute by the site that the clock does not count. The
+    /// sites are counted from 0.
+    pub(crate) fn first_unknown(&self, attribute: Attr, site: usize, past: &Clock) -> usize
+        requires { site < 8 }
+        ensures { IsFirstUnknown self.now attribute site past.now result }
+    {
+        let index = rank(attribute) * 8 + site;
+        match self.chain(index) {
+            Some(chain) => index * BLOCK + chain.count_up_to(past.0[site]),
+            None => index * BLOCK,
+        }
+    }
+
     /// The position of the setter that has this number.
     pub fn position(&self, number: usize) -> Option<usize>
         ensures value { result ≡ position_of self.now number }
@@ -142,6 +157,20 @@ impl Chains {
         let chain = self.chain(number / BLOCK)?;
         let setter = chain.get(number % BLOCK)?;
         Some(setter.position)
+    }
+
+    /// The number of the setter of the attribute that has this id.
+    pub(crate) fn number(&self, attribute: Attr, id: OpId) -> Option<usize>
+        requires { IsSite id.site }
+        ensures some { IfSome result (λ n.
+            IsNumbered self.now (chain_of attribute (id.site - 1)) id.seq n) }
+        ensures all { (n : _) → IsNumbered self.now (chain_of attribute (id.site - 1)) id.seq n
+            → result ≡ Some n }
+        ensures bound { IfSome result (λ n. n + 1 < 2 ^ 64) }
+    {
+        let index = index_of(attribute, id.site);
+        let place = self.chain(index)?.place(id.seq)?;
+        Some(index * BLOCK + place)
     }
 
     /// The number that the next setter of the attribute by the site will have.

@@ -25,7 +25,7 @@ fn add_giving(
     some: &mut Numbers,
 ) -> Result<(), OutOfMemory>
     ensures { OnOk result
-        (AddsIf (number_gives ops.now chains.now value.now number) number some.old some.new) }
+        (AddsIf (number_gives ops.now chains.now value.now number ≡ true) number some.old some.new) }
 {
     if number_gives(ops, chains, value, number) {
         some.join(number)

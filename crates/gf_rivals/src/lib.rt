@@ -5,6 +5,7 @@
 //! - [`rivals`]: the numbers of the setters that conflict with the next operation.
 #![tactic(auto)]
 
+mod aims;
 mod chain;
 mod chains;
 mod conflicting;
@@ -12,7 +13,10 @@ mod fingerprint;
 mod giving;
 mod index;
 mod kept;
+mod members;
 
+pub use aims::{Aimed, numbers_of, with_aimed};
 pub use chains::Chains;
 pub use conflicting::rivals;
 pub use index::Index;
+pub use members::clashing;

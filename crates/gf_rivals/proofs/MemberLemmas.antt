@@ -1,0 +1,618 @@
+-- The members of an aim by their chains, and which of them conflict with a setter.
+use Rattle.std.proofs.Common.{◌≡◌, ◌≢◌, ℕ, zero, suc, ◌-◌, Bool, true, false, not, ◌<◌, ◌≤◌, ◌+◌, ◌*◌, ◌/◌, List, [], ◌∷◌, ◌++◌, length, inl, inr, refl, subst, sym, ap, ◌∙◌, arith}
+use Rattle.std.specs.Prelude.{◌⊎◌, ◌↔◌, Contains, IsTrue, drop, nat_le, Option, Some, None, slice_get, slice_index_or}
+use Rattle.std.specs.Ordering.{nat_cmp, MatchOrdering}
+use Rattle.std.specs.declared.cmp.Ordering.{Ordering}
+use Rattle.std.specs.declared.cmp.Ordering.TheVariants.{Less}
+use Rattle.std.proofs.lemmas.Bool.{cases_Bool, cases_eq, cases_lt, leb-true, le-leb}
+use Rattle.std.proofs.lemmas.Cmp.{nat_cmp_total, ranked}
+use Rattle.std.proofs.lemmas.List.Elements.{Contains-append_left, Contains-push, Contains-push_cases}
+use Rattle.std.proofs.lemmas.Map.Keys.{sorted_tail}
+use Rattle.gf_maximal.specs.Tables.{IsRising}
+use Rattle.gf_maximal.proofs.RisingLemmas.{below_tail}
+use Rattle.std.proofs.lemmas.List.{drop_all, drop_more, get_or_default}
+use Rattle.gf_ops.specs.declared.op.Op.{Op}
+use Rattle.gf_ops.specs.declared.op.OpId.{OpId}
+use Rattle.gf_ops.specs.declared.op.ObjectId.{ObjectId}
+use Rattle.gf_ops.specs.declared.op.Clock.{Clock}
+use Rattle.gf_ops.specs.declared.change.Attr.{Attr}
+use Rattle.gf_ops.specs.declared.change.Change.TheVariants.{Set}
+use Rattle.gf_ops.specs.declared.change.Value.{Value}
+use Rattle.gf_ops.specs.Attribute.{attribute_of, change_value, changed_object}
+use Rattle.gf_ops.specs.ConflictTests.{value_eq}
+use Rattle.gf_ops.specs.OperationOrder.{Precedes, entry}
+use Rattle.gf_ops.specs.ValidHistory.{IsValid}
+use Rattle.gf_ops.proofs.HistoryLemmas.{site_in_range, seq_in_range}
+use Rattle.gf_ops.proofs.SameLemmas.{value_eq-same, value_eq-true}
+use Rattle.gf_ops.proofs.ListLemmas.{Contains-cons_cases, Contains-cons_head, Contains-cons_tail, not_Contains-nil}
+use Rattle.gf_ops.proofs.ValidityLemmas.{pasts_grow}
+use Rattle.gf_rivals.specs.declared.chain.Setter.{Setter}
+use Rattle.gf_rivals.specs.declared.members.Member.{Member}
+use Rattle.gf_rivals.specs.Aimed.{Clash, ClashesWithOne, op_at, op_of}
+use Rattle.gf_rivals.specs.Chains.{chain_of, position_of, setters}
+use Rattle.gf_rivals.specs.Comparing.{is_value, number_gives, value_at}
+use Rattle.gf_rivals.specs.Giving.{op_value, value_set}
+use Rattle.gf_rivals.specs.Members.{AreFalling, AreMembers, AreMembersOf, CanClash, IsFirstUnknown, IsMember, IsOfChain, IsOther, OneChain, value_of}
+use Rattle.gf_rivals.specs.Rivals.{IsNumber, Tells}
+use Rattle.gf_rivals.specs.Setters.{block, IsCountUpTo}
+use Rattle.gf_rivals.proofs.AimRivalLemmas.{clash_numbers}
+use Rattle.gf_rivals.proofs.NumberLemmas.{some_one, contained_at, got_at, place_short, position_is, rank_one}
+use Rattle.gf_rivals.proofs.RivalLemmas.{given_is, own_value}
+
+-- a number of the chain of t and the site s + 1
+pub record Stands (h : List Op) (o : ObjectId) (cs : List (List Setter)) (t : Attr) (s n : ℕ) : Type 0 where
+  pub place : ℕ
+  pub setter : Setter
+  pub at : slice_get (setters cs t s) place ≡ Some setter
+  pub number : n ≡ chain_of t s * block + place
+  pub op : Op
+  pub stands : slice_get h setter.position ≡ Some op
+  pub found : op_of h cs n ≡ Some op
+  pub site : op.id.site ≡ s + 1
+  pub seq : op.id.seq ≡ setter.seq
+  pub value : Value
+  pub aim : List OpId
+  pub change : op.change ≡ Set o value aim
+  pub attribute : attribute_of value ≡ t
+  pub gives : value_of h cs n ≡ Some value
+
+module _ (h : List Op) (o : ObjectId) (cs : List (List Setter)) (tells : Tells h o cs) where
+  -- a setter stands in its chain
+  pub stands : (n q : ℕ) → (k : IsNumber cs n q) → Stands h o cs k.attribute k.site n
+  stands n q k =
+      let is = tells.each k.attribute k.site k.place k.setter k.within k.at in
+      let here : slice_get h q ≡ Some is.op = subst (λ z. slice_get h z ≡ Some is.op) k.position is.at in
+      let found : op_of h cs n ≡ Some is.op = ap (op_at h) (position_is h o cs tells n q k) ∙ here in
+      record {
+        place = k.place;
+        setter = k.setter;
+        at = k.at;
+        number = k.number;
+        op = is.op;
+        stands = is.at;
+        found = found;
+        site = is.site;
+        seq = is.seq;
+        value = is.value;
+        aim = is.aim;
+        change = is.change;
+        attribute = is.attribute;
+        gives = ap op_value found ∙ ap value_set is.change;
+      }
+
+  -- and that chain is told by the number
+  pub in_chain : (n q : ℕ) → (k : IsNumber cs n q) → (t : Attr) (s : ℕ) → s < 8 → n / block ≡ chain_of t s → Stands h o cs t s n
+  in_chain n q k t s l e =
+      let p = place_short h o cs tells k.attribute k.site k.place k.setter k.within k.at in
+      let m = k.number in
+      let w = k.within in
+      let one : chain_of k.attribute k.site ≡ chain_of t s = omega (arith, p, m, e) in
+      let site : k.site ≡ s = omega (arith, one, l, w) in
+      let same : k.attribute ≡ t = rank_one k.attribute t (omega (arith, one, l, w)) in
+      subst (λ z. Stands h o cs t z n) site (subst (λ z. Stands h o cs z k.site n) same (stands n q k))
+
+  -- what stands earlier in a chain has a smaller number at its site
+  in_order : (t : Attr) (s m n : ℕ) → s < 8 → (a : Stands h o cs t s m) → (b : Stands h o cs t s n) → m ≤ n → a.op.id.seq ≤ b.op.id.seq
+  in_order t s m n l a b u =
+      let x = a.number in let y = b.number in
+      let v = got_at (setters cs t s) a.place a.setter a.at in
+      let w = got_at (setters cs t s) b.place b.setter b.at in
+      let p = a.seq in let q = b.seq in
+      elim (cases_lt a.place b.place) [
+        | inl k ↦
+            let r = (tells.ordered t s l).rise a.place b.place a.setter k w.0 in
+            let f = subst (λ (z : Setter). z.seq < (slice_index_or (setters cs t s) b.place a.setter).seq) v.1 r in
+            let g = subst (λ (z : Setter). a.setter.seq < z.seq) (get_or_default (setters cs t s) b.place a.setter b.setter w.0 ∙ w.1) f in
+            omega (arith, p, q, g)
+        | inr k ↦
+            let same : a.place ≡ b.place = omega (arith, x, y, u, k) in
+            let e : a.setter ≡ b.setter = some_one a.setter b.setter (sym a.at ∙ (ap (slice_get (setters cs t s)) same ∙ b.at)) in
+            let f : a.setter.seq ≡ b.setter.seq = ap (λ (z : Setter). z.seq) e in
+            omega (arith, p, q, f)
+      ]
+
+  module _ (valid : IsValid h) where
+    same_second : (n q : ℕ) (c : Op) → op_of h cs n ≡ Some c → (b : Op) → op_of h cs n ≡ Some b → c ≡ b
+    same_second n q c e b f = some_one c b (sym e ∙ f)
+
+    -- what clashes gives another value of the attribute
+    pub clash_values : (y n : ℕ) (t u : Attr) (s r : ℕ) → (a : Stands h o cs t s y) → (b : Stands h o cs u r n) → Clash h cs y n → (t ≡ u) × (value_of h cs y ≢ value_of h cs n)
+    clash_values y n t u s r a b c =
+        let x : c.first ≡ a.op = some_one c.first a.op (sym c.at_first ∙ a.found) in
+        let z : c.second ≡ b.op = some_one c.second b.op (sym c.at_second ∙ b.found) in
+        let apart = c.direct.apart in
+        let first = given_is a.value apart.attribute apart.first (ap (λ d. change_value d apart.attribute) (sym a.change) ∙ (ap (λ (w : Op). change_value w.change apart.attribute) (sym x) ∙ apart.first_given)) in
+        let second = given_is b.value apart.attribute apart.second (ap (λ d. change_value d apart.attribute) (sym b.change) ∙ (ap (λ (w : Op). change_value w.change apart.attribute) (sym z) ∙ apart.second_given)) in (
+          sym a.attribute ∙ (sym first.0 ∙ (second.0 ∙ b.attribute)),
+          λ e. apart.differ (first.1 ∙ (some_one a.value b.value (sym a.gives ∙ (e ∙ b.gives)) ∙ sym second.1)),
+        )
+
+    -- WHAT STANDS BEFORE a clashing setter, unknown too and with another value, clashes as well
+    module _ (t : Attr) (s y n : ℕ) (l : s < 8) (a : Stands h o cs t s y) (b : Stands h o cs t s n ⊎ ((r : ℕ) × Stands h o cs t r n)) (c : Clash h cs y n) (k : ℕ) (first : IsFirstUnknown cs t s c.second.past k) where
+      other_of : (r : ℕ) × Stands h o cs t r n
+      other_of = elim b [ inl z ↦ (s, z) | inr z ↦ z ]
+
+      pub clash_before : (m : ℕ) → (d : Stands h o cs t s m) → k ≤ m → m ≤ y → value_of h cs m ≢ value_of h cs n → Clash h cs m n
+      clash_before m d from to differ =
+          let e = other_of.1 in
+          let x : c.first ≡ a.op = some_one c.first a.op (sym c.at_first ∙ a.found) in
+          let z : c.second ≡ e.op = some_one c.second e.op (sym c.at_second ∙ e.found) in
+          let late = first.unknown d.place d.setter d.at (let u = d.number in omega (arith, u, from)) in
+          let there = contained_at h d.setter.position d.op d.stands in
+          let site = d.site in
+          let seq = d.seq in
+          let range = valid.in_range d.op there in
+          let not_before : ¬ (Precedes d.op c.second) = λ p.
+          let q : d.op.id.seq ≤ entry c.second.past (s + 1) = subst (λ w. d.op.id.seq ≤ entry c.second.past w) site p in
+          omega (arith, late, q, seq) in
+          let grow = pasts_grow h valid d.op a.op there (contained_at h a.setter.position a.op a.stands) (site ∙ sym a.site) (site_in_range d.op range) (seq_in_range d.op range).0 (in_order t s m y l d a to) in
+          let sites = site_in_range c.second (valid.in_range c.second (subst (Contains h) (sym z) (contained_at h e.setter.position e.op e.stands))) in
+          let not_after : ¬ (Precedes c.second d.op) = λ p.
+          let g = grow c.second.id.site sites in
+          c.direct.concurrent.not_after (subst (Precedes c.second) (sym x) (let q : c.second.id.seq ≤ entry d.op.past c.second.id.site = p in omega (arith, q, g))) in
+          let values : d.value ≢ e.value = λ f. differ (d.gives ∙ (ap (λ w. Some w) f ∙ sym e.gives)) in
+          record {
+            first = d.op;
+            second = e.op;
+            at_first = d.found;
+            at_second = e.found;
+            direct = record {
+              concurrent = record {
+                different = λ f. values (some_one d.value e.value (ap value_set (sym d.change) ∙ (ap (λ (w : Op). value_set w.change) f ∙ ap value_set e.change)));
+                not_before = subst (λ w. ¬ (Precedes d.op w)) z not_before;
+                not_after = subst (λ w. ¬ (Precedes w d.op)) z not_after;
+              };
+              one_object = ap (changed_object d.op.id) d.change ∙ sym (ap (changed_object e.op.id) e.change);
+              apart = record {
+                attribute = t;
+                first = d.value;
+                second = e.value;
+                first_given = subst (λ w. change_value d.op.change w ≡ Some d.value) d.attribute (ap (λ w. change_value w (attribute_of d.value)) d.change ∙ own_value d.value);
+                second_given = subst (λ w. change_value e.op.change w ≡ Some e.value) e.attribute (ap (λ w. change_value w (attribute_of e.value)) e.change ∙ own_value e.value);
+                differ = values;
+              };
+            };
+          }
+
+-- ---- which members are asked
+
+-- two values are one or not
+values_parted : (r q : Option Value) (v w : Value) → r ≡ Some v → q ≡ Some w → (r ≡ q) ⊎ (r ≢ q)
+values_parted r q v w e f = elim (cases_Bool (value_eq v w)) [
+  | inl t ↦ inl (e ∙ (ap (λ z. Some z) (value_eq-true v w t) ∙ sym f))
+  | inr n ↦ inr (λ g. let same : v ≡ w = some_one v w (sym e ∙ (g ∙ f)) in let t = subst (λ z. value_eq v z ≡ true) same (value_eq-same v) in absurd cc)
+]
+
+options_parted : (r q : Option Value) → (r ≡ q) ⊎ (r ≢ q)
+options_parted (Some v) (Some w) = values_parted (Some v) (Some w) v w refl refl
+options_parted (Some v) None = inr (λ e. cc)
+options_parted None (Some w) = inr (λ e. cc)
+options_parted None None = inl refl
+
+pushed_at : (xs : List Member) (y : Member) (i : ℕ) (d : Member) → i < length (xs ++ y ∷ []) → ((i < length xs) × (slice_index_or (xs ++ y ∷ []) i d ≡ slice_index_or xs i d)) ⊎ ((i ≡ length xs) × (slice_index_or (xs ++ y ∷ []) i d ≡ y))
+pushed_at [] y zero d l = inr (refl, refl)
+pushed_at [] y (suc i) d l = absurd (omega arith)
+pushed_at (x ∷ xs) y zero d l = inl (omega arith, refl)
+pushed_at (x ∷ xs) y (suc i) d l = elim (pushed_at xs y i d (omega arith)) [
+  | inl w ↦ inl (let k = w.0 in omega arith, w.1)
+  | inr w ↦ inr (let k = w.0 in omega arith, w.1)
+]
+
+pushed_before : (xs : List Member) (y : Member) (i : ℕ) (d : Member) → i < length xs → slice_index_or (xs ++ y ∷ []) i d ≡ slice_index_or xs i d
+pushed_before [] y i d l = absurd (omega arith)
+pushed_before (x ∷ xs) y zero d l = refl
+pushed_before (x ∷ xs) y (suc i) d l = pushed_before xs y i d (omega arith)
+
+-- whether a setter gives another value
+module _ (h : List Op) (cs : List (List Setter)) where
+  value_found : (r : Option ℕ) → value_at h r ≡ op_value (op_at h r)
+  value_found (Some q) = refl
+  value_found None = refl
+
+  other_value : (q : Option Value) (v : Value) → IsTrue (not (is_value q v)) ↔ (Some v ≢ q)
+  other_value (Some w) v = (
+    λ t e. let same : v ≡ w = some_one v w e in let y = subst (λ z. value_eq z v ≡ true) same (value_eq-same v) in absurd cc,
+    λ f. elim (cases_Bool (value_eq w v)) [ inl t ↦ absurd (f (ap (λ z. Some z) (sym (value_eq-true w v t)))) | inr n ↦ rw n refl ],
+  )
+  other_value None v = (λ t e. absurd cc, λ f. refl)
+
+  pub others_told : (n m : ℕ) (v : Value) (b : Bool) → Some v ≡ value_of h cs n → b ≡ number_gives h cs v m → IsTrue (not b) ↔ (value_of h cs n ≢ value_of h cs m)
+  others_told n m v b e f =
+      let same : number_gives h cs v m ≡ is_value (value_of h cs m) v = ap (λ r. is_value r v) (value_found (position_of cs m)) in
+      subst (λ z. IsTrue (not z) ↔ (value_of h cs n ≢ value_of h cs m)) (sym (f ∙ same)) (subst (λ z. IsTrue (not (is_value (value_of h cs m) v)) ↔ (z ≢ value_of h cs m)) e (other_value (value_of h cs m) v))
+
+  -- a next one with the same value hands its own on
+  pub other_kept : (n : ℕ) (r : Option Member) (m : Member) → r ≡ Some m → ¬ (value_of h cs n ≢ value_of h cs m.number) → OneChain m.number n → IsOther h cs n r m.other
+  other_kept n r m e f one = subst (λ z. IsOther h cs n z m.other) (sym e) (λ off. absurd (off one), λ c differ. absurd (f differ), λ c same. refl)
+
+-- a setter stands in one chain
+pub chain_told : (h : List Op) (o : ObjectId) (cs : List (List Setter)) → Tells h o cs → (n q : ℕ) → (k : IsNumber cs n q) → n / block ≡ chain_of k.attribute k.site
+chain_told h o cs tells n q k =
+    let p = place_short h o cs tells k.attribute k.site k.place k.setter k.within k.at in
+    let m = k.number in
+    omega (arith, p, m)
+
+module _ (h : List Op) (o : ObjectId) (cs : List (List Setter)) (us : List ℕ) (ms : List Member) (k n y : ℕ) (w : CanClash h o cs us ms k n y) where
+  abbrev at_y : Stands h o cs w.attribute w.site y
+  at_y = let q = w.members.setters y w.among in in_chain h o cs w.members.tells y q.0 q.1 w.attribute w.site w.within (w.chain ∙ w.unknown.chain)
+
+  abbrev at_n : (t : Attr) × (r : ℕ) × Stands h o cs t r n
+  at_n = let z = clash_numbers h o cs w.members.tells y n w.clash in (z.3.attribute, z.3.site, stands h o cs w.members.tells n z.1 z.3)
+
+  -- what clashes is of the attribute of the setter
+  of_attribute : (r : ℕ) × Stands h o cs w.attribute r n
+  of_attribute =
+      let z = at_n in
+      let e = clash_values h o cs w.members.tells w.valid y n w.attribute z.0 w.site z.1 at_y z.2 w.clash in
+      (z.1, subst (λ t. Stands h o cs t z.1 n) (sym e.0) z.2)
+
+  -- it stands from k on
+  pub from_start : k ≤ y
+  from_start =
+      let a = at_y in
+      let x : w.clash.first ≡ a.op = some_one w.clash.first a.op (sym w.clash.at_first ∙ a.found) in
+      let seq = a.seq in
+      let late : entry w.clash.second.past (w.site + 1) < a.setter.seq = elim (cases_lt (entry w.clash.second.past (w.site + 1)) a.setter.seq) [
+        | inl l ↦ l
+        | inr l ↦
+            let known : a.op.id.seq ≤ entry w.clash.second.past (w.site + 1) = omega (arith, l, seq) in
+            absurd (w.clash.direct.concurrent.not_before (subst (λ (z : Op). Precedes z w.clash.second) (sym x) (subst (λ z. a.op.id.seq ≤ entry w.clash.second.past z) (sym a.site) known)))
+      ] in
+      let r = w.unknown.from a.place a.setter a.at late in
+      let e = a.number in
+      omega (arith, r, e)
+
+  at_member : (x : ℕ) → Contains us x → OneChain x k → Stands h o cs w.attribute w.site x
+  at_member x i c = let q = w.members.setters x i in in_chain h o cs w.members.tells x q.0 q.1 w.attribute w.site w.within (c ∙ w.unknown.chain)
+
+  before_y : (x : ℕ) → (d : Stands h o cs w.attribute w.site x) → k ≤ x → x ≤ y → value_of h cs x ≢ value_of h cs n → Clash h cs x n
+  before_y = clash_before h o cs w.members.tells w.valid w.attribute w.site y n w.within at_y (inr of_attribute) w.clash k w.unknown
+
+  -- THE FIRST MEMBER from k on, or its other, clashes
+  pub first_clashes : (f : Member) → IsOfChain ms k f → f.number ≤ y → Clash h cs f.number n ⊎ ((x : ℕ) × (f.other ≡ Some x) × Clash h cs x n)
+  first_clashes f c le =
+      let d = at_member f.number (w.members.members.listed f c.listed) c.chain in
+      let e = of_attribute.1 in
+      elim (values_parted (value_of h cs f.number) (value_of h cs n) d.value e.value d.gives e.gives) [
+        | inr differ ↦ inl (before_y f.number d c.from le differ)
+        | inl same ↦
+            let parted = (clash_values h o cs w.members.tells w.valid y n w.attribute w.attribute w.site of_attribute.0 at_y e w.clash).1 in
+            let m = w.members.members.each f c.listed in
+            let t = m.told y w.among (w.chain ∙ sym c.chain) le (λ g. parted (g ∙ same)) in
+            let i = m.is t.0 t.1 in
+            let from = c.from in
+            let above = i.2 in
+            let x = at_member t.0 i.0 (i.1 ∙ c.chain) in
+            inr (t.0, t.1, before_y t.0 x (omega (arith, from, above)) t.2 (λ g. i.3 (g ∙ sym same)))
+      ]
+
+  -- its member stands from k on
+  pub member_there : (m : Member) × IsOfChain ms k m × (m.number ≡ y)
+  member_there =
+      let m = w.members.members.all y w.among in
+      let e = m.2 in
+      let s = from_start in
+      (m.0, record { listed = m.1; from = omega (arith, e, s); chain = ap (λ z. z / block) e ∙ w.chain }, e)
+
+-- no setter of us of the first j sites clashes
+abbrev pub NoneAt : List Op → List (List Setter) → List Member → ℕ → ℕ → Type 0
+NoneAt h cs ms n j = (o : ObjectId) (us : List ℕ) → AreMembersOf h o cs us ms → (y q : ℕ) → Contains us y → (k : IsNumber cs y q) → k.site < j → ¬ (Clash h cs y n)
+
+module _ (h : List Op) (cs : List (List Setter)) (ms : List Member) (n : ℕ) where
+  pub none_yet : NoneAt h cs ms n 0
+  none_yet o us members y q i k l c = omega (arith, l)
+
+  -- one site more
+  pub none_more : (valid : IsValid h) (op : Op) (v : Value) (j start : ℕ) → op_of h cs n ≡ Some op → op_value (Some op) ≡ Some v → j < 8 → IsFirstUnknown cs (attribute_of v) j op.past start →
+      ((o : ObjectId) (us : List ℕ) (y : ℕ) → ¬ (CanClash h o cs us ms start n y)) → NoneAt h cs ms n j → NoneAt h cs ms n (j + 1)
+  none_more valid op v j start found gives l first calm none o us members y q i k m c = elim (cases_lt k.site j) [
+    | inl less ↦ none o us members y q i k less c
+    | inr more ↦
+        let here : k.site ≡ j = omega (arith, more, m) in
+        let a = stands h o cs members.tells y q k in
+        let z = clash_numbers h o cs members.tells y n c in
+        let b = stands h o cs members.tells n z.1 z.3 in
+        let second : c.second ≡ op = some_one c.second op (sym c.at_second ∙ found) in
+        let own : b.op ≡ op = some_one b.op op (sym b.found ∙ found) in
+        let value : b.value ≡ v = some_one b.value v (ap value_set (sym b.change) ∙ (ap (λ (w : Op). value_set w.change) own ∙ gives)) in
+        let e = (clash_values h o cs members.tells valid y n k.attribute z.3.attribute k.site z.3.site a b c).0 in
+        let attribute : k.attribute ≡ attribute_of v = e ∙ (sym b.attribute ∙ ap attribute_of value) in
+        let chain : chain_of k.attribute k.site ≡ chain_of (attribute_of v) j = ap (λ t. chain_of t k.site) attribute ∙ ap (chain_of (attribute_of v)) here in
+        calm o us y (record {
+          valid = valid;
+          members = members;
+          among = i;
+          clash = c;
+          attribute = attribute_of v;
+          site = j;
+          within = l;
+          unknown = subst (λ (w : Op). IsFirstUnknown cs (attribute_of v) j w.past start) (sym second) first;
+          chain = chain_told h o cs members.tells y q k ∙ (chain ∙ sym first.chain);
+        })
+  ]
+
+  -- all sites
+  pub none_at_all : NoneAt h cs ms n 8 → (o : ObjectId) (us : List ℕ) → AreMembersOf h o cs us ms → ¬ (ClashesWithOne h cs us n)
+  none_at_all none o us members w =
+      let q = members.setters w.one w.among in
+      none o us members w.one q.0 w.among q.1 q.1.within w.clash
+
+  -- what is no setter clashes with none
+  pub none_there : (o : ObjectId) (us : List ℕ) → AreMembersOf h o cs us ms → op_of h cs n ≡ None → ¬ (ClashesWithOne h cs us n)
+  none_there o us members e w = let f = w.clash.at_second in let g : Some w.clash.second ≡ None = sym f ∙ e in absurd cc
+
+  pub none_given : (o : ObjectId) (us : List ℕ) → AreMembersOf h o cs us ms → (op : Op) → op_of h cs n ≡ Some op → op_value (Some op) ≡ None → ¬ (ClashesWithOne h cs us n)
+  none_given o us members op found e w =
+      let z = clash_numbers h o cs members.tells w.one n w.clash in
+      let b = stands h o cs members.tells n z.1 z.3 in
+      let own : b.op ≡ op = some_one b.op op (sym b.found ∙ found) in
+      let g : Some b.value ≡ None = ap value_set (sym b.change) ∙ (ap (λ (w : Op). value_set w.change) own ∙ e) in
+      absurd cc
+
+-- ---- the members one by one
+
+module _ (h : List Op) (cs : List (List Setter)) where
+  -- what is put in front of the numbers comes behind the members
+  pub members_none : AreMembers h cs [] []
+  members_none = record {
+    falling = λ i j d k l. absurd (omega (arith, l));
+    listed = λ m i. absurd (not_Contains-nil m i);
+    all = λ y i. absurd (not_Contains-nil y i);
+    each = λ m i. absurd (not_Contains-nil m i);
+  }
+
+  module _ (us : List ℕ) (ms : List Member) (are : AreMembers h cs us ms) (x : ℕ) (r : Option ℕ) (below : (u : ℕ) → Contains us u → x < u) (other : IsOther h cs x (slice_get ms (length ms - 1)) r) where
+    abbrev new : Member
+    new = record { number = x; other = r }
+
+    -- the last member is the least one
+    last_least : (l : Member) → slice_get ms (length ms - 1) ≡ Some l → Contains ms l × ((m : Member) → Contains ms m → l.number ≤ m.number)
+    last_least l e =
+        let w = got_at ms (length ms - 1) l e in (
+          (length ms - 1, w.0, w.1),
+          λ m i. elim (cases_lt i.0 (length ms - 1)) [
+            | inl k ↦
+                let f = are.falling i.0 (length ms - 1) m k w.0 in
+                let g = subst (λ (z : Member). z.number < (slice_index_or ms i.0 m).number) (get_or_default ms (length ms - 1) m l w.0 ∙ w.1) f in
+                let q = subst (λ (z : Member). l.number < z.number) i.2 g in
+                omega (arith, q)
+            | inr k ↦
+                let b = i.1 in
+                let at : i.0 ≡ length ms - 1 = omega (arith, k, b) in
+                let same : l ≡ m = sym w.1 ∙ (sym (get_or_default ms (length ms - 1) m l w.0) ∙ (ap (λ z. slice_index_or ms z m) (sym at) ∙ i.2)) in
+                let f : l.number ≡ m.number = ap (λ (z : Member). z.number) same in
+                omega (arith, f)
+          ],
+        )
+
+    no_last : slice_get ms (length ms - 1) ≡ None → (m : Member) → ¬ (Contains ms m)
+    no_last e m i =
+        let b = i.1 in
+        let g = at_member_place ms (length ms - 1) m (omega (arith, b)) in
+        let f : Some (slice_index_or ms (length ms - 1) m) ≡ None = sym g ∙ e in
+        absurd cc
+      where
+        at_member_place : (xs : List Member) (k : ℕ) (d : Member) → k < length xs → slice_get xs k ≡ Some (slice_index_or xs k d)
+        at_member_place [] k d l = absurd (omega arith)
+        at_member_place (y ∷ ys) zero d l = refl
+        at_member_place (y ∷ ys) (suc k) d l = at_member_place ys k d (omega arith)
+
+    tail : (o : ℕ) → Contains us o → Contains (x ∷ us) o
+    tail o i = Contains-cons_tail x us o i
+
+    -- the new member, by the last one
+    is_member : IsMember h cs (x ∷ us) new
+    is_member = by_last (slice_get ms (length ms - 1)) refl other
+      where
+        by_values : (l : Member) → Contains ms l × ((m : Member) → Contains ms m → l.number ≤ m.number) → OneChain l.number x → IsOther h cs x (Some l) r →
+            (value_of h cs x ≡ value_of h cs l.number) ⊎ (value_of h cs x ≢ value_of h cs l.number) → IsMember h cs (x ∷ us) new
+        by_values l w one f (inr differ) =
+            let e : r ≡ Some l.number = f.1 one differ in
+            let inside = are.listed l w.0 in
+            let low = below l.number inside in
+            record {
+              is = λ o g.
+                  let same : l.number ≡ o = some_one l.number o (sym e ∙ g) in
+                  subst (λ z. Contains (x ∷ us) z × OneChain z x × (x ≤ z) × (value_of h cs z ≢ value_of h cs x)) same (tail l.number inside, one, omega (arith, low), λ k. differ (sym k));
+              told = λ y i c le d. elim (Contains-cons_cases x us y i) [
+                | inl same ↦ absurd (d (ap (value_of h cs) same))
+                | inr j ↦ let n = are.all y j in let q = w.1 n.0 n.1 in let k = n.2 in (l.number, e, omega (arith, q, k))
+              ];
+            }
+        by_values l w one f (inl same) =
+            let e : r ≡ l.other = f.2 one same in
+            let m = are.each l w.0 in
+            let low = below l.number (are.listed l w.0) in
+            record {
+              is = λ o g.
+                  let k = m.is o (sym e ∙ g) in
+                  let up = k.2 in
+                  (tail o k.0, k.1 ∙ one, omega (arith, low, up), λ q. k.3 (q ∙ same));
+              told = λ y i c le d. elim (Contains-cons_cases x us y i) [
+                | inl equal ↦ absurd (d (ap (value_of h cs) equal))
+                | inr j ↦
+                    let n = are.all y j in
+                    let q = w.1 n.0 n.1 in
+                    let k = n.2 in
+                    let t = m.told y j (c ∙ sym one) (omega (arith, q, k)) (λ z. d (z ∙ sym same)) in
+                    (t.0, e ∙ t.1, t.2)
+              ];
+            }
+
+        by_chain : (l : Member) → Contains ms l × ((m : Member) → Contains ms m → l.number ≤ m.number) → IsOther h cs x (Some l) r → (OneChain l.number x) ⊎ (¬ (OneChain l.number x)) → IsMember h cs (x ∷ us) new
+        by_chain l w f (inl one) = by_values l w one f (options_parted (value_of h cs x) (value_of h cs l.number))
+        by_chain l w f (inr off) = record {
+          is = λ o g. absurd (let k : None ≡ Some o = sym (f.0 off) ∙ g in cc);
+          told = λ y i c le d. elim (Contains-cons_cases x us y i) [
+            | inl same ↦ absurd (d (ap (value_of h cs) same))
+            | inr j ↦
+                let n = are.all y j in
+                let q = w.1 n.0 n.1 in
+                let k = n.2 in
+                let up = below l.number (are.listed l w.0) in
+                absurd (off (omega (arith, q, k, up, c)))
+          ];
+        }
+
+        by_last : (q : Option Member) → slice_get ms (length ms - 1) ≡ q → IsOther h cs x q r → IsMember h cs (x ∷ us) new
+        by_last None e f = record {
+          is = λ o g. absurd (let k : None ≡ Some o = sym f ∙ g in cc);
+          told = λ y i c le d. elim (Contains-cons_cases x us y i) [
+            | inl same ↦ absurd (d (ap (value_of h cs) same))
+            | inr j ↦ let m = are.all y j in absurd (no_last e m.0 m.1)
+          ];
+        }
+        by_last (Some l) e f = by_chain l (last_least l e) f (cases_eq (l.number / block) (x / block))
+
+    -- an old member does not see the new one, which is below it
+    still_member : (m : Member) → Contains ms m → IsMember h cs (x ∷ us) m
+    still_member m i =
+        let k = are.each m i in
+        let low = below m.number (are.listed m i) in
+        record {
+          is = λ o g. let t = k.is o g in (tail o t.0, t.1, t.2, t.3);
+          told = λ y j c le d. elim (Contains-cons_cases x us y j) [
+            | inl e ↦ absurd (omega (arith, e, le, low))
+            | inr t ↦ k.told y t c le d
+          ];
+        }
+
+    -- ONE MEMBER MORE
+    pub members_more : AreMembers h cs (x ∷ us) (ms ++ new ∷ [])
+    members_more = record {
+      falling = λ i j d k l. elim (pushed_at ms new j d l) [
+        | inl a ↦
+            let b = pushed_before ms new i d (let u = a.0 in omega (arith, k, u)) in
+            let f = are.falling i j d k a.0 in
+            let p : (slice_index_or (ms ++ new ∷ []) j d).number ≡ (slice_index_or ms j d).number = ap (λ (z : Member). z.number) a.1 in
+            let q : (slice_index_or (ms ++ new ∷ []) i d).number ≡ (slice_index_or ms i d).number = ap (λ (z : Member). z.number) b in
+            omega (arith, f, p, q)
+        | inr a ↦
+            let at = a.0 in
+            let b = pushed_before ms new i d (omega (arith, k, at)) in
+            let f = below (slice_index_or ms i d).number (are.listed (slice_index_or ms i d) (i, omega (arith, k, at), get_or_default ms i (slice_index_or ms i d) d (omega (arith, k, at)))) in
+            let p : (slice_index_or (ms ++ new ∷ []) j d).number ≡ x = ap (λ (z : Member). z.number) a.1 in
+            let q : (slice_index_or (ms ++ new ∷ []) i d).number ≡ (slice_index_or ms i d).number = ap (λ (z : Member). z.number) b in
+            omega (arith, f, p, q)
+      ];
+      listed = λ m i. elim (Contains-push_cases ms new m i) [
+        | inl j ↦ tail m.number (are.listed m j)
+        | inr e ↦ subst (λ (z : Member). Contains (x ∷ us) z.number) e (Contains-cons_head x us)
+      ];
+      all = λ y i. elim (Contains-cons_cases x us y i) [
+        | inl e ↦ (new, Contains-push ms new, sym e)
+        | inr j ↦ let m = are.all y j in (m.0, Contains-append_left ms (new ∷ []) m.0 m.1, m.2)
+      ];
+      each = λ m i. elim (Contains-push_cases ms new m i) [
+        | inl j ↦ still_member m j
+        | inr e ↦ subst (λ z. IsMember h cs (x ∷ us) z) e is_member
+      ];
+    }
+
+-- ---- rising numbers from behind
+
+below_from_less : (a b : ℕ) → nat_cmp a b ≡ Less → a < b
+below_from_less a b e = subst (λ (o : Ordering). MatchOrdering o (a < b) (a ≡ b) (b < a)) e (ranked a b (nat_cmp a b) refl)
+
+rising_drop : (xs : List ℕ) → IsRising xs → (k d : ℕ) → k < length xs → (u : ℕ) → Contains (drop (k + 1) xs) u → slice_index_or xs k d < u
+rising_drop [] r k d l u i = absurd (omega (arith, l))
+rising_drop (y ∷ ys) r zero d l u i = below_from_less y u (below_tail nat_cmp nat_cmp_total y ys r u i)
+rising_drop (y ∷ ys) r (suc k) d l u i =
+    let e : suc k + 1 ≡ suc (k + 1) = omega arith in
+    rising_drop ys (sorted_tail nat_cmp y ys r) k d (omega (arith, l)) u (subst (λ z. Contains (drop z (y ∷ ys)) u) e i)
+
+-- the next number from behind stands in front of those that were met
+pub next_behind : (h : List Op) (cs : List (List Setter)) (xs : List ℕ) → IsRising xs → (b d : ℕ) → b < length xs → (ms new : List Member) → AreMembers h cs (drop (length xs - b) xs) ms → (r : Option ℕ) →
+    IsOther h cs (slice_index_or xs (length xs - 1 - b) d) (slice_get ms (length ms - 1)) r → new ≡ ms ++ record { number = slice_index_or xs (length xs - 1 - b) d; other = r } ∷ [] → AreMembers h cs (drop (length xs - (b + 1)) xs) new
+next_behind h cs xs rises b d l ms new are r other e =
+    let k = length xs - 1 - b in
+    let first : length xs - (b + 1) ≡ k = omega (arith, l) in
+    let second : k + 1 ≡ length xs - b = omega (arith, l) in
+    let inside : k < length xs = omega (arith, l) in
+    let parted : drop (length xs - (b + 1)) xs ≡ slice_index_or xs k d ∷ drop (length xs - b) xs = ap (λ z. drop z xs) first ∙ (drop_more xs k d inside ∙ ap (λ z. slice_index_or xs k d ∷ drop z xs) second) in
+    let below = λ (u : ℕ) (i : Contains (drop (length xs - b) xs) u). rising_drop xs rises k d inside u (subst (λ z. Contains (drop z xs) u) (sym second) i) in
+    let all = members_more h cs (drop (length xs - b) xs) ms are (slice_index_or xs k d) r below other in
+    subst (λ z. AreMembers h cs z new) (sym parted) (subst (λ z. AreMembers h cs (slice_index_or xs k d ∷ drop (length xs - b) xs) z) (sym e) all)
+
+pub all_behind : (h : List Op) (cs : List (List Setter)) (xs : List ℕ) (b : ℕ) → length xs ≤ b → (ms : List Member) → AreMembers h cs (drop (length xs - b) xs) ms → AreMembers h cs xs ms
+all_behind h cs xs b l ms are = let e : length xs - b ≡ 0 = omega (arith, l) in subst (λ z. AreMembers h cs (drop z xs) ms) e are
+
+pub none_behind : (h : List Op) (cs : List (List Setter)) (xs : List ℕ) → AreMembers h cs (drop (length xs - 0) xs) []
+none_behind h cs xs = subst (λ z. AreMembers h cs z []) (sym (drop_all (length xs - 0) xs (omega arith))) (members_none h cs)
+
+-- ---- the first member from a number on
+
+pub numbers_parted : (ms : List Member) → AreFalling ms → (k : ℕ) (i j : ℕ) (d : Member) → i ≤ j → j < length ms → nat_le k (slice_index_or ms j d).number ≡ true → nat_le k (slice_index_or ms i d).number ≡ true
+numbers_parted ms f k i j d l m t =
+    let u = leb-true k (slice_index_or ms j d).number t in
+    let w : (slice_index_or ms j d).number ≤ (slice_index_or ms i d).number = elim (cases_lt i j) [
+      | inl n ↦ let v = f i j d n m in omega (arith, v)
+      | inr n ↦ let e : i ≡ j = omega (arith, l, n) in let v : (slice_index_or ms i d).number ≡ (slice_index_or ms j d).number = ap (λ z. (slice_index_or ms z d).number) e in omega (arith, v)
+    ] in
+    le-leb k (slice_index_or ms i d).number (omega (arith, u, w))
+
+module _ (ms : List Member) (falls : AreFalling ms) (k p : ℕ) (before : (i : ℕ) (d : Member) → i < p → i < length ms → nat_le k (slice_index_or ms i d).number ≡ true)
+    (behind : (i : ℕ) (d : Member) → p ≤ i → i < length ms → nat_le k (slice_index_or ms i d).number ≡ false) where
+  -- a member from k on stands before p
+  stands_before : (m : Member) (i : Contains ms m) → k ≤ m.number → i.0 < p
+  stands_before m i l = elim (cases_lt i.0 p) [
+    | inl u ↦ u
+    | inr u ↦
+        let f = behind i.0 m u i.1 in
+        let t : nat_le k m.number ≡ true = le-leb k m.number l in
+        let g : nat_le k m.number ≡ false = subst (λ (z : Member). nat_le k z.number ≡ false) i.2 f in
+        absurd cc
+  ]
+
+  pub none_from : p ≡ 0 → (m : Member) → Contains ms m → k ≤ m.number → ⊥
+  none_from e m i l = let u = stands_before m i l in omega (arith, u, e)
+
+  pub first_told : (f : Member) (q : ℕ) → q + 1 ≡ p → slice_get ms q ≡ Some f → Contains ms f × (k ≤ f.number) × ((m : Member) → Contains ms m → k ≤ m.number → f.number ≤ m.number)
+  first_told f q e at =
+      let w = got_at ms q f at in
+      let t = before q f (omega (arith, e)) w.0 in
+      let from = leb-true k f.number (subst (λ (z : Member). nat_le k z.number ≡ true) w.1 t) in (
+        (q, w.0, w.1),
+        from,
+        λ m i l.
+            let u = stands_before m i l in
+            elim (cases_lt i.0 q) [
+              | inl n ↦
+                  let v = falls i.0 q m n w.0 in
+                  let a = subst (λ (z : Member). z.number < (slice_index_or ms i.0 m).number) (get_or_default ms q m f w.0 ∙ w.1) v in
+                  let b = subst (λ (z : Member). f.number < z.number) i.2 a in
+                  omega (arith, b)
+              | inr n ↦
+                  let here : i.0 ≡ q = omega (arith, n, u, e) in
+                  let same : f ≡ m = sym w.1 ∙ (sym (get_or_default ms q m f w.0) ∙ (ap (λ z. slice_index_or ms z m) (sym here) ∙ i.2)) in
+                  let c : f.number ≡ m.number = ap (λ (z : Member). z.number) same in
+                  omega (arith, c)
+            ],
+      )
+
+-- what lies between numbers of one chain is of it
+pub between_chain : (k f m : ℕ) → k ≤ f → f ≤ m → m / block ≡ k / block → f / block ≡ k / block
+between_chain k f m a b c = omega (arith, a, b, c)
+
+pub zero_from : (p : ℕ) → ((1 ≤ p) → ⊥) → p ≡ 0
+zero_from zero f = refl
+zero_from (suc p) f = absurd (f (omega arith))
+
+-- ---- where the clock stops counting
+
+pub first_unknown_is : (cs : List (List Setter)) (t : Attr) (s : ℕ) (past : Clock) (ss : List Setter) (x n : ℕ) → x ≡ chain_of t s → ss ≡ setters cs t s → IsCountUpTo ss (entry past (s + 1)) n → n < block → IsFirstUnknown cs t s past (x * block + n)
+first_unknown_is cs t s past ss x n e same c short = record {
+  chain = omega (arith, e, short);
+  unknown = λ p f at l.
+      let w = got_at ss p f (subst (λ z. slice_get z p ≡ Some f) (sym same) at) in
+      let u = c.above p f (omega (arith, l, e)) w.0 in
+      subst (λ (z : Setter). entry past (s + 1) < z.seq) w.1 u;
+  from = λ p f at l.
+      let w = got_at ss p f (subst (λ z. slice_get z p ≡ Some f) (sym same) at) in
+      elim (cases_lt p n) [
+        | inl u ↦
+            let v = subst (λ (z : Setter). z.seq ≤ entry past (s + 1)) w.1 (c.below p f u) in
+            absurd (omega (arith, v, l))
+        | inr u ↦ omega (arith, u, e)
+      ];
+}

@@ -1,0 +1,6 @@
+use Rattle.std.proofs.Common.{◌≡◌, ℕ, take}
+use Rattle.gf_rivals.specs.Aimed.{AreNumbersOf}
+use Rattle.gf_rivals.proofs.aims.numbers_of.Given as goal
+
+abbrev pub invariant-loop-id : goal.invariant-loop-id
+invariant-loop-id l = AreNumbersOf l.history.ops l.chains (take l.id-index l.ids) l.numbers

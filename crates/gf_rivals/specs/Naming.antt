@@ -1,0 +1,39 @@
+-- Setters by their ids. No public clause cites this module.
+use Rattle.std.specs.Prelude.{◌≡◌, ◌↔◌, ◌⊎◌, ℕ, ◌+◌, ◌*◌, List, [], Contains, Some, slice_get, slice_index_or}
+use Rattle.gf_ops.specs.declared.op.Op.{Op}
+use Rattle.gf_ops.specs.declared.op.OpId.{OpId}
+use Rattle.gf_ops.specs.declared.op.ObjectId.{ObjectId}
+use Rattle.gf_ops.specs.Attribute.{object_of}
+use Rattle.gf_rivals.specs.declared.chain.Setter.{Setter}
+use Rattle.gf_rivals.specs.Setters.{block}
+use Rattle.gf_rivals.specs.Rivals.{IsNumber, Tells}
+
+-- the setter at the place p has the number m at its site
+pub record HasSeq (ss : List Setter) (m p : ℕ) : Type 0 where
+  pub setter : Setter
+  pub at : slice_get ss p ≡ Some setter
+  pub seq : setter.seq ≡ m
+
+-- n is the number of the setter of the chain with the index k that has the number m at its site
+pub record IsNumbered (cs : List (List Setter)) (k m n : ℕ) : Type 0 where
+  pub place : ℕ
+  pub setter : HasSeq (slice_index_or cs k []) m place
+  pub number : n ≡ k * block + place
+
+-- n is the number of the setter with the id
+pub record IsNamed (h : List Op) (cs : List (List Setter)) (id : OpId) (n : ℕ) : Type 0 where
+  pub position : ℕ
+  pub op : Op
+  pub number : IsNumber cs n position
+  pub at : slice_get h position ≡ Some op
+  pub named : op.id ≡ id
+
+-- the chains are those of an object, and an operation with the id is on it
+pub record IsNamedOn (h : List Op) (cs : List (List Setter)) (id : OpId) : Type 0 where
+  pub object : ObjectId
+  pub tells : Tells h object cs
+  pub on : (b : Op) → Contains h b → b.id ≡ id → object_of b ≡ object
+
+-- new has what old has, and the number of the setter with the id
+abbrev pub AddsNamed : List Op → List (List Setter) → OpId → List ℕ → List ℕ → Type 0
+AddsNamed h cs id old new = (n : ℕ) → Contains new n ↔ (Contains old n ⊎ IsNamed h cs id n)
