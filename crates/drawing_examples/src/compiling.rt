@@ -3,8 +3,7 @@
 use drawing_parts::{printed, seen, table, told};
 use example_parts::{BLUE, RED, created, plain};
 use gf_drawing::{CompileFault, Drawing, compile};
-use gf_groups::Ids;
-use gf_ops::{Form, History, ObjectId, Op, OpId, Start};
+use gf_ops::{Form, History, Ids, ObjectId, Op, OpId, Start};
 use gf_shape::{AnyShape, Circle, Outline, Point, Rgb, Shape};
 use gf_versions::{Placed, Ranked, VersionKey, ranked};
 use std::alloc::{AllocError, Global};

@@ -50,7 +50,7 @@ Contains-flat_map f (x ∷ xs) a b i c = elim (Contains-cons_cases x xs a i) [
 
 made_by_change : (h : List Op) (a : Op) (c : Change) → Contains h a → a.change ≡ c → IsSuited h a c → IsMade h (changed_object a.id c)
 made_by_change h a (Create start) i e s = record { kind = kind_of start.form; made = record { maker = a; contained = i; id = refl; kind = ap made_kind e } }
-made_by_change h a (Set o v) i e s = let k = s.known in record { kind = s.kind; made = record { maker = k.maker; contained = k.contained; id = k.id; kind = k.kind } }
+made_by_change h a (Set o v aim) i e s = let k = s.known in record { kind = s.kind; made = record { maker = k.maker; contained = k.contained; id = k.id; kind = k.kind } }
 
 pub made_by_op : (h : List Op) → IsValid h → (a : Op) → Contains h a → IsMade h (object_of a)
 made_by_op h valid a i = made_by_change h a a.change i refl (valid.suited a i)

@@ -1,6 +1,8 @@
 -- Operations at positions of a history: whether they are on an object, and whether they conflict.
-use Rattle.std.proofs.Common.{◌≡◌, ℕ, true, List, length, refl, sym, ap}
-use Rattle.std.specs.Prelude.{◌↔◌, Contains, Option, Some, None, slice_get}
+use Rattle.std.proofs.Common.{◌≡◌, ◌≢◌, ℕ, true, List, length, refl, sym, ap, subst}
+use Rattle.std.specs.Prelude.{◌↔◌, Contains, Option, Some, None, slice_get, not, ◌==◌}
+use Rattle.std.proofs.lemmas.Bool.{and_parts, and_from}
+use Rattle.std.proofs.lemmas.Bool.Decides.{Decides-eqb, Decides-not}
 use Rattle.std.proofs.lemmas.Option.{slice_get_read, slice_get_within, get_or_from_slice_get}
 use Rattle.gf_ops.specs.declared.op.Op.{Op}
 use Rattle.gf_ops.specs.declared.op.OpId.{OpId}
@@ -9,15 +11,17 @@ use Rattle.gf_ops.specs.declared.change.Change.{Change}
 use Rattle.gf_ops.specs.declared.change.Change.TheVariants.{Create, Set}
 use Rattle.gf_ops.specs.Attribute.{Kind, made_kind, object_of, changed_object}
 use Rattle.gf_ops.specs.Conflict.{Conflict}
+use Rattle.gf_ops.specs.ValidHistory.{IsValid}
+use Rattle.gf_ops.proofs.ConflictLemmas.{conflict_irreflexive}
 use Rattle.gf_groups.specs.GroupedPositions.{is_on, positions_below}
-use Rattle.gf_groups.specs.Growing.{both_conflict}
+use Rattle.gf_groups.specs.Growing.{both_conflict, conflict_at}
 use Rattle.gf_groups.proofs.ConflictTestLemmas.{id_decided, conflict_decided}
 use Rattle.gf_groups.proofs.PositionLemmas.{Contains-positions_below}
 
 -- an operation that makes an object is on it
 pub made_object : (i : OpId) (c : Change) (k : Kind) → made_kind c ≡ Some k → (changed_object i c).0 ≡ i
 made_object i (Create start) k e = refl
-made_object i (Set o v) k e = absurd cc
+made_object i (Set o v aim) k e = absurd cc
 
 module _ (o : ObjectId) where
   pub on_from : (a : Op) → is_on o (Some a) ≡ true → object_of a ≡ o
@@ -31,14 +35,13 @@ module _ (o : ObjectId) where
   on_op (Some a) t = (a, refl, on_from a t)
   on_op None t = absurd cc
 
--- two positions conflict where their operations do
-pub conflict_from : (r s : Option Op) (a b : Op) → r ≡ Some a → s ≡ Some b → Conflict a b → both_conflict r s ≡ true
-conflict_from r s a b e f k = rw (e, f) ((conflict_decided a b).1 k)
+both_from : (h : List Op) (r s : Option Op) (a b : Op) → r ≡ Some a → s ≡ Some b → Conflict h a b → both_conflict h r s ≡ true
+both_from h r s a b e f k = rw (e, f) ((conflict_decided h a b).1 k)
 
-pub conflict_with : (r s : Option Op) (a : Op) → r ≡ Some a → both_conflict r s ≡ true → (b : Op) × (s ≡ Some b) × Conflict a b
-conflict_with (Some x) (Some b) a e t = (b, refl, let q : x ≡ a = cc in let k = (conflict_decided x b).0 t in rw q at k)
-conflict_with (Some x) None a e t = absurd cc
-conflict_with None s a e t = absurd cc
+both_with : (h : List Op) (r s : Option Op) (a : Op) → r ≡ Some a → both_conflict h r s ≡ true → (b : Op) × (s ≡ Some b) × Conflict h a b
+both_with h (Some x) (Some b) a e t = (b, refl, let q : x ≡ a = cc in let k = (conflict_decided h x b).0 t in rw q at k)
+both_with h (Some x) None a e t = absurd cc
+both_with h None s a e t = absurd cc
 
 module _ (h : List Op) where
   -- an operation of h has a position
@@ -47,6 +50,17 @@ module _ (h : List Op) where
 
   pub contained_at : (i : ℕ) (a : Op) → slice_get h i ≡ Some a → Contains h a
   contained_at i a e = (i, slice_get_within h i a e, get_or_from_slice_get h i a a e)
+
+  -- two positions conflict where their operations do
+  pub conflict_from : IsValid h → (i j : ℕ) (a b : Op) → slice_get h i ≡ Some a → slice_get h j ≡ Some b → Conflict h a b → conflict_at h i j ≡ true
+  conflict_from valid i j a b e f k =
+      let other : i ≢ j = λ q.
+      let one : a ≡ b = let g : slice_get h j ≡ Some a = subst (λ n. slice_get h n ≡ Some a) q e in cc in
+      conflict_irreflexive h valid a (contained_at i a e) (subst (Conflict h a) (sym one) k) in
+      and_from (not (i == j)) (both_conflict h (slice_get h i) (slice_get h j)) ((Decides-not (i == j) (Decides-eqb i j)).1 other) (both_from h (slice_get h i) (slice_get h j) a b e f k)
+
+  pub conflict_with : (i j : ℕ) (a : Op) → slice_get h i ≡ Some a → conflict_at h i j ≡ true → (b : Op) × (slice_get h j ≡ Some b) × Conflict h a b
+  conflict_with i j a e t = both_with h (slice_get h i) (slice_get h j) a e (and_parts (not (i == j)) (both_conflict h (slice_get h i) (slice_get h j)) t).1
 
   -- the positions below the length are all positions of operations on the object
   pub all_positions : (o : ObjectId) (i : ℕ) → Contains (positions_below h o (length h)) i ↔ (is_on o (slice_get h i) ≡ true)

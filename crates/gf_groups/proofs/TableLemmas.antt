@@ -1,11 +1,12 @@
 -- The sets of rising positions are all largest compatible sets of them, each once.
 use Rattle.std.proofs.Common.{◌≡◌, ℕ, ◌<◌, Bool, true, false, List, [], ◌∷◌, ◌++◌, append_assoc, refl, subst, sym, ap, ◌∙◌, inl, inr, arith}
-use Rattle.std.specs.Prelude.{All, Contains, Option, Some, None, slice_get}
+use Rattle.std.specs.Prelude.{All, Contains, Option, Some, None, slice_get, ◌==◌}
 use Rattle.std.specs.FinMap.{nat_cmp-IsAntisymmetric}
 use Rattle.std.specs.Ordering.{nat_cmp, MatchOrdering}
 use Rattle.std.specs.declared.cmp.Ordering.{Ordering}
 use Rattle.std.specs.declared.cmp.Ordering.TheVariants.{Less}
 use Rattle.std.proofs.lemmas.Bool.{cond-false}
+use Rattle.std.proofs.lemmas.Bool.Decides.{Decides-eqb, Decides-like, same_from_decides}
 use Rattle.std.proofs.lemmas.Cmp.{nat_cmp_total, ranked}
 use Rattle.std.proofs.lemmas.List.{append-nil}
 use Rattle.std.proofs.lemmas.List.Elements.{All-weaker, All-contains_itself, Contains-append_left, Contains-push, Contains-push_cases, filter-append}
@@ -14,27 +15,26 @@ use Rattle.gf_ops.specs.declared.op.Op.{Op}
 use Rattle.gf_maximal.specs.Growing.{joined, next}
 use Rattle.gf_groups.specs.Growing.{both_conflict, conflict_at, rivals, grown, groups_at}
 use Rattle.gf_maximal.specs.Tables.{IsRising, IsTable}
-use Rattle.gf_groups.proofs.ConflictTestLemmas.{in_conflict-sym, in_conflict-alone}
+use Rattle.gf_groups.proofs.ConflictTestLemmas.{in_conflict-sym}
 use Rattle.gf_maximal.proofs.GrowingLemmas.{Comes, table_first, table_next}
 use Rattle.gf_maximal.proofs.InsertLemmas.{inserted, holds}
 use Rattle.gf_maximal.proofs.LargestLemmas.{IsConflict}
 use Rattle.gf_maximal.proofs.ListLemmas.{Contains-filter}
 use Rattle.gf_maximal.proofs.RisingLemmas.{one_rising, rising_front, rising_below}
 
-both_conflict-sym : (r s : Option Op) → both_conflict r s ≡ both_conflict s r
-both_conflict-sym (Some a) (Some b) = in_conflict-sym a b
-both_conflict-sym (Some a) None = refl
-both_conflict-sym None (Some b) = refl
-both_conflict-sym None None = refl
+both_conflict-sym : (h : List Op) (r s : Option Op) → both_conflict h r s ≡ both_conflict h s r
+both_conflict-sym h (Some a) (Some b) = in_conflict-sym h a b
+both_conflict-sym h (Some a) None = refl
+both_conflict-sym h None (Some b) = refl
+both_conflict-sym h None None = refl
 
-both_conflict-alone : (r : Option Op) → both_conflict r r ≡ false
-both_conflict-alone (Some a) = in_conflict-alone a
-both_conflict-alone None = refl
+turned : (i j : ℕ) → (i == j) ≡ (j == i)
+turned i j = same_from_decides (i == j) (j == i) (Decides-eqb i j) (Decides-like (j == i) (λ e. sym e) (λ e. sym e) (Decides-eqb j i))
 
 pub conflict_at_test : (h : List Op) → IsConflict (conflict_at h)
 conflict_at_test h = record {
-  symmetric = λ i j. both_conflict-sym (slice_get h i) (slice_get h j);
-  alone = λ i. both_conflict-alone (slice_get h i);
+  symmetric = λ i j. rw (turned i j, both_conflict-sym h (slice_get h i) (slice_get h j)) refl;
+  alone = λ i. let e = (Decides-eqb i i).1 refl in rw e refl;
 }
 
 pub below_from_less : (a b : ℕ) → nat_cmp a b ≡ Less → a < b

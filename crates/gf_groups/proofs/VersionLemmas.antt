@@ -68,14 +68,14 @@ module _ (h : List Op) (valid : IsValid h) (o : ObjectId) (us : List ℕ) (all :
         compatible = λ a b x y k.
             let s = op_at_id g a x.contained ((Contains-rising_ids h g a.id).0 x.grouped) in
             let t = op_at_id g b y.contained ((Contains-rising_ids h g b.id).0 y.grouped) in
-            let yes = conflict_from (slice_get h s.0) (slice_get h t.0) a b s.2 t.2 k in
+            let yes = conflict_from h valid s.0 t.0 a b s.2 t.2 k in
             let no = m.compatible s.0 t.0 s.1 t.1 in absurd cc;
         largest = λ a c on n.
             let p = position_of_op h a c in
             elim (m.largest p.0 (at_us p.0 a p.1 on)) [
               | inl i ↦ absurd (n (has_id g p.0 a i p.1))
               | inr w ↦
-                  let q = conflict_with (slice_get h p.0) (slice_get h w.0) a p.1 w.2 in
+                  let q = conflict_with h p.0 w.0 a p.1 w.2 in
                   record { member = q.0; is_member = record { contained = contained_at h w.0 q.0 q.1; grouped = has_id g w.0 q.0 w.1 q.1 }; conflict = q.2 }
             ];
       }
@@ -102,7 +102,7 @@ module _ (h : List Op) (valid : IsValid h) (o : ObjectId) (us : List ℕ) (all :
     compatible = λ i j x y. elim (cases_Bool (conflict_at h i j)) [
       | inl t ↦
           let a = kept q i x in let b = kept q j y in
-          let k = conflict_with (slice_get h i) (slice_get h j) a.0 a.1 t in
+          let k = conflict_with h i j a.0 a.1 t in
           let e : b.0 ≡ k.0 = let u = b.1 in let w = k.1 in cc in
           let m : IsMember h q k.0 = record { contained = contained_at h j k.0 k.1; grouped = subst (λ (z : Op). Contains q z.id) e b.2 } in
           absurd (v.compatible a.0 k.0 (record { contained = contained_at h i a.0 a.1; grouped = a.2 }) m k.2)
@@ -116,7 +116,7 @@ module _ (h : List Op) (valid : IsValid h) (o : ObjectId) (us : List ℕ) (all :
               let w = v.largest a.0 (contained_at h i a.0 a.1) a.2 (λ c. let t = in_to q a.0 c in absurd cc) in
               let m = w.is_member in
               let p = position_of_op h w.member m.contained in
-              inr (p.0, keep q p.0 w.member p.1 (member_on q v w.member m.contained m.grouped) m.grouped, conflict_from (slice_get h i) (slice_get h p.0) a.0 w.member a.1 p.1 w.conflict)
+              inr (p.0, keep q p.0 w.member p.1 (member_on q v w.member m.contained m.grouped) m.grouped, conflict_from h valid i p.0 a.0 w.member a.1 p.1 w.conflict)
         ];
   }
 

@@ -64,32 +64,32 @@ module _ (h : List Op) (o : ObjectId) where
 
   -- ---- the tests
 
-  apart : (g : List OpId) → is_compatible h g ≡ true → (a b : Op) → IsMember h g a → IsMember h g b → ¬ (Conflict a b)
+  apart : (g : List OpId) → is_compatible h g ≡ true → (a b : Op) → IsMember h g a → IsMember h g b → ¬ (Conflict h a b)
   apart g t a b m n c =
-      let row = list_all_true (λ x. list_all (λ y. not (in_conflict x y)) (members h g)) (members h g) t a ((member g a).1 m) in
-      let none = not-true (in_conflict a b) (list_all_true (λ y. not (in_conflict a y)) (members h g) row b ((member g b).1 n)) in
-      let some = (conflict_decided a b).1 c in absurd cc
+      let row = list_all_true (λ x. list_all (λ y. not (in_conflict h x y)) (members h g)) (members h g) t a ((member g a).1 m) in
+      let none = not-true (in_conflict h a b) (list_all_true (λ y. not (in_conflict h a y)) (members h g) row b ((member g b).1 n)) in
+      let some = (conflict_decided h a b).1 c in absurd cc
 
-  apart_test : (g : List OpId) → ((a b : Op) → IsMember h g a → IsMember h g b → ¬ (Conflict a b)) → is_compatible h g ≡ true
-  apart_test g f = list_all_from (λ x. list_all (λ y. not (in_conflict x y)) (members h g)) (members h g)
-      (λ a i. list_all_from (λ y. not (in_conflict a y)) (members h g) (λ b j. elim (cases_Bool (in_conflict a b)) [
-        | inl t ↦ absurd (f a b ((member g a).0 i) ((member g b).0 j) ((conflict_decided a b).0 t))
-        | inr n ↦ not_from_false (in_conflict a b) n
+  apart_test : (g : List OpId) → ((a b : Op) → IsMember h g a → IsMember h g b → ¬ (Conflict h a b)) → is_compatible h g ≡ true
+  apart_test g f = list_all_from (λ x. list_all (λ y. not (in_conflict h x y)) (members h g)) (members h g)
+      (λ a i. list_all_from (λ y. not (in_conflict h a y)) (members h g) (λ b j. elim (cases_Bool (in_conflict h a b)) [
+        | inl t ↦ absurd (f a b ((member g a).0 i) ((member g b).0 j) ((conflict_decided h a b).0 t))
+        | inr n ↦ not_from_false (in_conflict h a b) n
       ]))
 
-  covers : (g : List OpId) → is_largest h o g ≡ true → (a : Op) → Contains h a → object_of a ≡ o → ¬ (Contains g a.id) → ConflictsWithin h g a
-  covers g t a i e out = elim (or_cases (is_in g a) (list_any (in_conflict a) (members h g)) (list_all_true (λ x. is_in g x || list_any (in_conflict x) (members h g)) (ops_on h o) t a ((on_object a).1 (i, e)))) [
+  covers : (g : List OpId) → is_largest h o g ≡ true → (a : Op) → Contains h a → object_of a ≡ o → ¬ (Contains g a.id) → ConflictsWithin (Conflict h) h g a
+  covers g t a i e out = elim (or_cases (is_in g a) (list_any (in_conflict h a) (members h g)) (list_all_true (λ x. is_in g x || list_any (in_conflict h x) (members h g)) (ops_on h o) t a ((on_object a).1 (i, e)))) [
     | inl s ↦ absurd (out ((in_group g a).0 s))
-    | inr s ↦ let w = list_any_true (in_conflict a) (members h g) s in record { member = w.0; is_member = (member g w.0).0 w.1; conflict = (conflict_decided a w.0).0 w.2 }
+    | inr s ↦ let w = list_any_true (in_conflict h a) (members h g) s in record { member = w.0; is_member = (member g w.0).0 w.1; conflict = (conflict_decided h a w.0).0 w.2 }
   ]
 
-  covers_test : (g : List OpId) → ((a : Op) → Contains h a → object_of a ≡ o → ¬ (Contains g a.id) → ConflictsWithin h g a) → is_largest h o g ≡ true
-  covers_test g f = list_all_from (λ x. is_in g x || list_any (in_conflict x) (members h g)) (ops_on h o) (λ a i. elim (cases_Bool (is_in g a)) [
-    | inl s ↦ or_left (is_in g a) (list_any (in_conflict a) (members h g)) s
+  covers_test : (g : List OpId) → ((a : Op) → Contains h a → object_of a ≡ o → ¬ (Contains g a.id) → ConflictsWithin (Conflict h) h g a) → is_largest h o g ≡ true
+  covers_test g f = list_all_from (λ x. is_in g x || list_any (in_conflict h x) (members h g)) (ops_on h o) (λ a i. elim (cases_Bool (is_in g a)) [
+    | inl s ↦ or_left (is_in g a) (list_any (in_conflict h a) (members h g)) s
     | inr n ↦
         let p = (on_object a).0 i in
         let clash = f a p.0 p.1 (λ c. let s = (in_group g a).1 c in absurd cc) in
-        or_right (is_in g a) (list_any (in_conflict a) (members h g)) (list_any_from (in_conflict a) (members h g) clash.member ((member g clash.member).1 clash.is_member) ((conflict_decided a clash.member).1 clash.conflict))
+        or_right (is_in g a) (list_any (in_conflict h a) (members h g)) (list_any_from (in_conflict h a) (members h g) clash.member ((member g clash.member).1 clash.is_member) ((conflict_decided h a clash.member).1 clash.conflict))
   ])
 
   -- ---- the list

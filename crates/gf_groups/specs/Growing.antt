@@ -1,17 +1,17 @@
 -- Largest compatible sets of positions, grown one by one (Sun and Chen, ACM TOCHI 9(1), 2002).
-use Rattle.std.specs.Prelude.{ℕ, Bool, false, List, [], ◌∷◌, ◌++◌, filter, Option, Some, slice_get}
+use Rattle.std.specs.Prelude.{ℕ, Bool, false, not, ◌&&◌, ◌==◌, List, [], ◌∷◌, ◌++◌, filter, Option, Some, slice_get}
 use Rattle.gf_ops.specs.declared.op.Op.{Op}
 use Rattle.gf_maximal.specs.Growing.{next}
 use Rattle.gf_groups.specs.VersionList.{in_conflict}
 
 -- both operations are there, and conflict
-abbrev pub both_conflict : Option Op → Option Op → Bool
-both_conflict (Some a) (Some b) = in_conflict a b
-both_conflict a b = false
+abbrev pub both_conflict : List Op → Option Op → Option Op → Bool
+both_conflict h (Some a) (Some b) = in_conflict h a b
+both_conflict h r s = false
 
--- the operations of h at the positions i and j conflict
+-- the operations of h at i and j, two positions, conflict
 abbrev pub conflict_at : List Op → ℕ → ℕ → Bool
-conflict_at h i j = both_conflict (slice_get h i) (slice_get h j)
+conflict_at h i j = not (i == j) && both_conflict h (slice_get h i) (slice_get h j)
 
 -- c tells whether the operations at two positions conflict
 module _ (c : ℕ → ℕ → Bool) where

@@ -5,7 +5,7 @@ use Rattle.std.specs.BTreeSet.{insert_key}
 use Rattle.gf_ops.specs.declared.op.Op.{Op}
 use Rattle.gf_ops.specs.declared.op.OpId.{OpId}
 use Rattle.gf_ops.specs.declared.op.ObjectId.{ObjectId}
-use Rattle.gf_ops.specs.Attribute.{object_of}
+use Rattle.gf_ops.specs.Attribute.{aim_of, object_of}
 use Rattle.gf_ops.specs.ConflictTests.{are_apart}
 use Rattle.gf_ops.specs.OperationOrder.{entry, id_cmp}
 
@@ -21,9 +21,21 @@ is_before a b = nat_le a.id.seq (entry b.past a.id.site)
 abbrev pub are_unordered : Op → Op → Bool
 are_unordered a b = not (is_before a b) && not (is_before b a)
 
--- a and b conflict; operations that give an attribute different values are two
-abbrev pub in_conflict : Op → Op → Bool
-in_conflict a b = are_unordered a b && id_eq (object_of a).0 (object_of b).0 && are_apart a.change b.change
+-- a and b conflict directly; operations that give an attribute different values are two
+abbrev pub in_direct_conflict : Op → Op → Bool
+in_direct_conflict a b = are_unordered a b && id_eq (object_of a).0 (object_of b).0 && are_apart a.change b.change
+
+-- a aims at x
+abbrev pub aims_at : Op → Op → Bool
+aims_at a x = list_any (id_eq x.id) (aim_of a)
+
+-- a, and those of h that it aims at
+abbrev pub brought : List Op → Op → List Op
+brought h a = a ∷ filter (aims_at a) h
+
+-- a or one that it aims at conflicts directly with b or one that b aims at
+abbrev pub in_conflict : List Op → Op → Op → Bool
+in_conflict h a b = list_any (λ x. list_any (in_direct_conflict x) (brought h b)) (brought h a)
 
 -- a is one of the group's operations
 abbrev pub is_in : List OpId → Op → Bool
@@ -39,11 +51,11 @@ members h g = filter (is_in g) h
 
 -- no two of the group conflict
 abbrev pub is_compatible : List Op → List OpId → Bool
-is_compatible h g = list_all (λ a. list_all (λ b. not (in_conflict a b)) (members h g)) (members h g)
+is_compatible h g = list_all (λ a. list_all (λ b. not (in_conflict h a b)) (members h g)) (members h g)
 
 -- each other operation on the object conflicts with one of the group
 abbrev pub is_largest : List Op → ObjectId → List OpId → Bool
-is_largest h o g = list_all (λ a. is_in g a || list_any (in_conflict a) (members h g)) (ops_on h o)
+is_largest h o g = list_all (λ a. is_in g a || list_any (in_conflict h a) (members h g)) (ops_on h o)
 
 -- every list that can be made from a list by leaving elements out
 abbrev pub sublists : {X : Type 0} → List X → List (List X)

@@ -7,11 +7,11 @@ ghost use Rattle.gf_groups.specs.VersionList.{in_conflict};
 
 use gf_ops::{History, Op, conflicts};
 
-/// Whether the operations at two positions conflict.
-pub(crate) fn conflict_at(history: &History, i: usize, j: usize) -> bool
+/// Whether the operations at two positions conflict. One position is no two.
+pub fn conflict_at(history: &History, i: usize, j: usize) -> bool
     ensures { result ≡ conflict_at history.now.ops i j }
 {
-    both_conflict(op_at(history, i), op_at(history, j))
+    i != j && both_conflict(history, op_at(history, i), op_at(history, j))
 }
 
 /// The operation at a position, if there is one.
@@ -24,22 +24,23 @@ fn op_at(history: &History, position: usize) -> Option<&Op>
 
 /// Whether both operations are there, and conflict.
 #[inline(always)]
-fn both_conflict(a: Option<&Op>, b: Option<&Op>) -> bool
+fn both_conflict(history: &History, a: Option<&Op>, b: Option<&Op>) -> bool
     requires a { IfSome a (λ op. IsInRange op.now) }
     requires b { IfSome b (λ op. IsInRange op.now) }
-    ensures { result ≡ both_conflict (option_copied a.entry) (option_copied b.entry) }
+    ensures { result ≡ both_conflict history.now.ops (option_copied a.entry)
+        (option_copied b.entry) }
 {
     match (a, b) {
-        (Some(a), Some(b)) => in_conflict(a, b),
+        (Some(a), Some(b)) => in_conflict(history, a, b),
         _ => false,
     }
 }
 
 #[inline(always)]
-fn in_conflict(a: &Op, b: &Op) -> bool
+fn in_conflict(history: &History, a: &Op, b: &Op) -> bool
     requires a { IsInRange a.now }
     requires b { IsInRange b.now }
-    ensures { result ≡ in_conflict a.now b.now }
+    ensures { result ≡ in_conflict history.now.ops a.now b.now }
 {
-    conflicts(a, b)
+    conflicts(history, a, b)
 }

@@ -2,8 +2,7 @@
 
 ghost use Rattle.std.specs.Prelude.{◌≡◌};
 
-use crate::Ids;
-use gf_ops::ObjectId;
+use gf_ops::{Ids, ObjectId};
 use std::marker::Model;
 
 /// The operations of one version of an object, their ids rising.

@@ -34,7 +34,8 @@ fn rivals(
 
 /// The largest sets of these positions, no two of whose operations conflict.
 ///
-/// Each operation is compared with all before it.
+/// Each operation is compared with all before it, and what the one aims at with what the other
+/// does.
 pub fn groups_at(
     alloc: Global,
     history: &History,

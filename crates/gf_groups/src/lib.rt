@@ -1,13 +1,13 @@
 //! The versions of objects as groups of operations: largest sets of operations on one object, no
 //! two of which conflict.
 //!
-//! - [`groups_of`]: the versions of one object, as [`Groups`], a list of [`Group`]; [`Ids`] lists
-//!   the operations of one.
+//! - [`groups_of`]: the versions of one object, as [`Groups`], a list of [`Group`].
 //! - [`all_groups`]: those of all objects of a history.
 //! - [`GroupFault`]: why there is no such list.
 //! - [`the_versions_are_a_list_that_computes`]: the law.
 //!
-//! For tables of versions: the largest sets of positions without a conflict ([`groups_at`]), and
+//! For tables of versions: whether the operations at two positions conflict ([`conflict_at`]), the
+//! largest sets of positions without a conflict ([`groups_at`]), and
 //! the groups of an object [from](groups_from) such sets, or [added](add_groups) to others.
 #![tactic(auto)]
 
@@ -16,16 +16,15 @@ mod faults;
 mod group;
 mod groups;
 mod growth;
-mod ids;
 mod laws;
 mod listing;
 mod parting;
 mod positions;
 
+pub use conflict::conflict_at;
 pub use faults::GroupFault;
 pub use group::{Group, Groups};
 pub use groups::{all_groups, groups_from, groups_of, is_made};
 pub use growth::groups_at;
-pub use ids::Ids;
 pub use laws::the_versions_are_a_list_that_computes;
 pub use listing::add_groups;

@@ -7,9 +7,9 @@ ghost use Rattle.gf_maximal.specs.Tables.{IsRising};
 ghost use Rattle.gf_groups.specs.GroupedPositions.{positions_below, id_at, ids_at, rising_ids};
 ghost use Rattle.gf_groups.specs.GroupedPositions.{group_at};
 
-use crate::{Group, Ids};
+use crate::Group;
 use gf_maximal::Numbers;
-use gf_ops::{History, ObjectId, Op, OpId};
+use gf_ops::{History, Ids, ObjectId, Op, OpId};
 use gf_shape::OutOfMemory;
 use std::alloc::Global;
 

@@ -14,7 +14,7 @@ use Rattle.gf_ops.specs.declared.change.Start.{Start}
 use Rattle.gf_ops.specs.declared.change.Value.{Value}
 use Rattle.gf_ops.specs.declared.change.Value.TheVariants.{Place, Points, Size, Colour, Layer, Shown}
 use Rattle.gf_ops.specs.Attribute.{change_value, form_value, points_in, set_value, size_in, start_value}
-use Rattle.gf_ops.specs.Limits.{is_change, is_clock, is_form, is_id, is_layer, is_near, is_size, is_value}
+use Rattle.gf_ops.specs.Limits.{is_change, is_clock, is_form, is_id, is_layer, is_near, is_size, is_value, is_aim}
 use Rattle.gf_ops.specs.SettledValue.{IsSettled}
 use Rattle.gf_ops.specs.ValidHistory.{IsValid}
 use Rattle.gf_versions.specs.declared.key.Version.{Version}
@@ -71,7 +71,7 @@ set_fits u v t fits e = absurd cc
 
 change_fits : (c : Change) (t : Attr) (v : Value) → IsTrue (is_change c) → change_value c t ≡ Some v → IsTrue (is_value v)
 change_fits (Create s) t v fits e = start_fits s t v fits e
-change_fits (Set o u) t v fits e = set_fits u v t (and_parts (is_id o.0) (is_value u) fits).1 e
+change_fits (Set o u aim) t v fits e = set_fits u v t (and_parts (is_id o.0) (is_value u) (and_parts (is_id o.0 && is_value u) (is_aim aim) fits).0).1 e
 
 settled_fits : (h : List Op) → IsValid h → (g : List OpId) (t : Attr) (v : Value) → IsSettled h g t v → IsTrue (is_value v)
 settled_fits h valid g t v s =

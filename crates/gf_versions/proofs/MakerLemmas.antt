@@ -15,7 +15,8 @@ use Rattle.gf_ops.specs.declared.change.Form.TheVariants as form
 use Rattle.gf_ops.specs.declared.change.Start.{Start}
 use Rattle.gf_ops.specs.declared.change.Value.{Value}
 use Rattle.gf_ops.specs.declared.change.Value.TheVariants.{Size}
-use Rattle.gf_ops.specs.Attribute.{Kind, Circle, form_value, value_given, change_value, set_value, start_value, size_in, made_kind, kind_of, suits, object_of, changed_object}
+use Rattle.gf_ops.specs.Attribute.{Kind, Circle, form_value, value_given, change_value, set_value, start_value, size_in, made_kind, kind_of, suits, object_of, changed_object, change_aim}
+use Rattle.gf_ops.specs.DirectConflict.{DirectConflict}
 use Rattle.gf_ops.specs.KnownObject.{IsSuited}
 use Rattle.gf_ops.specs.OperationOrder.{Precedes}
 use Rattle.gf_ops.specs.ValidHistory.{IsValid}
@@ -65,7 +66,7 @@ form_sets s f t e i = absurd cc
 
 change_sets : (c : Change) (k : Kind) (t : Attr) → made_kind c ≡ Some k → IsTrue (has k t) → IsSome (change_value c t)
 change_sets (Create s) k t e i = let same : kind_of s.form ≡ k = cc in form_sets s s.form t refl (subst (λ l. IsTrue (has l t)) (sym same) i)
-change_sets (Set o v) k t e i = absurd cc
+change_sets (Set o v aim) k t e i = absurd cc
 
 -- the size of a circle is its radius twice
 form_round : (f : Form) (m n : ℕ) → kind_of f ≡ Circle → size_in (form_value f) ≡ Some (Size m n) → m ≡ n
@@ -76,11 +77,16 @@ set_round : (v : Value) (m n : ℕ) → IsTrue (suits Circle v) → set_value v 
 set_round (Size j k) m n s e = let same = (Decides-eqb j k).0 s in cc
 set_round v m n s e = absurd cc
 
+-- a creation aims at none
+no_aim : (c : Change) → IsSome (made_kind c) → change_aim c ≡ []
+no_aim (Create s) i = refl
+no_aim (Set o v aim) i = absurd cc
+
 module _ (h : List Op) (valid : IsValid h) (o : ObjectId) where
   -- an operation on an object is its creation, or comes after that
   maker_or_after : (maker a : Op) → Contains h maker → maker.id ≡ o.0 → Contains h a → (change : Change) → a.change ≡ change → changed_object a.id change ≡ o → (a.id ≡ o.0) ⊎ Precedes maker a
   maker_or_after maker a x named y (Create start) c e = inl (ap (λ (p : ObjectId). p.0) e)
-  maker_or_after maker a x named y (Set p v) c e =
+  maker_or_after maker a x named y (Set p v aim) c e =
       let known = (subst (IsSuited h a) c (valid.suited a y)).known in
       let one = same_op h valid known.maker maker known.contained x (known.id ∙ (ap (λ (q : ObjectId). q.0) e ∙ sym named)) in
       inr (subst (λ (b : Op). Precedes b a) one known.before)
@@ -99,10 +105,16 @@ module _ (h : List Op) (valid : IsValid h) (o : ObjectId) where
         let made = version.created in
         let clash = version.largest made.op made.contained made.object n in
         let member = clash.member in
-        let apart = clash.conflict.concurrent in
-        absurd (elim (maker_or_after made.op member made.contained made.id clash.is_member.contained member.change refl (sym clash.conflict.one_object ∙ made.object)) [
-          | inl e ↦ apart.different (same_op h valid made.op member made.contained clash.is_member.contained (made.id ∙ sym e))
-          | inr before ↦ apart.not_before before
+        let first : clash.conflict.first ≡ made.op = elim clash.conflict.brings_first [
+          | inl e ↦ e
+          | inr m ↦ absurd (not_Contains-nil clash.conflict.first.id (subst (λ is. Contains is clash.conflict.first.id) (no_aim made.op.change version.makes) m.aimed))
+        ] in
+        let second = clash.conflict.second in
+        let there : Contains h second = elim clash.conflict.brings_second [ inl e ↦ subst (Contains h) (sym e) clash.is_member.contained | inr m ↦ m.contained ] in
+        let direct : DirectConflict made.op second = subst (λ x. DirectConflict x second) first clash.conflict.direct in
+        absurd (elim (maker_or_after made.op second made.contained made.id there second.change refl (sym direct.one_object ∙ made.object)) [
+          | inl e ↦ direct.concurrent.different (same_op h valid made.op second made.contained there (made.id ∙ sym e))
+          | inr before ↦ direct.concurrent.not_before before
         ])
   ]
 
@@ -123,8 +135,8 @@ module _ (h : List Op) (valid : IsValid h) (o : ObjectId) where
       (kind.0, record { maker = made.op; contained = made.contained; id = made.id; kind = kind.1 }, kind.1)
 
   -- the operation under the object's id makes it
-  pub not_set : (g : List OpId) → IsVersion h o g → (a : Op) (p : ObjectId) (v : Value) → Contains h a → a.id ≡ o.0 → a.change ≡ Set p v → ⊥
-  not_set g version a p v x named e =
+  pub not_set : (g : List OpId) → IsVersion h o g → (a : Op) (p : ObjectId) (v : Value) (aim : List OpId) → Contains h a → a.id ≡ o.0 → a.change ≡ Set p v aim → ⊥
+  not_set g version a p v aim x named e =
       let made = version.created in
       let some = subst (λ (b : Op). IsSome (made_kind b.change)) (same_op h valid made.op a made.contained x (made.id ∙ sym named)) version.makes in
       let none = rw e at some in absurd cc
@@ -154,7 +166,7 @@ module _ (h : List Op) (valid : IsValid h) (o : ObjectId) where
       let one = same_op h valid kind.maker a kind.contained x (kind.id ∙ sym (ap (λ (p : ObjectId). p.0) e)) in
       let made : Some (kind_of s.form) ≡ Some Circle = sym (ap made_kind c) ∙ (sym (ap (λ (b : Op). made_kind b.change) one) ∙ kind.kind) in
       form_round s.form m n (cc) gives
-  round_change a m n kind x (Set p v) c e gives =
+  round_change a m n kind x (Set p v aim) c e gives =
       let suited = subst (IsSuited h a) c (valid.suited a x) in
       let known = suited.known in
       let same = one_kind suited.kind Circle (record { maker = known.maker; contained = known.contained; id = known.id ∙ ap (λ (q : ObjectId). q.0) e; kind = known.kind }) kind in

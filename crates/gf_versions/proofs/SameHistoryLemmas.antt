@@ -7,7 +7,9 @@ use Rattle.gf_ops.specs.declared.op.OpId.{OpId}
 use Rattle.gf_ops.specs.declared.op.ObjectId.{ObjectId}
 use Rattle.gf_ops.specs.declared.change.Attr.{Attr}
 use Rattle.gf_ops.specs.declared.change.Value.{Value}
+use Rattle.gf_ops.specs.Aims.{Brings}
 use Rattle.gf_ops.specs.Attribute.{Kind}
+use Rattle.gf_ops.specs.Conflict.{Conflict}
 use Rattle.gf_ops.specs.SettledValue.{IsSettled}
 use Rattle.gf_ops.specs.Version.{ConflictsWithin, HasOn, IsMember, IsOfKind, IsVersion}
 use Rattle.gf_ops.proofs.ListLemmas.{Contains-cons_cases, Contains-cons_head, Contains-cons_tail, not_Contains-nil}
@@ -32,8 +34,14 @@ module _ (h k : List Op) (more : (a : Op) → Contains h a → Contains k a) whe
   is_member : (g : List OpId) (a : Op) → IsMember h g a → IsMember k g a
   is_member g a x = record { contained = more a x.contained; grouped = x.grouped }
 
-  clashes : (g : List OpId) (a : Op) → ConflictsWithin h g a → ConflictsWithin k g a
-  clashes g a x = record { member = x.member; is_member = is_member g x.member x.is_member; conflict = x.conflict }
+  brings : (a x : Op) → Brings h a x → Brings k a x
+  brings a x b = elim b [ inl e ↦ inl e | inr m ↦ inr (record { contained = more x m.contained; aimed = m.aimed }) ]
+
+  conflicts : (a b : Op) → Conflict h a b → Conflict k a b
+  conflicts a b c = record { first = c.first; second = c.second; brings_first = brings a c.first c.brings_first; brings_second = brings b c.second c.brings_second; direct = c.direct }
+
+  clashes : (g : List OpId) (a : Op) → ConflictsWithin (Conflict h) h g a → ConflictsWithin (Conflict k) k g a
+  clashes g a x = record { member = x.member; is_member = is_member g x.member x.is_member; conflict = conflicts a x.member x.conflict }
 
 -- ---- what speaks of all operations goes over to a history of the same ones
 
@@ -51,7 +59,7 @@ module _ (h k : List Op) (same : (a : Op) → Contains h a ↔ Contains k a) whe
     created = has_on h k there o o.0 x.created;
     makes = x.makes;
     members = λ i c. has_on h k there o i (x.members i c);
-    compatible = λ a b m n. x.compatible a b (is_member k h back g a m) (is_member k h back g b n);
+    compatible = λ a b m n c. x.compatible a b (is_member k h back g a m) (is_member k h back g b n) (conflicts k h back a b c);
     largest = λ a c e n. clashes h k there g a (x.largest a (back a c) e n);
   }
 

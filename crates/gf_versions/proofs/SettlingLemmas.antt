@@ -10,12 +10,13 @@ use Rattle.gf_ops.specs.declared.op.ObjectId.{ObjectId}
 use Rattle.gf_ops.specs.declared.change.Attr.{Attr}
 use Rattle.gf_ops.specs.declared.change.Value.{Value}
 use Rattle.gf_ops.specs.Attribute.{value_given}
-use Rattle.gf_ops.specs.Conflict.{Conflict}
+use Rattle.gf_ops.specs.DirectConflict.{DirectConflict}
 use Rattle.gf_ops.specs.ConflictTests.{value_eq}
 use Rattle.gf_ops.specs.OperationOrder.{Precedes, entry}
 use Rattle.gf_ops.specs.SettledValue.{IsSettled}
 use Rattle.gf_ops.specs.ValidHistory.{IsValid}
 use Rattle.gf_ops.specs.Version.{IsMember, IsVersion}
+use Rattle.gf_ops.proofs.ConflictLemmas.{conflict_direct}
 use Rattle.gf_ops.proofs.HistoryLemmas.{site_in_range, seq_in_range}
 use Rattle.gf_ops.proofs.ListLemmas.{Contains-cons_head, Contains-cons_tail, not_Contains-nil}
 use Rattle.gf_ops.proofs.SameLemmas.{value_eq-same, value_eq-true}
@@ -118,7 +119,7 @@ module _ (h : List Op) (valid : IsValid h) (o : ObjectId) (g : List OpId) (versi
   pub settled_once : (t : Attr) (v w : Value) → IsSettled h g t v → IsSettled h g t w → v ≡ w
   settled_once t v w x y = elim (cases_Bool (value_eq v w)) [
     | inl s ↦ value_eq-true v w s
-    | inr f ↦ absurd (version.compatible x.setter y.setter x.member y.member (apart f))
+    | inr f ↦ absurd (version.compatible x.setter y.setter x.member y.member (conflict_direct h x.setter y.setter (apart f)))
   ]
     where
       differ : value_eq v w ≡ false → v ≢ w
@@ -129,7 +130,7 @@ module _ (h : List Op) (valid : IsValid h) (o : ObjectId) (g : List OpId) (versi
           let same : Some v ≡ Some w = sym x.gives ∙ (ap (λ (a : Op). value_given a t) e ∙ y.gives) in
           differ f cc
 
-      apart : value_eq v w ≡ false → Conflict x.setter y.setter
+      apart : value_eq v w ≡ false → DirectConflict x.setter y.setter
       apart f = record {
         concurrent = record {
           different = two f;

@@ -36,23 +36,23 @@ use Rattle.gf_versions.proofs.SettlingLemmas.{settled_once, settles}
 
 place_given : (c : Change) (v : Value) → change_value c attr.Place ≡ Some v → (p : Point) × (v ≡ Place p)
 place_given (Create s) v e = (s.place, (cc))
-place_given (Set o (Place p)) v e = (p, (cc))
-place_given (Set o w) v e = absurd cc
+place_given (Set o (Place p) aim) v e = (p, (cc))
+place_given (Set o w aim) v e = absurd cc
 
 colour_given : (c : Change) (v : Value) → change_value c attr.Colour ≡ Some v → (d : Rgb) × (v ≡ Colour d)
 colour_given (Create s) v e = (s.colour, (cc))
-colour_given (Set o (Colour d)) v e = (d, (cc))
-colour_given (Set o w) v e = absurd cc
+colour_given (Set o (Colour d) aim) v e = (d, (cc))
+colour_given (Set o w aim) v e = absurd cc
 
 layer_given : (c : Change) (v : Value) → change_value c attr.Layer ≡ Some v → (n : ℕ) × (v ≡ Layer n)
 layer_given (Create s) v e = (s.layer, (cc))
-layer_given (Set o (Layer n)) v e = (n, (cc))
-layer_given (Set o w) v e = absurd cc
+layer_given (Set o (Layer n) aim) v e = (n, (cc))
+layer_given (Set o w aim) v e = absurd cc
 
 shown_given : (c : Change) (v : Value) → change_value c attr.Shown ≡ Some v → (b : Bool) × (v ≡ Shown b)
 shown_given (Create s) v e = (s.shown, (cc))
-shown_given (Set o (Shown b)) v e = (b, (cc))
-shown_given (Set o w) v e = absurd cc
+shown_given (Set o (Shown b) aim) v e = (b, (cc))
+shown_given (Set o w aim) v e = absurd cc
 
 form_size : (f : Form) (v : Value) → size_in (form_value f) ≡ Some v → (m : ℕ) × (n : ℕ) × (v ≡ Size m n)
 form_size (form.Rect width height) v e = (width, height, (cc))
@@ -62,8 +62,8 @@ form_size (form.Polygon ps) v e = absurd cc
 
 size_given : (c : Change) (v : Value) → change_value c attr.Size ≡ Some v → (m : ℕ) × (n : ℕ) × (v ≡ Size m n)
 size_given (Create s) v e = form_size s.form v e
-size_given (Set o (Size m n)) v e = (m, n, (cc))
-size_given (Set o w) v e = absurd cc
+size_given (Set o (Size m n) aim) v e = (m, n, (cc))
+size_given (Set o w aim) v e = absurd cc
 
 form_points : (f : Form) (v : Value) → points_in (form_value f) ≡ Some v → (ps : List Point) × (v ≡ Points ps)
 form_points (form.Polygon ps) v e = (ps, (cc))
@@ -71,8 +71,8 @@ form_points f v e = absurd cc
 
 points_given : (c : Change) (v : Value) → change_value c attr.Points ≡ Some v → (ps : List Point) × (v ≡ Points ps)
 points_given (Create s) v e = form_points s.form v e
-points_given (Set o (Points ps)) v e = (ps, (cc))
-points_given (Set o w) v e = absurd cc
+points_given (Set o (Points ps) aim) v e = (ps, (cc))
+points_given (Set o w aim) v e = absurd cc
 
 module _ (h : List Op) (valid : IsValid h) (g : Group) (version : IsVersionGroup h g) where
   -- the settled size of a circle is its radius twice

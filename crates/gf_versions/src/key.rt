@@ -7,8 +7,7 @@ ghost use Rattle.std.proofs.lemmas.Cmp.{eq_by_cmp_equiv};
 ghost use Rattle.gf_versions.specs.Above.{key_cmp};
 ghost use Rattle.gf_versions.specs.KeyOrder.{key_cmp_total};
 
-use gf_groups::Ids;
-use gf_ops::{Form, ObjectId};
+use gf_ops::{Form, Ids, ObjectId};
 use gf_shape::{Point, Rgb};
 use std::cmp::Ordering;
 

@@ -8,8 +8,8 @@ ghost use Rattle.gf_versions.specs.VersionOf.{IsVersionOf};
 
 use crate::giving::{colour, layer, place, points, sets, shown, size};
 use crate::{Version, VersionKey};
-use gf_groups::{Group, Ids};
-use gf_ops::{Attr, Change, Form, History, Op, OpId, before};
+use gf_groups::Group;
+use gf_ops::{Attr, Change, Form, History, Ids, Op, OpId, before};
 use gf_shape::OutOfMemory;
 use std::alloc::Global;
 
@@ -24,7 +24,7 @@ pub fn settle(alloc: Global, history: &History, group: &Group) -> Result<Version
         key: VersionKey {
             layer: layer(last_setter(history, group, Attr::Layer)),
             object: group.object,
-            ops: copied(alloc, group.ops.as_slice())?,
+            ops: group.ops.copy(alloc)?,
         },
         form: settled_form(alloc, history, group)?,
         place: place(last_setter(history, group, Attr::Place)),
@@ -92,13 +92,4 @@ fn maker<'a>(history: &'a History, group: &Group) -> &'a Op
         Some(op) => op,
         None => unreachable!(),
     }
-}
-
-/// The same ids once more.
-fn copied(alloc: Global, ids: &[OpId]) -> Result<Ids, OutOfMemory>
-    ensures { IfOk result (λ copy. copy ≡ ids.now) }
-{
-    let mut copy = Vec::new(alloc);
-    copy.extend_from_slice(ids)?;
-    Ok(Ids::new(copy))
 }

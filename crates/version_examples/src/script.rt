@@ -1,9 +1,10 @@
 //! The commands of the tables, which act on a history.
 
 use crate::version_commands;
-use example_parts::notation::operation;
+use example_parts::notation::{change, id, operation, point, yes};
 use example_parts::{Answers, ask};
-use gf_ops::History;
+use gf_inspect::aimed_at;
+use gf_ops::{Change, History, conflicts, direct_conflict};
 use std::alloc::Global;
 use std::test::Fail;
 
@@ -61,6 +62,57 @@ fn told_of(alloc: Global, history: &History, verb: &str, text: &str) -> Option<S
         "looks" => version_commands::looks(alloc, history, text),
         "covers" => version_commands::covers(alloc, history, text),
         "settled" => version_commands::settled(alloc, history),
+        "check" => checked(alloc, history, text),
+        "conflict" => standing(alloc, history, text),
+        "aimed" => aimed(alloc, history, text),
         _ => None,
+    }
+}
+
+/// Whether the history takes an operation in range, or its fault.
+fn checked(alloc: Global, history: &History, text: &str) -> Option<String> {
+    let op = operation(alloc, text)?;
+    if !op.in_range() {
+        return String::from_str(alloc, "out of range").ok();
+    }
+    match history.check(&op) {
+        Ok(()) => String::from_str(alloc, "ok").ok(),
+        Err(fault) => format!(in alloc; "{fault}").ok(),
+    }
+}
+
+/// Whether two operations of the history conflict, and whether directly.
+fn standing(alloc: Global, history: &History, text: &str) -> Option<String> {
+    let (first, second) = text.split_once(' ')?;
+    let a = history.get(id(first)?)?;
+    let b = history.get(id(second)?)?;
+    if a.in_range() && b.in_range() {
+        told_standing(alloc, conflicts(history, a, b), direct_conflict(a, b))
+    } else {
+        None
+    }
+}
+
+fn told_standing(alloc: Global, conflict: bool, direct: bool) -> Option<String> {
+    let word = match (conflict, direct) {
+        (true, true) => "directly",
+        (true, false) => "by aims",
+        (false, false) => "no",
+        (false, true) => "directly alone",
+    };
+    String::from_str(alloc, word).ok()
+}
+
+/// Of `10,10: 1.1 layer 7 aim 1.1 1.2`, whether a value that is aimed at the point makes this
+/// change.
+fn aimed(alloc: Global, history: &History, text: &str) -> Option<String> {
+    let (place, what) = text.split_once(": ")?;
+    let Change::Set { value, .. } = change(alloc, what)? else {
+        return None;
+    };
+    let found = aimed_at(alloc, history, point(place)?, value).ok()?;
+    match found {
+        Some(found) => String::from_str(alloc, yes(found == change(alloc, what)?)).ok(),
+        None => String::from_str(alloc, "none").ok(),
     }
 }

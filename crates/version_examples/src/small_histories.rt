@@ -4,7 +4,7 @@ use crate::version_commands::text_of;
 use example_parts::notation::push_ids;
 use example_parts::{BLUE, GREEN, changed, create};
 use gf_groups::groups_of;
-use gf_ops::{AddFault, Form, History, ObjectId, Op, OpId, Value, conflicts};
+use gf_ops::{AddFault, Form, History, ObjectId, Op, OpId, Value, direct_conflict};
 use std::alloc::Global;
 use std::test::Fail;
 
@@ -12,7 +12,7 @@ const BOX: OpId = OpId { site: 1, seq: 1 };
 
 /// The change of the box 1.1 that a code below 20 tells of: site 1 or 2 gives it one of two colours
 /// and knows so many operations of the other site.
-fn coded(code: u32, history: &History) -> Op {
+fn coded(alloc: Global, code: u32, history: &History) -> Op {
     let colour = if code / 2 % 2 == 0 { BLUE } else { GREEN };
     let known = code / 4 % 5;
     let (site, own) = if code % 2 == 0 {
@@ -26,7 +26,7 @@ fn coded(code: u32, history: &History) -> Op {
         [known, own, 0, 0, 0, 0, 0, 0]
     };
     let seq = own.saturating_add(1);
-    changed(OpId { site, seq }, past, BOX, Value::Colour(colour))
+    changed(alloc, OpId { site, seq }, past, BOX, Value::Colour(colour))
 }
 
 /// Adds an operation, if it is valid.
@@ -43,7 +43,7 @@ fn small(alloc: Global, codes: &[u32]) -> Result<Option<History>, AddFault> {
     let mut history = History::new(alloc);
     adds(&mut history, create(1, 1, [0; 8], Form::Rect(10, 10)))?;
     for code in codes {
-        let op = coded(*code, &history);
+        let op = coded(alloc, *code, &history);
         if !adds(&mut history, op)? {
             return Ok(None);
         }
@@ -52,7 +52,7 @@ fn small(alloc: Global, codes: &[u32]) -> Result<Option<History>, AddFault> {
 }
 
 fn clash(a: &Op, b: &Op) -> bool {
-    a.in_range() && b.in_range() && conflicts(a, b)
+    a.in_range() && b.in_range() && direct_conflict(a, b)
 }
 
 /// Whether the set has the operation with this index.

@@ -19,7 +19,7 @@ loop-set-init c =
 
 pub loop-set-preserved : goal.loop-set-preserved
 loop-set-preserved c =
-    let ops : c.in_ok-ops.ops ≡ rising_ids c.args.history.now.ops c.in-Some.set = rw (c.deref.ensures.value, c.in_ok-to_vec.ensures) at c.in_ok-ops.ensures in
+    let ops : c.in_ok-ops.ops ≡ rising_ids c.args.history.now.ops c.in-Some.set = rw (c.deref.ensures.value, c.in_ok-to_vec.ensures.value) at c.in_ok-ops.ensures in
     let pushed : c.push.new.self.items ≡ c.loop-set.groups.items ++ group_at c.args.history.now.ops c.args.object c.in-Some.set ∷ [] =
     c.in_ok-push.ensures.items ∙ ap (λ ids. c.loop-set.groups.items ++ record { object = c.args.object; ops = ids } ∷ []) ops in
     record {

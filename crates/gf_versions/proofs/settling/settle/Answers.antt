@@ -1,4 +1,4 @@
-use Rattle.std.proofs.Common.{◌≡◌, ◌∙◌}
+use Rattle.std.proofs.Common.{◌≡◌}
 use Rattle.gf_ops.specs.declared.change.Attr.TheVariants as attr
 use Rattle.gf_ops.specs.declared.change.Value.TheVariants.{Place, Colour, Layer, Shown}
 use Rattle.gf_versions.proofs.SettlingLemmas.{settled_by}
@@ -9,7 +9,7 @@ returns-clause-version c =
     let h = c.args.history.now.ops in
     let g = c.args.group.now in
     let form = c.in_ok-settled_form.ensures in
-    let ids : c.in_ok-copied.field-0 ≡ g.ops = c.in_ok-copied.ensures ∙ c.as_slice.ensures in
+    let ids : c.in_ok-copy.field-0 ≡ g.ops = c.in_ok-copy.ensures in
     rw ids (record {
       version = c.requires;
       kind = form.kind;

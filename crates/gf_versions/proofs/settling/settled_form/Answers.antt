@@ -12,7 +12,7 @@ use Rattle.gf_versions.proofs.settling.settled_form.Goals as goal
 pub unreachable-requires : goal.unreachable-requires
 unreachable-requires c =
     let made = c.maker.ensures in
-    not_set c.args.history.now.ops made.valid c.args.group.now.object c.args.group.now.ops c.requires c.maker.result.now c.in_default.field-0 c.in_default.field-1 made.contained made.id c.in_default.is
+    not_set c.args.history.now.ops made.valid c.args.group.now.object c.args.group.now.ops c.requires c.maker.result.now c.in_default.field-0 c.in_default.field-1 c.in_default.field-2 made.contained made.id c.in_default.is
 
 pub last_setter-requires-clause-has : goal.last_setter-requires-clause-has
 last_setter-requires-clause-has c =
