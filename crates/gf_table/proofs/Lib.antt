@@ -4,3 +4,4 @@ pub mod StateLemmas
 pub mod StandsLemmas
 pub mod FittingLemmas
 pub mod ListedLemmas
+pub mod MetLemmas

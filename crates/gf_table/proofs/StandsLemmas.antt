@@ -11,6 +11,7 @@ use Rattle.gf_maximal.proofs.ImageLemmas.{Made}
 use Rattle.std.proofs.lemmas.Option.{get_or_from_slice_get, slice_get_within}
 use Rattle.gf_ops.specs.declared.op.Op.{Op}
 use Rattle.gf_ops.specs.declared.op.ObjectId.{ObjectId}
+use Rattle.gf_ops.specs.declared.op.OpId.{OpId}
 use Rattle.gf_ops.specs.declared.change.Change.{Change}
 use Rattle.gf_ops.specs.declared.change.Change.TheVariants.{Create, Set}
 use Rattle.gf_ops.specs.Accepted.{IsAccepted}
@@ -42,13 +43,13 @@ at_told o q t = object_cmp_exact o q (equal_left (object_cmp o q) t)
 
 -- ---- one more operation
 
-module _ (h : List Op) (a : Op) where
+module _ (h : List Op) (valid : IsValid h) (a : Op) (in_range : IsInRange a) (accepted : IsAccepted h a) where
   abbrev longer : List Op
   longer = h ++ a ∷ []
 
   -- the state of an object that the operation is not on
   stands_kept : (q : ObjectId) → object_of a ≢ q → (r : Option ObjectState) → Stands h q r → Stands longer q r
-  stands_kept q off (Some t) s = state_kept h q t s a (λ v e. off (ap (changed_object a.id) e))
+  stands_kept q off (Some t) s = state_kept h q t s a valid in_range accepted (λ v aim e. off (ap (changed_object a.id) e))
   stands_kept q off None s = λ b i. elim (Contains-push_cases h a b i) [ inl j ↦ s b j | inr e ↦ subst (λ (z : Op). object_of z ≢ q) e off ]
 
   -- the operation's object has the new state, and the rest stays
@@ -128,7 +129,7 @@ module _ (h : List Op) (o : ObjectId) where
               (stands_on t.maker s.maker.op s.maker.at (λ i. record { 0 = (made_object s.maker.op.id s.maker.op.change s.maker.kind s.maker.made ∙ s.maker.id) i })))
           | inr w ↦
               let k = setter_at h o t s n w.0 w.1 in
-              subst (λ z. is_on o (slice_get h z) ≡ true) (sym (number_at h o t s.tells n w.0 w.1)) (stands_on w.0 k.0 k.1 (ap (changed_object k.0.id) k.2.1))
+              subst (λ z. is_on o (slice_get h z) ≡ true) (sym (number_at h o t s.tells n w.0 w.1)) (stands_on w.0 k.0 k.1 (ap (changed_object k.0.id) k.4))
         ]
 
         -- an operation of h on the object is its creation or a setter
@@ -141,9 +142,9 @@ module _ (h : List Op) (o : ObjectId) where
                 let one : b ≡ s.maker.op = same_op h valid b s.maker.op (contained_at h i b at) (contained_at h t.maker s.maker.op s.maker.at) (id ∙ sym s.maker.id) in
                 let same : i ≡ t.maker = one_position h valid i t.maker b at (s.maker.at ∙ ap (λ z. Some z) (sym one)) in
                 (maker_number, (s.exactly maker_number).1 (inl refl), same ∙ sym (maker_position h o t s.tells))
-            by_change (Set p v) e =
+            by_change (Set p v aim) e =
                 let named : p ≡ o = ap (changed_object b.id) (sym e) ∙ on in
-                let k = s.tells.all i b v at (subst (λ z. b.change ≡ Set z v) named e) in
+                let k = s.tells.all i b v aim at (subst (λ z. b.change ≡ Set z v aim) named e) in
                 (k.0, (s.exactly k.0).1 (inr (i, k.1)), sym (number_at h o t s.tells k.0 i k.1))
 
         numbered : (i : ℕ) → is_on o (slice_get h i) ≡ true → Made f (whole t.components).all i
@@ -162,16 +163,16 @@ there h o r t s e = subst (Stands h o) e s
 
 module _ (h : List Op) (valid : IsValid h) (a : Op) (in_range : IsInRange a) (accepted : IsAccepted h a) where
   -- no operation changes an object before it is created
-  pub none_before : (o : ObjectId) → o.0 ≡ a.id → (q : ℕ) (b : Op) (v : Value) → slice_get h q ≡ Some b → b.change ≢ Set o v
-  none_before o id q b v at e =
+  pub none_before : (o : ObjectId) → o.0 ≡ a.id → (q : ℕ) (b : Op) (v : Value) (aim : List OpId) → slice_get h q ≡ Some b → b.change ≢ Set o v aim
+  none_before o id q b v aim at e =
       let inside = contained_at h q b at in
-      let suited : IsSuited h b (Set o v) = subst (IsSuited h b) e (valid.suited b inside) in
+      let suited : IsSuited h b (Set o v aim) = subst (IsSuited h b) e (valid.suited b inside) in
       let maker = suited.known in
       fresh h valid a in_range accepted maker.maker maker.contained (maker.id ∙ id)
 
   -- a changed object has an operation before
-  pub some_before : (o : ObjectId) (v : Value) → a.change ≡ Set o v → ((b : Op) → Contains h b → object_of b ≢ o) → ⊥
-  some_before o v e none =
-      let suited : IsSuited h a (Set o v) = subst (IsSuited h a) e accepted.suited in
+  pub some_before : (o : ObjectId) (v : Value) (aim : List OpId) → a.change ≡ Set o v aim → ((b : Op) → Contains h b → object_of b ≢ o) → ⊥
+  some_before o v aim e none =
+      let suited : IsSuited h a (Set o v aim) = subst (IsSuited h a) e accepted.suited in
       let maker = suited.known in
       none maker.maker maker.contained (λ i. record { 0 = (made_object maker.maker.id maker.maker.change suited.kind maker.kind ∙ maker.id) i })

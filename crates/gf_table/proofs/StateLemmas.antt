@@ -1,5 +1,5 @@
 -- The state of an object, when one operation comes: made, kept or grown.
-use Rattle.std.proofs.Common.{◌≡◌, ◌≢◌, ℕ, ◌+◌, ◌-◌, ◌*◌, ◌<◌, List, [], ◌∷◌, ◌++◌, get_or, length, inl, inr, refl, subst, sym, ap, ◌∙◌, arith}
+use Rattle.std.proofs.Common.{◌≡◌, ◌≢◌, ℕ, true, ◌+◌, ◌-◌, ◌*◌, ◌<◌, List, [], ◌∷◌, ◌++◌, get_or, length, inl, inr, refl, subst, sym, ap, ◌∙◌, arith}
 use Rattle.std.specs.Prelude.{◌⊎◌, ◌↔◌, Contains, IfSome, Option, Some, None, slice_get, unwrap_or}
 use Rattle.std.specs.Ordering.{nat_cmp}
 use Rattle.std.proofs.lemmas.Cmp.{nat_cmp_total}
@@ -7,25 +7,25 @@ use Rattle.std.proofs.lemmas.Option.{slice_get_within}
 use Rattle.gf_ops.specs.declared.op.Op.{Op}
 use Rattle.gf_ops.specs.declared.op.ObjectId.{ObjectId}
 use Rattle.gf_ops.specs.declared.change.Attr.{Attr}
-use Rattle.gf_ops.specs.declared.change.Change.TheVariants.{Set}
+use Rattle.gf_ops.specs.declared.change.Change.{Change}
+use Rattle.gf_ops.specs.declared.change.Change.TheVariants.{Create, Set}
+use Rattle.gf_ops.specs.declared.change.Start.{Start}
+use Rattle.gf_ops.specs.declared.op.OpId.{OpId}
 use Rattle.gf_ops.specs.declared.change.Value.{Value}
 use Rattle.gf_ops.specs.Accepted.{IsAccepted}
-use Rattle.gf_ops.specs.Attribute.{Kind, attribute_of, made_kind}
+use Rattle.gf_ops.specs.Attribute.{Kind, aim_of, attribute_of, made_kind}
 use Rattle.gf_ops.specs.Conflict.{Conflict}
-use Rattle.gf_ops.specs.KnownObject.{IsSuited}
 use Rattle.gf_ops.specs.Limits.{IsInRange}
-use Rattle.gf_ops.specs.OperationOrder.{Precedes}
 use Rattle.gf_ops.specs.ValidHistory.{IsValid}
 use Rattle.gf_ops.proofs.ListLemmas.{Contains-cons_cases, Contains-cons_head, not_Contains-nil}
-use Rattle.gf_ops.proofs.ValidityLemmas.{same_op}
 use Rattle.gf_maximal.proofs.LargestLemmas.{IsConflict}
 use Rattle.gf_maximal.proofs.RisingLemmas.{rising_cons, rising_nil}
-use Rattle.gf_components.specs.Components.{ComponentsState, after, whole}
+use Rattle.gf_components.specs.Components.{after, whole}
 use Rattle.gf_components.specs.Separate.{AreComponents, ComesTo}
 use Rattle.gf_components.proofs.AgreeLemmas.{components_agree}
 use Rattle.gf_components.proofs.ComponentLemmas.{components_after}
-use Rattle.gf_groups.specs.Growing.{both_conflict, conflict_at}
-use Rattle.gf_groups.proofs.OnPositionLemmas.{conflict_from, conflict_with, contained_at}
+use Rattle.gf_groups.specs.Growing.{conflict_at}
+use Rattle.gf_groups.proofs.OnPositionLemmas.{conflict_from, contained_at}
 use Rattle.gf_groups.proofs.TableLemmas.{conflict_at_test}
 use Rattle.gf_rivals.specs.declared.chain.Setter.{Setter}
 use Rattle.gf_rivals.specs.declared.fingerprint.Fingerprint.{Fingerprint}
@@ -35,14 +35,19 @@ use Rattle.gf_rivals.specs.Setters.{block}
 use Rattle.gf_ops.specs.declared.op.Clock.{Clock}
 use Rattle.gf_rivals.specs.Chains.{IsUnknown, chain_of, no_chains, position_of, setters, with_setter}
 use Rattle.gf_rivals.specs.Rivals.{AreRivals, IsNumber, Tells}
-use Rattle.gf_rivals.specs.Rivals.{IsConflict as ConflictsAt}
+use Rattle.gf_rivals.specs.Aimed.{AimedState, AimsAtOne, AreAimed, AreNumbersOf, Clash}
+use Rattle.gf_rivals.specs.Aimed.{IsConflict as ConflictsAt}
+use Rattle.gf_rivals.proofs.AimRivalLemmas.{aim_met, aims_conflict, clash_numbers, maker_calm}
+use Rattle.gf_rivals.proofs.AimedStateLemmas.{aimed_more, aimed_none, aimed_other, none_aimed}
+use Rattle.gf_components.proofs.ReachLemmas.{conflict_reached}
+use Rattle.gf_ops.proofs.ConflictLemmas.{conflict_direct}
 use Rattle.gf_rivals.proofs.NumberLemmas.{number_below, number_from, position_is, position_none}
 use Rattle.gf_rivals.proofs.NumberLemmas as numbers
 use Rattle.gf_rivals.proofs.RivalLemmas.{rivals_conflict}
 use Rattle.gf_rivals.proofs.TellsLemmas.{behind_all, empty_tells, index_other, index_setter, last_number, number_cases, numbered, tells_other, tells_setter}
 use Rattle.gf_table.specs.ObjectState.{ObjectState, made, maker_number, number_conflict, position_in}
-use Rattle.gf_table.specs.Standing.{IsMaker, IsStateOf}
-use Rattle.gf_table.proofs.LongerLemmas.{got_before, got_cases, got_last, same_before, same_conflict}
+use Rattle.gf_table.specs.Standing.{IsMaker, IsMetByAim, IsStateOf, with_aim}
+use Rattle.gf_table.proofs.LongerLemmas.{got_before, got_cases, got_last, last_from, last_with, same_conflict}
 
 -- numbers conflict as what stands at their positions
 pub numbers_test : (h : List Op) (t : ObjectState) → IsConflict (number_conflict h t)
@@ -55,6 +60,11 @@ pub if_some : {X : Type 0} {P Q : X → Type 0} (r : Option X) → ((x : X) → 
 if_some (Some x) f p = f x p
 if_some None f p = tt
 
+-- what makes an object creates it
+made_by : (c : Change) (k : Kind) → made_kind c ≡ Some k → (s : Start) × (c ≡ Create s)
+made_by (Create start) k e = (start, refl)
+made_by (Set o v aim) k e = absurd cc
+
 -- the creation stands in no chain
 pub maker_position : (h : List Op) (o : ObjectId) (t : ObjectState) → Tells h o t.chains → position_in t maker_number ≡ t.maker
 maker_position h o t tells = ap (λ r. unwrap_or r t.maker) (position_none h o t.chains tells maker_number (λ q k. let l = number_below h o t.chains tells maker_number q k in omega (arith, l)))
@@ -64,10 +74,10 @@ pub number_at : (h : List Op) (o : ObjectId) (t : ObjectState) → Tells h o t.c
 number_at h o t tells n q k = ap (λ r. unwrap_or r t.maker) (position_is h o t.chains tells n q k)
 
 module _ (h : List Op) (o : ObjectId) (t : ObjectState) (s : IsStateOf h o t) where
-  pub setter_at : (n q : ℕ) → IsNumber t.chains n q → (op : Op) × (slice_get h q ≡ Some op) × ((v : Value) × (op.change ≡ Set o v))
+  pub setter_at : (n q : ℕ) → IsNumber t.chains n q → (op : Op) × (slice_get h q ≡ Some op) × (v : Value) × (aim : List OpId) × (op.change ≡ Set o v aim)
   setter_at n q k =
       let i = s.tells.each k.attribute k.site k.place k.setter k.within k.at in
-      (i.op, subst (λ z. slice_get h z ≡ Some i.op) k.position i.at, (i.value, i.change))
+      (i.op, subst (λ z. slice_get h z ≡ Some i.op) k.position i.at, i.value, i.aim, i.change)
 
   number_within : (n q : ℕ) → IsNumber t.chains n q → q < length h
   number_within n q k = numbers.number_within h o t.chains s.tells n q k
@@ -95,7 +105,7 @@ module _ (h : List Op) (o : ObjectId) (t : ObjectState) (s : IsStateOf h o t) wh
       let w = setter_at n q k in
       let one : s.maker.op ≡ w.0 = let x = s.maker.at in let y = w.1 in let z : slice_get h t.maker ≡ Some w.0 = subst (λ p. slice_get h p ≡ Some w.0) (sym e) y in cc in
       let made = s.maker.made in
-      let set : made_kind s.maker.op.change ≡ None = ap made_kind (ap (λ (z : Op). z.change) one ∙ w.2.1) in
+      let set : made_kind s.maker.op.change ≡ None = ap made_kind (ap (λ (z : Op). z.change) one ∙ w.4) in
       absurd cc
 
   -- two numbers of one position are one
@@ -121,19 +131,20 @@ module _ (h : List Op) (o : ObjectId) (t : ObjectState) (s : IsStateOf h o t) wh
     maker_still = record { op = s.maker.op; at = got_before h a t.maker s.maker.op s.maker.at; id = s.maker.id; kind = s.maker.kind; made = s.maker.made }
 
     -- ANOTHER OPERATION, which does not set anything of the object
-    pub state_kept : ((v : Value) → a.change ≢ Set o v) → IsStateOf longer o t
-    state_kept n = record {
+    pub state_kept : IsValid h → IsInRange a → IsAccepted h a → ((v : Value) (aim : List OpId) → a.change ≢ Set o v aim) → IsStateOf longer o t
+    state_kept valid in_range accepted n = record {
       maker = maker_still;
       tells = tells_other h o t.chains s.tells a n;
       index = if_some t.index (λ ix. index_other h o t.chains s.tells a ix) s.index;
+      aimed = aimed_other h o t.chains s.tells a t.aimed s.aimed;
       components = components_agree (number_conflict h t) (number_conflict longer t) t.components
-          (λ i j k l. same_conflict h a (position_in t i) (position_in t j) (position_within i k) (position_within j l)) s.components;
+          (λ i j k l. same_conflict h a valid in_range accepted (position_in t i) (position_in t j) (position_within i k) (position_within j l)) s.components;
       exactly = s.exactly;
     }
 
     -- ONE MORE SETTER, whose rivals are d
-    module _ (valid : IsValid h) (in_range : IsInRange a) (accepted : IsAccepted h a) (v : Value) (change : a.change ≡ Set o v)
-        (d : List ℕ) (rivals : AreRivals h o t.chains v a.past d) where
+    module _ (valid : IsValid h) (in_range : IsInRange a) (accepted : IsAccepted h a) (v : Value) {aim : List OpId} (change : a.change ≡ Set o v aim)
+        (d : List ℕ) (rivals : (n : ℕ) → Contains d n ↔ ConflictsAt h t.chains a n) where
       abbrev site : ℕ
       site = a.id.site - 1
 
@@ -143,9 +154,9 @@ module _ (h : List Op) (o : ObjectId) (t : ObjectState) (s : IsStateOf h o t) wh
       abbrev x : ℕ
       x = chain_of (attribute_of v) site * block + length (setters t.chains (attribute_of v) site)
 
-      module _ (i : Option (List (Fingerprint × List ℕ))) (index : IfSome i (IsIndex longer chains)) where
+      module _ (i : Option (List (Fingerprint × List ℕ))) (index : IfSome i (IsIndex longer chains)) (es : List AimedState) (aimed : AreAimed longer chains es) where
         abbrev pub grown : ObjectState
-        grown = record { chains = chains; index = i; components = after d x t.components; maker = t.maker }
+        grown = record { chains = chains; index = i; aimed = es; components = after d x t.components; maker = t.maker }
 
         tells : Tells longer o chains
         tells = tells_setter h o t.chains s.tells a valid in_range accepted v change
@@ -177,50 +188,41 @@ module _ (h : List Op) (o : ObjectId) (t : ObjectState) (s : IsStateOf h o t) wh
 
         before : AreComponents (number_conflict longer grown) t.components
         before = components_agree (number_conflict h t) (number_conflict longer grown) t.components (λ i j k l.
-            same_conflict h a (position_in t i) (position_in t j) (position_within i k) (position_within j l)
+            same_conflict h a valid in_range accepted (position_in t i) (position_in t j) (position_within i k) (position_within j l)
             ∙ (ap (λ z. conflict_at longer z (position_in t j)) (sym (as_before i k)) ∙ ap (conflict_at longer (position_in grown i)) (sym (as_before j l)))) s.components
 
         -- the number of the operation is new
         is_new : ¬ (Contains (whole t.components).all x)
         is_new i = let l = position_within x i in let e = as_before x i in let f = at_last in omega (arith, l, e, f)
 
-        -- the creation does not conflict with it, since its site knew that
-        known_maker : (b : Op) → slice_get h t.maker ≡ Some b → Conflict a b → ⊥
+        -- the creation does not conflict with it
+        known_maker : (b : Op) → slice_get h t.maker ≡ Some b → ¬ (Conflict h a b)
         known_maker b at k =
-            let suited : IsSuited h a (Set o v) = subst (IsSuited h a) change accepted.suited in
-            let knows = suited.known in
             let mine : s.maker.op ≡ b = let y = s.maker.at in cc in
-            let id : b.id ≡ o.0 = subst (λ (z : Op). z.id ≡ o.0) mine s.maker.id in
-            let one : knows.maker ≡ b = same_op h valid knows.maker b knows.contained (contained_at h t.maker b at) (knows.id ∙ sym id) in
-            k.concurrent.not_after (subst (λ (z : Op). Precedes z a) one knows.before)
+            let m = made_by s.maker.op.change s.maker.kind s.maker.made in
+            maker_calm h o t.chains s.tells valid a accepted v change b (contained_at h t.maker b at) m.0 (ap (λ (z : Op). z.change) (sym mine) ∙ m.1) k
 
-        conflict_last : (n q : ℕ) → position_in grown n ≡ q → number_conflict longer grown x n ≡ both_conflict (Some a) (slice_get longer q)
-        conflict_last n q e = ap (λ z. both_conflict z (slice_get longer (position_in grown n))) (ap (slice_get longer) at_last ∙ got_last h a) ∙ ap (λ z. both_conflict (Some a) (slice_get longer z)) e
-
-        at_old : (q : ℕ) → q < length h → slice_get longer q ≡ slice_get h q
-        at_old q l = same_before h a q l
-
-        rivals_are : (n : ℕ) → Contains d n ↔ ConflictsAt h t.chains a n
-        rivals_are n = rivals_conflict h o t.chains s.tells valid a in_range accepted v change d rivals n
+        conflict_last : (n q : ℕ) → position_in grown n ≡ q → number_conflict longer grown x n ≡ conflict_at longer (length h) q
+        conflict_last n q e = ap (λ z. conflict_at longer z (position_in grown n)) at_last ∙ ap (conflict_at longer (length h)) e
 
         comes : ComesTo (number_conflict longer grown) t.components x d
         comes = record {
           fresh = is_new;
           rivals = λ n. (
             λ i.
-                let k = (rivals_are n).0 i in
-                let told = conflict_from (Some a) (slice_get longer k.position) a k.op refl (got_before h a k.position k.op k.at) k.conflict in
+                let k = (rivals n).0 i in
+                let told = last_from h a valid in_range accepted k.position k.op k.at k.conflict in
                 ((s.exactly n).1 (inr (k.position, k.number)), conflict_last n k.position (position_new n k.position (old_number n k.position k.number)) ∙ told),
             λ w. elim ((s.exactly n).0 w.0) [
               | inl e ↦
                   let p : position_in grown n ≡ t.maker = ap (position_in grown) e ∙ at_maker in
-                  let k = conflict_with (Some a) (slice_get longer t.maker) a refl (sym (conflict_last n t.maker p) ∙ w.1) in
-                  absurd (known_maker k.0 (sym (at_old t.maker maker_within) ∙ k.1) k.2)
+                  let k = last_with h a valid in_range accepted t.maker maker_within (sym (conflict_last n t.maker p) ∙ w.1) in
+                  absurd (known_maker k.0 k.1 k.2)
               | inr m ↦
                   let l = number_within n m.0 m.1 in
                   let p = position_new n m.0 (old_number n m.0 m.1) in
-                  let k = conflict_with (Some a) (slice_get longer m.0) a refl (sym (conflict_last n m.0 p) ∙ w.1) in
-                  (rivals_are n).1 (record { position = m.0; op = k.0; number = m.1; at = sym (at_old m.0 l) ∙ k.1; conflict = k.2 })
+                  let k = last_with h a valid in_range accepted m.0 l (sym (conflict_last n m.0 p) ∙ w.1) in
+                  (rivals n).1 (record { position = m.0; op = k.0; number = m.1; at = k.1; conflict = k.2 })
             ],
           );
         }
@@ -233,6 +235,7 @@ module _ (h : List Op) (o : ObjectId) (t : ObjectState) (s : IsStateOf h o t) wh
           maker = maker_still;
           tells = tells;
           index = index;
+          aimed = aimed;
           components = step.0;
           exactly = λ n. (
             λ i. elim ((step.1 n).0 i) [
@@ -248,7 +251,7 @@ module _ (h : List Op) (o : ObjectId) (t : ObjectState) (s : IsStateOf h o t) wh
 
 -- one more setter, by what the calls gave
 module _ (h : List Op) (o : ObjectId) (t : ObjectState) (s : IsStateOf h o t) (a : Op) (valid : IsValid h) (in_range : IsInRange a) (accepted : IsAccepted h a)
-    (v : Value) (change : a.change ≡ Set o v) (u : Attr) (own : u ≡ attribute_of v) where
+    (v : Value) {aim : List OpId} (change : a.change ≡ Set o v aim) (u : Attr) (own : u ≡ attribute_of v) where
   abbrev place : ℕ
   place = a.id.site - 1
 
@@ -256,31 +259,44 @@ module _ (h : List Op) (o : ObjectId) (t : ObjectState) (s : IsStateOf h o t) (a
   behind = subst (λ z. (i : ℕ) (e : Setter) → i < length (setters t.chains z place) → (get_or (setters t.chains z place) i e).seq < a.id.seq) (sym own)
       (behind_all h o t.chains s.tells a valid in_range accepted v change)
 
-  pub state_added : (d : List ℕ) → AreRivals h o t.chains v a.past d → (n p : ℕ) → n ≡ chain_of u place * block + length (setters t.chains u place) → p ≡ length h →
-      (cs : List (List Setter)) → cs ≡ with_setter t.chains u place (record { seq = a.id.seq; position = p }) → (k : ComponentsState) → k ≡ after d n t.components →
+  aimed_added : (us : List ℕ) (is : List OpId) → aim_of a ≡ is → AreNumbersOf h t.chains is us →
+      AreAimed (h ++ a ∷ []) (with_setter t.chains (attribute_of v) place (record { seq = a.id.seq; position = length h }))
+      (with_aim is (record { number = chain_of (attribute_of v) place * block + length (setters t.chains (attribute_of v) place); aim = us }) t.aimed)
+  aimed_added us [] e f = aimed_none h o t.chains s.tells a valid in_range accepted v change t.aimed s.aimed e
+  aimed_added us (i ∷ is) e f = aimed_more h o t.chains s.tells a valid in_range accepted v change t.aimed us s.aimed (subst (λ z. AreNumbersOf h t.chains z us) (sym e) f)
+
+  pub state_added : (d : List ℕ) → ((n : ℕ) → Contains d n ↔ ConflictsAt h t.chains a n) → (us : List ℕ) → AreNumbersOf h t.chains (aim_of a) us →
+      (n p : ℕ) → n ≡ chain_of u place * block + length (setters t.chains u place) → p ≡ length h →
       (i : Option (List (Fingerprint × List ℕ))) → IfSome i (λ new. (old : List (Fingerprint × List ℕ)) × IsIndex h t.chains old × PutsNumber old (fingerprint_of v) n new) →
-      IsStateOf (h ++ a ∷ []) o (record { chains = cs; index = i; components = k; maker = t.maker })
-  state_added d rivals n p number position cs pushed k added i index =
-      let chains : cs ≡ with_setter t.chains (attribute_of v) place (record { seq = a.id.seq; position = length h }) =
-      pushed ∙ (ap (λ z. with_setter t.chains z place (record { seq = a.id.seq; position = p })) own
-      ∙ ap (λ z. with_setter t.chains (attribute_of v) place (record { seq = a.id.seq; position = z })) position) in
+      (w : ObjectState) → w ≡ record {
+        chains = with_setter t.chains u place (record { seq = a.id.seq; position = p });
+        index = i;
+        aimed = with_aim (aim_of a) (record { number = n; aim = us }) t.aimed;
+        components = after d n t.components;
+        maker = t.maker;
+      } → IsStateOf (h ++ a ∷ []) o w
+  state_added d rivals us are n p number position i index w is =
+      let chains : with_setter t.chains u place (record { seq = a.id.seq; position = p }) ≡ with_setter t.chains (attribute_of v) place (record { seq = a.id.seq; position = length h }) =
+      ap (λ z. with_setter t.chains z place (record { seq = a.id.seq; position = p })) own
+      ∙ ap (λ z. with_setter t.chains (attribute_of v) place (record { seq = a.id.seq; position = z })) position in
       let last : n ≡ chain_of (attribute_of v) place * block + length (setters t.chains (attribute_of v) place) = number ∙ ap (λ z. chain_of z place * block + length (setters t.chains z place)) own in
-      let components : k ≡ after d (chain_of (attribute_of v) place * block + length (setters t.chains (attribute_of v) place)) t.components = added ∙ ap (λ z. after d z t.components) last in
       let tells_new = if_some i (λ new w. index_setter h o t.chains s.tells a valid in_range accepted v change w.0 new w.1 (subst (λ z. PutsNumber w.0 (fingerprint_of v) z new) last w.2)) index in
-      let whole_is : record { chains = cs; index = i; components = k; maker = t.maker } ≡ grown h o t s a valid in_range accepted v change d rivals i tells_new = λ j. record { chains = chains j; index = i; components = components j; maker = t.maker } in
-      subst (IsStateOf (h ++ a ∷ []) o) (sym whole_is) (state_more h o t s a valid in_range accepted v change d rivals i tells_new)
+      let es = with_aim (aim_of a) (record { number = chain_of (attribute_of v) place * block + length (setters t.chains (attribute_of v) place); aim = us }) t.aimed in
+      let whole_is : w ≡ grown h o t s a valid in_range accepted v change d rivals i tells_new es (aimed_added us (aim_of a) refl are) =
+      is ∙ (λ j. record { chains = chains j; index = i; aimed = with_aim (aim_of a) (record { number = last j; aim = us }) t.aimed; components = after d (last j) t.components; maker = t.maker }) in
+      subst (IsStateOf (h ++ a ∷ []) o) (sym whole_is) (state_more h o t s a valid in_range accepted v change d rivals i tells_new es (aimed_added us (aim_of a) refl are))
 
 -- A CREATION, of an object that no operation of h changes
 module _ (h : List Op) (a : Op) (o : ObjectId) (k : Kind) (id : a.id ≡ o.0) (is_made : made_kind a.change ≡ Some k)
-    (none : (q : ℕ) (b : Op) (v : Value) → slice_get h q ≡ Some b → b.change ≢ Set o v) where
+    (none : (q : ℕ) (b : Op) (v : Value) (aim : List OpId) → slice_get h q ≡ Some b → b.change ≢ Set o v aim) where
   abbrev new : ObjectState
   new = made (length h)
 
   no_number : (n q : ℕ) → ¬ (IsNumber no_chains n q)
   no_number n q j = let w = (empty_tells o).each j.attribute j.site j.place j.setter j.within j.at in let e = w.at in absurd cc
 
-  not_a : (v : Value) → a.change ≢ Set o v
-  not_a v e = let n : made_kind a.change ≡ None = ap made_kind e in absurd cc
+  not_a : (v : Value) (aim : List OpId) → a.change ≢ Set o v aim
+  not_a v aim e = let n : made_kind a.change ≡ None = ap made_kind e in absurd cc
 
   alone : (n : ℕ) → Contains new.components.free n → n ≡ maker_number
   alone n i = elim (Contains-cons_cases maker_number [] n i) [ inl e ↦ e | inr j ↦ absurd (not_Contains-nil n j) ]
@@ -290,11 +306,12 @@ module _ (h : List Op) (a : Op) (o : ObjectId) (k : Kind) (id : a.id ≡ o.0) (i
     maker = record { op = a; at = got_last h a; id = id; kind = k; made = is_made };
     tells = record {
       each = λ t s p e l i. absurd (no_number (chain_of t s * block + p) e.position (record { attribute = t; site = s; within = l; place = p; setter = e; at = i; number = refl; position = refl }));
-      all = λ q b v e c. elim (got_cases h a q b e) [ inl i ↦ absurd (none q b v i c) | inr i ↦ absurd (not_a v (ap (λ (z : Op). z.change) i ∙ c)) ];
+      all = λ q b v m e c. elim (got_cases h a q b e) [ inl i ↦ absurd (none q b v m i c) | inr i ↦ absurd (not_a v m (ap (λ (z : Op). z.change) i ∙ c)) ];
       ordered = (empty_tells o).ordered;
       count = (empty_tells o).count;
     };
     index = tt;
+    aimed = none_aimed (h ++ a ∷ []) no_chains no_number;
     components = record {
       rises = rising_cons nat_cmp nat_cmp_total maker_number [] (λ i d l. absurd (omega arith)) (rising_nil nat_cmp nat_cmp_total);
       calm = λ i j e f.
@@ -320,3 +337,23 @@ no_rivals h o cs v past u none f n = (
 -- an index that is there tells
 pub index_there : (h : List Op) (o : ObjectId) (t : ObjectState) → IsStateOf h o t → (ix : List (Fingerprint × List ℕ)) → t.index ≡ Some ix → IsIndex h t.chains ix
 index_there h o t s ix e = subst (λ r. IfSome r (IsIndex h t.chains)) e s.index
+
+-- what the table finds of the next operation's conflicts
+module _ (h : List Op) (o : ObjectId) (t : ObjectState) (s : IsStateOf h o t) (a : Op) (valid : IsValid h) (in_range : IsInRange a) (accepted : IsAccepted h a)
+    (v : Value) {aim : List OpId} (change : a.change ≡ Set o v aim) (us : List ℕ) (are : AreNumbersOf h t.chains (aim_of a) us) where
+  -- what clashes with one of the aim is of its component
+  met_by_aim : (m n : ℕ) → Contains us m → Clash h t.chains m n → IsMetByAim h t us n
+  met_by_aim m n i c =
+      let w = clash_numbers h o t.chains s.tells m n c in
+      let told : conflict_at h w.0 w.1 ≡ true = conflict_from h valid w.0 w.1 c.first c.second w.4 w.5 (conflict_direct h c.first c.second c.direct) in
+      let same : number_conflict h t m n ≡ true = ap (λ z. conflict_at h z (position_in t n)) (number_at h o t s.tells m w.0 w.2) ∙ (ap (conflict_at h w.0) (number_at h o t s.tells n w.1 w.3) ∙ told) in
+      let r = conflict_reached (number_conflict h t) (numbers_test h t) t.components s.components us m n i ((s.exactly m).1 (inr (w.0, w.2))) ((s.exactly n).1 (inr (w.1, w.3))) same in
+      record { reached = r.1; one = m; among = i; one_reached = r.0; clash = c }
+
+  pub rivals_found : (own met d : List ℕ) → AreRivals h o t.chains v a.past own → ((n : ℕ) → Contains met n ↔ (Contains own n ⊎ IsMetByAim h t us n)) →
+      ((n : ℕ) → Contains d n ↔ (Contains met n ⊎ AimsAtOne t.aimed met n)) → (n : ℕ) → Contains d n ↔ ConflictsAt h t.chains a n
+  rivals_found own met d rivals met_are d_are =
+      aims_conflict h o t.chains s.tells valid a accepted v change t.aimed s.aimed met d
+      (aim_met h o t.chains s.tells valid a accepted v change own us met (IsMetByAim h t us) (rivals_conflict h o t.chains s.tells valid a in_range accepted v change own rivals) are
+      (λ n w. record { one = w.one; among = w.among; clash = w.clash }) met_by_aim met_are)
+      d_are

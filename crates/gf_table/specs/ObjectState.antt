@@ -1,16 +1,20 @@
--- What the table has of one object: its setters by attribute and site and by value, its components, and where its creation stands.
-use Rattle.std.specs.Prelude.{ℕ, ◌*◌, Bool, List, None, Option, unwrap_or}
+-- What the table has of one object: its setters by attribute and site and by value, what aims, its components, and where its creation stands.
+use Rattle.std.specs.Prelude.{ℕ, ◌-◌, ◌*◌, Bool, List, [], None, Option, unwrap_or}
 use Rattle.gf_ops.specs.declared.op.Op.{Op}
-use Rattle.gf_components.specs.Components.{ComponentsState, no_components, with_free}
+use Rattle.gf_ops.specs.declared.op.OpId.{OpId}
+use Rattle.gf_ops.specs.declared.change.Attr.{Attr}
+use Rattle.gf_components.specs.Components.{ComponentsState, after, no_components, with_free}
 use Rattle.gf_groups.specs.Growing.{conflict_at}
 use Rattle.gf_rivals.specs.declared.chain.Setter.{Setter}
 use Rattle.gf_rivals.specs.declared.fingerprint.Fingerprint.{Fingerprint}
+use Rattle.gf_rivals.specs.Aimed.{AimedState}
 use Rattle.gf_rivals.specs.Setters.{block}
-use Rattle.gf_rivals.specs.Chains.{no_chains, position_of}
+use Rattle.gf_rivals.specs.Chains.{no_chains, position_of, with_setter}
 
 pub record ObjectState : Type 0 where
   pub chains : List (List Setter)
   pub index : Option (List (Fingerprint × List ℕ))
+  pub aimed : List AimedState
   pub components : ComponentsState
   pub maker : ℕ
 
@@ -23,8 +27,19 @@ abbrev pub made : ℕ → ObjectState
 made m = record {
   chains = no_chains;
   index = None;
+  aimed = [];
   components = with_free maker_number no_components;
   maker = m;
+}
+
+-- with a setter of the attribute u under the id, at the position p and with the number n, which has the rivals d
+abbrev pub with_grown : Attr → OpId → ℕ → ℕ → List ℕ → ObjectState → ObjectState
+with_grown u id p n d t = record {
+  chains = with_setter t.chains u (id.site - 1) (record { seq = id.seq; position = p });
+  index = t.index;
+  aimed = t.aimed;
+  components = after d n t.components;
+  maker = t.maker;
 }
 
 -- the position of the operation with the number n

@@ -1,11 +1,12 @@
 -- When a table stands for a history: for each object it has the chains of its setters and the components of its operations.
-use Rattle.std.specs.Prelude.{◌≡◌, ◌≢◌, ◌↔◌, ◌⊎◌, ℕ, Bool, List, [], ◌∷◌, AllPairs, Contains, length, Option, Some, None}
+use Rattle.std.specs.Prelude.{◌≡◌, ◌≢◌, ◌↔◌, ◌⊎◌, ℕ, Bool, List, [], ◌∷◌, ◌++◌, AllPairs, Contains, length, Option, Some, None}
 use Rattle.std.specs.Prelude.{IfSome, slice_get, unwrap_or}
 use Rattle.std.specs.BTreeMap.{is_at}
 use Rattle.std.specs.List.{fold}
 use Rattle.std.specs.Map.{lookup}
 use Rattle.gf_ops.specs.declared.op.Op.{Op}
 use Rattle.gf_ops.specs.declared.op.ObjectId.{ObjectId}
+use Rattle.gf_ops.specs.declared.op.OpId.{OpId}
 use Rattle.gf_ops.specs.declared.change.Change.TheVariants.{Set}
 use Rattle.gf_ops.specs.declared.change.Value.{Value}
 use Rattle.gf_ops.specs.Accepted.{IsAccepted}
@@ -17,8 +18,9 @@ use Rattle.gf_groups.specs.Growing.{conflict_at, groups_at}
 use Rattle.gf_groups.specs.GroupedPositions.{positions_below}
 use Rattle.gf_groups.specs.Parting.{object_cmp}
 use Rattle.gf_groups.specs.Versions.{IsVersionGroup}
-use Rattle.gf_components.specs.Components.{ComponentState, ComponentsState, products, whole}
+use Rattle.gf_components.specs.Components.{ComponentState, ComponentsState, IsReached, products, whole}
 use Rattle.gf_components.specs.Separate.{AreComponents}
+use Rattle.gf_rivals.specs.Aimed.{AimedState, AreAimed, Clash}
 use Rattle.gf_rivals.specs.Indexes.{IsIndex}
 use Rattle.gf_rivals.specs.Rivals.{IsNumber, Tells}
 use Rattle.gf_table.specs.ObjectState.{ObjectState, maker_number, number_conflict}
@@ -36,6 +38,7 @@ pub record IsStateOf (h : List Op) (o : ObjectId) (t : ObjectState) : Type 0 whe
   pub maker : IsMaker h o t.maker
   pub tells : Tells h o t.chains
   pub index : IfSome t.index (IsIndex h t.chains)
+  pub aimed : AreAimed h t.chains t.aimed
   pub components : AreComponents (number_conflict h t) t.components
   pub exactly : (n : ℕ) → Contains (whole t.components).all n ↔ ((n ≡ maker_number) ⊎ ((q : ℕ) × IsNumber t.chains n q))
 
@@ -45,8 +48,22 @@ pub record IsNextOf (h : List Op) (a : Op) (v : Value) (t : ObjectState) : Type 
   pub in_range : IsInRange a
   pub accepted : IsAccepted h a
   pub object : ObjectId
-  pub change : a.change ≡ Set object v
+  pub aim : List OpId
+  pub change : a.change ≡ Set object v aim
   pub state : IsStateOf h object t
+
+-- a setter with one of the numbers us conflicts directly with that with the number n, in one component
+pub record IsMetByAim (h : List Op) (t : ObjectState) (us : List ℕ) (n : ℕ) : Type 0 where
+  pub reached : IsReached us t.components.parts n
+  pub one : ℕ
+  pub among : Contains us one
+  pub one_reached : IsReached us t.components.parts one
+  pub clash : Clash h t.chains one n
+
+-- the state of an aim is put behind es, where an operation with this aim has a state
+abbrev pub with_aim : List OpId → AimedState → List AimedState → List AimedState
+with_aim [] e es = es
+with_aim (i ∷ is) e es = es ++ e ∷ []
 
 -- the table's state of an object, if it has one, is that of its operations, and else there is none
 abbrev pub Stands : List Op → ObjectId → Option ObjectState → Type 0

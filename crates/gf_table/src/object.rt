@@ -1,20 +1,26 @@
 //! What the table has of one object.
 
 ghost use Rattle.std.specs.Prelude.{◌≡◌, ◌∷◌, [], ◌++◌, ◌+◌, ◌^◌, ◌<◌, All, IfOk, OnOk, OnErr, map};
-ghost use Rattle.std.specs.Prelude.{◌⊎◌, IfSome, Some, option_map};
+ghost use Rattle.std.specs.Prelude.{◌⊎◌, ◌↔◌, ◌-◌, Contains, IfSome, Some, option_map};
+ghost use Rattle.std.specs.Prelude.{length, slice_index_or};
 ghost use Rattle.gf_maximal.specs.Growing.{image};
-ghost use Rattle.gf_rivals.specs.Rivals.{AreRivals};
+ghost use Rattle.gf_ops.specs.Attribute.{aim_of};
+ghost use Rattle.gf_ops.specs.OperationOrder.{IsSite};
+ghost use Rattle.gf_rivals.specs.Aimed.{AreNumbersOf, IsConflict};
+ghost use Rattle.gf_rivals.specs.Chains.{setters};
+ghost use Rattle.gf_rivals.specs.Members.{ListsSetters};
+ghost use Rattle.gf_rivals.specs.Rivals.{AreRivals, Tells};
 ghost use Rattle.gf_rivals.specs.Indexes.{IsIndex, PutsNumber};
 ghost use Rattle.gf_rivals.specs.Fingerprints.{fingerprint_of};
 ghost use Rattle.gf_ops.specs.declared.change.Change.TheVariants.{Set};
 ghost use Rattle.gf_table.specs.ByPosition.{sets_at, component_at, components_at};
-ghost use Rattle.gf_table.specs.ObjectState.{made, maker_number, position_in};
-ghost use Rattle.gf_table.specs.Standing.{IsNextOf, IsStateOf};
+ghost use Rattle.gf_table.specs.ObjectState.{made, maker_number, position_in, with_grown};
+ghost use Rattle.gf_table.specs.Standing.{IsMetByAim, IsNextOf, IsStateOf, with_aim};
 
 use gf_components::{Component, Components};
 use gf_maximal::Numbers;
-use gf_ops::{Clock, History, Op, Value};
-use gf_rivals::{Chains, Index, rivals};
+use gf_ops::{Attr, Clock, History, Op, OpId, Value};
+use gf_rivals::{Aimed, Chains, Index, clashing, numbers_of, rivals, with_aimed};
 use gf_shape::OutOfMemory;
 use std::alloc::Global;
 use std::marker::Model;
@@ -54,12 +60,53 @@ fn with_setter(
     }
 }
 
-/// The operations on an object, by numbers: the chains of its setters, their components, and the
-/// position of the creation.
+/// Adds the state of an operation that aims at some.
+fn push_aimed(
+    aimed: &mut Vec<Aimed>,
+    op: &Op,
+    number: usize,
+    aim: Numbers,
+) -> Result<(), OutOfMemory>
+    requires { number + 1 < 2 ^ 64 }
+    ensures ok { OnOk result (aimed.new.items
+        ≡ with_aim (aim_of op.now) (record { number = number; aim = aim }) aimed.old.items) }
+    ensures err { OnErr result (aimed.new.items ≡ aimed.old.items) }
+{
+    if op.aim().is_empty() {
+        return Ok(());
+    }
+    aimed.push(Aimed::new(number, aim))?;
+    Ok(())
+}
+
+/// Takes the state of the operation away that was added last.
+fn pop_aimed(aimed: &mut Vec<Aimed>, op: &Op)
+    ensures { (e : _) (es : _) → aimed.old.items ≡ with_aim (aim_of op.now) e es
+        → aimed.new.items ≡ es }
+{
+    if !op.aim().is_empty() {
+        aimed.pop();
+    }
+}
+
+/// Copies of the states of the operations that aim at others.
+fn copied_aimed(alloc: Global, aimed: &[Aimed]) -> Result<Vec<Aimed>, OutOfMemory>
+    ensures { IfOk result (λ copy. copy.items ≡ aimed.now) }
+{
+    let mut copy = Vec::new(alloc);
+    for operation in aimed {
+        copy.push(operation.copy(alloc)?)?;
+    }
+    Ok(copy)
+}
+
+/// The operations on an object, by numbers: the chains of its setters, what aims, their components,
+/// and the position of the creation.
 #[derive(Debug, Drop)]
 pub(crate) struct ObjectTable {
     chains: Chains,
     index: Option<Index>,
+    aimed: Vec<Aimed>,
     components: Components,
     maker: usize,
 }
@@ -72,6 +119,7 @@ impl Model for ObjectTable {
     ghost view = { λ t. record {
       chains = t.chains;
       index = t.index;
+      aimed = t.aimed.items;
       components = t.components;
       maker = t.maker;
     } };
@@ -87,14 +135,15 @@ impl ObjectTable {
         Ok(ObjectTable {
             chains: Chains::new(alloc),
             index: None,
+            aimed: Vec::new(alloc),
             components,
             maker: position,
         })
     }
 
-    /// The numbers of the operations that conflict with one that knows these and gives the value;
-    /// and an index, where one was made for it.
-    fn rivals(
+    /// The numbers of the operations that conflict directly with one that knows these and gives the
+    /// value; and an index, where one was made for it.
+    fn direct_rivals(
         &self,
         alloc: Global,
         history: &History,
@@ -123,6 +172,82 @@ impl ObjectTable {
         }
     }
 
+    /// The numbers, and those of the setters that conflict directly with one that the aim has. Only
+    /// operations of the components that the aim touches are compared.
+    fn with_met(
+        &self,
+        alloc: Global,
+        history: &History,
+        direct: Numbers,
+        aim: &Numbers,
+    ) -> Result<Numbers, OutOfMemory>
+        ensures { IfOk result (λ met. (o : _) → Tells history.now.ops o self.now.chains
+            → ListsSetters self.now.chains aim.now → (n : _) → Contains met n
+            ↔ (Contains direct n ⊎ IsMetByAim history.now.ops self.now aim.now n)) }
+    {
+        if aim.is_empty() {
+            return Ok(direct);
+        }
+        let reach = self.components.reach(alloc, aim)?;
+        let members = aim.common(alloc, &reach)?;
+        let met = clashing(alloc, history, &self.chains, &members, &reach)?;
+        direct.united(alloc, &met)
+    }
+
+    /// The numbers of the operations that conflict with the next one, which has this aim and gives
+    /// the value; and an index, where one was made for it.
+    fn rivals(
+        &self,
+        alloc: Global,
+        history: &History,
+        op: &Op,
+        value: &Value,
+        aim: &Numbers,
+    ) -> Result<(Numbers, Option<Index>), OutOfMemory>
+        requires next { IsNextOf history.now.ops op.now value.now self.now }
+        requires aim { AreNumbersOf history.now.ops self.now.chains (aim_of op.now) aim.now }
+        ensures rivals { IfOk result (λ found. (n : _) → Contains found.0 n
+            ↔ IsConflict history.now.ops self.now.chains op.now n) }
+        ensures made { IfOk result (λ found.
+            IfSome found.1 (IsIndex history.now.ops self.now.chains)) }
+    {
+        let (direct, made) = self.direct_rivals(alloc, history, &op.past, value)?;
+        let met = self.with_met(alloc, history, direct, aim)?;
+        let found = with_aimed(alloc, met, &self.aimed)?;
+        Ok((found, made))
+    }
+
+    /// Adds the setter with this number, which has these rivals.
+    fn grow(
+        &mut self,
+        alloc: Global,
+        position: usize,
+        id: OpId,
+        attribute: Attr,
+        number: usize,
+        rivals: &Numbers,
+    ) -> Result<(), OutOfMemory>
+        requires site { IsSite id.site }
+        requires first { 0 < id.seq }
+        requires last { (i : _) (d : _)
+            → i < length (setters self.old.chains attribute (id.site - 1))
+            → (slice_index_or (setters self.old.chains attribute (id.site - 1)) i d).seq < id.seq }
+        requires chains { length self.old.chains ≡ 48 }
+        requires number { number + 1 < 2 ^ 64 }
+        ensures ok { OnOk result (self.new
+            ≡ with_grown attribute id position number rivals.now self.old) }
+        ensures err { OnErr result (self.new ≡ self.old) }
+    {
+        self.chains.push(alloc, attribute, id, position)?;
+        match self.components.add(alloc, rivals, number) {
+            Ok(()) => Ok(()),
+            Err(OutOfMemory) => {
+                self.chains.pop(attribute, id.site);
+                Err(OutOfMemory)
+            }
+        }
+    }
+
     /// Adds the operation, which gives the object the value.
     pub(crate) fn add(
         &mut self,
@@ -132,23 +257,24 @@ impl ObjectTable {
         value: &Value,
     ) -> Result<(), OutOfMemory>
         requires { IsNextOf history.now.ops op.now value.now self.old }
-        ensures ok { OnOk result ((o : _) → op.now.change ≡ Set o value.now
+        ensures ok { OnOk result ((o : _) (aim : _) → op.now.change ≡ Set o value.now aim
             → IsStateOf (history.now.ops ++ op.now ∷ []) o self.new) }
         ensures err { OnErr result (self.new ≡ self.old) }
     {
         let attribute = value.attribute();
         let number = self.chains.next_number(attribute, op.id.site);
-        let (rivals, made) = self.rivals(alloc, history, &op.past, value)?;
-        self.chains
-            .push(alloc, attribute, op.id, history.ops().len())?;
-        match self.components.add(alloc, &rivals, number) {
+        let aim = numbers_of(alloc, history, &self.chains, op.aim())?;
+        let (rivals, made) = self.rivals(alloc, history, op, value, &aim)?;
+        push_aimed(&mut self.aimed, op, number, aim)?;
+        let position = history.ops().len();
+        match self.grow(alloc, position, op.id, attribute, number, &rivals) {
             Ok(()) => {
                 let kept = self.index.take();
                 self.index = with_setter(alloc, made, kept, value, number);
                 Ok(())
             }
             Err(OutOfMemory) => {
-                self.chains.pop(attribute, op.id.site);
+                pop_aimed(&mut self.aimed, op);
                 Err(OutOfMemory)
             }
         }
@@ -160,10 +286,12 @@ impl ObjectTable {
     {
         let chains = self.chains.copy(alloc)?;
         let index = copied(alloc, &self.index)?;
+        let aimed = copied_aimed(alloc, &self.aimed)?;
         let components = self.components.copy(alloc)?;
         Ok(ObjectTable {
             chains,
             index,
+            aimed,
             components,
             maker: self.maker,
         })

@@ -150,7 +150,7 @@ fn add_to(
             let state = ObjectTable::made(alloc, position)?;
             put(objects, ObjectId(op.id), state)
         }
-        Change::Set { object, value } => match objects.get_mut(object) {
+        Change::Set { object, value, .. } => match objects.get_mut(object) {
             Some(state) => state.add(alloc, history, op, value),
             None => unreachable!(),
         },

@@ -22,6 +22,7 @@ add-requires c =
       in_range = c.requires.in_range;
       accepted = c.requires.accepted;
       object = o;
+      aim = c.in-Set.aim;
       change = c.in-Set.is;
       state = there c.args.history.now.ops o (state_of t o) c.in-Some.state.now (c.requires.stands o) (sym c.in-Some.ensures.value);
     }
@@ -31,7 +32,7 @@ unreachable-requires c =
     let h = c.args.history.now.ops in
     let o = c.in-Set.object in
     let t = c.args.objects.now.entries in
-    some_before h c.ops-position.ensures.valid c.args.op.now c.requires.in_range c.requires.accepted o c.in-Set.value c.in-Set.is
+    some_before h c.ops-position.ensures.valid c.args.op.now c.requires.in_range c.requires.accepted o c.in-Set.value c.in-Set.aim c.in-Set.is
     (absent h o (state_of t o) (c.requires.stands o) (sym c.in-None.ensures.value))
 
 pub returns-in_ok-state-in-Create-clause-ok : goal.returns-in_ok-state-in-Create-clause-ok
@@ -45,7 +46,7 @@ returns-in_ok-state-in-Create-clause-ok c =
     let is : w ≡ made (length h) = c.in_ok-state-in-Create.ensures ∙ ap (λ z. made (length z)) c.ops-position.ensures.ops in
     let state : IsStateOf (h ++ a ∷ []) o w = subst (IsStateOf (h ++ a ∷ []) o) (sym is)
     (state_made h a o _ refl kind (none_before h valid a c.requires.in_range c.requires.accepted o refl)) in
-    on_ok_weaker c.put.result (λ puts. stands_after h a c.args.objects.now.entries c.put.new.objects.entries o w c.requires.stands (ap (changed_object a.id) c.in-Create.is) state puts) c.put.ensures.puts
+    on_ok_weaker c.put.result (λ puts. stands_after h valid a c.requires.in_range c.requires.accepted c.args.objects.now.entries c.put.new.objects.entries o w c.requires.stands (ap (changed_object a.id) c.in-Create.is) state puts) c.put.ensures.puts
 
 pub returns-in-Some-clause-ok : goal.returns-in-Some-clause-ok
 returns-in-Some-clause-ok c =
@@ -57,7 +58,7 @@ returns-in-Some-clause-ok c =
     let now = c.get_mut.follows.lender w in
     let some = subst IsSome c.in-Some.ensures.value refl in
     let puts = ((c.get_mut.follows.holds w).3 some).0 in
-    on_ok_weaker c.add.result (λ state. stands_after h a t now.entries o w c.requires.stands (ap (changed_object a.id) c.in-Set.is) (state o c.in-Set.is) puts) c.add.ensures.ok
+    on_ok_weaker c.add.result (λ state. stands_after h c.ops-position.ensures.valid a c.requires.in_range c.requires.accepted t now.entries o w c.requires.stands (ap (changed_object a.id) c.in-Set.is) (state o c.in-Set.aim c.in-Set.is) puts) c.add.ensures.ok
 
 pub returns-in-Some-clause-err : goal.returns-in-Some-clause-err
 returns-in-Some-clause-err c =

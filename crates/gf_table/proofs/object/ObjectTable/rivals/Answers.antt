@@ -1,41 +1,14 @@
-use Rattle.std.proofs.Common.{◌≡◌, ℕ, subst, sym}
-use Rattle.std.specs.Prelude.{◌↔◌, Some, Contains}
-use Rattle.gf_ops.specs.declared.change.Attr.{Attr}
-use Rattle.gf_rivals.specs.Chains.{IsUnknown}
-use Rattle.gf_rivals.specs.Indexes.{IsIndex}
-use Rattle.gf_rivals.specs.Rivals.{AreRivals}
+use Rattle.std.proofs.Common.{◌≡◌, ℕ, List, ap, subst, ◌∙◌}
+use Rattle.std.specs.Prelude.{◌⊎◌, ◌↔◌, Contains}
+use Rattle.gf_rivals.specs.Aimed.{AimedState, AimsAtOne}
 use Rattle.gf_table.specs.ObjectState.{ObjectState}
-use Rattle.gf_table.specs.Standing.{IsStateOf}
-use Rattle.gf_table.proofs.StateLemmas.{index_there, no_rivals}
+use Rattle.gf_table.proofs.StateLemmas.{rivals_found}
 use Rattle.gf_table.proofs.object.ObjectTable.rivals.Goals as goal
 
-pub returns-then-is_empty-clause-rivals : goal.returns-then-is_empty-clause-rivals
-returns-then-is_empty-clause-rivals c = λ o s.
-    let t : ObjectState = record { chains = c.self.inside.chains; index = c.self.inside.index; components = c.self.inside.components; maker = c.self.inside.maker } in
-    let same : t ≡ c.args.self.now = c.self.view_is in
-    let told = subst (λ (z : Attr). (n : ℕ) → Contains c.in_ok-unknown.unknown n ↔ IsUnknown t.chains z c.args.past.now 8 n) c.attribute.ensures c.in_ok-unknown.ensures in
-    subst (λ (z : ObjectState). AreRivals c.args.history.now.ops o z.chains c.args.value.now c.args.past.now c.in_ok-unknown.unknown) same
-    (no_rivals c.args.history.now.ops o t.chains c.args.value.now c.args.past.now c.in_ok-unknown.unknown (c.is_empty.ensures.0 c.if-is_empty.true) told)
-
-pub returns-in_ok-found-in-Some-clause-rivals : goal.returns-in_ok-found-in-Some-clause-rivals
-returns-in_ok-found-in-Some-clause-rivals c = λ o s.
-    let t : ObjectState = record { chains = c.self.inside.chains; index = c.self.inside.index; components = c.self.inside.components; maker = c.self.inside.maker } in
-    let same : t ≡ c.args.self.now = c.self.view_is in
-    let own : IsStateOf c.args.history.now.ops o t = subst (IsStateOf c.args.history.now.ops o) (sym same) s in
-    let told = subst (λ (z : Attr). (n : ℕ) → Contains c.in_ok-unknown.unknown n ↔ IsUnknown t.chains z c.args.past.now 8 n) c.attribute.ensures c.in_ok-unknown.ensures in
-    let there : t.index ≡ Some c.in-Some.index = c.in-Some.is in
-    subst (λ (z : ObjectState). AreRivals c.args.history.now.ops o z.chains c.args.value.now c.args.past.now c.in_ok-found-in-Some.found) same
-    (c.in_ok-found-in-Some.ensures o c.args.past.now own.tells (index_there c.args.history.now.ops o t own c.in-Some.index there) told)
-
-pub returns-in_ok-found-in-None-clause-rivals : goal.returns-in_ok-found-in-None-clause-rivals
-returns-in_ok-found-in-None-clause-rivals c = λ o s.
-    let t : ObjectState = record { chains = c.self.inside.chains; index = c.self.inside.index; components = c.self.inside.components; maker = c.self.inside.maker } in
-    let same : t ≡ c.args.self.now = c.self.view_is in
-    let own : IsStateOf c.args.history.now.ops o t = subst (IsStateOf c.args.history.now.ops o) (sym same) s in
-    let told = subst (λ (z : Attr). (n : ℕ) → Contains c.in_ok-unknown.unknown n ↔ IsUnknown t.chains z c.args.past.now 8 n) c.attribute.ensures c.in_ok-unknown.ensures in
-    subst (λ (z : ObjectState). AreRivals c.args.history.now.ops o z.chains c.args.value.now c.args.past.now c.in_ok-found-in-None.found) same
-    (c.in_ok-found-in-None.ensures o c.args.past.now own.tells c.in_ok-index-in-None.ensures told)
-
-pub returns-in_ok-found-in-None-clause-made : goal.returns-in_ok-found-in-None-clause-made
-returns-in_ok-found-in-None-clause-made c =
-    subst (λ (z : ObjectState). IsIndex c.args.history.now.ops z.chains c.in_ok-index-in-None.index) c.self.view_is c.in_ok-index-in-None.ensures
+pub returns-clause-rivals : goal.returns-clause-rivals
+returns-clause-rivals c =
+    let n = c.requires.next in
+    let t = c.args.self.now in
+    rivals_found c.args.history.now.ops n.object t n.state c.args.op.now n.valid n.in_range n.accepted c.args.value.now n.change c.args.aim.now c.requires.aim
+    c.in_ok-direct.direct c.in_ok-met.met c.in_ok-found.found (c.in_ok-direct.ensures.rivals n.object n.state) (c.in_ok-met.ensures n.object n.state.tells (λ m i. let k = (c.requires.aim m).0 i in (k.position, k.number)))
+    (subst (λ (z : List AimedState). (m : ℕ) → Contains c.in_ok-found.found m ↔ (Contains c.in_ok-met.met m ⊎ AimsAtOne z c.in_ok-met.met m)) (c.deref.ensures.value ∙ ap (λ (z : ObjectState). z.aimed) c.self.view_is) c.in_ok-found.ensures)
