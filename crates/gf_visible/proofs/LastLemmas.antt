@@ -1,135 +1,95 @@
--- A last setter is found by one pass, and sets whose setters all have later ones do not matter for it.
-use Rattle.std.proofs.Common.{◌≡◌, ℕ, Bool, true, false, List, [], ◌∷◌, ◌++◌, inl, inr, subst, ◌∙◌}
-use Rattle.std.specs.Prelude.{◌↔◌, Contains, Option, Some, None, filter}
+-- Each setter that is not among the last ones of some positions has one of these positions after it.
+use Rattle.std.proofs.Common.{◌≡◌, ℕ, ◌+◌, ◌<◌, Bool, true, false, List, [], ◌∷◌, ◌++◌, inl, inr, subst, sym, not}
+use Rattle.std.specs.Prelude.{◌⊎◌, All, Contains, filter}
 use Rattle.std.specs.List.{fold}
-use Rattle.std.proofs.lemmas.Bool.{cases_Bool, cond-true, cond-false}
-use Rattle.std.proofs.lemmas.List.Elements.{Contains-append_left, Contains-push, Contains-push_cases}
+use Rattle.std.specs.FinMap.{nat_cmp-IsAntisymmetric}
+use Rattle.std.specs.Ordering.{nat_cmp}
+use Rattle.std.proofs.lemmas.Bool.{cases_Bool, cond-true, cond-false, not_from_false}
+use Rattle.std.proofs.lemmas.Cmp.{nat_cmp_total}
+use Rattle.std.proofs.lemmas.List.Elements.{All-contains, All-contains_itself, All-weaker, Contains-append_left, Contains-push, Contains-push_cases}
 use Rattle.std.proofs.lemmas.List.{append_assoc, append-nil}
 use Rattle.gf_ops.specs.declared.op.Op.{Op}
-use Rattle.gf_ops.specs.ValidHistory.{IsValid}
 use Rattle.gf_ops.proofs.ListLemmas.{not_Contains-nil}
-use Rattle.gf_maximal.specs.Growing.{united}
+use Rattle.gf_maximal.specs.Tables.{IsRising}
+use Rattle.gf_maximal.proofs.InsertLemmas.{inserted_all, holds_all}
 use Rattle.gf_maximal.proofs.ListLemmas.{Contains-filter}
-use Rattle.gf_maximal.proofs.UnitedLemmas.{Contains-united}
-use Rattle.gf_visible.specs.Deciding.{is_next, taken, last_of, shown_by_last, is_shown}
-use Rattle.gf_visible.specs.ShownAt.{sets_at, shows_at, later_at}
-use Rattle.gf_visible.proofs.SetterLemmas.{setter_shows, setter_later, itself, through}
+use Rattle.gf_maximal.proofs.RisingLemmas.{rising_nil}
+use Rattle.gf_visible.specs.Deciding.{taken, next_lasts, lasts}
+use Rattle.gf_visible.specs.ShownAt.{sets_at, later_at}
 
 pub never : {G : Type 0} {b : Bool} → b ≡ true → b ≡ false → G
 never h k = cc
 
-module _ (h : List Op) (valid : IsValid h) where
-  -- ---- one pass
+module _ (h : List Op) where
+  -- one of q comes after i
+  abbrev pub HasLater : List ℕ → ℕ → Type 0
+  HasLater q i = (j : ℕ) × Contains q j × (later_at h i j ≡ true)
 
-  -- i is a last setter of xs, or there is none
-  abbrev pub IsLastOf : List ℕ → Option ℕ → Type 0
-  IsLastOf xs (Some i) = Contains xs i × (sets_at h i ≡ true) × ((k : ℕ) → Contains xs k → later_at h i k ≡ false)
-  IsLastOf xs None = (k : ℕ) → Contains xs k → sets_at h k ≡ false
+  -- ls are of xs, and each other setter of xs has one of xs after it
+  pub record AreLast (xs ls : List ℕ) : Type 0 where
+    pub within : (i : ℕ) → Contains ls i → Contains xs i
+    pub others : (i : ℕ) → Contains xs i → sets_at h i ≡ true → Contains ls i ⊎ HasLater xs i
 
-  not_later : (i k : ℕ) → sets_at h k ≡ false → later_at h i k ≡ false
-  not_later i k n = elim (cases_Bool (later_at h i k)) [ inl y ↦ never (setter_later h i k y) n | inr f ↦ f ]
-
-  -- none of xs comes after j, where j is the next last one
-  none_after : (xs : List ℕ) (o : Option ℕ) (j : ℕ) → IsLastOf xs o → is_next h o j ≡ true → (sets_at h j ≡ true) × ((k : ℕ) → Contains xs k → later_at h j k ≡ false)
-  none_after xs None j p y = (y, λ k i. not_later j k (p k i))
-  none_after xs (Some i) j p y = (setter_later h i j y, λ k d. elim (cases_Bool (later_at h j k)) [ inl l ↦ never (through h valid i j k y l) (p.2 k d) | inr f ↦ f ])
-
-  stays : (xs : List ℕ) (o : Option ℕ) (j : ℕ) → IsLastOf xs o → is_next h o j ≡ false → IsLastOf (xs ++ j ∷ []) o
-  stays xs None j p n = λ k m. elim (Contains-push_cases xs j k m) [ inl i ↦ p k i | inr e ↦ subst (λ z. sets_at h z ≡ false) e n ]
-  stays xs (Some i) j p n = (
-    Contains-append_left xs (j ∷ []) i p.0,
-    p.1,
-    λ k m. elim (Contains-push_cases xs j k m) [ inl d ↦ p.2 k d | inr e ↦ subst (λ z. later_at h i z ≡ false) e n ],
-  )
-
-  one_more : (xs : List ℕ) (o : Option ℕ) (j : ℕ) → IsLastOf xs o → IsLastOf (xs ++ j ∷ []) (taken h o j)
-  one_more xs o j p = elim (cases_Bool (is_next h o j)) [
-    | inl y ↦
-        let w = none_after xs o j p y in
-        rw (cond-true (is_next h o j) (Some j) o y) (
-          Contains-push xs j,
-          w.0,
-          λ k m. elim (Contains-push_cases xs j k m) [ inl d ↦ w.1 k d | inr e ↦ subst (λ z. later_at h j z ≡ false) e (itself h valid j) ],
-        )
-    | inr n ↦ rw (cond-false (is_next h o j) (Some j) o n) (stays xs o j p n)
+  next_last : (xs ls : List ℕ) (j : ℕ) → AreLast xs ls → AreLast (xs ++ j ∷ []) (next_lasts h ls j)
+  next_last xs ls j a = elim (cases_Bool (sets_at h j)) [
+    | inl y ↦ rw (cond-true (sets_at h j) (taken h ls j) ls y) (record {
+      within = λ i c. elim (Contains-push_cases (filter before ls) j i c) [
+        | inl k ↦ more i (a.within i ((Contains-filter before ls i).0 k).0)
+        | inr e ↦ subst (Contains (xs ++ j ∷ [])) e (Contains-push xs j)
+      ];
+      others = λ i c set. elim (Contains-push_cases xs j i c) [
+        | inl k ↦ elim (a.others i k set) [
+          | inl m ↦ elim (cases_Bool (later_at h i j)) [
+            | inl t ↦ inr (j, Contains-push xs j, t)
+            | inr f ↦ inl (Contains-append_left (filter before ls) (j ∷ []) i ((Contains-filter before ls i).1 (m, not_from_false (later_at h i j) f)))
+          ]
+          | inr w ↦ inr (w.0, more w.0 w.1, w.2)
+        ]
+        | inr e ↦ inl (subst (Contains (taken h ls j)) e (Contains-push (filter before ls) j))
+      ];
+    })
+    | inr n ↦ rw (cond-false (sets_at h j) (taken h ls j) ls n) (record {
+      within = λ i c. more i (a.within i c);
+      others = λ i c set. elim (Contains-push_cases xs j i c) [
+        | inl k ↦ elim (a.others i k set) [ inl m ↦ inl m | inr w ↦ inr (w.0, more w.0 w.1, w.2) ]
+        | inr e ↦ never set (subst (λ z. sets_at h z ≡ false) e n)
+      ];
+    })
   ]
-
-  all_taken : (seen xs : List ℕ) (o : Option ℕ) → IsLastOf seen o → IsLastOf (seen ++ xs) (fold (taken h) o xs)
-  all_taken seen [] o p = rw append-nil p
-  all_taken seen (x ∷ xs) o p = subst (λ zs. IsLastOf zs (fold (taken h) o (x ∷ xs))) (append_assoc seen (x ∷ []) xs) (all_taken (seen ++ x ∷ []) xs (taken h o x) (one_more seen o x p))
-
-  pub is_last : (g : List ℕ) → IsLastOf g (last_of h g)
-  is_last g = all_taken [] g None (λ k m. absurd (not_Contains-nil k m))
-
-  -- ---- what a last setter says
-
-  -- a last setter of g shows
-  pub record Shows (g : List ℕ) : Type 0 where
-    pub last : ℕ
-    pub within : Contains g last
-    pub given : shows_at h last ≡ true
-    pub none : (j : ℕ) → Contains g j → later_at h last j ≡ false
-
-  -- setters of g neither of which is later say the same
-  abbrev pub Agree : List ℕ → Type 0
-  Agree g = (i j : ℕ) → Contains g i → Contains g j → sets_at h i ≡ true → sets_at h j ≡ true → later_at h i j ≡ false → later_at h j i ≡ false → shows_at h i ≡ shows_at h j
-
-  pub shows_to : (g : List ℕ) → is_shown h g ≡ true → Shows g
-  shows_to g t = by_last (last_of h g) (is_last g) t
     where
-      by_last : (o : Option ℕ) → IsLastOf g o → shown_by_last h o ≡ true → Shows g
-      by_last (Some i) p y = record { last = i; within = p.0; given = y; none = p.2 }
-      by_last None p y = absurd cc
+      before : ℕ → Bool
+      before i = not (later_at h i j)
 
-  pub shows_from : (g : List ℕ) → Agree g → Shows g → is_shown h g ≡ true
-  shows_from g agree w = by_last (last_of h g) (is_last g)
-    where
-      by_last : (o : Option ℕ) → IsLastOf g o → shown_by_last h o ≡ true
-      by_last (Some i) p = agree i w.last p.0 w.within p.1 (setter_shows h w.last w.given) (p.2 w.last w.within) (w.none i p.0) ∙ w.given
-      by_last None p = never (setter_shows h w.last w.given) (p w.last w.within)
+      more : (i : ℕ) → Contains xs i → Contains (xs ++ j ∷ []) i
+      more i c = Contains-append_left xs (j ∷ []) i c
 
-  -- ---- what does not matter
+  all_last : (seen xs ls : List ℕ) → AreLast seen ls → AreLast (seen ++ xs) (fold (next_lasts h) ls xs)
+  all_last seen [] ls a = rw append-nil a
+  all_last seen (x ∷ xs) ls a = subst (λ zs. AreLast zs (fold (next_lasts h) ls (x ∷ xs))) (append_assoc seen (x ∷ []) xs) (all_last (seen ++ x ∷ []) xs (next_lasts h ls x) (next_last seen ls x a))
 
-  -- each setter of k has a setter of the union after it
-  abbrev pub IsLate : List ℕ → List ℕ → Type 0
-  IsLate u k = (i : ℕ) → Contains k i → sets_at h i ≡ true → (j : ℕ) × Contains (united u k) j × (later_at h i j ≡ true)
+  setters_last : (g : List ℕ) → AreLast g (fold (next_lasts h) [] g)
+  setters_last g = all_last [] g [] (record { within = λ i c. c; others = λ i c. absurd (not_Contains-nil i c) })
 
-  -- then k decides nothing
-  pub still_shows : (u k : List ℕ) → IsLate u k → Shows (united u k) → Shows u
-  still_shows u k late w = record {
-    last = w.last;
-    within = elim ((Contains-united u k w.last).0 w.within) [
-      | inl i ↦ i
-      | inr i ↦ let v = late w.last i (setter_shows h w.last w.given) in never v.2 (w.none v.0 v.1)
+  pub lasts_rise : (g : List ℕ) → IsRising (lasts h g)
+  lasts_rise g = inserted_all nat_cmp nat_cmp_total nat_cmp-IsAntisymmetric (fold (next_lasts h) [] g) [] (rising_nil nat_cmp nat_cmp_total)
+
+  pub are_last : (g : List ℕ) → AreLast g (lasts h g)
+  are_last g = record {
+    within = λ i c. elim ((holds_all nat_cmp nat_cmp_total nat_cmp-IsAntisymmetric (fold (next_lasts h) [] g) [] i).0 c) [
+      | inl n ↦ absurd (not_Contains-nil i n)
+      | inr k ↦ a.within i k
     ];
-    given = w.given;
-    none = λ j i. w.none j ((Contains-united u k j).1 (inl i));
-  }
-
-  abbrev higher : List ℕ → ℕ → List ℕ
-  higher q i = filter (later_at h i) q
-
-  in_higher : (q : List ℕ) (i j : ℕ) → Contains (higher q i) j ↔ (Contains q j × (later_at h i j ≡ true))
-  in_higher q i = Contains-filter (later_at h i) q
-
-  -- where u has none after i, the union has none
-  none_higher : (u k : List ℕ) → IsLate u k → (i : ℕ) → ((j : ℕ) → Contains u j → later_at h i j ≡ false) → (j : ℕ) → Contains (higher (united u k) i) j → (o : Option ℕ) → IsLastOf (higher (united u k) i) o → later_at h i j ≡ false
-  none_higher u k late i none j x (Some m) p =
-      let q = united u k in
-      let v = (in_higher q i m).0 p.0 in
-      elim ((Contains-united u k m).0 v.0) [
-        | inl a ↦ never v.1 (none m a)
-        | inr a ↦ let l = late m a p.1 in never l.2 (p.2 l.0 ((in_higher q i l.0).1 (l.1, through h valid i m l.0 v.1 l.2)))
-      ]
-  none_higher u k late i none j x None p = never (setter_later h i j ((in_higher (united u k) i j).0 x).1) (p j x)
-
-  pub shows_still : (u k : List ℕ) → IsLate u k → Shows u → Shows (united u k)
-  shows_still u k late w = record {
-    last = w.last;
-    within = (Contains-united u k w.last).1 (inl w.within);
-    given = w.given;
-    none = λ j i. elim (cases_Bool (later_at h w.last j)) [
-      | inl y ↦ none_higher u k late w.last w.none j ((in_higher (united u k) w.last j).1 (i, y)) (last_of h (higher (united u k) w.last)) (is_last (higher (united u k) w.last))
-      | inr n ↦ n
+    others = λ i c set. elim (a.others i c set) [
+      | inl k ↦ inl ((holds_all nat_cmp nat_cmp_total nat_cmp-IsAntisymmetric (fold (next_lasts h) [] g) [] i).1 (inr k))
+      | inr w ↦ inr w
     ];
   }
+    where
+      a : AreLast g (fold (next_lasts h) [] g)
+      a = setters_last g
+
+  -- a bound on the positions is one on the last setters
+  pub lasts_fit : (m : ℕ) (g found : List ℕ) → found ≡ fold (next_lasts h) [] g → All (λ n. n + 1 < m) g → All (λ n. n + 1 < m) found
+  lasts_fit m g found is fit = subst (All (λ n. n + 1 < m)) (sym is) (All-weaker (Contains (fold (next_lasts h) [] g)) (λ n. n + 1 < m)
+      (λ i c. All-contains (λ n. n + 1 < m) g i fit ((setters_last g).within i c))
+      (fold (next_lasts h) [] g) (All-contains_itself (fold (next_lasts h) [] g)))

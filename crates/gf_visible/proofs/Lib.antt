@@ -1,6 +1,6 @@
+pub mod HalvesLemmas
 pub mod DecidingLemmas
 pub mod LastLemmas
-pub mod MemberLemmas
 pub mod SetterLemmas
 pub mod SettledLemmas
 pub mod ShownGroupLemmas

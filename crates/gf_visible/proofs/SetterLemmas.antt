@@ -1,8 +1,8 @@
--- What the operations at positions say of `Shown`: setters are in a strict order, and agree where they are compatible and neither is later.
+-- What the operations at positions say of `Shown`: setters agree where they are compatible and neither is later.
 use Rattle.std.proofs.Common.{◌≡◌, ◌≢◌, ℕ, Bool, true, false, List, inl, inr, refl, subst, sym, ap, ◌∙◌}
 use Rattle.std.specs.Prelude.{◌⊎◌, Option, Some, None, IsSome, option_map, slice_get, unwrap_or}
 use Rattle.std.specs.Option.{is_some}
-use Rattle.std.proofs.lemmas.Bool.{cases_Bool, and_parts, and_from}
+use Rattle.std.proofs.lemmas.Bool.{and_parts, and_from}
 use Rattle.gf_ops.specs.declared.op.Op.{Op}
 use Rattle.gf_ops.specs.declared.op.ObjectId.{ObjectId}
 use Rattle.gf_ops.specs.declared.change.Change.{Change}
@@ -11,15 +11,14 @@ use Rattle.gf_ops.specs.declared.change.Value.{Value}
 use Rattle.gf_ops.specs.declared.change.Value.TheVariants as value
 use Rattle.gf_ops.specs.declared.change.Attr.TheVariants as attr
 use Rattle.gf_ops.specs.Attribute.{change_value}
-use Rattle.gf_ops.specs.Conflict.{Conflict}
 use Rattle.gf_ops.specs.OperationOrder.{Precedes}
+use Rattle.gf_ops.specs.DirectConflict.{DirectConflict}
 use Rattle.gf_ops.specs.ValidHistory.{IsValid}
-use Rattle.gf_ops.proofs.HistoryLemmas.{site_in_range, seq_in_range}
-use Rattle.gf_ops.proofs.ValidityLemmas.{precedes_irreflexive, precedes_transitive}
+use Rattle.gf_ops.proofs.ConflictLemmas.{conflict_direct}
 use Rattle.gf_groups.specs.GroupedPositions.{is_on}
 use Rattle.gf_groups.specs.Growing.{conflict_at}
 use Rattle.gf_groups.proofs.ConflictTestLemmas.{before_decided}
-use Rattle.gf_groups.proofs.OnPositionLemmas.{conflict_from, contained_at, on_from}
+use Rattle.gf_groups.proofs.OnPositionLemmas.{conflict_from, on_from}
 use Rattle.gf_visible.specs.ShownAt.{shown_by, op_says, both_before, said_at, sets_at, shows_at, later_at}
 
 -- ---- one operation
@@ -27,12 +26,12 @@ use Rattle.gf_visible.specs.ShownAt.{shown_by, op_says, both_before, said_at, se
 -- what an operation says of `Shown` is what it gives to it
 pub same_given : (c : Change) → change_value c attr.Shown ≡ option_map value.Shown (shown_by c)
 same_given (Create start) = refl
-same_given (Set o (value.Shown b)) = refl
-same_given (Set o (value.Place p)) = refl
-same_given (Set o (value.Points ps)) = refl
-same_given (Set o (value.Size w h)) = refl
-same_given (Set o (value.Colour c)) = refl
-same_given (Set o (value.Layer n)) = refl
+same_given (Set o (value.Shown b) aim) = refl
+same_given (Set o (value.Place p) aim) = refl
+same_given (Set o (value.Points ps) aim) = refl
+same_given (Set o (value.Size w h) aim) = refl
+same_given (Set o (value.Colour c) aim) = refl
+same_given (Set o (value.Layer n) aim) = refl
 
 shown_in : Option Value → Bool
 shown_in (Some (value.Shown b)) = b
@@ -42,10 +41,10 @@ pub shown_once : (x y : Bool) → value.Shown x ≡ value.Shown y → x ≡ y
 unfolding shown_in
 shown_once x y e = ap (λ v. shown_in (Some v)) e
 
-pub yes_from : (r : Option Bool) → option_map value.Shown r ≡ Some (value.Shown true) → r ≡ Some true
+pub value_from : (x : Bool) (r : Option Bool) → option_map value.Shown r ≡ Some (value.Shown x) → r ≡ Some x
 unfolding shown_in
-yes_from (Some b) e = ap (λ x. Some x) (ap shown_in e)
-yes_from None e = let f : false ≡ true = ap shown_in e in absurd cc
+value_from x (Some b) e = ap (λ y. Some y) (ap shown_in e)
+value_from x None e = absurd cc
 
 pub said_from : (r : Option Bool) → IsSome (option_map value.Shown r) → is_some r ≡ true
 said_from (Some b) e = refl
@@ -118,27 +117,6 @@ module _ (h : List Op) where
   from_told i j a b e f s p = and_from (sets_at h j) (both_before (slice_get h i) (slice_get h j)) s (both_from (slice_get h i) (slice_get h j) a b e f p)
 
 module _ (h : List Op) (valid : IsValid h) where
-  pub itself : (i : ℕ) → later_at h i i ≡ false
-  itself i = elim (cases_Bool (later_at h i i)) [
-    | inl y ↦
-        let w = told h i i y in
-        let e : w.1 ≡ w.0 = one_op (slice_get h i) w.1 w.0 w.3 w.2 in
-        absurd (precedes_irreflexive h valid w.0 (contained_at h i w.0 w.2) (subst (λ (z : Op). Precedes w.0 z) e w.4))
-    | inr n ↦ n
-  ]
-
-  pub through : (i j k : ℕ) → later_at h i j ≡ true → later_at h j k ≡ true → later_at h i k ≡ true
-  through i j k x y =
-      let v = told h i j x in
-      let w = told h j k y in
-      let e : w.0 ≡ v.1 = one_op (slice_get h j) w.0 v.1 w.2 v.3 in
-      let a = contained_at h i v.0 v.2 in
-      let b = contained_at h j v.1 v.3 in
-      let d = contained_at h k w.1 w.3 in
-      let second : Precedes v.1 w.1 = subst (λ (z : Op). Precedes z w.1) e w.4 in
-      from_told h i k v.0 w.1 v.2 w.3 (setter_later h j k y)
-      (precedes_transitive h valid v.0 v.1 w.1 b d (site_in_range v.0 (valid.in_range v.0 a)) (site_in_range v.1 (valid.in_range v.1 b)) (seq_in_range v.1 (valid.in_range v.1 b)).0 v.4 second)
-
   -- setters of one object that are compatible and neither of which is later say the same
   pub agree_at : (o : ObjectId) (i j : ℕ) → is_on o (slice_get h i) ≡ true → is_on o (slice_get h j) ≡ true → conflict_at h i j ≡ false → sets_at h i ≡ true → sets_at h j ≡ true → later_at h i j ≡ false → later_at h j i ≡ false → shows_at h i ≡ shows_at h j
   agree_at o i j on_i on_j calm set_i set_j no_i no_j =
@@ -151,7 +129,7 @@ module _ (h : List Op) (valid : IsValid h) where
       elim (two_bools x.0 y.0) [
         | inl e ↦ same e
         | inr n ↦
-            let k : Conflict a b = record {
+            let k : DirectConflict a b = record {
               concurrent = record {
                 different = λ e.
                     let says : shown_by a.change ≡ shown_by b.change = ap (λ (z : Op). shown_by z.change) e in
@@ -169,7 +147,7 @@ module _ (h : List Op) (valid : IsValid h) where
                 differ = λ e. n (shown_once x.0 y.0 e);
               };
             } in
-            absurd (no_later calm (conflict_from (slice_get h i) (slice_get h j) a b x.1.1 y.1.1 k))
+            absurd (no_later calm (conflict_from h valid i j a b x.1.1 y.1.1 (conflict_direct h a b k)))
       ]
     where
       no_later : {b : Bool} → b ≡ false → b ≡ true → ⊥

@@ -15,9 +15,9 @@ use Rattle.gf_ops.proofs.ValidityLemmas.{same_op}
 use Rattle.gf_groups.specs.GroupedPositions.{rising_ids}
 use Rattle.gf_groups.proofs.IdPositionLemmas.{Contains-rising_ids}
 use Rattle.gf_groups.proofs.OnPositionLemmas.{contained_at}
-use Rattle.gf_visible.specs.ShownAt.{shown_by, sets_at, later_at}
-use Rattle.gf_visible.proofs.LastLemmas.{Shows}
-use Rattle.gf_visible.proofs.SetterLemmas.{same_given, yes_from, said_from, said_to, says_yes, said_op, setter_later, told, from_told, one_op}
+use Rattle.gf_visible.specs.ShownAt.{shown_by, said_at, sets_at, later_at}
+use Rattle.gf_visible.specs.ShownSets.{Shows}
+use Rattle.gf_visible.proofs.SetterLemmas.{same_given, value_from, said_from, said_to, says_yes, said_op, setter_later, told, from_told, one_op}
 
 module _ (h : List Op) (valid : IsValid h) (g : List ℕ) where
   -- a member of the group with its position
@@ -39,7 +39,7 @@ module _ (h : List Op) (valid : IsValid h) (g : List ℕ) where
   }
 
   -- where a last setter of the group shows, the settled value is that it shows
-  pub to_settled : Shows h valid g → IsSettled h (rising_ids h g) attr.Shown (value.Shown true)
+  pub to_settled : Shows h g → IsSettled h (rising_ids h g) attr.Shown (value.Shown true)
   to_settled w =
       let s = says_yes h w.last w.given in
       record {
@@ -55,15 +55,22 @@ module _ (h : List Op) (valid : IsValid h) (g : List ℕ) where
             absurd cc;
       }
 
-  -- and back
-  pub from_settled : IsSettled h (rising_ids h g) attr.Shown (value.Shown true) → Shows h valid g
-  from_settled w =
+  -- one of the group that no setter of the group comes after says b
+  pub record LastSays (b : Bool) : Type 0 where
+    pub last : ℕ
+    pub within : Contains g last
+    pub given : said_at h last ≡ Some b
+    pub none : (j : ℕ) → Contains g j → later_at h last j ≡ false
+
+  -- what is settled is what a last setter says
+  pub last_from : (b : Bool) → IsSettled h (rising_ids h g) attr.Shown (value.Shown b) → LastSays b
+  last_from b w =
       let t = position_of w.setter w.member in
-      let yes = yes_from (shown_by w.setter.change) (sym (same_given w.setter.change) ∙ w.gives) in
+      let said_b = value_from b (shown_by w.setter.change) (sym (same_given w.setter.change) ∙ w.gives) in
       record {
         last = t.position;
         within = t.within;
-        given = ap (λ (r : Option Bool). unwrap_or r false) (said_op h t.position w.setter (Some true) t.at yes);
+        given = said_op h t.position w.setter (Some b) t.at said_b;
         none = λ j c. elim (cases_Bool (later_at h t.position j)) [
           | inl y ↦
               let k = told h t.position j y in
@@ -74,3 +81,7 @@ module _ (h : List Op) (valid : IsValid h) (g : List ℕ) where
           | inr n ↦ n
         ];
       }
+
+  -- and back
+  pub from_settled : IsSettled h (rising_ids h g) attr.Shown (value.Shown true) → Shows h g
+  from_settled w = let l = last_from true w in record { last = l.last; within = l.within; given = ap (λ (r : Option Bool). unwrap_or r false) l.given; none = l.none }

@@ -23,8 +23,7 @@ use Rattle.gf_maximal.proofs.PairLemmas.{AllPairs-map}
 use Rattle.gf_groups.proofs.VersionLemmas.{version_of_largest}
 use Rattle.gf_visible.specs.ShownSets.{IsShownSet, AreShownSets, HasMoreSets}
 use Rattle.gf_visible.specs.ShownVersions.{IsVisibleGroup, AreVisibleOn, HasMoreOn}
-use Rattle.gf_visible.proofs.LastLemmas.{shows_from, shows_to}
-use Rattle.gf_visible.proofs.SetterLemmas.{agree_at, shown_once}
+use Rattle.gf_visible.proofs.SetterLemmas.{shown_once}
 use Rattle.gf_visible.proofs.SettledLemmas.{from_settled, to_settled}
 use Rattle.gf_versions.proofs.SettlingLemmas.{settled_once}
 use Rattle.gf_versions.proofs.VersionLemmas.{some_version}
@@ -53,7 +52,7 @@ module _ (h : List Op) (valid : IsValid h) (o : ObjectId) (made : IsMade h o) wh
   visible q s =
       let version : IsVersionGroup h (group_at h o q) = version_of_largest h valid o us on made q s.largest in
       let v = some_version h valid (group_at h o q) version in
-      let shown = to_settled h valid q (shows_to h valid q s.shown) in
+      let shown = to_settled h valid q s.shown in
       let ids : v.0.key.ops ≡ rising_ids h q = ap (λ (g : Group). g.ops) v.2 in
       let own : IsSettled h (rising_ids h q) attr.Shown (value.Shown v.0.shown) = subst (λ g. IsSettled h g attr.Shown (value.Shown v.0.shown)) ids v.1.shown in
       let yes = shown_once v.0.shown true (settled_once h valid o (rising_ids h q) version attr.Shown (value.Shown v.0.shown) (value.Shown true) own shown) in
@@ -68,9 +67,7 @@ module _ (h : List Op) (valid : IsValid h) (o : ObjectId) (made : IsMade h o) wh
       record {
         rises = l.0;
         largest = l.1;
-        shown = shows_from h valid q
-            (λ i j x y. agree_at h valid o i j ((on i).0 (l.1.within i x)) ((on j).0 (l.1.within j y)) (l.1.compatible i j x y))
-            (from_settled h valid q settled);
+        shown = from_settled h valid q settled;
       }
 
   -- THE VISIBLE VERSIONS of the object

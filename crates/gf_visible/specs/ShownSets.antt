@@ -1,16 +1,23 @@
 -- The largest compatible sets of positions that show, listed unless they are too many. No public clause cites this module.
-use Rattle.std.specs.Prelude.{◌≡◌, ◌≢◌, ◌↔◌, ℕ, ◌<◌, ◌≤◌, true, List, AllPairs, Contains}
+use Rattle.std.specs.Prelude.{◌≡◌, ◌≢◌, ◌↔◌, ℕ, ◌<◌, ◌≤◌, true, false, List, AllPairs, Contains}
 use Rattle.std.specs.Prelude.{length, Option, Some, None}
 use Rattle.gf_ops.specs.declared.op.Op.{Op}
 use Rattle.gf_groups.specs.Growing.{conflict_at}
 use Rattle.gf_maximal.specs.Tables.{IsLargest, IsRising}
-use Rattle.gf_visible.specs.Deciding.{is_shown}
+use Rattle.gf_visible.specs.ShownAt.{later_at, shows_at}
+
+-- of the positions g, one that no setter of g comes after shows
+pub record Shows (h : List Op) (g : List ℕ) : Type 0 where
+  pub last : ℕ
+  pub within : Contains g last
+  pub given : shows_at h last ≡ true
+  pub none : (j : ℕ) → Contains g j → later_at h last j ≡ false
 
 -- g is a largest compatible set of the positions us, and shows
 pub record IsShownSet (h : List Op) (us g : List ℕ) : Type 0 where
   pub rises : IsRising g
   pub largest : IsLargest (conflict_at h) (Contains us) (Contains g)
-  pub shown : is_shown h g ≡ true
+  pub shown : Shows h g
 
 -- the sets are all largest compatible sets of the positions us that show, each once
 pub record AreShownSets (h : List Op) (us : List ℕ) (sets : List (List ℕ)) : Type 0 where

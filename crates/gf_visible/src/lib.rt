@@ -1,5 +1,6 @@
 //! The visible versions of a history, listed within a bound from its table of versions. Choices
-//! that do not decide whether a version shows are counted before they are multiplied out.
+//! that decide whether a version shows are searched for. The others are counted before they are
+//! multiplied out.
 //!
 //! - [`visible_groups`]: the groups of the visible versions of one object.
 //! - [`ranked_within`]: the ranked list of the visible versions of a history; [`ranked_with`]: the

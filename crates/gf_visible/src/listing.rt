@@ -1,92 +1,109 @@
 //! The largest compatible sets of an object's positions that show, listed unless they are too many.
 
-ghost use Rattle.std.specs.Prelude.{◌≡◌, ◌≤◌, ◌<◌, ◌-◌, ◌^◌, cond, filter, length, IfOk};
+ghost use Rattle.std.specs.Prelude.{◌≡◌, ◌≤◌, ◌<◌, ◌-◌, ◌^◌, cond, not, length, IfOk};
 ghost use Rattle.std.specs.Prelude.{option_map};
-ghost use Rattle.std.specs.List.{fold};
-ghost use Rattle.gf_components.specs.Components.{alone, merged, most_sets, whole};
+ghost use Rattle.gf_components.specs.Components.{merged, most_sets, whole};
 ghost use Rattle.gf_groups.specs.GroupedPositions.{positions_below};
-ghost use Rattle.gf_visible.specs.Deciding.{at_most, deciding, idle, is_shown, is_wanted, shown_within};
+ghost use Rattle.gf_groups.specs.Versions.{IsMade};
 ghost use Rattle.gf_table.specs.Standing.{StandsFor};
+ghost use Rattle.gf_visible.specs.Deciding.{at_most, decides, deciding, idle};
+ghost use Rattle.gf_visible.specs.Deciding.{with_deciding, with_idle};
 ghost use Rattle.gf_visible.specs.ShownSets.{IsSetListing};
 
-use crate::deciding::{one_may_be_last, shows};
+use crate::deciding::{lasts, one_may_be_last};
+use crate::saying::Timeline;
+use gf_choices::showing_within;
 use gf_components::{Component, Components, alone, merged, products};
-use gf_groups::groups_at;
 use gf_maximal::Numbers;
 use gf_ops::{History, ObjectId};
 use gf_shape::OutOfMemory;
 use gf_table::GroupTable;
 use std::alloc::Global;
 
-/// The component with another one, if it is wanted.
-fn with_wanted(
+/// Whether a setter of the component may be the last one.
+fn decides(
     alloc: Global,
+    history: &History,
+    lasts: &[usize],
+    part: &Component,
+) -> Result<bool, OutOfMemory>
+    ensures { IfOk result (λ test. test ≡ decides history.now.ops lasts.now part.now) }
+{
+    let positions = part.all().to_vec(alloc)?;
+    Ok(one_may_be_last(history, lasts, &positions))
+}
+
+/// The positions, with those of the component if it decides.
+fn with_deciding(
+    alloc: Global,
+    history: &History,
+    lasts: &[usize],
+    positions: Numbers,
+    part: &Component,
+) -> Result<Numbers, OutOfMemory>
+    ensures { IfOk result (λ more. more
+        ≡ with_deciding history.now.ops lasts.now positions part.now) }
+{
+    if decides(alloc, history, lasts, part)? {
+        positions.united(alloc, part.all())
+    } else {
+        Ok(positions)
+    }
+}
+
+/// The last setters of what is free, and the positions of the components that decide.
+fn deciding(
+    alloc: Global,
+    history: &History,
+    components: &Components,
+    lasts: &Numbers,
+) -> Result<Numbers, OutOfMemory>
+    ensures { IfOk result (λ positions. positions
+        ≡ deciding history.now.ops lasts.now components.now) }
+{
+    let setters = lasts.to_vec(alloc)?;
+    let mut positions = lasts.copy(alloc)?;
+    for part in components.parts() {
+        positions = with_deciding(alloc, history, &setters, positions, part)?;
+    }
+    Ok(positions)
+}
+
+/// The component with another one, if that does not decide.
+fn with_idle_part(
+    alloc: Global,
+    history: &History,
+    lasts: &[usize],
     part: Component,
     other: &Component,
-    wanted: bool,
 ) -> Result<Component, OutOfMemory>
-    ensures { IfOk result (λ both. both ≡ cond wanted (merged part other.now) part) }
+    ensures { IfOk result (λ both. both
+        ≡ cond (not (decides history.now.ops lasts.now other.now)) (merged part other.now) part) }
 {
-    if wanted {
+    if !decides(alloc, history, lasts, other)? {
         merged(alloc, &part, other)
     } else {
         Ok(part)
     }
 }
 
-/// These positions, and the components that decide or those that do not, as one component.
-fn merged_wanted(
-    alloc: Global,
-    history: &History,
-    components: &Components,
-    positions: Numbers,
-    wanted: bool,
-) -> Result<Component, OutOfMemory>
-    ensures { IfOk result (λ part. part ≡ fold merged (alone positions)
-        (filter (is_wanted history.now.ops wanted components.now) components.now.parts)) }
-{
-    let mut part = alone(alloc, positions)?;
-    for other in components.parts() {
-        let decides = one_may_be_last(history, components, &other.all().to_vec(alloc)?);
-        part = with_wanted(alloc, part, other, decides == wanted)?;
-    }
-    Ok(part)
-}
-
-/// What is free, with the components that decide, as one component.
-fn whole_deciding(
-    alloc: Global,
-    history: &History,
-    components: &Components,
-) -> Result<Component, OutOfMemory>
-    ensures { IfOk result (λ part. part ≡ whole (deciding history.now.ops components.now)) }
-{
-    let free = components.free().copy(alloc)?;
-    merged_wanted(alloc, history, components, free, true)
-}
-
-/// The other components as one.
+/// What is free but for its last setters, and the components that do not decide, as one.
 fn whole_idle(
     alloc: Global,
     history: &History,
     components: &Components,
+    lasts: &Numbers,
 ) -> Result<Component, OutOfMemory>
-    ensures { IfOk result (λ part. part ≡ whole (idle history.now.ops components.now)) }
+    ensures { IfOk result (λ part. part
+        ≡ whole (idle history.now.ops lasts.now components.now)) }
 {
-    merged_wanted(alloc, history, components, Numbers::new(alloc), false)
-}
-
-/// Copies of the sets that show.
-fn showing(alloc: Global, history: &History, sets: &[Numbers]) -> Result<Vec<Numbers>, OutOfMemory>
-    ensures { IfOk result (λ kept. kept.items ≡ filter (is_shown history.now.ops) sets.now) }
-{
-    let mut kept = Vec::new(alloc);
-    for set in sets {
-        if shows(history, &set.to_vec(alloc)?) {
-            kept.push(set.copy(alloc)?)?;
-        }
+    let setters = lasts.to_vec(alloc)?;
+    let free = components.free().without(alloc, lasts)?;
+    let mut part = alone(alloc, free)?;
+    for other in components.parts() {
+        part = with_idle_part(alloc, history, &setters, part, other)?;
     }
-    Ok(kept)
+    Ok(part)
 }
 
 /// Each of the sets united with each of the others, if the others are kept and make at most so
@@ -113,29 +130,29 @@ fn at_most(
     }
 }
 
-/// The sets of the object that show, if they are at most so many, from the sets of what decides.
-fn shown_within(
+/// Each of the sets that show united with each choice of the rest, if these are at most so many.
+fn with_idle(
     alloc: Global,
     history: &History,
     components: &Components,
-    sets: &[Numbers],
+    lasts: &Numbers,
+    shown: &[Numbers],
     most: usize,
 ) -> Result<Option<Vec<Numbers>>, OutOfMemory>
     requires { most < 2 ^ 64 - 1 }
-    ensures { IfOk result (λ found.
-        option_map (λ v. v.items) found ≡ shown_within history.now.ops most components.now sets.now) }
+    ensures { IfOk result (λ found. option_map (λ v. v.items) found
+        ≡ with_idle history.now.ops most lasts.now components.now shown.now) }
 {
-    let showing = showing(alloc, history, sets)?;
-    if showing.is_empty() {
+    if shown.is_empty() {
         return Ok(Some(Vec::new(alloc)));
     }
-    let idle = whole_idle(alloc, history, components)?;
-    at_most(alloc, &showing, &idle, most)
+    let idle = whole_idle(alloc, history, components, lasts)?;
+    at_most(alloc, shown, &idle, most)
 }
 
 /// The largest compatible sets of an object's positions that show, each once, if they are at most
-/// so many. The sets of what decides are listed anew where a component does not keep so many.
-/// Nothing else of the object is multiplied out.
+/// so many. Those of what decides are searched for, and nothing else of the object is multiplied
+/// out unless some show.
 pub(crate) fn shown_sets(
     alloc: Global,
     history: &History,
@@ -144,6 +161,7 @@ pub(crate) fn shown_sets(
     most: usize,
 ) -> Result<Option<Vec<Numbers>>, OutOfMemory>
     requires stands { StandsFor history.now.ops table.now }
+    requires made { IsMade history.now.ops object }
     requires most { most ≤ most_sets }
     ensures { IfOk result (λ found. IsSetListing history.now.ops
         (positions_below history.now.ops object (length history.now.ops))
@@ -152,12 +170,8 @@ pub(crate) fn shown_sets(
     // Its clause says that the history is valid.
     let _ = history.ops();
     let components = table.components(alloc, history, object)?;
-    let deciding = whole_deciding(alloc, history, &components)?;
-    match deciding.sets() {
-        Some(sets) => shown_within(alloc, history, &components, sets, most),
-        None => {
-            let sets = groups_at(alloc, history, &deciding.all().to_vec(alloc)?)?;
-            shown_within(alloc, history, &components, &sets, most)
-        }
-    }
+    let lasts = lasts(alloc, history, components.free())?;
+    let positions = deciding(alloc, history, &components, &lasts)?.to_vec(alloc)?;
+    let shown = showing_within(alloc, &Timeline(history), &positions, most + 1)?;
+    with_idle(alloc, history, &components, &lasts, &shown, most)
 }

@@ -21,9 +21,8 @@ use std::alloc::Global;
 ///
 /// Choices that do not decide whether a version shows are counted first. They are multiplied out
 /// only where some version shows, and at most `most` do. An object that an operation hid which
-/// knows all others costs a look at its operations. The choices that decide are listed, whatever
-/// their number. Each conflict between showing and hiding that no later operation settles doubles
-/// them.
+/// knows all others costs a look at its operations. The choices that decide are searched for: a
+/// choice is dropped once it can't show any more, and the search stops beyond `most`.
 pub fn visible_groups(
     alloc: Global,
     history: &History,

@@ -6,6 +6,8 @@ ghost use Rattle.gf_groups.specs.VersionList.{is_before};
 ghost use Rattle.gf_visible.specs.ShownAt.{shown_value, shown_by, before_at};
 ghost use Rattle.gf_visible.specs.ShownAt.{said_at, sets_at, shows_at, later_at};
 
+use gf_choices::Setters;
+use gf_groups::conflict_at;
 use gf_ops::{Change, History, Op, Value, before};
 
 /// Whether the value shows, if it says that.
@@ -80,4 +82,31 @@ pub(crate) fn later_at(history: &History, position: usize, other: usize) -> bool
     ensures { result ≡ later_at history.now.ops position other }
 {
     sets_at(history, other) && before_at(history, position, other)
+}
+
+/// A history, asked for what the operations at its positions say of `Shown`.
+#[derive(Drop)]
+pub(crate) struct Timeline<'a>(pub(crate) &'a History);
+
+impl Setters for Timeline<'_> {
+    ghost use Rattle.gf_groups.specs.Growing.{conflict_at};
+    ghost use Rattle.gf_visible.specs.ShownAt.{covers_at, hides_at};
+
+    ghost hides = { λ s i. hides_at s.0.now.ops i };
+
+    ghost covers = { λ s i j. covers_at s.0.now.ops i j };
+
+    ghost rivals = { λ s i j. conflict_at s.0.now.ops i j };
+
+    fn hides(&self, position: usize) -> bool {
+        sets_at(self.0, position) && !shows_at(self.0, position)
+    }
+
+    fn covers(&self, position: usize, other: usize) -> bool {
+        later_at(self.0, position, other) && shows_at(self.0, other)
+    }
+
+    fn rivals(&self, position: usize, other: usize) -> bool {
+        conflict_at(self.0, position, other)
+    }
 }

@@ -1,0 +1,23 @@
+use Rattle.std.proofs.Common.{◌≡◌, ◌∷◌, [], ◌++◌, ◌<◌, ◌+◌, take, get_or, ap, sym, length, not, ◌∙◌, cond}
+use Rattle.std.proofs.lemmas.List.{take_more}
+use Rattle.gf_components.specs.Components.{ComponentState, merged}
+use Rattle.gf_components.proofs.ComponentLemmas.{merged_more}
+use Rattle.gf_visible.specs.Deciding.{decides}
+use Rattle.gf_visible.proofs.listing.whole_idle.Goals as goal
+
+pub loop-other-preserved : goal.loop-other-preserved
+loop-other-preserved c =
+    let h = c.args.history.now.ops in
+    let parts = c.args.components.now.parts in
+    let i = c.loop-other.other-index in
+    let p : ComponentState = c.other-item.result in
+    let start : ComponentState = c.in_ok-part.part in
+    let items = c.parts-other-items.ensures in
+    let within : i < length parts = rw items at c.loop-other-test.true in
+    let is : p ≡ get_or parts i p = c.other-item.is ∙ ap (λ xs. get_or xs i p) items in
+    let grown : take (i + 1) parts ≡ take i parts ++ p ∷ [] = take_more parts i p within ∙ ap (λ (z : ComponentState). take i parts ++ z ∷ []) (sym is) in
+    let setters = c.deref.ensures.value ∙ c.in_ok-setters.ensures in
+    let idle : ComponentState → _ = λ q. not (decides h c.args.lasts.now q) in
+    rw grown (c.in_ok-part-2.ensures
+    ∙ (ap (λ ls. cond (not (decides h ls p)) (merged c.loop-other.part p) c.loop-other.part) setters
+    ∙ (ap (λ q. cond (idle p) (merged q p) q) c.loop-other.invariant ∙ sym (merged_more idle start (take i parts) p))))
