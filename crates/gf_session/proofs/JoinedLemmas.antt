@@ -11,6 +11,7 @@ use Rattle.gf_ops.specs.declared.change.Change.{Change}
 use Rattle.gf_ops.specs.declared.change.Change.TheVariants.{Create, Set}
 use Rattle.gf_ops.specs.KnownObject.{IsSuited}
 use Rattle.gf_ops.specs.ValidHistory.{IsValid}
+use Rattle.gf_ops.proofs.AimedLemmas.{aimed_beyond}
 use Rattle.gf_ops.proofs.ListLemmas.{not_Contains-nil, Contains-cons_cases, Contains-cons_head, Contains-cons_tail}
 use Rattle.gf_ops.proofs.ValidityLemmas.{same_op}
 use Rattle.gf_causal.specs.DeliveredPart.{AreOneById, HasLastDelivery}
@@ -122,7 +123,7 @@ module _ (ends : List WorkerEnd) (joined : AreJoined ends) where
 
   suited_more : (e : WorkerEnd) → Contains ends e → (a : Op) (c : Change) → IsSuited e.site.ops a c → IsSuited whole.added a c
   suited_more e c a (Create start) s = tt
-  suited_more e c a (Set o v) s =
+  suited_more e c a (Set o v aim) s =
       let k = s.known in
       record { kind = s.kind; known = record { maker = k.maker; contained = within_whole e c k.maker k.contained; id = k.id; kind = k.kind; before = k.before }; suited = s.suited }
 
@@ -136,6 +137,10 @@ module _ (ends : List WorkerEnd) (joined : AreJoined ends) where
         let h = (joined.complete t.end t.contained).valid.closed a t.has i n in
         record { op = h.op; contained = within_whole t.end t.contained h.op h.contained; id = h.id; past = h.past };
     suited = λ a c. let t = from_some a c in suited_more t.end t.contained a a.change ((joined.complete t.end t.contained).valid.suited a t.has);
+    aimed = λ a c.
+        let t = from_some a c in
+        aimed_beyond whole.added t.end.site.ops (λ x y m n i. one_by_id x y (whole.is_last.delivery.from_offered x m) (whole.is_last.delivery.from_offered y n) i)
+        (within_whole t.end t.contained) a ((joined.complete t.end t.contained).valid.aimed a t.has);
   }
 
   foreign_came : (e : WorkerEnd) → Contains ends e → AreForeign e.site.number e.seats.items

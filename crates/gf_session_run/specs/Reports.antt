@@ -2,7 +2,8 @@
 use Rattle.std.specs.Prelude.{ℕ, List, ◌++◌, length, flat_map, codes}
 use Rattle.std.specs.Fmt.{decimal}
 use Rattle.gf_worker.specs.declared.report.Cause.{Cause}
-use Rattle.gf_worker.specs.declared.report.Cause.TheVariants.{Exhausted, Range, NoObject, WrongKind, OwnId, NeverComes}
+use Rattle.gf_worker.specs.declared.report.Cause.TheVariants.{Exhausted, Range, NoObject, WrongKind}
+use Rattle.gf_worker.specs.declared.report.Cause.TheVariants.{BadAim, OwnId, NeverComes}
 use Rattle.gf_worker.specs.declared.report.Refused.{Refused}
 use Rattle.gf_worker.specs.declared.report.Report.{Report}
 use Rattle.gf_session.specs.declared.session.Done.{Done}
@@ -13,6 +14,7 @@ cause_word Exhausted = codes "Exhausted"
 cause_word Range = codes "Range"
 cause_word NoObject = codes "NoObject"
 cause_word WrongKind = codes "WrongKind"
+cause_word BadAim = codes "BadAim"
 cause_word OwnId = codes "OwnId"
 cause_word NeverComes = codes "NeverComes"
 

@@ -78,6 +78,7 @@ fn cause_word(cause: Cause) -> &'static [u8]
         Cause::Range => b"Range",
         Cause::NoObject => b"NoObject",
         Cause::WrongKind => b"WrongKind",
+        Cause::BadAim => b"BadAim",
         Cause::OwnId => b"OwnId",
         Cause::NeverComes => b"NeverComes",
     }

@@ -3,7 +3,7 @@ use Rattle.std.proofs.Common.{◌≡◌, Option, Some, List, [], ◌∷◌, ◌+
 use Rattle.std.specs.Prelude.{◌↔◌, Result, Err}
 use Rattle.gf_ops.specs.declared.op.Op.{Op}
 use Rattle.gf_ops.specs.declared.faults.OpFault.{OpFault}
-use Rattle.gf_ops.specs.declared.faults.OpFault.TheVariants.{BadClock, NoObject, WrongKind}
+use Rattle.gf_ops.specs.declared.faults.OpFault.TheVariants.{BadClock, NoObject, WrongKind, BadAim}
 use Rattle.gf_ops.specs.declared.change.Change.{Change}
 use Rattle.gf_ops.specs.declared.change.Change.TheVariants.{Create, Set}
 use Rattle.gf_ops.specs.KnownObject.{IsFounded, IsSuited}
@@ -15,10 +15,11 @@ run_more h old new a run e c n = subst AreAccepted (sym (n ∙ ap (λ l. l ++ a 
 
 -- the fault that a check told
 pub refused_by : {A : Type 0} (h : List Op) (a : Op) (r : Result A OpFault) (f : OpFault) → r ≡ Err f → (r ≡ Err BadClock ↔ IsRefused h a BadClock) → (r ≡ Err NoObject ↔ IsRefused h a NoObject) →
-    (r ≡ Err WrongKind ↔ IsRefused h a WrongKind) → IsRefused h a f
-refused_by h a r BadClock e p q w = p.0 e
-refused_by h a r NoObject e p q w = q.0 e
-refused_by h a r WrongKind e p q w = w.0 e
+    (r ≡ Err WrongKind ↔ IsRefused h a WrongKind) → (r ≡ Err BadAim ↔ IsRefused h a BadAim) → IsRefused h a f
+refused_by h a r BadClock e p q w x = p.0 e
+refused_by h a r NoObject e p q w x = q.0 e
+refused_by h a r WrongKind e p q w x = w.0 e
+refused_by h a r BadAim e p q w x = x.0 e
 
 -- what was taken out is the one that was looked for
 pub same_taken : (r : Option Op) (a b : Op) → r ≡ Some a → r ≡ Some b → b ≡ a
@@ -34,10 +35,11 @@ holds_more P h old new a e n = subst P (sym (n ∙ ap (λ l. l ++ a ∷ []) e))
 -- an accepted change makes an object, or changes one that its operation knows
 pub founded : (h : List Op) (a : Op) (c : Change) → IsSuited h a c → IsFounded h a c
 founded h a (Create start) s = tt
-founded h a (Set o v) s = record { kind = s.kind; known = s.known }
+founded h a (Set o v aim) s = record { kind = s.kind; known = s.known }
 
 -- an accepted operation has no fault
 pub not_refused : (h : List Op) (a : Op) (f : OpFault) → IsAccepted h a → ¬ (IsRefused h a f)
 not_refused h a BadClock c r = r c.next
 not_refused h a NoObject c r = r.1 (founded h a a.change c.suited)
 not_refused h a WrongKind c r = r.2 c.suited
+not_refused h a BadAim c r = r.2 c.aimed

@@ -4,6 +4,7 @@ use Rattle.gf_ops.specs.declared.op.Op.{Op}
 use Rattle.gf_ops.specs.declared.op.OpId.{OpId}
 use Rattle.gf_ops.specs.declared.change.Change.{Change}
 use Rattle.gf_ops.specs.declared.faults.OpFault.{OpFault}
+use Rattle.gf_ops.specs.Aims.{IsAimed}
 use Rattle.gf_ops.specs.Limits.{is_change, IsInRange}
 use Rattle.gf_ops.specs.OperationOrder.{count_of}
 use Rattle.gf_ops.specs.KnownObject.{IsFounded, IsSuited}
@@ -27,7 +28,10 @@ Refuses s h c fault.Exhausted = 10000 ≤ count_of h s
 Refuses s h c fault.Range = (count_of h s < 10000) × (¬ (IsTrue (is_change c)))
 Refuses s h c fault.NoObject = IsFit s h c × (¬ (IsFounded h (authored s h c) c))
 Refuses s h c fault.WrongKind = IsFit s h c × IsFounded h (authored s h c) c × (¬ (IsSuited h (authored s h c) c))
-Refuses s h c fault.OutOfMemory = IsFit s h c × IsSuited h (authored s h c) c
+Refuses s h c fault.BadAim =
+    IsFit s h c × IsSuited h (authored s h c) c × (¬ (IsAimed h (authored s h c)))
+Refuses s h c fault.OutOfMemory =
+    IsFit s h c × IsSuited h (authored s h c) c × IsAimed h (authored s h c)
 
 -- the site made the operation a of the change c, and had all that a knows
 pub record Authors (old : SiteState) (c : Change) (a : Op) (new : SiteState) : Type 0 where

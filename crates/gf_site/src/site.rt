@@ -140,6 +140,7 @@ impl Site {
             Err(OpFault::BadClock) => unreachable!(),
             Err(OpFault::NoObject) => return Err(AuthorFault::NoObject),
             Err(OpFault::WrongKind) => return Err(AuthorFault::WrongKind),
+            Err(OpFault::BadAim) => return Err(AuthorFault::BadAim),
         }
         let Ok(copy) = op.copy(self.alloc) else {
             return Err(AuthorFault::OutOfMemory);
@@ -187,8 +188,8 @@ impl Site {
         Ok(Step::Applied(id))
     }
 
-    /// The operation that it would make of the change. Its history accepts it, where the object of
-    /// the change is known and suits.
+    /// The operation that it would make of the change. Its history accepts it, where the object is
+    /// known and suits the value, and the aim has no fault.
     fn next_op(&self, change: Change) -> Op
         requires room { count_of self.now.ops self.now.number < 10000 }
         requires in_range { IsTrue (is_change change) }

@@ -40,6 +40,7 @@ refused_answer s h c fault.Exhausted n r = r
 refused_answer s h c fault.Range n r = r
 refused_answer s h c fault.NoObject n r = r
 refused_answer s h c fault.WrongKind n r = r
+refused_answer s h c fault.BadAim n r = r
 refused_answer s h c fault.OutOfMemory n r = absurd (n refl)
 
 refused_none : (c : Change) (f : AuthorFault) → f ≢ fault.OutOfMemory → accepted_change (Author c) (cause_of f) ≡ []
@@ -47,6 +48,7 @@ refused_none c fault.Exhausted n = refl
 refused_none c fault.Range n = refl
 refused_none c fault.NoObject n = refl
 refused_none c fault.WrongKind n = refl
+refused_none c fault.BadAim n = refl
 refused_none c fault.OutOfMemory n = absurd (n refl)
 
 not_never : (f : AuthorFault) → cause_of f ≢ Some NeverComes
@@ -54,6 +56,7 @@ not_never fault.Exhausted e = absurd cc
 not_never fault.Range e = absurd cc
 not_never fault.NoObject e = absurd cc
 not_never fault.WrongKind e = absurd cc
+not_never fault.BadAim e = absurd cc
 not_never fault.OutOfMemory e = absurd cc
 
 module _ (w : Work) (report : Report) (short : Bool) (n : ℕ) (c : Change) (f : AuthorFault) (refuses : Refuses w.site.number w.site.ops c f) (other : f ≢ fault.OutOfMemory) (told : IsRefusal n (cause_of f) true w.report report)

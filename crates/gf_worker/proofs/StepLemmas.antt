@@ -4,7 +4,7 @@ use Rattle.std.specs.Prelude.{Contains}
 use Rattle.std.proofs.lemmas.List.Elements.{Contains-append_left, Contains-push, Contains-push_cases}
 use Rattle.gf_ops.specs.declared.op.Op.{Op}
 use Rattle.gf_ops.specs.declared.faults.OpFault.{OpFault}
-use Rattle.gf_ops.specs.declared.faults.OpFault.TheVariants.{BadClock, NoObject, WrongKind}
+use Rattle.gf_ops.specs.declared.faults.OpFault.TheVariants.{BadClock, NoObject, WrongKind, BadAim}
 use Rattle.gf_ops.specs.OperationOrder.{IsSite}
 use Rattle.gf_ops.specs.ValidHistory.{IsValid}
 use Rattle.gf_ops.specs.Accepted.{IsAccepted, IsRefused, AreAccepted}
@@ -82,6 +82,7 @@ not_accepted : (h : List Op) (a : Op) (f : OpFault) → IsRefused h a f → ¬ (
 not_accepted h a BadClock r c = r c.next
 not_accepted h a NoObject r c = r.1 (founded h a a.change c.suited)
 not_accepted h a WrongKind r c = r.2 c.suited
+not_accepted h a BadAim r c = r.2 c.aimed
 
 module _ (old : Work) (a : Op) (held : List Op) (f : OpFault) (taken : Adds held a old.site.held) (there : Contains old.site.held a) (ready : IsReady old.site.ops a) (all : AreReady old.site.ops)
     (refused : IsRefused old.site.ops a f) where

@@ -11,7 +11,7 @@ use Rattle.gf_ops.specs.declared.change.Change.{Change}
 use Rattle.gf_json.specs.declared.script_line.Command.{Command}
 use Rattle.gf_json.specs.declared.script_line.Command.TheVariants.{Author, Await}
 use Rattle.gf_worker.specs.declared.report.Cause.{Cause}
-use Rattle.gf_worker.specs.declared.report.Cause.TheVariants.{Exhausted, Range, NoObject, WrongKind, OwnId, NeverComes}
+use Rattle.gf_worker.specs.declared.report.Cause.TheVariants.{Exhausted, Range, NoObject, WrongKind, BadAim, OwnId, NeverComes}
 use Rattle.gf_worker.specs.declared.report.Report.{Report}
 use Rattle.gf_worker.specs.Messages.{own}
 use Rattle.gf_worker.specs.Played.{IsPlayed}
@@ -43,6 +43,7 @@ author_more s before later a c (Some Exhausted) h = h
 author_more s before later a c (Some Range) h = h
 author_more s before later a c (Some NoObject) h = h
 author_more s before later a c (Some WrongKind) h = h
+author_more s before later a c (Some BadAim) h = h
 author_more s before later a c (Some OwnId) h = h
 author_more s before later a c (Some NeverComes) h = h
 
@@ -55,6 +56,7 @@ await_more s before later a i (Some NeverComes) h f = (h.0, h.1, h.2, f refl h.3
 await_more s before later a i (Some Exhausted) h f = h
 await_more s before later a i (Some NoObject) h f = h
 await_more s before later a i (Some WrongKind) h f = h
+await_more s before later a i (Some BadAim) h f = h
 
 answer_more : (s : ℕ) (before later : List Op) (a : Op) (c : Command) (r : Option Cause) → Answer s before later c r → (r ≡ Some NeverComes → NothingComes s later → NothingComes s (later ++ a ∷ [])) →
     Answer s before (later ++ a ∷ []) c r

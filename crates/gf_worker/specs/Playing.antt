@@ -24,6 +24,7 @@ cause_of fault.Exhausted = Some cause.Exhausted
 cause_of fault.Range = Some cause.Range
 cause_of fault.NoObject = Some cause.NoObject
 cause_of fault.WrongKind = Some cause.WrongKind
+cause_of fault.BadAim = Some cause.BadAim
 cause_of fault.OutOfMemory = None
 
 -- the refusal of a change is in the report, unless memory was refused

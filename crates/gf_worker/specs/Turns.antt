@@ -51,6 +51,7 @@ AuthorAnswer s before later c (Some cause.Exhausted) = Refuses s before c fault.
 AuthorAnswer s before later c (Some cause.Range) = Refuses s before c fault.Range
 AuthorAnswer s before later c (Some cause.NoObject) = Refuses s before c fault.NoObject
 AuthorAnswer s before later c (Some cause.WrongKind) = Refuses s before c fault.WrongKind
+AuthorAnswer s before later c (Some cause.BadAim) = Refuses s before c fault.BadAim
 AuthorAnswer s before later c r = ⊥
 
 -- a passed Await has its id before it; a refused one has the first of its causes

@@ -43,6 +43,7 @@ fn cause_of(fault: AuthorFault) -> Option<Cause>
         AuthorFault::Range => Some(Cause::Range),
         AuthorFault::NoObject => Some(Cause::NoObject),
         AuthorFault::WrongKind => Some(Cause::WrongKind),
+        AuthorFault::BadAim => Some(Cause::BadAim),
         AuthorFault::OutOfMemory => None,
     }
 }

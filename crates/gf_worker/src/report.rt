@@ -2,7 +2,7 @@
 
 use gf_ops::OpId;
 
-/// Why a command was refused, in the order of the checks. The first four are of an Author, Range
+/// Why a command was refused, in the order of the checks. The first five are of an Author, Range
 /// and the last two of an Await.
 #[derive(Clone, Copy, Debug, PartialEq, Eq)]
 pub enum Cause {
@@ -14,6 +14,9 @@ pub enum Cause {
     NoObject,
     /// Its value doesn't suit the object's kind.
     WrongKind,
+    /// Its aim has an operation that the site doesn't have or that concerns another object. Or two
+    /// operations of the aim conflict directly, or it lacks one that they aim at.
+    BadAim,
     /// The site waited for an operation of its own.
     OwnId,
     /// Every peer ended, and the operation that was waited for had not come.

@@ -21,6 +21,7 @@ valid_nil = record {
   own = λ a m. absurd (not_Contains-nil a m);
   closed = λ a m. absurd (not_Contains-nil a m);
   suited = λ a m. absurd (not_Contains-nil a m);
+  aimed = λ a m. absurd (not_Contains-nil a m);
 }
 
 -- an accepted operation has a new id
@@ -34,7 +35,7 @@ fresh_id h ready a accepted b m e =
 pub valid_push : (h : List Op) → AreAccepted h → IsValid h → (a : Op) → IsInRange a → IsAccepted h a → IsValid (h ++ a ∷ [])
 valid_push h run valid a in_range accepted =
     let ready = all_ready run in
-    IsValid-push h a valid in_range accepted.next accepted.suited (fresh_id h ready a accepted)
+    IsValid-push h a valid in_range accepted.next accepted.suited accepted.aimed (fresh_id h ready a accepted)
     (λ i site first last. let t = has_counted ready i first last in record { op = t.op; contained = t.contained; id = λ j. record { site = t.site j; seq = t.seq j } })
 
 pub course_valid : {s : ℕ} {h : List Op} → IsCourse s h → IsValid h

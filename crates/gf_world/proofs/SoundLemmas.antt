@@ -11,6 +11,7 @@ use Rattle.gf_ops.specs.KnownObject.{IsSuited}
 use Rattle.gf_ops.specs.OperationOrder.{entry, count_of}
 use Rattle.gf_ops.specs.Accepted.{IsAccepted, AreAccepted, none, next}
 use Rattle.gf_ops.specs.ValidHistory.{IsValid}
+use Rattle.gf_ops.proofs.AimedLemmas.{aimed_beyond}
 use Rattle.gf_ops.proofs.HistoryLemmas.{site_in_range, seq_in_range}
 use Rattle.gf_ops.proofs.ValidityLemmas.{same_op}
 use Rattle.gf_ops.proofs.PositionLemmas.{position_in}
@@ -113,7 +114,7 @@ module _ (messages : List Op) (valid : IsValid messages) (run : AreAccepted mess
 
   suited_more : (c : Change) → IsSuited x.ops a c → IsSuited messages a c
   suited_more (Create new) u = tt
-  suited_more (Set o v) u =
+  suited_more (Set o v aim) u =
       let k = u.known in
       record { kind = u.kind; known = record { maker = k.maker; contained = w.has k.maker k.contained; id = k.id; kind = k.kind; before = k.before }; suited = u.suited }
 
@@ -127,6 +128,7 @@ module _ (messages : List Op) (valid : IsValid messages) (run : AreAccepted mess
       closed = λ b m before. accepted.next.closed b (knows b m before) before;
     };
     suited = suited_more a.change accepted.suited;
+    aimed = aimed_beyond messages x.ops (λ b d m n e. same_op messages valid b d m n e) w.has a accepted.aimed;
   }
 
 -- ---- the world

@@ -148,5 +148,6 @@ fn unless_memory(fault: AuthorFault) -> Result<(), OutOfMemory>
         AuthorFault::Range => Ok(()),
         AuthorFault::NoObject => Ok(()),
         AuthorFault::WrongKind => Ok(()),
+        AuthorFault::BadAim => Ok(()),
     }
 }

@@ -9,7 +9,7 @@ use std::sync::Wait;
 use std::test::Fail;
 use std::thread::Threads;
 
-const SESSIONS: [(&str, &str); 12] = [
+const SESSIONS: [(&str, &str); 14] = [
     // The second waits for the box of the first, and for an operation that nobody makes.
     (
         "box 9 9 / await 1.1; 1.1 colour 0000ff; await 1.9",
@@ -30,6 +30,16 @@ const SESSIONS: [(&str, &str); 12] = [
     (
         "circle 3; 1.1 points 0,0 8,0 0,8 / box 9 9",
         "1.1 2:WrongKind has 2 / 2.1 has 2 / ",
+    ),
+    // An aim at an operation that nobody made.
+    (
+        "box 9 9 / await 1.1; 1.1 colour 0000ff; 1.1 layer 1 aim 1.9",
+        "1.1 has 2 / 2.1 3:BadAim has 2 / ",
+    ),
+    // The same beside a third site, which waits for the box alone.
+    (
+        "box 10 10, colour ff0000 / await 1.1; 1.1 colour 0000ff; 1.1 layer 1 aim 1.9 / await 1.1",
+        "1.1 has 2 / 2.1 3:BadAim has 2 / has 2 / ",
     ),
     // A chain: the third waits for what the second makes of the first one's box.
     (

@@ -114,6 +114,25 @@ author 1.3 size 4 5         | WrongKind
 author 1.3 size 5 5         | 1.4
 operations                  | 1.1 1.2 1.3 1.4
 
+// refuses_aims
+site 1                         | 1
+author 1.1 layer 3 aim 1.1     | NoObject
+author box 1 1                 | 1.1
+author 1.1 points 0,0*3 aim 1.9 | WrongKind
+author 1.1 layer 3 aim 1.9     | BadAim
+author 1.1 layer 3 aim 1.1 1.1 | Range
+author 1.1 layer 3 aim 1.1     | 1.2
+author 1.1 layer 4 aim 1.2     | BadAim
+author 1.1 layer 4 aim 1.1 1.2 | 1.3
+author box 1 1                 | 1.4
+author 1.1 layer 5 aim 1.4     | BadAim
+// What comes from others is refused alike.
+receive 2.1 after 3: 1.1 layer 5 aim 1.2 | Held, 1
+step                           | Dropped 2.1 BadAim
+receive 2.1 after 3: 1.1 layer 5 aim 1.1 1.2 | Held, 1
+step                           | Applied 2.1
+operations                     | 1.1 1.2 1.3 1.4 2.1
+
 // makes_no_more_than_10000
 site 8               | 8
 fill 10000           | 8.10000

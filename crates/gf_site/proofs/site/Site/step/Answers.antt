@@ -13,7 +13,7 @@ returns-in-Err-clause-ok c =
     let a = c.in-Some.op.now in
     let first = c.in-Some.ensures.found in
     let taken = c.take.ensures.held a first.contained refl in
-    let refused = refused_by c.self.inside.history.ops a c.check.result c.in-Err.fault c.in-Err.is c.check.ensures.bad_clock c.check.ensures.no_object c.check.ensures.wrong_kind in
+    let refused = refused_by c.self.inside.history.ops a c.check.result c.in-Err.fault c.in-Err.is c.check.ensures.bad_clock c.check.ensures.no_object c.check.ensures.wrong_kind c.check.ensures.bad_aim in
     rw (← c.self.view_is) (record {
       op = a;
       id = refl;
