@@ -1,2 +1,3 @@
 pub mod ListingLemmas
 pub mod TopNameLemmas
+pub mod AimedChangeLemmas

@@ -1,4 +1,5 @@
 pub mod ObjectVersions
 pub mod TopVersion
+pub mod AimedChange
 pub mod VersionLines
 pub mod Falling

@@ -4,12 +4,18 @@
 //!   same from a table; [`lines`]: their text.
 //! - [`top_at`]: the [`VersionName`] of what a history shows at a point; [`top_at_with`]: the same
 //!   with a table, which spares what is hidden; [`top_line`]: its text.
+//! - [`aimed_at`]: the change that aims at that version; [`aimed_at_with`]: the same with a table;
+//!   [`an_aim_at_the_top_is_one`]: the law.
 #![tactic(auto)]
 
+mod aiming;
+mod laws;
 mod listing;
 mod texts;
 mod top;
 
+pub use aiming::{aimed_at, aimed_at_with};
+pub use laws::an_aim_at_the_top_is_one;
 pub use listing::{versions, versions_with};
 pub use texts::{lines, top_line};
 pub use top::{VersionName, top_at, top_at_with};

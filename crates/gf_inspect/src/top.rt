@@ -7,8 +7,7 @@ ghost use Rattle.gf_versions.specs.declared.placed.Placed.{Placed};
 ghost use Rattle.gf_inspect.specs.TopVersion.{NamesTop, name_of};
 ghost use Rattle.gf_table.specs.Standing.{StandsFor};
 
-use gf_groups::Ids;
-use gf_ops::{History, ObjectId};
+use gf_ops::{History, Ids, ObjectId};
 use gf_shape::{AnyShape, OutOfMemory, Point, Shape};
 use gf_table::GroupTable;
 use gf_versions::{Ranked, ranked};

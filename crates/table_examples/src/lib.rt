@@ -1,11 +1,15 @@
 //! Worked examples of tables of versions, by public calls alone: the groups that a table lists, the
-//! visible versions within a bound, and looks at versions, as tables of commands with their answers.
+//! visible versions within a bound, and looks and aims at versions, as tables of commands.
 #![tactic(auto)]
 
+#[cfg(test)]
+mod aims;
 #[cfg(test)]
 mod bounds;
 #[cfg(test)]
 mod commands;
+#[cfg(test)]
+mod hidings;
 #[cfg(test)]
 mod looking;
 #[cfg(test)]
@@ -14,6 +18,8 @@ mod looks;
 mod rounds;
 #[cfg(test)]
 mod script;
+#[cfg(test)]
+mod small_aims;
 #[cfg(test)]
 mod small_histories;
 #[cfg(test)]

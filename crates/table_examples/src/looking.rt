@@ -1,9 +1,11 @@
-//! Commands that look at versions: all of an object, and the one on top at a point.
+//! Commands that look at versions: all of an object, the one on top at a point, and aims at it.
 
-use example_parts::notation::{id, point};
+use example_parts::notation::{change, id, point, yes};
 use gf_groups::GroupFault;
-use gf_inspect::{VersionName, lines, top_at, top_at_with, top_line, versions, versions_with};
-use gf_ops::ObjectId;
+use gf_inspect::{
+    VersionName, aimed_at_with, lines, top_at, top_at_with, top_line, versions, versions_with,
+};
+use gf_ops::{Change, ObjectId};
 use gf_shape::Point;
 use gf_site::Site;
 use gf_versions::Version;
@@ -57,4 +59,18 @@ pub(crate) fn plain_top(alloc: Global, site: &Site, text: &str) -> Option<String
 fn line_of(alloc: Global, point: Point, name: Option<VersionName>) -> Option<String> {
     let text = String::from_utf8(top_line(alloc, point, name.as_ref()).ok()?).ok()?;
     String::from_str(alloc, text.trim()).ok()
+}
+
+/// Of `10,10: 1.1 layer 7 aim 1.1 1.2`, whether a value that is aimed at the point, by the table,
+/// makes this change.
+pub(crate) fn aimed(alloc: Global, site: &Site, text: &str) -> Option<String> {
+    let (place, what) = text.split_once(": ")?;
+    let Change::Set { value, .. } = change(alloc, what)? else {
+        return None;
+    };
+    let found = aimed_at_with(alloc, site.history(), site.table(), point(place)?, value).ok()?;
+    match found {
+        Some(found) => String::from_str(alloc, yes(found == change(alloc, what)?)).ok(),
+        None => String::from_str(alloc, "none").ok(),
+    }
 }

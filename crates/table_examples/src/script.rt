@@ -41,7 +41,11 @@ fn told(alloc: Global, scene: &mut Scene, verb: &str, text: &str) -> Option<Stri
         }
         "rounds" => {
             let count: u32 = text.parse().ok()?;
-            said(alloc, rounds::rounds(&mut scene.site, count))
+            said(alloc, rounds::rounds(alloc, &mut scene.site, count))
+        }
+        "hidings" => {
+            let count: u32 = text.parse().ok()?;
+            said(alloc, rounds::hidings(alloc, &mut scene.site, count))
         }
         _ => told_of(alloc, &scene.site, verb, text),
     }
@@ -65,6 +69,7 @@ fn told_of(alloc: Global, site: &Site, verb: &str, text: &str) -> Option<String>
         "versions" => looking::all(alloc, site, text),
         "plain_versions" => looking::plain_all(alloc, site, text),
         "top" => looking::top(alloc, site, text),
+        "aimed" => looking::aimed(alloc, site, text),
         "plain_top" => looking::plain_top(alloc, site, text),
         _ => None,
     }

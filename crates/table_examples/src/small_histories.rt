@@ -9,10 +9,10 @@ use gf_site::Site;
 use std::alloc::Global;
 use std::test::Fail;
 
-const BOX: OpId = OpId { site: 1, seq: 1 };
+pub(crate) const BOX: OpId = OpId { site: 1, seq: 1 };
 
 /// A colour or a layer.
-fn value(code: u32) -> Value {
+pub(crate) fn value(code: u32) -> Value {
     match code {
         0 => Value::Colour(BLUE),
         1 => Value::Colour(GREEN),
@@ -22,7 +22,7 @@ fn value(code: u32) -> Value {
 
 /// The change of the box 1.1 that a code below 30 tells of: site 1 or 2 gives it one of three values
 /// and knows so many operations of the other site.
-fn coded(code: u32, history: &History) -> Op {
+fn coded(alloc: Global, code: u32, history: &History) -> Op {
     let known = code / 2 % 5;
     let first = history.count(1);
     let second = history.count(2);
@@ -32,21 +32,21 @@ fn coded(code: u32, history: &History) -> Op {
         (2, second, [known, second, 0, 0, 0, 0, 0, 0])
     };
     let seq = own.saturating_add(1);
-    changed(OpId { site, seq }, past, BOX, value(code / 10))
+    changed(alloc, OpId { site, seq }, past, BOX, value(code / 10))
 }
 
 /// Adds the box 1.1 and the changes that the codes tell of, if each is valid.
-fn fill(site: &mut Site, codes: &[u32]) -> Option<()> {
+fn fill(alloc: Global, site: &mut Site, codes: &[u32]) -> Option<()> {
     add(site, create(1, 1, [0; 8], Form::Rect(10, 10)))?;
     for code in codes {
-        let op = coded(*code, site.history());
+        let op = coded(alloc, *code, site.history());
         add(site, op)?;
     }
     Some(())
 }
 
 /// Whether the table lists the groups of the box as `groups_of` does.
-fn agrees(alloc: Global, site: &Site) -> bool {
+pub(crate) fn agrees(alloc: Global, site: &Site) -> bool {
     match (groups(alloc, site, "1.1"), plain_groups(alloc, site, "1.1")) {
         (Some(listed), Some(plain)) => listed == plain,
         _ => false,
@@ -57,7 +57,7 @@ fn agrees(alloc: Global, site: &Site) -> bool {
 /// there is no such history.
 fn tried(alloc: Global, codes: &[u32]) -> Result<usize, Fail> {
     let mut site = Site::new(alloc, 1);
-    if fill(&mut site, codes).is_none() {
+    if fill(alloc, &mut site, codes).is_none() {
         return Ok(0);
     }
     if agrees(alloc, &site) {

@@ -1,0 +1,56 @@
+//! The change that aims at the version on top at a point.
+
+ghost use Rattle.std.specs.Prelude.{◌≡◌, IfOk, option_map};
+ghost use Rattle.gf_inspect.specs.AimedChange.{AimsAtTop, aimed_change};
+ghost use Rattle.gf_table.specs.Standing.{StandsFor};
+
+use crate::{VersionName, top_at, top_at_with};
+use gf_ops::{Change, History, Value};
+use gf_shape::{OutOfMemory, Point};
+use gf_table::GroupTable;
+use std::alloc::Global;
+
+/// The change that sets this value on the object that is on top at a point, aimed at the version
+/// that is seen there: it is meant for the versions that hold all operations of that one. None
+/// where no visible version holds the point. The aim may have more ids than an operation may.
+pub fn aimed_at(
+    alloc: Global,
+    history: &History,
+    point: Point,
+    value: Value,
+) -> Result<Option<Change>, OutOfMemory>
+    ensures { IfOk result (λ change. AimsAtTop history.now.ops point value change) }
+{
+    let name = top_at(alloc, history, point)?;
+    Ok(aimed_change(name, value))
+}
+
+/// The same, by the visible versions that the table tells; it stands for the history. An object
+/// that is hidden costs a look at its operations, however many versions it has.
+pub fn aimed_at_with(
+    alloc: Global,
+    history: &History,
+    table: &GroupTable,
+    point: Point,
+    value: Value,
+) -> Result<Option<Change>, OutOfMemory>
+    requires { StandsFor history.now.ops table.now }
+    ensures { IfOk result (λ change. AimsAtTop history.now.ops point value change) }
+{
+    let name = top_at_with(alloc, history, table, point)?;
+    Ok(aimed_change(name, value))
+}
+
+/// The change that sets this value, aimed at the version of this name, if there is one.
+fn aimed_change(name: Option<VersionName>, value: Value) -> Option<Change>
+    ensures { result ≡ option_map (aimed_change value) name }
+{
+    match name {
+        Some(name) => Some(Change::Set {
+            object: name.object,
+            value,
+            aim: name.ops,
+        }),
+        None => None,
+    }
+}
