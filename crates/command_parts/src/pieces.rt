@@ -46,6 +46,16 @@ green_box {"op":"create","id":[1,1],"past":[0,0,0,0,0,0,0,0],"kind":"box","place
 green_as_blue {"op":"set","id":[1,2],"past":[1,0,0,0,0,0,0,0],"object":[1,1],"set":"colour","to":"00ff00"}
 box_after_itself {"op":"create","id":[1,1],"past":[1,0,0,0,0,0,0,0],"kind":"box","place":[0,0],"size":[10,10],"colour":"ff0000","layer":0,"shown":true}
 green_too_early {"op":"set","id":[2,1],"past":[0,0,0,0,0,0,0,0],"object":[1,1],"set":"colour","to":"00ff00"}
+aims_at_missing {"op":"set","id":[2,1],"past":[1,0,0,0,0,0,0,0],"object":[1,1],"set":"layer","to":1,"aim":[[1,9]]}
+// Site 1, which knows both colours, aims at versions of the box.
+raises_blue {"aim":[[1,1],[1,2]],"id":[1,3],"object":[1,1],"op":"set","past":[2,1,0,0,0,0,0,0],"set":"layer","to":5}
+raises_both {"id":[1,3],"object":[1,1],"op":"set","past":[2,1,0,0,0,0,0,0],"set":"layer","to":5}
+hides_green {"aim":[[2,1]],"id":[1,3],"object":[1,1],"op":"set","past":[2,1,0,0,0,0,0,0],"set":"shown","to":false}
+aims_at_both_colours {"aim":[[1,2],[2,1]],"id":[1,3],"object":[1,1],"op":"set","past":[2,1,0,0,0,0,0,0],"set":"layer","to":5}
+aims_at_site_3 {"aim":[[3,1]],"id":[1,3],"object":[1,1],"op":"set","past":[2,1,0,0,0,0,0,0],"set":"layer","to":5}
+aims_at_the_raise_alone {"aim":[[1,3]],"id":[1,4],"object":[1,1],"op":"set","past":[3,1,0,0,0,0,0,0],"set":"layer","to":6}
+aims_in_falling_order {"aim":[[1,2],[1,1]],"id":[1,3],"object":[1,1],"op":"set","past":[2,1,0,0,0,0,0,0],"set":"layer","to":5}
+box_with_an_aim {"aim":[[1,1]],"op":"create","id":[1,2],"past":[1,0,0,0,0,0,0,0],"kind":"box","place":[0,0],"size":[10,10],"colour":"ff0000","layer":0,"shown":true}
 points_of_a_box {"op":"set","id":[2,1],"past":[1,0,0,0,0,0,0,0],"object":[1,1],"set":"points","to":[[0,0],[1,0],[0,1]]}
 
 // What stands behind the text of the drawing of nothing.
@@ -57,6 +67,7 @@ far_ellipse_fig 0 32 #0000ff\n1 1 0 0 32 32 0 -1 20 0.000 1 0.0000 1000000 -1000
 high_ellipse_fig 0 32 #0000ff\n1 1 0 0 32 32 0 -1 20 0.000 1 0.0000 0 0 2 3 0 0 2 3\n
 far_triangle_fig 0 32 #ff0000\n2 3 0 0 32 32 0 -1 20 0.000 0 0 -1 0 0 4\n\t -1000000 -1000000 -2000000 -1000000 -1000000 -2000000 -1000000 -1000000\n
 two_colours_fig 0 32 #00ff00\n0 33 #0000ff\n2 2 0 0 32 32 0 -1 20 0.000 0 0 -1 0 0 5\n\t 0 0 10 0 10 10 0 10 0 0\n2 2 0 0 33 33 1 -1 20 0.000 0 0 -1 0 0 5\n\t 0 0 10 0 10 10 0 10 0 0\n
+blue_over_green_fig 0 32 #0000ff\n0 33 #00ff00\n2 2 0 0 32 32 0 -1 20 0.000 0 0 -1 0 0 5\n\t 0 0 10 0 10 10 0 10 0 0\n2 2 0 0 33 33 1 -1 20 0.000 0 0 -1 0 0 5\n\t 0 0 10 0 10 10 0 10 0 0\n
 both_moved_fig 0 32 #00ff00\n0 33 #0000ff\n2 2 0 0 32 32 0 -1 20 0.000 0 0 -1 0 0 5\n\t 200 0 210 0 210 10 200 10 200 0\n2 2 0 0 33 33 1 -1 20 0.000 0 0 -1 0 0 5\n\t 200 0 210 0 210 10 200 10 200 0\n
 one_blue_fig 0 32 #0000ff\n2 2 0 0 32 32 0 -1 20 0.000 0 0 -1 0 0 5\n\t 0 0 10 0 10 10 0 10 0 0\n
 one_red_fig 0 32 #ff0000\n2 2 0 0 32 32 0 -1 20 0.000 0 0 -1 0 0 5\n\t 0 0 10 0 10 10 0 10 0 0\n
@@ -77,6 +88,7 @@ box_8 {"site":8,"do":"create","kind":"box","place":[0,0],"size":[10,10],"colour"
 await_first {"site":2,"do":"await","id":[1,1]}
 await_second {"site":1,"do":"await","id":[2,1]}
 second_paints_it {"site":2,"do":"set","object":[1,1],"set":"colour","to":"0000ff"}
+second_aims_at_missing {"site":2,"do":"set","object":[1,1],"set":"layer","to":1,"aim":[[1,9]]}
 await_missing {"site":2,"do":"await","id":[1,9]}
 await_own {"site":2,"do":"await","id":[2,1]}
 await_ninth {"site":2,"do":"await","id":[9,1]}
@@ -91,6 +103,7 @@ all_made_one site 1 accepted 1 refused 0\nsite 2 accepted 1 refused 0\nsite 3 ac
 second_was_refused site 1 accepted 1 refused 0\nsite 2 accepted 1 refused 1\n
 it_never_comes site 2 command 3 NeverComes\n
 it_is_its_own site 2 command 3 OwnId\n
+its_aim_is_bad site 2 command 3 BadAim\n
 blue_box_fig 0 32 #0000ff\n2 2 0 0 32 32 0 -1 20 0.000 0 0 -1 0 0 5\n\t 0 0 10 0 10 10 0 10 0 0\n
 moved_blue_box_fig 0 32 #0000ff\n2 2 0 0 32 32 0 -1 20 0.000 0 0 -1 0 0 5\n\t 5 5 15 5 15 15 5 15 5 5\n
 blue_over_red_fig 0 32 #0000ff\n0 33 #ff0000\n2 2 0 0 32 32 0 -1 20 0.000 0 0 -1 0 0 5\n\t 0 0 10 0 10 10 0 10 0 0\n2 2 0 0 33 33 1 -1 20 0.000 0 0 -1 0 0 5\n\t 0 0 10 0 10 10 0 10 0 0\n

@@ -12,6 +12,12 @@ inspect --at=10,10 | box / blue / green / | 0 top 10 10 is 1.1 [1.1 2.1]\n
 inspect --at=11,0 | box / blue / green / | 0 top 11 0 is white\n
 inspect --object=1.1 | box / blue / raised / | 0 version 1.1 [1.1 1.2 2.1] box place 0 0 size 10 10 colour 0000ff layer 3 shown\n
 
+// a layer that aims at the blue version raises it alone; the green one, hidden by an aim, is not seen
+inspect --object 1.1 | box / blue / green / raises_blue / | 0 version 1.1 [1.1 1.2 1.3] box place 0 0 size 10 10 colour 0000ff layer 5 shown\nversion 1.1 [1.1 2.1] box place 0 0 size 10 10 colour 00ff00 layer 0 shown\n
+inspect --at=10,10 | box / blue / green / raises_blue / | 0 top 10 10 is 1.1 [1.1 1.2 1.3]\n
+inspect --at=10,10 | box / blue / green / raises_both / | 0 top 10 10 is 1.1 [1.1 1.3 2.1]\n
+inspect --at=10,10 | box / blue / green / hides_green / | 0 top 10 10 is 1.1 [1.1 1.2]\n
+
 // what is hidden is told, and nothing is seen of it; other kinds; another object below
 inspect --object 1.1 | box / hidden / | 0 version 1.1 [1.1 2.1] box place 0 0 size 10 10 colour ff0000 layer 0 hidden\n
 inspect --at=5,5 | box / hidden / | 0 top 5 5 is white\n

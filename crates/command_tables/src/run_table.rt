@@ -58,6 +58,21 @@ const RUNS: &str = r#"
 1 | box_after_itself /                           | operation 1.1 dropped: BadClock
 1 | box / green_too_early /                      | operation 2.1 dropped: NoObject
 1 | box / points_of_a_box /                      | operation 2.1 dropped: WrongKind
+1 | box / aims_at_missing /                      | operation 2.1 dropped: BadAim
+
+// an_aim_chooses_versions
+0 | box / blue / green / raises_blue /           | empty_fig blue_over_green_fig
+0 | raises_blue / green / blue / box /           | empty_fig blue_over_green_fig
+// Without the aim the layer is of both versions, and the green one stays on top.
+0 | box / blue / green / raises_both /           | empty_fig two_colours_fig
+// One line settles which colour the box has.
+0 | box / blue / green / hides_green /           | empty_fig one_blue_fig
+0 | hides_green / green / blue / box /           | empty_fig one_blue_fig
+1 | box / blue / green / aims_at_both_colours /  | operation 1.3 dropped: BadAim
+1 | box / blue / green / aims_at_site_3 /        | operation 1.3 dropped: BadAim
+1 | box / blue / green / raises_blue / aims_at_the_raise_alone / | operation 1.4 dropped: BadAim
+1 | box / blue / green / aims_in_falling_order / | line 4: Field
+1 | box / box_with_an_aim /                      | line 2: Field
 "#;
 
 /// The run over the pieces of these names.

@@ -29,6 +29,9 @@ session --sites 3 | first_box / await_first / second_paints_it / third_awaits_th
 session | first_box / await_first / second_paints_it / await_missing /     | 0 | second_was_refused it_never_comes empty_fig blue_box_fig
 session | first_box / await_first / second_paints_it / await_own /         | 0 | second_was_refused it_is_its_own empty_fig blue_box_fig
 
+// an aim at an operation that nobody made, where a third site waits for the box
+session --sites 3 | first_box / third_awaits / await_first / second_paints_it / second_aims_at_missing / | 0 | second_was_refused its_aim_is_bad third_made_none empty_fig blue_box_fig
+
 // no line is no command
 session |                                                                  | 0 | none_made empty_fig
 
