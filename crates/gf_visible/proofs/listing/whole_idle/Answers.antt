@@ -16,7 +16,7 @@ loop-other-preserved c =
     let within : i < length parts = rw items at c.loop-other-test.true in
     let is : p ≡ get_or parts i p = c.other-item.is ∙ ap (λ xs. get_or xs i p) items in
     let grown : take (i + 1) parts ≡ take i parts ++ p ∷ [] = take_more parts i p within ∙ ap (λ (z : ComponentState). take i parts ++ z ∷ []) (sym is) in
-    let setters = c.deref.ensures.value ∙ c.in_ok-setters.ensures in
+    let setters = c.deref.ensures.value ∙ c.in_ok-setters.ensures.value in
     let idle : ComponentState → _ = λ q. not (decides h c.args.lasts.now q) in
     rw grown (c.in_ok-part-2.ensures
     ∙ (ap (λ ls. cond (not (decides h ls p)) (merged c.loop-other.part p) c.loop-other.part) setters
