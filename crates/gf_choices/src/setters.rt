@@ -45,7 +45,7 @@ fn set_of(alloc: Global, positions: &[usize]) -> Result<Numbers, OutOfMemory>
     Numbers::of(alloc, positions)
 }
 
-/// Those of the positions that conflict with this one.
+/// The positions that conflict with this position.
 fn rivals_of<T: Setters>(
     alloc: Global,
     setters: &T,
@@ -66,7 +66,7 @@ fn rivals_of<T: Setters>(
     set_of(alloc, &found)
 }
 
-/// Those of the positions that cover this one.
+/// The positions that cover this position.
 fn covers_of<T: Setters>(
     alloc: Global,
     setters: &T,
@@ -87,7 +87,7 @@ fn covers_of<T: Setters>(
     set_of(alloc, &found)
 }
 
-/// Those of the positions that cover this one, if it hides.
+/// The positions that cover this position, if that hides.
 fn asked_of<T: Setters>(
     alloc: Global,
     setters: &T,

@@ -97,7 +97,7 @@ impl History {
         self.may_aim(op) && self.are_calm(op.aim())
     }
 
-    /// Whether it may aim at each that it aims at.
+    /// Whether an operation may aim at each operation of its aim.
     fn may_aim(&self, op: &Op) -> bool
         requires { IsInRange op.now }
         ensures { IsTrue result ↔ MayAim self.now.ops op.now (aim_of op.now) }
