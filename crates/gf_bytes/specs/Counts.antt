@@ -1,5 +1,6 @@
 -- Counts of failures, which stay at the greatest `u64` (this project's choice).
-use Rattle.std.specs.Prelude.{◌≡◌, ℕ, ◌+◌, ◌-◌, ◌^◌, ◌<◌, min, Result, IsErrOf, MatchResult}
+use Rattle.std.specs.Prelude.{◌≡◌, ℕ, ◌+◌, ◌-◌, ◌^◌, ◌<◌, min, Result}
+use Rattle.std.specs.Prelude.{IsErrOf, MatchResult}
 
 -- one more than n, up to the greatest count
 abbrev pub raised : ℕ → ℕ

@@ -1,10 +1,12 @@
 -- What reads took from a source (this project's choice).
-use Rattle.std.specs.Prelude.{◌≡◌, ℕ, ◌+◌, ◌<◌, ◌≤◌, List, ◌++◌, length, Option, None, Some}
+use Rattle.std.specs.Prelude.{◌≡◌, ℕ, ◌+◌, ◌<◌, ◌≤◌, List, ◌++◌, length}
+use Rattle.std.specs.Prelude.{Option, None, Some}
 use Rattle.std.specs.Io.KnownBytes.{Consumes, IsAtEnd}
 
 -- at most `most` of the known bytes came between old and new
 abbrev pub ConsumesAtMost : ℕ → Option (List ℕ) → Option (List ℕ) → Type 0
-ConsumesAtMost most old new = (front : List ℕ) × (length front ≤ most) × Consumes old new front
+ConsumesAtMost most old new = (front : List ℕ) × (length front ≤ most)
+    × Consumes old new front
 
 -- n of the known bytes came between old and new
 abbrev pub ConsumesExactly : ℕ → Option (List ℕ) → Option (List ℕ) → Type 0

@@ -9,7 +9,8 @@ pub record ReelState : Type 0 where
   pub reads : ℕ
   pub failures : ℕ
 
--- the reel of bytes that fails after fail_after bytes, if there is such a number, and was not read yet
+-- the reel of bytes that fails after fail_after bytes, if there is such a number, and was not read
+-- yet
 abbrev pub unread : List ℕ → Option ℕ → ReelState
 unread bytes fail_after = record { left = bytes; fail_after = fail_after; reads = 0; failures = 0 }
 

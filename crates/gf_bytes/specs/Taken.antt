@@ -1,5 +1,6 @@
 -- What a sink took, and whether it was flushed since (this project's choice).
-use Rattle.std.specs.Prelude.{◌≡◌, ℕ, ◌<◌, ◌≤◌, List, Option, Bool, true, ◌&&◌, nat_eq, length, take, Result, MatchResult}
+use Rattle.std.specs.Prelude.{◌≡◌, ℕ, ◌<◌, ◌≤◌, List, Option, Bool, true}
+use Rattle.std.specs.Prelude.{◌&&◌, nat_eq, length, take, Result, MatchResult}
 use Rattle.std.specs.Io.KnownBytes.{Appends}
 
 -- known bytes grow from old to new by a front of bytes, which may be none or all
@@ -18,7 +19,8 @@ Unflushes old new result = MatchResult result (λ n. UnflushedBy n old new) (λ 
 abbrev pub Flushes : {T E : Type 0} → Bool → Bool → Result T E → Type 0
 Flushes old new result = MatchResult result (λ _. new ≡ true) (λ _. new ≡ old)
 
--- not all of the bytes were taken, but a front of them: known bytes grow by it from old to new, and whether that is flushed goes from was to is
+-- not all of the bytes were taken, but a front of them: known bytes grow by it from old to new, and
+-- whether that is flushed goes from was to is
 pub record TakesPart (bytes : List ℕ) (old new : Option (List ℕ)) (was is : Bool) : Type 0 where
   pub count : ℕ
   pub fewer : count < length bytes

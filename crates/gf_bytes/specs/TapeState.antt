@@ -1,7 +1,9 @@
 -- A tape as its callers see it (this project's choice).
-use Rattle.std.specs.Prelude.{◌≡◌, ℕ, ◌+◌, ◌-◌, ◌<◌, ◌≤◌, ◌⊎◌, min, Bool, false, List, [], length, Option, None, Some}
+use Rattle.std.specs.Prelude.{◌≡◌, ℕ, ◌+◌, ◌-◌, ◌<◌, ◌≤◌, ◌⊎◌, min}
+use Rattle.std.specs.Prelude.{Bool, false, List, [], length, Option, None, Some}
 
--- what it took, the most that it may hold, how often it failed, whether it is flushed, and what it has memory for
+-- what it took, the most that it may hold, how often it failed, whether it is flushed, and what it
+-- has memory for
 pub record TapeState : Type 0 where
   pub bytes : List ℕ
   pub limit : Option ℕ

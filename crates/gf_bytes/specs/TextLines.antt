@@ -12,7 +12,8 @@ is_blank line = list_all (λ b. b == 32 || b == 9 || b == 13) line
 
 -- the lines of the text that are not blank, where its first line has the number n
 abbrev pub numbered_from : ℕ → List ℕ → List (ℕ × List ℕ)
-numbered_from n text = filter (λ line. not (is_blank line.1)) (enumerate_from n (slice_split is_line_end text))
+numbered_from n text =
+    filter (λ line. not (is_blank line.1)) (enumerate_from n (slice_split is_line_end text))
 
 -- the lines of the text that are not blank, each with its number
 abbrev pub numbered_lines : List ℕ → List (ℕ × List ℕ)

@@ -1,5 +1,6 @@
 -- The largest compatible sets of positions in which what hides is covered (this project's choice).
-use Rattle.std.specs.Prelude.{◌≡◌, ◌≢◌, ◌↔◌, ℕ, Bool, true, not, ◌&&◌, ◌||◌, cond}
+use Rattle.std.specs.Prelude.{◌≡◌, ◌≢◌, ◌↔◌, ℕ, Bool, true, not, ◌&&◌}
+use Rattle.std.specs.Prelude.{◌||◌, cond}
 use Rattle.std.specs.Prelude.{List, [], ◌∷◌, ◌++◌, filter, map, AllPairs, Contains}
 use Rattle.std.specs.List.{list_all}
 use Rattle.gf_maximal.specs.Growing.{meets, without}

@@ -1,5 +1,6 @@
 -- Numbers in components, which no conflict connects.
-use Rattle.std.specs.Prelude.{◌≡◌, ℕ, ◌*◌, Bool, true, Contains, cond, ◌||◌, nat_le, List, [], ◌∷◌, ◌++◌}
+use Rattle.std.specs.Prelude.{◌≡◌, ℕ, ◌*◌, Bool, true, Contains, cond, ◌||◌, nat_le}
+use Rattle.std.specs.Prelude.{List, [], ◌∷◌, ◌++◌}
 use Rattle.std.specs.Prelude.{filter, map, length, Option, Some, None}
 use Rattle.std.specs.List.{fold, flat_map}
 use Rattle.gf_maximal.specs.Growing.{is_in, meets, misses, without, common, joined, united, next}
@@ -31,7 +32,8 @@ abbrev pub kept_products : List (List ℕ) → List (List ℕ) → Option (List 
 kept_products gs ks = cond (nat_le (length gs * length ks) most_sets) (Some (products gs ks)) None
 
 -- the products of what is kept
-abbrev pub times : Option (List (List ℕ)) → Option (List (List ℕ)) → Option (List (List ℕ))
+abbrev pub times : Option (List (List ℕ)) → Option (List (List ℕ))
+    → Option (List (List ℕ))
 times (Some gs) (Some ks) = kept_products gs ks
 times r s = None
 

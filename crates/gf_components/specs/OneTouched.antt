@@ -12,7 +12,8 @@ pub record IsFirstAlone (d : List ℕ) (x : ℕ) (parts : List ComponentState) :
   pub others : list_any (touches d) behind ≡ false
 
 -- the component at i alone has some of d, and it lacks x
-pub record IsOneTouched (d : List ℕ) (x : ℕ) (parts : List ComponentState) (i : ℕ) : Type 0 where
+pub record IsOneTouched (d : List ℕ) (x : ℕ) (parts : List ComponentState)
+    (i : ℕ) : Type 0 where
   pub bound : i < length parts
   pub before : list_any (touches d) (take i parts) ≡ false
   pub alone : IsFirstAlone d x (drop i parts)

@@ -1,5 +1,6 @@
 -- Components that no conflict connects: a version is what is free, with one set of each.
-use Rattle.std.specs.Prelude.{◌≡◌, ◌≢◌, ◌↔◌, ℕ, ◌<◌, ◌≤◌, Bool, true, false, List, Contains}
+use Rattle.std.specs.Prelude.{◌≡◌, ◌≢◌, ◌↔◌, ℕ, ◌<◌, ◌≤◌, Bool, true}
+use Rattle.std.specs.Prelude.{false, List, Contains}
 use Rattle.std.specs.Prelude.{length, Option, Some, None}
 use Rattle.gf_maximal.specs.Pairs.{Pairs}
 use Rattle.gf_maximal.specs.Tables.{IsRising, IsTable}

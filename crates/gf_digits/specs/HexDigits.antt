@@ -1,5 +1,8 @@
--- Colours in six hexadecimal digits: written in lower case, read in either (this project's choice; so Xfig, FIG Format 3.2 has them).
-use Rattle.std.specs.Prelude.{ℕ, ◌+◌, ◌-◌, ◌*◌, ◌/◌, ◌%◌, false, List, [], ◌∷◌, ◌++◌, Option, Some, None, option_map, option_and_then, if◌then◌else◌}
+-- Colours in six hexadecimal digits: written in lower case, read in either (this project's choice;
+-- so Xfig, FIG Format 3.2 has them).
+use Rattle.std.specs.Prelude.{ℕ, ◌+◌, ◌-◌, ◌*◌, ◌/◌, ◌%◌, false, List, []}
+use Rattle.std.specs.Prelude.{◌∷◌, ◌++◌, Option, Some, None, option_map, option_and_then}
+use Rattle.std.specs.Prelude.{if◌then◌else◌}
 use Rattle.std.specs.Fmt.{digit_glyph}
 use Rattle.std.specs.Int.{is_in_range}
 use Rattle.gf_shape.specs.declared.colour.Rgb.{Rgb}
@@ -22,11 +25,13 @@ hex_value b =
 
 -- the byte of two hexadecimal digits, the higher one first
 abbrev pub byte_of_hex : ℕ → ℕ → Option ℕ
-byte_of_hex high low = option_and_then (λ h. option_map (λ l. h * 16 + l) (hex_value low)) (hex_value high)
+byte_of_hex high low = option_and_then (λ h. option_map (λ l. h * 16 + l) (hex_value low))
+    (hex_value high)
 
 -- the colour of six hexadecimal digits: red, green, blue
 abbrev pub rgb_of_hex : List ℕ → Option Rgb
 rgb_of_hex (a ∷ b ∷ c ∷ d ∷ e ∷ f ∷ []) =
-    option_and_then (λ red. option_and_then (λ green. option_map (λ blue. record { r = red; g = green; b = blue })
+    option_and_then (λ red. option_and_then
+    (λ green. option_map (λ blue. record { r = red; g = green; b = blue })
     (byte_of_hex e f)) (byte_of_hex c d)) (byte_of_hex a b)
 rgb_of_hex digits = None

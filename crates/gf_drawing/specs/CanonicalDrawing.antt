@@ -1,5 +1,7 @@
--- The drawing that a history means (this project's choice of depths and colour numbers, within Xfig's FIG Format 3.2).
-use Rattle.std.specs.Prelude.{◌≡◌, ℕ, ◌+◌, ◌≤◌, not, List, [], ◌∷◌, length, map, filter}
+-- The drawing that a history means (this project's choice of depths and colour numbers, within
+-- Xfig's FIG Format 3.2).
+use Rattle.std.specs.Prelude.{◌≡◌, ℕ, ◌+◌, ◌≤◌, not, List, [], ◌∷◌, length}
+use Rattle.std.specs.Prelude.{map, filter}
 use Rattle.std.specs.List.{enumerate_from, position_or_len}
 use Rattle.gf_shape.specs.declared.colour.Rgb.{Rgb}
 use Rattle.gf_shape.specs.declared.point.Point.{Point}
@@ -30,7 +32,8 @@ module _ {S : Type 0} where
   abbrev pub colours_of : List (Placed S) → List Rgb
   colours_of items = first_seen (map (λ (i : Placed S). i.colour) items)
 
-  -- the n-th item from the top, counted from 0: its shape, the number of its colour among cs, depth n
+  -- the n-th item from the top, counted from 0: its shape, the number of its colour among cs, depth
+  -- n
   abbrev pub canonical_figure : List Rgb → ℕ × Placed S → Figure S
   canonical_figure cs (n, i) = record { shape = i.shape; colour = number_of cs i.colour; depth = n }
 
@@ -44,7 +47,10 @@ module _ {S : Type 0} where
 
   -- the drawing of the items, topmost first
   abbrev pub canonical_drawing : List (Placed S) → DrawingState S
-  canonical_drawing items = record { table = canonical_table items; figures = canonical_figures items }
+  canonical_drawing items = record {
+    table = canonical_table items;
+    figures = canonical_figures items;
+  }
 
   -- the items are at most 1,000, and have at most 512 distinct colours
   pub record Fits (items : List (Placed S)) : Type 0 where

@@ -1,5 +1,7 @@
--- Colours by number (Xfig, FIG Format 3.2: the standard colours and the colour objects; the values of the colours 0 to 7 are this project's choice).
-use Rattle.std.specs.Prelude.{ℕ, List, [], ◌∷◌, ◌++◌, find, ◌==◌, Option, option_map}
+-- Colours by number (Xfig, FIG Format 3.2: the standard colours and the colour objects; the values
+-- of the colours 0 to 7 are this project's choice).
+use Rattle.std.specs.Prelude.{ℕ, List, [], ◌∷◌, ◌++◌, find, ◌==◌, Option}
+use Rattle.std.specs.Prelude.{option_map}
 use Rattle.gf_shape.specs.declared.colour.Rgb.{Rgb}
 use Rattle.gf_versions.specs.HistoryColour.{white}
 
@@ -26,7 +28,8 @@ standard_colours =
 
 -- the first colour of the table under the number n
 abbrev pub colour_in : Table → ℕ → Option Rgb
-colour_in table n = option_map (λ (e : ℕ × Rgb). e.1) (find (λ (e : ℕ × Rgb). e.0 == n) table)
+colour_in table n =
+    option_map (λ (e : ℕ × Rgb). e.1) (find (λ (e : ℕ × Rgb). e.0 == n) table)
 
 -- the colour under the number n: a standard one, or one of the table
 abbrev pub rgb_of : Table → ℕ → Option Rgb

@@ -1,5 +1,7 @@
--- The colour of a drawing at a point (Xfig, FIG Format 3.2: depth); file order within a depth and the white ground are this project's choice.
-use Rattle.std.specs.Prelude.{ℕ, Bool, List, fold, filter, find, flat_map, reverse, option_map, ◌==◌, if◌then◌else◌, unwrap_or}
+-- The colour of a drawing at a point (Xfig, FIG Format 3.2: depth); file order within a depth and
+-- the white ground are this project's choice.
+use Rattle.std.specs.Prelude.{ℕ, Bool, List, fold, filter, find, flat_map, reverse, option_map}
+use Rattle.std.specs.Prelude.{◌==◌, if◌then◌else◌, unwrap_or}
 use Rattle.std.specs.List.{range_with_len}
 use Rattle.gf_shape.specs.declared.colour.Rgb.{Rgb}
 use Rattle.gf_shape.specs.declared.point.Point.{Point}
@@ -30,6 +32,9 @@ module _ {S : Type 0} where
     abbrev pub drawing_colour : Table → List (Figure S) → Point → Rgb
     drawing_colour table figures p = fold (painted table p) white (from_back figures)
 
-    -- the colour at p of figures from the front to the back: that of the first that holds p, white if none does
+    -- the colour at p of figures from the front to the back: that of the first that holds p, white
+    -- if none does
     abbrev pub front_colour : Table → List (Figure S) → Point → Rgb
-    front_colour table figures p = unwrap_or (option_map (figure_colour table) (find (λ (f : Figure S). holds f.shape p) figures)) white
+    front_colour table figures p =
+        unwrap_or (option_map (figure_colour table)
+        (find (λ (f : Figure S). holds f.shape p) figures)) white

@@ -1,5 +1,7 @@
--- A drawing as its callers see it, and its limits (Xfig, FIG Format 3.2: colour numbers 32 to 543, depths 0 to 999).
-use Rattle.std.specs.Prelude.{◌≢◌, ℕ, Bool, ◌&&◌, nat_le, IsTrue, List, All, AllPairs, is_some, is_none}
+-- A drawing as its callers see it, and its limits (Xfig, FIG Format 3.2: colour numbers 32 to 543,
+-- depths 0 to 999).
+use Rattle.std.specs.Prelude.{◌≢◌, ℕ, Bool, ◌&&◌, nat_le, IsTrue, List, All, AllPairs}
+use Rattle.std.specs.Prelude.{is_some, is_none}
 use Rattle.gf_shape.specs.declared.colour.Rgb.{Rgb}
 use Rattle.gf_drawing.specs.declared.figure.Figure.{Figure}
 use Rattle.gf_drawing.specs.Colours.{Table, colour_in, rgb_of}

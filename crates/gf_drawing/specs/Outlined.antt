@@ -1,4 +1,5 @@
--- A drawing as FIG draws it, each shape by its outline (Xfig, FIG Format 3.2: polyline and ellipse objects).
+-- A drawing as FIG draws it, each shape by its outline (Xfig, FIG Format 3.2: polyline and ellipse
+-- objects).
 use Rattle.std.specs.Prelude.{List, map}
 use Rattle.gf_shape.specs.declared.outline.Outline.{Outline}
 use Rattle.gf_shape.specs.declared.point.Point.{Point}
@@ -21,4 +22,5 @@ module _ {S : Type 0} (outline : S → Outline) where
 
 -- painted by the figure meaning, d has at every point the colour that h means there
 abbrev pub PaintsAsFig : List Op → DrawingState Outline → Type 0
-PaintsAsFig h d = (p : Point) → HistoryColour h p (drawing_colour outline_holds d.table d.figures p)
+PaintsAsFig h d =
+    (p : Point) → HistoryColour h p (drawing_colour outline_holds d.table d.figures p)

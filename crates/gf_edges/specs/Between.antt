@@ -1,5 +1,6 @@
 -- Which edges of a path come between two heights (this project's choice).
-use Rattle.std.specs.Prelude.{ℤ, int_le, Bool, ◌&&◌, ◌||◌, cond, IsTrue, List, [], ◌∷◌, ◌++◌}
+use Rattle.std.specs.Prelude.{ℤ, int_le, Bool, ◌&&◌, ◌||◌, cond, IsTrue, List, []}
+use Rattle.std.specs.Prelude.{◌∷◌, ◌++◌}
 use Rattle.gf_shape.specs.declared.point.Point.{Point}
 use Rattle.gf_shape.specs.Reach.{is_within_reach}
 use Rattle.gf_edges.specs.declared.edge.Edge.{Edge}
@@ -27,4 +28,5 @@ between_of low high e = cond (comes_between low high e) (e ∷ []) []
 -- the edges from a along ps that come between the heights low and high
 abbrev pub between_along : ℤ → ℤ → Point → List Point → List Edge
 between_along low high a [] = []
-between_along low high a (b ∷ ps) = between_of low high (record { from = a; to = b }) ++ between_along low high b ps
+between_along low high a (b ∷ ps) =
+    between_of low high (record { from = a; to = b }) ++ between_along low high b ps

@@ -5,4 +5,5 @@ use Rattle.gf_edges.specs.declared.edge.Edge.{Edge}
 
 -- both points of the edge stand from the first number of the span to its last
 abbrev pub IsAcross : Span → Edge → Type 0
-IsAcross s e = (s.first ≤ℤ e.from.x) × (e.from.x ≤ℤ s.last) × (s.first ≤ℤ e.to.x) × (e.to.x ≤ℤ s.last)
+IsAcross s e = (s.first ≤ℤ e.from.x) × (e.from.x ≤ℤ s.last) × (s.first ≤ℤ e.to.x)
+    × (e.to.x ≤ℤ s.last)

@@ -18,4 +18,5 @@ contacts_at y es = flat_map (λ e. contacts_of y (e.from, e.to)) es
 -- the edges pass the height y evenly often, and enclose there what is held
 pub record TellsRow (holds : Point → Bool) (y : ℤ) (es : List Edge) : Type 0 where
   pub even : length (crossings_at y es) % 2 ≡ 0
-  pub exact : (x : ℤ) → is_enclosed (crossings_at y es) (contacts_at y es) x ≡ holds (record { x = x; y = y })
+  pub exact : (x : ℤ) → is_enclosed (crossings_at y es) (contacts_at y es) x
+      ≡ holds (record { x = x; y = y })

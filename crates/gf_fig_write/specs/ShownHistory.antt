@@ -1,4 +1,5 @@
--- When a FIG text shows a history (Xfig, FIG Format 3.2; what a history means is this project's choice).
+-- When a FIG text shows a history (Xfig, FIG Format 3.2; what a history means is this project's
+-- choice).
 use Rattle.std.specs.Prelude.{◌≡◌, ℕ, List, Contains, Some}
 use Rattle.gf_shape.specs.declared.colour.Rgb.{Rgb}
 use Rattle.gf_digits.specs.ColourBytes.{HasBytes}
@@ -10,7 +11,8 @@ use Rattle.gf_drawing.specs.Outlined.{PaintsAsFig}
 use Rattle.gf_fig_read.specs.FigGrammar.{Reads}
 use Rattle.gf_fig_read.specs.Objects.{Drawn}
 
--- the text reads as a drawing, and each drawing that it reads as has at every point of the grid the colour that h means there
+-- the text reads as a drawing, and each drawing that it reads as has at every point of the grid the
+-- colour that h means there
 pub record Shows (text : List ℕ) (h : List Op) : Type 0 where
   pub drawing : Drawn
   pub reads : Reads text drawing
@@ -18,4 +20,5 @@ pub record Shows (text : List ℕ) (h : List Op) : Type 0 where
 
 -- each part of a colour that an operation of h gives is a byte, as the type of a colour has it
 abbrev pub GivesBytes : List Op → Type 0
-GivesBytes h = (a : Op) (c : Rgb) → Contains h a → value_given a Colour ≡ Some (value.Colour c) → HasBytes c
+GivesBytes h = (a : Op) (c : Rgb) → Contains h a
+    → value_given a Colour ≡ Some (value.Colour c) → HasBytes c

@@ -1,5 +1,7 @@
--- The positions of the operations on an object, and what groups of positions stand for (this project's choice).
-use Rattle.std.specs.Prelude.{ℕ, zero, suc, Bool, false, cond, List, [], ◌∷◌, ◌++◌, map, filter_map, option_map, Option, Some, None, slice_get}
+-- The positions of the operations on an object, and what groups of positions stand for (this
+-- project's choice).
+use Rattle.std.specs.Prelude.{ℕ, zero, suc, Bool, false, cond, List, [], ◌∷◌, ◌++◌, map}
+use Rattle.std.specs.Prelude.{filter_map, option_map, Option, Some, None, slice_get}
 use Rattle.std.specs.List.{fold}
 use Rattle.std.specs.BTreeSet.{insert_key}
 use Rattle.gf_ops.specs.declared.op.Op.{Op}
@@ -19,7 +21,8 @@ is_on o None = false
 -- the positions below n of the operations of h on the object o
 abbrev pub positions_below : List Op → ObjectId → ℕ → List ℕ
 positions_below h o zero = []
-positions_below h o (suc n) = cond (is_on o (slice_get h n)) (positions_below h o n ++ n ∷ []) (positions_below h o n)
+positions_below h o (suc n) = cond (is_on o (slice_get h n)) (positions_below h o n ++ n ∷ [])
+    (positions_below h o n)
 
 -- the id of the operation at the position k
 abbrev pub id_at : List Op → ℕ → Option OpId

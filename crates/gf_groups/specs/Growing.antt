@@ -1,5 +1,6 @@
 -- Largest compatible sets of positions, grown one by one (Sun and Chen, ACM TOCHI 9(1), 2002).
-use Rattle.std.specs.Prelude.{ℕ, Bool, false, not, ◌&&◌, ◌==◌, List, [], ◌∷◌, ◌++◌, filter, Option, Some, slice_get}
+use Rattle.std.specs.Prelude.{ℕ, Bool, false, not, ◌&&◌, ◌==◌, List, [], ◌∷◌}
+use Rattle.std.specs.Prelude.{◌++◌, filter, Option, Some, slice_get}
 use Rattle.gf_ops.specs.declared.op.Op.{Op}
 use Rattle.gf_maximal.specs.Growing.{next}
 use Rattle.gf_groups.specs.VersionList.{in_conflict}

@@ -1,5 +1,6 @@
 -- A map from objects to the positions of their operations. No public clause cites this module.
-use Rattle.std.specs.Prelude.{◌≡◌, ℕ, cond, List, [], ◌∷◌, ◌++◌, length, Option, Some, None, unwrap_or}
+use Rattle.std.specs.Prelude.{◌≡◌, ℕ, cond, List, [], ◌∷◌, ◌++◌, length, Option}
+use Rattle.std.specs.Prelude.{Some, None, unwrap_or}
 use Rattle.std.specs.List.{flat_map}
 use Rattle.std.specs.declared.cmp.Ordering.{Ordering}
 use Rattle.std.specs.BTreeMap.{BTreeMap, get, is_at}
@@ -18,8 +19,11 @@ abbrev pub positions_of : BTreeMap ObjectId (List ℕ) → ObjectId → Option (
 positions_of m o = get object_cmp m o
 
 -- the map n is m with the position k behind those of the object o
-abbrev pub AddsPosition : BTreeMap ObjectId (List ℕ) → ObjectId → ℕ → BTreeMap ObjectId (List ℕ) → Type 0
-AddsPosition m o k n = (p : ObjectId) → positions_of n p ≡ cond (is_at (object_cmp o) p) (Some (unwrap_or (positions_of m o) [] ++ k ∷ [])) (positions_of m p)
+abbrev pub AddsPosition : BTreeMap ObjectId (List ℕ) → ObjectId → ℕ
+    → BTreeMap ObjectId (List ℕ) → Type 0
+AddsPosition m o k n = (p : ObjectId)
+    → positions_of n p ≡ cond (is_at (object_cmp o) p)
+    (Some (unwrap_or (positions_of m o) [] ++ k ∷ [])) (positions_of m p)
 
 -- the list, if it has an element
 abbrev pub nonempty : List ℕ → Option (List ℕ)

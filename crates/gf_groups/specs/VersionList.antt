@@ -1,5 +1,7 @@
--- The versions of an object as a list that computes (maximal compatible groups, Sun and Chen, ACM TOCHI 9(1), 2002).
-use Rattle.std.specs.Prelude.{Bool, not, ◌&&◌, ◌||◌, ◌==◌, nat_le, List, [], ◌∷◌, ◌++◌, filter, map}
+-- The versions of an object as a list that computes (maximal compatible groups, Sun and Chen, ACM
+-- TOCHI 9(1), 2002).
+use Rattle.std.specs.Prelude.{Bool, not, ◌&&◌, ◌||◌, ◌==◌, nat_le, List, [], ◌∷◌}
+use Rattle.std.specs.Prelude.{◌++◌, filter, map}
 use Rattle.std.specs.List.{list_any, list_all, fold}
 use Rattle.std.specs.BTreeSet.{insert_key}
 use Rattle.gf_ops.specs.declared.op.Op.{Op}
@@ -23,7 +25,8 @@ are_unordered a b = not (is_before a b) && not (is_before b a)
 
 -- a and b conflict directly; operations that give an attribute different values are two
 abbrev pub in_direct_conflict : Op → Op → Bool
-in_direct_conflict a b = are_unordered a b && id_eq (object_of a).0 (object_of b).0 && are_apart a.change b.change
+in_direct_conflict a b = are_unordered a b && id_eq (object_of a).0 (object_of b).0
+    && are_apart a.change b.change
 
 -- a aims at x
 abbrev pub aims_at : Op → Op → Bool
@@ -51,11 +54,13 @@ members h g = filter (is_in g) h
 
 -- no two of the group conflict
 abbrev pub is_compatible : List Op → List OpId → Bool
-is_compatible h g = list_all (λ a. list_all (λ b. not (in_conflict h a b)) (members h g)) (members h g)
+is_compatible h g = list_all (λ a. list_all (λ b. not (in_conflict h a b)) (members h g))
+    (members h g)
 
 -- each other operation on the object conflicts with one of the group
 abbrev pub is_largest : List Op → ObjectId → List OpId → Bool
-is_largest h o g = list_all (λ a. is_in g a || list_any (in_conflict h a) (members h g)) (ops_on h o)
+is_largest h o g = list_all (λ a. is_in g a || list_any (in_conflict h a) (members h g))
+    (ops_on h o)
 
 -- every list that can be made from a list by leaving elements out
 abbrev pub sublists : {X : Type 0} → List X → List (List X)
@@ -66,6 +71,7 @@ sublists (x ∷ xs) = map (λ ys. x ∷ ys) (sublists xs) ++ sublists xs
 abbrev pub ids_on : List Op → ObjectId → List OpId
 ids_on h o = fold (insert_key id_cmp) [] (map (λ (a : Op). a.id) (ops_on h o))
 
--- the versions of the object o, each as its rising ids: the sublists of the ids on it that are compatible and largest
+-- the versions of the object o, each as its rising ids: the sublists of the ids on it that are
+-- compatible and largest
 abbrev pub versions_of : List Op → ObjectId → List (List OpId)
 versions_of h o = filter (λ g. is_compatible h g && is_largest h o g) (sublists (ids_on h o))

@@ -1,4 +1,5 @@
--- The versions of the objects of a history, listed (maximal compatible groups, Sun and Chen, ACM TOCHI 9(1), 2002; their order is this project's choice).
+-- The versions of the objects of a history, listed (maximal compatible groups, Sun and Chen, ACM
+-- TOCHI 9(1), 2002; their order is this project's choice).
 use Rattle.std.specs.Prelude.{◌≡◌, ◌≢◌, ◌↔◌, List, Contains, AllPairs}
 use Rattle.std.specs.List.Sorted.{IsStrictlySortedBy}
 use Rattle.std.specs.declared.cmp.Ordering.{Ordering}

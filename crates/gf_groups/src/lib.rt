@@ -8,7 +8,8 @@
 //!
 //! For tables of versions: whether the operations at two positions conflict ([`conflict_at`]), the
 //! largest sets of positions without a conflict ([`groups_at`]), and
-//! the groups of an object [from](groups_from) such sets, or [added](add_groups) to others.
+//! the groups of an object [from](groups_from) such sets, or [added](add_groups) to others; and the
+//! [rising ids](rising_ids) of positions.
 #![tactic(auto)]
 
 mod conflict;
@@ -27,4 +28,4 @@ pub use group::{Group, Groups};
 pub use groups::{all_groups, groups_from, groups_of, is_made};
 pub use growth::groups_at;
 pub use laws::the_versions_are_a_list_that_computes;
-pub use listing::add_groups;
+pub use listing::{add_groups, rising_ids};

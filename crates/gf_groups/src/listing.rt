@@ -50,8 +50,8 @@ fn ids_at(alloc: Global, ops: &[Op], positions: &[usize]) -> Result<Vec<OpId>, O
     )
 }
 
-/// Those ids, rising.
-fn rising_ids(alloc: Global, history: &History, positions: &[usize]) -> Result<Ids, OutOfMemory>
+/// The ids of the operations at these positions, rising.
+pub fn rising_ids(alloc: Global, history: &History, positions: &[usize]) -> Result<Ids, OutOfMemory>
     requires { IsStrictlySortedBy nat_cmp positions.now }
     ensures { IfOk result (λ ids. ids ≡ rising_ids history.now.ops positions.now) }
 {

@@ -1,5 +1,7 @@
--- The texts of versions and of what is on top at a point (this project's choice; numbers are decimal).
-use Rattle.std.specs.Prelude.{ℕ, Bool, true, false, List, [], ◌∷◌, ◌++◌, Option, Some, None, flat_map, codes}
+-- The texts of versions and of what is on top at a point (this project's choice; numbers are
+-- decimal).
+use Rattle.std.specs.Prelude.{ℕ, Bool, true, false, List, [], ◌∷◌, ◌++◌, Option, Some}
+use Rattle.std.specs.Prelude.{None, flat_map, codes}
 use Rattle.std.specs.Fmt.{decimal, signed_decimal}
 use Rattle.gf_digits.specs.HexDigits.{hex_rgb}
 use Rattle.gf_shape.specs.declared.colour.Rgb.{Rgb}
@@ -73,7 +75,8 @@ shown_word false = codes "hidden"
 
 -- the kind of a version, its place, and its size or points
 unfoldable pub form_text : Version → List ℕ
-form_text v = codes " " ++ kind_word v.form ++ codes " place " ++ point_text v.place ++ measure_text v.form
+form_text v = codes " " ++ kind_word v.form ++ codes " place " ++ point_text v.place
+    ++ measure_text v.form
 
 -- the colour of a version, its layer, and whether it is shown
 unfoldable pub look_text : Version → List ℕ
@@ -81,7 +84,8 @@ look_text v = colour_text v.colour ++ layer_text v.key.layer ++ codes " " ++ sho
 
 -- the line of a version
 unfoldable pub version_line : Version → List ℕ
-version_line v = codes "version " ++ name_text v.key.object v.key.ops ++ form_text v ++ look_text v ++ codes "\n"
+version_line v = codes "version " ++ name_text v.key.object v.key.ops ++ form_text v ++ look_text v
+    ++ codes "\n"
 
 -- the name of what is on top
 abbrev pub top_text : Option VersionName → List ℕ

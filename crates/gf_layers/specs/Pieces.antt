@@ -1,5 +1,6 @@
 -- What a part of a window has of layers: some columns of some rows (this project's choice).
-use Rattle.std.specs.Prelude.{◌≡◌, ℕ, ℤ, ◌+◌, ◌≤◌, ◌<◌, ◌&&◌, Bool, false, int_le, List, map, IfSome}
+use Rattle.std.specs.Prelude.{◌≡◌, ℕ, ℤ, ◌+◌, ◌≤◌, ◌<◌, ◌&&◌, Bool}
+use Rattle.std.specs.Prelude.{false, int_le, List, map, IfSome}
 use Rattle.gf_shape.specs.declared.bounds.Bounds.{Bounds}
 use Rattle.gf_shape.specs.declared.point.Point.{Point}
 use Rattle.gf_shape.specs.ShapeLaws.{IsBounds}
@@ -19,16 +20,20 @@ abbrev pub layers_of : {S : Type 0} → List (Piece S) → List (Layer S)
 layers_of ps = map (λ p. p.layer.now) ps
 
 module _ {S : Type 0} (holds : S → Point → Bool) (w : View) where
-  -- the piece's bounds are its layer's, its columns have all that the layer holds in the row j, and its edges tell that row
+  -- the piece's bounds are its layer's, its columns have all that the layer holds in the row j, and
+  -- its edges tell that row
   pub record IsPiece (j from len : ℕ) (p : Piece S) : Type 0 where
     pub bounds : IsBounds (holds p.layer.now.shape.now) p.bounds
-    pub columns : (k : ℕ) → k < len → is_among p.columns k ≡ false → holds p.layer.now.shape.now (sample w (from + k) j) ≡ false
+    pub columns : (k : ℕ) → k < len → is_among p.columns k ≡ false
+        → holds p.layer.now.shape.now (sample w (from + k) j) ≡ false
     pub edges : IfSome p.edges (λ es. TellsRow (holds p.layer.now.shape.now) (line w j) es)
 
   -- the layer holds no point of the part
   abbrev pub IsUnseen : ℕ → ℕ → ℕ → ℕ → Layer S → Type 0
-  IsUnseen top count from len l = (j k : ℕ) → top ≤ j → j < top + count → k < len → holds l.shape.now (sample w (from + k) j) ≡ false
+  IsUnseen top count from len l = (j k : ℕ) → top ≤ j → j < top + count → k < len
+      → holds l.shape.now (sample w (from + k) j) ≡ false
 
   -- some layers have, in the part, the colours of all
   abbrev pub AreSeen : ℕ → ℕ → ℕ → ℕ → List (Layer S) → List (Layer S) → Type 0
-  AreSeen top count from len all some = (j k : ℕ) → top ≤ j → j < top + count → k < len → row_colours holds some w j from k ≡ row_colours holds all w j from k
+  AreSeen top count from len all some = (j k : ℕ) → top ≤ j → j < top + count → k < len
+      → row_colours holds some w j from k ≡ row_colours holds all w j from k

@@ -1,5 +1,6 @@
 -- The messages that end a link, and lists of messages (this project's choice).
-use Rattle.std.specs.Prelude.{◌≡◌, Bool, true, false, List, [], ◌∷◌, ◌++◌, if◌then◌else◌}
+use Rattle.std.specs.Prelude.{◌≡◌, Bool, true, false, List, [], ◌∷◌, ◌++◌}
+use Rattle.std.specs.Prelude.{if◌then◌else◌}
 use Rattle.std.specs.List.{list_any}
 use Rattle.gf_link.specs.declared.message.Message.{Message}
 use Rattle.gf_link.specs.declared.message.Message.TheVariants.{Op, End, Stop}

@@ -1,5 +1,6 @@
 -- Largest compatible sets of numbers, grown by one number (Sun and Chen, ACM TOCHI 9(1), 2002).
-use Rattle.std.specs.Prelude.{ℕ, Bool, not, ◌||◌, ◌==◌, cond, List, [], ◌∷◌, ◌++◌, filter, map}
+use Rattle.std.specs.Prelude.{ℕ, Bool, not, ◌||◌, ◌==◌, cond, List, [], ◌∷◌}
+use Rattle.std.specs.Prelude.{◌++◌, filter, map}
 use Rattle.std.specs.List.{list_any, list_all, fold}
 use Rattle.std.specs.BTreeSet.{insert_key}
 use Rattle.std.specs.Ordering.{nat_cmp}

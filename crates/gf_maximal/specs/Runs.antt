@@ -1,6 +1,8 @@
 -- A set of numbers as runs of such that follow each other.
-use Rattle.std.specs.Prelude.{◌≡◌, ◌≤◌, max, true, length, slice_index_or, ℕ, ◌+◌, ◌-◌, ◌<◌}
-use Rattle.std.specs.Prelude.{Bool, cond, ◌==◌, ◌&&◌, ◌||◌, nat_le, nat_lt, List, [], ◌∷◌}
+use Rattle.std.specs.Prelude.{◌≡◌, ◌≤◌, max, true, length, slice_index_or, ℕ, ◌+◌}
+use Rattle.std.specs.Prelude.{◌-◌, ◌<◌}
+use Rattle.std.specs.Prelude.{Bool, cond, ◌==◌, ◌&&◌, ◌||◌, nat_le, nat_lt, List, []}
+use Rattle.std.specs.Prelude.{◌∷◌}
 use Rattle.std.specs.Prelude.{◌++◌, Contains, ⊤, false}
 use Rattle.std.specs.List.{flat_map, range_with_len, fold}
 use Rattle.std.specs.List.Sorted.{IsPermutation, IsNonDecreasingBy}
@@ -17,7 +19,8 @@ members rs = flat_map numbers_of rs
 -- no run is empty, and after each a number is left out
 abbrev pub AreRuns : List Run → Type 0
 AreRuns [] = ⊤
-AreRuns (r ∷ rs) = (r.start < r.end) × ((q : Run) → Contains rs q → r.end < q.start) × AreRuns rs
+AreRuns (r ∷ rs) = (r.start < r.end) × ((q : Run) → Contains rs q → r.end < q.start)
+    × AreRuns rs
 
 -- from the first run on that has a number above n or n
 abbrev pub after : ℕ → List Run → List Run

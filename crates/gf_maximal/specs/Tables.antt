@@ -1,5 +1,6 @@
 -- The largest compatible sets of numbers, listed (Sun and Chen, ACM TOCHI 9(1), 2002).
-use Rattle.std.specs.Prelude.{◌≡◌, ◌≢◌, ◌↔◌, ◌⊎◌, ℕ, Bool, true, false, List, AllPairs, Contains}
+use Rattle.std.specs.Prelude.{◌≡◌, ◌≢◌, ◌↔◌, ◌⊎◌, ℕ, Bool, true, false}
+use Rattle.std.specs.Prelude.{List, AllPairs, Contains}
 use Rattle.std.specs.List.Sorted.{IsStrictlySortedBy}
 use Rattle.std.specs.Ordering.{nat_cmp}
 
@@ -21,5 +22,6 @@ IsRising g = IsStrictlySortedBy nat_cmp g
 
 -- gs are the largest compatible sets of us, each once
 pub record IsTable (c : ℕ → ℕ → Bool) (us : List ℕ) (gs : List (List ℕ)) : Type 0 where
-  pub each : (g : List ℕ) → Contains gs g ↔ (IsRising g × IsLargest c (Contains us) (Contains g))
+  pub each : (g : List ℕ) → Contains gs g
+      ↔ (IsRising g × IsLargest c (Contains us) (Contains g))
   pub once : AllPairs (λ g h. g ≢ h) gs

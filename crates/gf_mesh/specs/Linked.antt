@@ -1,5 +1,6 @@
 -- Sites of which any two are joined by two links, one each way (this project's choice).
-use Rattle.std.specs.Prelude.{◌≡◌, ◌≢◌, ◌==◌, ℕ, ◌<◌, List, map, length, sum_by, Contains, Some, IsTrue, slice_get}
+use Rattle.std.specs.Prelude.{◌≡◌, ◌≢◌, ◌==◌, ℕ, ◌<◌, List, map, length}
+use Rattle.std.specs.Prelude.{sum_by, Contains, Some, IsTrue, slice_get}
 use Rattle.std.specs.List.{count_by}
 use Rattle.std.specs.Global.{Vec}
 use Rattle.atomic_table.specs.Seated.{TableId}
@@ -47,10 +48,13 @@ pub record MeetsOne (rows : List (List Peer)) (i : ℕ) (x : Peer) : Type 0 wher
 abbrev pub HasOne : (Peer → ℕ) → List (List Peer) → ℕ → Type 0
 HasOne number rows k = sum_by (count_by (λ p. number p == k)) rows ≡ 1
 
--- any two sites meet, and no peer is without its other end; nothing was sent or taken; at each place of the table stands one peer's link out, and one's link in
+-- any two sites meet, and no peer is without its other end; nothing was sent or taken; at each
+-- place of the table stands one peer's link out, and one's link in
 pub record AreLinked (links : List TableId) (rows : List (List Peer)) : Type 0 where
-  pub each : (i j : ℕ) (xs ys : List Peer) → i ≢ j → slice_get rows i ≡ Some xs → slice_get rows j ≡ Some ys → Meet xs ys
-  pub only : (i : ℕ) (xs : List Peer) (x : Peer) → slice_get rows i ≡ Some xs → Contains xs x → MeetsOne rows i x
+  pub each : (i j : ℕ) (xs ys : List Peer) → i ≢ j → slice_get rows i ≡ Some xs
+      → slice_get rows j ≡ Some ys → Meet xs ys
+  pub only : (i : ℕ) (xs : List Peer) (x : Peer) → slice_get rows i ≡ Some xs
+      → Contains xs x → MeetsOne rows i x
   pub placed : (xs : List Peer) → Contains rows xs → ArePlaced links xs
   pub fresh : (xs : List Peer) → Contains rows xs → (p : Peer) → Contains xs p → IsFresh p
   pub outs : (k : ℕ) → k < length links → HasOne (λ p. p.out) rows k
@@ -58,4 +62,5 @@ pub record AreLinked (links : List TableId) (rows : List (List Peer)) : Type 0 w
 
 -- an End or a Stop was taken from each peer
 abbrev pub HaveEnded : List (List Peer) → Type 0
-HaveEnded rows = (xs : List Peer) → Contains rows xs → (p : Peer) → Contains xs p → IsTrue (is_ended p.take.taken)
+HaveEnded rows = (xs : List Peer) → Contains rows xs → (p : Peer) → Contains xs p
+    → IsTrue (is_ended p.take.taken)

@@ -1,26 +1,45 @@
--- Sites that are joined one after the other, each with all before it by two links. No public clause cites this module.
-use Rattle.std.specs.Prelude.{◌≡◌, ◌+◌, List, [], ◌∷◌, ◌++◌, length, Some, IsTrue, slice_get, slice_set}
+-- Sites that are joined one after the other, each with all before it by two links. No public clause
+-- cites this module.
+use Rattle.std.specs.Prelude.{◌≡◌, ◌+◌, List, [], ◌∷◌, ◌++◌, length, Some}
+use Rattle.std.specs.Prelude.{IsTrue, slice_get, slice_set}
 use Rattle.atomic_table.specs.Seated.{TableId}
 use Rattle.gf_link.specs.Ends.{is_ended}
 use Rattle.gf_worker.specs.declared.peer.Peer.{Peer}
 use Rattle.gf_mesh.specs.declared.joining.Mesh.TheInside.{Inside}
 use Rattle.gf_mesh.specs.Linked.{MeshTable, rows_of, seats_of}
 
--- sites that are joined one after the other: a row for each has what it has the others as, and the last row that of the newest site, which has met the first of
--- them. R relates the tables of links before and after two sites met, and what these have each other as
-pub data IsMesh {X : Type 0} (R : List TableId → List TableId → X → X → Type 0) : List TableId → List (List X) → List X → Type 0 where
+-- sites that are joined one after the other: a row for each has what it has the others as, and the
+-- last row that of the newest site, which has met the first of
+-- them. R relates the tables of links before and after two sites met, and what these have each
+-- other as
+pub data IsMesh {X : Type 0} (R : List TableId → List TableId → X → X
+    → Type 0) : List TableId → List (List X) → List X → Type 0 where
   none : IsMesh R [] [] []
-  meet : {table more : List TableId} {rows : List (List X)} {row xs : List X} {x y : X} → IsMesh R table rows row → slice_get rows (length row) ≡ Some xs → R table more x y →
+  meet : {table more : List TableId} {rows : List (List X)} {row xs : List X} {x y : X}
+      → IsMesh R table rows row → slice_get rows (length row) ≡ Some xs
+      → R table more x y →
       IsMesh R more (slice_set rows (length row) (xs ++ x ∷ [])) (row ++ y ∷ [])
-  next : {table : List TableId} {rows : List (List X)} {row : List X} → IsMesh R table rows row → length row ≡ length rows → IsMesh R table (rows ++ row ∷ []) []
+  next : {table : List TableId} {rows : List (List X)} {row : List X} → IsMesh R table rows row
+      → length row ≡ length rows → IsMesh R table (rows ++ row ∷ []) []
 
--- two new links stand behind those of the table, one from each of two sites to the other, and x and y are what these have each other as
+-- two new links stand behind those of the table, one from each of two sites to the other, and x and
+-- y are what these have each other as
 pub record Connects (table more : List TableId) (x y : Peer) : Type 0 where
   pub there : TableId
   pub back : TableId
   pub table_is : more ≡ (table ++ there ∷ []) ++ back ∷ []
-  pub theirs : x ≡ record { out = length table; send = record { link = there; sent = [] }; into = length table + 1; take = record { link = back; taken = [] } }
-  pub mine : y ≡ record { out = length table + 1; send = record { link = back; sent = [] }; into = length table; take = record { link = there; taken = [] } }
+  pub theirs : x ≡ record {
+    out = length table;
+    send = record { link = there; sent = [] };
+    into = length table + 1;
+    take = record { link = back; taken = [] };
+  }
+  pub mine : y ≡ record {
+    out = length table + 1;
+    send = record { link = back; sent = [] };
+    into = length table;
+    take = record { link = there; taken = [] };
+  }
 
 -- the last two links of the table are those of x and y, each of which took to the end of its link
 pub record IsLinked (table more : List TableId) (x y : Peer) : Type 0 where

@@ -7,7 +7,8 @@ use Rattle.gf_layers.specs.Picture.{rows}
 use Rattle.gf_window.specs.Windows.{View}
 
 -- known bytes grow from old to new by a header and whole bands of 64 rows, fewer than all
-pub record HasBands (header : List ℕ) (colour : Point → Rgb) (w : View) (old new : Option (List ℕ)) : Type 0 where
+pub record HasBands (header : List ℕ) (colour : Point → Rgb) (w : View)
+    (old new : Option (List ℕ)) : Type 0 where
   pub bands : ℕ
   pub fewer : 64 * bands < w.height
   pub grows : Appends old new (header ++ rows colour w 0 (64 * bands))

@@ -1,5 +1,6 @@
 -- How workers share the rows of a band. No public clause cites this module.
-use Rattle.std.specs.Prelude.{ℕ, ◌*◌, ◌+◌, ◌-◌, ◌<◌, ◌≡◌, min, List, Vec, Result, IfOk, slice_index_or}
+use Rattle.std.specs.Prelude.{ℕ, ◌*◌, ◌+◌, ◌-◌, ◌<◌, ◌≡◌, min, List, Vec}
+use Rattle.std.specs.Prelude.{Result, IfOk, slice_index_or}
 use Rattle.std.proofs.Common.{Global}
 use Rattle.gf_shape.specs.declared.colour.Rgb.{Rgb}
 use Rattle.gf_shape.specs.declared.point.Point.{Point}
@@ -20,5 +21,8 @@ abbrev pub share : (Point → Rgb) → View → ℕ → ℕ → ℕ → ℕ → 
 share colour w top count size k = rows colour w (top + cut count size k) (rows_of count size k)
 
 -- the workers' rows, where memory was there
-abbrev pub AreShares : (Point → Rgb) → View → ℕ → ℕ → ℕ → ℕ → List (Result (Vec ℕ Global) OutOfMemory) → Type 0
-AreShares colour w top count size workers shares = (k : ℕ) (d : Result (Vec ℕ Global) OutOfMemory) → k < workers → IfOk (slice_index_or shares k d) (λ bytes. bytes.items ≡ share colour w top count size k)
+abbrev pub AreShares : (Point → Rgb) → View → ℕ → ℕ → ℕ → ℕ
+    → List (Result (Vec ℕ Global) OutOfMemory) → Type 0
+AreShares colour w top count size workers shares =
+    (k : ℕ) (d : Result (Vec ℕ Global) OutOfMemory) → k < workers
+    → IfOk (slice_index_or shares k d) (λ bytes. bytes.items ≡ share colour w top count size k)

@@ -1,5 +1,6 @@
 -- How crossings and contacts are joined: in pairs, then merged. No public clause cites this module.
-use Rattle.std.specs.Prelude.{Bool, cond, ℤ, pos, ◌+ℤ◌, int_le, List, [], ◌∷◌, ◌++◌, Option, Some, None, option_to_list}
+use Rattle.std.specs.Prelude.{Bool, cond, ℤ, pos, ◌+ℤ◌, int_le, List, [], ◌∷◌}
+use Rattle.std.specs.Prelude.{◌++◌, Option, Some, None, option_to_list}
 use Rattle.std.specs.Int.{int_max}
 use Rattle.gf_rows.specs.declared.crossing.Crossing.{Crossing}
 use Rattle.gf_rows.specs.declared.span.Span.{Span}
@@ -10,13 +11,16 @@ start k = cond k.between (k.floor +ℤ pos 1) k.floor
 
 -- the numbers from the place k to the place l, where there are any
 abbrev pub span_between : Crossing → Crossing → Option Span
-span_between k l = cond (int_le (start k) l.floor) (Some (record { first = start k; last = l.floor })) None
+span_between k l =
+    cond (int_le (start k) l.floor) (Some (record { first = start k; last = l.floor })) None
 
--- the numbers from the place k to the place l as a list of one span, or of none where there are no such numbers
+-- the numbers from the place k to the place l as a list of one span, or of none where there are no
+-- such numbers
 abbrev pub spans_between : Crossing → Crossing → List Span
 spans_between k l = option_to_list (span_between k l)
 
--- the spans between the first place and the second, the third and the fourth, and so on, where one place may stand before the list
+-- the spans between the first place and the second, the third and the fourth, and so on, where one
+-- place may stand before the list
 abbrev pub pairs_from : Option Crossing → List Crossing → List Span
 pairs_from before [] = []
 pairs_from None (k ∷ ks) = pairs_from (Some k) ks

@@ -1,5 +1,6 @@
 -- Spans of whole numbers (this project's choice).
-use Rattle.std.specs.Prelude.{Bool, ◌&&◌, ℤ, pos, ◌+ℤ◌, ◌≤ℤ◌, ◌<ℤ◌, int_le, int_lt, List, [], ◌∷◌}
+use Rattle.std.specs.Prelude.{Bool, ◌&&◌, ℤ, pos, ◌+ℤ◌, ◌≤ℤ◌, ◌<ℤ◌}
+use Rattle.std.specs.Prelude.{int_le, int_lt, List, [], ◌∷◌}
 use Rattle.gf_rows.specs.declared.span.Span.{Span}
 
 -- x lies in the span s
@@ -14,4 +15,5 @@ is_empty s = int_lt s.last s.first
 abbrev pub AreApart : List Span → Type 0
 AreApart [] = Unit {0}
 AreApart (s ∷ []) = s.first ≤ℤ s.last
-AreApart (s ∷ t ∷ ss) = (s.first ≤ℤ s.last) × ((s.last +ℤ pos 1) <ℤ t.first) × AreApart (t ∷ ss)
+AreApart (s ∷ t ∷ ss) = (s.first ≤ℤ s.last) × ((s.last +ℤ pos 1) <ℤ t.first)
+    × AreApart (t ∷ ss)

@@ -7,7 +7,7 @@ use Rattle.std.proofs.lemmas.Option.{slice_get-map, slice_get_within}
 use Rattle.gf_ops.specs.declared.op.Op.{Op}
 use Rattle.gf_link.specs.Ends.{is_ended}
 use Rattle.gf_causal.specs.DeliveredPart.{HaveSame}
-use Rattle.gf_json.specs.declared.script_line.Command.{Command}
+use Rattle.gf_json.specs.declared.scripts.Command.{Command}
 use Rattle.gf_site.specs.SiteState.{SiteState}
 use Rattle.gf_worker.specs.declared.script.Script.{Script}
 use Rattle.gf_worker.specs.declared.peer.Peer.{Peer}

@@ -1,4 +1,5 @@
--- The workers of a session, once all have returned and each link told that all that was sent was taken (this project's choice).
+-- The workers of a session, once all have returned and each link told that all that was sent was
+-- taken (this project's choice).
 use Rattle.std.specs.Prelude.{◌≡◌, ◌≢◌, List, Contains}
 use Rattle.gf_ops.specs.declared.op.Op.{Op}
 use Rattle.gf_ops.specs.ValidHistory.{IsValid}
@@ -30,15 +31,22 @@ pub record Sender (ends : List WorkerEnd) (e : WorkerEnd) (p : Peer) : Type 0 wh
 pub record IsComplete (e : WorkerEnd) : Type 0 where
   pub course : IsCourse e.site.number e.site.ops
   pub valid : IsValid e.site.ops
-  pub has : (a : Op) → Contains e.site.ops a → a.id.site ≢ e.site.number → HasCome e.seats.items a
-  pub all : (h : List Op) → IsJust h e.site.ops e.seats.items → AreForeign e.site.number e.seats.items → (a : Op) → Contains h a → Contains e.site.ops a
+  pub has : (a : Op) → Contains e.site.ops a → a.id.site ≢ e.site.number
+      → HasCome e.seats.items a
+  pub all : (h : List Op) → IsJust h e.site.ops e.seats.items
+      → AreForeign e.site.number e.seats.items → (a : Op) → Contains h a
+      → Contains e.site.ops a
 
--- each worker is complete, no two have one number, and each took from every other all that it made, and nothing else
+-- each worker is complete, no two have one number, and each took from every other all that it made,
+-- and nothing else
 pub record AreJoined (ends : List WorkerEnd) : Type 0 where
   pub complete : (e : WorkerEnd) → Contains ends e → IsComplete e
-  pub one : (e f : WorkerEnd) → Contains ends e → Contains ends f → e.site.number ≡ f.site.number → e ≡ f
-  pub heard : (e f : WorkerEnd) → Contains ends e → Contains ends f → e.site.number ≢ f.site.number → Heard e f
-  pub senders : (e : WorkerEnd) → Contains ends e → (p : Peer) → Contains e.seats.items p → Sender ends e p
+  pub one : (e f : WorkerEnd) → Contains ends e → Contains ends f
+      → e.site.number ≡ f.site.number → e ≡ f
+  pub heard : (e f : WorkerEnd) → Contains ends e → Contains ends f
+      → e.site.number ≢ f.site.number → Heard e f
+  pub senders : (e : WorkerEnd) → Contains ends e → (p : Peer) → Contains e.seats.items p
+      → Sender ends e p
 
 -- the history is valid, and each list has just its operations
 pub record HaveOne (ends : List WorkerEnd) : Type 0 where

@@ -3,7 +3,7 @@ use Rattle.std.specs.Prelude.{◌≡◌, ℕ, ◌+◌, List, slice_get, Some, Co
 use Rattle.gf_ops.specs.declared.op.Op.{Op}
 use Rattle.gf_causal.specs.DeliveredPart.{HaveSame}
 use Rattle.gf_site.specs.Course.{IsCourse}
-use Rattle.gf_json.specs.declared.script_line.Command.{Command}
+use Rattle.gf_json.specs.declared.scripts.Command.{Command}
 use Rattle.gf_worker.specs.declared.report.Report.{Report}
 use Rattle.gf_worker.specs.Played.{IsPlayed}
 

@@ -12,7 +12,12 @@ done_of e = record { site = e.site; report = e.report }
 
 -- a script with what its site came to
 abbrev pub place_of : Script → Done → Place
-place_of s d = record { number = d.site.number; script = s.0.items; ops = d.site.ops; report = d.report }
+place_of s d = record {
+  number = d.site.number;
+  script = s.0.items;
+  ops = d.site.ops;
+  report = d.report;
+}
 
 -- each script with what its site came to
 abbrev pub places : List Script → List Done → List Place
@@ -20,7 +25,8 @@ places [] ds = []
 places (s ∷ ss) [] = []
 places (s ∷ ss) (d ∷ ds) = place_of s d ∷ places ss ds
 
--- for each script there is what its site came to; all these are an outcome, and some events bring as many sites to their lists
+-- for each script there is what its site came to; all these are an outcome, and some events bring
+-- as many sites to their lists
 pub record IsSession (scripts : List Script) (dones : List Done) : Type 0 where
   pub long : length dones ≡ length scripts
   pub outcome : IsOutcome (places scripts dones)

@@ -1,5 +1,6 @@
 -- Sites that are to run, over a table of links (this project's choice).
-use Rattle.std.specs.Prelude.{◌≡◌, ◌⊎◌, ◌≤◌, ◌+◌, ℕ, List, [], map, All, Some, slice_get, vec_len}
+use Rattle.std.specs.Prelude.{◌≡◌, ◌⊎◌, ◌≤◌, ◌+◌, ℕ, List, [], map, All}
+use Rattle.std.specs.Prelude.{Some, slice_get, vec_len}
 use Rattle.std.specs.List.{AllZip}
 use Rattle.atomic_table.specs.Seated.{TableId}
 use Rattle.gf_site.specs.SiteState.{new_site}
@@ -11,8 +12,10 @@ use Rattle.gf_worker.specs.Peers.{IsPlaced, IsFresh}
 use Rattle.gf_worker.specs.Ending.{HasWorked, HasStopped}
 
 -- the sites are new and numbered from 1, and have these scripts and these peers
-pub record AreStarts (scripts : List Script) (rows : List (List Peer)) (starts : List Start) : Type 0 where
-  pub sites_are : (k : ℕ) (s : Start) → slice_get starts k ≡ Some s → s.site ≡ new_site (k + 1)
+pub record AreStarts (scripts : List Script) (rows : List (List Peer))
+    (starts : List Start) : Type 0 where
+  pub sites_are : (k : ℕ) (s : Start) → slice_get starts k ≡ Some s
+      → s.site ≡ new_site (k + 1)
   pub scripts_are : map (λ s. s.script) starts ≡ scripts
   pub rows_are : map (λ s. s.peers.items) starts ≡ rows
 
@@ -24,9 +27,11 @@ pub record IsReady (links : List TableId) (s : Start) : Type 0 where
   pub placed : All (IsPlaced links) s.peers.items
   pub fresh : All IsFresh s.peers.items
 
--- the worker of the site has run its script, or it sent Stop to each peer for a site whose thread was not started
+-- the worker of the site has run its script, or it sent Stop to each peer for a site whose thread
+-- was not started
 abbrev pub Gave : Start → WorkerEnd → Type 0
-Gave s e = HasWorked s.site.number s.script.0.items s.peers.items e ⊎ HasStopped s.site s.peers.items e
+Gave s e = HasWorked s.site.number s.script.0.items s.peers.items e
+    ⊎ HasStopped s.site s.peers.items e
 
 -- the same of each of the sites
 abbrev pub GaveAll : List Start → List WorkerEnd → Type 0

@@ -1,5 +1,7 @@
--- A box as its callers see it: its least corner and its size (this project's choice; the order of corners is that of Xfig's FIG Format 3.2).
-use Rattle.std.specs.Prelude.{ℕ, ℤ, pos, negsuc, ◌+ℤ◌, Bool, ◌&&◌, nat_le, int_le, List, [], ◌∷◌}
+-- A box as its callers see it: its least corner and its size (this project's choice; the order of
+-- corners is that of Xfig's FIG Format 3.2).
+use Rattle.std.specs.Prelude.{ℕ, ℤ, pos, negsuc, ◌+ℤ◌, Bool, ◌&&◌, nat_le, int_le}
+use Rattle.std.specs.Prelude.{List, [], ◌∷◌}
 use Rattle.gf_shape.specs.declared.point.Point.{Point}
 
 -- the box from its least corner to as far as its width and height reach
@@ -24,8 +26,10 @@ corners_again a =
 
 -- a side from low has a size of at least 1, and both ends lie between -10,000,000 and 10,000,000
 unfoldable pub is_side : ℤ → ℕ → Bool
-is_side low size = nat_le 1 size && int_le (negsuc 9999999) low && int_le (low +ℤ pos size) (pos 10000000)
+is_side low size = nat_le 1 size && int_le (negsuc 9999999) low
+    && int_le (low +ℤ pos size) (pos 10000000)
 
--- both sides of the box a have a size of at least 1, and their ends lie between -10,000,000 and 10,000,000
+-- both sides of the box a have a size of at least 1, and their ends lie between -10,000,000 and
+-- 10,000,000
 abbrev pub is_area : Area → Bool
 is_area a = is_side a.low.x a.width && is_side a.low.y a.height

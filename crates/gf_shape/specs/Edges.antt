@@ -1,5 +1,7 @@
--- Edges between grid points, and where a level line meets them (half-open even-odd rule; this project's choice).
-use Rattle.std.specs.Prelude.{ℤ, pos, ◌-ℤ◌, ◌*ℤ◌, Bool, not, ◌&&◌, ◌||◌, int_le, int_lt}
+-- Edges between grid points, and where a level line meets them (half-open even-odd rule; this
+-- project's choice).
+use Rattle.std.specs.Prelude.{ℤ, pos, ◌-ℤ◌, ◌*ℤ◌, Bool, not, ◌&&◌, ◌||◌}
+use Rattle.std.specs.Prelude.{int_le, int_lt}
 use Rattle.std.specs.Ordering.{int_eq}
 use Rattle.gf_shape.specs.declared.point.Point.{Point}
 
@@ -7,7 +9,8 @@ use Rattle.gf_shape.specs.declared.point.Point.{Point}
 abbrev pub Edge : Type 0
 Edge = Point × Point
 
--- 0 where d is on the line from a to b; where the line climbs past d, positive if it does so right of d
+-- 0 where d is on the line from a to b; where the line climbs past d, positive if it does so right
+-- of d
 unfoldable pub side : Edge → Point → ℤ
 side (a, b) d = (b.x -ℤ a.x) *ℤ (d.y -ℤ a.y) -ℤ (b.y -ℤ a.y) *ℤ (d.x -ℤ a.x)
 
@@ -33,8 +36,10 @@ falls_past d (a, b) = climbs_past d (b, a)
 
 -- the edge crosses the ray from d to the right
 abbrev pub crosses_right : Point → Edge → Bool
-crosses_right d e = (climbs_past d e && int_lt (pos 0) (side e d)) || (falls_past d e && int_lt (side e d) (pos 0))
+crosses_right d e = (climbs_past d e && int_lt (pos 0) (side e d))
+    || (falls_past d e && int_lt (side e d) (pos 0))
 
 -- the edge crosses the ray from d to the left
 abbrev pub crosses_left : Point → Edge → Bool
-crosses_left d e = (climbs_past d e && int_lt (side e d) (pos 0)) || (falls_past d e && int_lt (pos 0) (side e d))
+crosses_left d e = (climbs_past d e && int_lt (side e d) (pos 0))
+    || (falls_past d e && int_lt (pos 0) (side e d))

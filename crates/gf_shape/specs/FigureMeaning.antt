@@ -1,5 +1,7 @@
--- Which points a figure of a FIG file paints (Xfig, FIG Format 3.2), profile: filled even-odd, edges inside, no outline.
-use Rattle.std.specs.Prelude.{ℕ, ◌*◌, ◌%◌, Bool, ◌||◌, List, zip, drop, count_by, pos, ◌+ℤ◌, ◌-ℤ◌, ◌*ℤ◌, int_le, nat_eq}
+-- Which points a figure of a FIG file paints (Xfig, FIG Format 3.2), profile: filled even-odd,
+-- edges inside, no outline.
+use Rattle.std.specs.Prelude.{ℕ, ◌*◌, ◌%◌, Bool, ◌||◌, List, zip, drop, count_by, pos}
+use Rattle.std.specs.Prelude.{◌+ℤ◌, ◌-ℤ◌, ◌*ℤ◌, int_le, nat_eq}
 use Rattle.std.specs.List.{list_any}
 use Rattle.gf_shape.specs.declared.point.Point.{Point}
 use Rattle.gf_shape.specs.declared.outline.Outline.{Outline}
@@ -10,13 +12,17 @@ use Rattle.gf_shape.specs.Edges.{Edge, is_on_edge, crosses_left}
 abbrev pub open_edges : List Point → List Edge
 open_edges ps = zip ps (drop 1 ps)
 
--- a chain, whose last point is its first, holds the points on an edge, and those from which the ray to the left crosses an odd number of edges
+-- a chain, whose last point is its first, holds the points on an edge, and those from which the ray
+-- to the left crosses an odd number of edges
 abbrev pub chain_holds : List Point → Point → Bool
-chain_holds ps p = list_any (is_on_edge p) (open_edges ps) || nat_eq (count_by (crosses_left p) (open_edges ps) % 2) 1
+chain_holds ps p = list_any (is_on_edge p) (open_edges ps)
+    || nat_eq (count_by (crosses_left p) (open_edges ps) % 2) 1
 
 -- a disc of this centre and radius holds p
 abbrev pub disc_holds : Point → ℕ → Point → Bool
-disc_holds centre r p = int_le ((p.x -ℤ centre.x) *ℤ (p.x -ℤ centre.x) +ℤ (p.y -ℤ centre.y) *ℤ (p.y -ℤ centre.y)) (pos (r * r))
+disc_holds centre r p =
+    int_le ((p.x -ℤ centre.x) *ℤ (p.x -ℤ centre.x) +ℤ (p.y -ℤ centre.y) *ℤ
+    (p.y -ℤ centre.y)) (pos (r * r))
 
 -- an oval of this centre and these radii holds p
 abbrev pub oval_figure_holds : Point → ℕ → ℕ → Point → Bool

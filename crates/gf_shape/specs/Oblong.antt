@@ -1,9 +1,11 @@
--- An oval as its callers see it (Xfig, FIG Format 3.2: ellipse objects with level axes; this project's limits).
+-- An oval as its callers see it (Xfig, FIG Format 3.2: ellipse objects with level axes; this
+-- project's limits).
 use Rattle.std.specs.Prelude.{ℕ, Bool, ◌&&◌, nat_le}
 use Rattle.gf_shape.specs.declared.point.Point.{Point}
 use Rattle.gf_shape.specs.Reach.{is_within_reach}
 
--- the points round a centre, as far as one radius to both sides and as far as another one upwards and downwards
+-- the points round a centre, as far as one radius to both sides and as far as another one upwards
+-- and downwards
 pub record Oblong : Type 0 where
   pub centre : Point
   pub rx : ℕ

@@ -1,4 +1,5 @@
--- What a FIG file draws of each shape (Xfig, FIG Format 3.2: polyline objects of sub types 2 and 3, ellipse objects).
+-- What a FIG file draws of each shape (Xfig, FIG Format 3.2: polyline objects of sub types 2 and 3,
+-- ellipse objects).
 use Rattle.std.specs.Prelude.{true, List}
 use Rattle.gf_shape.specs.declared.any_shape.AnyShape.{AnyShape}
 use Rattle.gf_shape.specs.declared.any_shape.AnyShape.TheVariants as any
@@ -16,7 +17,8 @@ rect_outline a = Chain (record { boxed = true; points = corners_again a })
 abbrev pub polygon_outline : List Point → Outline
 polygon_outline ps = Chain (ring_of ps)
 
--- a shape of any kind; a circle is the disc of its centre and radius, an ellipse the oval of its centre and radii
+-- a shape of any kind; a circle is the disc of its centre and radius, an ellipse the oval of its
+-- centre and radii
 abbrev pub any_outline : AnyShape → Outline
 any_outline (any.Rect a) = rect_outline a
 any_outline (any.Circle r) = Disc r

@@ -1,4 +1,5 @@
--- How far from the axes the defining points of a shape and the points of a FIG file lie (this project's choice).
+-- How far from the axes the defining points of a shape and the points of a FIG file lie (this
+-- project's choice).
 use Rattle.std.specs.Prelude.{ℤ, pos, negsuc, Bool, ◌&&◌, int_le}
 use Rattle.gf_shape.specs.declared.point.Point.{Point}
 

@@ -1,5 +1,7 @@
--- A closed chain as its callers see it (Xfig, FIG Format 3.2: polyline objects; this project's limits).
-use Rattle.std.specs.Prelude.{◌≡◌, ◌≤◌, ◌-◌, Bool, true, false, IsTrue, List, ◌++◌, take, length, All, slice_get}
+-- A closed chain as its callers see it (Xfig, FIG Format 3.2: polyline objects; this project's
+-- limits).
+use Rattle.std.specs.Prelude.{◌≡◌, ◌≤◌, ◌-◌, Bool, true, false, IsTrue, List}
+use Rattle.std.specs.Prelude.{◌++◌, take, length, All, slice_get}
 use Rattle.gf_shape.specs.declared.point.Point.{Point}
 use Rattle.gf_shape.specs.Reach.{is_within_reach}
 
@@ -12,7 +14,8 @@ pub record Ring : Type 0 where
 abbrev pub ring_of : List Point → Ring
 ring_of ps = record { boxed = false; points = ps ++ take 1 ps }
 
--- the ring r has 4 to 65,536 points, 5 where FIG calls it a box, which need not be a rectangle; its last point is its first; all lie within reach
+-- the ring r has 4 to 65,536 points, 5 where FIG calls it a box, which need not be a rectangle; its
+-- last point is its first; all lie within reach
 pub record IsRing (r : Ring) : Type 0 where
   pub least : 4 ≤ length r.points
   pub most : length r.points ≤ 65536

@@ -1,5 +1,7 @@
--- What a row of a chain is found from: where its edges pass or touch a height (half-open even-odd rule; this project's choice).
-use Rattle.std.specs.Prelude.{Bool, cond, ◌&&◌, ◌||◌, ℤ, pos, ◌-ℤ◌, int_le, List, [], ◌∷◌, ◌++◌, Option, Some, None, option_to_list}
+-- What a row of a chain is found from: where its edges pass or touch a height (half-open even-odd
+-- rule; this project's choice).
+use Rattle.std.specs.Prelude.{Bool, cond, ◌&&◌, ◌||◌, ℤ, pos, ◌-ℤ◌, int_le, List}
+use Rattle.std.specs.Prelude.{[], ◌∷◌, ◌++◌, Option, Some, None, option_to_list}
 use Rattle.std.specs.Ordering.{int_eq}
 use Rattle.std.specs.Int.{int_min, int_max}
 use Rattle.gf_rows.specs.declared.crossing.Crossing.{Crossing}
@@ -32,7 +34,8 @@ abbrev pub contact : ℤ → Edge → Option Span
 contact y (a, b) =
     cond (int_eq a.y y && int_eq b.y y)
     (Some (span_between a.x b.x))
-    (cond (int_eq a.y y) (Some (span_between a.x a.x)) (cond (int_eq b.y y) (Some (span_between b.x b.x)) None))
+    (cond (int_eq a.y y) (Some (span_between a.x a.x))
+    (cond (int_eq b.y y) (Some (span_between b.x b.x)) None))
 
 -- the crossing of an edge that passes the height y
 abbrev pub crossings_of : ℤ → Edge → List Crossing

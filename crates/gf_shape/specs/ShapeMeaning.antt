@@ -1,5 +1,7 @@
--- Which points a shape holds, seen from its place (edges inside, polygons even-odd; this project's choice).
-use Rattle.std.specs.Prelude.{ℕ, ◌*◌, ◌%◌, Bool, ◌&&◌, ◌||◌, List, ◌++◌, zip, drop, take, count_by, pos, ◌+ℤ◌, ◌*ℤ◌, int_le, nat_eq}
+-- Which points a shape holds, seen from its place (edges inside, polygons even-odd; this project's
+-- choice).
+use Rattle.std.specs.Prelude.{ℕ, ◌*◌, ◌%◌, Bool, ◌&&◌, ◌||◌, List, ◌++◌, zip}
+use Rattle.std.specs.Prelude.{drop, take, count_by, pos, ◌+ℤ◌, ◌*ℤ◌, int_le, nat_eq}
 use Rattle.std.specs.List.{list_any}
 use Rattle.gf_shape.specs.declared.point.Point.{Point}
 use Rattle.gf_shape.specs.declared.any_shape.AnyShape.{AnyShape}
@@ -12,7 +14,8 @@ use Rattle.gf_shape.specs.Oblong.{Oblong}
 
 -- a box of this width and height holds d, seen from its least corner
 abbrev pub box_holds : ℕ → ℕ → Point → Bool
-box_holds width height d = int_le (pos 0) d.x && int_le d.x (pos width) && int_le (pos 0) d.y && int_le d.y (pos height)
+box_holds width height d = int_le (pos 0) d.x && int_le d.x (pos width) && int_le (pos 0) d.y
+    && int_le d.y (pos height)
 
 -- a circle of radius r holds d, seen from its centre
 abbrev pub circle_holds : ℕ → Point → Bool
@@ -29,9 +32,11 @@ ellipse_holds rx ry d =
 abbrev pub closed_edges : List Point → List Edge
 closed_edges ps = zip ps (drop 1 ps ++ take 1 ps)
 
--- a polygon holds the points on an edge, and those from which the ray to the right crosses an odd number of edges
+-- a polygon holds the points on an edge, and those from which the ray to the right crosses an odd
+-- number of edges
 abbrev pub polygon_holds : List Point → Point → Bool
-polygon_holds ps d = list_any (is_on_edge d) (closed_edges ps) || nat_eq (count_by (crosses_right d) (closed_edges ps) % 2) 1
+polygon_holds ps d = list_any (is_on_edge d) (closed_edges ps)
+    || nat_eq (count_by (crosses_right d) (closed_edges ps) % 2) 1
 
 -- the box a holds p
 abbrev pub rect_holds : Area → Point → Bool

@@ -1,5 +1,7 @@
--- What happens at one site: a change is made, an operation is offered, or the site steps (this project's choice).
-use Rattle.std.specs.Prelude.{◌≡◌, ◌<◌, ◌≤◌, ℕ, List, [], ◌∷◌, ◌++◌, IsTrue}
+-- What happens at one site: a change is made, an operation is offered, or the site steps (this
+-- project's choice).
+use Rattle.std.specs.Prelude.{◌≡◌, ◌<◌, ◌≤◌, ℕ, List, [], ◌∷◌, ◌++◌}
+use Rattle.std.specs.Prelude.{IsTrue}
 use Rattle.gf_ops.specs.declared.op.Op.{Op}
 use Rattle.gf_ops.specs.declared.op.OpId.{OpId}
 use Rattle.gf_ops.specs.declared.change.Change.{Change}
@@ -22,12 +24,14 @@ pub record IsFit (s : ℕ) (h : List Op) (c : Change) : Type 0 where
   pub room : count_of h s < 10000
   pub in_range : IsTrue (is_change c)
 
--- site s with the history h refuses the change c, for the first of these causes; want of memory may come where it refuses none
+-- site s with the history h refuses the change c, for the first of these causes; want of memory may
+-- come where it refuses none
 abbrev pub Refuses : ℕ → List Op → Change → AuthorFault → Type 0
 Refuses s h c fault.Exhausted = 10000 ≤ count_of h s
 Refuses s h c fault.Range = (count_of h s < 10000) × (¬ (IsTrue (is_change c)))
 Refuses s h c fault.NoObject = IsFit s h c × (¬ (IsFounded h (authored s h c) c))
-Refuses s h c fault.WrongKind = IsFit s h c × IsFounded h (authored s h c) c × (¬ (IsSuited h (authored s h c) c))
+Refuses s h c fault.WrongKind =
+    IsFit s h c × IsFounded h (authored s h c) c × (¬ (IsSuited h (authored s h c) c))
 Refuses s h c fault.BadAim =
     IsFit s h c × IsSuited h (authored s h c) c × (¬ (IsAimed h (authored s h c)))
 Refuses s h c fault.OutOfMemory =
@@ -55,7 +59,8 @@ pub record Applies (old : SiteState) (i : OpId) (new : SiteState) : Type 0 where
   pub accepted : IsAccepted old.ops op
   pub ops : new.ops ≡ old.ops ++ op ∷ []
 
--- the site took out the ready operation with the least id, which has the id i, and forgot it, since its check failed with f
+-- the site took out the ready operation with the least id, which has the id i, and forgot it, since
+-- its check failed with f
 pub record Drops (old : SiteState) (i : OpId) (f : OpFault) (new : SiteState) : Type 0 where
   pub op : Op
   pub id : op.id ≡ i

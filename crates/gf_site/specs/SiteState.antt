@@ -1,4 +1,5 @@
--- A site as its callers see it, and the operation that it makes of a change (this project's choice).
+-- A site as its callers see it, and the operation that it makes of a change (this project's
+-- choice).
 use Rattle.std.specs.Prelude.{ℕ, ◌+◌, List, [], ◌∷◌}
 use Rattle.gf_ops.specs.declared.op.Op.{Op}
 use Rattle.gf_ops.specs.declared.op.Clock.{Clock}
@@ -17,8 +18,16 @@ new_site n = record { number = n; ops = []; held = [] }
 
 -- the clock that counts the operations of h
 abbrev pub clock_of : List Op → Clock
-clock_of h = record { 0 = count_of h 1 ∷ count_of h 2 ∷ count_of h 3 ∷ count_of h 4 ∷ count_of h 5 ∷ count_of h 6 ∷ count_of h 7 ∷ count_of h 8 ∷ [] }
+clock_of h =
+    record {
+      0 = count_of h 1 ∷ count_of h 2 ∷ count_of h 3 ∷ count_of h 4 ∷ count_of h 5
+          ∷ count_of h 6 ∷ count_of h 7 ∷ count_of h 8 ∷ [];
+    }
 
 -- the operation that site s with the history h makes of the change c
 abbrev pub authored : ℕ → List Op → Change → Op
-authored s h c = record { id = record { site = s; seq = count_of h s + 1 }; past = clock_of h; change = c }
+authored s h c = record {
+  id = record { site = s; seq = count_of h s + 1 };
+  past = clock_of h;
+  change = c;
+}

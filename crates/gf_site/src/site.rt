@@ -1,7 +1,7 @@
 //! A site: what one designer has, and what waits there.
 
 ghost use Rattle.std.specs.Prelude.{◌≡◌, ◌≢◌, ◌↔◌, ◌<◌, ◌++◌, ◌∷◌, [], length, IsTrue, Some, Ok};
-ghost use Rattle.std.specs.Prelude.{Err, IfOk, IfErr, OnOk, OnErr};
+ghost use Rattle.std.specs.Prelude.{Err, IfOk, IfErr, OnOk, OnErr, map};
 ghost use Rattle.gf_ops.specs.declared.op.Op.{Op};
 ghost use Rattle.gf_ops.specs.Limits.{is_change, IsInRange};
 ghost use Rattle.gf_ops.specs.OperationOrder.{IsSite, count_of};
@@ -119,6 +119,14 @@ impl Site {
         ensures valid { AreHeld self.now.held }
     {
         self.buffer.held()
+    }
+
+    /// The operations that it holds, rising by id.
+    pub fn held_ops(&self, alloc: Global) -> Result<Vec<&Op>, OutOfMemory>
+        ensures ops { IfOk result (λ ops. map (λ a. a.now) ops.items ≡ self.now.held) }
+        ensures valid { AreHeld self.now.held }
+    {
+        self.buffer.ops(alloc)
     }
 
     /// Makes an operation of the change, adds it to the history, and answers a copy. All memory is

@@ -1,5 +1,6 @@
 -- Where columns meet free ones, and what they leave free. No public clause cites this module.
-use Rattle.std.specs.Prelude.{◌≡◌, ℕ, ◌≤◌, ◌<◌, cond, max, min, nat_lt, List, [], ◌∷◌, ◌++◌, length}
+use Rattle.std.specs.Prelude.{◌≡◌, ℕ, ◌≤◌, ◌<◌, cond, max, min, nat_lt, List, []}
+use Rattle.std.specs.Prelude.{◌∷◌, ◌++◌, length}
 use Rattle.std.specs.Prelude.{Contains, slice_index_or}
 use Rattle.gf_strips.specs.declared.columns.Columns.{Columns}
 
@@ -17,13 +18,15 @@ left_of c g = cond (nat_lt (max c.from g.from) (min c.to g.to))
 pub record IsFirstBehind (n : ℕ) (gs : List Columns) (i : ℕ) : Type 0 where
   pub bound : i ≤ length gs
   pub below : (k : ℕ) (d : Columns) → k < i → (slice_index_or gs k d).to ≤ n
-  pub above : (k : ℕ) (d : Columns) → i ≤ k → k < length gs → n < (slice_index_or gs k d).to
+  pub above : (k : ℕ) (d : Columns) → i ≤ k → k < length gs
+      → n < (slice_index_or gs k d).to
 
 -- the first i of the columns begin before the column n, and no other one does
 pub record IsFirstFrom (n : ℕ) (gs : List Columns) (i : ℕ) : Type 0 where
   pub bound : i ≤ length gs
   pub below : (k : ℕ) (d : Columns) → k < i → (slice_index_or gs k d).from < n
-  pub above : (k : ℕ) (d : Columns) → i ≤ k → k < length gs → n ≤ (slice_index_or gs k d).from
+  pub above : (k : ℕ) (d : Columns) → i ≤ k → k < length gs
+      → n ≤ (slice_index_or gs k d).from
 
 -- the columns gs are some that end before c, some others, and some that begin behind c
 pub record IsParted (c : Columns) (gs before met behind : List Columns) : Type 0 where

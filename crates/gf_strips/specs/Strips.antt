@@ -1,5 +1,7 @@
--- Some columns of a row, painted from the front to the back: each once, while it is free (this project's choice).
-use Rattle.std.specs.Prelude.{ℕ, ◌*◌, ◌≤◌, ◌≡◌, ◌<◌, Bool, false, ◌&&◌, nat_le, nat_lt, if◌then◌else◌}
+-- Some columns of a row, painted from the front to the back: each once, while it is free (this
+-- project's choice).
+use Rattle.std.specs.Prelude.{ℕ, ◌*◌, ◌≤◌, ◌≡◌, ◌<◌, Bool, false, ◌&&◌}
+use Rattle.std.specs.Prelude.{nat_le, nat_lt, if◌then◌else◌}
 use Rattle.std.specs.Prelude.{List, [], ◌∷◌, Contains, ⊤}
 use Rattle.std.specs.List.{list_any}
 use Rattle.gf_shape.specs.declared.colour.Rgb.{Rgb}
@@ -29,7 +31,8 @@ AreSameOutside c n f g = (k : ℕ) → k < n → is_among c k ≡ false → f k 
 -- each of the lists of columns has some, and they rise: each ends before the next ones begin
 abbrev pub AreRising : List Columns → Type 0
 AreRising [] = ⊤
-AreRising (c ∷ cs) = (c.from < c.to) × ((d : Columns) → Contains cs d → c.to ≤ d.from) × AreRising cs
+AreRising (c ∷ cs) = (c.from < c.to) × ((d : Columns) → Contains cs d → c.to ≤ d.from)
+    × AreRising cs
 
 -- the columns lie within a row of so many bytes
 abbrev pub Fits : ℕ → Columns → Type 0
@@ -44,4 +47,5 @@ pub record Shown : Type 0 where
 pub record IsPainted (target behind : ℕ → Rgb) (n : ℕ) (strip : Shown) : Type 0 where
   pub now : ℕ → Rgb
   pub bytes : strip.bytes ≡ pixels now 0 n
-  pub shows : (k : ℕ) → k < n → target k ≡ (if is_free strip.free k then behind k else now k)
+  pub shows : (k : ℕ) → k < n → target k ≡ (if is_free strip.free k then behind k
+      else now k)

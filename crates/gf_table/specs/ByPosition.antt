@@ -1,4 +1,5 @@
--- Components of numbers as components of what a function makes of these numbers, as of positions in a history.
+-- Components of numbers as components of what a function makes of these numbers, as of positions in
+-- a history.
 use Rattle.std.specs.Prelude.{ℕ, List, map, Option, option_map}
 use Rattle.gf_maximal.specs.Growing.{image}
 use Rattle.gf_components.specs.Components.{ComponentState, ComponentsState}

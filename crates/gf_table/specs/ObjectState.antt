@@ -1,4 +1,5 @@
--- What the table has of one object: its setters by attribute and site and by value, what aims, its components, and where its creation stands.
+-- What the table has of one object: its setters by attribute and site and by value, what aims, its
+-- components, and where its creation stands.
 use Rattle.std.specs.Prelude.{ℕ, ◌-◌, ◌*◌, Bool, List, [], None, Option, unwrap_or}
 use Rattle.gf_ops.specs.declared.op.Op.{Op}
 use Rattle.gf_ops.specs.declared.op.OpId.{OpId}
@@ -32,7 +33,8 @@ made m = record {
   maker = m;
 }
 
--- with a setter of the attribute u under the id, at the position p and with the number n, which has the rivals d
+-- with a setter of the attribute u under the id, at the position p and with the number n, which has
+-- the rivals d
 abbrev pub with_grown : Attr → OpId → ℕ → ℕ → List ℕ → ObjectState → ObjectState
 with_grown u id p n d t = record {
   chains = with_setter t.chains u (id.site - 1) (record { seq = id.seq; position = p });

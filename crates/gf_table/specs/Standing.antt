@@ -1,5 +1,7 @@
--- When a table stands for a history: for each object it has the chains of its setters and the components of its operations.
-use Rattle.std.specs.Prelude.{◌≡◌, ◌≢◌, ◌↔◌, ◌⊎◌, ℕ, Bool, List, [], ◌∷◌, ◌++◌, AllPairs, Contains, length, Option, Some, None}
+-- When a table stands for a history: for each object it has the chains of its setters and the
+-- components of its operations.
+use Rattle.std.specs.Prelude.{◌≡◌, ◌≢◌, ◌↔◌, ◌⊎◌, ℕ, Bool, List, []}
+use Rattle.std.specs.Prelude.{◌∷◌, ◌++◌, AllPairs, Contains, length, Option, Some, None}
 use Rattle.std.specs.Prelude.{IfSome, slice_get, unwrap_or}
 use Rattle.std.specs.BTreeMap.{is_at}
 use Rattle.std.specs.List.{fold}
@@ -18,7 +20,8 @@ use Rattle.gf_groups.specs.Growing.{conflict_at, groups_at}
 use Rattle.gf_groups.specs.GroupedPositions.{positions_below}
 use Rattle.gf_groups.specs.Parting.{object_cmp}
 use Rattle.gf_groups.specs.Versions.{IsVersionGroup}
-use Rattle.gf_components.specs.Components.{ComponentState, ComponentsState, IsReached, products, whole}
+use Rattle.gf_components.specs.Components.{ComponentState, ComponentsState, IsReached, products}
+use Rattle.gf_components.specs.Components.{whole}
 use Rattle.gf_components.specs.Separate.{AreComponents}
 use Rattle.gf_rivals.specs.Aimed.{AimedState, AreAimed, Clash}
 use Rattle.gf_rivals.specs.Indexes.{IsIndex}
@@ -40,7 +43,8 @@ pub record IsStateOf (h : List Op) (o : ObjectId) (t : ObjectState) : Type 0 whe
   pub index : IfSome t.index (IsIndex h t.chains)
   pub aimed : AreAimed h t.chains t.aimed
   pub components : AreComponents (number_conflict h t) t.components
-  pub exactly : (n : ℕ) → Contains (whole t.components).all n ↔ ((n ≡ maker_number) ⊎ ((q : ℕ) × IsNumber t.chains n q))
+  pub exactly : (n : ℕ) → Contains (whole t.components).all n
+      ↔ ((n ≡ maker_number) ⊎ ((q : ℕ) × IsNumber t.chains n q))
 
 -- a comes next behind h, and gives the object of the state t the value v
 pub record IsNextOf (h : List Op) (a : Op) (v : Value) (t : ObjectState) : Type 0 where
@@ -52,7 +56,8 @@ pub record IsNextOf (h : List Op) (a : Op) (v : Value) (t : ObjectState) : Type 
   pub change : a.change ≡ Set object v aim
   pub state : IsStateOf h object t
 
--- a setter with one of the numbers us conflicts directly with that with the number n, in one component
+-- a setter with one of the numbers us conflicts directly with that with the number n, in one
+-- component
 pub record IsMetByAim (h : List Op) (t : ObjectState) (us : List ℕ) (n : ℕ) : Type 0 where
   pub reached : IsReached us t.components.parts n
   pub one : ℕ

@@ -10,7 +10,9 @@ use Rattle.gf_versions.specs.declared.key.VersionKey.{VersionKey}
 
 -- by layer, then by the object's id, then by the ids of the operations as a dictionary orders them
 abbrev pub key_cmp : VersionKey → VersionKey → Ordering
-key_cmp k l = ordering_then (nat_cmp k.layer l.layer) (ordering_then (id_cmp k.object.0 l.object.0) (slice_cmp id_cmp k.ops l.ops))
+key_cmp k l =
+    ordering_then (nat_cmp k.layer l.layer)
+    (ordering_then (id_cmp k.object.0 l.object.0) (slice_cmp id_cmp k.ops l.ops))
 
 -- the version with key k is above that with key l
 abbrev pub IsAbove : VersionKey → VersionKey → Type 0

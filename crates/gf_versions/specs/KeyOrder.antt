@@ -7,4 +7,5 @@ use Rattle.gf_versions.specs.Above.{key_cmp}
 
 pub key_cmp_total : IsTotalOrder key_cmp
 key_cmp_total = then_total (on_total (λ (k : VersionKey). k.layer) nat_cmp_total)
-    (then_total (on_total (λ (k : VersionKey). k.object.0) id_cmp_total) (on_total (λ (k : VersionKey). k.ops) (lists_total id_cmp_total)))
+    (then_total (on_total (λ (k : VersionKey). k.object.0) id_cmp_total)
+    (on_total (λ (k : VersionKey). k.ops) (lists_total id_cmp_total)))

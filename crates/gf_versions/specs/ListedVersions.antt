@@ -18,7 +18,8 @@ abbrev pub shown_of : List Version → List Version
 shown_of vs = filter (λ v. v.shown) vs
 
 -- the items are the versions of h with these groups that are shown, at their places
-pub record AreShown (h : List Op) (groups : List Group) (items : List (Placed AnyShape)) : Type 0 where
+pub record AreShown (h : List Op) (groups : List Group)
+    (items : List (Placed AnyShape)) : Type 0 where
   pub versions : List Version
   pub settled : AreSettled h groups versions
   pub placed : items ≡ map placed_version (shown_of versions)

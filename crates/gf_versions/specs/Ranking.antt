@@ -1,5 +1,6 @@
 -- The visible versions of a history in their order (this project's choice).
-use Rattle.std.specs.Prelude.{◌≡◌, Bool, pos, List, AllPairs, Contains, ◌↔◌, find, option_map, unwrap_or}
+use Rattle.std.specs.Prelude.{◌≡◌, Bool, pos, List, AllPairs, Contains, ◌↔◌, find}
+use Rattle.std.specs.Prelude.{option_map, unwrap_or}
 use Rattle.gf_shape.specs.declared.point.Point.{Point}
 use Rattle.gf_shape.specs.declared.colour.Rgb.{Rgb}
 use Rattle.gf_shape.specs.declared.any_shape.AnyShape.{AnyShape}
@@ -56,11 +57,16 @@ pub record IsPlacedOf (h : List Op) (groups : List Group) (i : Placed AnyShape) 
   pub grouped : Contains groups (group_of version)
   pub placed : i ≡ placed_version version
 
--- the items are the visible versions of h with these groups at their places, each above those after it
-pub record AreRankedOf (h : List Op) (groups : List Group) (items : List (Placed AnyShape)) : Type 0 where
+-- the items are the visible versions of h with these groups at their places, each above those after
+-- it
+pub record AreRankedOf (h : List Op) (groups : List Group)
+    (items : List (Placed AnyShape)) : Type 0 where
   pub exactly : (i : Placed AnyShape) → IsPlacedOf h groups i ↔ Contains items i
   pub falling : AllPairs (λ i j. IsAbove i.key j.key) items
 
 -- the colour of the first item whose shape holds p, or white
-abbrev pub first_colour : {S : Type 0} → (S → Point → Bool) → List (Placed S) → Point → Rgb
-first_colour {S} holds items p = unwrap_or (option_map (λ (i : Placed S). i.colour) (find (λ (i : Placed S). holds i.shape p) items)) white
+abbrev pub first_colour : {S : Type 0} → (S → Point → Bool) → List (Placed S) → Point
+    → Rgb
+first_colour {S} holds items p =
+    unwrap_or (option_map (λ (i : Placed S). i.colour)
+    (find (λ (i : Placed S). holds i.shape p) items)) white

@@ -6,7 +6,8 @@ use Rattle.gf_ops.specs.declared.op.ObjectId.{ObjectId}
 use Rattle.gf_ops.specs.declared.change.Attr.{Attr}
 use Rattle.gf_ops.specs.declared.change.Attr.TheVariants.{Place, Points, Size, Colour, Layer, Shown}
 use Rattle.gf_ops.specs.declared.change.Form.{Form}
-use Rattle.gf_ops.specs.Attribute.{Kind, Box, Circle, Ellipse, Polygon, form_attribute, form_value, value_given, kind_of}
+use Rattle.gf_ops.specs.Attribute.{Kind, Box, Circle, Ellipse, Polygon, form_attribute, form_value}
+use Rattle.gf_ops.specs.Attribute.{value_given, kind_of}
 use Rattle.gf_ops.specs.OperationOrder.{Precedes}
 use Rattle.gf_ops.specs.SettledValue.{IsSettled}
 use Rattle.gf_ops.specs.Version.{IsMember, IsOfKind}

@@ -1,4 +1,5 @@
--- A version of a history with its settled values (Sun and Chen's multi-versioning, ACM TOCHI 9(1), 2002).
+-- A version of a history with its settled values (Sun and Chen's multi-versioning, ACM TOCHI 9(1),
+-- 2002).
 use Rattle.std.specs.Prelude.{List}
 use Rattle.gf_ops.specs.declared.op.Op.{Op}
 use Rattle.gf_ops.specs.declared.change.Attr.TheVariants.{Place, Colour, Layer, Shown}

@@ -9,7 +9,7 @@ use gf_ops::{Attr, Change, Form, Op, Points, Value};
 use gf_shape::{Point, Rgb};
 
 /// Whether the operation gives the attribute a value.
-pub(crate) fn sets(op: &Op, attribute: Attr) -> bool
+pub fn sets(op: &Op, attribute: Attr) -> bool
     ensures { result ≡ is_some (value_given op.now attribute) }
 {
     match &op.change {

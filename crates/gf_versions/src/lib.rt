@@ -3,6 +3,7 @@
 //! - [`Version`] with its [`VersionKey`]: what an object looks like in one group of compatible
 //!   operations.
 //! - [`Ranked`], a list of [`Placed`]: the visible versions, topmost first.
+//! - [`sets`]: whether an operation gives an attribute a value.
 //! - [`settle`]: makes the version of a group; [`ranked`]: makes that list; [`ranked_of`]: that of
 //!   some groups.
 //! - [`a_version_settles_each_attribute_once`], [`versions_are_in_a_total_order`],
@@ -18,6 +19,7 @@ mod ranking;
 mod settling;
 mod shaping;
 
+pub use giving::sets;
 pub use key::{Version, VersionKey};
 pub use laws::{
     a_version_settles_each_attribute_once, one_colour_at_a_point, the_first_that_holds_is_on_top,

@@ -10,7 +10,8 @@ use Rattle.gf_components.specs.Components.{ComponentState, ComponentsState, prod
 use Rattle.gf_visible.specs.ShownAt.{sets_at, later_at}
 
 -- each of gs with each of the others, if the others are kept and the products are at most m
-abbrev pub at_most : ℕ → List (List ℕ) → Option (List (List ℕ)) → Option (List (List ℕ))
+abbrev pub at_most : ℕ → List (List ℕ) → Option (List (List ℕ))
+    → Option (List (List ℕ))
 at_most m gs (Some ks) = cond (nat_le (length gs * length ks) m) (Some (products gs ks)) None
 at_most m gs None = None
 
@@ -49,6 +50,7 @@ module _ (h : List Op) where
   idle ls s = record { free = without ls s.free; parts = filter (λ p. not (decides ls p)) s.parts }
 
   -- the versions with one of gs, if they are at most m: none where there is none of these
-  abbrev pub with_idle : ℕ → List ℕ → ComponentsState → List (List ℕ) → Option (List (List ℕ))
+  abbrev pub with_idle : ℕ → List ℕ → ComponentsState → List (List ℕ)
+      → Option (List (List ℕ))
   with_idle m ls s [] = Some []
   with_idle m ls s (g ∷ gs) = at_most m (g ∷ gs) (whole (idle ls s)).sets

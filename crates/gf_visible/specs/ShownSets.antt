@@ -1,5 +1,7 @@
--- The largest compatible sets of positions that show, listed unless they are too many. No public clause cites this module.
-use Rattle.std.specs.Prelude.{◌≡◌, ◌≢◌, ◌↔◌, ℕ, ◌<◌, ◌≤◌, true, false, List, AllPairs, Contains}
+-- The largest compatible sets of positions that show, listed unless they are too many. No public
+-- clause cites this module.
+use Rattle.std.specs.Prelude.{◌≡◌, ◌≢◌, ◌↔◌, ℕ, ◌<◌, ◌≤◌, true, false}
+use Rattle.std.specs.Prelude.{List, AllPairs, Contains}
 use Rattle.std.specs.Prelude.{length, Option, Some, None}
 use Rattle.gf_ops.specs.declared.op.Op.{Op}
 use Rattle.gf_groups.specs.Growing.{conflict_at}

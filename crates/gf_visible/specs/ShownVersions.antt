@@ -1,5 +1,7 @@
--- The groups of the visible versions, and histories with more visible versions than a bound (this project's choice).
-use Rattle.std.specs.Prelude.{◌≡◌, ◌≢◌, ◌↔◌, ℕ, ◌<◌, List, AllPairs, Contains, length}
+-- The groups of the visible versions, and histories with more visible versions than a bound (this
+-- project's choice).
+use Rattle.std.specs.Prelude.{◌≡◌, ◌≢◌, ◌↔◌, ℕ, ◌<◌, List, AllPairs}
+use Rattle.std.specs.Prelude.{Contains, length}
 use Rattle.gf_shape.specs.declared.any_shape.AnyShape.{AnyShape}
 use Rattle.gf_ops.specs.declared.op.Op.{Op}
 use Rattle.gf_ops.specs.declared.op.ObjectId.{ObjectId}

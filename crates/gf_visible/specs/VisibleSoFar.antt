@@ -1,4 +1,5 @@
--- The groups of the visible versions of some objects, gathered unless they are too many. No public clause cites this module.
+-- The groups of the visible versions of some objects, gathered unless they are too many. No public
+-- clause cites this module.
 use Rattle.std.specs.Prelude.{◌≢◌, ℕ, ◌<◌, ◌≤◌, List, AllPairs, Contains, length}
 use Rattle.std.specs.Prelude.{Option, Some, None}
 use Rattle.gf_ops.specs.declared.op.Op.{Op}

@@ -11,7 +11,7 @@ use gf_ops::History;
 use gf_shape::OutOfMemory;
 use std::alloc::Global;
 
-/// Those of the last setters so far that the position does not come after, and the position.
+/// The last setters so far that the position does not come after, and the position.
 fn taken(
     alloc: Global,
     history: &History,

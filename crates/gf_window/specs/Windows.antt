@@ -1,8 +1,10 @@
 -- Windows and their sample points (this project's choice).
-use Rattle.std.specs.Prelude.{ℕ, ◌*◌, Bool, ◌&&◌, nat_le, ℤ, pos, negsuc, ◌+ℤ◌, int_le}
+use Rattle.std.specs.Prelude.{ℕ, ◌*◌, Bool, ◌&&◌, nat_le, ℤ, pos, negsuc, ◌+ℤ◌}
+use Rattle.std.specs.Prelude.{int_le}
 use Rattle.gf_shape.specs.declared.point.Point.{Point}
 
--- what part of the plane a picture shows: the first point of its first row, how far its points are apart, how many columns and rows it has
+-- what part of the plane a picture shows: the first point of its first row, how far its points are
+-- apart, how many columns and rows it has
 pub record View : Type 0 where
   pub x : ℤ
   pub y : ℤ

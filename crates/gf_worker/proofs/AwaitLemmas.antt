@@ -3,8 +3,8 @@ use Rattle.std.proofs.Common.{◌≡◌, ◌+◌, ℕ, Bool, true, false, List, 
 use Rattle.std.specs.Prelude.{Contains, Option, Some, not}
 use Rattle.std.proofs.lemmas.List.Elements.{Contains-push_cases}
 use Rattle.gf_ops.specs.declared.op.OpId.{OpId}
-use Rattle.gf_json.specs.declared.script_line.Command.{Command}
-use Rattle.gf_json.specs.declared.script_line.Command.TheVariants.{Await}
+use Rattle.gf_json.specs.declared.scripts.Command.{Command}
+use Rattle.gf_json.specs.declared.scripts.Command.TheVariants.{Await}
 use Rattle.gf_worker.specs.declared.report.Cause.{Cause}
 use Rattle.gf_worker.specs.declared.report.Cause.TheVariants.{NeverComes}
 use Rattle.gf_worker.specs.declared.report.Report.{Report}

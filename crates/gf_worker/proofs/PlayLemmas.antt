@@ -9,8 +9,8 @@ use Rattle.std.proofs.lemmas.List.Quantifiers.{all_pairs_push}
 use Rattle.gf_ops.specs.declared.op.Op.{Op}
 use Rattle.gf_ops.specs.declared.change.Change.{Change}
 use Rattle.gf_ops.specs.OperationOrder.{count_of}
-use Rattle.gf_json.specs.declared.script_line.Command.{Command}
-use Rattle.gf_json.specs.declared.script_line.Command.TheVariants.{Author}
+use Rattle.gf_json.specs.declared.scripts.Command.{Command}
+use Rattle.gf_json.specs.declared.scripts.Command.TheVariants.{Author}
 use Rattle.gf_site.specs.SiteState.{authored}
 use Rattle.gf_worker.proofs.TurnLemmas.{own_same, turn_more, nothing_push}
 use Rattle.gf_worker.specs.declared.report.Cause.{Cause}

@@ -21,7 +21,7 @@ use Rattle.gf_site.specs.declared.site.Step.TheVariants as step
 use Rattle.gf_causal.proofs.PartLemmas.{part_accepts}
 use Rattle.gf_site.proofs.CourseLemmas.{all_ready, course_ready}
 use Rattle.gf_site.proofs.StepLemmas.{founded}
-use Rattle.gf_json.specs.declared.script_line.Command.{Command}
+use Rattle.gf_json.specs.declared.scripts.Command.{Command}
 use Rattle.gf_worker.specs.declared.work.Work.{Work}
 use Rattle.gf_worker.specs.Coming.{HasCome}
 use Rattle.gf_worker.specs.Working.{Gathers, IsUnderway, Continues, goes_on}

@@ -12,8 +12,8 @@ use Rattle.gf_link.specs.declared.message.Message.{Message}
 use Rattle.gf_link.specs.declared.message.Message.TheVariants as message
 use Rattle.gf_link.specs.Ends.{is_ended}
 use Rattle.gf_link.specs.Seats.{TakeSide, SendSide}
-use Rattle.gf_json.specs.declared.script_line.Command.{Command}
-use Rattle.gf_json.specs.declared.script_line.Command.TheVariants.{Author, Await}
+use Rattle.gf_json.specs.declared.scripts.Command.{Command}
+use Rattle.gf_json.specs.declared.scripts.Command.TheVariants.{Author, Await}
 use Rattle.gf_worker.specs.declared.report.Cause.{Cause}
 use Rattle.gf_worker.specs.declared.report.Report.{Report}
 use Rattle.gf_worker.specs.declared.peer.Peer.{Peer}

@@ -1,12 +1,13 @@
 -- What the worker of a site has sent, taken and played when it returns (this project's choice).
-use Rattle.std.specs.Prelude.{◌≡◌, ◌≢◌, ℕ, Bool, true, false, List, [], ◌∷◌, ◌++◌, map, Contains, IsTrue}
+use Rattle.std.specs.Prelude.{◌≡◌, ◌≢◌, ℕ, Bool, true, false, List, [], ◌∷◌}
+use Rattle.std.specs.Prelude.{◌++◌, map, Contains, IsTrue}
 use Rattle.gf_ops.specs.declared.op.Op.{Op}
 use Rattle.gf_ops.specs.ValidHistory.{IsValid}
 use Rattle.gf_link.specs.Ends.{is_ended}
 use Rattle.gf_causal.specs.Ready.{NoneIsReady}
 use Rattle.gf_site.specs.Course.{IsCourse}
 use Rattle.gf_site.specs.SiteState.{SiteState}
-use Rattle.gf_json.specs.declared.script_line.Command.{Command}
+use Rattle.gf_json.specs.declared.scripts.Command.{Command}
 use Rattle.gf_worker.specs.declared.peer.Peer.{Peer}
 use Rattle.gf_worker.specs.declared.worker.WorkerEnd.{WorkerEnd}
 use Rattle.gf_worker.specs.Messages.{own, told, last_message}
@@ -33,7 +34,8 @@ pub record HasPlayed (script : List Command) (e : WorkerEnd) : Type 0 where
   pub played : IsPlayed e.site.number done e.site.ops e.report
 
 -- what site s has done with its script and these peers: all of it, unless memory was refused to it
-pub record HasWorked (s : ℕ) (script : List Command) (peers : List Peer) (e : WorkerEnd) : Type 0 where
+pub record HasWorked (s : ℕ) (script : List Command) (peers : List Peer)
+    (e : WorkerEnd) : Type 0 where
   pub number : e.site.number ≡ s
   pub seats : map seat_of e.seats.items ≡ map seat_of peers
   pub sent : (p : Peer) → Contains e.seats.items p → HasSent (own s e.site.ops) e.short p
@@ -43,7 +45,8 @@ pub record HasWorked (s : ℕ) (script : List Command) (peers : List Peer) (e : 
   pub played : HasPlayed script e
   pub has : (a : Op) → Contains e.site.ops a → a.id.site ≢ s → HasCome e.seats.items a
   pub idle : e.short ≡ false → NoneIsReady e.site.ops e.site.held
-  pub all : e.short ≡ false → (h : List Op) → IsJust h e.site.ops e.seats.items → AreForeign s e.seats.items
+  pub all : e.short ≡ false → (h : List Op) → IsJust h e.site.ops e.seats.items
+      → AreForeign s e.seats.items
       → (a : Op) → Contains h a → Contains e.site.ops a
 
 -- what was done for a site that ran nothing: each peer was sent Stop, and the site is as it was

@@ -1,4 +1,5 @@
--- What a site sends to another: the operations that it makes, in their order, and then one end (this project's choice).
+-- What a site sends to another: the operations that it makes, in their order, and then one end
+-- (this project's choice).
 use Rattle.std.specs.Prelude.{◌==◌, ℕ, Bool, true, false, List, [], ◌∷◌, map}
 use Rattle.std.specs.List.{flat_map, filter}
 use Rattle.gf_ops.specs.declared.op.Op.{Op}

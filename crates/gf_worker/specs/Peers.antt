@@ -1,5 +1,7 @@
--- The other sites of a session as one of them sees them: for each the places of two links in a table, and the seats there (this project's choice).
-use Rattle.std.specs.Prelude.{◌≡◌, ℕ, Bool, List, [], ◌∷◌, ◌++◌, Contains, Some, slice_get}
+-- The other sites of a session as one of them sees them: for each the places of two links in a
+-- table, and the seats there (this project's choice).
+use Rattle.std.specs.Prelude.{◌≡◌, ℕ, Bool, List, [], ◌∷◌, ◌++◌, Contains, Some}
+use Rattle.std.specs.Prelude.{slice_get}
 use Rattle.std.specs.List.{list_all}
 use Rattle.atomic_table.specs.Seated.{TableId}
 use Rattle.gf_link.specs.declared.message.Message.{Message}

@@ -1,13 +1,16 @@
--- What the commands of one site came to: a turn for each, in its list and in its report (this project's choice).
+-- What the commands of one site came to: a turn for each, in its list and in its report (this
+-- project's choice).
 use Rattle.std.specs.Prelude.{◌≡◌, ℕ, ◌≤◌, List, length, map, Contains, AllPairs}
 use Rattle.gf_ops.specs.declared.op.Op.{Op}
-use Rattle.gf_json.specs.declared.script_line.Command.{Command}
+use Rattle.gf_json.specs.declared.scripts.Command.{Command}
 use Rattle.gf_worker.specs.declared.report.Report.{Report}
 use Rattle.gf_worker.specs.Messages.{own}
 use Rattle.gf_worker.specs.Turns.{Turn, IsTurn, AreCounted, accepted_changes, refusals}
 
--- each command of site s has its turn, in order; the operations of s in the list and its report are what these came to
-pub record IsPlayed (s : ℕ) (commands : List Command) (ops : List Op) (report : Report) : Type 0 where
+-- each command of site s has its turn, in order; the operations of s in the list and its report are
+-- what these came to
+pub record IsPlayed (s : ℕ) (commands : List Command) (ops : List Op)
+    (report : Report) : Type 0 where
   pub turns : List Turn
   pub each : map (λ t. t.command) turns ≡ commands
   pub right : (t : Turn) → Contains turns t → IsTurn s ops t

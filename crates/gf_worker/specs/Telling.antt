@@ -1,5 +1,6 @@
 -- What a sending to all peers changes. No public clause cites this module.
-use Rattle.std.specs.Prelude.{◌≡◌, ◌<◌, ◌≤◌, ℕ, Bool, true, List, ◌++◌, map, take, drop, length, Contains, IsFalse}
+use Rattle.std.specs.Prelude.{◌≡◌, ◌<◌, ◌≤◌, ℕ, Bool, true, List, ◌++◌, map}
+use Rattle.std.specs.Prelude.{take, drop, length, Contains, IsFalse}
 use Rattle.gf_ops.specs.declared.op.Op.{Op}
 use Rattle.gf_link.specs.Ends.{is_ended}
 use Rattle.gf_link.specs.declared.message.Message.TheVariants as message

@@ -1,5 +1,7 @@
--- What became of each command of a site's script, and what the site had then (this project's choice).
-use Rattle.std.specs.Prelude.{◌≡◌, ◌≢◌, ℕ, ◌+◌, List, [], ◌∷◌, ◌++◌, length, Contains, Option, Some, None, IsTrue, ⊤}
+-- What became of each command of a site's script, and what the site had then (this project's
+-- choice).
+use Rattle.std.specs.Prelude.{◌≡◌, ◌≢◌, ℕ, ◌+◌, List, [], ◌∷◌, ◌++◌}
+use Rattle.std.specs.Prelude.{length, Contains, Option, Some, None, IsTrue, ⊤}
 use Rattle.std.specs.List.{flat_map}
 use Rattle.gf_ops.specs.declared.op.Op.{Op}
 use Rattle.gf_ops.specs.declared.op.OpId.{OpId}
@@ -10,8 +12,8 @@ use Rattle.gf_causal.specs.HeldOperations.{IsFree}
 use Rattle.gf_site.specs.SiteState.{authored}
 use Rattle.gf_site.specs.Events.{Refuses}
 use Rattle.gf_site.specs.declared.faults.AuthorFault.TheVariants as fault
-use Rattle.gf_json.specs.declared.script_line.Command.{Command}
-use Rattle.gf_json.specs.declared.script_line.Command.TheVariants.{Author, Await}
+use Rattle.gf_json.specs.declared.scripts.Command.{Command}
+use Rattle.gf_json.specs.declared.scripts.Command.TheVariants.{Author, Await}
 use Rattle.gf_worker.specs.declared.report.Cause.{Cause}
 use Rattle.gf_worker.specs.declared.report.Cause.TheVariants as cause
 use Rattle.gf_worker.specs.declared.report.Refused.{Refused}
@@ -59,7 +61,8 @@ abbrev pub AwaitAnswer : ℕ → List Op → List Op → OpId → Option Cause �
 AwaitAnswer s before later i None = IsTrue (is_id i) × (i.site ≢ s) × HasOp before i
 AwaitAnswer s before later i (Some cause.Range) = ¬ (IsTrue (is_id i))
 AwaitAnswer s before later i (Some cause.OwnId) = IsTrue (is_id i) × (i.site ≡ s)
-AwaitAnswer s before later i (Some cause.NeverComes) = IsTrue (is_id i) × (i.site ≢ s) × IsFree before i × NothingComes s later
+AwaitAnswer s before later i (Some cause.NeverComes) =
+    IsTrue (is_id i) × (i.site ≢ s) × IsFree before i × NothingComes s later
 AwaitAnswer s before later i r = ⊥
 
 -- the answer to a command behind the operations before it, where these later ones follow
@@ -92,7 +95,9 @@ abbrev pub refusals : ℕ → List Turn → List Refused
 refusals n [] = []
 refusals n (t ∷ ts) = refusal_of n t.refusal ++ refusals (n + 1) ts
 
--- each turn has before it the operations accepted earlier, n at first, and none of site s accepted later
+-- each turn has before it the operations accepted earlier, n at first, and none of site s accepted
+-- later
 abbrev pub AreCounted : ℕ → ℕ → List Turn → Type 0
 AreCounted s n [] = ⊤
-AreCounted s n (t ∷ ts) = (count_of t.before s ≡ n) × AreCounted s (n + length (accepted_change t.command t.refusal)) ts
+AreCounted s n (t ∷ ts) = (count_of t.before s ≡ n)
+    × AreCounted s (n + length (accepted_change t.command t.refusal)) ts

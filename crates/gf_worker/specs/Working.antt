@@ -1,5 +1,6 @@
 -- What holds of a worker while it runs. No public clause cites this module.
-use Rattle.std.specs.Prelude.{◌≡◌, ◌≢◌, ◌⊎◌, ℕ, Bool, true, false, List, [], ◌++◌, map, Contains, Some, IsTrue, Option, Result, Err}
+use Rattle.std.specs.Prelude.{◌≡◌, ◌≢◌, ◌⊎◌, ℕ, Bool, true, false, List, []}
+use Rattle.std.specs.Prelude.{◌++◌, map, Contains, Some, IsTrue, Option, Result, Err}
 use Rattle.atomic_table.specs.Seated.{TableId}
 use Rattle.gf_ops.specs.declared.op.Op.{Op}
 use Rattle.gf_causal.specs.Ready.{NoneIsReady}
@@ -13,7 +14,7 @@ use Rattle.gf_causal.specs.DeliveredPart.{AreReady}
 use Rattle.gf_site.specs.Course.{IsCourse}
 use Rattle.gf_site.specs.declared.site.Step.{Step}
 use Rattle.gf_site.specs.declared.site.Step.TheVariants as step
-use Rattle.gf_json.specs.declared.script_line.Command.{Command}
+use Rattle.gf_json.specs.declared.scripts.Command.{Command}
 use Rattle.gf_worker.specs.declared.report.Cause.TheVariants.{NeverComes}
 use Rattle.gf_worker.specs.declared.peer.Peer.{Peer}
 use Rattle.gf_worker.specs.declared.work.Work.{Work}
@@ -26,14 +27,19 @@ use Rattle.gf_worker.specs.Played.{IsPlayed}
 use Rattle.gf_worker.specs.declared.report.Cause.{Cause}
 use Rattle.gf_worker.specs.Turns.{Turn, HasOp, AwaitAnswer}
 
--- what the site has and holds of other sites came, and unless it is short it has or holds what came, as far as that is a valid history with what it made
+-- what the site has and holds of other sites came, and unless it is short it has or holds what
+-- came, as far as that is a valid history with what it made
 pub record Gathers (w : Work) : Type 0 where
-  pub has : (a : Op) → Contains w.site.ops a → a.id.site ≢ w.site.number → HasCome w.peers.items a
-  pub holds : (a : Op) → Contains w.site.held a → (a.id.site ≢ w.site.number) × HasCome w.peers.items a
-  pub keeps : w.short ≡ false → (h : List Op) → IsWhole h w.site.ops w.peers.items → (a : Op) → HasCome w.peers.items a → a.id.site ≢ w.site.number
+  pub has : (a : Op) → Contains w.site.ops a → a.id.site ≢ w.site.number
+      → HasCome w.peers.items a
+  pub holds : (a : Op) → Contains w.site.held a
+      → (a.id.site ≢ w.site.number) × HasCome w.peers.items a
+  pub keeps : w.short ≡ false → (h : List Op) → IsWhole h w.site.ops w.peers.items
+      → (a : Op) → HasCome w.peers.items a → a.id.site ≢ w.site.number
       → Contains w.site.ops a ⊎ Contains w.site.held a
 
--- where a command was refused as one whose operation never comes, nothing more comes, and of what is held nothing was ready then
+-- where a command was refused as one whose operation never comes, nothing more comes, and of what
+-- is held nothing was ready then
 pub record IsSilent (w : Work) (t : Turn) : Type 0 where
   pub ended : IsTrue (all_ended w.peers.items)
   pub none : NoneIsReady t.before w.site.held
@@ -43,7 +49,8 @@ pub record IsSilent (w : Work) (t : Turn) : Type 0 where
 pub record IsUnderway (commands : List Command) (w : Work) : Type 0 where
   pub course : IsCourse w.site.number w.site.ops
   pub played : IsPlayed w.site.number commands w.site.ops w.report
-  pub silent : (t : Turn) → Contains played.turns t → t.refusal ≡ Some NeverComes → IsSilent w t
+  pub silent : (t : Turn) → Contains played.turns t → t.refusal ≡ Some NeverComes
+      → IsSilent w t
 
 -- the peer was told what the site made, or if it is short the first of it
 pub record IsTold (ops : List Op) (short : Bool) (p : Peer) : Type 0 where
@@ -55,23 +62,28 @@ pub record IsTold (ops : List Op) (short : Bool) (p : Peer) : Type 0 where
 
 -- each peer of the worker was told what the site made, or if it is short the first of it
 abbrev pub AreTold : Work → Type 0
-AreTold w = (p : Peer) → Contains w.peers.items p → IsTold (own w.site.number w.site.ops) w.short p
+AreTold w = (p : Peer) → Contains w.peers.items p
+    → IsTold (own w.site.number w.site.ops) w.short p
 
 -- what stays true while a worker takes messages and its site steps
 pub record Continues (old new : Work) : Type 0 where
-  pub placed : (links : List TableId) → ArePlaced links old.peers.items → ArePlaced links new.peers.items
+  pub placed : (links : List TableId) → ArePlaced links old.peers.items
+      → ArePlaced links new.peers.items
   pub seats : map seat_of new.peers.items ≡ map seat_of old.peers.items
   pub sends : map (λ p. p.send) new.peers.items ≡ map (λ p. p.send) old.peers.items
   pub number : new.site.number ≡ old.site.number
   pub made : Gathers old → own new.site.number new.site.ops ≡ own old.site.number old.site.ops
   pub short : new.short ≡ false → old.short ≡ false
   pub gathers : Gathers old → Gathers new
-  pub underway : (commands : List Command) → Gathers old → IsUnderway commands old → IsUnderway commands new
+  pub underway : (commands : List Command) → Gathers old → IsUnderway commands old
+      → IsUnderway commands new
 
--- what operations that came made of what the site holds: it holds no more than these besides, and none of its own, and unless it is short it has or holds
+-- what operations that came made of what the site holds: it holds no more than these besides, and
+-- none of its own, and unless it is short it has or holds
 -- each of another site, or that breaks a limit or is another one under a known id
 pub record Hears (s : ℕ) (ops held come : List Op) (short : Bool) (new : List Op) : Type 0 where
-  pub from : (a : Op) → Contains new a → Contains held a ⊎ (Contains come a × (a.id.site ≢ s))
+  pub from : (a : Op) → Contains new a
+      → Contains held a ⊎ (Contains come a × (a.id.site ≢ s))
   pub stays : (a : Op) → Contains held a → Contains new a
   pub keeps : short ≡ false → (a : Op) → Contains come a → a.id.site ≢ s
       → (Contains ops a ⊎ Contains new a) ⊎ ((¬ (IsInRange a)) ⊎ IsClash held ops a)
@@ -90,13 +102,16 @@ goes_on step.Idle = false
 -- what waiting for the operation under the id came to
 abbrev pub Waits : OpId → Work → Waited → Type 0
 Waits i w Came = (w.short ≡ false) × HasOp w.site.ops i
-Waits i w Never = (w.short ≡ false) × IsFree w.site.ops i × IsTrue (all_ended w.peers.items) × NoneIsReady w.site.ops w.site.held
+Waits i w Never = (w.short ≡ false) × IsFree w.site.ops i × IsTrue (all_ended w.peers.items)
+    × NoneIsReady w.site.ops w.site.held
 Waits i w Short = w.short ≡ true
 
--- what became of an Await, right now: its answer; if nothing comes any more, every peer has ended and nothing is ready
+-- what became of an Await, right now: its answer; if nothing comes any more, every peer has ended
+-- and nothing is ready
 pub record Judges (i : OpId) (w : Work) (r : Option Cause) : Type 0 where
   pub answer : AwaitAnswer w.site.number w.site.ops [] i r
-  pub silent : r ≡ Some NeverComes → IsTrue (all_ended w.peers.items) × NoneIsReady w.site.ops w.site.held
+  pub silent : r ≡ Some NeverComes
+      → IsTrue (all_ended w.peers.items) × NoneIsReady w.site.ops w.site.held
 
 -- the commands were played, if the worker is short up to one of them
 pub record Plays (script : List Command) (w : Work) : Type 0 where

@@ -1,7 +1,7 @@
 //! How a worker runs the commands of its script.
 
 ghost use Rattle.std.specs.Prelude.{◌≡◌, ◌≤◌, false, vec_len};
-ghost use Rattle.gf_json.specs.declared.script_line.Command.{Command};
+ghost use Rattle.gf_json.specs.declared.scripts.Command.{Command};
 ghost use Rattle.gf_worker.specs.Peers.{ArePlaced};
 ghost use Rattle.gf_worker.specs.Telling.{AreOpen};
 ghost use Rattle.gf_worker.specs.Playing.{IsRefusal, IsFaultTold, IsBegun, PlaysOn, Through};

@@ -14,7 +14,7 @@ pub enum Cause {
     NoObject,
     /// Its value doesn't suit the object's kind.
     WrongKind,
-    /// Its aim has an operation that the site doesn't have or that concerns another object. Or two
+    /// The aim has an operation that the site doesn't have or that concerns another object. Or two
     /// operations of the aim conflict directly, or it lacks one that they aim at.
     BadAim,
     /// The site waited for an operation of its own.

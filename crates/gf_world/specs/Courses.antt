@@ -1,5 +1,6 @@
 -- Lists of operations that the sites of one world have (this project's choice).
-use Rattle.std.specs.Prelude.{◌≡◌, ℕ, ◌+◌, ◌≤◌, List, [], map, length, Contains, Some, slice_get}
+use Rattle.std.specs.Prelude.{◌≡◌, ℕ, ◌+◌, ◌≤◌, List, [], map, length, Contains}
+use Rattle.std.specs.Prelude.{Some, slice_get}
 use Rattle.gf_ops.specs.declared.op.Op.{Op}
 use Rattle.gf_causal.specs.DeliveredPart.{HaveSame}
 use Rattle.gf_site.specs.SiteState.{SiteState}
@@ -7,11 +8,13 @@ use Rattle.gf_site.specs.Course.{IsCourse}
 use Rattle.gf_world.specs.declared.event.Event.{Event}
 use Rattle.gf_world.specs.World.{WorldState, IsWorldOf}
 
--- the lists are courses of the sites from number 1 on, and have the same operations, each of which is one of these sites'
+-- the lists are courses of the sites from number 1 on, and have the same operations, each of which
+-- is one of these sites'
 pub record AreCourses (lists : List (List Op)) : Type 0 where
   pub course : (k : ℕ) (h : List Op) → slice_get lists k ≡ Some h → IsCourse (k + 1) h
   pub same : (g h : List Op) → Contains lists g → Contains lists h → HaveSame g h
-  pub among : (h : List Op) (a : Op) → Contains lists h → Contains h a → a.id.site ≤ length lists
+  pub among : (h : List Op) (a : Op) → Contains lists h → Contains h a
+      → a.id.site ≤ length lists
 
 -- some events bring as many new sites to these lists, and each site then holds nothing
 pub record HaveEvents (lists : List (List Op)) : Type 0 where

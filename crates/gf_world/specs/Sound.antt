@@ -15,8 +15,10 @@ pub record IsSiteOf (messages : List Op) (s : ℕ) (x : SiteState) : Type 0 wher
   pub holds : (a : Op) → Contains x.held a → Contains messages a
   pub own : (a : Op) → Contains messages a → a.id.site ≡ s → Contains x.ops a
 
--- the messages are a valid history, each accepted behind those before it, and each site has a course of them
+-- the messages are a valid history, each accepted behind those before it, and each site has a
+-- course of them
 pub record IsSound (world : WorldState) : Type 0 where
   pub valid : IsValid world.messages
   pub accepted : AreAccepted world.messages
-  pub sites : (s : ℕ) (x : SiteState) → site_at world.sites s ≡ Some x → IsSiteOf world.messages s x
+  pub sites : (s : ℕ) (x : SiteState) → site_at world.sites s ≡ Some x
+      → IsSiteOf world.messages s x

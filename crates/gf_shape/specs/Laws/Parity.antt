@@ -1,5 +1,8 @@
--- Off the edges of a closed ring, the ray to the right crosses an even number of edges exactly if the ray to the left does. No public clause cites this module.
-use Rattle.std.specs.Prelude.{◌≡◌, ℕ, ◌+◌, ◌%◌, take, nat_eq, Bool, true, false, not, cond, ◌&&◌, ◌||◌, List, [], ◌∷◌, ◌++◌, zip, count_by, pos, int_le, int_lt, refl}
+-- Off the edges of a closed ring, the ray to the right crosses an even number of edges exactly if
+-- the ray to the left does. No public clause cites this module.
+use Rattle.std.specs.Prelude.{◌≡◌, ℕ, ◌+◌, ◌%◌, take, nat_eq, Bool, true, false}
+use Rattle.std.specs.Prelude.{not, cond, ◌&&◌, ◌||◌, List, [], ◌∷◌, ◌++◌, zip}
+use Rattle.std.specs.Prelude.{count_by, pos, int_le, int_lt, refl}
 use Rattle.std.specs.List.{list_any}
 use Rattle.std.proofs.Common.{arith, ap}
 use Rattle.std.proofs.lemmas.Bool.Decides.{nat_tests}
@@ -19,7 +22,8 @@ bit b = cond b 1 0
 abbrev pub crosses : (low high strict back : Bool) → Bool
 crosses low high strict back = (low && not high && strict) || (high && not low && back)
 
-bits_even : (a b p n : Bool) → ((a ≡ b → ⊥) → Strict p n) → (bit (crosses a b p n) + bit (crosses a b n p) + bit a + bit b) % 2 ≡ 0
+bits_even : (a b p n : Bool) → ((a ≡ b → ⊥) → Strict p n)
+    → (bit (crosses a b p n) + bit (crosses a b n p) + bit a + bit b) % 2 ≡ 0
 bits_even true true p n s = refl
 bits_even false false p n s = refl
 bits_even true false true false s = refl
@@ -28,14 +32,22 @@ bits_even false true true false s = refl
 bits_even false true false true s = refl
 bits_even a b p n s = grind arith
 
-edge_even : (d a b : Point) → is_on_edge d (a, b) ≡ false → (bit (crosses_right d (a, b)) + bit (crosses_left d (a, b)) + bit (int_le a.y d.y) + bit (int_le b.y d.y)) % 2 ≡ 0
-edge_even d a b off = bits_even (int_le a.y d.y) (int_le b.y d.y) (int_lt (pos 0) (side (a, b) d)) (int_lt (side (a, b) d) (pos 0)) (side_strict d a b off)
+edge_even : (d a b : Point) → is_on_edge d (a, b) ≡ false
+    → (bit (crosses_right d (a, b)) + bit (crosses_left d (a, b)) + bit (int_le a.y d.y)
+    + bit (int_le b.y d.y)) % 2 ≡ 0
+edge_even d a b off = bits_even (int_le a.y d.y) (int_le b.y d.y) (int_lt (pos 0) (side (a, b) d))
+    (int_lt (side (a, b) d) (pos 0)) (side_strict d a b off)
 
 -- over a row of edges from a to z
-path_even : (d a z : Point) (ps : List Point) → list_any (is_on_edge d) (zip (a ∷ ps) (ps ++ z ∷ [])) ≡ false → (count_by (crosses_right d) (zip (a ∷ ps) (ps ++ z ∷ [])) + count_by (crosses_left d) (zip (a ∷ ps) (ps ++ z ∷ [])) + bit (int_le a.y d.y) + bit (int_le z.y d.y)) % 2 ≡ 0
-path_even d a z [] off = let e = edge_even d a z (or_parts _ _ off).0 in simp sum_by-cons (omega arith)
+path_even : (d a z : Point) (ps : List Point)
+    → list_any (is_on_edge d) (zip (a ∷ ps) (ps ++ z ∷ [])) ≡ false
+    → (count_by (crosses_right d) (zip (a ∷ ps) (ps ++ z ∷ [])) + count_by (crosses_left d)
+    (zip (a ∷ ps) (ps ++ z ∷ [])) + bit (int_le a.y d.y) + bit (int_le z.y d.y)) % 2 ≡ 0
+path_even d a z [] off = let e = edge_even d a z (or_parts _ _ off).0
+    in simp sum_by-cons (omega arith)
 path_even d a z (b ∷ ps) off =
-    let parts = or_parts (is_on_edge d (a, b)) (list_any (is_on_edge d) (zip (b ∷ ps) (ps ++ z ∷ []))) off in
+    let parts = or_parts (is_on_edge d (a, b))
+    (list_any (is_on_edge d) (zip (b ∷ ps) (ps ++ z ∷ []))) off in
     let e = edge_even d a b parts.0 in
     let r = path_even d b z ps parts.1 in
     simp sum_by-cons (omega arith)
@@ -48,22 +60,29 @@ same_or true b c h = refl
 same_or false b c h = h refl
 
 -- the edges of an open row whose last point is written again are those of the row
-edges_again : (a z : Point) (ps : List Point) → zip (a ∷ (ps ++ z ∷ [])) (ps ++ z ∷ []) ≡ zip (a ∷ ps) (ps ++ z ∷ [])
+edges_again : (a z : Point) (ps : List Point)
+    → zip (a ∷ (ps ++ z ∷ [])) (ps ++ z ∷ []) ≡ zip (a ∷ ps) (ps ++ z ∷ [])
 edges_again a z [] = refl
 edges_again a z (b ∷ ps) = ap (λ es. (a, b) ∷ es) (edges_again b z ps)
 
 -- over a closed ring the two rays cross equally many edges modulo 2
-ring_parity : (d a : Point) (ps : List Point) → list_any (is_on_edge d) (zip (a ∷ ps) (ps ++ a ∷ [])) ≡ false → nat_eq (count_by (crosses_right d) (zip (a ∷ ps) (ps ++ a ∷ [])) % 2) 1 ≡ nat_eq (count_by (crosses_left d) (zip (a ∷ ps) (ps ++ a ∷ [])) % 2) 1
+ring_parity : (d a : Point) (ps : List Point)
+    → list_any (is_on_edge d) (zip (a ∷ ps) (ps ++ a ∷ [])) ≡ false
+    → nat_eq (count_by (crosses_right d) (zip (a ∷ ps) (ps ++ a ∷ [])) % 2) 1
+    ≡ nat_eq (count_by (crosses_left d) (zip (a ∷ ps) (ps ++ a ∷ [])) % 2) 1
 ring_parity d a ps off =
     let e = path_even d a a ps off in
     same_parity _ _ (omega arith)
 
 -- the outline law over the ring a, ps
-polygon_holds-cons : (a : Point) (ps : List Point) (d : Point) → polygon_holds (a ∷ ps) d ≡ chain_holds ((a ∷ ps) ++ a ∷ []) d
+polygon_holds-cons : (a : Point) (ps : List Point) (d : Point)
+    → polygon_holds (a ∷ ps) d ≡ chain_holds ((a ∷ ps) ++ a ∷ []) d
 polygon_holds-cons a ps d =
-    rw (edges_again a a ps) (same_or (list_any (is_on_edge d) (zip (a ∷ ps) (ps ++ a ∷ []))) _ _ (ring_parity d a ps))
+    rw (edges_again a a ps) (same_or (list_any (is_on_edge d) (zip (a ∷ ps) (ps ++ a ∷ []))) _ _
+    (ring_parity d a ps))
 
 -- the outline law of polygons
-pub polygon_holds_as_chain : (ps : List Point) (d : Point) → polygon_holds ps d ≡ chain_holds (ps ++ take 1 ps) d
+pub polygon_holds_as_chain : (ps : List Point) (d : Point)
+    → polygon_holds ps d ≡ chain_holds (ps ++ take 1 ps) d
 polygon_holds_as_chain [] d = refl
 polygon_holds_as_chain (a ∷ ps) d = polygon_holds-cons a ps d

@@ -1,6 +1,6 @@
 use Rattle.std.proofs.Common.{[], ◌∷◌, sym, ap, subst, refl, ◌∙◌, ◌++◌}
 use Rattle.std.specs.Vec.{with_items}
-use Rattle.gf_json.specs.declared.script_line.Command.TheVariants.{Author}
+use Rattle.gf_json.specs.declared.scripts.Command.TheVariants.{Author}
 use Rattle.std.specs.Prelude.{not}
 use Rattle.gf_worker.specs.Playing.{PlaysOn}
 use Rattle.gf_worker.proofs.AuthorLemmas.{plays_author, plays_refused, plays_unreserved, tells_items}

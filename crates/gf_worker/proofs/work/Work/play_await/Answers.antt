@@ -1,4 +1,4 @@
-use Rattle.gf_json.specs.declared.script_line.Command.TheVariants.{Await}
+use Rattle.gf_json.specs.declared.scripts.Command.TheVariants.{Await}
 use Rattle.gf_worker.proofs.AwaitLemmas.{plays_await, plays_short}
 use Rattle.gf_worker.proofs.work.Work.play_await.Goals as goal
 
