@@ -1,5 +1,7 @@
--- The operations that can be delivered from a list of offered ones (this project's choice, over causal delivery).
-use Rattle.std.specs.Prelude.{◌≡◌, ◌≢◌, ◌↔◌, List, [], ◌∷◌, ◌++◌, AllPairs, Contains}
+-- The operations that can be delivered from a list of offered ones (this project's choice, over
+-- causal delivery).
+use Rattle.std.specs.Prelude.{◌≡◌, ◌≢◌, ◌↔◌, List, [], ◌∷◌, ◌++◌}
+use Rattle.std.specs.Prelude.{AllPairs, Contains}
 use Rattle.gf_ops.specs.declared.op.Op.{Op}
 use Rattle.gf_causal.specs.Ready.{IsReady, NoneIsReady}
 
@@ -38,7 +40,8 @@ pub record IsDelivered (offered : List Op) (a : Op) : Type 0 where
   pub delivery : IsDelivery offered added
   pub contained : Contains added a
 
--- the list has the delivered part of the offered operations: those that stand in some delivery, and no others
+-- the list has the delivered part of the offered operations: those that stand in some delivery, and
+-- no others
 abbrev pub IsDeliveredPart : List Op → List Op → Type 0
 IsDeliveredPart offered ops = (a : Op) → Contains ops a ↔ IsDelivered offered a
 

@@ -1,5 +1,7 @@
--- The operations that a buffer holds, and what an offer or a taking does to them (this project's choice).
-use Rattle.std.specs.Prelude.{◌≡◌, ◌≢◌, ◌⊎◌, List, ◌∷◌, ◌++◌, Contains, map}
+-- The operations that a buffer holds, and what an offer or a taking does to them (this project's
+-- choice).
+use Rattle.std.specs.Prelude.{◌≡◌, ◌≢◌, ◌⊎◌, List, ◌∷◌, ◌++◌, Contains}
+use Rattle.std.specs.Prelude.{map}
 use Rattle.std.specs.declared.cmp.Ordering.TheVariants.{Less}
 use Rattle.std.specs.List.Sorted.{IsStrictlySortedBy}
 use Rattle.gf_ops.specs.declared.op.Op.{Op}

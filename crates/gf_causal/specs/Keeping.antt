@@ -1,4 +1,5 @@
--- How a buffer keeps its operations, and what stands under an id. No public clause cites this module.
+-- How a buffer keeps its operations, and what stands under an id. No public clause cites this
+-- module.
 use Rattle.std.specs.Prelude.{◌≡◌, ◌≢◌, List, Contains, map, Option, Some, None}
 use Rattle.std.specs.Global.{Box}
 use Rattle.std.specs.Map.{values_of}

@@ -1,4 +1,5 @@
--- The entries of what lies alone, or else of what lies together. No public clause cites this module.
+-- The entries of what lies alone, or else of what lies together. No public clause cites this
+-- module.
 use Rattle.std.specs.Prelude.{List, [], ◌∷◌}
 use Rattle.gf_ops.specs.declared.op.Op.{Op}
 use Rattle.gf_ops.specs.declared.op.OpId.{OpId}

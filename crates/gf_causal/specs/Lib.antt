@@ -3,3 +3,4 @@ pub mod HeldOperations
 pub mod DeliveredPart
 pub mod Keeping
 pub mod KeptEntries
+pub mod Waiting

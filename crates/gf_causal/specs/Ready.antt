@@ -1,4 +1,5 @@
--- When an operation is ready behind a history (causal delivery, after Birman, Schiper and Stephenson, ACM TOCS 9(3), 1991; its own entry is not looked at: this project's choice).
+-- When an operation is ready behind a history (causal delivery, after Birman, Schiper and
+-- Stephenson, ACM TOCS 9(3), 1991; its own entry is not looked at: this project's choice).
 use Rattle.std.specs.Prelude.{◌≡◌, ◌≢◌, ℕ, ◌+◌, ◌≤◌, List, Contains}
 use Rattle.gf_ops.specs.declared.op.Op.{Op}
 use Rattle.gf_ops.specs.OperationOrder.{IsSite, entry, count_of}

@@ -1,9 +1,9 @@
 //! Operations by id, each in a box of its own.
 
-ghost use Rattle.std.specs.Prelude.{◌≡◌, [], length, IfOk, OnOk, OnErr, option_copied};
+ghost use Rattle.std.specs.Prelude.{◌≡◌, [], length, map, IfOk, OnOk, OnErr, option_copied};
 ghost use Rattle.std.specs.BTreeMap.{insert_entry, is_at};
 ghost use Rattle.std.specs.List.Sorted.{IsStrictlySortedBy};
-ghost use Rattle.std.specs.Map.{keys_of, lookup, remove_entry};
+ghost use Rattle.std.specs.Map.{keys_of, lookup, remove_entry, values_of};
 ghost use Rattle.gf_ops.specs.OperationOrder.{id_cmp};
 
 use gf_ops::{Op, OpId};
@@ -66,6 +66,17 @@ impl BoxedOps {
     {
         let op = self.boxes.get(&id)?;
         Some(&**op)
+    }
+
+    /// The operations in the order of their ids.
+    pub(crate) fn list(&self, alloc: Global) -> Result<Vec<&Op>, OutOfMemory>
+        ensures { IfOk result (λ ops. map (λ a. a.now) ops.items ≡ values_of self.now) }
+    {
+        let mut ops = Vec::new(alloc);
+        for (_, op) in &self.boxes {
+            ops.push(&**op)?;
+        }
+        Ok(ops)
     }
 
     /// Puts the operation under the id.

@@ -1,6 +1,7 @@
 //! Operations that wait for what they know.
 
-ghost use Rattle.std.specs.Prelude.{◌≡◌, ◌≢◌, ◌↔◌, [], length, Contains, Ok, Err, IfOk, IfSome};
+ghost use Rattle.std.specs.Prelude.{◌≡◌, ◌≢◌, ◌↔◌, [], length, map, Contains, Ok, Err, IfOk};
+ghost use Rattle.std.specs.Prelude.{IfSome};
 ghost use Rattle.std.specs.Prelude.{Some, None, IfNone, OnOk, OnErr};
 ghost use Rattle.gf_ops.specs.declared.op.Op.{Op};
 ghost use Rattle.gf_ops.specs.Limits.{IsInRange};
@@ -141,6 +142,14 @@ impl Buffer {
         ensures valid { AreHeld self.now }
     {
         self.ops.len()
+    }
+
+    /// The held operations, rising by id.
+    pub fn ops(&self, alloc: Global) -> Result<Vec<&Op>, OutOfMemory>
+        ensures ops { IfOk result (λ ops. map (λ a. a.now) ops.items ≡ self.now) }
+        ensures valid { AreHeld self.now }
+    {
+        self.ops.list(alloc)
     }
 
     /// The held operation under this id.

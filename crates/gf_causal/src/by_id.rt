@@ -1,9 +1,10 @@
 //! Operations by id.
 
-ghost use Rattle.std.specs.Prelude.{◌≡◌, ◌∷◌, [], length, IfOk, OnOk, OnErr, option_copied};
+ghost use Rattle.std.specs.Prelude.{◌≡◌, ◌∷◌, [], length, map, IfOk, OnOk, OnErr};
+ghost use Rattle.std.specs.Prelude.{option_copied};
 ghost use Rattle.std.specs.BTreeMap.{insert_entry, is_at};
 ghost use Rattle.std.specs.List.Sorted.{IsStrictlySortedBy};
-ghost use Rattle.std.specs.Map.{keys_of, lookup, remove_entry};
+ghost use Rattle.std.specs.Map.{keys_of, lookup, remove_entry, values_of};
 ghost use Rattle.gf_ops.specs.OperationOrder.{id_cmp};
 ghost use Rattle.gf_causal.specs.Keeping.{entry_of};
 
@@ -88,6 +89,18 @@ impl OpsById {
             Some(_) => None,
             None => self.many.get(id),
         }
+    }
+
+    /// The operations in the order of their ids.
+    pub(crate) fn list(&self, alloc: Global) -> Result<Vec<&Op>, OutOfMemory>
+        ensures { IfOk result (λ ops. map (λ a. a.now) ops.items ≡ values_of self.now) }
+    {
+        let Some(op) = self.alone.first() else {
+            return self.many.list(alloc);
+        };
+        let mut ops = Vec::new(alloc);
+        ops.push(op)?;
+        Ok(ops)
     }
 
     /// Puts the operation under its id.

@@ -2,6 +2,7 @@
 //!
 //! - [`Buffer`]: operations that wait until a history has what they know.
 //! - [`Offered`], [`OfferFault`]: what an offer to a buffer came to.
+//! - [`waits_for`]: the first operation that one of them lacks.
 //! - [`a_last_delivery_has_the_delivered_part`], [`each_list_has_a_last_delivery`],
 //!   [`the_delivered_part_of_a_valid_history_is_all_of_it`],
 //!   [`what_is_ready_in_a_valid_history_is_accepted`]: the laws.
@@ -14,6 +15,7 @@ mod faults;
 mod laws;
 mod ready;
 mod standing;
+mod waiting;
 
 pub use buffer::{Buffer, Offered};
 pub use faults::OfferFault;
@@ -22,3 +24,4 @@ pub use laws::{
     the_delivered_part_of_a_valid_history_is_all_of_it,
     what_is_ready_in_a_valid_history_is_accepted,
 };
+pub use waiting::waits_for;

@@ -10,7 +10,7 @@ use Rattle.gf_ops.specs.declared.op.OpId.{OpId}
 use Rattle.gf_ops.specs.declared.change.Change.{Change}
 use Rattle.gf_ops.specs.declared.change.Change.TheVariants.{Create, Set}
 use Rattle.gf_ops.specs.Aims.{IsAimed, MayAimAt}
-use Rattle.gf_ops.specs.AimTests.{after_id, IsWithinAim, Fits, MayAim, MeetsAt, MeetsOne, AreCalm, MemberMeets, AimMeets}
+use Rattle.gf_ops.specs.AimTests.{after_id, IsWithinAim, Fits, MayAim, MeetsAt, MeetsOne, AreDirectlyCompatible, MemberMeets, AimMeets}
 use Rattle.gf_ops.specs.Attribute.{change_aim, aim_of}
 use Rattle.gf_ops.specs.Limits.{is_id, is_clock, is_value, is_change, is_aim, id_less, rise_behind, ids_rise, IsInRange}
 use Rattle.gf_ops.specs.Conflict.{Conflict, MeetsBrought}
@@ -241,7 +241,7 @@ fits_told h valid m there i id a = (
       subst (Fits a) same (record { object = t.object; before = t.before; within = t.within }),
 )
 
-pub aimed_told : (h : List Op) (a : Op) → (MayAim h a (aim_of a) × AreCalm h (aim_of a)) ↔ IsAimed h a
+pub aimed_told : (h : List Op) (a : Op) → (MayAim h a (aim_of a) × AreDirectlyCompatible h (aim_of a)) ↔ IsAimed h a
 aimed_told h a = (
   λ p. record { each = p.0; compatible = λ x y m n. p.1 x y m.contained n.contained m.aimed n.aimed },
   λ t. (t.each, λ x y c d k l. t.compatible x y (record { contained = c; aimed = k }) (record { contained = d; aimed = l })),

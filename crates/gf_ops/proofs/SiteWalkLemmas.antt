@@ -7,7 +7,7 @@ use Rattle.std.proofs.lemmas.List.Elements.{Contains-get_or, Contains-push_cases
 use Rattle.gf_ops.specs.declared.aim_walk.Latest.{Latest}
 use Rattle.gf_ops.specs.declared.op.Op.{Op}
 use Rattle.gf_ops.specs.declared.op.OpId.{OpId}
-use Rattle.gf_ops.specs.AimTests.{AreCalm, MayAim}
+use Rattle.gf_ops.specs.AimTests.{AreDirectlyCompatible, MayAim}
 use Rattle.gf_ops.specs.Attribute.{aim_of, object_of}
 use Rattle.gf_ops.specs.AimWalk.{IsOfSite, AreOnOne, AreParted, ArePartedBelow, KnewAt, NoneKnew, NoneAbove, Tells, MeetsTable, IsNoted}
 use Rattle.gf_ops.specs.DirectConflict.{DirectConflict}
@@ -173,7 +173,7 @@ module _ (h : List Op) (valid : IsValid h) (ids : List OpId) where
         ]
       ]
 
-  pub all_calm : ((s : ℕ) → 1 ≤ s → s < 9 → ArePartedBelow h ids s s) → AreCalm h ids
+  pub all_calm : ((s : ℕ) → 1 ≤ s → s < 9 → ArePartedBelow h ids s s) → AreDirectlyCompatible h ids
   all_calm each x y i j c d direct =
       let here : IsOfSite h ids x.id.site x = record { contained = i; among = c; site = refl } in
       let there : IsOfSite h ids y.id.site y = record { contained = j; among = d; site = refl } in
@@ -187,7 +187,7 @@ module _ (h : List Op) (valid : IsValid h) (ids : List OpId) where
         ]
       ]
 
-  pub calm_parted : AreCalm h ids → (s n : ℕ) → ArePartedBelow h ids s n
+  pub calm_parted : AreDirectlyCompatible h ids → (s n : ℕ) → ArePartedBelow h ids s n
   calm_parted calm s n t b l x y of others = calm x y of.contained others.contained of.among others.among
 
 -- what an operation may aim at is on one object

@@ -1,5 +1,6 @@
 -- Which operation may be added behind a history (this project's choice).
-use Rattle.std.specs.Prelude.{◌≡◌, ℕ, ◌+◌, ◌≤◌, List, [], ◌∷◌, ◌++◌, Contains}
+use Rattle.std.specs.Prelude.{◌≡◌, ℕ, ◌+◌, ◌≤◌, List, [], ◌∷◌, ◌++◌}
+use Rattle.std.specs.Prelude.{Contains}
 use Rattle.gf_ops.specs.declared.op.Op.{Op}
 use Rattle.gf_ops.specs.declared.op.Clock.{Clock}
 use Rattle.gf_ops.specs.declared.faults.OpFault.{OpFault}
@@ -22,13 +23,15 @@ pub record IsNumbered (h : List Op) (a : Op) : Type 0 where
 abbrev pub IsClosed : List Op → Op → Type 0
 IsClosed h a = (b : Op) → Contains h b → Precedes b a → IsWithin b.past a.past
 
--- a is the next operation of its site behind h: it has the next number, knows no more than h has, and all that the operations that it knows knew
+-- a is the next operation of its site behind h: it has the next number, knows no more than h has,
+-- and all that the operations that it knows knew
 pub record IsNext (h : List Op) (a : Op) : Type 0 where
   pub numbered : IsNumbered h a
   pub known : CountsAtMost a.past h
   pub closed : IsClosed h a
 
--- a may be added behind h: it is the next operation of its site, makes an object or gives one that it knows a value that suits it, and its aim is one
+-- a may be added behind h: it is the next operation of its site, makes an object or gives one that
+-- it knows a value that suits it, and its aim is one
 pub record IsAccepted (h : List Op) (a : Op) : Type 0 where
   pub next : IsNext h a
   pub suited : IsSuited h a a.change

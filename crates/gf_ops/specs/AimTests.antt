@@ -42,8 +42,9 @@ pub record MeetsOne (h : List Op) (a : Op) (ids : List OpId) : Type 0 where
   pub direct : DirectConflict a op
 
 -- no two operations of h under these ids conflict directly
-abbrev pub AreCalm : List Op → List OpId → Type 0
-AreCalm h ids = (x y : Op) → Contains h x → Contains h y → Contains ids x.id → Contains ids y.id → ¬ (DirectConflict x y)
+abbrev pub AreDirectlyCompatible : List Op → List OpId → Type 0
+AreDirectlyCompatible h ids = (x y : Op) → Contains h x → Contains h y → Contains ids x.id
+    → Contains ids y.id → ¬ (DirectConflict x y)
 
 -- the operation of h under the id i conflicts directly with b, or with one that b aims at
 pub record MemberMeets (h : List Op) (i : OpId) (b : Op) : Type 0 where

@@ -1,9 +1,12 @@
--- How a walk finds a direct conflict between the operations of two sites. No public clause cites this module.
-use Rattle.std.specs.Prelude.{◌≡◌, ◌≢◌, ◌⊎◌, ℕ, ◌<◌, ◌≤◌, true, List, Option, Some, None, length, take, slice_index_or, Contains}
+-- How a walk finds a direct conflict between the operations of two sites. No public clause cites
+-- this module.
+use Rattle.std.specs.Prelude.{◌≡◌, ◌≢◌, ◌⊎◌, ℕ, ◌<◌, ◌≤◌, true, List}
+use Rattle.std.specs.Prelude.{Option, Some, None, length, take, slice_index_or, Contains}
 use Rattle.gf_ops.specs.declared.aim_walk.Latest.{Latest}
 use Rattle.gf_ops.specs.declared.change.Change.TheVariants.{Set}
 use Rattle.gf_ops.specs.declared.change.Value.{Value}
-use Rattle.gf_ops.specs.declared.change.Value.TheVariants.{Place, Points, Size, Colour, Layer, Shown}
+use Rattle.gf_ops.specs.declared.change.Value.TheVariants.{Place, Points, Size, Colour, Layer}
+use Rattle.gf_ops.specs.declared.change.Value.TheVariants.{Shown}
 use Rattle.gf_ops.specs.declared.op.Op.{Op}
 use Rattle.gf_ops.specs.declared.op.OpId.{OpId}
 use Rattle.gf_ops.specs.declared.op.ObjectId.{ObjectId}
@@ -36,11 +39,14 @@ pub record IsOfSite (h : List Op) (ids : List OpId) (s : ℕ) (x : Op) : Type 0 
 
 -- all operations of h under these ids are on one object
 abbrev pub AreOnOne : List Op → List OpId → Type 0
-AreOnOne h ids = (x y : Op) → Contains h x → Contains h y → Contains ids x.id → Contains ids y.id → object_of x ≡ object_of y
+AreOnOne h ids = (x y : Op) → Contains h x → Contains h y → Contains ids x.id
+    → Contains ids y.id → object_of x ≡ object_of y
 
--- no operation of the site s under one of the ids conflicts directly with one of the site t under one of the others
+-- no operation of the site s under one of the ids conflicts directly with one of the site t under
+-- one of the others
 abbrev pub AreParted : List Op → List OpId → List OpId → ℕ → ℕ → Type 0
-AreParted h ids others s t = (x y : Op) → IsOfSite h ids s x → IsOfSite h others t y → ¬ (DirectConflict x y)
+AreParted h ids others s t = (x y : Op) → IsOfSite h ids s x → IsOfSite h others t y
+    → ¬ (DirectConflict x y)
 
 -- none of the site s conflicts directly with one of a site below n
 abbrev pub ArePartedBelow : List Op → List OpId → ℕ → ℕ → Type 0
@@ -78,26 +84,31 @@ pub record GivesAnother (h : List Op) (i : OpId) (w : Value) : Type 0 where
   pub id : op.id ≡ i
   pub another : sets_another op.change w ≡ true
 
--- l is of the last setter at the place k, of those of the site t under the ids, and of the last one that gives another value
+-- l is of the last setter at the place k, of those of the site t under the ids, and of the last one
+-- that gives another value
 pub record IsLatest (h : List Op) (ids : List OpId) (t k : ℕ) (l : Latest) : Type 0 where
   pub value : Value
   pub nearest : SetsAt h t l.nearest value
   pub nearest_among : Contains ids l.nearest
   pub place : place_of value ≡ k
-  pub last : (y : Op) (w : Value) → IsOfSite h ids t y → Sets y w → place_of w ≡ k → y.id.seq ≤ l.nearest.seq
+  pub last : (y : Op) (w : Value) → IsOfSite h ids t y → Sets y w → place_of w ≡ k
+      → y.id.seq ≤ l.nearest.seq
   pub other_value : Value
   pub other : SetsAt h t l.other other_value
   pub other_among : Contains ids l.other
   pub other_place : place_of other_value ≡ k
-  pub beyond : (y : Op) (w : Value) → IsOfSite h ids t y → Sets y w → place_of w ≡ k → w ≢ value → (other_value ≢ value) × (y.id.seq ≤ l.other.seq)
+  pub beyond : (y : Op) (w : Value) → IsOfSite h ids t y → Sets y w → place_of w ≡ k
+      → w ≢ value → (other_value ≢ value) × (y.id.seq ≤ l.other.seq)
 
 -- what the entry tells of the place k: that there is no setter, or the latest ones
 abbrev pub TellsOne : List Op → List OpId → ℕ → ℕ → Option Latest → Type 0
-TellsOne h ids t k None = (y : Op) (w : Value) → IsOfSite h ids t y → Sets y w → ¬ (place_of w ≡ k)
+TellsOne h ids t k None = (y : Op) (w : Value) → IsOfSite h ids t y → Sets y w
+    → ¬ (place_of w ≡ k)
 TellsOne h ids t k (Some l) = IsLatest h ids t k l
 
 -- the table tells of each place
-pub record Tells (h : List Op) (ids : List OpId) (t : ℕ) (table : List (Option Latest)) : Type 0 where
+pub record Tells (h : List Op) (ids : List OpId) (t : ℕ)
+    (table : List (Option Latest)) : Type 0 where
   pub wide : length table ≡ 6
   pub each : (k : ℕ) → k < 6 → TellsOne h ids t k (slice_index_or table k None)
 
@@ -109,7 +120,8 @@ NoneAbove h ids t i = i.site ≡ t → (y : Op) → IsOfSite h ids t y → y.id.
 abbrev pub MeetsLatest : List Op → Op → Latest → Type 0
 MeetsLatest h x l = MeetsAt h x l.nearest ⊎ MeetsAt h x l.other
 
--- the operation of h under i conflicts directly with one of the two that the table has for its attribute
+-- the operation of h under i conflicts directly with one of the two that the table has for its
+-- attribute
 pub record MeetsTable (h : List Op) (table : List (Option Latest)) (i : OpId) : Type 0 where
   pub op : Op
   pub contained : Contains h op
@@ -121,7 +133,8 @@ pub record MeetsTable (h : List Op) (table : List (Option Latest)) (i : OpId) : 
   pub meets : MeetsLatest h op latest
 
 -- of the ids, the table tells of the first n; none of these of the site t knew i
-pub record IsNoted (h : List Op) (ids : List OpId) (t n : ℕ) (i : OpId) (table : List (Option Latest)) : Type 0 where
+pub record IsNoted (h : List Op) (ids : List OpId) (t n : ℕ) (i : OpId)
+    (table : List (Option Latest)) : Type 0 where
   pub within : n ≤ length ids
   pub tells : Tells h (take n ids) t table
   pub unknowing : NoneKnew h (take n ids) t i

@@ -1,4 +1,5 @@
--- The operations that an operation aims at: it is meant for the versions that hold all of them (this project's choice).
+-- The operations that an operation aims at: it is meant for the versions that hold all of them
+-- (this project's choice).
 use Rattle.std.specs.Prelude.{◌≡◌, ◌⊎◌, List, [], Contains}
 use Rattle.gf_ops.specs.declared.op.Op.{Op}
 use Rattle.gf_ops.specs.declared.op.OpId.{OpId}
@@ -15,7 +16,8 @@ pub record AimsAt (h : List Op) (a x : Op) : Type 0 where
 abbrev pub Brings : List Op → Op → Op → Type 0
 Brings h a x = (x ≡ a) ⊎ AimsAt h a x
 
--- h has an operation under the id i, on the object of a; it comes before a, and a aims at all that it aims at
+-- h has an operation under the id i, on the object of a; it comes before a, and a aims at all that
+-- it aims at
 pub record MayAimAt (h : List Op) (a : Op) (i : OpId) : Type 0 where
   pub op : Op
   pub contained : Contains h op
@@ -24,7 +26,8 @@ pub record MayAimAt (h : List Op) (a : Op) (i : OpId) : Type 0 where
   pub before : Precedes op a
   pub within : (j : OpId) → Contains (aim_of op) j → Contains (aim_of a) j
 
--- what a aims at is there, comes before it, concerns its object and is closed under aims, and no two of it conflict
+-- what a aims at is there, comes before it, concerns its object and is closed under aims, and no
+-- two of it conflict
 pub record IsAimed (h : List Op) (a : Op) : Type 0 where
   pub each : (i : OpId) → Contains (aim_of a) i → MayAimAt h a i
   pub compatible : (x y : Op) → AimsAt h a x → AimsAt h a y → ¬ (DirectConflict x y)

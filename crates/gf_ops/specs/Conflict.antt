@@ -1,4 +1,5 @@
--- Which operations cannot stand in one version (conflict and compatible, Sun and Chen, ACM TOCHI 9(1), 2002; that an operation brings its aim is this project's choice).
+-- Which operations cannot stand in one version (conflict and compatible, Sun and Chen, ACM TOCHI
+-- 9(1), 2002; that an operation brings its aim is this project's choice).
 use Rattle.std.specs.Prelude.{List}
 use Rattle.gf_ops.specs.declared.op.Op.{Op}
 use Rattle.gf_ops.specs.Aims.{AimsAt, Brings}

@@ -1,4 +1,5 @@
--- Tests for a conflict: whether two changes give an attribute different values (after Sun and Chen, ACM TOCHI 9(1), 2002).
+-- Tests for a conflict: whether two changes give an attribute different values (after Sun and Chen,
+-- ACM TOCHI 9(1), 2002).
 use Rattle.std.specs.Prelude.{Bool, false, not, ◌&&◌, ◌||◌, ◌==◌, Option, Some, None}
 use Rattle.std.specs.Bool.{beq}
 use Rattle.gf_shape.specs.declared.colour.Rgb.{Rgb}
@@ -6,7 +7,8 @@ use Rattle.gf_ops.specs.declared.change.Start.{Start}
 use Rattle.gf_ops.specs.declared.change.Change.{Change}
 use Rattle.gf_ops.specs.declared.change.Change.TheVariants.{Create, Set}
 use Rattle.gf_ops.specs.declared.change.Value.{Value}
-use Rattle.gf_ops.specs.declared.change.Value.TheVariants.{Place, Points, Size, Colour, Layer, Shown}
+use Rattle.gf_ops.specs.declared.change.Value.TheVariants.{Place, Points, Size, Colour, Layer}
+use Rattle.gf_ops.specs.declared.change.Value.TheVariants.{Shown}
 use Rattle.gf_ops.specs.Attribute.{attribute_of, change_value, form_value}
 use Rattle.gf_ops.specs.SamePoints.{point_eq, points_eq}
 
@@ -41,7 +43,8 @@ sets_another c w = is_another (change_value c (attribute_of w)) w
 -- an attribute that begins with a value in s and in t begins with different ones
 abbrev pub begins_apart : Start → Start → Bool
 begins_apart s t =
-    sets_another (Create s) (Place t.place) || sets_another (Create s) (Colour t.colour) || sets_another (Create s) (Layer t.layer)
+    sets_another (Create s) (Place t.place) || sets_another (Create s) (Colour t.colour)
+    || sets_another (Create s) (Layer t.layer)
     || sets_another (Create s) (Shown t.shown) || sets_another (Create s) (form_value t.form)
 
 -- two changes give an attribute different values

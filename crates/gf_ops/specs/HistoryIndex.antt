@@ -1,5 +1,6 @@
 -- How a history finds its operations. No public clause cites this module.
-use Rattle.std.specs.Prelude.{◌≡◌, ℕ, ◌-◌, ◌<◌, ◌≤◌, List, [], length, slice_index, slice_index_or, Contains}
+use Rattle.std.specs.Prelude.{◌≡◌, ℕ, ◌-◌, ◌<◌, ◌≤◌, List, [], length}
+use Rattle.std.specs.Prelude.{slice_index, slice_index_or, Contains}
 use Rattle.gf_ops.specs.declared.op.Op.{Op}
 use Rattle.gf_ops.specs.declared.op.OpId.{OpId}
 use Rattle.gf_ops.specs.declared.op.Clock.{Clock}
@@ -18,11 +19,13 @@ pub record IsIndexed (h : List Op) (rows : List (List ℕ)) (i : OpId) : Type 0 
   pub there : slice_index_or h (position rows i) op ≡ op
   pub id : op.id ≡ i
 
--- what every history keeps: it is valid; the clock counts its operations, which have the numbers from 1 to the count of their site;
+-- what every history keeps: it is valid; the clock counts its operations, which have the numbers
+-- from 1 to the count of their site;
 -- and the rows tell their positions
 pub record IsHistory (h : List Op) (rows : List (List ℕ)) (counts : Clock) : Type 0 where
   pub valid : IsValid h
   pub counted : (s : ℕ) → IsSite s → entry counts s ≡ count_of h s
   pub reached : (a : Op) → Contains h a → a.id.seq ≤ count_of h a.id.site
   pub wide : (k : ℕ) → k < length rows → length (slice_index_or rows k []) ≡ 8
-  pub placed : (i : OpId) → IsSite i.site → 1 ≤ i.seq → i.seq ≤ count_of h i.site → IsIndexed h rows i
+  pub placed : (i : OpId) → IsSite i.site → 1 ≤ i.seq → i.seq ≤ count_of h i.site
+      → IsIndexed h rows i

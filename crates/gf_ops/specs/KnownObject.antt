@@ -1,4 +1,5 @@
--- Whether an operation knows the object that it changes, and whether its new value suits that object (this project's choice).
+-- Whether an operation knows the object that it changes, and whether its new value suits that
+-- object (this project's choice).
 use Rattle.std.specs.Prelude.{◌≡◌, List, Contains, Some, IsTrue, ⊤}
 use Rattle.gf_ops.specs.declared.op.Op.{Op}
 use Rattle.gf_ops.specs.declared.op.ObjectId.{ObjectId}

@@ -1,5 +1,6 @@
 -- The limits of an operation (this project's choice).
-use Rattle.std.specs.Prelude.{ℕ, pos, negsuc, Bool, true, IsTrue, ◌&&◌, ◌||◌, ◌==◌, nat_lt, nat_le, int_le, List, [], ◌∷◌, length}
+use Rattle.std.specs.Prelude.{ℕ, pos, negsuc, Bool, true, IsTrue, ◌&&◌, ◌||◌, ◌==◌}
+use Rattle.std.specs.Prelude.{nat_lt, nat_le, int_le, List, [], ◌∷◌, length}
 use Rattle.std.specs.List.{list_all}
 use Rattle.gf_shape.specs.declared.point.Point.{Point}
 use Rattle.gf_shape.specs.Polygons.{is_polygon_count}
@@ -31,7 +32,8 @@ is_clock c = list_all (λ n. nat_le n 10000) c.0
 
 -- both coordinates of p lie between -1,000,000 and 1,000,000
 unfoldable pub is_near : Point → Bool
-is_near p = int_le (negsuc 999999) p.x && int_le p.x (pos 1000000) && int_le (negsuc 999999) p.y && int_le p.y (pos 1000000)
+is_near p = int_le (negsuc 999999) p.x && int_le p.x (pos 1000000) && int_le (negsuc 999999) p.y
+    && int_le p.y (pos 1000000)
 
 -- a size is 1 to 1,000,000
 abbrev pub is_size : ℕ → Bool
@@ -75,7 +77,8 @@ ids_rise (i ∷ is) = rise_behind i is
 abbrev pub is_aim : List OpId → Bool
 is_aim aim = nat_le (length aim) 1000 && list_all is_id aim && ids_rise aim
 
--- a new object has a form in range, is near, and has a layer; an object is named by an id, and its new value and the aim are in range
+-- a new object has a form in range, is near, and has a layer; an object is named by an id, and its
+-- new value and the aim are in range
 abbrev pub is_change : Change → Bool
 is_change (Create start) = is_form start.form && is_near start.place && is_layer start.layer
 is_change (Set object v aim) = is_id object.0 && is_value v && is_aim aim

@@ -1,4 +1,5 @@
--- The value that an attribute has in a version (a causally last setter's; after Sun and Chen, ACM TOCHI 9(1), 2002).
+-- The value that an attribute has in a version (a causally last setter's; after Sun and Chen, ACM
+-- TOCHI 9(1), 2002).
 use Rattle.std.specs.Prelude.{◌≡◌, List, IsSome, Some}
 use Rattle.gf_ops.specs.declared.op.Op.{Op}
 use Rattle.gf_ops.specs.declared.op.OpId.{OpId}
@@ -8,7 +9,8 @@ use Rattle.gf_ops.specs.Attribute.{value_given}
 use Rattle.gf_ops.specs.OperationOrder.{Precedes}
 use Rattle.gf_ops.specs.Version.{IsMember}
 
--- in the group g of h the attribute t has the value v: a setter of t gives it, and no setter of t comes after that one
+-- in the group g of h the attribute t has the value v: a setter of t gives it, and no setter of t
+-- comes after that one
 pub record IsSettled (h : List Op) (g : List OpId) (t : Attr) (v : Value) : Type 0 where
   pub setter : Op
   pub member : IsMember h g setter

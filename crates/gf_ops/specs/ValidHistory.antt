@@ -1,5 +1,7 @@
--- Which sets of operations are histories (after Sun and Chen's causality, ACM TOCHI 9(1), 2002; the order of the list says nothing).
-use Rattle.std.specs.Prelude.{◌≡◌, ◌≢◌, ℕ, ◌+◌, ◌≤◌, List, AllPairs, Contains}
+-- Which sets of operations are histories (after Sun and Chen's causality, ACM TOCHI 9(1), 2002; the
+-- order of the list says nothing).
+use Rattle.std.specs.Prelude.{◌≡◌, ◌≢◌, ℕ, ◌+◌, ◌≤◌, List, AllPairs}
+use Rattle.std.specs.Prelude.{Contains}
 use Rattle.gf_ops.specs.declared.op.Op.{Op}
 use Rattle.gf_ops.specs.declared.op.OpId.{OpId}
 use Rattle.gf_ops.specs.declared.op.Clock.{Clock}
@@ -25,8 +27,10 @@ pub record Has (h : List Op) (c : Clock) (i : OpId) : Type 0 where
   pub id : op.id ≡ i
   pub past : IsWithin op.past c
 
--- the operations of h keep all limits, each under its own id; each knows all of its site before it, all that it knows is there and knew no more than it,
--- it makes an object or gives one that it knows a value that suits it, and its aim is a closed, compatible set of earlier operations of its object
+-- the operations of h keep all limits, each under its own id; each knows all of its site before it,
+-- all that it knows is there and knew no more than it,
+-- it makes an object or gives one that it knows a value that suits it, and its aim is a closed,
+-- compatible set of earlier operations of its object
 pub record IsValid (h : List Op) : Type 0 where
   pub in_range : (a : Op) → Contains h a → IsInRange a
   pub distinct : AllPairs (λ a b. a.id ≢ b.id) h

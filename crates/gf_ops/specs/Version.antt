@@ -28,20 +28,24 @@ pub record IsMember (h : List Op) (g : List OpId) (a : Op) : Type 0 where
   pub grouped : Contains g a.id
 
 -- by the relation C, a conflicts with a member of the group
-pub record ConflictsWithin (C : Op → Op → Type 0) (h : List Op) (g : List OpId) (a : Op) : Type 0 where
+pub record ConflictsWithin (C : Op → Op → Type 0) (h : List Op) (g : List OpId)
+    (a : Op) : Type 0 where
   pub member : Op
   pub is_member : IsMember h g member
   pub conflict : C a member
 
 -- the rising ids g are a group of operations of h on the object o, whose creation is in h;
--- no two of them conflict by the relation C, and each other operation on o conflicts with one of them
-pub record IsLargestGroup (C : Op → Op → Type 0) (h : List Op) (o : ObjectId) (g : List OpId) : Type 0 where
+-- no two of them conflict by the relation C, and each other operation on o conflicts with one of
+-- them
+pub record IsLargestGroup (C : Op → Op → Type 0) (h : List Op) (o : ObjectId)
+    (g : List OpId) : Type 0 where
   pub rising : IsStrictlySortedBy id_cmp g
   pub created : HasOn h o o.0
   pub makes : IsSome (made_kind created.op.change)
   pub members : (i : OpId) → Contains g i → HasOn h o i
   pub compatible : (a b : Op) → IsMember h g a → IsMember h g b → ¬ (C a b)
-  pub largest : (a : Op) → Contains h a → object_of a ≡ o → ¬ (Contains g a.id) → ConflictsWithin C h g a
+  pub largest : (a : Op) → Contains h a → object_of a ≡ o → ¬ (Contains g a.id)
+      → ConflictsWithin C h g a
 
 -- the group g is a version of the object o of h
 abbrev pub IsVersion : List Op → ObjectId → List OpId → Type 0

@@ -4,7 +4,7 @@ ghost use Rattle.std.specs.Prelude.{◌≡◌, ◌↔◌, ◌≤◌, ◌<◌, �
 ghost use Rattle.std.specs.Prelude.{slice_index_or, IsTrue, IfSome, IfNone};
 ghost use Rattle.gf_ops.specs.declared.op.OpId.{OpId};
 ghost use Rattle.gf_ops.specs.declared.change.Value.{Value};
-ghost use Rattle.gf_ops.specs.AimTests.{AreCalm};
+ghost use Rattle.gf_ops.specs.AimTests.{AreDirectlyCompatible};
 ghost use Rattle.gf_ops.specs.AimWalk.{place_of, AreOnOne, AreParted, ArePartedBelow, KnewAt};
 ghost use Rattle.gf_ops.specs.AimWalk.{SetsAt, SetsSome, GivesAnother, IsLatest};
 ghost use Rattle.gf_ops.specs.AimWalk.{TellsOne, Tells, NoneAbove, MeetsTable, IsNoted};
@@ -40,10 +40,10 @@ fn place_of(value: &Value) -> usize
 impl History {
     /// Whether no two operations under these ids, which rise, conflict directly. It walks over the
     /// ids once for every two sites.
-    pub(crate) fn are_calm(&self, ids: &[OpId]) -> bool
+    pub(crate) fn are_directly_compatible(&self, ids: &[OpId]) -> bool
         requires rising { IsTrue (ids_rise ids.now) }
         requires object { AreOnOne self.now.ops ids.now }
-        ensures { IsTrue result ↔ AreCalm self.now.ops ids.now }
+        ensures { IsTrue result ↔ AreDirectlyCompatible self.now.ops ids.now }
     {
         // Its clause says that the history is valid.
         let _ = self.ops();

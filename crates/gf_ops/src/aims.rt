@@ -94,7 +94,7 @@ impl History {
     {
         // Its clause says that the history is valid.
         let _ = self.ops();
-        self.may_aim(op) && self.are_calm(op.aim())
+        self.may_aim(op) && self.are_directly_compatible(op.aim())
     }
 
     /// Whether an operation may aim at each operation of its aim.

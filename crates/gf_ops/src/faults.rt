@@ -17,7 +17,7 @@ pub enum OpFault {
     /// a polygon a size, a circle two numbers that are not one.
     #[error("WrongKind")]
     WrongKind,
-    /// Its aim has an operation that is not there, does not come before it or concerns another
+    /// The aim has an operation that is not there, does not come before it or concerns another
     /// object, or two that conflict directly, or lacks one that an operation of the aim aims at.
     #[error("BadAim")]
     BadAim,

@@ -26,7 +26,7 @@ impl Model for Ids {
 }
 
 impl Ids {
-    /// These ids in their order.
+    /// The given ids in their order.
     pub fn new(ids: Vec<OpId>) -> Ids
         ensures { result ≡ ids.items }
     {

@@ -1,5 +1,6 @@
 -- The operations on an object that aim at others, by the numbers of its setters.
-use Rattle.std.specs.Prelude.{◌≡◌, ◌≢◌, ◌↔◌, ℕ, true, List, [], Contains, Option, Some, None, slice_get}
+use Rattle.std.specs.Prelude.{◌≡◌, ◌≢◌, ◌↔◌, ℕ, true, List, [], Contains}
+use Rattle.std.specs.Prelude.{Option, Some, None, slice_get}
 use Rattle.gf_maximal.specs.Growing.{meets}
 use Rattle.gf_ops.specs.declared.op.Op.{Op}
 use Rattle.gf_ops.specs.declared.op.OpId.{OpId}
@@ -12,7 +13,8 @@ use Rattle.gf_rivals.specs.Chains.{position_of}
 use Rattle.gf_rivals.specs.Rivals.{IsNumber, IsDirect}
 
 -- m is the number of a setter that has one of the ids
-pub record IsAmong (h : List Op) (cs : List (List Setter)) (ids : List OpId) (m : ℕ) : Type 0 where
+pub record IsAmong (h : List Op) (cs : List (List Setter)) (ids : List OpId)
+    (m : ℕ) : Type 0 where
   pub position : ℕ
   pub op : Op
   pub number : IsNumber cs m position
@@ -45,7 +47,8 @@ pub record HasState (es : List AimedState) (n : ℕ) : Type 0 where
 -- es are the states of the setters that aim at some operation
 pub record AreAimed (h : List Op) (cs : List (List Setter)) (es : List AimedState) : Type 0 where
   pub each : (e : AimedState) → Contains es e → IsAimedState h cs e
-  pub all : (n q : ℕ) (b : Op) → IsNumber cs n q → slice_get h q ≡ Some b → aim_of b ≢ [] → HasState es n
+  pub all : (n q : ℕ) (b : Op) → IsNumber cs n q → slice_get h q ≡ Some b
+      → aim_of b ≢ [] → HasState es n
 
 -- an operation of es with the number n aims at one of the numbers us
 pub record AimsAtOne (es : List AimedState) (us : List ℕ) (n : ℕ) : Type 0 where
@@ -72,7 +75,8 @@ pub record Clash (h : List Op) (cs : List (List Setter)) (m n : ℕ) : Type 0 wh
   pub direct : DirectConflict first second
 
 -- a setter with one of the numbers us conflicts directly with that with the number n
-pub record ClashesWithOne (h : List Op) (cs : List (List Setter)) (us : List ℕ) (n : ℕ) : Type 0 where
+pub record ClashesWithOne (h : List Op) (cs : List (List Setter)) (us : List ℕ)
+    (n : ℕ) : Type 0 where
   pub one : ℕ
   pub among : Contains us one
   pub clash : Clash h cs one n

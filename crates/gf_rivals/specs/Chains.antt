@@ -1,5 +1,6 @@
 -- The setters of an object, by attribute and site.
-use Rattle.std.specs.Prelude.{ℕ, ◌+◌, ◌*◌, ◌/◌, ◌%◌, ◌<◌, List, [], ◌∷◌, ◌++◌, slice_index_or, slice_get, slice_set, Option, option_map}
+use Rattle.std.specs.Prelude.{ℕ, ◌+◌, ◌*◌, ◌/◌, ◌%◌, ◌<◌, List, [], ◌∷◌}
+use Rattle.std.specs.Prelude.{◌++◌, slice_index_or, slice_get, slice_set, Option, option_map}
 use Rattle.std.specs.List.{repeat}
 use Rattle.gf_ops.specs.declared.change.Attr.{Attr}
 use Rattle.gf_ops.specs.declared.change.Attr.TheVariants.{Place, Points, Size, Colour, Layer, Shown}

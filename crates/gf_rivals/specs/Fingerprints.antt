@@ -26,7 +26,8 @@ fingerprint_of (value.Points ps) = point_fingerprint attr.Points (slice_get ps 0
 fingerprint_of (value.Size w h) = numbers_fingerprint attr.Size (pos w) (pos h) (pos 0)
 fingerprint_of (value.Colour c) = numbers_fingerprint attr.Colour (pos c.r) (pos c.g) (pos c.b)
 fingerprint_of (value.Layer n) = numbers_fingerprint attr.Layer (pos n) (pos 0) (pos 0)
-fingerprint_of (value.Shown b) = numbers_fingerprint attr.Shown (cond b (pos 1) (pos 0)) (pos 0) (pos 0)
+fingerprint_of (value.Shown b) =
+    numbers_fingerprint attr.Shown (cond b (pos 1) (pos 0)) (pos 0) (pos 0)
 
 -- no other value has the fingerprint of this one
 abbrev pub has_own_fingerprint : Value → Bool

@@ -1,5 +1,6 @@
 -- The numbers of the setters by the fingerprints of their values.
-use Rattle.std.specs.Prelude.{◌≡◌, ◌↔◌, ℕ, List, [], Contains, cond, Some, slice_get, unwrap_or}
+use Rattle.std.specs.Prelude.{◌≡◌, ◌↔◌, ℕ, List, [], Contains, cond, Some, slice_get}
+use Rattle.std.specs.Prelude.{unwrap_or}
 use Rattle.std.specs.BTreeMap.{is_at}
 use Rattle.std.specs.Map.{lookup}
 use Rattle.gf_maximal.specs.Growing.{joined}
@@ -19,14 +20,16 @@ abbrev pub numbers_at : Entries → Fingerprint → List ℕ
 numbers_at ix p = unwrap_or (lookup (is_at (fingerprint_cmp p)) ix) []
 
 -- n is the number of a setter of the chains whose value in h has the fingerprint p
-pub record HasFingerprint (h : List Op) (cs : List (List Setter)) (p : Fingerprint) (n : ℕ) : Type 0 where
+pub record HasFingerprint (h : List Op) (cs : List (List Setter)) (p : Fingerprint)
+    (n : ℕ) : Type 0 where
   pub position : ℕ
   pub number : IsNumber cs n position
   pub given : fingerprint_given (op_value (slice_get h position)) ≡ Some p
 
 -- the index has the setters of the chains, by the fingerprints of their values in h
 abbrev pub IsIndex : List Op → List (List Setter) → Entries → Type 0
-IsIndex h cs ix = (p : Fingerprint) (n : ℕ) → Contains (numbers_at ix p) n ↔ HasFingerprint h cs p n
+IsIndex h cs ix = (p : Fingerprint) (n : ℕ) → Contains (numbers_at ix p) n
+    ↔ HasFingerprint h cs p n
 
 -- new has the numbers ns under the fingerprint p, and the others of old
 abbrev pub PutsNumbers : Entries → Fingerprint → List ℕ → Entries → Type 0

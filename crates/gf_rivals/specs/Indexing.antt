@@ -1,5 +1,6 @@
 -- How an index is made, one setter after the other. No public clause cites this module.
-use Rattle.std.specs.Prelude.{◌≡◌, ◌↔◌, ◌⊎◌, ℕ, ◌+◌, ◌*◌, ◌<◌, List, [], Contains, Option, None, Some}
+use Rattle.std.specs.Prelude.{◌≡◌, ◌↔◌, ◌⊎◌, ℕ, ◌+◌, ◌*◌, ◌<◌, List}
+use Rattle.std.specs.Prelude.{[], Contains, Option, None, Some}
 use Rattle.std.specs.Prelude.{length, slice_get, slice_index_or}
 use Rattle.gf_ops.specs.declared.op.Op.{Op}
 use Rattle.gf_rivals.specs.declared.chain.Setter.{Setter}
@@ -15,7 +16,8 @@ PutsGiven old (Some p) x new = PutsNumber old p x new
 
 -- n is the number of one of the first m setters of ss, whose value has the fingerprint p;
 -- the first setter of all has the number b
-pub record IsListed (h : List Op) (ss : List Setter) (b m : ℕ) (p : Fingerprint) (n : ℕ) : Type 0 where
+pub record IsListed (h : List Op) (ss : List Setter) (b m : ℕ) (p : Fingerprint)
+    (n : ℕ) : Type 0 where
   pub place : ℕ
   pub within : place < m
   pub setter : Setter
@@ -30,10 +32,12 @@ Lists h ss b m old new = (p : Fingerprint) (n : ℕ)
 
 -- new has what old has, and the setters of the chain with the index k
 abbrev pub ListsChain : List Op → List (List Setter) → ℕ → Entries → Entries → Type 0
-ListsChain h cs k old new = let ss = slice_index_or cs k [] in Lists h ss (k * block) (length ss) old new
+ListsChain h cs k old new = let ss = slice_index_or cs k []
+    in Lists h ss (k * block) (length ss) old new
 
 -- n is the number of a setter of the first k chains whose value has the fingerprint p
-pub record IsListedBelow (h : List Op) (cs : List (List Setter)) (k : ℕ) (p : Fingerprint) (n : ℕ) : Type 0 where
+pub record IsListedBelow (h : List Op) (cs : List (List Setter)) (k : ℕ) (p : Fingerprint)
+    (n : ℕ) : Type 0 where
   pub chain : ℕ
   pub below : chain < k
   pub place : ℕ

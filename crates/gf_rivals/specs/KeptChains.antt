@@ -1,5 +1,7 @@
--- The chains that are kept, and the list of all chains that they are seen as. No public clause cites this module.
-use Rattle.std.specs.Prelude.{◌≡◌, ℕ, zero, suc, ◌≤◌, List, [], ◌∷◌, cond, None, Some, unwrap_or}
+-- The chains that are kept, and the list of all chains that they are seen as. No public clause
+-- cites this module.
+use Rattle.std.specs.Prelude.{◌≡◌, ℕ, zero, suc, ◌≤◌, List, [], ◌∷◌, cond, None}
+use Rattle.std.specs.Prelude.{Some, unwrap_or}
 use Rattle.std.specs.BTreeMap.{is_at}
 use Rattle.std.specs.Map.{lookup}
 use Rattle.std.specs.Ordering.{nat_cmp}
@@ -33,4 +35,5 @@ PutsChain old k ss new = (j : ℕ) → lookup (is_at (nat_cmp j)) new
 
 -- new has the chains of old
 abbrev pub KeepsChains : Kept → Kept → Type 0
-KeepsChains old new = (j : ℕ) → lookup (is_at (nat_cmp j)) new ≡ lookup (is_at (nat_cmp j)) old
+KeepsChains old new = (j : ℕ) → lookup (is_at (nat_cmp j)) new
+    ≡ lookup (is_at (nat_cmp j)) old

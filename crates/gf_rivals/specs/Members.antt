@@ -1,5 +1,8 @@
--- The setters of an aim, from the last one on, with the next one of their chain that gives another value.
-use Rattle.std.specs.Prelude.{◌≡◌, ◌≢◌, ℕ, ◌+◌, ◌*◌, ◌/◌, ◌<◌, ◌≤◌, List, Contains, Option, Some, None, slice_get, slice_index_or, length}
+-- The setters of an aim, from the last one on, with the next one of their chain that gives another
+-- value.
+use Rattle.std.specs.Prelude.{◌≡◌, ◌≢◌, ℕ, ◌+◌, ◌*◌, ◌/◌, ◌<◌}
+use Rattle.std.specs.Prelude.{◌≤◌, List, Contains, Option, Some, None, slice_get}
+use Rattle.std.specs.Prelude.{slice_index_or, length}
 use Rattle.gf_ops.specs.declared.op.Op.{Op}
 use Rattle.gf_ops.specs.declared.op.ObjectId.{ObjectId}
 use Rattle.gf_ops.specs.declared.op.Clock.{Clock}
@@ -21,26 +24,33 @@ value_of h cs n = op_value (op_of h cs n)
 
 -- the numbers of the members fall
 abbrev pub AreFalling : List Member → Type 0
-AreFalling ms = (i j : ℕ) (d : Member) → i < j → j < length ms → (slice_index_or ms j d).number < (slice_index_or ms i d).number
+AreFalling ms = (i j : ℕ) (d : Member) → i < j → j < length ms
+    → (slice_index_or ms j d).number < (slice_index_or ms i d).number
 
 -- m and n are numbers of one chain
 abbrev pub OneChain : ℕ → ℕ → Type 0
 OneChain m n = m / block ≡ n / block
 
 -- r is what a number has as its next one with another value, where next is the member behind it
-abbrev pub IsOther : List Op → List (List Setter) → ℕ → Option Member → Option ℕ → Type 0
+abbrev pub IsOther : List Op → List (List Setter) → ℕ → Option Member → Option ℕ
+    → Type 0
 IsOther h cs n None r = r ≡ None
 IsOther h cs n (Some m) r = (¬ (OneChain m.number n) → r ≡ None)
     × (OneChain m.number n → value_of h cs n ≢ value_of h cs m.number → r ≡ Some m.number)
     × (OneChain m.number n → value_of h cs n ≡ value_of h cs m.number → r ≡ m.other)
 
 -- the other of a member is the first one of us behind it, in its chain, with another value
-pub record IsMember (h : List Op) (cs : List (List Setter)) (us : List ℕ) (m : Member) : Type 0 where
-  pub is : (o : ℕ) → m.other ≡ Some o → Contains us o × OneChain o m.number × (m.number ≤ o) × (value_of h cs o ≢ value_of h cs m.number)
-  pub told : (y : ℕ) → Contains us y → OneChain y m.number → m.number ≤ y → value_of h cs y ≢ value_of h cs m.number → (o : ℕ) × (m.other ≡ Some o) × (o ≤ y)
+pub record IsMember (h : List Op) (cs : List (List Setter)) (us : List ℕ)
+    (m : Member) : Type 0 where
+  pub is : (o : ℕ) → m.other ≡ Some o → Contains us o × OneChain o m.number
+      × (m.number ≤ o) × (value_of h cs o ≢ value_of h cs m.number)
+  pub told : (y : ℕ) → Contains us y → OneChain y m.number → m.number ≤ y
+      → value_of h cs y ≢ value_of h cs m.number → (o : ℕ) × (m.other ≡ Some o)
+      × (o ≤ y)
 
 -- ms are the members with the numbers us
-pub record AreMembers (h : List Op) (cs : List (List Setter)) (us : List ℕ) (ms : List Member) : Type 0 where
+pub record AreMembers (h : List Op) (cs : List (List Setter)) (us : List ℕ)
+    (ms : List Member) : Type 0 where
   pub falling : AreFalling ms
   pub listed : (m : Member) → Contains ms m → Contains us m.number
   pub all : (y : ℕ) → Contains us y → (m : Member) × Contains ms m × (m.number ≡ y)
@@ -51,7 +61,8 @@ abbrev pub ListsSetters : List (List Setter) → List ℕ → Type 0
 ListsSetters cs us = (n : ℕ) → Contains us n → (q : ℕ) × IsNumber cs n q
 
 -- ms are members of the object o
-pub record AreMembersOf (h : List Op) (o : ObjectId) (cs : List (List Setter)) (us : List ℕ) (ms : List Member) : Type 0 where
+pub record AreMembersOf (h : List Op) (o : ObjectId) (cs : List (List Setter)) (us : List ℕ)
+    (ms : List Member) : Type 0 where
   pub tells : Tells h o cs
   pub setters : ListsSetters cs us
   pub members : AreMembers h cs us ms
@@ -63,13 +74,18 @@ pub record IsOfChain (ms : List Member) (k : ℕ) (m : Member) : Type 0 where
   pub chain : OneChain m.number k
 
 -- k is the first number of a setter of t by the site s + 1 that the clock does not count
-pub record IsFirstUnknown (cs : List (List Setter)) (t : Attr) (s : ℕ) (past : Clock) (k : ℕ) : Type 0 where
+pub record IsFirstUnknown (cs : List (List Setter)) (t : Attr) (s : ℕ) (past : Clock)
+    (k : ℕ) : Type 0 where
   pub chain : k / block ≡ chain_of t s
-  pub unknown : (p : ℕ) (e : Setter) → slice_get (setters cs t s) p ≡ Some e → k ≤ chain_of t s * block + p → entry past (s + 1) < e.seq
-  pub from : (p : ℕ) (e : Setter) → slice_get (setters cs t s) p ≡ Some e → entry past (s + 1) < e.seq → k ≤ chain_of t s * block + p
+  pub unknown : (p : ℕ) (e : Setter) → slice_get (setters cs t s) p ≡ Some e
+      → k ≤ chain_of t s * block + p → entry past (s + 1) < e.seq
+  pub from : (p : ℕ) (e : Setter) → slice_get (setters cs t s) p ≡ Some e
+      → entry past (s + 1) < e.seq → k ≤ chain_of t s * block + p
 
--- y is one of us and conflicts directly with the setter with the number n, which does not know what stands from k on
-pub record CanClash (h : List Op) (o : ObjectId) (cs : List (List Setter)) (us : List ℕ) (ms : List Member) (k n y : ℕ) : Type 0 where
+-- y is one of us and conflicts directly with the setter with the number n, which does not know what
+-- stands from k on
+pub record CanClash (h : List Op) (o : ObjectId) (cs : List (List Setter)) (us : List ℕ)
+    (ms : List Member) (k n y : ℕ) : Type 0 where
   pub valid : IsValid h
   pub members : AreMembersOf h o cs us ms
   pub among : Contains us y

@@ -1,5 +1,6 @@
 -- Which setters of an object conflict with the next operation.
-use Rattle.std.specs.Prelude.{◌≡◌, ◌↔◌, ℕ, ◌+◌, ◌*◌, ◌<◌, List, Contains, Some, slice_get, length}
+use Rattle.std.specs.Prelude.{◌≡◌, ◌↔◌, ℕ, ◌+◌, ◌*◌, ◌<◌, List, Contains}
+use Rattle.std.specs.Prelude.{Some, slice_get, length}
 use Rattle.gf_ops.specs.declared.op.Op.{Op}
 use Rattle.gf_ops.specs.declared.op.OpId.{OpId}
 use Rattle.gf_ops.specs.declared.op.ObjectId.{ObjectId}
@@ -37,8 +38,10 @@ pub record IsNumber (cs : List (List Setter)) (n q : ℕ) : Type 0 where
 
 -- the chains have the setters of o in h, those of each site in their order
 pub record Tells (h : List Op) (o : ObjectId) (cs : List (List Setter)) : Type 0 where
-  pub each : (t : Attr) (s p : ℕ) (e : Setter) → s < 8 → slice_get (setters cs t s) p ≡ Some e → IsSetter h o t s e
-  pub all : (q : ℕ) (b : Op) (v : Value) (aim : List OpId) → slice_get h q ≡ Some b → b.change ≡ Set o v aim → (n : ℕ) × IsNumber cs n q
+  pub each : (t : Attr) (s p : ℕ) (e : Setter) → s < 8
+      → slice_get (setters cs t s) p ≡ Some e → IsSetter h o t s e
+  pub all : (q : ℕ) (b : Op) (v : Value) (aim : List OpId) → slice_get h q ≡ Some b
+      → b.change ≡ Set o v aim → (n : ℕ) × IsNumber cs n q
   pub ordered : (t : Attr) (s : ℕ) → s < 8 → AreSetters (setters cs t s)
   pub count : length cs ≡ 48
 
@@ -50,9 +53,11 @@ pub record GivesAt (h : List Op) (o : ObjectId) (q : ℕ) (v : Value) : Type 0 w
   pub change : op.change ≡ Set o v aim
 
 -- d are the numbers of the setters that the clock does not count and that do not give the value v
-abbrev pub AreRivals : List Op → ObjectId → List (List Setter) → Value → Clock → List ℕ → Type 0
+abbrev pub AreRivals : List Op → ObjectId → List (List Setter) → Value → Clock → List ℕ
+    → Type 0
 AreRivals h o cs v past d = (n : ℕ) → Contains d n
-    ↔ (IsUnknown cs (attribute_of v) past 8 n × ((q : ℕ) → IsNumber cs n q → ¬ (GivesAt h o q v)))
+    ↔ (IsUnknown cs (attribute_of v) past 8 n
+    × ((q : ℕ) → IsNumber cs n q → ¬ (GivesAt h o q v)))
 
 -- n is the number of an operation of h that conflicts directly with a
 pub record IsDirect (h : List Op) (cs : List (List Setter)) (a : Op) (n : ℕ) : Type 0 where

@@ -1,5 +1,6 @@
 -- The operations of one site that set one attribute of an object, in their order.
-use Rattle.std.specs.Prelude.{◌≡◌, ℕ, ◌+◌, ◌<◌, ◌≤◌, List, Some, slice_get, slice_index_or, length}
+use Rattle.std.specs.Prelude.{◌≡◌, ℕ, ◌+◌, ◌<◌, ◌≤◌, List, Some, slice_get}
+use Rattle.std.specs.Prelude.{slice_index_or, length}
 use Rattle.gf_rivals.specs.declared.chain.Setter.{Setter}
 
 -- how many numbers are kept for one chain
@@ -8,7 +9,8 @@ block = 4294967296
 
 -- their numbers rise, from one on
 pub record AreSetters (ss : List Setter) : Type 0 where
-  pub rise : (i j : ℕ) (d : Setter) → i < j → j < length ss → (slice_index_or ss i d).seq < (slice_index_or ss j d).seq
+  pub rise : (i j : ℕ) (d : Setter) → i < j → j < length ss
+      → (slice_index_or ss i d).seq < (slice_index_or ss j d).seq
   pub above : (i : ℕ) (d : Setter) → i < length ss → i < (slice_index_or ss i d).seq
   pub short : length ss < block
 
@@ -16,7 +18,8 @@ pub record AreSetters (ss : List Setter) : Type 0 where
 pub record IsCountUpTo (ss : List Setter) (m k : ℕ) : Type 0 where
   pub bound : k ≤ length ss
   pub below : (i : ℕ) (d : Setter) → i < k → (slice_index_or ss i d).seq ≤ m
-  pub above : (i : ℕ) (d : Setter) → k ≤ i → i < length ss → m < (slice_index_or ss i d).seq
+  pub above : (i : ℕ) (d : Setter) → k ≤ i → i < length ss
+      → m < (slice_index_or ss i d).seq
 
 -- n is what the number of one of the setters above m is, where b is that of the first
 pub record IsAbove (ss : List Setter) (b m n : ℕ) : Type 0 where

@@ -69,6 +69,9 @@ pub fn with_aimed(alloc: Global, numbers: Numbers, aimed: &[Aimed]) -> Result<Nu
     ensures { IfOk result (λ found. (n : _)
         → Contains found n ↔ (Contains numbers n ⊎ AimsAtOne aimed.now numbers n)) }
 {
+    if aimed.is_empty() {
+        return Ok(numbers);
+    }
     let mut found = numbers.copy(alloc)?;
     for operation in aimed {
         operation.join_to(&numbers, &mut found)?;

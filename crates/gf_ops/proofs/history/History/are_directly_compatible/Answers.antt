@@ -1,6 +1,6 @@
 use Rattle.std.proofs.Common.{arith, refl}
 use Rattle.gf_ops.proofs.SiteWalkLemmas.{all_calm}
-use Rattle.gf_ops.proofs.history.History.are_calm.Goals as goal
+use Rattle.gf_ops.proofs.history.History.are_directly_compatible.Goals as goal
 
 pub returns : goal.returns
 returns c =

@@ -1,0 +1,54 @@
+//! What an operation that waits lacks.
+
+ghost use Rattle.std.specs.Prelude.{◌≡◌};
+ghost use Rattle.gf_ops.specs.OperationOrder.{entry};
+ghost use Rattle.gf_causal.specs.Waiting.{first_missing, needed, waits_for};
+
+use gf_ops::{Clock, History, Op, OpId};
+
+/// The numbers of all sites.
+const SITES: [u8; 8] = [1, 2, 3, 4, 5, 6, 7, 8];
+
+/// The operation that one waits for behind the history. It is the next one of the first site that
+/// has fewer than are needed. Of what is ready it is the one before.
+pub fn waits_for(history: &History, op: &Op) -> OpId
+    ensures { result ≡ waits_for history.now.ops op.now }
+{
+    first_missing(history, op, &SITES)
+}
+
+fn first_missing(history: &History, op: &Op, sites: &[u8]) -> OpId
+    ensures { result ≡ first_missing history.now.ops op.now sites.now }
+{
+    for site in sites {
+        let count = history.count(*site);
+        if count < needed(op, *site) {
+            return OpId {
+                site: *site,
+                seq: count + 1,
+            };
+        }
+    }
+    OpId {
+        site: op.id.site,
+        seq: op.id.seq.saturating_sub(1),
+    }
+}
+
+/// How many operations of the site the operation needs.
+fn needed(op: &Op, site: u8) -> u32
+    ensures { result ≡ needed op.now site }
+{
+    if site == op.id.site {
+        op.id.seq.saturating_sub(1)
+    } else {
+        entry(op.past, site)
+    }
+}
+
+fn entry(past: Clock, site: u8) -> u32
+    ensures { result ≡ entry past site }
+{
+    let place = usize::from(site).saturating_sub(1);
+    past.0.get(place).copied().unwrap_or(0)
+}
