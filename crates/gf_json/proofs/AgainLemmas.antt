@@ -9,7 +9,7 @@ use Rattle.gf_digits.proofs.HexLemmas.{rgb_of_hex-hex_rgb}
 use Rattle.gf_ops.specs.declared.op.OpId.{OpId}
 use Rattle.gf_ops.specs.declared.op.Clock.{Clock}
 use Rattle.gf_shape.specs.Polygons.{is_polygon_count}
-use Rattle.gf_ops.specs.Limits.{is_id, is_clock, is_near, is_size, is_polygon, is_layer}
+use Rattle.gf_ops.specs.Limits.{is_site, is_id, is_clock, is_near, is_size, is_polygon, is_layer}
 use Rattle.serde_json.specs.Data.{Data}
 use Rattle.serde_json.specs.View.{items_of}
 use Rattle.gf_json.specs.LineValues.{Got, and_then, whole, elements, array, each}
@@ -46,6 +46,10 @@ pub level_again : (n : ℕ) → is_layer n ≡ true → level (natural_data n) �
 level_again n h = natural_again 0 9999 n (grind (arith, h)) refl
 
 -- ---- names, sizes and points
+
+-- a site
+pub site_again : (n : ℕ) → is_site n ≡ true → natural 1 8 (natural_data n) ≡ Ok n
+site_again n h = natural_again 1 8 n h refl
 
 -- a name
 pub name_again : (i : OpId) → is_id i ≡ true → name (name_data i) ≡ Ok i

@@ -5,5 +5,7 @@ pub mod IdLemmas
 pub mod WrittenLemmas
 pub mod AgainLemmas
 pub mod OpAgainLemmas
+pub mod ScriptAgainLemmas
+pub mod OneLineLemmas
 pub mod MissingKeys
 pub mod ByteLemmas

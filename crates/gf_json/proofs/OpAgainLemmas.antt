@@ -99,7 +99,7 @@ setting_again i p o v (j ∷ js) name h few bytes =
 
 -- ---- operations
 
-change_again : (i p : Data) (c : Change) → is_change c ≡ true → ChangeHasBytes c → change (codes "op") op_keys (change_data i p c) ≡ Ok c
+pub change_again : (i p : Data) (c : Change) → is_change c ≡ true → ChangeHasBytes c → change (codes "op") op_keys (change_data i p c) ≡ Ok c
 change_again i p (Create s) h bytes =
     let rest = both_true (is_form s.form && is_near s.place) (is_layer s.layer) h in
     let first = both_true (is_form s.form) (is_near s.place) rest.0 in

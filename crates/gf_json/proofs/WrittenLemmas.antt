@@ -1,5 +1,5 @@
--- What is written for an operation: integers only, and few levels.
-use Rattle.std.proofs.Common.{◌≡◌, ℕ, ◌≤◌, List, [], ◌∷◌, map, refl, arith, false, pos, negsuc, ℤ}
+-- What is written for an operation or a command: integers only, and few levels.
+use Rattle.std.proofs.Common.{◌≡◌, ℕ, ◌≤◌, List, [], ◌∷◌, ◌++◌, map, refl, arith, false, pos, negsuc, ℤ, codes}
 use Rattle.gf_shape.specs.declared.point.Point.{Point}
 use Rattle.gf_ops.specs.declared.op.Op.{Op}
 use Rattle.gf_ops.specs.declared.op.OpId.{OpId}
@@ -11,13 +11,18 @@ use Rattle.gf_ops.specs.declared.change.Change.{Change}
 use Rattle.gf_ops.specs.declared.change.Change.TheVariants.{Create, Set}
 use Rattle.gf_ops.specs.declared.change.Value.{Value}
 use Rattle.gf_ops.specs.declared.change.Value.TheVariants as value
-use Rattle.serde_json.specs.Data.{Data, depth, items_depth}
+use Rattle.gf_json.specs.declared.scripts.Command.{Command}
+use Rattle.gf_json.specs.declared.scripts.Command.TheVariants.{Author, Await}
+use Rattle.gf_json.specs.declared.scripts.ScriptLine.{ScriptLine}
+use Rattle.serde_json.specs.Data.{Data, string, object, no_members, depth, items_depth}
 use Rattle.serde_json.specs.Find.{of_integer, is_float}
 use Rattle.serde_json.specs.Read.{max_depth}
 use Rattle.serde_json.specs.View.{items_of}
 use Rattle.serde_json.specs.Written.{has_float, items_have_float}
 use Rattle.gf_json.specs.WrittenValues.{natural_data, name_data, ids_data, clock_data, point_data, points_data, value_data}
 use Rattle.gf_json.specs.WrittenLines.{creation_data, change_data, data_of}
+use Rattle.gf_json.specs.WrittenMembers.{put_all, look_members, form_members}
+use Rattle.gf_json.specs.WrittenScripts.{script_data}
 
 -- ---- no float
 
@@ -63,6 +68,29 @@ has_float-change_data i c (Set o v (j ∷ js)) = rw (has_float-ids_data (j ∷ j
 pub has_float-data_of : (a : Op) → has_float (data_of a) ≡ false
 has_float-data_of a = has_float-change_data a.id a.past a.change
 
+-- the value of the line that gives site n the command c
+abbrev pub line_data : ℕ → Command → Data
+line_data n c = script_data (record { site = n; command = c })
+
+-- the value of the line that tells site n to create an object of the form f
+abbrev pub create_data : ℕ → Start → Form → Data
+create_data n s f = object (put_all ((codes "site", natural_data n) ∷ (codes "do", string (codes "create")) ∷ (look_members s ++ form_members f)) no_members)
+
+has_float-create_data : (n : ℕ) (s : Start) (f : Form) → has_float (create_data n s f) ≡ false
+has_float-create_data n s (Rect width height) = rw (has_float-point_data s.place) refl
+has_float-create_data n s (Polygon ps) = rw (has_float-point_data s.place, has_float-points_data ps) refl
+has_float-create_data n s (Circle radius) = rw (has_float-point_data s.place) refl
+has_float-create_data n s (Ellipse rx ry) = rw (has_float-point_data s.place) refl
+
+has_float-line_data : (n : ℕ) (c : Command) → has_float (line_data n c) ≡ false
+has_float-line_data n (Author (Create s)) = has_float-create_data n s s.form
+has_float-line_data n (Author (Set o v [])) = rw (has_float-value_data v) refl
+has_float-line_data n (Author (Set o v (j ∷ js))) = rw (has_float-ids_data (j ∷ js), has_float-value_data v) refl
+has_float-line_data n (Await i) = refl
+
+pub has_float-script_data : (s : ScriptLine) → has_float (script_data s) ≡ false
+has_float-script_data s = has_float-line_data s.site s.command
+
 -- ---- few levels
 
 items_depth-map : {A : Type 0} (f : A → Data) (n : ℕ) → ((a : A) → depth (f a) ≤ n) → (xs : List A) → items_depth (items_of (map f xs)) ≤ n
@@ -99,3 +127,18 @@ depth-change_data i c (Set o v (j ∷ js)) = let h = depth-ids_data (j ∷ js) i
 
 pub depth-data_of : (a : Op) → depth (data_of a) ≤ max_depth
 depth-data_of a = let k = depth-change_data a.id a.past a.change in omega (arith, k)
+
+depth-create_data : (n : ℕ) (s : Start) (f : Form) → depth (create_data n s f) ≤ 3
+depth-create_data n s (Rect width height) = omega arith
+depth-create_data n s (Polygon ps) = let l = depth-points_data ps in omega (arith, l)
+depth-create_data n s (Circle radius) = omega arith
+depth-create_data n s (Ellipse rx ry) = omega arith
+
+depth-line_data : (n : ℕ) (c : Command) → depth (line_data n c) ≤ 3
+depth-line_data n (Author (Create s)) = depth-create_data n s s.form
+depth-line_data n (Author (Set o v [])) = let l = depth-value_data v in omega (arith, l)
+depth-line_data n (Author (Set o v (j ∷ js))) = let h = depth-ids_data (j ∷ js) in let l = depth-value_data v in omega (arith, h, l)
+depth-line_data n (Await i) = omega arith
+
+pub depth-script_data : (s : ScriptLine) → depth (script_data s) ≤ max_depth
+depth-script_data s = let k = depth-line_data s.site s.command in omega (arith, k)

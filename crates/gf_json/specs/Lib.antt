@@ -11,6 +11,7 @@ pub mod ScriptLines
 pub mod WrittenValues
 pub mod WrittenLines
 pub mod WrittenMembers
+pub mod WrittenScripts
 pub mod CheckedPoints
 pub mod CheckedIds
 pub mod ColourBytes

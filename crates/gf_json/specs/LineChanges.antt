@@ -1,4 +1,5 @@
--- The change that a line tells of (RFC 8259 by serde_json's value; words and forms are this project's choice).
+-- The change that a line tells of (RFC 8259 by serde_json's value; words and forms are this
+-- project's choice).
 use Rattle.std.specs.Prelude.{ℕ, List, [], Ok, Err, codes, if◌then◌else◌}
 use Rattle.gf_ops.specs.declared.op.OpId.{OpId}
 use Rattle.gf_ops.specs.declared.change.Form.{Form}
@@ -19,7 +20,13 @@ use Rattle.gf_json.specs.LineKeys.{says, creates, sets, sets_aimed}
 -- what a new object of the form begins with
 abbrev pub start : Got Form → Data → Got Start
 start form d = mapped
-    (λ (shape, (at, (fill, (level, visible)))). record { form = shape; place = at; colour = fill; layer = level; shown = visible })
+    (λ (shape, (at, (fill, (level, visible)))). record {
+      form = shape;
+      place = at;
+      colour = fill;
+      layer = level;
+      shown = visible;
+    })
     (form & place d & colour d & layer d & shown d)
 
 -- v in the form of the attribute that the line d names
@@ -45,13 +52,15 @@ creation form d = mapped Create (start form d)
 abbrev pub setting : Got Value → Got (List OpId) → Data → Got Change
 setting v aim d = mapped (λ (o, (new, ids)). Set o new ids) (object d & v & aim)
 
--- the change of a line whose verb stands at this key, and which has these keys beside those of the change
+-- the change of a line whose verb stands at this key, and which has these keys beside those of the
+-- change
 abbrev pub change : List ℕ → List (List ℕ) → Data → Got Change
 change verb beside d =
     if creates verb beside (codes "box") (codes "size") d then creation (box_size d) d
     else (if creates verb beside (codes "circle") (codes "size") d then creation (circle_size d) d
     else (if creates verb beside (codes "ellipse") (codes "size") d then creation (ellipse_size d) d
-    else (if creates verb beside (codes "polygon") (codes "points") d then creation (polygon_points d) d
+    else (if creates verb beside (codes "polygon") (codes "points") d
+    then creation (polygon_points d) d
     else (if sets verb beside d then setting (new_value d) (Ok []) d
     else (if sets_aimed verb beside d then setting (new_value d) (aim d) d
     else Err fault.Field)))))

@@ -1,4 +1,5 @@
--- What stands at each key of a line (RFC 8259 by serde_json's value; keys are this project's choice).
+-- What stands at each key of a line (RFC 8259 by serde_json's value; keys are this project's
+-- choice).
 use Rattle.std.specs.Prelude.{ℕ, Bool, List, codes}
 use Rattle.std.specs.Option.{ok_or}
 use Rattle.gf_shape.specs.declared.point.Point.{Point}

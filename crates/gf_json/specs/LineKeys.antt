@@ -1,5 +1,8 @@
--- The keys of each line, and the words at them (RFC 8259 by serde_json's value; keys and words are this project's choice).
-use Rattle.std.specs.Prelude.{ℕ, ◌+◌, Bool, false, ◌&&◌, ◌==◌, is_some, List, [], ◌∷◌, ◌++◌, length, Option, Some, None, option_and_then, codes}
+-- The keys of each line, and the words at them (RFC 8259 by serde_json's value; keys and words are
+-- this project's choice).
+use Rattle.std.specs.Prelude.{ℕ, ◌+◌, Bool, false, ◌&&◌, ◌==◌, is_some, List, []}
+use Rattle.std.specs.Prelude.{◌∷◌, ◌++◌, length, Option, Some, None, option_and_then}
+use Rattle.std.specs.Prelude.{codes}
 use Rattle.std.specs.Str.{bytes_eq}
 use Rattle.std.specs.List.{list_all}
 use Rattle.serde_json.specs.Data.{Data, Members, no_members, member}
@@ -21,7 +24,8 @@ await_keys = codes "do" ∷ codes "site" ∷ codes "id" ∷ []
 
 -- the keys of a change that creates an object; `shape` is the key of its form
 abbrev pub create_keys : List ℕ → List (List ℕ)
-create_keys shape = codes "kind" ∷ codes "place" ∷ shape ∷ codes "colour" ∷ codes "layer" ∷ codes "shown" ∷ []
+create_keys shape = codes "kind" ∷ codes "place" ∷ shape ∷ codes "colour" ∷ codes "layer"
+    ∷ codes "shown" ∷ []
 
 -- the keys of a change that sets an attribute
 abbrev pub set_keys : List (List ℕ)
@@ -45,7 +49,8 @@ has_count n (Some ms) = member_count ms == n
 
 -- an object with these keys and no other
 abbrev pub has_exactly : List (List ℕ) → Data → Bool
-has_exactly keys d = has_count (length keys) (as_object d) && list_all (λ key. is_some (get key d)) keys
+has_exactly keys d = has_count (length keys) (as_object d)
+    && list_all (λ key. is_some (get key d)) keys
 
 -- a string that is this word
 abbrev pub is_word : List ℕ → Option (List ℕ) → Bool
@@ -56,10 +61,12 @@ is_word word (Some text) = bytes_eq text word
 abbrev pub says : List ℕ → List ℕ → Data → Bool
 says key word d = is_word word (option_and_then as_str (get key d))
 
--- the line, with these keys beside those of its change, creates an object of the kind, its form at the key `shape`
+-- the line, with these keys beside those of its change, creates an object of the kind, its form at
+-- the key `shape`
 abbrev pub creates : List ℕ → List (List ℕ) → List ℕ → List ℕ → Data → Bool
 creates verb beside kind shape d =
-    has_exactly (beside ++ create_keys shape) d && says verb (codes "create") d && says (codes "kind") kind d
+    has_exactly (beside ++ create_keys shape) d && says verb (codes "create") d
+    && says (codes "kind") kind d
 
 -- the line, with these keys beside those of its change, sets an attribute
 abbrev pub sets : List ℕ → List (List ℕ) → Data → Bool

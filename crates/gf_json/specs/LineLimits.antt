@@ -1,5 +1,6 @@
 -- The limits of the values of a line (this project's choice).
-use Rattle.std.specs.Prelude.{ℕ, ◌&&◌, ◌==◌, nat_abs, int_le, ℤ, pos, negsuc, List, length, Ok, Err, if◌then◌else◌}
+use Rattle.std.specs.Prelude.{ℕ, ◌&&◌, ◌==◌, nat_abs, int_le, ℤ, pos, negsuc, List}
+use Rattle.std.specs.Prelude.{length, Ok, Err, if◌then◌else◌}
 use Rattle.std.specs.Ordering.{int_eq}
 use Rattle.gf_shape.specs.declared.point.Point.{Point}
 use Rattle.gf_shape.specs.Polygons.{is_polygon_count}
@@ -11,7 +12,8 @@ use Rattle.gf_json.specs.LineValues.{Got, mapped, and_then, ◌&◌, whole, arra
 
 -- a whole number from low to high
 abbrev pub integer : ℤ → ℤ → Data → Got ℤ
-integer low high d = and_then (λ n. if int_le low n && int_le n high then Ok n else Err fault.Range) (whole d)
+integer low high d = and_then (λ n. if int_le low n && int_le n high then Ok n
+    else Err fault.Range) (whole d)
 
 -- a natural number from low to high
 abbrev pub natural : ℕ → ℕ → Data → Got ℕ
@@ -27,7 +29,8 @@ side d = natural 1 1000000 d
 
 -- the size that stands twice, as a and as b
 abbrev pub side_twice : Data → Data → Got ℕ
-side_twice a b = and_then (λ p. if int_eq p.0 p.1 then side a else Err fault.Field) (whole a & whole b)
+side_twice a b = and_then (λ p. if int_eq p.0 p.1 then side a
+    else Err fault.Field) (whole a & whole b)
 
 -- an entry of a clock, 0 to 10,000
 abbrev pub entry : Data → Got ℕ
@@ -51,7 +54,8 @@ level d = natural 0 9999 d
 
 -- a clock has eight entries
 abbrev pub clock : List Data → Got Clock
-clock ds = if length ds == 8 then mapped (λ ns. record { 0 = ns }) (each entry ds) else Err fault.Field
+clock ds = if length ds == 8 then mapped (λ ns. record { 0 = ns }) (each entry ds)
+    else Err fault.Field
 
 -- ---- points
 

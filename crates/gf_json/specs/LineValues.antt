@@ -1,5 +1,7 @@
--- The forms of the values of a line (RFC 8259 by serde_json's value; which fault comes first is this project's choice).
-use Rattle.std.specs.Prelude.{Bool, ℤ, List, [], ◌∷◌, option_map, option_and_then, Result, Ok, Err}
+-- The forms of the values of a line (RFC 8259 by serde_json's value; which fault comes first is
+-- this project's choice).
+use Rattle.std.specs.Prelude.{Bool, ℤ, List, [], ◌∷◌, option_map, option_and_then, Result}
+use Rattle.std.specs.Prelude.{Ok, Err}
 use Rattle.std.specs.Option.{ok_or}
 use Rattle.gf_json.specs.declared.line_error.LineError.{LineError}
 use Rattle.gf_json.specs.declared.line_error.LineError.TheVariants as fault

@@ -18,7 +18,8 @@ json line = if is_utf8 line then ok_or (read line) fault.Json else Err fault.Jso
 
 -- the operation that makes the change c
 abbrev pub op_with : Got Change → Data → Got Op
-op_with c d = mapped (λ (name, (known, new)). record { id = name; past = known; change = new }) (id d & past d & c)
+op_with c d = mapped (λ (name, (known, new)). record { id = name; past = known; change = new })
+    (id d & past d & c)
 
 -- the operation of a line's value
 abbrev pub op_of : Data → Got Op

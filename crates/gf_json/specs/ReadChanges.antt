@@ -1,5 +1,7 @@
--- The change of a line by how many keys it has and by its words, without a look whether each key is there (this project's choice).
-use Rattle.std.specs.Prelude.{ℕ, ◌+◌, Bool, ◌&&◌, List, [], Ok, Err, codes, if◌then◌else◌}
+-- The change of a line by how many keys it has and by its words, without a look whether each key is
+-- there (this project's choice).
+use Rattle.std.specs.Prelude.{ℕ, ◌+◌, Bool, ◌&&◌, List, [], Ok, Err, codes}
+use Rattle.std.specs.Prelude.{if◌then◌else◌}
 use Rattle.gf_ops.specs.declared.change.Change.{Change}
 use Rattle.gf_json.specs.declared.line_error.LineError.TheVariants as fault
 use Rattle.serde_json.specs.Data.{Data}
@@ -22,7 +24,8 @@ named_creation d =
     else (if says (codes "kind") (codes "polygon") d then creation (polygon_points d) d
     else Err fault.Field)))
 
--- the change of a line whose verb stands at this key, and which has so many keys beside those of the change
+-- the change of a line whose verb stands at this key, and which has so many keys beside those of
+-- the change
 abbrev pub read_change : List ℕ → ℕ → Data → Got Change
 read_change verb beside d =
     if tells (beside + 6) verb (codes "create") d then named_creation d

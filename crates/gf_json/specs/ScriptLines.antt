@@ -2,9 +2,9 @@
 use Rattle.std.specs.Prelude.{ℕ, Bool, ◌&&◌, IsTrue, List, codes, if◌then◌else◌}
 use Rattle.gf_ops.specs.declared.change.Change.{Change}
 use Rattle.gf_ops.specs.Limits.{is_site, is_id, is_change}
-use Rattle.gf_json.specs.declared.script_line.Command.{Command}
-use Rattle.gf_json.specs.declared.script_line.Command.TheVariants.{Author, Await}
-use Rattle.gf_json.specs.declared.script_line.ScriptLine.{ScriptLine}
+use Rattle.gf_json.specs.declared.scripts.Command.{Command}
+use Rattle.gf_json.specs.declared.scripts.Command.TheVariants.{Author, Await}
+use Rattle.gf_json.specs.declared.scripts.ScriptLine.{ScriptLine}
 use Rattle.serde_json.specs.Data.{Data}
 use Rattle.gf_json.specs.LineValues.{Got, mapped, and_then, ◌&◌}
 use Rattle.gf_json.specs.LineFields.{id, site}

@@ -1,4 +1,5 @@
--- The line that is written for an operation (RFC 8259 by serde_json's compact text; the keys, in rising byte order, are this project's choice).
+-- The line that is written for an operation (RFC 8259 by serde_json's compact text; the keys, in
+-- rising byte order, are this project's choice).
 use Rattle.std.specs.Prelude.{ℕ, List, [], ◌∷◌, codes}
 use Rattle.gf_ops.specs.declared.op.Op.{Op}
 use Rattle.gf_ops.specs.declared.op.OpId.{OpId}
@@ -44,7 +45,10 @@ created id past s kind last = object (in_order (
 
 -- the last members of a line that creates a box, a circle or an ellipse
 abbrev pub with_size : Start → ℕ → ℕ → List (List ℕ × Data)
-with_size s width height = (codes "shown", boolean s.shown) ∷ (codes "size", size_data width height) ∷ []
+with_size s width height = (codes "shown", boolean s.shown) ∷ (
+  codes "size",
+  size_data width height,
+) ∷ []
 
 -- the last members of a line that creates a polygon
 abbrev pub with_points : Start → List Point → List (List ℕ × Data)
@@ -52,9 +56,11 @@ with_points s ps = (codes "points", points_data ps) ∷ (codes "shown", boolean 
 
 -- the line that creates an object of the form f
 abbrev pub creation_data : Data → Data → Start → Form → Data
-creation_data id past s (Rect width height) = created id past s (codes "box") (with_size s width height)
+creation_data id past s (Rect width height) =
+    created id past s (codes "box") (with_size s width height)
 creation_data id past s (Polygon ps) = created id past s (codes "polygon") (with_points s ps)
-creation_data id past s (Circle radius) = created id past s (codes "circle") (with_size s radius radius)
+creation_data id past s (Circle radius) =
+    created id past s (codes "circle") (with_size s radius radius)
 creation_data id past s (Ellipse rx ry) = created id past s (codes "ellipse") (with_size s rx ry)
 
 -- the members of a line that sets an attribute of the object o to v

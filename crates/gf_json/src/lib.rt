@@ -4,15 +4,16 @@
 //! - [`read_script`], [`ScriptLine`], [`Command`]: the command that a line of a script denotes, or
 //!   its first fault.
 //! - [`op_line`]: the line of an operation.
+//! - [`script_line`]: the line of a command.
 //! - [`LineError`]: why a line is no operation and no command.
 #![tactic(auto)]
 
 mod line_error;
 mod reading;
-mod script_line;
+mod scripts;
 mod writing;
 
 pub use line_error::LineError;
 pub use reading::{read_op, read_script};
-pub use script_line::{Command, ScriptLine};
-pub use writing::op_line;
+pub use scripts::{Command, ScriptLine};
+pub use writing::{op_line, script_line};
