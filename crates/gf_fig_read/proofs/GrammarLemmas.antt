@@ -14,7 +14,7 @@ use Rattle.gf_fig_read.proofs.ObjectLemmas.{leads_on, object_takes}
 
 -- ---- to one
 
-no_object : (d : Drawn) → object d [] ≡ Err fault.Cut
+pub no_object : (d : Drawn) → object d [] ≡ Err fault.Cut
 unfolding object natural
 no_object d = refl
 
@@ -26,11 +26,11 @@ abbrev rest : Read Drawn → List Token
 rest (Ok x) = x.1
 rest (Err f) = []
 
-abbrev ok_or : {A : Type 0} → A → Result A FigFault → A
+abbrev pub ok_or : {A : Type 0} → A → Result A FigFault → A
 ok_or a (Ok b) = b
 ok_or a (Err f) = a
 
-apart : {A : Type 0} (r : Result A FigFault) (a : A) (f : FigFault) → r ≡ Ok a → r ≡ Err f → {X : Type 0} → X
+pub apart : {A : Type 0} (r : Result A FigFault) (a : A) (f : FigFault) → r ≡ Ok a → r ≡ Err f → {X : Type 0} → X
 apart r a f e g = let h : Ok a ≡ Err f = sym e ∙ g in absurd (cc)
 
 -- two runs over the same tokens that can go no further end alike

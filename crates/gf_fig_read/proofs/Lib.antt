@@ -4,3 +4,4 @@ pub mod NumberLemmas
 pub mod ObjectLemmas
 pub mod FaultLemmas
 pub mod GrammarLemmas
+pub mod LineLemmas

@@ -1,4 +1,5 @@
--- What a text comes to, as a function that computes, with as many steps as there are tokens. No public clause cites this module: it is a tool for proofs and for worked examples.
+-- What a text comes to, as a function that computes, with as many steps as there are tokens. No
+-- public clause cites this module: it is a tool for proofs and for worked examples.
 use Rattle.std.specs.Prelude.{ℕ, zero, suc, ◌+◌, List, [], ◌∷◌, length, Result, Ok, Err}
 use Rattle.gf_fig_text.specs.Layout.{Token, object_tokens}
 use Rattle.gf_fig_read.specs.Objects.{Drawn, object}
@@ -22,7 +23,8 @@ next_number d = length d.table + length d.figures + 1
 unfoldable pub objects_of : ℕ → Drawn → List Token → Outcome
 objects_of zero d ts = Ok d
 objects_of (suc n) d [] = Ok d
-objects_of (suc n) d (t ∷ ts) = elim (object d (t ∷ ts)) [ Ok x ↦ objects_of n x.0 x.1 | Err f ↦ Err (f, next_number d) ]
+objects_of (suc n) d (t ∷ ts) =
+    elim (object d (t ∷ ts)) [ Ok x ↦ objects_of n x.0 x.1 | Err f ↦ Err (f, next_number d) ]
 
 -- what the tokens come to: each object takes one, so there are no more objects than tokens
 abbrev pub outcome_of_tokens : Result (List Token) FigFault → Outcome

@@ -1,5 +1,8 @@
--- The FIG grammar: which drawing a text reads as, and with which fault of which object it fails (Xfig, FIG Format 3.2); the profile is this project's: filled closed chains, circles and ellipses with level axes, without outline or arrows.
-use Rattle.std.specs.Prelude.{◌≡◌, ◌≢◌, ◌⊎◌, ℕ, ◌+◌, Bool, true, false, List, [], length, Ok, Err}
+-- The FIG grammar: which drawing a text reads as, and with which fault of which object it fails
+-- (Xfig, FIG Format 3.2); the profile is this project's: filled closed chains, circles and ellipses
+-- with level axes, without outline or arrows.
+use Rattle.std.specs.Prelude.{◌≡◌, ◌≢◌, ◌⊎◌, ℕ, ◌+◌, Bool, true, false}
+use Rattle.std.specs.Prelude.{List, [], length, Ok, Err}
 use Rattle.gf_fig_text.specs.Layout.{Token, object_tokens}
 use Rattle.gf_fig_read.specs.Objects.{Drawn, object}
 use Rattle.gf_fig_text.specs.declared.faults.FigFault.{FigFault}
@@ -9,10 +12,12 @@ use Rattle.gf_fig_text.specs.declared.faults.FigFault.TheVariants as fault
 abbrev pub nothing : Drawn
 nothing = record { table = []; figures = [] }
 
--- whole objects, one after another, lead from drawing d with the tokens ts to drawing e with the tokens left
+-- whole objects, one after another, lead from drawing d with the tokens ts to drawing e with the
+-- tokens left
 pub data Leads : Drawn → List Token → Drawn → List Token → Type 0 where
   none : (d : Drawn) (ts : List Token) → Leads d ts d ts
-  more : (d m e : Drawn) (ts between left : List Token) → object d ts ≡ Ok (m, between) → Leads m between e left → Leads d ts e left
+  more : (d m e : Drawn) (ts between left : List Token) → object d ts ≡ Ok (m, between)
+      → Leads m between e left → Leads d ts e left
 
 -- the text reads as drawing d: its tokens are those of whole objects, which make d
 pub record Reads (text : List ℕ) (d : Drawn) : Type 0 where
@@ -20,7 +25,8 @@ pub record Reads (text : List ℕ) (d : Drawn) : Type 0 where
   pub tokens : object_tokens text ≡ Ok all
   pub objects : Leads nothing all d []
 
--- behind n - 1 whole objects more tokens follow, and f is the first fault of the object that they should make
+-- behind n - 1 whole objects more tokens follow, and f is the first fault of the object that they
+-- should make
 pub record StopsAt (all : List Token) (f : FigFault) (n : ℕ) : Type 0 where
   pub before : Drawn
   pub left : List Token
@@ -36,6 +42,8 @@ is_of_front fault.Header = true
 is_of_front fault.Resolution = true
 is_of_front f = false
 
--- the text reads as no drawing: f is its first fault, and n the number of its object, 0 for a fault before the objects
+-- the text reads as no drawing: f is its first fault, and n the number of its object, 0 for a fault
+-- before the objects
 abbrev pub Fails : List ℕ → FigFault → ℕ → Type 0
-Fails text f n = ((object_tokens text ≡ Err f) × (n ≡ 0)) ⊎ ((all : List Token) × (object_tokens text ≡ Ok all) × StopsAt all f n)
+Fails text f n = ((object_tokens text ≡ Err f) × (n ≡ 0))
+    ⊎ ((all : List Token) × (object_tokens text ≡ Ok all) × StopsAt all f n)

@@ -1,5 +1,7 @@
--- The objects of a FIG text, field by field (Xfig, FIG Format 3.2: colour, ellipse and polyline objects); the limits and the faults are this project's profile.
-use Rattle.std.specs.Prelude.{◌==◌, nat_eq, [], ◌∷◌, ◌++◌, length, is_none, if◌then◌else◌}
+-- The objects of a FIG text, field by field (Xfig, FIG Format 3.2: colour, ellipse and polyline
+-- objects); the limits and the faults are this project's profile.
+use Rattle.std.specs.Prelude.{◌==◌, nat_eq, [], ◌∷◌, ◌++◌, length, is_none}
+use Rattle.std.specs.Prelude.{if◌then◌else◌}
 use Rattle.gf_shape.specs.declared.outline.Outline.{Outline}
 use Rattle.gf_drawing.specs.Colours.{colour_in}
 use Rattle.gf_drawing.specs.DrawingState.{DrawingState}
@@ -25,9 +27,14 @@ colour_object d = do
 
 -- drawing d with one figure more, of this style and outline
 abbrev pub with_figure : Drawn → Style → Outline → Drawn
-with_figure d s o = record d { figures = d.figures ++ record { shape = o; colour = s.colour; depth = s.depth } ∷ [] }
+with_figure d s o =
+    record d {
+      figures = d.figures ++ record { shape = o; colour = s.colour; depth = s.depth }
+          ∷ [];
+    }
 
--- an ellipse behind its code 1: sub type 1 has its radii given, 2 its diameters, 3 is a circle by its radius, 4 one by its diameter
+-- an ellipse behind its code 1: sub type 1 has its radii given, 2 its diameters, 3 is a circle by
+-- its radius, 4 one by its diameter
 unfoldable pub ellipse_object : Drawn → Reader Drawn
 ellipse_object d = do
   s ← style 1 4 d.table

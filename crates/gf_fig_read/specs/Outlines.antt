@@ -1,11 +1,14 @@
--- The outlines of polylines and ellipses, field by field (Xfig, FIG Format 3.2: join_style to the points, direction to end_y); the limits and the faults are this project's profile.
-use Rattle.std.specs.Prelude.{ℕ, ◌-◌, nat_le, Bool, false, ◌&&◌, List, length, Option, Some, slice_get, if◌then◌else◌}
+-- The outlines of polylines and ellipses, field by field (Xfig, FIG Format 3.2: join_style to the
+-- points, direction to end_y); the limits and the faults are this project's profile.
+use Rattle.std.specs.Prelude.{ℕ, ◌-◌, nat_le, Bool, false, ◌&&◌, List, length, Option}
+use Rattle.std.specs.Prelude.{Some, slice_get, if◌then◌else◌}
 use Rattle.std.specs.Ordering.{int_eq}
 use Rattle.gf_shape.specs.declared.point.Point.{Point}
 use Rattle.gf_shape.specs.declared.outline.Outline.{Outline}
 use Rattle.gf_shape.specs.declared.outline.Outline.TheVariants.{Chain, Disc, Oval}
 use Rattle.gf_fig_text.specs.Forms.{whole, decimal}
-use Rattle.gf_fig_text.specs.Fields.{Reader, ◌>>=◌, any, check, give, natural, no_angle, point, points}
+use Rattle.gf_fig_text.specs.Fields.{Reader, ◌>>=◌, any, check, give, natural, no_angle, point}
+use Rattle.gf_fig_text.specs.Fields.{points}
 use Rattle.gf_fig_text.specs.declared.faults.FigFault.TheVariants as fault
 
 -- both are there and are one point
@@ -63,6 +66,7 @@ oval = do
   end_y ← any whole
   give (Oval (record { centre = centre; rx = radius_x; ry = radius_y }))
 
--- the fields of an ellipse of this sub type from direction to end_y: 1 and 2 have two radii, 3 and 4 are circles
+-- the fields of an ellipse of this sub type from direction to end_y: 1 and 2 have two radii, 3 and
+-- 4 are circles
 unfoldable pub ellipse : ℕ → Reader Outline
 ellipse sub_type = if nat_le sub_type 2 then oval else disc

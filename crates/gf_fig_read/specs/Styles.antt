@@ -1,4 +1,5 @@
--- What a polyline and an ellipse begin with, field by field (Xfig, FIG Format 3.2: sub_type to style_val); the limits and the faults are this project's profile.
+-- What a polyline and an ellipse begin with, field by field (Xfig, FIG Format 3.2: sub_type to
+-- style_val); the limits and the faults are this project's profile.
 use Rattle.std.specs.Prelude.{ℕ, Bool, ◌&&◌, is_some, ℤ, pos, nat_abs}
 use Rattle.gf_drawing.specs.Colours.{Table, rgb_of}
 use Rattle.gf_fig_text.specs.Forms.{whole, decimal}

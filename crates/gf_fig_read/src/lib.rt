@@ -4,11 +4,14 @@
 //!   project reads: closed chains, circles and ellipses with level axes, filled, without
 //!   outline.
 //! - [`FigError`]: the first fault of a text that reads as none, a [`FigFault`], and its object.
+//! - [`object_line`], [`fault_line`]: the line on which an object begins, and the line at which a
+//!   fault is reported.
 //! - [`every_text_reads_as_one_drawing_or_fails_once`]: the law of the grammar.
 #![tactic(auto)]
 
 mod faults;
 mod laws;
+mod lines;
 mod objects;
 mod outlines;
 mod reading;
@@ -17,4 +20,5 @@ mod styles;
 pub use faults::FigError;
 pub use gf_fig_text::FigFault;
 pub use laws::every_text_reads_as_one_drawing_or_fails_once;
+pub use lines::{fault_line, object_line};
 pub use reading::read_fig;

@@ -147,7 +147,7 @@ bytes-split (b ∷ bs) = elim (cases_Bool (is_blank b)) [
   | inr t ↦ rw (t, bytes-onto_first) (let h = bytes-split bs in omega (arith, h))
 ]
 
-few_words : (line : List ℕ) → length (words line) ≤ length line
+pub few_words : (line : List ℕ) → length (words line) ≤ length line
 few_words line = let h = filled_have (slice_split is_blank line) in let m = bytes-split line in omega (arith, h, m)
 
 few_in : (ls : List (List ℕ)) → length (tokens ls) ≤ bytes ls

@@ -1,5 +1,9 @@
--- Fields of objects, one after another: the value of each, or the first fault (Xfig, FIG Format 3.2: fields are told apart by their order alone); coordinates within reach are this project's profile.
-use Rattle.std.specs.Prelude.{◌≡◌, ℕ, zero, suc, Bool, true, ◌&&◌, List, [], ◌∷◌, Option, Some, None, ⊤, Result, Ok, Err, if◌then◌else◌, ℤ, pos, nat_abs, int_le}
+-- Fields of objects, one after another: the value of each, or the first fault (Xfig, FIG Format
+-- 3.2: fields are told apart by their order alone); coordinates within reach are this project's
+-- profile.
+use Rattle.std.specs.Prelude.{◌≡◌, ℕ, zero, suc, Bool, true, ◌&&◌, List, [], ◌∷◌}
+use Rattle.std.specs.Prelude.{Option, Some, None, ⊤, Result, Ok, Err, if◌then◌else◌, ℤ}
+use Rattle.std.specs.Prelude.{pos, nat_abs, int_le}
 use Rattle.gf_shape.specs.declared.point.Point.{Point}
 use Rattle.gf_shape.specs.Reach.{is_reached}
 use Rattle.gf_fig_text.specs.Layout.{Token}
@@ -31,11 +35,13 @@ abbrev pub ◌>>=◌ : {A B : Type 0} → Reader A → (A → Reader B) → Read
 (first >>= next) ts = read_on (first ts) next
 
 -- the value of a token: it has the form, and passes the check
-abbrev pub checked : {A : Type 0} → Option A → (A → Bool) → FigFault → List Token → Read A
+abbrev pub checked : {A : Type 0} → Option A → (A → Bool) → FigFault → List Token
+    → Read A
 checked None passes wrong rest = Err fault.Token
 checked (Some a) passes wrong rest = if passes a then Ok (a, rest) else Err wrong
 
--- one field: Cut where no token is left, Token where it has not the form, and wrong where its value does not pass
+-- one field: Cut where no token is left, Token where it has not the form, and wrong where its value
+-- does not pass
 abbrev pub field : {A : Type 0} → (Token → Option A) → (A → Bool) → FigFault → Reader A
 field form passes wrong [] = Err fault.Cut
 field form passes wrong (t ∷ ts) = checked (form t) passes wrong ts

@@ -1,5 +1,9 @@
--- The forms of tokens, and what a token of each form stands for (Xfig, FIG Format 3.2: numbers and colours; at most 18 digits is this project's choice).
-use Rattle.std.specs.Prelude.{ℕ, ◌+◌, ◌*◌, ◌-◌, Bool, true, false, not, ◌&&◌, ◌||◌, ◌==◌, nat_le, List, [], ◌∷◌, length, fold, Option, Some, None, option_map, ⊤, ℤ, pos, ◌-ℤ◌, if◌then◌else◌}
+-- The forms of tokens, and what a token of each form stands for (Xfig, FIG Format 3.2: numbers and
+-- colours; at most 18 digits is this project's choice).
+use Rattle.std.specs.Prelude.{ℕ, ◌+◌, ◌*◌, ◌-◌, Bool, true, false, not, ◌&&◌}
+use Rattle.std.specs.Prelude.{◌||◌, ◌==◌, nat_le, List, [], ◌∷◌, length, fold, Option}
+use Rattle.std.specs.Prelude.{Some, None, option_map, ⊤, ℤ, pos, ◌-ℤ◌}
+use Rattle.std.specs.Prelude.{if◌then◌else◌}
 use Rattle.std.specs.List.{list_all}
 use Rattle.gf_shape.specs.declared.colour.Rgb.{Rgb}
 use Rattle.gf_digits.specs.HexDigits.{rgb_of_hex}
@@ -31,7 +35,8 @@ unfoldable pub whole : List ℕ → Option ℤ
 whole t =
     let ds = after_sign t in
     let n = pos (digits_value ds) in
-    if nat_le 1 (length ds) && nat_le (length ds) 18 && list_all is_digit ds then Some (if is_negative t then pos 0 -ℤ n else n) else None
+    if nat_le 1 (length ds) && nat_le (length ds) 18 && list_all is_digit ds
+    then Some (if is_negative t then pos 0 -ℤ n else n) else None
 
 -- nothing, or a '.' and any number of digits
 abbrev pub is_fraction : List ℕ → Bool
@@ -41,7 +46,8 @@ is_fraction (b ∷ bs) = b == 46 && list_all is_digit bs
 -- digits, and then perhaps a fraction
 abbrev pub are_digits_and_fraction : List ℕ → Bool
 are_digits_and_fraction [] = true
-are_digits_and_fraction (b ∷ bs) = (is_digit b && are_digits_and_fraction bs) || is_fraction (b ∷ bs)
+are_digits_and_fraction (b ∷ bs) =
+    (is_digit b && are_digits_and_fraction bs) || is_fraction (b ∷ bs)
 
 -- the first byte is a digit
 abbrev pub begins_with_digit : List ℕ → Bool
@@ -50,7 +56,8 @@ begins_with_digit (b ∷ bs) = is_digit b
 
 -- a decimal: an optional sign, at least one digit, and perhaps a fraction; its value is not kept
 unfoldable pub decimal : List ℕ → Option ⊤
-decimal t = if begins_with_digit (after_sign t) && are_digits_and_fraction (after_sign t) then Some tt else None
+decimal t = if begins_with_digit (after_sign t) && are_digits_and_fraction (after_sign t)
+    then Some tt else None
 
 -- each digit of the token is 0
 abbrev pub is_zero : List ℕ → Bool

@@ -1,5 +1,9 @@
--- A FIG text as first line, comment lines, header lines and tokens (Xfig, FIG Format 3.2). That comment lines are dropped everywhere from the second line on, and that header lines have any text, is this project's profile.
-use Rattle.std.specs.Prelude.{ℕ, Bool, true, false, not, ◌&&◌, ◌||◌, ◌==◌, nat_eq, nat_lt, List, [], ◌∷◌, ◌++◌, length, filter, flat_map, drop, Result, Ok, Err, codes, if◌then◌else◌}
+-- A FIG text as first line, comment lines, header lines and tokens (Xfig, FIG Format 3.2). That
+-- comment lines are dropped everywhere from the second line on, and that header lines have any
+-- text, is this project's profile.
+use Rattle.std.specs.Prelude.{ℕ, Bool, true, false, not, ◌&&◌, ◌||◌, ◌==◌, nat_eq}
+use Rattle.std.specs.Prelude.{nat_lt, List, [], ◌∷◌, ◌++◌, length, filter, flat_map, drop}
+use Rattle.std.specs.Prelude.{Result, Ok, Err, codes, if◌then◌else◌}
 use Rattle.std.specs.List.{slice_split, onto_first, starts_with}
 use Rattle.std.specs.Cmp.Lexicographic.{pointwise}
 use Rattle.gf_fig_text.specs.declared.faults.FigFault.{FigFault}
@@ -17,7 +21,8 @@ is_line_feed b = b == 10
 abbrev pub is_blank : ℕ → Bool
 is_blank b = b == 32 || b == 9 || b == 13 || b == 10
 
--- the lines of a text, without the line feeds that end them; what follows the last line feed is a line if it is not empty
+-- the lines of a text, without the line feeds that end them; what follows the last line feed is a
+-- line if it is not empty
 abbrev pub lines : List ℕ → List (List ℕ)
 lines [] = []
 lines (b ∷ bs) = if is_line_feed b then [] ∷ lines bs else onto_first b (lines bs)
@@ -43,7 +48,8 @@ plain ls = filter (λ line. not (is_comment line)) ls
 abbrev pub is_version : List ℕ → Bool
 is_version text = starts_with nat_eq text (codes "#FIG 3.2")
 
--- the lines after the first that are no comments: the seven of the header, and then those of the objects
+-- the lines after the first that are no comments: the seven of the header, and then those of the
+-- objects
 abbrev pub plain_lines : List ℕ → List (List ℕ)
 plain_lines text = plain (drop 1 (lines text))
 
@@ -57,10 +63,13 @@ tokens_left line rest = words line ++ tokens (plain (lines rest))
 
 -- the tokens behind the first two, which are "1200" and "2" byte for byte
 abbrev pub after_resolution : List Token → Result (List Token) FigFault
-after_resolution (first ∷ second ∷ ts) = if pointwise nat_eq first (codes "1200") && pointwise nat_eq second (codes "2") then Ok ts else Err fault.Resolution
+after_resolution (first ∷ second ∷ ts) =
+    if pointwise nat_eq first (codes "1200") && pointwise nat_eq second (codes "2") then Ok ts
+    else Err fault.Resolution
 after_resolution ts = Err fault.Resolution
 
--- the tokens of the objects behind first line, header and resolution, or the first fault before them
+-- the tokens of the objects behind first line, header and resolution, or the first fault before
+-- them
 unfoldable pub object_tokens : List ℕ → Result (List Token) FigFault
 object_tokens text =
     if not (is_version text) then Err fault.Version

@@ -13,7 +13,7 @@ fn is_blank(b: u8) -> bool
     b == b' ' || b == b'\t' || b == b'\r' || b == b'\n'
 }
 
-fn is_comment(line: &[u8]) -> bool
+pub(crate) fn is_comment(line: &[u8]) -> bool
     ensures { result ≡ is_comment line.now }
 {
     line.starts_with(b"#")

@@ -2,14 +2,17 @@
 //!
 //! - [`Tokens`]: the tokens of a text's objects, from which fields are read one after another.
 //! - [`whole`]: the number that a token stands for.
+//! - [`token_line`], [`line_count`]: the line on which a token stands, and how many a text has.
 //! - [`FigFault`]: why a FIG text reads as no drawing, the faults of objects among them.
 #![tactic(auto)]
 
 mod faults;
 mod forms;
 mod layout;
+mod numbering;
 mod tokens;
 
 pub use faults::FigFault;
 pub use forms::whole;
+pub use numbering::{line_count, token_line};
 pub use tokens::Tokens;

@@ -1,7 +1,8 @@
 //! The tokens of a FIG text, and fields read from them one after another.
 
 ghost use Rattle.std.specs.Prelude.{◌≡◌, ◌≤◌, ◌<◌, [], ◌∷◌, length, drop, nat_eq, MatchOption};
-ghost use Rattle.std.specs.Prelude.{IfSome, IfOk, IfErr, IsTrue, Ok, Err, option_copied, false};
+ghost use Rattle.std.specs.Prelude.{IfSome, IfOk, IfErr, OnOk, IsTrue, Ok, Err, option_copied};
+ghost use Rattle.std.specs.Prelude.{◌+◌, false};
 ghost use Rattle.std.specs.Option.{option_map_or};
 ghost use Rattle.std.specs.Cmp.Lexicographic.{pointwise};
 ghost use Rattle.gf_shape.specs.Reach.{is_reached, is_within_reach};
@@ -38,7 +39,7 @@ impl<'a> Tokens<'a> {
     pub fn of_objects(text: &'a [u8]) -> Result<Tokens<'a>, FigFault>
         ensures ok { IfOk result (λ tokens. object_tokens text.now ≡ Ok tokens) }
         ensures err { IfErr result (λ fault. object_tokens text.now ≡ Err fault) }
-        ensures few { IfOk result (λ tokens. length tokens ≤ length text.now) }
+        ensures few { IfOk result (λ tokens. length tokens + 2 ≤ length text.now) }
     {
         if !is_version(text) {
             return Err(FigFault::Version);
@@ -65,7 +66,7 @@ impl<'a> Tokens<'a> {
     /// Takes the first two tokens, which are the resolution.
     fn take_resolution(&mut self) -> Result<(), FigFault>
         ensures read { Takes result self.new (after_resolution self.old) }
-        ensures few { length self.new ≤ length self.old }
+        ensures few { OnOk result (length self.new + 2 ≤ length self.old) }
     {
         let first = self.next_token();
         let second = self.next_token();
