@@ -1,4 +1,5 @@
--- What the inspecting run writes, the versions of an object or the version on top at a point, and why it is refused (this project's choice).
+-- What the inspecting run writes, the versions of an object or the version on top at a point, and
+-- why it is refused (this project's choice).
 use Rattle.std.specs.Prelude.{◌≡◌, ℕ, List, Option, flat_map, ⊤}
 use Rattle.std.specs.Io.KnownBytes.{Appends}
 use Rattle.gf_shape.specs.declared.point.Point.{Point}
@@ -47,13 +48,16 @@ pub record Looks (bytes : List ℕ) (query : Query) (text : List ℕ) : Type 0 w
   pub tells : Tells history query text
 
 -- known bytes grow from old to new by a text that answers the query about what the bytes denote
-pub record WritesLook (bytes : List ℕ) (query : Query) (old new : Option (List ℕ)) : Type 0 where
+pub record WritesLook (bytes : List ℕ) (query : Query)
+    (old new : Option (List ℕ)) : Type 0 where
   pub text : List ℕ
   pub looks : Looks bytes query text
   pub written : Appends old new text
 
--- known bytes grow from old to new by a front, which may be none or all, of a text that answers the query about what the bytes denote
-pub record WritesLookFront (bytes : List ℕ) (query : Query) (old new : Option (List ℕ)) : Type 0 where
+-- known bytes grow from old to new by a front, which may be none or all, of a text that answers the
+-- query about what the bytes denote
+pub record WritesLookFront (bytes : List ℕ) (query : Query)
+    (old new : Option (List ℕ)) : Type 0 where
   pub text : List ℕ
   pub looks : Looks bytes query text
   pub written : AppendsFront old new text

@@ -9,10 +9,12 @@ use Rattle.gf_reading.specs.declared.reading_error.LineCause.{LineCause}
 use Rattle.gf_reading.specs.declared.reading_error.LineCause.TheVariants as cause
 use Rattle.gf_reading.specs.declared.reading_error.ReadingError.{ReadingError}
 use Rattle.gf_reading.specs.declared.reading_error.ReadingError.TheVariants as reading
+use Rattle.gf_causal.specs.HeldOperations.{AreHeld}
 use Rattle.gf_reading.specs.Denoting.{Denotes, denotes_op}
 use Rattle.gf_reading.specs.Refusing.{Drops, HasFault, IsAt, IsFault, RefusesText}
 use Rattle.gf_reading.specs.LineSteps.{DropsLine, HasRead, IsLineFault, TakesLine, RefusesLine}
-use Rattle.gf_reading.proofs.TakingLemmas.{HasTaken-moves, HasTaken-offer, delivers, other_taken, taken_delivery}
+use Rattle.gf_reading.specs.Waiting.{DenotesWaiting}
+use Rattle.gf_reading.proofs.TakingLemmas.{HasTaken-moves, HasTaken-offer, delivers, other_taken, taken_delivery, waiting}
 
 -- one line more is taken
 pub HasRead-line : (bytes : List ℕ) (n : ℕ) (line : List ℕ) (left : List (ℕ × List ℕ)) (x y : SiteState) → HasRead bytes ((n, line) ∷ left) x → TakesLine line x y → HasRead bytes left y
@@ -25,8 +27,8 @@ HasRead-line bytes n line left x y read takes = record {
       ∙ (ap (λ r. r ++ denoted line ∷ []) read.lines
       ∙ (ap (λ r. map denotes_op read.ops ++ r ∷ []) takes.denotes
       ∙ sym (map-append denotes_op read.ops (takes.op ∷ []))));
-  taken = HasTaken-moves (read.ops ++ takes.op ∷ []) takes.offered y (HasTaken-offer read.ops x read.taken takes.op takes.offered takes.offers) takes.settles.moves;
-  none = takes.settles.none;
+  taken = HasTaken-moves (read.ops ++ takes.op ∷ []) takes.takes.offered y (HasTaken-offer read.ops x read.taken takes.op takes.takes.offered takes.takes.offers) takes.takes.settles.moves;
+  none = takes.takes.settles.none;
 }
 
 -- with no line left, all are taken
@@ -36,6 +38,13 @@ Denotes-read bytes x read = record {
   lines = ap (map (λ (l : ℕ × List ℕ). denoted l.1)) (read.whole ∙ append-nil read.before) ∙ read.lines;
   delivers = delivers read.ops x read.taken read.none;
 }
+
+-- and what is held waits
+pub DenotesWaiting-read : (bytes : List ℕ) (x : SiteState) → HasRead bytes [] x → AreHeld x.held → DenotesWaiting bytes x.ops x.held
+unfolding Denotes-read
+DenotesWaiting-read bytes x read held =
+    let d = Denotes-read bytes x read in
+    record { ops = d.ops; lines = d.lines; delivers = d.delivers; others = waiting read.ops x read.taken held }
 
 module _ (bytes : List ℕ) (n : ℕ) (line : List ℕ) (left : List (ℕ × List ℕ)) (x : SiteState) (read : HasRead bytes ((n, line) ∷ left) x) where
   abbrev at_line : IsAt bytes n line
@@ -58,8 +67,8 @@ module _ (bytes : List ℕ) (n : ℕ) (line : List ℕ) (left : List (ℕ × Lis
   dropped : (id : OpId) (fault : OpFault) → DropsLine line x id fault → Drops bytes id fault
   dropped id fault d =
       let ops = read.ops ++ d.op ∷ [] in
-      let offered = HasTaken-offer read.ops x read.taken d.op d.offered d.offers in
-      let moved = HasTaken-moves ops d.offered d.drops.state offered d.drops.moves in
+      let offered = HasTaken-offer read.ops x read.taken d.op d.behind.offered d.behind.offers in
+      let moved = HasTaken-moves ops d.behind.offered d.behind.drops.state offered d.behind.drops.moves in
       record {
         number = n;
         line = line;
@@ -67,14 +76,14 @@ module _ (bytes : List ℕ) (n : ℕ) (line : List ℕ) (left : List (ℕ × Lis
         last = d.op;
         denotes = d.denotes;
         one = offered.one;
-        history = d.drops.state.ops;
-        delivery = taken_delivery ops d.drops.state moved;
+        history = d.behind.drops.state.ops;
+        delivery = taken_delivery ops d.behind.drops.state moved;
         valid = moved.valid;
-        op = d.drops.op;
-        there = (offered.all d.drops.op).1 d.drops.there;
-        named = d.drops.named;
-        ready = d.drops.ready;
-        refused = d.drops.refused;
+        op = d.behind.drops.op;
+        there = (offered.all d.behind.drops.op).1 d.behind.drops.there;
+        named = d.behind.drops.named;
+        ready = d.behind.drops.ready;
+        refused = d.behind.drops.refused;
       }
 
   -- what a line is refused for, the text is

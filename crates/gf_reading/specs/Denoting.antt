@@ -13,7 +13,8 @@ denotes_op op = Ok op
 
 -- each of the lines denotes an operation, and these are they in order
 abbrev pub AreLinesOf : List (ℕ × List ℕ) → List Op → Type 0
-AreLinesOf lines ops = map (λ (line : ℕ × List ℕ). denoted line.1) lines ≡ map denotes_op ops
+AreLinesOf lines ops = map (λ (line : ℕ × List ℕ). denoted line.1) lines
+    ≡ map denotes_op ops
 
 -- of the operations equal ids are equal operations, and their delivered part is this valid history
 pub record Delivers (ops history : List Op) : Type 0 where

@@ -1,3 +1,5 @@
 pub mod Denoting
 pub mod Refusing
+pub mod Taking
+pub mod Waiting
 pub mod LineSteps

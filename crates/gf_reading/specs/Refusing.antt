@@ -1,4 +1,5 @@
--- Which operation lines denote no history: the first line at fault, or the first operation that doesn't fit (this project's choice, over causal delivery).
+-- Which operation lines denote no history: the first line at fault, or the first operation that
+-- doesn't fit (this project's choice, over causal delivery).
 use Rattle.std.specs.Prelude.{◌≡◌, ℕ, List, [], ◌∷◌, ◌++◌, Contains, Ok, Err, ⊤}
 use Rattle.gf_bytes.specs.TextLines.{numbered_lines}
 use Rattle.gf_ops.specs.declared.op.Op.{Op}
@@ -17,7 +18,8 @@ use Rattle.gf_reading.specs.declared.reading_error.ReadingError.{ReadingError}
 use Rattle.gf_reading.specs.declared.reading_error.ReadingError.TheVariants as reading
 use Rattle.gf_reading.specs.Denoting.{AreLinesOf, Delivers}
 
--- the lines of the bytes before line number n denote operations that deliver a history, and this is line n
+-- the lines of the bytes before line number n denote operations that deliver a history, and this is
+-- line n
 pub record IsAt (bytes : List ℕ) (n : ℕ) (line : List ℕ) : Type 0 where
   pub before : List (ℕ × List ℕ)
   pub behind : List (ℕ × List ℕ)
@@ -40,14 +42,17 @@ IsFault ops text cause.Field = denoted text ≡ Err line.Field
 IsFault ops text cause.Range = denoted text ≡ Err line.Range
 IsFault ops text cause.Clash = IsClashing ops text
 
--- line n is the first that denotes no operation, or another one under the id of an earlier one, for this cause
+-- line n is the first that denotes no operation, or another one under the id of an earlier one, for
+-- this cause
 pub record HasFault (bytes : List ℕ) (n : ℕ) (cause : LineCause) : Type 0 where
   pub line : List ℕ
   pub at : IsAt bytes n line
   pub fault : IsFault at.ops line cause
 
--- what the lines before some line deliver is a valid history; with that line the operation under this id is there, and it is
--- ready behind a delivery of the operations so far, a valid history to which it cannot be added, for this fault
+-- what the lines before some line deliver is a valid history; with that line the operation under
+-- this id is there, and it is
+-- ready behind a delivery of the operations so far, a valid history to which it cannot be added,
+-- for this fault
 pub record Drops (bytes : List ℕ) (id : OpId) (fault : OpFault) : Type 0 where
   pub number : ℕ
   pub line : List ℕ

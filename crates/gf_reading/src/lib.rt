@@ -1,11 +1,15 @@
 //! From the bytes of operation lines to a site that has their operations.
 //!
 //! - [`read_site`]: receives the operation of each line, and steps until nothing is ready.
+//! - [`take_op`]: does so with one operation.
+//! - [`line_refusal`]: the refusal of a line for its fault.
 //! - [`ReadingError`], [`LineCause`]: why lines are no history.
 #![tactic(auto)]
 
 mod reading;
 mod reading_error;
+mod taking;
 
 pub use reading::read_site;
 pub use reading_error::{LineCause, ReadingError};
+pub use taking::{line_refusal, take_op};

@@ -4,7 +4,7 @@ use Rattle.std.proofs.Common.{◌≡◌, ℕ, List, [], ◌∷◌, ◌++◌, map
 use Rattle.std.proofs.lemmas.List.{map-append, append-nil}
 use Rattle.gf_bytes.specs.TextLines.{numbered_lines}
 use Rattle.gf_json.specs.declared.line_error.LineError.TheVariants as line
-use Rattle.gf_json.specs.declared.script_line.ScriptLine.{ScriptLine}
+use Rattle.gf_json.specs.declared.scripts.ScriptLine.{ScriptLine}
 use Rattle.gf_json.specs.LineValues.{Got}
 use Rattle.gf_json.specs.ScriptLines.{script_denoted}
 use Rattle.gf_worker.specs.declared.script.Script.{Script}

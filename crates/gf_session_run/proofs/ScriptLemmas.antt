@@ -11,7 +11,7 @@ use Rattle.std.proofs.lemmas.Option.{get_or_from_slice_get, slice_get_cases, sli
 use Rattle.gf_ops.proofs.ListLemmas.{not_Contains-nil}
 use Rattle.gf_ops.specs.Limits.{is_site}
 use Rattle.gf_ops.proofs.PositionLemmas.{position_in}
-use Rattle.gf_json.specs.declared.script_line.ScriptLine.{ScriptLine}
+use Rattle.gf_json.specs.declared.scripts.ScriptLine.{ScriptLine}
 use Rattle.gf_worker.specs.declared.script.Script.{Script}
 use Rattle.gf_session_run.specs.DenotedScripts.{AreScriptsOf, Fit, commands_of}
 use Rattle.gf_session_run.specs.SessionSteps.{Gains, IsFull, past, long}

@@ -1,9 +1,12 @@
--- The scripts that the lines of a session text denote, and which line denotes none (this project's choice).
-use Rattle.std.specs.Prelude.{◌≡◌, ◌⊎◌, ℕ, ◌+◌, ◌<◌, ◌≤◌, ◌==◌, List, ◌∷◌, ◌++◌, length, map, filter, slice_get, Contains, Some, Ok, Err}
+-- The scripts that the lines of a session text denote, and which line denotes none (this project's
+-- choice).
+use Rattle.std.specs.Prelude.{◌≡◌, ◌⊎◌, ℕ, ◌+◌, ◌<◌, ◌≤◌, ◌==◌}
+use Rattle.std.specs.Prelude.{List, ◌∷◌, ◌++◌, length, map, filter, slice_get, Contains}
+use Rattle.std.specs.Prelude.{Some, Ok, Err}
 use Rattle.gf_bytes.specs.TextLines.{numbered_lines}
 use Rattle.gf_json.specs.declared.line_error.LineError.TheVariants as line
-use Rattle.gf_json.specs.declared.script_line.Command.{Command}
-use Rattle.gf_json.specs.declared.script_line.ScriptLine.{ScriptLine}
+use Rattle.gf_json.specs.declared.scripts.Command.{Command}
+use Rattle.gf_json.specs.declared.scripts.ScriptLine.{ScriptLine}
 use Rattle.gf_json.specs.LineValues.{Got}
 use Rattle.gf_json.specs.ScriptLines.{script_denoted}
 use Rattle.gf_worker.specs.declared.script.Script.{Script}
@@ -16,11 +19,13 @@ denotes_command l = Ok l
 
 -- each of the lines denotes a command of a site, and these are they in order
 abbrev pub AreCommandsOf : List (ℕ × List ℕ) → List ScriptLine → Type 0
-AreCommandsOf lines ls = map (λ (line : ℕ × List ℕ). script_denoted line.1) lines ≡ map denotes_command ls
+AreCommandsOf lines ls = map (λ (line : ℕ × List ℕ). script_denoted line.1) lines
+    ≡ map denotes_command ls
 
 -- the commands of site s among these, in order
 abbrev pub commands_of : ℕ → List ScriptLine → List Command
-commands_of s ls = map (λ (l : ScriptLine). l.command) (filter (λ (l : ScriptLine). l.site == s) ls)
+commands_of s ls =
+    map (λ (l : ScriptLine). l.command) (filter (λ (l : ScriptLine). l.site == s) ls)
 
 -- each command is for a site up to n, and each site has at most 1,000
 pub record Fit (n : ℕ) (ls : List ScriptLine) : Type 0 where
@@ -30,9 +35,11 @@ pub record Fit (n : ℕ) (ls : List ScriptLine) : Type 0 where
 -- there are n scripts, the first of which has the commands of site 1, and so on
 pub record AreScriptsOf (n : ℕ) (ls : List ScriptLine) (scripts : List Script) : Type 0 where
   pub long : length scripts ≡ n
-  pub each : (k : ℕ) (s : Script) → slice_get scripts k ≡ Some s → s.0.items ≡ commands_of (k + 1) ls
+  pub each : (k : ℕ) (s : Script) → slice_get scripts k ≡ Some s
+      → s.0.items ≡ commands_of (k + 1) ls
 
--- the lines of the bytes denote commands of n sites, at most 1,000 each, and these are the scripts of the sites
+-- the lines of the bytes denote commands of n sites, at most 1,000 each, and these are the scripts
+-- of the sites
 pub record DenotesScripts (n : ℕ) (bytes : List ℕ) (scripts : List Script) : Type 0 where
   pub commands : List ScriptLine
   pub lines : AreCommandsOf (numbered_lines bytes) commands
@@ -58,7 +65,8 @@ pub record GoesBeyond (n : ℕ) (ls : List ScriptLine) (text : List ℕ) : Type 
 abbrev pub IsScriptFault : ℕ → List ScriptLine → List ℕ → LineCause → Type 0
 IsScriptFault n ls text cause.Json = script_denoted text ≡ Err line.Json
 IsScriptFault n ls text cause.Field = script_denoted text ≡ Err line.Field
-IsScriptFault n ls text cause.Range = (script_denoted text ≡ Err line.Range) ⊎ GoesBeyond n ls text
+IsScriptFault n ls text cause.Range = (script_denoted text ≡ Err line.Range)
+    ⊎ GoesBeyond n ls text
 IsScriptFault n ls text cause.Clash = ⊥
 
 -- line m is the first that denotes no command, or one that doesn't fit, for this cause

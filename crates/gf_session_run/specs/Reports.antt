@@ -1,4 +1,5 @@
--- The text that tells what became of the commands of each site (this project's choice; numbers are decimal).
+-- The text that tells what became of the commands of each site (this project's choice; numbers are
+-- decimal).
 use Rattle.std.specs.Prelude.{ℕ, List, ◌++◌, length, flat_map, codes}
 use Rattle.std.specs.Fmt.{decimal}
 use Rattle.gf_worker.specs.declared.report.Cause.{Cause}
@@ -24,11 +25,13 @@ site_text s = codes "site " ++ decimal s
 
 -- how many commands of site s were accepted and refused
 unfoldable pub counts_line : ℕ → Report → List ℕ
-counts_line s r = site_text s ++ codes " accepted " ++ decimal (length r.accepted.items) ++ codes " refused " ++ decimal (length r.refused.items) ++ codes "\n"
+counts_line s r = site_text s ++ codes " accepted " ++ decimal (length r.accepted.items)
+    ++ codes " refused " ++ decimal (length r.refused.items) ++ codes "\n"
 
 -- which command of site s was refused, and why
 unfoldable pub refused_line : ℕ → Refused → List ℕ
-refused_line s f = site_text s ++ codes " command " ++ decimal f.command ++ codes " " ++ cause_word f.cause ++ codes "\n"
+refused_line s f = site_text s ++ codes " command " ++ decimal f.command ++ codes " "
+    ++ cause_word f.cause ++ codes "\n"
 
 -- the lines of site s: its counts, and one for each refused command
 abbrev pub report_lines : ℕ → Report → List ℕ

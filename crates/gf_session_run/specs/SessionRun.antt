@@ -25,14 +25,16 @@ use Rattle.gf_session_run.specs.Reports.{report_text}
 abbrev pub IsSiteCount : ℕ → Type 0
 IsSiteCount n = (2 ≤ n) × (n ≤ 8)
 
--- the bytes denote scripts of n sites, a session of them came to this for each site, and all sites then had the operations of h
+-- the bytes denote scripts of n sites, a session of them came to this for each site, and all sites
+-- then had the operations of h
 pub record Plays (n : ℕ) (bytes : List ℕ) (dones : List Done) (h : List Op) : Type 0 where
   pub scripts : List Script
   pub denoted : DenotesScripts n bytes scripts
   pub session : IsSession scripts dones
   pub common : (d : Done) → Contains dones d → HaveSame d.site.ops h
 
--- the text of a session of n sites that the bytes denote: the lines of all sites, and behind them the one FIG text of the common history's drawing, which shows this history
+-- the text of a session of n sites that the bytes denote: the lines of all sites, and behind them
+-- the one FIG text of the common history's drawing, which shows this history
 pub record TellsSession (n : ℕ) (bytes text : List ℕ) : Type 0 where
   pub dones : List Done
   pub history : List Op
@@ -48,13 +50,16 @@ pub record WritesSession (n : ℕ) (bytes : List ℕ) (old new : Option (List �
   pub tells : TellsSession n bytes text
   pub written : Appends old new text
 
--- known bytes grow from old to new by a front, which may be none or all, of the text of a session of n sites that the bytes denote
-pub record WritesSessionFront (n : ℕ) (bytes : List ℕ) (old new : Option (List ℕ)) : Type 0 where
+-- known bytes grow from old to new by a front, which may be none or all, of the text of a session
+-- of n sites that the bytes denote
+pub record WritesSessionFront (n : ℕ) (bytes : List ℕ)
+    (old new : Option (List ℕ)) : Type 0 where
   pub text : List ℕ
   pub tells : TellsSession n bytes text
   pub written : AppendsFront old new text
 
--- a session of the scripts that the bytes denote came to a history that has no drawing, for this fault
+-- a session of the scripts that the bytes denote came to a history that has no drawing, for this
+-- fault
 pub record HasNoDrawing (n : ℕ) (bytes : List ℕ) (fault : CompileFault) : Type 0 where
   pub dones : List Done
   pub history : List Op

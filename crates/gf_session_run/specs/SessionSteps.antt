@@ -1,5 +1,7 @@
--- How scripts grow by a line, and why what the bytes denote is not played. No public clause cites this module.
-use Rattle.std.specs.Prelude.{◌≡◌, ◌≢◌, ◌⊎◌, ℕ, ◌+◌, ◌≤◌, List, [], ◌∷◌, ◌++◌, length, slice_get, Some, Ok, Err, ⊤}
+-- How scripts grow by a line, and why what the bytes denote is not played. No public clause cites
+-- this module.
+use Rattle.std.specs.Prelude.{◌≡◌, ◌≢◌, ◌⊎◌, ℕ, ◌+◌, ◌≤◌, List, []}
+use Rattle.std.specs.Prelude.{◌∷◌, ◌++◌, length, slice_get, Some, Ok, Err, ⊤}
 use Rattle.gf_shape.specs.declared.any_shape.AnyShape.{AnyShape}
 use Rattle.gf_shape.specs.Outlines.{any_outline}
 use Rattle.gf_ops.specs.declared.op.Op.{Op}
@@ -13,8 +15,8 @@ use Rattle.gf_studio.specs.FigRun.{IsDrawn, RefusesHistory}
 use Rattle.gf_session_run.specs.Reports.{report_text}
 use Rattle.gf_json.specs.declared.line_error.LineError.{LineError}
 use Rattle.gf_json.specs.declared.line_error.LineError.TheVariants as line
-use Rattle.gf_json.specs.declared.script_line.Command.{Command}
-use Rattle.gf_json.specs.declared.script_line.ScriptLine.{ScriptLine}
+use Rattle.gf_json.specs.declared.scripts.Command.{Command}
+use Rattle.gf_json.specs.declared.scripts.ScriptLine.{ScriptLine}
 use Rattle.gf_json.specs.ScriptLines.{script_denoted}
 use Rattle.gf_worker.specs.declared.script.Script.{Script}
 use Rattle.gf_session.specs.declared.session.SessionError.TheVariants as session
@@ -35,13 +37,15 @@ of_line m line.OutOfMemory = studio.OutOfMemory
 -- the script at place k has one more command, and the others are as they were
 pub record Gains (old : List Script) (k : ℕ) (c : Command) (new : List Script) : Type 0 where
   pub long : length new ≡ length old
-  pub there : (s t : Script) → slice_get old k ≡ Some s → slice_get new k ≡ Some t → t.0.items ≡ s.0.items ++ c ∷ []
+  pub there : (s t : Script) → slice_get old k ≡ Some s → slice_get new k ≡ Some t
+      → t.0.items ≡ s.0.items ++ c ∷ []
   pub others : (j : ℕ) → j ≢ k → slice_get new j ≡ slice_get old j
 
 -- there is no script at place k, or it has 1,000 commands
 pub data IsFull (scripts : List Script) (k : ℕ) : Type 0 where
   past : length scripts ≤ k → IsFull scripts k
-  long : (s : Script) → slice_get scripts k ≡ Some s → 1000 ≤ length s.0.items → IsFull scripts k
+  long : (s : Script) → slice_get scripts k ≡ Some s → 1000 ≤ length s.0.items
+      → IsFull scripts k
 
 -- the line denotes a command, and the script of its site gains it
 pub record TakesCommand (bytes : List ℕ) (old new : List Script) : Type 0 where
@@ -64,7 +68,8 @@ pub record HasNoRoom (bytes : List ℕ) (scripts : List Script) : Type 0 where
 abbrev pub IsCommandFault : List ℕ → List Script → LineCause → Type 0
 IsCommandFault bytes scripts cause.Json = script_denoted bytes ≡ Err line.Json
 IsCommandFault bytes scripts cause.Field = script_denoted bytes ≡ Err line.Field
-IsCommandFault bytes scripts cause.Range = (script_denoted bytes ≡ Err line.Range) ⊎ HasNoRoom bytes scripts
+IsCommandFault bytes scripts cause.Range = (script_denoted bytes ≡ Err line.Range)
+    ⊎ HasNoRoom bytes scripts
 IsCommandFault bytes scripts cause.Clash = ⊥
 
 -- why line m is not taken
@@ -74,7 +79,8 @@ RefusesCommand m bytes scripts studio.OutOfMemory = ⊤
 RefusesCommand m bytes scripts other = ⊥
 
 -- the lines before those that are left denote commands that fit, and these are the scripts so far
-pub record HasScripts (n : ℕ) (bytes : List ℕ) (left : List (ℕ × List ℕ)) (scripts : List Script) : Type 0 where
+pub record HasScripts (n : ℕ) (bytes : List ℕ) (left : List (ℕ × List ℕ))
+    (scripts : List Script) : Type 0 where
   pub before : List (ℕ × List ℕ)
   pub whole : numbered_lines bytes ≡ before ++ left
   pub commands : List ScriptLine
@@ -96,7 +102,8 @@ RefusesPlaying n bytes (studio.Session session.OutOfMemory) = ⊤
 RefusesPlaying n bytes studio.OutOfMemory = ⊤
 RefusesPlaying n bytes other = ⊥
 
--- the text has the lines of all sites, and behind them the one FIG text of the drawing of h, which shows h
+-- the text has the lines of all sites, and behind them the one FIG text of the drawing of h, which
+-- shows h
 pub record TellsHistory (h : List Op) (dones : List Done) (text : List ℕ) : Type 0 where
   pub drawing : DrawingState AnyShape
   pub drawn : IsDrawn h drawing

@@ -18,7 +18,8 @@ use Rattle.gf_fig_write.specs.ShownHistory.{Shows}
 use Rattle.gf_reading.specs.Denoting.{Denotes}
 use Rattle.gf_visible.specs.ShownVersions.{HasMoreVisible}
 
--- the drawing is the canonical one of h, and has at every point the colour that h means there, by its shapes and by the
+-- the drawing is the canonical one of h, and has at every point the colour that h means there, by
+-- its shapes and by the
 -- outlines that FIG draws of them
 pub record IsDrawn (h : List Op) (drawing : DrawingState AnyShape) : Type 0 where
   pub canonical : IsCanonical h drawing
@@ -39,14 +40,16 @@ pub record Exports (bytes : List ℕ) (old new : Option (List ℕ)) : Type 0 whe
   pub written : Appends old new text
   pub shown : Shows text history
 
--- known bytes grow from old to new by the one FIG text of what the bytes draw, which reads as the drawing of its outlines
+-- known bytes grow from old to new by the one FIG text of what the bytes draw, which reads as the
+-- drawing of its outlines
 pub record Writes (bytes : List ℕ) (old new : Option (List ℕ)) : Type 0 where
   pub drawing : DrawingState AnyShape
   pub drawn : Draws bytes drawing
   pub written : Appends old new (fig_text any_outline drawing)
   pub reads : Reads (fig_text any_outline drawing) (outlined any_outline drawing)
 
--- known bytes grow from old to new by a front, which may be none or all, of the one FIG text of what the bytes draw
+-- known bytes grow from old to new by a front, which may be none or all, of the one FIG text of
+-- what the bytes draw
 pub record WritesFront (bytes : List ℕ) (old new : Option (List ℕ)) : Type 0 where
   pub drawing : DrawingState AnyShape
   pub drawn : Draws bytes drawing

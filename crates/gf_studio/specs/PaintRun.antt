@@ -1,4 +1,5 @@
--- What the painting runs write: pictures of the colours that the bytes mean (this project's choice, over Netpbm's ppm(5)).
+-- What the painting runs write: pictures of the colours that the bytes mean (this project's choice,
+-- over Netpbm's ppm(5)).
 use Rattle.std.specs.Prelude.{◌≡◌, ℕ, List, Option}
 use Rattle.std.specs.Io.KnownBytes.{Appends}
 use Rattle.gf_shape.specs.declared.any_shape.AnyShape.{AnyShape}
@@ -16,17 +17,20 @@ use Rattle.gf_layers.specs.Picture.{header, picture}
 use Rattle.gf_raster.specs.Bands.{HasBands}
 use Rattle.gf_studio.specs.FigRun.{Draws}
 
--- the bytes denote a history with a drawing, and colour is at every point the colour that this history means there
+-- the bytes denote a history with a drawing, and colour is at every point the colour that this
+-- history means there
 pub record IsMeant (bytes : List ℕ) (colour : Point → Rgb) : Type 0 where
   pub drawing : DrawingState AnyShape
   pub drawn : Draws bytes drawing
   pub means : (p : Point) → HistoryColour drawn.history p (colour p)
 
--- the text reads as a drawing, and colour is at every point the colour of this drawing, painted by the figure meaning
+-- the text reads as a drawing, and colour is at every point the colour of this drawing, painted by
+-- the figure meaning
 pub record IsDenoted (text : List ℕ) (colour : Point → Rgb) : Type 0 where
   pub drawing : Drawn
   pub reads : Reads text drawing
-  pub paints : (p : Point) → colour p ≡ drawing_colour outline_holds drawing.table drawing.figures p
+  pub paints : (p : Point) → colour p
+      ≡ drawing_colour outline_holds drawing.table drawing.figures p
 
 -- IsShown says which colours are to be painted in window w, and known bytes grow from old to new
 module _ (IsShown : (Point → Rgb) → Type 0) (w : View) (old new : Option (List ℕ)) where
@@ -36,13 +40,15 @@ module _ (IsShown : (Point → Rgb) → Type 0) (w : View) (old new : Option (Li
     pub shown : IsShown colour
     pub written : Appends old new (picture colour w)
 
-  -- they grow by a front, which may be none or all, of the picture of colours that are to be painted
+  -- they grow by a front, which may be none or all, of the picture of colours that are to be
+  -- painted
   pub record WritesPictureFront : Type 0 where
     pub colour : Point → Rgb
     pub shown : IsShown colour
     pub written : AppendsFront old new (picture colour w)
 
-  -- they grow by the header and whole bands of 64 rows, fewer than all, of the picture of colours that are to be painted
+  -- they grow by the header and whole bands of 64 rows, fewer than all, of the picture of colours
+  -- that are to be painted
   pub record WritesBands : Type 0 where
     pub colour : Point → Rgb
     pub shown : IsShown colour

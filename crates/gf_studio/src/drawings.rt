@@ -24,7 +24,7 @@ use gf_visible::ranked_within;
 use std::alloc::Global;
 
 /// The drawing of the history that the lines of a source denote.
-pub(crate) fn drawing_of_lines<R: Source>(
+pub fn drawing_of_lines<R: Source>(
     alloc: Global,
     source: &mut R,
 ) -> Result<Drawing<AnyShape>, StudioError>
@@ -45,7 +45,7 @@ pub(crate) fn drawing_of_lines<R: Source>(
 }
 
 /// The drawing that the FIG text of a source reads as.
-pub(crate) fn drawing_of_fig<R: Source>(
+pub fn drawing_of_fig<R: Source>(
     alloc: Global,
     source: &mut R,
 ) -> Result<Drawing<Outline>, StudioError>

@@ -6,6 +6,7 @@
 //! - [`paint_run`]: reads operation lines and writes the picture of their drawing in a [`Window`].
 //! - [`repaint_run`]: reads a FIG text and writes the picture of the drawing that it reads as.
 //! - [`input`], [`draw_site`]: what a run begins with, and the drawing of a site's history.
+//! - [`drawing_of_lines`], [`drawing_of_fig`]: the drawing that the bytes of a source denote.
 //! - [`the_same_operations_draw_alike`], [`the_same_histories_draw_alike`]: the laws that neither
 //!   order nor repeats change a drawing.
 //! - [`what_denotes_a_history_is_not_refused`]: the law that a success rules a refusal out.
@@ -24,7 +25,7 @@ mod laws;
 mod runs;
 mod studio_error;
 
-pub use drawings::{draw_site, input};
+pub use drawings::{draw_site, drawing_of_fig, drawing_of_lines, input};
 pub use gf_bytes::{
     In, InputError, MOST_INPUT_BYTES, Reel, Source, SourceFault, TextLines, read_input,
 };

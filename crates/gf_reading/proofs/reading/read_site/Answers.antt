@@ -1,7 +1,7 @@
 use Rattle.std.proofs.Common.{subst, sym}
 use Rattle.std.proofs.lemmas.Result.{err_from_is_err_and}
 use Rattle.gf_reading.specs.LineSteps.{RefusesLine}
-use Rattle.gf_reading.proofs.ReadingLemmas.{HasRead-line, Denotes-read, RefusesText-line}
+use Rattle.gf_reading.proofs.ReadingLemmas.{HasRead-line, Denotes-read, DenotesWaiting-read, RefusesText-line}
 use Rattle.gf_reading.proofs.reading.read_site.Goals as goal
 
 pub loop-number-preserved : goal.loop-number-preserved
@@ -15,3 +15,6 @@ returns-in_err-take_line-clause-err c =
 
 pub returns-clause-ok : goal.returns-clause-ok
 returns-clause-ok c = Denotes-read c.args.text.items _ (rw c.in_default.ensures.none at c.loop-number.invariant)
+
+pub returns-clause-held : goal.returns-clause-held
+returns-clause-held c = DenotesWaiting-read c.args.text.items _ (rw c.in_default.ensures.none at c.loop-number.invariant) c.held.ensures.valid

@@ -1,15 +1,9 @@
 use Rattle.std.proofs.Common.{refl}
-use Rattle.gf_reading.proofs.TakingLemmas.{denotes_read, line_refused, line_taken, offered}
+use Rattle.gf_reading.proofs.TakingLemmas.{denotes_read, line_refused, line_taken}
 use Rattle.gf_reading.proofs.reading.take_line.Goals as goal
 
-pub returns-in-Ok-receive-clause-ok : goal.returns-in-Ok-receive-clause-ok
-returns-in-Ok-receive-clause-ok c =
-    let r = c.receive.ensures in
-    line_taken c.args.line.now c.args.site.now c.receive.new.self _ c.in-Ok.op c.settle.result
-    (denotes_read _ _ _ c.in-Ok.ensures.denoted refl) (offered _ _ _ _ _ r.already r.held r.same r.kept c.in-Ok-receive.is) c.settle.ensures.ok
+pub returns-clause-ok : goal.returns-clause-ok
+returns-clause-ok c = line_taken c.args.line.now c.args.site.now c.take_op.new.site c.in-Ok.op c.take_op.result (denotes_read _ _ _ c.in-Ok.ensures.denoted refl) c.take_op.ensures.ok
 
-pub returns-in-Ok-receive-clause-err : goal.returns-in-Ok-receive-clause-err
-returns-in-Ok-receive-clause-err c =
-    let r = c.receive.ensures in
-    line_refused c.args.number c.args.line.now c.args.site.now c.receive.new.self c.in-Ok.op c.settle.result
-    (denotes_read _ _ _ c.in-Ok.ensures.denoted refl) (offered _ _ _ _ _ r.already r.held r.same r.kept c.in-Ok-receive.is) c.settle.ensures.err
+pub returns-clause-err : goal.returns-clause-err
+returns-clause-err c = line_refused c.args.number c.args.line.now c.args.site.now c.in-Ok.op c.take_op.result (denotes_read _ _ _ c.in-Ok.ensures.denoted refl) c.take_op.ensures.err

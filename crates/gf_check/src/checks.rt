@@ -1,0 +1,90 @@
+//! From the bytes of operation lines to all of their faults.
+
+ghost use Rattle.std.specs.Prelude.{◌≡◌, ◌≢◌, ◌+◌, ◌≤◌, ◌⊎◌, Err, IfSome, IfOk, IfErr, IsTrue};
+ghost use Rattle.std.specs.Prelude.{OnOk, List, ℕ};
+ghost use Rattle.gf_bytes.specs.Counts.{Rises};
+ghost use Rattle.gf_bytes.specs.Reads.{ConsumesAtMost};
+ghost use Rattle.gf_studio.specs.RunAnswers.{ReadsFor};
+ghost use Rattle.gf_faults.specs.AllFaults.{AnswersText};
+ghost use Rattle.gf_check.specs.CheckRun.{RefusesCheck, WritesCheck, WritesCheckFront};
+ghost use Rattle.gf_check.specs.CheckRun.{Checks};
+
+use gf_bytes::{MOST_INPUT_BYTES, Sink, SinkFault, Source, write_whole};
+use gf_faults::faults_of;
+use gf_shape::OutOfMemory;
+use gf_studio::{StudioError, input};
+use std::alloc::Global;
+
+/// What a check found.
+#[derive(Clone, Copy, Debug, PartialEq, Eq)]
+pub enum Verdict {
+    /// The input denotes a history.
+    Clean,
+    /// The input has a fault, and each fault was written.
+    Faulty,
+}
+
+/// Reads operation lines to their end, and writes a line for each fault: where it is, which one it
+/// is, and what is wrong. It goes on behind each fault, and reads all before the first write.
+pub fn check_run<R: Source, W: Sink>(
+    alloc: Global,
+    source: &mut R,
+    sink: &mut W,
+) -> Result<Verdict, StudioError>
+    // Where it answers that there is no fault, the bytes denote a history, and nothing is written.
+    // Where it answers that there are faults, the first that is written refuses the bytes, and each
+    // line that denotes no operation has a line.
+    ensures tells { IfOk result (λ verdict. IfSome (R.left source.old) (λ bytes.
+        WritesCheck bytes verdict (W.taken sink.old) (W.taken sink.new))) }
+    ensures flushed { OnOk result (IsTrue (W.flushed sink.new)) }
+
+    // No fault of the input refuses the run.
+    ensures source { ReadsFor MOST_INPUT_BYTES (R.left source.old) (R.left source.new)
+        (R.failures source.old) (R.failures source.new) result }
+    ensures refused { IfErr result RefusesCheck }
+
+    // A front of the text is written at most, and that only where the sink failed.
+    ensures front { result ≡ Err StudioError.WriteFailed → IfSome (R.left source.old) (λ bytes.
+        WritesCheckFront bytes (W.taken sink.old) (W.taken sink.new)) }
+    ensures failed { result ≡ Err StudioError.WriteFailed →
+        Rises (W.failures sink.old) (W.failures sink.new) }
+    ensures unwritten { IfErr result (λ e. (sink.new ≡ sink.old) ⊎ (e ≡ StudioError.WriteFailed)) }
+
+    ensures takes { ConsumesAtMost (MOST_INPUT_BYTES + 1) (R.left source.old) (R.left source.new) }
+    ensures reads { R.reads source.new ≤ R.reads source.old + (MOST_INPUT_BYTES + 1) }
+{
+    let text = told_of_lines(alloc, source)?;
+    match write_whole(sink, &text) {
+        Ok(()) => Ok(verdict_of(&text)),
+        Err(SinkFault) => Err(StudioError::WriteFailed),
+    }
+}
+
+/// Whether a text tells a fault.
+fn verdict_of(text: &[u8]) -> Verdict
+    ensures { (bytes : List ℕ) → AnswersText bytes text.now → Checks bytes result text.now }
+{
+    if text.is_empty() {
+        Verdict::Clean
+    } else {
+        Verdict::Faulty
+    }
+}
+
+/// The text that tells all faults of the lines of a source.
+fn told_of_lines<R: Source>(alloc: Global, source: &mut R) -> Result<Vec<u8>, StudioError>
+    ensures ok { IfOk result (λ text. IfSome (R.left source.old) (λ bytes.
+        AnswersText bytes text.items)) }
+    ensures source { ReadsFor MOST_INPUT_BYTES (R.left source.old) (R.left source.new)
+        (R.failures source.old) (R.failures source.new) result }
+    ensures refused { IfErr result RefusesCheck }
+    ensures no_write { IfErr result (λ e. e ≢ StudioError.WriteFailed) }
+    ensures takes { ConsumesAtMost (MOST_INPUT_BYTES + 1) (R.left source.old) (R.left source.new) }
+    ensures reads { R.reads source.new ≤ R.reads source.old + (MOST_INPUT_BYTES + 1) }
+{
+    let bytes = input(alloc, source)?;
+    match faults_of(alloc, bytes) {
+        Ok(text) => Ok(text),
+        Err(OutOfMemory) => Err(StudioError::OutOfMemory),
+    }
+}

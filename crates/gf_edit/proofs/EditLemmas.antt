@@ -1,0 +1,134 @@
+-- What becomes of what was read: the lines that are written, or the refusal.
+use Rattle.std.specs.Prelude.{Some, None, Ok, Err, find, map, Option, IfErr, IfOk, IfSome, Result}
+use Rattle.std.proofs.Common.{◌≡◌, ℕ, List, [], sym, ap, subst, ◌∙◌}
+use Rattle.std.proofs.lemmas.List.{append-nil}
+use Rattle.gf_bytes.specs.TextLines.{numbered_lines}
+use Rattle.gf_ops.specs.declared.op.OpId.{OpId}
+use Rattle.gf_causal.specs.HeldOperations.{AreHeld}
+use Rattle.gf_site.specs.SiteState.{SiteState}
+use Rattle.gf_reading.specs.Denoting.{AreLinesOf}
+use Rattle.gf_reading.proofs.TakingLemmas.{delivers}
+use Rattle.gf_studio.specs.declared.studio_error.StudioError.TheVariants as studio
+use Rattle.gf_edit.specs.declared.edit_error.EditError.{EditError}
+use Rattle.gf_edit.specs.declared.edit_error.EditError.TheVariants as edit
+use Rattle.gf_edit.specs.declared.edited.Edited.{Edited}
+use Rattle.gf_edit.specs.declared.numbered.Numbered.{Numbered}
+use Rattle.gf_edit.specs.declared.reading.ReadLines.{ReadLines}
+use Rattle.gf_edit.specs.Making.{HasRefusal, Makes}
+use Rattle.gf_edit.specs.MakingSteps.{HasPassed, RefusesMaking}
+use Rattle.gf_edit.specs.EditedText.{AreEntriesOf, IsBehind, entry_at, ops_in}
+use Rattle.gf_edit.specs.EditRun.{Edits, HasBlocking, RefusesEdit, RefusesEditRun}
+use Rattle.gf_edit.specs.EntrySteps.{HasRead, HoldsBlocking, IsUnblocked, RefusesWaiting}
+use Rattle.gf_edit.specs.Waiting.{is_blocking}
+use Rattle.gf_edit.proofs.BlockingLemmas.{first_blocks, none_blocks}
+use Rattle.gf_edit.proofs.CleanLemmas.{op_clean}
+use Rattle.gf_edit.proofs.WrittenLemmas.{op_shown, written_from}
+
+module _ (s : ℕ) (bytes : List ℕ) (r : ReadLines) (read : HasRead s bytes [] r) (held : AreHeld r.site.held) where
+  all_lines : AreEntriesOf s (numbered_lines bytes) read.entries
+  all_lines = ap (map (entry_at s)) (read.whole ∙ append-nil read.before) ∙ read.lines
+
+  behind : IsUnblocked r.site → IsBehind s read.entries r.site.ops
+  behind none = record {
+    delivers = delivers (ops_in read.entries) r.site read.taken read.none;
+    accepted = read.taken.accepted;
+    free = none_blocks s (ops_in read.entries) r.site read.taken held (subst (λ n. find (is_blocking n r.site.ops) r.site.held ≡ None) read.number none);
+  }
+
+  -- the text has the lines of what the commands make
+  pub edited : IsUnblocked r.site → (y : SiteState) (e : Edited) → HasPassed r.site.number r.site.ops r.commands.items y e → Edits s bytes e.text.items e.made
+  edited none y e p = record {
+    new = p.new;
+    denoted = record {
+      entries = read.entries;
+      lines = all_lines;
+      history = r.site.ops;
+      behind = behind none;
+      makes = subst (λ (cs : List Numbered). Makes s r.site.ops cs p.new) read.commands (subst (λ n. Makes n r.site.ops r.commands.items p.new) read.number p.makes);
+    };
+    is = p.is;
+    told = p.told;
+    denotes = subst (λ t. AreLinesOf (numbered_lines t) p.new) (sym p.is) (written_from 1 p.new (λ a i. record { whole = op_clean a; shown = op_shown a; denotes = p.reads a i }));
+  }
+
+  -- what refuses a command refuses the edit
+  pub refused : IsUnblocked r.site → (e : EditError) → RefusesMaking r.site.number r.site.ops r.commands.items e → RefusesEdit s bytes e
+  refused none (edit.Refused n why) f = record {
+    entries = read.entries;
+    lines = all_lines;
+    history = r.site.ops;
+    behind = behind none;
+    refusal = subst (λ (cs : List Numbered). HasRefusal s r.site.ops cs n why) read.commands (subst (λ k. HasRefusal k r.site.ops r.commands.items n why) read.number f);
+  }
+  refused none (edit.Waits i j) f = absurd f
+  refused none (edit.Run studio.OutOfMemory) f = tt
+  refused none (edit.Run (studio.Line m why)) f = absurd f
+  refused none (edit.Run (studio.Dropped id fault)) f = absurd f
+  refused none (edit.Run (studio.Fig x)) f = absurd f
+  refused none (edit.Run (studio.Compile x)) f = absurd f
+  refused none (edit.Run (studio.Session x)) f = absurd f
+  refused none (edit.Run (studio.NoObject o)) f = absurd f
+  refused none (edit.Run studio.ReadFailed) f = absurd f
+  refused none (edit.Run studio.TooLong) f = absurd f
+  refused none (edit.Run studio.WriteFailed) f = absurd f
+
+  -- and so does what blocks the site
+  blocked : (i j : OpId) → HoldsBlocking r.site i j → HasBlocking s bytes i j
+  blocked i j b = record {
+    entries = read.entries;
+    lines = all_lines;
+    history = r.site.ops;
+    delivers = delivers (ops_in read.entries) r.site read.taken read.none;
+    accepted = read.taken.accepted;
+    op = b.op;
+    blocking = first_blocks s (ops_in read.entries) r.site read.taken held b.op (subst (λ n. find (is_blocking n r.site.ops) r.site.held ≡ Some b.op) read.number b.first);
+    named = b.named;
+    waits = b.waits;
+  }
+
+  pub refused_waiting : (e : EditError) → RefusesWaiting r.site e → RefusesEdit s bytes e
+  refused_waiting (edit.Waits i j) f = blocked i j f
+  refused_waiting (edit.Refused n why) f = absurd f
+  refused_waiting (edit.Run studio.OutOfMemory) f = tt
+  refused_waiting (edit.Run (studio.Line m why)) f = absurd f
+  refused_waiting (edit.Run (studio.Dropped id fault)) f = absurd f
+  refused_waiting (edit.Run (studio.Fig x)) f = absurd f
+  refused_waiting (edit.Run (studio.Compile x)) f = absurd f
+  refused_waiting (edit.Run (studio.Session x)) f = absurd f
+  refused_waiting (edit.Run (studio.NoObject o)) f = absurd f
+  refused_waiting (edit.Run studio.ReadFailed) f = absurd f
+  refused_waiting (edit.Run studio.TooLong) f = absurd f
+  refused_waiting (edit.Run studio.WriteFailed) f = absurd f
+
+-- ---- the run
+
+run_refused : (s : ℕ) (bytes : List ℕ) (e : EditError) → RefusesEdit s bytes e → RefusesEditRun s bytes e
+run_refused s bytes (edit.Refused n why) f = f
+run_refused s bytes (edit.Waits i j) f = f
+run_refused s bytes (edit.Run studio.OutOfMemory) f = f
+run_refused s bytes (edit.Run (studio.Line m why)) f = f
+run_refused s bytes (edit.Run (studio.Dropped id fault)) f = f
+run_refused s bytes (edit.Run (studio.Fig x)) f = f
+run_refused s bytes (edit.Run (studio.Compile x)) f = f
+run_refused s bytes (edit.Run (studio.Session x)) f = f
+run_refused s bytes (edit.Run (studio.NoObject o)) f = f
+run_refused s bytes (edit.Run studio.ReadFailed) f = tt
+run_refused s bytes (edit.Run studio.TooLong) f = tt
+run_refused s bytes (edit.Run studio.WriteFailed) f = tt
+
+pub run_refuses : {X : Type 0} (s : ℕ) (left : Option (List ℕ)) (items : List ℕ) (r : Result X EditError) → IfSome left (λ all. items ≡ all) → IfErr r (RefusesEdit s items) → IfErr r (λ e. IfSome left (λ bytes. RefusesEditRun s bytes e))
+run_refuses s (Some bytes) items (Err e) is f = run_refused s bytes e (subst (λ b. RefusesEdit s b e) is f)
+run_refuses s None items (Err e) is f = tt
+run_refuses s left items (Ok x) is f = tt
+
+-- ---- both answers of making
+
+pub edited_ok : (r : ReadLines) → AreHeld r.site.held → IsUnblocked r.site → (y : SiteState) (m : Result Edited EditError) →
+    IfOk m (HasPassed r.site.number r.site.ops r.commands.items y) → IfOk m (λ e. (s : ℕ) (bytes : List ℕ) → HasRead s bytes [] r → Edits s bytes e.text.items e.made)
+edited_ok r held none y (Ok e) p = λ s bytes read. edited s bytes r read held none y e p
+edited_ok r held none y (Err e) p = tt
+
+pub refused_err : {X : Type 0} (r : ReadLines) → AreHeld r.site.held → IsUnblocked r.site → (m : Result X EditError) →
+    IfErr m (RefusesMaking r.site.number r.site.ops r.commands.items) → IfErr m (λ e. (s : ℕ) (bytes : List ℕ) → HasRead s bytes [] r → RefusesEdit s bytes e)
+refused_err r held none (Ok x) f = tt
+refused_err r held none (Err e) f = λ s bytes read. refused s bytes r read held none e f

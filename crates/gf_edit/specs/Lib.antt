@@ -1,0 +1,9 @@
+pub mod Entries
+pub mod Making
+pub mod MadeOperations
+pub mod EditedText
+pub mod EditFaults
+pub mod Waiting
+pub mod EntrySteps
+pub mod MakingSteps
+pub mod EditRun

@@ -1,0 +1,36 @@
+//! The laws of an edit, each the contract of a function that does nothing.
+
+ghost use Rattle.std.specs.Prelude.{◌≡◌, ℕ, List, ◌++◌, Some};
+ghost use Rattle.gf_shape.specs.declared.any_shape.AnyShape.{AnyShape};
+ghost use Rattle.gf_ops.specs.declared.op.Op.{Op};
+ghost use Rattle.gf_ops.specs.OperationOrder.{IsSite};
+ghost use Rattle.gf_drawing.specs.DrawingState.{DrawingState};
+ghost use Rattle.gf_window.specs.Windows.{View};
+ghost use Rattle.gf_reading.specs.Denoting.{Denotes};
+ghost use Rattle.gf_studio.specs.FigRun.{Draws, Writes};
+ghost use Rattle.gf_studio.specs.PaintRun.{IsMeant, WritesPicture};
+ghost use Rattle.gf_edit.specs.EditedText.{JoinsEdit};
+
+/// The operations that an edit read and those that it made, in whatever order and however often,
+/// denote the history that was read with the new ones behind it.
+pub fn what_an_edit_writes_joins_what_it_read()
+    ensures { (s : ℕ) (bytes others : List ℕ) (new : List Op) → IsSite s →
+        (j : JoinsEdit s bytes new others) → Denotes others (j.edit.history ++ new) }
+{}
+
+/// Of the operations that an edit read and those that it made, `fig` and `paint` make what they
+/// make of any lines that denote the history that was read with the new operations behind it.
+pub fn what_an_edit_writes_is_drawn_with_what_it_read()
+    ensures drawing { (s : ℕ) (bytes others lines : List ℕ) (new : List Op) → IsSite s →
+        (j : JoinsEdit s bytes new others) → Denotes lines (j.edit.history ++ new) →
+        (drawing : DrawingState AnyShape) → Draws lines drawing → Draws others drawing }
+    ensures text { (s : ℕ) (bytes others lines : List ℕ) (new : List Op) → IsSite s →
+        (j : JoinsEdit s bytes new others) → Denotes lines (j.edit.history ++ new) →
+        (taken text other : List ℕ) → Writes lines (Some taken) (Some text) →
+        Writes others (Some taken) (Some other) → text ≡ other }
+    ensures picture { (s : ℕ) (bytes others lines : List ℕ) (new : List Op) → IsSite s →
+        (j : JoinsEdit s bytes new others) → Denotes lines (j.edit.history ++ new) →
+        (w : View) (taken painted other : List ℕ) →
+        WritesPicture (IsMeant lines) w (Some taken) (Some painted) →
+        WritesPicture (IsMeant others) w (Some taken) (Some other) → painted ≡ other }
+{}

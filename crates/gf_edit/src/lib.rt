@@ -1,0 +1,31 @@
+//! The run of an edit: from operation lines and commands of one site to the lines of the operations
+//! that it makes.
+//!
+//! - [`edit_run`]: reads operation lines and command lines, and writes the new operations.
+//! - [`Made`]: what it tells of them.
+//! - [`EditError`]: why an edit is refused.
+//! - [`what_an_edit_writes_joins_what_it_read`],
+//!   [`what_an_edit_writes_is_drawn_with_what_it_read`]: the laws of the operations that it read and
+//!   wrote.
+#![tactic(auto)]
+
+mod edit_error;
+mod edited;
+mod editing;
+mod entries;
+mod laws;
+mod made;
+mod making;
+mod numbered;
+mod reading;
+mod run;
+mod waiting;
+
+pub use edit_error::EditError;
+pub use entries::Entry;
+pub use laws::{
+    what_an_edit_writes_is_drawn_with_what_it_read, what_an_edit_writes_joins_what_it_read,
+};
+pub use made::Made;
+pub use numbered::Numbered;
+pub use run::edit_run;

@@ -1,0 +1,143 @@
+//! What a site makes of its commands.
+
+ghost use Rattle.std.specs.Prelude.{◌≡◌, ◌++◌, [], true, false, Ok, Some, IfOk, IfErr, OnOk};
+ghost use Rattle.gf_ops.specs.Limits.{IsInRange, is_id};
+ghost use Rattle.gf_causal.specs.HeldOperations.{IsFree};
+ghost use Rattle.gf_json.specs.declared.scripts.Command.{Command};
+ghost use Rattle.gf_json.specs.OperationLines.{denoted};
+ghost use Rattle.gf_json.specs.WrittenLines.{op_text};
+ghost use Rattle.gf_worker.specs.Turns.{AwaitAnswer, HasOp};
+ghost use Rattle.gf_edit.specs.Making.{written_line};
+ghost use Rattle.gf_edit.specs.MakingSteps.{HasPassed, Passes, RefusesCommand, RefusesMaking};
+ghost use Rattle.gf_edit.specs.MakingSteps.{WritesOp, of_author};
+
+use crate::edited::Edited;
+use crate::made::until;
+use crate::{EditError, Numbered};
+use gf_json::{Command, op_line};
+use gf_ops::{Change, History, Op, OpId};
+use gf_shape::OutOfMemory;
+use gf_site::{AuthorFault, Site};
+use gf_studio::StudioError;
+use gf_worker::Cause;
+use std::alloc::Global;
+
+/// The lines of the operations that the site makes of these commands, in order.
+pub(crate) fn make_all(
+    alloc: Global,
+    site: &mut Site,
+    commands: Vec<Numbered>,
+) -> Result<Edited, EditError>
+    ensures ok { IfOk result (HasPassed site.old.number site.old.ops commands.items site.new) }
+    ensures err { IfErr result (RefusesMaking site.old.number site.old.ops commands.items) }
+{
+    let mut edited = Edited {
+        text: Vec::new(alloc),
+        made: None,
+    };
+    for numbered in commands {
+        pass(alloc, site, &mut edited, numbered.line, numbered.command)?;
+    }
+    Ok(edited)
+}
+
+/// Passes the command of a line: makes an operation and appends its line, or looks for the one that
+/// is awaited.
+fn pass(
+    alloc: Global,
+    site: &mut Site,
+    edited: &mut Edited,
+    number: u64,
+    command: Command,
+) -> Result<(), EditError>
+    ensures ok { OnOk result (Passes command site.old site.new edited.old edited.new) }
+    ensures err { IfErr result (RefusesCommand number command site.old) }
+{
+    match command {
+        Command::Author(change) => author(alloc, site, edited, number, change),
+        Command::Await(id) => match refusal(site, id) {
+            Some(cause) => Err(EditError::Refused(number, cause)),
+            None => Ok(()),
+        },
+    }
+}
+
+fn author(
+    alloc: Global,
+    site: &mut Site,
+    edited: &mut Edited,
+    number: u64,
+    change: Change,
+) -> Result<(), EditError>
+    ensures ok { OnOk result (WritesOp change site.old site.new edited.old edited.new) }
+    ensures err { IfErr result (RefusesCommand number (Command.Author change) site.old) }
+{
+    match site.author(change) {
+        Ok(op) => match push_line(alloc, &mut edited.text, &op) {
+            Ok(()) => {
+                edited.made = Some(until(edited.made, op.id));
+                Ok(())
+            }
+            Err(OutOfMemory) => Err(EditError::Run(StudioError::OutOfMemory)),
+        },
+        Err(fault) => Err(author_refusal(number, fault)),
+    }
+}
+
+fn author_refusal(number: u64, fault: AuthorFault) -> EditError
+    ensures { result ≡ of_author number fault }
+{
+    match fault {
+        AuthorFault::Exhausted => EditError::Refused(number, Cause::Exhausted),
+        AuthorFault::Range => EditError::Refused(number, Cause::Range),
+        AuthorFault::NoObject => EditError::Refused(number, Cause::NoObject),
+        AuthorFault::WrongKind => EditError::Refused(number, Cause::WrongKind),
+        AuthorFault::BadAim => EditError::Refused(number, Cause::BadAim),
+        AuthorFault::OutOfMemory => EditError::Run(StudioError::OutOfMemory),
+    }
+}
+
+fn push_line(alloc: Global, text: &mut Vec<u8>, op: &Op) -> Result<(), OutOfMemory>
+    requires { IsInRange op.now }
+    ensures text { OnOk result (text.new.items ≡ text.old.items ++ written_line op.now) }
+    ensures reads { OnOk result (denoted (op_text op.now) ≡ Ok op.now) }
+{
+    let line = op_line(alloc, op)?;
+    text.extend_from_slice(line.as_bytes())?;
+    text.push(b'\n')?;
+    Ok(())
+}
+
+/// Why an Await of this operation is refused, if it is.
+fn refusal(site: &Site, id: OpId) -> Option<Cause>
+    ensures { AwaitAnswer site.now.number site.now.ops [] id result }
+{
+    if !is_id(id) {
+        return Some(Cause::Range);
+    }
+    if id.site == site.number() {
+        return Some(Cause::OwnId);
+    }
+    if has(site.history(), id) {
+        None
+    } else {
+        Some(Cause::NeverComes)
+    }
+}
+
+/// Whether the id names one of the first 10,000 operations of a site.
+fn is_id(id: OpId) -> bool
+    ensures { result ≡ is_id id }
+{
+    (1..=8).contains(&id.site) && 1 <= id.seq && id.seq <= 10_000
+}
+
+fn has(history: &History, id: OpId) -> bool
+    ensures yes { result ≡ true → HasOp history.now.ops id }
+    ensures no { result ≡ false → IsFree history.now.ops id }
+{
+    match history.get(id) {
+        Some(_) => true,
+        None => false,
+    }
+}

@@ -1,0 +1,79 @@
+//! From the lines of a text to a site and the commands that it is told.
+
+ghost use Rattle.std.specs.Prelude.{[], IfOk, IfErr, OnOk};
+ghost use Rattle.gf_ops.specs.OperationOrder.{IsSite};
+ghost use Rattle.gf_edit.specs.Entries.{IsEntryInRange};
+ghost use Rattle.gf_edit.specs.EditFaults.{RefusesReading};
+ghost use Rattle.gf_edit.specs.EntrySteps.{Gains, HasRead, RefusesEntry, RefusesGain, TakesEntry};
+
+use crate::entries::read_entry;
+use crate::{Entry, Numbered};
+use gf_bytes::TextLines;
+use gf_reading::{ReadingError, line_refusal, take_op};
+use gf_site::Site;
+use std::alloc::Global;
+
+/// What was read: a site with the operations, and the commands in order.
+#[derive(Drop)]
+pub(crate) struct ReadLines {
+    pub(crate) site: Site,
+    pub(crate) commands: Vec<Numbered>,
+}
+
+/// What the lines of a text denote where the site of this number edits.
+pub(crate) fn read_lines(
+    alloc: Global,
+    text: Vec<u8>,
+    editor: u8,
+) -> Result<ReadLines, ReadingError>
+    requires { IsSite editor }
+    ensures ok { IfOk result (HasRead editor text.items []) }
+    ensures err { IfErr result (RefusesReading editor text.items) }
+{
+    let mut read = ReadLines {
+        site: Site::new(alloc, editor),
+        commands: Vec::new(alloc),
+    };
+    let mut lines = TextLines::new(text);
+    while let Some((number, line)) = lines.first() {
+        take_line(alloc, &mut read, number, line, editor)?;
+        lines.advance();
+    }
+    Ok(read)
+}
+
+/// Takes what a line denotes.
+fn take_line(
+    alloc: Global,
+    read: &mut ReadLines,
+    number: u64,
+    line: &[u8],
+    editor: u8,
+) -> Result<(), ReadingError>
+    ensures ok { OnOk result (TakesEntry editor number line.now read.old read.new) }
+    ensures err { IfErr result (RefusesEntry editor number line.now read.old) }
+{
+    let entry = match read_entry(alloc, line, editor) {
+        Ok(entry) => entry,
+        Err(fault) => return Err(line_refusal(number, fault)),
+    };
+    take(read, number, entry)
+}
+
+/// Takes what was read in a line.
+fn take(read: &mut ReadLines, number: u64, entry: Entry) -> Result<(), ReadingError>
+    requires { IsEntryInRange entry }
+    ensures ok { OnOk result (Gains number entry read.old read.new) }
+    ensures err { IfErr result (RefusesGain number entry read.old) }
+{
+    match entry {
+        Entry::Operation(op) => take_op(&mut read.site, number, op),
+        Entry::Command(command) => match read.commands.push(Numbered {
+            line: number,
+            command,
+        }) {
+            Ok(()) => Ok(()),
+            Err(_) => Err(ReadingError::OutOfMemory),
+        },
+    }
+}

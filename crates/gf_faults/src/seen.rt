@@ -1,0 +1,52 @@
+//! The operations that came, by id.
+
+use gf_ops::{Op, OpId, same_op};
+use gf_shape::OutOfMemory;
+use std::alloc::Global;
+use std::collections::BTreeMap;
+
+/// An operation, and the number of its line.
+#[derive(Debug, Drop)]
+pub(crate) struct SeenLine {
+    pub(crate) number: u64,
+    pub(crate) op: Op,
+}
+
+/// The last operation that came under each id.
+#[derive(Debug, Drop)]
+pub(crate) struct Seen {
+    lines: BTreeMap<OpId, SeenLine>,
+}
+
+impl Seen {
+    /// No operations.
+    pub(crate) fn new(alloc: Global) -> Seen {
+        Seen {
+            lines: BTreeMap::new(alloc),
+        }
+    }
+
+    /// The operation under this id.
+    pub(crate) fn get(&self, id: OpId) -> Option<&SeenLine> {
+        self.lines.get(&id)
+    }
+
+    /// Puts an operation under its id. Where the same one is there, its first line stays.
+    pub(crate) fn put(&mut self, number: u64, op: Op) -> Result<(), OutOfMemory> {
+        if self.has(&op) {
+            return Ok(());
+        }
+        match self.lines.insert(op.id, SeenLine { number, op }) {
+            Ok(_) => Ok(()),
+            Err(_) => Err(OutOfMemory),
+        }
+    }
+
+    /// Whether this operation is there.
+    fn has(&self, op: &Op) -> bool {
+        match self.get(op.id) {
+            Some(line) => same_op(&line.op, op),
+            None => false,
+        }
+    }
+}

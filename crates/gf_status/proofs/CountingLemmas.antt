@@ -1,0 +1,81 @@
+-- The product of the components' sets is how many versions there are.
+use Rattle.std.specs.Prelude.{Contains, Option, Some, None, nat_le, unwrap_or}
+use Rattle.std.specs.List.{fold}
+use Rattle.std.proofs.Common.{◌≡◌, ℕ, ◌*◌, ◌≤◌, ◌<◌, Bool, List, [], ◌∷◌, map, length, refl, sym, ap, ◌∙◌, inl, inr, arith}
+use Rattle.std.proofs.Math.Nat.{mul-one, mul_comm, mul-le-mul_left}
+use Rattle.std.proofs.lemmas.Bool.{cases_lt, cond-true, cond-false, le-leb, lt-leb}
+use Rattle.std.proofs.lemmas.List.{length-map}
+use Rattle.gf_ops.proofs.ListLemmas.{Contains-cons_head, Contains-cons_tail}
+use Rattle.gf_ops.specs.declared.op.Op.{Op}
+use Rattle.gf_ops.specs.declared.op.ObjectId.{ObjectId}
+use Rattle.gf_ops.specs.ValidHistory.{IsValid}
+use Rattle.gf_groups.specs.Growing.{conflict_at, groups_at}
+use Rattle.gf_groups.specs.GroupedPositions.{group_at}
+use Rattle.gf_groups.specs.Versions.{IsMade}
+use Rattle.gf_groups.proofs.TableLemmas.{conflict_at_test, table_groups}
+use Rattle.gf_maximal.specs.Tables.{IsRising, IsTable}
+use Rattle.gf_maximal.proofs.LargestLemmas.{IsConflict}
+use Rattle.gf_components.specs.Components.{ComponentState, ComponentsState, products}
+use Rattle.gf_components.specs.Separate.{IsComponent, IsKept}
+use Rattle.gf_components.proofs.CountLemmas.{a_table, length-products, tables_long}
+use Rattle.gf_table.specs.Standing.{AreComponentsOn, full, listed}
+use Rattle.gf_table.proofs.ListedLemmas.{versions_listed}
+use Rattle.gf_status.specs.Counting.{IsCount, capped}
+use Rattle.gf_status.specs.Multiplying.{count_with, counted, sets_times}
+
+-- ---- capped numbers
+
+capped_few : (n : ℕ) → n ≤ 1000 → capped n ≡ n
+capped_few n l = cond-true (nat_le n 1000) n 1001 (le-leb n 1000 l)
+
+capped_many : (n : ℕ) → 1000 < n → capped n ≡ 1001
+capped_many n l = cond-false (nat_le n 1000) n 1001 (lt-leb n 1000 l)
+
+times_some : (n k : ℕ) → 1 ≤ k → n ≤ n * k
+times_some n k o = let e : n * 1 ≤ n * k = mul-le-mul_left n o in let d = mul-one n in omega (arith, e, d)
+
+-- a product of a capped number and of that number are capped alike
+capped_times : (n k : ℕ) → 1 ≤ k → capped (capped n * k) ≡ capped (n * k)
+capped_times n k o = elim (cases_lt 1000 n) [
+  | inl m ↦
+      let a = times_some n k o in
+      let b = times_some 1001 k o in
+      rw (capped_many n m) (capped_many (1001 * k) (omega (arith, b)) ∙ sym (capped_many (n * k) (omega (arith, a, m))))
+  | inr l ↦ rw (capped_few n l) refl
+]
+
+module _ (c : ℕ → ℕ → Bool) (s : IsConflict c) where
+  some_set : (us : List ℕ) → IsRising us → (gs : List (List ℕ)) → IsTable c us gs → 1 ≤ length gs
+  some_set us rises gs t = let w = a_table c s us rises in let e = tables_long c s us gs w.sets t w.table in let o = w.some in omega (arith, e, o)
+
+  -- one component more
+  counts_more : (us : List ℕ) → IsRising us → (n : ℕ) → 1 ≤ n → (r : Option (List (List ℕ))) → IsKept c us r
+      → (1 ≤ length (unwrap_or r (groups_at c us))) × (sets_times (capped n) r ≡ capped (n * length (unwrap_or r (groups_at c us))))
+  counts_more us rises n o (Some gs) k = let l = some_set us rises gs k.0 in (l, capped_times n (length gs) l)
+  counts_more us rises n o None k =
+      let table = table_groups c s us rises in
+      let m = k (groups_at c us) table in
+      let a = times_some (length (groups_at c us)) n o in
+      let d = mul_comm (length (groups_at c us)) n in
+      (omega (arith, m), sym (capped_many (n * length (groups_at c us)) (omega (arith, a, d, m))))
+
+  counts_all : (ps : List ComponentState) → ((p : ComponentState) → Contains ps p → IsComponent c p) → (gs : List (List ℕ)) → 1 ≤ length gs →
+      fold count_with (capped (length gs)) ps ≡ capped (length (fold (λ ks p. products ks (full c p)) gs ps))
+  counts_all [] are gs o = refl
+  counts_all (p ∷ ps) are gs o =
+      let is = are p (Contains-cons_head p ps) in
+      let long = length-products gs (full c p) in
+      let step = counts_more p.all is.rises (length gs) o p.sets is.sets in
+      let more = times_some (length gs) (length (full c p)) step.0 in
+      let e : count_with (capped (length gs)) p ≡ capped (length (products gs (full c p))) = step.1 ∙ ap capped (sym long) in
+      ap (λ n. fold count_with n ps) e ∙ counts_all ps (λ q i. are q (Contains-cons_tail p ps q i)) (products gs (full c p)) (omega (arith, long, more, o))
+
+-- THE COUNT: the product of the components' sets is how many versions the object has
+pub count_told : (h : List Op) → IsValid h → (o : ObjectId) → (t : ComponentsState) → AreComponentsOn h o t → IsMade h o → (n : ℕ) → n ≡ counted t.parts → IsCount h o n
+count_told h valid o t on made n e =
+    let c = conflict_at h in
+    record {
+      groups = map (group_at h o) (listed c t);
+      all = versions_listed h o t on valid made;
+      is = e ∙ (counts_all c (conflict_at_test h) t.parts on.components.parts (t.free ∷ []) (omega arith) ∙ ap capped (sym (length-map (listed c t) (group_at h o))));
+    }

@@ -1,0 +1,6 @@
+pub mod CountingLemmas
+pub mod PositionLemmas
+pub mod SetterLemmas
+pub mod DifferingLemmas
+pub mod HiddenLemmas
+pub mod StatusLemmas

@@ -1,0 +1,6 @@
+use Rattle.std.proofs.Common.{take}
+use Rattle.gf_status.proofs.SetterLemmas.{AreLasts}
+use Rattle.gf_status.proofs.differing.giving.Given as goal
+
+abbrev pub invariant-loop-group : goal.invariant-loop-group
+invariant-loop-group l = AreLasts l.history.ops l.attribute (take l.group-index l.groups) l.found.items

@@ -1,0 +1,10 @@
+pub mod Counting
+pub mod Multiplying
+pub mod Differing
+pub mod HiddenChanges
+pub mod ObjectStatuses
+pub mod StatusLines
+pub mod StatusRun
+pub mod RefusedParts
+pub mod SettersAt
+pub mod Members

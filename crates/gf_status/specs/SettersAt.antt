@@ -1,0 +1,104 @@
+-- What the operations at positions set, and in which order. No public clause cites this module.
+use Rattle.std.specs.Prelude.{ℕ, Bool, true, false, not, ◌&&◌, ◌++◌, List, [], ◌∷◌}
+use Rattle.std.specs.Prelude.{filter, Option, Some, None, is_some, slice_get}
+use Rattle.std.specs.List.{list_any, flat_map}
+use Rattle.gf_ops.specs.declared.op.Op.{Op}
+use Rattle.gf_ops.specs.declared.change.Attr.{Attr}
+use Rattle.gf_ops.specs.declared.change.Attr.TheVariants as attr
+use Rattle.gf_ops.specs.declared.change.Value.{Value}
+use Rattle.gf_ops.specs.Attribute.{value_given}
+use Rattle.gf_ops.specs.declared.change.Value.TheVariants as value
+use Rattle.gf_ops.specs.ConflictTests.{value_eq}
+use Rattle.gf_groups.specs.VersionList.{are_unordered}
+use Rattle.gf_components.specs.Components.{ComponentState, ComponentsState}
+use Rattle.gf_versions.specs.declared.key.Version.{Version}
+use Rattle.gf_visible.specs.ShownAt.{before_at}
+use Rattle.gf_status.specs.Differing.{version_value}
+use Rattle.gf_ops.specs.declared.change.Change.{Change}
+use Rattle.gf_ops.specs.declared.change.Change.TheVariants.{Create, Set}
+
+-- the operation, if there is one, sets the attribute t
+abbrev pub gives : Option Op → Attr → Bool
+gives (Some a) t = is_some (value_given a t)
+gives None t = false
+
+-- the value hides
+abbrev pub hides_by : Value → Bool
+hides_by (value.Shown b) = not b
+hides_by (value.Place p) = false
+hides_by (value.Points ps) = false
+hides_by (value.Size w h) = false
+hides_by (value.Colour c) = false
+hides_by (value.Layer n) = false
+
+-- the change hides its object
+abbrev pub hides : Change → Bool
+hides (Create start) = not start.shown
+hides (Set o v aim) = hides_by v
+
+-- the operation, if there is one, hides its object
+abbrev pub op_hides : Option Op → Bool
+op_hides (Some a) = hides a.change
+op_hides None = false
+
+-- there are two operations, and neither comes before the other
+abbrev pub both_unordered : Option Op → Option Op → Bool
+both_unordered (Some a) (Some b) = are_unordered a b
+both_unordered a b = false
+
+module _ (h : List Op) where
+  -- the operation at the position i sets the attribute t
+  abbrev pub sets_at : Attr → ℕ → Bool
+  sets_at t i = gives (slice_get h i) t
+
+  -- the operation at the position i comes before none of those at the positions us
+  abbrev pub is_last : List ℕ → ℕ → Bool
+  is_last us i = not (list_any (before_at h i) us)
+
+  -- of the positions us those whose operations come before none of the others
+  abbrev pub lasts : List ℕ → List ℕ → List ℕ
+  lasts others us = filter (is_last others) us
+
+  -- of the positions us those at which the attribute t is set
+  abbrev pub setters : Attr → List ℕ → List ℕ
+  setters t us = filter (sets_at t) us
+
+  -- the operation at the position i hides its object
+  abbrev pub hides_at : ℕ → Bool
+  hides_at i = op_hides (slice_get h i)
+
+  -- neither of the operations at the positions i and j comes before the other
+  abbrev pub unordered_at : ℕ → ℕ → Bool
+  unordered_at i j = both_unordered (slice_get h i) (slice_get h j)
+
+  -- of the positions us those that hide
+  abbrev pub hidings : List ℕ → List ℕ
+  hidings us = filter hides_at us
+
+  -- of the positions us those that hide, and come before none of these that shows or hides
+  abbrev pub last_hidings : List ℕ → List ℕ
+  last_hidings us = lasts (setters attr.Shown us) (hidings us)
+
+  -- the operation at the position i does not hide, and one of those at js is unordered with it
+  abbrev pub is_unknowing : List ℕ → ℕ → Bool
+  is_unknowing js i = not (hides_at i) && list_any (unordered_at i) js
+
+  -- of the positions us those that do not hide, and are unordered with one of js
+  abbrev pub unknowing : List ℕ → List ℕ → List ℕ
+  unknowing js us = filter (is_unknowing js) us
+
+-- all numbers of the components, in no order
+abbrev pub numbers_in : ComponentsState → List ℕ
+numbers_in s = s.free ++ flat_map (λ (p : ComponentState). p.all) s.parts
+
+-- two values, or none, are not the same
+abbrev pub are_others : Option Value → Option Value → Bool
+are_others None None = false
+are_others None (Some w) = true
+are_others (Some v) None = true
+are_others (Some v) (Some w) = not (value_eq v w)
+
+-- one of the versions has another value of the attribute t than the first
+abbrev pub some_differ : Attr → List Version → Bool
+some_differ t [] = false
+some_differ t (v ∷ vs) = list_any (λ w. are_others (version_value v t) (version_value w t)) vs

@@ -1,0 +1,57 @@
+//! How many versions an object has, counted from the components of its operations.
+
+ghost use Rattle.std.specs.Prelude.{◌≡◌, ◌∷◌, [], IfOk, map};
+ghost use Rattle.gf_components.specs.Components.{ComponentState};
+ghost use Rattle.gf_groups.specs.Versions.{IsMade};
+ghost use Rattle.gf_table.specs.Standing.{AreComponentsOn};
+ghost use Rattle.gf_status.specs.Counting.{IsCount, capped};
+ghost use Rattle.gf_status.specs.Multiplying.{count_with, counted};
+
+use gf_components::{Component, Components};
+use gf_ops::{History, ObjectId};
+
+/// Up to so many versions are counted. One more stands for all that are more.
+pub const MOST_COUNTED: usize = 1_000;
+
+/// How many versions an object has that the history made, hidden ones too, or 1,001 where they are
+/// more than 1,000. It multiplies no sets out.
+pub(crate) fn count_versions(history: &History, object: ObjectId, components: &Components) -> usize
+    requires on { AreComponentsOn history.now.ops object components.now }
+    requires made { IsMade history.now.ops object }
+    ensures { IsCount history.now.ops object result }
+{
+    // Its clause says that the history is valid.
+    let _ = history.ops();
+    counted(components.parts())
+}
+
+/// How many ways there are to take one set of each component.
+fn counted(parts: &[Component]) -> usize
+    ensures { result ≡ counted parts.now }
+{
+    let mut count = 1;
+    for part in parts {
+        count = count_with(count, part);
+    }
+    count
+}
+
+/// The number of ways, times the number of sets of the component; capped.
+fn count_with(count: usize, part: &Component) -> usize
+    ensures { result ≡ count_with count part.now }
+{
+    match part.sets() {
+        Some(sets) => capped(count.saturating_mul(sets.len())),
+        None => MOST_COUNTED + 1,
+    }
+}
+
+fn capped(count: usize) -> usize
+    ensures { result ≡ capped count }
+{
+    if count <= MOST_COUNTED {
+        count
+    } else {
+        MOST_COUNTED + 1
+    }
+}

@@ -1,0 +1,224 @@
+//! The attributes whose values differ among the visible versions of an object.
+
+ghost use Rattle.std.specs.Prelude.{◌≡◌, ◌↔◌, Contains, IfOk, option_map};
+ghost use Rattle.gf_groups.specs.declared.group.Group.{Group};
+ghost use Rattle.gf_groups.specs.Versions.{IsVersionGroup};
+ghost use Rattle.gf_versions.specs.ListedVersions.{AreSettled};
+ghost use Rattle.gf_visible.specs.ShownVersions.{AreVisibleOn};
+ghost use Rattle.gf_status.specs.Differing.{AreDifferences, AreGivers, attributes};
+ghost use Rattle.gf_status.specs.Differing.{version_value};
+ghost use Rattle.gf_ops.specs.Attribute.{form_value, points_in, size_in};
+ghost use Rattle.gf_ops.specs.declared.change.Value.TheVariants as value;
+ghost use Rattle.std.specs.List.{list_any};
+ghost use Rattle.gf_status.specs.SettersAt.{are_others, some_differ};
+ghost use Rattle.gf_status.specs.Members.{IsLastAt, IsLastInOne};
+
+use crate::positions::{positions_of, rising};
+use crate::setters::{lasts, setters};
+use gf_groups::Group;
+use gf_ops::{Attr, Form, History, Ids, Points};
+use gf_shape::OutOfMemory;
+use gf_versions::{Version, settle};
+use std::alloc::Global;
+
+/// The attributes of which a status tells. What is visible is shown in all versions.
+const ATTRIBUTES: [Attr; 5] = [
+    Attr::Place,
+    Attr::Points,
+    Attr::Size,
+    Attr::Colour,
+    Attr::Layer,
+];
+
+/// An attribute that differs among the visible versions of an object, and the operations that give
+/// its values there, rising by id.
+#[derive(Debug, Drop)]
+pub struct Difference {
+    pub attribute: Attr,
+    pub givers: Ids,
+}
+
+/// The attributes that differ among the visible versions with these groups, in the order of
+/// [`Attr`].
+pub(crate) fn differences(
+    alloc: Global,
+    history: &History,
+    groups: &[Group],
+) -> Result<Vec<Difference>, OutOfMemory>
+    requires { (g : Group) → Contains groups.now g → IsVersionGroup history.now.ops g }
+    ensures { IfOk result (λ found. (o : _) → AreVisibleOn history.now.ops o groups.now
+        → AreDifferences history.now.ops o attributes found.items) }
+{
+    differing_of(alloc, history, groups, &ATTRIBUTES)
+}
+
+/// The attributes that differ among the visible versions with these groups.
+fn differing_of(
+    alloc: Global,
+    history: &History,
+    groups: &[Group],
+    attributes: &[Attr],
+) -> Result<Vec<Difference>, OutOfMemory>
+    requires { (g : Group) → Contains groups.now g → IsVersionGroup history.now.ops g }
+    ensures { IfOk result (λ found. (o : _) → AreVisibleOn history.now.ops o groups.now
+        → AreDifferences history.now.ops o attributes.now found.items) }
+{
+    // Its clause says that the history is valid.
+    let _ = history.ops();
+    let versions = settled(alloc, history, groups)?;
+    let mut found = Vec::new(alloc);
+    for attribute in attributes {
+        if some_differ(*attribute, &versions) {
+            let givers = givers(alloc, history, groups, *attribute)?;
+            found.push(Difference {
+                attribute: *attribute,
+                givers,
+            })?;
+        }
+    }
+    Ok(found)
+}
+
+/// The versions with these groups, in the order of these.
+fn settled(alloc: Global, history: &History, groups: &[Group]) -> Result<Vec<Version>, OutOfMemory>
+    requires { (g : Group) → Contains groups.now g → IsVersionGroup history.now.ops g }
+    ensures { IfOk result (λ versions. AreSettled history.now.ops groups.now versions.items) }
+{
+    let mut versions = Vec::new(alloc);
+    for group in groups {
+        versions.push(settle(alloc, history, group)?)?;
+    }
+    Ok(versions)
+}
+
+/// Whether one of the versions has another value of the attribute than the first.
+fn some_differ(attribute: Attr, versions: &[Version]) -> bool
+    ensures { result ≡ some_differ attribute versions.now }
+{
+    match versions {
+        [] => false,
+        [first, rest @ ..] => some_other(attribute, first, rest),
+    }
+}
+
+/// Whether one of the others has another value of the attribute.
+fn some_other(attribute: Attr, first: &Version, others: &[Version]) -> bool
+    ensures { result ≡ list_any (λ w. are_others (version_value first.now attribute)
+        (version_value w attribute)) others.now }
+{
+    others
+        .iter()
+        .any(|other| differ_in(attribute, first, other))
+}
+
+/// Whether two versions of an object have different values of the attribute.
+fn differ_in(attribute: Attr, first: &Version, other: &Version) -> bool
+    ensures { result ≡ are_others (version_value first.now attribute)
+        (version_value other.now attribute) }
+{
+    match attribute {
+        Attr::Place => first.place != other.place,
+        Attr::Points => points_differ(&first.form, &other.form),
+        Attr::Size => sizes_differ(&first.form, &other.form),
+        Attr::Colour => first.colour != other.colour,
+        Attr::Layer => first.key.layer != other.key.layer,
+        Attr::Shown => first.shown != other.shown,
+    }
+}
+
+/// Whether one form is a polygon and the other is none, or both are and have different points.
+fn points_differ(first: &Form, other: &Form) -> bool
+    ensures { result ≡ are_others (points_in (form_value first.now))
+        (points_in (form_value other.now)) }
+{
+    match (points(first), points(other)) {
+        (Some(points), Some(others)) => points != others,
+        (None, None) => false,
+        (Some(_), None) | (None, Some(_)) => true,
+    }
+}
+
+/// The points of the form, if it is a polygon.
+fn points(form: &Form) -> Option<&Points>
+    ensures { option_map (λ p. value.Points p.now) result ≡ points_in (form_value form.now) }
+{
+    match form {
+        Form::Polygon(points) => Some(points),
+        Form::Rect(_, _) | Form::Circle(_) | Form::Ellipse(_, _) => None,
+    }
+}
+
+/// Whether one form has a size and the other has none, or both have different sizes.
+fn sizes_differ(first: &Form, other: &Form) -> bool
+    ensures { result ≡ are_others (size_in (form_value first.now))
+        (size_in (form_value other.now)) }
+{
+    match (size(first), size(other)) {
+        (Some((width, height)), Some((other_width, other_height))) => {
+            !(width == other_width && height == other_height)
+        }
+        (None, None) => false,
+        (Some(_), None) | (None, Some(_)) => true,
+    }
+}
+
+/// The two numbers of the form's size, if its kind has one.
+fn size(form: &Form) -> Option<(u32, u32)>
+    ensures { option_map (λ s. value.Size s.0 s.1) result ≡ size_in (form_value form.now) }
+{
+    match form {
+        Form::Rect(width, height) => Some((*width, *height)),
+        Form::Circle(radius) => Some((*radius, *radius)),
+        Form::Ellipse(rx, ry) => Some((*rx, *ry)),
+        Form::Polygon(_) => None,
+    }
+}
+
+/// The ids of the operations that give the attribute its value in one of the groups, rising.
+fn givers(
+    alloc: Global,
+    history: &History,
+    groups: &[Group],
+    attribute: Attr,
+) -> Result<Ids, OutOfMemory>
+    ensures { IfOk result (λ ids. (o : _) → AreVisibleOn history.now.ops o groups.now
+        → AreGivers history.now.ops o attribute ids) }
+{
+    let found = giving(alloc, history, groups, attribute)?;
+    let ids = rising(alloc, history, &found)?;
+    Ok(ids)
+}
+
+/// The positions of the operations that give the attribute its value in one of the groups.
+fn giving(
+    alloc: Global,
+    history: &History,
+    groups: &[Group],
+    attribute: Attr,
+) -> Result<Vec<usize>, OutOfMemory>
+    ensures { IfOk result (λ found. (k : _) → Contains found.items k
+        ↔ IsLastInOne history.now.ops attribute groups.now k) }
+{
+    let mut found = Vec::new(alloc);
+    for group in groups {
+        let mut more = last_setters(alloc, history, group, attribute)?;
+        found.append(&mut more)?;
+    }
+    Ok(found)
+}
+
+/// The positions of the operations that give the attribute its value in the group.
+fn last_setters(
+    alloc: Global,
+    history: &History,
+    group: &Group,
+    attribute: Attr,
+) -> Result<Vec<usize>, OutOfMemory>
+    ensures { IfOk result (λ found. (k : _) → Contains found.items k
+        ↔ IsLastAt history.now.ops attribute group.now.ops k) }
+{
+    let members = positions_of(alloc, history, group.ops.as_slice())?;
+    let found = setters(alloc, history, attribute, &members)?;
+    let last = lasts(alloc, history, &found, &found)?;
+    Ok(last)
+}

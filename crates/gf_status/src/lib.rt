@@ -1,0 +1,23 @@
+//! What a designer asks first after taking in other people's files: what each site has, what waits
+//! for what, which objects have several versions, and where these differ.
+//!
+//! - [`status_run`]: reads operation lines and writes the status of their history; it answers
+//!   a [`State`].
+//! - [`object_statuses`]: an [`ObjectStatus`] for each object, with a [`Difference`] for each
+//!   attribute that differs among its visible versions.
+#![tactic(auto)]
+
+mod counting;
+mod differing;
+mod hidden;
+mod lines;
+mod objects;
+mod positions;
+mod run;
+mod setters;
+mod state;
+
+pub use differing::Difference;
+pub use objects::{ObjectStatus, object_statuses};
+pub use run::status_run;
+pub use state::State;

@@ -1,0 +1,109 @@
+//! What a status tells of the objects of a history.
+
+ghost use Rattle.std.specs.Prelude.{◌≡◌, IfOk};
+ghost use Rattle.gf_groups.specs.declared.group.Group.{Group};
+ghost use Rattle.gf_groups.specs.Versions.{IsMade};
+ghost use Rattle.gf_table.specs.Standing.{AreComponentsOn, StandsFor};
+ghost use Rattle.gf_visible.specs.ShownVersions.{AreVisibleOn};
+ghost use Rattle.gf_status.specs.HiddenChanges.{AreUnknowing};
+ghost use Rattle.gf_status.specs.ObjectStatuses.{AreStatuses, IsStatusOf, TellsChanged};
+
+use crate::counting::{MOST_COUNTED, count_versions};
+use crate::differing::{Difference, differences};
+use crate::hidden::changed_unknowing;
+use crate::positions::{creations, rising};
+use gf_components::Components;
+use gf_groups::Group;
+use gf_ops::{History, Ids, ObjectId};
+use gf_shape::OutOfMemory;
+use gf_table::GroupTable;
+use gf_visible::visible_groups;
+use std::alloc::Global;
+
+/// What a status tells of an object.
+#[derive(Debug, Drop)]
+pub struct ObjectStatus {
+    pub object: ObjectId,
+    /// How many versions it has, or 1,001 where they are more than 1,000.
+    pub versions: usize,
+    /// How many are visible, or 1,001 where these are more than 1,000.
+    pub shown: usize,
+    /// The attributes that differ among the visible versions; none where these are more than 1,000.
+    pub differences: Vec<Difference>,
+    /// The operations that changed it and knew nothing of what hides it; none where a version is
+    /// visible.
+    pub changed: Ids,
+}
+
+/// What a status tells of each object of a history, rising by id. The table stands for the history.
+///
+/// It lists the visible versions of an object, at most 1,000, and multiplies out no others.
+pub fn object_statuses(
+    alloc: Global,
+    history: &History,
+    table: &GroupTable,
+) -> Result<Vec<ObjectStatus>, OutOfMemory>
+    requires { StandsFor history.now.ops table.now }
+    ensures { IfOk result (λ found. AreStatuses history.now.ops found.items) }
+{
+    // Its clause says that the history is valid.
+    let _ = history.ops();
+    let made = creations(alloc, history)?;
+    let ids = rising(alloc, history, &made)?;
+    let mut found = Vec::new(alloc);
+    for id in ids.as_slice() {
+        found.push(object_status(alloc, history, table, ObjectId(*id))?)?;
+    }
+    Ok(found)
+}
+
+/// What a status tells of an object that the history made.
+fn object_status(
+    alloc: Global,
+    history: &History,
+    table: &GroupTable,
+    object: ObjectId,
+) -> Result<ObjectStatus, OutOfMemory>
+    requires stands { StandsFor history.now.ops table.now }
+    requires made { IsMade history.now.ops object }
+    ensures object { IfOk result (λ status. status.object ≡ object) }
+    ensures status { IfOk result (λ status. IsStatusOf history.now.ops status) }
+{
+    let components = table.components(alloc, history, object)?;
+    let versions = count_versions(history, object, &components);
+    match visible_groups(alloc, history, table, object, MOST_COUNTED)? {
+        Some(groups) => Ok(ObjectStatus {
+            object,
+            versions,
+            shown: groups.len(),
+            differences: differences(alloc, history, &groups)?,
+            changed: changed(alloc, history, object, &components, groups.len())?,
+        }),
+        None => Ok(ObjectStatus {
+            object,
+            versions,
+            shown: MOST_COUNTED + 1,
+            differences: Vec::new(alloc),
+            changed: Ids::new(Vec::new(alloc)),
+        }),
+    }
+}
+
+/// The ids of the operations that changed the object and knew nothing of what hides it; none where
+/// some versions are visible.
+fn changed(
+    alloc: Global,
+    history: &History,
+    object: ObjectId,
+    components: &Components,
+    shown: usize,
+) -> Result<Ids, OutOfMemory>
+    requires { AreComponentsOn history.now.ops object components.now }
+    ensures { IfOk result (TellsChanged history.now.ops object shown) }
+{
+    if shown == 0 {
+        let ids = changed_unknowing(alloc, history, object, components)?;
+        return Ok(ids);
+    }
+    Ok(Ids::new(Vec::new(alloc)))
+}

@@ -1,0 +1,136 @@
+//! From the bytes of operation lines to the status of their history.
+
+ghost use Rattle.std.specs.Prelude.{◌≡◌, ◌≢◌, ◌+◌, ◌≤◌, ◌⊎◌, Err, IfSome, IfOk, IfErr, OnOk};
+ghost use Rattle.std.specs.Prelude.{IsTrue, map};
+ghost use Rattle.std.specs.List.{list_all};
+ghost use Rattle.gf_bytes.specs.Counts.{Rises};
+ghost use Rattle.gf_bytes.specs.Reads.{ConsumesAtMost};
+ghost use Rattle.gf_studio.specs.RunAnswers.{ReadsFor};
+ghost use Rattle.gf_status.specs.RefusedParts.{RefusesReading};
+ghost use Rattle.gf_status.specs.StatusRun.{DenotesStatus, RefusesStatus, TellsStatus};
+ghost use Rattle.gf_status.specs.StatusRun.{WritesStatus, WritesStatusFront};
+ghost use Rattle.gf_status.specs.StatusLines.{is_clean, state_of};
+
+use crate::counting::MOST_COUNTED;
+use crate::lines::status_text;
+use crate::{ObjectStatus, State, object_statuses};
+use gf_bytes::{MOST_INPUT_BYTES, Sink, SinkFault, Source, write_whole};
+use gf_ops::Op;
+use gf_reading::read_site;
+use gf_shape::OutOfMemory;
+use gf_site::Site;
+use gf_studio::{StudioError, input};
+use std::alloc::Global;
+
+/// The text of a status, and whether something waits or differs.
+#[derive(Drop)]
+struct Status {
+    text: Vec<u8>,
+    state: State,
+}
+
+/// Reads operation lines to their end, and writes the status of their history. It has a line for
+/// each site with operations, and one for each operation that waits. The lines of an object tell how
+/// many versions it has, which attributes differ among the visible ones, and what changed it while
+/// it was hidden. The answer is whether something waits or differs. All is read before the first
+/// write.
+pub fn status_run<R: Source, W: Sink>(
+    alloc: Global,
+    source: &mut R,
+    sink: &mut W,
+) -> Result<State, StudioError>
+    // What is written is the status of the history that the bytes denote.
+    ensures tells { IfOk result (λ state. IfSome (R.left source.old) (λ bytes.
+        WritesStatus bytes state (W.taken sink.old) (W.taken sink.new))) }
+    ensures flushed { OnOk result (IsTrue (W.flushed sink.new)) }
+
+    // As of `fig_run`, with no drawing.
+    ensures source { ReadsFor MOST_INPUT_BYTES (R.left source.old) (R.left source.new)
+        (R.failures source.old) (R.failures source.new) result }
+    ensures refused { IfErr result (λ e. IfSome (R.left source.old) (λ bytes.
+        RefusesStatus bytes e)) }
+
+    // A front of the text is written at most, and that only where the sink failed.
+    ensures front { result ≡ Err StudioError.WriteFailed → IfSome (R.left source.old) (λ bytes.
+        WritesStatusFront bytes (W.taken sink.old) (W.taken sink.new)) }
+    ensures failed { result ≡ Err StudioError.WriteFailed →
+        Rises (W.failures sink.old) (W.failures sink.new) }
+    ensures unwritten { IfErr result (λ e. (sink.new ≡ sink.old) ⊎ (e ≡ StudioError.WriteFailed)) }
+
+    ensures takes { ConsumesAtMost (MOST_INPUT_BYTES + 1) (R.left source.old) (R.left source.new) }
+    ensures reads { R.reads source.new ≤ R.reads source.old + (MOST_INPUT_BYTES + 1) }
+{
+    let status = status_of_lines(alloc, source)?;
+    match write_whole(sink, &status.text) {
+        Ok(()) => Ok(status.state),
+        Err(SinkFault) => Err(StudioError::WriteFailed),
+    }
+}
+
+/// The status of the history that the lines of a source denote.
+fn status_of_lines<R: Source>(alloc: Global, source: &mut R) -> Result<Status, StudioError>
+    ensures ok { IfOk result (λ status. IfSome (R.left source.old) (λ bytes.
+        DenotesStatus bytes status.text.items status.state)) }
+    ensures source { ReadsFor MOST_INPUT_BYTES (R.left source.old) (R.left source.new)
+        (R.failures source.old) (R.failures source.new) result }
+    ensures refused { IfErr result (λ e. IfSome (R.left source.old) (λ bytes.
+        RefusesStatus bytes e)) }
+    ensures no_write { IfErr result (λ e. e ≢ StudioError.WriteFailed) }
+    ensures takes { ConsumesAtMost (MOST_INPUT_BYTES + 1) (R.left source.old) (R.left source.new) }
+    ensures reads { R.reads source.new ≤ R.reads source.old + (MOST_INPUT_BYTES + 1) }
+{
+    let bytes = input(alloc, source)?;
+    status_of(alloc, bytes)
+}
+
+/// The status of the history that these bytes denote.
+fn status_of(alloc: Global, bytes: Vec<u8>) -> Result<Status, StudioError>
+    ensures ok { IfOk result (λ status. DenotesStatus bytes.items status.text.items status.state) }
+    ensures err { IfErr result (RefusesReading bytes.items) }
+{
+    let site = read_site(alloc, bytes)?;
+    match tell(alloc, &site) {
+        Ok(status) => Ok(status),
+        Err(OutOfMemory) => Err(StudioError::OutOfMemory),
+    }
+}
+
+/// The status of a site's history.
+fn tell(alloc: Global, site: &Site) -> Result<Status, OutOfMemory>
+    ensures { IfOk result (λ status.
+        TellsStatus site.now.ops site.now.held status.text.items status.state) }
+{
+    let history = site.history();
+    let waiting = site.held_ops(alloc)?;
+    let objects = object_statuses(alloc, history, site.table())?;
+    let text = status_text(alloc, history, &waiting, &objects)?;
+    let state = state_of(&waiting, &objects);
+    Ok(Status { text, state })
+}
+
+/// Whether something waits, or is open of an object.
+fn state_of(waiting: &[&Op], objects: &[ObjectStatus]) -> State
+    ensures { result ≡ state_of (map (λ a. a.now) waiting.now) objects.now }
+{
+    if waiting.is_empty() && all_clean(objects) {
+        State::Clean
+    } else {
+        State::Open
+    }
+}
+
+fn all_clean(objects: &[ObjectStatus]) -> bool
+    ensures { result ≡ list_all is_clean objects.now }
+{
+    objects.iter().all(|status| is_clean(status))
+}
+
+/// Whether at most 1,000 versions of the object are visible, these agree, and no operation changed
+/// what is hidden.
+fn is_clean(status: &ObjectStatus) -> bool
+    ensures { result ≡ is_clean status.now }
+{
+    status.shown <= MOST_COUNTED
+        && status.differences.is_empty()
+        && status.changed.as_slice().is_empty()
+}
