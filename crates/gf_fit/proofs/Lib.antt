@@ -1,0 +1,3 @@
+pub mod BoundsLemmas
+pub mod FittingLemmas
+pub mod FittedLaws

@@ -1,0 +1,4 @@
+pub mod Frames
+pub mod FittedWindow
+pub mod FittedRun
+pub mod JoinedBounds

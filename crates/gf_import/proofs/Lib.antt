@@ -1,0 +1,16 @@
+pub mod AloneLemmas
+pub mod OrderLemmas
+pub mod BoxLemmas
+pub mod CornerLemmas
+pub mod OutlineLemmas
+pub mod FrontLemmas
+pub mod WrittenLemmas
+pub mod PictureLemmas
+pub mod SeenLemmas
+pub mod TableLemmas
+pub mod CreatingLemmas
+pub mod CommandLemmas
+pub mod LineLemmas
+pub mod RefusalLemmas
+pub mod RunLemmas
+pub mod NotRefusedLemmas

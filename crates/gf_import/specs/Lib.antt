@@ -1,0 +1,7 @@
+pub mod Boxes
+pub mod Importing
+pub mod CreationFaults
+pub mod Imported
+pub mod CommandLines
+pub mod ImportRun
+pub mod ImportSteps

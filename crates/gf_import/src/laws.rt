@@ -1,0 +1,48 @@
+//! The laws of imported drawings, each the contract of a function that does nothing.
+
+ghost use Rattle.std.specs.Prelude.{◌≡◌, ℕ, List};
+ghost use Rattle.gf_shape.specs.declared.outline.Outline.{Outline};
+ghost use Rattle.gf_ops.specs.declared.change.Change.{Change};
+ghost use Rattle.gf_ops.specs.OperationOrder.{IsSite};
+ghost use Rattle.gf_ops.specs.ValidHistory.{IsValid};
+ghost use Rattle.gf_site.specs.SiteState.{SiteState, new_site};
+ghost use Rattle.gf_drawing.specs.DrawingState.{DrawingState};
+ghost use Rattle.gf_drawing.specs.Outlined.{PaintsAsFig};
+ghost use Rattle.gf_fig_read.specs.FigGrammar.{Reads};
+ghost use Rattle.gf_studio.specs.declared.studio_error.StudioError.{StudioError};
+ghost use Rattle.gf_import.specs.declared.import_error.ImportError.{ImportError};
+ghost use Rattle.gf_import.specs.CommandLines.{DenotesChanges};
+ghost use Rattle.gf_import.specs.ImportRun.{Imports, RefusesImport};
+ghost use Rattle.gf_import.specs.Imported.{AuthorsAll, IsImportable, history_of};
+ghost use Rattle.gf_import.specs.Importing.{creations_of};
+
+/// The creations of the figures of a drawing, made by one site in their order, are a valid history
+/// that has at every point the colour of the drawing. A new site can make them, and has then just
+/// this history.
+pub fn the_creations_paint_the_drawing()
+    ensures valid { (s : ℕ) (d : DrawingState Outline) → IsSite s → IsImportable d
+        → IsValid (history_of s (creations_of d)) }
+    ensures colours { (s : ℕ) (d : DrawingState Outline) → IsSite s → IsImportable d
+        → PaintsAsFig (history_of s (creations_of d)) d }
+    ensures authored { (s : ℕ) (d : DrawingState Outline) → IsSite s → IsImportable d
+        → AuthorsAll (new_site s) (creations_of d)
+        (record (new_site s) { ops = history_of s (creations_of d) }) }
+    ensures only { (s : ℕ) (changes : List Change) (x : SiteState)
+        → AuthorsAll (new_site s) changes x → x.ops ≡ history_of s changes }
+{}
+
+/// The changes whose commands an import writes, made by their site in their order, are a valid
+/// history that has at every point the colour of the drawing that the FIG text reads as.
+pub fn what_is_imported_paints_the_drawing()
+    ensures valid { (s : ℕ) (fig text : List ℕ) (changes : List Change) → IsSite s
+        → Imports s fig text → DenotesChanges s text changes → IsValid (history_of s changes) }
+    ensures colours { (s : ℕ) (fig text : List ℕ) (changes : List Change)
+        (d : DrawingState Outline) → IsSite s → Imports s fig text
+        → DenotesChanges s text changes → Reads fig d → PaintsAsFig (history_of s changes) d }
+{}
+
+/// A FIG text whose drawing can be imported is refused for want of memory alone.
+pub fn what_can_be_imported_is_not_refused()
+    ensures { (fig : List ℕ) (d : DrawingState Outline) (e : ImportError) → Reads fig d
+        → IsImportable d → RefusesImport fig e → e ≡ ImportError.Run StudioError.OutOfMemory }
+{}

@@ -1,0 +1,28 @@
+//! The run of an import: from FIG text to lines of commands that create its figures.
+//!
+//! - [`import_run`]: reads a FIG text, and writes a command for each figure of its drawing;
+//!   [`ImportError`] tells why not.
+//! - [`creations`]: a creation for each figure of a drawing; [`CreationError`] tells why there are
+//!   none, and [`FigureFault`] which limit a figure breaks.
+//! - [`the_creations_paint_the_drawing`], [`what_is_imported_paints_the_drawing`]: the laws of the
+//!   history that a site makes of the creations.
+//! - [`what_can_be_imported_is_not_refused`]: the law that a success rules a refusal out.
+#![tactic(auto)]
+
+mod boxes;
+mod creating;
+mod faults;
+mod import_error;
+mod importing;
+mod laws;
+mod making;
+mod run;
+
+pub use creating::creations;
+pub use faults::{CreationError, FigureFault};
+pub use import_error::ImportError;
+pub use laws::{
+    the_creations_paint_the_drawing, what_can_be_imported_is_not_refused,
+    what_is_imported_paints_the_drawing,
+};
+pub use run::import_run;

@@ -1,0 +1,138 @@
+//! What a figure becomes.
+
+ghost use Rattle.std.specs.Prelude.{◌≡◌, ◌-ℤ◌, ◌≤◌, IfOk, OnOk, IsTrue, All, length, map};
+ghost use Rattle.gf_shape.specs.declared.outline.Outline.TheVariants as outline;
+ghost use Rattle.gf_shape.specs.Moving.{minus};
+ghost use Rattle.gf_shape.specs.Reach.{is_reached, is_within_reach};
+ghost use Rattle.gf_shape.specs.ShapeLaws.{IsLawful};
+ghost use Rattle.gf_drawing.specs.DrawingColour.{figure_colour};
+ghost use Rattle.gf_import.specs.Importing.{form_of, place_of, seen_from, start_of};
+
+use crate::boxes::{box_form, is_box, least_corner, point_at};
+use gf_drawing::{Drawing, Figure};
+use gf_ops::{Form, Points, Start};
+use gf_shape::{Chain, OutOfMemory, Outline, Point, Rgb};
+use std::alloc::Global;
+
+/// The colour of a figure whose number has none.
+const WHITE: Rgb = Rgb {
+    r: 255,
+    g: 255,
+    b: 255,
+};
+
+/// The layer of a figure at the depth 0.
+const FRONT: u16 = 999;
+
+/// What the object of a figure begins with.
+pub(crate) fn start_of(
+    alloc: Global,
+    drawing: &Drawing<Outline>,
+    figure: &Figure<Outline>,
+) -> Result<Start, OutOfMemory>
+    ensures start { IfOk result (λ start. start ≡ start_of drawing.now.table figure.now) }
+    ensures lawful { OnOk result (IsLawful figure.now.shape) }
+{
+    Ok(Start {
+        form: form_of(alloc, &figure.shape)?,
+        place: place_of(&figure.shape),
+        colour: colour_of(drawing, figure),
+        layer: FRONT.saturating_sub(figure.depth),
+        shown: true,
+    })
+}
+
+/// The colour of a figure by its number.
+fn colour_of(drawing: &Drawing<Outline>, figure: &Figure<Outline>) -> Rgb
+    ensures { result ≡ figure_colour drawing.now.table figure.now }
+{
+    drawing.rgb(figure.colour).unwrap_or(WHITE)
+}
+
+/// The place of what an outline becomes.
+fn place_of(outline: &Outline) -> Point
+    ensures { result ≡ place_of outline.now }
+{
+    match outline {
+        Outline::Chain(chain) => chain_place(chain),
+        Outline::Disc(disc) => disc.centre(),
+        Outline::Oval(oval) => oval.centre(),
+    }
+}
+
+/// The place of what a chain becomes.
+fn chain_place(chain: &Chain) -> Point
+    ensures { result ≡ place_of (outline.Chain chain.now) }
+{
+    let points = chain.points();
+    if is_box(chain) {
+        least_corner(point_at(points, 0), point_at(points, 2))
+    } else {
+        point_at(points, 0)
+    }
+}
+
+/// The form of what an outline becomes, seen from its place.
+fn form_of(alloc: Global, outline: &Outline) -> Result<Form, OutOfMemory>
+    ensures form { IfOk result (λ form. form ≡ form_of outline.now) }
+    ensures lawful { OnOk result (IsLawful outline.now) }
+{
+    match outline {
+        Outline::Chain(chain) => {
+            let points = chain.points();
+            if is_box(chain) {
+                Ok(box_form(point_at(points, 0), point_at(points, 2)))
+            } else {
+                let seen = seen_from(alloc, point_at(points, 0), points)?;
+                Ok(Form::Polygon(Points::new(seen)))
+            }
+        }
+        Outline::Disc(disc) => Ok(Form::Circle(disc.radius())),
+        Outline::Oval(oval) => Ok(Form::Ellipse(oval.rx(), oval.ry())),
+    }
+}
+
+/// The points of a chain without the last one, each seen from `o`.
+fn seen_from(alloc: Global, o: Point, points: &[Point]) -> Result<Vec<Point>, OutOfMemory>
+    requires some { 1 ≤ length points.now }
+    requires o { IsTrue (is_within_reach o) }
+    requires points { All (λ p. IsTrue (is_within_reach p)) points.now }
+    ensures { IfOk result (λ seen. seen.items ≡ seen_from o points.now) }
+{
+    all_seen(alloc, o, &points[..points.len() - 1])
+}
+
+/// Points, each seen from `o`.
+fn all_seen(alloc: Global, o: Point, points: &[Point]) -> Result<Vec<Point>, OutOfMemory>
+    requires o { IsTrue (is_within_reach o) }
+    requires points { All (λ p. IsTrue (is_within_reach p)) points.now }
+    ensures { IfOk result (λ seen. seen.items ≡ map (λ p. minus p o) points.now) }
+{
+    let mut seen = Vec::with_capacity(alloc, points.len())?;
+    for p in points {
+        seen.push(seen_at(o, *p))?;
+    }
+    Ok(seen)
+}
+
+/// A point, seen from `o`.
+fn seen_at(o: Point, p: Point) -> Point
+    requires o { IsTrue (is_within_reach o) }
+    requires p { IsTrue (is_within_reach p) }
+    ensures { result ≡ minus p o }
+{
+    Point {
+        x: gap(o.x, p.x),
+        y: gap(o.y, p.y),
+    }
+}
+
+/// How far `n` lies past `o`.
+#[tactic(auto, using(std::proofs::lemmas::Int::ints), unfolding(gf_shape::specs::Reach::is_reached))]
+fn gap(o: i32, n: i32) -> i32
+    requires o { IsTrue (is_reached o) }
+    requires n { IsTrue (is_reached n) }
+    ensures { result ≡ n -ℤ o }
+{
+    n - o
+}

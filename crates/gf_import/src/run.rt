@@ -1,0 +1,79 @@
+//! The whole run over an imported text.
+
+ghost use Rattle.std.specs.Prelude.{◌≡◌, ◌≢◌, ◌+◌, ◌≤◌, ◌⊎◌, Err, IfSome, IfOk, IfErr, OnOk};
+ghost use Rattle.std.specs.Prelude.{IsTrue};
+ghost use Rattle.gf_bytes.specs.Counts.{Rises};
+ghost use Rattle.gf_bytes.specs.Reads.{ConsumesAtMost};
+ghost use Rattle.gf_ops.specs.OperationOrder.{IsSite};
+ghost use Rattle.gf_studio.specs.declared.studio_error.StudioError.{StudioError};
+ghost use Rattle.gf_import.specs.ImportRun.{Imports, ReadsForImport, RefusesImportRun};
+ghost use Rattle.gf_import.specs.ImportRun.{WritesImport, WritesImportFront};
+
+use crate::ImportError;
+use crate::importing::import;
+use gf_bytes::{MOST_INPUT_BYTES, Sink, SinkFault, Source, write_whole};
+use gf_studio::{StudioError, input};
+use std::alloc::Global;
+
+/// Reads a FIG text to its end, and writes for each of its figures the line of a command of this
+/// site that creates it. It reads all before the first write.
+pub fn import_run<R: Source, W: Sink>(
+    alloc: Global,
+    source: &mut R,
+    sink: &mut W,
+    site: u8,
+) -> Result<(), ImportError>
+    requires { IsSite site }
+
+    // The lines of the commands that create the figures of the text are written, and denote these
+    // commands.
+    ensures imports { OnOk result (IfSome (R.left source.old) (λ fig.
+        WritesImport site fig (W.taken sink.old) (W.taken sink.new))) }
+    ensures flushed { OnOk result (IsTrue (W.flushed sink.new)) }
+
+    // The text was read whole, or the source failed, or had more than an input; it reads as no
+    // drawing, or as one of too many figures, or one of its figures breaks a limit.
+    ensures source { ReadsForImport MOST_INPUT_BYTES (R.left source.old) (R.left source.new)
+        (R.failures source.old) (R.failures source.new) result }
+    ensures refused { IfErr result (λ e. IfSome (R.left source.old) (λ fig.
+        RefusesImportRun fig e)) }
+
+    // A front of the lines is written at most, and that only where the sink failed.
+    ensures front { result ≡ Err (ImportError.Run StudioError.WriteFailed)
+        → IfSome (R.left source.old) (λ fig.
+        WritesImportFront site fig (W.taken sink.old) (W.taken sink.new)) }
+    ensures failed { result ≡ Err (ImportError.Run StudioError.WriteFailed) →
+        Rises (W.failures sink.old) (W.failures sink.new) }
+    ensures unwritten { IfErr result (λ e. (sink.new ≡ sink.old)
+        ⊎ (e ≡ ImportError.Run StudioError.WriteFailed)) }
+
+    // It reads no more than one byte past the longest input, and no more often.
+    ensures takes { ConsumesAtMost (MOST_INPUT_BYTES + 1) (R.left source.old) (R.left source.new) }
+    ensures reads { R.reads source.new ≤ R.reads source.old + (MOST_INPUT_BYTES + 1) }
+{
+    let text = import_lines(alloc, source, site)?;
+    match write_whole(sink, &text) {
+        Ok(()) => Ok(()),
+        Err(SinkFault) => Err(ImportError::Run(StudioError::WriteFailed)),
+    }
+}
+
+/// The lines of the commands that create the figures of the text of a source.
+fn import_lines<R: Source>(alloc: Global, source: &mut R, site: u8) -> Result<Vec<u8>, ImportError>
+    requires { IsSite site }
+    ensures ok { IfOk result (λ text. IfSome (R.left source.old) (λ fig.
+        Imports site fig text.items)) }
+    ensures source { ReadsForImport MOST_INPUT_BYTES (R.left source.old) (R.left source.new)
+        (R.failures source.old) (R.failures source.new) result }
+    ensures refused { IfErr result (λ e. IfSome (R.left source.old) (λ fig.
+        RefusesImportRun fig e)) }
+    ensures no_write { IfErr result (λ e. e ≢ ImportError.Run StudioError.WriteFailed) }
+    ensures takes { ConsumesAtMost (MOST_INPUT_BYTES + 1) (R.left source.old) (R.left source.new) }
+    ensures reads { R.reads source.new ≤ R.reads source.old + (MOST_INPUT_BYTES + 1) }
+{
+    let fig = match input(alloc, source) {
+        Ok(fig) => fig,
+        Err(fault) => return Err(ImportError::Run(fault)),
+    };
+    import(alloc, fig, site)
+}
