@@ -1,29 +1,37 @@
 //! The command line.
 
-ghost use Rattle.std.specs.Prelude.{◌≡◌, ◌≤◌, ◌⊎◌, IfSome, IfErr, OnOk, IsTrue, map};
+ghost use Rattle.std.specs.Prelude.{◌≡◌, ◌≤◌, ◌⊎◌, IfSome, IfErr, IfOk, OnOk, IsTrue, map};
 ghost use Rattle.std.specs.Prelude.{string_bytes};
-ghost use Rattle.gf_command.specs.Outputs.{Answers, AnswersFront};
+ghost use Rattle.gf_command.specs.Outputs.{Answers, AnswersFront, AnswersOpen};
+ghost use Rattle.gf_command.specs.Outcomes.{AnswersSo};
 ghost use Rattle.gf_words.specs.Asking.{Asks, AsksHelp};
 ghost use Rattle.gf_words.specs.declared.runs.Run.{Run};
 
+use crate::chosen::Chosen;
+use crate::painting::{paint, repaint};
+use crate::refusal::Refusal;
 use clap::Error;
 use clap::error::ErrorKind;
 use gf_bytes::{Sink, Source, WriteError, write_whole};
+use gf_check::{Verdict, check_run};
+use gf_edit::{Made, edit_run};
+use gf_import::import_run;
 use gf_looks::inspect_run;
 use gf_session_run::session_run;
-use gf_studio::{OpenGate, StudioError, fig_run, paint_run, repaint_run};
-use gf_words::{Asked, Canvas, QueryFault, Run, parse};
+use gf_status::{State, status_run};
+use gf_studio::{OpenGate, StudioError, fig_run};
+use gf_words::{Asked, Mistake, QueryFault, Run, parse};
 use std::alloc::Global;
 use std::io;
 use std::sync::Wait;
 use std::thread::Threads;
 
 /// Runs what `words` ask for, the first of which is the program's name, and answers the status:
-/// 0 for success, 1 for a refusal, 2 for a mistake in the words.
+/// 0 for success, 1 for a refusal or for what is to be seen to, 2 for a mistake in the words.
 ///
-/// Faults go to `faults`, and so does the usage after a mistake; help and version go to `output`.
-/// The words are read before any input. A fault or a help text that can't be written changes no
-/// status.
+/// Faults go to `faults`, and so do the usage after a mistake, what an edit made and which window
+/// was chosen; help and version go to `output`. The words are read before any input. A text for `faults` or a help that
+/// can't be written changes no status.
 pub fn command<T: Threads + Wait + Sync, R: Source, W: Sink, E: Sink>(
     rt: &T,
     alloc: Global,
@@ -40,20 +48,25 @@ pub fn command<T: Threads + Wait + Sync, R: Source, W: Sink, E: Sink>(
         Answers run bytes (W.taken output.old) (W.taken output.new))) }
     ensures flushed { result ≡ 0 → AsksHelp (map string_bytes words.now)
         ⊎ IsTrue (W.flushed output.new) }
-    // A refusal leaves the output as it was, or with a front of what the words ask for.
+    // A refusal leaves the output as it was, or with a front of what the words ask for. What is to
+    // be seen to is written.
     ensures refused { result ≡ 1 → (output.new ≡ output.old) ⊎ ((run : Run)
         × Asks (map string_bytes words.now) run × IfSome (R.left source.old) (λ bytes.
-        AnswersFront run bytes (W.taken output.old) (W.taken output.new))) }
+        AnswersFront run bytes (W.taken output.old) (W.taken output.new)
+        ⊎ AnswersOpen run bytes (W.taken output.old) (W.taken output.new))) }
     ensures mistake { result ≡ 2 → (source.new ≡ source.old) × (output.new ≡ output.old) }
 {
     match parse(alloc, words) {
         Ok(Asked::Run(run)) => match answer(rt, alloc, run, source, output) {
-            Ok(()) => 0,
+            Ok(Outcome::Written) => 0,
+            Ok(Outcome::Made(made)) => tell_made(alloc, made, faults),
+            Ok(Outcome::Painted(chosen)) => tell_chosen(alloc, chosen, faults),
+            Ok(Outcome::Open) => 1,
             Err(error) => refuse(alloc, error, faults),
         },
-        Ok(Asked::Mistake(fault)) => mistake(fault, faults),
+        Ok(Asked::Mistake(mistake)) => tell_mistake(mistake, faults),
         Err(error) if error.kind() == ErrorKind::OutOfMemory => {
-            refuse(alloc, StudioError::OutOfMemory, faults)
+            refuse(alloc, Refusal::Run(StudioError::OutOfMemory), faults)
         }
         Err(error) if error.use_stderr() => {
             let _ = print(alloc, &error, faults);
@@ -66,6 +79,18 @@ pub fn command<T: Threads + Wait + Sync, R: Source, W: Sink, E: Sink>(
     }
 }
 
+/// What a run that was not refused came to.
+pub(crate) enum Outcome {
+    /// All that it asks for is written.
+    Written,
+    /// The picture is written, in a window that was chosen.
+    Painted(Chosen),
+    /// An edit is written, which made these operations.
+    Made(Made),
+    /// What it asks for is written, and has something that is to be seen to.
+    Open,
+}
+
 /// Writes what a run asks for.
 fn answer<T: Threads + Wait + Sync, R: Source, W: Sink>(
     rt: &T,
@@ -73,27 +98,36 @@ fn answer<T: Threads + Wait + Sync, R: Source, W: Sink>(
     run: Run,
     source: &mut R,
     output: &mut W,
-) -> Result<(), StudioError>
-    ensures done { OnOk result (IfSome (R.left source.old) (λ bytes.
-        Answers run bytes (W.taken output.old) (W.taken output.new))) }
+) -> Result<Outcome, Refusal>
+    ensures done { IfOk result (λ outcome. IfSome (R.left source.old) (λ bytes.
+        AnswersSo outcome run bytes (W.taken output.old) (W.taken output.new))) }
     ensures flushed { OnOk result (IsTrue (W.flushed output.new)) }
     ensures refused { IfErr result (λ _. (output.new ≡ output.old) ⊎
         IfSome (R.left source.old) (λ bytes.
         AnswersFront run bytes (W.taken output.old) (W.taken output.new))) }
 {
     match run {
-        Run::Fig => fig_run(alloc, source, output),
-        Run::Paint(canvas) => {
-            let Canvas { window, workers } = canvas;
-            paint_run(rt, alloc, source, output, window, workers, &OpenGate)
+        Run::Fig => fig_run(alloc, source, output)?,
+        Run::Paint(canvas) => return paint(rt, alloc, source, output, canvas),
+        Run::Repaint(canvas) => return repaint(rt, alloc, source, output, canvas),
+        Run::Inspect(query) => inspect_run(alloc, source, output, query)?,
+        Run::Import(editor) => import_run(alloc, source, output, editor.site)?,
+        Run::Edit(editor) => {
+            if let Some(made) = edit_run(alloc, source, output, editor.site)? {
+                return Ok(Outcome::Made(made));
+            }
         }
-        Run::Repaint(canvas) => {
-            let Canvas { window, workers } = canvas;
-            repaint_run(rt, alloc, source, output, window, workers, &OpenGate)
-        }
-        Run::Inspect(query) => inspect_run(alloc, source, output, query),
-        Run::Session(sites) => session_run(rt, alloc, source, output, sites, &OpenGate),
+        Run::Status { check } => match status_run(alloc, source, output)? {
+            State::Open if check => return Ok(Outcome::Open),
+            State::Open | State::Clean => {}
+        },
+        Run::Check => match check_run(alloc, source, output)? {
+            Verdict::Faulty => return Ok(Outcome::Open),
+            Verdict::Clean => {}
+        },
+        Run::Session(sites) => session_run(rt, alloc, source, output, sites, &OpenGate)?,
     }
+    Ok(Outcome::Written)
 }
 
 /// Tells why the words of the command line could not be read, and answers the status: 2 where a
@@ -110,8 +144,28 @@ pub fn refuse_words<E: Sink>(fault: &io::Error, faults: &mut E) -> u8
     }
 }
 
+/// Tells what an edit made, and answers its status.
+fn tell_made<E: Sink>(alloc: Global, made: Made, faults: &mut E) -> u8
+    ensures { result ≡ 0 }
+{
+    if let Ok(text) = format!(in alloc; "figgroup: {made}\n") {
+        let _ = write_whole(faults, text.as_bytes());
+    }
+    0
+}
+
+/// Tells the window that was chosen, and answers the status.
+fn tell_chosen<E: Sink>(alloc: Global, chosen: Chosen, faults: &mut E) -> u8
+    ensures { result ≡ 0 }
+{
+    if let Ok(text) = format!(in alloc; "figgroup: painted {chosen}\n") {
+        let _ = write_whole(faults, text.as_bytes());
+    }
+    0
+}
+
 /// Writes a refusal, and answers its status.
-fn refuse<E: Sink>(alloc: Global, error: StudioError, faults: &mut E) -> u8
+fn refuse<E: Sink>(alloc: Global, error: Refusal, faults: &mut E) -> u8
     ensures { result ≡ 1 }
 {
     let _ = match format!(in alloc; "figgroup: {error}\n") {
@@ -122,13 +176,15 @@ fn refuse<E: Sink>(alloc: Global, error: StudioError, faults: &mut E) -> u8
 }
 
 /// Tells why the options ask for nothing, and answers the status.
-fn mistake<E: Sink>(fault: QueryFault, faults: &mut E) -> u8
+fn tell_mistake<E: Sink>(mistake: Mistake, faults: &mut E) -> u8
     ensures { result ≡ 2 }
 {
-    let _ = match fault {
-        QueryFault::NotOne => write_whole(faults, b"figgroup: give --object or --at\n"),
-        QueryFault::Unreadable => write_whole(faults, b"figgroup: bad object or point\n"),
+    let text: &[u8] = match mistake {
+        Mistake::Query(QueryFault::NotOne) => b"figgroup: give --object or --at\n",
+        Mistake::Query(QueryFault::Unreadable) => b"figgroup: bad object or point\n",
+        Mistake::PlacedFit => b"figgroup: --fit goes without --x, --y and --step\n",
     };
+    let _ = write_whole(faults, text);
     2
 }
 

@@ -3,10 +3,13 @@
 //! - [`command`]: runs what the words ask for, and answers the status; [`refuse_words`]: the status
 //!   of words that could not be read.
 //!
-//! [`Run`] and [`Canvas`] are those of `gf_words`.
+//! [`Run`], [`Canvas`] and [`Extent`] are those of `gf_words`.
 #![tactic(auto)]
 
 mod answering;
+mod chosen;
+mod painting;
+mod refusal;
 
 pub use answering::{command, refuse_words};
-pub use gf_words::{Canvas, Run};
+pub use gf_words::{Canvas, Extent, Run};

@@ -1,14 +1,16 @@
 -- What a command has after options or commands were added in turn.
-use Rattle.std.proofs.Common.{◌≡◌, ◌∙◌, ℕ, true, false, not, is_some, refl, sym, ap, List, [], ◌∷◌, map}
+use Rattle.std.proofs.Common.{◌≡◌, ◌∙◌, ℕ, ◌+◌, ◌<◌, true, false, not, is_some, refl, sym, ap, ap₂, get_or, length, take, List, [], ◌∷◌, ◌++◌, map}
+use Rattle.std.proofs.lemmas.List.{map-append, take_more}
 use Rattle.std.specs.List.{list_all, fold}
 use Rattle.clap.specs.Walk.{is_empty, is_simple_arg, rule_of}
-use Rattle.clap.specs.Simple.{app_of, shape_of, with_rule, with_subcommand}
+use Rattle.clap.specs.Simple.{App, app_of, shape_of, with_rule, with_subcommand}
 use Rattle.clap.specs.Built.{AddsArg, AddsInTurn, AddsSubcommand}
 use Rattle.clap.specs.declared.builder.arg.Arg.{Arg}
 use Rattle.clap.specs.declared.builder.command.Command.{Command}
 use Rattle.clap.specs.Simple.{new_app}
 use Rattle.gf_words.specs.CommandLine.{command}
-use Rattle.gf_words.specs.Usages.{leaf, options_of}
+use Rattle.gf_words.specs.Usages.{leaf, options_of, usage_shape}
+use Rattle.gf_words.specs.declared.describing.Usage.{Usage}
 use Rattle.gf_words.specs.declared.describing.Takes.{Takes}
 use Rattle.gf_words.specs.declared.describing.Takes.TheVariants as takes
 use Rattle.clap.proofs.WalkLemmas.{both}
@@ -48,6 +50,8 @@ pub options_simple : (t : Takes) → list_all (λ r. r.is_simple) (options_of t)
 options_simple takes.None = refl
 options_simple takes.Canvas = refl
 options_simple takes.Query = refl
+options_simple takes.Site = refl
+options_simple takes.Check = refl
 options_simple takes.Sites = refl
 
 -- a new command with the options of t
@@ -55,4 +59,14 @@ pub options_whole : (name : List ℕ) (t : Takes) → fold with_rule (new_app na
 options_whole name takes.None = refl
 options_whole name takes.Canvas = refl
 options_whole name takes.Query = refl
+options_whole name takes.Site = refl
+options_whole name takes.Check = refl
 options_whole name takes.Sites = refl
+
+-- one command more is that of one row more
+pub commands_more : (cs : List Command) (c : Command) (runs : List Usage) (i : ℕ) (d : Usage) → i < length runs → map shape_of cs ≡ map usage_shape (take i runs)
+    → app_of c ≡ leaf (usage_shape (get_or runs i d)) → map shape_of (cs ++ c ∷ []) ≡ map usage_shape (take (i + 1) runs)
+commands_more cs c runs i d within made is =
+    map-append shape_of cs (c ∷ [])
+    ∙ (ap₂ (λ x y. x ++ y ∷ []) made (ap (λ (a : App). a.top) is)
+    ∙ (sym (map-append usage_shape (take i runs) (get_or runs i d ∷ [])) ∙ ap (map usage_shape) (sym (take_more runs i d within))))

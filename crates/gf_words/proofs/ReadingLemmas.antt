@@ -1,14 +1,13 @@
 -- What clap's clauses tell of the options and of the faults.
-use Rattle.std.proofs.Common.{◌≡◌, ◌∙◌, ℕ, ℤ, true, refl, sym, Option, Some, None, Result, Ok, Err, IfErr, IfSome}
-use Rattle.std.specs.Int.{w32}
-use Rattle.std.specs.Str.Parse.{ParsesSigned, ParsesUnsigned}
+use Rattle.std.proofs.Common.{◌≡◌, ◌∙◌, ℕ, true, refl, sym, Option, Some, None, Result, Ok, Err, IfErr, IfSome}
+use Rattle.std.specs.Str.Parse.{ParsesUnsigned}
 use Rattle.clap.specs.Words.{FailsBy, HasKind, Kinds, ReadsOne, Text, is_simple, is_simple_and_free, one_text, rows_of}
 use Rattle.clap.specs.declared.error.Error.{Error}
 use Rattle.clap.specs.declared.parser.matches.Found.{Found}
 use Rattle.clap.proofs.OnLiterals.{clap_on_literals}
 use Rattle.clap.proofs.WalkLemmas.{one_text-rows}
 use Rattle.gf_words.specs.CommandLine.{program}
-use Rattle.gf_words.specs.Asking.{HasNatural, HasWhole}
+use Rattle.gf_words.specs.Asking.{HasNatural}
 
 pub program_simple : is_simple program ≡ true
 unfolding clap_on_literals
@@ -36,19 +35,4 @@ natural_given E G k f name (Some n) reads none value = go (one_text f name) refl
       text = t;
       given = sym (one_text-rows f name) ∙ e;
       value = (reads t (Ok n) (value t e)).1;
-    }
-
--- the same of a number with a sign
-pub whole_given : (E : Type 0) (G : Text → Result ℤ E → Type 0) (f : Found) (name : Text) (r : Option ℤ)
-    → ((t : Text) (x : Result ℤ E) → G t x → ParsesSigned w32 10 t x)
-    → (one_text f name ≡ None → r ≡ None) → ((t : Text) → one_text f name ≡ Some t → ReadsOne G t r) → IfSome r (HasWhole (rows_of f) name)
-whole_given E G f name None reads none value = tt
-whole_given E G f name (Some z) reads none value = go (one_text f name) refl
-  where
-    go : (o : Option Text) → one_text f name ≡ o → HasWhole (rows_of f) name z
-    go None e = let bad : Some z ≡ None = none e in cc
-    go (Some t) e = record {
-      text = t;
-      given = sym (one_text-rows f name) ∙ e;
-      value = (reads t (Ok z) (value t e)).1;
     }

@@ -2,6 +2,7 @@
 use Rattle.std.specs.Prelude.{ℕ, List, [], ◌∷◌, Some, true, false, codes, pos, negsuc}
 use Rattle.clap.specs.Walk.{Rule, Text}
 use Rattle.clap.specs.Simple.{App, Shape, new_rule, new_shape}
+use Rattle.clap.specs.declared.builder.action.ArgAction.TheVariants.{SetTrue}
 use Rattle.clap.specs.declared.builder.value_parser.ValueParser.{ValueParser}
 use Rattle.clap.specs.declared.builder.value_parser.ValueParser.TheVariants.{Signed, Unsigned}
 
@@ -13,9 +14,17 @@ text name = record (new_rule name) { long = Some name; value_names = 1 }
 abbrev pub number : Text → Text → ValueParser → Rule
 number name default within = record (text name) { defaults = default ∷ []; parser = Some within }
 
--- an option for a coordinate of -2,000,000 to 2,000,000, or 0
+-- an option for a number that the parser takes, which may be left out
+abbrev pub optional : Text → ValueParser → Rule
+optional name within = record (text name) { parser = Some within }
+
+-- an option that takes no text
+abbrev pub flag : Text → Rule
+flag name = record (new_rule name) { long = Some name; action = Some SetTrue }
+
+-- an option for a coordinate of -2,000,000 to 2,000,000
 abbrev pub place : Text → Rule
-place name = number name (codes "0") (Signed (negsuc 1999999) (pos 2000000))
+place name = optional name (Signed (negsuc 1999999) (pos 2000000))
 
 -- an option for a number from 1 to most
 abbrev pub count : Text → Text → ℕ → Rule
@@ -25,13 +34,21 @@ count name default most = number name default (Unsigned 1 most)
 abbrev pub canvas : List Rule
 canvas =
     place (codes "x") ∷ place (codes "y") ∷
-    count (codes "step") (codes "1") 10000 ∷
+    optional (codes "step") (Unsigned 1 10000) ∷ flag (codes "fit") ∷
     count (codes "width") (codes "64") 4096 ∷ count (codes "height") (codes "64") 4096 ∷
     count (codes "workers") (codes "1") 16 ∷ []
 
 -- the options of a query
 abbrev pub query : List Rule
 query = text (codes "object") ∷ text (codes "at") ∷ []
+
+-- the option of an edit and of an import, which has to be given
+abbrev pub site : List Rule
+site = record (text (codes "site")) { parser = Some (Unsigned 1 8); required = true } ∷ []
+
+-- the option of a status
+abbrev pub check : List Rule
+check = flag (codes "check") ∷ []
 
 -- the option of a session
 abbrev pub sites : List Rule
@@ -44,8 +61,11 @@ command name options = record (new_shape name) { rules = options }
 -- the commands of the program
 abbrev pub commands : List Shape
 commands =
-    command (codes "fig") [] ∷ command (codes "paint") canvas ∷ command (codes "repaint") canvas ∷
-    command (codes "inspect") query ∷ command (codes "session") sites ∷ []
+    command (codes "fig") [] ∷ command (codes "paint") canvas ∷
+    command (codes "repaint") canvas ∷ command (codes "inspect") query ∷
+    command (codes "import") site ∷ command (codes "edit") site ∷
+    command (codes "status") check ∷ command (codes "check") [] ∷
+    command (codes "session") sites ∷ []
 
 -- the program: one of its commands is wanted, and without a word its help is told
 abbrev pub program : App

@@ -1,4 +1,5 @@
--- How words spell objects and points: two decimal numbers about a dot or a comma (this project's choice).
+-- How words spell objects and points: two decimal numbers about a dot or a comma (this project's
+-- choice).
 use Rattle.std.specs.Prelude.{◌≡◌, ℕ, ℤ, ◌∷◌, ◌++◌, IsTrue}
 use Rattle.std.specs.Str.Parse.{IsNumeral, digits_value, signed_digits_value}
 use Rattle.clap.specs.Words.{Text, without_minus}

@@ -1,17 +1,21 @@
 //! What the words of the command line ask for.
 
-ghost use Rattle.std.specs.Prelude.{◌≡◌, ◌⊎◌, map, IfErr, IfOk, IfSome, option_map, string_bytes};
+ghost use Rattle.std.specs.Prelude.{◌≡◌, ◌⊎◌, Some, codes, false, is_some, map, pos};
+ghost use Rattle.std.specs.Prelude.{IfErr, IfOk, IfSome, option_map, string_bytes};
 ghost use Rattle.clap.specs.Words.{HasKind, fault_of, found_of, kind_of, rows_of};
 ghost use Rattle.clap.specs.Words.{subcommand_of, subcommand_rows_of};
 ghost use Rattle.gf_words.specs.CommandLine as line;
-ghost use Rattle.gf_words.specs.Asking.{AsksQuery, HasNatural, HasWhole, IsAsked, IsCanvas};
-ghost use Rattle.gf_words.specs.Asking.{IsInspected, IsWindow, Tells};
+ghost use Rattle.gf_words.specs.Asking.{AsksQuery, HasNatural, HasNaturalOr, HasWholeOr, IsAsked};
+ghost use Rattle.gf_words.specs.Asking.{IsCanvas, IsExtent, IsFrame, IsInspected, IsNaturalOr};
+ghost use Rattle.gf_words.specs.Asking.{IsWholeOr, IsWindow, Tells, has_flag, is_given, is_placed};
+ghost use Rattle.gf_words.specs.Asking.{is_placed_fit, is_true};
 
 use crate::describing::program;
 use crate::querying::{spelt_id, spelt_point};
-use crate::runs::{Asked, Canvas, QueryFault, Run};
+use crate::runs::{Asked, Canvas, Editor, Extent, Mistake, QueryFault, Run};
 use clap::error::ErrorKind;
 use clap::{ArgMatches, Error};
+use gf_fit::Frame;
 use gf_looks::Query;
 use gf_ops::ObjectId;
 use gf_studio::Window;
@@ -43,50 +47,137 @@ fn read_matches(matches: &ArgMatches<'_>) -> Option<Asked>
     ensures { IfSome result (IsAsked (subcommand_rows_of matches.now)) }
 {
     let (name, matches) = matches.subcommand()?;
+    if is_placed_fit(matches) {
+        return Some(Asked::Mistake(Mistake::PlacedFit));
+    }
     match name {
         "fig" => Some(Asked::Run(Run::Fig)),
         "paint" => Some(Asked::Run(Run::Paint(canvas_of(matches)?))),
         "repaint" => Some(Asked::Run(Run::Repaint(canvas_of(matches)?))),
-        "inspect" => Some(inspected(matches)),
+        "inspect" => match query_of(matches) {
+            Ok(query) => Some(Asked::Run(Run::Inspect(query))),
+            Err(fault) => Some(Asked::Mistake(Mistake::Query(fault))),
+        },
+        "import" => Some(Asked::Run(Run::Import(editor_of(matches)?))),
+        "edit" => Some(Asked::Run(Run::Edit(editor_of(matches)?))),
+        "status" => Some(Asked::Run(Run::Status {
+            check: has_flag(matches, "check"),
+        })),
+        "check" => Some(Asked::Run(Run::Check)),
         "session" => Some(Asked::Run(Run::Session(byte(matches, "sites")?))),
         _ => None,
     }
 }
 
 /// The query that one of the two options asks for.
-fn inspected(matches: &ArgMatches<'_>) -> Asked
+fn query_of(matches: &ArgMatches<'_>) -> Result<Query, QueryFault>
     ensures { IsInspected (rows_of (found_of matches.now)) result }
 {
     asked_of(matches.get_str("object"), matches.get_str("at"))
 }
 
 /// The query that one of two texts asks for.
-fn asked_of(object: Option<&str>, at: Option<&str>) -> Asked
+fn asked_of(object: Option<&str>, at: Option<&str>) -> Result<Query, QueryFault>
     ensures { AsksQuery (option_map (λ t. t.now) object.entry)
         (option_map (λ t. t.now) at.entry) result }
 {
     match (object, at) {
         (Some(text), None) => match spelt_id(text) {
-            Some(id) => Asked::Run(Run::Inspect(Query::Object(ObjectId(id)))),
-            None => Asked::Mistake(QueryFault::Unreadable),
+            Some(id) => Ok(Query::Object(ObjectId(id))),
+            None => Err(QueryFault::Unreadable),
         },
         (None, Some(text)) => match spelt_point(text) {
-            Some(point) => Asked::Run(Run::Inspect(Query::At(point))),
-            None => Asked::Mistake(QueryFault::Unreadable),
+            Some(point) => Ok(Query::At(point)),
+            None => Err(QueryFault::Unreadable),
         },
-        (None, None) | (Some(_), Some(_)) => Asked::Mistake(QueryFault::NotOne),
+        (None, None) | (Some(_), Some(_)) => Err(QueryFault::NotOne),
     }
 }
 
+fn editor_of(matches: &ArgMatches<'_>) -> Option<Editor>
+    ensures { IfSome result (λ editor. HasNatural (rows_of (found_of matches.now)) (codes "site")
+        editor.site) }
+{
+    let site = byte(matches, "site")?;
+    if site < 1 || 8 < site {
+        return None;
+    }
+    Some(Editor { site })
+}
+
+/// Whether a flag is given.
+fn has_flag(matches: &ArgMatches<'_>, name: &str) -> bool
+    ensures { result ≡ has_flag name.now (rows_of (found_of matches.now)) }
+{
+    is_true(matches.get_str(name))
+}
+
+/// Whether the text is that of a flag that is given.
+fn is_true(text: Option<&str>) -> bool
+    ensures { result ≡ is_true (option_map (λ t. t.now) text.entry) }
+{
+    match text {
+        Some(text) => text == "true",
+        None => false,
+    }
+}
+
+/// Whether the window that is to fit is placed too.
+fn is_placed_fit(matches: &ArgMatches<'_>) -> bool
+    ensures { result ≡ is_placed_fit (rows_of (found_of matches.now)) }
+{
+    has_flag(matches, "fit") && is_placed(matches)
+}
+
+/// Whether an option is given that places a window.
+fn is_placed(matches: &ArgMatches<'_>) -> bool
+    ensures { result ≡ is_placed (rows_of (found_of matches.now)) }
+{
+    is_given(matches, "x") || is_given(matches, "y") || is_given(matches, "step")
+}
+
+/// Whether an option has a text.
+fn is_given(matches: &ArgMatches<'_>, name: &str) -> bool
+    ensures { result ≡ is_given name.now (rows_of (found_of matches.now)) }
+{
+    has_text(matches.get_str(name))
+}
+
+/// Whether there is a text.
+fn has_text(text: Option<&str>) -> bool
+    ensures { result ≡ is_some (option_map (λ t. t.now) text.entry) }
+{
+    text.is_some()
+}
+
 fn canvas_of(matches: &ArgMatches<'_>) -> Option<Canvas>
+    requires { is_placed_fit (rows_of (found_of matches.now)) ≡ false }
     ensures { IfSome result (IsCanvas (rows_of (found_of matches.now))) }
 {
     let workers = byte(matches, "workers")?;
     if workers < 1 || 16 < workers {
         return None;
     }
-    let window = window_of(matches)?;
-    Some(Canvas { window, workers })
+    let extent = extent_of(matches)?;
+    Some(Canvas { extent, workers })
+}
+
+fn extent_of(matches: &ArgMatches<'_>) -> Option<Extent>
+    ensures { IfSome result (IsExtent (rows_of (found_of matches.now))) }
+{
+    if has_flag(matches, "fit") {
+        Some(Extent::Fitted(frame_of(matches)?))
+    } else {
+        Some(Extent::Window(window_of(matches)?))
+    }
+}
+
+fn frame_of(matches: &ArgMatches<'_>) -> Option<Frame>
+    ensures { IfSome result (IsFrame (rows_of (found_of matches.now))) }
+{
+    let width = count(matches, "width")?;
+    let height = count(matches, "height")?;
+    Frame::new(width, height).ok()
 }
 
 fn window_of(matches: &ArgMatches<'_>) -> Option<Window>
@@ -94,7 +185,7 @@ fn window_of(matches: &ArgMatches<'_>) -> Option<Window>
 {
     let x = coordinate(matches, "x")?;
     let y = coordinate(matches, "y")?;
-    let step = count(matches, "step")?;
+    let step = step(matches)?;
     let width = count(matches, "width")?;
     let height = count(matches, "height")?;
     Window::new(x, y, step, width, height).ok()
@@ -114,11 +205,38 @@ fn count(matches: &ArgMatches<'_>, name: &str) -> Option<u32>
     matches.get_one(name)
 }
 
-/// The number of an option, of 32 bits with sign.
+/// The number of an option, of 32 bits with sign; 0 where it is not given.
 fn coordinate(matches: &ArgMatches<'_>, name: &str) -> Option<i32>
-    ensures { IfSome result (HasWhole (rows_of (found_of matches.now)) name.now) }
+    ensures { IfSome result (HasWholeOr (pos 0) (rows_of (found_of matches.now)) name.now) }
 {
-    matches.get_one(name)
+    whole_or_zero(matches.get_str(name))
+}
+
+/// The number of a text, of 32 bits with sign; 0 where there is none.
+fn whole_or_zero(text: Option<&str>) -> Option<i32>
+    ensures { IfSome result (IsWholeOr (pos 0) (option_map (λ t. t.now) text.entry)) }
+{
+    match text {
+        None => Some(0),
+        Some(text) => text.parse().ok(),
+    }
+}
+
+/// The step of a window; 1 where it is not given.
+fn step(matches: &ArgMatches<'_>) -> Option<u32>
+    ensures { IfSome result (HasNaturalOr 1 (rows_of (found_of matches.now)) (codes "step")) }
+{
+    natural_or_one(matches.get_str("step"))
+}
+
+/// The number of a text, of 32 bits; 1 where there is none.
+fn natural_or_one(text: Option<&str>) -> Option<u32>
+    ensures { IfSome result (IsNaturalOr 1 (option_map (λ t. t.now) text.entry)) }
+{
+    match text {
+        None => Some(1),
+        Some(text) => text.parse().ok(),
+    }
 }
 
 /// A mistake that clap's own checks of the options leave no room for.

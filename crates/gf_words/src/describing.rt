@@ -7,7 +7,7 @@ ghost use Rattle.gf_words.specs.CommandLine as line;
 ghost use Rattle.gf_words.specs.Usages.{options_of, usage_shape, leaf};
 
 use clap::builder::ValueParser;
-use clap::{Arg, Command};
+use clap::{Arg, ArgAction, Command};
 use std::alloc::{AllocError, Global};
 
 /// How the help tells a run, and which options it takes.
@@ -25,10 +25,12 @@ enum Takes {
     None,
     Canvas,
     Query,
+    Site,
+    Check,
     Sites,
 }
 
-const RUNS: [Usage; 5] = [
+const RUNS: [Usage; 9] = [
     Usage {
         name: "fig",
         about: "Read operation lines from standard input and write the FIG text of their drawing",
@@ -55,6 +57,34 @@ const RUNS: [Usage; 5] = [
         takes: Takes::Query,
     },
     Usage {
+        name: "import",
+        about: "Read a FIG text and write the command lines by which one site creates its figures, to be \
+                given to edit",
+        example: "Example: figgroup import --site 2 < drawn.fig > changes.jsonl",
+        takes: Takes::Site,
+    },
+    Usage {
+        name: "edit",
+        about: "Read operation lines of all sites and command lines of one, and write the operations that \
+                the commands make, to be added to the site's own file",
+        example: "Example: cat site-*.jsonl changes.jsonl | figgroup edit --site 2 >> site-2.jsonl",
+        takes: Takes::Site,
+    },
+    Usage {
+        name: "status",
+        about: "Read operation lines and write how many operations each site has, what waits for what, \
+                and which objects have several versions, with what differs among them",
+        example: "Example: cat site-*.jsonl | figgroup status",
+        takes: Takes::Check,
+    },
+    Usage {
+        name: "check",
+        about: "Read operation lines and write what is wrong with them: a line for each fault, with an \
+                explanation; the status is 1 if there is one",
+        example: "Example: figgroup check < edits.jsonl",
+        takes: Takes::None,
+    },
+    Usage {
         name: "session",
         about: "Read script lines from standard input, run the scripts of all sites at the same time, \
                 and write what became of their commands and the FIG text of their common history",
@@ -67,7 +97,7 @@ const RUNS: [Usage; 5] = [
 pub(crate) fn program<'a>(alloc: Global) -> Result<Command<'a>, AllocError>
     ensures { IfOk result (λ c. app_of c ≡ line.program) }
 {
-    let runs = commands(alloc)?;
+    let runs = commands(alloc, &RUNS)?;
     Command::new(alloc, "figgroup")
         .version("0.1.0")
         .about("Figures drawn by a group")
@@ -77,12 +107,12 @@ pub(crate) fn program<'a>(alloc: Global) -> Result<Command<'a>, AllocError>
         .subcommands(runs)
 }
 
-/// The commands of all runs.
-fn commands<'a>(alloc: Global) -> Result<Vec<Command<'a>>, AllocError>
-    ensures { IfOk result (λ cs. map shape_of cs.items ≡ line.commands) }
+/// The commands of these runs.
+fn commands<'a>(alloc: Global, runs: &[Usage]) -> Result<Vec<Command<'a>>, AllocError>
+    ensures { IfOk result (λ cs. map shape_of cs.items ≡ map usage_shape runs.now) }
 {
     let mut commands = Vec::new(alloc);
-    for run in RUNS.iter() {
+    for run in runs {
         commands.push(command(alloc, run)?)?;
     }
     Ok(commands)
@@ -107,6 +137,8 @@ fn options<'a>(alloc: Global, takes: Takes) -> Result<Vec<Arg<'a>>, AllocError>
         Takes::None => Ok(Vec::new(alloc)),
         Takes::Canvas => canvas(alloc),
         Takes::Query => query(alloc),
+        Takes::Site => site(alloc),
+        Takes::Check => check(alloc),
         Takes::Sites => sites(alloc),
     }
 }
@@ -119,19 +151,24 @@ fn canvas<'a>(alloc: Global) -> Result<Vec<Arg<'a>>, AllocError>
         place(
             alloc,
             "x",
-            "The x of the first column, -2,000,000 to 2,000,000",
+            "The x of the first column, -2,000,000 to 2,000,000 [default: 0]",
         ),
         place(
             alloc,
             "y",
-            "The y of the first row, -2,000,000 to 2,000,000",
+            "The y of the first row, -2,000,000 to 2,000,000 [default: 0]",
         ),
-        count(
+        optional(
             alloc,
             "step",
-            "1",
-            10_000,
-            "How far the points of neighbouring pixels are apart, 1 to 10,000",
+            ValueParser::unsigned(1, 10_000),
+            "How far the points of neighbouring pixels are apart, 1 to 10,000 [default: 1]",
+        ),
+        flag(
+            alloc,
+            "fit",
+            "Choose the corner and the least step by which all figures fit, with a margin of a twentieth \
+             of the columns and of the rows at each side; goes without --x, --y and --step",
         ),
         count(
             alloc,
@@ -179,6 +216,29 @@ fn query<'a>(alloc: Global) -> Result<Vec<Arg<'a>>, AllocError>
     ]?)
 }
 
+/// The option of an edit and of an import.
+fn site<'a>(alloc: Global) -> Result<Vec<Arg<'a>>, AllocError>
+    ensures { IfOk result (λ args. map rule_of args.items ≡ line.site) }
+{
+    let site = text(alloc, "site", "N", "Whose operations they are, 1 to 8")
+        .required(true)
+        .value_parser(ValueParser::unsigned(1, 8));
+    Ok(vec![in alloc; site]?)
+}
+
+/// The option of a status.
+fn check<'a>(alloc: Global) -> Result<Vec<Arg<'a>>, AllocError>
+    ensures { IfOk result (λ args. map rule_of args.items ≡ line.check) }
+{
+    Ok(vec![in alloc;
+        flag(
+            alloc,
+            "check",
+            "End with status 1 where an operation waits or versions differ",
+        ),
+    ]?)
+}
+
 /// The option of a session.
 fn sites<'a>(alloc: Global) -> Result<Vec<Arg<'a>>, AllocError>
     ensures { IfOk result (λ args. map rule_of args.items ≡ line.sites) }
@@ -193,17 +253,33 @@ fn sites<'a>(alloc: Global) -> Result<Vec<Arg<'a>>, AllocError>
     Ok(vec![in alloc; sites]?)
 }
 
-/// An option for a coordinate, 0 where it is not given.
+/// An option for a coordinate.
 fn place<'a>(alloc: Global, name: &'a str, help: &'a str) -> Arg<'a>
     ensures { rule_of result ≡ line.place name.now }
 {
-    number(
+    optional(
         alloc,
         name,
-        "0",
         ValueParser::signed(-2_000_000, 2_000_000),
         help,
     )
+}
+
+/// An option for a number that this parser takes, which may be left out.
+fn optional<'a>(alloc: Global, name: &'a str, within: ValueParser<'a>, help: &'a str) -> Arg<'a>
+    ensures { rule_of result ≡ line.optional name.now within.entry }
+{
+    text(alloc, name, "N", help).value_parser(within)
+}
+
+/// An option that takes no text.
+fn flag<'a>(alloc: Global, name: &'a str, help: &'a str) -> Arg<'a>
+    ensures { rule_of result ≡ line.flag name.now }
+{
+    Arg::new(alloc, name)
+        .long(name)
+        .action(ArgAction::SetTrue)
+        .help(help)
 }
 
 /// An option for a number from 1 to `most`.

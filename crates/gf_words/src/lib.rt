@@ -1,8 +1,9 @@
 //! What the words of the command line ask for, and what its help tells.
 //!
-//! - [`parse`]: reads the words. [`Asked`] has the [`Run`] that they ask for, or the [`QueryFault`]
-//!   of a query; clap's error has the text of a help, a version or a mistake.
-//! - [`Canvas`]: which window a run paints, and by how many workers.
+//! - [`parse`]: reads the words. [`Asked`] has the [`Run`] that they ask for, or a [`Mistake`] in
+//!   its options; clap's error has the text of a help, a version or another mistake.
+//! - [`Canvas`]: which [`Extent`] of the plane a run paints, and by how many workers; [`Editor`]:
+//!   which site makes operations.
 #![tactic(auto)]
 
 mod asking;
@@ -11,4 +12,4 @@ mod querying;
 mod runs;
 
 pub use asking::parse;
-pub use runs::{Asked, Canvas, QueryFault, Run};
+pub use runs::{Asked, Canvas, Editor, Extent, Mistake, QueryFault, Run};

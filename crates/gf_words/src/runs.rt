@@ -1,7 +1,9 @@
 //! What the words of the command line can ask for.
 
 ghost use Rattle.std.specs.Prelude.{◌≤◌};
+ghost use Rattle.gf_ops.specs.OperationOrder.{IsSite};
 
+use gf_fit::Frame;
 use gf_looks::Query;
 use gf_studio::Window;
 
@@ -16,6 +18,15 @@ pub enum Run {
     Repaint(Canvas),
     /// What a history answers to a query.
     Inspect(Query),
+    /// The commands of this site that create the figures of a FIG text.
+    Import(Editor),
+    /// The operations that the commands of this site make behind the others.
+    Edit(Editor),
+    /// What has come, what waits, and which versions differ. If `check` is true, what waits or
+    /// differs is told by the status too.
+    Status { check: bool },
+    /// What is wrong with operation lines.
+    Check,
     /// What a session of the scripts of so many sites came to.
     Session(u8),
 }
@@ -23,7 +34,16 @@ pub enum Run {
 /// What a command line that clap took asks for.
 pub enum Asked {
     Run(Run),
-    Mistake(QueryFault),
+    Mistake(Mistake),
+}
+
+/// Why options that clap took ask for nothing.
+#[derive(Clone, Copy)]
+pub enum Mistake {
+    /// `inspect` has no query.
+    Query(QueryFault),
+    /// A window that is to fit has a corner or a step.
+    PlacedFit,
 }
 
 /// Why the options of `inspect` ask for nothing, in the order of the checks.
@@ -35,10 +55,26 @@ pub enum QueryFault {
     Unreadable,
 }
 
-/// The window of a picture, and how many workers paint it.
+/// The site that makes the operations.
+#[derive(Clone, Copy)]
+pub struct Editor {
+    pub site: u8,
+    ghost in_range: { IsSite site },
+}
+
+/// Which part of the plane a picture shows.
+#[derive(Clone, Copy)]
+pub enum Extent {
+    /// This window.
+    Window(Window),
+    /// The window with this frame that fits what is drawn.
+    Fitted(Frame),
+}
+
+/// What a picture shows, and how many workers paint it.
 #[derive(Clone, Copy)]
 pub struct Canvas {
-    pub window: Window,
+    pub extent: Extent,
     pub workers: u8,
     ghost in_range: { (1 ≤ workers) × (workers ≤ 16) },
 }

@@ -2,7 +2,7 @@ use Rattle.std.proofs.Common.{◌∙◌, codes, subst, option_map}
 use Rattle.clap.specs.Words.{first_of, found_of, rows_of}
 use Rattle.clap.proofs.WalkLemmas.{first_value-rows}
 use Rattle.gf_words.specs.Asking.{AsksQuery}
-use Rattle.gf_words.proofs.asking.inspected.Goals as goal
+use Rattle.gf_words.proofs.asking.query_of.Goals as goal
 
 pub returns : goal.returns
 returns c =

@@ -1,0 +1,12 @@
+-- What an outcome says of the output. No public clause cites this module.
+use Rattle.std.specs.Prelude.{ℕ, List, Option}
+use Rattle.gf_words.specs.declared.runs.Run.{Run}
+use Rattle.gf_command.specs.declared.answering.Outcome.{Outcome}
+use Rattle.gf_command.specs.declared.answering.Outcome.TheVariants as outcome
+use Rattle.gf_command.specs.Outputs.{Answers, AnswersOpen}
+
+-- known bytes grow from old to new by what the run asks for, and came to this outcome
+abbrev pub AnswersSo : Outcome → Run → List ℕ → Option (List ℕ) → Option (List ℕ)
+    → Type 0
+AnswersSo outcome.Open run bytes old new = AnswersOpen run bytes old new
+AnswersSo other run bytes old new = Answers run bytes old new

@@ -1,0 +1,33 @@
+//! What is told of a window that was chosen.
+
+use gf_studio::Window;
+use std::fmt;
+
+/// The numbers of a window, which is told in the words that choose it again.
+#[derive(Clone, Copy)]
+pub(crate) struct Chosen {
+    x: i32,
+    y: i32,
+    step: u32,
+    width: u32,
+    height: u32,
+}
+
+impl fmt::Display for Chosen {
+    fn fmt<W: fmt::Write>(&self, f: &mut fmt::Formatter<W>) -> fmt::Result {
+        write!(f, "--x={} --y={} --step={} ", self.x, self.y, self.step)?;
+        write!(f, "--width={} --height={}", self.width, self.height)
+    }
+}
+
+/// The numbers of this window.
+pub(crate) fn numbers_of(window: Window) -> Chosen {
+    let height = window.height();
+    Chosen {
+        x: window.x(),
+        y: window.line(0),
+        step: window.step(),
+        width: window.width(),
+        height,
+    }
+}

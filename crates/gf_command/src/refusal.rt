@@ -1,0 +1,17 @@
+//! Why a run of the program was refused.
+
+use gf_edit::EditError;
+use gf_import::ImportError;
+use gf_studio::StudioError;
+use thiserror::Error;
+
+/// Why a run was refused, as the run says it.
+#[derive(Debug, Drop, Error)]
+pub(crate) enum Refusal {
+    #[error(transparent)]
+    Run(#[from] StudioError),
+    #[error(transparent)]
+    Edit(#[from] EditError),
+    #[error(transparent)]
+    Import(#[from] ImportError),
+}
