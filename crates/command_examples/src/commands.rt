@@ -313,6 +313,7 @@ fn words_are_read_first(rt: HostRuntime) -> Result<(), Fail> {
         ("figgroup paint --help", "0\nRead operation lines", false),
         ("figgroup repaint --help", "0\nRead a FIG text", false),
         ("figgroup inspect --help", "0\nRead operation lines", false),
+        ("figgroup import --help", "0\nRead a FIG text", false),
         ("figgroup session --help", "0\nRead script lines", false),
         ("figgroup --version", "0\nfiggroup 0.1.0\n", false),
     ] {

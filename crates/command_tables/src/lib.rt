@@ -4,6 +4,8 @@
 #[cfg(test)]
 mod inspect_table;
 #[cfg(test)]
+mod loop_table;
+#[cfg(test)]
 mod picture_table;
 #[cfg(test)]
 mod run_table;

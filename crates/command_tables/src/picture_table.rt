@@ -29,6 +29,14 @@ repaint --y=900 --width 1 --height 1 | foreign_triangle | 0 P6\n1 1\n255\n\xff\x
 repaint --x=1 --y=1 --width 3 --height 1 | empty_fig flat_ellipse_fig | 0 P6\n3 1\n255\n\x00\x00\xff\x00\x00\xff\xff\xff\xff
 repaint --x=199 --width 2 --height 1 | empty_fig both_moved_fig | 0 P6\n2 1\n255\n\xff\xff\xff\x00\xff\x00
 
+// the window that fits is told: one row reaches over nothing, two over the box at step 10; what is hidden does not count
+paint --fit --width 3 --height 1 | box / | 0 P6\n3 1\n255\n\xff\xff\xff\xff\x00\x00\xff\xff\xfffiggroup: painted --x=-9995 --y=5 --step=10000 --width=3 --height=1\n
+paint --fit --width 3 --height 2 | box / | 0 P6\n3 2\n255\n\xff\xff\xff\xff\x00\x00\xff\xff\xff\xff\xff\xff\xff\x00\x00\xff\xff\xfffiggroup: painted --x=-5 --y=0 --step=10 --width=3 --height=2\n
+paint --fit --width 1 --height 1 | box / hidden / | 0 P6\n1 1\n255\n\xff\xff\xfffiggroup: painted --x=0 --y=0 --step=1 --width=1 --height=1\n
+repaint --fit --width 1 --height 1 | foreign_triangle | 0 P6\n1 1\n255\n\xff\x00\x00figgroup: painted --x=600 --y=450 --step=10000 --width=1 --height=1\n
+paint --fit --x=1 | box / | 2 figgroup: --fit goes without --x, --y and --step\n
+repaint --step 1 --fit | foreign_triangle | 2 figgroup: --fit goes without --x, --y and --step\n
+
 // refusals are told
 paint | { | 1 figgroup: line 1: Json\n
 repaint | | 1 figgroup: figure object 0: Version\n

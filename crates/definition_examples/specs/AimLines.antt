@@ -8,7 +8,7 @@ use Rattle.gf_ops.specs.declared.change.Change.{Change}
 use Rattle.gf_ops.specs.declared.change.Change.TheVariants.{Set}
 use Rattle.gf_ops.specs.declared.change.Value.TheVariants as value
 use Rattle.gf_json.specs.declared.line_error.LineError.TheVariants as fault
-use Rattle.gf_json.specs.declared.script_line.Command.TheVariants.{Author}
+use Rattle.gf_json.specs.declared.scripts.Command.TheVariants.{Author}
 use Rattle.gf_json.specs.OperationLines.{denoted}
 use Rattle.gf_json.specs.ScriptLines.{script_denoted}
 use Rattle.gf_json.specs.WrittenLines.{op_text}
@@ -27,7 +27,8 @@ aims_at ids = aims_to ids (value.Layer 5)
 abbrev pub first_of : ℕ → OpId
 first_of s = record { site = s; seq = 1 }
 
-pub aim_read : denoted (aimed (codes "[[1,1],[2,1]]")) ≡ Ok (aims_at (first_of 1 ∷ first_of 2 ∷ []))
+pub aim_read : denoted (aimed (codes "[[1,1],[2,1]]"))
+    ≡ Ok (aims_at (first_of 1 ∷ first_of 2 ∷ []))
 unfolding serde_json_on_literals digits is_utf8 chars
 aim_read = refl
 

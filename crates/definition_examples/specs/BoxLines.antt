@@ -1,5 +1,6 @@
 -- Worked examples of lines that create a box, checked by computing.
-use Rattle.std.specs.Prelude.{◌≡◌, ℕ, List, ◌∷◌, ◌++◌, replicate, Ok, Err, refl, codes, true, pos}
+use Rattle.std.specs.Prelude.{◌≡◌, ℕ, List, ◌∷◌, ◌++◌, replicate, Ok, Err, refl}
+use Rattle.std.specs.Prelude.{codes, true, pos}
 use Rattle.std.specs.Str.{is_utf8, chars}
 use Rattle.std.specs.Fmt.{digits}
 use Rattle.gf_ops.specs.declared.op.Op.{Op}
@@ -28,75 +29,92 @@ red f = record {
 abbrev pub red_box : Op
 red_box = red (Rect 300 400)
 
-pub red_box_read : denoted (codes "{\"colour\":\"ff0000\",\"id\":[1,1],\"kind\":\"box\",\"layer\":0,\"op\":\"create\",\"past\":[0,0,0,0,0,0,0,0],\"place\":[100,200],\"shown\":true,\"size\":[300,400]}") ≡ Ok red_box
+pub red_box_read : denoted (codes
+    "{\"colour\":\"ff0000\",\"id\":[1,1],\"kind\":\"box\",\"layer\":0,\"op\":\"create\",\"past\":[0,0,0,0,0,0,0,0],\"place\":[100,200],\"shown\":true,\"size\":[300,400]}") ≡ Ok red_box
 unfolding serde_json_on_literals digits is_utf8 chars
 red_box_read = refl
 
 -- a line in another order and with upper-case digits
 abbrev pub line : List ℕ → List ℕ → List ℕ → List ℕ → List ℕ
 line id past layer size =
-    codes "{\"size\":" ++ size ++ codes ",\"layer\":" ++ layer ++ codes ",\"past\":" ++ past ++ codes ", \"id\" :" ++ id
+    codes "{\"size\":" ++ size ++ codes ",\"layer\":" ++ layer ++ codes ",\"past\":" ++ past
+    ++ codes ", \"id\" :" ++ id
     ++ codes ",\"colour\":\"FF0000\",\"kind\":\"box\",\"op\":\"create\",\"place\":[100,200],\"shown\":true}"
 
 abbrev pub zeros : List ℕ
 zeros = codes "[0,0,0,0,0,0,0,0]"
 
-pub red_box_written_otherwise : denoted (line (codes "[1, 1]") zeros (codes "0") (codes "[300,400]")) ≡ Ok red_box
+pub red_box_written_otherwise : denoted
+    (line (codes "[1, 1]") zeros (codes "0") (codes "[300,400]")) ≡ Ok red_box
 unfolding serde_json_on_literals digits is_utf8 chars
 red_box_written_otherwise = refl
 
 -- of a repeated key the last value stands
-pub the_last_layer_stands : denoted (line (codes "[1,1]") zeros (codes "9999,\"layer\":0") (codes "[300,400]")) ≡ Ok red_box
+pub the_last_layer_stands : denoted
+    (line (codes "[1,1]") zeros (codes "9999,\"layer\":0") (codes "[300,400]")) ≡ Ok red_box
 unfolding serde_json_on_literals digits is_utf8 chars
 the_last_layer_stands = refl
 
-pub layer_above : denoted (line (codes "[1,1]") zeros (codes "10000") (codes "[300,400]")) ≡ Err fault.Range
+pub layer_above : denoted (line (codes "[1,1]") zeros (codes "10000") (codes "[300,400]"))
+    ≡ Err fault.Range
 unfolding serde_json_on_literals digits is_utf8 chars
 layer_above = refl
 
-pub layer_with_a_point : denoted (line (codes "[1,1]") zeros (codes "1.0") (codes "[300,400]")) ≡ Err fault.Field
+pub layer_with_a_point : denoted (line (codes "[1,1]") zeros (codes "1.0") (codes "[300,400]"))
+    ≡ Err fault.Field
 unfolding serde_json_on_literals digits is_utf8 chars
 layer_with_a_point = refl
 
-pub layer_with_an_exponent : denoted (line (codes "[1,1]") zeros (codes "1e3") (codes "[300,400]")) ≡ Err fault.Field
+pub layer_with_an_exponent : denoted (line (codes "[1,1]") zeros (codes "1e3") (codes "[300,400]"))
+    ≡ Err fault.Field
 unfolding serde_json_on_literals digits is_utf8 chars
 layer_with_an_exponent = refl
 
-pub layer_below_zero : denoted (line (codes "[1,1]") zeros (codes "-1") (codes "[300,400]")) ≡ Err fault.Range
+pub layer_below_zero : denoted (line (codes "[1,1]") zeros (codes "-1") (codes "[300,400]"))
+    ≡ Err fault.Range
 unfolding serde_json_on_literals digits is_utf8 chars
 layer_below_zero = refl
 
 -- serde_json reads -0 as a float
-pub layer_minus_zero : denoted (line (codes "[1,1]") zeros (codes "-0") (codes "[300,400]")) ≡ Err fault.Field
+pub layer_minus_zero : denoted (line (codes "[1,1]") zeros (codes "-0") (codes "[300,400]"))
+    ≡ Err fault.Field
 unfolding serde_json_on_literals digits is_utf8 chars
 layer_minus_zero = refl
 
-pub layer_of_65_bits : denoted (line (codes "[1,1]") zeros (codes "9223372036854775808") (codes "[300,400]")) ≡ Err fault.Field
+pub layer_of_65_bits : denoted
+    (line (codes "[1,1]") zeros (codes "9223372036854775808") (codes "[300,400]"))
+    ≡ Err fault.Field
 unfolding serde_json_on_literals digits is_utf8 chars
 layer_of_65_bits = refl
 
-pub site_nine : denoted (line (codes "[9,1]") zeros (codes "0") (codes "[300,400]")) ≡ Err fault.Range
+pub site_nine : denoted (line (codes "[9,1]") zeros (codes "0") (codes "[300,400]"))
+    ≡ Err fault.Range
 unfolding serde_json_on_literals digits is_utf8 chars
 site_nine = refl
 
-pub past_of_seven : denoted (line (codes "[1,1]") (codes "[0,0,0,0,0,0,0]") (codes "0") (codes "[300,400]")) ≡ Err fault.Field
+pub past_of_seven : denoted (line (codes "[1,1]") (codes "[0,0,0,0,0,0,0]") (codes "0")
+    (codes "[300,400]")) ≡ Err fault.Field
 unfolding serde_json_on_literals digits is_utf8 chars
 past_of_seven = refl
 
-pub past_above : denoted (line (codes "[1,1]") (codes "[0,0,0,0,0,0,0,10001]") (codes "0") (codes "[300,400]")) ≡ Err fault.Range
+pub past_above : denoted (line (codes "[1,1]") (codes "[0,0,0,0,0,0,0,10001]") (codes "0")
+    (codes "[300,400]")) ≡ Err fault.Range
 unfolding serde_json_on_literals digits is_utf8 chars
 past_above = refl
 
-pub size_zero : denoted (line (codes "[1,1]") zeros (codes "0") (codes "[300,0]")) ≡ Err fault.Range
+pub size_zero : denoted (line (codes "[1,1]") zeros (codes "0") (codes "[300,0]"))
+    ≡ Err fault.Range
 unfolding serde_json_on_literals digits is_utf8 chars
 size_zero = refl
 
 -- a fault of form comes before those of limits
-pub field_before_range : denoted (line (codes "[9,1]") zeros (codes "10000") (codes "[300,null]")) ≡ Err fault.Field
+pub field_before_range : denoted (line (codes "[9,1]") zeros (codes "10000") (codes "[300,null]"))
+    ≡ Err fault.Field
 unfolding serde_json_on_literals digits is_utf8 chars
 field_before_range = refl
 
-pub an_unknown_key : denoted (line (codes "[1,1]") zeros (codes "0,\"to\":0") (codes "[300,400]")) ≡ Err fault.Field
+pub an_unknown_key : denoted (line (codes "[1,1]") zeros (codes "0,\"to\":0") (codes "[300,400]"))
+    ≡ Err fault.Field
 unfolding serde_json_on_literals digits is_utf8 chars
 an_unknown_key = refl
 

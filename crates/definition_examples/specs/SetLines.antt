@@ -1,5 +1,6 @@
 -- Worked examples of lines that set an attribute, checked by computing.
-use Rattle.std.specs.Prelude.{◌≡◌, ℕ, List, [], ◌∷◌, ◌++◌, replicate, Ok, Err, refl, codes, pos, negsuc, false}
+use Rattle.std.specs.Prelude.{◌≡◌, ℕ, List, [], ◌∷◌, ◌++◌, replicate, Ok, Err}
+use Rattle.std.specs.Prelude.{refl, codes, pos, negsuc, false}
 use Rattle.std.specs.Str.{is_utf8, chars}
 use Rattle.std.specs.Fmt.{digits}
 use Rattle.gf_ops.specs.declared.op.Op.{Op}
@@ -27,7 +28,8 @@ sets_to v = aims_to [] v
 abbrev pub blue : Value
 blue = value.Colour (record { r = 0; g = 0; b = 255 })
 
-pub blue_read : denoted (codes "{\"id\":[1,2],\"object\":[1,1],\"op\":\"set\",\"past\":[1,0,0,0,0,0,0,0],\"set\":\"colour\",\"to\":\"0000ff\"}") ≡ Ok (sets_to blue)
+pub blue_read : denoted (codes
+    "{\"id\":[1,2],\"object\":[1,1],\"op\":\"set\",\"past\":[1,0,0,0,0,0,0,0],\"set\":\"colour\",\"to\":\"0000ff\"}") ≡ Ok (sets_to blue)
 unfolding serde_json_on_literals digits is_utf8 chars
 blue_read = refl
 
@@ -37,24 +39,32 @@ line object attribute to =
     codes "{\"to\":" ++ to ++ codes ",\"set\":\"" ++ attribute ++ codes "\",\"object\":" ++ object
     ++ codes ", \"id\":[1,2],\"op\":\"set\",\"past\":[1,0,0,0,0,0,0,0]}"
 
-pub place_read : denoted (line (codes "[1,1]") (codes "place") (codes "[-5,0]")) ≡ Ok (sets_to (value.Place (record { x = negsuc 4; y = pos 0 })))
+pub place_read : denoted (line (codes "[1,1]") (codes "place") (codes "[-5,0]"))
+    ≡ Ok (sets_to (value.Place (record { x = negsuc 4; y = pos 0 })))
 unfolding serde_json_on_literals digits is_utf8 chars
 place_read = refl
 
-pub points_read : denoted (line (codes "[1,1]") (codes "points") (codes "[[0,0],[1,0],[0,1]]")) ≡ Ok (sets_to (value.Points (record { x = pos 0; y = pos 0 } ∷ record { x = pos 1; y = pos 0 } ∷ record { x = pos 0; y = pos 1 } ∷ [])))
+pub points_read : denoted (line (codes "[1,1]") (codes "points") (codes "[[0,0],[1,0],[0,1]]"))
+    ≡ Ok (sets_to (value.Points (record { x = pos 0; y = pos 0 } ∷ record {
+      x = pos 1;
+      y = pos 0;
+    } ∷ record { x = pos 0; y = pos 1 } ∷ [])))
 unfolding serde_json_on_literals digits is_utf8 chars
 points_read = refl
 
 -- whether it suits the object is not asked of the line
-pub unequal_size_read : denoted (line (codes "[1,1]") (codes "size") (codes "[7,8]")) ≡ Ok (sets_to (value.Size 7 8))
+pub unequal_size_read : denoted (line (codes "[1,1]") (codes "size") (codes "[7,8]"))
+    ≡ Ok (sets_to (value.Size 7 8))
 unfolding serde_json_on_literals digits is_utf8 chars
 unequal_size_read = refl
 
-pub layer_read : denoted (line (codes "[1,1]") (codes "layer") (codes "9999")) ≡ Ok (sets_to (value.Layer 9999))
+pub layer_read : denoted (line (codes "[1,1]") (codes "layer") (codes "9999"))
+    ≡ Ok (sets_to (value.Layer 9999))
 unfolding serde_json_on_literals digits is_utf8 chars
 layer_read = refl
 
-pub shown_read : denoted (line (codes "[1,1]") (codes "shown") (codes "false")) ≡ Ok (sets_to (value.Shown false))
+pub shown_read : denoted (line (codes "[1,1]") (codes "shown") (codes "false"))
+    ≡ Ok (sets_to (value.Shown false))
 unfolding serde_json_on_literals digits is_utf8 chars
 shown_read = refl
 
@@ -62,27 +72,33 @@ pub layer_above : denoted (line (codes "[1,1]") (codes "layer") (codes "10000"))
 unfolding serde_json_on_literals digits is_utf8 chars
 layer_above = refl
 
-pub two_points : denoted (line (codes "[1,1]") (codes "points") (codes "[[0,0],[1,0]]")) ≡ Err fault.Range
+pub two_points : denoted (line (codes "[1,1]") (codes "points") (codes "[[0,0],[1,0]]"))
+    ≡ Err fault.Range
 unfolding serde_json_on_literals digits is_utf8 chars
 two_points = refl
 
-pub object_of_site_nine : denoted (line (codes "[9,1]") (codes "layer") (codes "0")) ≡ Err fault.Range
+pub object_of_site_nine : denoted (line (codes "[9,1]") (codes "layer") (codes "0"))
+    ≡ Err fault.Range
 unfolding serde_json_on_literals digits is_utf8 chars
 object_of_site_nine = refl
 
 -- a fault of form comes before those of limits
-pub field_before_range : denoted (line (codes "[9,1]") (codes "layer") (codes "null")) ≡ Err fault.Field
+pub field_before_range : denoted (line (codes "[9,1]") (codes "layer") (codes "null"))
+    ≡ Err fault.Field
 unfolding serde_json_on_literals digits is_utf8 chars
 field_before_range = refl
 
-pub another_attribute : denoted (line (codes "[1,1]") (codes "kind") (codes "0")) ≡ Err fault.Field
+pub another_attribute : denoted (line (codes "[1,1]") (codes "kind") (codes "0"))
+    ≡ Err fault.Field
 unfolding serde_json_on_literals digits is_utf8 chars
 another_attribute = refl
 
-pub the_form_of_another : denoted (line (codes "[1,1]") (codes "layer") (codes "true")) ≡ Err fault.Field
+pub the_form_of_another : denoted (line (codes "[1,1]") (codes "layer") (codes "true"))
+    ≡ Err fault.Field
 unfolding serde_json_on_literals digits is_utf8 chars
 the_form_of_another = refl
 
-pub an_unknown_key : denoted (line (codes "[1,1]") (codes "layer") (codes "-1,\"x\":0")) ≡ Err fault.Field
+pub an_unknown_key : denoted (line (codes "[1,1]") (codes "layer") (codes "-1,\"x\":0"))
+    ≡ Err fault.Field
 unfolding serde_json_on_literals digits is_utf8 chars
 an_unknown_key = refl

@@ -39,12 +39,14 @@ pub ellipse_below : ellipse_holds 3 2 (at (pos 1) (pos 2)) ≡ false
 ellipse_below = refl
 
 -- an oval away from the origin
-pub oval_inside : oval_figure_holds (at (pos 100) (negsuc 99)) 3 2 (at (pos 102) (negsuc 98)) ≡ true
+pub oval_inside : oval_figure_holds (at (pos 100) (negsuc 99)) 3 2 (at (pos 102) (negsuc 98))
+    ≡ true
 oval_inside = refl
 
 -- a star with five arms: even-odd, so its middle is outside
 abbrev pub star : List Point
-star = at (pos 0) (negsuc 9) ∷ at (pos 6) (pos 8) ∷ at (negsuc 8) (negsuc 2) ∷ at (pos 9) (negsuc 2) ∷ at (negsuc 5) (pos 8) ∷ []
+star = at (pos 0) (negsuc 9) ∷ at (pos 6) (pos 8) ∷ at (negsuc 8) (negsuc 2)
+    ∷ at (pos 9) (negsuc 2) ∷ at (negsuc 5) (pos 8) ∷ []
 
 pub star_middle : polygon_holds star (at (pos 0) (pos 0)) ≡ false
 unfolding side is_between is_on_line
@@ -54,9 +56,11 @@ pub star_arm : polygon_holds star (at (pos 0) (negsuc 7)) ≡ true
 unfolding side is_between is_on_line
 star_arm = refl
 
--- a house: its roof's top and its floor belong to it; level with its corners the ray counts each once
+-- a house: its roof's top and its floor belong to it; level with its corners the ray counts each
+-- once
 abbrev pub house : List Point
-house = at (pos 0) (pos 0) ∷ at (pos 4) (pos 0) ∷ at (pos 4) (pos 4) ∷ at (pos 2) (pos 6) ∷ at (pos 0) (pos 4) ∷ []
+house = at (pos 0) (pos 0) ∷ at (pos 4) (pos 0) ∷ at (pos 4) (pos 4) ∷ at (pos 2) (pos 6)
+    ∷ at (pos 0) (pos 4) ∷ []
 
 pub house_vertex : polygon_holds house (at (pos 2) (pos 6)) ≡ true
 unfolding side is_between is_on_line
@@ -80,7 +84,8 @@ house_beyond = refl
 
 -- the same house as a FIG file draws it, with the first point again
 abbrev pub house_chain : List Point
-house_chain = at (pos 0) (pos 0) ∷ at (pos 4) (pos 0) ∷ at (pos 4) (pos 4) ∷ at (pos 2) (pos 6) ∷ at (pos 0) (pos 4) ∷ at (pos 0) (pos 0) ∷ []
+house_chain = at (pos 0) (pos 0) ∷ at (pos 4) (pos 0) ∷ at (pos 4) (pos 4)
+    ∷ at (pos 2) (pos 6) ∷ at (pos 0) (pos 4) ∷ at (pos 0) (pos 0) ∷ []
 
 pub chain_vertex : chain_holds house_chain (at (pos 2) (pos 6)) ≡ true
 unfolding side is_between is_on_line

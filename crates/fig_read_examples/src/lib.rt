@@ -4,6 +4,8 @@
 #[cfg(test)]
 mod fig_faults;
 #[cfg(test)]
+mod fig_lines;
+#[cfg(test)]
 mod fig_reading;
 #[cfg(test)]
 mod fig_reading_cuts;

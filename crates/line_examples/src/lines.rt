@@ -49,7 +49,7 @@ const ROWS: &str = r#"
 fn denotes(alloc: Global, line: &str, text: &str) -> Option<bool> {
     match text.strip_prefix("site ") {
         Some(rest) => {
-            let want = script_line(alloc, rest)?;
+            let want = script(alloc, rest)?;
             Some(read_script(alloc, line.as_bytes()).ok()? == want)
         }
         None => {
@@ -60,7 +60,7 @@ fn denotes(alloc: Global, line: &str, text: &str) -> Option<bool> {
 }
 
 /// `2 await 1.1`, or a site and the change that it makes.
-fn script_line(alloc: Global, text: &str) -> Option<ScriptLine> {
+pub(crate) fn script(alloc: Global, text: &str) -> Option<ScriptLine> {
     let (site, what) = text.split_once(' ')?;
     let command = match what.strip_prefix("await ") {
         Some(id) => Command::Await(notation::id(id)?),

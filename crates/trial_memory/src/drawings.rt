@@ -8,6 +8,8 @@ use gf_bytes::{Tape, WriteError};
 use gf_drawing::{CompileFault, Drawing, Figure};
 use gf_fig_read::{FigError, FigFault};
 use gf_fig_write::fig_bytes as text_of;
+use gf_import::CreationError;
+use gf_ops::{Change, Form};
 use gf_shape::{AnyShape, OutOfMemory, Outline, Rect, Shape};
 use gf_versions::ranked;
 use std::alloc::Global;
@@ -22,6 +24,9 @@ write_fig
 write_fig_cut
 read_fig
 read_fig_box
+object_line
+fault_line
+creations
 ";
 
 /// What comes of the trial of this name, if there is one.
@@ -36,6 +41,9 @@ pub(crate) fn tried(alloc: Global, name: &str, marks: &mut Marks) -> Option<Came
         "write_fig_cut" => write_fig(alloc, marks, Some(20), (Err(WriteError::WriteFailed), CUT)),
         "read_fig" => read_fig(alloc, marks, EMPTY_FIG),
         "read_fig_box" => read_fig(alloc, marks, RED_BOX_FIG),
+        "object_line" => Some(object_line(alloc, marks)),
+        "fault_line" => Some(fault_line(alloc, marks)),
+        "creations" => creations(alloc, marks),
         _ => return None,
     };
     Some(came.unwrap_or(Came::TooEarly))
@@ -211,4 +219,67 @@ fn is_read(alloc: Global, answer: Result<Drawing<Outline>, FigError>, text: &str
         Ok(drawing) => is_text(text_of(alloc, &drawing), text),
         Err(_) => false,
     }
+}
+
+/// The line on which the box begins, behind the header and the colour.
+const BOX_LINE: Result<Option<u64>, OutOfMemory> = Ok(Some(11));
+
+fn object_line(alloc: Global, marks: &mut Marks) -> Came {
+    let text = RED_BOX_FIG.as_bytes();
+    marks.begin();
+    let first = gf_fig_read::object_line(alloc, text, 2);
+    marks.end();
+    match first {
+        Err(OutOfMemory) => {
+            let next = gf_fig_read::object_line(alloc, text, 2);
+            Came::after_memory(true, next == BOX_LINE)
+        }
+        first => Came::first(first == BOX_LINE),
+    }
+}
+
+/// The line of a fault of the box.
+fn fault_line(alloc: Global, marks: &mut Marks) -> Came {
+    let text = RED_BOX_FIG.as_bytes();
+    let error = FigError {
+        fault: FigFault::Depth,
+        object: 2,
+    };
+    marks.begin();
+    let first = gf_fig_read::fault_line(alloc, text, error);
+    marks.end();
+    match first {
+        Err(OutOfMemory) => {
+            let next = gf_fig_read::fault_line(alloc, text, error);
+            Came::after_memory(true, next == BOX_LINE)
+        }
+        first => Came::first(first == BOX_LINE),
+    }
+}
+
+fn creations(alloc: Global, marks: &mut Marks) -> Option<Came> {
+    let drawing = gf_fig_read::read_fig(alloc, RED_BOX_FIG.as_bytes()).ok()?;
+    marks.begin();
+    let first = gf_import::creations(alloc, &drawing);
+    marks.end();
+    Some(match first {
+        Err(CreationError::OutOfMemory) => {
+            let next = gf_import::creations(alloc, &drawing);
+            Came::after_memory(true, is_box_created(next))
+        }
+        first => Came::first(is_box_created(first)),
+    })
+}
+
+/// Whether these are the creation of the red box.
+fn is_box_created(answer: Result<Vec<Change>, CreationError>) -> bool {
+    match answer {
+        Ok(changes) => matches!(changes.as_slice(), [Change::Create(start)]
+            if start.place == at(100, 200) && start.layer == 999 && is_box(&start.form)),
+        Err(_) => false,
+    }
+}
+
+fn is_box(form: &Form) -> bool {
+    matches!(form, Form::Rect(300, 400))
 }

@@ -14,6 +14,7 @@ use std::alloc::Global;
 pub(crate) const NAMES: &str = "
 read_op
 op_line
+script_line
 op_copy
 room
 add
@@ -27,6 +28,7 @@ pub(crate) fn tried(alloc: Global, name: &str, marks: &mut Marks) -> Option<Came
     let came = match name {
         "read_op" => read_op(alloc, marks),
         "op_line" => op_line(alloc, marks),
+        "script_line" => script_line(alloc, marks),
         "op_copy" => op_copy(alloc, marks),
         "room" => room(alloc, marks),
         "add" => add(alloc, marks),
@@ -66,6 +68,29 @@ fn op_line(alloc: Global, marks: &mut Marks) -> Option<Came> {
 fn is_red_line(answer: Result<String, OutOfMemory>) -> bool {
     match answer {
         Ok(line) => line.as_str() == RED_BOX,
+        Err(OutOfMemory) => false,
+    }
+}
+
+/// The line of a command, as it is written.
+const AWAIT: &str = "{\"do\":\"await\",\"id\":[1,1],\"site\":2}";
+
+fn script_line(alloc: Global, marks: &mut Marks) -> Option<Came> {
+    let script = gf_json::read_script(alloc, AWAIT.as_bytes()).ok()?;
+    marks.begin();
+    let first = gf_json::script_line(alloc, &script);
+    marks.end();
+    Some(match first {
+        Err(OutOfMemory) => {
+            Came::after_memory(true, is_await(gf_json::script_line(alloc, &script)))
+        }
+        first => Came::first(is_await(first)),
+    })
+}
+
+fn is_await(answer: Result<String, OutOfMemory>) -> bool {
+    match answer {
+        Ok(line) => line.as_str() == AWAIT,
         Err(OutOfMemory) => false,
     }
 }

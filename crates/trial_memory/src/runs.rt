@@ -6,10 +6,15 @@ use crate::trial::{Came, Marks};
 use example_parts::notation::operation;
 use example_parts::{RED_BOX, RED_BOX_FIG, at};
 use gf_bytes::{Reel, Tape};
+use gf_check::check_run;
+use gf_edit::{EditError, edit_run};
+use gf_fit::{Frame, paint_fitted_run, repaint_fitted_run};
+use gf_import::{ImportError, import_run};
 use gf_json::op_line;
 use gf_looks::{Query, inspect_run};
 use gf_ops::ObjectId;
 use gf_session_run::session_run;
+use gf_status::status_run;
 use gf_studio::{OpenGate, SessionError, StudioError, Window, fig_run, paint_run, repaint_run};
 use std::alloc::Global;
 use std::sync::Wait;
@@ -19,8 +24,14 @@ pub(crate) const NAMES: &str = "
 fig_run may do without
 paint_run may do without
 repaint_run may do without
+paint_fitted_run may do without
+repaint_fitted_run may do without
 inspect_run may do without
 inspect_run_at may do without
+import_run
+edit_run may do without
+status_run may do without
+check_run may do without
 session_run may do without
 ";
 
@@ -35,8 +46,14 @@ pub(crate) fn tried<T: Threads + Wait + Sync>(
         "fig_run" => Some(fig(rt, alloc, marks)),
         "paint_run" => paint(rt, alloc, marks),
         "repaint_run" => repaint(rt, alloc, marks),
+        "paint_fitted_run" => paint_fitted(rt, alloc, marks),
+        "repaint_fitted_run" => repaint_fitted(rt, alloc, marks),
         "inspect_run" => inspect(rt, alloc, marks, Query::Object(ObjectId(BOX)), TWO_VERSIONS),
         "inspect_run_at" => inspect(rt, alloc, marks, Query::At(at(10, 10)), TOP),
+        "import_run" => Some(import(rt, alloc, marks)),
+        "edit_run" => edit(rt, alloc, marks),
+        "status_run" => status(rt, alloc, marks),
+        "check_run" => check(rt, alloc, marks),
         "session_run" => Some(session(rt, alloc, marks)),
         _ => return None,
     };
@@ -48,7 +65,13 @@ enum Run {
     Fig,
     Paint(Window),
     Repaint(Window),
+    PaintFitted(Frame),
+    RepaintFitted(Frame),
     Inspect(Query),
+    Import,
+    Edit,
+    Status,
+    Check,
     Session,
 }
 
@@ -96,7 +119,35 @@ impl Example<'_> {
             Run::Fig => fig_run(alloc, &mut source, tape),
             Run::Paint(window) => paint_run(rt, alloc, &mut source, tape, window, 2, &OpenGate),
             Run::Repaint(window) => repaint_run(rt, alloc, &mut source, tape, window, 2, &OpenGate),
+            Run::PaintFitted(frame) => {
+                paint_fitted_run(rt, alloc, &mut source, tape, frame, 2, &OpenGate)?;
+                Ok(())
+            }
+            Run::RepaintFitted(frame) => {
+                repaint_fitted_run(rt, alloc, &mut source, tape, frame, 2, &OpenGate)?;
+                Ok(())
+            }
+            Run::Import => match import_run(alloc, &mut source, tape, 2) {
+                Ok(()) => Ok(()),
+                Err(ImportError::Run(error)) => Err(error),
+                Err(_) => Err(StudioError::ReadFailed),
+            },
             Run::Inspect(query) => inspect_run(alloc, &mut source, tape, query),
+            Run::Edit => match edit_run(alloc, &mut source, tape, 1) {
+                Ok(_) => Ok(()),
+                Err(EditError::Run(error)) => Err(error),
+                Err(EditError::Waits(_, _) | EditError::Refused(_, _)) => Err(
+                    StudioError::ReadFailed,
+                ),
+            },
+            Run::Status => {
+                status_run(alloc, &mut source, tape)?;
+                Ok(())
+            }
+            Run::Check => {
+                check_run(alloc, &mut source, tape)?;
+                Ok(())
+            }
             Run::Session => session_run(rt, alloc, &mut source, tape, 2, &OpenGate),
         }
     }
@@ -184,6 +235,39 @@ fn repaint<T: Threads + Wait + Sync>(rt: &T, alloc: Global, marks: &mut Marks) -
     Some(example.tried(rt, alloc, marks))
 }
 
+/// The picture of the moved box in the window that fits it: three columns, of which the middle one
+/// meets it, and two rows.
+fn paint_fitted<T: Threads + Wait + Sync>(
+    rt: &T,
+    alloc: Global,
+    marks: &mut Marks,
+) -> Option<Came> {
+    let frame = Frame::new(3, 2).ok()?;
+    let input = lines(alloc, MOVED)?;
+    let example = Example {
+        run: Run::PaintFitted(frame),
+        input: input.as_bytes(),
+        whole: b"P6\n3 2\n255\n\xff\xff\xff\x00\xff\x00\xff\xff\xff\xff\xff\xff\x00\xff\x00\xff\xff\xff",
+        cuts: &[0, 11],
+    };
+    Some(example.tried(rt, alloc, marks))
+}
+
+fn repaint_fitted<T: Threads + Wait + Sync>(
+    rt: &T,
+    alloc: Global,
+    marks: &mut Marks,
+) -> Option<Came> {
+    let frame = Frame::new(1, 1).ok()?;
+    let example = Example {
+        run: Run::RepaintFitted(frame),
+        input: TRIANGLE,
+        whole: b"P6\n1 1\n255\n\xff\x00\x00",
+        cuts: &[0, 11],
+    };
+    Some(example.tried(rt, alloc, marks))
+}
+
 /// The versions of the box to which two sites give a colour.
 const TWO_VERSIONS: &[u8] =
     b"version 1.1 [1.1 2.1] box place 0 0 size 10 10 colour 00ff00 layer 0 shown\nversion 1.1 [1.1 1.2] box place 0 0 size 10 10 colour 0000ff layer 0 shown\n";
@@ -203,6 +287,66 @@ fn inspect<T: Threads + Wait + Sync>(
         run: Run::Inspect(query),
         input: input.as_bytes(),
         whole,
+        cuts: &[0],
+    };
+    Some(example.tried(rt, alloc, marks))
+}
+
+/// The command by which site 2 creates the red box.
+const CREATES: &[u8] =
+    b"{\"colour\":\"ff0000\",\"do\":\"create\",\"kind\":\"box\",\"layer\":999,\"place\":[100,200],\"shown\":true,\"site\":2,\"size\":[300,400]}\n";
+
+fn import<T: Threads + Wait + Sync>(rt: &T, alloc: Global, marks: &mut Marks) -> Came {
+    let example = Example {
+        run: Run::Import,
+        input: RED_BOX_FIG.as_bytes(),
+        whole: CREATES,
+        cuts: &[0],
+    };
+    example.tried(rt, alloc, marks)
+}
+
+/// The command by which site 1 hides the version that holds 2.1, and the operation that it makes.
+const HIDE: &str =
+    "{\"site\":1,\"do\":\"set\",\"object\":[1,1],\"set\":\"shown\",\"to\":false,\"aim\":[[2,1]]}\n";
+
+const HIDDEN: &[u8] =
+    b"{\"aim\":[[2,1]],\"id\":[1,3],\"object\":[1,1],\"op\":\"set\",\"past\":[2,1,0,0,0,0,0,0],\"set\":\"shown\",\"to\":false}\n";
+
+fn edit<T: Threads + Wait + Sync>(rt: &T, alloc: Global, marks: &mut Marks) -> Option<Came> {
+    let mut input = lines(alloc, TWO_COLOURS)?;
+    input.push_str(HIDE).ok()?;
+    let example = Example {
+        run: Run::Edit,
+        input: input.as_bytes(),
+        whole: HIDDEN,
+        cuts: &[0],
+    };
+    Some(example.tried(rt, alloc, marks))
+}
+
+/// The status of the box to which two sites give a colour.
+const STATUS: &[u8] =
+    b"site 1 has 2\nsite 2 has 1\nobject 1.1 has 2 versions, 2 shown\nobject 1.1 colour 1.2 2.1\n";
+
+fn status<T: Threads + Wait + Sync>(rt: &T, alloc: Global, marks: &mut Marks) -> Option<Came> {
+    let input = lines(alloc, TWO_COLOURS)?;
+    let example = Example {
+        run: Run::Status,
+        input: input.as_bytes(),
+        whole: STATUS,
+        cuts: &[0],
+    };
+    Some(example.tried(rt, alloc, marks))
+}
+
+fn check<T: Threads + Wait + Sync>(rt: &T, alloc: Global, marks: &mut Marks) -> Option<Came> {
+    let mut input = lines(alloc, TWO_COLOURS)?;
+    input.push_str("{}\n").ok()?;
+    let example = Example {
+        run: Run::Check,
+        input: input.as_bytes(),
+        whole: b"line 4: Field: the key \"op\" is missing\n",
         cuts: &[0],
     };
     Some(example.tried(rt, alloc, marks))
