@@ -1,6 +1,7 @@
 #!/bin/bash
-# Measures whole runs of `figgroup fig` on the inputs of bench/fig_inputs.py: wall time, memory and,
-# where valgrind is there, instructions; and checks that order does not change the text.
+# Measures whole runs of `figgroup fig`, and of `status` and `edit` beside them, on the inputs of
+# bench/fig_inputs.py: wall time, memory and, where valgrind is there, instructions. It also checks
+# that order does not change the text.
 set -euo pipefail
 root=$(cd "$(dirname "$0")/.." && pwd)
 source "$root/bench/measures.sh"
@@ -35,6 +36,9 @@ each() {
     for name in causal shuffled backwards few pairs; do
         "$1" "$name" "$name" "$program" fig
     done
+    "$1" status causal "$program" status
+    "$1" roomy roomy "$program" fig
+    "$1" edit commands "$program" edit --site 1
     "$1" baseline causal "$baseline"
 }
 
@@ -49,6 +53,8 @@ each tell
 compare shuffled causal 1.3
 compare backwards causal 1.3
 compare causal few 11
+compare status causal 1
+compare edit roomy 1.1
 for name in causal shuffled backwards; do
     compare "$name" baseline 2.5
 done

@@ -1,5 +1,6 @@
 """Writes the inputs of bench/fig.sh to the folder that the word names."""
 
+import json
 import random
 import sys
 
@@ -40,6 +41,12 @@ def paired():
     return lines.lines
 
 
+def commands(count):
+    """So many commands of site 1, each of which creates a box."""
+    keys = {"site": 1, "do": "create", "kind": "box", "size": [10, 10], "colour": "ff0000", "layer": 0, "shown": True}
+    return [json.dumps({**keys, "place": [number, 0]}) for number in range(count)]
+
+
 folder = sys.argv[1]
 many = edited(80_000)
 write(folder, "causal", many)
@@ -47,3 +54,7 @@ write(folder, "backwards", reversed(many))
 write(folder, "shuffled", random.Random(4).sample(many, len(many)))
 write(folder, "few", edited(8_000))
 write(folder, "pairs", paired())
+# Each site has made less than 10,000 operations, and so has room for some more.
+roomy = edited(79_900)
+write(folder, "roomy", roomy)
+write(folder, "commands", roomy + commands(10))

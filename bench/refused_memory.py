@@ -83,7 +83,10 @@ class Command:
     def __init__(self, program, words, given, what="ALLOCATION"):
         self.name = "figgroup " + " ".join(words) + (", its threads" if what == "THREAD" else "")
         self.words, self.given, self.what = [program, *words], given, what
-        self.expected = subprocess.run(self.words, input=given, capture_output=True, check=True).stdout
+        whole = subprocess.run(self.words, input=given, capture_output=True)
+        self.expected, self.status = whole.stdout, whole.returncode
+        if self.status > 1:
+            sys.exit(f"{self.name}: status {self.status}, with nothing refused")
 
     def is_front(self, output):
         """Whether this is nothing, or the header and whole bands of a picture."""
@@ -95,7 +98,7 @@ class Command:
 
     def came(self, run, refused):
         """What came of a run, or none where it must not come."""
-        if run.returncode == 0 and run.stdout == self.expected:
+        if run.returncode == self.status and run.stdout == self.expected and b"memory" not in run.stderr:
             return "as expected"
         answers_so = re.fullmatch(rb"figgroup: (session: )?out of memory\n", run.stderr)
         return "out of memory" if refused and run.returncode == 1 and answers_so and self.is_front(run.stdout) else None
@@ -137,6 +140,7 @@ def built(name):
 
 def commands(program):
     lines, places = input_of("three-sites"), input_of("two-places")
+    edited, mistakes = input_of("two-colours", "[sc]*.jsonl"), input_of("mistakes")
     window, figure = words_of("two-places", "window"), input_of("two-places", "expected.fig")
     session = ["session", "--sites", *words_of("session", "sites")]
     return [
@@ -144,8 +148,14 @@ def commands(program):
         Command(program, ["paint", *window, "--workers", "3"], places),
         Command(program, ["paint", *window, "--workers", "3"], places, "THREAD"),
         Command(program, ["repaint", *window], figure),
+        Command(program, ["paint", "--fit"], places),
+        Command(program, ["repaint", "--fit"], figure),
+        Command(program, ["import", "--site", "1"], figure),
         Command(program, ["inspect", "--object", "1.1"], lines),
         Command(program, ["inspect", "--at", "0,0"], lines),
+        Command(program, ["edit", "--site", "1"], edited),
+        Command(program, ["status"], lines),
+        Command(program, ["check"], mistakes),
         Command(program, session, input_of("session")),
         Command(program, session, input_of("session"), "THREAD"),
     ]

@@ -2,8 +2,11 @@
 # Runs each example and compares its output with what is expected of it: the lines by figgroup, and
 # each FIG text by bench_fig, which reads it and writes what it read. Where there is a window, whose
 # words stand in the file of that name, the lines are painted in it and expected.fig is repainted.
-# Where there is a script, it is run as a session of as many sites as the file sites says. Each picture
-# that the file pictures names, with its lines and its window, is painted anew and compared.
+# Where there is a script, it is run as a session of as many sites as the file sites says. Where the
+# status of the lines is expected, or their faults are, these are compared; and where there are changes,
+# the operations that site 1 makes of them, and the status with these. Each picture that the file
+# pictures names, with its lines and its window, is painted anew and compared. What an import makes of
+# house.fig is compared with imported.jsonl. Last the tutorial is typed, and the script of by-git run.
 set -eu
 examples=$(cd "$(dirname "$0")" && pwd)
 root=$(dirname "$examples")
@@ -32,6 +35,25 @@ repainted() {
 
 edited() {
     "$root/figgroup" session --sites "$1" < "$2"
+}
+
+made() {
+    cat "$@" | "$root/figgroup" edit --site 1
+}
+
+told() {
+    cat "$@" | "$root/figgroup" status
+}
+
+# The faults of lines that have some.
+faults() {
+    status=0
+    "$root/figgroup" check < "$1" || status=$?
+    [ "$status" = 1 ]
+}
+
+imported() {
+    "$root/figgroup" import --site 1 < "$1"
 }
 
 again() {
@@ -66,6 +88,12 @@ compare_lines() {
         shift
         compare "$(basename "$example"), first site last" "$example/expected.fig" drawn "$@" "$first"
     fi
+}
+
+# The operations that site 1 makes of its changes, and the status with these.
+compare_changes() {
+    compare "$(basename "$example"), edited" "$example/edited.jsonl" made "$@" "$example/changes.jsonl"
+    compare "$(basename "$example"), status then" "$example/edited-status.txt" told "$@" "$example/edited.jsonl"
 }
 
 # The picture in the example's window, painted by one worker and by three, and repainted.
@@ -107,22 +135,46 @@ fi
 
 for example in "$examples"/*/; do
     example=${example%/}
-    set -- "$example"/*.jsonl
     if [ -e "$example/script.jsonl" ]; then
         compare "$(basename "$example")" "$example/expected.txt" edited "$(cat "$example/sites")" "$example/script.jsonl"
-    elif [ -e "$1" ]; then
+    fi
+    set --
+    for lines in "$example"/site-*.jsonl "$example/input.jsonl"; do
+        [ ! -e "$lines" ] || set -- "$@" "$lines"
+    done
+    if [ -e "$example/expected.fig" ] && [ $# -gt 0 ]; then
         compare_lines "$@"
-        if [ -e "$example/window" ]; then
-            compare_pictures "$@"
-        fi
+    fi
+    if [ -e "$example/window" ]; then
+        compare_pictures "$@"
+    fi
+    if [ -e "$example/status.txt" ]; then
+        compare "$(basename "$example"), status" "$example/status.txt" told "$@"
+    fi
+    if [ -e "$example/changes.jsonl" ]; then
+        compare_changes "$@"
+    fi
+    if [ -e "$example/faults.txt" ]; then
+        compare "$(basename "$example"), faults" "$example/faults.txt" faults "$@"
     fi
     if [ -e "$example/pictures" ]; then
         compare_pngs
+    fi
+    if [ -e "$example/imported.jsonl" ]; then
+        compare "$(basename "$example"), imported" "$example/imported.jsonl" imported "$example/house.fig"
+        continue
     fi
     for text in "$example"/*.fig; do
         [ -e "$text" ] || continue
         compare "$(basename "$example"), $(basename "$text") again" "$example/expected.fig" again "$text"
     done
 done
+
+compare "tutorial" /dev/null python3 "$examples/transcript.py" "$root/docs/TUTORIAL.md" "$root"
+if command -v git > /dev/null; then
+    compare "by-git" "$examples/by-git/expected.txt" "$examples/by-git/run.sh"
+else
+    echo "by-git: skipped, as there is no git"
+fi
 echo "$passed passed, $failed failed"
 [ "$failed" = 0 ]

@@ -1,0 +1,71 @@
+#!/usr/bin/env python3
+"""Runs each command of a page in a new folder, and compares what it puts out with what stands behind it.
+
+A command is a line that begins with `$ ` in a block for the shell; what follows it in the block is its output, faults
+among it. Each picture NAME.png that the page shows is compared with what the commands painted as NAME.ppm.
+
+Words: the page, and the root of the repository."""
+import os
+import re
+import subprocess
+import sys
+import tempfile
+
+MARK = "-- end of a command --"
+
+
+def steps(page):
+    """Each command of the page with the output that it tells."""
+    for block in re.findall(r"^```sh\n(.*?)^```$", page, re.M | re.S):
+        for step in re.split(r"^\$ ", block, flags=re.M)[1:]:
+            command, _, output = step.partition("\n")
+            yield command, output
+
+
+def run(commands, root, folder):
+    """What each command puts out, all run by one shell at the folder."""
+    os.symlink(os.path.join(root, "examples"), os.path.join(folder, "examples"))
+    program = os.path.join(folder, "figgroup")
+    with open(program, "w") as file:
+        file.write(f'#!/bin/sh\nexec "{root}/figgroup" "$@"\n')
+    os.chmod(program, 0o755)
+    script = "".join(f"{command}\necho '{MARK}'\n" for command in commands)
+    said = subprocess.run(
+        ["sh"], input=script, text=True, cwd=folder, stdout=subprocess.PIPE, stderr=subprocess.STDOUT, timeout=600
+    ).stdout
+    return said.split(MARK + "\n")
+
+
+def painted(folder, name):
+    """The bytes of the picture of this name that a command painted."""
+    for place, _, files in os.walk(folder):
+        if name + ".ppm" in files:
+            with open(os.path.join(place, name + ".ppm"), "rb") as file:
+                return file.read()
+    return b""
+
+
+def main():
+    name, root = sys.argv[1], os.path.abspath(sys.argv[2])
+    with open(name) as file:
+        page = file.read()
+    told = list(steps(page))
+    failed = 0
+    with tempfile.TemporaryDirectory() as folder:
+        came = run([command for command, _ in told], root, folder)
+        for (command, output), said in zip(told, came):
+            if said != output:
+                failed += 1
+                print(f"$ {command}\n{said}and not\n{output}", file=sys.stderr)
+        for link in re.findall(r"!\[[^\]]*\]\(([^)]*\.png)\)", page):
+            picture = os.path.join(os.path.dirname(name), link)
+            pixels = subprocess.run(
+                ["python3", os.path.join(root, "examples", "pixels.py"), picture], stdout=subprocess.PIPE, check=True
+            ).stdout
+            if pixels != painted(folder, os.path.basename(link)[: -len(".png")]):
+                failed += 1
+                print(f"{link} is another picture", file=sys.stderr)
+    sys.exit(1 if failed or len(came) != len(told) + 1 else 0)
+
+
+main()
