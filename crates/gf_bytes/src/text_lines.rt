@@ -1,12 +1,13 @@
 //! The lines of a text, one after the other.
 
 ghost use Rattle.std.specs.Prelude.{◌≡◌, ◌<◌, ◌≤◌, ◌+◌, ◌-◌, ◌∷◌, [], ◌^◌, length, take, drop, ℕ};
-ghost use Rattle.std.specs.Prelude.{IfSome, IfNone};
+ghost use Rattle.std.specs.Prelude.{IfOk, IfSome, IfNone, map};
 ghost use Rattle.std.specs.List.{position};
 ghost use Rattle.gf_bytes.specs.LineCutting.{IsNext, IsPlaced, with_line};
 ghost use Rattle.gf_bytes.specs.TextLines.{is_blank, is_line_end, numbered_from, numbered_lines};
 
 use memchr::memchr;
+use std::alloc::{AllocError, Global};
 use std::marker::Model;
 
 /// What was given of a text is forgotten from this many bytes on.
@@ -63,6 +64,14 @@ impl TextLines {
             return None;
         }
         Some((self.next.number, &left[..self.next.size]))
+    }
+
+    /// The first `most` of them, or all where they are fewer, without their numbers.
+    pub fn block(&self, alloc: Global, most: usize) -> Result<Vec<&[u8]>, AllocError>
+        ensures { IfOk result (λ block.
+            map (λ line. line.now) block.items ≡ map (λ line. line.1) (take most self.now)) }
+    {
+        first_lines(alloc, &self.text[self.next.start..], self.next.number, most)
     }
 
     /// Goes on to the line behind the first.
@@ -145,6 +154,42 @@ fn next_line(text: &[u8], number: u64) -> Option<NextLine<'_>>
         number += 1;
     }
     None
+}
+
+/// What stands in a text behind its first line, which has so many bytes.
+fn behind(text: &[u8], size: usize) -> &[u8]
+    ensures { result.now ≡ drop (size + 1) text.now }
+{
+    if size < text.len() {
+        &text[size + 1..]
+    } else {
+        &[]
+    }
+}
+
+/// The first `most` lines of a text that are not blank, where its first line has this number.
+fn first_lines(
+    alloc: Global,
+    text: &[u8],
+    number: u64,
+    most: usize,
+) -> Result<Vec<&[u8]>, AllocError>
+    requires { number + length text.now < 2 ^ 64 }
+    ensures { IfOk result (λ block. map (λ line. line.now) block.items
+        ≡ map (λ line. line.1) (take most (numbered_from number text.now))) }
+{
+    let mut block = Vec::new(alloc);
+    let mut left = text;
+    let mut number = number;
+    while block.len() < most {
+        let Some(next) = next_line(left, number) else {
+            break;
+        };
+        block.push(next.line)?;
+        left = behind(next.from, next.line.len());
+        number = next.number + 1;
+    }
+    Ok(block)
 }
 
 fn is_blank(line: &[u8]) -> bool

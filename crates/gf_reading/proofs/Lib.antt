@@ -3,3 +3,4 @@ pub mod ReadingLemmas
 pub mod SameLemmas
 pub mod RefusalLemmas
 pub mod ByteLemmas
+pub mod BlockLemmas

@@ -3,3 +3,4 @@ pub mod Refusing
 pub mod Taking
 pub mod Waiting
 pub mod LineSteps
+pub mod Blocks

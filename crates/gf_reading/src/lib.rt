@@ -6,6 +6,7 @@
 //! - [`ReadingError`], [`LineCause`]: why lines are no history.
 #![tactic(auto)]
 
+mod blocks;
 mod reading;
 mod reading_error;
 mod taking;

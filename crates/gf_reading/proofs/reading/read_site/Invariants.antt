@@ -2,8 +2,8 @@ use Rattle.std.proofs.Common.{length}
 use Rattle.gf_reading.specs.LineSteps.{HasRead}
 use Rattle.gf_reading.proofs.reading.read_site.Given as goal
 
-abbrev pub invariant-loop-number : goal.invariant-loop-number
-invariant-loop-number l = HasRead l.fn.text.items l.lines l.site
+abbrev pub invariant-loop-readings : goal.invariant-loop-readings
+invariant-loop-readings g l = HasRead l.fn.text.items l.lines l.site
 
-abbrev pub decreases-loop-number : goal.decreases-loop-number
-decreases-loop-number l = length l.lines
+abbrev pub decreases-loop-readings : goal.decreases-loop-readings
+decreases-loop-readings g l = length l.lines
