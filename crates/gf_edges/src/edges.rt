@@ -50,6 +50,13 @@ impl Edges {
         Ok(Edges { edges })
     }
 
+    /// How many there are.
+    pub fn len(&self) -> usize
+        ensures { result ≡ length self.now }
+    {
+        self.edges.len()
+    }
+
     /// From the leftmost of their points to the rightmost: what they tell a row of lies between
     /// these.
     pub fn reach(&self) -> Span

@@ -46,18 +46,18 @@ tell_row f None low high y a b h = h
 tell_row f (Some es) low high y a b h = h y a b
 
 -- beside the columns of a span that has all that is held in a row nothing is held there
-pub beside_columns : (f : Point → Bool) (w : View) (j from len : ℕ) (s : Span) (c : Columns) → ((x : ℤ) → f (record { x = x; y = line w j }) ≡ true → is_in_span x s ≡ true) → ((k : ℕ) → k < len → is_among c k ≡ is_in_span (column w (from + k)) s) → (k : ℕ) → k < len → is_among c k ≡ false → f (sample w (from + k) j) ≡ false
-beside_columns f w j from len s c reach covers k l out = elim (cases_Bool (f (sample w (from + k) j))) [
-  | inl t ↦ absurd (true_not_false (sym (covers k l ∙ reach (column w (from + k)) t) ∙ out))
+pub beside_columns : (f : Point → Bool) (w : View) (j : ℕ) (s : Span) (c : Columns) → ((x : ℤ) → f (record { x = x; y = line w j }) ≡ true → is_in_span x s ≡ true) → ((k : ℕ) → k < w.width → is_among c k ≡ is_in_span (column w k) s) → (k : ℕ) → k < w.width → is_among c k ≡ false → f (sample w k j) ≡ false
+beside_columns f w j s c reach covers k l out = elim (cases_Bool (f (sample w k j))) [
+  | inl t ↦ absurd (true_not_false (sym (covers k l ∙ reach (column w k) t) ∙ out))
   | inr t ↦ t
 ]
 
 module _ {S : Type 0} (holds : S → Point → Bool) (w : View) where
   -- a layer that reaches no row of the part
-  pub unseen_beside : (top count from len : ℕ) (l : Layer S) (b : Bounds) → 1 ≤ count → IsBounds (holds l.shape.now) b → reaches (line w top) (line w (top + count - 1)) b ≡ false → IsUnseen holds w top count from len l
-  unseen_beside top count from len l b one bounds out = λ j k low high in_it. elim (cases_Bool (holds l.shape.now (sample w (from + k) j))) [
+  pub unseen_beside : (top count : ℕ) (l : Layer S) (b : Bounds) → 1 ≤ count → IsBounds (holds l.shape.now) b → reaches (line w top) (line w (top + count - 1)) b ≡ false → IsUnseen holds w top count l
+  unseen_beside top count l b one bounds out = λ j k low high in_it. elim (cases_Bool (holds l.shape.now (sample w k j))) [
     | inl t ↦
-        let it = bounds.within (sample w (from + k) j) t in
+        let it = bounds.within (sample w k j) t in
         let above = line_later w top j low in
         let below = line_later w j (top + count - 1) (omega arith) in
         let up : b.low.y ≤ℤ line w j = it.top in
@@ -70,13 +70,13 @@ module _ {S : Type 0} (holds : S → Point → Bool) (w : View) where
       meet b low y high f g h i = grind (arith, ints)
 
   -- a layer whose bounds cover no column
-  pub unseen_narrow : (top count from len : ℕ) (l : Layer S) (b : Bounds) (c : Columns) → IsBounds (holds l.shape.now) b → ((k : ℕ) → k < len → is_among c k ≡ is_in_span (column w (from + k)) (record { first = b.low.x; last = b.high.x })) → c.to ≤ c.from → IsUnseen holds w top count from len l
-  unseen_narrow top count from len l b c bounds covers none = λ j k low high in_it. elim (cases_Bool (holds l.shape.now (sample w (from + k) j))) [
+  pub unseen_narrow : (top count : ℕ) (l : Layer S) (b : Bounds) (c : Columns) → IsBounds (holds l.shape.now) b → ((k : ℕ) → k < w.width → is_among c k ≡ is_in_span (column w k) (record { first = b.low.x; last = b.high.x })) → c.to ≤ c.from → IsUnseen holds w top count l
+  unseen_narrow top count l b c bounds covers none = λ j k low high in_it. elim (cases_Bool (holds l.shape.now (sample w k j))) [
     | inl t ↦
-        let it = bounds.within (sample w (from + k) j) t in
-        let left : b.low.x ≤ℤ column w (from + k) = it.left in
-        let right : column w (from + k) ≤ℤ b.high.x = it.right in
-        let e : is_in_span (column w (from + k)) (record { first = b.low.x; last = b.high.x }) ≡ true = in_bounds (column w (from + k)) b left right in
+        let it = bounds.within (sample w k j) t in
+        let left : b.low.x ≤ℤ column w k = it.left in
+        let right : column w k ≤ℤ b.high.x = it.right in
+        let e : is_in_span (column w k) (record { first = b.low.x; last = b.high.x }) ≡ true = in_bounds (column w k) b left right in
         absurd (true_not_false (sym (covers k in_it ∙ e) ∙ empty c k none))
     | inr t ↦ t
   ]
@@ -85,8 +85,8 @@ module _ {S : Type 0} (holds : S → Point → Bool) (w : View) where
       empty c k l = grind (arith, nat_tests)
 
   -- a piece changes its columns alone
-  pub piece_columns : (j from len : ℕ) (p : Piece S) (behind : ℕ → Rgb) → IsPiece holds w j from len p → AreSameOutside p.columns len (layer_over holds w j from behind p.layer.now) behind
-  piece_columns j from len p behind h = λ k l out. rw (h.columns k l out) refl
+  pub piece_columns : (j : ℕ) (p : Piece S) (behind : ℕ → Rgb) → IsPiece holds w j p → AreSameOutside p.columns w.width (layer_over holds w j behind p.layer.now) behind
+  piece_columns j p behind h = λ k l out. rw (h.columns k l out) refl
 
   -- a layer that does not hold a point changes no colour there
   unseen_at : (xs rest : List (Layer S)) (l : Layer S) (p : Point) → holds l.shape.now p ≡ false → layered holds (xs ++ rest) p ≡ layered holds (xs ++ l ∷ rest) p
@@ -94,12 +94,12 @@ module _ {S : Type 0} (holds : S → Point → Bool) (w : View) where
   unseen_at (x ∷ xs) rest l p e = ap (λ c. if holds x.shape.now p then x.brush else c) (unseen_at xs rest l p e)
 
   -- a layer that is not seen in the part may be left out
-  pub seen_without : (top count from len : ℕ) (xs rest : List (Layer S)) (l : Layer S) → IsUnseen holds w top count from len l → AreSeen holds w top count from len (xs ++ l ∷ rest) (xs ++ rest)
-  seen_without top count from len xs rest l h = λ j k low high in_it. unseen_at xs rest l (sample w (from + k) j) (h j k low high in_it)
+  pub seen_without : (top count : ℕ) (xs rest : List (Layer S)) (l : Layer S) → IsUnseen holds w top count l → AreSeen holds w top count (xs ++ l ∷ rest) (xs ++ rest)
+  seen_without top count xs rest l h = λ j k low high in_it. unseen_at xs rest l (sample w k j) (h j k low high in_it)
 
   -- a layer that is kept
-  pub seen_with : (top count from len : ℕ) (ps : List (Piece S)) (p : Piece S) (rest : List (Layer S)) (l : Layer S) → p.layer.now ≡ l → AreSeen holds w top count from len (layers_of ps ++ l ∷ rest) (layers_of (ps ++ p ∷ []) ++ rest)
-  seen_with top count from len ps p rest l e = λ j k low high in_it. ap (λ (ls : List (Layer S)). row_colours holds ls w j from k) (moved ps p rest l e)
+  pub seen_with : (top count : ℕ) (ps : List (Piece S)) (p : Piece S) (rest : List (Layer S)) (l : Layer S) → p.layer.now ≡ l → AreSeen holds w top count (layers_of ps ++ l ∷ rest) (layers_of (ps ++ p ∷ []) ++ rest)
+  seen_with top count ps p rest l e = λ j k low high in_it. ap (λ (ls : List (Layer S)). row_colours holds ls w j k) (moved ps p rest l e)
     where
       moved : (ps : List (Piece S)) (p : Piece S) (rest : List (Layer S)) (l : Layer S) → p.layer.now ≡ l → layers_of (ps ++ p ∷ []) ++ rest ≡ layers_of ps ++ l ∷ rest
       moved [] p rest l e = ap (λ x. x ∷ rest) e

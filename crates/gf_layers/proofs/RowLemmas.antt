@@ -1,7 +1,7 @@
 -- Rows painted span by span and piece by piece.
-use Rattle.std.specs.Prelude.{ℕ, ◌≡◌, ◌≤◌, ◌<◌, ◌+◌, zero, suc, Bool, true, false, ◌&&◌, ◌||◌, int_le, ◌≤ℤ◌, List, ◌++◌, drop, length, if◌then◌else◌, ℤ, refl}
+use Rattle.std.specs.Prelude.{ℕ, ◌≡◌, ◌≤◌, ◌<◌, ◌+◌, Bool, true, false, ◌&&◌, ◌||◌, int_le, ◌≤ℤ◌, List, drop, length, if◌then◌else◌, ℤ, refl}
 use Rattle.std.specs.List.{list_any}
-use Rattle.std.proofs.Common.{arith, ap, sym, inl, inr, get_or, ◌∙◌}
+use Rattle.std.proofs.Common.{arith, sym, inl, inr, get_or, ◌∙◌}
 use Rattle.std.proofs.lemmas.Bool.{cases_Bool}
 use Rattle.std.proofs.lemmas.Int.{ints}
 use Rattle.std.proofs.lemmas.List.{at_drop_more}
@@ -13,8 +13,7 @@ use Rattle.gf_shape.specs.declared.colour.Rgb.{Rgb}
 use Rattle.gf_shape.specs.declared.point.Point.{Point}
 use Rattle.gf_shape.specs.Rows.{IsRow}
 use Rattle.gf_shape.specs.ShapeLaws.{IsBounds}
-use Rattle.gf_strips.specs.Pixels.{pixel, pixels}
-use Rattle.gf_strips.specs.Strips.{Shown, is_free, over, IsPainted}
+use Rattle.gf_strips.specs.Strips.{Shown, over, IsPainted}
 use Rattle.gf_versions.specs.HistoryColour.{white}
 use Rattle.gf_window.specs.Windows.{View, column, line, sample}
 use Rattle.gf_layers.specs.declared.layer.Layer.{Layer}
@@ -25,9 +24,9 @@ use Rattle.gf_layers.specs.Pieces.{layers_of}
 -- what lies behind may be said in other words
 pub painted_same : (target behind other : ℕ → Rgb) (n : ℕ) (strip : Shown) → ((k : ℕ) → k < n → behind k ≡ other k) → IsPainted target behind n strip → IsPainted target other n strip
 painted_same target behind other n strip e h = record {
-  now = h.now;
-  bytes = h.bytes;
-  shows = λ k l. h.shows k l ∙ ap (λ c. if is_free strip.free k then c else h.now k) (e k l);
+  free = λ k l f. sym (e k l) ∙ h.free k l f;
+  whole = h.whole;
+  colours = h.colours;
 }
 
 -- one span of several
@@ -47,14 +46,14 @@ spans_done target behind c place ss i n strip l h = painted_same target (over (�
 
 module _ {S : Type 0} (holds : S → Point → Bool) where
   -- a layer over the columns of its row
-  pub layer_row : (w : View) (j from : ℕ) (behind : ℕ → Rgb) (l : Layer S) (y : ℤ) (ss : List Span) → y ≡ line w j → IsRow (holds l.shape.now) y ss → (k : ℕ) → layer_over holds w j from behind l k ≡ over (λ k. list_any (is_in_span (column w (from + k))) ss) l.brush behind k
-  layer_row w j from behind l y ss e row k = let x = row.exact (column w (from + k)) in rw (x, e) refl
+  pub layer_row : (w : View) (j : ℕ) (behind : ℕ → Rgb) (l : Layer S) (y : ℤ) (ss : List Span) → y ≡ line w j → IsRow (holds l.shape.now) y ss → (k : ℕ) → layer_over holds w j behind l k ≡ over (λ k. list_any (is_in_span (column w k)) ss) l.brush behind k
+  layer_row w j behind l y ss e row k = let x = row.exact (column w k) in rw (x, e) refl
 
   -- a layer that does not reach the row
-  pub layer_outside : (w : View) (j from : ℕ) (behind : ℕ → Rgb) (l : Layer S) (y : ℤ) (b : Bounds) → y ≡ line w j → IsBounds (holds l.shape.now) b → (int_le b.low.y y && int_le y b.high.y) ≡ false → (k : ℕ) → layer_over holds w j from behind l k ≡ behind k
-  layer_outside w j from behind l y b e bounds out k = elim (cases_Bool (holds l.shape.now (sample w (from + k) j))) [
+  pub layer_outside : (w : View) (j : ℕ) (behind : ℕ → Rgb) (l : Layer S) (y : ℤ) (b : Bounds) → y ≡ line w j → IsBounds (holds l.shape.now) b → (int_le b.low.y y && int_le y b.high.y) ≡ false → (k : ℕ) → layer_over holds w j behind l k ≡ behind k
+  layer_outside w j behind l y b e bounds out k = elim (cases_Bool (holds l.shape.now (sample w k j))) [
     | inl t ↦
-        let in_it = bounds.within (sample w (from + k) j) t in
+        let in_it = bounds.within (sample w k j) t in
         let top : b.low.y ≤ℤ y = rw e in_it.top in
         let bottom : y ≤ℤ b.high.y = rw e in_it.bottom in
         let all : (int_le b.low.y y && int_le y b.high.y) ≡ true = grind (arith, ints) in
@@ -66,23 +65,9 @@ module _ {S : Type 0} (holds : S → Point → Bool) where
       true_not_false e = grind arith
 
   -- the next piece
-  pub pieces_next : (w : View) (j from : ℕ) (ps : List (Piece S)) (i : ℕ) (d : Piece S) (k : ℕ) → i < length ps → row_colours holds (layers_of (drop i ps)) w j from k ≡ layer_over holds w j from (row_colours holds (layers_of (drop (i + 1) ps)) w j from) (get_or ps i d).layer.now k
-  pieces_next w j from ps i d k l = at_drop_more (λ (xs : List (Piece S)). layered holds (layers_of xs) (sample w (from + k) j)) ps i d l
+  pub pieces_next : (w : View) (j : ℕ) (ps : List (Piece S)) (i : ℕ) (d : Piece S) (k : ℕ) → i < length ps → row_colours holds (layers_of (drop i ps)) w j k ≡ layer_over holds w j (row_colours holds (layers_of (drop (i + 1) ps)) w j) (get_or ps i d).layer.now k
+  pieces_next w j ps i d k l = at_drop_more (λ (xs : List (Piece S)). layered holds (layers_of xs) (sample w k j)) ps i d l
 
   -- no piece is left
-  pub pieces_done : (target : ℕ → Rgb) (w : View) (j from : ℕ) (ps : List (Piece S)) (i n : ℕ) (strip : Shown) → length ps ≤ i → IsPainted target (row_colours holds (layers_of (drop i ps)) w j from) n strip → IsPainted target (λ _. white) n strip
-  pieces_done target w j from ps i n strip l h = painted_same target (row_colours holds (layers_of (drop i ps)) w j from) (λ _. white) n strip (λ k m. rw (drop_of_length-le ps l) refl) h
-
--- the columns from one on
-pub shifted : (f : ℕ → Rgb) (m i n : ℕ) → pixels (λ k. f (m + k)) i n ≡ pixels f (m + i) n
-shifted f m i zero = refl
-shifted f m i (suc n) = ap (λ xs. pixel (f (m + i)) ++ xs) (shifted f m (i + 1) n ∙ ap (λ j. pixels f j n) (moved m i))
-  where
-    moved : (m i : ℕ) → m + (i + 1) ≡ (m + i) + 1
-    moved m i = omega arith
-
-pub shifted_none : (f : ℕ → Rgb) (m n : ℕ) → pixels (λ k. f (m + k)) 0 n ≡ pixels f m n
-shifted_none f m n = shifted f m 0 n ∙ ap (λ j. pixels f j n) (none m)
-  where
-    none : (m : ℕ) → m + 0 ≡ m
-    none m = omega arith
+  pub pieces_done : (target : ℕ → Rgb) (w : View) (j : ℕ) (ps : List (Piece S)) (i n : ℕ) (strip : Shown) → length ps ≤ i → IsPainted target (row_colours holds (layers_of (drop i ps)) w j) n strip → IsPainted target (λ _. white) n strip
+  pieces_done target w j ps i n strip l h = painted_same target (row_colours holds (layers_of (drop i ps)) w j) (λ _. white) n strip (λ k m. rw (drop_of_length-le ps l) refl) h

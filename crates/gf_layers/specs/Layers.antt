@@ -1,5 +1,5 @@
 -- Layers over a white ground, the foremost first (this project's choice).
-use Rattle.std.specs.Prelude.{◌≡◌, ℕ, ◌+◌, Bool, All, List, [], ◌∷◌}
+use Rattle.std.specs.Prelude.{◌≡◌, ℕ, Bool, All, List, [], ◌∷◌}
 use Rattle.std.specs.Prelude.{if◌then◌else◌}
 use Rattle.gf_shape.specs.declared.colour.Rgb.{Rgb}
 use Rattle.gf_shape.specs.declared.point.Point.{Point}
@@ -27,10 +27,10 @@ module _ {S : Type 0} (holds : S → Point → Bool) where
   layered [] p = white
   layered (l ∷ ls) p = painted p (layered ls p) l
 
-  -- the colours of row j from a column on
-  abbrev pub row_colours : List (Layer S) → View → ℕ → ℕ → ℕ → Rgb
-  row_colours ls w j from k = layered ls (sample w (from + k) j)
+  -- the colours of row j
+  abbrev pub row_colours : List (Layer S) → View → ℕ → ℕ → Rgb
+  row_colours ls w j k = layered ls (sample w k j)
 
   -- the colours there where the layer l is painted over others
-  abbrev pub layer_over : View → ℕ → ℕ → (ℕ → Rgb) → Layer S → ℕ → Rgb
-  layer_over w j from behind l k = painted (sample w (from + k) j) (behind k) l
+  abbrev pub layer_over : View → ℕ → (ℕ → Rgb) → Layer S → ℕ → Rgb
+  layer_over w j behind l k = painted (sample w k j) (behind k) l

@@ -6,21 +6,17 @@ use Rattle.gf_layers.specs.declared.layer.Layer.{Layer}
 use Rattle.gf_layers.specs.declared.piece.Piece.{Piece}
 use Rattle.gf_layers.specs.Pieces.{AreSeen, IsPiece, layers_of}
 
--- some rows of a window from top on, some columns from a first one on, and the layers that are seen
--- there
+-- some rows of a window from top on, and the layers that are seen there
 pub record PartView (S : Type 0) : Type 0 where
   pub layers : List (Layer S)
   pub window : View
   pub top : ℕ
   pub count : ℕ
-  pub from : ℕ
-  pub len : ℕ
 
 module _ {S : Type 0} (holds : S → Point → Bool) where
   -- the pieces have, in the part, the colours of all layers, and each row of theirs can be found
-  pub record IsPart (all : List (Layer S)) (w : View) (top count from len : ℕ)
+  pub record IsPart (all : List (Layer S)) (w : View) (top count : ℕ)
       (ps : List (Piece S)) : Type 0 where
     pub rows : top + count ≤ w.height
-    pub columns : len ≤ 4096
-    pub pieces : (j : ℕ) → top ≤ j → j < top + count → All (IsPiece holds w j from len) ps
-    pub seen : AreSeen holds w top count from len all (layers_of ps)
+    pub pieces : (j : ℕ) → top ≤ j → j < top + count → All (IsPiece holds w j) ps
+    pub seen : AreSeen holds w top count all (layers_of ps)

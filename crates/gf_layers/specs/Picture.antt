@@ -4,12 +4,18 @@ use Rattle.std.specs.List.{range_with_len}
 use Rattle.std.specs.Fmt.{decimal}
 use Rattle.gf_shape.specs.declared.colour.Rgb.{Rgb}
 use Rattle.gf_shape.specs.declared.point.Point.{Point}
+use Rattle.gf_strips.specs.declared.stroke.Stroke.{Stroke}
 use Rattle.gf_strips.specs.Pixels.{pixels}
+use Rattle.gf_strips.specs.Strokes.{AreStrokesOf}
 use Rattle.gf_window.specs.Windows.{View, sample}
 
 -- the pixels of row j from column i on, n of them
 abbrev pub cells : (Point → Rgb) → View → ℕ → ℕ → ℕ → List ℕ
 cells colour w j i n = pixels (λ k. colour (sample w k j)) i n
+
+-- the strokes have the colours of row j
+abbrev pub ShowsRow : (Point → Rgb) → View → ℕ → List Stroke → Type 0
+ShowsRow colour w j strokes = AreStrokesOf (λ k. colour (sample w k j)) w.width strokes
 
 -- the rows from row j on, n of them
 abbrev pub rows : (Point → Rgb) → View → ℕ → ℕ → List ℕ

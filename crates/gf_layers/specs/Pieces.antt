@@ -1,4 +1,4 @@
--- What a part of a window has of layers: some columns of some rows (this project's choice).
+-- What some rows of a window have of layers (this project's choice).
 use Rattle.std.specs.Prelude.{◌≡◌, ℕ, ℤ, ◌+◌, ◌≤◌, ◌<◌, ◌&&◌, Bool}
 use Rattle.std.specs.Prelude.{false, int_le, List, map, IfSome}
 use Rattle.gf_shape.specs.declared.bounds.Bounds.{Bounds}
@@ -22,18 +22,18 @@ layers_of ps = map (λ p. p.layer.now) ps
 module _ {S : Type 0} (holds : S → Point → Bool) (w : View) where
   -- the piece's bounds are its layer's, its columns have all that the layer holds in the row j, and
   -- its edges tell that row
-  pub record IsPiece (j from len : ℕ) (p : Piece S) : Type 0 where
+  pub record IsPiece (j : ℕ) (p : Piece S) : Type 0 where
     pub bounds : IsBounds (holds p.layer.now.shape.now) p.bounds
-    pub columns : (k : ℕ) → k < len → is_among p.columns k ≡ false
-        → holds p.layer.now.shape.now (sample w (from + k) j) ≡ false
+    pub columns : (k : ℕ) → k < w.width → is_among p.columns k ≡ false
+        → holds p.layer.now.shape.now (sample w k j) ≡ false
     pub edges : IfSome p.edges (λ es. TellsRow (holds p.layer.now.shape.now) (line w j) es)
 
   -- the layer holds no point of the part
-  abbrev pub IsUnseen : ℕ → ℕ → ℕ → ℕ → Layer S → Type 0
-  IsUnseen top count from len l = (j k : ℕ) → top ≤ j → j < top + count → k < len
-      → holds l.shape.now (sample w (from + k) j) ≡ false
+  abbrev pub IsUnseen : ℕ → ℕ → Layer S → Type 0
+  IsUnseen top count l = (j k : ℕ) → top ≤ j → j < top + count → k < w.width
+      → holds l.shape.now (sample w k j) ≡ false
 
   -- some layers have, in the part, the colours of all
-  abbrev pub AreSeen : ℕ → ℕ → ℕ → ℕ → List (Layer S) → List (Layer S) → Type 0
-  AreSeen top count from len all some = (j k : ℕ) → top ≤ j → j < top + count → k < len
-      → row_colours holds some w j from k ≡ row_colours holds all w j from k
+  abbrev pub AreSeen : ℕ → ℕ → List (Layer S) → List (Layer S) → Type 0
+  AreSeen top count all some = (j k : ℕ) → top ≤ j → j < top + count → k < w.width
+      → row_colours holds some w j k ≡ row_colours holds all w j k

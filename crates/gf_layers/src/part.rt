@@ -1,16 +1,16 @@
-//! A part of a window: some columns of some rows.
+//! A part of a window: some of its rows.
 
 ghost use Rattle.std.specs.Prelude.{◌≡◌, ℕ, ◌+◌, ◌≤◌, ◌<◌, ◌++◌, ◌∷◌, OnOk, IfOk, All, List};
 ghost use Rattle.gf_layers.specs.declared.layer.Layer.{Layer as TheLayer};
 ghost use Rattle.gf_layers.specs.Layers.{HasBounds, layered};
-ghost use Rattle.gf_layers.specs.Picture.{cells};
+ghost use Rattle.gf_layers.specs.Picture.{ShowsRow};
 ghost use Rattle.gf_layers.specs.Pieces.{AreSeen, IsPiece, layers_of};
 
 use crate::piece::{Piece, piece_of};
 use crate::row::paint_pieces;
 use crate::{Layer, Layers, Workspace};
 use gf_shape::{OutOfMemory, Shape};
-use gf_strips::Strip;
+use gf_strips::{Strip, Stroke};
 use gf_window::Window;
 use std::alloc::Global;
 use std::marker::Model;
@@ -22,8 +22,6 @@ pub struct Part<'l, 'a, S: Shape> {
     window: Window,
     top: usize,
     count: usize,
-    from: usize,
-    len: usize,
     pieces: Vec<Piece<'l, 'a, S>>,
 }
 
@@ -37,82 +35,94 @@ impl<'l, 'a, S: Shape> Model for Part<'l, 'a, S> {
       window = p.window;
       top = p.top;
       count = p.count;
-      from = p.from;
-      len = p.len;
     } };
 
-    ghost invariant = { λ p. IsPart S.holds p.layers.now p.window p.top p.count p.from p.len
-        p.pieces.items };
+    ghost invariant = { λ p. IsPart S.holds p.layers.now p.window p.top p.count p.pieces.items };
 }
 
 impl<'a, S: Shape> Layers<'a, S> {
-    /// What the rows of a window from `top` on, `count` of them, have of the layers in `len`
-    /// columns from `from` on: the layers whose bounds meet these, and of their polygons the edges
-    /// that come between the rows.
+    /// What the rows of a window from `top` on, `count` of them, have of the layers: those whose
+    /// bounds meet these rows, and of their polygons the edges that come between the rows.
     pub fn part<'l>(
         &'l self,
         alloc: Global,
         window: Window,
         top: usize,
         count: usize,
-        from: usize,
-        len: usize,
     ) -> Result<Part<'l, 'a, S>, OutOfMemory>
-        requires rows { (1 ≤ count) × (top + count ≤ window.height) }
-        requires columns { len ≤ 4096 }
+        requires { (1 ≤ count) × (top + count ≤ window.height) }
         ensures { IfOk result (λ part. part
             ≡ record {
               layers = self.now;
               window = window;
               top = top;
               count = count;
-              from = from;
-              len = len;
             }) }
     {
-        let pieces = pieces_of(alloc, &self.layers, window, top, count, from, len)?;
+        let pieces = pieces_of(alloc, &self.layers, window, top, count)?;
         Ok(Part {
             layers: self,
             window,
             top,
             count,
-            from,
-            len,
             pieces,
         })
     }
 }
 
 impl<'l, 'a, S: Shape> Part<'l, 'a, S> {
-    /// The bytes of row `j`, in the part's columns: each pixel is painted once, in the colour of
-    /// the foremost layer that holds its point.
+    /// What row `j` shows: of each column the colour of the foremost layer that holds its point.
     ///
     /// `strip` and `space` lend their memory.
-    pub fn paint_row<'s>(
+    pub fn row(
         &self,
         j: usize,
-        strip: &'s mut Strip,
+        strip: &mut Strip<'l>,
         space: &mut Workspace,
-    ) -> Result<&'s [u8], OutOfMemory>
+    ) -> Result<Vec<Stroke<'l>>, OutOfMemory>
         requires { (self.now.top ≤ j) × (j < self.now.top + self.now.count) }
-        ensures { IfOk result (λ bytes. bytes.now
-            ≡ cells (layered S.holds self.now.layers) self.now.window j self.now.from
-            self.now.len) }
+        ensures { IfOk result (λ strokes.
+            ShowsRow (layered S.holds self.now.layers) self.now.window j strokes.items) }
     {
-        strip.begin(self.len)?;
-        paint_pieces(
-            &self.pieces,
-            self.window,
-            j,
-            self.from,
-            self.len,
-            strip,
-            space,
-        )?;
+        strip.begin(self.window.width() as usize)?;
+        paint_pieces(&self.pieces, self.window, j, strip, space)?;
         let layers = self.layers;
-        let bytes = strip.finish(&layers.ground)?;
-        Ok(bytes)
+        let strokes = strip.finish(&layers.ground)?;
+        Ok(strokes)
     }
+
+    /// Which row is its first one.
+    pub fn top(&self) -> usize
+        ensures top { result ≡ self.now.top }
+        ensures within { self.now.top + self.now.count ≤ 4096 }
+    {
+        let _ = self.window.height();
+        self.top
+    }
+
+    /// How many rows it has.
+    pub fn count(&self) -> usize
+        ensures { result ≡ self.now.count }
+    {
+        self.count
+    }
+
+    /// How many layers and edges there are, among which each row is found: a measure of the work
+    /// for a row, of which nothing is proved.
+    pub fn size(&self) -> usize {
+        size_of(&self.pieces)
+    }
+}
+
+/// How many layers and edges the pieces have.
+fn size_of<S: Shape>(pieces: &[Piece<'_, '_, S>]) -> usize {
+    let mut count = pieces.len();
+    for piece in pieces {
+        if let Some(edges) = &piece.edges {
+            count = count.saturating_add(edges.len());
+        }
+    }
+    count
 }
 
 /// The pieces of layers in a part of a window.
@@ -122,19 +132,17 @@ fn pieces_of<'l, 'a, S: Shape>(
     window: Window,
     top: usize,
     count: usize,
-    from: usize,
-    len: usize,
 ) -> Result<Vec<Piece<'l, 'a, S>>, OutOfMemory>
     requires rows { (1 ≤ count) × (top + count ≤ window.height) }
     requires bounds { All (HasBounds S.holds) layers.now }
     ensures pieces { IfOk result (λ ps. (j : ℕ) → top ≤ j → j < top + count
-        → All (IsPiece S.holds window j from len) ps.items) }
+        → All (IsPiece S.holds window j) ps.items) }
     ensures seen { IfOk result (λ ps.
-        AreSeen S.holds window top count from len layers.now (layers_of ps.items)) }
+        AreSeen S.holds window top count layers.now (layers_of ps.items)) }
 {
     let mut pieces = Vec::new(alloc);
     for layer in layers {
-        add_piece(alloc, layer, window, top, count, from, len, &mut pieces)?;
+        add_piece(alloc, layer, window, top, count, &mut pieces)?;
     }
     Ok(pieces)
 }
@@ -146,20 +154,18 @@ fn add_piece<'l, 'a, S: Shape>(
     window: Window,
     top: usize,
     count: usize,
-    from: usize,
-    len: usize,
     pieces: &mut Vec<Piece<'l, 'a, S>>,
 ) -> Result<(), OutOfMemory>
     requires rows { (1 ≤ count) × (top + count ≤ window.height) }
     requires bounds { HasBounds S.holds layer.now }
     ensures pieces { OnOk result ((j : ℕ) → top ≤ j → j < top + count
-        → All (IsPiece S.holds window j from len) pieces.old.items
-        → All (IsPiece S.holds window j from len) pieces.new.items) }
+        → All (IsPiece S.holds window j) pieces.old.items
+        → All (IsPiece S.holds window j) pieces.new.items) }
     ensures seen { OnOk result ((rest : List (TheLayer S))
-        → AreSeen S.holds window top count from len (layers_of pieces.old.items ++ layer.now ∷ rest)
+        → AreSeen S.holds window top count (layers_of pieces.old.items ++ layer.now ∷ rest)
         (layers_of pieces.new.items ++ rest)) }
 {
-    if let Some(piece) = piece_of(alloc, layer, window, top, count, from, len)? {
+    if let Some(piece) = piece_of(alloc, layer, window, top, count)? {
         pieces.push(piece)?;
     }
     Ok(())

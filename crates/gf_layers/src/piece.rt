@@ -27,24 +27,22 @@ pub(crate) struct Piece<'l, 'a, S> {
     pub edges: Option<Edges>,
 }
 
-/// What the rows from `top` on, `count` of them, have of a layer in `len` columns from `from` on.
+/// What the rows from `top` on, `count` of them, have of a layer.
 pub(crate) fn piece_of<'l, 'a, S: Shape>(
     alloc: Global,
     layer: &'l Layer<'a, S>,
     window: Window,
     top: usize,
     count: usize,
-    from: usize,
-    len: usize,
 ) -> Result<Option<Piece<'l, 'a, S>>, OutOfMemory>
     requires rows { (1 ≤ count) × (top + count ≤ window.height) }
     requires bounds { HasBounds S.holds layer.now }
     ensures layer { IfOk result (λ found. IfSome found (λ p. p.layer.now ≡ layer.now)) }
     ensures some { IfOk result (λ found.
         IfSome found (λ p. (j : ℕ) → top ≤ j → j < top + count
-        → IsPiece S.holds window j from len p)) }
+        → IsPiece S.holds window j p)) }
     ensures none { IfOk result (λ found. found ≡ None
-        → IsUnseen S.holds window top count from len layer.now) }
+        → IsUnseen S.holds window top count layer.now) }
 {
     let bounds = layer.bounds;
     let low = window.line(top);
@@ -52,12 +50,12 @@ pub(crate) fn piece_of<'l, 'a, S: Shape>(
     if !reaches(bounds, low, high) {
         return Ok(None);
     }
-    let columns = window.columns(from, len, across(bounds));
+    let columns = window.columns(across(bounds));
     if columns.to <= columns.from {
         return Ok(None);
     }
     let edges = edges(alloc, layer.shape, low, high)?;
-    let columns = window.columns(from, len, reach(bounds, &edges));
+    let columns = window.columns(reach(bounds, &edges));
     Ok(Some(Piece {
         layer,
         bounds,

@@ -1,6 +1,6 @@
 //! A row of pieces, painted from the front.
 
-ghost use Rattle.std.specs.Prelude.{◌≡◌, ℕ, ◌+◌, ◌<◌, OnOk, All};
+ghost use Rattle.std.specs.Prelude.{◌≡◌, ℕ, ◌<◌, OnOk, All};
 ghost use Rattle.std.specs.List.{list_any};
 ghost use Rattle.gf_rows.specs.Spans.{is_in_span};
 ghost use Rattle.gf_shape.specs.declared.colour.Rgb.{Rgb};
@@ -17,45 +17,42 @@ use gf_strips::{Brush, Strip};
 use gf_window::Window;
 
 /// Paints the pieces of row `j`, until no column is free.
-pub(crate) fn paint_pieces<S: Shape>(
-    pieces: &[Piece<'_, '_, S>],
+pub(crate) fn paint_pieces<'l, S: Shape>(
+    pieces: &[Piece<'l, '_, S>],
     window: Window,
     j: usize,
-    from: usize,
-    len: usize,
-    strip: &mut Strip,
+    strip: &mut Strip<'l>,
     space: &mut Workspace,
 ) -> Result<(), OutOfMemory>
     requires row { j < window.height }
-    requires pieces { All (IsPiece S.holds window j from len) pieces.now }
+    requires pieces { All (IsPiece S.holds window j) pieces.now }
     ensures { OnOk result ((target : ℕ → Rgb)
-        → IsPainted target (row_colours S.holds (layers_of pieces.now) window j from) len strip.old
-        → IsPainted target (λ _. white) len strip.new) }
+        → IsPainted target (row_colours S.holds (layers_of pieces.now) window j) window.width
+        strip.old
+        → IsPainted target (λ _. white) window.width strip.new) }
 {
     for piece in pieces {
         if strip.is_covered() {
             return Ok(());
         }
-        paint_piece(piece, window, j, from, len, strip, space)?;
+        paint_piece(piece, window, j, strip, space)?;
     }
     Ok(())
 }
 
 /// Paints a piece, where one of its columns is free.
-fn paint_piece<S: Shape>(
-    piece: &Piece<'_, '_, S>,
+fn paint_piece<'l, S: Shape>(
+    piece: &Piece<'l, '_, S>,
     window: Window,
     j: usize,
-    from: usize,
-    len: usize,
-    strip: &mut Strip,
+    strip: &mut Strip<'l>,
     space: &mut Workspace,
 ) -> Result<(), OutOfMemory>
     requires row { j < window.height }
-    requires piece { IsPiece S.holds window j from len piece.now }
+    requires piece { IsPiece S.holds window j piece.now }
     ensures { OnOk result ((target behind : ℕ → Rgb)
-        → IsPainted target (layer_over S.holds window j from behind piece.now.layer.now) len
-        strip.old → IsPainted target behind len strip.new) }
+        → IsPainted target (layer_over S.holds window j behind piece.now.layer.now)
+        window.width strip.old → IsPainted target behind window.width strip.new) }
 {
     let y = window.line(j);
     if !reaches(piece.bounds, y, y) {
@@ -65,41 +62,38 @@ fn paint_piece<S: Shape>(
         return Ok(());
     }
     let spans = spans(piece, y, space)?;
-    paint_spans(spans, window, from, len, &piece.layer.brush, strip)?;
+    let layer = piece.layer;
+    paint_spans(spans, window, &layer.brush, strip)?;
     Ok(())
 }
 
 /// Paints the columns that lie in spans.
-fn paint_spans(
+fn paint_spans<'l>(
     spans: &[Span],
     window: Window,
-    from: usize,
-    len: usize,
-    brush: &Brush,
-    strip: &mut Strip,
+    brush: &'l Brush,
+    strip: &mut Strip<'l>,
 ) -> Result<(), OutOfMemory>
     ensures { OnOk result ((target behind : ℕ → Rgb)
-        → IsPainted target (over (λ k. list_any (is_in_span (column window (from + k))) spans.now)
-        brush.now behind) len strip.old → IsPainted target behind len strip.new) }
+        → IsPainted target (over (λ k. list_any (is_in_span (column window k)) spans.now)
+        brush.now behind) window.width strip.old → IsPainted target behind window.width strip.new) }
 {
     for span in spans {
-        paint_span(*span, window, from, len, brush, strip)?;
+        paint_span(*span, window, brush, strip)?;
     }
     Ok(())
 }
 
-fn paint_span(
+fn paint_span<'l>(
     span: Span,
     window: Window,
-    from: usize,
-    len: usize,
-    brush: &Brush,
-    strip: &mut Strip,
+    brush: &'l Brush,
+    strip: &mut Strip<'l>,
 ) -> Result<(), OutOfMemory>
     ensures { OnOk result ((target behind : ℕ → Rgb)
-        → IsPainted target (over (λ k. is_in_span (column window (from + k)) span) brush.now behind)
-        len strip.old → IsPainted target behind len strip.new) }
+        → IsPainted target (over (λ k. is_in_span (column window k) span) brush.now behind)
+        window.width strip.old → IsPainted target behind window.width strip.new) }
 {
-    strip.paint(window.columns(from, len, span), brush)?;
+    strip.paint(window.columns(span), brush)?;
     Ok(())
 }

@@ -1,16 +1,16 @@
 -- Free columns that rise, cut and put together.
-use Rattle.std.proofs.Common.{◌≡◌, ℕ, zero, suc, ◌<◌, ◌≤◌, ◌+◌, ◌*◌, Bool, true, false, ◌&&◌, ◌||◌, not, List, [], ◌∷◌, ◌++◌, length, append_assoc, get_or, take, drop, max, min, nat_le, nat_lt, inl, inr, refl, sym, subst, ap, ◌∙◌, arith}
-use Rattle.std.specs.Prelude.{◌⊎◌, All, Contains}
+use Rattle.std.proofs.Common.{◌≡◌, ℕ, zero, suc, ◌<◌, ◌≤◌, ◌+◌, Bool, true, false, ◌&&◌, ◌||◌, not, List, [], ◌∷◌, ◌++◌, length, append_assoc, get_or, take, drop, max, min, nat_le, nat_lt, inl, inr, refl, sym, subst, ap, ◌∙◌, arith}
+use Rattle.std.specs.Prelude.{◌⊎◌, Contains}
 use Rattle.std.specs.List.{flat_map}
 use Rattle.std.proofs.lemmas.Bool.{cases_Bool, cases_lt, cond-true, cond-false}
 use Rattle.std.proofs.lemmas.Bool.Decides.{nat_tests}
-use Rattle.std.proofs.lemmas.List.Elements.{Contains-append_cases, Contains-append_left, Contains-append_right, Contains-get_or, All-contains}
+use Rattle.std.proofs.lemmas.List.Elements.{Contains-append_cases, Contains-append_left, Contains-append_right, Contains-get_or}
 use Rattle.std.proofs.lemmas.List.{append-nil, get_or-drop, get_or-take, length-drop, length-take-le, take_more}
 use Rattle.std.proofs.lemmas.Grind.{flat_map-append}
 use Rattle.std.proofs.lemmas.List.Folds.{list_any-append}
 use Rattle.gf_strips.specs.declared.columns.Columns.{Columns}
 use Rattle.gf_strips.specs.Free.{IsFirstBehind, IsFirstFrom, left_of, some_from}
-use Rattle.gf_strips.specs.Strips.{AreRising, Fits, is_among, is_free, is_from}
+use Rattle.gf_strips.specs.Strips.{AreRising, is_among, is_free, is_from}
 use Rattle.gf_strips.proofs.FreeLemmas.{free_more, none_between, pieces, whole}
 
 -- ---- what lists contain
@@ -157,26 +157,6 @@ module _ (c : Columns) (before met behind : List Columns) where
             let v = w.2.1 in omega (arith, u, v)
       ])
 
-  pub left_fit : (m : ℕ) → All (Fits m) old → All (Fits m) left
-  left_fit m fits k d l = by_case (Contains-append_cases (before ++ left_of_all c met) behind e (Contains-get_or left k d l))
-    where
-      e : Columns
-      e = get_or left k d
-
-      of_old : (g : Columns) → Contains old g → 3 * g.to ≤ m
-      of_old g i = All-contains (Fits m) old g fits i
-
-      by_first : Contains before e ⊎ Contains (left_of_all c met) e → 3 * e.to ≤ m
-      by_first (inl i) = of_old e (Contains-append_left before (met ++ behind) e i)
-      by_first (inr i) =
-          let w = all_within c met e i in
-          let u = of_old w.0 (Contains-append_right before (met ++ behind) w.0 (Contains-append_left met behind w.0 w.1)) in
-          let v = w.2.1 in omega (arith, u, v)
-
-      by_case : Contains (before ++ left_of_all c met) e ⊎ Contains behind e → 3 * e.to ≤ m
-      by_case (inl i) = by_first (Contains-append_cases before (left_of_all c met) e i)
-      by_case (inr i) = of_old e (Contains-append_right before (met ++ behind) e (Contains-append_right met behind e i))
-
 -- ---- what is free
 
 either_none : (x y z : Bool) → (x && z) ≡ false → (y && z) ≡ false → ((x || y) && z) ≡ false
@@ -315,10 +295,10 @@ front_below n gs i f g (k, h, e) =
     let l : k < i = let b = length-take-le i gs f.bound in omega (arith, h, b) in
     subst (λ (z : Columns). z.to ≤ n) (sym (get_or-take i gs k g l) ∙ e) (f.below k g l)
 
-pub back_above : (n : ℕ) (gs : List Columns) (i : ℕ) → IsFirstFrom n gs i → (g : Columns) → Contains (drop i gs) g → n ≤ g.from
-back_above n gs i f g (k, h, e) =
-    let l : i + k < length gs = let b = length-drop i gs in let c = f.bound in omega (arith, h, b, c) in
-    subst (λ (z : Columns). n ≤ z.from) (sym (get_or-drop i gs k g) ∙ e) (f.above (i + k) g (omega arith) l)
+pub back_above : (n : ℕ) (gs : List Columns) (i m : ℕ) → IsFirstFrom n gs i → i ≤ m → m ≤ length gs → (g : Columns) → Contains (drop m gs) g → n ≤ g.from
+back_above n gs i m f o w g (k, h, e) =
+    let l : m + k < length gs = let b = length-drop m gs in omega (arith, h, b, w) in
+    subst (λ (z : Columns). n ≤ z.from) (sym (get_or-drop m gs k g) ∙ e) (f.above (m + k) g (omega (arith, o)) l)
 
 meets_at : (s c g : Columns) (k : ℕ) → s.from < s.to → c.from < s.to → s.from ≤ g.from → (is_among g k && is_among c k) ≡ true → (is_among s (max s.from c.from) && is_among c (max s.from c.from)) ≡ true
 meets_at s c g k a b l t = grind (arith, nat_tests)
@@ -353,11 +333,5 @@ left_one_more c gs i d l first old new e n =
 
 -- ---- what a call puts together
 
-pub put_together : (c : Columns) (before met behind none first left all new : List Columns) → none ≡ [] → first ≡ none ++ before → left ≡ first ++ flat_map (left_of c) met → all ≡ left ++ behind → new ≡ all →
-    new ≡ (before ++ flat_map (left_of c) met) ++ behind
-put_together c before met behind none first left all new a b d e f = f ∙ (e ∙ ap (λ z. z ++ behind) (d ∙ ap (λ z. z ++ flat_map (left_of c) met) (b ∙ ap (λ z. z ++ before) a)))
-
-pub met_fit : (m : ℕ) (gs before met behind : List Columns) → before ++ (met ++ behind) ≡ gs → All (Fits m) gs → All (Fits m) met
-met_fit m gs before met behind e fits k d l =
-    All-contains (Fits m) gs (get_or met k d) fits
-    (subst (λ z. Contains z (get_or met k d)) e (Contains-append_right before (met ++ behind) (get_or met k d) (Contains-append_left met behind (get_or met k d) (Contains-get_or met k d l))))
+pub put_together : (c : Columns) (before met behind none found new : List Columns) → none ≡ [] → found ≡ none ++ flat_map (left_of c) met → new ≡ (before ++ found) ++ behind → new ≡ (before ++ flat_map (left_of c) met) ++ behind
+put_together c before met behind none found new a b d = d ∙ ap (λ z. (before ++ z) ++ behind) (b ∙ ap (λ z. z ++ flat_map (left_of c) met) a)

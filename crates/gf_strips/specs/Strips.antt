@@ -1,12 +1,11 @@
 -- Some columns of a row, painted from the front to the back: each once, while it is free (this
 -- project's choice).
-use Rattle.std.specs.Prelude.{ℕ, ◌*◌, ◌≤◌, ◌≡◌, ◌<◌, Bool, false, ◌&&◌}
+use Rattle.std.specs.Prelude.{ℕ, ◌≤◌, ◌≡◌, ◌<◌, Bool, true, false, ◌&&◌, ◌||◌}
 use Rattle.std.specs.Prelude.{nat_le, nat_lt, if◌then◌else◌}
 use Rattle.std.specs.Prelude.{List, [], ◌∷◌, Contains, ⊤}
 use Rattle.std.specs.List.{list_any}
 use Rattle.gf_shape.specs.declared.colour.Rgb.{Rgb}
 use Rattle.gf_strips.specs.declared.columns.Columns.{Columns}
-use Rattle.gf_strips.specs.Pixels.{pixels}
 
 -- k lies from a to before b
 abbrev pub is_from : ℕ → ℕ → ℕ → Bool
@@ -34,18 +33,24 @@ AreRising [] = ⊤
 AreRising (c ∷ cs) = (c.from < c.to) × ((d : Columns) → Contains cs d → c.to ≤ d.from)
     × AreRising cs
 
--- the columns lie within a row of so many bytes
-abbrev pub Fits : ℕ → Columns → Type 0
-Fits bytes c = 3 * c.to ≤ bytes
+-- a segment: columns in one colour
+pub record SegmentView : Type 0 where
+  pub columns : Columns
+  pub colour : Rgb
 
--- a strip: its bytes, and which of its columns are still free
+-- k is one of the columns of a list of segments
+abbrev pub is_painted : List SegmentView → ℕ → Bool
+is_painted ss k = list_any (λ s. is_among s.columns k) ss
+
+-- a strip: what of its columns is painted, and which are still free
 pub record Shown : Type 0 where
-  pub bytes : List ℕ
+  pub segments : List SegmentView
   pub free : List Columns
 
--- a strip of n columns will show target, once its free columns show what lies behind
+-- a strip of n columns will show target, once its free columns show what lies behind: each column
+-- is free or painted, and what is painted has the colours of target
 pub record IsPainted (target behind : ℕ → Rgb) (n : ℕ) (strip : Shown) : Type 0 where
-  pub now : ℕ → Rgb
-  pub bytes : strip.bytes ≡ pixels now 0 n
-  pub shows : (k : ℕ) → k < n → target k ≡ (if is_free strip.free k then behind k
-      else now k)
+  pub free : (k : ℕ) → k < n → is_free strip.free k ≡ true → behind k ≡ target k
+  pub whole : (k : ℕ) → k < n → (is_free strip.free k || is_painted strip.segments k) ≡ true
+  pub colours : (s : SegmentView) (k : ℕ) → Contains strip.segments s → k < n
+      → is_among s.columns k ≡ true → s.colour ≡ target k

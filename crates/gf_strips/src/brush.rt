@@ -1,9 +1,8 @@
 //! Colours that are ready to be painted.
 
-ghost use Rattle.std.specs.Prelude.{◌≡◌, ℕ, ◌-◌, ◌*◌, ◌≤◌, ◌++◌, IfOk, length, take, drop};
+ghost use Rattle.std.specs.Prelude.{◌≡◌, ◌++◌, IfOk, OnOk, length};
 ghost use Rattle.gf_shape.specs.declared.colour.Rgb.{Rgb};
 ghost use Rattle.gf_strips.specs.Pixels.{pixels};
-ghost use Rattle.gf_strips.specs.Strips.{is_from, over};
 
 use gf_shape::{OutOfMemory, Rgb};
 use std::alloc::Global;
@@ -40,14 +39,13 @@ impl Brush {
         Ok(Brush { colour, pattern })
     }
 
-    /// Paints the columns from `a` to before `b` of a row.
-    pub(crate) fn paint(&self, row: &mut [u8], a: usize, b: usize)
-        requires { (a ≤ b) × (3 * b ≤ length row.old) }
-        ensures len { length row.new ≡ length row.old }
-        ensures painted { (f : ℕ → Rgb) (n : ℕ) → row.old ≡ pixels f 0 n
-            → row.new ≡ pixels (over (is_from a b) self.now f) 0 n }
+    /// Adds the bytes of so many columns, at most 64 at a time.
+    pub(crate) fn append(&self, count: usize, bytes: &mut Vec<u8>) -> Result<(), OutOfMemory>
+        ensures { OnOk result (bytes.new.items
+            ≡ bytes.old.items ++ pixels (λ _. self.now) 0 count) }
     {
-        paint_pattern(row, a, b, &self.pattern);
+        append_pattern(&self.pattern, count, bytes)?;
+        Ok(())
     }
 }
 
@@ -62,27 +60,17 @@ fn pattern(alloc: Global, colour: Rgb) -> Result<Vec<u8>, OutOfMemory>
     Ok(bytes)
 }
 
-/// Paints the columns from `a` to before `b`, at most 64 at a time.
-#[tactic(auto, using(crate::proofs::PixelLemmas::over_none))]
-fn paint_pattern(row: &mut [u8], a: usize, b: usize, pattern: &[u8])
-    requires { (a ≤ b) × (3 * b ≤ length row.old) × (length pattern.now ≡ 192) }
-    ensures len { length row.new ≡ length row.old }
-    ensures painted { (f : ℕ → Rgb) (c : Rgb) (n : ℕ) → b ≤ n → pattern.now ≡ pixels (λ _. c) 0 64
-        → row.old ≡ pixels f 0 n → row.new ≡ pixels (over (is_from a b) c f) 0 n }
+/// Adds the bytes of so many columns, at most 64 at a time.
+fn append_pattern(pattern: &[u8], count: usize, bytes: &mut Vec<u8>) -> Result<(), OutOfMemory>
+    requires { length pattern.now ≡ 192 }
+    ensures { OnOk result ((c : Rgb) → pattern.now ≡ pixels (λ _. c) 0 64
+        → bytes.new.items ≡ bytes.old.items ++ pixels (λ _. c) 0 count) }
 {
-    let mut at = a;
-    while at < b {
-        let end = at + (b - at).min(PATTERN_COLUMNS);
-        stamp(row, at, end, pattern);
-        at = end;
+    let mut left = count;
+    while 0 < left {
+        let some = left.min(PATTERN_COLUMNS);
+        bytes.extend_from_slice(&pattern[..3 * some])?;
+        left -= some;
     }
-}
-
-/// Paints the columns from `a` to before `b`, no more than the pattern has.
-fn stamp(row: &mut [u8], a: usize, b: usize, pattern: &[u8])
-    requires { (a ≤ b) × (3 * b ≤ length row.old) × (3 * (b - a) ≤ length pattern.now) }
-    ensures { row.new ≡ take (3 * a) row.old
-        ++ (take (3 * (b - a)) pattern.now ++ drop (3 * b) row.old) }
-{
-    row[3 * a..3 * b].copy_from_slice(&pattern[..3 * (b - a)]);
+    Ok(())
 }

@@ -1,48 +1,50 @@
 //! Some columns of a row, painted from the front to the back.
 
-ghost use Rattle.std.specs.Prelude.{◌≡◌, ◌↔◌, ℕ, ◌*◌, ◌≤◌, false, ◌&&◌, not, IsTrue};
-ghost use Rattle.std.specs.Prelude.{OnOk, IfOk, [], ◌++◌, All, length, replicate};
+ghost use Rattle.std.specs.Prelude.{◌≡◌, ◌↔◌, ℕ, false, ◌&&◌, not, IsTrue, OnOk, IfOk, [], ◌++◌};
 ghost use Rattle.std.specs.List.{flat_map};
 ghost use Rattle.gf_shape.specs.declared.colour.Rgb.{Rgb};
-ghost use Rattle.gf_strips.specs.Pixels.{pixels};
-ghost use Rattle.gf_strips.specs.Free.{IsFirstBehind, IsFirstFrom, IsParted, left_of, some_from};
-ghost use Rattle.gf_strips.specs.Strips.{AreRising, AreSameOutside, Fits, is_among, is_free, over};
-ghost use Rattle.gf_strips.specs.Strips.{IsPainted};
+ghost use Rattle.gf_strips.specs.Free.{left_of, met_of, some_from};
+ghost use Rattle.gf_strips.specs.Segments.{views};
+ghost use Rattle.gf_strips.specs.Strips.{AreSameOutside, IsPainted, is_among, is_free, over};
+ghost use Rattle.gf_strips.specs.Strokes.{AreStrokesOf};
 
-use crate::{Brush, Columns};
+use crate::free_columns::{is_any_free, met, replace};
+use crate::segment::{Segment, push_all, sort, strokes_of};
+use crate::{Brush, Columns, Stroke};
 use gf_shape::OutOfMemory;
 use std::alloc::Global;
 use std::marker::Model;
 
-/// Some columns of a row: their pixels, and which of them are still free. It keeps its memory from
-/// row to row.
-#[derive(Debug, Drop)]
-pub struct Strip {
-    bytes: Vec<u8>,
+/// Some columns of a row: what of them is painted, and which are still free. The memory for this is
+/// kept from row to row.
+#[derive(Drop)]
+pub struct Strip<'b> {
+    alloc: Global,
+    segments: Vec<Segment<'b>>,
     free: Vec<Columns>,
-    // What `free` becomes while columns are painted.
+    // What is left free of the columns that a call of `paint` meets.
     left: Vec<Columns>,
 }
 
-impl Model for Strip {
-    ghost use Rattle.std.specs.Prelude.{All, length};
-    ghost use Rattle.gf_strips.specs.Strips.{AreRising, Fits, Shown};
+impl<'b> Model for Strip<'b> {
+    ghost use Rattle.gf_strips.specs.Segments.{views};
+    ghost use Rattle.gf_strips.specs.Strips.{AreRising, Shown};
 
     ghost Value = { Shown };
 
-    ghost view = { λ s. record { bytes = s.bytes.items; free = s.free.items } };
+    ghost view = { λ s. record { segments = views s.segments.items; free = s.free.items } };
 
-    ghost invariant = { λ s. All (Fits (length s.bytes.items)) s.free.items
-        × AreRising s.free.items };
+    ghost invariant = { λ s. AreRising s.free.items };
 }
 
-impl Strip {
+impl<'b> Strip<'b> {
     /// A strip of no columns, and no memory yet.
-    pub fn new(alloc: Global) -> Strip
-        ensures { result ≡ record { bytes = []; free = [] } }
+    pub fn new(alloc: Global) -> Strip<'b>
+        ensures { result ≡ record { segments = []; free = [] } }
     {
         Strip {
-            bytes: Vec::new(alloc),
+            alloc,
+            segments: Vec::new(alloc),
             free: Vec::new(alloc),
             left: Vec::new(alloc),
         }
@@ -50,11 +52,10 @@ impl Strip {
 
     /// Begins a row of so many columns, all of them free.
     pub fn begin(&mut self, columns: usize) -> Result<(), OutOfMemory>
-        requires { columns ≤ 4096 }
         ensures { OnOk result ((target : ℕ → Rgb) → IsPainted target target columns self.new) }
     {
+        self.segments.clear();
         self.free.clear();
-        blank(&mut self.bytes, 3 * columns)?;
         if 0 < columns {
             self.free.push(Columns {
                 from: 0,
@@ -84,9 +85,9 @@ impl Strip {
         is_any_free(&self.free, columns)
     }
 
-    /// Paints those of the columns that are still free: a search by halves, and where the columns meet
-    /// free ones, a look at each of these.
-    pub fn paint(&mut self, columns: Columns, brush: &Brush) -> Result<(), OutOfMemory>
+    /// Paints those of the columns that are still free: a search by halves, a look at each of the
+    /// free ones that they meet, and a move of those behind.
+    pub fn paint(&mut self, columns: Columns, brush: &'b Brush) -> Result<(), OutOfMemory>
         ensures free { OnOk result ((k : ℕ)
             → is_free self.new.free k ≡ (is_free self.old.free k && not (is_among columns k))) }
         ensures painted { OnOk result ((target behind : ℕ → Rgb) (n : ℕ)
@@ -96,131 +97,74 @@ impl Strip {
         if !is_any_free(&self.free, columns) {
             return Ok(());
         }
-        let (before, met, behind) = parted(&self.free, columns);
+        let (start, end) = met(&self.free, columns);
         self.left.clear();
-        self.left.extend_from_slice(before)?;
         cover_all(
-            met,
-            self.bytes.as_mut_slice(),
+            &self.free[start..end],
             columns,
             brush,
+            &mut self.segments,
             &mut self.left,
         )?;
-        self.left.extend_from_slice(behind)?;
-        std::mem::swap(&mut self.free, &mut self.left);
+        replace(&mut self.free, start, end, &self.left)?;
         Ok(())
     }
 
-    /// Paints all columns that are still free, and gives the bytes of the row.
-    pub fn finish(&mut self, ground: &Brush) -> Result<&[u8], OutOfMemory>
-        ensures { IfOk result (λ bytes. (target : ℕ → Rgb) (n : ℕ)
-            → IsPainted target (λ _. ground.now) n self.old → bytes.now ≡ pixels target 0 n) }
+    /// Paints all columns that are still free, and gives the strokes of the row: a sort of what was
+    /// painted, by where it begins.
+    pub fn finish(&mut self, ground: &'b Brush) -> Result<Vec<Stroke<'b>>, OutOfMemory>
+        ensures { IfOk result (λ strokes. (target : ℕ → Rgb) (n : ℕ)
+            → IsPainted target (λ _. ground.now) n self.old
+            → AreStrokesOf target n strokes.items) }
     {
-        let all = Columns {
-            from: 0,
-            to: self.bytes.len(),
-        };
-        self.paint(all, ground)?;
-        Ok(&self.bytes)
+        push_all(&self.free, ground, &mut self.segments)?;
+        sort(&mut self.segments)?;
+        let strokes = strokes_of(self.alloc, &self.segments)?;
+        Ok(strokes)
     }
 }
 
-/// How many of the first free columns end up to a column.
-fn first_behind(free: &[Columns], column: usize) -> usize
-    requires { AreRising free.now }
-    ensures { IsFirstBehind column free.now result }
-{
-    free.partition_point(|some| some.to <= column)
-}
-
-/// How many of the first free columns begin before a column.
-fn first_from(free: &[Columns], column: usize) -> usize
-    requires { AreRising free.now }
-    ensures { IsFirstFrom column free.now result }
-{
-    free.partition_point(|some| some.from < column)
-}
-
-/// The free columns that end before some columns, those that may meet them, and those that begin
-/// behind them.
-fn parted(free: &[Columns], columns: Columns) -> (&[Columns], &[Columns], &[Columns])
-    requires { AreRising free.now }
-    ensures { IsParted columns free.now result.0.now result.1.now result.2.now }
-{
-    let (before, rest) = free.split_at(first_behind(free, columns.from));
-    let (met, behind) = rest.split_at(first_from(rest, columns.to));
-    (before, met, behind)
-}
-
-/// Whether one of the columns is among free ones: only the first that does not end before them may
-/// have one.
-fn is_any_free(free: &[Columns], columns: Columns) -> bool
-    requires { AreRising free.now }
-    ensures some { IsTrue result → (k : ℕ) × IsTrue (is_free free.now k && is_among columns k) }
-    ensures none { result ≡ false → (k : ℕ) → (is_free free.now k && is_among columns k) ≡ false }
-{
-    match free.get(first_behind(free, columns.from)) {
-        Some(some) => overlap(*some, columns),
-        None => false,
-    }
-}
-
-fn overlap(a: Columns, b: Columns) -> bool
-    ensures some { IsTrue result → (k : ℕ) × IsTrue (is_among a k && is_among b k) }
-    ensures none { result ≡ false → (k : ℕ) → (is_among a k && is_among b k) ≡ false }
-{
-    a.from.max(b.from) < a.to.min(b.to)
-}
-
-/// Makes it so many zero bytes.
-fn blank(bytes: &mut Vec<u8>, len: usize) -> Result<(), OutOfMemory>
-    ensures { OnOk result (bytes.new.items ≡ replicate len 0) }
-{
-    bytes.clear();
-    bytes.resize(len, 0)?;
-    Ok(())
-}
-
-/// Paints those of the columns that are free, and adds those that are left free.
-fn cover_all(
+/// Adds those of the columns that are free, in the colour of a brush, and those that are left free.
+fn cover_all<'b>(
     free: &[Columns],
-    row: &mut [u8],
     columns: Columns,
-    brush: &Brush,
+    brush: &'b Brush,
+    segments: &mut Vec<Segment<'b>>,
     left: &mut Vec<Columns>,
 ) -> Result<(), OutOfMemory>
-    requires within { All (Fits (length row.old)) free.now }
-    ensures len { length row.new ≡ length row.old }
+    ensures segments { OnOk result (views segments.new.items
+        ≡ views segments.old.items ++ flat_map (met_of columns brush.now) free.now) }
     ensures left { OnOk result (left.new.items
         ≡ left.old.items ++ flat_map (left_of columns) free.now) }
-    ensures row { OnOk result ((f : ℕ → Rgb) (n : ℕ) → row.old ≡ pixels f 0 n
-        → row.new ≡ pixels (over (λ k. is_free free.now k && is_among columns k) brush.now f) 0 n) }
 {
     for some in free {
-        cover(*some, row, columns, brush, left)?;
+        cover(*some, columns, brush, segments, left)?;
     }
     Ok(())
 }
 
-/// Paints those of the columns that are among some free ones, and adds those of these that are left
-/// free.
-fn cover(
+/// Adds those of the columns that are among some free ones, in the colour of a brush, and those of
+/// these that are left free.
+fn cover<'b>(
     free: Columns,
-    row: &mut [u8],
     columns: Columns,
-    brush: &Brush,
+    brush: &'b Brush,
+    segments: &mut Vec<Segment<'b>>,
     left: &mut Vec<Columns>,
 ) -> Result<(), OutOfMemory>
-    requires { 3 * free.to ≤ length row.old }
-    ensures len { length row.new ≡ length row.old }
-    ensures left { OnOk result (left.new.items ≡ left.old.items ++ left_of columns free) }
-    ensures row { OnOk result ((f : ℕ → Rgb) (n : ℕ) → row.old ≡ pixels f 0 n
-        → row.new ≡ pixels (over (λ k. is_among free k && is_among columns k) brush.now f) 0 n) }
+    ensures segments { OnOk result (views segments.new.items
+        ≡ views segments.old.items ++ met_of columns brush.now free) }
+    ensures left { OnOk result (left.new.items
+        ≡ left.old.items ++ left_of columns free) }
 {
     let low = columns.from.max(free.from);
     let high = columns.to.min(free.to);
     if low < high {
-        brush.paint(row, low, high);
+        let columns = Columns {
+            from: low,
+            to: high,
+        };
+        segments.push(Segment { columns, brush })?;
         push_some(left, free.from, low)?;
         push_some(left, high, free.to)?;
     } else {

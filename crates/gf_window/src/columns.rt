@@ -1,6 +1,6 @@
 //! The columns of a window that a span covers.
 
-ghost use Rattle.std.specs.Prelude.{◌≡◌, ℕ, ◌+◌, ◌*◌, ◌≤◌, ◌<◌, nat_le, nat_lt, int_le, ◌+ℤ◌, ◌≤ℤ◌};
+ghost use Rattle.std.specs.Prelude.{◌≡◌, ℕ, ◌*◌, ◌≤◌, ◌<◌, nat_le, nat_lt, int_le, ◌+ℤ◌, ◌≤ℤ◌};
 ghost use Rattle.std.specs.Prelude.{pos};
 ghost use Rattle.gf_rows.specs.Spans.{is_in_span};
 ghost use Rattle.gf_strips.specs.Strips.{is_among};
@@ -11,44 +11,44 @@ use gf_shape::Span;
 use gf_strips::Columns;
 
 impl Window {
-    /// Which of `len` columns from `from` on a span covers, counted from `from`: those whose x lies
-    /// in it.
-    pub fn columns(&self, from: usize, len: usize, span: Span) -> Columns
-        ensures { (k : ℕ) → k < len
-            → is_among result k ≡ is_in_span (column self.now (from + k)) span }
+    /// Which columns a span covers: those whose x lies in it.
+    pub fn columns(&self, span: Span) -> Columns
+        ensures { (k : ℕ) → k < self.now.width
+            → is_among result k ≡ is_in_span (column self.now k) span }
     {
         let x = self.x();
         let step = self.step();
+        let width = self.width() as usize;
         Columns {
-            from: before(x, step, from, len, span.first),
-            to: upto(x, step, from, len, span.last),
+            from: before(x, step, width, span.first),
+            to: upto(x, step, width, span.last),
         }
     }
 }
 
 /// How many of the columns lie before a place.
 #[tactic(auto, using(crate::proofs::ColumnLemmas::before_none, crate::proofs::ColumnLemmas::before_some))]
-fn before(x: i32, step: u32, from: usize, len: usize, place: i32) -> usize
+fn before(x: i32, step: u32, width: usize, place: i32) -> usize
     requires { 0 < step }
-    ensures { (k : ℕ) → k < len → nat_le result k ≡ int_le place (x +ℤ pos ((from + k) * step)) }
+    ensures { (k : ℕ) → k < width → nat_le result k ≡ int_le place (x +ℤ pos (k * step)) }
 {
     if place <= x {
         0
     } else {
-        clamped(below(apart(place, x) - 1, step), from, len)
+        clamped(below(apart(place, x) - 1, step), width)
     }
 }
 
 /// How many of the columns lie before a place or at it.
 #[tactic(auto, using(crate::proofs::ColumnLemmas::upto_none, crate::proofs::ColumnLemmas::upto_some))]
-fn upto(x: i32, step: u32, from: usize, len: usize, place: i32) -> usize
+fn upto(x: i32, step: u32, width: usize, place: i32) -> usize
     requires { 0 < step }
-    ensures { (k : ℕ) → k < len → nat_lt k result ≡ int_le (x +ℤ pos ((from + k) * step)) place }
+    ensures { (k : ℕ) → k < width → nat_lt k result ≡ int_le (x +ℤ pos (k * step)) place }
 {
     if place < x {
         0
     } else {
-        clamped(below(apart(place, x), step), from, len)
+        clamped(below(apart(place, x), step), width)
     }
 }
 
@@ -61,12 +61,12 @@ fn below(distance: u32, step: u32) -> usize
     (distance / step) as usize + 1
 }
 
-/// Those of the first `count` columns that are among `len` from `from` on.
+/// Those of the first `count` columns that there are.
 #[tactic(auto, using(crate::proofs::ColumnLemmas::clamped))]
-fn clamped(count: usize, from: usize, len: usize) -> usize
-    ensures { (k : ℕ) → k < len → nat_lt k result ≡ nat_lt (from + k) count }
+fn clamped(count: usize, width: usize) -> usize
+    ensures { (k : ℕ) → k < width → nat_lt k result ≡ nat_lt k count }
 {
-    count.saturating_sub(from).min(len)
+    count.min(width)
 }
 
 /// How far `far` lies from `near`.

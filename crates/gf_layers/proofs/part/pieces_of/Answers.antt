@@ -15,7 +15,7 @@ loop-layer-preserved g c =
     record {
       pieces = λ j low high. c.in_ok-add_piece.ensures.pieces j low high (c.loop-layer.invariant.pieces j low high);
       seen = λ j k low high in_it.
-          let colours : List (Layer g.row.S.Denot) → Rgb = λ rest. row_colours g.S.Shape.holds (layers_of c.loop-layer.pieces.items ++ rest) c.args.window j c.args.from k in
+          let colours : List (Layer g.row.S.Denot) → Rgb = λ rest. row_colours g.S.Shape.holds (layers_of c.loop-layer.pieces.items ++ rest) c.args.window j k in
           c.in_ok-add_piece.ensures.seen (drop (i + 1) ls) j k low high in_it
           ∙ (ap (λ x. colours (x ∷ drop (i + 1) ls)) c.layer-item.is
           ∙ (sym (at_drop_more colours ls i c.layer-item.result l)

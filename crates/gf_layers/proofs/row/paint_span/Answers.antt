@@ -1,4 +1,4 @@
-use Rattle.std.proofs.Common.{◌+◌, sym, ap, if◌then◌else◌}
+use Rattle.std.proofs.Common.{sym, ap, if◌then◌else◌}
 use Rattle.gf_rows.specs.Spans.{is_in_span}
 use Rattle.gf_strips.specs.Strips.{over, is_among}
 use Rattle.gf_window.specs.Windows.{column}
@@ -7,5 +7,5 @@ use Rattle.gf_layers.proofs.row.paint_span.Goals as goal
 
 pub returns : goal.returns
 returns c = λ target behind h.
-    c.in_ok-paint.ensures.painted target behind c.args.len
-    (painted_same target (over (λ k. is_in_span (column c.args.window (c.args.from + k)) c.args.span) c.args.brush.now behind) (over (is_among c.columns.result) c.args.brush.now behind) c.args.len c.args.strip.now (λ k l. ap (λ t. if t then c.args.brush.now else behind k) (sym (c.columns.ensures k l))) h)
+    c.in_ok-paint.ensures.painted target behind c.args.window.width
+    (painted_same target (over (λ k. is_in_span (column c.args.window k) c.args.span) c.args.brush.now behind) (over (is_among c.columns.result) c.args.brush.now behind) c.args.window.width c.args.strip.now (λ k l. ap (λ t. if t then c.args.brush.now else behind k) (sym (c.columns.ensures k l))) h)

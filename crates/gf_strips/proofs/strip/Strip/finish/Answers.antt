@@ -1,11 +1,19 @@
-use Rattle.std.proofs.Common.{rules, ◌≡◌, ◌∙◌, ap, length}
-use Rattle.gf_strips.specs.Strips.{Shown}
-use Rattle.gf_strips.proofs.FreeLemmas.{finished}
+use Rattle.std.proofs.Common.{◌++◌, ap, subst, sym, ◌∙◌}
+use Rattle.std.proofs.lemmas.List.Sorted.{IsPermutation-map}
+use Rattle.gf_strips.specs.declared.segment.Segment.{Segment}
+use Rattle.gf_strips.specs.Free.{all_of}
+use Rattle.gf_strips.specs.Segments.{AreSegmentsOf, views}
+use Rattle.gf_strips.specs.Strips.{SegmentView, Shown}
+use Rattle.gf_strips.proofs.PaintedLemmas.{finished, moved}
 use Rattle.gf_strips.proofs.strip.Strip.finish.Goals as goal
 
 pub returns : goal.returns
 returns c = λ target n h.
-    let counted : c.len.result ≡ length c.self.inside.bytes.items = search rules in
-    let wide : c.len.result ≡ length c.args.self.now.bytes = rw (← c.self.view_is) counted in
-    let same : c.deref.result.now ≡ c.paint.new.self.bytes = c.deref.ensures.value ∙ ap (λ (s : Shown). s.bytes) c.self-2.view_is in
-    same ∙ finished target c.args.ground.now n c.args.self.now c.paint.new.self (rw wide at c.in_ok-paint.ensures.free) (λ behind. rw wide at (c.in_ok-paint.ensures.painted target behind n)) h
+    let ground = c.args.ground.now in
+    let painted = c.push_all.new.segments.items in
+    let sorted = c.sort.new.segments.items in
+    let view : Segment → SegmentView = λ s. record { columns = s.columns; colour = s.brush.now } in
+    let all = c.in_ok-push_all.ensures ∙ (ap (λ z. views c.self.inside.segments.items ++ all_of ground z) c.deref.ensures.value ∙ ap (λ (s : Shown). s.segments ++ all_of ground s.free) c.self.view_is) in
+    let whole = subst (AreSegmentsOf target n) (sym all) (finished target ground n c.args.self.now h) in
+    let ordered = moved target n (views painted) (views sorted) (IsPermutation-map view painted sorted c.in_ok-sort.ensures.permutation) whole in
+    c.in_ok-strokes.ensures target n (subst (λ z. AreSegmentsOf target n (views z)) (sym c.deref-2.ensures.value) ordered)

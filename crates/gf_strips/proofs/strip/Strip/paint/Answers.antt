@@ -1,66 +1,46 @@
-use Rattle.std.proofs.Common.{rules, arith, ◌≡◌, ◌&&◌, not, ◌++◌, length, refl, ap, subst, sym, ◌∙◌}
-use Rattle.std.specs.Prelude.{All}
-use Rattle.gf_strips.specs.Strips.{AreRising, Fits, is_among, is_free, Shown}
-use Rattle.gf_strips.proofs.FreeLemmas.{painted_more}
-use Rattle.gf_strips.proofs.PixelLemmas.{over_same, take_seam}
-use Rattle.gf_strips.proofs.RisingLemmas.{free_left, left_fit, left_rise, met_alone, met_fit, put_together}
+use Rattle.std.proofs.Common.{◌≡◌, ◌&&◌, ◌-◌, not, ◌++◌, ap, drop, subst, sym, take, ◌∙◌}
+use Rattle.std.specs.List.{flat_map}
+use Rattle.gf_strips.specs.Free.{IsParted, met_of}
+use Rattle.gf_strips.specs.Strips.{AreRising, is_among, is_free, Shown}
+use Rattle.gf_strips.proofs.PaintedLemmas.{met_colour, met_painted, painted_more}
+use Rattle.gf_strips.proofs.RisingLemmas.{free_left, left_rise, met_alone, put_together}
 use Rattle.gf_strips.proofs.strip.Strip.paint.Goals as goal
-
-pub cover_all-requires : goal.cover_all-requires
-cover_all-requires c =
-    let all = c.parted.ensures.whole ∙ c.deref-2.ensures.value in
-    record {
-      within = met_fit (length c.as_mut_slice.result.now) c.self.inside.free.items c.parted.result.0.now c.parted.result.1.now c.parted.result.2.now all
-          (subst (λ z. All (Fits (length z)) c.self.inside.free.items) (sym c.as_mut_slice.ensures.value) c.self.invariant.0);
-    }
 
 pub returns-clause-free : goal.returns-clause-free
 returns-clause-free c = λ k.
     let w = c.args.columns in
-    let before = c.parted.result.0.now in
-    let met = c.parted.result.1.now in
-    let behind = c.parted.result.2.now in
-    let all : before ++ (met ++ behind) ≡ c.self.inside.free.items = c.parted.ensures.whole ∙ c.deref-2.ensures.value in
-    let swapped : c.swap.new.x.items ≡ c.extend_from_slice-2.new.self.items = rw c.swap.ensures.x_after refl in
-    let now = put_together w before met behind c.clear.new.self.items c.extend_from_slice.new.self.items c.cover_all.new.left.items c.extend_from_slice-2.new.self.items c.swap.new.x.items
-    c.clear.ensures.items c.in_ok-extend_from_slice.ensures.items c.in_ok-cover_all.ensures.left c.in_ok-extend_from_slice-2.ensures.items swapped in
-    let old : c.self.inside.free.items ≡ c.args.self.now.free = ap (λ (s : Shown). s.free) c.self.view_is in
-    ap (λ z. is_free z k) now ∙ (free_left w k before met behind c.parted.ensures.below c.parted.ensures.above ∙ ap (λ z. is_free z k && not (is_among w k)) (all ∙ old))
+    let gs = c.self.inside.free.items in
+    let i = c.met-start.result.0 in
+    let m = c.met-start.result.1 in
+    let parted : IsParted w gs (take i gs) (take (m - i) (drop i gs)) (drop m gs) = rw c.deref-2.ensures.value at c.met-start.ensures.parted in
+    let now = put_together w (take i gs) (take (m - i) (drop i gs)) (drop m gs) c.clear.new.self.items c.cover_all.new.left.items c.replace.new.free.items
+    c.clear.ensures.items (rw c.deref-3.ensures.value at c.in_ok-cover_all.ensures.left) (rw c.deref-4.ensures.value at c.in_ok-replace.ensures.ok) in
+    let old : gs ≡ c.args.self.now.free = ap (λ (s : Shown). s.free) c.self.view_is in
+    ap (λ z. is_free z k) now ∙ (free_left w k (take i gs) (take (m - i) (drop i gs)) (drop m gs) parted.below parted.above ∙ ap (λ z. is_free z k && not (is_among w k)) (parted.whole ∙ old))
 
 pub invariant_of-self-2 : goal.invariant_of-self-2
 invariant_of-self-2 c =
     let w = c.args.columns in
-    let before = c.parted.result.0.now in
-    let met = c.parted.result.1.now in
-    let behind = c.parted.result.2.now in
-    let all : before ++ (met ++ behind) ≡ c.self.inside.free.items = c.parted.ensures.whole ∙ c.deref-2.ensures.value in
-    let swapped : c.swap.new.x.items ≡ c.extend_from_slice-2.new.self.items = rw c.swap.ensures.x_after refl in
-    let now = put_together w before met behind c.clear.new.self.items c.extend_from_slice.new.self.items c.cover_all.new.left.items c.extend_from_slice-2.new.self.items c.swap.new.x.items
-    c.clear.ensures.items c.in_ok-extend_from_slice.ensures.items c.in_ok-cover_all.ensures.left c.in_ok-extend_from_slice-2.ensures.items swapped in
-    let len : length c.cover_all.new.row ≡ c.self.inside.bytes.len = search (rules, arith) in
-    let row = take_seam c.self.inside.bytes.len c.cover_all.new.row _ len in
-    let same : length c.cover_all.new.row ≡ length c.self.inside.bytes.items = search (rules, arith) in
-    let fits : All (Fits (length c.self.inside.bytes.items)) c.swap.new.x.items = subst (All (Fits (length c.self.inside.bytes.items))) (sym now)
-    (left_fit w before met behind (length c.self.inside.bytes.items) (subst (All (Fits (length c.self.inside.bytes.items))) (sym all) c.self.invariant.0)) in (
-      subst (λ z. All (Fits z) c.swap.new.x.items) (sym (ap length row ∙ same)) fits,
-      subst AreRising (sym now) (left_rise w before met behind (subst AreRising (sym all) c.self.invariant.1)),
-    )
+    let gs = c.self.inside.free.items in
+    let i = c.met-start.result.0 in
+    let m = c.met-start.result.1 in
+    let parted : IsParted w gs (take i gs) (take (m - i) (drop i gs)) (drop m gs) = rw c.deref-2.ensures.value at c.met-start.ensures.parted in
+    let now = put_together w (take i gs) (take (m - i) (drop i gs)) (drop m gs) c.clear.new.self.items c.cover_all.new.left.items c.replace.new.free.items
+    c.clear.ensures.items (rw c.deref-3.ensures.value at c.in_ok-cover_all.ensures.left) (rw c.deref-4.ensures.value at c.in_ok-replace.ensures.ok) in
+    subst AreRising (sym now) (left_rise w (take i gs) (take (m - i) (drop i gs)) (drop m gs) (subst AreRising (sym parted.whole) c.self.invariant))
 
 pub returns-clause-painted : goal.returns-clause-painted
-returns-clause-painted c =
+returns-clause-painted c = λ target more n h.
     let w = c.args.columns in
-    let before = c.parted.result.0.now in
-    let met = c.parted.result.1.now in
-    let behind = c.parted.result.2.now in
-    let brush = c.args.brush.now in
-    let all : before ++ (met ++ behind) ≡ c.self.inside.free.items = c.parted.ensures.whole ∙ c.deref-2.ensures.value in
-    let old : c.self.inside.free.items ≡ c.args.self.now.free = ap (λ (s : Shown). s.free) c.self.view_is in
-    let bytes : c.self.inside.bytes.items ≡ c.args.self.now.bytes = ap (λ (s : Shown). s.bytes) c.self.view_is in
-    let len : length c.cover_all.new.row ≡ c.self.inside.bytes.len = search (rules, arith) in
-    λ target more n h.
-    painted_more target more c.args.self.now _ brush (is_among w) n (returns-clause-free c)
-    (λ f m r. take_seam c.self.inside.bytes.len c.cover_all.new.row _ len
-    ∙ (c.in_ok-cover_all.ensures.row f m (c.as_mut_slice.ensures.value ∙ (bytes ∙ r))
-    ∙ over_same f brush (λ k. is_free met k && is_among w k) (λ k. is_free c.args.self.now.free k && is_among w k) m
-    (λ k. met_alone w k before met behind c.parted.ensures.below c.parted.ensures.above ∙ ap (λ z. is_free z k && is_among w k) (all ∙ old))))
-    h
+    let gs = c.self.inside.free.items in
+    let i = c.met-start.result.0 in
+    let m = c.met-start.result.1 in
+    let colour = c.args.brush.now in
+    let parted : IsParted w gs (take i gs) (take (m - i) (drop i gs)) (drop m gs) = rw c.deref-2.ensures.value at c.met-start.ensures.parted in
+    let old : gs ≡ c.args.self.now.free = ap (λ (s : Shown). s.free) c.self.view_is in
+    let met = take (m - i) (drop i gs) in
+    let added = flat_map (met_of w colour) met in
+    painted_more target more c.args.self.now _ w colour added n (returns-clause-free c)
+    ((rw c.deref-3.ensures.value at c.in_ok-cover_all.ensures.segments) ∙ ap (λ (s : Shown). s.segments ++ added) c.self.view_is)
+    (λ k. met_painted w colour met k ∙ (met_alone w k (take i gs) met (drop m gs) parted.below parted.above ∙ ap (λ z. is_free z k && is_among w k) (parted.whole ∙ old)))
+    (met_colour w colour met) h

@@ -1,7 +1,7 @@
 use Rattle.std.proofs.Common.{rules, arith, get_or, nat_lt}
 use Rattle.std.proofs.lemmas.List.Sorted.{IsPartitionPoint-from_clause}
 use Rattle.gf_strips.proofs.RisingLemmas.{starts_parted, lt_true, lt_false}
-use Rattle.gf_strips.proofs.strip.first_from.Goals as goal
+use Rattle.gf_strips.proofs.free_columns.first_from.Goals as goal
 
 pub returns : goal.returns
 returns c =

@@ -1,7 +1,7 @@
 use Rattle.std.proofs.Common.{rules, arith, get_or, nat_le}
 use Rattle.std.proofs.lemmas.List.Sorted.{IsPartitionPoint-from_clause}
 use Rattle.gf_strips.proofs.RisingLemmas.{ends_parted, le_true, le_false}
-use Rattle.gf_strips.proofs.strip.first_behind.Goals as goal
+use Rattle.gf_strips.proofs.free_columns.first_behind.Goals as goal
 
 pub returns : goal.returns
 returns c =

@@ -2,7 +2,7 @@ use Rattle.std.proofs.Common.{◌≡◌, false, ◌&&◌, subst, arith}
 use Rattle.gf_strips.specs.declared.columns.Columns.{Columns}
 use Rattle.gf_strips.specs.Strips.{is_among}
 use Rattle.gf_strips.proofs.RisingLemmas.{none_met}
-use Rattle.gf_strips.proofs.strip.is_any_free.Goals as goal
+use Rattle.gf_strips.proofs.free_columns.is_any_free.Goals as goal
 
 pub returns-in-Some-clause-none : goal.returns-in-Some-clause-none
 returns-in-Some-clause-none c = λ none k.
