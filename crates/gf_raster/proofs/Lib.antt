@@ -1,2 +1,4 @@
 pub mod PictureLemmas
+pub mod RowLemmas
 pub mod ShareLemmas
+pub mod TurnLemmas

@@ -1,6 +1,6 @@
 -- A picture, band by band, and what is written of it.
 use Rattle.std.specs.Prelude.{ℕ, ◌≡◌, ◌≤◌, ◌<◌, ◌+◌, ◌-◌, ◌*◌, ◌/◌, ◌%◌, min, List, ◌++◌, length, take, Option}
-use Rattle.std.proofs.Common.{arith, ap, sym, ◌∙◌}
+use Rattle.std.proofs.Common.{arith, ap, append-nil, append_assoc, sym, ◌∙◌}
 use Rattle.std.specs.Io.KnownBytes.{Appends}
 use Rattle.std.proofs.KnownBytes.{Appends-trans}
 use Rattle.std.proofs.lemmas.List.{length-append, take-append-le}
@@ -9,12 +9,40 @@ use Rattle.gf_shape.specs.declared.colour.Rgb.{Rgb}
 use Rattle.gf_shape.specs.declared.point.Point.{Point}
 use Rattle.gf_bytes.specs.Taken.{AppendsFront}
 use Rattle.gf_strips.proofs.RangeLemmas.{ranged_more}
+use Rattle.gf_strips.specs.Pixels.{pixel}
 use Rattle.gf_layers.specs.Picture.{cells, rows}
-use Rattle.gf_window.specs.Windows.{View}
+use Rattle.gf_window.specs.Windows.{View, sample}
+use Rattle.gf_raster.specs.Shares.{cut, run}
+use Rattle.gf_raster.proofs.ShareLemmas.{cut_more}
 
 -- a function that gives the same colours gives the same rows
 pub rows_same : (f g : Point → Rgb) → ((p : Point) → f p ≡ g p) → (w : View) (j n : ℕ) → rows f w j n ≡ rows g w j n
 rows_same f g e w j n = ap (λ (c : Point → Rgb). rows c w j n) (λ i p. e p i)
+
+-- one row more
+pub rows_pushed : (colour : Point → Rgb) (w : View) (top i : ℕ) (old now new : List ℕ) → now ≡ old ++ rows colour w top i → new ≡ now ++ cells colour w (top + i) 0 w.width → new ≡ old ++ rows colour w top (i + 1)
+rows_pushed colour w top i old now new a b =
+    b ∙ (ap (λ xs. xs ++ cells colour w (top + i) 0 w.width) a
+    ∙ (append_assoc old (rows colour w top i) (cells colour w (top + i) 0 w.width)
+    ∙ ap (λ xs. old ++ xs) (sym (ranged_more (λ j. cells colour w j 0 w.width) top i 1
+    ∙ ap (λ xs. rows colour w top i ++ xs) (append-nil (cells colour w (top + i) 0 w.width))))))
+
+-- one worker's columns more
+pub cells_pushed : (colour : Point → Rgb) (w : View) (j size k : ℕ) (old now piece new : List ℕ) → now ≡ old ++ cells colour w j 0 (cut w.width size k) → piece ≡ cells colour w j (cut w.width size k) (run w.width size k) → new ≡ now ++ piece → new ≡ old ++ cells colour w j 0 (cut w.width size (k + 1))
+cells_pushed colour w j size k old now piece new a b c =
+    let from = cut w.width size k in
+    let len = run w.width size k in
+    let more : cells colour w j 0 (cut w.width size (k + 1)) ≡ cells colour w j 0 from ++ cells colour w j from len =
+    ap (cells colour w j 0) (cut_more w.width size k)
+    ∙ (ranged_more (λ i. pixel (colour (sample w i j))) 0 from len
+    ∙ ap (λ i. cells colour w j 0 from ++ cells colour w j i len) (zero_plus from)) in
+    c ∙ (ap (λ xs. xs ++ piece) a
+    ∙ (append_assoc old (cells colour w j 0 from) piece
+    ∙ (ap (λ xs. old ++ (cells colour w j 0 from ++ xs)) b
+    ∙ ap (λ xs. old ++ xs) (sym more))))
+  where
+    zero_plus : (n : ℕ) → 0 + n ≡ n
+    zero_plus n = omega arith
 
 -- one band more
 pub rows_next : (colour : Point → Rgb) (w : View) (height i : ℕ) → 64 * i ≤ height → rows colour w 0 (min (64 * i) height) ++ rows colour w (64 * i) (min 64 (height - 64 * i)) ≡ rows colour w 0 (min (64 * (i + 1)) height)

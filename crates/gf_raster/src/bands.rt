@@ -1,63 +1,75 @@
-//! Bands of rows, which workers share.
+//! Bands of rows, one after another.
 
-ghost use Rattle.std.specs.Prelude.{◌≡◌, ◌+◌, ◌≤◌, ◌++◌, OnOk};
+ghost use Rattle.std.specs.Prelude.{◌≡◌, ◌*◌, ◌+◌, ◌-◌, ◌<◌, ◌≤◌, ◌++◌, IfOk, OnOk, IfSome, None};
+ghost use Rattle.std.specs.Prelude.{min};
 ghost use Rattle.gf_layers.specs.Layers.{layered};
 ghost use Rattle.gf_layers.specs.Picture.{rows};
+ghost use Rattle.gf_raster.specs.Rows.{AreBand};
 
 use crate::Gate;
-use crate::shares::{gather, painted, shares};
-use crate::tiles::pass_all;
-use gf_layers::Layers;
+use crate::crew::Crew;
+use crate::rounds::round;
+use crate::tiles::TILE;
+use gf_layers::{Layers, Part};
 use gf_shape::{OutOfMemory, Shape};
+use gf_strips::Stroke;
 use gf_window::Window;
 use std::alloc::Global;
 use std::thread::Threads;
 
-/// Adds the bytes of `count` rows from `top` on, painted by so many workers, who first pass the
-/// gate for all tiles there.
-pub(crate) fn band<S: Shape + Sync, G: Gate + Sync, R: Threads + Sync>(
-    rt: &R,
-    alloc: Global,
-    layers: &Layers<'_, S>,
+/// What the first band of a window shows.
+pub(crate) fn first_band<'l, S: Shape + Sync, R: Threads + Sync, G: Gate + Sync>(
+    crew: &Crew<'_, R, G>,
+    layers: &'l Layers<'_, S>,
     window: Window,
-    top: usize,
-    count: usize,
-    workers: usize,
-    gate: &G,
-    bytes: &mut Vec<u8>,
-) -> Result<(), OutOfMemory>
-    requires rows { (1 ≤ count) × (top + count ≤ window.height) }
-    requires workers { (1 ≤ workers) × (workers ≤ 16) }
-    ensures { OnOk result (bytes.new.items
-        ≡ bytes.old.items ++ rows (layered S.holds layers.now) window top count) }
+) -> Result<Vec<Vec<Stroke<'l>>>, OutOfMemory>
+    ensures { IfOk result (λ rows. AreBand (layered S.holds layers.now) window 0 rows.items) }
 {
-    pass_all(rt, alloc, window, top, workers, gate)?;
-    if workers == 1 && bytes.is_empty() {
-        *bytes = painted(alloc, layers, window, top, count)?;
-        Ok(())
-    } else {
-        share_band(rt, alloc, layers, window, top, count, workers, bytes)
-    }
+    let part = part(crew.alloc, layers, window, 0)?;
+    let mut bytes = Vec::new(crew.alloc);
+    round(crew, window, 0, &[], part.as_ref(), &mut bytes)
 }
 
-/// Adds the bytes of `count` rows from `top` on, each worker's behind those of the one before.
-fn share_band<S: Shape + Sync, R: Threads + Sync>(
-    rt: &R,
+/// Adds the bytes of band `index`, of which `strokes` tells what it shows, and tells what the next one
+/// shows.
+pub(crate) fn band<'l, S: Shape + Sync, R: Threads + Sync, G: Gate + Sync>(
+    crew: &Crew<'_, R, G>,
+    layers: &'l Layers<'_, S>,
+    window: Window,
+    index: usize,
+    strokes: &[Vec<Stroke<'_>>],
+    bytes: &mut Vec<u8>,
+) -> Result<Vec<Vec<Stroke<'l>>>, OutOfMemory>
+    requires index { 64 * index < window.height }
+    requires strokes { AreBand (layered S.holds layers.now) window index strokes.now }
+    ensures bytes { OnOk result (bytes.new.items ≡ bytes.old.items ++ rows
+        (layered S.holds layers.now) window (64 * index) (min 64 (window.height - 64 * index))) }
+    ensures next { IfOk result (λ next.
+        AreBand (layered S.holds layers.now) window (index + 1) next.items) }
+{
+    let next = part(crew.alloc, layers, window, TILE * (index + 1))?;
+    round(crew, window, TILE * index, strokes, next.as_ref(), bytes)
+}
+
+/// The layers of the band from row `top` on, where there is one.
+fn part<'l, 'a, S: Shape>(
     alloc: Global,
-    layers: &Layers<'_, S>,
+    layers: &'l Layers<'a, S>,
     window: Window,
     top: usize,
-    count: usize,
-    workers: usize,
-    bytes: &mut Vec<u8>,
-) -> Result<(), OutOfMemory>
-    requires rows { (1 ≤ count) × (top + count ≤ window.height) }
-    requires workers { (1 ≤ workers) × (workers ≤ 16) }
-    ensures { OnOk result (bytes.new.items
-        ≡ bytes.old.items ++ rows (layered S.holds layers.now) window top count) }
+) -> Result<Option<Part<'l, 'a, S>>, OutOfMemory>
+    ensures some { IfOk result (λ found. IfSome found (λ part. part ≡ record {
+      layers = layers.now;
+      window = window;
+      top = top;
+      count = min 64 (window.height - top);
+    })) }
+    ensures none { IfOk result (λ found. found ≡ None → window.height ≤ top) }
 {
-    let size = count.div_ceil(workers);
-    let all = shares(rt, alloc, layers, window, top, count, size, workers)?;
-    gather(&all, bytes)?;
-    Ok(())
+    let height = window.height() as usize;
+    if height <= top {
+        return Ok(None);
+    }
+    let part = layers.part(alloc, window, top, TILE.min(height - top))?;
+    Ok(Some(part))
 }

@@ -7,9 +7,12 @@
 #![tactic(auto)]
 
 mod bands;
+mod crew;
+mod gathering;
 mod painting;
 mod ppm;
-mod shares;
+mod rounds;
+mod rows;
 mod tiles;
 
 pub use gf_gate::{Gate, OpenGate};

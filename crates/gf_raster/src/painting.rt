@@ -6,7 +6,8 @@ ghost use Rattle.gf_layers.specs.Layers.{layered};
 ghost use Rattle.gf_layers.specs.Picture.{raster};
 
 use crate::Gate;
-use crate::bands::band;
+use crate::bands::{band, first_band};
+use crate::crew::Crew;
 use crate::tiles::TILE;
 use gf_drawing::Drawing;
 use gf_layers::Layers;
@@ -40,11 +41,13 @@ impl Raster {
     }
 }
 
-/// Paints a window of a drawing, one band of 64 rows after another, each shared by 1 to 16 workers:
-/// pixel (i, j) has the drawing's colour at the point (x + i * step, y + j * step).
+/// Paints a window of a drawing by 1 to 16 workers, one band of 64 rows after another: pixel (i, j)
+/// has the drawing's colour at the point (x + i * step, y + j * step).
 ///
-/// Each worker passes `gate` for a run of a band's tiles; once all have passed, each paints some of
-/// the band's rows. Where a thread can't be started, the caller's does its part.
+/// What a band shows is found before, while the band above is painted. Each worker has a run of the
+/// band's tiles: the worker passes `gate` for a tile, paints it, and goes on to the next one. Where
+/// the gate lets nobody wait, and there is little to find, the caller's thread does all, as worker 1.
+/// Where a thread can't be started, the caller's does its part.
 pub fn paint<S: Shape + Sync, G: Gate + Sync, R: Threads + Sync>(
     rt: &R,
     alloc: Global,
@@ -58,30 +61,29 @@ pub fn paint<S: Shape + Sync, G: Gate + Sync, R: Threads + Sync>(
         ≡ raster (drawing_colour S.holds drawing.now.table drawing.now.figures) window) }
 {
     let layers = Layers::new(alloc, drawing)?;
-    let bytes = paint_all(rt, alloc, &layers, window, usize::from(workers), gate)?;
+    let crew = Crew {
+        rt,
+        alloc,
+        workers: usize::from(workers),
+        gate,
+    };
+    let bytes = paint_all(&crew, &layers, window)?;
     Ok(Raster { bytes })
 }
 
 /// Paints all bands.
 fn paint_all<S: Shape + Sync, G: Gate + Sync, R: Threads + Sync>(
-    rt: &R,
-    alloc: Global,
+    crew: &Crew<'_, R, G>,
     layers: &Layers<'_, S>,
     window: Window,
-    workers: usize,
-    gate: &G,
 ) -> Result<Vec<u8>, OutOfMemory>
-    requires { (1 ≤ workers) × (workers ≤ 16) }
     ensures { IfOk result (λ bytes. bytes.items ≡ raster (layered S.holds layers.now) window) }
 {
-    let mut bytes = Vec::new(alloc);
     let height = window.height() as usize;
+    let mut bytes = Vec::with_capacity(crew.alloc, 3 * window.width() as usize * height)?;
+    let mut rows = first_band(crew, layers, window)?;
     for index in 0..height.div_ceil(TILE) {
-        let top = TILE * index;
-        let count = TILE.min(height - top);
-        band(
-            rt, alloc, layers, window, top, count, workers, gate, &mut bytes,
-        )?;
+        rows = band(crew, layers, window, index, &rows, &mut bytes)?;
     }
     Ok(bytes)
 }

@@ -1,6 +1,7 @@
 //! The whole picture, written.
 
-ghost use Rattle.std.specs.Prelude.{◌≡◌, ℕ, ◌+◌, ◌≤◌, ◌⊎◌, [], IsTrue, IfOk, OnOk, Err};
+ghost use Rattle.std.specs.Prelude.{◌≡◌, ℕ, ◌+◌, ◌-◌, ◌*◌, ◌<◌, ◌≤◌, min, ◌⊎◌, [], IsTrue, IfOk};
+ghost use Rattle.std.specs.Prelude.{OnOk, Err};
 ghost use Rattle.std.specs.Io.KnownBytes.{Appends};
 ghost use Rattle.gf_bytes.specs.Counts.{Rises};
 ghost use Rattle.gf_bytes.specs.Taken.{AppendsFront};
@@ -8,22 +9,25 @@ ghost use Rattle.gf_drawing.specs.DrawingColour.{drawing_colour};
 ghost use Rattle.gf_layers.specs.Layers.{layered};
 ghost use Rattle.gf_layers.specs.Picture.{header, picture, raster, rows};
 ghost use Rattle.gf_raster.specs.Bands.{HasBands};
+ghost use Rattle.gf_raster.specs.Rows.{AreBand};
 
 use crate::Gate;
-use crate::bands::band;
+use crate::bands::{band, first_band};
+use crate::crew::Crew;
 use crate::tiles::TILE;
 use gf_bytes::{Sink, WriteError, write_all};
 use gf_digits::push_number;
 use gf_drawing::Drawing;
 use gf_layers::Layers;
 use gf_shape::Shape;
+use gf_strips::Stroke;
 use gf_window::Window;
 use std::alloc::{AllocError, Global};
 use std::thread::Threads;
 
 /// Writes the picture of a window of a drawing as raw PPM, and flushes: the header, and then one
-/// band of 64 rows after another, each painted as [`paint`](crate::paint) does. Of the picture no more
-/// than a band is in memory, and with more than one worker each row of it twice.
+/// band of 64 rows after another, each painted as [`paint`](crate::paint) does. No more than a band
+/// is in memory, where threads paint it twice, and what the next one shows.
 pub fn ppm_to<S: Shape + Sync, G: Gate + Sync, R: Threads + Sync, W: Sink>(
     rt: &R,
     alloc: Global,
@@ -54,7 +58,13 @@ pub fn ppm_to<S: Shape + Sync, G: Gate + Sync, R: Threads + Sync, W: Sink>(
     };
     let header = header(alloc, window)?;
     write_all(sink, &header)?;
-    write_bands(rt, alloc, &layers, window, usize::from(workers), gate, sink)?;
+    let crew = Crew {
+        rt,
+        alloc,
+        workers: usize::from(workers),
+        gate,
+    };
+    write_bands(&crew, &layers, window, sink)?;
     sink.flush()?;
     Ok(())
 }
@@ -74,15 +84,11 @@ fn header(alloc: Global, window: Window) -> Result<Vec<u8>, AllocError>
 
 /// Writes all rows of a window, a band at a time.
 fn write_bands<S: Shape + Sync, G: Gate + Sync, R: Threads + Sync, W: Sink>(
-    rt: &R,
-    alloc: Global,
+    crew: &Crew<'_, R, G>,
     layers: &Layers<'_, S>,
     window: Window,
-    workers: usize,
-    gate: &G,
     sink: &mut W,
 ) -> Result<(), WriteError>
-    requires { (1 ≤ workers) × (workers ≤ 16) }
     ensures whole { OnOk result (Appends (W.taken sink.old) (W.taken sink.new)
         (raster (layered S.holds layers.now) window)) }
     ensures unfailed { OnOk result (W.failures sink.new ≡ W.failures sink.old) }
@@ -94,48 +100,47 @@ fn write_bands<S: Shape + Sync, G: Gate + Sync, R: Threads + Sync, W: Sink>(
     ensures failed { result ≡ Err WriteError.WriteFailed
         → Rises (W.failures sink.old) (W.failures sink.new) }
 {
-    let mut bytes = Vec::new(alloc);
     let height = window.height() as usize;
+    let Ok(mut rows) = first_band(crew, layers, window) else {
+        return Err(WriteError::OutOfMemory);
+    };
+    let mut bytes = Vec::new(crew.alloc);
     for index in 0..height.div_ceil(TILE) {
-        let top = TILE * index;
-        let count = TILE.min(height - top);
         bytes.clear();
-        write_band(
-            rt, alloc, layers, window, top, count, workers, gate, &mut bytes, sink,
-        )?;
+        rows = write_band(crew, layers, window, index, &rows, &mut bytes, sink)?;
     }
     Ok(())
 }
 
-/// Writes the rows of a band.
-fn write_band<S: Shape + Sync, G: Gate + Sync, R: Threads + Sync, W: Sink>(
-    rt: &R,
-    alloc: Global,
-    layers: &Layers<'_, S>,
+/// Writes the rows of band `index`, of which `strokes` tells what it shows, and tells what the next one
+/// shows.
+fn write_band<'l, S: Shape + Sync, G: Gate + Sync, R: Threads + Sync, W: Sink>(
+    crew: &Crew<'_, R, G>,
+    layers: &'l Layers<'_, S>,
     window: Window,
-    top: usize,
-    count: usize,
-    workers: usize,
-    gate: &G,
+    index: usize,
+    strokes: &[Vec<Stroke<'_>>],
     bytes: &mut Vec<u8>,
     sink: &mut W,
-) -> Result<(), WriteError>
-    requires rows { (1 ≤ count) × (top + count ≤ window.height) }
-    requires workers { (1 ≤ workers) × (workers ≤ 16) }
+) -> Result<Vec<Vec<Stroke<'l>>>, WriteError>
+    requires index { 64 * index < window.height }
+    requires strokes { AreBand (layered S.holds layers.now) window index strokes.now }
     requires empty { bytes.old.items ≡ [] }
-    ensures whole { OnOk result (Appends (W.taken sink.old) (W.taken sink.new)
-        (rows (layered S.holds layers.now) window top count)) }
+    ensures next { IfOk result (λ next.
+        AreBand (layered S.holds layers.now) window (index + 1) next.items) }
+    ensures whole { OnOk result (Appends (W.taken sink.old) (W.taken sink.new) (rows
+        (layered S.holds layers.now) window (64 * index) (min 64 (window.height - 64 * index)))) }
     ensures unfailed { OnOk result (W.failures sink.new ≡ W.failures sink.old) }
     ensures memory { result ≡ Err WriteError.OutOfMemory → sink.new ≡ sink.old }
     ensures front { result ≡ Err WriteError.WriteFailed
-        → AppendsFront (W.taken sink.old) (W.taken sink.new)
-        (rows (layered S.holds layers.now) window top count) }
+        → AppendsFront (W.taken sink.old) (W.taken sink.new) (rows
+        (layered S.holds layers.now) window (64 * index) (min 64 (window.height - 64 * index))) }
     ensures failed { result ≡ Err WriteError.WriteFailed
         → Rises (W.failures sink.old) (W.failures sink.new) }
 {
-    let Ok(()) = band(rt, alloc, layers, window, top, count, workers, gate, bytes) else {
+    let Ok(next) = band(crew, layers, window, index, strokes, bytes) else {
         return Err(WriteError::OutOfMemory);
     };
     write_all(sink, bytes)?;
-    Ok(())
+    Ok(next)
 }

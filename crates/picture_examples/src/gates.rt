@@ -12,6 +12,7 @@ use std::thread::Threads;
 #[derive(Drop)]
 struct Passed {
     tiles: [AtomicUsize; 6],
+    may_wait: bool,
 }
 
 impl Gate for Passed {
@@ -20,16 +21,26 @@ impl Gate for Passed {
             tile.fetch_add(usize::from(who), SeqCst);
         }
     }
+
+    fn may_wait(&self) -> bool {
+        self.may_wait
+    }
 }
 
 fn none() -> AtomicUsize {
     AtomicUsize::new(0)
 }
 
-/// Who passed for each of the first six tiles, while one row of a table was answered.
-fn who_passed<R: Threads + Sync>(rt: &R, alloc: Global, row: &str) -> Result<[usize; 6], Fail> {
+/// Who passed for each of the first six tiles of a gate, while one row of a table was answered.
+fn who_passed<R: Threads + Sync>(
+    rt: &R,
+    alloc: Global,
+    may_wait: bool,
+    row: &str,
+) -> Result<[usize; 6], Fail> {
     let gate = Passed {
         tiles: [none(), none(), none(), none(), none(), none()],
+        may_wait,
     };
     answers(rt, alloc, &gate, row)?;
     let [a, b, c, d, e, f] = &gate.tiles;
@@ -54,8 +65,18 @@ fn each_tile_is_passed_once(rt: HostRuntime) -> Result<(), Fail> {
         ("nothing ; 0 0 1 129 65 2 | 8385 ffffff", [1, 1, 2, 1, 1, 2]),
         ("nothing ; 0 0 1 129 65 3 | 8385 ffffff", [1, 2, 3, 1, 2, 3]),
     ] {
-        assert_eq!(rt; who_passed(&rt, rt.alloc(), row)?, want, "{row}");
+        assert_eq!(rt; who_passed(&rt, rt.alloc(), true, row)?, want, "{row}");
     }
+    Ok(())
+}
+
+#[test]
+fn the_caller_passes_for_all_where_nobody_may_wait(rt: HostRuntime) -> Result<(), Fail> {
+    let row = "nothing ; 0 0 1 129 65 2 | 8385 ffffff";
+    assert_eq!(rt;
+        who_passed(&rt, rt.alloc(), false, row)?,
+        [1, 1, 1, 1, 1, 1]
+    );
     Ok(())
 }
 

@@ -1,4 +1,5 @@
-//! Worked examples of who paints: workers meet in a shape, and rows are painted behind gates.
+//! Worked examples of who paints: workers meet in a shape, and rows are found no more than one band
+//! ahead.
 
 ghost use Rattle.gf_shape.specs.Outlines.{rect_outline};
 ghost use Rattle.gf_shape.specs.ShapeMeaning.{rect_holds};
@@ -21,7 +22,7 @@ struct Painters {
     passed: [AtomicUsize; 3],
     /// How often a row was asked for.
     asked: AtomicUsize,
-    /// How often that was before its tile was passed.
+    /// How often that was before the gate of the second band above was passed.
     early: AtomicUsize,
     /// How many saw `wanted` of them ask.
     met: AtomicUsize,
@@ -41,7 +42,9 @@ impl Painters {
     }
 
     fn ask(&self, y: i32) {
-        if let Some(tile) = self.passed.get(y.max(0) as usize / 64)
+        let band = y.max(0) as usize / 64;
+        if let Some(above) = band.checked_sub(2)
+            && let Some(tile) = self.passed.get(above)
             && tile.load(SeqCst) == 0
         {
             self.early.fetch_add(1, SeqCst);
@@ -153,7 +156,8 @@ fn drawing_of_box(alloc: Global, wanted: usize) -> Option<Drawing<Watched>> {
     Some(drawing)
 }
 
-/// How often a row of the box was asked for, how often before its gate, and how many painters met.
+/// How often a row of the box was asked for, how often more than a band ahead, and how many painters
+/// met.
 fn told<R: Threads + Sync>(
     rt: &R,
     alloc: Global,
@@ -175,7 +179,7 @@ fn two_workers_paint_rows_at_the_same_time(rt: HostRuntime) {
 }
 
 #[test]
-fn rows_are_painted_behind_the_gates_of_their_tiles(rt: HostRuntime) {
+fn rows_are_found_no_more_than_one_band_ahead(rt: HostRuntime) {
     for workers in [1, 3, 16] {
         let counts = told(&rt, rt.alloc(), 130, workers, 0);
         assert_eq!(rt; counts, Some([130, 0, 130]), "{workers}");

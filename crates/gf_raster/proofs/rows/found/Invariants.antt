@@ -1,0 +1,10 @@
+use Rattle.std.proofs.Common.{◌≡◌, length}
+use Rattle.gf_layers.specs.Layers.{layered}
+use Rattle.gf_raster.specs.Rows.{AreRows}
+use Rattle.gf_raster.proofs.rows.found.Given as goal
+
+abbrev pub invariant-loop-i : goal.invariant-loop-i
+invariant-loop-i g l = record {
+  count : length l.rows.items ≡ l.i;
+  shown : AreRows (layered g.S.Shape.holds l.part.layers) l.part.window l.top l.rows.items;
+}

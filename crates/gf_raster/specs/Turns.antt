@@ -1,0 +1,58 @@
+-- What the workers of a round give. No public clause cites this module.
+use Rattle.std.specs.Prelude.{ℕ, ◌≡◌, ◌<◌, ◌+◌, ◌++◌, Bool, List, Vec, Option, length}
+use Rattle.std.specs.Prelude.{Result, IfOk, slice_index_or}
+use denote.Ref.{Bor}
+use Rattle.std.proofs.Common.{Global}
+use Rattle.gf_shape.specs.declared.colour.Rgb.{Rgb}
+use Rattle.gf_shape.specs.declared.point.Point.{Point}
+use Rattle.gf_shape.specs.declared.refusals.OutOfMemory.{OutOfMemory}
+use Rattle.gf_strips.specs.declared.stroke.Stroke.{Stroke}
+use Rattle.gf_window.specs.Windows.{View}
+use Rattle.gf_layers.specs.Parts.{PartView}
+use Rattle.gf_layers.specs.Picture.{cells}
+use Rattle.gf_raster.specs.declared.rounds.Turn.{Turn}
+use Rattle.gf_raster.specs.Rows.{AreRows, AreShareOf}
+use Rattle.gf_raster.specs.Shares.{cut, run, stride}
+
+-- each has the bytes of a row of the window, from row top on, in len columns from a first one on
+abbrev pub ArePieces : (Point → Rgb) → View → ℕ → ℕ → ℕ → List (Vec ℕ Global) → Type 0
+ArePieces colour w top from len pieces = (i : ℕ) (d : Vec ℕ Global) → i < length pieces
+    → (slice_index_or pieces i d).items ≡ cells colour w (top + i) from len
+
+-- the pieces new are the old ones with the bytes of len columns more, from a first one on
+abbrev pub ArePiecesWith : (Point → Rgb) → View → ℕ → ℕ → ℕ → List (Vec ℕ Global)
+    → List (Vec ℕ Global) → Type 0
+ArePiecesWith colour w top from len old new = (i : ℕ) (d : Vec ℕ Global) → i < length new
+    → (slice_index_or new i d).items
+    ≡ (slice_index_or old i d).items ++ cells colour w (top + i) from len
+
+-- each turn has a piece for each of so many rows
+abbrev pub HaveLines : ℕ → List Turn → Type 0
+HaveLines count turns = (k : ℕ) (d : Turn) → k < length turns
+    → length (slice_index_or turns k d).pieces.items ≡ count
+
+-- the pieces number i of the turns have the bytes of row j in their workers' columns
+abbrev pub AreColumns : (Point → Rgb) → View → ℕ → ℕ → ℕ → List Turn → Type 0
+AreColumns colour w j i size turns = (k : ℕ) (d : Turn) (e : Vec ℕ Global) → k < length turns
+    → (slice_index_or (slice_index_or turns k d).pieces.items i e).items
+    ≡ cells colour w j (cut w.width size k) (run w.width size k)
+
+module _ {S : Type 0} (holds : S → Point → Bool) (w : View) (top : ℕ)
+    (rows : List (Vec Stroke Global)) (next : Option (Bor (PartView S))) (workers : ℕ) where
+  -- worker k filled the rows in a run of columns, and found a share of the next rows
+  pub record IsTurn (k : ℕ) (t : Turn) : Type 0 where
+    pub lines : length t.pieces.items ≡ length rows
+    pub pieces : (colour : Point → Rgb) → AreRows colour w top rows
+        → ArePieces colour w top (cut w.width (stride w workers) k)
+        (run w.width (stride w workers) k) t.pieces.items
+    pub found : AreShareOf holds next workers k t.rows.items
+
+  -- each worker took a turn, where memory was there
+  abbrev pub AreTaken : List (Result Turn OutOfMemory) → Type 0
+  AreTaken results = (k : ℕ) (d : Result Turn OutOfMemory) → k < workers
+      → IfOk (slice_index_or results k d) (IsTurn k)
+
+  -- each worker took a turn
+  pub record AreTurns (turns : List Turn) : Type 0 where
+    pub count : length turns ≡ workers
+    pub each : (k : ℕ) (d : Turn) → k < length turns → IsTurn k (slice_index_or turns k d)

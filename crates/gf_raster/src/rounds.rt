@@ -1,0 +1,161 @@
+//! Rounds: in each the workers fill a band, and find what the next one shows.
+
+ghost use Rattle.std.specs.Prelude.{◌≡◌, ℕ, ◌<◌, ◌≤◌, ◌++◌, OnOk, IfOk, length, vec_len};
+ghost use Rattle.gf_shape.specs.declared.colour.Rgb.{Rgb};
+ghost use Rattle.gf_shape.specs.declared.point.Point.{Point};
+ghost use Rattle.gf_layers.specs.Picture.{rows};
+ghost use Rattle.gf_raster.specs.Rows.{AreFound, AreRows};
+ghost use Rattle.gf_raster.specs.Turns.{AreTaken, AreTurns, IsTurn};
+
+use crate::Gate;
+use crate::crew::Crew;
+use crate::gathering::{all_taken, gather, joined};
+use crate::rows::{all_found, share_found};
+use crate::tiles::{fill_all, pieces};
+use gf_layers::Part;
+use gf_shape::{OutOfMemory, Shape};
+use gf_strips::Stroke;
+use gf_window::Window;
+use std::thread;
+use std::thread::Threads;
+
+/// From how much work on threads are started: so many looks at a layer or an edge, as they are
+/// measured here, take about a millisecond.
+const WORTH: usize = 200_000;
+
+/// How many looks it takes to find a stroke.
+const STROKE: usize = 16;
+
+/// What a worker does in a round.
+#[derive(Drop)]
+pub(crate) struct Turn<'l> {
+    /// Of each row of the band, the bytes of the worker's columns.
+    pub pieces: Vec<Vec<u8>>,
+    /// What the worker's share of the next band's rows show.
+    pub rows: Vec<Vec<Stroke<'l>>>,
+}
+
+/// Adds the bytes of the rows from `top` on, and finds what the rows of a part show, where there is
+/// one. Of no rows no gate is passed.
+///
+/// All workers take part where the gate may let them wait, or where the work is worth threads.
+/// Else the caller passes for all tiles, as worker 1.
+pub(crate) fn round<'l, S: Shape + Sync, R: Threads + Sync, G: Gate + Sync>(
+    crew: &Crew<'_, R, G>,
+    window: Window,
+    top: usize,
+    strokes: &[Vec<Stroke<'_>>],
+    next: Option<&Part<'l, '_, S>>,
+    bytes: &mut Vec<u8>,
+) -> Result<Vec<Vec<Stroke<'l>>>, OutOfMemory>
+    requires { top < window.height }
+    ensures bytes { OnOk result ((colour : Point → Rgb) → AreRows colour window top strokes.now
+        → bytes.new.items ≡ bytes.old.items ++ rows colour window top (length strokes.now)) }
+    ensures next { IfOk result (λ found. AreFound S.holds next.entry found.items) }
+{
+    if crew.workers == 1 || !crew.gate.may_wait() && work(strokes, next) < WORTH {
+        fill_all(crew, window, top, strokes, bytes)?;
+        all_found(crew.alloc, next)
+    } else {
+        shared_round(crew, window, top, strokes, next, bytes)
+    }
+}
+
+/// How many looks it takes to find all rows of a part, where they have as many strokes as the rows
+/// above: a measure, of which nothing is proved.
+fn work<S: Shape>(strokes: &[Vec<Stroke<'_>>], next: Option<&Part<'_, '_, S>>) -> usize {
+    match next {
+        Some(part) => part
+            .count()
+            .saturating_mul(part.size())
+            .saturating_add(count(strokes).saturating_mul(STROKE)),
+        None => 0,
+    }
+}
+
+/// How many strokes rows have.
+fn count(strokes: &[Vec<Stroke<'_>>]) -> usize {
+    let mut count = 0usize;
+    for row in strokes {
+        count = count.saturating_add(row.len());
+    }
+    count
+}
+
+/// The round of all workers, each of whom takes a turn.
+fn shared_round<'l, S: Shape + Sync, R: Threads + Sync, G: Gate + Sync>(
+    crew: &Crew<'_, R, G>,
+    window: Window,
+    top: usize,
+    strokes: &[Vec<Stroke<'_>>],
+    next: Option<&Part<'l, '_, S>>,
+    bytes: &mut Vec<u8>,
+) -> Result<Vec<Vec<Stroke<'l>>>, OutOfMemory>
+    requires { top < window.height }
+    ensures bytes { OnOk result ((colour : Point → Rgb) → AreRows colour window top strokes.now
+        → bytes.new.items ≡ bytes.old.items ++ rows colour window top (length strokes.now)) }
+    ensures next { IfOk result (λ found. AreFound S.holds next.entry found.items) }
+{
+    let turns = turns(crew, window, top, strokes, next)?;
+    gather(&turns, strokes.len(), bytes)?;
+    let found = joined(crew.alloc, turns)?;
+    Ok(found)
+}
+
+/// The turns of all workers.
+fn turns<'l, S: Shape + Sync, R: Threads + Sync, G: Gate + Sync>(
+    crew: &Crew<'_, R, G>,
+    window: Window,
+    top: usize,
+    strokes: &[Vec<Stroke<'_>>],
+    next: Option<&Part<'l, '_, S>>,
+) -> Result<Vec<Turn<'l>>, OutOfMemory>
+    requires { top < window.height }
+    ensures { IfOk result (λ turns. AreTurns S.holds window top strokes.now next.entry
+        crew.now.workers turns.items) }
+{
+    let results = try_turns(crew, window, top, strokes, next)?;
+    let turns = all_taken(crew.alloc, results)?;
+    Ok(turns)
+}
+
+/// The turns of all workers, each in a thread of its own where one can be started.
+fn try_turns<'l, S: Shape + Sync, R: Threads + Sync, G: Gate + Sync>(
+    crew: &Crew<'_, R, G>,
+    window: Window,
+    top: usize,
+    strokes: &[Vec<Stroke<'_>>],
+    next: Option<&Part<'l, '_, S>>,
+) -> Result<Vec<Result<Turn<'l>, OutOfMemory>>, OutOfMemory>
+    requires { top < window.height }
+    ensures len { IfOk result (λ results. vec_len results ≡ crew.now.workers) }
+    ensures each { IfOk result (λ results. AreTaken S.holds window top strokes.now next.entry
+        crew.now.workers results.items) }
+{
+    let results = thread::map_indices(
+        crew.rt,
+        crew.alloc,
+        crew.workers,
+        &|k| { take_turn(crew, window, top, strokes, next, k) },
+    )?;
+    Ok(results)
+}
+
+/// The turn of worker `k`: a run of tiles, each filled behind passing its gate, then a share of the
+/// next band's rows.
+fn take_turn<'l, S: Shape, R: Threads, G: Gate>(
+    crew: &Crew<'_, R, G>,
+    window: Window,
+    top: usize,
+    strokes: &[Vec<Stroke<'_>>],
+    next: Option<&Part<'l, '_, S>>,
+    k: usize,
+) -> Result<Turn<'l>, OutOfMemory>
+    requires { top < window.height }
+    ensures { IfOk result (λ turn. IsTurn S.holds window top strokes.now next.entry crew.now.workers k
+        turn) }
+{
+    let pieces = pieces(crew, window, top, strokes, k)?;
+    let rows = share_found(crew.alloc, next, crew.workers, k)?;
+    Ok(Turn { pieces, rows })
+}
