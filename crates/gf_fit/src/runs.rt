@@ -17,8 +17,8 @@ use std::alloc::Global;
 use std::thread::Threads;
 
 /// Reads operation lines to their end, and writes the picture of the colours that their history
-/// means, painted by 1 to 16 workers, in the window that fits its drawing; answers this window. It
-/// reads all before the first write.
+/// means, read and painted by 1 to 16 workers, in the window that fits its drawing; answers this
+/// window. It reads all before the first write.
 pub fn paint_fitted_run<T: Threads + Sync, R: Source, W: Sink, G: Gate + Sync>(
     rt: &T,
     alloc: Global,
@@ -60,7 +60,7 @@ pub fn paint_fitted_run<T: Threads + Sync, R: Source, W: Sink, G: Gate + Sync>(
     ensures takes { ConsumesAtMost (MOST_INPUT_BYTES + 1) (R.left source.old) (R.left source.new) }
     ensures reads { R.reads source.new ≤ R.reads source.old + (MOST_INPUT_BYTES + 1) }
 {
-    let meant = drawing_of_lines(alloc, source)?;
+    let meant = drawing_of_lines(rt, alloc, source, workers)?;
     let window = fitted_window(&meant, frame);
     ppm_to(rt, alloc, &meant, window, workers, gate, sink)?;
     Ok(window)

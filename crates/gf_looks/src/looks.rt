@@ -18,6 +18,7 @@ use gf_shape::{OutOfMemory, Point};
 use gf_site::Site;
 use gf_studio::{StudioError, input};
 use std::alloc::Global;
+use std::thread::Threads;
 
 /// What is asked of a history.
 #[derive(Clone, Copy, Debug, PartialEq, Eq)]
@@ -28,15 +29,18 @@ pub enum Query {
     At(Point),
 }
 
-/// Reads operation lines to their end, and writes what their history answers to a query: a line for
-/// each version of an object, or the line of the version on top at a point. It reads all before the
-/// first write.
-pub fn inspect_run<R: Source, W: Sink>(
+/// Reads operation lines to their end, by 1 to 16 workers, and writes what their history answers to
+/// a query: a line for each version of an object, or the line of the version on top at a point. It
+/// reads all before the first write.
+pub fn inspect_run<T: Threads + Sync, R: Source, W: Sink>(
+    rt: &T,
     alloc: Global,
     source: &mut R,
     sink: &mut W,
     query: Query,
+    workers: u8,
 ) -> Result<(), StudioError>
+    requires { (1 ≤ workers) × (workers ≤ 16) }
     // What is written answers the query about the history that the bytes denote.
     ensures tells { OnOk result (IfSome (R.left source.old) (λ bytes.
         WritesLook bytes query (W.taken sink.old) (W.taken sink.new))) }
@@ -58,7 +62,7 @@ pub fn inspect_run<R: Source, W: Sink>(
     ensures takes { ConsumesAtMost (MOST_INPUT_BYTES + 1) (R.left source.old) (R.left source.new) }
     ensures reads { R.reads source.new ≤ R.reads source.old + (MOST_INPUT_BYTES + 1) }
 {
-    let text = look_at_lines(alloc, source, query)?;
+    let text = look_at_lines(rt, alloc, source, query, workers)?;
     match write_whole(sink, &text) {
         Ok(()) => Ok(()),
         Err(SinkFault) => Err(StudioError::WriteFailed),
@@ -66,11 +70,14 @@ pub fn inspect_run<R: Source, W: Sink>(
 }
 
 /// The text that answers a query about the history that the lines of a source denote.
-fn look_at_lines<R: Source>(
+fn look_at_lines<T: Threads + Sync, R: Source>(
+    rt: &T,
     alloc: Global,
     source: &mut R,
     query: Query,
+    workers: u8,
 ) -> Result<Vec<u8>, StudioError>
+    requires { (1 ≤ workers) × (workers ≤ 16) }
     ensures ok { IfOk result (λ text. IfSome (R.left source.old) (λ bytes.
         Looks bytes query text.items)) }
     ensures source { ReadsFor MOST_INPUT_BYTES (R.left source.old) (R.left source.new)
@@ -82,15 +89,22 @@ fn look_at_lines<R: Source>(
     ensures reads { R.reads source.new ≤ R.reads source.old + (MOST_INPUT_BYTES + 1) }
 {
     let bytes = input(alloc, source)?;
-    look(alloc, bytes, query)
+    look(rt, alloc, bytes, query, workers)
 }
 
 /// The text that answers a query about the history that these bytes denote.
-fn look(alloc: Global, bytes: Vec<u8>, query: Query) -> Result<Vec<u8>, StudioError>
+fn look<T: Threads + Sync>(
+    rt: &T,
+    alloc: Global,
+    bytes: Vec<u8>,
+    query: Query,
+    workers: u8,
+) -> Result<Vec<u8>, StudioError>
+    requires { (1 ≤ workers) × (workers ≤ 16) }
     ensures ok { IfOk result (λ text. Looks bytes.items query text.items) }
     ensures err { IfErr result (RefusesAsking query bytes.items) }
 {
-    let site = read_site(alloc, bytes)?;
+    let site = read_site(rt, alloc, bytes, workers)?;
     tell(alloc, &site, query)
 }
 

@@ -21,6 +21,7 @@ use gf_shape::OutOfMemory;
 use gf_site::Site;
 use gf_studio::{StudioError, input};
 use std::alloc::Global;
+use std::thread::Threads;
 
 /// The text of a status, and whether something waits or differs.
 #[derive(Drop)]
@@ -29,16 +30,19 @@ struct Status {
     state: State,
 }
 
-/// Reads operation lines to their end, and writes the status of their history. It has a line for
-/// each site with operations, and one for each operation that waits. The lines of an object tell how
-/// many versions it has, which attributes differ among the visible ones, and what changed it while
-/// it was hidden. The answer is whether something waits or differs. All is read before the first
-/// write.
-pub fn status_run<R: Source, W: Sink>(
+/// Reads operation lines to their end, by 1 to 16 workers, and writes the status of their history.
+/// It has a line for each site with operations, and one for each operation that waits. The lines of
+/// an object tell how many versions it has, which attributes differ among the visible ones, and what
+/// changed it while it was hidden. The answer is whether something waits or differs. All is read
+/// before the first write.
+pub fn status_run<T: Threads + Sync, R: Source, W: Sink>(
+    rt: &T,
     alloc: Global,
     source: &mut R,
     sink: &mut W,
+    workers: u8,
 ) -> Result<State, StudioError>
+    requires { (1 ≤ workers) × (workers ≤ 16) }
     // What is written is the status of the history that the bytes denote.
     ensures tells { IfOk result (λ state. IfSome (R.left source.old) (λ bytes.
         WritesStatus bytes state (W.taken sink.old) (W.taken sink.new))) }
@@ -60,7 +64,7 @@ pub fn status_run<R: Source, W: Sink>(
     ensures takes { ConsumesAtMost (MOST_INPUT_BYTES + 1) (R.left source.old) (R.left source.new) }
     ensures reads { R.reads source.new ≤ R.reads source.old + (MOST_INPUT_BYTES + 1) }
 {
-    let status = status_of_lines(alloc, source)?;
+    let status = status_of_lines(rt, alloc, source, workers)?;
     match write_whole(sink, &status.text) {
         Ok(()) => Ok(status.state),
         Err(SinkFault) => Err(StudioError::WriteFailed),
@@ -68,7 +72,13 @@ pub fn status_run<R: Source, W: Sink>(
 }
 
 /// The status of the history that the lines of a source denote.
-fn status_of_lines<R: Source>(alloc: Global, source: &mut R) -> Result<Status, StudioError>
+fn status_of_lines<T: Threads + Sync, R: Source>(
+    rt: &T,
+    alloc: Global,
+    source: &mut R,
+    workers: u8,
+) -> Result<Status, StudioError>
+    requires { (1 ≤ workers) × (workers ≤ 16) }
     ensures ok { IfOk result (λ status. IfSome (R.left source.old) (λ bytes.
         DenotesStatus bytes status.text.items status.state)) }
     ensures source { ReadsFor MOST_INPUT_BYTES (R.left source.old) (R.left source.new)
@@ -80,15 +90,21 @@ fn status_of_lines<R: Source>(alloc: Global, source: &mut R) -> Result<Status, S
     ensures reads { R.reads source.new ≤ R.reads source.old + (MOST_INPUT_BYTES + 1) }
 {
     let bytes = input(alloc, source)?;
-    status_of(alloc, bytes)
+    status_of(rt, alloc, bytes, workers)
 }
 
 /// The status of the history that these bytes denote.
-fn status_of(alloc: Global, bytes: Vec<u8>) -> Result<Status, StudioError>
+fn status_of<T: Threads + Sync>(
+    rt: &T,
+    alloc: Global,
+    bytes: Vec<u8>,
+    workers: u8,
+) -> Result<Status, StudioError>
+    requires { (1 ≤ workers) × (workers ≤ 16) }
     ensures ok { IfOk result (λ status. DenotesStatus bytes.items status.text.items status.state) }
     ensures err { IfErr result (RefusesReading bytes.items) }
 {
-    let site = read_site(alloc, bytes)?;
+    let site = read_site(rt, alloc, bytes, workers)?;
     match tell(alloc, &site) {
         Ok(status) => Ok(status),
         Err(OutOfMemory) => Err(StudioError::OutOfMemory),

@@ -22,12 +22,16 @@ use gf_site::Site;
 use gf_versions::Ranked;
 use gf_visible::ranked_within;
 use std::alloc::Global;
+use std::thread::Threads;
 
-/// The drawing of the history that the lines of a source denote.
-pub fn drawing_of_lines<R: Source>(
+/// The drawing of the history that the lines of a source denote, read by 1 to 16 workers.
+pub fn drawing_of_lines<T: Threads + Sync, R: Source>(
+    rt: &T,
     alloc: Global,
     source: &mut R,
+    workers: u8,
 ) -> Result<Drawing<AnyShape>, StudioError>
+    requires { (1 ≤ workers) × (workers ≤ 16) }
     ensures ok { IfOk result (λ drawing. IfSome (R.left source.old) (λ bytes.
         Draws bytes drawing)) }
     ensures meant { IfOk result (λ drawing. IfSome (R.left source.old) (λ bytes.
@@ -41,7 +45,7 @@ pub fn drawing_of_lines<R: Source>(
     ensures reads { R.reads source.new ≤ R.reads source.old + (MOST_INPUT_BYTES + 1) }
 {
     let bytes = input(alloc, source)?;
-    draw(alloc, bytes)
+    draw(rt, alloc, bytes, workers)
 }
 
 /// The drawing that the FIG text of a source reads as.
@@ -75,11 +79,17 @@ pub fn input<R: Source>(alloc: Global, source: &mut R) -> Result<Vec<u8>, Studio
 }
 
 /// The drawing of the history that these bytes denote.
-fn draw(alloc: Global, bytes: Vec<u8>) -> Result<Drawing<AnyShape>, StudioError>
+fn draw<T: Threads + Sync>(
+    rt: &T,
+    alloc: Global,
+    bytes: Vec<u8>,
+    workers: u8,
+) -> Result<Drawing<AnyShape>, StudioError>
+    requires { (1 ≤ workers) × (workers ≤ 16) }
     ensures ok { IfOk result (λ drawing. Draws bytes.items drawing) }
     ensures err { IfErr result (RefusesDrawing bytes.items) }
 {
-    let site = read_site(alloc, bytes)?;
+    let site = read_site(rt, alloc, bytes, workers)?;
     let drawing = draw_site(alloc, &site)?;
     Ok(drawing)
 }

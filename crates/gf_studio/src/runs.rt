@@ -17,14 +17,17 @@ use gf_raster::{Gate, Window, ppm_to};
 use std::alloc::Global;
 use std::thread::Threads;
 
-/// Reads operation lines to their end, and writes the FIG text of the drawing that their history
-/// means. It reads all before the first write.
+/// Reads operation lines to their end, by 1 to 16 workers, and writes the FIG text of the drawing
+/// that their history means. It reads all before the first write.
 #[tactic(auto, using(crate::proofs::ExportLemmas::exported))]
-pub fn fig_run<R: Source, W: Sink>(
+pub fn fig_run<T: Threads + Sync, R: Source, W: Sink>(
+    rt: &T,
     alloc: Global,
     source: &mut R,
     sink: &mut W,
+    workers: u8,
 ) -> Result<(), StudioError>
+    requires { (1 ≤ workers) × (workers ≤ 16) }
     // What is written reads, by the FIG grammar, as a drawing that has at every point of the grid
     // the colour that the history means there which the bytes denote; to the byte it is the one
     // text of that history's canonical drawing.
@@ -52,13 +55,13 @@ pub fn fig_run<R: Source, W: Sink>(
     ensures takes { ConsumesAtMost (MOST_INPUT_BYTES + 1) (R.left source.old) (R.left source.new) }
     ensures reads { R.reads source.new ≤ R.reads source.old + (MOST_INPUT_BYTES + 1) }
 {
-    let drawing = drawing_of_lines(alloc, source)?;
+    let drawing = drawing_of_lines(rt, alloc, source, workers)?;
     write_fig(alloc, &drawing, sink)?;
     Ok(())
 }
 
 /// Reads operation lines to their end, and writes the picture, in a window, of the colours that
-/// their history means, painted by 1 to 16 workers. It reads all before the first write.
+/// their history means, read and painted by 1 to 16 workers. It reads all before the first write.
 pub fn paint_run<T: Threads + Sync, R: Source, W: Sink, G: Gate + Sync>(
     rt: &T,
     alloc: Global,
@@ -95,7 +98,7 @@ pub fn paint_run<T: Threads + Sync, R: Source, W: Sink, G: Gate + Sync>(
     ensures takes { ConsumesAtMost (MOST_INPUT_BYTES + 1) (R.left source.old) (R.left source.new) }
     ensures reads { R.reads source.new ≤ R.reads source.old + (MOST_INPUT_BYTES + 1) }
 {
-    let meant = drawing_of_lines(alloc, source)?;
+    let meant = drawing_of_lines(rt, alloc, source, workers)?;
     ppm_to(rt, alloc, &meant, window, workers, gate, sink)?;
     Ok(())
 }

@@ -1,12 +1,13 @@
 //! The statuses of histories, from the rules of a status.
 
+use example_parts::is_answer;
 use example_parts::notation::operation;
-use example_parts::{Answers, ask};
 use gf_bytes::{Reel, Tape};
 use gf_json::op_line;
 use gf_status::{State, status_run};
 use std::alloc::Global;
 use std::test::Fail;
+use std::thread::Threads;
 
 /// Each row: operations, and what their status tells, a `;` behind each but the last.
 const ROWS: &str = "
@@ -102,20 +103,20 @@ fn told(alloc: Global, state: State, lines: &str) -> Option<String> {
     Some(text)
 }
 
-#[derive(Drop)]
-struct Statuses;
-
-impl Answers for Statuses {
-    fn answer(&mut self, alloc: Global, question: &str) -> Option<String> {
-        let input = lines(alloc, question)?;
-        let mut source = Reel::new(&input, None);
-        let mut sink = Tape::new(alloc, None);
-        let state = status_run(alloc, &mut source, &mut sink).ok()?;
-        told(alloc, state, str::from_utf8(sink.bytes()).ok()?)
-    }
+fn answer<T: Threads + Sync>(rt: &T, alloc: Global, question: &str) -> Option<String> {
+    let input = lines(alloc, question)?;
+    let mut source = Reel::new(&input, None);
+    let mut sink = Tape::new(alloc, None);
+    let state = status_run(rt, alloc, &mut source, &mut sink, 2).ok()?;
+    told(alloc, state, str::from_utf8(sink.bytes()).ok()?)
 }
 
 #[test]
 fn statuses_tell_what_is_open(rt: HostRuntime) -> Result<(), Fail> {
-    ask(rt.alloc(), ROWS, &mut Statuses)
+    for row in ROWS.lines() {
+        if let Some((question, want)) = row.split_once('|') {
+            is_answer(row, want.trim(), answer(&rt, rt.alloc(), question.trim()))?;
+        }
+    }
+    Ok(())
 }

@@ -8,6 +8,7 @@ use gf_ops::{OpFault, OpId};
 use gf_studio::{LineCause, SessionError, StudioError, fig_run};
 use std::alloc::{AllocError, Global};
 use std::test::Fail;
+use std::thread::Threads;
 
 /// Each row: the answer and how many bytes the sink took, which side fails after how many, and the
 /// pieces of the input.
@@ -59,11 +60,16 @@ fn limit(cell: &str, side: &str) -> Option<u64> {
 }
 
 /// What a run answers, and how many bytes its sink takes.
-fn answer(alloc: Global, failing: &str, names: &str) -> Result<String, Fail> {
+fn answer<T: Threads + Sync>(
+    rt: &T,
+    alloc: Global,
+    failing: &str,
+    names: &str,
+) -> Result<String, Fail> {
     let input = joined(alloc, names)?;
     let mut source = Reel::new(input.as_bytes(), limit(failing, "source"));
     let mut sink = Tape::new(alloc, limit(failing, "sink"));
-    let result = fig_run(alloc, &mut source, &mut sink);
+    let result = fig_run(rt, alloc, &mut source, &mut sink, 1);
     let taken = sink.bytes().len();
     match result {
         Ok(()) => Ok(format!(in alloc; "ok, {taken}")?),
@@ -80,7 +86,7 @@ fn runs_answer_the_first_fault(rt: HostRuntime) -> Result<(), Fail> {
         let Some((failing, names)) = rest.split_once('|') else {
             return Err(Fail::new("a row lacks a cell"));
         };
-        let answer = answer(rt.alloc(), failing.trim(), names)?;
+        let answer = answer(&rt, rt.alloc(), failing.trim(), names)?;
         assert_eq!(rt; answer.as_str(), want.trim(), "of {row}");
     }
     Ok(())
@@ -91,7 +97,7 @@ fn a_source_that_fails_anywhere_is_told(rt: HostRuntime) -> Result<(), Fail> {
     let alloc = rt.alloc();
     for count in 0..RED_BOX.len() {
         let failing = format!(in alloc; "source {count}")?;
-        let answer = answer(alloc, failing.as_str(), "red_box")?;
+        let answer = answer(&rt, alloc, failing.as_str(), "red_box")?;
         assert_eq!(rt; answer.as_str(), "read failed, 0", "after {count}");
     }
     Ok(())
@@ -99,10 +105,15 @@ fn a_source_that_fails_anywhere_is_told(rt: HostRuntime) -> Result<(), Fail> {
 
 /// What a run over the red box onto a tape of this limit answers, and whether the tape then holds
 /// these bytes.
-fn taken(alloc: Global, limit: u64, want: &[u8]) -> (Result<(), StudioError>, bool) {
+fn taken<T: Threads + Sync>(
+    rt: &T,
+    alloc: Global,
+    limit: u64,
+    want: &[u8],
+) -> (Result<(), StudioError>, bool) {
     let mut sink = Tape::new(alloc, Some(limit));
     let mut source = Reel::new(RED_BOX.as_bytes(), None);
-    let result = fig_run(alloc, &mut source, &mut sink);
+    let result = fig_run(rt, alloc, &mut source, &mut sink, 1);
     (result, sink.bytes() == want)
 }
 
@@ -116,7 +127,7 @@ fn a_sink_that_fails_anywhere_has_a_front(rt: HostRuntime) {
             Ok(())
         };
         assert_eq!(rt;
-            taken(rt.alloc(), limit, front),
+            taken(&rt, rt.alloc(), limit, front),
             (want, true),
             "limit {limit}"
         );
@@ -124,26 +135,61 @@ fn a_sink_that_fails_anywhere_has_a_front(rt: HostRuntime) {
 }
 
 /// What a run answers to so many blank lines before the red box, and how many bytes its sink takes.
-fn answer_behind(alloc: Global, blank: usize) -> Result<String, Fail> {
+fn answer_behind<T: Threads + Sync>(rt: &T, alloc: Global, blank: usize) -> Result<String, Fail> {
     let mut input = Vec::new(alloc);
     input.resize(blank, b'\n')?;
     input.extend_from_slice(RED_BOX.as_bytes())?;
     let mut sink = Tape::new(alloc, None);
-    let result = fig_run(alloc, &mut Reel::new(&input, None), &mut sink);
+    let result = fig_run(rt, alloc, &mut Reel::new(&input, None), &mut sink, 1);
     Ok(format!(in alloc; "{result:?}, {}", sink.bytes().len())?)
 }
 
 #[test]
 fn an_input_may_have_many_lines(rt: HostRuntime) -> Result<(), Fail> {
-    let answer = answer_behind(rt.alloc(), 100_000)?;
+    let answer = answer_behind(&rt, rt.alloc(), 100_000)?;
     assert_eq!(rt; answer.as_str(), "Ok(()), 156");
+    Ok(())
+}
+
+/// What a run by so many workers answers to so many red boxes, a blank line and a brace.
+fn answer_of_boxes<T: Threads + Sync>(
+    rt: &T,
+    alloc: Global,
+    boxes: usize,
+    workers: u8,
+) -> Result<String, Fail> {
+    let mut input = Vec::new(alloc);
+    for _ in 0..boxes {
+        input.extend_from_slice(RED_BOX.as_bytes())?;
+        input.push(b'\n')?;
+    }
+    input.extend_from_slice(b"\n{\n")?;
+    let mut sink = Tape::new(alloc, None);
+    let workers = workers.clamp(1, 16);
+    let result = fig_run(rt, alloc, &mut Reel::new(&input, None), &mut sink, workers);
+    Ok(format!(in alloc; "{result:?}")?)
+}
+
+#[test]
+fn lines_between_blocks_keep_their_numbers(rt: HostRuntime) -> Result<(), Fail> {
+    // A block has 16,384 lines, and 256 are worth a thread.
+    for (boxes, workers, want) in [
+        (255, 1, "Err(Line(257, Json))"),
+        (255, 16, "Err(Line(257, Json))"),
+        (256, 16, "Err(Line(258, Json))"),
+        (700, 3, "Err(Line(702, Json))"),
+        (16_384, 4, "Err(Line(16386, Json))"),
+    ] {
+        let answer = answer_of_boxes(&rt, rt.alloc(), boxes, workers)?;
+        assert_eq!(rt; answer.as_str(), want, "of {boxes} by {workers}");
+    }
     Ok(())
 }
 
 #[test]
 fn a_line_that_is_no_json_is_a_fault_of_its_own(rt: HostRuntime) {
     let mut sink = Tape::new(rt.alloc(), None);
-    let result = fig_run(rt.alloc(), &mut Reel::new(b"{", None), &mut sink);
+    let result = fig_run(&rt, rt.alloc(), &mut Reel::new(b"{", None), &mut sink, 1);
     assert_eq!(rt; result, Err(StudioError::Line(1, LineCause::Json)));
 }
 
