@@ -32,6 +32,7 @@ status         | box / blue / green /    | 0 | site 1 has 2\nsite 2 has 1\nobjec
 status --check | box / blue / green /    | 1 | site 1 has 2\nsite 2 has 1\nobject 1.1 has 2 versions, 2 shown\nobject 1.1 colour 1.2 2.1\n |
 status --check | hides_green / green / blue / box / | 0 | site 1 has 3\nsite 2 has 1\nobject 1.1 has 2 versions, 1 shown\n |
 status --check | blue /                  | 1 | operation 1.2 waits for 1.1\n |
+status --check --workers 16 | box / blue / green / | 1 | site 1 has 2\nsite 2 has 1\nobject 1.1 has 2 versions, 2 shown\nobject 1.1 colour 1.2 2.1\n |
 status --check | box /                   | 0 | site 1 has 1\n |
 status         | box / { /               | 1 | | figgroup: line 2: Json\n
 

@@ -35,7 +35,8 @@ module _ (Fits : Sides → View → Type 0) (IsShown : (Point → Rgb) → Type 
 
   -- they grow by a front of it, perhaps by whole bands
   abbrev pub WritesExtentFront : Extent → Type 0
-  WritesExtentFront (Window w) = WritesPictureFront IsShown w old new ⊎ WritesBands IsShown w old new
+  WritesExtentFront (Window w) =
+      WritesPictureFront IsShown w old new ⊎ WritesBands IsShown w old new
   WritesExtentFront (Fitted frame) = WritesFittedFront (Fits frame) IsShown old new
       ⊎ WritesFittedBands (Fits frame) IsShown old new
 
@@ -44,16 +45,16 @@ module _ (Fits : Sides → View → Type 0) (IsShown : (Point → Rgb) → Type 
 -- query, the commands that an import makes, the operations that an edit makes, a status, nothing
 -- where there is no fault, or what a session came to
 abbrev pub Answers : Run → List ℕ → Option (List ℕ) → Option (List ℕ) → Type 0
-Answers Fig bytes old new = Exports bytes old new
+Answers (Fig workers) bytes old new = Exports bytes old new
 Answers (Paint canvas) bytes old new =
     WritesExtent (FitsLines bytes) (IsMeant bytes) old new canvas.extent
 Answers (Repaint canvas) bytes old new =
     WritesExtent (FitsText bytes) (IsDenoted bytes) old new canvas.extent
-Answers (Inspect query) bytes old new = WritesLook bytes query old new
+Answers (Inspect query workers) bytes old new = WritesLook bytes query old new
 Answers (Import editor) bytes old new = WritesImport editor.site bytes old new
 Answers (Edit editor) bytes old new =
     (made : Option Made) × WritesEdit editor.site bytes made old new
-Answers (Status check) bytes old new =
+Answers (Status check workers) bytes old new =
     (state : State) × (check ≡ true → state ≡ Clean) × WritesStatus bytes state old new
 Answers Check bytes old new = WritesCheck bytes verdict.Clean old new
 Answers (Session sites) bytes old new = WritesSession sites bytes old new
@@ -61,21 +62,22 @@ Answers (Session sites) bytes old new = WritesSession sites bytes old new
 -- known bytes grow from old to new by a front of what the run asks for, of a picture perhaps by
 -- whole bands
 abbrev pub AnswersFront : Run → List ℕ → Option (List ℕ) → Option (List ℕ) → Type 0
-AnswersFront Fig bytes old new = WritesFront bytes old new
+AnswersFront (Fig workers) bytes old new = WritesFront bytes old new
 AnswersFront (Paint canvas) bytes old new =
     WritesExtentFront (FitsLines bytes) (IsMeant bytes) old new canvas.extent
 AnswersFront (Repaint canvas) bytes old new =
     WritesExtentFront (FitsText bytes) (IsDenoted bytes) old new canvas.extent
-AnswersFront (Inspect query) bytes old new = WritesLookFront bytes query old new
+AnswersFront (Inspect query workers) bytes old new = WritesLookFront bytes query old new
 AnswersFront (Import editor) bytes old new = WritesImportFront editor.site bytes old new
 AnswersFront (Edit editor) bytes old new = WritesEditFront editor.site bytes old new
-AnswersFront (Status check) bytes old new = WritesStatusFront bytes old new
+AnswersFront (Status check workers) bytes old new = WritesStatusFront bytes old new
 AnswersFront Check bytes old new = WritesCheckFront bytes old new
 AnswersFront (Session sites) bytes old new = WritesSessionFront sites bytes old new
 
 -- known bytes grow from old to new by what the run asks for, and this is to be seen to: something
 -- waits or differs, where that is asked for, or there is a fault
 abbrev pub AnswersOpen : Run → List ℕ → Option (List ℕ) → Option (List ℕ) → Type 0
-AnswersOpen (Status check) bytes old new = (check ≡ true) × WritesStatus bytes Open old new
+AnswersOpen (Status check workers) bytes old new =
+    (check ≡ true) × WritesStatus bytes Open old new
 AnswersOpen Check bytes old new = WritesCheck bytes verdict.Faulty old new
 AnswersOpen other bytes old new = ⊥

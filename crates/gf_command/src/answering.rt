@@ -107,20 +107,25 @@ fn answer<T: Threads + Wait + Sync, R: Source, W: Sink>(
         AnswersFront run bytes (W.taken output.old) (W.taken output.new))) }
 {
     match run {
-        Run::Fig => fig_run(alloc, source, output)?,
+        Run::Fig(workers) => fig_run(rt, alloc, source, output, workers.count)?,
         Run::Paint(canvas) => return paint(rt, alloc, source, output, canvas),
         Run::Repaint(canvas) => return repaint(rt, alloc, source, output, canvas),
-        Run::Inspect(query) => inspect_run(alloc, source, output, query)?,
+        Run::Inspect { query, workers } => {
+            inspect_run(rt, alloc, source, output, query, workers.count)?
+        }
         Run::Import(editor) => import_run(alloc, source, output, editor.site)?,
         Run::Edit(editor) => {
             if let Some(made) = edit_run(alloc, source, output, editor.site)? {
                 return Ok(Outcome::Made(made));
             }
         }
-        Run::Status { check } => match status_run(alloc, source, output)? {
-            State::Open if check => return Ok(Outcome::Open),
-            State::Open | State::Clean => {}
-        },
+        Run::Status { check, workers } => {
+            let state = status_run(rt, alloc, source, output, workers.count)?;
+            match state {
+                State::Open if check => return Ok(Outcome::Open),
+                State::Open | State::Clean => {}
+            }
+        }
         Run::Check => match check_run(alloc, source, output)? {
             Verdict::Faulty => return Ok(Outcome::Open),
             Verdict::Clean => {}

@@ -3,7 +3,7 @@
 //! - [`command`]: runs what the words ask for, and answers the status; [`refuse_words`]: the status
 //!   of words that could not be read.
 //!
-//! [`Run`], [`Canvas`] and [`Extent`] are those of `gf_words`.
+//! [`Run`], [`Canvas`], [`Extent`] and [`Workers`] are those of `gf_words`.
 #![tactic(auto)]
 
 mod answering;
@@ -12,4 +12,4 @@ mod painting;
 mod refusal;
 
 pub use answering::{command, refuse_words};
-pub use gf_words::{Canvas, Extent, Run};
+pub use gf_words::{Canvas, Extent, Run, Workers};

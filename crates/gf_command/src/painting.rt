@@ -31,6 +31,7 @@ pub(crate) fn paint<T: Threads + Sync, R: Source, W: Sink>(
         AnswersFront (run.Paint canvas) bytes (W.taken output.old) (W.taken output.new))) }
 {
     let Canvas { extent, workers } = canvas;
+    let workers = workers.count;
     match extent {
         Extent::Window(window) => {
             paint_run(rt, alloc, source, output, window, workers, &OpenGate)?;
@@ -59,6 +60,7 @@ pub(crate) fn repaint<T: Threads + Sync, R: Source, W: Sink>(
         AnswersFront (run.Repaint canvas) bytes (W.taken output.old) (W.taken output.new))) }
 {
     let Canvas { extent, workers } = canvas;
+    let workers = workers.count;
     match extent {
         Extent::Window(window) => {
             repaint_run(rt, alloc, source, output, window, workers, &OpenGate)?;

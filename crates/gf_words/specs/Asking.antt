@@ -21,6 +21,7 @@ use Rattle.gf_words.specs.declared.runs.Asked.TheVariants as asked
 use Rattle.gf_words.specs.declared.runs.Mistake.TheVariants as mistake
 use Rattle.gf_words.specs.declared.runs.QueryFault.{QueryFault}
 use Rattle.gf_words.specs.declared.runs.QueryFault.TheVariants.{NotOne, Unreadable}
+use Rattle.gf_words.specs.declared.runs.Workers.{Workers}
 use Rattle.gf_words.specs.declared.runs.Canvas.{Canvas}
 use Rattle.gf_words.specs.declared.runs.Extent.{Extent}
 use Rattle.gf_words.specs.declared.runs.Extent.TheVariants as extent
@@ -91,11 +92,15 @@ abbrev pub IsExtent : List Row → Extent → Type 0
 IsExtent rows (extent.Window w) = (has_flag (codes "fit") rows ≡ false) × IsWindow rows w
 IsExtent rows (extent.Fitted frame) = IsTrue (has_flag (codes "fit") rows) × IsFrame rows frame
 
+-- in these rows the option for the workers has their count
+abbrev pub HasWorkers : List Row → Workers → Type 0
+HasWorkers rows workers = HasNatural rows (codes "workers") workers.count
+
 -- the options of these rows have what the canvas has, and no window that fits is placed
 pub record IsCanvas (rows : List Row) (canvas : Canvas) : Type 0 where
   pub extent : IsExtent rows canvas.extent
   pub unplaced : is_placed_fit rows ≡ false
-  pub workers : HasNatural rows (codes "workers") canvas.workers
+  pub workers : HasWorkers rows canvas.workers
 
 -- a query, or why there is none
 abbrev pub Answer : Type 0
@@ -131,17 +136,18 @@ Meets met name P = (rows : List Row) × (met ≡ Some (name, rows)) × P rows
 
 -- what a command asks for that was met with its rows
 abbrev pub AsksRun : Option (Text × List Row) → Run → Type 0
-AsksRun met Fig = Meets met (codes "fig") (λ _. ⊤)
+AsksRun met (Fig workers) = Meets met (codes "fig") (λ rows. HasWorkers rows workers)
 AsksRun met (Paint canvas) = Meets met (codes "paint") (λ rows. IsCanvas rows canvas)
 AsksRun met (Repaint canvas) = Meets met (codes "repaint") (λ rows. IsCanvas rows canvas)
-AsksRun met (Inspect query) =
-    Meets met (codes "inspect") (λ rows. IsInspected rows (Ok query))
+AsksRun met (Inspect query workers) =
+    Meets met (codes "inspect") (λ rows. IsInspected rows (Ok query) × HasWorkers rows workers)
 AsksRun met (Import editor) =
     Meets met (codes "import") (λ rows. HasNatural rows (codes "site") editor.site)
 AsksRun met (Edit editor) =
     Meets met (codes "edit") (λ rows. HasNatural rows (codes "site") editor.site)
-AsksRun met (Status check) =
-    Meets met (codes "status") (λ rows. check ≡ has_flag (codes "check") rows)
+AsksRun met (Status check workers) =
+    Meets met (codes "status") (λ rows.
+    (check ≡ has_flag (codes "check") rows) × HasWorkers rows workers)
 AsksRun met Check = Meets met (codes "check") (λ _. ⊤)
 AsksRun met (Session sites) =
     Meets met (codes "session") (λ rows. HasNatural rows (codes "sites") sites)

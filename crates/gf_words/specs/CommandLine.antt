@@ -38,17 +38,25 @@ canvas =
     count (codes "width") (codes "64") 4096 ∷ count (codes "height") (codes "64") 4096 ∷
     count (codes "workers") (codes "1") 16 ∷ []
 
+-- how many workers read the lines of a run that only reads
+abbrev pub reading : Rule
+reading = count (codes "workers") (codes "4") 16
+
+-- the option of such a run
+abbrev pub readers : List Rule
+readers = reading ∷ []
+
 -- the options of a query
 abbrev pub query : List Rule
-query = text (codes "object") ∷ text (codes "at") ∷ []
+query = text (codes "object") ∷ text (codes "at") ∷ reading ∷ []
 
 -- the option of an edit and of an import, which has to be given
 abbrev pub site : List Rule
 site = record (text (codes "site")) { parser = Some (Unsigned 1 8); required = true } ∷ []
 
--- the option of a status
+-- the options of a status
 abbrev pub check : List Rule
-check = flag (codes "check") ∷ []
+check = flag (codes "check") ∷ reading ∷ []
 
 -- the option of a session
 abbrev pub sites : List Rule
@@ -61,7 +69,7 @@ command name options = record (new_shape name) { rules = options }
 -- the commands of the program
 abbrev pub commands : List Shape
 commands =
-    command (codes "fig") [] ∷ command (codes "paint") canvas ∷
+    command (codes "fig") readers ∷ command (codes "paint") canvas ∷
     command (codes "repaint") canvas ∷ command (codes "inspect") query ∷
     command (codes "import") site ∷ command (codes "edit") site ∷
     command (codes "status") check ∷ command (codes "check") [] ∷

@@ -2,7 +2,7 @@
 use Rattle.std.specs.Prelude.{List, []}
 use Rattle.clap.specs.Walk.{Rule}
 use Rattle.clap.specs.Simple.{App, Shape}
-use Rattle.gf_words.specs.CommandLine.{canvas, check, command, query, site, sites}
+use Rattle.gf_words.specs.CommandLine.{canvas, check, command, query, readers, site, sites}
 use Rattle.gf_words.specs.declared.describing.Takes.{Takes}
 use Rattle.gf_words.specs.declared.describing.Takes.TheVariants as takes
 use Rattle.gf_words.specs.declared.describing.Usage.{Usage}
@@ -10,6 +10,7 @@ use Rattle.gf_words.specs.declared.describing.Usage.{Usage}
 -- the options of a command that takes these
 abbrev pub options_of : Takes → List Rule
 options_of takes.None = []
+options_of takes.Workers = readers
 options_of takes.Canvas = canvas
 options_of takes.Query = query
 options_of takes.Site = site

@@ -5,14 +5,14 @@ ghost use Rattle.std.specs.Prelude.{IfErr, IfOk, IfSome, option_map, string_byte
 ghost use Rattle.clap.specs.Words.{HasKind, fault_of, found_of, kind_of, rows_of};
 ghost use Rattle.clap.specs.Words.{subcommand_of, subcommand_rows_of};
 ghost use Rattle.gf_words.specs.CommandLine as line;
-ghost use Rattle.gf_words.specs.Asking.{AsksQuery, HasNatural, HasNaturalOr, HasWholeOr, IsAsked};
-ghost use Rattle.gf_words.specs.Asking.{IsCanvas, IsExtent, IsFrame, IsInspected, IsNaturalOr};
-ghost use Rattle.gf_words.specs.Asking.{IsWholeOr, IsWindow, Tells, has_flag, is_given, is_placed};
-ghost use Rattle.gf_words.specs.Asking.{is_placed_fit, is_true};
+ghost use Rattle.gf_words.specs.Asking.{AsksQuery, HasNatural, HasNaturalOr, HasWholeOr, HasWorkers};
+ghost use Rattle.gf_words.specs.Asking.{IsAsked, IsCanvas, IsExtent, IsFrame, IsInspected};
+ghost use Rattle.gf_words.specs.Asking.{IsNaturalOr, IsWholeOr, IsWindow, Tells, has_flag};
+ghost use Rattle.gf_words.specs.Asking.{is_given, is_placed, is_placed_fit, is_true};
 
 use crate::describing::program;
 use crate::querying::{spelt_id, spelt_point};
-use crate::runs::{Asked, Canvas, Editor, Extent, Mistake, QueryFault, Run};
+use crate::runs::{Asked, Canvas, Editor, Extent, Mistake, QueryFault, Run, Workers};
 use clap::error::ErrorKind;
 use clap::{ArgMatches, Error};
 use gf_fit::Frame;
@@ -51,17 +51,21 @@ fn read_matches(matches: &ArgMatches<'_>) -> Option<Asked>
         return Some(Asked::Mistake(Mistake::PlacedFit));
     }
     match name {
-        "fig" => Some(Asked::Run(Run::Fig)),
+        "fig" => Some(Asked::Run(Run::Fig(workers_of(matches)?))),
         "paint" => Some(Asked::Run(Run::Paint(canvas_of(matches)?))),
         "repaint" => Some(Asked::Run(Run::Repaint(canvas_of(matches)?))),
         "inspect" => match query_of(matches) {
-            Ok(query) => Some(Asked::Run(Run::Inspect(query))),
+            Ok(query) => Some(Asked::Run(Run::Inspect {
+                query,
+                workers: workers_of(matches)?,
+            })),
             Err(fault) => Some(Asked::Mistake(Mistake::Query(fault))),
         },
         "import" => Some(Asked::Run(Run::Import(editor_of(matches)?))),
         "edit" => Some(Asked::Run(Run::Edit(editor_of(matches)?))),
         "status" => Some(Asked::Run(Run::Status {
             check: has_flag(matches, "check"),
+            workers: workers_of(matches)?,
         })),
         "check" => Some(Asked::Run(Run::Check)),
         "session" => Some(Asked::Run(Run::Session(byte(matches, "sites")?))),
@@ -154,12 +158,19 @@ fn canvas_of(matches: &ArgMatches<'_>) -> Option<Canvas>
     requires { is_placed_fit (rows_of (found_of matches.now)) ≡ false }
     ensures { IfSome result (IsCanvas (rows_of (found_of matches.now))) }
 {
-    let workers = byte(matches, "workers")?;
-    if workers < 1 || 16 < workers {
+    let extent = extent_of(matches)?;
+    let workers = workers_of(matches)?;
+    Some(Canvas { extent, workers })
+}
+
+fn workers_of(matches: &ArgMatches<'_>) -> Option<Workers>
+    ensures { IfSome result (HasWorkers (rows_of (found_of matches.now))) }
+{
+    let count = byte(matches, "workers")?;
+    if count < 1 || 16 < count {
         return None;
     }
-    let extent = extent_of(matches)?;
-    Some(Canvas { extent, workers })
+    Some(Workers { count })
 }
 
 fn extent_of(matches: &ArgMatches<'_>) -> Option<Extent>

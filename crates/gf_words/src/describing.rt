@@ -23,6 +23,7 @@ struct Usage {
 #[derive(Clone, Copy)]
 enum Takes {
     None,
+    Workers,
     Canvas,
     Query,
     Site,
@@ -35,7 +36,7 @@ const RUNS: [Usage; 9] = [
         name: "fig",
         about: "Read operation lines from standard input and write the FIG text of their drawing",
         example: "Example: cat site-*.jsonl | figgroup fig > drawing.fig",
-        takes: Takes::None,
+        takes: Takes::Workers,
     },
     Usage {
         name: "paint",
@@ -135,12 +136,33 @@ fn options<'a>(alloc: Global, takes: Takes) -> Result<Vec<Arg<'a>>, AllocError>
 {
     match takes {
         Takes::None => Ok(Vec::new(alloc)),
+        Takes::Workers => readers(alloc),
         Takes::Canvas => canvas(alloc),
         Takes::Query => query(alloc),
         Takes::Site => site(alloc),
         Takes::Check => check(alloc),
         Takes::Sites => sites(alloc),
     }
+}
+
+/// The option of a run that only reads operation lines.
+fn readers<'a>(alloc: Global) -> Result<Vec<Arg<'a>>, AllocError>
+    ensures { IfOk result (λ args. map rule_of args.items ≡ line.readers) }
+{
+    Ok(vec![in alloc; reading(alloc)]?)
+}
+
+/// How many workers read the lines of a run.
+fn reading<'a>(alloc: Global) -> Arg<'a>
+    ensures { rule_of result ≡ line.reading }
+{
+    count(
+        alloc,
+        "workers",
+        "4",
+        16,
+        "How many workers read the lines, 1 to 16; a short input is read by one",
+    )
 }
 
 /// The options of a picture.
@@ -189,7 +211,7 @@ fn canvas<'a>(alloc: Global) -> Result<Vec<Arg<'a>>, AllocError>
             "workers",
             "1",
             16,
-            "How many workers paint it, 1 to 16",
+            "How many workers read and paint it, 1 to 16",
         ),
     ]?)
 }
@@ -213,6 +235,7 @@ fn query<'a>(alloc: Global) -> Result<Vec<Arg<'a>>, AllocError>
             "Tell the version on top at this point, as --at=-5,7; X and Y are -2,147,483,648 to \
              2,147,483,647",
         ),
+        reading(alloc),
     ]?)
 }
 
@@ -226,7 +249,7 @@ fn site<'a>(alloc: Global) -> Result<Vec<Arg<'a>>, AllocError>
     Ok(vec![in alloc; site]?)
 }
 
-/// The option of a status.
+/// The options of a status.
 fn check<'a>(alloc: Global) -> Result<Vec<Arg<'a>>, AllocError>
     ensures { IfOk result (λ args. map rule_of args.items ≡ line.check) }
 {
@@ -236,6 +259,7 @@ fn check<'a>(alloc: Global) -> Result<Vec<Arg<'a>>, AllocError>
             "check",
             "End with status 1 where an operation waits or versions differ",
         ),
+        reading(alloc),
     ]?)
 }
 

@@ -10,21 +10,21 @@ use gf_studio::Window;
 /// What the words ask for.
 #[derive(Clone, Copy)]
 pub enum Run {
-    /// The FIG text of operation lines.
-    Fig,
+    /// The FIG text of operation lines, which these workers read.
+    Fig(Workers),
     /// The picture of operation lines.
     Paint(Canvas),
     /// The picture of a FIG text.
     Repaint(Canvas),
-    /// What a history answers to a query.
-    Inspect(Query),
+    /// What the history of operation lines answers to a query.
+    Inspect { query: Query, workers: Workers },
     /// The commands of this site that create the figures of a FIG text.
     Import(Editor),
     /// The operations that the commands of this site make behind the others.
     Edit(Editor),
     /// What has come, what waits, and which versions differ. If `check` is true, what waits or
     /// differs is told by the status too.
-    Status { check: bool },
+    Status { check: bool, workers: Workers },
     /// What is wrong with operation lines.
     Check,
     /// What a session of the scripts of so many sites came to.
@@ -71,10 +71,16 @@ pub enum Extent {
     Fitted(Frame),
 }
 
-/// What a picture shows, and how many workers paint it.
+/// How many threads read operation lines and paint, 1 to 16.
+#[derive(Clone, Copy)]
+pub struct Workers {
+    pub count: u8,
+    ghost in_range: { (1 ≤ count) × (count ≤ 16) },
+}
+
+/// What a picture shows, and the workers that paint it.
 #[derive(Clone, Copy)]
 pub struct Canvas {
     pub extent: Extent,
-    pub workers: u8,
-    ghost in_range: { (1 ≤ workers) × (workers ≤ 16) },
+    pub workers: Workers,
 }

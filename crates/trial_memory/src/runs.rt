@@ -107,7 +107,7 @@ impl Example<'_> {
         }
     }
 
-    /// Runs onto this tape; painters are two.
+    /// Runs onto this tape; readers and painters are two.
     fn run<T: Threads + Wait + Sync>(
         &self,
         rt: &T,
@@ -116,7 +116,7 @@ impl Example<'_> {
     ) -> Result<(), StudioError> {
         let mut source = Reel::new(self.input, None);
         match self.run {
-            Run::Fig => fig_run(alloc, &mut source, tape),
+            Run::Fig => fig_run(rt, alloc, &mut source, tape, 2),
             Run::Paint(window) => paint_run(rt, alloc, &mut source, tape, window, 2, &OpenGate),
             Run::Repaint(window) => repaint_run(rt, alloc, &mut source, tape, window, 2, &OpenGate),
             Run::PaintFitted(frame) => {
@@ -132,7 +132,7 @@ impl Example<'_> {
                 Err(ImportError::Run(error)) => Err(error),
                 Err(_) => Err(StudioError::ReadFailed),
             },
-            Run::Inspect(query) => inspect_run(alloc, &mut source, tape, query),
+            Run::Inspect(query) => inspect_run(rt, alloc, &mut source, tape, query, 2),
             Run::Edit => match edit_run(alloc, &mut source, tape, 1) {
                 Ok(_) => Ok(()),
                 Err(EditError::Run(error)) => Err(error),
@@ -141,7 +141,7 @@ impl Example<'_> {
                 ),
             },
             Run::Status => {
-                status_run(alloc, &mut source, tape)?;
+                status_run(rt, alloc, &mut source, tape, 2)?;
                 Ok(())
             }
             Run::Check => {
