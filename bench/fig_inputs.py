@@ -1,4 +1,4 @@
-"""Writes the inputs of bench/fig.sh to the folder that the word names."""
+"""Writes the inputs of bench/run.sh to the folder that the word names."""
 
 import json
 import random

@@ -1,4 +1,4 @@
-"""Writes the inputs of bench/fig_read.sh to the folder that the word names."""
+"""Writes the inputs of bench/run.sh to the folder that the word names."""
 
 import random
 import sys
@@ -35,7 +35,7 @@ def write(name, text):
 
 
 write("thousand", polygons(1_000))
-write("many", polygons(10_000))
+write("ten_thousand", polygons(10_000))
 write("empty", HEADER)
 write("cut", HEADER + "2 3 0 0 0 0 50 -1 20 0.000 0 0 -1 0 0 65536\n")
 for name, front, piece in (

@@ -1,4 +1,4 @@
-"""Writes the inputs of bench/paint.sh to the folder that the word names: FIG texts over a picture of 4,096 by 4,096."""
+"""Writes the inputs of bench/run.sh to the folder that the word names: FIG texts over a picture of 4,096 by 4,096."""
 
 import math
 import random
@@ -33,7 +33,7 @@ def comb(rng, teeth, width):
     points = []
     for x in sorted(rng.sample(range(SIDE), teeth)):
         points += [(x, 0), (x + width // 2, SIDE), (x + width, 0)]
-    return points[:POINTS]
+    return points
 
 
 def chain(kind, colour, depth, points):
@@ -76,5 +76,6 @@ write("ellipses", drawing(1_000, lambda rng, colour, depth: oval(rng, colour, de
 write("polygons", drawing(1_000, lambda rng, colour, depth: chain(3, colour, depth, ring(rng, 475, SIDE // 2))))
 write("large", drawing(1_000, lambda rng, colour, depth: chain(3, colour, depth, ring(rng, SIDE, 50))))
 write("stars", drawing(1_000, lambda rng, colour, depth: chain(3, colour, depth, ring(rng, SIDE, 50, 0.3))))
-write("combs", drawing(16, lambda rng, colour, depth: chain(3, colour, depth, comb(rng, 22, 8))))
+write("combs", drawing(16, lambda rng, colour, depth: chain(3, colour, depth, comb(rng, 21, 8))))
+write("hair", drawing(200, lambda rng, colour, depth: chain(3, colour, depth, comb(rng, 1_024, 1))))
 write("many", drawing(20_000, lambda rng, colour, depth: chain(3, colour, depth, ring(rng, 100, SIDE // 2))))
