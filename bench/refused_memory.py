@@ -4,7 +4,7 @@
 A refused call has to answer want of memory, leave what was there, and answer rightly when it is called again: trial_memory
 tells by one line whether it did. A refused command has to end with status 1, want of memory for an answer, and no output but the
 header and whole bands of a picture. Where the program does without what was refused, the answer has to be the expected one:
-of calls, only those may do so of which trial_memory says it. The threads of paint and session are refused likewise."""
+of calls, only those may do so of which trial_memory says it. The threads of fig, repaint and session are refused likewise."""
 
 import os
 import re
@@ -138,6 +138,15 @@ def built(name):
     return program
 
 
+def combs(count):
+    """A FIG text of so many combs over 1,000 by 128 points, whose rows are work enough for threads."""
+    header = "#FIG 3.2\nLandscape\nCenter\nMetric\nA4\n100.00\nSingle\n-2\n1200 2\n"
+    points = [point for k in range(100) for point in ((10 * k, 0), (10 * k + 5, 128))]
+    points = " ".join(f"{x} {y}" for x, y in points + points[:1])
+    comb = f"2 3 0 0 1 1 50 -1 20 0.000 0 0 -1 0 0 201\n\t {points}\n"
+    return (header + comb * count).encode()
+
+
 def commands(program):
     lines, places = input_of("three-sites"), input_of("two-places")
     edited, mistakes = input_of("two-colours", "[sc]*.jsonl"), input_of("mistakes")
@@ -146,8 +155,9 @@ def commands(program):
     return [
         Command(program, ["fig"], lines),
         Command(program, ["paint", *window, "--workers", "3"], places),
-        Command(program, ["paint", *window, "--workers", "3"], places, "THREAD"),
         Command(program, ["repaint", *window], figure),
+        Command(program, ["fig"], input_of("red-box") * 1_000, "THREAD"),
+        Command(program, ["repaint", "--width", "1000", "--height", "128", "--workers", "3"], combs(20), "THREAD"),
         Command(program, ["paint", "--fit"], places),
         Command(program, ["repaint", "--fit"], figure),
         Command(program, ["import", "--site", "1"], figure),
