@@ -1,10 +1,10 @@
 #!/usr/bin/env python3
 """Runs each public call and each command with its first allocation refused, with its second, and so on to its last.
 
-A refused call has to answer want of memory, leave what was there, and answer rightly when it is called again: trial_memory
+A refused call has to answer want of memory, leave what was there, and answer rightly when it is called again: test_memory
 tells by one line whether it did. A refused command has to end with status 1, want of memory for an answer, and no output but the
 header and whole bands of a picture. Where the program does without what was refused, the answer has to be the expected one:
-of calls, only those may do so of which trial_memory says it. The threads of fig, repaint and session are refused likewise."""
+of calls, only those may do so of which test_memory says it. The threads of fig, repaint and session are refused likewise."""
 
 import os
 import re
@@ -52,7 +52,7 @@ class Refuser:
 
 
 class Call:
-    """A public call on its worked example, as trial_memory runs it."""
+    """A public call on its worked example, as test_memory runs it."""
 
     what = "ALLOCATION"
     between = True
@@ -174,7 +174,7 @@ def commands(program):
 def main():
     subprocess.run([ROOT / "figgroup", "--version"], check=True, stdout=subprocess.DEVNULL)
     figgroup = ROOT / "crates" / "figgroup" / "out" / "figgroup"
-    calls = built("trial_memory")
+    calls = built("test_memory")
     listed = subprocess.run([calls], capture_output=True, text=True, check=True).stdout
     trials = [Call(calls, line) for line in listed.splitlines()] + commands(figgroup)
     with tempfile.TemporaryDirectory() as folder, ThreadPoolExecutor(os.cpu_count()) as threads:

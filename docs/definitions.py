@@ -15,13 +15,13 @@ HEADLINES = {
     "f": ("fig", "gf_studio.FigRun.Exports"),
     "p": ("paint", "gf_studio.PaintRun.IsMeant gf_studio.PaintRun.WritesPicture gf_fit.FittedRun.FitsLines"),
     "r": ("repaint", "gf_studio.PaintRun.IsDenoted gf_studio.PaintRun.WritesPicture gf_fit.FittedRun.FitsText"),
-    "i": ("inspect", "gf_looks.InspectRun.WritesLook"),
+    "i": ("inspect", "gf_studio.InspectRun.WritesLook"),
     "m": ("import", "gf_import.ImportRun.WritesImport"),
     "e": ("edit", "gf_edit.EditRun.WritesEdit"),
     "t": ("status", "gf_status.StatusRun.WritesStatus"),
     "c": ("check", "gf_check.CheckRun.WritesCheck"),
     "s": ("session", "gf_session_run.SessionRun.WritesSession"),
-    "w": ("the words of a command line", "gf_words.Asking.Tells gf_command.Outputs.WritesExtent"),
+    "w": ("the words of a command line", "gf_command.Asking.Tells gf_command.Outputs.WritesExtent"),
 }
 HEAD = """# Definitions
 
@@ -48,7 +48,7 @@ TAIL = """
   Systems 9(3), 1991: when an operation is ready.
 - Xfig, FIG Format 3.2; Netpbm, ppm(5); RFC 8259 (JSON), as serde_json reads it.
 
-Worked examples that the logic computes stand in `crates/definition_examples/specs/`.
+Worked examples that the logic computes stand in `crates/test_definitions/specs/`.
 """
 DEFINED = re.compile(r"\s*(?:abbrev pub|unfoldable pub|abbrev|unfoldable|pub record|pub data|record|data) (\S+)")
 IMPORTED = re.compile(r"^\s*use Rattle\.(\w+)\.specs\.([\w.]+)\.\{([^}]*)\}", re.M)

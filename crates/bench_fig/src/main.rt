@@ -1,9 +1,9 @@
 //! Splits, reads, or reads and writes again the FIG text of standard input, as the one word asks.
 #![tactic(auto)]
 
-use gf_bytes::{In, InputError, Out, Sink, Source, WriteError, read_input, write_whole};
 use gf_fig_read::{FigError, read_fig};
 use gf_fig_write::write_fig;
+use gf_streams::{In, InputError, Out, Sink, Source, WriteError, read_input, write_whole};
 use std::alloc::{AllocError, Global};
 use std::process::ExitCode;
 use thiserror::Error;

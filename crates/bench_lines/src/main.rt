@@ -2,7 +2,7 @@
 //! that reads operation lines does at least.
 #![tactic(auto)]
 
-use gf_bytes::{In, Source, TextLines, read_input};
+use gf_streams::{In, Source, TextLines, read_input};
 use serde_json::Value;
 use std::alloc::Global;
 use std::fmt::Write;

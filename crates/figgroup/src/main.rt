@@ -1,8 +1,8 @@
 //! figgroup: figures drawn by a group, exported as FIG text or as pictures.
 #![tactic(auto)]
 
-use gf_bytes::{In, Out};
 use gf_command::{command, refuse_words};
+use gf_streams::{In, Out};
 use std::io;
 use std::process::ExitCode;
 

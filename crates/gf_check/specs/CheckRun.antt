@@ -1,8 +1,8 @@
 -- What the checking run answers and writes, and why it is refused (this project's choice).
 use Rattle.std.specs.Prelude.{◌≡◌, ℕ, List, [], Option, ⊤}
 use Rattle.std.specs.Io.KnownBytes.{Appends}
-use Rattle.gf_bytes.specs.Taken.{AppendsFront}
-use Rattle.gf_faults.specs.AllFaults.{AnswersText, DenotesSome, TellsFaults}
+use Rattle.gf_streams.specs.Taken.{AppendsFront}
+use Rattle.gf_check.specs.AllFaults.{AnswersText, DenotesSome, TellsFaults}
 use Rattle.gf_studio.specs.declared.studio_error.StudioError.{StudioError}
 use Rattle.gf_studio.specs.declared.studio_error.StudioError.TheVariants as studio
 use Rattle.gf_check.specs.declared.checks.Verdict.{Verdict}

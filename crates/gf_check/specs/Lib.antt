@@ -1,1 +1,4 @@
 pub mod CheckRun
+pub mod FaultLines
+pub mod AllFaults
+pub mod CheckSteps

@@ -2,16 +2,16 @@
 
 ghost use Rattle.std.specs.Prelude.{◌≡◌, ◌≢◌, ◌+◌, ◌≤◌, ◌⊎◌, Err, IfSome, IfOk, IfErr, IsTrue};
 ghost use Rattle.std.specs.Prelude.{OnOk, List, ℕ};
-ghost use Rattle.gf_bytes.specs.Counts.{Rises};
-ghost use Rattle.gf_bytes.specs.Reads.{ConsumesAtMost};
+ghost use Rattle.gf_streams.specs.Counts.{Rises};
+ghost use Rattle.gf_streams.specs.Reads.{ConsumesAtMost};
 ghost use Rattle.gf_studio.specs.RunAnswers.{ReadsFor};
-ghost use Rattle.gf_faults.specs.AllFaults.{AnswersText};
+ghost use Rattle.gf_check.specs.AllFaults.{AnswersText};
 ghost use Rattle.gf_check.specs.CheckRun.{RefusesCheck, WritesCheck, WritesCheckFront};
 ghost use Rattle.gf_check.specs.CheckRun.{Checks};
 
-use gf_bytes::{MOST_INPUT_BYTES, Sink, SinkFault, Source, write_whole};
-use gf_faults::faults_of;
+use crate::faults_of;
 use gf_shape::OutOfMemory;
+use gf_streams::{MOST_INPUT_BYTES, Sink, SinkFault, Source, write_whole};
 use gf_studio::{StudioError, input};
 use std::alloc::Global;
 

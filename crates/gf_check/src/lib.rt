@@ -1,8 +1,19 @@
-//! The run that checks an input: all that a run over operation lines would refuse, each explained.
+//! What is wrong with operation lines: all that a run over them would refuse, each explained.
 //!
 //! - [`check_run`]: reads operation lines, writes a line for each fault, and answers a [`Verdict`].
+//! - [`faults_of`]: a line for each fault of a text, in the order in which they are met.
 #![tactic(auto)]
 
 mod checks;
+mod faults;
+mod forms;
+mod keys;
+mod limits;
+mod line_reasons;
+mod lines;
+mod operation_reasons;
+mod reasons;
+mod seen;
 
 pub use checks::{Verdict, check_run};
+pub use lines::faults_of;

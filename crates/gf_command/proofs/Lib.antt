@@ -1,1 +1,4 @@
 pub mod OpenLemmas
+mod AddingLemmas
+mod ReadingLemmas
+mod SpellingLemmas

@@ -1,6 +1,6 @@
 -- What an outcome says of the output. No public clause cites this module.
 use Rattle.std.specs.Prelude.{ℕ, List, Option}
-use Rattle.gf_words.specs.declared.runs.Run.{Run}
+use Rattle.gf_command.specs.declared.runs.Run.{Run}
 use Rattle.gf_command.specs.declared.answering.Outcome.{Outcome}
 use Rattle.gf_command.specs.declared.answering.Outcome.TheVariants as outcome
 use Rattle.gf_command.specs.Outputs.{Answers, AnswersOpen}

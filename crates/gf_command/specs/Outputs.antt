@@ -5,11 +5,11 @@ use Rattle.gf_studio.specs.PaintRun.{IsDenoted, IsMeant, WritesBands, WritesPict
 use Rattle.gf_studio.specs.PaintRun.{WritesPictureFront}
 use Rattle.gf_shape.specs.declared.colour.Rgb.{Rgb}
 use Rattle.gf_shape.specs.declared.point.Point.{Point}
-use Rattle.gf_window.specs.Windows.{View}
+use Rattle.gf_scanline.specs.Windows.{View}
 use Rattle.gf_fit.specs.Frames.{Sides}
 use Rattle.gf_fit.specs.FittedRun.{FitsLines, FitsText, WritesFittedBands, WritesFittedFront}
 use Rattle.gf_import.specs.ImportRun.{WritesImport, WritesImportFront}
-use Rattle.gf_looks.specs.InspectRun.{WritesLook, WritesLookFront}
+use Rattle.gf_studio.specs.InspectRun.{WritesLook, WritesLookFront}
 use Rattle.gf_edit.specs.declared.made.Made.{Made}
 use Rattle.gf_edit.specs.EditRun.{WritesEdit, WritesEditFront}
 use Rattle.gf_status.specs.declared.state.State.{State}
@@ -18,11 +18,11 @@ use Rattle.gf_status.specs.StatusRun.{WritesStatus, WritesStatusFront}
 use Rattle.gf_check.specs.declared.checks.Verdict.TheVariants as verdict
 use Rattle.gf_check.specs.CheckRun.{WritesCheck, WritesCheckFront}
 use Rattle.gf_session_run.specs.SessionRun.{WritesSession, WritesSessionFront}
-use Rattle.gf_words.specs.declared.runs.Run.{Run}
-use Rattle.gf_words.specs.declared.runs.Extent.{Extent}
-use Rattle.gf_words.specs.declared.runs.Extent.TheVariants.{Window, Fitted}
-use Rattle.gf_words.specs.declared.runs.Run.TheVariants.{Fig, Paint, Repaint, Inspect, Import}
-use Rattle.gf_words.specs.declared.runs.Run.TheVariants.{Edit, Status, Check, Session}
+use Rattle.gf_command.specs.declared.runs.Run.{Run}
+use Rattle.gf_command.specs.declared.runs.Extent.{Extent}
+use Rattle.gf_command.specs.declared.runs.Extent.TheVariants.{Window, Fitted}
+use Rattle.gf_command.specs.declared.runs.Run.TheVariants.{Fig, Paint, Repaint, Inspect, Import}
+use Rattle.gf_command.specs.declared.runs.Run.TheVariants.{Edit, Status, Check, Session}
 
 -- Fits says which windows of a frame fit, IsShown which colours are to be painted, and known bytes
 -- grow from old to new

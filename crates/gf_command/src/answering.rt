@@ -4,23 +4,22 @@ ghost use Rattle.std.specs.Prelude.{◌≡◌, ◌≤◌, ◌⊎◌, IfSome, IfE
 ghost use Rattle.std.specs.Prelude.{string_bytes};
 ghost use Rattle.gf_command.specs.Outputs.{Answers, AnswersFront, AnswersOpen};
 ghost use Rattle.gf_command.specs.Outcomes.{AnswersSo};
-ghost use Rattle.gf_words.specs.Asking.{Asks, AsksHelp};
-ghost use Rattle.gf_words.specs.declared.runs.Run.{Run};
+ghost use Rattle.gf_command.specs.Asking.{Asks, AsksHelp};
+ghost use Rattle.gf_command.specs.declared.runs.Run.{Run};
 
 use crate::chosen::Chosen;
 use crate::painting::{paint, repaint};
 use crate::refusal::Refusal;
+use crate::{Asked, Mistake, QueryFault, Run, parse};
 use clap::Error;
 use clap::error::ErrorKind;
-use gf_bytes::{Sink, Source, WriteError, write_whole};
 use gf_check::{Verdict, check_run};
 use gf_edit::{Made, edit_run};
 use gf_import::import_run;
-use gf_looks::inspect_run;
 use gf_session_run::session_run;
 use gf_status::{State, status_run};
-use gf_studio::{OpenGate, StudioError, fig_run};
-use gf_words::{Asked, Mistake, QueryFault, Run, parse};
+use gf_streams::{Sink, Source, WriteError, write_whole};
+use gf_studio::{OpenGate, StudioError, fig_run, inspect_run};
 use std::alloc::Global;
 use std::io;
 use std::sync::Wait;

@@ -2,14 +2,21 @@
 //!
 //! - [`command`]: runs what the words ask for, and answers the status; [`refuse_words`]: the status
 //!   of words that could not be read.
-//!
-//! [`Run`], [`Canvas`], [`Extent`] and [`Workers`] are those of `gf_words`.
+//! - [`parse`]: reads the words. [`Asked`] has the [`Run`] that they ask for, or a [`Mistake`] in
+//!   its options; clap's error has the text of a help, a version or another mistake.
+//! - [`Canvas`]: which [`Extent`] of the plane a run paints; [`Workers`]: how many threads read and
+//!   paint; [`Editor`]: which site makes operations.
 #![tactic(auto)]
 
 mod answering;
+mod asking;
 mod chosen;
+mod describing;
 mod painting;
+mod querying;
 mod refusal;
+mod runs;
 
 pub use answering::{command, refuse_words};
-pub use gf_words::{Canvas, Extent, Run, Workers};
+pub use asking::parse;
+pub use runs::{Asked, Canvas, Editor, Extent, Mistake, QueryFault, Run, Workers};

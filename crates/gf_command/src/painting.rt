@@ -3,15 +3,15 @@
 ghost use Rattle.std.specs.Prelude.{◌≡◌, ◌⊎◌, IfErr, IfOk, IfSome, IsTrue, OnOk};
 ghost use Rattle.gf_command.specs.Outputs.{AnswersFront};
 ghost use Rattle.gf_command.specs.Outcomes.{AnswersSo};
-ghost use Rattle.gf_words.specs.declared.runs.Run.TheVariants as run;
+ghost use Rattle.gf_command.specs.declared.runs.Run.TheVariants as run;
 
 use crate::answering::Outcome;
 use crate::chosen::numbers_of;
 use crate::refusal::Refusal;
-use gf_bytes::{Sink, Source};
+use crate::{Canvas, Extent};
 use gf_fit::{paint_fitted_run, repaint_fitted_run};
+use gf_streams::{Sink, Source};
 use gf_studio::{OpenGate, paint_run, repaint_run};
-use gf_words::{Canvas, Extent};
 use std::alloc::Global;
 use std::thread::Threads;
 

@@ -7,7 +7,7 @@
 //!   [`CompileFault`] tells.
 //!
 //! [`Sink`], [`write_whole`], [`Out`], [`Tape`], [`SinkFault`] and [`WriteError`] are those of
-//! `gf_bytes`.
+//! `gf_streams`.
 #![tactic(auto)]
 
 mod compiling;
@@ -19,6 +19,6 @@ mod table;
 pub use compiling::{CompileFault, MOST_VERSIONS, compile};
 pub use drawing::Drawing;
 pub use figure::Figure;
-pub use gf_bytes::{Out, Sink, SinkFault, Tape, WriteError, write_whole};
+pub use gf_streams::{Out, Sink, SinkFault, Tape, WriteError, write_whole};
 pub use laws::{outlines_paint_as_their_shapes, the_canonical_drawing_paints_the_history};
 pub use table::ColourTable;

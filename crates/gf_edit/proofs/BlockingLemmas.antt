@@ -14,7 +14,7 @@ use Rattle.gf_maximal.proofs.RisingLemmas.{below_tail, never_both}
 use Rattle.gf_causal.specs.HeldOperations.{AreHeld, ids_of}
 use Rattle.gf_causal.proofs.HeldLemmas.{ids_total}
 use Rattle.gf_site.specs.SiteState.{SiteState}
-use Rattle.gf_reading.specs.Taking.{HasTaken}
+use Rattle.gf_replay.specs.Taking.{HasTaken}
 use Rattle.gf_edit.specs.EditedText.{Blocks}
 use Rattle.gf_edit.specs.EditRun.{IsFirstBlocking}
 use Rattle.gf_edit.specs.Waiting.{is_blocking}

@@ -5,7 +5,7 @@ use Rattle.std.specs.Fmt.{digits, digits_onto, digit_glyph, decimal}
 use Rattle.std.proofs.lemmas.Bool.{and_parts, cases_lt, cases_eq}
 use Rattle.std.proofs.lemmas.Bool.Decides.{eqb_tells}
 use Rattle.std.proofs.lemmas.List.Elements.{All-from_recursion, All-cons}
-use Rattle.gf_bytes.specs.TextLines.{is_line_end}
+use Rattle.gf_streams.specs.TextLines.{is_line_end}
 use Rattle.gf_ops.specs.declared.op.Op.{Op}
 use Rattle.gf_json.specs.WrittenLines.{data_of, op_text}
 use Rattle.json.specs.Print.{escape_byte, escape, quoted}

@@ -2,12 +2,12 @@
 use Rattle.std.specs.Prelude.{Some, None, Ok, Err, find, map, Option, IfErr, IfOk, IfSome, Result}
 use Rattle.std.proofs.Common.{◌≡◌, ℕ, List, [], sym, ap, subst, ◌∙◌}
 use Rattle.std.proofs.lemmas.List.{append-nil}
-use Rattle.gf_bytes.specs.TextLines.{numbered_lines}
+use Rattle.gf_streams.specs.TextLines.{numbered_lines}
 use Rattle.gf_ops.specs.declared.op.OpId.{OpId}
 use Rattle.gf_causal.specs.HeldOperations.{AreHeld}
 use Rattle.gf_site.specs.SiteState.{SiteState}
-use Rattle.gf_reading.specs.Denoting.{AreLinesOf}
-use Rattle.gf_reading.proofs.TakingLemmas.{delivers}
+use Rattle.gf_replay.specs.Denoting.{AreLinesOf}
+use Rattle.gf_replay.proofs.TakingLemmas.{delivers}
 use Rattle.gf_studio.specs.declared.studio_error.StudioError.TheVariants as studio
 use Rattle.gf_edit.specs.declared.edit_error.EditError.{EditError}
 use Rattle.gf_edit.specs.declared.edit_error.EditError.TheVariants as edit

@@ -18,8 +18,8 @@ use Rattle.gf_causal.proofs.CourseLemmas.{count_push_same, count_push_other, del
 use Rattle.gf_causal.proofs.FinishLemmas.{delivery-push}
 use Rattle.gf_site.specs.SiteState.{authored}
 use Rattle.gf_site.proofs.CourseLemmas.{all_ready}
-use Rattle.gf_reading.specs.Denoting.{Delivers, Denotes}
-use Rattle.gf_world.proofs.GrowingLemmas.{valid_push}
+use Rattle.gf_replay.specs.Denoting.{Delivers, Denotes}
+use Rattle.gf_replicas.proofs.GrowingLemmas.{valid_push}
 use Rattle.gf_edit.specs.declared.numbered.Numbered.{Numbered}
 use Rattle.gf_edit.specs.Making.{Makes, none, author, await}
 use Rattle.gf_edit.specs.EditedText.{Blocks, JoinsEdit, commands_in, ops_in}

@@ -3,7 +3,7 @@ use Rattle.std.specs.Prelude.{◌⊎◌, Ok, Err}
 use Rattle.std.proofs.Common.{◌≡◌, ℕ, List, [], ◌∷◌, ◌++◌, map, refl, sym, ap, subst, ◌∙◌, append_assoc, inl, inr}
 use Rattle.std.proofs.lemmas.List.{map-append, append-nil}
 use Rattle.std.proofs.lemmas.List.Concat.{flat_map-append}
-use Rattle.gf_bytes.specs.TextLines.{numbered_lines}
+use Rattle.gf_streams.specs.TextLines.{numbered_lines}
 use Rattle.gf_ops.specs.declared.op.Op.{Op}
 use Rattle.gf_ops.specs.declared.op.OpId.{OpId}
 use Rattle.gf_ops.specs.declared.faults.OpFault.{OpFault}
@@ -14,13 +14,13 @@ use Rattle.gf_site.specs.SiteState.{SiteState, new_site}
 use Rattle.gf_json.specs.declared.line_error.LineError.{LineError}
 use Rattle.gf_json.specs.declared.line_error.LineError.TheVariants as line
 use Rattle.gf_json.specs.LineValues.{Got}
-use Rattle.gf_reading.specs.declared.reading_error.LineCause.{LineCause}
-use Rattle.gf_reading.specs.declared.reading_error.LineCause.TheVariants as cause
-use Rattle.gf_reading.specs.declared.reading_error.ReadingError.{ReadingError}
-use Rattle.gf_reading.specs.declared.reading_error.ReadingError.TheVariants as reading
-use Rattle.gf_reading.specs.Taking.{DropsBehind, HasTaken, RefusesOp, of_line}
-use Rattle.gf_reading.proofs.TakingLemmas.{HasTaken-moves, HasTaken-offer, delivers, other_taken, taken_delivery}
-use Rattle.gf_world.proofs.GrowingLemmas.{valid_nil}
+use Rattle.gf_replay.specs.declared.reading_error.LineCause.{LineCause}
+use Rattle.gf_replay.specs.declared.reading_error.LineCause.TheVariants as cause
+use Rattle.gf_replay.specs.declared.reading_error.ReadingError.{ReadingError}
+use Rattle.gf_replay.specs.declared.reading_error.ReadingError.TheVariants as reading
+use Rattle.gf_replay.specs.Taking.{DropsBehind, HasTaken, RefusesOp, of_line}
+use Rattle.gf_replay.proofs.TakingLemmas.{HasTaken-moves, HasTaken-offer, delivers, other_taken, taken_delivery}
+use Rattle.gf_replicas.proofs.GrowingLemmas.{valid_nil}
 use Rattle.gf_edit.specs.declared.entries.Entry.{Entry}
 use Rattle.gf_edit.specs.declared.entries.Entry.TheVariants as entry
 use Rattle.gf_edit.specs.declared.reading.ReadLines.{ReadLines}

@@ -2,7 +2,7 @@
 use Rattle.std.specs.Prelude.{All, Contains, Ok}
 use Rattle.std.proofs.Common.{◌≡◌, ℕ, ◌+◌, false, List, [], ◌∷◌, map, refl, ap, append_assoc}
 use Rattle.std.proofs.lemmas.List.Splits.{slice_split_at}
-use Rattle.gf_bytes.specs.TextLines.{is_blank, is_line_end, numbered_from}
+use Rattle.gf_streams.specs.TextLines.{is_blank, is_line_end, numbered_from}
 use Rattle.gf_ops.specs.declared.op.Op.{Op}
 use Rattle.gf_ops.proofs.ListLemmas.{Contains-cons_head, Contains-cons_tail}
 use Rattle.gf_json.specs.OperationLines.{denoted}
@@ -15,7 +15,7 @@ use Rattle.serde_json.specs.Data.{Data}
 use Rattle.serde_json.specs.Written.{compact_text}
 use Rattle.gf_json.specs.WrittenValues.{clock_data, name_data}
 use Rattle.gf_json.specs.WrittenLines.{change_data, creation_data, op_text}
-use Rattle.gf_reading.specs.Denoting.{denotes_op}
+use Rattle.gf_replay.specs.Denoting.{denotes_op}
 use Rattle.gf_edit.specs.Making.{written_lines}
 
 -- a written line begins with a bracket

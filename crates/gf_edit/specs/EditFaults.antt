@@ -1,6 +1,6 @@
 -- Which line is at fault, and which operation doesn't fit (this project's choice).
 use Rattle.std.specs.Prelude.{◌≡◌, ℕ, List, [], ◌∷◌, ◌++◌, Contains, Ok, Err, ⊤}
-use Rattle.gf_bytes.specs.TextLines.{numbered_lines}
+use Rattle.gf_streams.specs.TextLines.{numbered_lines}
 use Rattle.gf_ops.specs.declared.op.Op.{Op}
 use Rattle.gf_ops.specs.declared.op.OpId.{OpId}
 use Rattle.gf_ops.specs.declared.faults.OpFault.{OpFault}
@@ -10,11 +10,11 @@ use Rattle.gf_causal.specs.DeliveredPart.{AreOneById, IsDelivery}
 use Rattle.gf_causal.specs.HeldOperations.{HasOther}
 use Rattle.gf_causal.specs.Ready.{IsReady}
 use Rattle.gf_json.specs.declared.line_error.LineError.TheVariants as line
-use Rattle.gf_reading.specs.Denoting.{Delivers}
-use Rattle.gf_reading.specs.declared.reading_error.LineCause.{LineCause}
-use Rattle.gf_reading.specs.declared.reading_error.LineCause.TheVariants as cause
-use Rattle.gf_reading.specs.declared.reading_error.ReadingError.{ReadingError}
-use Rattle.gf_reading.specs.declared.reading_error.ReadingError.TheVariants as reading
+use Rattle.gf_replay.specs.Denoting.{Delivers}
+use Rattle.gf_replay.specs.declared.reading_error.LineCause.{LineCause}
+use Rattle.gf_replay.specs.declared.reading_error.LineCause.TheVariants as cause
+use Rattle.gf_replay.specs.declared.reading_error.ReadingError.{ReadingError}
+use Rattle.gf_replay.specs.declared.reading_error.ReadingError.TheVariants as reading
 use Rattle.gf_edit.specs.declared.entries.Entry.{Entry}
 use Rattle.gf_edit.specs.declared.entries.Entry.TheVariants as entry
 use Rattle.gf_edit.specs.Entries.{entry_denoted}

@@ -3,14 +3,14 @@ use Rattle.std.specs.Prelude.{◌≡◌, ◌≢◌, ℕ, List, Contains, Option}
 use Rattle.std.specs.Prelude.{Result, MatchResult, ⊤}
 use Rattle.std.specs.declared.cmp.Ordering.TheVariants.{Less}
 use Rattle.std.specs.Io.KnownBytes.{Appends}
-use Rattle.gf_bytes.specs.Taken.{AppendsFront}
-use Rattle.gf_bytes.specs.TextLines.{numbered_lines}
+use Rattle.gf_streams.specs.Taken.{AppendsFront}
+use Rattle.gf_streams.specs.TextLines.{numbered_lines}
 use Rattle.gf_ops.specs.declared.op.Op.{Op}
 use Rattle.gf_ops.specs.declared.op.OpId.{OpId}
 use Rattle.gf_ops.specs.Accepted.{AreAccepted}
 use Rattle.gf_ops.specs.OperationOrder.{id_cmp}
 use Rattle.gf_causal.specs.Waiting.{waits_for}
-use Rattle.gf_reading.specs.Denoting.{AreLinesOf, Delivers}
+use Rattle.gf_replay.specs.Denoting.{AreLinesOf, Delivers}
 use Rattle.gf_studio.specs.declared.studio_error.StudioError.TheVariants as studio
 use Rattle.gf_studio.specs.RunAnswers.{ReadsAll, ReadsUntil}
 use Rattle.gf_worker.specs.declared.report.Cause.{Cause}

@@ -1,13 +1,13 @@
 -- What the text of an edit denotes (this project's choice, over causal delivery).
 use Rattle.std.specs.Prelude.{◌≡◌, ◌⊎◌, ℕ, ◌<◌, List, [], ◌∷◌, ◌++◌}
 use Rattle.std.specs.Prelude.{Contains, Ok, flat_map, map}
-use Rattle.gf_bytes.specs.TextLines.{numbered_lines}
+use Rattle.gf_streams.specs.TextLines.{numbered_lines}
 use Rattle.gf_ops.specs.declared.op.Op.{Op}
 use Rattle.gf_ops.specs.OperationOrder.{entry, count_of}
 use Rattle.gf_ops.specs.Accepted.{AreAccepted}
 use Rattle.gf_json.specs.LineValues.{Got}
 use Rattle.gf_causal.specs.DeliveredPart.{HaveSame}
-use Rattle.gf_reading.specs.Denoting.{AreLinesOf, Delivers}
+use Rattle.gf_replay.specs.Denoting.{AreLinesOf, Delivers}
 use Rattle.gf_edit.specs.declared.entries.Entry.{Entry}
 use Rattle.gf_edit.specs.declared.entries.Entry.TheVariants.{Operation, Command as Told}
 use Rattle.gf_edit.specs.declared.numbered.Numbered.{Numbered}

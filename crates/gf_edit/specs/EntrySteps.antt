@@ -1,16 +1,16 @@
 -- What one line does to what was read. No public clause cites this module.
 use Rattle.std.specs.Prelude.{◌≡◌, ℕ, List, [], ◌∷◌, ◌++◌, Ok, Err, Some, ⊤}
 use Rattle.std.specs.Prelude.{None, find}
-use Rattle.gf_bytes.specs.TextLines.{numbered_lines}
+use Rattle.gf_streams.specs.TextLines.{numbered_lines}
 use Rattle.gf_ops.specs.declared.op.Op.{Op}
 use Rattle.gf_ops.specs.declared.op.OpId.{OpId}
 use Rattle.gf_causal.specs.Ready.{NoneIsReady}
 use Rattle.gf_causal.specs.Waiting.{waits_for}
 use Rattle.gf_site.specs.SiteState.{SiteState}
 use Rattle.gf_json.specs.declared.line_error.LineError.{LineError}
-use Rattle.gf_reading.specs.declared.reading_error.ReadingError.{ReadingError}
-use Rattle.gf_reading.specs.declared.reading_error.ReadingError.TheVariants as reading
-use Rattle.gf_reading.specs.Taking.{HasTaken, RefusesOp, TakesOp, of_line}
+use Rattle.gf_replay.specs.declared.reading_error.ReadingError.{ReadingError}
+use Rattle.gf_replay.specs.declared.reading_error.ReadingError.TheVariants as reading
+use Rattle.gf_replay.specs.Taking.{HasTaken, RefusesOp, TakesOp, of_line}
 use Rattle.gf_studio.specs.declared.studio_error.StudioError.TheVariants as studio
 use Rattle.gf_edit.specs.declared.edit_error.EditError.{EditError}
 use Rattle.gf_edit.specs.declared.edit_error.EditError.TheVariants as edit

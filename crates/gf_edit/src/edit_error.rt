@@ -5,7 +5,7 @@ ghost use Rattle.gf_edit.specs.declared.edit_error.EditError.TheVariants as edit
 ghost use Rattle.gf_studio.specs.Refusals.{of_reading};
 
 use gf_ops::OpId;
-use gf_reading::ReadingError;
+use gf_replay::ReadingError;
 use gf_studio::StudioError;
 use gf_worker::Cause;
 use thiserror::Error;

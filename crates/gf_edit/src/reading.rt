@@ -8,9 +8,9 @@ ghost use Rattle.gf_edit.specs.EntrySteps.{Gains, HasRead, RefusesEntry, Refuses
 
 use crate::entries::read_entry;
 use crate::{Entry, Numbered};
-use gf_bytes::TextLines;
-use gf_reading::{ReadingError, line_refusal, take_op};
+use gf_replay::{ReadingError, line_refusal, take_op};
 use gf_site::Site;
+use gf_streams::TextLines;
 use std::alloc::Global;
 
 /// What was read: a site with the operations, and the commands in order.

@@ -4,11 +4,11 @@ use Rattle.std.specs.Prelude.{not, ◌&&◌, ◌==◌, nat_lt, IsTrue, ◌↔◌
 use Rattle.std.proofs.lemmas.Bool.{and_parts}
 use Rattle.gf_shape.specs.Reach.{is_reached}
 use Rattle.gf_drawing.specs.Colours.{Table}
-use Rattle.gf_fig_text.specs.declared.faults.FigFault.{FigFault}
-use Rattle.gf_fig_text.specs.declared.faults.FigFault.TheVariants as fault
-use Rattle.gf_fig_text.specs.Layout.{Token, object_tokens, is_version, plain_lines, tokens, after_resolution}
-use Rattle.gf_fig_text.specs.Forms.{whole, decimal, angle, colour}
-use Rattle.gf_fig_text.specs.Fields.{Read, Reader, ◌>>=◌, read_on, field, any, check, checked, give, is_in, natural, no_angle, coordinate, point, points}
+use Rattle.gf_fig_tokens.specs.declared.faults.FigFault.{FigFault}
+use Rattle.gf_fig_tokens.specs.declared.faults.FigFault.TheVariants as fault
+use Rattle.gf_fig_tokens.specs.Layout.{Token, object_tokens, is_version, plain_lines, tokens, after_resolution}
+use Rattle.gf_fig_tokens.specs.Forms.{whole, decimal, angle, colour}
+use Rattle.gf_fig_tokens.specs.Fields.{Read, Reader, ◌>>=◌, read_on, field, any, check, checked, give, is_in, natural, no_angle, coordinate, point, points}
 use Rattle.gf_fig_read.specs.Styles.{known_colour, is_known, filling, style}
 use Rattle.gf_fig_read.specs.Outlines.{count, chain, disc, ellipse, oval}
 use Rattle.gf_fig_read.specs.Objects.{Drawn, colour_object, ellipse_object, polyline_object, object}

@@ -2,10 +2,10 @@
 use Rattle.std.proofs.Common.{◌≡◌, ◌≤◌, ℕ, zero, suc, List, [], ◌∷◌, length, Result, Ok, Err, refl, sym, ap, ◌∙◌, subst, arith, inl, inr}
 use Rattle.std.specs.Prelude.{IfErr, ◌⊎◌}
 use Rattle.gf_fig_read.specs.declared.faults.FigError.{FigError}
-use Rattle.gf_fig_text.specs.declared.faults.FigFault.{FigFault}
-use Rattle.gf_fig_text.specs.declared.faults.FigFault.TheVariants as fault
-use Rattle.gf_fig_text.specs.Layout.{Token, object_tokens}
-use Rattle.gf_fig_text.specs.Fields.{Read, natural}
+use Rattle.gf_fig_tokens.specs.declared.faults.FigFault.{FigFault}
+use Rattle.gf_fig_tokens.specs.declared.faults.FigFault.TheVariants as fault
+use Rattle.gf_fig_tokens.specs.Layout.{Token, object_tokens}
+use Rattle.gf_fig_tokens.specs.Fields.{Read, natural}
 use Rattle.gf_fig_read.specs.Objects.{Drawn, object}
 use Rattle.gf_fig_read.specs.FigGrammar.{Leads, none, more, nothing, Reads, StopsAt, Fails}
 use Rattle.gf_fig_read.specs.Computed.{Outcome, ComesTo, next_number, objects_of, outcome_of_tokens, outcome_of}

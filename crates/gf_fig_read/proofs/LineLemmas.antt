@@ -4,11 +4,11 @@ use Rattle.std.proofs.Common.{drop, get_or, Option, Some, None, Result, Ok, Err,
 use Rattle.std.proofs.Common.{subst, arith, inl, inr, ◌⊎◌}
 use Rattle.std.specs.Prelude.{IfOk, IsSome, MatchOption, slice_get, unwrap_or}
 use Rattle.std.proofs.lemmas.Option.{slice_get-get_or}
-use Rattle.gf_fig_text.specs.Layout.{Token, object_tokens}
-use Rattle.gf_fig_text.specs.TokenLines.{token_lines}
-use Rattle.gf_fig_text.specs.declared.faults.FigFault.{FigFault}
-use Rattle.gf_fig_text.specs.declared.faults.FigFault.TheVariants as fault
-use Rattle.gf_fig_text.proofs.NumberingLemmas.{a_line_for_each}
+use Rattle.gf_fig_tokens.specs.Layout.{Token, object_tokens}
+use Rattle.gf_fig_tokens.specs.TokenLines.{token_lines}
+use Rattle.gf_fig_tokens.specs.declared.faults.FigFault.{FigFault}
+use Rattle.gf_fig_tokens.specs.declared.faults.FigFault.TheVariants as fault
+use Rattle.gf_fig_tokens.proofs.NumberingLemmas.{a_line_for_each}
 use Rattle.gf_fig_read.specs.declared.faults.FigError.{FigError}
 use Rattle.gf_fig_read.specs.Objects.{Drawn, object}
 use Rattle.gf_fig_read.specs.FigGrammar.{Leads, none, more, nothing, Fails, is_of_front}

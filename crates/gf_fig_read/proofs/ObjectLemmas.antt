@@ -5,12 +5,12 @@ use Rattle.gf_shape.specs.declared.point.Point.{Point}
 use Rattle.gf_shape.specs.Reach.{is_reached}
 use Rattle.gf_shape.specs.declared.outline.Outline.{Outline}
 use Rattle.gf_drawing.specs.Colours.{Table}
-use Rattle.gf_fig_text.specs.declared.faults.FigFault.{FigFault}
-use Rattle.gf_fig_text.specs.declared.faults.FigFault.TheVariants as fault
+use Rattle.gf_fig_tokens.specs.declared.faults.FigFault.{FigFault}
+use Rattle.gf_fig_tokens.specs.declared.faults.FigFault.TheVariants as fault
 use Rattle.gf_fig_read.specs.declared.styles.Style.{Style}
-use Rattle.gf_fig_text.specs.Layout.{Token}
-use Rattle.gf_fig_text.specs.Forms.{whole, decimal, angle, colour}
-use Rattle.gf_fig_text.specs.Fields.{Read, Reader, ◌>>=◌, read_on, field, any, check, checked, give, is_in, natural, no_angle, coordinate, point, points}
+use Rattle.gf_fig_tokens.specs.Layout.{Token}
+use Rattle.gf_fig_tokens.specs.Forms.{whole, decimal, angle, colour}
+use Rattle.gf_fig_tokens.specs.Fields.{Read, Reader, ◌>>=◌, read_on, field, any, check, checked, give, is_in, natural, no_angle, coordinate, point, points}
 use Rattle.gf_fig_read.specs.Objects.{Drawn, with_figure, colour_object, ellipse_object, polyline_object, object}
 use Rattle.gf_fig_read.specs.Styles.{known_colour, is_known, filling, style}
 use Rattle.gf_fig_read.specs.Outlines.{count, chain, disc, ellipse, oval}

@@ -1,10 +1,10 @@
 -- What a text comes to, as a function that computes, with as many steps as there are tokens. No
 -- public clause cites this module: it is a tool for proofs and for worked examples.
 use Rattle.std.specs.Prelude.{ℕ, zero, suc, ◌+◌, List, [], ◌∷◌, length, Result, Ok, Err}
-use Rattle.gf_fig_text.specs.Layout.{Token, object_tokens}
+use Rattle.gf_fig_tokens.specs.Layout.{Token, object_tokens}
 use Rattle.gf_fig_read.specs.Objects.{Drawn, object}
 use Rattle.gf_fig_read.specs.FigGrammar.{nothing, Reads, Fails}
-use Rattle.gf_fig_text.specs.declared.faults.FigFault.{FigFault}
+use Rattle.gf_fig_tokens.specs.declared.faults.FigFault.{FigFault}
 
 -- a drawing, or a fault with the number of its object
 abbrev pub Outcome : Type 0

@@ -2,10 +2,10 @@
 -- (lines counted from 1, comments among them; this project's choice).
 use Rattle.std.specs.Prelude.{◌≡◌, ◌≢◌, ℕ, ◌+◌, ◌-◌, max, List, [], length, drop, slice_get}
 use Rattle.std.specs.Prelude.{Option, Some, None, Ok, MatchOption, unwrap_or}
-use Rattle.gf_fig_text.specs.Layout.{Token, lines, object_tokens}
-use Rattle.gf_fig_text.specs.TokenLines.{token_lines}
-use Rattle.gf_fig_text.specs.declared.faults.FigFault.{FigFault}
-use Rattle.gf_fig_text.specs.declared.faults.FigFault.TheVariants as fault
+use Rattle.gf_fig_tokens.specs.Layout.{Token, lines, object_tokens}
+use Rattle.gf_fig_tokens.specs.TokenLines.{token_lines}
+use Rattle.gf_fig_tokens.specs.declared.faults.FigFault.{FigFault}
+use Rattle.gf_fig_tokens.specs.declared.faults.FigFault.TheVariants as fault
 use Rattle.gf_fig_read.specs.declared.faults.FigError.{FigError}
 use Rattle.gf_fig_read.specs.Objects.{Drawn}
 use Rattle.gf_fig_read.specs.FigGrammar.{Leads, nothing}

@@ -3,10 +3,10 @@
 -- with level axes, without outline or arrows.
 use Rattle.std.specs.Prelude.{◌≡◌, ◌≢◌, ◌⊎◌, ℕ, ◌+◌, Bool, true, false}
 use Rattle.std.specs.Prelude.{List, [], length, Ok, Err}
-use Rattle.gf_fig_text.specs.Layout.{Token, object_tokens}
+use Rattle.gf_fig_tokens.specs.Layout.{Token, object_tokens}
 use Rattle.gf_fig_read.specs.Objects.{Drawn, object}
-use Rattle.gf_fig_text.specs.declared.faults.FigFault.{FigFault}
-use Rattle.gf_fig_text.specs.declared.faults.FigFault.TheVariants as fault
+use Rattle.gf_fig_tokens.specs.declared.faults.FigFault.{FigFault}
+use Rattle.gf_fig_tokens.specs.declared.faults.FigFault.TheVariants as fault
 
 -- the drawing before the first object: no colours, no figures
 abbrev pub nothing : Drawn

@@ -5,12 +5,12 @@ use Rattle.std.specs.Prelude.{if◌then◌else◌}
 use Rattle.gf_shape.specs.declared.outline.Outline.{Outline}
 use Rattle.gf_drawing.specs.Colours.{colour_in}
 use Rattle.gf_drawing.specs.DrawingState.{DrawingState}
-use Rattle.gf_fig_text.specs.Forms.{colour}
-use Rattle.gf_fig_text.specs.Fields.{Reader, ◌>>=◌, any, check, give, natural}
+use Rattle.gf_fig_tokens.specs.Forms.{colour}
+use Rattle.gf_fig_tokens.specs.Fields.{Reader, ◌>>=◌, any, check, give, natural}
 use Rattle.gf_fig_read.specs.Styles.{style}
 use Rattle.gf_fig_read.specs.Outlines.{chain, ellipse}
 use Rattle.gf_fig_read.specs.declared.styles.Style.{Style}
-use Rattle.gf_fig_text.specs.declared.faults.FigFault.TheVariants as fault
+use Rattle.gf_fig_tokens.specs.declared.faults.FigFault.TheVariants as fault
 
 -- what a FIG text denotes: a colour table and figures in file order, each with its outline
 abbrev pub Drawn : Type 0

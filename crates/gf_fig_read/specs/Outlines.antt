@@ -6,10 +6,10 @@ use Rattle.std.specs.Ordering.{int_eq}
 use Rattle.gf_shape.specs.declared.point.Point.{Point}
 use Rattle.gf_shape.specs.declared.outline.Outline.{Outline}
 use Rattle.gf_shape.specs.declared.outline.Outline.TheVariants.{Chain, Disc, Oval}
-use Rattle.gf_fig_text.specs.Forms.{whole, decimal}
-use Rattle.gf_fig_text.specs.Fields.{Reader, ◌>>=◌, any, check, give, natural, no_angle, point}
-use Rattle.gf_fig_text.specs.Fields.{points}
-use Rattle.gf_fig_text.specs.declared.faults.FigFault.TheVariants as fault
+use Rattle.gf_fig_tokens.specs.Forms.{whole, decimal}
+use Rattle.gf_fig_tokens.specs.Fields.{Reader, ◌>>=◌, any, check, give, natural, no_angle, point}
+use Rattle.gf_fig_tokens.specs.Fields.{points}
+use Rattle.gf_fig_tokens.specs.declared.faults.FigFault.TheVariants as fault
 
 -- both are there and are one point
 abbrev pub same_point : Option Point → Option Point → Bool

@@ -2,10 +2,10 @@
 -- style_val); the limits and the faults are this project's profile.
 use Rattle.std.specs.Prelude.{ℕ, Bool, ◌&&◌, is_some, ℤ, pos, nat_abs}
 use Rattle.gf_drawing.specs.Colours.{Table, rgb_of}
-use Rattle.gf_fig_text.specs.Forms.{whole, decimal}
-use Rattle.gf_fig_text.specs.Fields.{Reader, ◌>>=◌, field, any, give, is_in, natural}
+use Rattle.gf_fig_tokens.specs.Forms.{whole, decimal}
+use Rattle.gf_fig_tokens.specs.Fields.{Reader, ◌>>=◌, field, any, give, is_in, natural}
 use Rattle.gf_fig_read.specs.declared.styles.Style.{Style}
-use Rattle.gf_fig_text.specs.declared.faults.FigFault.TheVariants as fault
+use Rattle.gf_fig_tokens.specs.declared.faults.FigFault.TheVariants as fault
 
 -- n is the number of a standard colour, or of one defined before: those of the table
 abbrev pub is_known : Table → ℤ → Bool

@@ -1,6 +1,6 @@
 //! The fault of a FIG text, and where it stands.
 
-use gf_fig_text::FigFault;
+use gf_fig_tokens::FigFault;
 use thiserror::Error;
 
 /// The first fault of a FIG text and its object, counted from 1 with the colours; 0 for the faults

@@ -3,8 +3,8 @@
 ghost use Rattle.std.specs.Prelude.{◌≡◌, ◌≢◌, ◌⊎◌, ◌↔◌, IsTrue, List, ℕ};
 ghost use Rattle.gf_fig_read.specs.FigGrammar.{Reads, Fails, is_of_front};
 ghost use Rattle.gf_fig_read.specs.Objects.{Drawn};
-ghost use Rattle.gf_fig_text.specs.declared.faults.FigFault.{FigFault};
-ghost use Rattle.gf_fig_text.specs.declared.faults.FigFault.TheVariants as fault;
+ghost use Rattle.gf_fig_tokens.specs.declared.faults.FigFault.{FigFault};
+ghost use Rattle.gf_fig_tokens.specs.declared.faults.FigFault.TheVariants as fault;
 
 /// Every text reads as exactly one drawing, or fails with exactly one fault and number, and never
 /// both. The number is 0 for a fault before the objects, and want of memory is no fault of a text.

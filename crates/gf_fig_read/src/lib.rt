@@ -18,7 +18,7 @@ mod reading;
 mod styles;
 
 pub use faults::FigError;
-pub use gf_fig_text::FigFault;
+pub use gf_fig_tokens::FigFault;
 pub use laws::every_text_reads_as_one_drawing_or_fails_once;
 pub use lines::{fault_line, object_line};
 pub use reading::read_fig;

@@ -2,8 +2,8 @@
 
 ghost use Rattle.std.specs.Prelude.{◌≡◌, ◌-◌, ◌<◌, ◌^◌, ℕ, List, Ok, length, drop, slice_get, max};
 ghost use Rattle.std.specs.Prelude.{IfOk, IsSome, MatchOption};
-ghost use Rattle.gf_fig_text.specs.Layout.{Token, lines, object_tokens};
-ghost use Rattle.gf_fig_text.specs.TokenLines.{token_lines};
+ghost use Rattle.gf_fig_tokens.specs.Layout.{Token, lines, object_tokens};
+ghost use Rattle.gf_fig_tokens.specs.TokenLines.{token_lines};
 ghost use Rattle.gf_fig_read.specs.FigGrammar.{Fails, nothing};
 ghost use Rattle.gf_fig_read.specs.FaultLines.{BeginsOn, last_line, front_line, IsFaultLine};
 ghost use Rattle.gf_fig_read.specs.Stepping.{Finds};
@@ -11,7 +11,7 @@ ghost use Rattle.gf_fig_read.specs.Stepping.{Finds};
 use crate::FigError;
 use crate::objects::add_object;
 use gf_drawing::Drawing;
-use gf_fig_text::{FigFault, Tokens, line_count, token_line};
+use gf_fig_tokens::{FigFault, Tokens, line_count, token_line};
 use gf_shape::{OutOfMemory, Outline};
 use std::alloc::Global;
 

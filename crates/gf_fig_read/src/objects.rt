@@ -4,13 +4,13 @@ ghost use Rattle.std.specs.Prelude.{◌≡◌, ◌≤◌, ◌∷◌, OnOk, IfErr
 ghost use Rattle.gf_drawing.specs.Colours.{colour_in, rgb_of};
 ghost use Rattle.gf_fig_read.specs.Objects.{with_figure, colour_object, ellipse_object};
 ghost use Rattle.gf_fig_read.specs.Objects.{polyline_object, object};
-ghost use Rattle.gf_fig_text.specs.declared.faults.FigFault.TheVariants as fault;
+ghost use Rattle.gf_fig_tokens.specs.declared.faults.FigFault.TheVariants as fault;
 ghost use Rattle.gf_fig_read.specs.Stepping.{AddsObject};
 
 use crate::outlines::{chain, ellipse};
 use crate::styles::{Style, style_of};
 use gf_drawing::{Drawing, Figure};
-use gf_fig_text::{FigFault, Tokens, whole};
+use gf_fig_tokens::{FigFault, Tokens, whole};
 use gf_shape::Outline;
 use std::alloc::Global;
 
@@ -81,7 +81,7 @@ fn add_polyline(
 }
 
 /// Adds the object that begins with the token `code`.
-#[tactic(auto, unfolding(crate::specs::Objects::object, gf_fig_text::specs::Fields::natural))]
+#[tactic(auto, unfolding(crate::specs::Objects::object, gf_fig_tokens::specs::Fields::natural))]
 pub(crate) fn add_object(
     alloc: Global,
     code: &[u8],

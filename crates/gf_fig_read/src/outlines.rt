@@ -2,12 +2,12 @@
 
 ghost use Rattle.std.specs.Prelude.{◌≡◌, ◌≤◌, true, length, All, Some, IfOk, IsTrue};
 ghost use Rattle.gf_shape.specs.Reach.{is_within_reach};
-ghost use Rattle.gf_fig_text.specs.Fields.{Steps, points};
+ghost use Rattle.gf_fig_tokens.specs.Fields.{Steps, points};
 ghost use Rattle.gf_fig_read.specs.Outlines.{same_point, is_closed, count, chain, disc, oval};
 ghost use Rattle.gf_fig_read.specs.Outlines.{ellipse};
 ghost use Rattle.gf_fig_read.specs.Stepping.{Recalls};
 
-use gf_fig_text::{FigFault, Tokens};
+use gf_fig_tokens::{FigFault, Tokens};
 use gf_shape::{Chain, Disc, Outline, Oval, Point};
 use std::alloc::Global;
 

@@ -3,12 +3,12 @@
 ghost use Rattle.std.specs.Prelude.{◌≡◌, ◌⊎◌, ◌<◌, ◌^◌, [], length, OnOk, IfOk, IfErr};
 ghost use Rattle.gf_fig_read.specs.FigGrammar.{Leads, Reads, Fails, StopsAt, nothing};
 ghost use Rattle.gf_fig_read.specs.Objects.{Drawn};
-ghost use Rattle.gf_fig_text.specs.declared.faults.FigFault.TheVariants as fault;
+ghost use Rattle.gf_fig_tokens.specs.declared.faults.FigFault.TheVariants as fault;
 
 use crate::FigError;
 use crate::objects::add_object;
 use gf_drawing::Drawing;
-use gf_fig_text::{FigFault, Tokens};
+use gf_fig_tokens::{FigFault, Tokens};
 use gf_shape::Outline;
 use std::alloc::Global;
 

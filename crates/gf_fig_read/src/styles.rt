@@ -3,10 +3,10 @@
 ghost use Rattle.std.specs.Prelude.{◌≡◌, ◌≤◌, IfOk, IsTrue, is_some};
 ghost use Rattle.gf_drawing.specs.Colours.{rgb_of};
 ghost use Rattle.gf_fig_read.specs.Styles.{is_known, known_colour, filling, style};
-ghost use Rattle.gf_fig_text.specs.Fields.{Steps};
+ghost use Rattle.gf_fig_tokens.specs.Fields.{Steps};
 
 use gf_drawing::Drawing;
-use gf_fig_text::{FigFault, Tokens};
+use gf_fig_tokens::{FigFault, Tokens};
 use gf_shape::Outline;
 
 /// What a polyline and an ellipse begin with.

@@ -13,7 +13,7 @@ use Rattle.gf_digits.specs.ColourBytes.{HasBytes}
 use Rattle.gf_drawing.specs.declared.figure.Figure.{Figure}
 use Rattle.gf_drawing.specs.Colours.{Table, colour_in, rgb_of}
 use Rattle.gf_drawing.specs.DrawingState.{IsFreeNumber, IsLawfulDrawing, IsLawfulFigure, is_table_number}
-use Rattle.gf_fig_text.specs.Layout.{Token}
+use Rattle.gf_fig_tokens.specs.Layout.{Token}
 use Rattle.gf_fig_read.specs.Objects.{Drawn}
 use Rattle.gf_fig_read.specs.FigGrammar.{Leads, none, more, nothing}
 use Rattle.gf_fig_write.proofs.PrintedObjects.{colour_words, colour_read}

@@ -10,8 +10,8 @@ use Rattle.gf_shape.specs.Oblong.{Oblong, is_oblong}
 use Rattle.gf_shape.specs.ShapeLaws.{IsLawful}
 use Rattle.gf_drawing.specs.declared.figure.Figure.{Figure}
 use Rattle.gf_drawing.specs.Colours.{rgb_of}
-use Rattle.gf_fig_text.specs.declared.faults.FigFault.TheVariants as fault
-use Rattle.gf_fig_text.specs.Layout.{Token}
+use Rattle.gf_fig_tokens.specs.declared.faults.FigFault.TheVariants as fault
+use Rattle.gf_fig_tokens.specs.Layout.{Token}
 use Rattle.gf_fig_read.specs.Outlines.{ellipse}
 use Rattle.gf_fig_read.specs.Objects.{Drawn, ellipse_object, polyline_object, object}
 use Rattle.gf_fig_write.proofs.PrintedNumbers.{whole_decimal}

@@ -13,8 +13,8 @@ use Rattle.gf_shape.specs.declared.colour.Rgb.{Rgb}
 use Rattle.gf_digits.specs.ColourBytes.{HasBytes}
 use Rattle.gf_digits.specs.HexDigits.{hex_rgb}
 use Rattle.gf_digits.proofs.HexLemmas.{rgb_of_hex-hex_rgb}
-use Rattle.gf_fig_text.specs.Layout.{is_filled}
-use Rattle.gf_fig_text.specs.Forms.{is_digit, is_sign, digits_value, whole, colour}
+use Rattle.gf_fig_tokens.specs.Layout.{is_filled}
+use Rattle.gf_fig_tokens.specs.Forms.{is_digit, is_sign, digits_value, whole, colour}
 use Rattle.gf_fig_write.proofs.PrintedLines.{is_dark, is_word}
 
 -- ---- bytes

@@ -16,11 +16,11 @@ use Rattle.gf_shape.specs.Oblong.{Oblong, is_oblong, is_radius}
 use Rattle.gf_digits.specs.ColourBytes.{HasBytes}
 use Rattle.gf_drawing.specs.Colours.{Table, colour_in, rgb_of}
 use Rattle.gf_drawing.specs.DrawingState.{IsFreeNumber, is_table_number}
-use Rattle.gf_fig_text.specs.declared.faults.FigFault.{FigFault}
-use Rattle.gf_fig_text.specs.declared.faults.FigFault.TheVariants as fault
-use Rattle.gf_fig_text.specs.Layout.{Token}
-use Rattle.gf_fig_text.specs.Forms.{whole, decimal as decimal_form, angle}
-use Rattle.gf_fig_text.specs.Fields.{is_in, natural, no_angle, point, points}
+use Rattle.gf_fig_tokens.specs.declared.faults.FigFault.{FigFault}
+use Rattle.gf_fig_tokens.specs.declared.faults.FigFault.TheVariants as fault
+use Rattle.gf_fig_tokens.specs.Layout.{Token}
+use Rattle.gf_fig_tokens.specs.Forms.{whole, decimal as decimal_form, angle}
+use Rattle.gf_fig_tokens.specs.Fields.{is_in, natural, no_angle, point, points}
 use Rattle.gf_fig_read.specs.Styles.{known_colour, filling, style}
 use Rattle.gf_fig_read.specs.Outlines.{same_point, is_closed, count, chain, disc, oval}
 use Rattle.gf_fig_read.specs.Objects.{Drawn, colour_object, object}

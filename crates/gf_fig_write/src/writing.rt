@@ -2,16 +2,16 @@
 
 ghost use Rattle.std.specs.Prelude.{◌≡◌, IsTrue, OnOk, Err};
 ghost use Rattle.std.specs.Io.KnownBytes.{Appends};
-ghost use Rattle.gf_bytes.specs.Counts.{Rises};
-ghost use Rattle.gf_bytes.specs.Taken.{AppendsFront};
+ghost use Rattle.gf_streams.specs.Counts.{Rises};
+ghost use Rattle.gf_streams.specs.Taken.{AppendsFront};
 ghost use Rattle.gf_drawing.specs.Outlined.{outlined};
 ghost use Rattle.gf_fig_read.specs.FigGrammar.{Reads};
 ghost use Rattle.gf_fig_write.specs.FigText.{fig_text};
 
 use crate::fig_bytes;
-use gf_bytes::{Sink, WriteError, write_whole};
 use gf_drawing::Drawing;
 use gf_shape::Shape;
+use gf_streams::{Sink, WriteError, write_whole};
 use std::alloc::Global;
 
 /// Writes the FIG text of a drawing, and flushes. The text is made before the first byte is

@@ -16,8 +16,8 @@ use Rattle.gf_fig_read.specs.FigGrammar.{Reads}
 use Rattle.gf_fig_read.specs.Objects.{Drawn}
 use Rattle.gf_fig_read.proofs.GrammarLemmas.{one_drawing}
 use Rattle.gf_fig_write.specs.FigText.{fig_text}
-use Rattle.gf_reading.specs.Denoting.{HaveSameOperations}
-use Rattle.gf_window.specs.Windows.{View}
+use Rattle.gf_replay.specs.Denoting.{HaveSameOperations}
+use Rattle.gf_scanline.specs.Windows.{View}
 use Rattle.gf_studio.specs.FigRun.{Draws, Writes}
 use Rattle.gf_studio.specs.PaintRun.{IsDenoted, IsMeant, WritesPicture}
 use Rattle.gf_studio.proofs.PaintingLemmas.{text_repaints}

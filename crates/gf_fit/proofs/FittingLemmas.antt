@@ -9,7 +9,7 @@ use Rattle.std.proofs.lemmas.Int.{clamps, ints}
 use Rattle.gf_shape.specs.declared.bounds.Bounds.{Bounds}
 use Rattle.gf_shape.specs.declared.point.Point.{Point}
 use Rattle.gf_shape.specs.ShapeLaws.{IsBounds}
-use Rattle.gf_window.specs.Windows.{View, is_corner, is_step}
+use Rattle.gf_scanline.specs.Windows.{View, is_corner, is_step}
 use Rattle.gf_fit.specs.FittedWindow.{AreBounds, Covers, IsCentral, IsFitted, IsFittedStep}
 use Rattle.gf_fit.specs.FittedWindow.{IsNear, IsOver, IsWide, IsWindowOver, ShowsAll, clamped}
 use Rattle.gf_fit.specs.FittedWindow.{first, is_wide_enough, reaches}

@@ -9,7 +9,7 @@ use Rattle.gf_shape.specs.ShapeMeaning.{any_holds}
 use Rattle.gf_drawing.specs.DrawingState.{DrawingState}
 use Rattle.gf_fig_read.specs.FigGrammar.{Reads}
 use Rattle.gf_fig_read.specs.Objects.{Drawn}
-use Rattle.gf_window.specs.Windows.{View}
+use Rattle.gf_scanline.specs.Windows.{View}
 use Rattle.gf_studio.specs.FigRun.{Draws}
 use Rattle.gf_studio.specs.PaintRun.{WritesBands, WritesPictureFront}
 use Rattle.gf_fit.specs.FittedWindow.{IsFitted, held}

@@ -1,6 +1,6 @@
 -- Frames: the sides of a picture, and what of them lies within its margins (this project's choice).
 use Rattle.std.specs.Prelude.{ℕ, ◌*◌, ◌-◌, ◌/◌, Bool, ◌&&◌}
-use Rattle.gf_window.specs.Windows.{is_side}
+use Rattle.gf_scanline.specs.Windows.{is_side}
 
 -- how many columns and rows a picture has
 pub record Sides : Type 0 where

@@ -5,7 +5,7 @@ ghost use Rattle.std.specs.Prelude.{◌≤ℤ◌, ◌+ℤ◌, ◌-ℤ◌, pos};
 ghost use Rattle.std.specs.Int.{int_div_euclid};
 ghost use Rattle.gf_shape.specs.declared.bounds.Bounds.{Bounds};
 ghost use Rattle.gf_shape.specs.ShapeLaws.{IsBounds};
-ghost use Rattle.gf_window.specs.Windows.{View, is_corner, is_side, is_step};
+ghost use Rattle.gf_scanline.specs.Windows.{View, is_corner, is_side, is_step};
 ghost use Rattle.gf_fit.specs.FittedWindow.{Covers, IsCentral, IsFitted, IsNear, IsOver};
 ghost use Rattle.gf_fit.specs.FittedWindow.{IsWide, ShowsAll, clamped, first, held, reaches};
 ghost use Rattle.gf_fit.specs.Frames.{Sides, inner};
@@ -13,8 +13,8 @@ ghost use Rattle.gf_fit.specs.Frames.{Sides, inner};
 use crate::Frame;
 use crate::bounding::bounds_of;
 use gf_drawing::Drawing;
+use gf_scanline::Window;
 use gf_shape::{Bounds, Range, Shape};
-use gf_window::Window;
 
 /// The window of a frame that fits a drawing. A twentieth of the columns, and of the rows, is the
 /// margin at each end. The least bounds of what the figures hold stand in the middle. The step is
@@ -141,7 +141,7 @@ fn half(n: i64) -> i64
 }
 
 /// The nearest place that a corner may have.
-#[tactic(auto, using(std::proofs::lemmas::Int::ints), unfolding(gf_window::specs::Windows::is_corner))]
+#[tactic(auto, using(std::proofs::lemmas::Int::ints), unfolding(gf_scanline::specs::Windows::is_corner))]
 fn clamped(n: i64) -> i32
     ensures clamped { result ≡ clamped n }
     ensures corner { IsTrue (is_corner result) }

@@ -1,7 +1,7 @@
 //! Frames.
 
 ghost use Rattle.std.specs.Prelude.{◌≡◌, ◌↔◌, ◌≤◌, IsTrue, IsOk, IfOk};
-ghost use Rattle.gf_window.specs.Windows.{is_side};
+ghost use Rattle.gf_scanline.specs.Windows.{is_side};
 ghost use Rattle.gf_fit.specs.Frames.{is_frame};
 
 use gf_shape::Range;

@@ -2,8 +2,8 @@
 
 ghost use Rattle.std.specs.Prelude.{◌≡◌, ℕ, Bool, List, ◌++◌, Some};
 ghost use Rattle.gf_shape.specs.declared.point.Point.{Point};
-ghost use Rattle.gf_window.specs.Windows.{View};
-ghost use Rattle.gf_reading.specs.Denoting.{HaveSameOperations};
+ghost use Rattle.gf_scanline.specs.Windows.{View};
+ghost use Rattle.gf_replay.specs.Denoting.{HaveSameOperations};
 ghost use Rattle.gf_studio.specs.FigRun.{Writes};
 ghost use Rattle.gf_studio.specs.PaintRun.{IsDenoted, IsMeant, WritesPicture};
 ghost use Rattle.gf_fit.specs.FittedRun.{FitsLines, FitsText};

@@ -2,16 +2,16 @@
 //! fits what they draw.
 
 ghost use Rattle.std.specs.Prelude.{◌≡◌, ◌+◌, ◌≤◌, ◌⊎◌, Err, IfSome, IfOk, IfErr, OnOk, IsTrue};
-ghost use Rattle.gf_bytes.specs.Counts.{Rises};
-ghost use Rattle.gf_bytes.specs.Reads.{ConsumesAtMost};
+ghost use Rattle.gf_streams.specs.Counts.{Rises};
+ghost use Rattle.gf_streams.specs.Reads.{ConsumesAtMost};
 ghost use Rattle.gf_studio.specs.PaintRun.{IsDenoted, IsMeant, WritesPicture};
 ghost use Rattle.gf_studio.specs.RunAnswers.{ReadsFor, RefusesFig, RefusesLines};
 ghost use Rattle.gf_fit.specs.FittedRun.{FitsLines, FitsText, WritesFittedBands};
 ghost use Rattle.gf_fit.specs.FittedRun.{WritesFittedFront};
 
 use crate::{Frame, fitted_window};
-use gf_bytes::{MOST_INPUT_BYTES, Sink, Source};
 use gf_raster::ppm_to;
+use gf_streams::{MOST_INPUT_BYTES, Sink, Source};
 use gf_studio::{Gate, StudioError, Window, drawing_of_fig, drawing_of_lines};
 use std::alloc::Global;
 use std::thread::Threads;

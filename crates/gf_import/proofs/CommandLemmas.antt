@@ -7,7 +7,7 @@ use Rattle.std.proofs.lemmas.List.{append-nil}
 use Rattle.std.proofs.lemmas.List.Concat.{flat_map-append}
 use Rattle.std.proofs.lemmas.List.Elements.{Contains-push_cases}
 use Rattle.std.proofs.lemmas.List.Splits.{slice_split_at}
-use Rattle.gf_bytes.specs.TextLines.{is_blank, is_line_end, numbered_from}
+use Rattle.gf_streams.specs.TextLines.{is_blank, is_line_end, numbered_from}
 use Rattle.gf_ops.specs.declared.change.Change.{Change}
 use Rattle.gf_ops.specs.Limits.{is_change}
 use Rattle.gf_ops.specs.OperationOrder.{IsSite}

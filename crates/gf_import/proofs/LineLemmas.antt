@@ -2,8 +2,8 @@
 use Rattle.std.proofs.Common.{◌≡◌, ℕ, ◌+◌, ◌<◌, ◌≤◌, List, [], sym, ap, ◌∙◌, inl, inr, arith}
 use Rattle.std.specs.Prelude.{Ok, Err}
 use Rattle.std.proofs.lemmas.Bool.{cases_eq}
-use Rattle.gf_fig_text.specs.Layout.{Token}
-use Rattle.gf_fig_text.specs.declared.faults.FigFault.TheVariants as fault
+use Rattle.gf_fig_tokens.specs.Layout.{Token}
+use Rattle.gf_fig_tokens.specs.declared.faults.FigFault.TheVariants as fault
 use Rattle.gf_fig_read.specs.Objects.{Drawn, object}
 use Rattle.gf_fig_read.specs.FaultLines.{BeginsAt, BeginsOn}
 use Rattle.gf_fig_read.specs.FigGrammar.{Leads, Reads, more, none, nothing}

@@ -5,8 +5,8 @@ use Rattle.std.specs.Prelude.{◌⊎◌, Option, None, Some, MatchOption}
 use Rattle.gf_shape.specs.declared.outline.Outline.{Outline}
 use Rattle.gf_drawing.specs.declared.figure.Figure.{Figure}
 use Rattle.gf_drawing.specs.DrawingState.{DrawingState}
-use Rattle.gf_fig_text.specs.declared.faults.FigFault.{FigFault}
-use Rattle.gf_fig_text.specs.declared.faults.FigFault.TheVariants as fault
+use Rattle.gf_fig_tokens.specs.declared.faults.FigFault.{FigFault}
+use Rattle.gf_fig_tokens.specs.declared.faults.FigFault.TheVariants as fault
 use Rattle.gf_fig_read.specs.declared.faults.FigError.{FigError}
 use Rattle.gf_fig_read.specs.FaultLines.{BeginsOn, IsFaultLine, front_line}
 use Rattle.gf_fig_read.specs.FigGrammar.{Fails}

@@ -1,6 +1,6 @@
 -- The command lines of changes of one site (this project's choice).
 use Rattle.std.specs.Prelude.{◌≡◌, ℕ, List, [], ◌∷◌, ◌++◌, map, flat_map, Ok}
-use Rattle.gf_bytes.specs.TextLines.{numbered_lines}
+use Rattle.gf_streams.specs.TextLines.{numbered_lines}
 use Rattle.gf_ops.specs.declared.change.Change.{Change}
 use Rattle.gf_json.specs.declared.scripts.Command.TheVariants.{Author}
 use Rattle.gf_json.specs.declared.scripts.ScriptLine.{ScriptLine}

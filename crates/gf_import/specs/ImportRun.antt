@@ -1,7 +1,7 @@
 -- What an import writes, and why it is refused (this project's choice).
 use Rattle.std.specs.Prelude.{◌≡◌, ℕ, List, Option, Result, MatchResult, ⊤}
 use Rattle.std.specs.Io.KnownBytes.{Appends}
-use Rattle.gf_bytes.specs.Taken.{AppendsFront}
+use Rattle.gf_streams.specs.Taken.{AppendsFront}
 use Rattle.gf_fig_read.specs.FaultLines.{BeginsOn, IsFaultLine}
 use Rattle.gf_fig_read.specs.FigGrammar.{Fails, Reads}
 use Rattle.gf_fig_read.specs.Objects.{Drawn}

@@ -2,7 +2,7 @@
 
 ghost use Rattle.std.specs.Prelude.{◌≡◌, ◌++◌, ◌⊎◌, IfOk, IfErr, OnOk};
 ghost use Rattle.gf_ops.specs.OperationOrder.{IsSite};
-ghost use Rattle.gf_fig_text.specs.declared.faults.FigFault.TheVariants as fault;
+ghost use Rattle.gf_fig_tokens.specs.declared.faults.FigFault.TheVariants as fault;
 ghost use Rattle.gf_fig_read.specs.FigGrammar.{Fails};
 ghost use Rattle.gf_import.specs.CommandLines.{command_line};
 ghost use Rattle.gf_import.specs.ImportRun.{HasNoCreations, Imports, RefusesImport};

@@ -2,8 +2,8 @@
 
 ghost use Rattle.std.specs.Prelude.{◌≡◌, ◌≢◌, ◌+◌, ◌≤◌, ◌⊎◌, Err, IfSome, IfOk, IfErr, OnOk};
 ghost use Rattle.std.specs.Prelude.{IsTrue};
-ghost use Rattle.gf_bytes.specs.Counts.{Rises};
-ghost use Rattle.gf_bytes.specs.Reads.{ConsumesAtMost};
+ghost use Rattle.gf_streams.specs.Counts.{Rises};
+ghost use Rattle.gf_streams.specs.Reads.{ConsumesAtMost};
 ghost use Rattle.gf_ops.specs.OperationOrder.{IsSite};
 ghost use Rattle.gf_studio.specs.declared.studio_error.StudioError.{StudioError};
 ghost use Rattle.gf_import.specs.ImportRun.{Imports, ReadsForImport, RefusesImportRun};
@@ -11,7 +11,7 @@ ghost use Rattle.gf_import.specs.ImportRun.{WritesImport, WritesImportFront};
 
 use crate::ImportError;
 use crate::importing::import;
-use gf_bytes::{MOST_INPUT_BYTES, Sink, SinkFault, Source, write_whole};
+use gf_streams::{MOST_INPUT_BYTES, Sink, SinkFault, Source, write_whole};
 use gf_studio::{StudioError, input};
 use std::alloc::Global;
 

@@ -7,11 +7,11 @@ use Rattle.std.proofs.lemmas.List.{length-append, take-append-le}
 use Rattle.std.proofs.Math.Seq.{take-append-add}
 use Rattle.gf_shape.specs.declared.colour.Rgb.{Rgb}
 use Rattle.gf_shape.specs.declared.point.Point.{Point}
-use Rattle.gf_bytes.specs.Taken.{AppendsFront}
-use Rattle.gf_strips.proofs.RangeLemmas.{ranged_more}
-use Rattle.gf_strips.specs.Pixels.{pixel}
-use Rattle.gf_layers.specs.Picture.{cells, rows}
-use Rattle.gf_window.specs.Windows.{View, sample}
+use Rattle.gf_streams.specs.Taken.{AppendsFront}
+use Rattle.gf_scanline.proofs.RangeLemmas.{ranged_more}
+use Rattle.gf_scanline.specs.Pixels.{pixel}
+use Rattle.gf_scanline.specs.Picture.{cells, rows}
+use Rattle.gf_scanline.specs.Windows.{View, sample}
 use Rattle.gf_raster.specs.Shares.{cut, run}
 use Rattle.gf_raster.proofs.ShareLemmas.{cut_more}
 

@@ -3,11 +3,11 @@ use Rattle.std.specs.Prelude.{ℕ, ◌≡◌, ◌≤◌, ◌<◌, ◌+◌, ◌-�
 use Rattle.std.proofs.Common.{arith, ap, sym, subst, Global, ◌∙◌}
 use Rattle.gf_shape.specs.declared.colour.Rgb.{Rgb}
 use Rattle.gf_shape.specs.declared.point.Point.{Point}
-use Rattle.gf_strips.specs.declared.stroke.Stroke.{Stroke}
-use Rattle.gf_strips.specs.Pixels.{pixel}
-use Rattle.gf_strips.proofs.RangeLemmas.{ranged_more}
-use Rattle.gf_window.specs.Windows.{View, sample}
-use Rattle.gf_layers.specs.Picture.{ShowsRow, cells}
+use Rattle.gf_scanline.specs.declared.stroke.Stroke.{Stroke}
+use Rattle.gf_scanline.specs.Pixels.{pixel}
+use Rattle.gf_scanline.proofs.RangeLemmas.{ranged_more}
+use Rattle.gf_scanline.specs.Windows.{View, sample}
+use Rattle.gf_scanline.specs.Picture.{ShowsRow, cells}
 use Rattle.gf_raster.specs.Rows.{AreRows}
 use Rattle.gf_raster.specs.Turns.{ArePieces, ArePiecesWith}
 

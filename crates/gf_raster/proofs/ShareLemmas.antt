@@ -2,7 +2,7 @@
 use Rattle.std.specs.Prelude.{ℕ, ◌≡◌, ◌≤◌, ◌<◌, ◌+◌, ◌-◌, ◌*◌, ◌/◌, ◌%◌, min}
 use Rattle.std.proofs.Common.{arith}
 use Rattle.std.proofs.lemmas.Grind.{div_ceil_times}
-use Rattle.gf_window.specs.Windows.{View}
+use Rattle.gf_scanline.specs.Windows.{View}
 use Rattle.gf_raster.specs.Shares.{cut, parts, run, stride}
 
 product_more : (k s : ℕ) → (k + 1) * s ≡ k * s + s

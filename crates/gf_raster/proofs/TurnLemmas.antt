@@ -7,11 +7,11 @@ use Rattle.std.proofs.lemmas.List.{get_or-map, length-map}
 use Rattle.gf_shape.specs.declared.colour.Rgb.{Rgb}
 use Rattle.gf_shape.specs.declared.point.Point.{Point}
 use Rattle.gf_shape.specs.declared.refusals.OutOfMemory.{OutOfMemory}
-use Rattle.gf_strips.specs.declared.stroke.Stroke.{Stroke}
-use Rattle.gf_window.specs.Windows.{View}
-use Rattle.gf_layers.specs.Layers.{layered}
-use Rattle.gf_layers.specs.Parts.{PartView}
-use Rattle.gf_layers.specs.Picture.{ShowsRow, cells}
+use Rattle.gf_scanline.specs.declared.stroke.Stroke.{Stroke}
+use Rattle.gf_scanline.specs.Windows.{View}
+use Rattle.gf_scanline.specs.Layers.{layered}
+use Rattle.gf_scanline.specs.Parts.{PartView}
+use Rattle.gf_scanline.specs.Picture.{ShowsRow, cells}
 use Rattle.gf_raster.specs.declared.rounds.Turn.{Turn}
 use Rattle.gf_raster.specs.Rows.{AreFound, AreRows, AreShareOf}
 use Rattle.gf_raster.specs.Shares.{cut, parts, run, stride}

@@ -3,8 +3,8 @@ use Rattle.std.specs.Prelude.{ℕ, ◌*◌, ◌<◌, List, ◌++◌, Option}
 use Rattle.std.specs.Io.KnownBytes.{Appends}
 use Rattle.gf_shape.specs.declared.colour.Rgb.{Rgb}
 use Rattle.gf_shape.specs.declared.point.Point.{Point}
-use Rattle.gf_layers.specs.Picture.{rows}
-use Rattle.gf_window.specs.Windows.{View}
+use Rattle.gf_scanline.specs.Picture.{rows}
+use Rattle.gf_scanline.specs.Windows.{View}
 
 -- known bytes grow from old to new by a header and whole bands of 64 rows, fewer than all
 pub record HasBands (header : List ℕ) (colour : Point → Rgb) (w : View)

@@ -5,11 +5,11 @@ use denote.Ref.{Bor}
 use Rattle.std.proofs.Common.{Global}
 use Rattle.gf_shape.specs.declared.colour.Rgb.{Rgb}
 use Rattle.gf_shape.specs.declared.point.Point.{Point}
-use Rattle.gf_strips.specs.declared.stroke.Stroke.{Stroke}
-use Rattle.gf_window.specs.Windows.{View}
-use Rattle.gf_layers.specs.Layers.{layered}
-use Rattle.gf_layers.specs.Parts.{PartView}
-use Rattle.gf_layers.specs.Picture.{ShowsRow}
+use Rattle.gf_scanline.specs.declared.stroke.Stroke.{Stroke}
+use Rattle.gf_scanline.specs.Windows.{View}
+use Rattle.gf_scanline.specs.Layers.{layered}
+use Rattle.gf_scanline.specs.Parts.{PartView}
+use Rattle.gf_scanline.specs.Picture.{ShowsRow}
 use Rattle.gf_raster.specs.Shares.{cut, parts, run}
 
 -- each has the strokes of a row of the window, from row top on

@@ -1,6 +1,6 @@
 -- How workers share the rows of a band, and its columns. No public clause cites this module.
 use Rattle.std.specs.Prelude.{ℕ, ◌*◌, ◌+◌, ◌-◌, ◌/◌, ◌%◌, min}
-use Rattle.gf_window.specs.Windows.{View}
+use Rattle.gf_scanline.specs.Windows.{View}
 
 -- before which of so many things worker k begins, where each has so many
 abbrev pub cut : ℕ → ℕ → ℕ → ℕ

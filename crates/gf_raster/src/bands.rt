@@ -2,18 +2,16 @@
 
 ghost use Rattle.std.specs.Prelude.{◌≡◌, ◌*◌, ◌+◌, ◌-◌, ◌<◌, ◌≤◌, ◌++◌, IfOk, OnOk, IfSome, None};
 ghost use Rattle.std.specs.Prelude.{min};
-ghost use Rattle.gf_layers.specs.Layers.{layered};
-ghost use Rattle.gf_layers.specs.Picture.{rows};
+ghost use Rattle.gf_scanline.specs.Layers.{layered};
+ghost use Rattle.gf_scanline.specs.Picture.{rows};
 ghost use Rattle.gf_raster.specs.Rows.{AreBand};
 
 use crate::Gate;
 use crate::crew::Crew;
 use crate::rounds::round;
 use crate::tiles::TILE;
-use gf_layers::{Layers, Part};
+use gf_scanline::{Layers, Part, Stroke, Window};
 use gf_shape::{OutOfMemory, Shape};
-use gf_strips::Stroke;
-use gf_window::Window;
 use std::alloc::Global;
 use std::thread::Threads;
 

@@ -4,14 +4,14 @@ ghost use Rattle.std.specs.Prelude.{◌≡◌, ℕ, ◌+◌, ◌<◌, ◌++◌, 
 ghost use Rattle.std.specs.List.{flat_map};
 ghost use Rattle.gf_shape.specs.declared.colour.Rgb.{Rgb};
 ghost use Rattle.gf_shape.specs.declared.point.Point.{Point};
-ghost use Rattle.gf_window.specs.Windows.{View};
-ghost use Rattle.gf_layers.specs.Picture.{cells, rows};
+ghost use Rattle.gf_scanline.specs.Windows.{View};
+ghost use Rattle.gf_scanline.specs.Picture.{cells, rows};
 ghost use Rattle.gf_raster.specs.Shares.{cut};
 ghost use Rattle.gf_raster.specs.Turns.{AreColumns, HaveLines};
 
 use crate::rounds::Turn;
+use gf_scanline::Stroke;
 use gf_shape::OutOfMemory;
-use gf_strips::Stroke;
 use std::alloc::Global;
 
 /// The turns, where memory was there for all of them.

@@ -16,6 +16,6 @@ mod rows;
 mod tiles;
 
 pub use gf_gate::{Gate, OpenGate};
-pub use gf_window::Window;
+pub use gf_scanline::Window;
 pub use painting::{Raster, paint};
 pub use ppm::ppm_to;

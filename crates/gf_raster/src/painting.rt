@@ -2,17 +2,16 @@
 
 ghost use Rattle.std.specs.Prelude.{◌≡◌, ◌≤◌, IfOk};
 ghost use Rattle.gf_drawing.specs.DrawingColour.{drawing_colour};
-ghost use Rattle.gf_layers.specs.Layers.{layered};
-ghost use Rattle.gf_layers.specs.Picture.{raster};
+ghost use Rattle.gf_scanline.specs.Layers.{layered};
+ghost use Rattle.gf_scanline.specs.Picture.{raster};
 
 use crate::Gate;
 use crate::bands::{band, first_band};
 use crate::crew::Crew;
 use crate::tiles::TILE;
 use gf_drawing::Drawing;
-use gf_layers::Layers;
+use gf_scanline::{Layers, Window};
 use gf_shape::{OutOfMemory, Shape};
-use gf_window::Window;
 use std::alloc::Global;
 use std::marker::Model;
 use std::thread::Threads;

@@ -3,11 +3,11 @@
 ghost use Rattle.std.specs.Prelude.{◌≡◌, ℕ, ◌+◌, ◌-◌, ◌*◌, ◌<◌, ◌≤◌, min, ◌⊎◌, [], IsTrue, IfOk};
 ghost use Rattle.std.specs.Prelude.{OnOk, Err};
 ghost use Rattle.std.specs.Io.KnownBytes.{Appends};
-ghost use Rattle.gf_bytes.specs.Counts.{Rises};
-ghost use Rattle.gf_bytes.specs.Taken.{AppendsFront};
+ghost use Rattle.gf_streams.specs.Counts.{Rises};
+ghost use Rattle.gf_streams.specs.Taken.{AppendsFront};
 ghost use Rattle.gf_drawing.specs.DrawingColour.{drawing_colour};
-ghost use Rattle.gf_layers.specs.Layers.{layered};
-ghost use Rattle.gf_layers.specs.Picture.{header, picture, raster, rows};
+ghost use Rattle.gf_scanline.specs.Layers.{layered};
+ghost use Rattle.gf_scanline.specs.Picture.{header, picture, raster, rows};
 ghost use Rattle.gf_raster.specs.Bands.{HasBands};
 ghost use Rattle.gf_raster.specs.Rows.{AreBand};
 
@@ -15,13 +15,11 @@ use crate::Gate;
 use crate::bands::{band, first_band};
 use crate::crew::Crew;
 use crate::tiles::TILE;
-use gf_bytes::{Sink, WriteError, write_all};
 use gf_digits::push_number;
 use gf_drawing::Drawing;
-use gf_layers::Layers;
+use gf_scanline::{Layers, Stroke, Window};
 use gf_shape::Shape;
-use gf_strips::Stroke;
-use gf_window::Window;
+use gf_streams::{Sink, WriteError, write_all};
 use std::alloc::{AllocError, Global};
 use std::thread::Threads;
 

@@ -3,7 +3,7 @@
 ghost use Rattle.std.specs.Prelude.{◌≡◌, ℕ, ◌<◌, ◌≤◌, ◌++◌, OnOk, IfOk, length, vec_len};
 ghost use Rattle.gf_shape.specs.declared.colour.Rgb.{Rgb};
 ghost use Rattle.gf_shape.specs.declared.point.Point.{Point};
-ghost use Rattle.gf_layers.specs.Picture.{rows};
+ghost use Rattle.gf_scanline.specs.Picture.{rows};
 ghost use Rattle.gf_raster.specs.Rows.{AreFound, AreRows};
 ghost use Rattle.gf_raster.specs.Turns.{AreTaken, AreTurns, IsTurn};
 
@@ -12,10 +12,8 @@ use crate::crew::Crew;
 use crate::gathering::{all_taken, gather, joined};
 use crate::rows::{all_found, share_found};
 use crate::tiles::{fill_all, pieces};
-use gf_layers::Part;
+use gf_scanline::{Part, Stroke, Window};
 use gf_shape::{OutOfMemory, Shape};
-use gf_strips::Stroke;
-use gf_window::Window;
 use std::thread;
 use std::thread::Threads;
 

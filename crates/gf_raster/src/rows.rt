@@ -1,13 +1,12 @@
 //! What rows show, found as strokes.
 
 ghost use Rattle.std.specs.Prelude.{◌≡◌, ◌+◌, ◌≤◌, IfOk, vec_len};
-ghost use Rattle.gf_layers.specs.Layers.{layered};
+ghost use Rattle.gf_scanline.specs.Layers.{layered};
 ghost use Rattle.gf_raster.specs.Rows.{AreFound, AreRows, AreShareOf};
 ghost use Rattle.gf_raster.specs.Shares.{cut, run};
 
-use gf_layers::{Part, Workspace};
+use gf_scanline::{Part, Strip, Stroke, Workspace};
 use gf_shape::{OutOfMemory, Shape};
-use gf_strips::{Strip, Stroke};
 use std::alloc::Global;
 
 /// What the rows of a part show, where there is one.

@@ -4,17 +4,16 @@ ghost use Rattle.std.specs.Prelude.{◌≡◌, ℕ, ◌+◌, ◌≤◌, ◌<◌,
 ghost use Rattle.std.specs.Prelude.{vec_len};
 ghost use Rattle.gf_shape.specs.declared.colour.Rgb.{Rgb};
 ghost use Rattle.gf_shape.specs.declared.point.Point.{Point};
-ghost use Rattle.gf_window.specs.Windows.{View};
-ghost use Rattle.gf_layers.specs.Picture.{rows};
+ghost use Rattle.gf_scanline.specs.Windows.{View};
+ghost use Rattle.gf_scanline.specs.Picture.{rows};
 ghost use Rattle.gf_raster.specs.Rows.{AreRows};
 ghost use Rattle.gf_raster.specs.Shares.{cut, run, stride};
 ghost use Rattle.gf_raster.specs.Turns.{ArePieces, ArePiecesWith};
 
 use crate::Gate;
 use crate::crew::Crew;
+use gf_scanline::{Stroke, Window, fill};
 use gf_shape::OutOfMemory;
-use gf_strips::{Stroke, fill};
-use gf_window::Window;
 use std::alloc::Global;
 use std::thread::Threads;
 

@@ -3,7 +3,7 @@ use Rattle.std.specs.Prelude.{◌≡◌, List, [], ◌∷◌, map, length}
 use Rattle.gf_worker.specs.declared.script.Script.{Script}
 use Rattle.gf_worker.specs.declared.worker.WorkerEnd.{WorkerEnd}
 use Rattle.gf_session.specs.declared.session.Done.{Done}
-use Rattle.gf_world.specs.Courses.{HaveEvents}
+use Rattle.gf_replicas.specs.Courses.{HaveEvents}
 use Rattle.gf_session.specs.Outcome.{Place, IsOutcome}
 
 -- what the site of a worker came to

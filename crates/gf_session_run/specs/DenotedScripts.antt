@@ -3,15 +3,15 @@
 use Rattle.std.specs.Prelude.{◌≡◌, ◌⊎◌, ℕ, ◌+◌, ◌<◌, ◌≤◌, ◌==◌}
 use Rattle.std.specs.Prelude.{List, ◌∷◌, ◌++◌, length, map, filter, slice_get, Contains}
 use Rattle.std.specs.Prelude.{Some, Ok, Err}
-use Rattle.gf_bytes.specs.TextLines.{numbered_lines}
+use Rattle.gf_streams.specs.TextLines.{numbered_lines}
 use Rattle.gf_json.specs.declared.line_error.LineError.TheVariants as line
 use Rattle.gf_json.specs.declared.scripts.Command.{Command}
 use Rattle.gf_json.specs.declared.scripts.ScriptLine.{ScriptLine}
 use Rattle.gf_json.specs.LineValues.{Got}
 use Rattle.gf_json.specs.ScriptLines.{script_denoted}
 use Rattle.gf_worker.specs.declared.script.Script.{Script}
-use Rattle.gf_reading.specs.declared.reading_error.LineCause.{LineCause}
-use Rattle.gf_reading.specs.declared.reading_error.LineCause.TheVariants as cause
+use Rattle.gf_replay.specs.declared.reading_error.LineCause.{LineCause}
+use Rattle.gf_replay.specs.declared.reading_error.LineCause.TheVariants as cause
 
 -- what a line that denotes this command of a site reads as
 abbrev pub denotes_command : ScriptLine → Got ScriptLine

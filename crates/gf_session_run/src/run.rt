@@ -2,17 +2,17 @@
 
 ghost use Rattle.std.specs.Prelude.{◌≡◌, ◌≢◌, ◌↔◌, ◌+◌, ◌≤◌, ◌⊎◌, Err, IfSome, IfOk, IfErr, OnOk};
 ghost use Rattle.std.specs.Prelude.{IsTrue};
-ghost use Rattle.gf_bytes.specs.Counts.{Rises};
-ghost use Rattle.gf_bytes.specs.Reads.{ConsumesAtMost};
+ghost use Rattle.gf_streams.specs.Counts.{Rises};
+ghost use Rattle.gf_streams.specs.Reads.{ConsumesAtMost};
 ghost use Rattle.gf_session.specs.declared.session.SessionError.{SessionError};
 ghost use Rattle.gf_studio.specs.RunAnswers.{ReadsFor};
 ghost use Rattle.gf_session_run.specs.SessionRun.{IsSiteCount, RefusesSession, TellsSession};
 ghost use Rattle.gf_session_run.specs.SessionRun.{WritesSession, WritesSessionFront};
 
 use crate::playing::play;
-use gf_bytes::{MOST_INPUT_BYTES, Sink, SinkFault, Source, write_whole};
 use gf_gate::Gate;
 use gf_session::SessionError;
+use gf_streams::{MOST_INPUT_BYTES, Sink, SinkFault, Source, write_whole};
 use gf_studio::{StudioError, input};
 use std::alloc::Global;
 use std::sync::Wait;

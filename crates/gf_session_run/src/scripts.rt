@@ -5,9 +5,9 @@ ghost use Rattle.gf_session_run.specs.DenotedScripts.{AreScriptsOf, DenotesScrip
 ghost use Rattle.gf_session_run.specs.SessionSteps.{Gains, IsFull, RefusesCommand, RefusesScripts};
 ghost use Rattle.gf_session_run.specs.SessionSteps.{TakesCommand, of_line};
 
-use gf_bytes::TextLines;
 use gf_json::{Command, LineError, ScriptLine, read_script};
 use gf_shape::OutOfMemory;
+use gf_streams::TextLines;
 use gf_studio::{LineCause, StudioError};
 use gf_worker::Script;
 use std::alloc::Global;

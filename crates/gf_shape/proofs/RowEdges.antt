@@ -7,9 +7,9 @@ use Rattle.std.proofs.Common.{arith, ap, sym, inl, inr, ◌∙◌}
 use Rattle.std.proofs.Math.IntN.{neg_ℤ, neg_ℤ-neg_ℤ, *ℤ-zero, *ℤ-negsuc, *ℤ_comm, zero-*ℤ}
 use Rattle.std.proofs.lemmas.Bool.{cases_Bool, false≢true}
 use Rattle.std.proofs.lemmas.Int.{ints, by_lt_z, clamps}
-use Rattle.gf_rows.specs.Crossings.{is_at, is_before, place}
-use Rattle.gf_rows.specs.Spans.{is_in_span}
-use Rattle.gf_rows.proofs.DivisionLemmas.{place_before, place_at, div_exact, one_le_product, eq_test, ne_test, less_ne, more_ne}
+use Rattle.gf_spans.specs.Crossings.{is_at, is_before, place}
+use Rattle.gf_spans.specs.Spans.{is_in_span}
+use Rattle.gf_spans.proofs.DivisionLemmas.{place_before, place_at, div_exact, one_le_product, eq_test, ne_test, less_ne, more_ne}
 use Rattle.gf_shape.specs.declared.point.Point.{Point}
 use Rattle.gf_shape.specs.Edges.{side, is_between, is_on_line, is_on_edge, crosses_left}
 use Rattle.gf_shape.specs.RowParts.{passes, crossing, contact, span_between}

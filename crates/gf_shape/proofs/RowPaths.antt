@@ -7,12 +7,12 @@ use Rattle.std.proofs.lemmas.Bool.{cases_Bool}
 use Rattle.std.proofs.lemmas.Int.{ints, by_lt_z, clamps}
 use Rattle.std.proofs.lemmas.List.{append-nil, append_assoc, at_drop_all, at_drop_more}
 use Rattle.std.proofs.lemmas.List.Sums.{sum_by-cons, sum_by-append}
-use Rattle.gf_rows.specs.declared.crossing.Crossing.{Crossing}
-use Rattle.gf_rows.specs.declared.span.Span.{Span}
-use Rattle.gf_rows.specs.Crossings.{is_at, is_before}
-use Rattle.gf_rows.specs.Joining.{IsJoined}
-use Rattle.gf_rows.specs.Spans.{is_empty, is_in_span}
-use Rattle.gf_rows.proofs.PairLemmas.{is_one, count_before, any_append}
+use Rattle.gf_spans.specs.declared.crossing.Crossing.{Crossing}
+use Rattle.gf_spans.specs.declared.span.Span.{Span}
+use Rattle.gf_spans.specs.Crossings.{is_at, is_before}
+use Rattle.gf_spans.specs.Joining.{IsJoined}
+use Rattle.gf_spans.specs.Spans.{is_empty, is_in_span}
+use Rattle.gf_spans.proofs.PairLemmas.{is_one, count_before, any_append}
 use Rattle.gf_shape.specs.declared.point.Point.{Point}
 use Rattle.gf_shape.specs.Edges.{is_on_edge, crosses_left}
 use Rattle.gf_shape.specs.FigureMeaning.{chain_holds}

@@ -1,4 +1,4 @@
-pub use Rattle.gf_rows.specs.Spans
+pub use Rattle.gf_spans.specs.Spans
 pub mod Moving
 pub mod Reach
 pub mod Area

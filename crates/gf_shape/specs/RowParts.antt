@@ -4,9 +4,9 @@ use Rattle.std.specs.Prelude.{Bool, cond, ◌&&◌, ◌||◌, ℤ, pos, ◌-ℤ�
 use Rattle.std.specs.Prelude.{[], ◌∷◌, ◌++◌, Option, Some, None, option_to_list}
 use Rattle.std.specs.Ordering.{int_eq}
 use Rattle.std.specs.Int.{int_min, int_max}
-use Rattle.gf_rows.specs.declared.crossing.Crossing.{Crossing}
-use Rattle.gf_rows.specs.declared.span.Span.{Span}
-use Rattle.gf_rows.specs.Crossings.{place}
+use Rattle.gf_spans.specs.declared.crossing.Crossing.{Crossing}
+use Rattle.gf_spans.specs.declared.span.Span.{Span}
+use Rattle.gf_spans.specs.Crossings.{place}
 use Rattle.gf_shape.specs.declared.point.Point.{Point}
 use Rattle.gf_shape.specs.Edges.{Edge, climbs_past, falls_past}
 

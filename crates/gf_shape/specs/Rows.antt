@@ -1,8 +1,8 @@
 -- The rows of a shape: the points that it holds at one height, as spans (this project's choice).
 use Rattle.std.specs.Prelude.{◌≡◌, Bool, ℤ, List}
 use Rattle.std.specs.List.{list_any}
-use Rattle.gf_rows.specs.declared.span.Span.{Span}
-use Rattle.gf_rows.specs.Spans.{is_in_span, AreApart}
+use Rattle.gf_spans.specs.declared.span.Span.{Span}
+use Rattle.gf_spans.specs.Spans.{is_in_span, AreApart}
 use Rattle.gf_shape.specs.declared.point.Point.{Point}
 
 -- row law: x lies in one of the spans exactly if (x, y) is held; the spans rise, and neither

@@ -38,7 +38,7 @@ pub use circle::Circle;
 pub use colour::Rgb;
 pub use disc::Disc;
 pub use ellipse::Ellipse;
-pub use gf_rows::Span;
+pub use gf_spans::Span;
 pub use outline::Outline;
 pub use oval::Oval;
 pub use passing::meet;

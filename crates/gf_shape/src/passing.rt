@@ -4,7 +4,7 @@
 ghost use Rattle.std.specs.Prelude.{◌≡◌, ◌++◌, ◌≤◌, ◌-ℤ◌, ◌≤ℤ◌, ◌<ℤ◌, pos, unsigned_abs, IsTrue};
 ghost use Rattle.std.specs.Prelude.{OnOk, All, true, Option};
 ghost use Rattle.std.specs.Ordering.{int_eq};
-ghost use Rattle.gf_rows.specs.Crossings.{place};
+ghost use Rattle.gf_spans.specs.Crossings.{place};
 ghost use Rattle.gf_shape.specs.Reach.{is_reached, is_within_reach};
 ghost use Rattle.gf_shape.specs.RowParts.{contact, contacts_along, contacts_of, crossing};
 ghost use Rattle.gf_shape.specs.RowParts.{crossings_along, crossings_of, passes, span_between};
@@ -12,7 +12,7 @@ ghost use Rattle.gf_shape.specs.RowParts.{crossings_along, crossings_of, passes,
 use crate::edges::climbs_past;
 use crate::products::gap;
 use crate::{OutOfMemory, Point, Span};
-use gf_rows::{Crossing, Meetings};
+use gf_spans::{Crossing, Meetings};
 
 /// Adds where the edges of a path meet a row.
 pub(crate) fn meet_along(

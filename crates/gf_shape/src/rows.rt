@@ -8,7 +8,7 @@ ghost use Rattle.gf_shape.specs.Rows.{IsRow};
 
 use crate::passing::meet_along;
 use crate::{OutOfMemory, Point, Span};
-use gf_rows::Meetings;
+use gf_spans::Meetings;
 use std::alloc::Global;
 use std::marker::Model;
 
@@ -21,7 +21,7 @@ pub struct Row {
 
 impl Model for Row {
     ghost use Rattle.std.specs.Prelude.{List};
-    ghost use Rattle.gf_rows.specs.declared.span.Span.{Span};
+    ghost use Rattle.gf_spans.specs.declared.span.Span.{Span};
 
     ghost Value = { List Span };
 

@@ -1,6 +1,6 @@
 -- What the errors of the parts of a status say. No public clause cites this module.
 use Rattle.std.specs.Prelude.{ℕ, List, ⊤}
-use Rattle.gf_reading.specs.Refusing.{Drops, HasFault}
+use Rattle.gf_replay.specs.Refusing.{Drops, HasFault}
 use Rattle.gf_studio.specs.declared.studio_error.StudioError.{StudioError}
 use Rattle.gf_studio.specs.declared.studio_error.StudioError.TheVariants as studio
 

@@ -2,9 +2,9 @@
 use Rattle.std.specs.Prelude.{◌≡◌, ℕ, List, Option, ⊤}
 use Rattle.std.specs.Io.KnownBytes.{Appends}
 use Rattle.gf_ops.specs.declared.op.Op.{Op}
-use Rattle.gf_bytes.specs.Taken.{AppendsFront}
-use Rattle.gf_reading.specs.Refusing.{Drops, HasFault}
-use Rattle.gf_reading.specs.Waiting.{DenotesWaiting}
+use Rattle.gf_streams.specs.Taken.{AppendsFront}
+use Rattle.gf_replay.specs.Refusing.{Drops, HasFault}
+use Rattle.gf_replay.specs.Waiting.{DenotesWaiting}
 use Rattle.gf_studio.specs.declared.studio_error.StudioError.{StudioError}
 use Rattle.gf_studio.specs.declared.studio_error.StudioError.TheVariants as studio
 use Rattle.gf_status.specs.declared.objects.ObjectStatus.{ObjectStatus}

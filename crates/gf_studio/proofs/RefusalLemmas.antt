@@ -6,7 +6,7 @@ use Rattle.gf_drawing.specs.declared.compiling.CompileFault.{CompileFault}
 use Rattle.gf_drawing.specs.declared.compiling.CompileFault.TheVariants as compile
 use Rattle.gf_drawing.specs.CanonicalDrawing.{colours_of}
 use Rattle.gf_drawing.specs.DrawingState.{DrawingState}
-use Rattle.gf_reading.proofs.SameLemmas.{one_history}
+use Rattle.gf_replay.proofs.SameLemmas.{one_history}
 use Rattle.gf_studio.specs.FigRun.{Draws, RefusesCompiling}
 
 -- what has a drawing is not refused for its versions or colours

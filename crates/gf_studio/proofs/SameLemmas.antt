@@ -7,9 +7,9 @@ use Rattle.gf_ops.specs.declared.op.Op.{Op}
 use Rattle.gf_causal.specs.DeliveredPart.{HaveSame}
 use Rattle.gf_drawing.specs.DrawingState.{DrawingState}
 use Rattle.gf_fig_write.specs.FigText.{fig_text}
-use Rattle.gf_window.specs.Windows.{View}
-use Rattle.gf_reading.specs.Denoting.{Denotes, HaveSameOperations}
-use Rattle.gf_reading.proofs.SameLemmas.{denote_alike, one_history}
+use Rattle.gf_scanline.specs.Windows.{View}
+use Rattle.gf_replay.specs.Denoting.{Denotes, HaveSameOperations}
+use Rattle.gf_replay.proofs.SameLemmas.{denote_alike, one_history}
 use Rattle.gf_studio.specs.FigRun.{Draws, Writes}
 use Rattle.gf_studio.specs.PaintRun.{IsMeant, WritesPicture}
 use Rattle.gf_studio.proofs.DrawnLemmas.{both_canonical, drawn, one_drawing}

@@ -11,11 +11,11 @@ use Rattle.gf_drawing.specs.declared.compiling.CompileFault.TheVariants as compi
 use Rattle.gf_drawing.specs.CanonicalDrawing.{IsCanonical, Paints, colours_of}
 use Rattle.gf_drawing.specs.DrawingState.{DrawingState}
 use Rattle.gf_drawing.specs.Outlined.{PaintsAsFig, outlined}
-use Rattle.gf_bytes.specs.Taken.{AppendsFront}
+use Rattle.gf_streams.specs.Taken.{AppendsFront}
 use Rattle.gf_fig_read.specs.FigGrammar.{Reads}
 use Rattle.gf_fig_write.specs.FigText.{fig_text}
 use Rattle.gf_fig_write.specs.ShownHistory.{Shows}
-use Rattle.gf_reading.specs.Denoting.{Denotes}
+use Rattle.gf_replay.specs.Denoting.{Denotes}
 use Rattle.gf_visible.specs.ShownVersions.{HasMoreVisible}
 
 -- the drawing is the canonical one of h, and has at every point the colour that h means there, by

@@ -9,11 +9,11 @@ use Rattle.gf_shape.specs.FigureMeaning.{outline_holds}
 use Rattle.gf_versions.specs.HistoryColour.{HistoryColour}
 use Rattle.gf_drawing.specs.DrawingColour.{drawing_colour}
 use Rattle.gf_drawing.specs.DrawingState.{DrawingState}
-use Rattle.gf_bytes.specs.Taken.{AppendsFront}
+use Rattle.gf_streams.specs.Taken.{AppendsFront}
 use Rattle.gf_fig_read.specs.FigGrammar.{Reads}
 use Rattle.gf_fig_read.specs.Objects.{Drawn}
-use Rattle.gf_window.specs.Windows.{View}
-use Rattle.gf_layers.specs.Picture.{header, picture}
+use Rattle.gf_scanline.specs.Windows.{View}
+use Rattle.gf_scanline.specs.Picture.{header, picture}
 use Rattle.gf_raster.specs.Bands.{HasBands}
 use Rattle.gf_studio.specs.FigRun.{Draws}
 

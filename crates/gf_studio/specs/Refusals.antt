@@ -3,15 +3,15 @@ use Rattle.std.specs.Prelude.{Option, Some, None, Result, Ok, Err}
 use Rattle.gf_shape.specs.declared.refusals.OutOfMemory.{OutOfMemory}
 use Rattle.gf_drawing.specs.declared.compiling.CompileFault.{CompileFault}
 use Rattle.gf_drawing.specs.declared.compiling.CompileFault.TheVariants as compile
-use Rattle.gf_bytes.specs.declared.write_error.WriteError.{WriteError}
-use Rattle.gf_bytes.specs.declared.write_error.WriteError.TheVariants as write
-use Rattle.gf_bytes.specs.declared.source.InputError.{InputError}
-use Rattle.gf_bytes.specs.declared.source.InputError.TheVariants as input
-use Rattle.gf_reading.specs.declared.reading_error.ReadingError.{ReadingError}
-use Rattle.gf_reading.specs.declared.reading_error.ReadingError.TheVariants as reading
+use Rattle.gf_streams.specs.declared.write_error.WriteError.{WriteError}
+use Rattle.gf_streams.specs.declared.write_error.WriteError.TheVariants as write
+use Rattle.gf_streams.specs.declared.source.InputError.{InputError}
+use Rattle.gf_streams.specs.declared.source.InputError.TheVariants as input
+use Rattle.gf_replay.specs.declared.reading_error.ReadingError.{ReadingError}
+use Rattle.gf_replay.specs.declared.reading_error.ReadingError.TheVariants as reading
 use Rattle.gf_fig_read.specs.declared.faults.FigError.{FigError}
-use Rattle.gf_fig_text.specs.declared.faults.FigFault.{FigFault}
-use Rattle.gf_fig_text.specs.declared.faults.FigFault.TheVariants as fig
+use Rattle.gf_fig_tokens.specs.declared.faults.FigFault.{FigFault}
+use Rattle.gf_fig_tokens.specs.declared.faults.FigFault.TheVariants as fig
 use Rattle.gf_studio.specs.declared.studio_error.StudioError.{StudioError}
 use Rattle.gf_studio.specs.declared.studio_error.StudioError.TheVariants as studio
 

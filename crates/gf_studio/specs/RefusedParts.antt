@@ -1,7 +1,7 @@
 -- What the errors of the parts of a run say (this project's choice).
 use Rattle.std.specs.Prelude.{ℕ, List, ⊤}
 use Rattle.gf_fig_read.specs.FigGrammar.{Fails}
-use Rattle.gf_reading.specs.Refusing.{Drops, HasFault}
+use Rattle.gf_replay.specs.Refusing.{Drops, HasFault}
 use Rattle.gf_studio.specs.declared.studio_error.StudioError.{StudioError}
 use Rattle.gf_studio.specs.declared.studio_error.StudioError.TheVariants as studio
 use Rattle.gf_studio.specs.FigRun.{RefusesCompiling}

@@ -3,13 +3,13 @@
 use Rattle.std.specs.Prelude.{◌≡◌, ℕ, ◌+◌, ◌<◌, ◌≤◌, List, length, Option}
 use Rattle.std.specs.Prelude.{IfSome, Result, MatchResult, ⊤}
 use Rattle.std.specs.Io.KnownBytes.{IsAtEnd}
-use Rattle.gf_bytes.specs.Counts.{Rises, raised}
-use Rattle.gf_bytes.specs.Reads.{CamePast, ConsumesExactly}
+use Rattle.gf_streams.specs.Counts.{Rises, raised}
+use Rattle.gf_streams.specs.Reads.{CamePast, ConsumesExactly}
 use Rattle.gf_fig_read.specs.FigGrammar.{Fails}
 use Rattle.gf_studio.specs.declared.studio_error.StudioError.{StudioError}
 use Rattle.gf_studio.specs.declared.studio_error.StudioError.TheVariants as studio
 use Rattle.gf_session.specs.declared.session.SessionError.TheVariants as session
-use Rattle.gf_reading.specs.Refusing.{Drops, HasFault}
+use Rattle.gf_replay.specs.Refusing.{Drops, HasFault}
 use Rattle.gf_studio.specs.FigRun.{RefusesCompiling}
 
 -- an input has at most `most` bytes; those that are left go from old to new, and the count of

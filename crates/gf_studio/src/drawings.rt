@@ -1,7 +1,7 @@
 //! From the bytes of a source to a drawing.
 
 ghost use Rattle.std.specs.Prelude.{◌≡◌, ◌≢◌, ◌+◌, ◌≤◌, IfSome, IfOk, IfErr};
-ghost use Rattle.gf_bytes.specs.Reads.{ConsumesAtMost};
+ghost use Rattle.gf_streams.specs.Reads.{ConsumesAtMost};
 ghost use Rattle.gf_shape.specs.ShapeMeaning.{any_holds};
 ghost use Rattle.gf_drawing.specs.DrawingColour.{drawing_colour};
 ghost use Rattle.gf_fig_read.specs.FigGrammar.{Reads};
@@ -13,12 +13,12 @@ ghost use Rattle.gf_studio.specs.PaintRun.{IsMeant};
 ghost use Rattle.gf_studio.specs.RunAnswers.{ReadsFor, RefusesFig, RefusesLines};
 
 use crate::StudioError;
-use gf_bytes::{MOST_INPUT_BYTES, Source, read_input};
 use gf_drawing::{CompileFault, Drawing, MOST_VERSIONS, compile};
 use gf_fig_read::read_fig;
-use gf_reading::read_site;
+use gf_replay::read_site;
 use gf_shape::{AnyShape, OutOfMemory, Outline};
 use gf_site::Site;
+use gf_streams::{MOST_INPUT_BYTES, Source, read_input};
 use gf_versions::Ranked;
 use gf_visible::ranked_within;
 use std::alloc::Global;

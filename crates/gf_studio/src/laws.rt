@@ -11,15 +11,15 @@ ghost use Rattle.gf_drawing.specs.CanonicalDrawing.{IsCanonical};
 ghost use Rattle.gf_drawing.specs.declared.compiling.CompileFault.{CompileFault};
 ghost use Rattle.gf_drawing.specs.DrawingState.{DrawingState};
 ghost use Rattle.gf_drawing.specs.Outlined.{outlined};
-ghost use Rattle.gf_reading.specs.declared.reading_error.LineCause.{LineCause};
+ghost use Rattle.gf_replay.specs.declared.reading_error.LineCause.{LineCause};
 ghost use Rattle.gf_fig_read.specs.FigGrammar.{Fails, Reads};
-ghost use Rattle.gf_fig_text.specs.declared.faults.FigFault.{FigFault};
+ghost use Rattle.gf_fig_tokens.specs.declared.faults.FigFault.{FigFault};
 ghost use Rattle.gf_fig_write.specs.FigText.{fig_text};
 ghost use Rattle.gf_fig_write.specs.ShownHistory.{Shows};
-ghost use Rattle.gf_window.specs.Windows.{View};
+ghost use Rattle.gf_scanline.specs.Windows.{View};
 ghost use Rattle.gf_studio.specs.PaintRun.{IsDenoted, IsMeant, WritesPicture};
-ghost use Rattle.gf_reading.specs.Denoting.{Denotes, HaveSameOperations};
-ghost use Rattle.gf_reading.specs.Refusing.{Drops, HasFault};
+ghost use Rattle.gf_replay.specs.Denoting.{Denotes, HaveSameOperations};
+ghost use Rattle.gf_replay.specs.Refusing.{Drops, HasFault};
 ghost use Rattle.gf_studio.specs.FigRun.{Draws, RefusesCompiling, Writes};
 
 /// Of what lines denote, the FIG text of the canonical drawing reads as the drawing of its outlines,

@@ -1,10 +1,11 @@
 //! Whole runs over bytes: from the lines of an input to a history, its drawing, and the drawing's
-//! text or picture, and from FIG text to a picture.
+//! text or picture, or to lines of versions, and from FIG text to a picture.
 //!
 //! - [`fig_run`]: reads operation lines and writes the FIG text of their drawing; [`StudioError`]
 //!   with [`LineCause`] tells why not.
 //! - [`paint_run`]: reads operation lines and writes the picture of their drawing in a [`Window`].
 //! - [`repaint_run`]: reads a FIG text and writes the picture of the drawing that it reads as.
+//! - [`inspect_run`]: reads operation lines and writes what their history answers to a [`Query`].
 //! - [`input`], [`draw_site`]: what a run begins with, and the drawing of a site's history.
 //! - [`drawing_of_lines`], [`drawing_of_fig`]: the drawing that the bytes of a source denote.
 //! - [`the_same_operations_draw_alike`], [`the_same_histories_draw_alike`]: the laws that neither
@@ -15,23 +16,25 @@
 //!   history.
 //!
 //! [`Source`], [`read_input`], [`MOST_INPUT_BYTES`], [`In`], [`Reel`], [`SourceFault`],
-//! [`InputError`] and [`TextLines`] are those of `gf_bytes`; [`Window`], [`Gate`] and [`OpenGate`]
-//! are those of `gf_raster`; [`LineCause`] is that of `gf_reading`, and [`SessionError`] that of
+//! [`InputError`] and [`TextLines`] are those of `gf_streams`; [`Window`], [`Gate`] and [`OpenGate`]
+//! are those of `gf_raster`; [`LineCause`] is that of `gf_replay`, and [`SessionError`] that of
 //! `gf_session`.
 #![tactic(auto)]
 
 mod drawings;
+mod inspecting;
 mod laws;
 mod runs;
 mod studio_error;
 
 pub use drawings::{draw_site, drawing_of_fig, drawing_of_lines, input};
-pub use gf_bytes::{
+pub use gf_raster::{Gate, OpenGate, Window};
+pub use gf_replay::LineCause;
+pub use gf_session::SessionError;
+pub use gf_streams::{
     In, InputError, MOST_INPUT_BYTES, Reel, Source, SourceFault, TextLines, read_input,
 };
-pub use gf_raster::{Gate, OpenGate, Window};
-pub use gf_reading::LineCause;
-pub use gf_session::SessionError;
+pub use inspecting::{Query, inspect_run};
 pub use laws::{
     a_text_is_repainted_as_its_history_is_painted, the_same_histories_draw_alike,
     the_same_operations_draw_alike, the_text_of_what_lines_denote_shows_it,

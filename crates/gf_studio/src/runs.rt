@@ -2,8 +2,8 @@
 //! picture.
 
 ghost use Rattle.std.specs.Prelude.{◌≡◌, ◌+◌, ◌≤◌, ◌⊎◌, Err, IfSome, IfErr, OnOk, IsTrue};
-ghost use Rattle.gf_bytes.specs.Counts.{Rises};
-ghost use Rattle.gf_bytes.specs.Reads.{ConsumesAtMost};
+ghost use Rattle.gf_streams.specs.Counts.{Rises};
+ghost use Rattle.gf_streams.specs.Reads.{ConsumesAtMost};
 ghost use Rattle.gf_studio.specs.FigRun.{Exports, Writes, WritesFront};
 ghost use Rattle.gf_studio.specs.PaintRun.{IsDenoted, IsMeant, WritesBands, WritesPicture};
 ghost use Rattle.gf_studio.specs.PaintRun.{WritesPictureFront};
@@ -11,9 +11,9 @@ ghost use Rattle.gf_studio.specs.RunAnswers.{ReadsFor, RefusesFig, RefusesLines}
 
 use crate::StudioError;
 use crate::drawings::{drawing_of_fig, drawing_of_lines};
-use gf_bytes::{MOST_INPUT_BYTES, Sink, Source};
 use gf_fig_write::write_fig;
 use gf_raster::{Gate, Window, ppm_to};
+use gf_streams::{MOST_INPUT_BYTES, Sink, Source};
 use std::alloc::Global;
 use std::thread::Threads;
 

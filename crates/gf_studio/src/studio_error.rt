@@ -4,12 +4,12 @@ ghost use Rattle.std.specs.Prelude.{◌≡◌};
 ghost use Rattle.gf_studio.specs.declared.studio_error.StudioError.TheVariants as studio;
 ghost use Rattle.gf_studio.specs.Refusals.{of_input, of_reading, of_compile, of_fig, of_write};
 
-use gf_bytes::{InputError, WriteError};
 use gf_drawing::CompileFault;
 use gf_fig_read::{FigError, FigFault};
 use gf_ops::{ObjectId, OpFault, OpId};
-use gf_reading::{LineCause, ReadingError};
+use gf_replay::{LineCause, ReadingError};
 use gf_session::SessionError;
+use gf_streams::{InputError, WriteError};
 use thiserror::Error;
 
 /// Why a run was refused.

@@ -23,7 +23,7 @@ use Rattle.gf_maximal.proofs.ListLemmas.{list_any_true, list_any_false}
 use Rattle.gf_maximal.proofs.UnitedLemmas.{Contains-united}
 use Rattle.gf_components.specs.Components.{ComponentsState, products, whole}
 use Rattle.gf_components.proofs.ProductLemmas.{Contains-products, Contains-products_from, products_once, table_alike, table_product}
-use Rattle.gf_choices.specs.Choices.{AreShowing, IsCovered}
+use Rattle.gf_visible.specs.Choices.{AreShowing, IsCovered}
 use Rattle.gf_table.specs.Standing.{AreComponentsOn}
 use Rattle.gf_versions.proofs.VersionLemmas.{some_version}
 use Rattle.gf_visible.specs.Deciding.{may_be_last, deciding, idle, lasts}

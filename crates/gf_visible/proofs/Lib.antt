@@ -6,3 +6,5 @@ pub mod SettledLemmas
 pub mod ShownGroupLemmas
 pub mod ShownSetLemmas
 pub mod VisibleLemmas
+pub mod SearchLemmas
+pub mod ShowingLemmas

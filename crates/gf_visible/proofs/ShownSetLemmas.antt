@@ -20,8 +20,8 @@ use Rattle.gf_components.specs.Components.{ComponentsState, most_sets, products,
 use Rattle.gf_components.specs.Separate.{IsComponent, IsKept}
 use Rattle.gf_components.proofs.ComponentLemmas.{table_whole}
 use Rattle.gf_components.proofs.CountLemmas.{HasTable, a_table, length-products, tables_long}
-use Rattle.gf_choices.specs.Choices.{showing}
-use Rattle.gf_choices.proofs.ShowingLemmas.{showing_all}
+use Rattle.gf_visible.specs.Choices.{showing}
+use Rattle.gf_visible.proofs.ShowingLemmas.{showing_all}
 use Rattle.gf_table.specs.Standing.{AreComponentsOn}
 use Rattle.gf_visible.specs.Deciding.{at_most, deciding, idle, lasts, with_idle}
 use Rattle.gf_visible.specs.ShownAt.{hides_at, covers_at}

@@ -3,3 +3,4 @@ pub mod ShownAt
 pub mod ShownSets
 pub mod ShownVersions
 pub mod VisibleSoFar
+pub mod Choices

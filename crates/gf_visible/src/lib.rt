@@ -5,13 +5,23 @@
 //! - [`visible_groups`]: the groups of the visible versions of one object.
 //! - [`ranked_within`]: the ranked list of the visible versions of a history; [`ranked_with`]: the
 //!   same with no bound, as `ranked` gives it.
+//! - [`showing_within`]: the largest compatible sets of positions that show, but no more than so
+//!   many, found from what [`Setters`] say of each other: each position is chosen or left out, and
+//!   a partial choice is dropped as soon as it can't hold.
+//! - [`the_choices_are_the_largest_sets_that_show`]: the law of this search.
 #![tactic(auto)]
 
 mod deciding;
+mod laws;
 mod listing;
 mod objects;
 mod ranking;
 mod saying;
+mod searching;
+mod setters;
+mod step;
 
+pub use laws::the_choices_are_the_largest_sets_that_show;
 pub use objects::visible_groups;
 pub use ranking::{ranked_with, ranked_within};
+pub use setters::{Setters, showing_within};

@@ -12,7 +12,7 @@ ghost use Rattle.gf_visible.specs.ShownSets.{IsSetListing};
 
 use crate::deciding::{lasts, one_may_be_last};
 use crate::saying::Timeline;
-use gf_choices::showing_within;
+use crate::showing_within;
 use gf_components::{Component, Components, alone, merged, products};
 use gf_maximal::Numbers;
 use gf_ops::{History, ObjectId};

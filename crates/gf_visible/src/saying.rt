@@ -6,7 +6,7 @@ ghost use Rattle.gf_groups.specs.VersionList.{is_before};
 ghost use Rattle.gf_visible.specs.ShownAt.{shown_value, shown_by, before_at};
 ghost use Rattle.gf_visible.specs.ShownAt.{said_at, sets_at, shows_at, later_at};
 
-use gf_choices::Setters;
+use crate::Setters;
 use gf_groups::conflict_at;
 use gf_ops::{Change, History, Op, Value, before};
 

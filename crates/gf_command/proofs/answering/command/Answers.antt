@@ -1,5 +1,5 @@
 use Rattle.std.proofs.Common.{rules, inr, map, string_bytes}
-use Rattle.gf_words.specs.Asking.{Asks}
+use Rattle.gf_command.specs.Asking.{Asks}
 use Rattle.gf_command.proofs.OpenLemmas.{second_of}
 use Rattle.gf_command.proofs.answering.command.Goals as goal
 

@@ -1,7 +1,7 @@
 use Rattle.std.proofs.Common.{inr}
 use Rattle.std.proofs.lemmas.Result.{err_from_is_err_and}
 use Rattle.gf_fig_read.proofs.RingLemmas.{within_pushed}
-use Rattle.gf_fig_text.specs.Fields.{points}
+use Rattle.gf_fig_tokens.specs.Fields.{points}
 use Rattle.gf_fig_read.proofs.Loop.{goes_on, ends, is_done, pushed}
 use Rattle.gf_fig_read.proofs.outlines.points.Goals as goal
 

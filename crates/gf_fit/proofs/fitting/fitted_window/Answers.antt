@@ -1,6 +1,6 @@
 use Rattle.std.specs.Prelude.{None, Some}
 use Rattle.std.proofs.Common.{refl}
-use Rattle.gf_window.specs.Windows.{is_corner}
+use Rattle.gf_scanline.specs.Windows.{is_corner}
 use Rattle.gf_fit.specs.FittedWindow.{held}
 use Rattle.gf_fit.proofs.FittingLemmas.{fitted_covers, fitted_least, fitted_shows}
 use Rattle.gf_fit.proofs.fitting.fitted_window.Goals as goal

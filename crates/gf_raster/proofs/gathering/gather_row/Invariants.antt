@@ -1,8 +1,8 @@
 use Rattle.std.proofs.Common.{ℕ, ◌≡◌, ◌++◌}
 use Rattle.gf_shape.specs.declared.colour.Rgb.{Rgb}
 use Rattle.gf_shape.specs.declared.point.Point.{Point}
-use Rattle.gf_window.specs.Windows.{View}
-use Rattle.gf_layers.specs.Picture.{cells}
+use Rattle.gf_scanline.specs.Windows.{View}
+use Rattle.gf_scanline.specs.Picture.{cells}
 use Rattle.gf_raster.specs.Shares.{cut}
 use Rattle.gf_raster.specs.Turns.{AreColumns}
 use Rattle.gf_raster.proofs.gathering.gather_row.Given as goal

@@ -1,6 +1,6 @@
 use Rattle.std.proofs.Common.{◌≡◌, ◌+◌, ◌*◌, ◌-◌, ◌<◌, ◌≤◌, ◌/◌, ◌%◌, ◌++◌, ◌∙◌, min, ap, arith, rules}
-use Rattle.gf_layers.specs.Layers.{layered}
-use Rattle.gf_layers.specs.Picture.{rows}
+use Rattle.gf_scanline.specs.Layers.{layered}
+use Rattle.gf_scanline.specs.Picture.{rows}
 use Rattle.gf_raster.proofs.PictureLemmas.{begins, ends, rows_next}
 use Rattle.gf_raster.proofs.painting.paint_all.Goals as goal
 

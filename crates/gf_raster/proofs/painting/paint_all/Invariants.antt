@@ -1,6 +1,6 @@
 use Rattle.std.proofs.Common.{◌≡◌, ◌*◌, min}
-use Rattle.gf_layers.specs.Layers.{layered}
-use Rattle.gf_layers.specs.Picture.{rows}
+use Rattle.gf_scanline.specs.Layers.{layered}
+use Rattle.gf_scanline.specs.Picture.{rows}
 use Rattle.gf_raster.specs.Rows.{AreBand}
 use Rattle.gf_raster.proofs.painting.paint_all.Given as goal
 

@@ -2,9 +2,9 @@ use Rattle.std.proofs.Common.{◌≡◌, ◌+◌, ◌*◌, ◌-◌, ◌<◌, ◌
 use Rattle.std.proofs.KnownBytes.{Appends-trans}
 use Rattle.std.proofs.lemmas.Result.{err_from_is_err_and}
 use Rattle.std.specs.Io.KnownBytes.{Appends}
-use Rattle.gf_bytes.specs.declared.write_error.WriteError.{WriteError}
-use Rattle.gf_layers.specs.Layers.{layered}
-use Rattle.gf_layers.specs.Picture.{raster, rows}
+use Rattle.gf_streams.specs.declared.write_error.WriteError.{WriteError}
+use Rattle.gf_scanline.specs.Layers.{layered}
+use Rattle.gf_scanline.specs.Picture.{raster, rows}
 use Rattle.gf_raster.proofs.PictureLemmas.{begins, front_more, rows_next, rows_parted}
 use Rattle.gf_raster.proofs.ppm.write_bands.Goals as goal
 

@@ -1,7 +1,7 @@
 use Rattle.std.proofs.Common.{◌≡◌, ◌*◌, min}
 use Rattle.std.specs.Io.KnownBytes.{Appends}
-use Rattle.gf_layers.specs.Layers.{layered}
-use Rattle.gf_layers.specs.Picture.{rows}
+use Rattle.gf_scanline.specs.Layers.{layered}
+use Rattle.gf_scanline.specs.Picture.{rows}
 use Rattle.gf_raster.specs.Rows.{AreBand}
 use Rattle.gf_raster.proofs.ppm.write_bands.Given as goal
 

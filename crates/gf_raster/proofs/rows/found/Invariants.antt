@@ -1,5 +1,5 @@
 use Rattle.std.proofs.Common.{◌≡◌, length}
-use Rattle.gf_layers.specs.Layers.{layered}
+use Rattle.gf_scanline.specs.Layers.{layered}
 use Rattle.gf_raster.specs.Rows.{AreRows}
 use Rattle.gf_raster.proofs.rows.found.Given as goal
 

@@ -1,5 +1,5 @@
 use Rattle.std.proofs.Common.{◌≡◌, ◌+◌, ◌≤◌, ◌<◌, length, rules, arith}
-use Rattle.gf_window.specs.Windows.{sample}
+use Rattle.gf_scanline.specs.Windows.{sample}
 use Rattle.gf_raster.proofs.PictureLemmas.{rows_pushed}
 use Rattle.gf_raster.proofs.RowLemmas.{row_at}
 use Rattle.gf_raster.proofs.tiles.fill_all.Goals as goal

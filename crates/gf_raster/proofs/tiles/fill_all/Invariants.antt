@@ -1,7 +1,7 @@
 use Rattle.std.proofs.Common.{◌≡◌, ◌++◌}
 use Rattle.gf_shape.specs.declared.colour.Rgb.{Rgb}
 use Rattle.gf_shape.specs.declared.point.Point.{Point}
-use Rattle.gf_layers.specs.Picture.{rows}
+use Rattle.gf_scanline.specs.Picture.{rows}
 use Rattle.gf_raster.specs.Rows.{AreRows}
 use Rattle.gf_raster.proofs.tiles.fill_all.Given as goal
 

@@ -1,4 +1,4 @@
-use Rattle.gf_reading.proofs.SameLemmas.{denote_alike}
+use Rattle.gf_replay.proofs.SameLemmas.{denote_alike}
 use Rattle.gf_studio.proofs.SameLemmas.{draw_alike, paint_alike, write_alike}
 use Rattle.gf_studio.proofs.laws.the_same_operations_draw_alike.Goals as goal
 

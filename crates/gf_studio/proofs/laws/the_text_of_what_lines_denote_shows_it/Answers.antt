@@ -1,4 +1,4 @@
-use Rattle.gf_reading.proofs.ByteLemmas.{history_bytes}
+use Rattle.gf_replay.proofs.ByteLemmas.{history_bytes}
 use Rattle.gf_fig_write.proofs.CanonicalLemmas.{canonical_reads, canonical_shows}
 use Rattle.gf_studio.proofs.laws.the_text_of_what_lines_denote_shows_it.Goals as goal
 

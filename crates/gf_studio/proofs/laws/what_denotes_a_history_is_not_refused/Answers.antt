@@ -1,4 +1,4 @@
-use Rattle.gf_reading.proofs.RefusalLemmas.{denotes_no_drop, denotes_no_fault}
+use Rattle.gf_replay.proofs.RefusalLemmas.{denotes_no_drop, denotes_no_fault}
 use Rattle.gf_studio.proofs.RefusalLemmas.{draws_compile}
 use Rattle.gf_studio.proofs.laws.what_denotes_a_history_is_not_refused.Goals as goal
 

@@ -2,7 +2,7 @@ use Rattle.std.proofs.Common.{◌≡◌, ◌<◌, ◌+◌, ap, length, subst, ta
 use Rattle.std.specs.Prelude.{IfOk, option_map}
 use Rattle.gf_components.specs.Components.{ComponentsState}
 use Rattle.gf_groups.specs.Growing.{conflict_at}
-use Rattle.gf_choices.specs.Choices.{showing}
+use Rattle.gf_visible.specs.Choices.{showing}
 use Rattle.gf_visible.specs.Deciding.{deciding, lasts, with_idle}
 use Rattle.gf_visible.specs.ShownAt.{covers_at, hides_at}
 use Rattle.gf_visible.proofs.ShownSetLemmas.{first_fits, first_rise, free_fits, listing_told}

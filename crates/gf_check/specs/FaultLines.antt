@@ -1,0 +1,48 @@
+-- The lines that tell faults: where one is, which it is, and why (this project's choice).
+use Rattle.std.specs.Prelude.{ℕ, List, ◌++◌, codes, flat_map}
+use Rattle.std.specs.Fmt.{decimal}
+use Rattle.gf_ops.specs.declared.op.OpId.{OpId}
+use Rattle.gf_ops.specs.declared.faults.OpFault.{OpFault}
+use Rattle.gf_ops.specs.declared.faults.OpFault.TheVariants as fault
+use Rattle.gf_replay.specs.declared.reading_error.LineCause.{LineCause}
+use Rattle.gf_replay.specs.declared.reading_error.LineCause.TheVariants as cause
+use Rattle.gf_replay.specs.declared.reading_error.ReadingError.{ReadingError}
+use Rattle.gf_replay.specs.declared.reading_error.ReadingError.TheVariants as reading
+
+-- the word for the cause of a line's fault
+abbrev pub cause_word : LineCause → List ℕ
+cause_word cause.Json = codes "Json"
+cause_word cause.Field = codes "Field"
+cause_word cause.Range = codes "Range"
+cause_word cause.Clash = codes "Clash"
+
+-- the word for an operation's fault
+abbrev pub fault_word : OpFault → List ℕ
+fault_word fault.BadClock = codes "BadClock"
+fault_word fault.NoObject = codes "NoObject"
+fault_word fault.WrongKind = codes "WrongKind"
+fault_word fault.BadAim = codes "BadAim"
+
+-- the id of an operation: its site and its number there
+abbrev pub id_text : OpId → List ℕ
+id_text i = decimal i.site ++ codes "." ++ decimal i.seq
+
+-- where a fault is, and which one it is
+abbrev pub fault_head : ReadingError → List ℕ
+fault_head (reading.Line n why) = codes "line " ++ decimal n ++ codes ": " ++ cause_word why
+fault_head (reading.Dropped i why) =
+    codes "operation " ++ id_text i ++ codes ": " ++ fault_word why
+fault_head reading.OutOfMemory = codes "out of memory"
+
+-- the line that tells a fault and explains it by the text `why`
+abbrev pub told_line : ReadingError → List ℕ → List ℕ
+told_line e why = fault_head e ++ codes ": " ++ why ++ codes "\n"
+
+-- a fault, and the text that explains it
+pub record Told : Type 0 where
+  pub error : ReadingError
+  pub why : List ℕ
+
+-- a line for each fault, in their order
+abbrev pub told_text : List Told → List ℕ
+told_text told = flat_map (λ (t : Told). told_line t.error t.why) told

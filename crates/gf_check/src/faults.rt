@@ -1,0 +1,87 @@
+//! The lines that tell faults.
+
+ghost use Rattle.std.specs.Prelude.{◌≡◌, ◌++◌, codes, OnOk};
+ghost use Rattle.gf_check.specs.FaultLines.{cause_word, fault_head, fault_word, id_text};
+ghost use Rattle.gf_check.specs.FaultLines.{told_line};
+
+use gf_digits::push_number;
+use gf_ops::{OpFault, OpId};
+use gf_replay::{LineCause, ReadingError};
+use gf_shape::OutOfMemory;
+use std::alloc::AllocError;
+
+/// Appends the line that tells a fault and explains it.
+pub(crate) fn push_fault(
+    text: &mut Vec<u8>,
+    fault: ReadingError,
+    why: &[u8],
+) -> Result<(), OutOfMemory>
+    ensures { OnOk result (text.new.items ≡ text.old.items ++ told_line fault why.now) }
+{
+    push_head(text, fault)?;
+    text.extend_from_slice(b": ")?;
+    text.extend_from_slice(why)?;
+    text.push(b'\n')?;
+    Ok(())
+}
+
+/// Appends where a fault is, and which one it is.
+fn push_head(text: &mut Vec<u8>, fault: ReadingError) -> Result<(), AllocError>
+    ensures { OnOk result (text.new.items ≡ text.old.items ++ fault_head fault) }
+{
+    match fault {
+        ReadingError::Line(number, cause) => push_line(text, number, cause),
+        ReadingError::Dropped(id, fault) => push_operation(text, id, fault),
+        ReadingError::OutOfMemory => text.extend_from_slice(b"out of memory"),
+    }
+}
+
+fn push_line(text: &mut Vec<u8>, number: u64, cause: LineCause) -> Result<(), AllocError>
+    ensures { OnOk result (text.new.items
+        ≡ text.old.items ++ fault_head (ReadingError.Line number cause)) }
+{
+    text.extend_from_slice(b"line ")?;
+    push_number(text, number)?;
+    text.extend_from_slice(b": ")?;
+    text.extend_from_slice(cause_word(cause))
+}
+
+fn push_operation(text: &mut Vec<u8>, id: OpId, fault: OpFault) -> Result<(), AllocError>
+    ensures { OnOk result (text.new.items
+        ≡ text.old.items ++ fault_head (ReadingError.Dropped id fault)) }
+{
+    text.extend_from_slice(b"operation ")?;
+    push_id(text, id)?;
+    text.extend_from_slice(b": ")?;
+    text.extend_from_slice(fault_word(fault))
+}
+
+fn push_id(text: &mut Vec<u8>, id: OpId) -> Result<(), AllocError>
+    ensures { OnOk result (text.new.items ≡ text.old.items ++ id_text id) }
+{
+    push_number(text, id.site)?;
+    text.push(b'.')?;
+    push_number(text, id.seq)
+}
+
+fn cause_word(cause: LineCause) -> &'static [u8]
+    ensures { result.now ≡ cause_word cause }
+{
+    match cause {
+        LineCause::Json => b"Json",
+        LineCause::Field => b"Field",
+        LineCause::Range => b"Range",
+        LineCause::Clash => b"Clash",
+    }
+}
+
+fn fault_word(fault: OpFault) -> &'static [u8]
+    ensures { result.now ≡ fault_word fault }
+{
+    match fault {
+        OpFault::BadClock => b"BadClock",
+        OpFault::NoObject => b"NoObject",
+        OpFault::WrongKind => b"WrongKind",
+        OpFault::BadAim => b"BadAim",
+    }
+}

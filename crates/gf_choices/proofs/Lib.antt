@@ -1,2 +1,0 @@
-pub mod SearchLemmas
-pub mod ShowingLemmas

@@ -1,5 +1,0 @@
-use Rattle.gf_choices.proofs.ShowingLemmas.{showing_all}
-use Rattle.gf_choices.proofs.laws.the_choices_are_the_largest_sets_that_show.Goals as goal
-
-pub returns : goal.returns
-returns c = showing_all

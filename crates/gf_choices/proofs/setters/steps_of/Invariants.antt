@@ -1,6 +1,0 @@
-use Rattle.std.proofs.Common.{◌≡◌, map, take}
-use Rattle.gf_choices.specs.Choices.{step_of}
-use Rattle.gf_choices.proofs.setters.steps_of.Given as goal
-
-abbrev pub invariant-loop-position : goal.invariant-loop-position
-invariant-loop-position g l = l.steps.items ≡ map (step_of (g.T.Setters.hides l.setters) (g.T.Setters.covers l.setters) (g.T.Setters.rivals l.setters) l.positions) (take l.position-index l.positions)

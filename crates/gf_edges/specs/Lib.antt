@@ -1,3 +1,0 @@
-pub mod Between
-pub mod Reaching
-pub mod Telling

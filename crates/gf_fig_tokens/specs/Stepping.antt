@@ -1,0 +1,14 @@
+-- What a function that cuts a text has returned and left. No public clause cites this module.
+use Rattle.std.specs.Prelude.{◌≡◌, ℕ, ⊤, not, List, drop, Result, Ok, Err}
+use Rattle.std.specs.List.{position_or_len}
+use Rattle.gf_fig_tokens.specs.Layout.{Token, is_blank}
+use Rattle.gf_fig_tokens.specs.declared.faults.FigFault.{FigFault}
+
+-- the line without the blanks that it begins with
+abbrev pub after_blanks : List ℕ → List ℕ
+after_blanks line = drop (position_or_len (λ b. not (is_blank b)) line) line
+
+-- what is left is what the answer says
+abbrev pub Takes : Result ⊤ FigFault → List Token → Result (List Token) FigFault → Type 0
+Takes (Ok u) left answer = answer ≡ Ok left
+Takes (Err f) left answer = answer ≡ Err f

@@ -1,9 +1,0 @@
-use Rattle.std.proofs.Common.{ℕ, ◌+◌, ◌≤◌, ◌<◌, ◌++◌, All, drop}
-use Rattle.gf_layers.specs.Pieces.{AreSeen, IsPiece, layers_of}
-use Rattle.gf_layers.proofs.part.pieces_of.Given as goal
-
-abbrev pub invariant-loop-layer : goal.invariant-loop-layer
-invariant-loop-layer g l = record {
-  pieces : (j : ℕ) → l.top ≤ j → j < l.top + l.count → All (IsPiece g.S.Shape.holds l.window j) l.pieces.items;
-  seen : AreSeen g.S.Shape.holds l.window l.top l.count l.layers (layers_of l.pieces.items ++ drop l.layer-index l.layers);
-}

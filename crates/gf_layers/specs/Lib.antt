@@ -1,5 +1,0 @@
-pub mod Layers
-pub mod Parts
-pub mod Picture
-pub mod Pieces
-pub mod Seen

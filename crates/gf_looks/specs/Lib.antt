@@ -1,2 +1,0 @@
-pub mod InspectRun
-pub mod RefusedParts

@@ -1,9 +1,0 @@
-use Rattle.std.proofs.Common.{◌≡◌, length}
-use Rattle.gf_reading.specs.Taking.{KeepsAll}
-use Rattle.gf_reading.proofs.taking.settle.Given as goal
-
-abbrev pub invariant-loop-id : goal.invariant-loop-id
-invariant-loop-id l = KeepsAll l.initial.site l.site × (l.site.number ≡ l.initial.site.number)
-
-abbrev pub decreases-loop-id : goal.decreases-loop-id
-decreases-loop-id l = length l.site.held

@@ -1,0 +1,91 @@
+-- How a site takes an operation that was read (this project's choice, over causal delivery).
+use Rattle.std.specs.Prelude.{◌≡◌, ◌⊎◌, ◌↔◌, ℕ, List, Contains, ⊤}
+use Rattle.gf_ops.specs.declared.op.Op.{Op}
+use Rattle.gf_ops.specs.declared.op.OpId.{OpId}
+use Rattle.gf_ops.specs.declared.faults.OpFault.{OpFault}
+use Rattle.gf_ops.specs.Accepted.{AreAccepted, IsRefused}
+use Rattle.gf_ops.specs.ValidHistory.{IsValid}
+use Rattle.gf_causal.specs.DeliveredPart.{AreOneById}
+use Rattle.gf_causal.specs.HeldOperations.{Adds, IsClash, IsKnown, IsNew}
+use Rattle.gf_causal.specs.Ready.{IsReady, NoneIsReady}
+use Rattle.gf_site.specs.SiteState.{SiteState}
+use Rattle.gf_json.specs.declared.line_error.LineError.{LineError}
+use Rattle.gf_json.specs.declared.line_error.LineError.TheVariants as line
+use Rattle.gf_replay.specs.declared.reading_error.LineCause.TheVariants as cause
+use Rattle.gf_replay.specs.declared.reading_error.ReadingError.{ReadingError}
+use Rattle.gf_replay.specs.declared.reading_error.ReadingError.TheVariants as reading
+
+-- line n has this fault
+abbrev pub of_line : ℕ → LineError → ReadingError
+of_line n line.Json = reading.Line n cause.Json
+of_line n line.Field = reading.Line n cause.Field
+of_line n line.Range = reading.Line n cause.Range
+of_line n line.OutOfMemory = reading.OutOfMemory
+
+-- the site holds a, or its history has it
+abbrev pub Has : SiteState → Op → Type 0
+Has x a = Contains x.held a ⊎ Contains x.ops a
+
+-- an offer of a adds it to what the site holds, or finds it there
+pub data Offers (x : SiteState) (a : Op) (y : SiteState) : Type 0 where
+  again : IsKnown x.held x.ops a → y ≡ x → Offers x a y
+  new : IsNew x.held x.ops a → Adds x.held a y.held → y.ops ≡ x.ops → Offers x a y
+
+-- no held operation is in the history
+abbrev pub HoldsOthers : SiteState → Type 0
+HoldsOthers x = (a : Op) → Contains x.held a → ¬ (Contains x.ops a)
+
+-- the site has the operations that it had
+-- if it held none of its history before, it holds none of its history now
+pub record KeepsAll (old new : SiteState) : Type 0 where
+  pub same : (a : Op) → Has old a ↔ Has new a
+  pub others : HoldsOthers old → HoldsOthers new
+
+-- the site has the operations that it had, in a history by rule
+pub record Moves (old new : SiteState) : Type 0 where
+  pub keeps : KeepsAll old new
+  pub accepted : AreAccepted new.ops
+  pub valid : IsValid new.ops
+
+-- the site has the operations that it had, in a history by rule, and holds none that is ready
+pub record Settles (old new : SiteState) : Type 0 where
+  pub moves : Moves old new
+  pub none : NoneIsReady new.ops new.held
+
+-- after some steps one that the site had is ready and doesn't fit, for this fault
+pub record DropsReady (old : SiteState) (id : OpId) (fault : OpFault) : Type 0 where
+  pub state : SiteState
+  pub moves : Moves old state
+  pub op : Op
+  pub there : Has old op
+  pub named : op.id ≡ id
+  pub ready : IsReady state.ops op
+  pub refused : IsRefused state.ops op fault
+
+-- a is offered to the site, which steps until none is ready and keeps its number
+pub record TakesOp (a : Op) (old new : SiteState) : Type 0 where
+  pub offered : SiteState
+  pub offers : Offers old a offered
+  pub settles : Settles offered new
+  pub number : new.number ≡ old.number
+
+-- a is offered to the site, and then the operation under this id doesn't fit, for this fault
+pub record DropsBehind (a : Op) (old : SiteState) (id : OpId) (fault : OpFault) : Type 0 where
+  pub offered : SiteState
+  pub offers : Offers old a offered
+  pub drops : DropsReady offered id fault
+
+-- why a, the operation of line n, is not taken; want of memory may come with any
+abbrev pub RefusesOp : ℕ → Op → SiteState → ReadingError → Type 0
+RefusesOp n a x (reading.Line m cause.Clash) = (m ≡ n) × IsClash x.held x.ops a
+RefusesOp n a x (reading.Line m other) = ⊥
+RefusesOp n a x (reading.Dropped id fault) = DropsBehind a x id fault
+RefusesOp n a x reading.OutOfMemory = ⊤
+
+-- these operations were taken: the site has them, and no others
+pub record HasTaken (ops : List Op) (x : SiteState) : Type 0 where
+  pub one : AreOneById ops
+  pub all : (a : Op) → Contains ops a ↔ Has x a
+  pub others : HoldsOthers x
+  pub accepted : AreAccepted x.ops
+  pub valid : IsValid x.ops

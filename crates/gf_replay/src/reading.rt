@@ -1,0 +1,84 @@
+//! From the lines of a text to a site.
+
+ghost use Rattle.std.specs.Prelude.{◌≡◌, ◌+◌, ◌≤◌, List, ℕ, IfOk, IfErr, OnOk, length, vec_len};
+ghost use Rattle.gf_ops.specs.Limits.{IsInRange};
+ghost use Rattle.gf_replay.specs.Blocks.{AreFirstReadings, IsReading};
+ghost use Rattle.gf_replay.specs.Denoting.{Denotes};
+ghost use Rattle.gf_replay.specs.Refusing.{RefusesText};
+ghost use Rattle.gf_replay.specs.Waiting.{DenotesWaiting};
+ghost use Rattle.gf_replay.specs.LineSteps.{HasRead, RefusesLine, TakesLine};
+
+use crate::blocks::{Reading, read_block};
+use crate::{ReadingError, line_refusal, take_op};
+use gf_site::Site;
+use gf_streams::TextLines;
+use std::alloc::Global;
+use std::thread::Threads;
+
+/// A site whose history is that of the operations that the lines of a text denote. It holds each
+/// until all that it knows is there; what it holds at the end is no part of the history, and waits.
+/// The lines are read by 1 to 16 workers, and taken in order. The text's memory is given back as it
+/// is read.
+pub fn read_site<R: Threads + Sync>(
+    rt: &R,
+    alloc: Global,
+    text: Vec<u8>,
+    workers: u8,
+) -> Result<Site, ReadingError>
+    requires { (1 ≤ workers) × (workers ≤ 16) }
+    ensures ok { IfOk result (λ site. Denotes text.items site.ops) }
+    ensures held { IfOk result (λ site. DenotesWaiting text.items site.ops site.held) }
+    ensures err { IfErr result (RefusesText text.items) }
+{
+    let mut site = Site::new(alloc, 1);
+    let mut lines = TextLines::new(text);
+    loop {
+        let Ok(readings) = read_block(rt, alloc, &lines, workers) else {
+            return Err(ReadingError::OutOfMemory);
+        };
+        if readings.is_empty() {
+            break;
+        }
+        take_block(&mut site, &mut lines, readings)?;
+    }
+    // Its clause says that their ids rise.
+    let _ = site.held();
+    Ok(site)
+}
+
+/// Takes what the first lines read as, in order, and goes on to the lines behind them.
+fn take_block(
+    site: &mut Site,
+    lines: &mut TextLines,
+    readings: Vec<Reading>,
+) -> Result<(), ReadingError>
+    requires { AreFirstReadings lines.old readings.items }
+    ensures ok { (text : List ℕ) → HasRead text lines.old site.old →
+        OnOk result (HasRead text lines.new site.new) }
+    ensures left { OnOk result (length lines.new + vec_len readings ≤ length lines.old) }
+    ensures err { (text : List ℕ) → HasRead text lines.old site.old →
+        IfErr result (RefusesText text) }
+{
+    for reading in readings {
+        let Some((number, _)) = lines.first() else {
+            unreachable!()
+        };
+        take_reading(site, number, reading)?;
+        lines.advance();
+    }
+    Ok(())
+}
+
+/// Takes what the line of this number reads as.
+fn take_reading(site: &mut Site, number: u64, reading: Reading) -> Result<(), ReadingError>
+    requires { IfOk reading (λ op. IsInRange op) }
+    ensures ok { (line : List ℕ) → IsReading line reading →
+        OnOk result (TakesLine line site.old site.new) }
+    ensures err { (line : List ℕ) → IsReading line reading →
+        IfErr result (RefusesLine number line site.old) }
+{
+    match reading {
+        Ok(op) => take_op(site, number, op),
+        Err(fault) => Err(line_refusal(number, fault)),
+    }
+}

@@ -1,0 +1,58 @@
+//! What becomes of one line: its operation is taken, or its fault is told.
+
+ghost use Rattle.std.specs.Prelude.{◌≡◌, IfErr, OnOk};
+ghost use Rattle.gf_ops.specs.Limits.{IsInRange};
+ghost use Rattle.gf_replay.specs.LineSteps.{RefusesSettling};
+ghost use Rattle.gf_replay.specs.Taking.{RefusesOp, Settles, TakesOp, of_line};
+
+use crate::{LineCause, ReadingError};
+use gf_causal::OfferFault;
+use gf_json::LineError;
+use gf_ops::Op;
+use gf_shape::OutOfMemory;
+use gf_site::{Site, Step};
+
+/// Receives the operation of the line of this number, and steps until nothing is ready.
+pub fn take_op(site: &mut Site, number: u64, op: Op) -> Result<(), ReadingError>
+    requires { IsInRange op }
+    ensures ok { OnOk result (TakesOp op site.old site.new) }
+    ensures err { IfErr result (RefusesOp number op site.old) }
+{
+    match site.receive(op) {
+        Ok(_) => settle(site),
+        Err(OfferFault::Clash) => Err(ReadingError::Line(number, LineCause::Clash)),
+        Err(OfferFault::Range) => unreachable!(),
+        Err(OfferFault::OutOfMemory) => Err(ReadingError::OutOfMemory),
+    }
+}
+
+/// The refusal of the line of this number for its fault.
+pub fn line_refusal(number: u64, fault: LineError) -> ReadingError
+    ensures { result ≡ of_line number fault }
+{
+    match fault {
+        LineError::Json => ReadingError::Line(number, LineCause::Json),
+        LineError::Field => ReadingError::Line(number, LineCause::Field),
+        LineError::Range => ReadingError::Line(number, LineCause::Range),
+        LineError::OutOfMemory => ReadingError::OutOfMemory,
+    }
+}
+
+/// Steps until nothing is ready.
+fn settle(site: &mut Site) -> Result<(), ReadingError>
+    ensures ok { OnOk result (Settles site.old site.new) }
+    ensures number { OnOk result (site.new.number ≡ site.old.number) }
+    ensures err { IfErr result (RefusesSettling site.old) }
+{
+    loop {
+        // Their clauses say what every site keeps.
+        let _ = site.history();
+        let _ = site.held();
+        match site.step() {
+            Ok(Step::Applied(_)) => {}
+            Ok(Step::Dropped(id, fault)) => return Err(ReadingError::Dropped(id, fault)),
+            Ok(Step::Idle) => return Ok(()),
+            Err(OutOfMemory) => return Err(ReadingError::OutOfMemory),
+        }
+    }
+}

@@ -1,0 +1,13 @@
+pub mod EdgeLemmas
+pub mod ReachLemmas
+pub mod PieceLemmas
+pub mod RowLemmas
+pub mod SeenLemmas
+pub mod FreeLemmas
+pub mod PaintedLemmas
+pub mod PixelLemmas
+pub mod RangeLemmas
+pub mod ReplaceLemmas
+pub mod RisingLemmas
+pub mod StrokeLemmas
+pub mod ColumnLemmas

@@ -1,0 +1,14 @@
+pub mod Between
+pub mod Reaching
+pub mod Telling
+pub mod Layers
+pub mod Parts
+pub mod Picture
+pub mod Pieces
+pub mod Seen
+pub mod Pixels
+pub mod Strips
+pub mod Free
+pub mod Segments
+pub mod Strokes
+pub mod Windows

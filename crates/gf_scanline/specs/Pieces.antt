@@ -1,0 +1,39 @@
+-- What some rows of a window have of layers (this project's choice).
+use Rattle.std.specs.Prelude.{◌≡◌, ℕ, ℤ, ◌+◌, ◌≤◌, ◌<◌, ◌&&◌, Bool}
+use Rattle.std.specs.Prelude.{false, int_le, List, map, IfSome}
+use Rattle.gf_shape.specs.declared.bounds.Bounds.{Bounds}
+use Rattle.gf_shape.specs.declared.point.Point.{Point}
+use Rattle.gf_shape.specs.ShapeLaws.{IsBounds}
+use Rattle.gf_scanline.specs.Strips.{is_among}
+use Rattle.gf_scanline.specs.Windows.{View, line, sample}
+use Rattle.gf_scanline.specs.Telling.{TellsRow}
+use Rattle.gf_scanline.specs.declared.layer.Layer.{Layer}
+use Rattle.gf_scanline.specs.declared.piece.Piece.{Piece}
+use Rattle.gf_scanline.specs.Layers.{row_colours}
+
+-- bounds reach a height from low to high
+abbrev pub reaches : ℤ → ℤ → Bounds → Bool
+reaches low high b = int_le b.low.y high && int_le low b.high.y
+
+-- the layers of pieces
+abbrev pub layers_of : {S : Type 0} → List (Piece S) → List (Layer S)
+layers_of ps = map (λ p. p.layer.now) ps
+
+module _ {S : Type 0} (holds : S → Point → Bool) (w : View) where
+  -- the piece's bounds are its layer's, its columns have all that the layer holds in the row j, and
+  -- its edges tell that row
+  pub record IsPiece (j : ℕ) (p : Piece S) : Type 0 where
+    pub bounds : IsBounds (holds p.layer.now.shape.now) p.bounds
+    pub columns : (k : ℕ) → k < w.width → is_among p.columns k ≡ false
+        → holds p.layer.now.shape.now (sample w k j) ≡ false
+    pub edges : IfSome p.edges (λ es. TellsRow (holds p.layer.now.shape.now) (line w j) es)
+
+  -- the layer holds no point of the part
+  abbrev pub IsUnseen : ℕ → ℕ → Layer S → Type 0
+  IsUnseen top count l = (j k : ℕ) → top ≤ j → j < top + count → k < w.width
+      → holds l.shape.now (sample w k j) ≡ false
+
+  -- some layers have, in the part, the colours of all
+  abbrev pub AreSeen : ℕ → ℕ → List (Layer S) → List (Layer S) → Type 0
+  AreSeen top count all some = (j k : ℕ) → top ≤ j → j < top + count → k < w.width
+      → row_colours holds some w j k ≡ row_colours holds all w j k

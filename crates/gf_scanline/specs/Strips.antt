@@ -1,0 +1,56 @@
+-- Some columns of a row, painted from the front to the back: each once, while it is free (this
+-- project's choice).
+use Rattle.std.specs.Prelude.{ℕ, ◌≤◌, ◌≡◌, ◌<◌, Bool, true, false, ◌&&◌, ◌||◌}
+use Rattle.std.specs.Prelude.{nat_le, nat_lt, if◌then◌else◌}
+use Rattle.std.specs.Prelude.{List, [], ◌∷◌, Contains, ⊤}
+use Rattle.std.specs.List.{list_any}
+use Rattle.gf_shape.specs.declared.colour.Rgb.{Rgb}
+use Rattle.gf_scanline.specs.declared.columns.Columns.{Columns}
+
+-- k lies from a to before b
+abbrev pub is_from : ℕ → ℕ → ℕ → Bool
+is_from a b k = nat_le a k && nat_lt k b
+
+-- k is one of the columns
+abbrev pub is_among : Columns → ℕ → Bool
+is_among c k = is_from c.from c.to k
+
+-- k is one of the columns of a list
+abbrev pub is_free : List Columns → ℕ → Bool
+is_free free k = list_any (λ c. is_among c k) free
+
+-- the colour c where the test holds, else what was there
+abbrev pub over : (ℕ → Bool) → Rgb → (ℕ → Rgb) → ℕ → Rgb
+over test c f k = if test k then c else f k
+
+-- of n columns, those that are not among c have the same colours
+abbrev pub AreSameOutside : Columns → ℕ → (ℕ → Rgb) → (ℕ → Rgb) → Type 0
+AreSameOutside c n f g = (k : ℕ) → k < n → is_among c k ≡ false → f k ≡ g k
+
+-- each of the lists of columns has some, and they rise: each ends before the next ones begin
+abbrev pub AreRising : List Columns → Type 0
+AreRising [] = ⊤
+AreRising (c ∷ cs) = (c.from < c.to) × ((d : Columns) → Contains cs d → c.to ≤ d.from)
+    × AreRising cs
+
+-- a segment: columns in one colour
+pub record SegmentView : Type 0 where
+  pub columns : Columns
+  pub colour : Rgb
+
+-- k is one of the columns of a list of segments
+abbrev pub is_painted : List SegmentView → ℕ → Bool
+is_painted ss k = list_any (λ s. is_among s.columns k) ss
+
+-- a strip: what of its columns is painted, and which are still free
+pub record Shown : Type 0 where
+  pub segments : List SegmentView
+  pub free : List Columns
+
+-- a strip of n columns will show target, once its free columns show what lies behind: each column
+-- is free or painted, and what is painted has the colours of target
+pub record IsPainted (target behind : ℕ → Rgb) (n : ℕ) (strip : Shown) : Type 0 where
+  pub free : (k : ℕ) → k < n → is_free strip.free k ≡ true → behind k ≡ target k
+  pub whole : (k : ℕ) → k < n → (is_free strip.free k || is_painted strip.segments k) ≡ true
+  pub colours : (s : SegmentView) (k : ℕ) → Contains strip.segments s → k < n
+      → is_among s.columns k ≡ true → s.colour ≡ target k

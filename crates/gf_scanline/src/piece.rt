@@ -1,0 +1,131 @@
+//! Pieces: what a part of a window has of a layer.
+
+ghost use Rattle.std.specs.Prelude.{◌≡◌, ℕ, ℤ, ◌+◌, ◌≤◌, ◌<◌, ◌≤ℤ◌, Bool, true, ◌&&◌, int_le, IfOk};
+ghost use Rattle.std.specs.Prelude.{IfSome, None};
+ghost use Rattle.gf_scanline.specs.Telling.{TellsRow};
+ghost use Rattle.gf_spans.specs.Spans.{is_in_span};
+ghost use Rattle.gf_shape.specs.declared.point.Point.{Point};
+ghost use Rattle.gf_shape.specs.Rows.{IsRow};
+ghost use Rattle.gf_shape.specs.ShapeLaws.{IsBounds};
+ghost use Rattle.gf_scanline.specs.Layers.{HasBounds};
+ghost use Rattle.gf_scanline.specs.Pieces.{IsPiece, IsUnseen, reaches};
+
+use crate::{Columns, Edges, Layer, Window, Workspace};
+use gf_shape::{Bounds, OutOfMemory, Outline, Shape, Span};
+use std::alloc::Global;
+
+/// What a part of a window has of a layer: its bounds, the columns that it may be seen in, and of a
+/// polygon the edges that come between the rows.
+#[derive(Drop)]
+pub(crate) struct Piece<'l, 'a, S> {
+    pub layer: &'l Layer<'a, S>,
+    pub bounds: Bounds,
+    pub columns: Columns,
+    pub edges: Option<Edges>,
+}
+
+/// What the rows from `top` on, `count` of them, have of a layer.
+pub(crate) fn piece_of<'l, 'a, S: Shape>(
+    alloc: Global,
+    layer: &'l Layer<'a, S>,
+    window: Window,
+    top: usize,
+    count: usize,
+) -> Result<Option<Piece<'l, 'a, S>>, OutOfMemory>
+    requires rows { (1 ≤ count) × (top + count ≤ window.height) }
+    requires bounds { HasBounds S.holds layer.now }
+    ensures layer { IfOk result (λ found. IfSome found (λ p. p.layer.now ≡ layer.now)) }
+    ensures some { IfOk result (λ found.
+        IfSome found (λ p. (j : ℕ) → top ≤ j → j < top + count
+        → IsPiece S.holds window j p)) }
+    ensures none { IfOk result (λ found. found ≡ None
+        → IsUnseen S.holds window top count layer.now) }
+{
+    let bounds = layer.bounds;
+    let low = window.line(top);
+    let high = window.line(top + count - 1);
+    if !reaches(bounds, low, high) {
+        return Ok(None);
+    }
+    let columns = window.columns(across(bounds));
+    if columns.to <= columns.from {
+        return Ok(None);
+    }
+    let edges = edges(alloc, layer.shape, low, high)?;
+    let columns = window.columns(reach(bounds, &edges));
+    Ok(Some(Piece {
+        layer,
+        bounds,
+        columns,
+        edges,
+    }))
+}
+
+/// Whether bounds reach a height from `low` to `high`.
+#[tactic(auto, using(std::proofs::lemmas::Int::ints))]
+pub(crate) fn reaches(bounds: Bounds, low: i32, high: i32) -> bool
+    ensures { result ≡ reaches low high bounds }
+{
+    bounds.low.y <= high && low <= bounds.high.y
+}
+
+/// How far the points of a shape reach to the left and to the right, in a row that its edges tell,
+/// where it has some: no further than these, nor than its bounds.
+fn reach(bounds: Bounds, edges: &Option<Edges>) -> Span
+    ensures { (holds : Point → Bool) (x y : ℤ) → IsBounds holds bounds
+        → IfSome edges.now (λ es. TellsRow holds y es) → holds (record { x = x; y = y }) ≡ true
+        → is_in_span x result ≡ true }
+{
+    match edges {
+        Some(edges) => edges.reach(),
+        None => across(bounds),
+    }
+}
+
+/// From the left of bounds to their right.
+fn across(bounds: Bounds) -> Span
+    ensures { result ≡ record { first = bounds.low.x; last = bounds.high.x } }
+{
+    Span {
+        first: bounds.low.x,
+        last: bounds.high.x,
+    }
+}
+
+/// Of a polygon, the edges that come between two heights.
+fn edges<S: Shape>(
+    alloc: Global,
+    shape: &S,
+    low: i32,
+    high: i32,
+) -> Result<Option<Edges>, OutOfMemory>
+    ensures { IfOk result (λ found.
+        IfSome found (λ es. (y : ℤ) → low ≤ℤ y → y ≤ℤ high → TellsRow (S.holds shape.now) y es)) }
+{
+    let outline = shape.outline(alloc)?;
+    match &outline {
+        Outline::Chain(chain) if !chain.boxed() => {
+            let edges = Edges::between(alloc, chain, low, high)?;
+            Ok(Some(edges))
+        }
+        Outline::Chain(_) | Outline::Disc(_) | Outline::Oval(_) => Ok(None),
+    }
+}
+
+/// The spans of a piece in the row `y`.
+pub(crate) fn spans<'r, S: Shape>(
+    piece: &Piece<'_, '_, S>,
+    y: i32,
+    space: &'r mut Workspace,
+) -> Result<&'r [Span], OutOfMemory>
+    requires { IfSome piece.now.edges (λ es.
+        TellsRow (S.holds piece.now.layer.now.shape.now) y es) }
+    ensures { IfOk result (λ spans. IsRow (S.holds piece.now.layer.now.shape.now) y spans.now) }
+{
+    if let Some(edges) = &piece.edges {
+        edges.row_into(y, &mut space.told)?;
+        return Ok(space.told.spans());
+    }
+    piece.layer.shape.row_into(y, &mut space.found)?;
+    Ok(space.found.spans())
+}

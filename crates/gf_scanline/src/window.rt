@@ -1,0 +1,144 @@
+//! Windows.
+
+ghost use Rattle.std.specs.Prelude.{◌≡◌, ◌↔◌, IsTrue, IsOk, IfOk, ◌<◌, ◌≤◌, ◌*◌, ◌+ℤ◌, pos};
+ghost use Rattle.gf_scanline.specs.Windows.{is_corner, is_side, is_step, is_view, line};
+
+use gf_shape::Range;
+use std::marker::Model;
+
+/// Which part of the plane a picture shows: `height` rows of `width` points, `step` apart, of which
+/// (x, y) is the first. Its pixel (i, j) is the point (x + i * step, y + j * step).
+#[derive(Clone, Copy, Debug, PartialEq, Eq)]
+pub struct Window {
+    x: i32,
+    y: i32,
+    step: u32,
+    width: u32,
+    height: u32,
+}
+
+impl Model for Window {
+    ghost use Rattle.std.specs.Prelude.{IsTrue};
+    ghost use Rattle.gf_scanline.specs.Windows.{View, is_view};
+
+    ghost Value = { View };
+
+    ghost view = { λ w. record {
+      x = w.x;
+      y = w.y;
+      step = w.step;
+      width = w.width;
+      height = w.height;
+    } };
+
+    ghost invariant = { λ w. IsTrue (is_view (record
+        { x = w.x; y = w.y; step = w.step; width = w.width; height = w.height })) };
+
+    ghost inverse = { λ v. record {
+      x = v.x;
+      y = v.y;
+      step = v.step;
+      width = v.width;
+      height = v.height;
+    } };
+}
+
+impl Window {
+    /// The window of this first point, step, width and height: x and y from -2,000,000 to
+    /// 2,000,000, the step from 1 to 10,000, width and height from 1 to 4,096.
+    pub fn new(x: i32, y: i32, step: u32, width: u32, height: u32) -> Result<Window, Range>
+        ensures within { IsOk result ↔ IsTrue (is_view
+            (record { x = x; y = y; step = step; width = width; height = height })) }
+        ensures same { IfOk result (λ w. w
+            ≡ record { x = x; y = y; step = step; width = width; height = height }) }
+    {
+        if is_corner(x) && is_corner(y) && is_step(step) && is_side(width) && is_side(height) {
+            Ok(Window {
+                x,
+                y,
+                step,
+                width,
+                height,
+            })
+        } else {
+            Err(Range)
+        }
+    }
+
+    /// The x of its first column.
+    pub fn x(&self) -> i32
+        ensures { result ≡ self.now.x }
+    {
+        self.x
+    }
+
+    /// How far its points are apart, 1 to 10,000.
+    pub fn step(&self) -> u32
+        ensures step { result ≡ self.now.step }
+        ensures within { (1 ≤ result) × (result ≤ 10000) }
+    {
+        self.step
+    }
+
+    /// How many columns it has, 1 to 4,096.
+    pub fn width(&self) -> u32
+        ensures width { result ≡ self.now.width }
+        ensures within { (1 ≤ result) × (result ≤ 4096) }
+    {
+        self.width
+    }
+
+    /// How many rows it has, 1 to 4,096.
+    pub fn height(&self) -> u32
+        ensures height { result ≡ self.now.height }
+        ensures within { (1 ≤ result) × (result ≤ 4096) }
+    {
+        self.height
+    }
+
+    /// The y of row `j`.
+    pub fn line(&self, j: usize) -> i32
+        requires { j < self.now.height }
+        ensures { result ≡ line self.now j }
+    {
+        moved(self.y, times(j, self.step))
+    }
+}
+
+#[tactic(auto, using(std::proofs::lemmas::Int::ints), unfolding(crate::specs::Windows::is_corner))]
+fn is_corner(n: i32) -> bool
+    ensures { result ≡ is_corner n }
+{
+    -2_000_000 <= n && n <= 2_000_000
+}
+
+fn is_side(n: u32) -> bool
+    ensures { result ≡ is_side n }
+{
+    1 <= n && n <= 4_096
+}
+
+fn is_step(n: u32) -> bool
+    ensures { result ≡ is_step n }
+{
+    1 <= n && n <= 10_000
+}
+
+fn times(n: usize, step: u32) -> u32
+    requires n { n < 4096 }
+    requires step { step ≤ 10000 }
+    ensures product { result ≡ n * step }
+    ensures most { result ≤ 40960000 }
+{
+    n as u32 * step
+}
+
+/// A place moved on by a distance.
+#[tactic(auto, using(std::proofs::lemmas::Int::ints), unfolding(crate::specs::Windows::is_corner))]
+fn moved(place: i32, distance: u32) -> i32
+    requires place { IsTrue (is_corner place) }
+    requires distance { distance ≤ 40960000 }
+    ensures { result ≡ place +ℤ pos distance }
+{
+    place + distance as i32
+}

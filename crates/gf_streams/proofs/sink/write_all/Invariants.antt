@@ -1,0 +1,15 @@
+use Rattle.std.proofs.Common.{◌≡◌, ◌-◌, ◌≤◌, length, take}
+use Rattle.std.specs.Io.KnownBytes.{Appends}
+use Rattle.gf_streams.specs.Taken.{UnflushedBy}
+use Rattle.gf_streams.proofs.sink.write_all.Given as goal
+
+abbrev pub invariant-loop-done : goal.invariant-loop-done
+invariant-loop-done g l = record {
+  within : l.done ≤ length l.bytes;
+  taken : Appends (g.W.Sink.taken l.initial.sink) (g.W.Sink.taken l.sink) (take l.done l.bytes);
+  flushed : UnflushedBy l.done (g.W.Sink.flushed l.initial.sink) (g.W.Sink.flushed l.sink);
+  failures : g.W.Sink.failures l.sink ≡ g.W.Sink.failures l.initial.sink;
+}
+
+abbrev pub decreases-loop-done : goal.decreases-loop-done
+decreases-loop-done g l = length l.bytes - l.done

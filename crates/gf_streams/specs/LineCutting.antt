@@ -1,0 +1,35 @@
+-- The first line of a text before the lines behind it. No public clause cites this module.
+use Rattle.std.specs.Prelude.{◌≡◌, ℕ, ◌+◌, ◌-◌, ◌<◌, ◌≤◌, ◌^◌}
+use Rattle.std.specs.Prelude.{◌⊎◌, List, [], ◌∷◌, length, take, drop}
+use Rattle.std.specs.Prelude.{if◌then◌else◌}
+use Rattle.gf_streams.specs.TextLines.{is_blank, numbered_from}
+
+-- a line before the others, unless it is blank
+abbrev pub with_line : ℕ → List ℕ → List (ℕ × List ℕ) → List (ℕ × List ℕ)
+with_line n line others = if is_blank line then others else (n, line) ∷ others
+
+-- the first line of the text that is not blank is its front of this size and has the number n, or
+-- the text is at its end
+pub record Stands (text : List ℕ) (n size : ℕ) : Type 0 where
+  pub within : size ≤ length text
+  pub few : n + length text < 2 ^ 64
+  pub lines : (text ≡ []) ⊎ (numbered_from n text
+      ≡ (n, take size text) ∷ numbered_from (n + 1) (drop (size + 1) text))
+
+-- of the text, whose first line has the number n, the first line that is not blank is this one, of
+-- number m, and the text goes on so from it on
+pub record IsNext (n : ℕ) (text : List ℕ) (m : ℕ) (line from : List ℕ) : Type 0 where
+  pub lines : numbered_from n text ≡ numbered_from m from
+  pub first : numbered_from m from
+      ≡ (m, line) ∷ numbered_from (m + 1) (drop (length line + 1) from)
+  pub front : line ≡ take (length line) from
+  pub within : length line ≤ length from
+  pub behind : from ≡ drop (length text - length from) text
+  pub few : m + length from ≤ n + length text
+
+-- the lines from this place on, whose first has the number n, begin at `start` with the number m,
+-- with a line of this size
+pub record IsPlaced (text : List ℕ) (from n m start size : ℕ) : Type 0 where
+  pub lines : numbered_from n (drop from text) ≡ numbered_from m (drop start text)
+  pub within : start ≤ length text
+  pub stands : Stands (drop start text) m size

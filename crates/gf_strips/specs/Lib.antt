@@ -1,5 +1,0 @@
-pub mod Pixels
-pub mod Strips
-pub mod Free
-pub mod Segments
-pub mod Strokes

@@ -1,0 +1,146 @@
+//! From the bytes of operation lines to the lines of versions.
+
+ghost use Rattle.std.specs.Prelude.{◌≡◌, ◌≢◌, ◌+◌, ◌≤◌, ◌⊎◌, Err, IfSome, IfOk, IfErr, OnOk};
+ghost use Rattle.std.specs.Prelude.{IsTrue};
+ghost use Rattle.gf_streams.specs.Counts.{Rises};
+ghost use Rattle.gf_streams.specs.Reads.{ConsumesAtMost};
+ghost use Rattle.gf_studio.specs.RunAnswers.{ReadsFor};
+ghost use Rattle.gf_studio.specs.InspectRun.{Looks, RefusesLook, Tells, TellsTop, TellsVersions};
+ghost use Rattle.gf_studio.specs.InspectRun.{WritesLook, WritesLookFront};
+ghost use Rattle.gf_studio.specs.RefusedQueries.{RefusesAsking, RefusesQuery};
+
+use crate::{StudioError, input};
+use gf_groups::GroupFault;
+use gf_inspect::{lines, top_at_with, top_line, versions_with};
+use gf_ops::ObjectId;
+use gf_replay::read_site;
+use gf_shape::{OutOfMemory, Point};
+use gf_site::Site;
+use gf_streams::{MOST_INPUT_BYTES, Sink, SinkFault, Source, write_whole};
+use std::alloc::Global;
+use std::thread::Threads;
+
+/// What is asked of a history.
+#[derive(Clone, Copy, Debug, PartialEq, Eq)]
+pub enum Query {
+    /// The versions of this object, hidden ones too, topmost first.
+    Object(ObjectId),
+    /// The version on top at this point.
+    At(Point),
+}
+
+/// Reads operation lines to their end, by 1 to 16 workers, and writes what their history answers to
+/// a query: a line for each version of an object, or the line of the version on top at a point. It
+/// reads all before the first write.
+pub fn inspect_run<T: Threads + Sync, R: Source, W: Sink>(
+    rt: &T,
+    alloc: Global,
+    source: &mut R,
+    sink: &mut W,
+    query: Query,
+    workers: u8,
+) -> Result<(), StudioError>
+    requires { (1 ≤ workers) × (workers ≤ 16) }
+    // What is written answers the query about the history that the bytes denote.
+    ensures tells { OnOk result (IfSome (R.left source.old) (λ bytes.
+        WritesLook bytes query (W.taken sink.old) (W.taken sink.new))) }
+    ensures flushed { OnOk result (IsTrue (W.flushed sink.new)) }
+
+    // As of `fig_run`, with an object that the history has not in place of a drawing.
+    ensures source { ReadsFor MOST_INPUT_BYTES (R.left source.old) (R.left source.new)
+        (R.failures source.old) (R.failures source.new) result }
+    ensures refused { IfErr result (λ e. IfSome (R.left source.old) (λ bytes.
+        RefusesLook query bytes e)) }
+
+    // A front of the text is written at most, and that only where the sink failed.
+    ensures front { result ≡ Err StudioError.WriteFailed → IfSome (R.left source.old) (λ bytes.
+        WritesLookFront bytes query (W.taken sink.old) (W.taken sink.new)) }
+    ensures failed { result ≡ Err StudioError.WriteFailed →
+        Rises (W.failures sink.old) (W.failures sink.new) }
+    ensures unwritten { IfErr result (λ e. (sink.new ≡ sink.old) ⊎ (e ≡ StudioError.WriteFailed)) }
+
+    ensures takes { ConsumesAtMost (MOST_INPUT_BYTES + 1) (R.left source.old) (R.left source.new) }
+    ensures reads { R.reads source.new ≤ R.reads source.old + (MOST_INPUT_BYTES + 1) }
+{
+    let text = look_at_lines(rt, alloc, source, query, workers)?;
+    match write_whole(sink, &text) {
+        Ok(()) => Ok(()),
+        Err(SinkFault) => Err(StudioError::WriteFailed),
+    }
+}
+
+/// The text that answers a query about the history that the lines of a source denote.
+fn look_at_lines<T: Threads + Sync, R: Source>(
+    rt: &T,
+    alloc: Global,
+    source: &mut R,
+    query: Query,
+    workers: u8,
+) -> Result<Vec<u8>, StudioError>
+    requires { (1 ≤ workers) × (workers ≤ 16) }
+    ensures ok { IfOk result (λ text. IfSome (R.left source.old) (λ bytes.
+        Looks bytes query text.items)) }
+    ensures source { ReadsFor MOST_INPUT_BYTES (R.left source.old) (R.left source.new)
+        (R.failures source.old) (R.failures source.new) result }
+    ensures refused { IfErr result (λ e. IfSome (R.left source.old) (λ bytes.
+        RefusesLook query bytes e)) }
+    ensures no_write { IfErr result (λ e. e ≢ StudioError.WriteFailed) }
+    ensures takes { ConsumesAtMost (MOST_INPUT_BYTES + 1) (R.left source.old) (R.left source.new) }
+    ensures reads { R.reads source.new ≤ R.reads source.old + (MOST_INPUT_BYTES + 1) }
+{
+    let bytes = input(alloc, source)?;
+    look(rt, alloc, bytes, query, workers)
+}
+
+/// The text that answers a query about the history that these bytes denote.
+fn look<T: Threads + Sync>(
+    rt: &T,
+    alloc: Global,
+    bytes: Vec<u8>,
+    query: Query,
+    workers: u8,
+) -> Result<Vec<u8>, StudioError>
+    requires { (1 ≤ workers) × (workers ≤ 16) }
+    ensures ok { IfOk result (λ text. Looks bytes.items query text.items) }
+    ensures err { IfErr result (RefusesAsking query bytes.items) }
+{
+    let site = read_site(rt, alloc, bytes, workers)?;
+    tell(alloc, &site, query)
+}
+
+/// The text that answers a query about the history of a site.
+fn tell(alloc: Global, site: &Site, query: Query) -> Result<Vec<u8>, StudioError>
+    ensures ok { IfOk result (λ text. Tells site.now.ops query text.items) }
+    ensures err { IfErr result (RefusesQuery site.now.ops query) }
+{
+    match query {
+        Query::Object(object) => tell_versions(alloc, site, object),
+        Query::At(point) => match tell_top(alloc, site, point) {
+            Ok(text) => Ok(text),
+            Err(OutOfMemory) => Err(StudioError::OutOfMemory),
+        },
+    }
+}
+
+/// The lines of the versions of an object.
+fn tell_versions(alloc: Global, site: &Site, object: ObjectId) -> Result<Vec<u8>, StudioError>
+    ensures ok { IfOk result (λ text. TellsVersions site.now.ops object text.items) }
+    ensures err { IfErr result (RefusesQuery site.now.ops (Query.Object object)) }
+{
+    match versions_with(alloc, site.history(), site.table(), object) {
+        Ok(versions) => match lines(alloc, versions.as_slice()) {
+            Ok(text) => Ok(text),
+            Err(OutOfMemory) => Err(StudioError::OutOfMemory),
+        },
+        Err(GroupFault::NoObject) => Err(StudioError::NoObject(object)),
+        Err(GroupFault::OutOfMemory) => Err(StudioError::OutOfMemory),
+    }
+}
+
+/// The line of the version on top at a point.
+fn tell_top(alloc: Global, site: &Site, point: Point) -> Result<Vec<u8>, OutOfMemory>
+    ensures { IfOk result (λ text. TellsTop site.now.ops point text.items) }
+{
+    let name = top_at_with(alloc, site.history(), site.table(), point)?;
+    top_line(alloc, point, name.as_ref())
+}

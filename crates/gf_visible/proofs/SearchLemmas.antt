@@ -1,0 +1,155 @@
+-- A choice that can't hold any more is dropped, and the others are found in their order.
+use Rattle.std.proofs.Common.{◌≡◌, ℕ, zero, suc, ◌≤◌, ◌<◌, Bool, true, false, not, ◌&&◌, ◌||◌, List, [], ◌∷◌, ◌++◌, filter, take, length, inl, inr, refl, subst, sym, ap, ◌∙◌, arith}
+use Rattle.std.specs.Prelude.{◌⊎◌, Contains}
+use Rattle.std.proofs.lemmas.Bool.{cases_Bool, cond-true, cond-false, and_parts, and_from, or_cases}
+use Rattle.std.proofs.lemmas.List.Elements.{filter-append, Contains-append_cases, Contains-append_left, Contains-append_right}
+use Rattle.std.proofs.lemmas.List.{append_assoc, append-nil, take_all, take-append-le, length-take}
+use Rattle.gf_ops.proofs.ListLemmas.{Contains-cons_cases, Contains-cons_head, Contains-cons_tail, not_Contains-nil}
+use Rattle.gf_maximal.specs.Growing.{meets, without}
+use Rattle.gf_maximal.proofs.ListLemmas.{list_all_true, list_all_from}
+use Rattle.gf_maximal.proofs.MaximalLemmas.{Within, meets_one, meets_from, Contains-without}
+use Rattle.gf_visible.specs.Choices.{StepState, holds, all_hold, choices, answers, first, second}
+
+-- ---- what is possible shrinks
+
+meets_more : (d g p : List ℕ) → Within g p → meets d g ≡ true → meets d p ≡ true
+meets_more d g p w t = let m = meets_one d g t in meets_from d p m.0 m.1 (w m.0 m.2)
+
+pub or_first : (a b : Bool) → a ≡ true → (a || b) ≡ true
+or_first true b t = refl
+or_first false b t = absurd cc
+
+pub or_second : (a b : Bool) → b ≡ true → (a || b) ≡ true
+or_second true b t = refl
+or_second false b t = t
+
+-- what holds among fewer positions holds among more
+holds_more : (g p : List ℕ) (s : StepState) → Within g p → holds g s ≡ true → holds p s ≡ true
+holds_more g p s w t = elim (or_cases (meets s.own g && (not s.hides || meets s.covers g)) (meets s.rivals g) t) [
+  | inl a ↦
+      let parts = and_parts (meets s.own g) (not s.hides || meets s.covers g) a in
+      let covered : (not s.hides || meets s.covers p) ≡ true = elim (or_cases (not s.hides) (meets s.covers g) parts.1) [
+        | inl n ↦ or_first (not s.hides) (meets s.covers p) n
+        | inr m ↦ or_second (not s.hides) (meets s.covers p) (meets_more s.covers g p w m)
+      ] in
+      or_first (meets s.own p && (not s.hides || meets s.covers p)) (meets s.rivals p)
+      (and_from (meets s.own p) (not s.hides || meets s.covers p) (meets_more s.own g p w parts.0) covered)
+  | inr m ↦ or_second (meets s.own p && (not s.hides || meets s.covers p)) (meets s.rivals p) (meets_more s.rivals g p w m)
+]
+
+-- ---- the choices of one step
+
+-- g comes from a step that is chosen, is left out, or is not possible
+abbrev pub Ways : StepState → List StepState → List ℕ → List ℕ → Type 0
+Ways s steps p g =
+    ((meets s.own p ≡ true) × Contains (choices steps (without s.rivals p)) g)
+    ⊎ (Contains (choices steps (without s.own p)) g ⊎ ((meets s.own p ≡ false) × Contains (choices steps p) g))
+
+module _ (s : StepState) (steps : List StepState) (p : List ℕ) where
+  pub choices_in : meets s.own p ≡ true → choices (s ∷ steps) p ≡ choices steps (first s p) ++ choices steps (second s p)
+  choices_in y = cond-true (meets s.own p) (choices steps (first s p) ++ choices steps (second s p)) (choices steps p) y
+
+  pub choices_out : meets s.own p ≡ false → choices (s ∷ steps) p ≡ choices steps p
+  choices_out n = cond-false (meets s.own p) (choices steps (first s p) ++ choices steps (second s p)) (choices steps p) n
+
+  module _ (y : meets s.own p ≡ true) where
+    by_first : (g : List ℕ) → Contains (choices steps (first s p)) g → Contains (choices (s ∷ steps) p) g
+    by_first g i = subst (λ z. Contains z g) (sym (choices_in y)) (Contains-append_left (choices steps (first s p)) (choices steps (second s p)) g i)
+
+    by_second : (g : List ℕ) → Contains (choices steps (second s p)) g → Contains (choices (s ∷ steps) p) g
+    by_second g i = subst (λ z. Contains z g) (sym (choices_in y)) (Contains-append_right (choices steps (first s p)) (choices steps (second s p)) g i)
+
+    pub by_chosen : (g : List ℕ) → Contains (choices steps (without s.rivals p)) g → Contains (choices (s ∷ steps) p) g
+    by_chosen g i = elim (cases_Bool s.hides) [
+      | inl h ↦ by_second g (subst (λ z. Contains (choices steps z) g) (sym (cond-true s.hides (without s.rivals p) (without s.own p) h)) i)
+      | inr h ↦ by_first g (subst (λ z. Contains (choices steps z) g) (sym (cond-false s.hides (without s.own p) (without s.rivals p) h)) i)
+    ]
+
+    pub by_left : (g : List ℕ) → Contains (choices steps (without s.own p)) g → Contains (choices (s ∷ steps) p) g
+    by_left g i = elim (cases_Bool s.hides) [
+      | inl h ↦ by_first g (subst (λ z. Contains (choices steps z) g) (sym (cond-true s.hides (without s.own p) (without s.rivals p) h)) i)
+      | inr h ↦ by_second g (subst (λ z. Contains (choices steps z) g) (sym (cond-false s.hides (without s.rivals p) (without s.own p) h)) i)
+    ]
+
+  pub ways : (g : List ℕ) → Contains (choices (s ∷ steps) p) g → Ways s steps p g
+  ways g i = elim (cases_Bool (meets s.own p)) [
+    | inl y ↦ elim (cases_Bool s.hides) [
+      | inl h ↦ elim (Contains-append_cases (choices steps (first s p)) (choices steps (second s p)) g (subst (λ z. Contains z g) (choices_in y) i)) [
+        | inl j ↦ inr (inl (subst (λ z. Contains (choices steps z) g) (cond-true s.hides (without s.own p) (without s.rivals p) h) j))
+        | inr j ↦ inl (y, subst (λ z. Contains (choices steps z) g) (cond-true s.hides (without s.rivals p) (without s.own p) h) j)
+      ]
+      | inr h ↦ elim (Contains-append_cases (choices steps (first s p)) (choices steps (second s p)) g (subst (λ z. Contains z g) (choices_in y) i)) [
+        | inl j ↦ inl (y, subst (λ z. Contains (choices steps z) g) (cond-false s.hides (without s.own p) (without s.rivals p) h) j)
+        | inr j ↦ inr (inl (subst (λ z. Contains (choices steps z) g) (cond-false s.hides (without s.rivals p) (without s.own p) h) j))
+      ]
+    ]
+    | inr n ↦ inr (inr (n, subst (λ z. Contains z g) (choices_out n) i))
+  ]
+
+pub choice_within : (steps : List StepState) (p g : List ℕ) → Contains (choices steps p) g → Within g p
+choice_within [] p g i a h = elim (Contains-cons_cases p [] g i) [
+  | inl e ↦ subst (λ z. Contains z a) e h
+  | inr n ↦ absurd (not_Contains-nil g n)
+]
+choice_within (s ∷ steps) p g i a h = elim (ways s steps p g i) [
+  | inl w ↦ ((Contains-without s.rivals p a).0 (choice_within steps (without s.rivals p) g w.1 a h)).0
+  | inr v ↦ elim v [
+    | inl j ↦ ((Contains-without s.own p a).0 (choice_within steps (without s.own p) g j a h)).0
+    | inr w ↦ choice_within steps p g w.1 a h
+  ]
+]
+
+-- ---- the answers
+
+filter_none : {X : Type 0} (t : X → Bool) (xs : List X) → ((x : X) → Contains xs x → t x ≡ false) → filter t xs ≡ []
+filter_none t [] f = refl
+filter_none t (x ∷ xs) f = rw (cond-false (t x) (x ∷ filter t xs) (filter t xs) (f x (Contains-cons_head x xs))) (filter_none t xs (λ y i. f y (Contains-cons_tail x xs y i)))
+
+take_again : {X : Type 0} (k : ℕ) (xs ys : List X) → take k (take k xs ++ ys) ≡ take k (xs ++ ys)
+take_again zero xs ys = refl
+take_again (suc k) [] ys = refl
+take_again (suc k) (x ∷ xs) ys = ap (λ zs. x ∷ zs) (take_again k xs ys)
+
+module _ (all : List StepState) where
+  all_more : (g p : List ℕ) → Within g p → all_hold all g ≡ true → all_hold all p ≡ true
+  all_more g p w t = list_all_from (holds p) all (λ s i. holds_more g p s w (list_all_true (holds g) all t s i))
+
+  -- where a step can't hold any more, no choice does
+  hopeless : (steps : List StepState) (p : List ℕ) → all_hold all p ≡ false → answers all steps p ≡ []
+  hopeless steps p n = filter_none (all_hold all) (choices steps p) (λ g i. elim (cases_Bool (all_hold all g)) [
+    | inl y ↦ let bad = all_more g p (choice_within steps p g i) y in absurd cc
+    | inr n2 ↦ n2
+  ])
+
+  answers_in : (s : StepState) (steps : List StepState) (p : List ℕ) → meets s.own p ≡ true → answers all (s ∷ steps) p ≡ answers all steps (first s p) ++ answers all steps (second s p)
+  answers_in s steps p y = ap (filter (all_hold all)) (choices_in s steps p y) ∙ filter-append (all_hold all) (choices steps (first s p)) (choices steps (second s p))
+
+  -- where nothing holds, nothing more is found
+  pub none_more : (k : ℕ) (f : List (List ℕ)) (steps : List StepState) (p : List ℕ) → length f < k → false ≡ all_hold all p → f ≡ take k (f ++ answers all steps p)
+  none_more k f steps p few n =
+      sym (ap (λ zs. take k (f ++ zs)) (hopeless steps p (sym n)) ∙ (ap (take k) (append-nil f) ∙ take_all k f (omega (arith, few))))
+
+  -- ---- a turn of the search, which has found f, and is to come to goal within the bound k
+
+  module _ (k : ℕ) (goal f : List (List ℕ)) (s : StepState) (left rest : List StepState) (p a b : List ℕ) (is : left ≡ s ∷ rest) (is_a : a ≡ first s p) (is_b : b ≡ second s p)
+      (leads : take k (f ++ answers all left p) ≡ goal) (y : true ≡ meets s.own p) where
+    both : take k (f ++ (answers all rest a ++ answers all rest b)) ≡ goal
+    both = rw (is_a, is_b) (ap (λ zs. take k (f ++ zs)) (sym (ap (λ z. answers all z p) is ∙ answers_in s rest p (sym y))) ∙ leads)
+
+    -- the second way can't hold
+    pub turn_first : false ≡ all_hold all b → take k (f ++ answers all rest a) ≡ goal
+    turn_first n = ap (λ zs. take k (f ++ zs)) (sym (ap (λ zs. answers all rest a ++ zs) (hopeless rest b (sym n)) ∙ append-nil (answers all rest a))) ∙ both
+
+    -- nor the first
+    pub turn_none : false ≡ all_hold all b → false ≡ all_hold all a → length f < k → f ≡ goal
+    turn_none n m few = none_more k f rest a few m ∙ turn_first n
+
+    -- so many are found the first way
+    pub turn_stopped : (more : List (List ℕ)) → more ≡ take k (f ++ answers all rest a) → k ≤ length more → more ≡ goal
+    turn_stopped more had full =
+        let count = ap length had ∙ length-take k (f ++ answers all rest a) in
+        let few : length more ≤ k = omega (arith, count) in
+        sym (take_all k more few)
+        ∙ (sym (take-append-le k more (answers all rest b) full)
+        ∙ (ap (λ zs. take k (zs ++ answers all rest b)) had
+        ∙ (take_again k (f ++ answers all rest a) (answers all rest b) ∙ (ap (take k) (append_assoc f (answers all rest a) (answers all rest b)) ∙ both))))

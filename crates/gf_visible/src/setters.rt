@@ -1,0 +1,186 @@
+//! The sets that show, of positions that are asked only for what they say of each other.
+
+ghost use Rattle.std.specs.Prelude.{◌≡◌, ◌<◌, ◌+◌, ◌^◌, ◌∷◌, [], ℕ, Bool, All, IfOk};
+ghost use Rattle.std.specs.Prelude.{cond, filter, map, take};
+ghost use Rattle.std.specs.List.Sorted.{IsStrictlySortedBy};
+ghost use Rattle.std.specs.Ordering.{nat_cmp};
+ghost use Rattle.gf_visible.specs.Choices.{showing, step_of};
+
+use crate::searching::search;
+use crate::step::Step;
+use gf_maximal::Numbers;
+use gf_shape::OutOfMemory;
+use std::alloc::Global;
+
+/// What the operations at positions say of each other.
+pub trait Setters {
+    /// Whether the position hides.
+    ghost hides: { Self → ℕ → Bool };
+
+    /// Whether the second position covers the first: it shows, and comes after it.
+    ghost covers: { Self → ℕ → ℕ → Bool };
+
+    /// Whether the two conflict.
+    ghost rivals: { Self → ℕ → ℕ → Bool };
+
+    /// Whether the position hides.
+    fn hides(&self, position: usize) -> bool
+        ensures { result ≡ hides self.now position };
+
+    /// Whether the second position covers the first: it shows, and comes after it.
+    fn covers(&self, position: usize, other: usize) -> bool
+        ensures { result ≡ covers self.now position other };
+
+    /// Whether the two conflict.
+    fn rivals(&self, position: usize, other: usize) -> bool
+        ensures { result ≡ rivals self.now position other };
+}
+
+/// Rising positions as a set.
+fn set_of(alloc: Global, positions: &[usize]) -> Result<Numbers, OutOfMemory>
+    requires rising { IsStrictlySortedBy nat_cmp positions.now }
+    requires bounded { All (λ n. n + 1 < 2 ^ 64) positions.now }
+    ensures { IfOk result (λ set. set ≡ positions.now) }
+{
+    Numbers::of(alloc, positions)
+}
+
+/// The positions that conflict with this position.
+fn rivals_of<T: Setters>(
+    alloc: Global,
+    setters: &T,
+    positions: &[usize],
+    position: usize,
+) -> Result<Numbers, OutOfMemory>
+    requires rising { IsStrictlySortedBy nat_cmp positions.now }
+    requires bounded { All (λ n. n + 1 < 2 ^ 64) positions.now }
+    ensures { IfOk result (λ found. found
+        ≡ filter (T.rivals setters.now position) positions.now) }
+{
+    let mut found = Vec::new(alloc);
+    for other in positions {
+        if setters.rivals(position, *other) {
+            found.push(*other)?;
+        }
+    }
+    set_of(alloc, &found)
+}
+
+/// The positions that cover this position.
+fn covers_of<T: Setters>(
+    alloc: Global,
+    setters: &T,
+    positions: &[usize],
+    position: usize,
+) -> Result<Numbers, OutOfMemory>
+    requires rising { IsStrictlySortedBy nat_cmp positions.now }
+    requires bounded { All (λ n. n + 1 < 2 ^ 64) positions.now }
+    ensures { IfOk result (λ found. found
+        ≡ filter (T.covers setters.now position) positions.now) }
+{
+    let mut found = Vec::new(alloc);
+    for other in positions {
+        if setters.covers(position, *other) {
+            found.push(*other)?;
+        }
+    }
+    set_of(alloc, &found)
+}
+
+/// The positions that cover this position, if that hides.
+fn asked_of<T: Setters>(
+    alloc: Global,
+    setters: &T,
+    positions: &[usize],
+    position: usize,
+) -> Result<Numbers, OutOfMemory>
+    requires rising { IsStrictlySortedBy nat_cmp positions.now }
+    requires bounded { All (λ n. n + 1 < 2 ^ 64) positions.now }
+    ensures { IfOk result (λ found. found ≡ cond (T.hides setters.now position)
+        (filter (T.covers setters.now position) positions.now) []) }
+{
+    if setters.hides(position) {
+        covers_of(alloc, setters, positions, position)
+    } else {
+        Ok(Numbers::new(alloc))
+    }
+}
+
+/// The position alone.
+fn alone(alloc: Global, position: usize) -> Result<Numbers, OutOfMemory>
+    requires { position + 1 < 2 ^ 64 }
+    ensures { IfOk result (λ own. own ≡ position ∷ []) }
+{
+    let mut own = Numbers::new(alloc);
+    own.join(position)?;
+    Ok(own)
+}
+
+/// The step of one of the positions.
+fn step_of<T: Setters>(
+    alloc: Global,
+    setters: &T,
+    positions: &[usize],
+    position: usize,
+) -> Result<Step, OutOfMemory>
+    requires fits { position + 1 < 2 ^ 64 }
+    requires rising { IsStrictlySortedBy nat_cmp positions.now }
+    requires bounded { All (λ n. n + 1 < 2 ^ 64) positions.now }
+    ensures { IfOk result (λ step. step ≡ step_of (T.hides setters.now)
+        (T.covers setters.now) (T.rivals setters.now) positions.now position) }
+{
+    let own = alone(alloc, position)?;
+    let covers = asked_of(alloc, setters, positions, position)?;
+    let rivals = rivals_of(alloc, setters, positions, position)?;
+    Ok(Step::new(own, setters.hides(position), covers, rivals))
+}
+
+/// The steps of all positions.
+fn steps_of<T: Setters>(
+    alloc: Global,
+    setters: &T,
+    positions: &[usize],
+) -> Result<Vec<Step>, OutOfMemory>
+    requires rising { IsStrictlySortedBy nat_cmp positions.now }
+    requires bounded { All (λ n. n + 1 < 2 ^ 64) positions.now }
+    ensures { IfOk result (λ steps. steps.items ≡ map (step_of (T.hides setters.now)
+        (T.covers setters.now) (T.rivals setters.now) positions.now) positions.now) }
+{
+    let mut steps = Vec::new(alloc);
+    for position in positions {
+        steps.push(step_of(alloc, setters, positions, *position)?)?;
+    }
+    Ok(steps)
+}
+
+/// The largest compatible sets of the positions in which each that hides is covered, but no more
+/// than so many.
+///
+/// Each two positions are compared. Then each step costs a look at all of them, and the search goes
+/// on only where each of them may still be chosen and covered, or be left out for a rival. No time
+/// is promised for the positions as a whole: there are some for which the search takes very long.
+pub fn showing_within<T: Setters>(
+    alloc: Global,
+    setters: &T,
+    positions: &[usize],
+    limit: usize,
+) -> Result<Vec<Numbers>, OutOfMemory>
+    requires limit { 0 < limit }
+    requires rising { IsStrictlySortedBy nat_cmp positions.now }
+    requires bounded { All (λ n. n + 1 < 2 ^ 64) positions.now }
+    ensures { IfOk result (λ found. found.items ≡ take limit
+        (showing (T.hides setters.now) (T.covers setters.now) (T.rivals setters.now)
+        positions.now)) }
+{
+    let steps = steps_of(alloc, setters, positions)?;
+    let mut found = Vec::new(alloc);
+    search(
+        alloc,
+        &steps,
+        &steps,
+        set_of(alloc, positions)?,
+        limit,
+        &mut found,
+    )?;
+    Ok(found)
+}

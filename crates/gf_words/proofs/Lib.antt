@@ -1,3 +1,0 @@
-mod AddingLemmas
-mod ReadingLemmas
-mod SpellingLemmas

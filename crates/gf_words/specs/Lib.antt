@@ -1,4 +1,0 @@
-pub mod CommandLine
-pub mod Spelling
-pub mod Asking
-pub mod Usages

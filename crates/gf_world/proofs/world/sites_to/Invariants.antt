@@ -1,6 +1,0 @@
-use Rattle.std.proofs.Common.{◌≡◌}
-use Rattle.gf_world.specs.World.{new_sites}
-use Rattle.gf_world.proofs.world.sites_to.Given as goal
-
-abbrev pub invariant-loop-number : goal.invariant-loop-number
-invariant-loop-number l = l.sites.items ≡ new_sites l.number

@@ -1,6 +1,0 @@
-use Rattle.gf_worker.specs.Peers.{IsPlaced}
-use Rattle.session_examples.proofs.workers.come.Given as goal
-
--- the peer's links stand at its places
-abbrev pub invariant-loop : goal.invariant-loop
-invariant-loop g l = IsPlaced l.links l.peer

@@ -1,0 +1,399 @@
+//! The command line, over sources and sinks in memory.
+
+use crate::runs::{fig, run, run_over, told};
+use gf_command::refuse_words;
+use gf_streams::{MOST_INPUT_BYTES, Reel, Tape};
+use std::alloc::{AllocError, Global};
+use std::io;
+use std::sync::Wait;
+use std::test::Fail;
+use std::thread::Threads;
+use test_kit::RED_BOX;
+
+/// Lines of so many boxes, the n-th at (n, 0), of so many colours in turn.
+fn boxes(alloc: Global, count: u32, colours: u32) -> Result<String, AllocError> {
+    let mut text = String::new(alloc);
+    for n in 1..=count {
+        let colour = n % colours.max(1);
+        let before = n - 1;
+        let line = format!(in alloc;
+            "{{\"op\":\"create\",\"id\":[1,{n}],\"past\":[{before},0,0,0,0,0,0,0],\"kind\":\"box\",\"place\":[{n},0],\"size\":[10,10],\"colour\":\"{colour:06x}\",\"layer\":0,\"shown\":true}}\n"
+        )?;
+        text.push_str(line.as_str())?;
+    }
+    Ok(text)
+}
+
+const TOO_MANY_VERSIONS: &str = "1\n--\nfiggroup: export refused: TooManyVersions\n";
+
+const TOO_MANY_COLOURS: &str = "1\n--\nfiggroup: export refused: TooManyColours\n";
+
+/// A run over lines of so many boxes, of so many colours in turn, and more.
+fn fig_of_boxes<T: AllocGlobal + Threads + Wait + Sync>(
+    rt: &T,
+    count: u32,
+    colours: u32,
+    more: &str,
+) -> Result<String, Fail> {
+    let mut input = boxes(rt.alloc(), count, colours)?;
+    input.push_str(more)?;
+    fig(rt, input.as_str())
+}
+
+#[test]
+fn the_limits_of_a_drawing_are_told(rt: HostRuntime) -> Result<(), Fail> {
+    for (count, colours, want) in [
+        (1_001, 1, TOO_MANY_VERSIONS),
+        (1_001, 513, TOO_MANY_VERSIONS),
+        (513, 513, TOO_MANY_COLOURS),
+    ] {
+        let answer = fig_of_boxes(&rt, count, colours, "")?;
+        assert_eq!(rt; answer.as_str(), want, "{count} of {colours}");
+    }
+    Ok(())
+}
+
+// The 514th operation hides the first of 513 boxes.
+const HIDES_THE_FIRST: &str =
+    "{\"id\":[1,514],\"object\":[1,1],\"op\":\"set\",\"past\":[513,0,0,0,0,0,0,0],\"set\":\"shown\",\"to\":false}\n";
+
+#[test]
+fn drawings_reach_their_limits(rt: HostRuntime) -> Result<(), Fail> {
+    for (count, colours, more, inside, end) in [
+        (
+            1_000,
+            1,
+            "",
+            "0 32 #000000\n2 2 0 0 32 32 0 ",
+            "\n2 2 0 0 32 32 999 -1 20 0.000 0 0 -1 0 0 5\n\t 1 0 11 0 11 10 1 10 1 0\n--\n",
+        ),
+        (
+            512,
+            512,
+            "",
+            "\n0 543 #000001\n2 2 0 0 32 32 0 ",
+            "\n2 2 0 0 543 543 511 -1 20 0.000 0 0 -1 0 0 5\n\t 1 0 11 0 11 10 1 10 1 0\n--\n",
+        ),
+        (
+            513,
+            513,
+            HIDES_THE_FIRST,
+            "\n0 543 #000002\n2 2 0 0 32 32 0 ",
+            "\n2 2 0 0 543 543 511 -1 20 0.000 0 0 -1 0 0 5\n\t 2 0 12 0 12 10 2 10 2 0\n--\n",
+        ),
+    ] {
+        let answer = fig_of_boxes(&rt, count, colours, more)?;
+        let answer = answer.as_str();
+        let is_told = answer.starts_with("0\n") && answer.contains(inside) && answer.ends_with(end);
+        assert!(rt; is_told, "{count} of {colours}");
+    }
+    Ok(())
+}
+
+/// The red box from the origin, 10 by 10, and rounds in which two sites give it two colours at once,
+/// up to this operation of site 1.
+fn rounds(alloc: Global, last: u32) -> Result<String, AllocError> {
+    let mut text = String::from_str(
+        alloc,
+        "{\"op\":\"create\",\"id\":[1,1],\"past\":[0,0,0,0,0,0,0,0],\"kind\":\"box\",\"place\":[0,0],\"size\":[10,10],\"colour\":\"ff0000\",\"layer\":0,\"shown\":true}\n",
+    )?;
+    for next in 2..=last {
+        let round = next - 1;
+        let before = next - 2;
+        let lines = format!(in alloc;
+            "{{\"op\":\"set\",\"id\":[1,{next}],\"past\":[{round},{before},0,0,0,0,0,0],\"object\":[1,1],\"set\":\"colour\",\"to\":\"0000ff\"}}\n{{\"op\":\"set\",\"id\":[2,{round}],\"past\":[{round},{before},0,0,0,0,0,0],\"object\":[1,1],\"set\":\"colour\",\"to\":\"00ff00\"}}\n"
+        )?;
+        text.push_str(lines.as_str())?;
+    }
+    Ok(text)
+}
+
+/// A run over these rounds.
+fn fig_of_rounds<T: AllocGlobal + Threads + Wait + Sync>(
+    rt: &T,
+    last: u32,
+) -> Result<String, Fail> {
+    fig(rt, rounds(rt.alloc(), last)?.as_str())
+}
+
+/// How many figures a run drew, where its status is 0.
+fn drawn(answer: &str) -> Option<usize> {
+    if !answer.starts_with("0\n") {
+        return None;
+    }
+    Some(
+        answer
+            .lines()
+            .filter(|line| line.starts_with("2 2 "))
+            .count(),
+    )
+}
+
+#[test]
+fn each_round_doubles_the_figures(rt: HostRuntime) -> Result<(), Fail> {
+    for (last, figures) in [(1, 1), (2, 2), (3, 4), (10, 512)] {
+        let answer = fig_of_rounds(&rt, last)?;
+        assert_eq!(rt; drawn(answer.as_str()), Some(figures), "{last}");
+    }
+    let answer = fig_of_rounds(&rt, 11)?;
+    assert_eq!(rt; answer.as_str(), TOO_MANY_VERSIONS);
+    Ok(())
+}
+
+/// A run of these words over rounds up to this operation of site 1, and more.
+fn look_at_rounds<T: AllocGlobal + Threads + Wait + Sync>(
+    rt: &T,
+    words: &str,
+    last: u32,
+    more: &str,
+) -> Result<String, Fail> {
+    let mut input = rounds(rt.alloc(), last)?;
+    input.push_str(more)?;
+    run_over(rt, words, input.as_str())
+}
+
+// Site 3 hides the box, and knows all of thirty rounds.
+const HIDES_THE_BOX: &str =
+    "{\"id\":[3,1],\"object\":[1,1],\"op\":\"set\",\"past\":[31,30,0,0,0,0,0,0],\"set\":\"shown\",\"to\":false}\n";
+
+#[test]
+fn what_is_hidden_is_not_looked_at(rt: HostRuntime) -> Result<(), Fail> {
+    let answer = look_at_rounds(&rt, "figgroup inspect --at=5,5", 31, HIDES_THE_BOX)?;
+    assert_eq!(rt; answer.as_str(), "0\ntop 5 5 is white\n--\n");
+    Ok(())
+}
+
+#[test]
+fn ten_rounds_are_told_in_1024_lines(rt: HostRuntime) -> Result<(), Fail> {
+    let answer = look_at_rounds(&rt, "figgroup inspect --object 1.1", 11, "")?;
+    assert_eq!(rt; lines_of_the_box(answer.as_str()), 1_024);
+    Ok(())
+}
+
+fn lines_of_the_box(answer: &str) -> usize {
+    answer
+        .lines()
+        .filter(|line| line.starts_with("version 1.1 [1.1 "))
+        .count()
+}
+
+const EMPTY_RUN: &str =
+    "0\n#FIG 3.2\nLandscape\nCenter\nMetric\nA4\n100.00\nSingle\n-2\n1200 2\n--\n";
+
+// The first 100 bytes of the red box's text.
+const CUT_RUN: &str =
+    "1\n#FIG 3.2\nLandscape\nCenter\nMetric\nA4\n100.00\nSingle\n-2\n1200 2\n0 32 #ff0000\n2 2 0 0 32 32 0 -1 20 0.000--\nfiggroup: write failed\n";
+
+const FIG: &str = "figgroup fig";
+
+const PAINT: &str = "figgroup paint --width 3 --height 130 --workers 3";
+
+// The header, and no band.
+const CUT_PICTURE: &str = "1\nP6\n3 130\n255\n--\nfiggroup: write failed\n";
+
+#[test]
+fn unread_input_and_a_full_output_are_told(rt: HostRuntime) -> Result<(), Fail> {
+    let mut long = Vec::new(rt.alloc());
+    long.resize(MOST_INPUT_BYTES + 1, b' ')?;
+    let red_box = RED_BOX.as_bytes();
+    for (words, input, fail_after, room, want) in [
+        // unread_input_is_told
+        (
+            FIG,
+            &long[..],
+            None,
+            (None, None),
+            "1\n--\nfiggroup: input too long\n",
+        ),
+        (FIG, &long[1..], None, (None, None), EMPTY_RUN),
+        (
+            FIG,
+            red_box,
+            Some(5),
+            (None, None),
+            "1\n--\nfiggroup: read failed\n",
+        ),
+        // a_full_output_is_told
+        (FIG, red_box, None, (Some(100), None), CUT_RUN),
+        (PAINT, red_box, None, (Some(13), None), CUT_PICTURE),
+        // Where no fault can be told either, the status stays.
+        (FIG, b"{", None, (Some(0), Some(0)), "1\n--\n"),
+    ] {
+        let answer = run(&rt, words, &mut Reel::new(input, fail_after), room)?;
+        assert_eq!(rt; answer.as_str(), want);
+    }
+    Ok(())
+}
+
+/// The answer to words that can't be read.
+fn refusal(alloc: Global, kind: io::ErrorKind) -> Result<String, Fail> {
+    let mut faults = Tape::new(alloc, None);
+    let status = refuse_words(&io::Error::from(kind), &mut faults);
+    told(alloc, status, b"", faults.bytes())
+}
+
+#[test]
+fn unread_words_are_told(rt: HostRuntime) -> Result<(), Fail> {
+    for (kind, want) in [
+        (
+            io::ErrorKind::InvalidData,
+            "2\n--\nfiggroup: a word is no UTF-8\n",
+        ),
+        (
+            io::ErrorKind::OutOfMemory,
+            "1\n--\nfiggroup: out of memory\n",
+        ),
+    ] {
+        assert_eq!(rt; refusal(rt.alloc(), kind)?.as_str(), want);
+    }
+    Ok(())
+}
+
+/// A run that asks for these words, over a source that can't be read.
+fn run_of_words<T: AllocGlobal + Threads + Wait + Sync>(
+    rt: &T,
+    words: &str,
+) -> Result<String, Fail> {
+    run(
+        rt,
+        words,
+        &mut Reel::new(RED_BOX.as_bytes(), Some(0)),
+        (None, None),
+    )
+}
+
+const READ_FAILED: &str = "1\n--\nfiggroup: read failed\n";
+
+#[test]
+fn words_are_read_first(rt: HostRuntime) -> Result<(), Fail> {
+    // After a mistake or a refusal the output is empty, and only then there are faults.
+    for (words, start, is_refused) in [
+        ("figgroup", "2\n--\n", true),
+        ("figgroup draw", "2\n--\n", true),
+        ("figgroup paint --workers 17", "2\n--\n", true),
+        ("figgroup repaint --workers 0", "2\n--\n", true),
+        ("figgroup fig --workers 17", "2\n--\n", true),
+        ("figgroup status --workers 0", "2\n--\n", true),
+        ("figgroup check --workers 2", "2\n--\n", true),
+        ("figgroup paint --step 10001", "2\n--\n", true),
+        ("figgroup repaint --step 0", "2\n--\n", true),
+        ("figgroup paint --width 4097", "2\n--\n", true),
+        ("figgroup repaint --height 0", "2\n--\n", true),
+        ("figgroup paint --x=2000001", "2\n--\n", true),
+        ("figgroup repaint --y=-2000001", "2\n--\n", true),
+        ("figgroup paint --x -5", "2\n--\n", true),
+        ("figgroup paint --step 2 --step 3", "2\n--\n", true),
+        ("figgroup inspect", "2\n--\n", true),
+        ("figgroup inspect --at -5,7", "2\n--\n", true),
+        ("figgroup session --sites 1", "2\n--\n", true),
+        ("figgroup session --sites 9", "2\n--\n", true),
+        ("figgroup session --sites x", "2\n--\n", true),
+        ("figgroup fig --step 2", "2\n--\n", true),
+        ("figgroup fig input", "2\n--\n", true),
+        ("figgroup --colour", "2\n--\n", true),
+        ("", "2\n--\n", true),
+        // What is at its limit is taken, so that the input is read.
+        (
+            "figgroup paint --width 4096 --height 4096",
+            READ_FAILED,
+            true,
+        ),
+        (
+            "figgroup repaint --x=2000000 --y=-2000000",
+            READ_FAILED,
+            true,
+        ),
+        ("figgroup paint --x=-2000000 --y=2000000", READ_FAILED, true),
+        (
+            "figgroup repaint --step 10000 --workers 16",
+            READ_FAILED,
+            true,
+        ),
+        ("figgroup session --sites 8", READ_FAILED, true),
+        ("figgroup fig --workers 16", READ_FAILED, true),
+        ("figgroup inspect --at=0,0 --workers 1", READ_FAILED, true),
+        ("figgroup status --check --workers 16", READ_FAILED, true),
+        ("figgroup --help", "0\nFigures drawn by a group", false),
+        ("figgroup help", "0\nFigures drawn by a group", false),
+        ("figgroup fig --help", "0\nRead operation lines", false),
+        ("figgroup paint --help", "0\nRead operation lines", false),
+        ("figgroup repaint --help", "0\nRead a FIG text", false),
+        ("figgroup inspect --help", "0\nRead operation lines", false),
+        ("figgroup import --help", "0\nRead a FIG text", false),
+        ("figgroup session --help", "0\nRead script lines", false),
+        ("figgroup --version", "0\nfiggroup 0.1.0\n", false),
+    ] {
+        let answer = run_of_words(&rt, words)?;
+        let answer = answer.as_str();
+        let is_told = answer.starts_with(start) && answer.ends_with("--\n") != is_refused;
+        assert!(rt; is_told, "of {words}");
+    }
+    Ok(())
+}
+
+#[test]
+fn help_has_limits_defaults_and_an_example(rt: HostRuntime) -> Result<(), Fail> {
+    for (words, told) in [
+        (
+            "figgroup repaint --help",
+            [
+                "-2,000,000 to 2,000,000 [default: 0]",
+                "1 to 10,000 [default: 1]",
+                "1 to 4,096 [default: 64]",
+                "1 to 16 [default: 1]",
+            ],
+        ),
+        (
+            "figgroup --help",
+            [
+                "fig ",
+                "paint ",
+                "inspect ",
+                "Example: figgroup fig < edits.jsonl",
+            ],
+        ),
+        (
+            "figgroup fig --help",
+            [
+                "standard input",
+                "FIG text",
+                "1 to 16; a short input is read by one [default: 4]",
+                "Example: cat site-*.jsonl | figgroup fig",
+            ],
+        ),
+        (
+            "figgroup paint --help",
+            [
+                "standard input",
+                "raw PPM",
+                "Usage",
+                "Example: figgroup paint --step 15",
+            ],
+        ),
+        (
+            "figgroup inspect --help",
+            [
+                "SITE.SEQ",
+                "1 to 8",
+                "X,Y",
+                "Example: figgroup inspect --object 1.2",
+            ],
+        ),
+        (
+            "figgroup session --help",
+            [
+                "script lines",
+                "2 to 8 [default: 2]",
+                "FIG text",
+                "Example: figgroup session --sites 3",
+            ],
+        ),
+    ] {
+        let answer = run_of_words(&rt, words)?;
+        let answer = answer.as_str();
+        for text in told {
+            assert!(rt; answer.contains(text), "{text} of {words}");
+        }
+    }
+    Ok(())
+}

@@ -1,0 +1,93 @@
+//! A table of edits, statuses and checks: runs with the answers that the formats and the faults ask
+//! for.
+
+use crate::pieces::joined;
+use crate::runs::run_over;
+use std::alloc::Global;
+use std::sync::Wait;
+use std::test::Fail;
+use std::thread::Threads;
+
+/// Each row: the words behind the program's name, the pieces of the input, the status, the output,
+/// and what is told of faults, with their ends of lines spelt `\n`.
+const RUNS: &str = r#"
+// a command becomes an operation of the site, which knows what was read; what was made is told
+edit --site 2 | box / second_paints_it / | 0 | {"id":[2,1],"object":[1,1],"op":"set","past":[1,0,0,0,0,0,0,0],"set":"colour","to":"0000ff"}\n | figgroup: made 2.1\n
+edit --site 2 | second_paints_it / / box | 0 | {"id":[2,1],"object":[1,1],"op":"set","past":[1,0,0,0,0,0,0,0],"set":"colour","to":"0000ff"}\n | figgroup: made 2.1\n
+edit --site 2 | box / second_paints_it / second_paints_it / | 0 | {"id":[2,1],"object":[1,1],"op":"set","past":[1,0,0,0,0,0,0,0],"set":"colour","to":"0000ff"}\n{"id":[2,2],"object":[1,1],"op":"set","past":[1,1,0,0,0,0,0,0],"set":"colour","to":"0000ff"}\n | figgroup: made 2.1 to 2.2\n
+edit --site 2 | box / await_first /      | 0 | |
+edit --site 2 |                          | 0 | |
+
+// nothing is written where a line, a command or a missing operation refuses
+edit --site 1 | box / second_paints_it / | 1 | | figgroup: line 2: Range\n
+edit --site 2 | second_paints_it /       | 1 | | figgroup: line 1: NoObject\n
+edit --site 2 | box / second_paints_it / await_missing / | 1 | | figgroup: line 3: NeverComes\n
+edit --site 2 | box / second_paints_it / await_own /     | 1 | | figgroup: line 3: OwnId\n
+edit --site 2 | green / second_paints_it /               | 1 | | figgroup: operation 2.1 waits for 1.1\n
+edit --site 2 | box / {} /               | 1 | | figgroup: line 2: Field\n
+edit --site 2 | box / green_box /        | 1 | | figgroup: line 2: Clash\n
+
+// what is there, what waits, and what differs; the status of the program tells it where that is asked
+status         |                         | 0 | |
+status         | box / blue / green /    | 0 | site 1 has 2\nsite 2 has 1\nobject 1.1 has 2 versions, 2 shown\nobject 1.1 colour 1.2 2.1\n |
+status --check | box / blue / green /    | 1 | site 1 has 2\nsite 2 has 1\nobject 1.1 has 2 versions, 2 shown\nobject 1.1 colour 1.2 2.1\n |
+status --check | hides_green / green / blue / box / | 0 | site 1 has 3\nsite 2 has 1\nobject 1.1 has 2 versions, 1 shown\n |
+status --check | blue /                  | 1 | operation 1.2 waits for 1.1\n |
+status --check --workers 16 | box / blue / green / | 1 | site 1 has 2\nsite 2 has 1\nobject 1.1 has 2 versions, 2 shown\nobject 1.1 colour 1.2 2.1\n |
+status --check | box /                   | 0 | site 1 has 1\n |
+status         | box / { /               | 1 | | figgroup: line 2: Json\n
+
+// the command that creates each figure, and the line of what can't be imported
+import --site 2 | red_box_fig            | 0 | {"colour":"ff0000","do":"create","kind":"box","layer":999,"place":[100,200],"shown":true,"site":2,"size":[300,400]}\n |
+import --site 1 | foreign_triangle       | 0 | {"colour":"ff0000","do":"create","kind":"polygon","layer":949,"place":[0,0],"points":[[0,0],[1200,0],[600,900]],"shown":true,"site":1}\n |
+import --site 1 | empty_fig unit_circle_fig | 0 | {"colour":"00ff00","do":"create","kind":"circle","layer":999,"place":[0,0],"shown":true,"site":1,"size":[1,1]}\n |
+import --site 1 | empty_fig              | 0 | |
+import --site 1 |                        | 1 | | figgroup: line 1: figure object 0: Version\n
+import --site 1 | empty_fig open_polyline | 1 | | figgroup: line 10: figure object 1: SubType\n
+import --site 1 | red_box_fig late_colour | 1 | | figgroup: line 13: figure object 3: LateColour\n
+
+// a line for each fault, and none of what has none
+check | box / blue / green /             | 0 | |
+check |                                  | 0 | |
+check | box / {} / { /                   | 1 | line 2: Field: the key "op" is missing\nline 3: Json: one object a line: this one does not end here\n |
+"#;
+
+/// The status, the output, a line of dashes, and what is told, where these are the cells of a row.
+fn wanted(alloc: Global, cells: &str) -> Result<String, Fail> {
+    let Some((status, rest)) = cells.split_once('|') else {
+        return Err(Fail::new("a row lacks a cell"));
+    };
+    let Some((output, told)) = rest.split_once('|') else {
+        return Err(Fail::new("a row lacks a cell"));
+    };
+    let (status, output, told) = (status.trim(), output.trim(), told.trim());
+    let text = format!(in alloc; "{status}\n{output}--\n{told}")?;
+    Ok(text.as_str().replace(alloc, r"\n", "\n")?)
+}
+
+/// That the run of a row answers what the row says; a line without cells is no row.
+fn is_as_told<T: AllocGlobal + Threads + Wait + Sync>(rt: &T, row: &str) -> Result<(), Fail> {
+    let alloc = rt.alloc();
+    let Some((words, rest)) = row.split_once('|') else {
+        return Ok(());
+    };
+    let Some((pieces, cells)) = rest.split_once('|') else {
+        return Err(Fail::new("a row lacks a cell"));
+    };
+    let words = format!(in alloc; "figgroup {words}")?;
+    let want = wanted(alloc, cells)?;
+    let answer = run_over(rt, words.as_str(), joined(alloc, pieces)?.as_str())?;
+    if answer.as_str() == want.as_str() {
+        Ok(())
+    } else {
+        Err(Fail::new(format_args!("{answer}, and not as in {row}")))
+    }
+}
+
+#[test]
+fn answers_each_step_of_the_loop(rt: HostRuntime) -> Result<(), Fail> {
+    for row in RUNS.lines() {
+        is_as_told(&rt, row)?;
+    }
+    Ok(())
+}

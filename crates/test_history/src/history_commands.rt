@@ -1,0 +1,62 @@
+//! Commands about a history.
+
+use gf_ops::{AddFault, History, OpFault};
+use std::alloc::Global;
+use test_kit::notation::{id, operation};
+
+/// What the history says to a further operation, which it adds where it can.
+pub(crate) fn add(alloc: Global, history: &mut History, text: &str) -> Option<String> {
+    let op = operation(alloc, text)?;
+    if !op.in_range() {
+        return None;
+    }
+    history.room().ok()?;
+    added(alloc, history.add(op))
+}
+
+/// What it says before.
+pub(crate) fn check(alloc: Global, history: &History, text: &str) -> Option<String> {
+    let op = operation(alloc, text)?;
+    if !op.in_range() {
+        return None;
+    }
+    checked(alloc, history.check(&op))
+}
+
+fn added(alloc: Global, answer: Result<(), AddFault>) -> Option<String> {
+    match answer {
+        Ok(()) => String::from_str(alloc, "ok").ok(),
+        Err(fault) => format!(in alloc; "{fault}").ok(),
+    }
+}
+
+fn checked(alloc: Global, answer: Result<(), OpFault>) -> Option<String> {
+    match answer {
+        Ok(()) => String::from_str(alloc, "ok").ok(),
+        Err(fault) => format!(in alloc; "{fault}").ok(),
+    }
+}
+
+/// Its operations, in the order in which they were added.
+pub(crate) fn operations(alloc: Global, history: &History) -> Option<String> {
+    let mut ids = String::new(alloc);
+    for op in history.ops() {
+        let id = format!(in alloc; "{} ", op.id).ok()?;
+        ids.push_str(id.as_str()).ok()?;
+    }
+    Some(ids)
+}
+
+/// How many it has of a site.
+pub(crate) fn count(alloc: Global, history: &History, text: &str) -> Option<String> {
+    let site: u8 = text.parse().ok()?;
+    format!(in alloc; "{}", history.count(site)).ok()
+}
+
+/// What it has under an id.
+pub(crate) fn get(alloc: Global, history: &History, text: &str) -> Option<String> {
+    match history.get(id(text)?) {
+        Some(op) => format!(in alloc; "{}", op.id).ok(),
+        None => String::from_str(alloc, "none").ok(),
+    }
+}

@@ -1,0 +1,69 @@
+//! The commands of the tables, each with what it acts on.
+
+use crate::{buffer_commands, history_commands, operation_commands};
+use gf_causal::Buffer;
+use gf_ops::History;
+use std::alloc::Global;
+use std::test::Fail;
+use test_kit::{Answers, ask};
+
+/// What commands act on.
+#[derive(Drop)]
+pub(crate) struct Scene {
+    pub(crate) history: History,
+    pub(crate) buffer: Buffer,
+}
+
+impl Scene {
+    fn new(alloc: Global) -> Scene {
+        Scene {
+            history: History::new(alloc),
+            buffer: Buffer::new(alloc),
+        }
+    }
+}
+
+impl Answers for Scene {
+    fn answer(&mut self, alloc: Global, question: &str) -> Option<String> {
+        let (verb, text) = question.split_once(' ').unwrap_or((question, ""));
+        told(alloc, self, verb, text)
+    }
+}
+
+/// Each command of a table, which begins with nothing, has its answer.
+pub(crate) fn answers(alloc: Global, rows: &str) -> Result<(), Fail> {
+    ask(alloc, rows, &mut Scene::new(alloc))
+}
+
+/// The answer to the command of this verb.
+fn told(alloc: Global, scene: &mut Scene, verb: &str, text: &str) -> Option<String> {
+    match verb {
+        "new" => renew(alloc, scene),
+        "add" => history_commands::add(alloc, &mut scene.history, text),
+        "offer" => buffer_commands::offer(alloc, scene, text),
+        "held" => buffer_commands::held(alloc, &scene.buffer),
+        "take" => buffer_commands::take(alloc, &mut scene.buffer, &scene.history),
+        "take_out" => buffer_commands::take_out(alloc, &mut scene.buffer, text),
+        "deliver" => buffer_commands::deliver(alloc, scene),
+        "backwards" => buffer_commands::backwards(alloc, scene, text.parse().ok()?),
+        "deliver_all" => buffer_commands::deliver_all(alloc, scene),
+        _ => told_of(alloc, &scene.history, verb, text),
+    }
+}
+
+fn renew(alloc: Global, scene: &mut Scene) -> Option<String> {
+    *scene = Scene::new(alloc);
+    String::from_str(alloc, "ok").ok()
+}
+
+/// The answer to a command that changes nothing.
+fn told_of(alloc: Global, history: &History, verb: &str, text: &str) -> Option<String> {
+    match verb {
+        "check" => history_commands::check(alloc, history, text),
+        "operations" => history_commands::operations(alloc, history),
+        "count" => history_commands::count(alloc, history, text),
+        "get" => history_commands::get(alloc, history, text),
+        "alone" => buffer_commands::alone(alloc, history, text),
+        _ => operation_commands::answer(alloc, verb, text),
+    }
+}

@@ -1,0 +1,202 @@
+//! What is told of inputs with faults, and what a check of them answers.
+
+use gf_check::{Verdict, check_run, faults_of};
+use gf_streams::{Reel, Tape};
+use std::alloc::Global;
+use std::test::Fail;
+use test_kit::{Answers, ask};
+
+/// Each row: the lines of an input, and the lines that tell its faults, with ` / ` between them. A
+/// line is a piece by its name, perhaps with another text in the place of a part of it, as
+/// `piece~part~text`, or a text that stands for itself. `+` puts two pieces on one line.
+const ROWS: &str = r##"
+// Nothing is told of what has no fault, waits, comes again, or has a key twice.
+box move aimed |
+move |
+box box move |
+circle box~"layer":0~"layer":1,"layer":0 |
+
+// Keys, and forms of values.
+box~"colour"~"color" | line 1: Field: unknown key "color"
+box~"colour"~"co\tlor" | line 1: Field: unknown key of 6 bytes
+box~"colour"~"a_name_of_more_than_forty_bytes_is_not_shown" | line 1: Field: unknown key of 44 bytes
+box~"op"~"do" | line 1: Field: unknown key "do"
+box~"op":"create",~ | line 1: Field: the key "op" is missing
+box~"past":[0,0,0,0,0,0,0,0],~ | line 1: Field: the key "past" is missing
+box~"kind":"box",~ | line 1: Field: the key "kind" is missing
+polygon~"points":[[0,0],[9,0],[0,9]],~ | line 1: Field: the key "points" is missing
+box~"shown":true~"shown":true,"aim":[] | line 1: Field: the key "aim" does not belong here
+move~"to"~"place" | line 1: Field: the key "to" is missing
+move~"set":~"move": | line 1: Field: unknown key "move"
+move~"op":"set"~"op":"move" | line 1: Field: "op" must be "create" or "set"
+box~"kind":"box"~"kind":"square" | line 1: Field: "kind" must be "box", "circle", "ellipse" or "polygon"
+move~"set":"place"~"set":"color" | line 1: Field: "set" must be "place", "points", "size", "colour", "layer" or "shown"
+move~"to":[7,8]~"to":"22" | line 1: Field: "to" must be a list of two whole numbers
+box~ff0000~#ff0000 | line 1: Field: "colour" must be six hexadecimal digits
+box~ff0000~red | line 1: Field: "colour" must be six hexadecimal digits
+box~"layer":0~"layer":"22" | line 1: Field: "layer" must be a whole number
+box~"shown":true~"shown":1 | line 1: Field: "shown" must be true or false
+box~[100,200]~[4500.5,200] | line 1: Field: "place" must be a list of two whole numbers
+box~[0,0,0,0,0,0,0,0]~[0,0,0] | line 1: Field: "past" must be a list of eight whole numbers
+circle~[5,5]~[5,6] | line 1: Field: "size" must be a list of two equal whole numbers
+polygon~[9,0]~9 | line 1: Field: "points" must be a list of pairs of whole numbers
+aimed~[1,1],[1,2]~[1,2],[1,1] | line 1: Field: "aim" must be a list of pairs of whole numbers that rise, each once
+[1,2] | line 1: Field: this is no object
+
+// Limits.
+box~"layer":0~"layer":10000 | line 1: Range: layer 10000 is above 9999
+box~"layer":0~"layer":-1 | line 1: Range: layer -1 is below 0
+box~"id":[1,1]~"id":[9,1] | line 1: Range: id: site 9 is above 8
+box~"id":[1,1]~"id":[1,0] | line 1: Range: id: number 0 is below 1
+move~"object":[1,1]~"object":[1,10001] | line 1: Range: object: number 10001 is above 10000
+box~[0,0,0,0,0,0,0,0]~[0,0,0,0,0,0,0,10001] | line 1: Range: past 10001 is above 10000
+box~[100,200]~[100,1000001] | line 1: Range: place 1000001 is above 1000000
+box~[300,400]~[0,400] | line 1: Range: size 0 is below 1
+polygon~,[0,9]~ | line 1: Range: points: count 2 is below 3
+polygon~[9,0]~[9,-1000001] | line 1: Range: points -1000001 is below -1000000
+move~"to":[7,8]~"to":[7,1000001] | line 1: Range: place 1000001 is above 1000000
+aimed~[1,2]]~[9,2]] | line 1: Range: aim: site 9 is above 8
+
+// What is no JSON.
+box+circle | line 1: Json: more behind the first object: an LF is missing between two lines?
+box~"shown":true}~"shown":true}, | line 1: Json: more behind the first object: an LF is missing between two lines?
+{ | line 1: Json: one object a line: this one does not end here
+[ | line 1: Json: one object a line: this one does not end here
+#note | line 1: Json: this is no JSON value
+box~"layer":0~"layer":01 | line 1: Json: this is no JSON value
+mark+box | line 1: Json: it begins with a byte order mark
+
+// Ids that come again.
+box move move~[7,8]~[7,9] | line 3: Clash: 1.2 is in line 2 too, with another value of place
+box move move move~[7,8]~[7,9] | line 4: Clash: 1.2 is in line 2 too, with another value of place
+box move move~"object":[1,1]~"object":[2,1] | line 3: Clash: 1.2 is in line 2 too, with another object
+box move layer~"id":[1,3],"past":[2~"id":[1,2],"past":[1 | line 3: Clash: 1.2 is in line 2 too, with another attribute
+box box~ff0000~00ff00 | line 2: Clash: 1.1 is in line 1 too, with another value of colour
+box box~[0,0,0,0,0,0,0,0]~[0,9,0,0,0,0,0,0] | line 2: Clash: 1.1 is in line 1 too, with another past
+move move~[1,0,~[1,1, | line 2: Clash: 1.2 is in line 1 too, with another past
+box move~"id":[1,2],"past":[1~"id":[1,1],"past":[0 | line 2: Clash: 1.1 is in line 1 too, with another op
+
+// Operations that don't fit.
+box move~[1,0,~[0,0, | operation 1.2: BadClock: its past counts 0 of its own site, and must count 1
+box move~[1,0,~[2,0, | operation 1.2: BadClock: its past counts 2 of its own site, and must count 1
+circle box~[0,0,0,0,0,0,0,0]~[0,1,0,0,0,0,0,0] move | operation 1.2: BadClock: its past counts 0 of site 2, and 1.1, which it counts, had 1
+box move~"object":[1,1]~"object":[1,9] | operation 1.2: NoObject: it changes 1.9, which is no object that its past counts
+circle resize | operation 2.2: WrongKind: 2.1 is a circle: its size is two equal numbers
+circle resize~"size"~"points"~[5,6]~[[0,0],[9,0],[0,9]] | operation 2.2: WrongKind: 2.1 is a circle: it has no points
+box move aimed~[1,1],[1,2]~[1,1],[1,3] | operation 1.3: BadAim: its aim has 1.3, which its past does not count
+box move aimed layer~"id":[1,3],"past":[2~"id":[1,4],"past":[3~"to":5~"to":5,"aim":[[1,3]] | operation 1.4: BadAim: its aim has 1.3, and lacks an operation that 1.3 is aimed at
+
+// All at once, each with the number of its line.
+box~"colour"~"color" box move~[7,8]~[7,1000001] circle~"layer":0~"layer":10000 { | line 1: Field: unknown key "color" / line 3: Range: place 1000001 is above 1000000 / line 4: Range: layer 10000 is above 9999 / line 5: Json: one object a line: this one does not end here
+box layer~[1,3]~[1,2]~[2,0,~[1,0,~"to":5~"to":10000 move layer~"layer"~"color" move~[7,8]~[7,9] move~[1,2]~[1,3] | line 2: Range: layer 10000 is above 9999 / line 4: Field: "set" must be "place", "points", "size", "colour", "layer" or "shown" / line 5: Clash: 1.2 is in line 3 too, with another value of place / operation 1.3: BadClock: its past counts 1 of its own site, and must count 2
+box move~[1,0,~[0,0, circle resize | operation 1.2: BadClock: its past counts 0 of its own site, and must count 1 / operation 2.2: WrongKind: 2.1 is a circle: its size is two equal numbers
+box move~[1,0,~[0,0, move | operation 1.2: BadClock: its past counts 0 of its own site, and must count 1
+"##;
+
+/// The piece of this name, or the name itself.
+fn piece(name: &str) -> &str {
+    match name {
+        "box" => {
+            r#"{"op":"create","id":[1,1],"past":[0,0,0,0,0,0,0,0],"kind":"box","place":[100,200],"size":[300,400],"colour":"ff0000","layer":0,"shown":true}"#
+        }
+        "circle" => {
+            r#"{"op":"create","id":[2,1],"past":[0,0,0,0,0,0,0,0],"kind":"circle","place":[0,0],"size":[5,5],"colour":"00ff00","layer":0,"shown":true}"#
+        }
+        "polygon" => {
+            r#"{"op":"create","id":[3,1],"past":[0,0,0,0,0,0,0,0],"kind":"polygon","place":[0,0],"points":[[0,0],[9,0],[0,9]],"colour":"0000ff","layer":0,"shown":true}"#
+        }
+        "move" => {
+            r#"{"op":"set","id":[1,2],"past":[1,0,0,0,0,0,0,0],"object":[1,1],"set":"place","to":[7,8]}"#
+        }
+        "layer" => {
+            r#"{"op":"set","id":[1,3],"past":[2,0,0,0,0,0,0,0],"object":[1,1],"set":"layer","to":5}"#
+        }
+        "aimed" => {
+            r#"{"op":"set","id":[1,3],"past":[2,0,0,0,0,0,0,0],"object":[1,1],"set":"layer","to":5,"aim":[[1,1],[1,2]]}"#
+        }
+        "resize" => {
+            r#"{"op":"set","id":[2,2],"past":[0,1,0,0,0,0,0,0],"object":[2,1],"set":"size","to":[5,6]}"#
+        }
+        "mark" => "\u{feff}",
+        _ => name,
+    }
+}
+
+/// Appends pieces, each with its changes.
+fn push_pieces(alloc: Global, names: &str, text: &mut String) -> Option<()> {
+    for name in names.split('+') {
+        push_piece(alloc, name, text)?;
+    }
+    Some(())
+}
+
+/// Appends a piece with its changes.
+fn push_piece(alloc: Global, name: &str, text: &mut String) -> Option<()> {
+    let mut parts = name.split('~');
+    let mut line = String::new(alloc);
+    line.push_str(piece(parts.next()?)).ok()?;
+    while let Some(old) = parts.next() {
+        line = line.as_str().replacen(alloc, old, parts.next()?, 1).ok()?;
+    }
+    text.push_str(&line).ok()
+}
+
+/// The text of an input.
+fn input(alloc: Global, names: &str) -> Option<String> {
+    let mut text = String::new(alloc);
+    for line in names.split_whitespace() {
+        push_pieces(alloc, line, &mut text)?;
+        text.push_str("\n").ok()?;
+    }
+    Some(text)
+}
+
+#[derive(Drop)]
+struct Checks;
+
+impl Answers for Checks {
+    fn answer(&mut self, alloc: Global, question: &str) -> Option<String> {
+        let text = input(alloc, question)?;
+        let told = faults_of(alloc, text.into_bytes()).ok()?;
+        let told = String::from_utf8(told).ok()?;
+        told.as_str().trim().replace(alloc, "\n", " / ").ok()
+    }
+}
+
+#[test]
+fn faults_are_told_and_explained(rt: HostRuntime) -> Result<(), Fail> {
+    ask(rt.alloc(), ROWS, &mut Checks)
+}
+
+/// Each row: the lines of an input, and what a check answers, with how many bytes its sink takes.
+const RUNS: &str = r#"
+box move | Clean, 0
+box move box~"layer":0~"layer":10000 | Faulty, 41
+"#;
+
+/// What a check answers, and how many bytes its sink takes.
+fn answer(alloc: Global, input: &str) -> Option<String> {
+    let mut source = Reel::new(input.as_bytes(), None);
+    let mut sink = Tape::new(alloc, None);
+    let verdict = check_run(alloc, &mut source, &mut sink).ok()?;
+    counted(alloc, verdict, sink.bytes().len())
+}
+
+fn counted(alloc: Global, verdict: Verdict, count: usize) -> Option<String> {
+    format!(in alloc; "{verdict:?}, {count}").ok()
+}
+
+#[derive(Drop)]
+struct Runs;
+
+impl Answers for Runs {
+    fn answer(&mut self, alloc: Global, question: &str) -> Option<String> {
+        let text = input(alloc, question)?;
+        answer(alloc, &text)
+    }
+}
+
+#[test]
+fn a_check_answers_whether_there_is_a_fault(rt: HostRuntime) -> Result<(), Fail> {
+    ask(rt.alloc(), RUNS, &mut Runs)
+}
