@@ -9,7 +9,7 @@ use Rattle.gf_ops.specs.declared.change.Change.TheVariants.{Create, Set}
 use Rattle.gf_ops.specs.OperationOrder.{entry}
 use Rattle.gf_ops.specs.ValidHistory.{Counts, IsValid}
 use Rattle.gf_ops.specs.KnownObject.{IsSuited}
-use Rattle.gf_ops.specs.Accepted.{CountsAtMost, IsClosed, IsAccepted}
+use Rattle.gf_ops.specs.Accepted.{CountsAtMost, IsCausallyClosed, IsAccepted}
 use Rattle.gf_ops.proofs.HistoryLemmas.{site_in_range, seq_in_range}
 use Rattle.gf_ops.proofs.ValidityLemmas.{Holds, same_op}
 use Rattle.gf_ops.proofs.AimedLemmas.{aimed_within}
@@ -26,7 +26,7 @@ module _ (h part : List Op) (valid : IsValid h) (within : (a : Op) → Contains 
   ]
 
   -- what it knows knew in h no more than it
-  knew_within : IsClosed part a
+  knew_within : IsCausallyClosed part a
   knew_within b c known s i =
       let r = valid.in_range b (within b c) in
       let t = valid.closed a there b.id (record { site = site_in_range b r; first = (seq_in_range b r).0; last = known }) in

@@ -8,7 +8,7 @@ use Rattle.gf_causal.specs.declared.standing.Standing.{Standing}
 use Rattle.gf_causal.specs.declared.standing.Standing.TheVariants.{Free, Same, Other}
 use Rattle.gf_causal.specs.HeldOperations.{IsFree, IsClash, IsKnown, IsNew}
 use Rattle.gf_causal.specs.DeliveredPart.{AreOneById}
-use Rattle.gf_causal.specs.Keeping.{Compares, Among, Stands, joined}
+use Rattle.gf_causal.specs.Keeping.{Compares, Among, IsStanding, joined}
 
 -- operations whose ids differ pairwise are one by id
 pub one_of_pairs : (h : List Op) → AllPairs (λ a b. a.id ≢ b.id) h → AreOneById h
@@ -36,7 +36,7 @@ Among-from_Compares ops a (Some b) Other u f n e =
     record { other = b.now; contained = f.0; id = f.1; differs = λ p. e.2 (sym q ∙ p) }
 
 -- both lists together
-pub Stands-joined : (held h : List Op) (a : Op) (s t : Standing) → Among held a s → Among h a t → Stands held h a (joined s t)
+pub Stands-joined : (held h : List Op) (a : Op) (s t : Standing) → Among held a s → Among h a t → IsStanding held h a (joined s t)
 Stands-joined held h a Other t p q = inl p
 Stands-joined held h a Free Free p q = record { not_held = p; not_added = q }
 Stands-joined held h a Free Same p q = record { known = inr q.0; alone = λ w. elim w [ inl o ↦ p o.other o.contained o.id | inr o ↦ q.1 o ] }

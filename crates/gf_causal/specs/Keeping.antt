@@ -39,10 +39,10 @@ Among ops a Same = Contains ops a × (¬ (HasOther ops a))
 Among ops a Other = HasOther ops a
 
 -- what is held or in the history h under the id of a
-abbrev pub Stands : List Op → List Op → Op → Standing → Type 0
-Stands held h a Free = IsNew held h a
-Stands held h a Same = IsKnown held h a
-Stands held h a Other = IsClash held h a
+abbrev pub IsStanding : List Op → List Op → Op → Standing → Type 0
+IsStanding held h a Free = IsNew held h a
+IsStanding held h a Same = IsKnown held h a
+IsStanding held h a Other = IsClash held h a
 
 -- what stands under an id in both lists together
 abbrev pub joined : Standing → Standing → Standing

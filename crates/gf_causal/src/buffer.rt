@@ -9,7 +9,7 @@ ghost use Rattle.gf_causal.specs.declared.buffer.Offered.{Offered};
 ghost use Rattle.gf_causal.specs.declared.faults.OfferFault.{OfferFault};
 ghost use Rattle.gf_causal.specs.HeldOperations.{AreHeld, IsFree, IsClash, IsKnown, IsNew, Adds};
 ghost use Rattle.gf_causal.specs.HeldOperations.{IsFirstReady};
-ghost use Rattle.gf_causal.specs.Keeping.{Among, Stands};
+ghost use Rattle.gf_causal.specs.Keeping.{Among, IsStanding};
 ghost use Rattle.gf_causal.specs.Ready.{IsReady, NoneIsReady};
 
 use crate::OfferFault;
@@ -171,7 +171,7 @@ impl Buffer {
 
     /// What is held or in the history under the id of the operation.
     fn standing(&self, op: &Op, history: &History) -> Standing
-        ensures { Stands self.now history.now.ops op.now result }
+        ensures { IsStanding self.now history.now.ops op.now result }
     {
         join(self.among_held(op), in_history(history, op))
     }

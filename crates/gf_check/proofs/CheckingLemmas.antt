@@ -17,7 +17,7 @@ use Rattle.gf_replay.specs.LineSteps.{HasRead, RefusesLine, TakesLine}
 use Rattle.gf_replay.specs.Taking.{of_line}
 use Rattle.gf_replay.proofs.ReadingLemmas.{Denotes-read, HasRead-line, RefusesText-line}
 use Rattle.gf_check.specs.FaultLines.{Told, told_line, told_text}
-use Rattle.gf_check.specs.AllFaults.{AnswersText, nothing, faults, IsFault, TellsEach}
+use Rattle.gf_check.specs.AllFaults.{AnswersText, nothing, faults, IsInputFault, TellsEach}
 use Rattle.gf_check.specs.CheckSteps.{BeginsBefore, BeginsWith, HasChecked, TellsLine}
 
 abbrev errors : List Told → List ReadingError
@@ -26,7 +26,7 @@ errors told = map (λ (t : Told). t.error) told
 -- ---- one line more
 
 -- the error that refuses a line which denotes no operation is that of the line
-of_fault : (n : ℕ) (bytes : List ℕ) (x : SiteState) (f : LineError) (e : ReadingError) → denoted bytes ≡ Err f → IsFault e → RefusesLine n bytes x e → of_line n f ≡ e
+of_fault : (n : ℕ) (bytes : List ℕ) (x : SiteState) (f : LineError) (e : ReadingError) → denoted bytes ≡ Err f → IsInputFault e → RefusesLine n bytes x e → of_line n f ≡ e
 of_fault n bytes x f (reading.Line m cause.Json) d k r = let is = r.1 in let same : f ≡ line.Json = cc in ap (of_line n) same ∙ ap (λ i. reading.Line i cause.Json) (sym r.0)
 of_fault n bytes x f (reading.Line m cause.Field) d k r = let is = r.1 in let same : f ≡ line.Field = cc in ap (of_line n) same ∙ ap (λ i. reading.Line i cause.Field) (sym r.0)
 of_fault n bytes x f (reading.Line m cause.Range) d k r = let is = r.1 in let same : f ≡ line.Range = cc in ap (of_line n) same ∙ ap (λ i. reading.Line i cause.Range) (sym r.0)

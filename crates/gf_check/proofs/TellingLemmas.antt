@@ -11,7 +11,7 @@ use Rattle.gf_ops.specs.ValidHistory.{IsValid}
 use Rattle.gf_causal.specs.HeldOperations.{AreHeld, IsClash}
 use Rattle.gf_causal.specs.Ready.{NoneIsReady}
 use Rattle.gf_site.specs.SiteState.{SiteState}
-use Rattle.gf_site.specs.Events.{Applies, Drops}
+use Rattle.gf_site.specs.Events.{Applies, ForgetsReady}
 use Rattle.gf_json.specs.LineValues.{Got}
 use Rattle.gf_json.specs.OperationLines.{denoted}
 use Rattle.gf_json.specs.declared.line_error.LineError.{LineError}
@@ -23,8 +23,8 @@ use Rattle.gf_replay.specs.LineSteps.{RefusesLine, RefusesSettling, TakesLine}
 use Rattle.gf_replay.specs.Taking.{Offers, RefusesOp, TakesOp}
 use Rattle.gf_replay.proofs.TakingLemmas.{dropped_ready, idle_settles, keeps_applied}
 use Rattle.gf_check.specs.FaultLines.{Told, told_line, told_text}
-use Rattle.gf_check.specs.AllFaults.{IsFault}
-use Rattle.gf_check.specs.CheckSteps.{BeginsWith, SettlesIn, Steps, TellsDrop, TellsFault, TellsFrom, TellsLine, TellsOffer, TellsSteps}
+use Rattle.gf_check.specs.AllFaults.{IsInputFault}
+use Rattle.gf_check.specs.CheckSteps.{BeginsWith, SettlesIn, KeepsSite, TellsDrop, TellsFault, TellsFrom, TellsLine, TellsOffer, TellsSteps}
 
 -- ---- told faults
 
@@ -33,23 +33,23 @@ told_more told t =
     flat_map-append (λ (u : Told). told_line u.error u.why) told (t ∷ [])
     ∙ ap (λ x. told_text told ++ x) (append-nil (told_line t.error t.why))
 
-begins_weaker : (none more : Type 0) (refuses because : ReadingError → Type 0) → (none → more) → ((e : ReadingError) → IsFault e → refuses e → because e) →
+begins_weaker : (none more : Type 0) (refuses because : ReadingError → Type 0) → (none → more) → ((e : ReadingError) → IsInputFault e → refuses e → because e) →
     (told : List Told) → BeginsWith none refuses told → BeginsWith more because told
 begins_weaker none more refuses because f g [] b = f b
 begins_weaker none more refuses because f g (t ∷ ts) b = (b.0, g t.error b.0 b.1)
 
 -- what is told stays, where each of both facts says another one
-weaker : (none more : Type 0) (refuses because : ReadingError → Type 0) (old new : List ℕ) → (none → more) → ((e : ReadingError) → IsFault e → refuses e → because e) →
+weaker : (none more : Type 0) (refuses because : ReadingError → Type 0) (old new : List ℕ) → (none → more) → ((e : ReadingError) → IsInputFault e → refuses e → because e) →
     TellsFrom none refuses old new → TellsFrom more because old new
 weaker none more refuses because old new f g t = record { told = t.told; grows = t.grows; first = begins_weaker none more refuses because f g t.told t.first }
 
-begins_more : (none more : Type 0) (refuses : ReadingError → Type 0) (u : Told) → IsFault u.error → (none → refuses u.error) →
+begins_more : (none more : Type 0) (refuses : ReadingError → Type 0) (u : Told) → IsInputFault u.error → (none → refuses u.error) →
     (told : List Told) → BeginsWith none refuses told → BeginsWith more refuses (told ++ u ∷ [])
 begins_more none more refuses u fault r [] b = (fault, r b)
 begins_more none more refuses u fault r (t ∷ ts) b = b
 
 -- one fault more is told
-tells_more : (none more : Type 0) (refuses : ReadingError → Type 0) (e : ReadingError) (old mid new : List ℕ) → IsFault e → (none → refuses e) →
+tells_more : (none more : Type 0) (refuses : ReadingError → Type 0) (e : ReadingError) (old mid new : List ℕ) → IsInputFault e → (none → refuses e) →
     TellsFrom none refuses old mid → TellsFault e mid new → TellsFrom more refuses old new
 tells_more none more refuses e old mid new fault r t f =
     let u : Told = record { error = e; why = f.why } in
@@ -64,28 +64,28 @@ tells_none : (none : Type 0) (refuses : ReadingError → Type 0) (text : List �
 tells_none none refuses text x = record { told = []; grows = sym (append-nil text); first = x }
 
 -- one fault is told
-tells_one : (none : Type 0) (refuses : ReadingError → Type 0) (e : ReadingError) (old new : List ℕ) → IsFault e → refuses e → TellsFault e old new → TellsFrom none refuses old new
+tells_one : (none : Type 0) (refuses : ReadingError → Type 0) (e : ReadingError) (old new : List ℕ) → IsInputFault e → refuses e → TellsFault e old new → TellsFrom none refuses old new
 tells_one none refuses e old new fault r f = tells_more ⊤ none refuses e old old new fault (λ _. r) (tells_none ⊤ refuses old tt) f
 
 -- ---- steps
 
 pub step_applied : (x y z : SiteState) (id : OpId) (old new : List ℕ) → AreHeld y.held → TellsDrop x y old new → Applies y id z → TellsDrop x z old new
 step_applied x y z id old new held t s =
-    weaker (Steps x y) (Steps x z) (RefusesSettling x) (RefusesSettling x) old new (λ p. (keeps_applied x y z id held p.0 s, s.takes.number ∙ p.1)) (λ e f r. r) t
+    weaker (KeepsSite x y) (KeepsSite x z) (RefusesSettling x) (RefusesSettling x) old new (λ p. (keeps_applied x y z id held p.0 s, s.takes.number ∙ p.1)) (λ e f r. r) t
 
-pub step_dropped : (x y z : SiteState) (id : OpId) (fault : OpFault) (old mid new : List ℕ) → AreAccepted y.ops → IsValid y.ops → TellsDrop x y old mid → Drops y id fault z →
+pub step_dropped : (x y z : SiteState) (id : OpId) (fault : OpFault) (old mid new : List ℕ) → AreAccepted y.ops → IsValid y.ops → TellsDrop x y old mid → ForgetsReady y id fault z →
     TellsFault (reading.Dropped id fault) mid new → TellsDrop x z old new
 step_dropped x y z id fault old mid new accepted valid t d f =
-    tells_more (Steps x y) (Steps x z) (RefusesSettling x) (reading.Dropped id fault) old mid new tt (λ p. dropped_ready x y z id fault p.0 accepted valid d) t f
+    tells_more (KeepsSite x y) (KeepsSite x z) (RefusesSettling x) (reading.Dropped id fault) old mid new tt (λ p. dropped_ready x y z id fault p.0 accepted valid d) t f
 
 pub steps_end : (x y z : SiteState) (old new : List ℕ) → AreAccepted y.ops → IsValid y.ops → TellsDrop x y old new → NoneIsReady y.ops y.held × (z ≡ y) → TellsSteps x z old new
 steps_end x y z old new accepted valid t idle =
-    weaker (Steps x y) (SettlesIn x z) (RefusesSettling x) (RefusesSettling x) old new
+    weaker (KeepsSite x y) (SettlesIn x z) (RefusesSettling x) (RefusesSettling x) old new
     (λ p. (idle_settles x y z p.0 accepted valid idle, ap (λ (s : SiteState). s.number) idle.1 ∙ p.1)) (λ e f r. r) t
 
 -- ---- offers
 
-behind_offer : (n : ℕ) (a : Op) (x y : SiteState) → Offers x a y → (e : ReadingError) → IsFault e → RefusesSettling y e → RefusesOp n a x e
+behind_offer : (n : ℕ) (a : Op) (x y : SiteState) → Offers x a y → (e : ReadingError) → IsInputFault e → RefusesSettling y e → RefusesOp n a x e
 behind_offer n a x y offers (reading.Line m why) f r = absurd r
 behind_offer n a x y offers (reading.Dropped id fault) f r = record { offered = y; offers = offers; drops = r }
 behind_offer n a x y offers reading.OutOfMemory f r = absurd f
@@ -102,7 +102,7 @@ offer_clashes n a x y (Err e) old new clash f = tt
 
 -- ---- lines
 
-of_offer : (n : ℕ) (bytes : List ℕ) (a : Op) (x : SiteState) → denoted bytes ≡ Ok a → (e : ReadingError) → IsFault e → RefusesOp n a x e → RefusesLine n bytes x e
+of_offer : (n : ℕ) (bytes : List ℕ) (a : Op) (x : SiteState) → denoted bytes ≡ Ok a → (e : ReadingError) → IsInputFault e → RefusesOp n a x e → RefusesLine n bytes x e
 of_offer n bytes a x d (reading.Line m cause.Clash) f r = (r.0, record { op = a; denotes = d; clash = r.1 })
 of_offer n bytes a x d (reading.Line m cause.Json) f r = absurd r
 of_offer n bytes a x d (reading.Line m cause.Field) f r = absurd r

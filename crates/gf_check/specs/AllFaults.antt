@@ -12,9 +12,9 @@ use Rattle.gf_replay.specs.Taking.{of_line}
 use Rattle.gf_check.specs.FaultLines.{Told, told_text}
 
 -- the error is a fault of the input, and no want of memory
-abbrev pub IsFault : ReadingError → Type 0
-IsFault reading.OutOfMemory = ⊥
-IsFault other = ⊤
+abbrev pub IsInputFault : ReadingError → Type 0
+IsInputFault reading.OutOfMemory = ⊥
+IsInputFault other = ⊤
 
 -- the bytes denote some history
 pub record DenotesSome (bytes : List ℕ) : Type 0 where
@@ -23,7 +23,7 @@ pub record DenotesSome (bytes : List ℕ) : Type 0 where
 
 -- the bytes denote no history because of this fault
 pub record IsFaultOf (bytes : List ℕ) (e : ReadingError) : Type 0 where
-  pub fault : IsFault e
+  pub fault : IsInputFault e
   pub refuses : RefusesText bytes e
 
 -- of these lines each that denotes no operation is told

@@ -1,7 +1,7 @@
 -- What the checking run answers and writes, and why it is refused (this project's choice).
 use Rattle.std.specs.Prelude.{◌≡◌, ℕ, List, [], Option, ⊤}
 use Rattle.std.specs.Io.KnownBytes.{Appends}
-use Rattle.gf_streams.specs.Taken.{AppendsFront}
+use Rattle.gf_streams.specs.Taken.{AppendsPrefix}
 use Rattle.gf_check.specs.AllFaults.{AnswersText, DenotesSome, TellsFaults}
 use Rattle.gf_studio.specs.declared.studio_error.StudioError.{StudioError}
 use Rattle.gf_studio.specs.declared.studio_error.StudioError.TheVariants as studio
@@ -22,10 +22,10 @@ pub record WritesCheck (bytes : List ℕ) (verdict : Verdict) (old new : Option 
   pub written : Appends old new text
 
 -- known bytes grow from old to new by a front, which may be none or all, of what is told
-pub record WritesCheckFront (bytes : List ℕ) (old new : Option (List ℕ)) : Type 0 where
+pub record WritesCheckPrefix (bytes : List ℕ) (old new : Option (List ℕ)) : Type 0 where
   pub text : List ℕ
   pub told : AnswersText bytes text
-  pub written : AppendsFront old new text
+  pub written : AppendsPrefix old new text
 
 -- why a checking run is refused
 abbrev pub RefusesCheck : StudioError → Type 0

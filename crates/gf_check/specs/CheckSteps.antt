@@ -7,7 +7,7 @@ use Rattle.gf_replay.specs.declared.reading_error.ReadingError.{ReadingError}
 use Rattle.gf_replay.specs.LineSteps.{HasRead, RefusesLine, RefusesSettling, TakesLine}
 use Rattle.gf_replay.specs.Taking.{KeepsAll, RefusesOp, Settles, TakesOp}
 use Rattle.gf_check.specs.FaultLines.{Told, told_line, told_text}
-use Rattle.gf_check.specs.AllFaults.{IsFault, IsFaultOf, TellsEach}
+use Rattle.gf_check.specs.AllFaults.{IsInputFault, IsFaultOf, TellsEach}
 
 -- the text grows from old to new by a line that tells this fault
 pub record TellsFault (e : ReadingError) (old new : List ℕ) : Type 0 where
@@ -17,7 +17,7 @@ pub record TellsFault (e : ReadingError) (old new : List ℕ) : Type 0 where
 -- where no fault is told the first fact holds, and else the second one holds of the first fault
 abbrev pub BeginsWith : Type 0 → (ReadingError → Type 0) → List Told → Type 0
 BeginsWith none refuses [] = none
-BeginsWith none refuses (t ∷ ts) = IsFault t.error × refuses t.error
+BeginsWith none refuses (t ∷ ts) = IsInputFault t.error × refuses t.error
 
 -- the text grows from old to new by lines that tell faults, and these begin as both facts say
 pub record TellsFrom (none : Type 0) (refuses : ReadingError → Type 0) (old new : List ℕ)
@@ -27,8 +27,8 @@ pub record TellsFrom (none : Type 0) (refuses : ReadingError → Type 0) (old ne
   pub first : BeginsWith none refuses told
 
 -- the site keeps the operations that it had, and its number
-abbrev pub Steps : SiteState → SiteState → Type 0
-Steps old new = KeepsAll old new × (new.number ≡ old.number)
+abbrev pub KeepsSite : SiteState → SiteState → Type 0
+KeepsSite old new = KeepsAll old new × (new.number ≡ old.number)
 
 -- the site settles, and has its number
 abbrev pub SettlesIn : SiteState → SiteState → Type 0
@@ -36,7 +36,7 @@ SettlesIn old new = Settles old new × (new.number ≡ old.number)
 
 -- the site steps, or the first fault that is told is that of an operation that didn't fit
 abbrev pub TellsDrop : SiteState → SiteState → List ℕ → List ℕ → Type 0
-TellsDrop x y old new = TellsFrom (Steps x y) (RefusesSettling x) old new
+TellsDrop x y old new = TellsFrom (KeepsSite x y) (RefusesSettling x) old new
 
 -- the site settles, or the first fault that is told is that of an operation that didn't fit
 abbrev pub TellsSteps : SiteState → SiteState → List ℕ → List ℕ → Type 0

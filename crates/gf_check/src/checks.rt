@@ -6,7 +6,7 @@ ghost use Rattle.gf_streams.specs.Counts.{Rises};
 ghost use Rattle.gf_streams.specs.Reads.{ConsumesAtMost};
 ghost use Rattle.gf_studio.specs.RunAnswers.{ReadsFor};
 ghost use Rattle.gf_check.specs.AllFaults.{AnswersText};
-ghost use Rattle.gf_check.specs.CheckRun.{RefusesCheck, WritesCheck, WritesCheckFront};
+ghost use Rattle.gf_check.specs.CheckRun.{RefusesCheck, WritesCheck, WritesCheckPrefix};
 ghost use Rattle.gf_check.specs.CheckRun.{Checks};
 
 use crate::faults_of;
@@ -44,8 +44,8 @@ pub fn check_run<R: Source, W: Sink>(
     ensures refused { IfErr result RefusesCheck }
 
     // A front of the text is written at most, and that only where the sink failed.
-    ensures front { result ≡ Err StudioError.WriteFailed → IfSome (R.left source.old) (λ bytes.
-        WritesCheckFront bytes (W.taken sink.old) (W.taken sink.new)) }
+    ensures prefix { result ≡ Err StudioError.WriteFailed → IfSome (R.left source.old) (λ bytes.
+        WritesCheckPrefix bytes (W.taken sink.old) (W.taken sink.new)) }
     ensures failed { result ≡ Err StudioError.WriteFailed →
         Rises (W.failures sink.old) (W.failures sink.new) }
     ensures unwritten { IfErr result (λ e. (sink.new ≡ sink.old) ⊎ (e ≡ StudioError.WriteFailed)) }

@@ -103,31 +103,31 @@ pub record IsCanvas (rows : List Row) (canvas : Canvas) : Type 0 where
   pub workers : HasWorkers rows canvas.workers
 
 -- a query, or why there is none
-abbrev pub Answer : Type 0
-Answer = Result Query QueryFault
+abbrev pub AskedQuery : Type 0
+AskedQuery = Result Query QueryFault
 
 -- what the text of an object asks for
-abbrev pub AsksObject : Text → Answer → Type 0
+abbrev pub AsksObject : Text → AskedQuery → Type 0
 AsksObject text (Ok (Object o)) = SpellsId text o.0
 AsksObject text (Err Unreadable) = (i : OpId) → ¬ (SpellsId text i)
 AsksObject text other = ⊥
 
 -- what the text of a point asks for
-abbrev pub AsksPoint : Text → Answer → Type 0
+abbrev pub AsksPoint : Text → AskedQuery → Type 0
 AsksPoint text (Ok (At p)) = SpellsPoint text p
 AsksPoint text (Err Unreadable) =
     (p : Point) → FitsSigned w32 p.x → FitsSigned w32 p.y → ¬ (SpellsPoint text p)
 AsksPoint text other = ⊥
 
 -- what the texts of an object and of a point ask for, of which one is to be given
-abbrev pub AsksQuery : Option Text → Option Text → Answer → Type 0
+abbrev pub AsksQuery : Option Text → Option Text → AskedQuery → Type 0
 AsksQuery (Some text) None answer = AsksObject text answer
 AsksQuery None (Some text) answer = AsksPoint text answer
 AsksQuery None None answer = answer ≡ Err NotOne
 AsksQuery (Some object) (Some point) answer = answer ≡ Err NotOne
 
 -- what the rows of the command `inspect` ask for
-abbrev pub IsInspected : List Row → Answer → Type 0
+abbrev pub IsInspected : List Row → AskedQuery → Type 0
 IsInspected rows = AsksQuery (first_of (codes "object") rows) (first_of (codes "at") rows)
 
 -- the command of this name was met, with rows of which the property holds
@@ -165,8 +165,8 @@ abbrev pub Asks : List Text → Run → Type 0
 Asks words = AsksRun (subcommand_of program words)
 
 -- what the words tell: a run, or a mistake in its options
-abbrev pub Tells : List Text → Asked → Type 0
-Tells words = IsAsked (subcommand_of program words)
+abbrev pub AsksFor : List Text → Asked → Type 0
+AsksFor words = IsAsked (subcommand_of program words)
 
 -- the words ask for the help or the version
 pub record AsksHelp (words : List Text) : Type 0 where

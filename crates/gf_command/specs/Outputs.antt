@@ -1,23 +1,23 @@
 -- What the runs of the program leave on their output (this project's choice).
 use Rattle.std.specs.Prelude.{◌≡◌, ◌⊎◌, ℕ, true, List, Option}
-use Rattle.gf_studio.specs.FigRun.{Exports, WritesFront}
+use Rattle.gf_studio.specs.FigRun.{Exports, WritesPrefix}
 use Rattle.gf_studio.specs.PaintRun.{IsDenoted, IsMeant, WritesBands, WritesPicture}
-use Rattle.gf_studio.specs.PaintRun.{WritesPictureFront}
+use Rattle.gf_studio.specs.PaintRun.{WritesPicturePrefix}
 use Rattle.gf_shape.specs.declared.colour.Rgb.{Rgb}
 use Rattle.gf_shape.specs.declared.point.Point.{Point}
 use Rattle.gf_scanline.specs.Windows.{View}
 use Rattle.gf_fit.specs.Frames.{Sides}
-use Rattle.gf_fit.specs.FittedRun.{FitsLines, FitsText, WritesFittedBands, WritesFittedFront}
-use Rattle.gf_import.specs.ImportRun.{WritesImport, WritesImportFront}
-use Rattle.gf_studio.specs.InspectRun.{WritesLook, WritesLookFront}
+use Rattle.gf_fit.specs.FittedRun.{FitsLines, FitsText, WritesFittedBands, WritesFittedPrefix}
+use Rattle.gf_import.specs.ImportRun.{WritesImport, WritesImportPrefix}
+use Rattle.gf_studio.specs.InspectRun.{WritesLook, WritesLookPrefix}
 use Rattle.gf_edit.specs.declared.made.Made.{Made}
-use Rattle.gf_edit.specs.EditRun.{WritesEdit, WritesEditFront}
+use Rattle.gf_edit.specs.EditRun.{WritesEdit, WritesEditPrefix}
 use Rattle.gf_status.specs.declared.state.State.{State}
 use Rattle.gf_status.specs.declared.state.State.TheVariants.{Clean, Open}
-use Rattle.gf_status.specs.StatusRun.{WritesStatus, WritesStatusFront}
+use Rattle.gf_status.specs.StatusRun.{WritesStatus, WritesStatusPrefix}
 use Rattle.gf_check.specs.declared.checks.Verdict.TheVariants as verdict
-use Rattle.gf_check.specs.CheckRun.{WritesCheck, WritesCheckFront}
-use Rattle.gf_session_run.specs.SessionRun.{WritesSession, WritesSessionFront}
+use Rattle.gf_check.specs.CheckRun.{WritesCheck, WritesCheckPrefix}
+use Rattle.gf_session_run.specs.SessionRun.{WritesSession, WritesSessionPrefix}
 use Rattle.gf_command.specs.declared.runs.Run.{Run}
 use Rattle.gf_command.specs.declared.runs.Extent.{Extent}
 use Rattle.gf_command.specs.declared.runs.Extent.TheVariants.{Window, Fitted}
@@ -34,10 +34,10 @@ module _ (Fits : Sides → View → Type 0) (IsShown : (Point → Rgb) → Type 
   WritesExtent (Fitted frame) = (w : View) × Fits frame w × WritesPicture IsShown w old new
 
   -- they grow by a front of it, perhaps by whole bands
-  abbrev pub WritesExtentFront : Extent → Type 0
-  WritesExtentFront (Window w) =
-      WritesPictureFront IsShown w old new ⊎ WritesBands IsShown w old new
-  WritesExtentFront (Fitted frame) = WritesFittedFront (Fits frame) IsShown old new
+  abbrev pub WritesExtentPrefix : Extent → Type 0
+  WritesExtentPrefix (Window w) =
+      WritesPicturePrefix IsShown w old new ⊎ WritesBands IsShown w old new
+  WritesExtentPrefix (Fitted frame) = WritesFittedPrefix (Fits frame) IsShown old new
       ⊎ WritesFittedBands (Fits frame) IsShown old new
 
 -- known bytes grow from old to new by what the run asks for: the FIG text of what the bytes denote,
@@ -61,18 +61,18 @@ Answers (Session sites) bytes old new = WritesSession sites bytes old new
 
 -- known bytes grow from old to new by a front of what the run asks for, of a picture perhaps by
 -- whole bands
-abbrev pub AnswersFront : Run → List ℕ → Option (List ℕ) → Option (List ℕ) → Type 0
-AnswersFront (Fig workers) bytes old new = WritesFront bytes old new
-AnswersFront (Paint canvas) bytes old new =
-    WritesExtentFront (FitsLines bytes) (IsMeant bytes) old new canvas.extent
-AnswersFront (Repaint canvas) bytes old new =
-    WritesExtentFront (FitsText bytes) (IsDenoted bytes) old new canvas.extent
-AnswersFront (Inspect query workers) bytes old new = WritesLookFront bytes query old new
-AnswersFront (Import editor) bytes old new = WritesImportFront editor.site bytes old new
-AnswersFront (Edit editor) bytes old new = WritesEditFront editor.site bytes old new
-AnswersFront (Status check workers) bytes old new = WritesStatusFront bytes old new
-AnswersFront Check bytes old new = WritesCheckFront bytes old new
-AnswersFront (Session sites) bytes old new = WritesSessionFront sites bytes old new
+abbrev pub AnswersPrefix : Run → List ℕ → Option (List ℕ) → Option (List ℕ) → Type 0
+AnswersPrefix (Fig workers) bytes old new = WritesPrefix bytes old new
+AnswersPrefix (Paint canvas) bytes old new =
+    WritesExtentPrefix (FitsLines bytes) (IsMeant bytes) old new canvas.extent
+AnswersPrefix (Repaint canvas) bytes old new =
+    WritesExtentPrefix (FitsText bytes) (IsDenoted bytes) old new canvas.extent
+AnswersPrefix (Inspect query workers) bytes old new = WritesLookPrefix bytes query old new
+AnswersPrefix (Import editor) bytes old new = WritesImportPrefix editor.site bytes old new
+AnswersPrefix (Edit editor) bytes old new = WritesEditPrefix editor.site bytes old new
+AnswersPrefix (Status check workers) bytes old new = WritesStatusPrefix bytes old new
+AnswersPrefix Check bytes old new = WritesCheckPrefix bytes old new
+AnswersPrefix (Session sites) bytes old new = WritesSessionPrefix sites bytes old new
 
 -- known bytes grow from old to new by what the run asks for, and this is to be seen to: something
 -- waits or differs, where that is asked for, or there is a fault

@@ -2,7 +2,7 @@
 
 ghost use Rattle.std.specs.Prelude.{◌≡◌, ◌≤◌, ◌⊎◌, IfSome, IfErr, IfOk, OnOk, IsTrue, map};
 ghost use Rattle.std.specs.Prelude.{string_bytes};
-ghost use Rattle.gf_command.specs.Outputs.{Answers, AnswersFront, AnswersOpen};
+ghost use Rattle.gf_command.specs.Outputs.{Answers, AnswersPrefix, AnswersOpen};
 ghost use Rattle.gf_command.specs.Outcomes.{AnswersSo};
 ghost use Rattle.gf_command.specs.Asking.{Asks, AsksHelp};
 ghost use Rattle.gf_command.specs.declared.runs.Run.{Run};
@@ -51,7 +51,7 @@ pub fn command<T: Threads + Wait + Sync, R: Source, W: Sink, E: Sink>(
     // be seen to is written.
     ensures refused { result ≡ 1 → (output.new ≡ output.old) ⊎ ((run : Run)
         × Asks (map string_bytes words.now) run × IfSome (R.left source.old) (λ bytes.
-        AnswersFront run bytes (W.taken output.old) (W.taken output.new)
+        AnswersPrefix run bytes (W.taken output.old) (W.taken output.new)
         ⊎ AnswersOpen run bytes (W.taken output.old) (W.taken output.new))) }
     ensures mistake { result ≡ 2 → (source.new ≡ source.old) × (output.new ≡ output.old) }
 {
@@ -103,7 +103,7 @@ fn answer<T: Threads + Wait + Sync, R: Source, W: Sink>(
     ensures flushed { OnOk result (IsTrue (W.flushed output.new)) }
     ensures refused { IfErr result (λ _. (output.new ≡ output.old) ⊎
         IfSome (R.left source.old) (λ bytes.
-        AnswersFront run bytes (W.taken output.old) (W.taken output.new))) }
+        AnswersPrefix run bytes (W.taken output.old) (W.taken output.new))) }
 {
     match run {
         Run::Fig(workers) => fig_run(rt, alloc, source, output, workers.count)?,

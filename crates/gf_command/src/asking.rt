@@ -7,7 +7,7 @@ ghost use Rattle.clap.specs.Words.{subcommand_of, subcommand_rows_of};
 ghost use Rattle.gf_command.specs.CommandLine as line;
 ghost use Rattle.gf_command.specs.Asking.{AsksQuery, HasNatural, HasNaturalOr, HasWholeOr, HasWorkers};
 ghost use Rattle.gf_command.specs.Asking.{IsAsked, IsCanvas, IsExtent, IsFrame, IsInspected};
-ghost use Rattle.gf_command.specs.Asking.{IsNaturalOr, IsWholeOr, IsWindow, Tells, has_flag};
+ghost use Rattle.gf_command.specs.Asking.{IsNaturalOr, IsWholeOr, IsWindow, AsksFor, has_flag};
 ghost use Rattle.gf_command.specs.Asking.{is_given, is_placed, is_placed_fit, is_true};
 
 use crate::describing::program;
@@ -22,7 +22,7 @@ use std::alloc::{AllocError, Global};
 
 /// Reads the words, the first of which is the program's name.
 pub fn parse(alloc: Global, words: &[String]) -> Result<Asked, Error>
-    ensures asked { IfOk result (λ asked. Tells (map string_bytes words.now) asked) }
+    ensures asked { IfOk result (λ asked. AsksFor (map string_bytes words.now) asked) }
     ensures fails { IfErr result (λ e. (kind_of e ≡ ErrorKind.ValueValidation)
         ⊎ HasKind (fault_of line.program (map string_bytes words.now)) e) }
 {

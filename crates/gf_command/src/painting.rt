@@ -1,7 +1,7 @@
 //! The runs that paint, in the window that the words choose or in one that fits.
 
 ghost use Rattle.std.specs.Prelude.{◌≡◌, ◌⊎◌, IfErr, IfOk, IfSome, IsTrue, OnOk};
-ghost use Rattle.gf_command.specs.Outputs.{AnswersFront};
+ghost use Rattle.gf_command.specs.Outputs.{AnswersPrefix};
 ghost use Rattle.gf_command.specs.Outcomes.{AnswersSo};
 ghost use Rattle.gf_command.specs.declared.runs.Run.TheVariants as run;
 
@@ -28,7 +28,7 @@ pub(crate) fn paint<T: Threads + Sync, R: Source, W: Sink>(
     ensures flushed { OnOk result (IsTrue (W.flushed output.new)) }
     ensures refused { IfErr result (λ _. (output.new ≡ output.old) ⊎
         IfSome (R.left source.old) (λ bytes.
-        AnswersFront (run.Paint canvas) bytes (W.taken output.old) (W.taken output.new))) }
+        AnswersPrefix (run.Paint canvas) bytes (W.taken output.old) (W.taken output.new))) }
 {
     let Canvas { extent, workers } = canvas;
     let workers = workers.count;
@@ -57,7 +57,7 @@ pub(crate) fn repaint<T: Threads + Sync, R: Source, W: Sink>(
     ensures flushed { OnOk result (IsTrue (W.flushed output.new)) }
     ensures refused { IfErr result (λ _. (output.new ≡ output.old) ⊎
         IfSome (R.left source.old) (λ bytes.
-        AnswersFront (run.Repaint canvas) bytes (W.taken output.old) (W.taken output.new))) }
+        AnswersPrefix (run.Repaint canvas) bytes (W.taken output.old) (W.taken output.new))) }
 {
     let Canvas { extent, workers } = canvas;
     let workers = workers.count;

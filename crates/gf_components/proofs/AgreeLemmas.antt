@@ -4,7 +4,7 @@ use Rattle.std.specs.Prelude.{Contains, Option, Some, None}
 use Rattle.gf_maximal.specs.Tables.{IsLargest, IsTable}
 use Rattle.gf_maximal.proofs.PairLemmas.{Pairs-from}
 use Rattle.gf_components.specs.Components.{ComponentState, ComponentsState, alone, whole}
-use Rattle.gf_components.specs.Separate.{Apart, IsKept, AreComponents}
+use Rattle.gf_components.specs.Separate.{Apart, AreSetsKept, AreComponents}
 use Rattle.gf_components.proofs.ComponentLemmas.{all_of_fold}
 
 agree_largest : (c d : ℕ → ℕ → Bool) (us p : ℕ → Type 0) → ((a b : ℕ) → us a → us b → c a b ≡ d a b) → IsLargest c us p → IsLargest d us p
@@ -23,7 +23,7 @@ table_agree c d us gs same t = record {
   once = t.once;
 }
 
-kept_agree : (c d : ℕ → ℕ → Bool) (us : List ℕ) → ((a b : ℕ) → Contains us a → Contains us b → c a b ≡ d a b) → (r : Option (List (List ℕ))) → IsKept c us r → IsKept d us r
+kept_agree : (c d : ℕ → ℕ → Bool) (us : List ℕ) → ((a b : ℕ) → Contains us a → Contains us b → c a b ≡ d a b) → (r : Option (List (List ℕ))) → AreSetsKept c us r → AreSetsKept d us r
 kept_agree c d us same (Some gs) k = (table_agree c d us gs same k.0, k.1)
 kept_agree c d us same None k = λ gs t. k gs (table_agree d c us gs (λ a b u v. sym (same a b u v)) t)
 

@@ -25,7 +25,7 @@ use Rattle.gf_maximal.proofs.MaximalLemmas.{in_list, from_list, out_of, meets_fr
 use Rattle.gf_maximal.proofs.GrowingLemmas.{Comes}
 use Rattle.gf_maximal.proofs.UnitedLemmas.{Contains-united, united_rises}
 use Rattle.gf_components.specs.Components.{ComponentState, ComponentsState, both, merged_to, merged, alone, whole, touches, touched, grown, stays, with_free, connected, after}
-use Rattle.gf_components.specs.Separate.{Apart, IsComponent, AreComponents, ComesTo}
+use Rattle.gf_components.specs.Separate.{Apart, IsComponent, AreComponents, IsNewWith}
 use Rattle.gf_components.proofs.ProductLemmas.{table_alone}
 use Rattle.gf_components.proofs.CountLemmas.{kept_merged, kept_grown}
 
@@ -127,7 +127,7 @@ module _ (c : ℕ → ℕ → Bool) where
 
     -- ---- one more number
 
-    module _ (t : ComponentsState) (m : AreComponents c t) (x : ℕ) (d : List ℕ) (k : ComesTo c t x d) where
+    module _ (t : ComponentsState) (m : AreComponents c t) (x : ℕ) (d : List ℕ) (k : IsNewWith c t x d) where
       free_in : (a : ℕ) → Contains t.free a → Contains (whole t).all a
       free_in a h = (all_of_fold (alone t.free) t.parts a).1 (inl h)
 
@@ -355,7 +355,7 @@ module _ (c : ℕ → ℕ → Bool) where
       )
 
     -- THE STEP: components stay such, and have x too
-    pub components_after : (t : ComponentsState) → AreComponents c t → (x : ℕ) (d : List ℕ) → ComesTo c t x d →
+    pub components_after : (t : ComponentsState) → AreComponents c t → (x : ℕ) (d : List ℕ) → IsNewWith c t x d →
         AreComponents c (after d x t) × ((a : ℕ) → Contains (whole (after d x t)).all a ↔ (Contains (whole t).all a ⊎ (a ≡ x)))
     components_after t m x [] k = (keeps_free t m x [] k (λ a h. not_Contains-nil a h), free_has t m x [] k)
     components_after t m x (b ∷ d) k =

@@ -14,7 +14,7 @@ use Rattle.gf_maximal.specs.Growing.{meets, misses, without, joined, maximal, un
 use Rattle.gf_maximal.specs.Tables.{IsRising, IsTable}
 use Rattle.gf_maximal.proofs.GrowingLemmas.{Comes, table_first, table_next}
 use Rattle.gf_maximal.proofs.LargestLemmas.{IsConflict}
-use Rattle.gf_components.specs.Separate.{Apart, IsKept}
+use Rattle.gf_components.specs.Separate.{Apart, AreSetsKept}
 use Rattle.gf_components.specs.Components.{most_sets, kept, products, kept_products, times, grown_sets}
 use Rattle.gf_components.proofs.ProductLemmas.{table_product}
 
@@ -133,7 +133,7 @@ module _ (c : ℕ → ℕ → Bool) (s : IsConflict c) where
 
   -- ---- what is kept
 
-  pub kept_is : (us : List ℕ) (gs : List (List ℕ)) → IsTable c us gs → IsKept c us (kept gs)
+  pub kept_is : (us : List ℕ) (gs : List (List ℕ)) → IsTable c us gs → AreSetsKept c us (kept gs)
   kept_is us gs t = elim (cases_Bool (nat_le (length gs) most_sets)) [
     | inl y ↦ rw (cond-true (nat_le (length gs) most_sets) (Some gs) None y) (t, leb-true (length gs) most_sets y)
     | inr n ↦ rw (cond-false (nat_le (length gs) most_sets) (Some gs) None n) (λ ks v. let e = tables_long us gs ks t v in let l = leb-false (length gs) most_sets n in omega (arith, e, l))
@@ -142,7 +142,7 @@ module _ (c : ℕ → ℕ → Bool) (s : IsConflict c) where
   more_times : (m n k : ℕ) → m < n → 1 ≤ k → m < n * k
   more_times m n k l o = let e : n * 1 ≤ n * k = mul-le-mul_left n o in let d = mul-one n in omega (arith, e, d, l)
 
-  kept_products_is : (us vs : List ℕ) (gs ks : List (List ℕ)) → Apart c us vs → IsTable c us gs → IsTable c vs ks → IsKept c (united us vs) (kept_products gs ks)
+  kept_products_is : (us vs : List ℕ) (gs ks : List (List ℕ)) → Apart c us vs → IsTable c us gs → IsTable c vs ks → AreSetsKept c (united us vs) (kept_products gs ks)
   kept_products_is us vs gs ks w t v =
       let table = table_product c s us vs w gs ks t v in
       let len = length-products gs ks in
@@ -153,7 +153,7 @@ module _ (c : ℕ → ℕ → Bool) (s : IsConflict c) where
       ]
 
   -- if one has too many, so have both
-  many_first : (us vs : List ℕ) → IsRising us → IsRising vs → Apart c us vs → IsKept c us None → IsKept c (united us vs) None
+  many_first : (us vs : List ℕ) → IsRising us → IsRising vs → Apart c us vs → AreSetsKept c us None → AreSetsKept c (united us vs) None
   many_first us vs r q w x gs t =
       let a = a_table us r in let b = a_table vs q in
       let e = tables_long (united us vs) (products a.sets b.sets) gs (table_product c s us vs w a.sets b.sets a.table b.table) t in
@@ -161,7 +161,7 @@ module _ (c : ℕ → ℕ → Bool) (s : IsConflict c) where
       let k = more_times most_sets (length a.sets) (length b.sets) (x a.sets a.table) b.some in
       omega (arith, e, len, k)
 
-  many_second : (us vs : List ℕ) → IsRising us → IsRising vs → Apart c us vs → IsKept c vs None → IsKept c (united us vs) None
+  many_second : (us vs : List ℕ) → IsRising us → IsRising vs → Apart c us vs → AreSetsKept c vs None → AreSetsKept c (united us vs) None
   many_second us vs r q w x gs t =
       let a = a_table us r in let b = a_table vs q in
       let e = tables_long (united us vs) (products a.sets b.sets) gs (table_product c s us vs w a.sets b.sets a.table b.table) t in
@@ -170,13 +170,13 @@ module _ (c : ℕ → ℕ → Bool) (s : IsConflict c) where
       let f = mul_comm (length a.sets) (length b.sets) in
       omega (arith, e, len, k, f)
 
-  pub kept_merged : (us vs : List ℕ) → IsRising us → IsRising vs → Apart c us vs → (p q : Option (List (List ℕ))) → IsKept c us p → IsKept c vs q → IsKept c (united us vs) (times p q)
+  pub kept_merged : (us vs : List ℕ) → IsRising us → IsRising vs → Apart c us vs → (p q : Option (List (List ℕ))) → AreSetsKept c us p → AreSetsKept c vs q → AreSetsKept c (united us vs) (times p q)
   kept_merged us vs r q w (Some gs) (Some ks) x y = kept_products_is us vs gs ks w x.0 y.0
   kept_merged us vs r q w None (Some ks) x y = many_first us vs r q w x
   kept_merged us vs r q w None None x y = many_first us vs r q w x
   kept_merged us vs r q w (Some gs) None x y = many_second us vs r q w y
 
-  pub kept_grown : (us : List ℕ) (x : ℕ) (d all : List ℕ) → Comes c us x d all → (p : Option (List (List ℕ))) → IsKept c us p → IsKept c all (grown_sets d x p)
+  pub kept_grown : (us : List ℕ) (x : ℕ) (d all : List ℕ) → Comes c us x d all → (p : Option (List (List ℕ))) → AreSetsKept c us p → AreSetsKept c all (grown_sets d x p)
   kept_grown us x d all m (Some gs) y = kept_is all (next d x gs) (table_next c s us x d all m gs y.0)
   kept_grown us x d all m None y = λ gs t.
       let a = a_table us m.rising in

@@ -13,14 +13,14 @@ module _ (c : ℕ → ℕ → Bool) where
   Apart us vs = (a b : ℕ) → Contains us a → Contains vs b → (a ≢ b) × (c a b ≡ false)
 
   -- what is kept of the numbers us: their largest sets, or that they are too many
-  abbrev pub IsKept : List ℕ → Option (List (List ℕ)) → Type 0
-  IsKept us (Some gs) = IsTable c us gs × (length gs ≤ most_sets)
-  IsKept us None = (gs : List (List ℕ)) → IsTable c us gs → most_sets < length gs
+  abbrev pub AreSetsKept : List ℕ → Option (List (List ℕ)) → Type 0
+  AreSetsKept us (Some gs) = IsTable c us gs × (length gs ≤ most_sets)
+  AreSetsKept us None = (gs : List (List ℕ)) → IsTable c us gs → most_sets < length gs
 
   -- a component keeps its sets
   pub record IsComponent (p : ComponentState) : Type 0 where
     pub rises : IsRising p.all
-    pub sets : IsKept p.all p.sets
+    pub sets : AreSetsKept p.all p.sets
 
   -- no conflict stands outside of one component
   pub record AreComponents (s : ComponentsState) : Type 0 where
@@ -31,6 +31,6 @@ module _ (c : ℕ → ℕ → Bool) where
     pub apart : Pairs (λ (p q : ComponentState). Apart p.all q.all) s.parts
 
   -- x is new to s, and d are those of its numbers that conflict with x
-  pub record ComesTo (s : ComponentsState) (x : ℕ) (d : List ℕ) : Type 0 where
+  pub record IsNewWith (s : ComponentsState) (x : ℕ) (d : List ℕ) : Type 0 where
     pub fresh : ¬ (Contains (whole s).all x)
     pub rivals : (a : ℕ) → Contains d a ↔ (Contains (whole s).all a × (c x a ≡ true))

@@ -16,19 +16,19 @@ use Rattle.gf_edit.specs.declared.numbered.Numbered.{Numbered}
 use Rattle.gf_edit.specs.declared.reading.ReadLines.{ReadLines}
 use Rattle.gf_edit.specs.Making.{HasRefusal, Makes}
 use Rattle.gf_edit.specs.MakingSteps.{HasPassed, RefusesMaking}
-use Rattle.gf_edit.specs.EditedText.{AreEntriesOf, IsBehind, entry_at, ops_in}
+use Rattle.gf_edit.specs.EditedText.{AreEntriesOf, AreDelivered, entry_at, ops_in}
 use Rattle.gf_edit.specs.EditRun.{Edits, HasBlocking, RefusesEdit, RefusesEditRun}
-use Rattle.gf_edit.specs.EntrySteps.{HasRead, HoldsBlocking, IsUnblocked, RefusesWaiting}
+use Rattle.gf_edit.specs.EntrySteps.{HasReadEntries, HoldsBlocking, IsUnblocked, RefusesWaiting}
 use Rattle.gf_edit.specs.Waiting.{is_blocking}
 use Rattle.gf_edit.proofs.BlockingLemmas.{first_blocks, none_blocks}
 use Rattle.gf_edit.proofs.CleanLemmas.{op_clean}
 use Rattle.gf_edit.proofs.WrittenLemmas.{op_shown, written_from}
 
-module _ (s : ℕ) (bytes : List ℕ) (r : ReadLines) (read : HasRead s bytes [] r) (held : AreHeld r.site.held) where
+module _ (s : ℕ) (bytes : List ℕ) (r : ReadLines) (read : HasReadEntries s bytes [] r) (held : AreHeld r.site.held) where
   all_lines : AreEntriesOf s (numbered_lines bytes) read.entries
   all_lines = ap (map (entry_at s)) (read.whole ∙ append-nil read.before) ∙ read.lines
 
-  behind : IsUnblocked r.site → IsBehind s read.entries r.site.ops
+  behind : IsUnblocked r.site → AreDelivered s read.entries r.site.ops
   behind none = record {
     delivers = delivers (ops_in read.entries) r.site read.taken read.none;
     accepted = read.taken.accepted;
@@ -124,11 +124,11 @@ run_refuses s left items (Ok x) is f = tt
 -- ---- both answers of making
 
 pub edited_ok : (r : ReadLines) → AreHeld r.site.held → IsUnblocked r.site → (y : SiteState) (m : Result Edited EditError) →
-    IfOk m (HasPassed r.site.number r.site.ops r.commands.items y) → IfOk m (λ e. (s : ℕ) (bytes : List ℕ) → HasRead s bytes [] r → Edits s bytes e.text.items e.made)
+    IfOk m (HasPassed r.site.number r.site.ops r.commands.items y) → IfOk m (λ e. (s : ℕ) (bytes : List ℕ) → HasReadEntries s bytes [] r → Edits s bytes e.text.items e.made)
 edited_ok r held none y (Ok e) p = λ s bytes read. edited s bytes r read held none y e p
 edited_ok r held none y (Err e) p = tt
 
 pub refused_err : {X : Type 0} (r : ReadLines) → AreHeld r.site.held → IsUnblocked r.site → (m : Result X EditError) →
-    IfErr m (RefusesMaking r.site.number r.site.ops r.commands.items) → IfErr m (λ e. (s : ℕ) (bytes : List ℕ) → HasRead s bytes [] r → RefusesEdit s bytes e)
+    IfErr m (RefusesMaking r.site.number r.site.ops r.commands.items) → IfErr m (λ e. (s : ℕ) (bytes : List ℕ) → HasReadEntries s bytes [] r → RefusesEdit s bytes e)
 refused_err r held none (Ok x) f = tt
 refused_err r held none (Err e) f = λ s bytes read. refused s bytes r read held none e f

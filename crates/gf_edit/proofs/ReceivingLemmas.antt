@@ -26,8 +26,8 @@ use Rattle.gf_edit.specs.declared.entries.Entry.TheVariants as entry
 use Rattle.gf_edit.specs.declared.reading.ReadLines.{ReadLines}
 use Rattle.gf_edit.specs.Entries.{entry_denoted}
 use Rattle.gf_edit.specs.EditedText.{AreEntriesOf, command_in, commands_in, denotes_entry, entry_at, op_in, ops_in}
-use Rattle.gf_edit.specs.EditFaults.{DropsAt, HasLineFault, IsAtLine, IsFaultOf, RefusesReading}
-use Rattle.gf_edit.specs.EntrySteps.{Gains, HasRead, RefusesEntry, RefusesGain, TakesEntry, line_fault, memory, not_taken}
+use Rattle.gf_edit.specs.EditFaults.{DropsAt, HasLineFault, IsAtLine, IsEntryFault, RefusesEntries}
+use Rattle.gf_edit.specs.EntrySteps.{GainsEntry, HasReadEntries, RefusesEntry, RefusesGain, TakesEntry, line_fault, memory, not_taken}
 
 -- ---- one line
 
@@ -43,7 +43,7 @@ entry_read s bytes r a (inr e) f = sym e ∙ f
 -- ---- all lines
 
 -- before the first line nothing was taken
-pub HasRead-none : (s : ℕ) (bytes : List ℕ) (left : List (ℕ × List ℕ)) (x : ReadLines) → left ≡ numbered_lines bytes → x.site ≡ new_site s → x.commands.items ≡ [] → HasRead s bytes left x
+pub HasRead-none : (s : ℕ) (bytes : List ℕ) (left : List (ℕ × List ℕ)) (x : ReadLines) → left ≡ numbered_lines bytes → x.site ≡ new_site s → x.commands.items ≡ [] → HasReadEntries s bytes left x
 HasRead-none s bytes left x all site commands = record {
   before = [];
   whole = sym all;
@@ -67,7 +67,7 @@ ops_more entries n e = flat_map-append (λ (x : ℕ × Entry). op_in x.1) entrie
 commands_more : (entries : List (ℕ × Entry)) (n : ℕ) (e : Entry) → commands_in (entries ++ (n, e) ∷ []) ≡ commands_in entries ++ command_in n e
 commands_more entries n e = flat_map-append (λ (x : ℕ × Entry). command_in x.0 x.1) entries ((n, e) ∷ []) ∙ ap (λ l. commands_in entries ++ l) (append-nil (command_in n e))
 
-module _ (s : ℕ) (bytes : List ℕ) (n : ℕ) (text : List ℕ) (left : List (ℕ × List ℕ)) (x : ReadLines) (read : HasRead s bytes ((n, text) ∷ left) x) where
+module _ (s : ℕ) (bytes : List ℕ) (n : ℕ) (text : List ℕ) (left : List (ℕ × List ℕ)) (x : ReadLines) (read : HasReadEntries s bytes ((n, text) ∷ left) x) where
   lines_more : (e : Entry) → entry_denoted s text ≡ Ok e → AreEntriesOf s (read.before ++ (n, text) ∷ []) (read.entries ++ (n, e) ∷ [])
   lines_more e denotes =
       map-append (entry_at s) read.before ((n, text) ∷ [])
@@ -79,7 +79,7 @@ module _ (s : ℕ) (bytes : List ℕ) (n : ℕ) (text : List ℕ) (left : List (
   whole_more = read.whole ∙ sym (append_assoc read.before ((n, text) ∷ []) left)
 
   -- one line more is taken
-  gained : (y : ReadLines) (e : Entry) → entry_denoted s text ≡ Ok e → Gains n e x y → HasRead s bytes left y
+  gained : (y : ReadLines) (e : Entry) → entry_denoted s text ≡ Ok e → GainsEntry n e x y → HasReadEntries s bytes left y
   gained y (entry.Operation a) denotes g = record {
     before = read.before ++ (n, text) ∷ [];
     whole = whole_more;
@@ -102,7 +102,7 @@ module _ (s : ℕ) (bytes : List ℕ) (n : ℕ) (text : List ℕ) (left : List (
     commands = g.1 ∙ (ap (λ l. l ++ record { line = n; command = c } ∷ []) read.commands ∙ sym (commands_more read.entries n (entry.Command c)));
   }
 
-  pub HasRead-line : (y : ReadLines) → TakesEntry s n text x y → HasRead s bytes left y
+  pub HasRead-line : (y : ReadLines) → TakesEntry s n text x y → HasReadEntries s bytes left y
   HasRead-line y takes = gained y takes.taken takes.denotes takes.gains
 
   abbrev at_line : IsAtLine s bytes n text
@@ -116,7 +116,7 @@ module _ (s : ℕ) (bytes : List ℕ) (n : ℕ) (text : List ℕ) (left : List (
     delivers = delivers (ops_in read.entries) x.site read.taken read.none;
   }
 
-  fault_at : (why : LineCause) → IsFaultOf s (ops_in read.entries) text why → HasLineFault s bytes n why
+  fault_at : (why : LineCause) → IsEntryFault s (ops_in read.entries) text why → HasLineFault s bytes n why
   fault_at why f = record { line = text; at = at_line; fault = f }
 
   dropped : (a : Op) → entry_denoted s text ≡ Ok (entry.Operation a) → (id : OpId) (fault : OpFault) → DropsBehind a x.site id fault → DropsAt s bytes id fault
@@ -141,7 +141,7 @@ module _ (s : ℕ) (bytes : List ℕ) (n : ℕ) (text : List ℕ) (left : List (
         refused = b.drops.refused;
       }
 
-  refused_op : (a : Op) → entry_denoted s text ≡ Ok (entry.Operation a) → (e : ReadingError) → RefusesOp n a x.site e → RefusesReading s bytes e
+  refused_op : (a : Op) → entry_denoted s text ≡ Ok (entry.Operation a) → (e : ReadingError) → RefusesOp n a x.site e → RefusesEntries s bytes e
   refused_op a denotes (reading.Line m cause.Clash) r = subst (λ k. HasLineFault s bytes k cause.Clash) (sym r.0) (fault_at cause.Clash (record { op = a; denotes = denotes; other = other_taken (ops_in read.entries) x.site read.taken a r.1 }))
   refused_op a denotes (reading.Line m cause.Json) r = absurd r
   refused_op a denotes (reading.Line m cause.Field) r = absurd r
@@ -149,18 +149,18 @@ module _ (s : ℕ) (bytes : List ℕ) (n : ℕ) (text : List ℕ) (left : List (
   refused_op a denotes (reading.Dropped id fault) r = dropped a denotes id fault r
   refused_op a denotes reading.OutOfMemory r = tt
 
-  refused_gain : (t : Entry) → entry_denoted s text ≡ Ok t → (e : ReadingError) → RefusesGain n t x e → RefusesReading s bytes e
+  refused_gain : (t : Entry) → entry_denoted s text ≡ Ok t → (e : ReadingError) → RefusesGain n t x e → RefusesEntries s bytes e
   refused_gain (entry.Operation a) denotes e r = refused_op a denotes e r
-  refused_gain (entry.Command c) denotes e r = subst (RefusesReading s bytes) (sym r) tt
+  refused_gain (entry.Command c) denotes e r = subst (RefusesEntries s bytes) (sym r) tt
 
-  refused_line : (fault : LineError) → entry_denoted s text ≡ Err fault → RefusesReading s bytes (of_line n fault)
+  refused_line : (fault : LineError) → entry_denoted s text ≡ Err fault → RefusesEntries s bytes (of_line n fault)
   refused_line line.Json f = fault_at cause.Json f
   refused_line line.Field f = fault_at cause.Field f
   refused_line line.Range f = fault_at cause.Range f
   refused_line line.OutOfMemory f = tt
 
   -- what a line is refused for, the text is
-  pub RefusesReading-line : (e : ReadingError) → RefusesEntry s n text x e → RefusesReading s bytes e
-  RefusesReading-line e (line_fault fault f is) = subst (RefusesReading s bytes) (sym is) (refused_line fault f)
+  pub RefusesReading-line : (e : ReadingError) → RefusesEntry s n text x e → RefusesEntries s bytes e
+  RefusesReading-line e (line_fault fault f is) = subst (RefusesEntries s bytes) (sym is) (refused_line fault f)
   RefusesReading-line e (not_taken r) = refused_gain r.refused r.denotes e r.gain
-  RefusesReading-line e (memory is) = subst (RefusesReading s bytes) (sym is) tt
+  RefusesReading-line e (memory is) = subst (RefusesEntries s bytes) (sym is) tt

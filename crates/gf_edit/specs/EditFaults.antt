@@ -38,18 +38,18 @@ pub record IsClashingLine (s : ℕ) (ops : List Op) (line : List ℕ) : Type 0 w
   pub other : HasOther ops op
 
 -- what is wrong with a line behind those of these operations
-abbrev pub IsFaultOf : ℕ → List Op → List ℕ → LineCause → Type 0
-IsFaultOf s ops text cause.Json = entry_denoted s text ≡ Err line.Json
-IsFaultOf s ops text cause.Field = entry_denoted s text ≡ Err line.Field
-IsFaultOf s ops text cause.Range = entry_denoted s text ≡ Err line.Range
-IsFaultOf s ops text cause.Clash = IsClashingLine s ops text
+abbrev pub IsEntryFault : ℕ → List Op → List ℕ → LineCause → Type 0
+IsEntryFault s ops text cause.Json = entry_denoted s text ≡ Err line.Json
+IsEntryFault s ops text cause.Field = entry_denoted s text ≡ Err line.Field
+IsEntryFault s ops text cause.Range = entry_denoted s text ≡ Err line.Range
+IsEntryFault s ops text cause.Clash = IsClashingLine s ops text
 
 -- line n is the first that denotes no entry, or another operation under an earlier id, for this
 -- cause
 pub record HasLineFault (s : ℕ) (bytes : List ℕ) (n : ℕ) (cause : LineCause) : Type 0 where
   pub line : List ℕ
   pub at : IsAtLine s bytes n line
-  pub fault : IsFaultOf s (ops_in at.entries) line cause
+  pub fault : IsEntryFault s (ops_in at.entries) line cause
 
 -- with some line, the operation under this id is ready behind a delivery of the operations so far
 -- that delivery is a valid history, to which the operation cannot be added, for this fault
@@ -70,7 +70,7 @@ pub record DropsAt (s : ℕ) (bytes : List ℕ) (id : OpId) (fault : OpFault) : 
   pub refused : IsRefused history op fault
 
 -- why the lines of the bytes were not read; want of memory may come with any
-abbrev pub RefusesReading : ℕ → List ℕ → ReadingError → Type 0
-RefusesReading s bytes (reading.Line n why) = HasLineFault s bytes n why
-RefusesReading s bytes (reading.Dropped id fault) = DropsAt s bytes id fault
-RefusesReading s bytes reading.OutOfMemory = ⊤
+abbrev pub RefusesEntries : ℕ → List ℕ → ReadingError → Type 0
+RefusesEntries s bytes (reading.Line n why) = HasLineFault s bytes n why
+RefusesEntries s bytes (reading.Dropped id fault) = DropsAt s bytes id fault
+RefusesEntries s bytes reading.OutOfMemory = ⊤

@@ -3,7 +3,7 @@ use Rattle.std.specs.Prelude.{◌≡◌, ◌≢◌, ℕ, List, Contains, Option}
 use Rattle.std.specs.Prelude.{Result, MatchResult, ⊤}
 use Rattle.std.specs.declared.cmp.Ordering.TheVariants.{Less}
 use Rattle.std.specs.Io.KnownBytes.{Appends}
-use Rattle.gf_streams.specs.Taken.{AppendsFront}
+use Rattle.gf_streams.specs.Taken.{AppendsPrefix}
 use Rattle.gf_streams.specs.TextLines.{numbered_lines}
 use Rattle.gf_ops.specs.declared.op.Op.{Op}
 use Rattle.gf_ops.specs.declared.op.OpId.{OpId}
@@ -20,7 +20,7 @@ use Rattle.gf_edit.specs.declared.edit_error.EditError.TheVariants as edit
 use Rattle.gf_edit.specs.declared.made.Made.{Made}
 use Rattle.gf_edit.specs.MadeOperations.{made_of}
 use Rattle.gf_edit.specs.Making.{HasRefusal, written_lines}
-use Rattle.gf_edit.specs.EditedText.{AreEntriesOf, Blocks, DenotesEdit, IsBehind}
+use Rattle.gf_edit.specs.EditedText.{AreEntriesOf, Blocks, DenotesEdit, AreDelivered}
 use Rattle.gf_edit.specs.EditedText.{commands_in, ops_in}
 use Rattle.gf_edit.specs.EditFaults.{DropsAt, HasLineFault}
 
@@ -41,11 +41,11 @@ pub record WritesEdit (s : ℕ) (bytes : List ℕ) (made : Option Made)
   pub written : Appends old new text
 
 -- known bytes grow from old to new by a front, which may be none or all, of these lines
-pub record WritesEditFront (s : ℕ) (bytes : List ℕ) (old new : Option (List ℕ)) : Type 0 where
+pub record WritesEditPrefix (s : ℕ) (bytes : List ℕ) (old new : Option (List ℕ)) : Type 0 where
   pub text : List ℕ
   pub made : Option Made
   pub edits : Edits s bytes text made
-  pub written : AppendsFront old new text
+  pub written : AppendsPrefix old new text
 
 -- of these operations, op blocks site s behind h, and none with a lesser id does
 pub record IsFirstBlocking (s : ℕ) (h ops : List Op) (op : Op) : Type 0 where
@@ -70,7 +70,7 @@ pub record HasRefusedCommand (s : ℕ) (bytes : List ℕ) (n : ℕ) (why : Cause
   pub entries : List (ℕ × Entry)
   pub lines : AreEntriesOf s (numbered_lines bytes) entries
   pub history : List Op
-  pub behind : IsBehind s entries history
+  pub behind : AreDelivered s entries history
   pub refusal : HasRefusal s history (commands_in entries) n why
 
 -- why an edit of these bytes is refused; want of memory may come with any
@@ -93,11 +93,11 @@ RefusesEditRun s bytes e = RefusesEdit s bytes e
 -- failures from was to is
 module _ (most : ℕ) (old new : Option (List ℕ)) (was is : ℕ) where
   -- what was read where an editing run is refused with this error
-  abbrev pub ReadsBefore : EditError → Type 0
-  ReadsBefore (edit.Run e) = ReadsUntil most old new was is e
-  ReadsBefore (edit.Waits i j) = ReadsAll most old new was is
-  ReadsBefore (edit.Refused n why) = ReadsAll most old new was is
+  abbrev pub ReadsBeforeEdit : EditError → Type 0
+  ReadsBeforeEdit (edit.Run e) = ReadsUntil most old new was is e
+  ReadsBeforeEdit (edit.Waits i j) = ReadsAll most old new was is
+  ReadsBeforeEdit (edit.Refused n why) = ReadsAll most old new was is
 
   -- what was read where an editing run gives this answer
   abbrev pub ReadsForEdit : {T : Type 0} → Result T EditError → Type 0
-  ReadsForEdit result = MatchResult result (λ _. ReadsAll most old new was is) ReadsBefore
+  ReadsForEdit result = MatchResult result (λ _. ReadsAll most old new was is) ReadsBeforeEdit

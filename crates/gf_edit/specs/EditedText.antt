@@ -51,7 +51,7 @@ pub record Blocks (s : ℕ) (h : List Op) (a : Op) : Type 0 where
 
 -- the operations of the entries deliver this history, each accepted in its turn, and none blocks
 -- site s
-pub record IsBehind (s : ℕ) (entries : List (ℕ × Entry)) (history : List Op) : Type 0 where
+pub record AreDelivered (s : ℕ) (entries : List (ℕ × Entry)) (history : List Op) : Type 0 where
   pub delivers : Delivers (ops_in entries) history
   pub accepted : AreAccepted history
   pub free : (a : Op) → Contains (ops_in entries) a → ¬ (Blocks s history a)
@@ -62,7 +62,7 @@ pub record DenotesEdit (s : ℕ) (bytes : List ℕ) (new : List Op) : Type 0 whe
   pub entries : List (ℕ × Entry)
   pub lines : AreEntriesOf s (numbered_lines bytes) entries
   pub history : List Op
-  pub behind : IsBehind s entries history
+  pub behind : AreDelivered s entries history
   pub makes : Makes s history (commands_in entries) new
 
 -- the lines of these bytes denote what the edit read and what it made, in whatever order and

@@ -22,10 +22,10 @@ use Rattle.gf_edit.specs.EditedText.{AreEntriesOf, commands_in, ops_in}
 use Rattle.gf_edit.specs.Waiting.{is_blocking}
 
 -- what was read gains the entry of line n
-abbrev pub Gains : ℕ → Entry → ReadLines → ReadLines → Type 0
-Gains n (entry.Operation a) old new =
+abbrev pub GainsEntry : ℕ → Entry → ReadLines → ReadLines → Type 0
+GainsEntry n (entry.Operation a) old new =
     TakesOp a old.site new.site × (new.commands.items ≡ old.commands.items)
-Gains n (entry.Command c) old new =
+GainsEntry n (entry.Command c) old new =
     (new.site ≡ old.site)
     × (new.commands.items ≡ old.commands.items ++ record { line = n; command = c } ∷ [])
 
@@ -38,7 +38,7 @@ RefusesGain n (entry.Command c) old e = e ≡ reading.OutOfMemory
 pub record TakesEntry (s n : ℕ) (bytes : List ℕ) (old new : ReadLines) : Type 0 where
   pub taken : Entry
   pub denotes : entry_denoted s bytes ≡ Ok taken
-  pub gains : Gains n taken old new
+  pub gains : GainsEntry n taken old new
 
 -- the line denotes an entry, which is refused
 pub record RefusesTaking (s n : ℕ) (bytes : List ℕ) (old : ReadLines) (e : ReadingError)
@@ -56,7 +56,7 @@ pub data RefusesEntry (s n : ℕ) (bytes : List ℕ) (old : ReadLines) (e : Read
   memory : e ≡ reading.OutOfMemory → RefusesEntry s n bytes old e
 
 -- the lines before those that are left denote entries that were taken, and no held one is ready
-pub record HasRead (s : ℕ) (bytes : List ℕ) (left : List (ℕ × List ℕ)) (x : ReadLines)
+pub record HasReadEntries (s : ℕ) (bytes : List ℕ) (left : List (ℕ × List ℕ)) (x : ReadLines)
     : Type 0 where
   pub before : List (ℕ × List ℕ)
   pub whole : numbered_lines bytes ≡ before ++ left

@@ -3,7 +3,7 @@
 ghost use Rattle.std.specs.Prelude.{ℕ, List, [], IfOk, IfErr};
 ghost use Rattle.gf_ops.specs.OperationOrder.{IsSite};
 ghost use Rattle.gf_edit.specs.EditRun.{Edits, RefusesEdit};
-ghost use Rattle.gf_edit.specs.EntrySteps.{HasRead};
+ghost use Rattle.gf_edit.specs.EntrySteps.{HasReadEntries};
 
 use crate::EditError;
 use crate::edited::Edited;
@@ -25,9 +25,9 @@ pub(crate) fn edit(alloc: Global, bytes: Vec<u8>, editor: u8) -> Result<Edited, 
 /// The lines of the operations that these commands make, where nothing that was read blocks the
 /// site.
 fn make(alloc: Global, read: ReadLines) -> Result<Edited, EditError>
-    ensures ok { IfOk result (λ edited. (s : ℕ) (bytes : List ℕ) → HasRead s bytes [] read
+    ensures ok { IfOk result (λ edited. (s : ℕ) (bytes : List ℕ) → HasReadEntries s bytes [] read
         → Edits s bytes edited.text.items edited.made) }
-    ensures err { IfErr result (λ e. (s : ℕ) (bytes : List ℕ) → HasRead s bytes [] read
+    ensures err { IfErr result (λ e. (s : ℕ) (bytes : List ℕ) → HasReadEntries s bytes [] read
         → RefusesEdit s bytes e) }
 {
     let ReadLines { mut site, commands } = read;

@@ -3,8 +3,8 @@
 ghost use Rattle.std.specs.Prelude.{[], IfOk, IfErr, OnOk};
 ghost use Rattle.gf_ops.specs.OperationOrder.{IsSite};
 ghost use Rattle.gf_edit.specs.Entries.{IsEntryInRange};
-ghost use Rattle.gf_edit.specs.EditFaults.{RefusesReading};
-ghost use Rattle.gf_edit.specs.EntrySteps.{Gains, HasRead, RefusesEntry, RefusesGain, TakesEntry};
+ghost use Rattle.gf_edit.specs.EditFaults.{RefusesEntries};
+ghost use Rattle.gf_edit.specs.EntrySteps.{GainsEntry, HasReadEntries, RefusesEntry, RefusesGain, TakesEntry};
 
 use crate::entries::read_entry;
 use crate::{Entry, Numbered};
@@ -27,8 +27,8 @@ pub(crate) fn read_lines(
     editor: u8,
 ) -> Result<ReadLines, ReadingError>
     requires { IsSite editor }
-    ensures ok { IfOk result (HasRead editor text.items []) }
-    ensures err { IfErr result (RefusesReading editor text.items) }
+    ensures ok { IfOk result (HasReadEntries editor text.items []) }
+    ensures err { IfErr result (RefusesEntries editor text.items) }
 {
     let mut read = ReadLines {
         site: Site::new(alloc, editor),
@@ -63,7 +63,7 @@ fn take_line(
 /// Takes what was read in a line.
 fn take(read: &mut ReadLines, number: u64, entry: Entry) -> Result<(), ReadingError>
     requires { IsEntryInRange entry }
-    ensures ok { OnOk result (Gains number entry read.old read.new) }
+    ensures ok { OnOk result (GainsEntry number entry read.old read.new) }
     ensures err { IfErr result (RefusesGain number entry read.old) }
 {
     match entry {

@@ -7,7 +7,7 @@ ghost use Rattle.gf_streams.specs.Reads.{ConsumesAtMost};
 ghost use Rattle.gf_ops.specs.OperationOrder.{IsSite};
 ghost use Rattle.gf_studio.specs.declared.studio_error.StudioError.{StudioError};
 ghost use Rattle.gf_edit.specs.EditRun.{Edits, ReadsForEdit, RefusesEditRun, WritesEdit};
-ghost use Rattle.gf_edit.specs.EditRun.{WritesEditFront};
+ghost use Rattle.gf_edit.specs.EditRun.{WritesEditPrefix};
 
 use crate::edited::Edited;
 use crate::editing::edit;
@@ -40,9 +40,9 @@ pub fn edit_run<R: Source, W: Sink>(
         RefusesEditRun editor bytes e)) }
 
     // A front of the text is written at most, and that only where the sink failed.
-    ensures front { result ≡ Err (EditError.Run StudioError.WriteFailed)
+    ensures prefix { result ≡ Err (EditError.Run StudioError.WriteFailed)
         → IfSome (R.left source.old) (λ bytes.
-        WritesEditFront editor bytes (W.taken sink.old) (W.taken sink.new)) }
+        WritesEditPrefix editor bytes (W.taken sink.old) (W.taken sink.new)) }
     ensures failed { result ≡ Err (EditError.Run StudioError.WriteFailed) →
         Rises (W.failures sink.old) (W.failures sink.new) }
     ensures unwritten { IfErr result (λ e. (sink.new ≡ sink.old)

@@ -16,7 +16,7 @@ pub fn every_text_reads_as_one_drawing_or_fails_once()
         → (f ≡ g) × (m ≡ n) }
     ensures not_both { (text : List ℕ) (d : Drawn) (f : FigFault) (n : ℕ) → Reads text d
         → ¬ (Fails text f n) }
-    ensures front { (text : List ℕ) (f : FigFault) (n : ℕ) → Fails text f n
+    ensures prefix { (text : List ℕ) (f : FigFault) (n : ℕ) → Fails text f n
         → n ≡ 0 ↔ IsTrue (is_of_front f) }
     ensures memory { (text : List ℕ) (f : FigFault) (n : ℕ) → Fails text f n
         → f ≢ fault.OutOfMemory }

@@ -2,7 +2,7 @@
 
 ghost use Rattle.std.specs.Prelude.{◌≡◌, ◌≤◌, true, length, All, Some, IfOk, IsTrue};
 ghost use Rattle.gf_shape.specs.Reach.{is_within_reach};
-ghost use Rattle.gf_fig_tokens.specs.Fields.{Steps, points};
+ghost use Rattle.gf_fig_tokens.specs.Fields.{StepsAs, points};
 ghost use Rattle.gf_fig_read.specs.Outlines.{same_point, is_closed, count, chain, disc, oval};
 ghost use Rattle.gf_fig_read.specs.Outlines.{ellipse};
 ghost use Rattle.gf_fig_read.specs.Stepping.{Recalls};
@@ -14,7 +14,7 @@ use std::alloc::Global;
 /// The fields of an ellipse of this sub type behind its style.
 #[tactic(auto, unfolding(crate::specs::Outlines::ellipse))]
 pub(crate) fn ellipse(tokens: &mut Tokens<'_>, sub_type: u32) -> Result<Outline, FigFault>
-    ensures { Steps result tokens.new (ellipse sub_type tokens.old) }
+    ensures { StepsAs result tokens.new (ellipse sub_type tokens.old) }
 {
     if sub_type <= 2 {
         oval(tokens)
@@ -26,7 +26,7 @@ pub(crate) fn ellipse(tokens: &mut Tokens<'_>, sub_type: u32) -> Result<Outline,
 /// The fields of an ellipse with two radii.
 #[tactic(auto, unfolding(crate::specs::Outlines::oval))]
 fn oval(tokens: &mut Tokens<'_>) -> Result<Outline, FigFault>
-    ensures { Steps result tokens.new (oval tokens.old) }
+    ensures { StepsAs result tokens.new (oval tokens.old) }
 {
     tokens.whole()?;
     tokens.no_angle()?;
@@ -43,7 +43,7 @@ fn oval(tokens: &mut Tokens<'_>) -> Result<Outline, FigFault>
 /// The fields of a circle.
 #[tactic(auto, unfolding(crate::specs::Outlines::disc))]
 fn disc(tokens: &mut Tokens<'_>) -> Result<Outline, FigFault>
-    ensures { Steps result tokens.new (disc tokens.old) }
+    ensures { StepsAs result tokens.new (disc tokens.old) }
 {
     tokens.whole()?;
     tokens.decimal()?;
@@ -60,7 +60,7 @@ fn disc(tokens: &mut Tokens<'_>) -> Result<Outline, FigFault>
 /// The fields of a polyline from its join style on: how many points follow.
 #[tactic(auto, unfolding(crate::specs::Outlines::count))]
 fn count(tokens: &mut Tokens<'_>, boxed: bool) -> Result<u32, FigFault>
-    ensures read { Steps result tokens.new (count boxed tokens.old) }
+    ensures read { StepsAs result tokens.new (count boxed tokens.old) }
     ensures least { IfOk result (λ n. 4 ≤ n) }
     ensures most { IfOk result (λ n. n ≤ 65536) }
     ensures five { IfOk result (λ n. boxed ≡ true → n ≡ 5) }

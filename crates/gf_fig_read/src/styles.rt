@@ -3,7 +3,7 @@
 ghost use Rattle.std.specs.Prelude.{◌≡◌, ◌≤◌, IfOk, IsTrue, is_some};
 ghost use Rattle.gf_drawing.specs.Colours.{rgb_of};
 ghost use Rattle.gf_fig_read.specs.Styles.{is_known, known_colour, filling, style};
-ghost use Rattle.gf_fig_tokens.specs.Fields.{Steps};
+ghost use Rattle.gf_fig_tokens.specs.Fields.{StepsAs};
 
 use gf_drawing::Drawing;
 use gf_fig_tokens::{FigFault, Tokens};
@@ -26,7 +26,7 @@ fn is_known(drawing: &Drawing<Outline>, n: i64) -> bool
 
 #[tactic(auto, using(std::proofs::lemmas::Int::ints), unfolding(crate::specs::Styles::known_colour))]
 fn known_colour(tokens: &mut Tokens<'_>, drawing: &Drawing<Outline>) -> Result<u16, FigFault>
-    ensures read { Steps result tokens.new (known_colour drawing.now.table tokens.old) }
+    ensures read { StepsAs result tokens.new (known_colour drawing.now.table tokens.old) }
     ensures known { IfOk result (λ n. IsTrue (is_some (rgb_of drawing.now.table n))) }
 {
     let n = tokens.whole()?;
@@ -39,7 +39,7 @@ fn known_colour(tokens: &mut Tokens<'_>, drawing: &Drawing<Outline>) -> Result<u
 
 #[tactic(auto, unfolding(crate::specs::Styles::filling))]
 fn filling(tokens: &mut Tokens<'_>, drawing: &Drawing<Outline>) -> Result<u16, FigFault>
-    ensures read { Steps result tokens.new (filling drawing.now.table tokens.old) }
+    ensures read { StepsAs result tokens.new (filling drawing.now.table tokens.old) }
     ensures known { IfOk result (λ n. IsTrue (is_some (rgb_of drawing.now.table n))) }
 {
     tokens.whole()?;
@@ -55,7 +55,7 @@ pub(crate) fn style_of(
     most: u32,
     drawing: &Drawing<Outline>,
 ) -> Result<Style, FigFault>
-    ensures read { Steps result tokens.new (style least most drawing.now.table tokens.old) }
+    ensures read { StepsAs result tokens.new (style least most drawing.now.table tokens.old) }
     ensures known { IfOk result (λ s. IsTrue (is_some (rgb_of drawing.now.table s.colour))) }
     ensures depth { IfOk result (λ s. s.depth ≤ 999) }
 {

@@ -16,9 +16,9 @@ abbrev pub Read : Type 0 → Type 0
 Read A = Result (A × List Token) FigFault
 
 -- a call's result and the tokens that it left are those that reading gives
-abbrev pub Steps : {A : Type 0} → Result A FigFault → List Token → Read A → Type 0
-Steps (Ok a) left read = read ≡ Ok (a, left)
-Steps (Err f) left read = read ≡ Err f
+abbrev pub StepsAs : {A : Type 0} → Result A FigFault → List Token → Read A → Type 0
+StepsAs (Ok a) left read = read ≡ Ok (a, left)
+StepsAs (Err f) left read = read ≡ Err f
 
 -- what the tokens from here on begin with
 abbrev pub Reader : Type 0 → Type 0

@@ -9,6 +9,6 @@ abbrev pub after_blanks : List ℕ → List ℕ
 after_blanks line = drop (position_or_len (λ b. not (is_blank b)) line) line
 
 -- what is left is what the answer says
-abbrev pub Takes : Result ⊤ FigFault → List Token → Result (List Token) FigFault → Type 0
-Takes (Ok u) left answer = answer ≡ Ok left
-Takes (Err f) left answer = answer ≡ Err f
+abbrev pub LeavesTokens : Result ⊤ FigFault → List Token → Result (List Token) FigFault → Type 0
+LeavesTokens (Ok u) left answer = answer ≡ Ok left
+LeavesTokens (Err f) left answer = answer ≡ Err f

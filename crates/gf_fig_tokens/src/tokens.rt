@@ -9,8 +9,8 @@ ghost use Rattle.gf_shape.specs.Reach.{is_reached, is_within_reach};
 ghost use Rattle.gf_fig_tokens.specs.Layout.{tokens, plain, lines, plain_lines, after_resolution};
 ghost use Rattle.gf_fig_tokens.specs.Layout.{object_tokens};
 ghost use Rattle.gf_fig_tokens.specs.Forms.{whole, decimal, angle, colour};
-ghost use Rattle.gf_fig_tokens.specs.Fields.{Steps, any, natural, no_angle, coordinate, point};
-ghost use Rattle.gf_fig_tokens.specs.Stepping.{Takes};
+ghost use Rattle.gf_fig_tokens.specs.Fields.{StepsAs, any, natural, no_angle, coordinate, point};
+ghost use Rattle.gf_fig_tokens.specs.Stepping.{LeavesTokens};
 
 use crate::layout::{cut_line, cut_plain_line, cut_word, is_version};
 use crate::{FigFault, forms};
@@ -65,7 +65,7 @@ impl<'a> Tokens<'a> {
 
     /// Takes the first two tokens, which are the resolution.
     fn take_resolution(&mut self) -> Result<(), FigFault>
-        ensures read { Takes result self.new (after_resolution self.old) }
+        ensures read { LeavesTokens result self.new (after_resolution self.old) }
         ensures few { OnOk result (length self.new + 2 ≤ length self.old) }
     {
         let first = self.next_token();
@@ -95,7 +95,7 @@ impl<'a> Tokens<'a> {
 
     /// A whole number of any value.
     pub fn whole(&mut self) -> Result<i64, FigFault>
-        ensures { Steps result self.new (any whole self.old) }
+        ensures { StepsAs result self.new (any whole self.old) }
     {
         match self.next_token() {
             None => Err(FigFault::Cut),
@@ -105,7 +105,7 @@ impl<'a> Tokens<'a> {
 
     /// A decimal of any value.
     pub fn decimal(&mut self) -> Result<(), FigFault>
-        ensures { Steps result self.new (any decimal self.old) }
+        ensures { StepsAs result self.new (any decimal self.old) }
     {
         match self.next_token() {
             None => Err(FigFault::Cut),
@@ -114,7 +114,7 @@ impl<'a> Tokens<'a> {
     }
 
     fn angle(&mut self) -> Result<bool, FigFault>
-        ensures { Steps result self.new (any angle self.old) }
+        ensures { StepsAs result self.new (any angle self.old) }
     {
         match self.next_token() {
             None => Err(FigFault::Cut),
@@ -125,7 +125,7 @@ impl<'a> Tokens<'a> {
     /// An angle of zero.
     #[tactic(auto, unfolding(crate::specs::Fields::no_angle))]
     pub fn no_angle(&mut self) -> Result<(), FigFault>
-        ensures { Steps result self.new (no_angle self.old) }
+        ensures { StepsAs result self.new (no_angle self.old) }
     {
         if self.angle()? {
             Ok(())
@@ -135,7 +135,7 @@ impl<'a> Tokens<'a> {
     }
 
     pub fn colour(&mut self) -> Result<Rgb, FigFault>
-        ensures { Steps result self.new (any colour self.old) }
+        ensures { StepsAs result self.new (any colour self.old) }
     {
         match self.next_token() {
             None => Err(FigFault::Cut),
@@ -146,7 +146,7 @@ impl<'a> Tokens<'a> {
     /// A whole number from `low` to `high`.
     #[tactic(auto, using(std::proofs::lemmas::Int::ints), unfolding(crate::specs::Fields::natural))]
     pub fn natural(&mut self, low: u32, high: u32, wrong: FigFault) -> Result<u32, FigFault>
-        ensures read { Steps result self.new (natural low high wrong self.old) }
+        ensures read { StepsAs result self.new (natural low high wrong self.old) }
         ensures within { IfOk result (λ n. (low ≤ n) × (n ≤ high)) }
     {
         let n = self.whole()?;
@@ -160,7 +160,7 @@ impl<'a> Tokens<'a> {
     /// A coordinate within reach.
     #[tactic(auto, using(std::proofs::lemmas::Int::ints), unfolding(gf_shape::specs::Reach::is_reached))]
     pub fn coordinate(&mut self) -> Result<i32, FigFault>
-        ensures read { Steps result self.new (coordinate self.old) }
+        ensures read { StepsAs result self.new (coordinate self.old) }
         ensures within { IfOk result (λ n. IsTrue (is_reached n)) }
     {
         let n = self.whole()?;
@@ -173,7 +173,7 @@ impl<'a> Tokens<'a> {
 
     #[tactic(auto, unfolding(crate::specs::Fields::point))]
     pub fn point(&mut self) -> Result<Point, FigFault>
-        ensures read { Steps result self.new (point self.old) }
+        ensures read { StepsAs result self.new (point self.old) }
         ensures within { IfOk result (λ p. IsTrue (is_within_reach p)) }
     {
         let x = self.coordinate()?;

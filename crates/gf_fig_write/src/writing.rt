@@ -3,7 +3,7 @@
 ghost use Rattle.std.specs.Prelude.{◌≡◌, IsTrue, OnOk, Err};
 ghost use Rattle.std.specs.Io.KnownBytes.{Appends};
 ghost use Rattle.gf_streams.specs.Counts.{Rises};
-ghost use Rattle.gf_streams.specs.Taken.{AppendsFront};
+ghost use Rattle.gf_streams.specs.Taken.{AppendsPrefix};
 ghost use Rattle.gf_drawing.specs.Outlined.{outlined};
 ghost use Rattle.gf_fig_read.specs.FigGrammar.{Reads};
 ghost use Rattle.gf_fig_write.specs.FigText.{fig_text};
@@ -28,8 +28,8 @@ pub fn write_fig<S: Shape, W: Sink>(
     ensures flushed { OnOk result (IsTrue (W.flushed sink.new)) }
     ensures unfailed { OnOk result (W.failures sink.new ≡ W.failures sink.old) }
     ensures memory { result ≡ Err WriteError.OutOfMemory → sink.new ≡ sink.old }
-    ensures front { result ≡ Err WriteError.WriteFailed
-        → AppendsFront (W.taken sink.old) (W.taken sink.new) (fig_text S.outline drawing.now) }
+    ensures prefix { result ≡ Err WriteError.WriteFailed
+        → AppendsPrefix (W.taken sink.old) (W.taken sink.new) (fig_text S.outline drawing.now) }
     ensures failed { result ≡ Err WriteError.WriteFailed
         → Rises (W.failures sink.old) (W.failures sink.new) }
 {

@@ -11,7 +11,7 @@ use Rattle.std.proofs.lemmas.List.{take_all, take_more}
 use Rattle.std.proofs.lemmas.List.Folds.{list_any-append}
 use Rattle.gf_shape.specs.declared.bounds.Bounds.{Bounds}
 use Rattle.gf_shape.specs.declared.point.Point.{Point}
-use Rattle.gf_shape.specs.ShapeLaws.{IsBounds, IsWithin, Touches}
+use Rattle.gf_shape.specs.ShapeLaws.{IsBounds, IsInBounds, Touches}
 use Rattle.gf_drawing.specs.declared.figure.Figure.{Figure}
 use Rattle.gf_fit.specs.FittedWindow.{AreBounds, held}
 use Rattle.gf_fit.specs.JoinedBounds.{joined, widened}
@@ -26,7 +26,7 @@ greater a b =
 
 -- what lies within the one or the other of two bounds lies within both joined
 module _ (a b : Bounds) (p : Point) where
-  within_first : IsWithin a p → IsWithin (joined a b) p
+  within_first : IsInBounds a p → IsInBounds (joined a b) p
   within_first w = record {
     left = omega (arith, ints, clamps, w.left);
     right = omega (arith, ints, clamps, w.right);
@@ -34,7 +34,7 @@ module _ (a b : Bounds) (p : Point) where
     bottom = omega (arith, ints, clamps, w.bottom);
   }
 
-  within_second : IsWithin b p → IsWithin (joined a b) p
+  within_second : IsInBounds b p → IsInBounds (joined a b) p
   within_second w = record {
     left = omega (arith, ints, clamps, w.left);
     right = omega (arith, ints, clamps, w.right);

@@ -11,7 +11,7 @@ use Rattle.gf_fig_read.specs.FigGrammar.{Reads}
 use Rattle.gf_fig_read.specs.Objects.{Drawn}
 use Rattle.gf_scanline.specs.Windows.{View}
 use Rattle.gf_studio.specs.FigRun.{Draws}
-use Rattle.gf_studio.specs.PaintRun.{WritesBands, WritesPictureFront}
+use Rattle.gf_studio.specs.PaintRun.{WritesBands, WritesPicturePrefix}
 use Rattle.gf_fit.specs.FittedWindow.{IsFitted, held}
 use Rattle.gf_fit.specs.Frames.{Sides}
 
@@ -31,10 +31,10 @@ pub record FitsText (text : List ℕ) (frame : Sides) (w : View) : Type 0 where
 -- old to new
 module _ (Fits : View → Type 0) (IsShown : (Point → Rgb) → Type 0) (old new : Option (List ℕ)) where
   -- they grow by a front, which may be none or all, of the picture in a window that fits
-  pub record WritesFittedFront : Type 0 where
+  pub record WritesFittedPrefix : Type 0 where
     pub window : View
     pub fits : Fits window
-    pub written : WritesPictureFront IsShown window old new
+    pub written : WritesPicturePrefix IsShown window old new
 
   -- they grow by the header and whole bands of 64 rows, fewer than all, of the picture in a window
   -- that fits

@@ -7,7 +7,7 @@ ghost use Rattle.gf_streams.specs.Reads.{ConsumesAtMost};
 ghost use Rattle.gf_studio.specs.PaintRun.{IsDenoted, IsMeant, WritesPicture};
 ghost use Rattle.gf_studio.specs.RunAnswers.{ReadsFor, RefusesFig, RefusesLines};
 ghost use Rattle.gf_fit.specs.FittedRun.{FitsLines, FitsText, WritesFittedBands};
-ghost use Rattle.gf_fit.specs.FittedRun.{WritesFittedFront};
+ghost use Rattle.gf_fit.specs.FittedRun.{WritesFittedPrefix};
 
 use crate::{Frame, fitted_window};
 use gf_raster::ppm_to;
@@ -45,8 +45,8 @@ pub fn paint_fitted_run<T: Threads + Sync, R: Source, W: Sink, G: Gate + Sync>(
 
     // A front of the picture is written where the sink failed, and for want of memory nothing, or
     // the header and whole bands; else nothing.
-    ensures front { result ≡ Err StudioError.WriteFailed → IfSome (R.left source.old) (λ bytes.
-        WritesFittedFront (FitsLines bytes frame) (IsMeant bytes)
+    ensures prefix { result ≡ Err StudioError.WriteFailed → IfSome (R.left source.old) (λ bytes.
+        WritesFittedPrefix (FitsLines bytes frame) (IsMeant bytes)
         (W.taken sink.old) (W.taken sink.new)) }
     ensures failed { result ≡ Err StudioError.WriteFailed →
         Rises (W.failures sink.old) (W.failures sink.new) }
@@ -93,8 +93,8 @@ pub fn repaint_fitted_run<T: Threads + Sync, R: Source, W: Sink, G: Gate + Sync>
     ensures refused { IfErr result (λ e. IfSome (R.left source.old) (λ text. RefusesFig text e)) }
 
     // As of `paint_fitted_run`.
-    ensures front { result ≡ Err StudioError.WriteFailed → IfSome (R.left source.old) (λ text.
-        WritesFittedFront (FitsText text frame) (IsDenoted text)
+    ensures prefix { result ≡ Err StudioError.WriteFailed → IfSome (R.left source.old) (λ text.
+        WritesFittedPrefix (FitsText text frame) (IsDenoted text)
         (W.taken sink.old) (W.taken sink.new)) }
     ensures failed { result ≡ Err StudioError.WriteFailed →
         Rises (W.failures sink.old) (W.failures sink.new) }

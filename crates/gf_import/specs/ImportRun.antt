@@ -1,7 +1,7 @@
 -- What an import writes, and why it is refused (this project's choice).
 use Rattle.std.specs.Prelude.{◌≡◌, ℕ, List, Option, Result, MatchResult, ⊤}
 use Rattle.std.specs.Io.KnownBytes.{Appends}
-use Rattle.gf_streams.specs.Taken.{AppendsFront}
+use Rattle.gf_streams.specs.Taken.{AppendsPrefix}
 use Rattle.gf_fig_read.specs.FaultLines.{BeginsOn, IsFaultLine}
 use Rattle.gf_fig_read.specs.FigGrammar.{Fails, Reads}
 use Rattle.gf_fig_read.specs.Objects.{Drawn}
@@ -33,10 +33,10 @@ pub record WritesImport (s : ℕ) (fig : List ℕ) (old new : Option (List ℕ))
   pub written : Appends old new text
 
 -- known bytes grow from old to new by a front, which may be none or all, of these lines
-pub record WritesImportFront (s : ℕ) (fig : List ℕ) (old new : Option (List ℕ)) : Type 0 where
+pub record WritesImportPrefix (s : ℕ) (fig : List ℕ) (old new : Option (List ℕ)) : Type 0 where
   pub text : List ℕ
   pub imports : Imports s fig text
-  pub written : AppendsFront old new text
+  pub written : AppendsPrefix old new text
 
 -- the FIG text reads as a drawing that has no creations for this reason
 pub record HasNoCreations (fig : List ℕ) (e : CreationError) : Type 0 where
@@ -65,12 +65,12 @@ RefusesImportRun fig e = RefusesImport fig e
 -- failures from was to is
 module _ (most : ℕ) (old new : Option (List ℕ)) (was is : ℕ) where
   -- what was read where an importing run is refused with this error
-  abbrev pub ReadsBefore : ImportError → Type 0
-  ReadsBefore (import_error.Run e) = ReadsUntil most old new was is e
-  ReadsBefore import_error.TooManyFigures = ReadsAll most old new was is
-  ReadsBefore (import_error.Fig line e) = ReadsAll most old new was is
-  ReadsBefore (import_error.Figure line object fault) = ReadsAll most old new was is
+  abbrev pub ReadsBeforeImport : ImportError → Type 0
+  ReadsBeforeImport (import_error.Run e) = ReadsUntil most old new was is e
+  ReadsBeforeImport import_error.TooManyFigures = ReadsAll most old new was is
+  ReadsBeforeImport (import_error.Fig line e) = ReadsAll most old new was is
+  ReadsBeforeImport (import_error.Figure line object fault) = ReadsAll most old new was is
 
   -- what was read where an importing run gives this answer
   abbrev pub ReadsForImport : {T : Type 0} → Result T ImportError → Type 0
-  ReadsForImport result = MatchResult result (λ _. ReadsAll most old new was is) ReadsBefore
+  ReadsForImport result = MatchResult result (λ _. ReadsAll most old new was is) ReadsBeforeImport

@@ -7,7 +7,7 @@ ghost use Rattle.gf_streams.specs.Reads.{ConsumesAtMost};
 ghost use Rattle.gf_ops.specs.OperationOrder.{IsSite};
 ghost use Rattle.gf_studio.specs.declared.studio_error.StudioError.{StudioError};
 ghost use Rattle.gf_import.specs.ImportRun.{Imports, ReadsForImport, RefusesImportRun};
-ghost use Rattle.gf_import.specs.ImportRun.{WritesImport, WritesImportFront};
+ghost use Rattle.gf_import.specs.ImportRun.{WritesImport, WritesImportPrefix};
 
 use crate::ImportError;
 use crate::importing::import;
@@ -39,9 +39,9 @@ pub fn import_run<R: Source, W: Sink>(
         RefusesImportRun fig e)) }
 
     // A front of the lines is written at most, and that only where the sink failed.
-    ensures front { result ≡ Err (ImportError.Run StudioError.WriteFailed)
+    ensures prefix { result ≡ Err (ImportError.Run StudioError.WriteFailed)
         → IfSome (R.left source.old) (λ fig.
-        WritesImportFront site fig (W.taken sink.old) (W.taken sink.new)) }
+        WritesImportPrefix site fig (W.taken sink.old) (W.taken sink.new)) }
     ensures failed { result ≡ Err (ImportError.Run StudioError.WriteFailed) →
         Rises (W.failures sink.old) (W.failures sink.new) }
     ensures unwritten { IfErr result (λ e. (sink.new ≡ sink.old)

@@ -8,7 +8,7 @@ use Rattle.crossbeam_queue.proofs.Lists.{at_set, at_snoc}
 use Rattle.gf_link.specs.declared.message.Message.{Message}
 use Rattle.gf_link.specs.declared.rule.Log.{Log}
 use Rattle.gf_link.specs.Ends.{is_ended, ends_last}
-use Rattle.gf_link.specs.Kept.{log, Fits, IsKept, Takes}
+use Rattle.gf_link.specs.Kept.{log, PassesFit, IsLossless, TakesMessage}
 use Rattle.gf_link.proofs.EndLemmas.{lasts_more, lasts_front}
 
 at_end : (l : List Log) (a b : Log) (j : ℕ) → get_elem? l j ≢ some b → get_elem? (l ++ a ∷ []) j ≡ some b → j ≡ length l
@@ -25,7 +25,7 @@ each_set F views port w mine others j u e = ⊎_elim (λ (x : (j ≡ port) × (w
     (λ (x : (j ≢ port) × (get_elem? views j ≡ some u)). others j u x.0 x.1) (at_set views port j w u e)
 
 -- a link begins empty
-pub begins : IsKept [] (log true true [] [] ∷ [])
+pub begins : IsLossless [] (log true true [] [] ∷ [])
 begins = record {
   writer = 0;
   reader = 0;
@@ -34,12 +34,12 @@ begins = record {
   whole = refl;
   few = omega arith;
   last = refl;
-  fits = each_set (Fits 0 0 [] []) (log true true [] [] ∷ []) 0 (log true true [] []) (record { sender = λ _. (refl, refl); taker = λ _. (refl, refl) })
+  fits = each_set (PassesFit 0 0 [] []) (log true true [] [] ∷ []) 0 (log true true [] []) (record { sender = λ _. (refl, refl); taker = λ _. (refl, refl) })
       (λ j u other e. absurd (other (at_end [] _ u j (λ x. some-ne-none u (sym x)) e)));
 }
 
 -- a message is sent
-pub pushes : (n port : ℕ) (v : Log) (m : Message) → v.sends ≡ true → length v.sent < 1024 → IsFalse (is_ended v.sent) → Pushes IsKept n port v m (λ w. w ≡ log v.sends v.takes (v.sent ++ m ∷ []) v.taken)
+pub pushes : (n port : ℕ) (v : Log) (m : Message) → v.sends ≡ true → length v.sent < 1024 → IsFalse (is_ended v.sent) → Pushes IsLossless n port v m (λ w. w ≡ log v.sends v.takes (v.sent ++ m ∷ []) v.taken)
 pushes n port v m may room still items views _ h at =
     let mine = h.fits port v at in
     let same : v.sent ≡ h.sent = (mine.sender may).1 in
@@ -47,7 +47,7 @@ pushes n port v m may room still items views _ h at =
     let w : Log = log v.sends v.takes (v.sent ++ m ∷ []) v.taken in
     let short : length h.sent < 1024 = subst (λ xs. length xs < 1024) same room in
     let closed : IsFalse (is_ended h.sent) = subst (λ xs. IsFalse (is_ended xs)) same still in
-    let kept : IsKept (items ++ m ∷ []) (set views port w) = record {
+    let kept : IsLossless (items ++ m ∷ []) (set views port w) = record {
       writer = h.writer;
       reader = h.reader;
       sent = sent;
@@ -55,19 +55,19 @@ pushes n port v m may room still items views _ h at =
       whole = ap (λ l. l ++ m ∷ []) h.whole ∙ append_assoc h.taken items (m ∷ []);
       few = omega (arith, length-append h.sent (m ∷ []));
       last = lasts_more h.sent m h.last closed;
-      fits = each_set (Fits h.writer h.reader sent h.taken) views port w
+      fits = each_set (PassesFit h.writer h.reader sent h.taken) views port w
           (record { sender = λ _. ((mine.sender may).0, ap (λ l. l ++ m ∷ []) same); taker = mine.taker })
           (λ j u other e. record { sender = λ p. absurd (other (((h.fits j u e).sender p).0 ∙ sym (mine.sender may).0)); taker = (h.fits j u e).taker });
     } in (w, kept, refl)
 
 -- the link holds no more than was sent
-pub no_more : (port : ℕ) (v : Log) → v.sends ≡ true → Learns IsKept port v (λ items. length items ≤ length v.sent)
+pub no_more : (port : ℕ) (v : Log) → v.sends ≡ true → Learns IsLossless port v (λ items. length items ≤ length v.sent)
 no_more port v may items views h at =
     let same = ((h.fits port v at).sender may).1 in
     omega (arith, ap length same, ap length h.whole, length-append h.taken items)
 
 -- the first message is taken
-pub pops : (port : ℕ) (v : Log) → v.takes ≡ true → Pops IsKept port v (Takes v)
+pub pops : (port : ℕ) (v : Log) → v.takes ≡ true → Pops IsLossless port v (TakesMessage v)
 pops port v may m items views h at =
     let mine = h.fits port v at in
     let same : v.taken ≡ h.taken = (mine.taker may).1 in
@@ -75,7 +75,7 @@ pops port v may m items views h at =
     let w : Log = log v.sends v.takes v.sent (v.taken ++ m ∷ []) in
     let whole : h.sent ≡ taken ++ items = h.whole ∙ sym (append_assoc h.taken (m ∷ []) items) in
     let now : v.taken ++ m ∷ [] ≡ taken = ap (λ l. l ++ m ∷ []) same in
-    let kept : IsKept items (set views port w) = record {
+    let kept : IsLossless items (set views port w) = record {
       writer = h.writer;
       reader = h.reader;
       sent = h.sent;
@@ -83,19 +83,19 @@ pops port v may m items views h at =
       whole = whole;
       few = h.few;
       last = h.last;
-      fits = each_set (Fits h.writer h.reader h.sent taken) views port w
+      fits = each_set (PassesFit h.writer h.reader h.sent taken) views port w
           (record { sender = mine.sender; taker = λ _. ((mine.taker may).0, now) })
           (λ j u other e. record { sender = (h.fits j u e).sender; taker = λ p. absurd (other (((h.fits j u e).taker p).0 ∙ sym (mine.taker may).0)) });
     } in
     let front : IsTrue (ends_last taken) = lasts_front taken items (subst (λ xs. IsTrue (ends_last xs)) whole h.last) in
-    let tells : Takes v m w = record {
+    let tells : TakesMessage v m w = record {
       grown = refl;
       few = (let f = h.few in omega (arith, ap length whole, ap length now, length-append taken items));
       lasts = subst (λ xs. IsTrue (ends_last xs)) (sym now) front;
     } in (w, kept, tells)
 
 -- the pass is split
-pub forks : (port : ℕ) (v : Log) → v.sends ≡ true → v.takes ≡ true → Forks IsKept port v (log true false v.sent []) (log false true [] v.taken)
+pub forks : (port : ℕ) (v : Log) → v.sends ≡ true → v.takes ≡ true → Forks IsLossless port v (log true false v.sent []) (log false true [] v.taken)
 forks port v a b items views h at =
     let l : Log = log true false v.sent [] in
     let r : Log = log false true [] v.taken in
@@ -118,14 +118,14 @@ forks port v a b items views h at =
     }
 
 -- the passes are joined
-pub merges : (port : ℕ) (v : Log) (other : ℕ) (u : Log) → v.sends ≡ true → u.takes ≡ true → Merges IsKept port v other u (log true true v.sent u.taken) (log false false [] [])
+pub merges : (port : ℕ) (v : Log) (other : ℕ) (u : Log) → v.sends ≡ true → u.takes ≡ true → Merges IsLossless port v other u (log true true v.sent u.taken) (log false false [] [])
 merges port v other u a b items views h at two at' =
     let both : Log = log true true v.sent u.taken in
     let mine = h.fits port v at in
     let vs : List Log = set views port both in
     let was : get_elem? views other ≡ some u = ⊎_elim (λ x. absurd (two x.0)) (λ x. x.1) (at_set views port other both u at') in
     let theirs = (h.fits other u was).taker b in
-    let Now : ℕ → Log → Type 0 = λ j y. j ≢ other → Fits h.writer port h.sent h.taken j y in
+    let Now : ℕ → Log → Type 0 = λ j y. j ≢ other → PassesFit h.writer port h.sent h.taken j y in
     let now : Each Now vs = each_set Now views port both (λ _. record { sender = λ _. mine.sender a; taker = λ _. (refl, theirs.1) })
     (λ j y _ e apart. record { sender = (h.fits j y e).sender; taker = λ p. absurd (apart (((h.fits j y e).taker p).0 ∙ sym theirs.0)) }) in record {
       writer = h.writer;
@@ -135,13 +135,13 @@ merges port v other u a b items views h at two at' =
       whole = h.whole;
       few = h.few;
       last = h.last;
-      fits = each_set (Fits h.writer port h.sent h.taken) vs other (log false false [] [])
+      fits = each_set (PassesFit h.writer port h.sent h.taken) vs other (log false false [] [])
           (record { sender = λ p. absurd (true≢false (sym p)); taker = λ p. absurd (true≢false (sym p)) })
           (λ j y apart e. now j y e apart);
     }
 
 -- with both lists known, what the link holds is the rest
-pub totals : (port : ℕ) (v : Log) → v.sends ≡ true → v.takes ≡ true → Learns IsKept port v (λ items. (v.sent ≡ v.taken ++ items) × IsTrue (ends_last v.sent))
+pub totals : (port : ℕ) (v : Log) → v.sends ≡ true → v.takes ≡ true → Learns IsLossless port v (λ items. (v.sent ≡ v.taken ++ items) × IsTrue (ends_last v.sent))
 totals port v a b items views h at =
     let mine = h.fits port v at in
     let same = (mine.sender a).1 in

@@ -7,7 +7,7 @@ use Rattle.gf_link.specs.declared.rule.Log.{Log}
 use Rattle.gf_link.specs.declared.seats.SendSeat.TheInside.{Inside as SendInside}
 use Rattle.gf_link.specs.declared.seats.TakeSeat.TheInside.{Inside as TakeInside}
 use Rattle.gf_link.specs.Ends.{is_end, is_ended, ends_last}
-use Rattle.gf_link.specs.Kept.{log, Takes}
+use Rattle.gf_link.specs.Kept.{log, TakesMessage}
 use Rattle.gf_link.specs.Seated.{IsSender, IsTaker}
 use Rattle.gf_link.proofs.EndLemmas.{ended_last, ended_more, ended_whole}
 
@@ -25,7 +25,7 @@ sender_more s p m h same still grown =
       noted = sym (ended_last (view s.pass).sent m still) ∙ ap is_ended (sym sent);
     }
 
-pub taker_more : (s : TakeInside) (p : Pass Message Log) (m : Message) → IsTaker s → p.me.1 ≡ s.pass.me.1 → Takes (view s.pass) m (view p)
+pub taker_more : (s : TakeInside) (p : Pass Message Log) (m : Message) → IsTaker s → p.me.1 ≡ s.pass.me.1 → TakesMessage (view s.pass) m (view p)
     → IsTaker record { pass = p; taken = s.taken + 1; ended = is_end m }
 taker_more s p m h same t =
     let taken : (view p).taken ≡ (view s.pass).taken ++ m ∷ [] = ap (λ v. v.taken) t.grown in

@@ -128,7 +128,7 @@ pub fn settle<R: Wait>(_rt: &R, link: Link, send: SendSeat, take: TakeSeat) -> S
     requires take { take.link ≡ link }
     ensures sent { result.sent ≡ length send.sent }
     ensures taken { result.taken ≡ length take.taken }
-    ensures front { IsFront take.taken send.sent }
+    ensures prefix { IsFront take.taken send.sent }
     ensures whole { IsTrue (is_ended take.taken) → take.taken ≡ send.sent }
     ensures lasts { IsTrue (ends_last send.sent) }
 {

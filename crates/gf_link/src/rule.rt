@@ -17,9 +17,9 @@ pub struct InOrder;
 
 impl Protocol<Message, Log> for InOrder {
     ghost use Rattle.std.specs.Prelude.{true, []};
-    ghost use Rattle.gf_link.specs.Kept.{log, IsKept};
+    ghost use Rattle.gf_link.specs.Kept.{log, IsLossless};
 
-    ghost holds = { IsKept };
+    ghost holds = { IsLossless };
 
     ghost first = { log true true [] [] };
 }
@@ -67,9 +67,9 @@ impl Lesson<Message, Log> for Sent {
 pub struct Got;
 
 impl Outcome<Message, Log> for Got {
-    ghost use Rattle.gf_link.specs.Kept.{Takes};
+    ghost use Rattle.gf_link.specs.Kept.{TakesMessage};
 
-    ghost then = { Takes };
+    ghost then = { TakesMessage };
 }
 
 impl Lesson<Message, Log> for Got {

@@ -9,7 +9,7 @@ use Rattle.gf_link.specs.Ends.{is_ended}
 use Rattle.gf_ops.proofs.ListLemmas.{not_Contains-nil}
 use Rattle.gf_ops.proofs.PositionLemmas.{got_set_same, set_back, got_more, got_last, position_in, map_nil, map_ends}
 use Rattle.gf_worker.specs.declared.peer.Peer.{Peer}
-use Rattle.gf_worker.specs.Peers.{IsPlaced, IsFresh, Seat, seat_of}
+use Rattle.gf_worker.specs.Peers.{StandsInTable, IsFresh, Seat, seat_of}
 use Rattle.gf_worker.proofs.PeerLemmas.{set_cases}
 use Rattle.gf_mesh.specs.Mesh.{IsMesh, none, meet, next, Connects, IsLinked}
 
@@ -21,7 +21,7 @@ pub record AreAll {X : Type 0} (Q : X → Type 0) (rows : List (List X)) (row : 
 -- ---- the places of new peers
 
 pub record IsNew (table : List TableId) (p : Peer) : Type 0 where
-  pub placed : IsPlaced table p
+  pub placed : StandsInTable table p
   pub fresh : IsFresh p
 
 placed_more : (table more : List TableId) (p : Peer) → IsNew table p → IsNew (table ++ more) p

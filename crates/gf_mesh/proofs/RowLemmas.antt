@@ -10,7 +10,7 @@ use Rattle.gf_link.specs.Ends.{is_ended}
 use Rattle.gf_worker.specs.declared.peer.Peer.{Peer}
 use Rattle.gf_mesh.specs.Mesh.{IsMesh, none, meet, next, Connects, IsLinked, HaveExchanged, Exchanged}
 use Rattle.gf_mesh.specs.Linked.{rows_of}
-use Rattle.gf_mesh.specs.Settled.{AreSettled}
+use Rattle.gf_mesh.specs.Settled.{AreAllTaken}
 use Rattle.gf_mesh.proofs.MeshLemmas.{Parted, open_mesh, no_mesh}
 use Rattle.gf_mesh.proofs.ExchangeLemmas.{settled_mesh}
 
@@ -130,6 +130,6 @@ rest_settled table first before rows v l m f =
     (subst (λ u. IsMesh IsLinked table (rows_of u) []) (sym same) m, λ x. f (subst (λ u. IsMesh Exchanged table (rows_of u) []) same x))
 
 pub all_settled : (table first : List TableId) (rows : Vec (Vec Peer)) (before : List (List Peer)) → vec_len rows ≡ 0 → IsMesh IsLinked table (rows_of rows.items) [] → (IsMesh Exchanged table (rows_of rows.items) [] → IsMesh Exchanged first before [])
-    → AreSettled before
+    → AreAllTaken before
 all_settled table first rows before n m f =
     let none_left : rows_of rows.items ≡ [] = ap rows_of (empty_from rows n) in settled_mesh table first (rows_of rows.items) before f (no_mesh m none_left refl) none_left

@@ -35,7 +35,7 @@ pub record Meet (xs ys : List Peer) : Type 0 where
   pub ends : AreEnds one two
 
 -- the peer x of the row i and a peer of another row are the ends of two links
-pub record MeetsOne (rows : List (List Peer)) (i : ℕ) (x : Peer) : Type 0 where
+pub record IsLinkedToOne (rows : List (List Peer)) (i : ℕ) (x : Peer) : Type 0 where
   pub place : ℕ
   pub row : List Peer
   pub other : Peer
@@ -54,7 +54,7 @@ pub record AreLinked (links : List TableId) (rows : List (List Peer)) : Type 0 w
   pub each : (i j : ℕ) (xs ys : List Peer) → i ≢ j → slice_get rows i ≡ Some xs
       → slice_get rows j ≡ Some ys → Meet xs ys
   pub only : (i : ℕ) (xs : List Peer) (x : Peer) → slice_get rows i ≡ Some xs
-      → Contains xs x → MeetsOne rows i x
+      → Contains xs x → IsLinkedToOne rows i x
   pub placed : (xs : List Peer) → Contains rows xs → ArePlaced links xs
   pub fresh : (xs : List Peer) → Contains rows xs → (p : Peer) → Contains xs p → IsFresh p
   pub outs : (k : ℕ) → k < length links → HasOne (λ p. p.out) rows k

@@ -64,5 +64,5 @@ abbrev pub table_of : Inside → MeshTable
 table_of m = record { links = m.links.items; seats = seats_of (rows_of m.first.value.items) }
 
 -- the sites were joined one after the other
-abbrev pub IsMade : Inside → Type 0
-IsMade m = IsMesh Connects m.links.items (rows_of m.first.value.items) []
+abbrev pub AreJoinedInTurn : Inside → Type 0
+AreJoinedInTurn m = IsMesh Connects m.links.items (rows_of m.first.value.items) []

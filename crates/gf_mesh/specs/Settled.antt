@@ -21,7 +21,7 @@ pub record TookOne (rows : List (List Peer)) (i : ℕ) (x : Peer) : Type 0 where
   pub all : x.take.taken ≡ sender.send.sent
 
 -- each site took from each other all that it sent, and from nobody else
-pub record AreSettled (rows : List (List Peer)) : Type 0 where
+pub record AreAllTaken (rows : List (List Peer)) : Type 0 where
   pub each : (i j : ℕ) (xs ys : List Peer) → i ≢ j → slice_get rows i ≡ Some xs
       → slice_get rows j ≡ Some ys → TookAll xs ys
   pub only : (i : ℕ) (xs : List Peer) (x : Peer) → slice_get rows i ≡ Some xs

@@ -25,11 +25,11 @@ impl Model for Mesh {
 
     ghost Value = { MeshTable };
 
-    ghost use Rattle.gf_mesh.specs.Mesh.{table_of, IsMade};
+    ghost use Rattle.gf_mesh.specs.Mesh.{table_of, AreJoinedInTurn};
 
     ghost view = { table_of };
 
-    ghost invariant = { IsMade };
+    ghost invariant = { AreJoinedInTurn };
 }
 
 impl Mesh {

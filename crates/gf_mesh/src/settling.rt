@@ -4,7 +4,7 @@ ghost use Rattle.std.specs.Prelude.{◌≡◌, [], length, IsTrue};
 ghost use Rattle.gf_link.specs.Ends.{is_ended};
 ghost use Rattle.gf_mesh.specs.Linked.{HaveEnded, rows_of, seats_of};
 ghost use Rattle.gf_mesh.specs.Mesh.{IsMesh, IsLinked, HaveExchanged, Exchanged};
-ghost use Rattle.gf_mesh.specs.Settled.{AreSettled};
+ghost use Rattle.gf_mesh.specs.Settled.{AreAllTaken};
 
 use crate::Mesh;
 use gf_link::{Link, settle};
@@ -17,7 +17,7 @@ impl Mesh {
     pub fn settle<R: Wait>(self, rt: &R, mut peers: Vec<Vec<Peer>>)
         requires seats { seats_of (rows_of peers.items) ≡ self.seats }
         requires ended { HaveEnded (rows_of peers.items) }
-        ensures { AreSettled (rows_of peers.items) }
+        ensures { AreAllTaken (rows_of peers.items) }
     {
         let Mesh { mut links, .. } = self;
         while let Some(row) = peers.pop() {

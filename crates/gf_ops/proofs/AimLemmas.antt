@@ -10,7 +10,7 @@ use Rattle.gf_ops.specs.declared.op.OpId.{OpId}
 use Rattle.gf_ops.specs.declared.change.Change.{Change}
 use Rattle.gf_ops.specs.declared.change.Change.TheVariants.{Create, Set}
 use Rattle.gf_ops.specs.Aims.{IsAimed, MayAimAt}
-use Rattle.gf_ops.specs.AimTests.{after_id, IsWithinAim, Fits, MayAim, MeetsAt, MeetsOne, AreDirectlyCompatible, MemberMeets, AimMeets}
+use Rattle.gf_ops.specs.AimTests.{after_id, IsWithinAim, FitsAim, MayAim, MeetsAt, MeetsOne, AreDirectlyCompatible, MemberMeets, AimMeets}
 use Rattle.gf_ops.specs.Attribute.{change_aim, aim_of}
 use Rattle.gf_ops.specs.Limits.{is_id, is_clock, is_value, is_change, is_aim, id_less, rise_behind, ids_rise, IsInRange}
 use Rattle.gf_ops.specs.Conflict.{Conflict, MeetsBrought}
@@ -233,12 +233,12 @@ conflict_aim h a b off c = elim c.brings_first [
 ]
 
 -- a part of the tests of one that a may aim at
-pub fits_told : (h : List Op) → IsValid h → (m : Op) → Contains h m → (i : OpId) → m.id ≡ i → (a : Op) → Fits a m ↔ MayAimAt h a i
+pub fits_told : (h : List Op) → IsValid h → (m : Op) → Contains h m → (i : OpId) → m.id ≡ i → (a : Op) → FitsAim a m ↔ MayAimAt h a i
 fits_told h valid m there i id a = (
   λ f. record { op = m; contained = there; id = id; object = f.object; before = f.before; within = f.within },
   λ t.
       let same = same_op h valid t.op m t.contained there (t.id ∙ sym id) in
-      subst (Fits a) same (record { object = t.object; before = t.before; within = t.within }),
+      subst (FitsAim a) same (record { object = t.object; before = t.before; within = t.within }),
 )
 
 pub aimed_told : (h : List Op) (a : Op) → (MayAim h a (aim_of a) × AreDirectlyCompatible h (aim_of a)) ↔ IsAimed h a

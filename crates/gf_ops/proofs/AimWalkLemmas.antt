@@ -12,7 +12,7 @@ use Rattle.gf_ops.specs.declared.change.Start.{Start}
 use Rattle.gf_ops.specs.declared.change.Change.TheVariants.{Create, Set}
 use Rattle.gf_ops.specs.declared.change.Value.{Value}
 use Rattle.gf_ops.specs.AimTests.{MeetsAt}
-use Rattle.gf_ops.specs.AimWalk.{place_of, Sets, IsOfSite, KnewAt, SetsAt, SetsSome, GivesAnother, NoneKnew, NoneAbove, IsLatest, TellsOne, Tells, MeetsLatest, MeetsTable}
+use Rattle.gf_ops.specs.AimWalk.{place_of, Sets, IsOfSite, KnewAt, SetsAt, SetsSome, GivesAnother, NoneKnew, NoneAbove, IsLatest, TellsOne, IsAimTable, MeetsLatest, MeetsTable}
 use Rattle.gf_ops.specs.Attribute.{object_of}
 use Rattle.gf_ops.specs.ConflictTests.{sets_another}
 use Rattle.gf_ops.specs.DirectConflict.{DirectConflict}
@@ -90,14 +90,14 @@ module _ (h : List Op) (valid : IsValid h) where
     ]
 
     -- THE LATEST TWO decide: the table has one with which it conflicts
-    pub table_met : (table : List (Option Latest)) → Tells h ids t table → (y : Op) → IsOfSite h ids t y → DirectConflict x y → MeetsTable h table x.id
+    pub table_met : (table : List (Option Latest)) → IsAimTable h ids t table → (y : Op) → IsOfSite h ids t y → DirectConflict x y → MeetsTable h table x.id
     table_met table tells y of d =
         let b = both_set h valid x y there of.contained x.change y.change refl refl d in
         let met = entry_met y of d b (slice_index_or table (place_of b.first) None) (tells.each (place_of b.first) (placed b.first).0) in
         record { op = x; contained = there; id = refl; value = b.first; sets = b.sets_first; latest = met.0; at = met.1; meets = met.2 }
 
   -- and with what the table has it conflicts
-  pub table_tells : (ids : List OpId) (t : ℕ) (table : List (Option Latest)) → Tells h ids t table → (i : OpId) (m : MeetsTable h table i) → (y : Op) × IsOfSite h ids t y × DirectConflict m.op y
+  pub table_tells : (ids : List OpId) (t : ℕ) (table : List (Option Latest)) → IsAimTable h ids t table → (i : OpId) (m : MeetsTable h table i) → (y : Op) × IsOfSite h ids t y × DirectConflict m.op y
   table_tells ids t table tells i m =
       let k : IsLatest h ids t (place_of m.value) m.latest = subst (TellsOne h ids t (place_of m.value)) m.at (tells.each (place_of m.value) (placed m.value).0) in
       elim m.meets [
@@ -136,7 +136,7 @@ module _ (h : List Op) (valid : IsValid h) where
       beyond = λ y v of s e n. elim (more_cases y of) [ inl old ↦ r.beyond y v old s e n | inr same ↦ absurd (off v (record { op = y; contained = of.contained; id = same; site = ap (λ (j : OpId). j.site) (sym same) ∙ of.site; sets = s }) e) ];
     }
 
-    pub tells_stay : (table : List (Option Latest)) → ¬ (SetsSome h t i) → Tells h ids t table → Tells h (ids ++ i ∷ []) t table
+    pub tells_stay : (table : List (Option Latest)) → ¬ (SetsSome h t i) → IsAimTable h ids t table → IsAimTable h (ids ++ i ∷ []) t table
     tells_stay table off tells = record {
       wide = tells.wide;
       each = λ k l. entry_stays k (slice_index_or table k None) (λ v at e. off (record { value = v; at = at })) (tells.each k l);
@@ -146,7 +146,7 @@ module _ (h : List Op) (valid : IsValid h) where
       value_is : (y : Op) (v : Value) → Contains h y → y.id ≡ i → Sets y v → v ≡ w
       value_is y v c e s = sets_one at.op v w (subst (λ z. Sets z v) (same_op h valid y at.op c at.contained (e ∙ sym at.id)) s) at.sets
 
-      pub tells_more : (table : List (Option Latest)) (l : Latest) → Tells h ids t table → IsLatest h (ids ++ i ∷ []) t (place_of w) l → Tells h (ids ++ i ∷ []) t (set table (place_of w) (Some l))
+      pub tells_more : (table : List (Option Latest)) (l : Latest) → IsAimTable h ids t table → IsLatest h (ids ++ i ∷ []) t (place_of w) l → IsAimTable h (ids ++ i ∷ []) t (set table (place_of w) (Some l))
       tells_more table l tells latest = record {
         wide = length-set table (place_of w) (Some l) ∙ tells.wide;
         each = λ k b. elim (cases_eq k (place_of w)) [

@@ -9,7 +9,7 @@ use Rattle.gf_ops.specs.declared.op.Op.{Op}
 use Rattle.gf_ops.specs.declared.op.OpId.{OpId}
 use Rattle.gf_ops.specs.AimTests.{AreDirectlyCompatible, MayAim}
 use Rattle.gf_ops.specs.Attribute.{aim_of, object_of}
-use Rattle.gf_ops.specs.AimWalk.{IsOfSite, AreOnOne, AreParted, ArePartedBelow, KnewAt, NoneKnew, NoneAbove, Tells, MeetsTable, IsNoted}
+use Rattle.gf_ops.specs.AimWalk.{IsOfSite, AreOnOne, AreParted, ArePartedBelow, KnewAt, NoneKnew, NoneAbove, IsAimTable, MeetsTable, IsNoted}
 use Rattle.gf_ops.specs.DirectConflict.{DirectConflict}
 use Rattle.gf_ops.specs.Limits.{id_less, ids_rise}
 use Rattle.gf_ops.specs.OperationOrder.{IsSite, entry}
@@ -47,7 +47,7 @@ seq_rises i j l e = elim (less_told i j l) [ inl a ↦ absurd (omega (arith, a, 
 -- what holds of a walk for the sites s and t at the index n, where the first m are noted
 pub record IsWalked (h : List Op) (ids : List OpId) (s t n m : ℕ) (table : List (Option Latest)) : Type 0 where
   pub within : m ≤ length ids
-  pub tells : Tells h (take m ids) t table
+  pub tells : IsAimTable h (take m ids) t table
   pub unknowing : (k : ℕ) (d : OpId) → n ≤ k → k < length ids → (slice_index_or ids k d).site ≡ s → NoneKnew h (take m ids) t (slice_index_or ids k d)
   pub parted : AreParted h (take n ids) ids s t
 
@@ -67,7 +67,7 @@ module _ (h : List Op) (valid : IsValid h) (ids : List OpId) (rising : ids_rise 
   ]
 
   pub noted_more : (t n : ℕ) (i d : OpId) (table new : List (Option Latest)) → n < length ids → ¬ (KnewAt h t i (get_or ids n d)) →
-      ((js : List OpId) → NoneAbove h js t (get_or ids n d) → Tells h js t table → Tells h (js ++ get_or ids n d ∷ []) t new) →
+      ((js : List OpId) → NoneAbove h js t (get_or ids n d) → IsAimTable h js t table → IsAimTable h (js ++ get_or ids n d ∷ []) t new) →
       IsNoted h ids t n i table → IsNoted h ids t (n + 1) i new
   noted_more t n i d table new l off each noted =
       let above : NoneAbove h (take n ids) t (get_or ids n d) = λ site y of.
@@ -79,7 +79,7 @@ module _ (h : List Op) (valid : IsValid h) (ids : List OpId) (rising : ids_rise 
       in
       record {
         within = omega (arith, l);
-        tells = subst (λ js. Tells h js t new) (sym (take_more ids n d l)) (each (take n ids) above noted.tells);
+        tells = subst (λ js. IsAimTable h js t new) (sym (take_more ids n d l)) (each (take n ids) above noted.tells);
         unknowing = λ y of known. elim (of_more n t d y l of) [
           | inl old ↦ noted.unknowing y old known
           | inr e ↦ off (record { op = y; contained = of.contained; id = e; site = ap (λ (j : OpId). j.site) (sym e) ∙ of.site; known = known })

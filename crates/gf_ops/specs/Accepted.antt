@@ -20,15 +20,15 @@ pub record IsNumbered (h : List Op) (a : Op) : Type 0 where
   pub own : entry a.past a.id.site + 1 ≡ a.id.seq
 
 -- a knows all that the operations of h that it knows knew
-abbrev pub IsClosed : List Op → Op → Type 0
-IsClosed h a = (b : Op) → Contains h b → Precedes b a → IsWithin b.past a.past
+abbrev pub IsCausallyClosed : List Op → Op → Type 0
+IsCausallyClosed h a = (b : Op) → Contains h b → Precedes b a → IsWithin b.past a.past
 
 -- a is the next operation of its site behind h: it has the next number, knows no more than h has,
 -- and all that the operations that it knows knew
 pub record IsNext (h : List Op) (a : Op) : Type 0 where
   pub numbered : IsNumbered h a
   pub known : CountsAtMost a.past h
-  pub closed : IsClosed h a
+  pub closed : IsCausallyClosed h a
 
 -- a may be added behind h: it is the next operation of its site, makes an object or gives one that
 -- it knows a value that suits it, and its aim is one

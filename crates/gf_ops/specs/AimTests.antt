@@ -18,7 +18,7 @@ abbrev pub IsWithinAim : List OpId → List OpId → Type 0
 IsWithinAim ids aim = (j : OpId) → Contains ids j → Contains aim j
 
 -- x is on the object of a and before it, and a aims at all that x aims at
-pub record Fits (a x : Op) : Type 0 where
+pub record FitsAim (a x : Op) : Type 0 where
   pub object : object_of x ≡ object_of a
   pub before : Precedes x a
   pub within : IsWithinAim (aim_of x) (aim_of a)

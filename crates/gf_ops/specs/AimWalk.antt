@@ -107,7 +107,7 @@ TellsOne h ids t k None = (y : Op) (w : Value) → IsOfSite h ids t y → Sets y
 TellsOne h ids t k (Some l) = IsLatest h ids t k l
 
 -- the table tells of each place
-pub record Tells (h : List Op) (ids : List OpId) (t : ℕ)
+pub record IsAimTable (h : List Op) (ids : List OpId) (t : ℕ)
     (table : List (Option Latest)) : Type 0 where
   pub wide : length table ≡ 6
   pub each : (k : ℕ) → k < 6 → TellsOne h ids t k (slice_index_or table k None)
@@ -136,5 +136,5 @@ pub record MeetsTable (h : List Op) (table : List (Option Latest)) (i : OpId) : 
 pub record IsNoted (h : List Op) (ids : List OpId) (t n : ℕ) (i : OpId)
     (table : List (Option Latest)) : Type 0 where
   pub within : n ≤ length ids
-  pub tells : Tells h (take n ids) t table
+  pub tells : IsAimTable h (take n ids) t table
   pub unknowing : NoneKnew h (take n ids) t i

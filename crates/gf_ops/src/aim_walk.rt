@@ -7,7 +7,7 @@ ghost use Rattle.gf_ops.specs.declared.change.Value.{Value};
 ghost use Rattle.gf_ops.specs.AimTests.{AreDirectlyCompatible};
 ghost use Rattle.gf_ops.specs.AimWalk.{place_of, AreOnOne, AreParted, ArePartedBelow, KnewAt};
 ghost use Rattle.gf_ops.specs.AimWalk.{SetsAt, SetsSome, GivesAnother, IsLatest};
-ghost use Rattle.gf_ops.specs.AimWalk.{TellsOne, Tells, NoneAbove, MeetsTable, IsNoted};
+ghost use Rattle.gf_ops.specs.AimWalk.{TellsOne, IsAimTable, NoneAbove, MeetsTable, IsNoted};
 ghost use Rattle.gf_ops.specs.Limits.{IsInRange, ids_rise};
 ghost use Rattle.gf_ops.specs.OperationOrder.{IsSite};
 
@@ -138,8 +138,8 @@ impl History {
     /// Notes the operation under this id, if it is of this site and sets an attribute.
     fn note(&self, id: OpId, site: u8, table: &mut [Option<Latest>; 6])
         ensures { (ids : List OpId) → NoneAbove self.now.ops ids site id
-            → Tells self.now.ops ids site table.old
-            → Tells self.now.ops (ids ++ id ∷ []) site table.new }
+            → IsAimTable self.now.ops ids site table.old
+            → IsAimTable self.now.ops (ids ++ id ∷ []) site table.new }
     {
         // Its clause says that the history is valid.
         let _ = self.ops();

@@ -3,7 +3,7 @@
 ghost use Rattle.std.specs.Prelude.{◌≡◌, ◌↔◌, IsTrue};
 ghost use Rattle.std.specs.List.{fold};
 ghost use Rattle.gf_ops.specs.Aims.{IsAimed, MayAimAt};
-ghost use Rattle.gf_ops.specs.AimTests.{after_id, IsWithinAim, Fits, MayAim, MeetsAt};
+ghost use Rattle.gf_ops.specs.AimTests.{after_id, IsWithinAim, FitsAim, MayAim, MeetsAt};
 ghost use Rattle.gf_ops.specs.AimTests.{MeetsOne};
 ghost use Rattle.gf_ops.specs.Attribute.{aim_of, object_of};
 ghost use Rattle.gf_ops.specs.Limits.{IsInRange, ids_rise};
@@ -80,7 +80,7 @@ fn on_one_object(op: &Op, other: &Op) -> bool
 fn fits(member: &Op, op: &Op) -> bool
     requires member { IsInRange member.now }
     requires op { IsInRange op.now }
-    ensures { IsTrue result ↔ Fits op.now member.now }
+    ensures { IsTrue result ↔ FitsAim op.now member.now }
 {
     on_one_object(member, op) && before(member, op) && aims_within(member, op)
 }

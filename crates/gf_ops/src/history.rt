@@ -4,7 +4,7 @@ ghost use Rattle.std.specs.Prelude.{◌≡◌, ◌≢◌, ◌<◌, ◌↔◌, �
 ghost use Rattle.std.specs.Prelude.{IsOk, IfOk, IfSome, IfNone, OnOk, OnErr};
 ghost use Rattle.gf_ops.specs.declared.op.Op.{Op};
 ghost use Rattle.gf_ops.specs.declared.history.History.{History};
-ghost use Rattle.gf_ops.specs.Accepted.{CountsAtMost, IsNumbered, IsClosed, IsNext, IsAccepted};
+ghost use Rattle.gf_ops.specs.Accepted.{CountsAtMost, IsNumbered, IsCausallyClosed, IsNext, IsAccepted};
 ghost use Rattle.gf_ops.specs.Accepted.{IsRefused};
 ghost use Rattle.gf_ops.specs.Attribute.{kind_of, suits};
 ghost use Rattle.gf_ops.specs.KnownObject.{Knows, KnowsSome, IsFounded, IsSuited};
@@ -172,7 +172,7 @@ impl History {
     /// so the last of each site decides.
     fn is_closed(&self, op: &Op) -> bool
         requires within { CountsAtMost op.now.past self.now.ops }
-        ensures { IsTrue result ↔ IsClosed self.now.ops op.now }
+        ensures { IsTrue result ↔ IsCausallyClosed self.now.ops op.now }
     {
         let _ = &self.ops;
         for site in 1..9 {

@@ -7,7 +7,7 @@ use Rattle.std.proofs.lemmas.List.{length-append, take-append-le}
 use Rattle.std.proofs.Math.Seq.{take-append-add}
 use Rattle.gf_shape.specs.declared.colour.Rgb.{Rgb}
 use Rattle.gf_shape.specs.declared.point.Point.{Point}
-use Rattle.gf_streams.specs.Taken.{AppendsFront}
+use Rattle.gf_streams.specs.Taken.{AppendsPrefix}
 use Rattle.gf_scanline.proofs.RangeLemmas.{ranged_more}
 use Rattle.gf_scanline.specs.Pixels.{pixel}
 use Rattle.gf_scanline.specs.Picture.{cells, rows}
@@ -79,7 +79,7 @@ pub ends : (height i : ℕ) → height / 64 + min 1 (height % 64) ≤ i → min 
 ends height i l = omega arith
 
 -- a front of what comes next, behind what came, is a front of all
-pub front_more : (a b c : Option (List ℕ)) (xs ys whole rest : List ℕ) → whole ≡ xs ++ (ys ++ rest) → Appends a b xs → AppendsFront b c ys → AppendsFront a c whole
+pub front_more : (a b c : Option (List ℕ)) (xs ys whole rest : List ℕ) → whole ≡ xs ++ (ys ++ rest) → Appends a b xs → AppendsPrefix b c ys → AppendsPrefix a c whole
 front_more a b c xs ys whole rest e p q =
     let n = q.0 in
     let cut : take (length xs + n) whole ≡ xs ++ take n ys = ap (take (length xs + n)) e ∙ (take-append-add xs (ys ++ rest) n ∙ ap (λ zs. xs ++ zs) (take-append-le n ys rest q.1)) in
@@ -89,7 +89,7 @@ front_more a b c xs ys whole rest e p q =
     sums x n y r l = omega arith
 
 -- a front of what comes first is a front of all
-pub front_first : (a b : Option (List ℕ)) (xs whole rest : List ℕ) → whole ≡ xs ++ rest → AppendsFront a b xs → AppendsFront a b whole
+pub front_first : (a b : Option (List ℕ)) (xs whole rest : List ℕ) → whole ≡ xs ++ rest → AppendsPrefix a b xs → AppendsPrefix a b whole
 front_first a b xs whole rest e p =
     let cut : take p.0 whole ≡ take p.0 xs = ap (take p.0) e ∙ take-append-le p.0 xs rest p.1 in
     (p.0, rw (e, length-append xs rest) (longer p.0 (length xs) (length rest) p.1), rw cut p.2)

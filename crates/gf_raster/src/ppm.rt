@@ -4,7 +4,7 @@ ghost use Rattle.std.specs.Prelude.{◌≡◌, ℕ, ◌+◌, ◌-◌, ◌*◌, �
 ghost use Rattle.std.specs.Prelude.{OnOk, Err};
 ghost use Rattle.std.specs.Io.KnownBytes.{Appends};
 ghost use Rattle.gf_streams.specs.Counts.{Rises};
-ghost use Rattle.gf_streams.specs.Taken.{AppendsFront};
+ghost use Rattle.gf_streams.specs.Taken.{AppendsPrefix};
 ghost use Rattle.gf_drawing.specs.DrawingColour.{drawing_colour};
 ghost use Rattle.gf_scanline.specs.Layers.{layered};
 ghost use Rattle.gf_scanline.specs.Picture.{header, picture, raster, rows};
@@ -45,8 +45,8 @@ pub fn ppm_to<S: Shape + Sync, G: Gate + Sync, R: Threads + Sync, W: Sink>(
         → (sink.new ≡ sink.old)
         ⊎ HasBands (header window) (drawing_colour S.holds drawing.now.table drawing.now.figures)
         window (W.taken sink.old) (W.taken sink.new) }
-    ensures front { result ≡ Err WriteError.WriteFailed
-        → AppendsFront (W.taken sink.old) (W.taken sink.new)
+    ensures prefix { result ≡ Err WriteError.WriteFailed
+        → AppendsPrefix (W.taken sink.old) (W.taken sink.new)
         (picture (drawing_colour S.holds drawing.now.table drawing.now.figures) window) }
     ensures failed { result ≡ Err WriteError.WriteFailed
         → Rises (W.failures sink.old) (W.failures sink.new) }
@@ -92,8 +92,8 @@ fn write_bands<S: Shape + Sync, G: Gate + Sync, R: Threads + Sync, W: Sink>(
     ensures unfailed { OnOk result (W.failures sink.new ≡ W.failures sink.old) }
     ensures memory { result ≡ Err WriteError.OutOfMemory
         → HasBands [] (layered S.holds layers.now) window (W.taken sink.old) (W.taken sink.new) }
-    ensures front { result ≡ Err WriteError.WriteFailed
-        → AppendsFront (W.taken sink.old) (W.taken sink.new)
+    ensures prefix { result ≡ Err WriteError.WriteFailed
+        → AppendsPrefix (W.taken sink.old) (W.taken sink.new)
         (raster (layered S.holds layers.now) window) }
     ensures failed { result ≡ Err WriteError.WriteFailed
         → Rises (W.failures sink.old) (W.failures sink.new) }
@@ -130,8 +130,8 @@ fn write_band<'l, S: Shape + Sync, G: Gate + Sync, R: Threads + Sync, W: Sink>(
         (layered S.holds layers.now) window (64 * index) (min 64 (window.height - 64 * index)))) }
     ensures unfailed { OnOk result (W.failures sink.new ≡ W.failures sink.old) }
     ensures memory { result ≡ Err WriteError.OutOfMemory → sink.new ≡ sink.old }
-    ensures front { result ≡ Err WriteError.WriteFailed
-        → AppendsFront (W.taken sink.old) (W.taken sink.new) (rows
+    ensures prefix { result ≡ Err WriteError.WriteFailed
+        → AppendsPrefix (W.taken sink.old) (W.taken sink.new) (rows
         (layered S.holds layers.now) window (64 * index) (min 64 (window.height - 64 * index))) }
     ensures failed { result ≡ Err WriteError.WriteFailed
         → Rises (W.failures sink.old) (W.failures sink.new) }

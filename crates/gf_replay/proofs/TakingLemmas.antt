@@ -25,7 +25,7 @@ use Rattle.gf_causal.proofs.HeldLemmas.{ids_total}
 use Rattle.gf_causal.proofs.ListLemmas.{Contains-between, Contains-between_cases, Contains-between_itself}
 use Rattle.gf_causal.proofs.CourseLemmas.{number_counted, delivered_part}
 use Rattle.gf_site.specs.SiteState.{SiteState}
-use Rattle.gf_site.specs.Events.{Applies, Drops}
+use Rattle.gf_site.specs.Events.{Applies, ForgetsReady}
 use Rattle.gf_site.proofs.CourseLemmas.{all_ready}
 use Rattle.gf_json.specs.LineValues.{Got}
 use Rattle.gf_json.specs.OperationLines.{denoted}
@@ -35,7 +35,7 @@ use Rattle.gf_replay.specs.declared.reading_error.ReadingError.{ReadingError}
 use Rattle.gf_replay.specs.declared.reading_error.ReadingError.TheVariants as reading
 use Rattle.gf_replay.specs.Denoting.{Delivers}
 use Rattle.gf_replay.specs.Waiting.{AreWaiting}
-use Rattle.gf_replay.specs.Taking.{Has, HoldsOthers, KeepsAll, Offers, again, new, Moves, Settles, DropsReady, HasTaken, TakesOp, RefusesOp}
+use Rattle.gf_replay.specs.Taking.{HasOrHolds, HoldsOthers, KeepsAll, Offers, again, new, Moves, Settles, DropsReady, HasTaken, TakesOp, RefusesOp}
 use Rattle.gf_replay.specs.LineSteps.{TakesLine, RefusesLine, RefusesSettling}
 
 -- ---- one operation more
@@ -55,19 +55,19 @@ itself_more held more a adds = subst (λ l. Contains l a) (sym adds.with_it) (Co
 -- ---- an offer
 
 -- what was offered is there
-offered_there : (x y : SiteState) (a : Op) → Offers x a y → Has y a
-offered_there x y a (again known same) = subst (λ s. Has s a) (sym same) known.known
+offered_there : (x y : SiteState) (a : Op) → Offers x a y → HasOrHolds y a
+offered_there x y a (again known same) = subst (λ s. HasOrHolds s a) (sym same) known.known
 offered_there x y a (new fresh adds ops) = inl (itself_more x.held y.held a adds)
 
 -- what was there stays
-offer_keeps : (x y : SiteState) (a : Op) → Offers x a y → (b : Op) → Has x b → Has y b
-offer_keeps x y a (again known same) b i = subst (λ s. Has s b) (sym same) i
+offer_keeps : (x y : SiteState) (a : Op) → Offers x a y → (b : Op) → HasOrHolds x b → HasOrHolds y b
+offer_keeps x y a (again known same) b i = subst (λ s. HasOrHolds s b) (sym same) i
 offer_keeps x y a (new fresh adds ops) b (inl i) = inl (held_more x.held y.held a adds b i)
 offer_keeps x y a (new fresh adds ops) b (inr i) = inr (subst (λ l. Contains l b) (sym ops) i)
 
 -- and nothing else is there
-offer_from : (x y : SiteState) (a : Op) → Offers x a y → (b : Op) → Has y b → (b ≡ a) ⊎ Has x b
-offer_from x y a (again known same) b i = inr (subst (λ s. Has s b) same i)
+offer_from : (x y : SiteState) (a : Op) → Offers x a y → (b : Op) → HasOrHolds y b → (b ≡ a) ⊎ HasOrHolds x b
+offer_from x y a (again known same) b i = inr (subst (λ s. HasOrHolds s b) same i)
 offer_from x y a (new fresh adds ops) b (inl i) = elim (more_there x.held y.held a adds b i) [ inl e ↦ inl e | inr j ↦ inr (inl j) ]
 offer_from x y a (new fresh adds ops) b (inr i) = inr (inr (subst (λ l. Contains l b) ops i))
 
@@ -111,7 +111,7 @@ module _ (ops : List Op) (x : SiteState) (t : HasTaken ops x) (a : Op) where
     all = λ b. (
       λ i. elim (Contains-push_cases ops a b i) [
         | inl j ↦ offer_keeps x y a offers b ((t.all b).0 j)
-        | inr e ↦ subst (Has y) e (offered_there x y a offers)
+        | inr e ↦ subst (HasOrHolds y) e (offered_there x y a offers)
       ],
       λ i. elim (offer_from x y a offers b i) [
         | inl e ↦ subst (Contains (ops ++ a ∷ [])) (sym e) (Contains-push ops a)
@@ -139,14 +139,14 @@ HasTaken-moves ops x y t moves = record {
   valid = moves.valid;
 }
 
-has_applied : (x y : SiteState) (id : OpId) → Applies x id y → (a : Op) → Has x a → Has y a
+has_applied : (x y : SiteState) (id : OpId) → Applies x id y → (a : Op) → HasOrHolds x a → HasOrHolds y a
 has_applied x y id s a (inl i) = elim (more_there y.held x.held s.op s.takes.taken a i) [
   | inl e ↦ inr (subst (λ l. Contains l a) (sym s.ops) (subst (Contains (x.ops ++ s.op ∷ [])) (sym e) (Contains-push x.ops s.op)))
   | inr j ↦ inl j
 ]
 has_applied x y id s a (inr i) = inr (subst (λ l. Contains l a) (sym s.ops) (Contains-append_left x.ops (s.op ∷ []) a i))
 
-applied_had : (x y : SiteState) (id : OpId) → Applies x id y → (a : Op) → Has y a → Has x a
+applied_had : (x y : SiteState) (id : OpId) → Applies x id y → (a : Op) → HasOrHolds y a → HasOrHolds x a
 applied_had x y id s a (inl i) = inl (held_more y.held x.held s.op s.takes.taken a i)
 applied_had x y id s a (inr i) = elim (Contains-push_cases x.ops s.op a (subst (λ l. Contains l a) s.ops i)) [
   | inl j ↦ inr j
@@ -194,7 +194,7 @@ applied_shorter x y id s =
     subst (λ l. length y.held < length l) (sym adds.with_it) (subst (λ l. length l < length (adds.before ++ s.op ∷ adds.after)) (sym adds.without) (rw length-append (rw length-append (omega arith))))
 
 -- a step that drops an operation shows one that doesn't fit
-pub dropped_ready : (x y z : SiteState) (id : OpId) (fault : OpFault) → KeepsAll x y → AreAccepted y.ops → IsValid y.ops → Drops y id fault z → DropsReady x id fault
+pub dropped_ready : (x y z : SiteState) (id : OpId) (fault : OpFault) → KeepsAll x y → AreAccepted y.ops → IsValid y.ops → ForgetsReady y id fault z → DropsReady x id fault
 dropped_ready x y z id fault keeps accepted valid d = record {
   state = y;
   moves = record { keeps = keeps; accepted = accepted; valid = valid };

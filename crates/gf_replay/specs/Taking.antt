@@ -23,8 +23,8 @@ of_line n line.Range = reading.Line n cause.Range
 of_line n line.OutOfMemory = reading.OutOfMemory
 
 -- the site holds a, or its history has it
-abbrev pub Has : SiteState → Op → Type 0
-Has x a = Contains x.held a ⊎ Contains x.ops a
+abbrev pub HasOrHolds : SiteState → Op → Type 0
+HasOrHolds x a = Contains x.held a ⊎ Contains x.ops a
 
 -- an offer of a adds it to what the site holds, or finds it there
 pub data Offers (x : SiteState) (a : Op) (y : SiteState) : Type 0 where
@@ -38,7 +38,7 @@ HoldsOthers x = (a : Op) → Contains x.held a → ¬ (Contains x.ops a)
 -- the site has the operations that it had
 -- if it held none of its history before, it holds none of its history now
 pub record KeepsAll (old new : SiteState) : Type 0 where
-  pub same : (a : Op) → Has old a ↔ Has new a
+  pub same : (a : Op) → HasOrHolds old a ↔ HasOrHolds new a
   pub others : HoldsOthers old → HoldsOthers new
 
 -- the site has the operations that it had, in a history by rule
@@ -57,7 +57,7 @@ pub record DropsReady (old : SiteState) (id : OpId) (fault : OpFault) : Type 0 w
   pub state : SiteState
   pub moves : Moves old state
   pub op : Op
-  pub there : Has old op
+  pub there : HasOrHolds old op
   pub named : op.id ≡ id
   pub ready : IsReady state.ops op
   pub refused : IsRefused state.ops op fault
@@ -85,7 +85,7 @@ RefusesOp n a x reading.OutOfMemory = ⊤
 -- these operations were taken: the site has them, and no others
 pub record HasTaken (ops : List Op) (x : SiteState) : Type 0 where
   pub one : AreOneById ops
-  pub all : (a : Op) → Contains ops a ↔ Has x a
+  pub all : (a : Op) → Contains ops a ↔ HasOrHolds x a
   pub others : HoldsOthers x
   pub accepted : AreAccepted x.ops
   pub valid : IsValid x.ops

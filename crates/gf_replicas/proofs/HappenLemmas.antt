@@ -21,7 +21,7 @@ use Rattle.gf_site.specs.declared.faults.AuthorFault.TheVariants as fault
 use Rattle.gf_site.specs.declared.site.Step.{Step}
 use Rattle.gf_site.specs.declared.site.Step.TheVariants.{Applied, Dropped, Idle}
 use Rattle.gf_site.specs.SiteState.{SiteState}
-use Rattle.gf_site.specs.Events.{Refuses, Authors, Steps, Drops}
+use Rattle.gf_site.specs.Events.{Refuses, Authors, Steps, ForgetsReady}
 use Rattle.gf_site.proofs.CourseLemmas.{course_ready}
 use Rattle.gf_site.proofs.StepLemmas.{not_refused}
 use Rattle.gf_replicas.specs.declared.event.Event.TheVariants.{Author, Offer, Step as step_event}
@@ -62,7 +62,7 @@ received messages s x y a (Err Clash) valid w there m range clash known held sam
 received messages s x y a (Err OutOfMemory) valid w there m range clash known held same kept = absurd (m refl)
 
 -- a site of the world drops nothing
-never_dropped : (messages : List Op) (s : ℕ) (x y : SiteState) (i : OpId) (f : OpFault) → IsValid messages → IsSiteOf messages s x → ¬ (Drops x i f y)
+never_dropped : (messages : List Op) (s : ℕ) (x y : SiteState) (i : OpId) (f : OpFault) → IsValid messages → IsSiteOf messages s x → ¬ (ForgetsReady x i f y)
 never_dropped messages s x y i f valid w d =
     let first = d.takes.first in
     let accepted = part_accepts messages x.ops valid w.has (course_ready w.course) d.op (w.holds d.op first.contained) first.ready in

@@ -19,14 +19,14 @@ use Rattle.gf_causal.proofs.WholeLemmas.{whole_delivered}
 use Rattle.gf_site.specs.declared.site.Step.{Step}
 use Rattle.gf_site.specs.declared.site.Step.TheVariants.{Applied, Dropped, Idle}
 use Rattle.gf_site.specs.SiteState.{SiteState, new_site}
-use Rattle.gf_site.specs.Events.{Steps, Applies, Drops}
+use Rattle.gf_site.specs.Events.{Steps, Applies, ForgetsReady}
 use Rattle.gf_site.proofs.CourseLemmas.{course_ready}
 use Rattle.gf_site.proofs.StepLemmas.{not_refused}
 use Rattle.gf_replicas.specs.declared.event.Event.{Event}
 use Rattle.gf_replicas.specs.declared.event.Event.TheVariants.{Author, Offer, Step as step_event}
 use Rattle.gf_replicas.specs.World.{WorldState, site_at, with_site, Receives, already, holds, Happens, authors, refuses, receives, no_message, applies, idle, no_site, sent, offer_in, IsWorld, start, next}
 use Rattle.gf_replicas.specs.Visits.{IsOffered, new, offer, step}
-use Rattle.gf_replicas.specs.Settled.{IsSettled}
+use Rattle.gf_replicas.specs.Settled.{HasHeardAll}
 use Rattle.gf_replicas.proofs.GrowingLemmas.{course_valid}
 use Rattle.gf_replicas.proofs.SitesLemmas.{site_cases}
 use Rattle.gf_replicas.proofs.SoundLemmas.{taken_from, world_sound}
@@ -135,7 +135,7 @@ offered_kept (next {offers} {old} {new = after} {e} w h) s a x m q = elim (Conta
 
 -- a site of a world that was offered all messages of the others has all, once nothing held is ready
 pub world_settled : {n : ℕ} {events : List Event} {offers : List (ℕ × Op)} {world : WorldState} → IsWorld n events offers world → (s : ℕ) (x : SiteState) → site_at world.sites s ≡ Some x →
-    IsSettled world offers s x → HaveSame x.ops world.messages
+    HasHeardAll world offers s x → HaveSame x.ops world.messages
 world_settled {world} w s x at told =
     let sound = world_sound w in
     let site = sound.sites s x at in
@@ -189,7 +189,7 @@ fed_applies h offers x y i f t =
     }
 
 -- a site that is offered operations of a valid history drops none
-fed_drops : (h offers : List Op) (x y : SiteState) (i : OpId) (f : OpFault) → IsValid h → IsFed h offers x → ¬ (Drops x i f y)
+fed_drops : (h offers : List Op) (x y : SiteState) (i : OpId) (f : OpFault) → IsValid h → IsFed h offers x → ¬ (ForgetsReady x i f y)
 fed_drops h offers x y i f valid k d =
     let first = d.takes.first in
     not_refused x.ops d.op f (part_accepts h x.ops valid k.delivery.from_offered k.delivery.in_turn d.op (k.holds d.op first.contained) first.ready) d.refused
@@ -207,5 +207,5 @@ fed {h} valid (step {offers} {old} {new = y} s o t) = fed_steps h offers old y s
 pub offered_settled : {n : ℕ} {h offers : List Op} {x : SiteState} → IsValid h → IsOffered n h offers x → ((a : Op) → Contains h a → Contains offers a) → NoneIsReady x.ops x.held → HaveSame x.ops h
 offered_settled {h} {x} valid o all quiet = let f = fed valid o in settled h x valid f.delivery (λ a m. f.all a (all a m)) quiet
 
-pub offered_not_dropped : {n : ℕ} {h offers : List Op} {x : SiteState} → IsValid h → IsOffered n h offers x → (i : OpId) (f : OpFault) (y : SiteState) → ¬ (Drops x i f y)
+pub offered_not_dropped : {n : ℕ} {h offers : List Op} {x : SiteState} → IsValid h → IsOffered n h offers x → (i : OpId) (f : OpFault) (y : SiteState) → ¬ (ForgetsReady x i f y)
 offered_not_dropped {h} {offers} {x} valid o i f y = fed_drops h offers x y i f valid (fed valid o)

@@ -16,7 +16,7 @@ pub record IsOfferedLast (events : List Event) (s m : ℕ) : Type 0 where
   pub no_change : (t : ℕ) (c : Change) → ¬ (Contains after (Author t c))
 
 -- the site x of the number s was offered all messages of the others, and holds none that is ready
-pub record IsSettled (world : WorldState) (offers : List (ℕ × Op)) (s : ℕ)
+pub record HasHeardAll (world : WorldState) (offers : List (ℕ × Op)) (s : ℕ)
     (x : SiteState) : Type 0 where
   pub offered : (a : Op) → Contains world.messages a → a.id.site ≢ s
       → Contains offers (s, a)

@@ -8,11 +8,11 @@ ghost use Rattle.gf_ops.specs.ValidHistory.{IsValid};
 ghost use Rattle.gf_causal.specs.Ready.{NoneIsReady};
 ghost use Rattle.gf_causal.specs.DeliveredPart.{HaveSame};
 ghost use Rattle.gf_site.specs.SiteState.{SiteState};
-ghost use Rattle.gf_site.specs.Events.{Drops};
+ghost use Rattle.gf_site.specs.Events.{ForgetsReady};
 ghost use Rattle.gf_replicas.specs.declared.event.Event.{Event};
 ghost use Rattle.gf_replicas.specs.World.{WorldState, site_at, IsWorld};
 ghost use Rattle.gf_replicas.specs.Sound.{IsSound};
-ghost use Rattle.gf_replicas.specs.Settled.{IsSettled, IsOfferedLast};
+ghost use Rattle.gf_replicas.specs.Settled.{HasHeardAll, IsOfferedLast};
 ghost use Rattle.gf_replicas.specs.Visits.{IsOffered};
 ghost use Rattle.gf_replicas.specs.Courses.{AreCourses, HaveEvents};
 
@@ -29,7 +29,7 @@ pub fn each_site_of_a_world_has_a_course()
 pub fn settled_sites_have_all_messages()
     ensures { (n : ℕ) (events : List Event) (offers : List (ℕ × Op)) (w : WorldState)
         → IsWorld n events offers w → (s : ℕ) (x : SiteState) → site_at w.sites s ≡ Some x
-        → IsSettled w offers s x → HaveSame x.ops w.messages }
+        → HasHeardAll w offers s x → HaveSame x.ops w.messages }
 {}
 
 /// What is offered to a site once the last change was made is among the offers to it.
@@ -46,7 +46,7 @@ pub fn a_site_that_is_offered_a_history_has_it()
         → ((a : Op) → Contains h a → Contains offers a) → NoneIsReady x.ops x.held
         → HaveSame x.ops h }
     ensures none_dropped { (n : ℕ) (h offers : List Op) (x : SiteState) → IsValid h
-        → IsOffered n h offers x → (i : OpId) (f : OpFault) (y : SiteState) → ¬ (Drops x i f y) }
+        → IsOffered n h offers x → (i : OpId) (f : OpFault) (y : SiteState) → ¬ (ForgetsReady x i f y) }
 {}
 
 /// Lists that have the same operations, each of one of the sites 1 to n, and are courses of these

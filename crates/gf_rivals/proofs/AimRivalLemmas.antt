@@ -24,7 +24,7 @@ use Rattle.gf_ops.proofs.ValidityLemmas.{same_op}
 use Rattle.gf_rivals.specs.declared.chain.Setter.{Setter}
 use Rattle.gf_rivals.specs.Aimed.{AimedState, AimsAtOne, AreAimed, AreNumbersOf, Clash, ClashesWithOne, IsConflict, IsMet, op_at}
 use Rattle.gf_rivals.specs.Chains.{position_of}
-use Rattle.gf_rivals.specs.Rivals.{IsDirect, IsNumber, Tells}
+use Rattle.gf_rivals.specs.Rivals.{IsDirect, IsNumber, AreChainsOf}
 use Rattle.gf_rivals.proofs.NumberLemmas.{some_one, contained_at, number_from, one_position, position_is}
 
 -- ---- what makes an object conflicts with nothing
@@ -54,7 +54,7 @@ there_at : (h : List Op) (r : Option ℕ) (x : Op) → op_at h r ≡ Some x → 
 there_at h (Some q) x e = (q, refl, e)
 there_at h None x e = absurd cc
 
-module _ (h : List Op) (o : ObjectId) (cs : List (List Setter)) (tells : Tells h o cs) (valid : IsValid h) (a : Op) (accepted : IsAccepted h a) (v : Value) {aim : List OpId} (change : a.change ≡ Set o v aim) where
+module _ (h : List Op) (o : ObjectId) (cs : List (List Setter)) (tells : AreChainsOf h o cs) (valid : IsValid h) (a : Op) (accepted : IsAccepted h a) (v : Value) {aim : List OpId} (change : a.change ≡ Set o v aim) where
   -- what the operation brings is on the object, and suited
   brought_on : (x : Op) → Brings h a x → object_of x ≡ o
   brought_on x b = elim b [
@@ -188,7 +188,7 @@ module _ (h : List Op) (o : ObjectId) (cs : List (List Setter)) (tells : Tells h
     )
 
 -- what clashes are two setters
-pub clash_numbers : (h : List Op) (o : ObjectId) (cs : List (List Setter)) → Tells h o cs → (m n : ℕ) → (c : Clash h cs m n) →
+pub clash_numbers : (h : List Op) (o : ObjectId) (cs : List (List Setter)) → AreChainsOf h o cs → (m n : ℕ) → (c : Clash h cs m n) →
     (p : ℕ) × (q : ℕ) × IsNumber cs m p × IsNumber cs n q × (slice_get h p ≡ Some c.first) × (slice_get h q ≡ Some c.second)
 clash_numbers h o cs tells m n c =
     let x = there_at h (position_of cs m) c.first c.at_first in

@@ -15,7 +15,7 @@ use Rattle.gf_ops.proofs.ListLemmas.{not_Contains-nil}
 use Rattle.gf_rivals.specs.declared.chain.Setter.{Setter}
 use Rattle.gf_rivals.specs.Aimed.{AimedState, AreAimed, AreNumbersOf, IsAimedState, IsAmong}
 use Rattle.gf_rivals.specs.Chains.{chain_of, setters, with_setter}
-use Rattle.gf_rivals.specs.Rivals.{IsNumber, Tells}
+use Rattle.gf_rivals.specs.Rivals.{IsNumber, AreChainsOf}
 use Rattle.gf_rivals.specs.Setters.{block}
 use Rattle.gf_rivals.proofs.LongerLemmas.{get_front, get_within, get_last}
 use Rattle.gf_rivals.proofs.NextLemmas.{fresh}
@@ -26,7 +26,7 @@ use Rattle.gf_rivals.proofs.TellsLemmas.{last_number, number_cases, numbered}
 pub none_aimed : (h : List Op) (cs : List (List Setter)) → ((n q : ℕ) → ¬ (IsNumber cs n q)) → AreAimed h cs []
 none_aimed h cs f = record { each = λ e i. absurd (not_Contains-nil e i); all = λ n q b k at m. absurd (f n q k) }
 
-module _ (h : List Op) (o : ObjectId) (cs : List (List Setter)) (tells : Tells h o cs) (a : Op) where
+module _ (h : List Op) (o : ObjectId) (cs : List (List Setter)) (tells : AreChainsOf h o cs) (a : Op) where
   abbrev longer : List Op
   longer = h ++ a ∷ []
 

@@ -32,8 +32,8 @@ use Rattle.gf_rivals.specs.Aimed.{Clash, ClashesWithOne, op_at, op_of}
 use Rattle.gf_rivals.specs.Chains.{chain_of, position_of, setters}
 use Rattle.gf_rivals.specs.Comparing.{is_value, number_gives, value_at}
 use Rattle.gf_rivals.specs.Giving.{op_value, value_set}
-use Rattle.gf_rivals.specs.Members.{AreFalling, AreMembers, AreMembersOf, CanClash, IsFirstUnknown, IsMember, IsOfChain, IsOther, OneChain, value_of}
-use Rattle.gf_rivals.specs.Rivals.{IsNumber, Tells}
+use Rattle.gf_rivals.specs.Members.{AreFalling, AreMembers, AreMembersOf, CanClash, IsFirstUnknown, PointsToOther, IsOfChain, IsOther, OneChain, value_of}
+use Rattle.gf_rivals.specs.Rivals.{IsNumber, AreChainsOf}
 use Rattle.gf_rivals.specs.Setters.{block, IsCountUpTo}
 use Rattle.gf_rivals.proofs.AimRivalLemmas.{clash_numbers}
 use Rattle.gf_rivals.proofs.NumberLemmas.{some_one, contained_at, got_at, place_short, position_is, rank_one}
@@ -56,7 +56,7 @@ pub record Stands (h : List Op) (o : ObjectId) (cs : List (List Setter)) (t : At
   pub attribute : attribute_of value ≡ t
   pub gives : value_of h cs n ≡ Some value
 
-module _ (h : List Op) (o : ObjectId) (cs : List (List Setter)) (tells : Tells h o cs) where
+module _ (h : List Op) (o : ObjectId) (cs : List (List Setter)) (tells : AreChainsOf h o cs) where
   -- a setter stands in its chain
   pub stands : (n q : ℕ) → (k : IsNumber cs n q) → Stands h o cs k.attribute k.site n
   stands n q k =
@@ -226,7 +226,7 @@ module _ (h : List Op) (cs : List (List Setter)) where
   other_kept n r m e f one = subst (λ z. IsOther h cs n z m.other) (sym e) (λ off. absurd (off one), λ c differ. absurd (f differ), λ c same. refl)
 
 -- a setter stands in one chain
-pub chain_told : (h : List Op) (o : ObjectId) (cs : List (List Setter)) → Tells h o cs → (n q : ℕ) → (k : IsNumber cs n q) → n / block ≡ chain_of k.attribute k.site
+pub chain_told : (h : List Op) (o : ObjectId) (cs : List (List Setter)) → AreChainsOf h o cs → (n q : ℕ) → (k : IsNumber cs n q) → n / block ≡ chain_of k.attribute k.site
 chain_told h o cs tells n q k =
     let p = place_short h o cs tells k.attribute k.site k.place k.setter k.within k.at in
     let m = k.number in
@@ -401,11 +401,11 @@ module _ (h : List Op) (cs : List (List Setter)) where
     tail o i = Contains-cons_tail x us o i
 
     -- the new member, by the last one
-    is_member : IsMember h cs (x ∷ us) new
+    is_member : PointsToOther h cs (x ∷ us) new
     is_member = by_last (slice_get ms (length ms - 1)) refl other
       where
         by_values : (l : Member) → Contains ms l × ((m : Member) → Contains ms m → l.number ≤ m.number) → OneChain l.number x → IsOther h cs x (Some l) r →
-            (value_of h cs x ≡ value_of h cs l.number) ⊎ (value_of h cs x ≢ value_of h cs l.number) → IsMember h cs (x ∷ us) new
+            (value_of h cs x ≡ value_of h cs l.number) ⊎ (value_of h cs x ≢ value_of h cs l.number) → PointsToOther h cs (x ∷ us) new
         by_values l w one f (inr differ) =
             let e : r ≡ Some l.number = f.1 one differ in
             let inside = are.listed l w.0 in
@@ -439,7 +439,7 @@ module _ (h : List Op) (cs : List (List Setter)) where
               ];
             }
 
-        by_chain : (l : Member) → Contains ms l × ((m : Member) → Contains ms m → l.number ≤ m.number) → IsOther h cs x (Some l) r → (OneChain l.number x) ⊎ (¬ (OneChain l.number x)) → IsMember h cs (x ∷ us) new
+        by_chain : (l : Member) → Contains ms l × ((m : Member) → Contains ms m → l.number ≤ m.number) → IsOther h cs x (Some l) r → (OneChain l.number x) ⊎ (¬ (OneChain l.number x)) → PointsToOther h cs (x ∷ us) new
         by_chain l w f (inl one) = by_values l w one f (options_parted (value_of h cs x) (value_of h cs l.number))
         by_chain l w f (inr off) = record {
           is = λ o g. absurd (let k : None ≡ Some o = sym (f.0 off) ∙ g in cc);
@@ -454,7 +454,7 @@ module _ (h : List Op) (cs : List (List Setter)) where
           ];
         }
 
-        by_last : (q : Option Member) → slice_get ms (length ms - 1) ≡ q → IsOther h cs x q r → IsMember h cs (x ∷ us) new
+        by_last : (q : Option Member) → slice_get ms (length ms - 1) ≡ q → IsOther h cs x q r → PointsToOther h cs (x ∷ us) new
         by_last None e f = record {
           is = λ o g. absurd (let k : None ≡ Some o = sym f ∙ g in cc);
           told = λ y i c le d. elim (Contains-cons_cases x us y i) [
@@ -465,7 +465,7 @@ module _ (h : List Op) (cs : List (List Setter)) where
         by_last (Some l) e f = by_chain l (last_least l e) f (cases_eq (l.number / block) (x / block))
 
     -- an old member does not see the new one, which is below it
-    still_member : (m : Member) → Contains ms m → IsMember h cs (x ∷ us) m
+    still_member : (m : Member) → Contains ms m → PointsToOther h cs (x ∷ us) m
     still_member m i =
         let k = are.each m i in
         let low = below m.number (are.listed m i) in
@@ -505,7 +505,7 @@ module _ (h : List Op) (cs : List (List Setter)) where
       ];
       each = λ m i. elim (Contains-push_cases ms new m i) [
         | inl j ↦ still_member m j
-        | inr e ↦ subst (λ z. IsMember h cs (x ∷ us) z) e is_member
+        | inr e ↦ subst (λ z. PointsToOther h cs (x ∷ us) z) e is_member
       ];
     }
 

@@ -18,15 +18,15 @@ use Rattle.gf_rivals.specs.declared.chain.Setter.{Setter}
 use Rattle.gf_rivals.specs.Setters.{block}
 use Rattle.gf_rivals.specs.Chains.{chain_of, setters}
 use Rattle.gf_rivals.specs.Giving.{value_set}
-use Rattle.gf_rivals.specs.Naming.{AddsNamed, HasSeq, IsNamed, IsNumbered}
-use Rattle.gf_rivals.specs.Rivals.{Tells}
+use Rattle.gf_rivals.specs.Naming.{AddsNamed, HasSeq, IsNamed, IsSetterNumber}
+use Rattle.gf_rivals.specs.Rivals.{AreChainsOf}
 use Rattle.gf_rivals.proofs.IndexLemmas.{Contains-joined}
 use Rattle.gf_rivals.proofs.NumberLemmas.{some_one, contained_at}
 
 -- ---- in one chain
 
 -- what has the number in its chain has the place there
-pub place_in : (cs : List (List Setter)) (i k m n : ℕ) (ss : List Setter) → ss ≡ slice_index_or cs i [] → i ≡ k → IsNumbered cs k m n → (p : ℕ) × HasSeq ss m p × (n ≡ i * block + p)
+pub place_in : (cs : List (List Setter)) (i k m n : ℕ) (ss : List Setter) → ss ≡ slice_index_or cs i [] → i ≡ k → IsSetterNumber cs k m n → (p : ℕ) × HasSeq ss m p × (n ≡ i * block + p)
 place_in cs i k m n ss e same w = (
   w.place,
   subst (λ z. HasSeq z m w.place) (sym (e ∙ ap (λ z. slice_index_or cs z []) same)) w.setter,
@@ -38,9 +38,9 @@ place_in cs i k m n ss e same w = (
 pub own_site : (h : List Op) → IsValid h → (op : Op) (id : OpId) → Contains h op → op.id ≡ id → IsSite id.site
 own_site h valid op id c e = subst (λ (z : OpId). IsSite z.site) e (site_in_range op (valid.in_range op c))
 
-module _ (h : List Op) (o : ObjectId) (cs : List (List Setter)) (tells : Tells h o cs) (id : OpId) where
+module _ (h : List Op) (o : ObjectId) (cs : List (List Setter)) (tells : AreChainsOf h o cs) (id : OpId) where
   -- a setter with the number of the id at its site is that of the id
-  pub named_from : (t : Attr) (n : ℕ) → IsSite id.site → IsNumbered cs (chain_of t (id.site - 1)) id.seq n → IsNamed h cs id n
+  pub named_from : (t : Attr) (n : ℕ) → IsSite id.site → IsSetterNumber cs (chain_of t (id.site - 1)) id.seq n → IsNamed h cs id n
   named_from t n site w =
       let within : id.site - 1 < 8 = let l = site in omega (arith, l.0, l.1) in
       let e = w.setter.setter in
@@ -55,13 +55,13 @@ module _ (h : List Op) (o : ObjectId) (cs : List (List Setter)) (tells : Tells h
         named = λ i. record { site = own i; seq = seq i };
       }
 
-  pub some_named : (t : Attr) (r : Option ℕ) → IsSite id.site → IfSome r (λ n. IsNumbered cs (chain_of t (id.site - 1)) id.seq n) → IfSome r (λ n. IsNamed h cs id n)
+  pub some_named : (t : Attr) (r : Option ℕ) → IsSite id.site → IfSome r (λ n. IsSetterNumber cs (chain_of t (id.site - 1)) id.seq n) → IfSome r (λ n. IsNamed h cs id n)
   some_named t (Some n) site w = named_from t n site w
   some_named t None site w = tt
 
   -- the setter of the id stands in the chain of the attribute that its operation sets
   pub numbered_from : IsValid h → (op : Op) (x : ObjectId) (v : Value) (aim : List OpId) → Contains h op → op.id ≡ id → op.change ≡ Set x v aim →
-      (t : Attr) → t ≡ attribute_of v → (n : ℕ) → IsNamed h cs id n → IsNumbered cs (chain_of t (id.site - 1)) id.seq n
+      (t : Attr) → t ≡ attribute_of v → (n : ℕ) → IsNamed h cs id n → IsSetterNumber cs (chain_of t (id.site - 1)) id.seq n
   numbered_from valid op x v aim c e change t own n k =
       let m = k.number in
       let is = tells.each m.attribute m.site m.place m.setter m.within m.at in

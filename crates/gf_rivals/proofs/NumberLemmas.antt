@@ -13,7 +13,7 @@ use Rattle.gf_ops.specs.Attribute.{attribute_of}
 use Rattle.gf_rivals.specs.declared.chain.Setter.{Setter}
 use Rattle.gf_rivals.specs.Setters.{block}
 use Rattle.gf_rivals.specs.Chains.{rank, chain_of, setters, position_of}
-use Rattle.gf_rivals.specs.Rivals.{IsNumber, Tells}
+use Rattle.gf_rivals.specs.Rivals.{IsNumber, AreChainsOf}
 use Rattle.gf_rivals.proofs.SetterLemmas.{from_place}
 
 pub some_one : {X : Type 0} (a b : X) → Some a ≡ Some b → a ≡ b
@@ -115,7 +115,7 @@ number_in cs k p e l at =
       position = refl;
     }
 
-module _ (h : List Op) (o : ObjectId) (cs : List (List Setter)) (tells : Tells h o cs) where
+module _ (h : List Op) (o : ObjectId) (cs : List (List Setter)) (tells : AreChainsOf h o cs) where
   pub place_short : (t : Attr) (s p : ℕ) (e : Setter) → s < 8 → slice_get (setters cs t s) p ≡ Some e → p < block
   place_short t s p e l a = let w = (from_place (setters cs t s) p e a).0 in let k = (tells.ordered t s l).short in omega (arith, w, k)
 

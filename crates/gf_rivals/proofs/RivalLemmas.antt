@@ -32,7 +32,7 @@ use Rattle.gf_rivals.proofs.FingerprintLemmas.{told_one}
 use Rattle.gf_rivals.specs.declared.chain.Setter.{Setter}
 use Rattle.gf_rivals.specs.Setters.{block}
 use Rattle.gf_rivals.specs.Chains.{chain_of, setters, position_of, IsUnknown}
-use Rattle.gf_rivals.specs.Rivals.{IsNumber, Tells, GivesAt, AreRivals, IsDirect}
+use Rattle.gf_rivals.specs.Rivals.{IsNumber, AreChainsOf, GivesAt, AreRivals, IsDirect}
 use Rattle.gf_rivals.proofs.NextLemmas.{fresh, unknown}
 use Rattle.gf_rivals.proofs.NumberLemmas.{some_one, contained_at, one_position, position_is, number_from}
 
@@ -58,7 +58,7 @@ given_is v t w e = absurd cc
 
 -- ---- one direction, and the other
 
-module _ (h : List Op) (o : ObjectId) (cs : List (List Setter)) (tells : Tells h o cs) where
+module _ (h : List Op) (o : ObjectId) (cs : List (List Setter)) (tells : AreChainsOf h o cs) where
   module _ (valid : IsValid h) (a : Op) (in_range : IsInRange a) (accepted : IsAccepted h a) (v : Value) {aim : List OpId} (change : a.change ≡ Set o v aim) (d : List ℕ) (rivals : AreRivals h o cs v a.past d) where
     abbrev t : Attr
     t = attribute_of v
@@ -154,7 +154,7 @@ module _ (h : List Op) (o : ObjectId) (cs : List (List Setter)) (tells : Tells h
 
 -- ---- by what is found
 
-module _ (h : List Op) (o : ObjectId) (cs : List (List Setter)) (tells : Tells h o cs) (ix : List (Fingerprint × List ℕ)) (index : IsIndex h cs ix) (v : Value) (past : Clock)
+module _ (h : List Op) (o : ObjectId) (cs : List (List Setter)) (tells : AreChainsOf h o cs) (ix : List (Fingerprint × List ℕ)) (index : IsIndex h cs ix) (v : Value) (past : Clock)
     (u : List ℕ) (unknowns : (n : ℕ) → Contains u n ↔ IsUnknown cs (attribute_of v) past 8 n) where
   -- a setter that gives v
   Gives : ℕ → Type 0

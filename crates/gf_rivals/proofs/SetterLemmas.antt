@@ -12,7 +12,7 @@ use Rattle.gf_maximal.proofs.RunSetLemmas.{Contains-range}
 use Rattle.gf_maximal.proofs.UnitedLemmas.{Contains-united}
 use Rattle.gf_maximal.specs.Growing.{united}
 use Rattle.gf_rivals.specs.declared.chain.Setter.{Setter}
-use Rattle.gf_rivals.specs.Setters.{block, AreSetters, IsCountUpTo, IsAbove}
+use Rattle.gf_rivals.specs.Setters.{block, AreSetters, IsCountUpTo, IsNumberAbove}
 use Rattle.gf_rivals.specs.Chains.{rank, chain_of, setters, IsUnknown}
 
 seq_up_to : (m n : ℕ) → nat_le m n ≡ true → m ≤ n
@@ -47,7 +47,7 @@ a_setter : Setter
 a_setter = record { seq = 0; position = 0 }
 
 -- the numbers from the first unknown one on are those of the setters above m
-pub above_told : (ss : List Setter) (b m k n : ℕ) (g : List ℕ) → IsCountUpTo ss m k → g ≡ range_with_len (b + k) (b + length ss - (b + k)) → Contains g n ↔ IsAbove ss b m n
+pub above_told : (ss : List Setter) (b m k n : ℕ) (g : List ℕ) → IsCountUpTo ss m k → g ≡ range_with_len (b + k) (b + length ss - (b + k)) → Contains g n ↔ IsNumberAbove ss b m n
 above_told ss b m k n g c e =
     let r = Contains-range (b + length ss - (b + k)) (b + k) n in
     let bound = c.bound in (
@@ -80,11 +80,11 @@ above_told ss b m k n g c e =
 
 -- ---- site by site
 
-pub unknown_more : (cs : List (List Setter)) (t : Attr) (past : Clock) (m j n : ℕ) → j ≡ m + 1 → IsUnknown cs t past j n ↔ (IsUnknown cs t past m n ⊎ IsAbove (setters cs t m) (chain_of t m * block) (entry past (m + 1)) n)
+pub unknown_more : (cs : List (List Setter)) (t : Attr) (past : Clock) (m j n : ℕ) → j ≡ m + 1 → IsUnknown cs t past j n ↔ (IsUnknown cs t past m n ⊎ IsNumberAbove (setters cs t m) (chain_of t m * block) (entry past (m + 1)) n)
 unknown_more cs t past m j n e = (
   λ h. let w = h.within in elim (cases_lt h.site m) [
     | inl l ↦ inl (record { site = h.site; within = l; setter = h.setter })
-    | inr l ↦ let same : h.site ≡ m = omega arith in inr (subst (λ z. IsAbove (setters cs t z) (chain_of t z * block) (entry past (z + 1)) n) same h.setter)
+    | inr l ↦ let same : h.site ≡ m = omega arith in inr (subst (λ z. IsNumberAbove (setters cs t z) (chain_of t z * block) (entry past (z + 1)) n) same h.setter)
   ],
   λ h. elim h [
     | inl i ↦ record { site = i.site; within = let w = i.within in omega arith; setter = i.setter }
@@ -132,7 +132,7 @@ setters_push ss qs s e a f z b = subst AreSetters (sym e) (record {
       | inr l ↦ omega arith
     ]
 
-pub above_result : {B : Type 0} (r : Result (List ℕ) B) (ss : List Setter) (b m k l : ℕ) → IsCountUpTo ss m k → l ≡ length ss → IfOk r (λ g. g ≡ range_with_len (b + k) (b + l - (b + k))) → IfOk r (λ g. (n : ℕ) → Contains g n ↔ IsAbove ss b m n)
+pub above_result : {B : Type 0} (r : Result (List ℕ) B) (ss : List Setter) (b m k l : ℕ) → IsCountUpTo ss m k → l ≡ length ss → IfOk r (λ g. g ≡ range_with_len (b + k) (b + l - (b + k))) → IfOk r (λ g. (n : ℕ) → Contains g n ↔ IsNumberAbove ss b m n)
 above_result (Ok g) ss b m k l c e f = λ n. above_told ss b m k n g c (subst (λ z. g ≡ range_with_len (b + k) (b + z - (b + k))) e f)
 above_result (Err x) ss b m k l c e f = tt
 
@@ -147,13 +147,13 @@ counted ss qs m k e b p = subst (λ z. IsCountUpTo z m k) (sym e) (record {
     seq_past a c h = grind (arith, nat_tests)
 
 -- the found ones and those of the chain ss, where it has some
-pub found_more : (found more new : List ℕ) (ss : List Setter) (b m : ℕ) → ((n : ℕ) → Contains more n ↔ IsAbove ss b m n) → new ≡ united found more → (n : ℕ) → Contains new n ↔ (Contains found n ⊎ IsAbove ss b m n)
+pub found_more : (found more new : List ℕ) (ss : List Setter) (b m : ℕ) → ((n : ℕ) → Contains more n ↔ IsNumberAbove ss b m n) → new ≡ united found more → (n : ℕ) → Contains new n ↔ (Contains found n ⊎ IsNumberAbove ss b m n)
 found_more found more new ss b m f e n = (
   λ h. elim ((Contains-united found more n).0 (subst (λ z. Contains z n) e h)) [ inl i ↦ inl i | inr i ↦ inr ((f n).0 i) ],
   λ h. subst (λ z. Contains z n) (sym e) ((Contains-united found more n).1 (elim h [ inl i ↦ inl i | inr i ↦ inr ((f n).1 i) ])),
 )
 
-pub found_none : (found more : List ℕ) (ss : List Setter) (b m : ℕ) → ((n : ℕ) → Contains more n ↔ IsAbove ss b m n) → more ≡ [] → (n : ℕ) → Contains found n ↔ (Contains found n ⊎ IsAbove ss b m n)
+pub found_none : (found more : List ℕ) (ss : List Setter) (b m : ℕ) → ((n : ℕ) → Contains more n ↔ IsNumberAbove ss b m n) → more ≡ [] → (n : ℕ) → Contains found n ↔ (Contains found n ⊎ IsNumberAbove ss b m n)
 found_none found more ss b m f e n = (
   λ h. inl h,
   λ h. elim h [ inl i ↦ i | inr i ↦ absurd (not_Contains-nil n (subst (λ z. Contains z n) e ((f n).1 i))) ],
@@ -162,14 +162,14 @@ found_none found more ss b m f e n = (
 -- the found ones, with those of one more site
 pub site_more : (cs : List (List Setter)) (t : Attr) (past : Clock) (m j f : ℕ) (found new : List ℕ) → j ≡ m + 1 → f ≡ rank t * 8 →
     ((n : ℕ) → Contains found n ↔ IsUnknown cs t past m n) →
-    ((n : ℕ) → Contains new n ↔ (Contains found n ⊎ IsAbove (get_or cs (f + m) []) ((f + m) * block) (get_or past.0 m 0) n)) →
+    ((n : ℕ) → Contains new n ↔ (Contains found n ⊎ IsNumberAbove (get_or cs (f + m) []) ((f + m) * block) (get_or past.0 m 0) n)) →
     (n : ℕ) → Contains new n ↔ IsUnknown cs t past j n
 site_more cs t past m j f found new e g x y n =
     let at : f + m ≡ chain_of t m = ap (λ k. k + m) g in
     let known : get_or past.0 m 0 ≡ entry past (m + 1) = let d : m ≡ m + 1 - 1 = omega arith in ap (λ k. get_or past.0 k 0) d in
-    let one : Contains new n ↔ (Contains found n ⊎ IsAbove (setters cs t m) (chain_of t m * block) (entry past (m + 1)) n) =
-    subst (λ k. Contains new n ↔ (Contains found n ⊎ IsAbove (setters cs t m) (chain_of t m * block) k n)) known
-    (subst (λ k. Contains new n ↔ (Contains found n ⊎ IsAbove (get_or cs k []) (k * block) (get_or past.0 m 0) n)) at (y n)) in
+    let one : Contains new n ↔ (Contains found n ⊎ IsNumberAbove (setters cs t m) (chain_of t m * block) (entry past (m + 1)) n) =
+    subst (λ k. Contains new n ↔ (Contains found n ⊎ IsNumberAbove (setters cs t m) (chain_of t m * block) k n)) known
+    (subst (λ k. Contains new n ↔ (Contains found n ⊎ IsNumberAbove (get_or cs k []) (k * block) (get_or past.0 m 0) n)) at (y n)) in
     let step = unknown_more cs t past m j n e in (
       λ h. step.1 (elim (one.0 h) [ inl i ↦ inl ((x n).0 i) | inr i ↦ inr i ]),
       λ h. one.1 (elim (step.0 h) [ inl i ↦ inl ((x n).1 i) | inr i ↦ inr i ]),

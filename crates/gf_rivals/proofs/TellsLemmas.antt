@@ -19,7 +19,7 @@ use Rattle.gf_ops.proofs.HistoryLemmas.{site_in_range, seq_in_range}
 use Rattle.gf_rivals.specs.declared.chain.Setter.{Setter}
 use Rattle.gf_rivals.specs.Setters.{block, AreSetters}
 use Rattle.gf_rivals.specs.Chains.{rank, chain_of, setters, no_chains, with_chain, with_setter}
-use Rattle.gf_rivals.specs.Rivals.{IsSetter, IsNumber, Tells}
+use Rattle.gf_rivals.specs.Rivals.{IsSetter, IsNumber, AreChainsOf}
 use Rattle.gf_rivals.specs.declared.fingerprint.Fingerprint.{Fingerprint}
 use Rattle.gf_rivals.specs.Fingerprints.{fingerprint_of}
 use Rattle.gf_rivals.specs.Giving.{op_value, value_set, fingerprint_given}
@@ -52,7 +52,7 @@ as_many zero = refl
 as_many (suc n) = let r = as_many n in omega arith
 
 -- no operation has set anything
-pub empty_tells : (o : ObjectId) → Tells [] o no_chains
+pub empty_tells : (o : ObjectId) → AreChainsOf [] o no_chains
 empty_tells o = record {
   each = λ t s p e l i. absurd (let n : slice_get [] p ≡ Some e = ap (λ z. slice_get z p) (sym (empty (chain_of t s) 48)) ∙ i in cc);
   all = λ q b v m g c. absurd cc;
@@ -64,7 +64,7 @@ empty_tells o = record {
   count = as_many 48;
 }
 
-module _ (h : List Op) (o : ObjectId) (cs : List (List Setter)) (tells : Tells h o cs) (a : Op) where
+module _ (h : List Op) (o : ObjectId) (cs : List (List Setter)) (tells : AreChainsOf h o cs) (a : Op) where
   abbrev longer : List Op
   longer = h ++ a ∷ []
 
@@ -72,7 +72,7 @@ module _ (h : List Op) (o : ObjectId) (cs : List (List Setter)) (tells : Tells h
   still t s e i = record { op = i.op; at = get_front h a e.position i.op i.at; site = i.site; seq = i.seq; value = i.value; aim = i.aim; change = i.change; attribute = i.attribute }
 
   -- an operation that does not set anything of the object
-  pub tells_other : ((v : Value) (aim : List OpId) → a.change ≢ Set o v aim) → Tells longer o cs
+  pub tells_other : ((v : Value) (aim : List OpId) → a.change ≢ Set o v aim) → AreChainsOf longer o cs
   tells_other n = record {
     each = λ t s p e l i. still t s e (tells.each t s p e l i);
     all = λ q b v m g c. elim (get_cases h a q b g) [
@@ -216,7 +216,7 @@ module _ (h : List Op) (o : ObjectId) (cs : List (List Setter)) (tells : Tells h
     ]
 
     -- ONE MORE SETTER
-    pub tells_setter : Tells longer o new
+    pub tells_setter : AreChainsOf longer o new
     tells_setter = record {
       each = each_new;
       all = λ q b w m g c. elim (get_cases h a q b g) [

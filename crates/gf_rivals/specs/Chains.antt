@@ -7,7 +7,7 @@ use Rattle.gf_ops.specs.declared.change.Attr.TheVariants.{Place, Points, Size, C
 use Rattle.gf_ops.specs.declared.op.Clock.{Clock}
 use Rattle.gf_ops.specs.OperationOrder.{entry}
 use Rattle.gf_rivals.specs.declared.chain.Setter.{Setter}
-use Rattle.gf_rivals.specs.Setters.{block, IsAbove}
+use Rattle.gf_rivals.specs.Setters.{block, IsNumberAbove}
 
 -- the index of the attribute
 abbrev pub rank : Attr → ℕ
@@ -30,7 +30,7 @@ setters cs t s = slice_index_or cs (chain_of t s) []
 pub record IsUnknown (cs : List (List Setter)) (t : Attr) (past : Clock) (m n : ℕ) : Type 0 where
   pub site : ℕ
   pub within : site < m
-  pub setter : IsAbove (setters cs t site) (chain_of t site * block) (entry past (site + 1)) n
+  pub setter : IsNumberAbove (setters cs t site) (chain_of t site * block) (entry past (site + 1)) n
 
 -- the position of the setter with the number n
 abbrev pub position_of : List (List Setter) → ℕ → Option ℕ

@@ -15,7 +15,7 @@ use Rattle.gf_rivals.specs.declared.members.Member.{Member}
 use Rattle.gf_rivals.specs.Aimed.{Clash, op_of}
 use Rattle.gf_rivals.specs.Chains.{chain_of, setters}
 use Rattle.gf_rivals.specs.Giving.{op_value}
-use Rattle.gf_rivals.specs.Rivals.{IsNumber, Tells}
+use Rattle.gf_rivals.specs.Rivals.{IsNumber, AreChainsOf}
 use Rattle.gf_rivals.specs.Setters.{block}
 
 -- the value of the setter with the number n
@@ -40,7 +40,7 @@ IsOther h cs n (Some m) r = (¬ (OneChain m.number n) → r ≡ None)
     × (OneChain m.number n → value_of h cs n ≡ value_of h cs m.number → r ≡ m.other)
 
 -- the other of a member is the first one of us behind it, in its chain, with another value
-pub record IsMember (h : List Op) (cs : List (List Setter)) (us : List ℕ)
+pub record PointsToOther (h : List Op) (cs : List (List Setter)) (us : List ℕ)
     (m : Member) : Type 0 where
   pub is : (o : ℕ) → m.other ≡ Some o → Contains us o × OneChain o m.number
       × (m.number ≤ o) × (value_of h cs o ≢ value_of h cs m.number)
@@ -54,7 +54,7 @@ pub record AreMembers (h : List Op) (cs : List (List Setter)) (us : List ℕ)
   pub falling : AreFalling ms
   pub listed : (m : Member) → Contains ms m → Contains us m.number
   pub all : (y : ℕ) → Contains us y → (m : Member) × Contains ms m × (m.number ≡ y)
-  pub each : (m : Member) → Contains ms m → IsMember h cs us m
+  pub each : (m : Member) → Contains ms m → PointsToOther h cs us m
 
 -- us are numbers of setters
 abbrev pub ListsSetters : List (List Setter) → List ℕ → Type 0
@@ -63,7 +63,7 @@ ListsSetters cs us = (n : ℕ) → Contains us n → (q : ℕ) × IsNumber cs n 
 -- ms are members of the object o
 pub record AreMembersOf (h : List Op) (o : ObjectId) (cs : List (List Setter)) (us : List ℕ)
     (ms : List Member) : Type 0 where
-  pub tells : Tells h o cs
+  pub tells : AreChainsOf h o cs
   pub setters : ListsSetters cs us
   pub members : AreMembers h cs us ms
 

@@ -37,7 +37,7 @@ pub record IsNumber (cs : List (List Setter)) (n q : ℕ) : Type 0 where
   pub position : setter.position ≡ q
 
 -- the chains have the setters of o in h, those of each site in their order
-pub record Tells (h : List Op) (o : ObjectId) (cs : List (List Setter)) : Type 0 where
+pub record AreChainsOf (h : List Op) (o : ObjectId) (cs : List (List Setter)) : Type 0 where
   pub each : (t : Attr) (s p : ℕ) (e : Setter) → s < 8
       → slice_get (setters cs t s) p ≡ Some e → IsSetter h o t s e
   pub all : (q : ℕ) (b : Op) (v : Value) (aim : List OpId) → slice_get h q ≡ Some b

@@ -22,7 +22,7 @@ pub record IsCountUpTo (ss : List Setter) (m k : ℕ) : Type 0 where
       → m < (slice_index_or ss i d).seq
 
 -- n is what the number of one of the setters above m is, where b is that of the first
-pub record IsAbove (ss : List Setter) (b m n : ℕ) : Type 0 where
+pub record IsNumberAbove (ss : List Setter) (b m n : ℕ) : Type 0 where
   pub place : ℕ
   pub setter : Setter
   pub at : slice_get ss place ≡ Some setter

@@ -4,7 +4,7 @@ ghost use Rattle.std.specs.Prelude.{◌≡◌, ◌↔◌, ◌++◌, ◌∷◌, [
 ghost use Rattle.std.specs.Prelude.{IfOk, IfSome, OnOk, OnErr, Some};
 ghost use Rattle.gf_rivals.specs.Naming.{HasSeq};
 ghost use Rattle.std.specs.Prelude.{option_copied, slice_get, slice_index_or, length};
-ghost use Rattle.gf_rivals.specs.Setters.{block, IsCountUpTo, IsAbove};
+ghost use Rattle.gf_rivals.specs.Setters.{block, IsCountUpTo, IsNumberAbove};
 
 use gf_maximal::Numbers;
 use gf_shape::OutOfMemory;
@@ -93,7 +93,7 @@ impl Chain {
     pub fn unknown(&self, alloc: Global, base: usize, count: u32) -> Result<Numbers, OutOfMemory>
         requires { base + block ≤ 2 ^ 64 }
         ensures { IfOk result (λ found. (n : _)
-            → Contains found n ↔ IsAbove self.now base count n) }
+            → Contains found n ↔ IsNumberAbove self.now base count n) }
     {
         let len = self.len();
         let known = self.count_up_to(count);

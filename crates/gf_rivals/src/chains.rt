@@ -4,9 +4,9 @@ ghost use Rattle.std.specs.Prelude.{◌≡◌, ◌↔◌, ◌⊎◌, ◌+◌, �
 ghost use Rattle.std.specs.Prelude.{Contains, IfOk, IfSome, OnOk, OnErr, length, slice_index_or};
 ghost use Rattle.std.specs.Prelude.{Some, option_copied, unwrap_or};
 ghost use Rattle.gf_rivals.specs.Members.{IsFirstUnknown};
-ghost use Rattle.gf_rivals.specs.Naming.{IsNumbered};
+ghost use Rattle.gf_rivals.specs.Naming.{IsSetterNumber};
 ghost use Rattle.gf_ops.specs.OperationOrder.{IsSite};
-ghost use Rattle.gf_rivals.specs.Setters.{block, IsAbove};
+ghost use Rattle.gf_rivals.specs.Setters.{block, IsNumberAbove};
 ghost use Rattle.gf_rivals.specs.Chains.{rank, chain_of, setters, no_chains, position_of};
 ghost use Rattle.gf_rivals.specs.Chains.{with_setter, with_chain, IsUnknown};
 
@@ -106,7 +106,7 @@ impl Chains {
     ) -> Result<Numbers, OutOfMemory>
         requires { index < 48 }
         ensures { let ss = slice_index_or self.now index [] in IfOk result (λ all. (n : _)
-            → Contains all n ↔ (Contains found n ⊎ IsAbove ss (index * block) count n)) }
+            → Contains all n ↔ (Contains found n ⊎ IsNumberAbove ss (index * block) count n)) }
     {
         let Some(chain) = self.chain(index) else {
             return Ok(found);
@@ -163,8 +163,8 @@ impl Chains {
     pub(crate) fn number(&self, attribute: Attr, id: OpId) -> Option<usize>
         requires { IsSite id.site }
         ensures some { IfSome result (λ n.
-            IsNumbered self.now (chain_of attribute (id.site - 1)) id.seq n) }
-        ensures all { (n : _) → IsNumbered self.now (chain_of attribute (id.site - 1)) id.seq n
+            IsSetterNumber self.now (chain_of attribute (id.site - 1)) id.seq n) }
+        ensures all { (n : _) → IsSetterNumber self.now (chain_of attribute (id.site - 1)) id.seq n
             → result ≡ Some n }
         ensures bound { IfSome result (λ n. n + 1 < 2 ^ 64) }
     {

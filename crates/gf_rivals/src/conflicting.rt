@@ -5,7 +5,7 @@ ghost use Rattle.gf_ops.specs.Attribute.{attribute_of};
 ghost use Rattle.gf_rivals.specs.Chains.{IsUnknown};
 ghost use Rattle.gf_rivals.specs.Comparing.{number_gives, AddsIf};
 ghost use Rattle.gf_rivals.specs.Indexes.{IsIndex};
-ghost use Rattle.gf_rivals.specs.Rivals.{Tells, AreRivals};
+ghost use Rattle.gf_rivals.specs.Rivals.{AreChainsOf, AreRivals};
 
 use crate::chains::Chains;
 use crate::fingerprint::{fingerprint_of, has_own_fingerprint};
@@ -65,7 +65,7 @@ pub fn rivals(
     unknown: Numbers,
 ) -> Result<Numbers, OutOfMemory>
     ensures { IfOk result (λ found. (o : _) (past : _)
-        → Tells history.now.ops o chains.now
+        → AreChainsOf history.now.ops o chains.now
         → IsIndex history.now.ops chains.now index.now
         → ((n : _) → Contains unknown n ↔ IsUnknown chains.now (attribute_of value.now) past 8 n)
         → AreRivals history.now.ops o chains.now value.now past found) }

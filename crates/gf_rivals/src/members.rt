@@ -8,7 +8,7 @@ ghost use Rattle.gf_rivals.specs.Aimed.{Clash, ClashesWithOne, op_of};
 ghost use Rattle.gf_rivals.specs.Comparing.{AddsIf};
 ghost use Rattle.gf_rivals.specs.Members.{AreFalling, AreMembers, AreMembersOf, CanClash};
 ghost use Rattle.gf_rivals.specs.Members.{IsOfChain, IsOther, ListsSetters, value_of};
-ghost use Rattle.gf_rivals.specs.Rivals.{Tells};
+ghost use Rattle.gf_rivals.specs.Rivals.{AreChainsOf};
 ghost use Rattle.gf_rivals.specs.Setters.{block};
 
 use crate::chains::{BLOCK, Chains};
@@ -208,7 +208,7 @@ pub fn clashing(
     others: &Numbers,
     among: &Numbers,
 ) -> Result<Numbers, OutOfMemory>
-    ensures { IfOk result (λ found. (o : _) → Tells history.now.ops o chains.now
+    ensures { IfOk result (λ found. (o : _) → AreChainsOf history.now.ops o chains.now
         → ListsSetters chains.now others.now → (n : _) → Contains found n
         ↔ (Contains among.now n × ClashesWithOne history.now.ops chains.now others.now n)) }
 {

@@ -9,7 +9,7 @@ use Rattle.std.proofs.lemmas.List.{append-nil, get_or-drop, get_or-take, length-
 use Rattle.std.proofs.lemmas.Grind.{flat_map-append}
 use Rattle.std.proofs.lemmas.List.Folds.{list_any-append}
 use Rattle.gf_scanline.specs.declared.columns.Columns.{Columns}
-use Rattle.gf_scanline.specs.Free.{IsFirstBehind, IsFirstFrom, left_of, some_from}
+use Rattle.gf_scanline.specs.Free.{IsFirstBehind, AreFirstBefore, left_of, some_from}
 use Rattle.gf_scanline.specs.Strips.{AreRising, is_among, is_free, is_from}
 use Rattle.gf_scanline.proofs.FreeLemmas.{free_more, none_between, pieces, whole}
 
@@ -295,7 +295,7 @@ front_below n gs i f g (k, h, e) =
     let l : k < i = let b = length-take-le i gs f.bound in omega (arith, h, b) in
     subst (λ (z : Columns). z.to ≤ n) (sym (get_or-take i gs k g l) ∙ e) (f.below k g l)
 
-pub back_above : (n : ℕ) (gs : List Columns) (i m : ℕ) → IsFirstFrom n gs i → i ≤ m → m ≤ length gs → (g : Columns) → Contains (drop m gs) g → n ≤ g.from
+pub back_above : (n : ℕ) (gs : List Columns) (i m : ℕ) → AreFirstBefore n gs i → i ≤ m → m ≤ length gs → (g : Columns) → Contains (drop m gs) g → n ≤ g.from
 back_above n gs i m f o w g (k, h, e) =
     let l : m + k < length gs = let b = length-drop m gs in omega (arith, h, b, w) in
     subst (λ (z : Columns). n ≤ z.from) (sym (get_or-drop m gs k g) ∙ e) (f.above (m + k) g (omega (arith, o)) l)

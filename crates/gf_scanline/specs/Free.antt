@@ -37,7 +37,7 @@ pub record IsFirstBehind (n : ℕ) (gs : List Columns) (i : ℕ) : Type 0 where
       → n < (slice_index_or gs k d).to
 
 -- the first i of the columns begin before the column n, and no other one does
-pub record IsFirstFrom (n : ℕ) (gs : List Columns) (i : ℕ) : Type 0 where
+pub record AreFirstBefore (n : ℕ) (gs : List Columns) (i : ℕ) : Type 0 where
   pub bound : i ≤ length gs
   pub below : (k : ℕ) (d : Columns) → k < i → (slice_index_or gs k d).from < n
   pub above : (k : ℕ) (d : Columns) → i ≤ k → k < length gs

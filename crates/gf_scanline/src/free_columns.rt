@@ -2,7 +2,7 @@
 
 ghost use Rattle.std.specs.Prelude.{◌≡◌, ℕ, ◌+◌, ◌-◌, ◌≤◌, false, ◌&&◌, IsTrue, OnOk, OnErr, [], ◌++◌};
 ghost use Rattle.std.specs.Prelude.{take, drop, length};
-ghost use Rattle.gf_scanline.specs.Free.{IsFirstBehind, IsFirstFrom, IsParted};
+ghost use Rattle.gf_scanline.specs.Free.{IsFirstBehind, AreFirstBefore, IsParted};
 ghost use Rattle.gf_scanline.specs.Strips.{AreRising, is_among, is_free};
 
 use crate::Columns;
@@ -19,7 +19,7 @@ fn first_behind(free: &[Columns], column: usize) -> usize
 /// How many of the first free columns begin before a column.
 fn first_from(free: &[Columns], column: usize) -> usize
     requires { AreRising free.now }
-    ensures { IsFirstFrom column free.now result }
+    ensures { AreFirstBefore column free.now result }
 {
     free.partition_point(|some| some.from < column)
 }

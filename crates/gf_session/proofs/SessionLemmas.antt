@@ -15,7 +15,7 @@ use Rattle.gf_worker.specs.declared.worker.WorkerEnd.{WorkerEnd}
 use Rattle.gf_worker.specs.Messages.{own, told, ops_of, last_message}
 use Rattle.gf_worker.specs.Played.{IsPlayed}
 use Rattle.gf_worker.specs.Ending.{HasSent, HasWorked}
-use Rattle.gf_mesh.specs.Settled.{AreSettled}
+use Rattle.gf_mesh.specs.Settled.{AreAllTaken}
 use Rattle.gf_mesh.proofs.PlacedLemmas.{got_map}
 use Rattle.gf_session.specs.declared.starting.Start.{Start}
 use Rattle.gf_session.specs.Outcome.{Place, IsSiteOutcome}
@@ -123,7 +123,7 @@ module _ (scripts : List Script) (rows : List (List Peer)) (starts : List Start)
   pub ended : (k : ℕ) (e : WorkerEnd) → slice_get ends k ≡ Some e → (p : Peer) → Contains e.seats.items p → IsTrue (is_ended p.take.taken)
   ended k e q = (worked k e q).ended
 
-  module _ (settled : AreSettled (map (λ e. e.seats.items) ends)) where
+  module _ (settled : AreAllTaken (map (λ e. e.seats.items) ends)) where
     row_of : (k : ℕ) (e : WorkerEnd) → slice_get ends k ≡ Some e → slice_get (map (λ e. e.seats.items) ends) k ≡ Some e.seats.items
     row_of k e q = slice_get-map (λ (x : WorkerEnd). x.seats.items) ends k ∙ ap (option_map (λ (x : WorkerEnd). x.seats.items)) q
 

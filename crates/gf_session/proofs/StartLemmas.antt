@@ -11,18 +11,18 @@ use Rattle.gf_site.specs.SiteState.{SiteState, new_site}
 use Rattle.gf_worker.specs.declared.script.Script.{Script}
 use Rattle.gf_worker.specs.declared.peer.Peer.{Peer}
 use Rattle.gf_worker.specs.declared.worker.WorkerEnd.{WorkerEnd}
-use Rattle.gf_worker.specs.Peers.{IsPlaced, IsFresh}
+use Rattle.gf_worker.specs.Peers.{StandsInTable, IsFresh}
 use Rattle.gf_worker.proofs.TellLemmas.{all_from}
 use Rattle.gf_mesh.specs.Linked.{AreLinked, HaveEnded, seats_of}
 use Rattle.gf_session.specs.declared.starting.Start.{Start}
-use Rattle.gf_session.specs.Starting.{AreStarts, IsReady, GaveAll}
+use Rattle.gf_session.specs.Starting.{AreStarts, IsReadyToStart, GaveAll}
 use Rattle.gf_session.proofs.GaveLemmas.{gave_seats}
 use Rattle.gf_session.proofs.SessionLemmas.{ended}
 
 -- each site is new, and its links stand in the table
-pub all_ready : (links : List TableId) (scripts : List Script) (rows : List (List Peer)) (starts : List Start) → AreLinked links rows → AreStarts scripts rows starts → All (λ s. vec_len s.0 ≤ 1000) scripts → All (IsReady links) starts
+pub all_ready : (links : List TableId) (scripts : List Script) (rows : List (List Peer)) (starts : List Start) → AreLinked links rows → AreStarts scripts rows starts → All (λ s. vec_len s.0 ≤ 1000) scripts → All (IsReadyToStart links) starts
 all_ready links scripts rows starts m a few =
-    all_from (IsReady links) starts (λ s c.
+    all_from (IsReadyToStart links) starts (λ s c.
     let k = position_of starts s c in
     let site = a.sites_are k.0 s k.1 in
     let row : Contains rows s.peers.items = subst (λ l. Contains l s.peers.items) a.rows_are (Contains-map (λ (x : Start). x.peers.items) starts s c) in
@@ -30,7 +30,7 @@ all_ready links scripts rows starts m a few =
       ops = ap (λ (x : SiteState). x.ops) site;
       held = ap (λ (x : SiteState). x.held) site;
       few = All-contains (λ (x : Script). vec_len x.0 ≤ 1000) scripts s.script few (subst (λ l. Contains l s.script) a.scripts_are (Contains-map (λ (x : Start). x.script) starts s c));
-      placed = all_from (IsPlaced links) s.peers.items (m.placed s.peers.items row);
+      placed = all_from (StandsInTable links) s.peers.items (m.placed s.peers.items row);
       fresh = all_from IsFresh s.peers.items (m.fresh s.peers.items row);
     })
 

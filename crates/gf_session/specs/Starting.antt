@@ -8,7 +8,7 @@ use Rattle.gf_worker.specs.declared.peer.Peer.{Peer}
 use Rattle.gf_worker.specs.declared.script.Script.{Script}
 use Rattle.gf_session.specs.declared.starting.Start.{Start}
 use Rattle.gf_worker.specs.declared.worker.WorkerEnd.{WorkerEnd}
-use Rattle.gf_worker.specs.Peers.{IsPlaced, IsFresh}
+use Rattle.gf_worker.specs.Peers.{StandsInTable, IsFresh}
 use Rattle.gf_worker.specs.Ending.{HasWorked, HasStopped}
 
 -- the sites are new and numbered from 1, and have these scripts and these peers
@@ -20,11 +20,11 @@ pub record AreStarts (scripts : List Script) (rows : List (List Peer))
   pub rows_are : map (λ s. s.peers.items) starts ≡ rows
 
 -- the site has nothing, its script is not long, and its seats are new, at their places in the table
-pub record IsReady (links : List TableId) (s : Start) : Type 0 where
+pub record IsReadyToStart (links : List TableId) (s : Start) : Type 0 where
   pub ops : s.site.ops ≡ []
   pub held : s.site.held ≡ []
   pub few : vec_len s.script.0 ≤ 1000
-  pub placed : All (IsPlaced links) s.peers.items
+  pub placed : All (StandsInTable links) s.peers.items
   pub fresh : All IsFresh s.peers.items
 
 -- the worker of the site has run its script, or it sent Stop to each peer for a site whose thread

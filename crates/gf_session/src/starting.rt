@@ -2,7 +2,7 @@
 
 ghost use Rattle.std.specs.Prelude.{◌≡◌, ◌≤◌, ◌++◌, ◌∷◌, [], ◌+◌, All, length, vec_len};
 ghost use Rattle.std.specs.Vec.{vec_capacity};
-ghost use Rattle.gf_session.specs.Starting.{IsReady, Gave, GaveAll};
+ghost use Rattle.gf_session.specs.Starting.{IsReadyToStart, Gave, GaveAll};
 ghost use Rattle.gf_worker.specs.Ending.{HasWorked, HasStopped};
 ghost use denote.Param.Send.{IsSync};
 
@@ -37,7 +37,7 @@ impl Promise<WorkerEnd> for Runs {
 
 /// Sends Stop for a site that does not run.
 fn stop_one<R: Wait>(rt: &R, alloc: Global, links: &[Link], start: Start) -> WorkerEnd
-    requires { IsReady links.now start }
+    requires { IsReadyToStart links.now start }
     ensures { HasStopped start.site start.peers.items result }
 {
     let Start { site, peers, .. } = start;
@@ -52,7 +52,7 @@ fn run_one<R: Wait, G: Gate>(
     links: &[Link],
     start: Start,
 ) -> WorkerEnd
-    requires { IsReady links.now start }
+    requires { IsReadyToStart links.now start }
     ensures { HasWorked start.site.number start.script.0.items start.peers.items result }
 {
     let Start {
@@ -74,7 +74,7 @@ pub(crate) fn fork<R: Threads + Wait + Sync, G: Gate + Sync>(
     mut starts: Vec<Start>,
     mut ends: Vec<WorkerEnd>,
 ) -> Vec<WorkerEnd>
-    requires ready { All (IsReady links.now) starts.items }
+    requires ready { All (IsReadyToStart links.now) starts.items }
     requires empty { ends.items ≡ [] }
     requires room { vec_len starts ≤ vec_capacity ends }
     ensures gave { GaveAll starts.items result.items }
@@ -93,15 +93,15 @@ pub(crate) fn fork<R: Threads + Wait + Sync, G: Gate + Sync>(
         thread::scope_env(),
         rt,
         move |scope| -> Vec<WorkerEnd>
-            requires { IsSync R.row × IsSync G.row × All (IsReady links.now) starts.items
-                × IsReady links.now last × (ends.items ≡ [])
+            requires { IsSync R.row × IsSync G.row × All (IsReadyToStart links.now) starts.items
+                × IsReadyToStart links.now last × (ends.items ≡ [])
                 × (length starts.items + 1 ≤ vec_capacity ends) }
             ensures { GaveAll (starts.items ++ last ∷ []) result.items
                 × (vec_capacity result ≡ vec_capacity ends) }
         {
             let promise = Runs(Snapshot::of(&last));
             let theirs = move || -> WorkerEnd
-                requires { IsSync R.row × IsSync G.row × IsReady links.now last }
+                requires { IsSync R.row × IsSync G.row × IsReadyToStart links.now last }
                 ensures { Gave last result }
             {
                 if flag.load(Ordering::SeqCst) {

@@ -12,8 +12,8 @@ use Rattle.gf_replay.specs.declared.reading_error.LineCause.{LineCause}
 use Rattle.gf_replay.specs.declared.reading_error.LineCause.TheVariants as cause
 use Rattle.gf_studio.specs.declared.studio_error.StudioError.{StudioError}
 use Rattle.gf_studio.specs.declared.studio_error.StudioError.TheVariants as studio
-use Rattle.gf_session_run.specs.DenotedScripts.{AreScriptsOf, DenotesScripts, HasScriptFault, IsBehind, IsScriptFault, denotes_command}
-use Rattle.gf_session_run.specs.SessionSteps.{HasScripts, IsCommandFault, RefusesCommand, RefusesScripts, TakesCommand}
+use Rattle.gf_session_run.specs.DenotedScripts.{AreScriptsOf, DenotesScripts, HasScriptFault, IsLineBehind, IsScriptFault, denotes_command}
+use Rattle.gf_session_run.specs.SessionSteps.{HasScripts, IsCommandFault, RefusesScriptLine, RefusesScripts, TakesCommand}
 use Rattle.gf_session_run.proofs.ScriptLemmas.{fit_more, fit_none, full_beyond, scripts_more}
 
 -- before the first line no site has a command
@@ -45,7 +45,7 @@ DenotesScripts-all n bytes scripts has = record {
 }
 
 module _ (n : ℕ) (bytes : List ℕ) (m : ℕ) (line : List ℕ) (left : List (ℕ × List ℕ)) (scripts : List Script) (has : HasScripts n bytes ((m, line) ∷ left) scripts) where
-  at_line : IsBehind n bytes m line
+  at_line : IsLineBehind n bytes m line
   at_line = record { before = has.before; after = left; whole = has.whole; commands = has.commands; lines = has.lines; fit = has.fit }
 
   at_fault : (why : LineCause) → IsCommandFault line scripts why → IsScriptFault n has.commands line why
@@ -56,7 +56,7 @@ module _ (n : ℕ) (bytes : List ℕ) (m : ℕ) (line : List ℕ) (left : List (
   at_fault cause.Clash f = f
 
   -- what a line is refused for, the text is
-  pub RefusesScripts-line : (e : StudioError) → RefusesCommand m line scripts e → RefusesScripts n bytes e
+  pub RefusesScripts-line : (e : StudioError) → RefusesScriptLine m line scripts e → RefusesScripts n bytes e
   unfolding at_line
   RefusesScripts-line (studio.Line k why) r = subst (λ k. HasScriptFault n bytes k why) (sym r.0) (record { line = line; at = at_line; fault = at_fault why r.1 })
   RefusesScripts-line studio.OutOfMemory r = tt

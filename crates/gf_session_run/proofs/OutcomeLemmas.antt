@@ -23,7 +23,7 @@ use Rattle.gf_session.specs.declared.session.Done.{Done}
 use Rattle.gf_session.specs.Session.{IsSession, place_of, places}
 use Rattle.gf_session_run.specs.DenotedScripts.{DenotesScripts}
 use Rattle.gf_session_run.specs.Reports.{report_text}
-use Rattle.gf_session_run.specs.SessionRun.{IsSiteCount, Plays, TellsSession}
+use Rattle.gf_session_run.specs.SessionRun.{IsSiteCount, PlaysScripts, TellsSession}
 use Rattle.gf_session_run.specs.SessionSteps.{RefusesPlaying, RefusesTelling, TellsHistory}
 
 -- the place that a site has in the outcome
@@ -79,7 +79,7 @@ told_history h dones text fig drawing drawn same reads is = record {
 
 -- scripts that the bytes denote were played, and first is what one of the sites came to
 module _ (n : ℕ) (bytes : List ℕ) (scripts : List Script) (dones : List Done) (first : Done) (denoted : DenotesScripts n bytes scripts) (session : IsSession scripts dones) (there : Contains dones first) where
-  plays : Plays n bytes dones first.site.ops
+  plays : PlaysScripts n bytes dones first.site.ops
   plays = record { scripts = scripts; denoted = denoted; session = session; common = λ d i. common_history scripts dones session d first i there }
 
   pub told_session : {T : Type 0} (items : T → List ℕ) (r : Result T StudioError) → IfOk r (λ t. TellsHistory first.site.ops dones (items t)) → IfOk r (λ t. TellsSession n bytes (items t))

@@ -14,7 +14,7 @@ use Rattle.gf_ops.proofs.PositionLemmas.{position_in}
 use Rattle.gf_json.specs.declared.scripts.ScriptLine.{ScriptLine}
 use Rattle.gf_worker.specs.declared.script.Script.{Script}
 use Rattle.gf_session_run.specs.DenotedScripts.{AreScriptsOf, Fit, commands_of}
-use Rattle.gf_session_run.specs.SessionSteps.{Gains, IsFull, past, long}
+use Rattle.gf_session_run.specs.SessionSteps.{GainsCommand, HasNoRoomAt, past, long}
 
 -- ---- places
 
@@ -61,11 +61,11 @@ commands_elsewhere s ls l d = elim (eqb_tells l.site s) [
 ]
 
 -- what is not full has a script at that place, with fewer than 1,000 commands
-pub within_room : (scripts : List Script) (k : ℕ) → ¬ (IsFull scripts k) → k < length scripts
+pub within_room : (scripts : List Script) (k : ℕ) → ¬ (HasNoRoomAt scripts k) → k < length scripts
 within_room scripts k room = elim (cases_lt k (length scripts)) [ inl l ↦ l | inr m ↦ absurd (room (past m)) ]
 
 -- a command that fits is taken
-module _ (n : ℕ) (ls : List ScriptLine) (scripts : List Script) (fit : Fit n ls) (are : AreScriptsOf n ls scripts) (l : ScriptLine) (k : ℕ) (place : l.site ≡ k + 1) (room : ¬ (IsFull scripts k)) where
+module _ (n : ℕ) (ls : List ScriptLine) (scripts : List Script) (fit : Fit n ls) (are : AreScriptsOf n ls scripts) (l : ScriptLine) (k : ℕ) (place : l.site ≡ k + 1) (room : ¬ (HasNoRoomAt scripts k)) where
   few_here : length (commands_of l.site ls) < 1000
   few_here = elim (slice_get_cases scripts k).1 [
     | inl w ↦
@@ -90,7 +90,7 @@ module _ (n : ℕ) (ls : List ScriptLine) (scripts : List Script) (fit : Fit n l
     ];
   }
 
-  pub scripts_more : (new : List Script) → Gains scripts k l.command new → AreScriptsOf n (ls ++ l ∷ []) new
+  pub scripts_more : (new : List Script) → GainsCommand scripts k l.command new → AreScriptsOf n (ls ++ l ∷ []) new
   scripts_more new g = record { long = g.long ∙ are.long; each = each }
     where
       here : (s t : Script) → slice_get scripts k ≡ Some s → slice_get new k ≡ Some t → t.0.items ≡ commands_of (k + 1) (ls ++ l ∷ [])
@@ -106,7 +106,7 @@ module _ (n : ℕ) (ls : List ScriptLine) (scripts : List Script) (fit : Fit n l
       ]
 
 -- what is full has no room for a command
-pub full_beyond : (n : ℕ) (ls : List ScriptLine) (scripts : List Script) → AreScriptsOf n ls scripts → (l : ScriptLine) (k : ℕ) → l.site ≡ k + 1 → IsFull scripts k → (n < l.site) ⊎ (1000 ≤ length (commands_of l.site ls))
+pub full_beyond : (n : ℕ) (ls : List ScriptLine) (scripts : List Script) → AreScriptsOf n ls scripts → (l : ScriptLine) (k : ℕ) → l.site ≡ k + 1 → HasNoRoomAt scripts k → (n < l.site) ⊎ (1000 ≤ length (commands_of l.site ls))
 full_beyond n ls scripts are l k place (past m) = inl (let q = are.long in rw place (omega arith))
 full_beyond n ls scripts are l k place (long s e m) = inr (subst (λ c. 1000 ≤ length c) (are.each k s e ∙ ap (λ j. commands_of j ls) (sym place)) m)
 
@@ -121,10 +121,10 @@ scripts_few n ls scripts fit are = all_at (λ (s : Script). vec_len s.0 ≤ 1000
 -- ---- what the code asks
 
 -- a script is full where it is that long
-pub full_told : (scripts : List Script) (k n : ℕ) (s : Script) → slice_get scripts k ≡ Some s → n ≡ vec_len s.0 → IsTrue (nat_le 1000 n) ↔ IsFull scripts k
+pub full_told : (scripts : List Script) (k n : ℕ) (s : Script) → slice_get scripts k ≡ Some s → n ≡ vec_len s.0 → IsTrue (nat_le 1000 n) ↔ HasNoRoomAt scripts k
 full_told scripts k n s at is = (λ t. long s at (let l = leb-true 1000 n t in let m = s.0.ok.0 in omega (is, arith)), λ f. le-leb 1000 n (full_long f))
   where
-    full_long : IsFull scripts k → 1000 ≤ n
+    full_long : HasNoRoomAt scripts k → 1000 ≤ n
     full_long (past m) = let w = slice_get_within scripts k s at in absurd (omega arith)
     full_long (long t e m) = let q = subst (λ (u : Script). 1000 ≤ length u.0.items) (same_some t s (sym e ∙ at)) m in let o = s.0.ok.0 in omega (is, arith)
 

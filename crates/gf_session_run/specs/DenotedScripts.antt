@@ -47,7 +47,7 @@ pub record DenotesScripts (n : ℕ) (bytes : List ℕ) (scripts : List Script) :
   pub by_site : AreScriptsOf n commands scripts
 
 -- the lines of the bytes before line number m denote commands that fit, and this is line m
-pub record IsBehind (n : ℕ) (bytes : List ℕ) (m : ℕ) (line : List ℕ) : Type 0 where
+pub record IsLineBehind (n : ℕ) (bytes : List ℕ) (m : ℕ) (line : List ℕ) : Type 0 where
   pub before : List (ℕ × List ℕ)
   pub after : List (ℕ × List ℕ)
   pub whole : numbered_lines bytes ≡ before ++ (m, line) ∷ after
@@ -72,5 +72,5 @@ IsScriptFault n ls text cause.Clash = ⊥
 -- line m is the first that denotes no command, or one that doesn't fit, for this cause
 pub record HasScriptFault (n : ℕ) (bytes : List ℕ) (m : ℕ) (cause : LineCause) : Type 0 where
   pub line : List ℕ
-  pub at : IsBehind n bytes m line
+  pub at : IsLineBehind n bytes m line
   pub fault : IsScriptFault n at.commands line cause

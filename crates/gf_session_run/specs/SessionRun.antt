@@ -4,7 +4,7 @@ use Rattle.std.specs.Io.KnownBytes.{Appends}
 use Rattle.gf_shape.specs.declared.any_shape.AnyShape.{AnyShape}
 use Rattle.gf_shape.specs.Outlines.{any_outline}
 use Rattle.gf_ops.specs.declared.op.Op.{Op}
-use Rattle.gf_streams.specs.Taken.{AppendsFront}
+use Rattle.gf_streams.specs.Taken.{AppendsPrefix}
 use Rattle.gf_causal.specs.DeliveredPart.{HaveSame}
 use Rattle.gf_drawing.specs.declared.compiling.CompileFault.{CompileFault}
 use Rattle.gf_drawing.specs.declared.compiling.CompileFault.TheVariants as compile
@@ -27,7 +27,7 @@ IsSiteCount n = (2 ≤ n) × (n ≤ 8)
 
 -- the bytes denote scripts of n sites, a session of them came to this for each site, and all sites
 -- then had the operations of h
-pub record Plays (n : ℕ) (bytes : List ℕ) (dones : List Done) (h : List Op) : Type 0 where
+pub record PlaysScripts (n : ℕ) (bytes : List ℕ) (dones : List Done) (h : List Op) : Type 0 where
   pub scripts : List Script
   pub denoted : DenotesScripts n bytes scripts
   pub session : IsSession scripts dones
@@ -38,7 +38,7 @@ pub record Plays (n : ℕ) (bytes : List ℕ) (dones : List Done) (h : List Op) 
 pub record TellsSession (n : ℕ) (bytes text : List ℕ) : Type 0 where
   pub dones : List Done
   pub history : List Op
-  pub plays : Plays n bytes dones history
+  pub plays : PlaysScripts n bytes dones history
   pub drawing : DrawingState AnyShape
   pub drawn : IsDrawn history drawing
   pub shown : Shows (fig_text any_outline drawing) history
@@ -52,18 +52,18 @@ pub record WritesSession (n : ℕ) (bytes : List ℕ) (old new : Option (List �
 
 -- known bytes grow from old to new by a front, which may be none or all, of the text of a session
 -- of n sites that the bytes denote
-pub record WritesSessionFront (n : ℕ) (bytes : List ℕ)
+pub record WritesSessionPrefix (n : ℕ) (bytes : List ℕ)
     (old new : Option (List ℕ)) : Type 0 where
   pub text : List ℕ
   pub tells : TellsSession n bytes text
-  pub written : AppendsFront old new text
+  pub written : AppendsPrefix old new text
 
 -- a session of the scripts that the bytes denote came to a history that has no drawing, for this
 -- fault
 pub record HasNoDrawing (n : ℕ) (bytes : List ℕ) (fault : CompileFault) : Type 0 where
   pub dones : List Done
   pub history : List Op
-  pub plays : Plays n bytes dones history
+  pub plays : PlaysScripts n bytes dones history
   pub refused : RefusesHistory history fault
 
 -- why the history of a session is not exported: want of memory is no fault of its own

@@ -35,17 +35,17 @@ of_line m line.Range = studio.Line m cause.Range
 of_line m line.OutOfMemory = studio.OutOfMemory
 
 -- the script at place k has one more command, and the others are as they were
-pub record Gains (old : List Script) (k : ℕ) (c : Command) (new : List Script) : Type 0 where
+pub record GainsCommand (old : List Script) (k : ℕ) (c : Command) (new : List Script) : Type 0 where
   pub long : length new ≡ length old
   pub there : (s t : Script) → slice_get old k ≡ Some s → slice_get new k ≡ Some t
       → t.0.items ≡ s.0.items ++ c ∷ []
   pub others : (j : ℕ) → j ≢ k → slice_get new j ≡ slice_get old j
 
 -- there is no script at place k, or it has 1,000 commands
-pub data IsFull (scripts : List Script) (k : ℕ) : Type 0 where
-  past : length scripts ≤ k → IsFull scripts k
+pub data HasNoRoomAt (scripts : List Script) (k : ℕ) : Type 0 where
+  past : length scripts ≤ k → HasNoRoomAt scripts k
   long : (s : Script) → slice_get scripts k ≡ Some s → 1000 ≤ length s.0.items
-      → IsFull scripts k
+      → HasNoRoomAt scripts k
 
 -- the line denotes a command, and the script of its site gains it
 pub record TakesCommand (bytes : List ℕ) (old new : List Script) : Type 0 where
@@ -53,8 +53,8 @@ pub record TakesCommand (bytes : List ℕ) (old new : List Script) : Type 0 wher
   pub denotes : script_denoted bytes ≡ Ok command
   pub place : ℕ
   pub site : command.site ≡ place + 1
-  pub room : ¬ (IsFull old place)
-  pub gains : Gains old place command.command new
+  pub room : ¬ (HasNoRoomAt old place)
+  pub gains : GainsCommand old place command.command new
 
 -- the line denotes a command for which there is no room
 pub record HasNoRoom (bytes : List ℕ) (scripts : List Script) : Type 0 where
@@ -62,7 +62,7 @@ pub record HasNoRoom (bytes : List ℕ) (scripts : List Script) : Type 0 where
   pub denotes : script_denoted bytes ≡ Ok command
   pub place : ℕ
   pub site : command.site ≡ place + 1
-  pub full : IsFull scripts place
+  pub full : HasNoRoomAt scripts place
 
 -- what is wrong with the line
 abbrev pub IsCommandFault : List ℕ → List Script → LineCause → Type 0
@@ -73,10 +73,10 @@ IsCommandFault bytes scripts cause.Range = (script_denoted bytes ≡ Err line.Ra
 IsCommandFault bytes scripts cause.Clash = ⊥
 
 -- why line m is not taken
-abbrev pub RefusesCommand : ℕ → List ℕ → List Script → StudioError → Type 0
-RefusesCommand m bytes scripts (studio.Line k why) = (k ≡ m) × IsCommandFault bytes scripts why
-RefusesCommand m bytes scripts studio.OutOfMemory = ⊤
-RefusesCommand m bytes scripts other = ⊥
+abbrev pub RefusesScriptLine : ℕ → List ℕ → List Script → StudioError → Type 0
+RefusesScriptLine m bytes scripts (studio.Line k why) = (k ≡ m) × IsCommandFault bytes scripts why
+RefusesScriptLine m bytes scripts studio.OutOfMemory = ⊤
+RefusesScriptLine m bytes scripts other = ⊥
 
 -- the lines before those that are left denote commands that fit, and these are the scripts so far
 pub record HasScripts (n : ℕ) (bytes : List ℕ) (left : List (ℕ × List ℕ))

@@ -7,7 +7,7 @@ ghost use Rattle.gf_streams.specs.Reads.{ConsumesAtMost};
 ghost use Rattle.gf_session.specs.declared.session.SessionError.{SessionError};
 ghost use Rattle.gf_studio.specs.RunAnswers.{ReadsFor};
 ghost use Rattle.gf_session_run.specs.SessionRun.{IsSiteCount, RefusesSession, TellsSession};
-ghost use Rattle.gf_session_run.specs.SessionRun.{WritesSession, WritesSessionFront};
+ghost use Rattle.gf_session_run.specs.SessionRun.{WritesSession, WritesSessionPrefix};
 
 use crate::playing::play;
 use gf_gate::Gate;
@@ -46,8 +46,8 @@ pub fn session_run<T: Threads + Wait + Sync, R: Source, W: Sink, G: Gate + Sync>
         RefusesSession sites bytes e)) }
 
     // A front of the text is written at most, and that only where the sink failed.
-    ensures front { result ≡ Err StudioError.WriteFailed → IfSome (R.left source.old) (λ bytes.
-        WritesSessionFront sites bytes (W.taken sink.old) (W.taken sink.new)) }
+    ensures prefix { result ≡ Err StudioError.WriteFailed → IfSome (R.left source.old) (λ bytes.
+        WritesSessionPrefix sites bytes (W.taken sink.old) (W.taken sink.new)) }
     ensures failed { result ≡ Err StudioError.WriteFailed →
         Rises (W.failures sink.old) (W.failures sink.new) }
     ensures unwritten { IfErr result (λ e. (sink.new ≡ sink.old) ⊎ (e ≡ StudioError.WriteFailed)) }

@@ -2,7 +2,7 @@
 
 ghost use Rattle.std.specs.Prelude.{◌≡◌, ◌<◌, ◌↔◌, [], length, IsTrue, IfOk, IfErr, OnOk};
 ghost use Rattle.gf_session_run.specs.DenotedScripts.{AreScriptsOf, DenotesScripts};
-ghost use Rattle.gf_session_run.specs.SessionSteps.{Gains, IsFull, RefusesCommand, RefusesScripts};
+ghost use Rattle.gf_session_run.specs.SessionSteps.{GainsCommand, HasNoRoomAt, RefusesScriptLine, RefusesScripts};
 ghost use Rattle.gf_session_run.specs.SessionSteps.{TakesCommand, of_line};
 
 use gf_json::{Command, LineError, ScriptLine, read_script};
@@ -54,7 +54,7 @@ fn take_line(
     line: &[u8],
 ) -> Result<(), StudioError>
     ensures ok { OnOk result (TakesCommand line.now scripts.old scripts.new) }
-    ensures err { IfErr result (RefusesCommand number line.now scripts.old) }
+    ensures err { IfErr result (RefusesScriptLine number line.now scripts.old) }
 {
     let ScriptLine { site, command } = match read_script(alloc, line) {
         Ok(read) => read,
@@ -72,7 +72,7 @@ fn take_line(
 
 /// Whether no command more fits at this place.
 fn is_full(scripts: &[Script], place: usize) -> bool
-    ensures { IsTrue result ↔ IsFull scripts.now place }
+    ensures { IsTrue result ↔ HasNoRoomAt scripts.now place }
 {
     match scripts.get(place) {
         Some(script) => MOST_COMMANDS <= script.0.len(),
@@ -83,7 +83,7 @@ fn is_full(scripts: &[Script], place: usize) -> bool
 /// Puts a command behind those of the script at this place.
 fn give(scripts: &mut [Script], place: usize, command: Command) -> Result<(), OutOfMemory>
     requires { place < length scripts.old }
-    ensures { OnOk result (Gains scripts.old place command scripts.new) }
+    ensures { OnOk result (GainsCommand scripts.old place command scripts.new) }
 {
     scripts[place].0.push(command)?;
     Ok(())

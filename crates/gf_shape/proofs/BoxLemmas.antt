@@ -11,7 +11,7 @@ use Rattle.gf_shape.specs.Ring.{IsRing}
 use Rattle.gf_shape.specs.ShapeMeaning.{rect_holds}
 use Rattle.gf_shape.specs.Laws.Moved.{gap_past}
 use Rattle.gf_shape.specs.ShapeMoves.{rect_movable, rect_moved}
-use Rattle.gf_shape.specs.ShapeLaws.{IsBounds, IsWithin}
+use Rattle.gf_shape.specs.ShapeLaws.{IsBounds, IsInBounds}
 
 -- a side whose moved ends lie within reach is a side
 is_side-moved : (low d : ℤ) (size : ℕ) → IsTrue (is_side low size) → IsTrue (is_reached (low +ℤ d)) → IsTrue (is_reached ((low +ℤ pos size) +ℤ d)) → IsTrue (is_side (low +ℤ d) size)
@@ -26,7 +26,7 @@ along : (low at : ℤ) (size : ℕ) → IsTrue (int_le (pos 0) (at -ℤ low)) �
 along low at size first last = (omega (arith, ints), omega (arith, ints))
 
 -- what a box holds lies between its corners
-rect_holds-within : (a : Area) (p : Point) → IsTrue (rect_holds a p) → IsWithin (record { low = a.low; high = far_corner a }) p
+rect_holds-within : (a : Area) (p : Point) → IsTrue (rect_holds a p) → IsInBounds (record { low = a.low; high = far_corner a }) p
 rect_holds-within a p h =
     let bottom = and_parts _ _ h in
     let top = and_parts _ _ bottom.0 in

@@ -11,7 +11,7 @@ use Rattle.gf_shape.specs.BoundsOf.{bounds_at, bounds_from, with}
 use Rattle.gf_shape.specs.FigureMeaning.{chain_holds}
 use Rattle.gf_shape.specs.Opened.{IsClosed, opened}
 use Rattle.gf_shape.specs.Ring.{IsRing, Ring}
-use Rattle.gf_shape.specs.ShapeLaws.{IsBounds, IsWithin, Touches}
+use Rattle.gf_shape.specs.ShapeLaws.{IsBounds, IsInBounds, Touches}
 use Rattle.gf_shape.specs.ShapeMeaning.{polygon_holds}
 use Rattle.gf_shape.specs.Laws.Parity.{polygon_holds_as_chain}
 use Rattle.gf_shape.proofs.PolygonBounds.{IsBounds-polygon}
@@ -37,7 +37,7 @@ max_kept : (m n : ℤ) → n ≤ℤ m → int_max m n ≡ m
 max_kept m n h = grind (arith, ints)
 
 -- widening bounds to a point within them changes nothing
-with-within : (b : Bounds) (p : Point) → IsWithin b p → with b p ≡ b
+with-within : (b : Bounds) (p : Point) → IsInBounds b p → with b p ≡ b
 with-within b p h = rw (min_kept _ _ h.left, min_kept _ _ h.top, max_kept _ _ h.right, max_kept _ _ h.bottom)
 
 min_left : (m n k : ℤ) → m ≤ℤ k → int_min m n ≤ℤ k
@@ -47,7 +47,7 @@ max_left : (m n k : ℤ) → k ≤ℤ m → k ≤ℤ int_max m n
 max_left m n k h = grind (arith, ints)
 
 -- what lies within bounds lies within wider ones
-IsWithin-wider : (b : Bounds) (ps : List Point) (p : Point) → IsWithin b p → IsWithin (fold with b ps) p
+IsWithin-wider : (b : Bounds) (ps : List Point) (p : Point) → IsInBounds b p → IsInBounds (fold with b ps) p
 IsWithin-wider b [] p h = h
 IsWithin-wider b (q ∷ ps) p h =
     IsWithin-wider (with b q) ps p (record {
@@ -60,7 +60,7 @@ IsWithin-wider b (q ∷ ps) p h =
 le_same : (n : ℤ) → n ≤ℤ n
 le_same n = omega (arith, ints)
 
-IsWithin-at : (a : Point) → IsWithin (bounds_at a) a
+IsWithin-at : (a : Point) → IsInBounds (bounds_at a) a
 IsWithin-at a = record { left = le_same a.x; right = le_same a.x; top = le_same a.y; bottom = le_same a.y }
 
 -- the first point again widens no bounds

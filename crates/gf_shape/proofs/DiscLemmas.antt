@@ -5,7 +5,7 @@ use Rattle.std.proofs.lemmas.Int.{ints, by_lt_z}
 use Rattle.gf_shape.specs.declared.bounds.Bounds.{Bounds}
 use Rattle.gf_shape.specs.declared.point.Point.{Point}
 use Rattle.gf_shape.specs.Round.{Round}
-use Rattle.gf_shape.specs.ShapeLaws.{IsBounds, IsWithin}
+use Rattle.gf_shape.specs.ShapeLaws.{IsBounds, IsInBounds}
 use Rattle.gf_shape.specs.ShapeMeaning.{circle_holds, round_holds}
 use Rattle.gf_shape.specs.Laws.Moved.{gap_past, gap_same}
 use Rattle.gf_shape.specs.Laws.Sides.{lt_products}
@@ -32,7 +32,7 @@ round_bounds r = record {
   high = record { x = r.centre.x +ℤ pos r.radius; y = r.centre.y +ℤ pos r.radius };
 }
 
-round_holds-within : (r : Round) (p : Point) → IsTrue (round_holds r p) → IsWithin (round_bounds r) p
+round_holds-within : (r : Round) (p : Point) → IsTrue (round_holds r p) → IsInBounds (round_bounds r) p
 round_holds-within r p h =
     let x = side_within (p.x -ℤ r.centre.x) (p.y -ℤ r.centre.y) r.radius h in
     let y = side_within (p.y -ℤ r.centre.y) (p.x -ℤ r.centre.x) r.radius (rw (turned (p.y -ℤ r.centre.y) (p.x -ℤ r.centre.x)) h) in

@@ -8,7 +8,7 @@ use Rattle.gf_shape.specs.declared.bounds.Bounds.{Bounds}
 use Rattle.gf_shape.specs.declared.point.Point.{Point}
 use Rattle.gf_shape.specs.Oblong.{Oblong}
 use Rattle.gf_shape.specs.Rows.{IsRow}
-use Rattle.gf_shape.specs.ShapeLaws.{IsBounds, IsWithin}
+use Rattle.gf_shape.specs.ShapeLaws.{IsBounds, IsInBounds}
 use Rattle.gf_shape.specs.ShapeMeaning.{ellipse_holds, oval_holds}
 use Rattle.gf_shape.specs.Laws.Moved.{gap_past, gap_same}
 use Rattle.gf_shape.specs.Laws.Sides.{lt_products, one_le_product}
@@ -79,7 +79,7 @@ oval_bounds o = record {
   high = record { x = o.centre.x +ℤ pos o.rx; y = o.centre.y +ℤ pos o.ry };
 }
 
-oval_holds-within : (o : Oblong) → 0 < o.rx → 0 < o.ry → (p : Point) → IsTrue (oval_holds o p) → IsWithin (oval_bounds o) p
+oval_holds-within : (o : Oblong) → 0 < o.rx → 0 < o.ry → (p : Point) → IsTrue (oval_holds o p) → IsInBounds (oval_bounds o) p
 oval_holds-within o across along p h =
     let u = p.x -ℤ o.centre.x in
     let v = p.y -ℤ o.centre.y in

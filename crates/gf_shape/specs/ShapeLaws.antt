@@ -15,7 +15,7 @@ abbrev pub IsMovedBy : Point → (Point → Bool) → (Point → Bool) → Type 
 IsMovedBy d old new = (p : Point) → new (plus p d) ≡ old p
 
 -- p lies in the bounds
-pub record IsWithin (bounds : Bounds) (p : Point) : Type 0 where
+pub record IsInBounds (bounds : Bounds) (p : Point) : Type 0 where
   pub left : bounds.low.x ≤ℤ p.x
   pub right : p.x ≤ℤ bounds.high.x
   pub top : bounds.low.y ≤ℤ p.y
@@ -27,7 +27,7 @@ Touches holds coordinate n = (p : Point) × IsTrue (holds p) × (coordinate p �
 
 -- bounds law: each point that is held lies in the bounds, and each of their four sides has one
 pub record IsBounds (holds : Point → Bool) (bounds : Bounds) : Type 0 where
-  pub within : (p : Point) → IsTrue (holds p) → IsWithin bounds p
+  pub within : (p : Point) → IsTrue (holds p) → IsInBounds bounds p
   pub left : Touches holds (λ p. p.x) bounds.low.x
   pub right : Touches holds (λ p. p.x) bounds.high.x
   pub top : Touches holds (λ p. p.y) bounds.low.y

@@ -61,7 +61,7 @@ pub record Applies (old : SiteState) (i : OpId) (new : SiteState) : Type 0 where
 
 -- the site took out the ready operation with the least id, which has the id i, and forgot it, since
 -- its check failed with f
-pub record Drops (old : SiteState) (i : OpId) (f : OpFault) (new : SiteState) : Type 0 where
+pub record ForgetsReady (old : SiteState) (i : OpId) (f : OpFault) (new : SiteState) : Type 0 where
   pub op : Op
   pub id : op.id ≡ i
   pub takes : Takes old op new
@@ -71,7 +71,7 @@ pub record Drops (old : SiteState) (i : OpId) (f : OpFault) (new : SiteState) : 
 -- what a step did
 abbrev pub Steps : SiteState → Step → SiteState → Type 0
 Steps old (step.Applied i) new = Applies old i new
-Steps old (step.Dropped i f) new = Drops old i f new
+Steps old (step.Dropped i f) new = ForgetsReady old i f new
 Steps old step.Idle new = NoneIsReady old.ops old.held × (new ≡ old)
 
 -- the site has a ready operation that its history accepts

@@ -16,7 +16,7 @@ use Rattle.gf_groups.proofs.TableLemmas.{conflict_at_test, table_groups}
 use Rattle.gf_maximal.specs.Tables.{IsRising, IsTable}
 use Rattle.gf_maximal.proofs.LargestLemmas.{IsConflict}
 use Rattle.gf_components.specs.Components.{ComponentState, ComponentsState, products}
-use Rattle.gf_components.specs.Separate.{IsComponent, IsKept}
+use Rattle.gf_components.specs.Separate.{IsComponent, AreSetsKept}
 use Rattle.gf_components.proofs.CountLemmas.{a_table, length-products, tables_long}
 use Rattle.gf_table.specs.Standing.{AreComponentsOn, full, listed}
 use Rattle.gf_table.proofs.ListedLemmas.{versions_listed}
@@ -49,7 +49,7 @@ module _ (c : ℕ → ℕ → Bool) (s : IsConflict c) where
   some_set us rises gs t = let w = a_table c s us rises in let e = tables_long c s us gs w.sets t w.table in let o = w.some in omega (arith, e, o)
 
   -- one component more
-  counts_more : (us : List ℕ) → IsRising us → (n : ℕ) → 1 ≤ n → (r : Option (List (List ℕ))) → IsKept c us r
+  counts_more : (us : List ℕ) → IsRising us → (n : ℕ) → 1 ≤ n → (r : Option (List (List ℕ))) → AreSetsKept c us r
       → (1 ≤ length (unwrap_or r (groups_at c us))) × (sets_times (capped n) r ≡ capped (n * length (unwrap_or r (groups_at c us))))
   counts_more us rises n o (Some gs) k = let l = some_set us rises gs k.0 in (l, capped_times n (length gs) l)
   counts_more us rises n o None k =

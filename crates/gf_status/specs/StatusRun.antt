@@ -2,7 +2,7 @@
 use Rattle.std.specs.Prelude.{◌≡◌, ℕ, List, Option, ⊤}
 use Rattle.std.specs.Io.KnownBytes.{Appends}
 use Rattle.gf_ops.specs.declared.op.Op.{Op}
-use Rattle.gf_streams.specs.Taken.{AppendsFront}
+use Rattle.gf_streams.specs.Taken.{AppendsPrefix}
 use Rattle.gf_replay.specs.Refusing.{Drops, HasFault}
 use Rattle.gf_replay.specs.Waiting.{DenotesWaiting}
 use Rattle.gf_studio.specs.declared.studio_error.StudioError.{StudioError}
@@ -34,11 +34,11 @@ pub record WritesStatus (bytes : List ℕ) (state : State)
   pub written : Appends old new text
 
 -- known bytes grow by a front, which may be none or all, of the status of what the bytes denote
-pub record WritesStatusFront (bytes : List ℕ) (old new : Option (List ℕ)) : Type 0 where
+pub record WritesStatusPrefix (bytes : List ℕ) (old new : Option (List ℕ)) : Type 0 where
   pub text : List ℕ
   pub state : State
   pub denotes : DenotesStatus bytes text state
-  pub written : AppendsFront old new text
+  pub written : AppendsPrefix old new text
 
 -- why a run of a status is refused
 abbrev pub RefusesStatus : List ℕ → StudioError → Type 0

@@ -8,7 +8,7 @@ ghost use Rattle.gf_streams.specs.Reads.{ConsumesAtMost};
 ghost use Rattle.gf_studio.specs.RunAnswers.{ReadsFor};
 ghost use Rattle.gf_status.specs.RefusedParts.{RefusesReading};
 ghost use Rattle.gf_status.specs.StatusRun.{DenotesStatus, RefusesStatus, TellsStatus};
-ghost use Rattle.gf_status.specs.StatusRun.{WritesStatus, WritesStatusFront};
+ghost use Rattle.gf_status.specs.StatusRun.{WritesStatus, WritesStatusPrefix};
 ghost use Rattle.gf_status.specs.StatusLines.{is_clean, state_of};
 
 use crate::counting::MOST_COUNTED;
@@ -55,8 +55,8 @@ pub fn status_run<T: Threads + Sync, R: Source, W: Sink>(
         RefusesStatus bytes e)) }
 
     // A front of the text is written at most, and that only where the sink failed.
-    ensures front { result ≡ Err StudioError.WriteFailed → IfSome (R.left source.old) (λ bytes.
-        WritesStatusFront bytes (W.taken sink.old) (W.taken sink.new)) }
+    ensures prefix { result ≡ Err StudioError.WriteFailed → IfSome (R.left source.old) (λ bytes.
+        WritesStatusPrefix bytes (W.taken sink.old) (W.taken sink.new)) }
     ensures failed { result ≡ Err StudioError.WriteFailed →
         Rises (W.failures sink.old) (W.failures sink.new) }
     ensures unwritten { IfErr result (λ e. (sink.new ≡ sink.old) ⊎ (e ≡ StudioError.WriteFailed)) }

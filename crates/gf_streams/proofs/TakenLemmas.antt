@@ -5,7 +5,7 @@ use Rattle.std.specs.Prelude.{false, true}
 use Rattle.std.proofs.lemmas.Bool.Decides.{nat_tests}
 use Rattle.std.specs.Io.KnownBytes.{Appends, Keeps}
 use Rattle.std.proofs.KnownBytes.{Appends-trans, Appends-kept}
-use Rattle.gf_streams.specs.Taken.{AppendsFront, UnflushedBy}
+use Rattle.gf_streams.specs.Taken.{AppendsPrefix, UnflushedBy}
 
 -- the bytes from d on are a slice to the end
 rest_whole : (bs : List ℕ) (d : ℕ) → take (length bs - d) (drop d bs) ≡ drop d bs
@@ -25,5 +25,5 @@ unflushed_more true b c d n p q = grind (arith, nat_tests)
 unflushed_more false b c d n p q = rw p at q
 
 -- all of the bytes are a front of them
-pub appends_front : (a b c : Option (List ℕ)) (bs : List ℕ) → Appends a b bs → Keeps b c → AppendsFront a c bs
-appends_front a b c bs p q = (length bs, omega arith, rw take-length (Appends-kept a b c bs p q))
+pub appends_prefix : (a b c : Option (List ℕ)) (bs : List ℕ) → Appends a b bs → Keeps b c → AppendsPrefix a c bs
+appends_prefix a b c bs p q = (length bs, omega arith, rw take-length (Appends-kept a b c bs p q))

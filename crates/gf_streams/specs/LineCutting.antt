@@ -10,7 +10,7 @@ with_line n line others = if is_blank line then others else (n, line) ∷ others
 
 -- the first line of the text that is not blank is its front of this size and has the number n, or
 -- the text is at its end
-pub record Stands (text : List ℕ) (n size : ℕ) : Type 0 where
+pub record IsAtSomeLine (text : List ℕ) (n size : ℕ) : Type 0 where
   pub within : size ≤ length text
   pub few : n + length text < 2 ^ 64
   pub lines : (text ≡ []) ⊎ (numbered_from n text
@@ -18,7 +18,7 @@ pub record Stands (text : List ℕ) (n size : ℕ) : Type 0 where
 
 -- of the text, whose first line has the number n, the first line that is not blank is this one, of
 -- number m, and the text goes on so from it on
-pub record IsNext (n : ℕ) (text : List ℕ) (m : ℕ) (line from : List ℕ) : Type 0 where
+pub record IsNextLine (n : ℕ) (text : List ℕ) (m : ℕ) (line from : List ℕ) : Type 0 where
   pub lines : numbered_from n text ≡ numbered_from m from
   pub first : numbered_from m from
       ≡ (m, line) ∷ numbered_from (m + 1) (drop (length line + 1) from)
@@ -29,7 +29,7 @@ pub record IsNext (n : ℕ) (text : List ℕ) (m : ℕ) (line from : List ℕ) :
 
 -- the lines from this place on, whose first has the number n, begin at `start` with the number m,
 -- with a line of this size
-pub record IsPlaced (text : List ℕ) (from n m start size : ℕ) : Type 0 where
+pub record AreLinesAt (text : List ℕ) (from n m start size : ℕ) : Type 0 where
   pub lines : numbered_from n (drop from text) ≡ numbered_from m (drop start text)
   pub within : start ≤ length text
-  pub stands : Stands (drop start text) m size
+  pub stands : IsAtSomeLine (drop start text) m size

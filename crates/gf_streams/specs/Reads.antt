@@ -24,7 +24,7 @@ CamePast most (Some xs) None = ⊥
 CamePast most (Some xs) (Some ys) = length ys + most < length xs
 
 -- held grew by n of the known bytes that came between old and new, by none only at their end
-pub record Continues (old new : Option (List ℕ)) (held grown : List ℕ) (n : ℕ) : Type 0 where
+pub record ReadsOn (old new : Option (List ℕ)) (held grown : List ℕ) (n : ℕ) : Type 0 where
   pub front : List ℕ
   pub count : length front ≡ n
   pub grows : grown ≡ held ++ front

@@ -4,8 +4,8 @@ use Rattle.std.specs.Prelude.{◌&&◌, nat_eq, length, take, Result, MatchResul
 use Rattle.std.specs.Io.KnownBytes.{Appends}
 
 -- known bytes grow from old to new by a front of bytes, which may be none or all
-abbrev pub AppendsFront : Option (List ℕ) → Option (List ℕ) → List ℕ → Type 0
-AppendsFront old new bytes = (n : ℕ) × (n ≤ length bytes) × Appends old new (take n bytes)
+abbrev pub AppendsPrefix : Option (List ℕ) → Option (List ℕ) → List ℕ → Type 0
+AppendsPrefix old new bytes = (n : ℕ) × (n ≤ length bytes) × Appends old new (take n bytes)
 
 -- n bytes that were taken make new false, and none leave it as old
 abbrev pub UnflushedBy : ℕ → Bool → Bool → Type 0

@@ -4,7 +4,7 @@ ghost use Rattle.std.specs.Prelude.{ℕ, ◌<◌, ◌≤◌, List, Option, Bool,
 ghost use Rattle.std.specs.Prelude.{OnErr};
 ghost use Rattle.std.specs.Io.KnownBytes.{Appends, Keeps, WriteAppends};
 ghost use Rattle.gf_streams.specs.Counts.{CountsFailure, Rises};
-ghost use Rattle.gf_streams.specs.Taken.{AppendsFront, Flushes, TakesPart, UnflushedBy, Unflushes};
+ghost use Rattle.gf_streams.specs.Taken.{AppendsPrefix, Flushes, TakesPart, UnflushedBy, Unflushes};
 
 use thiserror::Error;
 
@@ -58,11 +58,11 @@ pub fn write_all<W: Sink>(sink: &mut W, bytes: &[u8]) -> Result<(), SinkFault>
 }
 
 /// Writes all these bytes, and flushes.
-#[tactic(auto, using(crate::proofs::TakenLemmas::appends_front))]
+#[tactic(auto, using(crate::proofs::TakenLemmas::appends_prefix))]
 pub fn write_whole<W: Sink>(sink: &mut W, bytes: &[u8]) -> Result<(), SinkFault>
     ensures ok { OnOk result (Appends (W.taken sink.old) (W.taken sink.new) bytes.now) }
     ensures flushed { OnOk result (IsTrue (W.flushed sink.new)) }
-    ensures err { OnErr result (AppendsFront (W.taken sink.old) (W.taken sink.new) bytes.now) }
+    ensures err { OnErr result (AppendsPrefix (W.taken sink.old) (W.taken sink.new) bytes.now) }
     ensures failed { OnErr result (Rises (W.failures sink.old) (W.failures sink.new)) }
     ensures counts { CountsFailure (W.failures sink.old) (W.failures sink.new) result }
 {

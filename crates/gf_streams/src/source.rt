@@ -4,7 +4,7 @@ ghost use Rattle.std.specs.Prelude.{◌≡◌, ℕ, ◌+◌, ◌<◌, ◌≤◌,
 ghost use Rattle.std.specs.Prelude.{IfOk, IfSome, IsErr, IsErrOf, OnOk};
 ghost use Rattle.std.specs.Io.KnownBytes.{IsAtEnd, ReadConsumes};
 ghost use Rattle.gf_streams.specs.Reads.{CamePast, ConsumesAtMost, ConsumesExactly, ConsumesSome};
-ghost use Rattle.gf_streams.specs.Reads.{Continues};
+ghost use Rattle.gf_streams.specs.Reads.{ReadsOn};
 ghost use Rattle.gf_streams.specs.Counts.{CountsFailure, CountsFailureAt, Rises, raised};
 ghost use Rattle.gf_streams.specs.declared.source.InputError.TheVariants.{OutOfMemory, ReadFailed};
 ghost use Rattle.gf_streams.specs.declared.source.InputError.TheVariants.{TooLong};
@@ -81,7 +81,7 @@ fn read_onto<R: Source>(
 ) -> Result<usize, InputError>
     requires room { 0 < length chunk.old }
     ensures ok { IfOk result (λ n.
-        Continues (R.left source.old) (R.left source.new) bytes.old.items bytes.new.items n) }
+        ReadsOn (R.left source.old) (R.left source.new) bytes.old.items bytes.new.items n) }
     ensures within { IfOk result (λ n. n ≤ length chunk.old) }
     ensures failed { IsErrOf result ReadFailed →
         ConsumesAtMost 0 (R.left source.old) (R.left source.new) }

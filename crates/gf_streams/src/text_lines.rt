@@ -3,7 +3,7 @@
 ghost use Rattle.std.specs.Prelude.{◌≡◌, ◌<◌, ◌≤◌, ◌+◌, ◌-◌, ◌∷◌, [], ◌^◌, length, take, drop, ℕ};
 ghost use Rattle.std.specs.Prelude.{IfOk, IfSome, IfNone, map};
 ghost use Rattle.std.specs.List.{position};
-ghost use Rattle.gf_streams.specs.LineCutting.{IsNext, IsPlaced, with_line};
+ghost use Rattle.gf_streams.specs.LineCutting.{IsNextLine, AreLinesAt, with_line};
 ghost use Rattle.gf_streams.specs.TextLines.{is_blank, is_line_end, numbered_from, numbered_lines};
 
 use memchr::memchr;
@@ -34,7 +34,7 @@ struct Place {
 
 impl Model for TextLines {
     ghost use Rattle.std.specs.Prelude.{List, ℕ, ◌≤◌, length, drop};
-    ghost use Rattle.gf_streams.specs.LineCutting.{Stands};
+    ghost use Rattle.gf_streams.specs.LineCutting.{IsAtSomeLine};
     ghost use Rattle.gf_streams.specs.TextLines.{numbered_from};
 
     ghost Value = { List (ℕ × List ℕ) };
@@ -42,7 +42,7 @@ impl Model for TextLines {
     ghost view = { λ lines. numbered_from lines.next.number (drop lines.next.start lines.text.items) };
 
     ghost invariant = { λ lines. (lines.next.start ≤ length lines.text.items)
-        × Stands (drop lines.next.start lines.text.items) lines.next.number lines.next.size };
+        × IsAtSomeLine (drop lines.next.start lines.text.items) lines.next.number lines.next.size };
 }
 
 impl TextLines {
@@ -112,7 +112,7 @@ impl TextLines {
 fn place_of(text: &[u8], from: usize, number: u64) -> Place
     requires within { from ≤ length text.now }
     requires few { number + length (drop from text.now) < 2 ^ 64 }
-    ensures { IsPlaced text.now from number result.number result.start result.size }
+    ensures { AreLinesAt text.now from number result.number result.start result.size }
 {
     match next_line(&text[from..], number) {
         Some(next) => Place {
@@ -140,7 +140,7 @@ struct NextLine<'a> {
 fn next_line(text: &[u8], number: u64) -> Option<NextLine<'_>>
     requires { number + length text.now < 2 ^ 64 }
     ensures some { IfSome result (λ next.
-        IsNext number text.now next.number next.line.now next.from.now) }
+        IsNextLine number text.now next.number next.line.now next.from.now) }
     ensures none { IfNone result (numbered_from number text.now ≡ []) }
 {
     let mut from = text;
@@ -214,7 +214,7 @@ fn cut_line(text: &[u8]) -> (&[u8], &[u8])
         ≡ with_line n result.0.now (numbered_from (n + 1) result.1.now) }
     ensures shorter { length result.1.now < length text.now }
     ensures rest { result.1.now ≡ drop (length text.now - length result.1.now) text.now }
-    ensures front { result.0.now ≡ take (length result.0.now) text.now }
+    ensures prefix { result.0.now ≡ take (length result.0.now) text.now }
     ensures within { length result.0.now ≤ length text.now }
     ensures behind { result.1.now ≡ drop (length result.0.now + 1) text.now }
 {

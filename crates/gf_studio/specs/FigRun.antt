@@ -11,7 +11,7 @@ use Rattle.gf_drawing.specs.declared.compiling.CompileFault.TheVariants as compi
 use Rattle.gf_drawing.specs.CanonicalDrawing.{IsCanonical, Paints, colours_of}
 use Rattle.gf_drawing.specs.DrawingState.{DrawingState}
 use Rattle.gf_drawing.specs.Outlined.{PaintsAsFig, outlined}
-use Rattle.gf_streams.specs.Taken.{AppendsFront}
+use Rattle.gf_streams.specs.Taken.{AppendsPrefix}
 use Rattle.gf_fig_read.specs.FigGrammar.{Reads}
 use Rattle.gf_fig_write.specs.FigText.{fig_text}
 use Rattle.gf_fig_write.specs.ShownHistory.{Shows}
@@ -50,10 +50,10 @@ pub record Writes (bytes : List ℕ) (old new : Option (List ℕ)) : Type 0 wher
 
 -- known bytes grow from old to new by a front, which may be none or all, of the one FIG text of
 -- what the bytes draw
-pub record WritesFront (bytes : List ℕ) (old new : Option (List ℕ)) : Type 0 where
+pub record WritesPrefix (bytes : List ℕ) (old new : Option (List ℕ)) : Type 0 where
   pub drawing : DrawingState AnyShape
   pub drawn : Draws bytes drawing
-  pub written : AppendsFront old new (fig_text any_outline drawing)
+  pub written : AppendsPrefix old new (fig_text any_outline drawing)
 
 -- h has at most 1,000 visible versions, of more than 512 distinct colours
 pub record HasMoreColours (h : List Op) : Type 0 where

@@ -11,7 +11,7 @@ use Rattle.gf_inspect.specs.declared.top.VersionName.{VersionName}
 use Rattle.gf_inspect.specs.ObjectVersions.{AreVersionsOf}
 use Rattle.gf_inspect.specs.TopVersion.{NamesTop}
 use Rattle.gf_inspect.specs.VersionLines.{top_line, version_line}
-use Rattle.gf_streams.specs.Taken.{AppendsFront}
+use Rattle.gf_streams.specs.Taken.{AppendsPrefix}
 use Rattle.gf_replay.specs.Denoting.{Denotes}
 use Rattle.gf_replay.specs.Refusing.{Drops, HasFault}
 use Rattle.gf_studio.specs.declared.studio_error.StudioError.{StudioError}
@@ -56,11 +56,11 @@ pub record WritesLook (bytes : List ℕ) (query : Query)
 
 -- known bytes grow from old to new by a front, which may be none or all, of a text that answers the
 -- query about what the bytes denote
-pub record WritesLookFront (bytes : List ℕ) (query : Query)
+pub record WritesLookPrefix (bytes : List ℕ) (query : Query)
     (old new : Option (List ℕ)) : Type 0 where
   pub text : List ℕ
   pub looks : Looks bytes query text
-  pub written : AppendsFront old new text
+  pub written : AppendsPrefix old new text
 
 -- the query is about the object o, which is missing in the history that the bytes denote
 pub record LooksForNone (bytes : List ℕ) (query : Query) (o : ObjectId) : Type 0 where

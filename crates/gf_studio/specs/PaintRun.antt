@@ -9,7 +9,7 @@ use Rattle.gf_shape.specs.FigureMeaning.{outline_holds}
 use Rattle.gf_versions.specs.HistoryColour.{HistoryColour}
 use Rattle.gf_drawing.specs.DrawingColour.{drawing_colour}
 use Rattle.gf_drawing.specs.DrawingState.{DrawingState}
-use Rattle.gf_streams.specs.Taken.{AppendsFront}
+use Rattle.gf_streams.specs.Taken.{AppendsPrefix}
 use Rattle.gf_fig_read.specs.FigGrammar.{Reads}
 use Rattle.gf_fig_read.specs.Objects.{Drawn}
 use Rattle.gf_scanline.specs.Windows.{View}
@@ -42,10 +42,10 @@ module _ (IsShown : (Point → Rgb) → Type 0) (w : View) (old new : Option (Li
 
   -- they grow by a front, which may be none or all, of the picture of colours that are to be
   -- painted
-  pub record WritesPictureFront : Type 0 where
+  pub record WritesPicturePrefix : Type 0 where
     pub colour : Point → Rgb
     pub shown : IsShown colour
-    pub written : AppendsFront old new (picture colour w)
+    pub written : AppendsPrefix old new (picture colour w)
 
   -- they grow by the header and whole bands of 64 rows, fewer than all, of the picture of colours
   -- that are to be painted

@@ -6,7 +6,7 @@ ghost use Rattle.gf_streams.specs.Counts.{Rises};
 ghost use Rattle.gf_streams.specs.Reads.{ConsumesAtMost};
 ghost use Rattle.gf_studio.specs.RunAnswers.{ReadsFor};
 ghost use Rattle.gf_studio.specs.InspectRun.{Looks, RefusesLook, Tells, TellsTop, TellsVersions};
-ghost use Rattle.gf_studio.specs.InspectRun.{WritesLook, WritesLookFront};
+ghost use Rattle.gf_studio.specs.InspectRun.{WritesLook, WritesLookPrefix};
 ghost use Rattle.gf_studio.specs.RefusedQueries.{RefusesAsking, RefusesQuery};
 
 use crate::{StudioError, input};
@@ -53,8 +53,8 @@ pub fn inspect_run<T: Threads + Sync, R: Source, W: Sink>(
         RefusesLook query bytes e)) }
 
     // A front of the text is written at most, and that only where the sink failed.
-    ensures front { result ≡ Err StudioError.WriteFailed → IfSome (R.left source.old) (λ bytes.
-        WritesLookFront bytes query (W.taken sink.old) (W.taken sink.new)) }
+    ensures prefix { result ≡ Err StudioError.WriteFailed → IfSome (R.left source.old) (λ bytes.
+        WritesLookPrefix bytes query (W.taken sink.old) (W.taken sink.new)) }
     ensures failed { result ≡ Err StudioError.WriteFailed →
         Rises (W.failures sink.old) (W.failures sink.new) }
     ensures unwritten { IfErr result (λ e. (sink.new ≡ sink.old) ⊎ (e ≡ StudioError.WriteFailed)) }

@@ -4,9 +4,9 @@
 ghost use Rattle.std.specs.Prelude.{◌≡◌, ◌+◌, ◌≤◌, ◌⊎◌, Err, IfSome, IfErr, OnOk, IsTrue};
 ghost use Rattle.gf_streams.specs.Counts.{Rises};
 ghost use Rattle.gf_streams.specs.Reads.{ConsumesAtMost};
-ghost use Rattle.gf_studio.specs.FigRun.{Exports, Writes, WritesFront};
+ghost use Rattle.gf_studio.specs.FigRun.{Exports, Writes, WritesPrefix};
 ghost use Rattle.gf_studio.specs.PaintRun.{IsDenoted, IsMeant, WritesBands, WritesPicture};
-ghost use Rattle.gf_studio.specs.PaintRun.{WritesPictureFront};
+ghost use Rattle.gf_studio.specs.PaintRun.{WritesPicturePrefix};
 ghost use Rattle.gf_studio.specs.RunAnswers.{ReadsFor, RefusesFig, RefusesLines};
 
 use crate::StudioError;
@@ -45,8 +45,8 @@ pub fn fig_run<T: Threads + Sync, R: Source, W: Sink>(
         RefusesLines bytes e)) }
 
     // A front of the text is written at most, and that only where the sink failed.
-    ensures front { result ≡ Err StudioError.WriteFailed → IfSome (R.left source.old) (λ bytes.
-        WritesFront bytes (W.taken sink.old) (W.taken sink.new)) }
+    ensures prefix { result ≡ Err StudioError.WriteFailed → IfSome (R.left source.old) (λ bytes.
+        WritesPrefix bytes (W.taken sink.old) (W.taken sink.new)) }
     ensures failed { result ≡ Err StudioError.WriteFailed →
         Rises (W.failures sink.old) (W.failures sink.new) }
     ensures unwritten { IfErr result (λ e. (sink.new ≡ sink.old) ⊎ (e ≡ StudioError.WriteFailed)) }
@@ -85,8 +85,8 @@ pub fn paint_run<T: Threads + Sync, R: Source, W: Sink, G: Gate + Sync>(
 
     // A front of the picture is written where the sink failed, and for want of memory nothing, or
     // the header and whole bands; else nothing.
-    ensures front { result ≡ Err StudioError.WriteFailed → IfSome (R.left source.old) (λ bytes.
-        WritesPictureFront (IsMeant bytes) window (W.taken sink.old) (W.taken sink.new)) }
+    ensures prefix { result ≡ Err StudioError.WriteFailed → IfSome (R.left source.old) (λ bytes.
+        WritesPicturePrefix (IsMeant bytes) window (W.taken sink.old) (W.taken sink.new)) }
     ensures failed { result ≡ Err StudioError.WriteFailed →
         Rises (W.failures sink.old) (W.failures sink.new) }
     ensures memory { result ≡ Err StudioError.OutOfMemory → (sink.new ≡ sink.old) ⊎
@@ -127,8 +127,8 @@ pub fn repaint_run<T: Threads + Sync, R: Source, W: Sink, G: Gate + Sync>(
     ensures refused { IfErr result (λ e. IfSome (R.left source.old) (λ text. RefusesFig text e)) }
 
     // As of `paint_run`.
-    ensures front { result ≡ Err StudioError.WriteFailed → IfSome (R.left source.old) (λ text.
-        WritesPictureFront (IsDenoted text) window (W.taken sink.old) (W.taken sink.new)) }
+    ensures prefix { result ≡ Err StudioError.WriteFailed → IfSome (R.left source.old) (λ text.
+        WritesPicturePrefix (IsDenoted text) window (W.taken sink.old) (W.taken sink.new)) }
     ensures failed { result ≡ Err StudioError.WriteFailed →
         Rises (W.failures sink.old) (W.failures sink.new) }
     ensures memory { result ≡ Err StudioError.OutOfMemory → (sink.new ≡ sink.old) ⊎

@@ -9,7 +9,7 @@ use Rattle.gf_maximal.proofs.ImageLemmas.{Made, image_rises, in_image, table_ima
 use Rattle.gf_maximal.proofs.LargestLemmas.{IsConflict}
 use Rattle.gf_maximal.proofs.PairLemmas.{Pairs-from, Pairs-map}
 use Rattle.gf_components.specs.Components.{ComponentState, ComponentsState, alone, whole}
-use Rattle.gf_components.specs.Separate.{Apart, AreComponents, IsComponent, IsKept}
+use Rattle.gf_components.specs.Separate.{Apart, AreComponents, IsComponent, AreSetsKept}
 use Rattle.gf_components.proofs.ComponentLemmas.{all_of_fold}
 use Rattle.gf_components.proofs.CountLemmas.{a_table, tables_long}
 use Rattle.gf_table.specs.ByPosition.{sets_at, component_at, components_at}
@@ -26,7 +26,7 @@ module _ (f : ℕ → ℕ) (c e : ℕ → ℕ → Bool) (first : IsConflict c) (
   part_within : (p : ComponentState) → Contains s.parts p → Within p.all
   part_within p h a i = (all_of_fold c (alone s.free) s.parts a).1 (inr (p, h, i))
 
-  kept_image : (us : List ℕ) → IsRising us → Within us → (r : Option (List (List ℕ))) → IsKept c us r → IsKept e (image f us) (sets_at f r)
+  kept_image : (us : List ℕ) → IsRising us → Within us → (r : Option (List (List ℕ))) → AreSetsKept c us r → AreSetsKept e (image f us) (sets_at f r)
   kept_image us rises w (Some gs) k = (
     table_image f c e us rises (λ a b i j. one a b (w a i) (w b j)) (λ a b i j. same a b (w a i) (w b j)) gs k.0,
     let long : length (map (image f) gs) ≡ length gs = length-map gs (image f) in

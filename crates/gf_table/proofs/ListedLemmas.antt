@@ -12,7 +12,7 @@ use Rattle.gf_maximal.proofs.LargestLemmas.{IsConflict}
 use Rattle.gf_maximal.proofs.UnitedLemmas.{Contains-united}
 use Rattle.gf_components.specs.Components.{ComponentState, ComponentsState, alone, merged, products, whole}
 use Rattle.gf_maximal.specs.Growing as words
-use Rattle.gf_components.specs.Separate.{Apart, AreComponents, IsComponent, IsKept}
+use Rattle.gf_components.specs.Separate.{Apart, AreComponents, IsComponent, AreSetsKept}
 use Rattle.gf_components.proofs.ComponentLemmas.{all_of_merged}
 use Rattle.gf_components.proofs.ProductLemmas.{table_alike, table_alone, table_product}
 use Rattle.gf_groups.specs.Growing.{conflict_at, groups_at}
@@ -32,7 +32,7 @@ module _ (c : ℕ → ℕ → Bool) (s : IsConflict c) where
   table_full : (p : ComponentState) → IsComponent c p → IsTable c p.all (full c p)
   table_full p m = table_kept p.all m.rises p.sets m.sets
     where
-      table_kept : (us : List ℕ) → IsRising us → (r : Option (List (List ℕ))) → IsKept c us r → IsTable c us (unwrap_or r (groups_at c us))
+      table_kept : (us : List ℕ) → IsRising us → (r : Option (List (List ℕ))) → AreSetsKept c us r → IsTable c us (unwrap_or r (groups_at c us))
       table_kept us r (Some gs) k = k.0
       table_kept us r None k = table_groups c s us r
 

@@ -18,7 +18,7 @@ use Rattle.gf_rivals.specs.Aimed.{ClashesWithOne}
 use Rattle.gf_rivals.specs.Aimed.{IsConflict as ConflictsAt}
 use Rattle.gf_rivals.specs.Members.{ListsSetters}
 use Rattle.gf_rivals.specs.Naming.{IsNamedOn}
-use Rattle.gf_rivals.specs.Rivals.{Tells}
+use Rattle.gf_rivals.specs.Rivals.{AreChainsOf}
 use Rattle.gf_table.specs.ObjectState.{ObjectState}
 use Rattle.gf_table.specs.Standing.{IsMetByAim}
 
@@ -42,7 +42,7 @@ met_united h t us own reach members met r u c k e n =
     )
 
 -- the members of an aim are on its object
-pub aim_named : (h : List Op) → IsValid h → (a : Op) → IsAimed h a → (o : ObjectId) → object_of a ≡ o → (cs : List (List Setter)) → Tells h o cs →
+pub aim_named : (h : List Op) → IsValid h → (a : Op) → IsAimed h a → (o : ObjectId) → object_of a ≡ o → (cs : List (List Setter)) → AreChainsOf h o cs →
     (ids : List OpId) → ids ≡ aim_of a → (id : OpId) → Contains ids id → IsNamedOn h cs id
 aim_named h valid a aimed o own cs tells ids e id i =
     let w = aimed.each id (subst (λ z. Contains z id) e i) in

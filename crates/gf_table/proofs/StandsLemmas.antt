@@ -34,7 +34,7 @@ use Rattle.gf_components.specs.Components.{ComponentState, ComponentsState, alon
 use Rattle.gf_components.proofs.ComponentLemmas.{all_of_fold, first_parts}
 use Rattle.gf_table.specs.ByPosition.{components_at}
 use Rattle.gf_table.specs.ObjectState.{ObjectState, maker_number, number_conflict, position_in}
-use Rattle.gf_table.specs.Standing.{AreComponentsOn, IsStateOf, Stands, StandsFor, state_of}
+use Rattle.gf_table.specs.Standing.{AreComponentsOn, IsStateOf, IsObjectState, StandsFor, state_of}
 use Rattle.gf_table.proofs.ByPositionLemmas.{components_image, whole_image}
 use Rattle.gf_table.proofs.StateLemmas.{maker_position, number_at, numbers_test, one_number, setter_at, state_kept}
 
@@ -48,7 +48,7 @@ module _ (h : List Op) (valid : IsValid h) (a : Op) (in_range : IsInRange a) (ac
   longer = h ++ a ∷ []
 
   -- the state of an object that the operation is not on
-  stands_kept : (q : ObjectId) → object_of a ≢ q → (r : Option ObjectState) → Stands h q r → Stands longer q r
+  stands_kept : (q : ObjectId) → object_of a ≢ q → (r : Option ObjectState) → IsObjectState h q r → IsObjectState longer q r
   stands_kept q off (Some t) s = state_kept h q t s a valid in_range accepted (λ v aim e. off (ap (changed_object a.id) e))
   stands_kept q off None s = λ b i. elim (Contains-push_cases h a b i) [ inl j ↦ s b j | inr e ↦ subst (λ (z : Op). object_of z ≢ q) e off ]
 
@@ -153,11 +153,11 @@ module _ (h : List Op) (o : ObjectId) where
 -- ---- what a look-up finds
 
 -- the object that the table has no state of
-pub absent : (h : List Op) (o : ObjectId) (r : Option ObjectState) → Stands h o r → r ≡ None → (a : Op) → Contains h a → object_of a ≢ o
-absent h o r s e = subst (Stands h o) e s
+pub absent : (h : List Op) (o : ObjectId) (r : Option ObjectState) → IsObjectState h o r → r ≡ None → (a : Op) → Contains h a → object_of a ≢ o
+absent h o r s e = subst (IsObjectState h o) e s
 
-pub there : (h : List Op) (o : ObjectId) (r : Option ObjectState) (t : ObjectState) → Stands h o r → r ≡ Some t → IsStateOf h o t
-there h o r t s e = subst (Stands h o) e s
+pub there : (h : List Op) (o : ObjectId) (r : Option ObjectState) (t : ObjectState) → IsObjectState h o r → r ≡ Some t → IsStateOf h o t
+there h o r t s e = subst (IsObjectState h o) e s
 
 -- ---- the next operation
 

@@ -21,7 +21,7 @@ use Rattle.gf_ops.proofs.ListLemmas.{Contains-cons_cases, Contains-cons_head, no
 use Rattle.gf_maximal.proofs.LargestLemmas.{IsConflict}
 use Rattle.gf_maximal.proofs.RisingLemmas.{rising_cons, rising_nil}
 use Rattle.gf_components.specs.Components.{after, whole}
-use Rattle.gf_components.specs.Separate.{AreComponents, ComesTo}
+use Rattle.gf_components.specs.Separate.{AreComponents, IsNewWith}
 use Rattle.gf_components.proofs.AgreeLemmas.{components_agree}
 use Rattle.gf_components.proofs.ComponentLemmas.{components_after}
 use Rattle.gf_groups.specs.Growing.{conflict_at}
@@ -34,7 +34,7 @@ use Rattle.gf_rivals.specs.Indexes.{IsIndex, PutsNumber}
 use Rattle.gf_rivals.specs.Setters.{block}
 use Rattle.gf_ops.specs.declared.op.Clock.{Clock}
 use Rattle.gf_rivals.specs.Chains.{IsUnknown, chain_of, no_chains, position_of, setters, with_setter}
-use Rattle.gf_rivals.specs.Rivals.{AreRivals, IsNumber, Tells}
+use Rattle.gf_rivals.specs.Rivals.{AreRivals, IsNumber, AreChainsOf}
 use Rattle.gf_rivals.specs.Aimed.{AimedState, AimsAtOne, AreAimed, AreNumbersOf, Clash}
 use Rattle.gf_rivals.specs.Aimed.{IsConflict as ConflictsAt}
 use Rattle.gf_rivals.proofs.AimRivalLemmas.{aim_met, aims_conflict, clash_numbers, maker_calm}
@@ -66,11 +66,11 @@ made_by (Create start) k e = (start, refl)
 made_by (Set o v aim) k e = absurd cc
 
 -- the creation stands in no chain
-pub maker_position : (h : List Op) (o : ObjectId) (t : ObjectState) → Tells h o t.chains → position_in t maker_number ≡ t.maker
+pub maker_position : (h : List Op) (o : ObjectId) (t : ObjectState) → AreChainsOf h o t.chains → position_in t maker_number ≡ t.maker
 maker_position h o t tells = ap (λ r. unwrap_or r t.maker) (position_none h o t.chains tells maker_number (λ q k. let l = number_below h o t.chains tells maker_number q k in omega (arith, l)))
 
 -- a number stands for its setter's position
-pub number_at : (h : List Op) (o : ObjectId) (t : ObjectState) → Tells h o t.chains → (n q : ℕ) → IsNumber t.chains n q → position_in t n ≡ q
+pub number_at : (h : List Op) (o : ObjectId) (t : ObjectState) → AreChainsOf h o t.chains → (n q : ℕ) → IsNumber t.chains n q → position_in t n ≡ q
 number_at h o t tells n q k = ap (λ r. unwrap_or r t.maker) (position_is h o t.chains tells n q k)
 
 module _ (h : List Op) (o : ObjectId) (t : ObjectState) (s : IsStateOf h o t) where
@@ -158,7 +158,7 @@ module _ (h : List Op) (o : ObjectId) (t : ObjectState) (s : IsStateOf h o t) wh
         abbrev pub grown : ObjectState
         grown = record { chains = chains; index = i; aimed = es; components = after d x t.components; maker = t.maker }
 
-        tells : Tells longer o chains
+        tells : AreChainsOf longer o chains
         tells = tells_setter h o t.chains s.tells a valid in_range accepted v change
 
         cases : (n q : ℕ) → IsNumber chains n q → IsNumber t.chains n q ⊎ ((n ≡ x) × (q ≡ length h))
@@ -205,7 +205,7 @@ module _ (h : List Op) (o : ObjectId) (t : ObjectState) (s : IsStateOf h o t) wh
         conflict_last : (n q : ℕ) → position_in grown n ≡ q → number_conflict longer grown x n ≡ conflict_at longer (length h) q
         conflict_last n q e = ap (λ z. conflict_at longer z (position_in grown n)) at_last ∙ ap (conflict_at longer (length h)) e
 
-        comes : ComesTo (number_conflict longer grown) t.components x d
+        comes : IsNewWith (number_conflict longer grown) t.components x d
         comes = record {
           fresh = is_new;
           rivals = λ n. (

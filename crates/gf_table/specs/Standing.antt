@@ -25,7 +25,7 @@ use Rattle.gf_components.specs.Components.{whole}
 use Rattle.gf_components.specs.Separate.{AreComponents}
 use Rattle.gf_rivals.specs.Aimed.{AimedState, AreAimed, Clash}
 use Rattle.gf_rivals.specs.Indexes.{IsIndex}
-use Rattle.gf_rivals.specs.Rivals.{IsNumber, Tells}
+use Rattle.gf_rivals.specs.Rivals.{IsNumber, AreChainsOf}
 use Rattle.gf_table.specs.ObjectState.{ObjectState, maker_number, number_conflict}
 
 -- the operation of h at the position m made the object o
@@ -39,7 +39,7 @@ pub record IsMaker (h : List Op) (o : ObjectId) (m : ℕ) : Type 0 where
 -- the state is that of the operations of h on the object o
 pub record IsStateOf (h : List Op) (o : ObjectId) (t : ObjectState) : Type 0 where
   pub maker : IsMaker h o t.maker
-  pub tells : Tells h o t.chains
+  pub tells : AreChainsOf h o t.chains
   pub index : IfSome t.index (IsIndex h t.chains)
   pub aimed : AreAimed h t.chains t.aimed
   pub components : AreComponents (number_conflict h t) t.components
@@ -71,9 +71,9 @@ with_aim [] e es = es
 with_aim (i ∷ is) e es = es ++ e ∷ []
 
 -- the table's state of an object, if it has one, is that of its operations, and else there is none
-abbrev pub Stands : List Op → ObjectId → Option ObjectState → Type 0
-Stands h o (Some t) = IsStateOf h o t
-Stands h o None = (a : Op) → Contains h a → object_of a ≢ o
+abbrev pub IsObjectState : List Op → ObjectId → Option ObjectState → Type 0
+IsObjectState h o (Some t) = IsStateOf h o t
+IsObjectState h o None = (a : Op) → Contains h a → object_of a ≢ o
 
 -- what the table has for the object o
 abbrev pub state_of : List (ObjectId × ObjectState) → ObjectId → Option ObjectState
@@ -81,7 +81,7 @@ state_of t o = lookup (is_at (object_cmp o)) t
 
 -- the table has for each object the state of the operations of h on it
 abbrev pub StandsFor : List Op → List (ObjectId × ObjectState) → Type 0
-StandsFor h t = (o : ObjectId) → Stands h o (state_of t o)
+StandsFor h t = (o : ObjectId) → IsObjectState h o (state_of t o)
 
 -- s are the components of the operations of h on the object o, by their positions
 pub record AreComponentsOn (h : List Op) (o : ObjectId) (s : ComponentsState) : Type 0 where

@@ -9,7 +9,7 @@ ghost use Rattle.gf_ops.specs.OperationOrder.{IsSite};
 ghost use Rattle.gf_rivals.specs.Aimed.{AreNumbersOf, IsConflict};
 ghost use Rattle.gf_rivals.specs.Chains.{setters};
 ghost use Rattle.gf_rivals.specs.Members.{ListsSetters};
-ghost use Rattle.gf_rivals.specs.Rivals.{AreRivals, Tells};
+ghost use Rattle.gf_rivals.specs.Rivals.{AreRivals, AreChainsOf};
 ghost use Rattle.gf_rivals.specs.Indexes.{IsIndex, PutsNumber};
 ghost use Rattle.gf_rivals.specs.Fingerprints.{fingerprint_of};
 ghost use Rattle.gf_ops.specs.declared.change.Change.TheVariants.{Set};
@@ -181,7 +181,7 @@ impl ObjectTable {
         direct: Numbers,
         aim: &Numbers,
     ) -> Result<Numbers, OutOfMemory>
-        ensures { IfOk result (λ met. (o : _) → Tells history.now.ops o self.now.chains
+        ensures { IfOk result (λ met. (o : _) → AreChainsOf history.now.ops o self.now.chains
             → ListsSetters self.now.chains aim.now → (n : _) → Contains met n
             ↔ (Contains direct n ⊎ IsMetByAim history.now.ops self.now aim.now n)) }
     {

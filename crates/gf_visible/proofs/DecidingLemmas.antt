@@ -27,8 +27,8 @@ use Rattle.gf_visible.specs.Choices.{AreShowing, IsCovered}
 use Rattle.gf_table.specs.Standing.{AreComponentsOn}
 use Rattle.gf_versions.proofs.VersionLemmas.{some_version}
 use Rattle.gf_visible.specs.Deciding.{may_be_last, deciding, idle, lasts}
-use Rattle.gf_visible.specs.ShownAt.{sets_at, shows_at, later_at, hides_at, covers_at}
-use Rattle.gf_visible.specs.ShownSets.{Shows, IsShownSet, AreShownSets}
+use Rattle.gf_visible.specs.ShownAt.{shows_or_hides_at, shows_at, later_at, hides_at, covers_at}
+use Rattle.gf_visible.specs.ShownSets.{ShowsSomewhere, IsShownSet, AreShownSets}
 use Rattle.gf_visible.proofs.LastLemmas.{never, HasLater, are_last}
 use Rattle.gf_visible.proofs.SetterLemmas.{agree_at, setter_shows}
 use Rattle.gf_visible.proofs.SettledLemmas.{from_settled, last_from}
@@ -58,27 +58,27 @@ module _ (h : List Op) (o : ObjectId) (t : ComponentsState) (on : AreComponentsO
     later_free i w = (w.0, has_free h o t on q l w.0 w.1, w.2)
 
     -- each setter of the rest has one after it
-    late : (i : ℕ) → Contains k i → sets_at h i ≡ true → HasLater h q i
+    late : (i : ℕ) → Contains k i → shows_or_hides_at h i ≡ true → HasLater h q i
     late i x set = elim ((in_second h o t on i).0 (rest i x)) [
       | inl f ↦ let w = other_free h o t on i f in elim ((are_last h t.free).others i w.0 set) [ inl j ↦ absurd (w.1 j) | inr v ↦ later_free i v ]
       | inr p ↦
           let none = list_any_false (may_be_last h ls) p.0.all p.2 i p.3 in
-          elim (and_cases (sets_at h i) (not (list_any (later_at h i) ls)) none) [
+          elim (and_cases (shows_or_hides_at h i) (not (list_any (later_at h i) ls)) none) [
             | inl n ↦ never set n
             | inr n ↦ let w = list_any_true (later_at h i) ls (not-false (list_any (later_at h i) ls) n) in later_free i (w.0, last_free h o t on w.0 w.1, w.2)
           ]
     ]
 
     -- so one that no setter comes after decides
-    last_decides : (i : ℕ) → Contains q i → sets_at h i ≡ true → ((j : ℕ) → Contains q j → later_at h i j ≡ false) → Contains u i
+    last_decides : (i : ℕ) → Contains q i → shows_or_hides_at h i ≡ true → ((j : ℕ) → Contains q j → later_at h i j ≡ false) → Contains u i
     last_decides i x set none = elim ((parts i).0 x) [ inl j ↦ j | inr j ↦ let w = late i j set in never w.2 (none w.0 w.1) ]
 
     is_on_o : (i : ℕ) → Contains q i → is_on o (slice_get h i) ≡ true
     is_on_o i x = (all_positions h o i).0 (l.within i x)
 
-    pub covered_from : Shows h q → IsCovered (hides_at h) (covers_at h) (conflict_at h) u
+    pub covered_from : ShowsSomewhere h q → IsCovered (hides_at h) (covers_at h) (conflict_at h) u
     covered_from w i x hides =
-        let t = and_parts (sets_at h i) (not (shows_at h i)) hides in
+        let t = and_parts (shows_or_hides_at h i) (not (shows_at h i)) hides in
         let set = setter_shows h w.last w.given in
         let of_q = (parts i).1 (inl x) in
         elim (cases_Bool (later_at h i w.last)) [
@@ -88,7 +88,7 @@ module _ (h : List Op) (o : ObjectId) (t : ComponentsState) (on : AreComponentsO
               never (same ∙ w.given) (not-true (shows_at h i) t.1)
         ]
 
-    pub shows_from : IsCovered (hides_at h) (covers_at h) (conflict_at h) u → Shows h q
+    pub shows_from : IsCovered (hides_at h) (covers_at h) (conflict_at h) u → ShowsSomewhere h q
     shows_from covered =
         let version : IsVersionGroup h (group_at h o q) = version_of_largest h valid o us (all_positions h o) made q l in
         let v = some_version h valid (group_at h o q) version in
@@ -96,13 +96,13 @@ module _ (h : List Op) (o : ObjectId) (t : ComponentsState) (on : AreComponentsO
         let settled : IsSettled h (rising_ids h q) attr.Shown (value.Shown v.0.shown) = subst (λ g. IsSettled h g attr.Shown (value.Shown v.0.shown)) ids v.1.shown in
         by_value v.0.shown settled
       where
-        by_value : (b : Bool) → IsSettled h (rising_ids h q) attr.Shown (value.Shown b) → Shows h q
+        by_value : (b : Bool) → IsSettled h (rising_ids h q) attr.Shown (value.Shown b) → ShowsSomewhere h q
         by_value true w = from_settled h valid q w
         by_value false w =
             let f = last_from h valid q false w in
-            let set : sets_at h f.last ≡ true = ap (λ (r : Option Bool). is_some r) f.given in
+            let set : shows_or_hides_at h f.last ≡ true = ap (λ (r : Option Bool). is_some r) f.given in
             let hid : shows_at h f.last ≡ false = ap (λ (r : Option Bool). unwrap_or r false) f.given in
-            let d = covered f.last (last_decides f.last f.within set f.none) (and_from (sets_at h f.last) (not (shows_at h f.last)) set (not_from_false (shows_at h f.last) hid)) in
+            let d = covered f.last (last_decides f.last f.within set f.none) (and_from (shows_or_hides_at h f.last) (not (shows_at h f.last)) set (not_from_false (shows_at h f.last) hid)) in
             let y = and_parts (later_at h f.last d.0) (shows_at h d.0) d.2 in
             never y.0 (f.none d.0 ((parts d.0).1 (inl d.1)))
 
@@ -138,7 +138,7 @@ module _ (h : List Op) (o : ObjectId) (t : ComponentsState) (on : AreComponentsO
             let w = Contains-products_from all ks q ((halves.each q).1 (d.rises, d.largest)) in
             let u = (table.each w.0).0 w.2 in
             let l = subst (λ z. IsLargest c (Contains us) (Contains z)) w.4 d.largest in
-            let shows = subst (Shows h) w.4 d.shown in
+            let shows = subst (ShowsSomewhere h) w.4 d.shown in
             let covered = covered_from valid made (united w.0 w.1) w.0 w.1 l (Contains-united w.0 w.1) (of_rest w.1 w.3) shows in
             subst (Contains (products gs ks)) (sym w.4) (Contains-products gs ks w.0 w.1 ((some.exactly w.0).1 (record { rises = u.0; largest = u.1; covered = covered })) w.3),
       );

@@ -15,7 +15,7 @@ use Rattle.gf_maximal.proofs.InsertLemmas.{inserted_all, holds_all}
 use Rattle.gf_maximal.proofs.ListLemmas.{Contains-filter}
 use Rattle.gf_maximal.proofs.RisingLemmas.{rising_nil}
 use Rattle.gf_visible.specs.Deciding.{taken, next_lasts, lasts}
-use Rattle.gf_visible.specs.ShownAt.{sets_at, later_at}
+use Rattle.gf_visible.specs.ShownAt.{shows_or_hides_at, later_at}
 
 pub never : {G : Type 0} {b : Bool} → b ≡ true → b ≡ false → G
 never h k = cc
@@ -28,11 +28,11 @@ module _ (h : List Op) where
   -- ls are of xs, and each other setter of xs has one of xs after it
   pub record AreLast (xs ls : List ℕ) : Type 0 where
     pub within : (i : ℕ) → Contains ls i → Contains xs i
-    pub others : (i : ℕ) → Contains xs i → sets_at h i ≡ true → Contains ls i ⊎ HasLater xs i
+    pub others : (i : ℕ) → Contains xs i → shows_or_hides_at h i ≡ true → Contains ls i ⊎ HasLater xs i
 
   next_last : (xs ls : List ℕ) (j : ℕ) → AreLast xs ls → AreLast (xs ++ j ∷ []) (next_lasts h ls j)
-  next_last xs ls j a = elim (cases_Bool (sets_at h j)) [
-    | inl y ↦ rw (cond-true (sets_at h j) (taken h ls j) ls y) (record {
+  next_last xs ls j a = elim (cases_Bool (shows_or_hides_at h j)) [
+    | inl y ↦ rw (cond-true (shows_or_hides_at h j) (taken h ls j) ls y) (record {
       within = λ i c. elim (Contains-push_cases (filter before ls) j i c) [
         | inl k ↦ more i (a.within i ((Contains-filter before ls i).0 k).0)
         | inr e ↦ subst (Contains (xs ++ j ∷ [])) e (Contains-push xs j)
@@ -48,11 +48,11 @@ module _ (h : List Op) where
         | inr e ↦ inl (subst (Contains (taken h ls j)) e (Contains-push (filter before ls) j))
       ];
     })
-    | inr n ↦ rw (cond-false (sets_at h j) (taken h ls j) ls n) (record {
+    | inr n ↦ rw (cond-false (shows_or_hides_at h j) (taken h ls j) ls n) (record {
       within = λ i c. more i (a.within i c);
       others = λ i c set. elim (Contains-push_cases xs j i c) [
         | inl k ↦ elim (a.others i k set) [ inl m ↦ inl m | inr w ↦ inr (w.0, more w.0 w.1, w.2) ]
-        | inr e ↦ never set (subst (λ z. sets_at h z ≡ false) e n)
+        | inr e ↦ never set (subst (λ z. shows_or_hides_at h z ≡ false) e n)
       ];
     })
   ]

@@ -19,7 +19,7 @@ use Rattle.gf_groups.specs.GroupedPositions.{is_on}
 use Rattle.gf_groups.specs.Growing.{conflict_at}
 use Rattle.gf_groups.proofs.ConflictTestLemmas.{before_decided}
 use Rattle.gf_groups.proofs.OnPositionLemmas.{conflict_from, on_from}
-use Rattle.gf_visible.specs.ShownAt.{shown_by, op_says, both_before, said_at, sets_at, shows_at, later_at}
+use Rattle.gf_visible.specs.ShownAt.{shown_by, op_says, both_before, said_at, shows_or_hides_at, shows_at, later_at}
 
 -- ---- one operation
 
@@ -95,7 +95,7 @@ pub one_op : (r : Option Op) (a b : Op) → r ≡ Some a → r ≡ Some b → a 
 one_op r a b e f = cc
 
 module _ (h : List Op) where
-  pub says : (i : ℕ) → sets_at h i ≡ true → (x : Bool) × Says (slice_get h i) x
+  pub says : (i : ℕ) → shows_or_hides_at h i ≡ true → (x : Bool) × Says (slice_get h i) x
   says i y = let v = said_value (said_at h i) y in (v.0, op_said (slice_get h i) v.0 v.1)
 
   pub says_yes : (i : ℕ) → shows_at h i ≡ true → Says (slice_get h i) true
@@ -104,21 +104,21 @@ module _ (h : List Op) where
   pub said_op : (i : ℕ) (a : Op) (r : Option Bool) → slice_get h i ≡ Some a → shown_by a.change ≡ r → said_at h i ≡ r
   said_op i a r e f = ap op_says e ∙ f
 
-  pub setter_shows : (i : ℕ) → shows_at h i ≡ true → sets_at h i ≡ true
+  pub setter_shows : (i : ℕ) → shows_at h i ≡ true → shows_or_hides_at h i ≡ true
   setter_shows i y = ap (λ (r : Option Bool). is_some r) (yes_value (said_at h i) y)
 
-  pub setter_later : (i j : ℕ) → later_at h i j ≡ true → sets_at h j ≡ true
-  setter_later i j y = (and_parts (sets_at h j) (both_before (slice_get h i) (slice_get h j)) y).0
+  pub setter_later : (i j : ℕ) → later_at h i j ≡ true → shows_or_hides_at h j ≡ true
+  setter_later i j y = (and_parts (shows_or_hides_at h j) (both_before (slice_get h i) (slice_get h j)) y).0
 
   pub told : (i j : ℕ) → later_at h i j ≡ true → Told (slice_get h i) (slice_get h j)
-  told i j y = both_told (slice_get h i) (slice_get h j) (and_parts (sets_at h j) (both_before (slice_get h i) (slice_get h j)) y).1
+  told i j y = both_told (slice_get h i) (slice_get h j) (and_parts (shows_or_hides_at h j) (both_before (slice_get h i) (slice_get h j)) y).1
 
-  pub from_told : (i j : ℕ) (a b : Op) → slice_get h i ≡ Some a → slice_get h j ≡ Some b → sets_at h j ≡ true → Precedes a b → later_at h i j ≡ true
-  from_told i j a b e f s p = and_from (sets_at h j) (both_before (slice_get h i) (slice_get h j)) s (both_from (slice_get h i) (slice_get h j) a b e f p)
+  pub from_told : (i j : ℕ) (a b : Op) → slice_get h i ≡ Some a → slice_get h j ≡ Some b → shows_or_hides_at h j ≡ true → Precedes a b → later_at h i j ≡ true
+  from_told i j a b e f s p = and_from (shows_or_hides_at h j) (both_before (slice_get h i) (slice_get h j)) s (both_from (slice_get h i) (slice_get h j) a b e f p)
 
 module _ (h : List Op) (valid : IsValid h) where
   -- setters of one object that are compatible and neither of which is later say the same
-  pub agree_at : (o : ObjectId) (i j : ℕ) → is_on o (slice_get h i) ≡ true → is_on o (slice_get h j) ≡ true → conflict_at h i j ≡ false → sets_at h i ≡ true → sets_at h j ≡ true → later_at h i j ≡ false → later_at h j i ≡ false → shows_at h i ≡ shows_at h j
+  pub agree_at : (o : ObjectId) (i j : ℕ) → is_on o (slice_get h i) ≡ true → is_on o (slice_get h j) ≡ true → conflict_at h i j ≡ false → shows_or_hides_at h i ≡ true → shows_or_hides_at h j ≡ true → later_at h i j ≡ false → later_at h j i ≡ false → shows_at h i ≡ shows_at h j
   agree_at o i j on_i on_j calm set_i set_j no_i no_j =
       let x = says h i set_i in
       let y = says h j set_j in

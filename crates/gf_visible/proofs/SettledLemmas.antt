@@ -15,8 +15,8 @@ use Rattle.gf_ops.proofs.ValidityLemmas.{same_op}
 use Rattle.gf_groups.specs.GroupedPositions.{rising_ids}
 use Rattle.gf_groups.proofs.IdPositionLemmas.{Contains-rising_ids}
 use Rattle.gf_groups.proofs.OnPositionLemmas.{contained_at}
-use Rattle.gf_visible.specs.ShownAt.{shown_by, said_at, sets_at, later_at}
-use Rattle.gf_visible.specs.ShownSets.{Shows}
+use Rattle.gf_visible.specs.ShownAt.{shown_by, said_at, shows_or_hides_at, later_at}
+use Rattle.gf_visible.specs.ShownSets.{ShowsSomewhere}
 use Rattle.gf_visible.proofs.SetterLemmas.{same_given, value_from, said_from, said_to, says_yes, said_op, setter_later, told, from_told, one_op}
 
 module _ (h : List Op) (valid : IsValid h) (g : List ℕ) where
@@ -39,7 +39,7 @@ module _ (h : List Op) (valid : IsValid h) (g : List ℕ) where
   }
 
   -- where a last setter of the group shows, the settled value is that it shows
-  pub to_settled : Shows h g → IsSettled h (rising_ids h g) attr.Shown (value.Shown true)
+  pub to_settled : ShowsSomewhere h g → IsSettled h (rising_ids h g) attr.Shown (value.Shown true)
   to_settled w =
       let s = says_yes h w.last w.given in
       record {
@@ -49,7 +49,7 @@ module _ (h : List Op) (valid : IsValid h) (g : List ℕ) where
         last = λ b m gives p.
             let t = position_of b m in
             let said : is_some (shown_by b.change) ≡ true = said_from (shown_by b.change) (subst (λ (o : Option Value). IsSome o) (same_given b.change) gives) in
-            let set : sets_at h t.position ≡ true = ap (λ (r : Option Bool). is_some r) (said_op h t.position b (shown_by b.change) t.at refl) ∙ said in
+            let set : shows_or_hides_at h t.position ≡ true = ap (λ (r : Option Bool). is_some r) (said_op h t.position b (shown_by b.change) t.at refl) ∙ said in
             let y = from_told h w.last t.position s.0 b s.1 t.at set p in
             let n = w.none t.position t.within in
             absurd cc;
@@ -83,5 +83,5 @@ module _ (h : List Op) (valid : IsValid h) (g : List ℕ) where
       }
 
   -- and back
-  pub from_settled : IsSettled h (rising_ids h g) attr.Shown (value.Shown true) → Shows h g
+  pub from_settled : IsSettled h (rising_ids h g) attr.Shown (value.Shown true) → ShowsSomewhere h g
   from_settled w = let l = last_from true w in record { last = l.last; within = l.within; given = ap (λ (r : Option Bool). unwrap_or r false) l.given; none = l.none }

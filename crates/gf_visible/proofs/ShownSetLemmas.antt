@@ -17,7 +17,7 @@ use Rattle.gf_groups.proofs.OnPositionLemmas.{all_positions, on_op}
 use Rattle.gf_groups.proofs.TableLemmas.{conflict_at_test}
 use Rattle.gf_maximal.specs.Tables.{IsRising, IsTable}
 use Rattle.gf_components.specs.Components.{ComponentsState, most_sets, products, whole}
-use Rattle.gf_components.specs.Separate.{IsComponent, IsKept}
+use Rattle.gf_components.specs.Separate.{IsComponent, AreSetsKept}
 use Rattle.gf_components.proofs.ComponentLemmas.{table_whole}
 use Rattle.gf_components.proofs.CountLemmas.{HasTable, a_table, length-products, tables_long}
 use Rattle.gf_visible.specs.Choices.{showing}
@@ -84,7 +84,7 @@ module _ (h : List Op) (o : ObjectId) (t : ComponentsState) (on : AreComponentsO
     many : (ks : List (List ℕ)) → IsTable (conflict_at h) (whole (idle h (lasts h t.free) t)).all ks → n < length shown * length ks → IsSetListing h (positions_below h o (length h)) n None
     many ks table l = let len = length-products shown ks in record { sets = products shown ks; all = lists ks table; many = omega (arith, len, l) }
 
-    by_idle : 1 ≤ length found → (r : Option (List (List ℕ))) → IsKept (conflict_at h) (whole (idle h (lasts h t.free) t)).all r → IsSetListing h (positions_below h o (length h)) n (at_most n found r)
+    by_idle : 1 ≤ length found → (r : Option (List (List ℕ))) → AreSetsKept (conflict_at h) (whole (idle h (lasts h t.free) t)).all r → IsSetListing h (positions_below h o (length h)) n (at_most n found r)
     by_idle some (Some ks) k =
         let same = tables_long (conflict_at h) (conflict_at_test h) rest ks all_rest.sets k.0 all_rest.table in
         let one = all_rest.some in

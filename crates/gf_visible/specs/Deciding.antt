@@ -7,7 +7,7 @@ use Rattle.std.specs.Ordering.{nat_cmp}
 use Rattle.gf_ops.specs.declared.op.Op.{Op}
 use Rattle.gf_maximal.specs.Growing.{united, without}
 use Rattle.gf_components.specs.Components.{ComponentState, ComponentsState, products, whole}
-use Rattle.gf_visible.specs.ShownAt.{sets_at, later_at}
+use Rattle.gf_visible.specs.ShownAt.{shows_or_hides_at, later_at}
 
 -- each of gs with each of the others, if the others are kept and the products are at most m
 abbrev pub at_most : ℕ → List (List ℕ) → Option (List (List ℕ))
@@ -23,7 +23,7 @@ module _ (h : List Op) where
 
   -- the last setters so far, after j came too
   abbrev pub next_lasts : List ℕ → ℕ → List ℕ
-  next_lasts ls j = cond (sets_at h j) (taken ls j) ls
+  next_lasts ls j = cond (shows_or_hides_at h j) (taken ls j) ls
 
   -- the last setters of g: each other one has one of g after it
   abbrev pub lasts : List ℕ → List ℕ
@@ -31,7 +31,7 @@ module _ (h : List Op) where
 
   -- i is a setter, and none of ls comes after it
   abbrev pub may_be_last : List ℕ → ℕ → Bool
-  may_be_last ls i = sets_at h i && not (list_any (later_at h i) ls)
+  may_be_last ls i = shows_or_hides_at h i && not (list_any (later_at h i) ls)
 
   -- a setter of the component may be the last one
   abbrev pub decides : List ℕ → ComponentState → Bool

@@ -9,7 +9,7 @@ use Rattle.gf_maximal.specs.Tables.{IsLargest, IsRising}
 use Rattle.gf_visible.specs.ShownAt.{later_at, shows_at}
 
 -- of the positions g, one that no setter of g comes after shows
-pub record Shows (h : List Op) (g : List ℕ) : Type 0 where
+pub record ShowsSomewhere (h : List Op) (g : List ℕ) : Type 0 where
   pub last : ℕ
   pub within : Contains g last
   pub given : shows_at h last ≡ true
@@ -19,7 +19,7 @@ pub record Shows (h : List Op) (g : List ℕ) : Type 0 where
 pub record IsShownSet (h : List Op) (us g : List ℕ) : Type 0 where
   pub rises : IsRising g
   pub largest : IsLargest (conflict_at h) (Contains us) (Contains g)
-  pub shown : Shows h g
+  pub shown : ShowsSomewhere h g
 
 -- the sets are all largest compatible sets of the positions us that show, each once
 pub record AreShownSets (h : List Op) (us : List ℕ) (sets : List (List ℕ)) : Type 0 where

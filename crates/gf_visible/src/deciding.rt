@@ -5,7 +5,7 @@ ghost use Rattle.std.specs.List.{list_any, fold};
 ghost use Rattle.gf_visible.specs.Deciding.{lasts, may_be_last, next_lasts, taken};
 ghost use Rattle.gf_visible.specs.ShownAt.{later_at};
 
-use crate::saying::{later_at, sets_at};
+use crate::saying::{later_at, shows_or_hides_at};
 use gf_maximal::Numbers;
 use gf_ops::History;
 use gf_shape::OutOfMemory;
@@ -41,7 +41,7 @@ fn last_setters(
 {
     let mut lasts = Vec::new(alloc);
     for position in positions {
-        if sets_at(history, *position) {
+        if shows_or_hides_at(history, *position) {
             lasts = taken(alloc, history, &lasts, *position)?;
         }
     }
@@ -75,7 +75,7 @@ fn some_later(history: &History, position: usize, others: &[usize]) -> bool
 fn may_be_last(history: &History, lasts: &[usize], position: usize) -> bool
     ensures { result ≡ may_be_last history.now.ops lasts.now position }
 {
-    sets_at(history, position) && !some_later(history, position, lasts)
+    shows_or_hides_at(history, position) && !some_later(history, position, lasts)
 }
 
 /// Whether one of the positions may be the last one that shows or hides.

@@ -4,7 +4,7 @@ ghost use Rattle.std.specs.Prelude.{◌≡◌};
 ghost use Rattle.gf_ops.specs.Limits.{IsInRange};
 ghost use Rattle.gf_groups.specs.VersionList.{is_before};
 ghost use Rattle.gf_visible.specs.ShownAt.{shown_value, shown_by, before_at};
-ghost use Rattle.gf_visible.specs.ShownAt.{said_at, sets_at, shows_at, later_at};
+ghost use Rattle.gf_visible.specs.ShownAt.{said_at, shows_or_hides_at, shows_at, later_at};
 
 use crate::Setters;
 use gf_groups::conflict_at;
@@ -64,8 +64,8 @@ fn before_at(history: &History, position: usize, other: usize) -> bool
 }
 
 /// Whether the operation at this position shows or hides.
-pub(crate) fn sets_at(history: &History, position: usize) -> bool
-    ensures { result ≡ sets_at history.now.ops position }
+pub(crate) fn shows_or_hides_at(history: &History, position: usize) -> bool
+    ensures { result ≡ shows_or_hides_at history.now.ops position }
 {
     said_at(history, position).is_some()
 }
@@ -81,7 +81,7 @@ pub(crate) fn shows_at(history: &History, position: usize) -> bool
 pub(crate) fn later_at(history: &History, position: usize, other: usize) -> bool
     ensures { result ≡ later_at history.now.ops position other }
 {
-    sets_at(history, other) && before_at(history, position, other)
+    shows_or_hides_at(history, other) && before_at(history, position, other)
 }
 
 /// A history, asked for what the operations at its positions say of `Shown`.
@@ -99,7 +99,7 @@ impl Setters for Timeline<'_> {
     ghost rivals = { λ s i j. conflict_at s.0.now.ops i j };
 
     fn hides(&self, position: usize) -> bool {
-        sets_at(self.0, position) && !shows_at(self.0, position)
+        shows_or_hides_at(self.0, position) && !shows_at(self.0, position)
     }
 
     fn covers(&self, position: usize, other: usize) -> bool {

@@ -24,7 +24,7 @@ use Rattle.gf_worker.specs.Messages.{own}
 use Rattle.gf_worker.specs.Peers.{seat_of}
 use Rattle.gf_worker.specs.Coming.{HasCome}
 use Rattle.gf_worker.specs.Played.{IsPlayed}
-use Rattle.gf_worker.specs.Telling.{Tells}
+use Rattle.gf_worker.specs.Telling.{TellsPeers}
 use Rattle.gf_worker.specs.Working.{Gathers, IsUnderway, IsSilent, IsTold, AreTold}
 use Rattle.gf_worker.specs.Turns.{Turn, AuthorAnswer, refusal_of, accepted_change}
 use Rattle.gf_worker.specs.Playing.{IsRefusal, IsFaultTold, PlaysOn, cause_of}
@@ -106,7 +106,7 @@ not_false false e = absurd (true≢false e)
 
 module _ (old : Work) (c : Change) (report : Report) (peers : Vec Peer Global) (all : Bool) (long : old.short ≡ false) (accepted : IsAccepted old.site.ops (authored old.site.number old.site.ops c))
     (valid : IsValid (old.site.ops ++ authored old.site.number old.site.ops c ∷ [])) (ra : report.accepted.items ≡ old.report.accepted.items ++ (authored old.site.number old.site.ops c).id ∷ [])
-    (rr : report.refused.items ≡ old.report.refused.items) (tells : Tells (authored old.site.number old.site.ops c) all old.peers.items peers.items) where
+    (rr : report.refused.items ≡ old.report.refused.items) (tells : TellsPeers (authored old.site.number old.site.ops c) all old.peers.items peers.items) where
   abbrev made : Op
   made = authored old.site.number old.site.ops c
 
@@ -184,14 +184,14 @@ module _ (old : Work) (c : Change) (report : Report) (peers : Vec Peer Global) (
   }
 
 pub plays_author : (old : Work) (report : Report) (n : ℕ) (c : Change) (a : Op) (new : SiteState) (peers : Vec Peer Global) (all : Bool) → old.short ≡ false → Authors old.site c a new → IsValid new.ops →
-    report.accepted.items ≡ old.report.accepted.items ++ a.id ∷ [] → report.refused.items ≡ old.report.refused.items → Tells a all old.peers.items peers.items →
+    report.accepted.items ≡ old.report.accepted.items ++ a.id ∷ [] → report.refused.items ≡ old.report.refused.items → TellsPeers a all old.peers.items peers.items →
     PlaysOn n (Author c) old (record { site = new; peers = peers; report = report; short = not all })
 plays_author old report n c a new peers all long au valid ra rr tells =
     let is = au.is in
     let state : new ≡ record { number = old.site.number; ops = old.site.ops ++ authored old.site.number old.site.ops c ∷ []; held = old.site.held } = au.state ∙ ap (λ x. record old.site { ops = old.site.ops ++ x ∷ [] }) is in
     subst (λ s. PlaysOn n (Author c) old (record { site = s; peers = peers; report = report; short = not all })) (sym state)
     (plays_made old c report peers all long (subst (IsAccepted old.site.ops) is au.accepted) (subst (λ (s : SiteState). IsValid s.ops) state valid) (subst (λ (x : Op). report.accepted.items ≡ old.report.accepted.items ++ x.id ∷ []) is ra) rr
-    (subst (λ x. Tells x all old.peers.items peers.items) is tells) n)
+    (subst (λ x. TellsPeers x all old.peers.items peers.items) is tells) n)
 
 -- a worker without memory for one entry more
 pub plays_unreserved : (old : Work) (report : Report) (n : ℕ) (c : Command) → report.accepted.items ≡ old.report.accepted.items → report.refused.items ≡ old.report.refused.items → old.short ≡ false →
@@ -208,8 +208,8 @@ plays_unreserved old report n c ra rr l = record {
 }
 
 -- what was told to a slice of the peers
-pub tells_items : (a : Op) (all : Bool) (peers : Vec Peer Global) (old new : List Peer) → old ≡ peers.items → Tells a all old new → Tells a all peers.items (with_items peers new).items
+pub tells_items : (a : Op) (all : Bool) (peers : Vec Peer Global) (old new : List Peer) → old ≡ peers.items → TellsPeers a all old new → TellsPeers a all peers.items (with_items peers new).items
 tells_items a all peers old new e t =
-    let t = subst (λ l. Tells a all l new) e t in
+    let t = subst (λ l. TellsPeers a all l new) e t in
     let long : length new ≡ length peers.items = ap length t.now ∙ sym (length-map _ (λ (p : Peer). p.out)) ∙ ap length (map_sent (λ (p : Peer). p.out) (message.Op a) (λ p. refl) t.reached peers.items) ∙ length-map peers.items (λ (p : Peer). p.out) in
-    subst (Tells a all peers.items) (sym (with_items_is peers new (long ∙ sym peers.ok.0))) t
+    subst (TellsPeers a all peers.items) (sym (with_items_is peers new (long ∙ sym peers.ok.0))) t

@@ -24,7 +24,7 @@ use Rattle.gf_worker.specs.declared.peer.Peer.{Peer}
 use Rattle.gf_worker.specs.declared.work.Work.{Work}
 use Rattle.gf_worker.specs.declared.worker.WorkerEnd.{WorkerEnd}
 use Rattle.gf_worker.specs.Messages.{own, ops_of, last_message}
-use Rattle.gf_worker.specs.Peers.{all_ended, IsPlaced, ArePlaced, IsFresh, seat_of, with_last}
+use Rattle.gf_worker.specs.Peers.{all_ended, StandsInTable, ArePlaced, IsFresh, seat_of, with_last}
 use Rattle.gf_worker.specs.Coming.{HasCome, IsJust, AreForeign}
 use Rattle.gf_worker.specs.Telling.{IsOpen}
 use Rattle.gf_worker.specs.Working.{Gathers, IsUnderway, Continues, Plays}
@@ -210,6 +210,6 @@ last_items peers short now new e f =
     let g : new ≡ map (with_last short) peers.items = f ∙ ap (map (with_last short)) e in
     with_items_is peers new (ap length g ∙ length-map peers.items (with_last short) ∙ sym peers.ok.0) ∙ g
 
-pub placed_last : (links : List TableId) (script : List Command) (old mid : Work) (peers : List Peer) → All (IsPlaced links) old.peers.items → Through script old mid → peers ≡ map (with_last mid.short) mid.peers.items → ArePlaced links peers
+pub placed_last : (links : List TableId) (script : List Command) (old mid : Work) (peers : List Peer) → All (StandsInTable links) old.peers.items → Through script old mid → peers ≡ map (with_last mid.short) mid.peers.items → ArePlaced links peers
 placed_last links script old mid peers p t e =
-    placed_by_seats links old.peers.items peers (ap (map seat_of) e ∙ seats_told mid.short mid.peers.items ∙ t.seats) (λ x c. All-contains (IsPlaced links) old.peers.items x p c)
+    placed_by_seats links old.peers.items peers (ap (map seat_of) e ∙ seats_told mid.short mid.peers.items ∙ t.seats) (λ x c. All-contains (StandsInTable links) old.peers.items x p c)

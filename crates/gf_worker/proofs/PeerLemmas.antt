@@ -11,7 +11,7 @@ use Rattle.gf_link.specs.declared.message.Message.{Message}
 use Rattle.gf_link.specs.Ends.{is_ended}
 use Rattle.gf_worker.specs.declared.peer.Peer.{Peer}
 use Rattle.gf_worker.specs.Messages.{op_in, ops_of}
-use Rattle.gf_worker.specs.Peers.{all_ended, IsPlaced, ArePlaced, seat_of}
+use Rattle.gf_worker.specs.Peers.{all_ended, StandsInTable, ArePlaced, seat_of}
 use Rattle.gf_worker.specs.Coming.{HasCome}
 
 -- an element of a list with one written over
@@ -91,7 +91,7 @@ module _ (peers : List Peer) (k : ℕ) (p : Peer) (m : Message) (l : k < length 
   still_placed : (links : List TableId) → ArePlaced links peers → ArePlaced links (set peers k (with_taken p m))
   still_placed links all q c = elim (set_cases peers k (with_taken p m) q c) [
     | inl n ↦ all q n
-    | inr e ↦ let t = all p (k, l, at) in subst (IsPlaced links) (sym e) (record { out = t.out; into = t.into })
+    | inr e ↦ let t = all p (k, l, at) in subst (StandsInTable links) (sym e) (record { out = t.out; into = t.into })
   ]
 
   pub comes_more : ComesMore peers (set peers k (with_taken p m)) (op_in m ++ [])

@@ -17,7 +17,7 @@ use Rattle.gf_worker.specs.declared.report.Cause.{Cause}
 use Rattle.gf_worker.specs.declared.report.Report.{Report}
 use Rattle.gf_worker.specs.Messages.{own}
 use Rattle.gf_worker.specs.Played.{IsPlayed}
-use Rattle.gf_worker.specs.Turns.{Turn, Answer, IsTurn, AreCounted, accepted_change, accepted_changes, refusal_of, refusals}
+use Rattle.gf_worker.specs.Turns.{Turn, Answer, IsCommandTurn, AreCounted, accepted_change, accepted_changes, refusal_of, refusals}
 
 pub accepted_push : (ts : List Turn) (t : Turn) → accepted_changes (ts ++ t ∷ []) ≡ accepted_changes ts ++ accepted_change t.command t.refusal
 accepted_push ts t = flat_map-append (λ t. accepted_change t.command t.refusal) ts (t ∷ []) ∙ ap (λ l. accepted_changes ts ++ l) (append-nil (accepted_change t.command t.refusal))
@@ -48,7 +48,7 @@ module _ (s : ℕ) (commands : List Command) (ops : List Op) (report new : Repor
     each = map-append (λ (t : Turn). t.command) p.turns (turn ∷ []) ∙ ap (λ l. l ++ c ∷ []) p.each;
     right = λ t k. elim (Contains-push_cases p.turns turn t k) [
       | inl m ↦ p.right t m
-      | inr e ↦ subst (IsTurn s ops) e (record { later = []; whole = sym (append-nil ops); answer = answer })
+      | inr e ↦ subst (IsCommandTurn s ops) e (record { later = []; whole = sym (append-nil ops); answer = answer })
     ];
     rising = all_pairs_push (λ t u. length t.before ≤ length u.before) p.turns turn p.rising (λ k d l.
         let t = p.right (get_or p.turns k d) (Contains-get_or p.turns k d l) in
@@ -74,7 +74,7 @@ module _ (s : ℕ) (commands : List Command) (ops : List Op) (report new : Repor
         each = map-append (λ (t : Turn). t.command) p.turns (made_turn ∷ []) ∙ ap (λ l. l ++ Author c ∷ []) p.each;
         right = λ t k. elim (Contains-push_cases p.turns made_turn t k) [
           | inl m ↦ turn_more s ops made_op t (p.right t m) (λ e n. nothing_push s (p.right t m).later made_op n (λ d. absurd (d refl)))
-          | inr e ↦ subst (IsTurn s (ops ++ made_op ∷ [])) e (record { later = made_op ∷ []; whole = refl; answer = record { rest = []; next = refl } })
+          | inr e ↦ subst (IsCommandTurn s (ops ++ made_op ∷ [])) e (record { later = made_op ∷ []; whole = refl; answer = record { rest = []; next = refl } })
         ];
         rising = all_pairs_push (λ t u. length t.before ≤ length u.before) p.turns made_turn p.rising (λ k d l.
             let t = p.right (get_or p.turns k d) (Contains-get_or p.turns k d l) in

@@ -15,7 +15,7 @@ use Rattle.gf_worker.specs.declared.report.Cause.TheVariants.{Exhausted, Range, 
 use Rattle.gf_worker.specs.declared.report.Report.{Report}
 use Rattle.gf_worker.specs.Messages.{own}
 use Rattle.gf_worker.specs.Played.{IsPlayed}
-use Rattle.gf_worker.specs.Turns.{Turn, Answer, AuthorAnswer, AwaitAnswer, IsTurn, ComesAfter, NothingComes}
+use Rattle.gf_worker.specs.Turns.{Turn, Answer, AuthorAnswer, AwaitAnswer, IsCommandTurn, ComesAfter, NothingComes}
 
 own_none : (s : ℕ) (a : Op) → a.id.site ≢ s → own s (a ∷ []) ≡ []
 own_none s a n = elim (eqb_tells a.id.site s) [ inl p ↦ absurd (n p.1) | inr p ↦ rw p.0 refl ]
@@ -63,7 +63,7 @@ answer_more : (s : ℕ) (before later : List Op) (a : Op) (c : Command) (r : Opt
 answer_more s before later a (Author c) r h f = author_more s before later a c r h
 answer_more s before later a (Await i) r h f = await_more s before later a i r h f
 
-pub turn_more : (s : ℕ) (ops : List Op) (a : Op) (t : Turn) (w : IsTurn s ops t) → (t.refusal ≡ Some NeverComes → NothingComes s w.later → NothingComes s (w.later ++ a ∷ [])) → IsTurn s (ops ++ a ∷ []) t
+pub turn_more : (s : ℕ) (ops : List Op) (a : Op) (t : Turn) (w : IsCommandTurn s ops t) → (t.refusal ≡ Some NeverComes → NothingComes s w.later → NothingComes s (w.later ++ a ∷ [])) → IsCommandTurn s (ops ++ a ∷ []) t
 turn_more s ops a t w f = record {
   later = w.later ++ a ∷ [];
   whole = ap (λ l. l ++ a ∷ []) w.whole ∙ append_assoc t.before w.later (a ∷ []);

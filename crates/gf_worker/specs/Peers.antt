@@ -10,13 +10,13 @@ use Rattle.gf_worker.specs.declared.peer.Peer.{Peer}
 use Rattle.gf_worker.specs.Messages.{last_message}
 
 -- the links of the peer stand at its places in the table
-pub record IsPlaced (links : List TableId) (p : Peer) : Type 0 where
+pub record StandsInTable (links : List TableId) (p : Peer) : Type 0 where
   pub out : slice_get links p.out ≡ Some p.send.link
   pub into : slice_get links p.into ≡ Some p.take.link
 
 -- the links of each of the peers stand at its places in the table
 abbrev pub ArePlaced : List TableId → List Peer → Type 0
-ArePlaced links peers = (p : Peer) → Contains peers p → IsPlaced links p
+ArePlaced links peers = (p : Peer) → Contains peers p → StandsInTable links p
 
 -- nothing was sent to the peer, and nothing taken from it
 pub record IsFresh (p : Peer) : Type 0 where

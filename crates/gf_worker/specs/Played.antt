@@ -5,7 +5,7 @@ use Rattle.gf_ops.specs.declared.op.Op.{Op}
 use Rattle.gf_json.specs.declared.scripts.Command.{Command}
 use Rattle.gf_worker.specs.declared.report.Report.{Report}
 use Rattle.gf_worker.specs.Messages.{own}
-use Rattle.gf_worker.specs.Turns.{Turn, IsTurn, AreCounted, accepted_changes, refusals}
+use Rattle.gf_worker.specs.Turns.{Turn, IsCommandTurn, AreCounted, accepted_changes, refusals}
 
 -- each command of site s has its turn, in order; the operations of s in the list and its report are
 -- what these came to
@@ -13,7 +13,7 @@ pub record IsPlayed (s : ℕ) (commands : List Command) (ops : List Op)
     (report : Report) : Type 0 where
   pub turns : List Turn
   pub each : map (λ t. t.command) turns ≡ commands
-  pub right : (t : Turn) → Contains turns t → IsTurn s ops t
+  pub right : (t : Turn) → Contains turns t → IsCommandTurn s ops t
   pub rising : AllPairs (λ t u. length t.before ≤ length u.before) turns
   pub counted : AreCounted s 0 turns
   pub made : map (λ a. a.change) (own s ops) ≡ accepted_changes turns

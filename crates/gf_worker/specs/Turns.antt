@@ -42,13 +42,13 @@ abbrev pub NothingComes : ℕ → List Op → Type 0
 NothingComes s later = (a : Op) → Contains later a → a.id.site ≢ s → ComesAfter s later a
 
 -- the operation of an accepted change is the next of the list
-pub record IsMade (s : ℕ) (before later : List Op) (c : Change) : Type 0 where
+pub record IsNextChange (s : ℕ) (before later : List Op) (c : Change) : Type 0 where
   pub rest : List Op
   pub next : later ≡ authored s before c ∷ rest
 
 -- an accepted change becomes the next operation; a refused one has the first of its causes
 abbrev pub AuthorAnswer : ℕ → List Op → List Op → Change → Option Cause → Type 0
-AuthorAnswer s before later c None = IsMade s before later c
+AuthorAnswer s before later c None = IsNextChange s before later c
 AuthorAnswer s before later c (Some cause.Exhausted) = Refuses s before c fault.Exhausted
 AuthorAnswer s before later c (Some cause.Range) = Refuses s before c fault.Range
 AuthorAnswer s before later c (Some cause.NoObject) = Refuses s before c fault.NoObject
@@ -71,7 +71,7 @@ Answer s before later (Author c) r = AuthorAnswer s before later c r
 Answer s before later (Await i) r = AwaitAnswer s before later i r
 
 -- the list goes on from what was before the command, and the answer is right there
-pub record IsTurn (s : ℕ) (ops : List Op) (t : Turn) : Type 0 where
+pub record IsCommandTurn (s : ℕ) (ops : List Op) (t : Turn) : Type 0 where
   pub later : List Op
   pub whole : ops ≡ t.before ++ later
   pub answer : Answer s t.before later t.command t.refusal

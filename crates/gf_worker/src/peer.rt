@@ -2,7 +2,7 @@
 
 ghost use Rattle.std.specs.Prelude.{◌≡◌, ◌<◌, ◌++◌, ◌∷◌, [], length, IsFalse, MatchOption};
 ghost use Rattle.gf_link.specs.Ends.{is_ended};
-ghost use Rattle.gf_worker.specs.Peers.{IsPlaced, with_message};
+ghost use Rattle.gf_worker.specs.Peers.{StandsInTable, with_message};
 
 use gf_link::{Link, Message, SendSeat, TakeSeat};
 use std::sync::Wait;
@@ -21,7 +21,7 @@ pub struct Peer {
 
 /// Takes the next message of the peer, if there is one.
 pub(crate) fn take_from<R: Wait>(rt: &R, links: &[Link], peer: &mut Peer) -> Option<Message>
-    requires { IsPlaced links.now peer.old }
+    requires { StandsInTable links.now peer.old }
     ensures { MatchOption result (peer.new ≡ peer.old) (λ m.
         peer.new ≡ record peer.old { take = record peer.old.take { taken = peer.old.take.taken ++ m ∷ [] } }) }
 {
@@ -30,7 +30,7 @@ pub(crate) fn take_from<R: Wait>(rt: &R, links: &[Link], peer: &mut Peer) -> Opt
 
 /// Sends a message to the peer.
 pub(crate) fn send_to<R: Wait>(rt: &R, links: &[Link], peer: &mut Peer, message: Message)
-    requires placed { IsPlaced links.now peer.old }
+    requires placed { StandsInTable links.now peer.old }
     requires open { IsFalse (is_ended peer.old.send.sent) }
     requires room { length peer.old.send.sent < 1024 }
     ensures { peer.new ≡ with_message message peer.old }

@@ -1,8 +1,8 @@
 //! What a worker sends to its peers.
 
 ghost use Rattle.std.specs.Prelude.{◌≡◌, All, map};
-ghost use Rattle.gf_worker.specs.Peers.{IsPlaced, with_last};
-ghost use Rattle.gf_worker.specs.Telling.{IsOpen, Tells};
+ghost use Rattle.gf_worker.specs.Peers.{StandsInTable, with_last};
+ghost use Rattle.gf_worker.specs.Telling.{IsOpen, TellsPeers};
 
 use crate::Peer;
 use crate::peer::send_to;
@@ -19,9 +19,9 @@ pub(crate) fn tell_all<R: Wait>(
     peers: &mut [Peer],
     op: &Op,
 ) -> bool
-    requires placed { All (IsPlaced links.now) peers.old }
+    requires placed { All (StandsInTable links.now) peers.old }
     requires still { All IsOpen peers.old }
-    ensures { Tells op.now result peers.old peers.new }
+    ensures { TellsPeers op.now result peers.old peers.new }
 {
     for peer in peers.iter_mut() {
         let Ok(copy) = op.copy(alloc) else {
@@ -34,7 +34,7 @@ pub(crate) fn tell_all<R: Wait>(
 
 /// Sends the last message to each peer.
 pub(crate) fn tell_last<R: Wait>(rt: &R, links: &[Link], peers: &mut [Peer], short: bool)
-    requires placed { All (IsPlaced links.now) peers.old }
+    requires placed { All (StandsInTable links.now) peers.old }
     requires still { All IsOpen peers.old }
     ensures { peers.new ≡ map (with_last short) peers.old }
 {
@@ -45,7 +45,7 @@ pub(crate) fn tell_last<R: Wait>(rt: &R, links: &[Link], peers: &mut [Peer], sho
 
 /// Sends the last message to one.
 fn end_one<R: Wait>(rt: &R, links: &[Link], peer: &mut Peer, short: bool)
-    requires placed { IsPlaced links.now peer.old }
+    requires placed { StandsInTable links.now peer.old }
     requires still { IsOpen peer.old }
     ensures { peer.new ≡ with_last short peer.old }
 {

@@ -1,7 +1,7 @@
 //! The worker of a site.
 
 ghost use Rattle.std.specs.Prelude.{◌≡◌, ◌≤◌, [], All, vec_len};
-ghost use Rattle.gf_worker.specs.Peers.{IsPlaced, IsFresh};
+ghost use Rattle.gf_worker.specs.Peers.{StandsInTable, IsFresh};
 ghost use Rattle.gf_worker.specs.Ending.{HasWorked, HasStopped};
 
 use crate::telling::tell_last;
@@ -44,7 +44,7 @@ pub fn site_worker<R: Wait, G: Gate>(
     requires ops { site.ops ≡ [] }
     requires held { site.held ≡ [] }
     requires few { vec_len script.0 ≤ 1000 }
-    requires placed { All (IsPlaced ends.links.now) ends.peers.items }
+    requires placed { All (StandsInTable ends.links.now) ends.peers.items }
     requires fresh { All IsFresh ends.peers.items }
     ensures { HasWorked site.number script.0.items ends.entry.peers.items result }
 {
@@ -81,7 +81,7 @@ pub fn site_worker<R: Wait, G: Gate>(
 /// Sends Stop to each peer of a new site whose worker does not run, so that none of them waits for
 /// it.
 pub fn stop_worker<R: Wait>(rt: &R, alloc: Global, site: Site, ends: Ends<'_>) -> WorkerEnd
-    requires placed { All (IsPlaced ends.links.now) ends.peers.items }
+    requires placed { All (StandsInTable ends.links.now) ends.peers.items }
     requires fresh { All IsFresh ends.peers.items }
     ensures { HasStopped site ends.entry.peers.items result }
 {

@@ -3,7 +3,7 @@
 
 ghost use Rattle.std.specs.Prelude.{◌≡◌, ◌≤◌, All, IfSome, vec_len};
 ghost use Rattle.gf_link.specs.Fresh.{IsNewLink};
-ghost use Rattle.gf_worker.specs.Peers.{IsFresh, IsPlaced};
+ghost use Rattle.gf_worker.specs.Peers.{IsFresh, StandsInTable};
 
 use crate::examples::BOX;
 use crate::trial::{Came, Marks};
@@ -170,9 +170,9 @@ fn worker<R: Wait>(rt: &R, alloc: Global, marks: &mut Marks) -> Option<Came> {
 
 /// The links between two sites, the peer of the second, and that of the first.
 fn two_sites<R: Wait>(rt: &R, alloc: Global) -> Option<(Vec<Link>, Peer, Peer)>
-    ensures placed { IfSome result (λ t. IsPlaced t.0.items t.1) }
+    ensures placed { IfSome result (λ t. StandsInTable t.0.items t.1) }
     ensures fresh { IfSome result (λ t. IsFresh t.1) }
-    ensures other { IfSome result (λ t. IsPlaced t.0.items t.2) }
+    ensures other { IfSome result (λ t. StandsInTable t.0.items t.2) }
 {
     let Ok((first, send, taking)) = Link::new(rt, alloc) else {
         return None;
@@ -200,9 +200,9 @@ fn two_sites<R: Wait>(rt: &R, alloc: Global) -> Option<(Vec<Link>, Peer, Peer)>
 
 /// A site's list of peers, where it has one.
 fn alone(alloc: Global, links: &[Link], peer: Peer) -> Option<Vec<Peer>>
-    requires placed { IsPlaced links.now peer }
+    requires placed { StandsInTable links.now peer }
     requires fresh { IsFresh peer }
-    ensures placed { IfSome result (λ v. All (IsPlaced links.now) v.items) }
+    ensures placed { IfSome result (λ v. All (StandsInTable links.now) v.items) }
     ensures fresh { IfSome result (λ v. All IsFresh v.items) }
 {
     Vec::from_array(alloc, [peer]).ok()
@@ -210,8 +210,8 @@ fn alone(alloc: Global, links: &[Link], peer: Peer) -> Option<Vec<Peer>>
 
 /// Sends a message to the peer.
 fn send<R: Wait>(rt: &R, links: &[Link], peer: &mut Peer, message: Message) -> Option<()>
-    requires { IsPlaced links.now peer.old }
-    ensures { IsPlaced links.now peer.new }
+    requires { StandsInTable links.now peer.old }
+    ensures { StandsInTable links.now peer.new }
 {
     if peer.send.ended() || peer.send.sent() >= 1_024 {
         return None;
@@ -231,8 +231,8 @@ enum Taken {
 
 /// Takes what comes next from the peer.
 fn take_next<R: Wait>(rt: &R, links: &[Link], peer: &mut Peer) -> Taken
-    requires { IsPlaced links.now peer.old }
-    ensures { IsPlaced links.now peer.new }
+    requires { StandsInTable links.now peer.old }
+    ensures { StandsInTable links.now peer.new }
 {
     take_on(rt, &links[peer.into], &mut peer.take)
 }

@@ -5,7 +5,7 @@ use Rattle.std.specs.Global.{Vec}
 use Rattle.std.proofs.lemmas.List.Elements.{Contains-append_left, Contains-push}
 use Rattle.gf_ops.proofs.ListLemmas.{Contains-map}
 use Rattle.gf_worker.specs.declared.peer.Peer.{Peer}
-use Rattle.gf_worker.specs.Peers.{IsPlaced, IsFresh}
+use Rattle.gf_worker.specs.Peers.{StandsInTable, IsFresh}
 use Rattle.gf_worker.proofs.TellLemmas.{all_from}
 use Rattle.gf_mesh.specs.Linked.{MeshTable, AreLinked, rows_of}
 
@@ -19,11 +19,11 @@ module _ (table : MeshTable) (rows before none : List (Vec Peer)) (first second 
   one : Contains rows first
   one = subst (λ l. Contains l first) (sym e) (Contains-append_left before (second ∷ []) first (subst (λ l. Contains l first) (sym f) (Contains-push none first)))
 
-  pub first_placed : All (IsPlaced table.links) first.items
-  first_placed = all_from (IsPlaced table.links) first.items (linked.placed first.items (row first one))
+  pub first_placed : All (StandsInTable table.links) first.items
+  first_placed = all_from (StandsInTable table.links) first.items (linked.placed first.items (row first one))
 
   pub first_fresh : All IsFresh first.items
   first_fresh = all_from IsFresh first.items (linked.fresh first.items (row first one))
 
-  pub peer_placed : (peers : List Peer) (p : Peer) → second.items ≡ peers ++ p ∷ [] → IsPlaced table.links p
+  pub peer_placed : (peers : List Peer) (p : Peer) → second.items ≡ peers ++ p ∷ [] → StandsInTable table.links p
   peer_placed peers p g = linked.placed second.items (row second last) p (subst (λ l. Contains l p) (sym g) (Contains-push peers p))

@@ -2,7 +2,7 @@
 //! by hand.
 
 ghost use Rattle.std.specs.Prelude.{All, IfSome};
-ghost use Rattle.gf_worker.specs.Peers.{IsPlaced, IsFresh};
+ghost use Rattle.gf_worker.specs.Peers.{StandsInTable, IsFresh};
 
 use crate::scripts::script;
 use crate::sessions::reported;
@@ -48,9 +48,9 @@ const WORKERS: [(&str, &str, &str); 5] = [
 
 /// The links between two sites, the peers of the first, and the one peer of the second.
 fn two_sites<R: Wait>(rt: &R, alloc: Global) -> Option<(Mesh, Vec<Peer>, Peer)>
-    ensures placed { IfSome result (λ t. All (IsPlaced t.0.links) t.1.items) }
+    ensures placed { IfSome result (λ t. All (StandsInTable t.0.links) t.1.items) }
     ensures fresh { IfSome result (λ t. All IsFresh t.1.items) }
-    ensures other { IfSome result (λ t. IsPlaced t.0.links t.2) }
+    ensures other { IfSome result (λ t. StandsInTable t.0.links t.2) }
 {
     let Ok((mesh, mut rows)) = Mesh::new(rt, alloc, 2) else {
         return None;
@@ -84,8 +84,8 @@ fn send_all<R: Wait>(
     peer: &mut Peer,
     words: &str,
 ) -> Option<()>
-    requires { IsPlaced links.now peer.old }
-    ensures { IsPlaced links.now peer.new }
+    requires { StandsInTable links.now peer.old }
+    ensures { StandsInTable links.now peer.new }
 {
     for word in words.split("; ") {
         let message = message(alloc, word)?;
@@ -99,7 +99,7 @@ fn send_all<R: Wait>(
 
 /// The messages that came, as words.
 fn come<R: Wait>(rt: &R, alloc: Global, links: &[Link], peer: &mut Peer) -> Option<String>
-    requires { IsPlaced links.now peer.old }
+    requires { StandsInTable links.now peer.old }
 {
     let mut text = String::new(alloc);
     for _ in 0..10 {

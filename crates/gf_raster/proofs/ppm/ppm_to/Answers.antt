@@ -1,7 +1,7 @@
 use Rattle.std.proofs.Common.{◌≡◌, ◌<◌, ◌*◌, ◌++◌, ◌∙◌, ap, sym, refl, Err, [], inr, append-nil, length, arith}
 use Rattle.std.proofs.KnownBytes.{Appends-trans, Appends-kept}
 use Rattle.std.proofs.lemmas.Result.{err_from_is_err_and}
-use Rattle.gf_streams.proofs.TakenLemmas.{appends_front}
+use Rattle.gf_streams.proofs.TakenLemmas.{appends_prefix}
 use Rattle.gf_streams.specs.declared.write_error.WriteError.{WriteError}
 use Rattle.gf_drawing.specs.DrawingColour.{drawing_colour}
 use Rattle.gf_scanline.specs.Layers.{layered}
@@ -21,8 +21,8 @@ returns-clause-whole g c =
     Appends-kept old all (g.W.Sink.taken c.flush.new.self) (picture colour w)
     (Appends-trans old mid all (header w) (raster colour w) (rw head at c.in_ok-write_all.ensures.ok) (rw same at c.in_ok-write_bands.ensures.whole)) c.flush.ensures.keeps
 
-pub returns-in_err-write_all-clause-front : goal.returns-in_err-write_all-clause-front
-returns-in_err-write_all-clause-front g c = λ e.
+pub returns-in_err-write_all-clause-prefix : goal.returns-in_err-write_all-clause-prefix
+returns-in_err-write_all-clause-prefix g c = λ e.
     let w = c.args.window in
     let colour = drawing_colour g.S.Shape.holds c.args.drawing.now.table c.args.drawing.now.figures in
     let head : c.deref.result.now ≡ header w = c.deref.ensures.value ∙ c.in_ok-header.ensures in
@@ -45,20 +45,20 @@ returns-in_err-write_bands-clause-memory g c = λ e.
       grows = Appends-trans (g.W.Sink.taken c.args.sink.now) (g.W.Sink.taken c.write_all.new.sink) (g.W.Sink.taken c.write_bands.new.sink) (header w) (rows colour w 0 (64 * bands.bands)) (rw head at c.in_ok-write_all.ensures.ok) (rw rows_are at bands.grows);
     })
 
-pub returns-in_err-write_bands-clause-front : goal.returns-in_err-write_bands-clause-front
-returns-in_err-write_bands-clause-front g c = λ e.
+pub returns-in_err-write_bands-clause-prefix : goal.returns-in_err-write_bands-clause-prefix
+returns-in_err-write_bands-clause-prefix g c = λ e.
     let w = c.args.window in
     let colour = drawing_colour g.S.Shape.holds c.args.drawing.now.table c.args.drawing.now.figures in
     let all : raster (layered g.S.Shape.holds c.in-Ok.layers) w ≡ raster colour w = rows_same _ _ c.in-Ok.ensures w 0 w.height in
     let head : c.deref.result.now ≡ header w = c.deref.ensures.value ∙ c.in_ok-header.ensures in
     let p = err_from_is_err_and c.from_residual-in_err-write_bands.result c.from_residual-in_err-write_bands.ensures.1 in
     let same : c.in_err-write_bands.field-0.0 ≡ WriteError.WriteFailed = let q = sym p.1 ∙ e in cc in
-    let front = c.in_err-write_bands.ensures.front (ap Err same) in
+    let front = c.in_err-write_bands.ensures.prefix (ap Err same) in
     front_more (g.W.Sink.taken c.args.sink.now) (g.W.Sink.taken c.write_all.new.sink) (g.W.Sink.taken c.write_bands.new.sink) (header w) (raster colour w) (picture colour w) []
     (ap (λ bytes. header w ++ bytes) (sym (append-nil (raster colour w)))) (rw head at c.in_ok-write_all.ensures.ok) (rw all at front)
 
-pub returns-in_err-flush-clause-front : goal.returns-in_err-flush-clause-front
-returns-in_err-flush-clause-front g c = λ e.
+pub returns-in_err-flush-clause-prefix : goal.returns-in_err-flush-clause-prefix
+returns-in_err-flush-clause-prefix g c = λ e.
     let w = c.args.window in
     let colour = drawing_colour g.S.Shape.holds c.args.drawing.now.table c.args.drawing.now.figures in
     let same : raster (layered g.S.Shape.holds c.in-Ok.layers) w ≡ raster colour w = rows_same _ _ c.in-Ok.ensures w 0 w.height in
@@ -66,5 +66,5 @@ returns-in_err-flush-clause-front g c = λ e.
     let old = g.W.Sink.taken c.args.sink.now in
     let mid = g.W.Sink.taken c.write_all.new.sink in
     let all = g.W.Sink.taken c.write_bands.new.sink in
-    appends_front old all (g.W.Sink.taken c.flush.new.self) (picture colour w)
+    appends_prefix old all (g.W.Sink.taken c.flush.new.self) (picture colour w)
     (Appends-trans old mid all (header w) (raster colour w) (rw head at c.in_ok-write_all.ensures.ok) (rw same at c.in_ok-write_bands.ensures.whole)) c.flush.ensures.keeps

@@ -42,11 +42,11 @@ returns-in_err-rows-clause-memory g c = λ e.
       grows = rw kept (rw top at c.loop-index.invariant.wrote);
     }
 
-pub returns-in_err-rows-clause-front : goal.returns-in_err-rows-clause-front
-returns-in_err-rows-clause-front g c = λ e.
+pub returns-in_err-rows-clause-prefix : goal.returns-in_err-rows-clause-prefix
+returns-in_err-rows-clause-prefix g c = λ e.
     let p = err_from_is_err_and c.from_residual.result c.from_residual.ensures.1 in
     let same : c.in_err-rows.field-0.0 ≡ WriteError.WriteFailed = let q = sym p.1 ∙ e in cc in
-    let front = c.in_err-rows.ensures.front (ap Err same) in
+    let front = c.in_err-rows.ensures.prefix (ap Err same) in
     let colour = layered g.S.Shape.holds c.args.layers.now in
     let w = c.args.window in
     let i = c.loop-index.index in

@@ -3,8 +3,8 @@ use Rattle.std.specs.Prelude.{All}
 use Rattle.std.specs.List.{list_any}
 use Rattle.gf_worker.specs.declared.worker.WorkerEnd.{WorkerEnd}
 use Rattle.gf_mesh.specs.Linked.{HaveEnded, rows_of, seats_of}
-use Rattle.gf_mesh.specs.Settled.{AreSettled}
-use Rattle.gf_session.specs.Starting.{IsReady}
+use Rattle.gf_mesh.specs.Settled.{AreAllTaken}
+use Rattle.gf_session.specs.Starting.{IsReadyToStart}
 use Rattle.gf_session.specs.Session.{IsSession}
 use Rattle.gf_session.proofs.SessionLemmas.{session_outcome}
 use Rattle.gf_session.proofs.StartLemmas.{all_ready, all_ended, same_seats}
@@ -13,7 +13,7 @@ use Rattle.gf_session.proofs.session.run_sites.Goals as goal
 pub fork-ends-requires-clause-ready : goal.fork-ends-requires-clause-ready
 fork-ends-requires-clause-ready g c κs within =
     let starts = c.in_ok-starts.starts.items in
-    subst (λ l. All (IsReady l) starts) (sym c.links.ensures)
+    subst (λ l. All (IsReadyToStart l) starts) (sym c.links.ensures)
     (all_ready c.in_ok-mesh.mesh.links c.args.scripts.items (rows_of c.in_ok-mesh.peers.items) starts c.in_ok-mesh.ensures.linked c.in_ok-starts.ensures c.requires.short)
 
 pub settle-requires-clause-seats : goal.settle-requires-clause-seats
@@ -30,4 +30,4 @@ pub returns : goal.returns
 returns g c =
     let long : list_any (λ (e : WorkerEnd). e.short) c.fork-ends.result.items ≡ false = ap (list_any (λ (e : WorkerEnd). e.short)) (sym c.deref.ensures.value) ∙ sym c.any_short.ensures ∙ c.if-any_short.false in
     subst (IsSession c.args.scripts.items) (sym c.in_ok-dones.ensures.dones)
-    (session_outcome c.args.scripts.items (rows_of c.in_ok-mesh.peers.items) c.in_ok-starts.starts.items c.fork-ends.result.items c.in_ok-starts.ensures c.fork-ends.ensures.gave long (subst AreSettled c.in_ok-dones.ensures.peers c.settle.ensures))
+    (session_outcome c.args.scripts.items (rows_of c.in_ok-mesh.peers.items) c.in_ok-starts.starts.items c.fork-ends.result.items c.in_ok-starts.ensures c.fork-ends.ensures.gave long (subst AreAllTaken c.in_ok-dones.ensures.peers c.settle.ensures))

@@ -2,18 +2,18 @@ use Rattle.std.proofs.Common.{◌≡◌, ◌≤◌, ◌+◌, [], ◌∷◌, ◌+
 use Rattle.std.specs.Vec.{vec_capacity}
 use denote.Param.Always.{Once-at_one}
 use Rattle.gf_session.specs.declared.starting.Runs.{Runs}
-use Rattle.gf_session.specs.Starting.{IsReady, Gave, GaveAll}
+use Rattle.gf_session.specs.Starting.{IsReadyToStart, Gave, GaveAll}
 use Rattle.gf_session.proofs.GaveLemmas.{gave_more, same_long, of_last, of_first}
 use Rattle.gf_session.proofs.starting.+fn-fork-scope+fork.Goals as goal
 
 pub run_one-requires : goal.run_one-requires
-run_one-requires g t c = of_last (IsReady c.args.links.now) c.args.starts.items c.pop.new.self.items c.in-Some.last c.in-Some.ensures.items c.requires.ready
+run_one-requires g t c = of_last (IsReadyToStart c.args.links.now) c.args.starts.items c.pop.new.self.items c.in-Some.last c.in-Some.ensures.items c.requires.ready
 
 pub scoped-requires : goal.scoped-requires
 scoped-requires g t c =
     let items = c.in-Some.ensures.items in
-    let last = of_last (IsReady c.args.links.now) c.args.starts.items c.pop.new.self.items c.in-Some.last items c.requires.ready in
-    let rest = of_first (IsReady c.args.links.now) c.args.starts.items c.pop.new.self.items c.in-Some.last items c.requires.ready in
+    let last = of_last (IsReadyToStart c.args.links.now) c.args.starts.items c.pop.new.self.items c.in-Some.last items c.requires.ready in
+    let rest = of_first (IsReadyToStart c.args.links.now) c.args.starts.items c.pop.new.self.items c.in-Some.last items c.requires.ready in
     let long : length c.args.starts.items ≡ length c.pop.new.self.items + 1 = ap length items ∙ length-append c.pop.new.self.items (c.in-Some.last ∷ []) in
     let room : length c.pop.new.self.items + 1 ≤ vec_capacity c.args.ends = (let r = c.requires.room in let v = c.args.starts.ok.0 in omega (arith, r, v, long)) in
     Once-at_one _ _ (λ x. (search rules, (λ a m. m, (λ a m. m, ((search rules, search rules, rest, last, c.requires.empty, room), (search rules, search rules))))))

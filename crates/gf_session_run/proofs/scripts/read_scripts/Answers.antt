@@ -1,6 +1,6 @@
 use Rattle.std.proofs.Common.{length, drop, subst, sym, ◌∙◌}
 use Rattle.std.proofs.lemmas.Result.{err_from_is_err_and}
-use Rattle.gf_session_run.specs.SessionSteps.{HasScripts, RefusesCommand, TakesCommand}
+use Rattle.gf_session_run.specs.SessionSteps.{HasScripts, RefusesScriptLine, TakesCommand}
 use Rattle.gf_session_run.proofs.LineLemmas.{HasScripts-line, RefusesScripts-line}
 use Rattle.gf_session_run.proofs.ScriptLemmas.{given_back}
 use Rattle.gf_session_run.proofs.scripts.read_scripts.Goals as goal
@@ -16,6 +16,6 @@ loop-number-preserved c =
 pub returns-in_err-take_line-clause-err : goal.returns-in_err-take_line-clause-err
 returns-in_err-take_line-clause-err c =
     let p = err_from_is_err_and c.from_residual.result c.from_residual.ensures.1 in
-    let refused = subst (λ l. RefusesCommand c.in-Some.number c.in-Some.line.now l c.in_err-take_line.field-0.0) c.deref_mut.ensures.value c.in_err-take_line.ensures.err in
+    let refused = subst (λ l. RefusesScriptLine c.in-Some.number c.in-Some.line.now l c.in_err-take_line.field-0.0) c.deref_mut.ensures.value c.in_err-take_line.ensures.err in
     rw p.1 (RefusesScripts-line c.args.sites c.args.text.items _ _ _ c.loop-number.scripts.items (rw c.in-Some.ensures.some at c.loop-number.invariant) _
-    (subst (λ e. RefusesCommand c.in-Some.number c.in-Some.line.now c.loop-number.scripts.items e) (sym p.2) refused))
+    (subst (λ e. RefusesScriptLine c.in-Some.number c.in-Some.line.now c.loop-number.scripts.items e) (sym p.2) refused))

@@ -1,6 +1,6 @@
-use Rattle.gf_worker.specs.Peers.{IsPlaced}
+use Rattle.gf_worker.specs.Peers.{StandsInTable}
 use Rattle.test_sessions.proofs.workers.come.Given as goal
 
 -- the peer's links stand at its places
 abbrev pub invariant-loop : goal.invariant-loop
-invariant-loop g l = IsPlaced l.links l.peer
+invariant-loop g l = StandsInTable l.links l.peer
