@@ -1,5 +1,5 @@
-//! Reads the lines of standard input as JSON and counts the objects among them: what any program
-//! that reads operation lines does at least.
+//! Reads the lines of standard input as JSON and counts the objects among them. Any program that
+//! reads operation lines does at least this.
 #![tactic(auto)]
 
 use gf_streams::{In, Source, TextLines, read_input};

@@ -91,7 +91,7 @@ module _ (offered added : List Op) (one : AreOneById offered) (l : IsLastDeliver
         subst (Contains added) (one t.op b (l.delivery.from_offered t.op t.contained) c (same_id t.op b t.site t.seq)) t.contained
   ]
 
-  -- so each delivery is within a last one
+  -- each delivery is within a last one
   within_last : {h : List Op} → AreReady h → ((a : Op) → Contains h a → Contains offered a) → (a : Op) → Contains h a → Contains added a
   within_last none from a c = absurd (not_Contains-nil a c)
   within_last (next {h} {a = b} r q) from a c =

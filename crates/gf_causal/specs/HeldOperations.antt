@@ -51,7 +51,7 @@ pub record Adds (ops : List Op) (a : Op) (more : List Op) : Type 0 where
   pub without : ops ≡ before ++ after
   pub with_it : more ≡ before ++ a ∷ after
 
--- a is the held operation that is ready behind h, with the least id of those
+-- of the held operations that are ready behind h, a has the least id
 pub record IsFirstReady (held h : List Op) (a : Op) : Type 0 where
   pub contained : Contains held a
   pub ready : IsReady h a

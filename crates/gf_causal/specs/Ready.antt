@@ -8,7 +8,7 @@ use Rattle.gf_ops.specs.OperationOrder.{IsSite, entry, count_of}
 abbrev pub KnowsNoMore : List Op → Op → Type 0
 KnowsNoMore h a = (s : ℕ) → IsSite s → s ≢ a.id.site → entry a.past s ≤ count_of h s
 
--- a has the next number of its site behind h, and knows of each other site no more than h has
+-- a has the next number of its site behind h, and knows no more of other sites than h has
 pub record IsReady (h : List Op) (a : Op) : Type 0 where
   pub seq : a.id.seq ≡ count_of h a.id.site + 1
   pub others : KnowsNoMore h a

@@ -10,8 +10,8 @@ use Rattle.gf_ops.specs.OperationOrder.{entry, count_of}
 abbrev pub needed : Op → ℕ → ℕ
 needed a t = if t == a.id.site then a.id.seq - 1 else entry a.past t
 
--- of these sites, the next operation behind h of the first that has fewer than a needs
--- where none has fewer, the operation before a
+-- the next operation behind h of the first of these sites that has fewer than a needs. Where no
+-- site has fewer, this is the operation before a
 abbrev pub first_missing : List Op → Op → List ℕ → OpId
 first_missing h a [] = record { site = a.id.site; seq = a.id.seq - 1 }
 first_missing h a (t ∷ ts) =

@@ -12,7 +12,7 @@ use std::alloc::Global;
 use std::collections::BTreeMap;
 use std::marker::Model;
 
-/// Operations by id, each in a box of its own: a place in the tree that stands empty is then small.
+/// Operations by id, each in a box of its own, so that empty places in the tree are small.
 #[derive(Debug, Drop)]
 pub(crate) struct BoxedOps {
     alloc: Global,
@@ -41,7 +41,7 @@ impl BoxedOps {
         }
     }
 
-    /// The same operations once more.
+    /// A copy of the operations.
     pub(crate) fn copy(&self, alloc: Global) -> Result<BoxedOps, OutOfMemory>
         ensures { IfOk result (λ copy. copy ≡ self.now) }
     {

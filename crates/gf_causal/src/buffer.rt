@@ -26,7 +26,7 @@ use std::marker::Model;
 pub enum Offered {
     /// The same operation is held, or in the history.
     Already,
-    /// It is held from now on.
+    /// The operation is held from now on.
     Held,
 }
 
@@ -59,7 +59,7 @@ impl Buffer {
         }
     }
 
-    /// The same buffer once more.
+    /// A copy of the buffer.
     pub fn copy(&self, alloc: Global) -> Result<Buffer, OutOfMemory>
         ensures { IfOk result (λ copy. copy ≡ self.now) }
     {
@@ -96,8 +96,8 @@ impl Buffer {
         }
     }
 
-    /// The held operation that is ready, with the least id of those. It looks at no more than the
-    /// next number of each site.
+    /// The held operation that is ready, with the least id of all such. Only the next number of
+    /// each site is looked up.
     pub fn first_ready(&self, history: &History) -> Option<&Op>
         ensures found { IfSome result (λ op. IsFirstReady self.now history.now.ops op.now) }
         ensures in_range { IfSome result (λ op. IsInRange op.now) }
@@ -164,7 +164,7 @@ impl Buffer {
     fn among_held(&self, op: &Op) -> Standing
         ensures { Among self.now op.now result }
     {
-        // Its ids are distinct.
+        // The ids of held operations are distinct.
         let _ = &self.ops;
         compare(self.find(op.id), op)
     }

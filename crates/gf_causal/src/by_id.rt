@@ -18,7 +18,7 @@ use std::marker::Model;
 #[derive(Debug, Drop)]
 pub(crate) struct OpsById {
     alloc: Global,
-    // An operation that is alone lies here, as lines in causal order do, each for a moment: the
+    // An operation lies here while it is alone, as lines in causal order do for a moment. The
     // memory stays for the next one.
     alone: Vec<Op>,
     // Several lie here.
@@ -48,7 +48,7 @@ impl OpsById {
         }
     }
 
-    /// The same operations once more.
+    /// A copy of the operations.
     pub(crate) fn copy(&self, alloc: Global) -> Result<OpsById, OutOfMemory>
         ensures { IfOk result (λ copy. copy ≡ self.now) }
     {

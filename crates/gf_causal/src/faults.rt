@@ -5,7 +5,7 @@ use thiserror::Error;
 /// Why [`Buffer::offer`](crate::Buffer::offer) refused an operation.
 #[derive(Clone, Copy, Debug, PartialEq, Eq, Error)]
 pub enum OfferFault {
-    /// It breaks a limit of operations.
+    /// The operation breaks a limit of operations.
     #[error("Range")]
     Range,
     /// Another operation under its id is held, or in the history.

@@ -2,7 +2,7 @@
 //!
 //! - [`Buffer`]: operations that wait until a history has what they know.
 //! - [`Offered`], [`OfferFault`]: what an offer to a buffer came to.
-//! - [`waits_for`]: the first operation that one of them lacks.
+//! - [`waits_for`]: the first operation that a waiting one lacks.
 //! - [`a_last_delivery_has_the_delivered_part`], [`each_list_has_a_last_delivery`],
 //!   [`the_delivered_part_of_a_valid_history_is_all_of_it`],
 //!   [`what_is_ready_in_a_valid_history_is_accepted`]: the laws.

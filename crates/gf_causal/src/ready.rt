@@ -5,7 +5,7 @@ ghost use Rattle.gf_causal.specs.Ready.{KnowsNoMore};
 
 use gf_ops::{History, Op};
 
-/// Whether it knows of each other site no more than the history has.
+/// Whether the operation knows no more of each other site than the history has.
 pub(crate) fn knows_no_more(op: &Op, history: &History) -> bool
     ensures { IsTrue result ↔ KnowsNoMore history.now.ops op.now }
 {

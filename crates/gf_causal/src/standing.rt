@@ -36,12 +36,12 @@ pub(crate) fn compare(found: Option<&Op>, op: &Op) -> Standing
 pub(crate) fn in_history(history: &History, op: &Op) -> Standing
     ensures { Among history.now.ops op.now result }
 {
-    // Its ids are distinct.
+    // The ids of a history are distinct.
     let _ops = history.ops();
     compare(history.get(op.id), op)
 }
 
-/// What stands under an id in both together.
+/// What stands under an id in the buffer and the history together.
 pub(crate) fn join(held: Standing, known: Standing) -> Standing
     ensures { result ≡ joined held known }
 {

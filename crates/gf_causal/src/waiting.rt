@@ -9,8 +9,8 @@ use gf_ops::{Clock, History, Op, OpId};
 /// The numbers of all sites.
 const SITES: [u8; 8] = [1, 2, 3, 4, 5, 6, 7, 8];
 
-/// The operation that one waits for behind the history. It is the next one of the first site that
-/// has fewer than are needed. Of what is ready it is the one before.
+/// The operation that `op` waits for behind the history: the next of the first site with fewer than
+/// it needs. For a ready operation, this is the one before it.
 pub fn waits_for(history: &History, op: &Op) -> OpId
     ensures { result ≡ waits_for history.now.ops op.now }
 {

@@ -26,12 +26,12 @@ pub record IsFaultOf (bytes : List ℕ) (e : ReadingError) : Type 0 where
   pub fault : IsInputFault e
   pub refuses : RefusesText bytes e
 
--- of these lines each that denotes no operation is told
+-- each of these lines that denotes no operation is told
 abbrev pub TellsEach : List (ℕ × List ℕ) → List Told → Type 0
 TellsEach lines told = (n : ℕ) (line : List ℕ) (e : LineError) → Contains lines (n, line) →
     denoted line ≡ Err e → Contains (map (λ (t : Told). t.error) told) (of_line n e)
 
--- the text has a line for each of these faults: for the first one the bytes denote no history, and
+-- the text has a line for each of these faults. For the first one the bytes denote no history, and
 -- each line that denotes no operation is told
 pub record TellsFaults (bytes text : List ℕ) : Type 0 where
   pub first : Told

@@ -8,8 +8,8 @@ use Rattle.gf_studio.specs.declared.studio_error.StudioError.TheVariants as stud
 use Rattle.gf_check.specs.declared.checks.Verdict.{Verdict}
 use Rattle.gf_check.specs.declared.checks.Verdict.TheVariants.{Clean, Faulty}
 
--- the text is what is told of the bytes where this is answered: nothing of what denotes a history,
--- and else the faults, of which the first refuses the bytes
+-- the text is what is told of the bytes where this is answered. Nothing is told of a history; else
+-- the faults are told, of which the first refuses the bytes
 abbrev pub Checks : List ℕ → Verdict → List ℕ → Type 0
 Checks bytes Clean text = (text ≡ []) × DenotesSome bytes
 Checks bytes Faulty text = TellsFaults bytes text
@@ -21,7 +21,7 @@ pub record WritesCheck (bytes : List ℕ) (verdict : Verdict) (old new : Option 
   pub checks : Checks bytes verdict text
   pub written : Appends old new text
 
--- known bytes grow from old to new by a front, which may be none or all, of what is told
+-- known bytes grow from old to new by a prefix, which may be none or all, of what is told
 pub record WritesCheckPrefix (bytes : List ℕ) (old new : Option (List ℕ)) : Type 0 where
   pub text : List ℕ
   pub told : AnswersText bytes text

@@ -52,8 +52,8 @@ abbrev pub TellsLine : ℕ → List ℕ → SiteState → SiteState → List ℕ
 TellsLine n line x y old new =
     TellsFrom (TakesLine line x y) (RefusesLine n line x) old new
 
--- nothing is told and the lines before those that are left were read, or the first fault that is
--- told is one of the bytes
+-- the first fault that is told is one of the bytes; without one, the lines before those left were
+-- read
 abbrev pub BeginsBefore : List ℕ → List (ℕ × List ℕ) → SiteState → List Told → Type 0
 BeginsBefore bytes left x [] = HasRead bytes left x
 BeginsBefore bytes left x (t ∷ ts) = IsFaultOf bytes t.error

@@ -24,16 +24,17 @@ pub enum Verdict {
     Faulty,
 }
 
-/// Reads operation lines to their end, and writes a line for each fault: where it is, which one it
-/// is, and what is wrong. It goes on behind each fault, and reads all before the first write.
+/// Reads operation lines to their end, and writes a line for each fault. The line says where the
+/// fault is, which one it is, and what is wrong. The check goes on behind each fault, and reads all
+/// before the first write.
 pub fn check_run<R: Source, W: Sink>(
     alloc: Global,
     source: &mut R,
     sink: &mut W,
 ) -> Result<Verdict, StudioError>
-    // Where it answers that there is no fault, the bytes denote a history, and nothing is written.
-    // Where it answers that there are faults, the first that is written refuses the bytes, and each
-    // line that denotes no operation has a line.
+    // Where the answer is that there is no fault, the bytes denote a history, and nothing is
+    // written. Where there are faults, the first that is written refuses the bytes. Each line that
+    // denotes no operation then has a line.
     ensures tells { IfOk result (λ verdict. IfSome (R.left source.old) (λ bytes.
         WritesCheck bytes verdict (W.taken sink.old) (W.taken sink.new))) }
     ensures flushed { OnOk result (IsTrue (W.flushed sink.new)) }
@@ -43,7 +44,7 @@ pub fn check_run<R: Source, W: Sink>(
         (R.failures source.old) (R.failures source.new) result }
     ensures refused { IfErr result RefusesCheck }
 
-    // A front of the text is written at most, and that only where the sink failed.
+    // At most a prefix of the text is written, and that only where the sink failed.
     ensures prefix { result ≡ Err StudioError.WriteFailed → IfSome (R.left source.old) (λ bytes.
         WritesCheckPrefix bytes (W.taken sink.old) (W.taken sink.new)) }
     ensures failed { result ≡ Err StudioError.WriteFailed →

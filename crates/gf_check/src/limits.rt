@@ -24,7 +24,7 @@ fn within(word: &'static str, part: &'static str, low: i64, high: i64) -> Limits
 }
 
 impl Limits {
-    /// The fault of a number, if it is not within.
+    /// The fault of a number that is not within the limits.
     fn fault(self, number: i64) -> Option<Reason<'static>> {
         if number < self.low {
             return Some(self.beyond(number, Side::Below, self.low));
@@ -63,7 +63,7 @@ pub(crate) fn limit_fault(key: Key, form: Form, value: &Value) -> Option<Reason<
     }
 }
 
-/// The fault of the first of these numbers that is not within.
+/// The fault of the first of these numbers that is not within the limits.
 fn first_fault(limits: Limits, numbers: &[Value]) -> Option<Reason<'static>> {
     for number in numbers {
         let fault = limits.fault(number.as_i64()?);

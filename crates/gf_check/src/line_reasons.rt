@@ -12,7 +12,7 @@ use std::alloc::Global;
 /// A key of more bytes is not shown.
 const LONGEST_KEY: usize = 40;
 
-/// What is wrong with a line that has this fault. It takes time in proportion to the line, as
+/// What is wrong with a line that has this fault. The call takes time in proportion to the line, as
 /// reading the line does.
 pub(crate) fn line_reason(
     alloc: Global,
@@ -31,7 +31,7 @@ pub(crate) fn line_reason(
     }
 }
 
-/// Why a line that is no JSON is none: it may be cut short, and the fault is met at this column.
+/// Why a line is no JSON: it may be cut short, and the fault is met at this column.
 fn json_reason(
     alloc: Global,
     line: &[u8],
@@ -135,7 +135,7 @@ fn range_reason(line: &Value) -> Reason<'static> {
     Reason::Unclear
 }
 
-/// That no line has a key of this name.
+/// The reason that no line has a key of this name.
 fn unknown(name: &str) -> Reason<'_> {
     if name.len() <= LONGEST_KEY && name.bytes().all(is_plain) {
         Reason::UnknownKey(name)

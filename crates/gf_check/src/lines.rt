@@ -93,7 +93,7 @@ fn settle(
     ensures { OnOk result (TellsSteps site.old site.new told.old.items told.new.items) }
 {
     loop {
-        // Their clauses say what every site keeps.
+        // The clauses of both calls say what every site keeps.
         let _ = site.history();
         let _ = site.held();
         match site.step() {

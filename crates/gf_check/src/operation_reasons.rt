@@ -29,8 +29,8 @@ fn entry(clock: &Clock, site: u8) -> u32 {
     }
 }
 
-/// The entry of its own site that is wrong, or the first that is less than an operation that it
-/// counts had.
+/// The wrong entry of the operation's own site, or the first entry less than that of a counted
+/// operation.
 fn clock_reason(history: &History, op: &Op) -> Reason<'static> {
     let own = entry(&op.past, op.id.site);
     let before = op.id.seq.saturating_sub(1);
@@ -48,7 +48,7 @@ fn clock_reason(history: &History, op: &Op) -> Reason<'static> {
     Reason::Unclear
 }
 
-/// The first entry that is less than an operation had.
+/// The first entry that is less than that of an operation.
 fn behind_reason(last: &Op, op: &Op) -> Option<Reason<'static>> {
     for site in 1..9 {
         let count = entry(&op.past, site);
@@ -100,7 +100,7 @@ fn value_words(form: &Form, value: &Value) -> &'static str {
 
 // ---- aims
 
-/// The first operation of the aim that may not stand there, or that two of them conflict.
+/// Why an operation of the aim may not stand there, for the first such one, or that two conflict.
 fn aim_reason(history: &History, op: &Op) -> Reason<'static> {
     for id in op.aim() {
         if let Some(reason) = member_reason(history, op, *id) {
@@ -126,8 +126,7 @@ fn member_reason(history: &History, op: &Op, id: OpId) -> Option<Reason<'static>
     None
 }
 
-/// Whether an aim lacks one of these ids. Both rise, so that one walk over the aim tells, as where
-/// the operation was checked.
+/// Whether an aim lacks one of these ids. Both lists rise, so one walk over the aim is enough.
 fn lacks(ids: &[OpId], aim: &[OpId]) -> bool {
     let mut left = ids;
     for id in aim {

@@ -31,7 +31,7 @@ impl Seen {
         self.lines.get(&id)
     }
 
-    /// Puts an operation under its id. Where the same one is there, its first line stays.
+    /// Puts an operation under its id. Where the same operation is there, its first line stays.
     pub(crate) fn put(&mut self, number: u64, op: Op) -> Result<(), OutOfMemory> {
         if self.has(&op) {
             return Ok(());

@@ -56,7 +56,7 @@ HasWholeOr other rows name = IsWholeOr other (first_of name rows)
 abbrev pub is_given : Text → List Row → Bool
 is_given name rows = is_some (first_of name rows)
 
--- this is the text of a flag that is given
+-- the text is that of a flag that is given
 abbrev pub is_true : Option Text → Bool
 is_true None = false
 is_true (Some text) = bytes_eq text (codes "true")

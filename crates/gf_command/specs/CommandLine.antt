@@ -42,7 +42,7 @@ canvas =
 abbrev pub reading : Rule
 reading = count (codes "workers") (codes "4") 16
 
--- the option of such a run
+-- the option of a run that only reads
 abbrev pub readers : List Rule
 readers = reading ∷ []
 

@@ -24,26 +24,26 @@ use Rattle.gf_command.specs.declared.runs.Extent.TheVariants.{Window, Fitted}
 use Rattle.gf_command.specs.declared.runs.Run.TheVariants.{Fig, Paint, Repaint, Inspect, Import}
 use Rattle.gf_command.specs.declared.runs.Run.TheVariants.{Edit, Status, Check, Session}
 
--- Fits says which windows of a frame fit, IsShown which colours are to be painted, and known bytes
--- grow from old to new
+-- Fits says which windows of a frame fit, IsShown which colours are to be painted. Known bytes grow
+-- from old to new
 module _ (Fits : Sides → View → Type 0) (IsShown : (Point → Rgb) → Type 0)
     (old new : Option (List ℕ)) where
-  -- they grow by the picture in this window, or in one that fits
+  -- known bytes grow by the picture in this window, or in one that fits
   abbrev pub WritesExtent : Extent → Type 0
   WritesExtent (Window w) = WritesPicture IsShown w old new
   WritesExtent (Fitted frame) = (w : View) × Fits frame w × WritesPicture IsShown w old new
 
-  -- they grow by a front of it, perhaps by whole bands
+  -- known bytes grow by a prefix of such a picture, perhaps by whole bands
   abbrev pub WritesExtentPrefix : Extent → Type 0
   WritesExtentPrefix (Window w) =
       WritesPicturePrefix IsShown w old new ⊎ WritesBands IsShown w old new
   WritesExtentPrefix (Fitted frame) = WritesFittedPrefix (Fits frame) IsShown old new
       ⊎ WritesFittedBands (Fits frame) IsShown old new
 
--- known bytes grow from old to new by what the run asks for: the FIG text of what the bytes denote,
--- a picture of the colours that they mean, one of the drawing that they read as, the answer to a
--- query, the commands that an import makes, the operations that an edit makes, a status, nothing
--- where there is no fault, or what a session came to
+-- known bytes grow from old to new by what the run asks for. This is the FIG text, the picture, the
+-- status or the answer to a query of what the bytes denote. Or it is the picture of a FIG text's
+-- drawing, the lines of an import or those of an edit. Or it is what a session came to, or nothing
+-- where there is no fault
 abbrev pub Answers : Run → List ℕ → Option (List ℕ) → Option (List ℕ) → Type 0
 Answers (Fig workers) bytes old new = Exports bytes old new
 Answers (Paint canvas) bytes old new =
@@ -59,8 +59,8 @@ Answers (Status check workers) bytes old new =
 Answers Check bytes old new = WritesCheck bytes verdict.Clean old new
 Answers (Session sites) bytes old new = WritesSession sites bytes old new
 
--- known bytes grow from old to new by a front of what the run asks for, of a picture perhaps by
--- whole bands
+-- known bytes grow from old to new by a prefix of what the run asks for. The prefix of a picture
+-- may be whole bands
 abbrev pub AnswersPrefix : Run → List ℕ → Option (List ℕ) → Option (List ℕ) → Type 0
 AnswersPrefix (Fig workers) bytes old new = WritesPrefix bytes old new
 AnswersPrefix (Paint canvas) bytes old new =
@@ -74,7 +74,7 @@ AnswersPrefix (Status check workers) bytes old new = WritesStatusPrefix bytes ol
 AnswersPrefix Check bytes old new = WritesCheckPrefix bytes old new
 AnswersPrefix (Session sites) bytes old new = WritesSessionPrefix sites bytes old new
 
--- known bytes grow from old to new by what the run asks for, and this is to be seen to: something
+-- known bytes grow from old to new by what the run asks for, which is to be seen to. Something
 -- waits or differs, where that is asked for, or there is a fault
 abbrev pub AnswersOpen : Run → List ℕ → Option (List ℕ) → Option (List ℕ) → Type 0
 AnswersOpen (Status check workers) bytes old new =

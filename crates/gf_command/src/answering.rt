@@ -25,12 +25,12 @@ use std::io;
 use std::sync::Wait;
 use std::thread::Threads;
 
-/// Runs what `words` ask for, the first of which is the program's name, and answers the status:
-/// 0 for success, 1 for a refusal or for what is to be seen to, 2 for a mistake in the words.
+/// Runs what `words` ask for, the first of which is the program's name, and answers the status.
+/// Status 0 is success, 1 a refusal or something to be seen to, 2 a mistake in the words.
 ///
-/// Faults go to `faults`, and so do the usage after a mistake, what an edit made and which window
-/// was chosen; help and version go to `output`. The words are read before any input. A text for `faults` or a help that
-/// can't be written changes no status.
+/// Faults go to `faults`, as do the usage after a mistake, what an edit made and the chosen window.
+/// Help and version go to `output`. The words are read before any input. A text for `faults` or a
+/// help that can't be written changes no status.
 pub fn command<T: Threads + Wait + Sync, R: Source, W: Sink, E: Sink>(
     rt: &T,
     alloc: Global,
@@ -40,14 +40,15 @@ pub fn command<T: Threads + Wait + Sync, R: Source, W: Sink, E: Sink>(
     faults: &mut E,
 ) -> u8
     ensures status { result ≤ 2 }
-    // Status 0: the run that the words ask for wrote all, or they ask for help, which reads no input.
+    // Status 0: the run that the words ask for wrote all, or they ask for help, which reads no
+    // input.
     ensures done { result ≡ 0 → (AsksHelp (map string_bytes words.now)
         × (source.new ≡ source.old)) ⊎ ((run : Run) × Asks (map string_bytes words.now) run ×
         IfSome (R.left source.old) (λ bytes.
         Answers run bytes (W.taken output.old) (W.taken output.new))) }
     ensures flushed { result ≡ 0 → AsksHelp (map string_bytes words.now)
         ⊎ IsTrue (W.flushed output.new) }
-    // A refusal leaves the output as it was, or with a front of what the words ask for. What is to
+    // A refusal leaves the output as it was, or with a prefix of what the words ask for. What is to
     // be seen to is written.
     ensures refused { result ≡ 1 → (output.new ≡ output.old) ⊎ ((run : Run)
         × Asks (map string_bytes words.now) run × IfSome (R.left source.old) (λ bytes.
@@ -80,13 +81,13 @@ pub fn command<T: Threads + Wait + Sync, R: Source, W: Sink, E: Sink>(
 
 /// What a run that was not refused came to.
 pub(crate) enum Outcome {
-    /// All that it asks for is written.
+    /// All that the run asks for is written.
     Written,
     /// The picture is written, in a window that was chosen.
     Painted(Chosen),
     /// An edit is written, which made these operations.
     Made(Made),
-    /// What it asks for is written, and has something that is to be seen to.
+    /// What the run asks for is written, and has something that is to be seen to.
     Open,
 }
 
@@ -134,8 +135,8 @@ fn answer<T: Threads + Wait + Sync, R: Source, W: Sink>(
     Ok(Outcome::Written)
 }
 
-/// Tells why the words of the command line could not be read, and answers the status: 2 where a
-/// word is no UTF-8, and else 1.
+/// Tells why the words of the command line could not be read, and answers the status. The status is
+/// 2 where a word is no UTF-8, and else 1.
 pub fn refuse_words<E: Sink>(fault: &io::Error, faults: &mut E) -> u8
     ensures { (result ≡ 1) ⊎ (result ≡ 2) }
 {

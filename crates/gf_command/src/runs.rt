@@ -26,7 +26,7 @@ pub enum Run {
     Status { check: bool, workers: Workers },
     /// What is wrong with operation lines.
     Check,
-    /// What a session of the scripts of so many sites came to.
+    /// What a session of the scripts of this many sites came to.
     Session(u8),
 }
 

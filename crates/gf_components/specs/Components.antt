@@ -5,7 +5,7 @@ use Rattle.std.specs.Prelude.{filter, map, length, Option, Some, None}
 use Rattle.std.specs.List.{fold, flat_map}
 use Rattle.gf_maximal.specs.Growing.{is_in, meets, misses, without, common, joined, united, next}
 
--- a component keeps its sets while they are at most so many
+-- a component keeps at most this many sets
 abbrev pub most_sets : ℕ
 most_sets = 1000
 
@@ -23,7 +23,7 @@ pub record ComponentsState : Type 0 where
 abbrev pub kept : List (List ℕ) → Option (List (List ℕ))
 kept gs = cond (nat_le (length gs) most_sets) (Some gs) None
 
--- each of gs with each of ks
+-- each of gs united with each of ks
 abbrev pub products : List (List ℕ) → List (List ℕ) → List (List ℕ)
 products gs ks = flat_map (λ g. map (united g) ks) gs
 
@@ -31,7 +31,7 @@ products gs ks = flat_map (λ g. map (united g) ks) gs
 abbrev pub kept_products : List (List ℕ) → List (List ℕ) → Option (List (List ℕ))
 kept_products gs ks = cond (nat_le (length gs * length ks) most_sets) (Some (products gs ks)) None
 
--- the products of what is kept
+-- the products of sets that are kept
 abbrev pub times : Option (List (List ℕ)) → Option (List (List ℕ))
     → Option (List (List ℕ))
 times (Some gs) (Some ks) = kept_products gs ks
@@ -41,7 +41,7 @@ times r s = None
 abbrev pub both : ComponentState → ComponentState → ComponentState
 both p q = record { all = united p.all q.all; sets = times p.sets q.sets }
 
--- that of p with the numbers us, and of q
+-- p and q as one component, where p has the numbers us
 abbrev pub merged_to : List ℕ → ComponentState → ComponentState → ComponentState
 merged_to [] p q = q
 merged_to (x ∷ us) p q = both p q
@@ -54,15 +54,15 @@ merged p q = merged_to p.all p q
 abbrev pub alone : List ℕ → ComponentState
 alone us = record { all = us; sets = Some (us ∷ []) }
 
--- all of it as one component
+-- all numbers as one component
 abbrev pub whole : ComponentsState → ComponentState
 whole s = fold merged (alone s.free) s.parts
 
--- of no number
+-- the components of no number
 abbrev pub no_components : ComponentsState
 no_components = record { free = []; parts = [] }
 
--- one of d is of the component
+-- the component has a number of d
 abbrev pub touches : List ℕ → ComponentState → Bool
 touches d p = meets d p.all
 
@@ -77,12 +77,12 @@ pub record IsReached (d : List ℕ) (ps : List ComponentState) (n : ℕ) : Type 
   pub touched : touches d part ≡ true
   pub reached : Contains part.all n
 
--- the sets after x came, which conflicts with d of the numbers
+-- the sets after x, which conflicts with the numbers d
 abbrev pub grown_sets : List ℕ → ℕ → Option (List (List ℕ)) → Option (List (List ℕ))
 grown_sets d x (Some gs) = kept (next d x gs)
 grown_sets d x None = None
 
--- the component after x came to it
+-- the component after x, which conflicts with d
 abbrev pub grown : List ℕ → ℕ → ComponentState → ComponentState
 grown d x p = record { all = joined x p.all; sets = grown_sets d x p.sets }
 
@@ -90,18 +90,18 @@ grown d x p = record { all = joined x p.all; sets = grown_sets d x p.sets }
 abbrev pub stays : List ℕ → ℕ → ComponentState → Bool
 stays d x p = is_in p.all x || misses d p.all
 
--- x came, and conflicts with none
+-- the components after x, which conflicts with no number
 abbrev pub with_free : ℕ → ComponentsState → ComponentsState
 with_free x s = record { free = joined x s.free; parts = s.parts }
 
--- x came, and connects the numbers d, with which it conflicts
+-- the components after x, which connects the numbers d with which it conflicts
 abbrev pub connected : List ℕ → ℕ → ComponentsState → ComponentsState
 connected d x s = record {
   free = without d s.free;
   parts = filter (stays d x) (s.parts ++ grown d x (touched d s) ∷ []);
 }
 
--- x came, and conflicts with the numbers d
+-- the components after x, which conflicts with the numbers d
 abbrev pub after : List ℕ → ℕ → ComponentsState → ComponentsState
 after [] x s = with_free x s
 after (a ∷ d) x s = connected (a ∷ d) x s

@@ -8,7 +8,7 @@ use Rattle.gf_components.specs.Components.{ComponentState, ComponentsState, most
 
 -- c tells whether two numbers conflict
 module _ (c : ℕ → ℕ → Bool) where
-  -- no number is in both, and no conflict connects them
+  -- no number is in both lists, and no conflict connects the two
   abbrev pub Apart : List ℕ → List ℕ → Type 0
   Apart us vs = (a b : ℕ) → Contains us a → Contains vs b → (a ≢ b) × (c a b ≡ false)
 
@@ -30,7 +30,7 @@ module _ (c : ℕ → ℕ → Bool) where
     pub loose : (p : ComponentState) → Contains s.parts p → Apart s.free p.all
     pub apart : Pairs (λ (p q : ComponentState). Apart p.all q.all) s.parts
 
-  -- x is new to s, and d are those of its numbers that conflict with x
+  -- x is new to s, and d are the numbers of s that conflict with x
   pub record IsNewWith (s : ComponentsState) (x : ℕ) (d : List ℕ) : Type 0 where
     pub fresh : ¬ (Contains (whole s).all x)
     pub rivals : (a : ℕ) → Contains d a ↔ (Contains (whole s).all a × (c x a ≡ true))

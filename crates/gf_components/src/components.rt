@@ -1,5 +1,5 @@
-//! Numbers in components: what is in every version, and components that no conflict connects, of
-//! which each gives a version one of its sets.
+//! Numbers in components: numbers in every version, and components that no conflict connects. Each
+//! component gives a version one of its sets.
 
 ghost use Rattle.std.specs.Prelude.{◌≡◌, ◌+◌, ◌^◌, ◌<◌, ◌++◌, ◌∷◌, [], cond, filter, option_copied};
 ghost use Rattle.std.specs.Prelude.{◌↔◌, ◌⊎◌, true, Contains, option_map, take, drop, length};
@@ -7,7 +7,8 @@ ghost use Rattle.std.specs.Prelude.{IfOk, IfSome, OnOk, OnErr, IsTrue};
 ghost use Rattle.std.specs.List.{list_any, position};
 ghost use Rattle.gf_components.specs.Components.{merged, alone, touches, touched, grown, stays};
 ghost use Rattle.gf_components.specs.OneTouched.{IsFirstAlone, IsOneTouched};
-ghost use Rattle.gf_components.specs.Components.{IsReached, no_components, with_free, connected, after};
+ghost use Rattle.gf_components.specs.Components.{IsReached, no_components, with_free, connected};
+ghost use Rattle.gf_components.specs.Components.{after};
 
 use crate::sets::Sets;
 use gf_maximal::Numbers;
@@ -46,7 +47,7 @@ impl Model for Components {
 }
 
 impl Component {
-    /// These numbers, with their largest compatible sets or none.
+    /// The component of these numbers, with their largest compatible sets or none.
     pub fn new(all: Numbers, sets: Option<Vec<Numbers>>) -> Component
         ensures { result ≡ record { all = all; sets = option_map (λ v. v.items) sets } }
     {
@@ -63,14 +64,15 @@ impl Component {
         &self.all
     }
 
-    /// The largest compatible sets of the component, where they are at most [`MOST_SETS`](crate::MOST_SETS).
+    /// The largest compatible sets of the component, where they are at most
+    /// [`MOST_SETS`](crate::MOST_SETS).
     pub fn sets(&self) -> Option<&[Numbers]>
         ensures { option_copied result ≡ self.now.sets }
     {
         self.sets.get()
     }
 
-    /// A copy.
+    /// A copy of the component.
     fn copy(&self, alloc: Global) -> Result<Component, OutOfMemory>
         ensures { IfOk result (λ copy. copy ≡ self.now) }
     {
@@ -79,7 +81,7 @@ impl Component {
         Ok(Component { all, sets })
     }
 
-    /// Whether one of the rivals is of the component.
+    /// Whether the component has one of the rivals.
     fn touches(&self, rivals: &Numbers) -> bool
         ensures { result ≡ touches rivals.now self.now }
     {
@@ -94,7 +96,7 @@ impl Component {
         self.all.has(number) || !rivals.meets(&self.all)
     }
 
-    /// Adds a number, which conflicts with these rivals. It changes nothing before all memory is
+    /// Adds a number, which conflicts with these rivals. Nothing changes before all memory is
     /// there.
     fn grow(&mut self, alloc: Global, rivals: &Numbers, number: usize) -> Result<(), OutOfMemory>
         requires { number + 1 < 2 ^ 64 }
@@ -133,7 +135,7 @@ pub fn alone(alloc: Global, numbers: Numbers) -> Result<Component, OutOfMemory>
     })
 }
 
-/// The component with another one, if one of the rivals is of that.
+/// The component, as one with another if that has one of the rivals.
 fn with_touched(
     alloc: Global,
     rivals: &Numbers,
@@ -150,7 +152,7 @@ fn with_touched(
     }
 }
 
-/// The numbers found, with all of the component if it has one of these.
+/// The numbers found, with all of the component if it has one of `numbers`.
 fn with_reached(
     alloc: Global,
     numbers: &Numbers,
@@ -217,7 +219,7 @@ fn one_touched(rivals: &Numbers, number: usize, parts: &[Component]) -> Option<u
 }
 
 /// Adds a number, which conflicts with these rivals, to one component, and puts that behind the
-/// others. It changes nothing before all memory is there.
+/// others. Nothing changes before all memory is there.
 fn grow_one(
     alloc: Global,
     rivals: &Numbers,
@@ -247,7 +249,7 @@ fn drop_touched(rivals: &Numbers, number: usize, parts: &mut Vec<Component>)
 }
 
 impl Components {
-    /// Of no number.
+    /// The components of no number.
     pub fn new(alloc: Global) -> Components
         ensures { result ≡ no_components }
     {
@@ -278,7 +280,7 @@ impl Components {
         &self.parts
     }
 
-    /// A copy.
+    /// A copy of the components.
     pub fn copy(&self, alloc: Global) -> Result<Components, OutOfMemory>
         ensures { IfOk result (λ copy. copy ≡ self.now) }
     {
@@ -287,7 +289,7 @@ impl Components {
         Ok(Components { free, parts })
     }
 
-    /// All numbers of the components that have one of these.
+    /// All numbers of the components that have one of these numbers.
     pub fn reach(&self, alloc: Global, numbers: &Numbers) -> Result<Numbers, OutOfMemory>
         ensures { IfOk result (λ found. (n : _)
             → Contains found n ↔ IsReached numbers.now self.now.parts n) }
@@ -299,7 +301,7 @@ impl Components {
         Ok(found)
     }
 
-    /// All that the rivals are of, as one component.
+    /// All components that have one of the rivals, as one.
     fn touched(&self, alloc: Global, rivals: &Numbers) -> Result<Component, OutOfMemory>
         ensures { IfOk result (λ part. part ≡ touched rivals.now self.now) }
     {
@@ -312,7 +314,7 @@ impl Components {
     }
 
     /// Adds a number, which conflicts with these rivals, and makes one component of all that it
-    /// connects. It changes nothing before all memory is there.
+    /// connects. Nothing changes before all memory is there.
     fn connect(&mut self, alloc: Global, rivals: &Numbers, number: usize) -> Result<(), OutOfMemory>
         requires { number + 1 < 2 ^ 64 }
         ensures ok { OnOk result (self.new ≡ connected rivals.now number self.old) }
@@ -332,7 +334,7 @@ impl Components {
         Ok(())
     }
 
-    /// Adds a number, which conflicts with these rivals among the others. It changes nothing before
+    /// Adds a number, which conflicts with these rivals among the others. Nothing changes before
     /// all memory is there.
     pub fn add(&mut self, alloc: Global, rivals: &Numbers, number: usize) -> Result<(), OutOfMemory>
         requires { number + 1 < 2 ^ 64 }

@@ -10,7 +10,7 @@ use gf_shape::OutOfMemory;
 use std::alloc::Global;
 use std::marker::Model;
 
-/// A component keeps its sets while they are at most so many.
+/// A component keeps at most this many sets.
 pub const MOST_SETS: usize = 1_000;
 
 /// The sets, unless they are more than [`MOST_SETS`].
@@ -28,14 +28,14 @@ impl Model for Sets {
 }
 
 impl Sets {
-    /// These sets, or none.
+    /// The kept form of these sets, or of none.
     pub(crate) fn new(sets: Option<Vec<Numbers>>) -> Sets
         ensures { result ≡ option_map (λ v. v.items) sets }
     {
         Sets { sets }
     }
 
-    /// These sets.
+    /// The kept form of these sets: none where they are more than [`MOST_SETS`].
     pub(crate) fn of(sets: Vec<Numbers>) -> Sets
         ensures { result ≡ kept sets.items }
     {
@@ -56,7 +56,7 @@ impl Sets {
         }
     }
 
-    /// A copy.
+    /// A copy of the sets.
     pub(crate) fn copy(&self, alloc: Global) -> Result<Sets, OutOfMemory>
         ensures { IfOk result (λ copy. copy ≡ self.now) }
     {
@@ -68,7 +68,7 @@ impl Sets {
         }
     }
 
-    /// Each of them united with each of the others. Where these are too many, none is made.
+    /// Each set united with each of the others. Where these are too many, none is made.
     pub(crate) fn times(&self, alloc: Global, others: &Sets) -> Result<Sets, OutOfMemory>
         ensures { IfOk result (λ sets. sets ≡ times self.now others.now) }
     {
@@ -78,7 +78,7 @@ impl Sets {
         }
     }
 
-    /// Adds a number, which conflicts with these rivals. It changes nothing before all memory is
+    /// Adds a number, which conflicts with these rivals. Nothing changes before all memory is
     /// there.
     pub(crate) fn grow(
         &mut self,

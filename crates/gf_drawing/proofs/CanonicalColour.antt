@@ -59,7 +59,7 @@ pub canonical_colour : (h : List Op) (d : DrawingState AnyShape) → IsCanonical
 canonical_colour h d canonical p =
     subst (HistoryColour h p) (sym (same_first any_holds d canonical.items p canonical.drawing canonical.fits.versions)) (first_gives h p canonical.items canonical.ranked)
 
--- so has the drawing of its outlines
+-- the drawing of its outlines has at every point the colour that the history means
 pub canonical_colour-outlined : (h : List Op) (d : DrawingState AnyShape) → IsCanonical h d → PaintsAsFig h (outlined any_outline d)
 canonical_colour-outlined h d canonical p =
     subst (HistoryColour h p) (sym (drawing_colour-outlined any_holds any_outline any_outlines d p)) (canonical_colour h d canonical p)

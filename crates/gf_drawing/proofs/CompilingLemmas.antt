@@ -75,7 +75,7 @@ pub item_colour : {S : Type 0} → (before : List (Placed S)) (i : Placed S) (af
 item_colour [] i after = rw ((colours_told i.colour i.colour).1 refl)
 item_colour {S} (j ∷ before) i after = seen-cons i.colour j.colour (map (λ (k : Placed S). k.colour) (before ++ i ∷ after)) (item_colour before i after)
 
--- so of each
+-- the colour of each item is among the colours of the items
 pub own_colour : {S : Type 0} → (items : List (Placed S)) → All (λ (i : Placed S). list_any (colour_eq i.colour) (colours_of items) ≡ true) items
 own_colour {S} [] = All-nil _
 own_colour {S} (i ∷ items) =

@@ -15,11 +15,11 @@ use Rattle.std.proofs.lemmas.Grind.{flat_map-append}
 use Rattle.gf_drawing.specs.FrontMost.{nearer}
 
 module _ {F : Type 0} (depth : F → ℕ) where
-  -- those of fs at depth d
+  -- the figures of fs at depth d
   abbrev pub at : List F → ℕ → List F
   at fs d = filter (λ f. eqb (depth f) d) fs
 
-  -- those at k depths from m on, the deepest first
+  -- the figures at k depths from m on, the deepest first
   abbrev pub back : List F → ℕ → ℕ → List F
   back fs m k = flat_map (at fs) (reverse (range_with_len m k))
 
@@ -34,7 +34,7 @@ module _ {F : Type 0} (depth : F → ℕ) where
     abbrev pub over : C → F → C
     over c f = cond (holds f) (colour f) c
 
-    -- those at k depths from m on are painted over c
+    -- the figures at k depths from m on are painted over c
     abbrev pub paint : List F → ℕ → ℕ → C → C
     paint fs m k c = fold over c (back fs m k)
 
@@ -104,7 +104,7 @@ module _ {F : Type 0} (depth : F → ℕ) where
     paint_out : (f : F) (fs : List F) (m k : ℕ) (c : C) → holds f ≡ false → paint (f ∷ fs) m k c ≡ paint fs m k c
     paint_out f fs m k c h = paint_same (f ∷ fs) fs m k c (λ d x. fold-at f fs d x ∙ ap (λ (y : C). fold over y (at fs d)) (top_other d f x (λ _. h)))
 
-    -- so may one before another that holds and is no deeper
+    -- a figure may be left out before another that holds and is no deeper
     paint_behind : (g f : F) (fs : List F) (k : ℕ) (c : C) → holds f ≡ true → depth f ≤ depth g → depth f < k → paint (g ∷ f ∷ fs) 0 k c ≡ paint (f ∷ fs) 0 k c
     paint_behind g f fs k c h l u = paint_hidden (g ∷ f ∷ fs) (f ∷ fs) (depth f) 0 k c (omega arith) (omega arith)
         (λ d x b. fold-at g (f ∷ fs) d x ∙ ap (λ (y : C). fold over y (at (f ∷ fs) d)) (top_other d g x (λ q. absurd (omega arith))))
@@ -113,7 +113,7 @@ module _ {F : Type 0} (depth : F → ℕ) where
         ∙ (ap (λ (z : C). fold over z (at fs (depth f))) (top_same (depth f) f (top (depth f) g x) h refl ∙ sym (top_same (depth f) f y h refl))
         ∙ sym (fold-at f fs (depth f) y))))
 
-    -- and one after another that holds, unless it holds too and is no deeper
+    -- a figure may be left out after another that holds, unless it holds too and is no deeper
     paint_after : (g f : F) (fs : List F) (k : ℕ) (c : C) → holds g ≡ true → depth g < k → (depth f ≤ depth g → holds f ≡ false) →
         paint (g ∷ f ∷ fs) 0 k c ≡ paint (g ∷ fs) 0 k c
     paint_after g f fs k c h u o = paint_hidden (g ∷ f ∷ fs) (g ∷ fs) (depth g) 0 k c (omega arith) (omega arith)

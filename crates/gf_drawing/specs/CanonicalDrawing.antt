@@ -22,7 +22,7 @@ abbrev pub first_seen : List Rgb → List Rgb
 first_seen [] = []
 first_seen (c ∷ cs) = c ∷ filter (λ d. not (colour_eq c d)) (first_seen cs)
 
--- 32, and how many of the distinct colours cs come before c
+-- 32 plus how many of the distinct colours cs come before c
 abbrev pub number_of : List Rgb → Rgb → ℕ
 number_of cs c = 32 + position_or_len (colour_eq c) cs
 

@@ -24,7 +24,7 @@ module _ {S : Type 0} where
 
   -- holds says which points a shape holds
   module _ (holds : S → Point → Bool) where
-    -- the colour at p where figure f is painted over what lies below: its own if it holds p
+    -- the colour at p where figure f is painted over what lies below: that of f if f holds p
     abbrev pub painted : Table → Point → Rgb → Figure S → Rgb
     painted table p below f = if holds f.shape p then figure_colour table f else below
 
@@ -32,8 +32,8 @@ module _ {S : Type 0} where
     abbrev pub drawing_colour : Table → List (Figure S) → Point → Rgb
     drawing_colour table figures p = fold (painted table p) white (from_back figures)
 
-    -- the colour at p of figures from the front to the back: that of the first that holds p, white
-    -- if none does
+    -- of figures from the front to the back, the colour of the first that holds p; white if none
+    -- does
     abbrev pub front_colour : Table → List (Figure S) → Point → Rgb
     front_colour table figures p =
         unwrap_or (option_map (figure_colour table)

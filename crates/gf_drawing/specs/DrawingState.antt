@@ -20,7 +20,7 @@ abbrev pub IsFreeNumber : Table → ℕ → Type 0
 IsFreeNumber table n = IsTrue (is_table_number n && is_none (colour_in table n))
 
 module _ {S : Type 0} where
-  -- the colour of figure f is a standard one or one of the table, and its depth is at most 999
+  -- the colour of figure f is standard or of the table, and its depth is at most 999
   abbrev pub IsLawfulFigure : Table → Figure S → Type 0
   IsLawfulFigure table f = IsTrue (is_some (rgb_of table f.colour) && nat_le f.depth 999)
 

@@ -5,12 +5,12 @@ use Rattle.gf_shape.specs.declared.point.Point.{Point}
 use Rattle.gf_drawing.specs.declared.figure.Figure.{Figure}
 
 module _ {F : Type 0} (depth : F → ℕ) where
-  -- d is no greater than the depth of the one in front, if there is one
+  -- d is no greater than the depth of the figure in front, if there is one
   abbrev pub is_no_deeper : ℕ → Option F → Bool
   is_no_deeper d None = true
   is_no_deeper d (Some g) = nat_le d (depth g)
 
-  -- the one in front, where f comes next
+  -- the figure in front, where f comes next
   abbrev pub nearer : (F → Bool) → Option F → F → Option F
   nearer holds front f = if holds f && is_no_deeper (depth f) front then Some f else front
 

@@ -46,7 +46,7 @@ impl From<OutOfMemory> for CompileFault {
     }
 }
 
-/// The drawing of the versions: the i-th from the top at depth i, counted from 0, and the colours
+/// The drawing of the versions: the i-th from the top at depth i, counted from 0. The colours are
 /// numbered from 32 as they are first seen from the top.
 pub fn compile<S: Shape>(alloc: Global, ranked: Ranked<S>) -> Result<Drawing<S>, CompileFault>
     ensures drawing { IfOk result (λ drawing. drawing ≡ canonical_drawing ranked.items.items) }

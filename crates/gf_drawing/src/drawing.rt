@@ -52,7 +52,7 @@ impl<S: Shape> Drawing<S> {
         }
     }
 
-    /// The table of its colours.
+    /// The table of the drawing's colours.
     pub fn colours(&self) -> &ColourTable
         ensures table { result.now ≡ self.now.table }
         ensures lawful { IsLawfulDrawing self.now }
@@ -60,7 +60,7 @@ impl<S: Shape> Drawing<S> {
         &self.table
     }
 
-    /// Its figures in file order.
+    /// The figures in file order.
     pub fn figures(&self) -> &[Figure<S>]
         ensures figures { result.now ≡ self.now.figures }
         ensures lawful { IsLawfulDrawing self.now }
@@ -68,7 +68,7 @@ impl<S: Shape> Drawing<S> {
         &self.figures
     }
 
-    /// Its figures from the front to the back: by their depths, and of one depth the last one
+    /// The figures from the front to the back: by their depths, and of one depth the last one
     /// first.
     pub fn front_to_back(&self, alloc: Global) -> Result<Vec<&Figure<S>>, OutOfMemory>
         ensures { IfOk result (λ figures. (p : Point)

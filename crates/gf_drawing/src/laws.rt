@@ -13,8 +13,8 @@ ghost use Rattle.gf_drawing.specs.Outlined.{PaintsAsFig, outlined};
 
 use gf_shape::Shape;
 
-/// The canonical drawing of a history has at every point the colour that the history means there,
-/// also where each shape is drawn by its outline.
+/// The canonical drawing of a history has at every point the colour that the history means there.
+/// The same holds where each shape is drawn by its outline.
 pub fn the_canonical_drawing_paints_the_history()
     ensures shapes { (h : List Op) (d : DrawingState AnyShape) → IsCanonical h d → Paints h d }
     ensures outlines { (h : List Op) (d : DrawingState AnyShape) → IsCanonical h d

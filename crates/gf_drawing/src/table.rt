@@ -34,14 +34,14 @@ impl ColourTable {
         }
     }
 
-    /// How many colours it has.
+    /// How many colours the table has.
     pub fn len(&self) -> usize
         ensures { result ≡ length self.now }
     {
         self.entries.len()
     }
 
-    /// Whether it has none.
+    /// Whether the table has no colour.
     pub fn is_empty(&self) -> bool
         ensures { result ≡ nat_eq (length self.now) 0 }
     {

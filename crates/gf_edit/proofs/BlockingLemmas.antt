@@ -69,11 +69,11 @@ module _ {X : Type 0} (f : X → Op) (p : Op → Bool) (xs : List X) (k : ℕ) (
   from_here : answer (p (f x)) ≡ find p (map f xs)
   from_here = sym (ap (λ ys. find p (map f ys)) (drop-cons xs k x inside ∙ ap (λ y. y ∷ drop (suc k) xs) (sym is))) ∙ so_far
 
-  -- it ends where p holds
+  -- the search ends where p holds
   pub found_here : p (f x) ≡ true → Some (f x) ≡ find p (map f xs)
   found_here holds = sym (ap answer holds) ∙ from_here
 
-  -- and else goes on
+  -- where p fails the search goes on
   pub passed_here : p (f x) ≡ false → find p (map f (drop (k + 1) xs)) ≡ find p (map f xs)
   passed_here fails = subst (λ j. find p (map f (drop j xs)) ≡ find p (map f xs)) {x = suc k} {y = k + 1} (omega arith) (sym (ap answer fails) ∙ from_here)
 

@@ -20,8 +20,8 @@ use Rattle.gf_edit.specs.declared.entries.Entry.TheVariants as entry
 use Rattle.gf_edit.specs.Entries.{entry_denoted}
 use Rattle.gf_edit.specs.EditedText.{AreEntriesOf, ops_in}
 
--- the lines of the bytes before line number n denote entries whose operations deliver a history,
--- and this is line n
+-- the lines of the bytes before line n denote entries whose operations deliver a history, and this
+-- is line n
 pub record IsAtLine (s : ℕ) (bytes : List ℕ) (n : ℕ) (line : List ℕ) : Type 0 where
   pub before : List (ℕ × List ℕ)
   pub after : List (ℕ × List ℕ)
@@ -31,13 +31,13 @@ pub record IsAtLine (s : ℕ) (bytes : List ℕ) (n : ℕ) (line : List ℕ) : T
   pub history : List Op
   pub delivers : Delivers (ops_in entries) history
 
--- the line denotes another operation under the id of one of these
+-- the line denotes another operation under the id of one of these operations
 pub record IsClashingLine (s : ℕ) (ops : List Op) (line : List ℕ) : Type 0 where
   pub op : Op
   pub denotes : entry_denoted s line ≡ Ok (entry.Operation op)
   pub other : HasOther ops op
 
--- what is wrong with a line behind those of these operations
+-- what is wrong with a line behind the lines of these operations
 abbrev pub IsEntryFault : ℕ → List Op → List ℕ → LineCause → Type 0
 IsEntryFault s ops text cause.Json = entry_denoted s text ≡ Err line.Json
 IsEntryFault s ops text cause.Field = entry_denoted s text ≡ Err line.Field
@@ -51,8 +51,8 @@ pub record HasLineFault (s : ℕ) (bytes : List ℕ) (n : ℕ) (cause : LineCaus
   pub at : IsAtLine s bytes n line
   pub fault : IsEntryFault s (ops_in at.entries) line cause
 
--- with some line, the operation under this id is ready behind a delivery of the operations so far
--- that delivery is a valid history, to which the operation cannot be added, for this fault
+-- with some line, the operation under this id is ready behind a delivery of the operations so far.
+-- That delivery is a valid history, to which the operation cannot be added, for this fault
 pub record DropsAt (s : ℕ) (bytes : List ℕ) (id : OpId) (fault : OpFault) : Type 0 where
   pub number : ℕ
   pub line : List ℕ

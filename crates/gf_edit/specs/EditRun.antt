@@ -24,8 +24,8 @@ use Rattle.gf_edit.specs.EditedText.{AreEntriesOf, Blocks, DenotesEdit, AreDeliv
 use Rattle.gf_edit.specs.EditedText.{commands_in, ops_in}
 use Rattle.gf_edit.specs.EditFaults.{DropsAt, HasLineFault}
 
--- the text has the lines of the new operations that the commands of the bytes make
--- it denotes these operations and no others, and made tells the first and the last
+-- the text has the lines of the new operations that the commands of the bytes make. The text
+-- denotes these operations and no others, and made names the first and the last
 pub record Edits (s : ℕ) (bytes text : List ℕ) (made : Option Made) : Type 0 where
   pub new : List Op
   pub denoted : DenotesEdit s bytes new
@@ -33,21 +33,21 @@ pub record Edits (s : ℕ) (bytes text : List ℕ) (made : Option Made) : Type 0
   pub denotes : AreLinesOf (numbered_lines text) new
   pub told : made ≡ made_of new
 
--- known bytes grow from old to new by the lines of the new operations, of which made tells
+-- known bytes grow from old to new by the lines of the new operations, which made is about
 pub record WritesEdit (s : ℕ) (bytes : List ℕ) (made : Option Made)
     (old new : Option (List ℕ)) : Type 0 where
   pub text : List ℕ
   pub edits : Edits s bytes text made
   pub written : Appends old new text
 
--- known bytes grow from old to new by a front, which may be none or all, of these lines
+-- known bytes grow by a prefix, which may be none or all, of the lines of an edit
 pub record WritesEditPrefix (s : ℕ) (bytes : List ℕ) (old new : Option (List ℕ)) : Type 0 where
   pub text : List ℕ
   pub made : Option Made
   pub edits : Edits s bytes text made
   pub written : AppendsPrefix old new text
 
--- of these operations, op blocks site s behind h, and none with a lesser id does
+-- of these operations, op has the least id of all that block site s behind h
 pub record IsFirstBlocking (s : ℕ) (h ops : List Op) (op : Op) : Type 0 where
   pub contained : Contains ops op
   pub blocks : Blocks s h op
@@ -89,8 +89,8 @@ RefusesEditRun s bytes (edit.Run studio.TooLong) = ⊤
 RefusesEditRun s bytes (edit.Run studio.WriteFailed) = ⊤
 RefusesEditRun s bytes e = RefusesEdit s bytes e
 
--- an input has at most `most` bytes; those that are left go from old to new, and the count of
--- failures from was to is
+-- an input has at most `most` bytes. The bytes left go from old to new, and the count of failures
+-- from was to is
 module _ (most : ℕ) (old new : Option (List ℕ)) (was is : ℕ) where
   -- what was read where an editing run is refused with this error
   abbrev pub ReadsBeforeEdit : EditError → Type 0

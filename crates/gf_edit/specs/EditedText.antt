@@ -22,7 +22,7 @@ denotes_entry e = (e.0, Ok e.1)
 abbrev pub entry_at : ℕ → ℕ × List ℕ → ℕ × Got Entry
 entry_at s line = (line.0, entry_denoted s line.1)
 
--- each of the lines denotes an entry, and these are they in order, each with the number of its line
+-- the lines denote these entries in order, each with the number of its line
 abbrev pub AreEntriesOf : ℕ → List (ℕ × List ℕ) → List (ℕ × Entry) → Type 0
 AreEntriesOf s lines entries = map (entry_at s) lines ≡ map denotes_entry entries
 
@@ -56,8 +56,8 @@ pub record AreDelivered (s : ℕ) (entries : List (ℕ × Entry)) (history : Lis
   pub accepted : AreAccepted history
   pub free : (a : Op) → Contains (ops_in entries) a → ¬ (Blocks s history a)
 
--- the lines of the bytes denote operations and commands of site s
--- the commands make these new operations behind the history that the operations deliver
+-- the lines of the bytes denote operations and commands of site s. The commands make these new
+-- operations behind the history that the operations deliver
 pub record DenotesEdit (s : ℕ) (bytes : List ℕ) (new : List Op) : Type 0 where
   pub entries : List (ℕ × Entry)
   pub lines : AreEntriesOf s (numbered_lines bytes) entries

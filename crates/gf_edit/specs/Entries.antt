@@ -10,7 +10,7 @@ use Rattle.gf_json.specs.ScriptLines.{script_denoted, is_command}
 use Rattle.gf_edit.specs.declared.entries.Entry.{Entry}
 use Rattle.gf_edit.specs.declared.entries.Entry.TheVariants as entry
 
--- the command of site s; that of another site is out of range
+-- the command of site s; a command of another site is out of range
 abbrev pub for_site : ℕ → ScriptLine → Got Entry
 for_site s l = if l.site == s then Ok (entry.Command l.command) else Err fault.Range
 
@@ -20,8 +20,8 @@ entry_of s (Ok a) l = Ok (entry.Operation a)
 entry_of s (Err fault.Field) l = and_then (for_site s) l
 entry_of s (Err e) l = Err e
 
--- what a line denotes where site s edits, or its first fault: an operation of any site, or a
--- command of site s
+-- what a line denotes where site s edits, or its first fault. The line denotes an operation of any
+-- site, or a command of site s
 abbrev pub entry_denoted : ℕ → List ℕ → Got Entry
 entry_denoted s line = entry_of s (denoted line) (script_denoted line)
 

@@ -18,8 +18,8 @@ pub record MakesOp (s : ℕ) (h : List Op) (c : Change) : Type 0 where
   pub in_range : IsInRange (authored s h c)
   pub accepted : IsAccepted h (authored s h c)
 
--- behind h, site s passes these commands, each with its line's number, and makes these operations
--- each operation knows h and those made before it
+-- behind h, site s passes these commands, each with its line's number, and makes these operations.
+-- Each operation knows h and those made before it
 pub data Makes (s : ℕ) (h : List Op) : List Numbered → List Op → Type 0 where
   none : Makes s h [] []
   author : {cs : List Numbered} {new : List Op} (n : ℕ) (c : Change)

@@ -16,8 +16,8 @@ pub enum EditError {
     /// The run over the operation lines was refused.
     #[error("{0}")]
     Run(StudioError),
-    /// The first operation waits for the second one. It is of the site that edits, or knows more
-    /// of its operations than were read. So the next number of the site is not known.
+    /// The first operation waits for the second one. The first one is of the site that edits, or
+    /// knows more of its operations than were read. The next number of the site is then not known.
     #[error("operation {0} waits for {1}")]
     Waits(OpId, OpId),
     /// The command of the line of this number, counted from 1, was refused.

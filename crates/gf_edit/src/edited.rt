@@ -2,7 +2,7 @@
 
 use crate::Made;
 
-/// The lines of the operations that an edit makes, and what it tells of them.
+/// The lines of the operations that an edit makes, and what is reported of them.
 #[derive(Drop)]
 pub(crate) struct Edited {
     pub(crate) text: Vec<u8>,

@@ -31,7 +31,7 @@ fn make(alloc: Global, read: ReadLines) -> Result<Edited, EditError>
         → RefusesEdit s bytes e) }
 {
     let ReadLines { mut site, commands } = read;
-    // Its clause says that what a site holds rises by id.
+    // The clause of `held` says that what a site holds rises by id.
     let _ = site.held();
     match check_waiting(alloc, &site) {
         Ok(()) => make_all(alloc, &mut site, commands),

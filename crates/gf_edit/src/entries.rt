@@ -16,8 +16,8 @@ pub enum Entry {
     Command(Command),
 }
 
-/// What a line denotes for this site, or its first fault. It is an operation, or where it has not
-/// the form of one, a command. A command of another site is Range.
+/// What a line denotes for this site, or its first fault. A line without the form of an operation
+/// is read as a command. A command of another site has the fault Range.
 pub(crate) fn read_entry(alloc: Global, line: &[u8], site: u8) -> Result<Entry, LineError>
     ensures denoted { (result ≡ Err LineError.OutOfMemory)
         ⊎ (result ≡ entry_denoted site line.now) }

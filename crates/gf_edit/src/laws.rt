@@ -11,15 +11,15 @@ ghost use Rattle.gf_studio.specs.FigRun.{Draws, Writes};
 ghost use Rattle.gf_studio.specs.PaintRun.{IsMeant, WritesPicture};
 ghost use Rattle.gf_edit.specs.EditedText.{JoinsEdit};
 
-/// The operations that an edit read and those that it made, in whatever order and however often,
-/// denote the history that was read with the new ones behind it.
+/// What an edit read and what it made denote the history that was read, with the new operations
+/// behind it. The operations may come in any order and however often.
 pub fn what_an_edit_writes_joins_what_it_read()
     ensures { (s : ℕ) (bytes others : List ℕ) (new : List Op) → IsSite s →
         (j : JoinsEdit s bytes new others) → Denotes others (j.edit.history ++ new) }
 {}
 
-/// Of the operations that an edit read and those that it made, `fig` and `paint` make what they
-/// make of any lines that denote the history that was read with the new operations behind it.
+/// `fig` and `paint` make the same of what an edit read and made as of lines of the history itself.
+/// That history is what was read, with the new operations behind it.
 pub fn what_an_edit_writes_is_drawn_with_what_it_read()
     ensures drawing { (s : ℕ) (bytes others lines : List ℕ) (new : List Op) → IsSite s →
         (j : JoinsEdit s bytes new others) → Denotes lines (j.edit.history ++ new) →

@@ -1,12 +1,12 @@
-//! The run of an edit: from operation lines and commands of one site to the lines of the operations
-//! that it makes.
+//! The run of an edit: from operation lines and commands of one site to the lines of new
+//! operations.
 //!
 //! - [`edit_run`]: reads operation lines and command lines, and writes the new operations.
-//! - [`Made`]: what it tells of them.
+//! - [`Made`]: the first and the last of the new operations.
 //! - [`EditError`]: why an edit is refused.
 //! - [`what_an_edit_writes_joins_what_it_read`],
-//!   [`what_an_edit_writes_is_drawn_with_what_it_read`]: the laws of the operations that it read and
-//!   wrote.
+//!   [`what_an_edit_writes_is_drawn_with_what_it_read`]: the laws of the operations that an edit
+//!   read and wrote.
 #![tactic(auto)]
 
 mod edit_error;

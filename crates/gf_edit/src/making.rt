@@ -41,8 +41,8 @@ pub(crate) fn make_all(
     Ok(edited)
 }
 
-/// Passes the command of a line: makes an operation and appends its line, or looks for the one that
-/// is awaited.
+/// Passes the command of a line: makes an operation and appends its line, or looks for the awaited
+/// one.
 fn pass(
     alloc: Global,
     site: &mut Site,

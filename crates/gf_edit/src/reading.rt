@@ -4,7 +4,8 @@ ghost use Rattle.std.specs.Prelude.{[], IfOk, IfErr, OnOk};
 ghost use Rattle.gf_ops.specs.OperationOrder.{IsSite};
 ghost use Rattle.gf_edit.specs.Entries.{IsEntryInRange};
 ghost use Rattle.gf_edit.specs.EditFaults.{RefusesEntries};
-ghost use Rattle.gf_edit.specs.EntrySteps.{GainsEntry, HasReadEntries, RefusesEntry, RefusesGain, TakesEntry};
+ghost use Rattle.gf_edit.specs.EntrySteps.{GainsEntry, HasReadEntries, RefusesEntry, RefusesGain};
+ghost use Rattle.gf_edit.specs.EntrySteps.{TakesEntry};
 
 use crate::entries::read_entry;
 use crate::{Entry, Numbered};

@@ -16,9 +16,9 @@ use gf_streams::{MOST_INPUT_BYTES, Sink, SinkFault, Source, write_whole};
 use gf_studio::{StudioError, input};
 use std::alloc::Global;
 
-/// Reads operation lines of any sites and command lines of this one to their end. It writes the
-/// lines of the operations that the site makes of the commands behind the history of what it read,
-/// and answers which they are. It reads all before the first write.
+/// Reads operation lines of any sites and command lines of this one to their end. The commands make
+/// new operations behind the history that was read. The lines of these are written, and the answer
+/// names the first and the last. All is read before the first write.
 pub fn edit_run<R: Source, W: Sink>(
     alloc: Global,
     source: &mut R,
@@ -27,19 +27,20 @@ pub fn edit_run<R: Source, W: Sink>(
 ) -> Result<Option<Made>, EditError>
     requires { IsSite editor }
 
-    // The lines of what the commands of the bytes make are written, and what was made is told.
+    // The lines of what the commands of the bytes make are written, and the answer names what was
+    // made.
     ensures edits { IfOk result (λ made. IfSome (R.left source.old) (λ bytes.
         WritesEdit editor bytes made (W.taken sink.old) (W.taken sink.new))) }
     ensures flushed { OnOk result (IsTrue (W.flushed sink.new)) }
 
-    // As of `fig_run`. In place of a drawing it tells what blocks the site, and which command the
-    // site refuses.
+    // The same as `fig_run` promises. In place of a drawing, the error says what blocks the site,
+    // or which command it refuses.
     ensures source { ReadsForEdit MOST_INPUT_BYTES (R.left source.old) (R.left source.new)
         (R.failures source.old) (R.failures source.new) result }
     ensures refused { IfErr result (λ e. IfSome (R.left source.old) (λ bytes.
         RefusesEditRun editor bytes e)) }
 
-    // A front of the text is written at most, and that only where the sink failed.
+    // At most a prefix of the text is written, and that only where the sink failed.
     ensures prefix { result ≡ Err (EditError.Run StudioError.WriteFailed)
         → IfSome (R.left source.old) (λ bytes.
         WritesEditPrefix editor bytes (W.taken sink.old) (W.taken sink.new)) }

@@ -12,7 +12,7 @@ use Rattle.gf_fig_tokens.specs.Fields.{Read, Reader, ◌>>=◌, read_on, field, 
 use Rattle.gf_fig_read.specs.Styles.{known_colour, is_known, filling, style}
 use Rattle.gf_fig_read.specs.Outlines.{count, chain, disc, ellipse, oval}
 use Rattle.gf_fig_read.specs.Objects.{Drawn, colour_object, ellipse_object, polyline_object, object}
-use Rattle.gf_fig_read.specs.FigGrammar.{Fails, is_of_front}
+use Rattle.gf_fig_read.specs.FigGrammar.{Fails, is_of_header}
 
 -- f is the want of memory
 abbrev is_memory : FigFault → Bool
@@ -20,13 +20,13 @@ is_memory fault.OutOfMemory = true
 is_memory f = false
 
 abbrev is_of_object : FigFault → Bool
-is_of_object f = not (is_of_front f) && not (is_memory f)
+is_of_object f = not (is_of_header f) && not (is_memory f)
 
 abbrev IsOfObject : FigFault → Type 0
 IsOfObject f = is_of_object f ≡ true
 
 abbrev IsOfFront : FigFault → Type 0
-IsOfFront f = is_of_front f ≡ true
+IsOfFront f = is_of_header f ≡ true
 
 -- whatever fault r has is one of objects
 record Blames {A : Type 0} (r : Reader A) : Type 0 where
@@ -194,16 +194,16 @@ not_both : (b : Bool) → not b ≡ true → b ≡ true → {X : Type 0} → X
 not_both true h k = absurd (cc)
 not_both false h k = absurd (cc)
 
-pub front_has_no_object : (text : List ℕ) (f : FigFault) (n : ℕ) → Fails text f n → n ≡ 0 ↔ IsTrue (is_of_front f)
+pub front_has_no_object : (text : List ℕ) (f : FigFault) (n : ℕ) → Fails text f n → n ≡ 0 ↔ IsTrue (is_of_header f)
 front_has_no_object text f n (inl p) = (λ e. of_front text f p.0, λ h. p.1)
 front_has_no_object text f n (inr p) =
     let s = p.2 in
-    let q = and_parts (not (is_of_front f)) (not (is_memory f)) ((blames_object s.before).of s.left f s.wrong) in
+    let q = and_parts (not (is_of_header f)) (not (is_memory f)) ((blames_object s.before).of s.left f s.wrong) in
     let m = s.number in
-    (λ e. absurd (omega (arith, e, m)), λ h. not_both (is_of_front f) q.0 h)
+    (λ e. absurd (omega (arith, e, m)), λ h. not_both (is_of_header f) q.0 h)
 
 no_memory_in_front : (f : FigFault) → f ≡ fault.OutOfMemory → IsOfFront f → {X : Type 0} → X
-no_memory_in_front f e h = let k : is_of_front fault.OutOfMemory ≡ true = subst IsOfFront e h in absurd (cc)
+no_memory_in_front f e h = let k : is_of_header fault.OutOfMemory ≡ true = subst IsOfFront e h in absurd (cc)
 
 no_memory_in_object : (f : FigFault) → f ≡ fault.OutOfMemory → not (is_memory f) ≡ true → {X : Type 0} → X
 no_memory_in_object f e h = let k : not (is_memory fault.OutOfMemory) ≡ true = subst (λ g. not (is_memory g) ≡ true) e h in absurd (cc)
@@ -212,5 +212,5 @@ pub memory_is_no_fault : (text : List ℕ) (f : FigFault) (n : ℕ) → Fails te
 memory_is_no_fault text f n (inl p) e = no_memory_in_front f e (of_front text f p.0)
 memory_is_no_fault text f n (inr p) e =
     let s = p.2 in
-    let q = and_parts (not (is_of_front f)) (not (is_memory f)) ((blames_object s.before).of s.left f s.wrong) in
+    let q = and_parts (not (is_of_header f)) (not (is_memory f)) ((blames_object s.before).of s.left f s.wrong) in
     no_memory_in_object f e q.1

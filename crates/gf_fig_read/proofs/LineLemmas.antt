@@ -11,7 +11,7 @@ use Rattle.gf_fig_tokens.specs.declared.faults.FigFault.TheVariants as fault
 use Rattle.gf_fig_tokens.proofs.NumberingLemmas.{a_line_for_each}
 use Rattle.gf_fig_read.specs.declared.faults.FigError.{FigError}
 use Rattle.gf_fig_read.specs.Objects.{Drawn, object}
-use Rattle.gf_fig_read.specs.FigGrammar.{Leads, none, more, nothing, Fails, is_of_front}
+use Rattle.gf_fig_read.specs.FigGrammar.{Leads, none, more, nothing, Fails, is_of_header}
 use Rattle.gf_fig_read.specs.FaultLines.{BeginsAt, BeginsOn, last_line, front_line, IsFaultLine}
 use Rattle.gf_fig_read.specs.Stepping.{Finds}
 use Rattle.gf_fig_read.proofs.ObjectLemmas.{made_of, object_takes}
@@ -155,7 +155,7 @@ begins_on_a_line text all left n e b =
 -- a fault before the objects has a line of its own, and one of an object has none
 front_or_object : (text : List ℕ) (f : FigFault)
     → ((k : ℕ) × (front_line text f ≡ Some k))
-    ⊎ ((is_of_front f ≡ false) × (front_line text f ≡ None))
+    ⊎ ((is_of_header f ≡ false) × (front_line text f ≡ None))
 front_or_object text fault.Version = inl (1, refl)
 front_or_object text fault.Header = inl (last_line text, refl)
 front_or_object text fault.Resolution =
@@ -185,10 +185,10 @@ has_a_line text e fails = elim (front_or_object text e.fault) [
   | inr p ↦ of_object p.0 p.1 fails
 ]
   where
-    of_object : is_of_front e.fault ≡ false → front_line text e.fault ≡ None
+    of_object : is_of_header e.fault ≡ false → front_line text e.fault ≡ None
         → Fails text e.fault e.object → (line : ℕ) × IsFaultLine text e line
     of_object t is (inl f) =
-        let front : is_of_front e.fault ≡ true =
+        let front : is_of_header e.fault ≡ true =
         (front_has_no_object text e.fault e.object (inl f)).0 f.1 in
         absurd (cc)
     of_object t is (inr f) =

@@ -10,7 +10,7 @@ use Rattle.gf_fig_tokens.specs.declared.faults.FigFault.{FigFault}
 abbrev pub Outcome : Type 0
 Outcome = Result Drawn (FigFault × ℕ)
 
--- the grammar says so of the text
+-- the grammar says that the text comes to the outcome
 abbrev pub ComesTo : List ℕ → Outcome → Type 0
 ComesTo text (Ok d) = Reads text d
 ComesTo text (Err e) = Fails text e.0 e.1

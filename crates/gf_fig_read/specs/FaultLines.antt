@@ -10,8 +10,8 @@ use Rattle.gf_fig_read.specs.declared.faults.FigError.{FigError}
 use Rattle.gf_fig_read.specs.Objects.{Drawn}
 use Rattle.gf_fig_read.specs.FigGrammar.{Leads, nothing}
 
--- object n of the tokens begins where these are left: n - 1 whole objects stand before them, and
--- there is one token at least
+-- object n begins where these tokens are left: n - 1 whole objects stand before, and a token is
+-- left
 pub record BeginsAt (all : List Token) (n : ℕ) (left : List Token) : Type 0 where
   pub before : Drawn
   pub objects : Leads nothing all before left
@@ -31,12 +31,13 @@ pub record BeginsOn (text : List ℕ) (n line : ℕ) : Type 0 where
 abbrev pub last_line : List ℕ → ℕ
 last_line text = max (length (lines text)) 1
 
--- where a fault before the objects is reported: Version at the first line, Header at the last one,
--- and Resolution where the first token behind the header stands, or at the last line
+-- where a fault before the objects is reported: Version at the first line, Header at the last one.
+-- Resolution is reported where the first token behind the header stands, or at the last line
 abbrev pub front_line : List ℕ → FigFault → Option ℕ
 front_line text fault.Version = Some 1
 front_line text fault.Header = Some (last_line text)
-front_line text fault.Resolution = Some (unwrap_or (slice_get (token_lines text) 0) (last_line text))
+front_line text fault.Resolution =
+    Some (unwrap_or (slice_get (token_lines text) 0) (last_line text))
 front_line text f = None
 
 -- the fault e of the text is reported at the line: a fault of an object where the object begins

@@ -25,8 +25,7 @@ pub record Reads (text : List ℕ) (d : Drawn) : Type 0 where
   pub tokens : object_tokens text ≡ Ok all
   pub objects : Leads nothing all d []
 
--- behind n - 1 whole objects more tokens follow, and f is the first fault of the object that they
--- should make
+-- behind n - 1 whole objects tokens follow, and f is the first fault of the object there
 pub record StopsAt (all : List Token) (f : FigFault) (n : ℕ) : Type 0 where
   pub before : Drawn
   pub left : List Token
@@ -36,14 +35,13 @@ pub record StopsAt (all : List Token) (f : FigFault) (n : ℕ) : Type 0 where
   pub number : n ≡ length before.table + length before.figures + 1
 
 -- f is a fault before the objects
-abbrev pub is_of_front : FigFault → Bool
-is_of_front fault.Version = true
-is_of_front fault.Header = true
-is_of_front fault.Resolution = true
-is_of_front f = false
+abbrev pub is_of_header : FigFault → Bool
+is_of_header fault.Version = true
+is_of_header fault.Header = true
+is_of_header fault.Resolution = true
+is_of_header f = false
 
--- the text reads as no drawing: f is its first fault, and n the number of its object, 0 for a fault
--- before the objects
+-- the text reads as no drawing: f is its first fault, in the object n, or 0 before the objects
 abbrev pub Fails : List ℕ → FigFault → ℕ → Type 0
 Fails text f n = ((object_tokens text ≡ Err f) × (n ≡ 0))
     ⊎ ((all : List Token) × (object_tokens text ≡ Ok all) × StopsAt all f n)

@@ -33,8 +33,8 @@ with_figure d s o =
           ∷ [];
     }
 
--- an ellipse behind its code 1: sub type 1 has its radii given, 2 its diameters, 3 is a circle by
--- its radius, 4 one by its diameter
+-- an ellipse behind its code 1. Sub types 1 and 2 give two radii or diameters; 3 and 4 are circles
+-- by radius or diameter
 unfoldable pub ellipse_object : Drawn → Reader Drawn
 ellipse_object d = do
   s ← style 1 4 d.table

@@ -38,7 +38,7 @@ chain boxed = do
   closed ← check (is_closed ps) fault.Open
   give (Chain (record { boxed = boxed; points = ps }))
 
--- the fields of a circle from direction to end_y; it is the same at every angle
+-- the fields of a circle from direction to end_y; a circle is the same at every angle
 unfoldable pub disc : Reader Outline
 disc = do
   direction ← any whole
@@ -52,7 +52,7 @@ disc = do
   end_y ← any whole
   give (Disc (record { centre = centre; radius = radius_x }))
 
--- the fields of an ellipse with two radii from direction to end_y; its axes are level
+-- the fields of an ellipse with two radii from direction to end_y; the axes are level
 unfoldable pub oval : Reader Outline
 oval = do
   direction ← any whole
@@ -66,7 +66,6 @@ oval = do
   end_y ← any whole
   give (Oval (record { centre = centre; rx = radius_x; ry = radius_y }))
 
--- the fields of an ellipse of this sub type from direction to end_y: 1 and 2 have two radii, 3 and
--- 4 are circles
+-- the fields of an ellipse from direction to end_y, a circle where the sub type is 3 or 4
 unfoldable pub ellipse : ℕ → Reader Outline
 ellipse sub_type = if nat_le sub_type 2 then oval else disc

@@ -7,7 +7,7 @@ use Rattle.gf_fig_tokens.specs.Fields.{Reader, ◌>>=◌, field, any, give, is_i
 use Rattle.gf_fig_read.specs.declared.styles.Style.{Style}
 use Rattle.gf_fig_tokens.specs.declared.faults.FigFault.TheVariants as fault
 
--- n is the number of a standard colour, or of one defined before: those of the table
+-- n is the number of a standard colour, or of one in the table
 abbrev pub is_known : Table → ℤ → Bool
 is_known table n = is_in (pos 0) (pos 543) n && is_some (rgb_of table (nat_abs n))
 

@@ -1,7 +1,7 @@
 //! Laws of the FIG grammar.
 
 ghost use Rattle.std.specs.Prelude.{◌≡◌, ◌≢◌, ◌⊎◌, ◌↔◌, IsTrue, List, ℕ};
-ghost use Rattle.gf_fig_read.specs.FigGrammar.{Reads, Fails, is_of_front};
+ghost use Rattle.gf_fig_read.specs.FigGrammar.{Reads, Fails, is_of_header};
 ghost use Rattle.gf_fig_read.specs.Objects.{Drawn};
 ghost use Rattle.gf_fig_tokens.specs.declared.faults.FigFault.{FigFault};
 ghost use Rattle.gf_fig_tokens.specs.declared.faults.FigFault.TheVariants as fault;
@@ -16,8 +16,8 @@ pub fn every_text_reads_as_one_drawing_or_fails_once()
         → (f ≡ g) × (m ≡ n) }
     ensures not_both { (text : List ℕ) (d : Drawn) (f : FigFault) (n : ℕ) → Reads text d
         → ¬ (Fails text f n) }
-    ensures prefix { (text : List ℕ) (f : FigFault) (n : ℕ) → Fails text f n
-        → n ≡ 0 ↔ IsTrue (is_of_front f) }
+    ensures header { (text : List ℕ) (f : FigFault) (n : ℕ) → Fails text f n
+        → n ≡ 0 ↔ IsTrue (is_of_header f) }
     ensures memory { (text : List ℕ) (f : FigFault) (n : ℕ) → Fails text f n
         → f ≢ fault.OutOfMemory }
 {}

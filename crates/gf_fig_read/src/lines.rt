@@ -60,7 +60,7 @@ fn last_line(text: &[u8]) -> u64
     line_count(text).max(1)
 }
 
-/// The line of the token of the objects from which on so many are left.
+/// The line of the token of the objects from which on `left` tokens are left.
 fn line_from(text: &[u8], left: u64) -> Option<u64>
     ensures { (all : List Token) → object_tokens text.now ≡ Ok all
         → result ≡ slice_get (drop 2 (token_lines text.now)) (length all - left) }

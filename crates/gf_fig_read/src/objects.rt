@@ -88,7 +88,8 @@ pub(crate) fn add_object(
     tokens: &mut Tokens<'_>,
     drawing: &mut Drawing<Outline>,
 ) -> Result<(), FigFault>
-    ensures { AddsObject result drawing.new tokens.new (object drawing.old (code.now ∷ tokens.old)) }
+    ensures { AddsObject result drawing.new tokens.new
+        (object drawing.old (code.now ∷ tokens.old)) }
 {
     match whole(code) {
         None => Err(FigFault::Token),

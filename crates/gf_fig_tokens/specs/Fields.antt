@@ -40,8 +40,7 @@ abbrev pub checked : {A : Type 0} → Option A → (A → Bool) → FigFault →
 checked None passes wrong rest = Err fault.Token
 checked (Some a) passes wrong rest = if passes a then Ok (a, rest) else Err wrong
 
--- one field: Cut where no token is left, Token where it has not the form, and wrong where its value
--- does not pass
+-- one field: Cut without a token, Token for another form, and wrong where the value does not pass
 abbrev pub field : {A : Type 0} → (Token → Option A) → (A → Bool) → FigFault → Reader A
 field form passes wrong [] = Err fault.Cut
 field form passes wrong (t ∷ ts) = checked (form t) passes wrong ts

@@ -1,6 +1,6 @@
--- A FIG text as first line, comment lines, header lines and tokens (Xfig, FIG Format 3.2). That
--- comment lines are dropped everywhere from the second line on, and that header lines have any
--- text, is this project's profile.
+-- A FIG text as first line, comment lines, header lines and tokens (Xfig, FIG Format 3.2). This
+-- project's profile drops comment lines from the second line on, and lets header lines have any
+-- text.
 use Rattle.std.specs.Prelude.{ℕ, Bool, true, false, not, ◌&&◌, ◌||◌, ◌==◌, nat_eq}
 use Rattle.std.specs.Prelude.{nat_lt, List, [], ◌∷◌, ◌++◌, length, filter, flat_map, drop}
 use Rattle.std.specs.Prelude.{Result, Ok, Err, codes, if◌then◌else◌}
@@ -21,8 +21,7 @@ is_line_feed b = b == 10
 abbrev pub is_blank : ℕ → Bool
 is_blank b = b == 32 || b == 9 || b == 13 || b == 10
 
--- the lines of a text, without the line feeds that end them; what follows the last line feed is a
--- line if it is not empty
+-- the lines of a text, without line feeds; text behind the last line feed is a line, too
 abbrev pub lines : List ℕ → List (List ℕ)
 lines [] = []
 lines (b ∷ bs) = if is_line_feed b then [] ∷ lines bs else onto_first b (lines bs)

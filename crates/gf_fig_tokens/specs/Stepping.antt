@@ -8,7 +8,7 @@ use Rattle.gf_fig_tokens.specs.declared.faults.FigFault.{FigFault}
 abbrev pub after_blanks : List ℕ → List ℕ
 after_blanks line = drop (position_or_len (λ b. not (is_blank b)) line) line
 
--- what is left is what the answer says
+-- the answer has the tokens left, or the fault of the result
 abbrev pub LeavesTokens : Result ⊤ FigFault → List Token → Result (List Token) FigFault → Type 0
 LeavesTokens (Ok u) left answer = answer ≡ Ok left
 LeavesTokens (Err f) left answer = answer ≡ Err f

@@ -6,7 +6,8 @@ ghost use Rattle.gf_fig_tokens.specs.declared.faults.FigFault.TheVariants.{OutOf
 use std::alloc::{AllocError, AllocFailed};
 use std::fmt;
 
-/// The first fault of a FIG text, its fields taken in their order. As text each is its name.
+/// The first fault of a FIG text, its fields taken in their order. Each fault is written as its
+/// name.
 #[derive(Clone, Copy, Debug, PartialEq, Eq)]
 pub enum FigFault {
     /// The text does not begin with `#FIG 3.2`.
@@ -21,8 +22,8 @@ pub enum FigFault {
     Cut,
     /// An object code is not 0, 1 or 2: a colour, an ellipse or a polyline.
     Object,
-    /// The sub type of a polyline is not 2 or 3, a box or a polygon, or that of an ellipse is not 1
-    /// or 2, one with two radii, and not 3 or 4, a circle.
+    /// The sub type of a polyline is not 2, a box, or 3, a polygon. Or that of an ellipse is none
+    /// of 1 and 2, with two radii, and 3 and 4, circles.
     SubType,
     /// The thickness of a figure's outline is not 0.
     Outline,
@@ -34,8 +35,7 @@ pub enum FigFault {
     Count,
     /// The last point of a polyline is not its first.
     Open,
-    /// A radius of an ellipse is not 1 to 10,000,000, or the second radius of a circle is not its
-    /// first.
+    /// A radius of an ellipse is not 1 to 10,000,000, or the two radii of a circle are different.
     Radius,
     /// A coordinate is not within 10,000,000 of 0, or the number of a colour is not 32 to 543.
     Range,
@@ -47,7 +47,7 @@ pub enum FigFault {
     NoColour,
     /// A depth is not 0 to 999.
     Depth,
-    /// Memory was refused; of the text it says nothing.
+    /// Memory was refused; this says nothing of the text.
     OutOfMemory,
     /// The angle of an ellipse of sub type 1 or 2 has a digit that is not 0.
     Angle,

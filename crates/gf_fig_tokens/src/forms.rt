@@ -3,7 +3,8 @@
 ghost use Rattle.std.specs.Prelude.{◌≡◌, ◌≤◌, ◌<◌, ◌^◌, length, IsTrue};
 ghost use Rattle.std.specs.List.{list_all};
 ghost use Rattle.gf_fig_tokens.specs.Forms.{is_digit, after_sign, is_negative, digits_value, whole};
-ghost use Rattle.gf_fig_tokens.specs.Forms.{is_fraction, are_digits_and_fraction, begins_with_digit};
+ghost use Rattle.gf_fig_tokens.specs.Forms.{is_fraction, are_digits_and_fraction};
+ghost use Rattle.gf_fig_tokens.specs.Forms.{begins_with_digit};
 ghost use Rattle.gf_fig_tokens.specs.Forms.{is_zero, decimal, angle, colour};
 
 use gf_digits::rgb_of_hex;

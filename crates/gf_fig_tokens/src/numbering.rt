@@ -20,7 +20,7 @@ pub fn line_count(text: &[u8]) -> u64
     count
 }
 
-/// The line of the token behind the header before which so many stand there.
+/// The line of the token with this index behind the header, counted from 0.
 pub fn token_line(text: &[u8], index: u64) -> Option<u64>
     ensures { result ≡ slice_get (token_lines text.now) index }
 {
@@ -28,8 +28,8 @@ pub fn token_line(text: &[u8], index: u64) -> Option<u64>
     find_token(rest, before, index)
 }
 
-/// The first line that is no comment, where so many lines stand before the text: its number, the
-/// line, and what follows.
+/// The first line that is no comment, with its number and what follows; `before` lines stand before
+/// the text.
 fn cut_numbered(text: &[u8], before: u64) -> Option<(u64, &[u8], &[u8])>
     requires few { before + length text.now < 2 ^ 64 }
     ensures lines { MatchOption result (plain_behind before text.now ≡ [])
@@ -50,7 +50,7 @@ fn cut_numbered(text: &[u8], before: u64) -> Option<(u64, &[u8], &[u8])>
     None
 }
 
-/// How many lines the header ends, with the first line and the comments, and what follows.
+/// How many lines there are up to the end of the header, comments among them, and what follows.
 #[tactic(auto, using(crate::proofs::LayoutLemmas::drop_more, crate::proofs::NumberingLemmas::no_tokens))]
 fn cut_header(text: &[u8]) -> Option<(u64, &[u8])>
     ensures lines { MatchOption result (token_lines text.now ≡ [])
@@ -81,7 +81,7 @@ fn count_words(line: &[u8]) -> u64
     count
 }
 
-/// The line of the token before which so many stand in a text, where so many lines stand before it.
+/// The line of the token with this index in a text, where `before` lines stand before the text.
 fn find_token(text: &[u8], before: u64, index: u64) -> Option<u64>
     requires few { before + length text.now < 2 ^ 64 }
     ensures { result

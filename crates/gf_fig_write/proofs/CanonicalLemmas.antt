@@ -163,7 +163,7 @@ lawful_canonical items few colours = record {
   figures = figures_lawful (colours_of items) 0 items (own_colour items) (omega (arith, few));
 }
 
--- its text reads as the drawing of the outlines
+-- the text of the drawing reads as the drawing of the outlines
 pub canonical_reads : (h : List Op) (d : DrawingState AnyShape) → IsValid h → GivesBytes h → IsCanonical h d → Reads (fig_text any_outline d) (outlined any_outline d)
 canonical_reads h d valid bytes c =
     let items = c.items in
@@ -180,6 +180,6 @@ shows h drawing figures reads = record {
   colours = λ (d : Drawn) other. subst (PaintsAsFig h) (one_drawing (fig_text any_outline drawing) (outlined any_outline drawing) d reads other) figures;
 }
 
--- so that of the canonical drawing does
+-- the text of the canonical drawing shows the history
 pub canonical_shows : (h : List Op) (d : DrawingState AnyShape) → IsValid h → GivesBytes h → IsCanonical h d → Shows (fig_text any_outline d) h
 canonical_shows h d valid bytes c = shows h d (canonical_colour-outlined h d c) (canonical_reads h d valid bytes c)

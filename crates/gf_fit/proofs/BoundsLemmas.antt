@@ -150,7 +150,7 @@ module _ (holds : Point → Bool) (a b : Bounds) (x : IsBounds holds a) (y : IsB
   bottom_most : b.high.y ≤ℤ a.high.y
   bottom_most = higher holds (λ p. p.y) _ _ y.bottom (λ p h. (x.within p h).bottom)
 
-  -- their ends are in order
+  -- the ends of the bounds are in order
   pub in_order : (a.low.x ≤ℤ a.high.x) × (a.low.y ≤ℤ a.high.y)
   in_order = (
     higher holds (λ p. p.x) _ _ x.left (λ p h. (x.within p h).right),

@@ -30,14 +30,13 @@ pub record FitsText (text : List ℕ) (frame : Sides) (w : View) : Type 0 where
 -- Fits says which windows fit, IsShown which colours are to be painted, and known bytes grow from
 -- old to new
 module _ (Fits : View → Type 0) (IsShown : (Point → Rgb) → Type 0) (old new : Option (List ℕ)) where
-  -- they grow by a front, which may be none or all, of the picture in a window that fits
+  -- known bytes grow by a prefix, which may be none or all, of the picture in a window that fits
   pub record WritesFittedPrefix : Type 0 where
     pub window : View
     pub fits : Fits window
     pub written : WritesPicturePrefix IsShown window old new
 
-  -- they grow by the header and whole bands of 64 rows, fewer than all, of the picture in a window
-  -- that fits
+  -- known bytes grow by the header and whole bands of 64 rows, fewer than all, of such a picture
   pub record WritesFittedBands : Type 0 where
     pub window : View
     pub fits : Fits window

@@ -64,7 +64,7 @@ pub record IsFitted (holds : Point → Bool) (frame : Sides) (w : View) : Type 0
   pub least : AreBounds holds bounds
   pub window : IsWindowOver frame bounds w
 
--- p lies in w, at least so many columns and rows from the ends
+-- p lies in w, at least this many columns and rows from the ends
 pub record IsInside (columns rows : ℕ) (w : View) (p : Point) : Type 0 where
   pub left : column w columns ≤ℤ p.x
   pub right : p.x ≤ℤ column w (w.width - 1 - columns)

@@ -18,18 +18,18 @@ use gf_shape::{Bounds, Range, Shape};
 
 /// The window of a frame that fits a drawing. A twentieth of the columns, and of the rows, is the
 /// margin at each end. The least bounds of what the figures hold stand in the middle. The step is
-/// the least from 1 to 10,000 at which they lie within the margins, and 10,000 where none is. A
-/// corner beyond 2,000,000 becomes the nearest that a window can have. The window of a drawing
-/// without figures begins at the origin, with step 1.
+/// the least from 1 to 10,000 at which they lie within the margins, and else 10,000. A corner
+/// beyond 2,000,000 becomes the nearest that a window can have. The window of a drawing without
+/// figures begins at the origin, with step 1.
 pub fn fitted_window<S: Shape>(drawing: &Drawing<S>, frame: Frame) -> Window
     ensures fitted { IsFitted (held S.holds drawing.now.figures) frame result }
-    // Where a step is wide enough and the corner is not clamped, every point that a figure holds
-    // lies within the margins.
+    // Where a step is wide enough and the corner is not clamped, all points of figures lie within
+    // the margins.
     ensures shows { (b : Bounds) → IsBounds (held S.holds drawing.now.figures) b →
         IsWide frame b → IsCentral frame b result →
         ShowsAll (held S.holds drawing.now.figures) result }
     // Where a step is wide enough and no point lies beyond 2,000,000, every such point lies in the
-    // window, even where the corner is clamped.
+    // window. The corner may be clamped there.
     ensures covers { (b : Bounds) → IsBounds (held S.holds drawing.now.figures) b →
         IsWide frame b → IsNear b → Covers (held S.holds drawing.now.figures) result }
     // No window of the frame with a smaller step shows every such point within the margins.
@@ -71,8 +71,8 @@ fn window_at(frame: Frame, x: i32, y: i32, step: u32) -> Window
     }
 }
 
-/// The least step at which the samples within the margins reach from one place to another, and
-/// 10,000 where none does.
+/// The least step at which the samples within the margins reach from one place to another, else
+/// 10,000.
 fn step_along(len: u32, low: i32, high: i32) -> u32
     requires len { IsTrue (is_side len) }
     requires order { low ≤ℤ high }
@@ -83,7 +83,7 @@ fn step_along(len: u32, low: i32, high: i32) -> u32
     step_over(apart(high, low), inner(len) - 1)
 }
 
-/// The least step of which so many cover a distance, and 10,000 where none does.
+/// The least step of which `count` cover a distance, and 10,000 where none does.
 fn step_over(distance: u32, count: u32) -> u32
     ensures lawful { IsTrue (is_step result) }
     ensures least { (s : ℕ) → 1 ≤ s → s < 10000 → nat_le result s ≡ nat_le distance (count * s) }
@@ -115,7 +115,8 @@ fn apart(far: i32, near: i32) -> u32
     far.abs_diff(near)
 }
 
-/// Where the first sample lies, as near to where the middle wants it as a corner may be.
+/// Where the first sample lies: the place that the middle asks for, or the nearest that a corner
+/// may have.
 fn first(len: u32, step: u32, low: i32, high: i32) -> i32
     requires len { IsTrue (is_side len) }
     requires step { IsTrue (is_step step) }

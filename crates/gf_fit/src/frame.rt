@@ -41,7 +41,7 @@ impl Frame {
         }
     }
 
-    /// How many columns it has, 1 to 4,096.
+    /// How many columns the frame has, 1 to 4,096.
     pub fn width(&self) -> u32
         ensures width { result ≡ self.now.width }
         ensures within { (1 ≤ result) × (result ≤ 4096) }
@@ -49,7 +49,7 @@ impl Frame {
         self.width
     }
 
-    /// How many rows it has, 1 to 4,096.
+    /// How many rows the frame has, 1 to 4,096.
     pub fn height(&self) -> u32
         ensures height { result ≡ self.now.height }
         ensures within { (1 ≤ result) × (result ≤ 4096) }

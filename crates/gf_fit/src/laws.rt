@@ -16,8 +16,8 @@ pub fn one_window_fits()
         IsFitted holds frame v → IsFitted holds frame w → v ≡ w }
 {}
 
-/// Inputs with the same operations, in whatever order and however often, fit in one window, and
-/// runs that succeed with them write the same picture behind the same bytes.
+/// Inputs with the same operations, in whatever order and however often, fit in one window. Runs
+/// that succeed with them write the same picture behind the same bytes.
 pub fn the_same_operations_fit_alike()
     ensures window { (bytes others : List ℕ) → HaveSameOperations bytes others →
         (frame : Sides) (v w : View) → FitsLines bytes frame v → FitsLines others frame w → v ≡ w }
@@ -28,7 +28,7 @@ pub fn the_same_operations_fit_alike()
         WritesPicture (IsMeant others) w (Some taken) (Some other) → painted ≡ other }
 {}
 
-/// The FIG text that a run wrote of an input fits in the window in which the input does, and is
+/// The FIG text that a run wrote of an input fits in the window in which the input does. It is
 /// repainted there as the input is painted.
 pub fn a_text_fits_as_its_history_does()
     ensures window { (bytes before text : List ℕ) →

@@ -1,5 +1,5 @@
-//! Whole runs: from the bytes of operation lines, or of a FIG text, to a picture in the window that
-//! fits what they draw.
+//! Whole runs: from operation lines, or a FIG text, to a picture in the window that fits what they
+//! draw.
 
 ghost use Rattle.std.specs.Prelude.{◌≡◌, ◌+◌, ◌≤◌, ◌⊎◌, Err, IfSome, IfOk, IfErr, OnOk, IsTrue};
 ghost use Rattle.gf_streams.specs.Counts.{Rises};
@@ -16,9 +16,9 @@ use gf_studio::{Gate, StudioError, Window, drawing_of_fig, drawing_of_lines};
 use std::alloc::Global;
 use std::thread::Threads;
 
-/// Reads operation lines to their end, and writes the picture of the colours that their history
-/// means, read and painted by 1 to 16 workers, in the window that fits its drawing; answers this
-/// window. It reads all before the first write.
+/// Reads operation lines to their end, and writes the picture of their history's colours in the
+/// window that fits. The lines are read and the picture is painted by 1 to 16 workers. The answer
+/// is this window. All is read before the first write.
 pub fn paint_fitted_run<T: Threads + Sync, R: Source, W: Sink, G: Gate + Sync>(
     rt: &T,
     alloc: Global,
@@ -29,7 +29,7 @@ pub fn paint_fitted_run<T: Threads + Sync, R: Source, W: Sink, G: Gate + Sync>(
     gate: &G,
 ) -> Result<Window, StudioError>
     requires { (1 ≤ workers) × (workers ≤ 16) }
-    // The window fits the drawing of the history that the bytes denote, and what is written is the
+    // The window fits the drawing of the history that the bytes denote. What is written is the
     // picture of the colours that this history means.
     ensures fits { IfOk result (λ window. IfSome (R.left source.old) (λ bytes.
         FitsLines bytes frame window)) }
@@ -37,14 +37,14 @@ pub fn paint_fitted_run<T: Threads + Sync, R: Source, W: Sink, G: Gate + Sync>(
         WritesPicture (IsMeant bytes) window (W.taken sink.old) (W.taken sink.new))) }
     ensures flushed { OnOk result (IsTrue (W.flushed sink.new)) }
 
-    // As of `paint_run` of `gf_studio`.
+    // The same as `paint_run` of `gf_studio` promises.
     ensures source { ReadsFor MOST_INPUT_BYTES (R.left source.old) (R.left source.new)
         (R.failures source.old) (R.failures source.new) result }
     ensures refused { IfErr result (λ e. IfSome (R.left source.old) (λ bytes.
         RefusesLines bytes e)) }
 
-    // A front of the picture is written where the sink failed, and for want of memory nothing, or
-    // the header and whole bands; else nothing.
+    // A prefix of the picture is written where the sink failed. Want of memory leaves nothing, or
+    // the header and whole bands. With any other error nothing is written.
     ensures prefix { result ≡ Err StudioError.WriteFailed → IfSome (R.left source.old) (λ bytes.
         WritesFittedPrefix (FitsLines bytes frame) (IsMeant bytes)
         (W.taken sink.old) (W.taken sink.new)) }
@@ -66,9 +66,9 @@ pub fn paint_fitted_run<T: Threads + Sync, R: Source, W: Sink, G: Gate + Sync>(
     Ok(window)
 }
 
-/// Reads a FIG text to its end, and writes the picture of the drawing that it reads as, painted by
-/// 1 to 16 workers, in the window that fits this drawing; answers this window. It reads all before
-/// the first write.
+/// Reads a FIG text to its end, and writes the picture of its drawing in the window that fits. The
+/// picture is painted by 1 to 16 workers. The answer is this window. All is read before the first
+/// write.
 pub fn repaint_fitted_run<T: Threads + Sync, R: Source, W: Sink, G: Gate + Sync>(
     rt: &T,
     alloc: Global,
@@ -79,7 +79,7 @@ pub fn repaint_fitted_run<T: Threads + Sync, R: Source, W: Sink, G: Gate + Sync>
     gate: &G,
 ) -> Result<Window, StudioError>
     requires { (1 ≤ workers) × (workers ≤ 16) }
-    // The window fits the drawing that the text reads as, and what is written is the picture of the
+    // The window fits the drawing that the text reads as. What is written is the picture of the
     // colours of this drawing.
     ensures fits { IfOk result (λ window. IfSome (R.left source.old) (λ text.
         FitsText text frame window)) }
@@ -87,12 +87,12 @@ pub fn repaint_fitted_run<T: Threads + Sync, R: Source, W: Sink, G: Gate + Sync>
         WritesPicture (IsDenoted text) window (W.taken sink.old) (W.taken sink.new))) }
     ensures flushed { OnOk result (IsTrue (W.flushed sink.new)) }
 
-    // As of `repaint_run` of `gf_studio`.
+    // The same as `repaint_run` of `gf_studio` promises.
     ensures source { ReadsFor MOST_INPUT_BYTES (R.left source.old) (R.left source.new)
         (R.failures source.old) (R.failures source.new) result }
     ensures refused { IfErr result (λ e. IfSome (R.left source.old) (λ text. RefusesFig text e)) }
 
-    // As of `paint_fitted_run`.
+    // The same as `paint_fitted_run` promises.
     ensures prefix { result ≡ Err StudioError.WriteFailed → IfSome (R.left source.old) (λ text.
         WritesFittedPrefix (FitsText text frame) (IsDenoted text)
         (W.taken sink.old) (W.taken sink.new)) }

@@ -2,9 +2,9 @@
 
 ghost use Rattle.std.specs.Prelude.{◌≡◌, false};
 
-/// A thread calls `enter` with its number, from 1, and that of the piece that it begins. A painter's
-/// pieces are the tiles of 64 by 64 pixels, from 0, row by row from the top; a site's are the
-/// commands of its script, from 1.
+/// A thread calls `enter` with its number, from 1, and that of the piece that it begins. A
+/// painter's pieces are the tiles of 64 by 64 pixels, from 0, row by row from the top. A site's
+/// pieces are the commands of its script, from 1.
 pub trait Gate {
     fn enter(&self, who: u8, piece: u32);
 

@@ -1,6 +1,6 @@
 //! What threads pass before each piece of their work.
 //!
-//! - [`Gate`]: is told who begins which piece, and may let him wait.
+//! - [`Gate`]: is told which thread begins which piece, and may let it wait.
 //! - [`OpenGate`]: stops nobody.
 #![tactic(auto)]
 

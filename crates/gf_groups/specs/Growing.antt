@@ -14,7 +14,7 @@ both_conflict h r s = false
 abbrev pub conflict_at : List Op → ℕ → ℕ → Bool
 conflict_at h i j = not (i == j) && both_conflict h (slice_get h i) (slice_get h j)
 
--- c tells whether the operations at two positions conflict
+-- c says whether the operations at two positions conflict
 module _ (c : ℕ → ℕ → Bool) where
   -- the positions of us that conflict with x
   abbrev pub rivals : List ℕ → ℕ → List ℕ

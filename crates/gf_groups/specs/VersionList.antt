@@ -23,7 +23,7 @@ is_before a b = nat_le a.id.seq (entry b.past a.id.site)
 abbrev pub are_unordered : Op → Op → Bool
 are_unordered a b = not (is_before a b) && not (is_before b a)
 
--- a and b conflict directly; operations that give an attribute different values are two
+-- a and b conflict directly; operations with different values of an attribute are different ones
 abbrev pub in_direct_conflict : Op → Op → Bool
 in_direct_conflict a b = are_unordered a b && id_eq (object_of a).0 (object_of b).0
     && are_apart a.change b.change
@@ -32,7 +32,7 @@ in_direct_conflict a b = are_unordered a b && id_eq (object_of a).0 (object_of b
 abbrev pub aims_at : Op → Op → Bool
 aims_at a x = list_any (id_eq x.id) (aim_of a)
 
--- a, and those of h that it aims at
+-- a, and the operations of h that it aims at
 abbrev pub brought : List Op → Op → List Op
 brought h a = a ∷ filter (aims_at a) h
 
@@ -52,12 +52,12 @@ ops_on h o = filter (λ a. id_eq (object_of a).0 o.0) h
 abbrev pub members : List Op → List OpId → List Op
 members h g = filter (is_in g) h
 
--- no two of the group conflict
+-- no two operations of the group conflict
 abbrev pub is_compatible : List Op → List OpId → Bool
 is_compatible h g = list_all (λ a. list_all (λ b. not (in_conflict h a b)) (members h g))
     (members h g)
 
--- each other operation on the object conflicts with one of the group
+-- each other operation on the object conflicts with an operation of the group
 abbrev pub is_largest : List Op → ObjectId → List OpId → Bool
 is_largest h o g = list_all (λ a. is_in g a || list_any (in_conflict h a) (members h g))
     (ops_on h o)
@@ -71,7 +71,6 @@ sublists (x ∷ xs) = map (λ ys. x ∷ ys) (sublists xs) ++ sublists xs
 abbrev pub ids_on : List Op → ObjectId → List OpId
 ids_on h o = fold (insert_key id_cmp) [] (map (λ (a : Op). a.id) (ops_on h o))
 
--- the versions of the object o, each as its rising ids: the sublists of the ids on it that are
--- compatible and largest
+-- the versions of the object o: the sublists of its rising ids that are compatible and largest
 abbrev pub versions_of : List Op → ObjectId → List (List OpId)
 versions_of h o = filter (λ g. is_compatible h g && is_largest h o g) (sublists (ids_on h o))

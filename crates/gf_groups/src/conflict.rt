@@ -1,4 +1,4 @@
-//! Conflicts of operations, told by their positions in a history.
+//! Conflicts of operations, found by their positions in a history.
 
 ghost use Rattle.std.specs.Prelude.{◌≡◌, IfSome, option_copied, slice_get};
 ghost use Rattle.gf_ops.specs.Limits.{IsInRange};
@@ -7,7 +7,7 @@ ghost use Rattle.gf_groups.specs.VersionList.{in_conflict};
 
 use gf_ops::{History, Op, conflicts};
 
-/// Whether the operations at two positions conflict. One position is no two.
+/// Whether the operations at two positions conflict. A position does not conflict with itself.
 pub fn conflict_at(history: &History, i: usize, j: usize) -> bool
     ensures { result ≡ conflict_at history.now.ops i j }
 {

@@ -28,7 +28,7 @@ impl Model for Groups {
 }
 
 impl Groups {
-    /// These groups.
+    /// The list of these groups.
     pub(crate) fn new(groups: Vec<Group>) -> Groups
         ensures { result ≡ groups.items }
     {

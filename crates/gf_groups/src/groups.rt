@@ -19,7 +19,8 @@ use std::alloc::Global;
 
 /// The versions of an object, each once, rising by their ids as a dictionary orders them.
 ///
-/// One pass over the history finds the operations on the object; they are taken one at a time.
+/// One pass over the history finds the operations on the object, which are then taken one at a
+/// time.
 pub fn groups_of(alloc: Global, history: &History, object: ObjectId) -> Result<Groups, GroupFault>
     ensures groups { IfOk result (λ groups. AreVersions history.now.ops object groups) }
     ensures no_object { result ≡ Err GroupFault.NoObject ↔ (¬ IsMade history.now.ops object) }
@@ -33,7 +34,8 @@ pub fn groups_of(alloc: Global, history: &History, object: ObjectId) -> Result<G
     }
 }
 
-/// The versions of all objects, each once. Each operation is looked at once for its object.
+/// The versions of all objects, each once. One pass over the history finds the object of each
+/// operation.
 pub fn all_groups(alloc: Global, history: &History) -> Result<Groups, OutOfMemory>
     ensures { IfOk result (λ groups. AreAllVersions history.now.ops groups) }
 {
@@ -50,7 +52,7 @@ pub fn all_groups(alloc: Global, history: &History) -> Result<Groups, OutOfMemor
 pub fn is_made(history: &History, object: ObjectId) -> bool
     ensures { IsTrue result ↔ IsMade history.now.ops object }
 {
-    // Its clause says that the history is valid.
+    // The clause of `ops` says that the history is valid.
     let _ = history.ops();
     match history.get(object.0) {
         Some(maker) => matches!(maker.change, Change::Create(_)),
@@ -81,7 +83,7 @@ pub fn groups_from(
         (positions_below history.now.ops object (length history.now.ops)) sets.items }
     ensures { IfOk result (λ groups. AreVersions history.now.ops object groups) }
 {
-    // Its clause says that the history is valid.
+    // The clause of `ops` says that the history is valid.
     let _ = history.ops();
     let mut groups = Vec::new(alloc);
     add_groups(alloc, history, object, sets, &mut groups)?;

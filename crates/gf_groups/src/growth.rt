@@ -11,7 +11,7 @@ use gf_ops::History;
 use gf_shape::OutOfMemory;
 use std::alloc::Global;
 
-/// Those of these positions whose operations conflict with the one at a position.
+/// The positions whose operations conflict with the one at a position.
 fn rivals(
     alloc: Global,
     history: &History,
@@ -34,8 +34,7 @@ fn rivals(
 
 /// The largest sets of these positions, no two of whose operations conflict.
 ///
-/// Each operation is compared with all before it, and what the one aims at with what the other
-/// does.
+/// Each operation is compared with all before it, and so are those that the two aim at.
 pub fn groups_at(
     alloc: Global,
     history: &History,

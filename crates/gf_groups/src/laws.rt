@@ -7,8 +7,8 @@ ghost use Rattle.gf_groups.specs.declared.group.Group.{Group};
 ghost use Rattle.gf_groups.specs.Versions.{IsMade, AreVersions};
 ghost use Rattle.gf_groups.specs.VersionList.{versions_of};
 
-/// The versions of an object are a list that computes: all sublists of its rising ids that are
-/// compatible and largest, in the order of a dictionary.
+/// The versions of an object are a list that computes. These are the sublists of its rising ids
+/// that are compatible and largest, in the order of a dictionary.
 pub fn the_versions_are_a_list_that_computes()
     ensures { (h : List Op) (o : ObjectId) → IsMade h o → (groups : List Group)
         → AreVersions h o groups

@@ -2,14 +2,14 @@
 //! two of which conflict.
 //!
 //! - [`groups_of`]: the versions of one object, as [`Groups`], a list of [`Group`].
-//! - [`all_groups`]: those of all objects of a history.
+//! - [`all_groups`]: the versions of all objects of a history.
 //! - [`GroupFault`]: why there is no such list.
 //! - [`the_versions_are_a_list_that_computes`]: the law.
 //!
-//! For tables of versions: whether the operations at two positions conflict ([`conflict_at`]), the
-//! largest sets of positions without a conflict ([`groups_at`]), and
-//! the groups of an object [from](groups_from) such sets, or [added](add_groups) to others; and the
-//! [rising ids](rising_ids) of positions.
+//! For tables of versions: whether the operations at two positions conflict ([`conflict_at`]), and
+//! the largest sets of positions without a conflict ([`groups_at`]). The groups of an object come
+//! [from](groups_from) such sets, or are [added](add_groups) to others. The [rising
+//! ids](rising_ids) are those of positions.
 #![tactic(auto)]
 
 mod conflict;

@@ -1,4 +1,4 @@
-//! The operations of a history, parted by their objects.
+//! The operations of a history, divided by their objects.
 
 ghost use Rattle.std.specs.Prelude.{length, IfOk, OnOk};
 ghost use Rattle.gf_groups.specs.Parting.{AddsPosition, HasPositionsBelow};

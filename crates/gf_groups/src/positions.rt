@@ -21,7 +21,7 @@ impl Model for Positions {
 }
 
 impl Positions {
-    /// No position.
+    /// The list of no position.
     pub(crate) fn new(alloc: Global) -> Positions
         ensures { result ≡ [] }
     {

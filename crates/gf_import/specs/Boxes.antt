@@ -23,8 +23,7 @@ is_at p x y = point_eq p (record { x = x; y = y })
 unfoldable pub are_opposite : Point → Point → Bool
 are_opposite a c = not (int_eq a.x c.x) && not (int_eq a.y c.y)
 
--- b has the height of a and lies above or below c, and d has the height of c and lies above or
--- below a
+-- b has the height of a and the x of c, and d the other way round
 abbrev pub are_between : Point → Point → Point → Point → Bool
 are_between a b c d = is_at b c.x a.y && is_at d a.x c.y
 

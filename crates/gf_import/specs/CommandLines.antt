@@ -24,8 +24,7 @@ command_line s c = script_text (command_of s c) ++ 10 ∷ []
 abbrev pub command_lines : ℕ → List Change → List ℕ
 command_lines s changes = flat_map (command_line s) changes
 
--- each line of the text denotes a command of site s to make a change, and these are the changes in
--- order
+-- the lines of the text denote commands of site s to make the changes, in order
 abbrev pub DenotesChanges : ℕ → List ℕ → List Change → Type 0
 DenotesChanges s text changes =
     map (λ (line : ℕ × List ℕ). script_denoted line.1) (numbered_lines text)

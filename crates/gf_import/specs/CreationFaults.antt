@@ -54,8 +54,8 @@ or_fault (Some f) c = Err f
 abbrev pub made : Table → Figure Outline → Result Change FigureFault
 made table f = or_fault (figure_fault table f) (creation_of table f)
 
--- what the FIG object of this number becomes, counted from 1 with the colours, is the first that
--- breaks a limit, and this is the first limit that it breaks
+-- what the FIG object of this number becomes is the first that breaks a limit. The fault is the
+-- first limit that it breaks. Objects are counted from 1 with the colours
 pub record IsFirstFault (d : DrawingState Outline) (object : ℕ) (fault : FigureFault) : Type 0 where
   pub before : List (Figure Outline)
   pub figure : Figure Outline

@@ -16,9 +16,8 @@ use Rattle.gf_import.specs.CreationFaults.{RefusesCreations}
 use Rattle.gf_import.specs.Imported.{IsImportable}
 use Rattle.gf_import.specs.Importing.{creations_of}
 
--- the FIG text reads as a drawing that can be imported; the other text has the lines of the
--- commands
--- of site s to make the creations of this drawing, and denotes these
+-- the FIG text reads as a drawing that can be imported. The other text has the lines of the
+-- commands of site s to make its creations, and denotes these
 pub record Imports (s : ℕ) (fig text : List ℕ) : Type 0 where
   pub drawing : Drawn
   pub reads : Reads fig drawing
@@ -26,13 +25,13 @@ pub record Imports (s : ℕ) (fig text : List ℕ) : Type 0 where
   pub is : text ≡ command_lines s (creations_of drawing)
   pub denotes : DenotesChanges s text (creations_of drawing)
 
--- known bytes grow from old to new by these lines
+-- known bytes grow from old to new by the lines of an import
 pub record WritesImport (s : ℕ) (fig : List ℕ) (old new : Option (List ℕ)) : Type 0 where
   pub text : List ℕ
   pub imports : Imports s fig text
   pub written : Appends old new text
 
--- known bytes grow from old to new by a front, which may be none or all, of these lines
+-- known bytes grow by a prefix, which may be none or all, of the lines of an import
 pub record WritesImportPrefix (s : ℕ) (fig : List ℕ) (old new : Option (List ℕ)) : Type 0 where
   pub text : List ℕ
   pub imports : Imports s fig text
@@ -61,8 +60,8 @@ RefusesImportRun fig (import_error.Run studio.TooLong) = ⊤
 RefusesImportRun fig (import_error.Run studio.WriteFailed) = ⊤
 RefusesImportRun fig e = RefusesImport fig e
 
--- an input has at most `most` bytes; those that are left go from old to new, and the count of
--- failures from was to is
+-- an input has at most `most` bytes. The bytes left go from old to new, and the count of failures
+-- from was to is
 module _ (most : ℕ) (old new : Option (List ℕ)) (was is : ℕ) where
   -- what was read where an importing run is refused with this error
   abbrev pub ReadsBeforeImport : ImportError → Type 0

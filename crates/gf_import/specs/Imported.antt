@@ -26,7 +26,7 @@ pub data AuthorsAll : SiteState → List Change → SiteState → Type 0 where
   next : {x y z : SiteState} {cs : List Change} (c : Change) (a : Op) → Authors x c a y
       → AuthorsAll y cs z → AuthorsAll x (c ∷ cs) z
 
--- d is a lawful drawing of lawful outlines, whose creations keep the limits and are no more than a
+-- d is a lawful drawing of lawful outlines. The creations keep the limits, and are no more than a
 -- site makes
 pub record IsImportable (d : DrawingState Outline) : Type 0 where
   pub drawing : IsLawfulDrawing d

@@ -21,8 +21,8 @@ use Rattle.gf_import.specs.Boxes.{box_form, is_box, least_corner, point_at}
 abbrev pub seen_from : Point → List Point → List Point
 seen_from o ps = map (λ p. minus p o) (opened ps)
 
--- the place of what an outline becomes: the least corner of a box, the first point of any other
--- chain, and a centre
+-- the place of what an outline becomes: a box's least corner, another chain's first point, or a
+-- centre
 abbrev pub place_of : Outline → Point
 place_of (Chain ring) =
     if is_box ring

@@ -25,7 +25,7 @@ const MOST_FIGURES: usize = 10_000;
 pub fn creations(alloc: Global, drawing: &Drawing<Outline>) -> Result<Vec<Change>, CreationError>
     ensures creations { IfOk result (λ changes. changes.items ≡ creations_of drawing.now) }
     ensures importable { OnOk result (IsImportable drawing.now) }
-    // The history that a site makes of them has at every point the colour of the drawing.
+    // The history that a site makes of the changes has at every point the colour of the drawing.
     ensures paints { (s : ℕ) → IsSite s → IfOk result (λ changes.
         PaintsAsFig (history_of s changes.items) drawing.now) }
     ensures refused { IfErr result (RefusesCreations drawing.now) }

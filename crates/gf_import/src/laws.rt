@@ -16,8 +16,8 @@ ghost use Rattle.gf_import.specs.ImportRun.{Imports, RefusesImport};
 ghost use Rattle.gf_import.specs.Imported.{AuthorsAll, IsImportable, history_of};
 ghost use Rattle.gf_import.specs.Importing.{creations_of};
 
-/// The creations of the figures of a drawing, made by one site in their order, are a valid history
-/// that has at every point the colour of the drawing. A new site can make them, and has then just
+/// The creations of the figures of a drawing, made by one site in their order, are a valid history.
+/// It has at every point the colour of the drawing. A new site can make them, and has then just
 /// this history.
 pub fn the_creations_paint_the_drawing()
     ensures valid { (s : ℕ) (d : DrawingState Outline) → IsSite s → IsImportable d
@@ -32,7 +32,7 @@ pub fn the_creations_paint_the_drawing()
 {}
 
 /// The changes whose commands an import writes, made by their site in their order, are a valid
-/// history that has at every point the colour of the drawing that the FIG text reads as.
+/// history. It has at every point the colour of the drawing that the FIG text reads as.
 pub fn what_is_imported_paints_the_drawing()
     ensures valid { (s : ℕ) (fig text : List ℕ) (changes : List Change) → IsSite s
         → Imports s fig text → DenotesChanges s text changes → IsValid (history_of s changes) }

@@ -15,8 +15,8 @@ use gf_streams::{MOST_INPUT_BYTES, Sink, SinkFault, Source, write_whole};
 use gf_studio::{StudioError, input};
 use std::alloc::Global;
 
-/// Reads a FIG text to its end, and writes for each of its figures the line of a command of this
-/// site that creates it. It reads all before the first write.
+/// Reads a FIG text to its end, and writes a line for each of its figures. The line is that of a
+/// command of this site that creates the figure. All is read before the first write.
 pub fn import_run<R: Source, W: Sink>(
     alloc: Global,
     source: &mut R,
@@ -31,14 +31,14 @@ pub fn import_run<R: Source, W: Sink>(
         WritesImport site fig (W.taken sink.old) (W.taken sink.new))) }
     ensures flushed { OnOk result (IsTrue (W.flushed sink.new)) }
 
-    // The text was read whole, or the source failed, or had more than an input; it reads as no
+    // The text was read whole, or the source failed, or had more than an input. It reads as no
     // drawing, or as one of too many figures, or one of its figures breaks a limit.
     ensures source { ReadsForImport MOST_INPUT_BYTES (R.left source.old) (R.left source.new)
         (R.failures source.old) (R.failures source.new) result }
     ensures refused { IfErr result (λ e. IfSome (R.left source.old) (λ fig.
         RefusesImportRun fig e)) }
 
-    // A front of the lines is written at most, and that only where the sink failed.
+    // At most a prefix of the lines is written, and that only where the sink failed.
     ensures prefix { result ≡ Err (ImportError.Run StudioError.WriteFailed)
         → IfSome (R.left source.old) (λ fig.
         WritesImportPrefix site fig (W.taken sink.old) (W.taken sink.new)) }
@@ -47,7 +47,7 @@ pub fn import_run<R: Source, W: Sink>(
     ensures unwritten { IfErr result (λ e. (sink.new ≡ sink.old)
         ⊎ (e ≡ ImportError.Run StudioError.WriteFailed)) }
 
-    // It reads no more than one byte past the longest input, and no more often.
+    // At most one byte past the longest input is read, in no more reads than that.
     ensures takes { ConsumesAtMost (MOST_INPUT_BYTES + 1) (R.left source.old) (R.left source.new) }
     ensures reads { R.reads source.new ≤ R.reads source.old + (MOST_INPUT_BYTES + 1) }
 {

@@ -11,8 +11,8 @@ use Rattle.gf_versions.specs.declared.key.Version.{Version}
 use Rattle.gf_versions.specs.HistoryColour.{IsSeenAt, IsTopAt}
 use Rattle.gf_inspect.specs.declared.top.VersionName.{VersionName}
 
--- the change sets v on the object of the version on top at p, and aims at the ids of that version;
--- or no version is seen there
+-- the change sets v on the object of the version on top at p, aimed at that version's ids. There is
+-- no change where no version is seen at p
 pub data AimsAtTop (h : List Op) (p : Point) (v : Value) : Option Change → Type 0 where
   aimed : (w : Version) → IsTopAt h p w → AimsAtTop h p v (Some (Set w.key.object v w.key.ops))
   nowhere : ((w : Version) → ¬ (IsSeenAt h p w)) → AimsAtTop h p v None

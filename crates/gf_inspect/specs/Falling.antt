@@ -8,7 +8,7 @@ use Rattle.gf_versions.specs.declared.key.Version.{Version}
 use Rattle.gf_versions.specs.Above.{key_cmp}
 use Rattle.gf_versions.specs.ListedVersions.{AreSettled}
 
--- v stands before w: its key is above
+-- the key of v is above that of w, so v stands before w
 abbrev pub falling_cmp : Version → Version → Ordering
 falling_cmp v w = key_cmp w.key v.key
 

@@ -10,9 +10,9 @@ use gf_shape::{OutOfMemory, Point};
 use gf_table::GroupTable;
 use std::alloc::Global;
 
-/// The change that sets this value on the object that is on top at a point, aimed at the version
-/// that is seen there: it is meant for the versions that hold all operations of that one. None
-/// where no visible version holds the point. The aim may have more ids than an operation may.
+/// The change that sets this value on the object on top at a point, aimed at the version seen
+/// there. The change is meant for the versions that hold all operations of that one. None where no
+/// visible version holds the point. The aim may have more ids than an operation may.
 pub fn aimed_at(
     alloc: Global,
     history: &History,
@@ -25,8 +25,8 @@ pub fn aimed_at(
     Ok(aimed_change(name, value))
 }
 
-/// The same, by the visible versions that the table tells; it stands for the history. An object
-/// that is hidden costs a look at its operations, however many versions it has.
+/// The change that [`aimed_at`] gives, by the visible versions in the table, which stands for the
+/// history. A hidden object costs a pass over its operations, however many versions it has.
 pub fn aimed_at_with(
     alloc: Global,
     history: &History,

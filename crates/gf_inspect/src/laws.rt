@@ -10,8 +10,8 @@ ghost use Rattle.gf_ops.specs.Accepted.{IsRefused};
 ghost use Rattle.gf_ops.specs.ValidHistory.{IsValid};
 ghost use Rattle.gf_inspect.specs.AimedChange.{AimsAtTop, IsCounts};
 
-/// An operation that makes the change of [`aimed_at`](crate::aimed_at), under a clock that is the
-/// counts of the history, is refused neither for its object nor for its aim.
+/// Let an operation make the change of [`aimed_at`](crate::aimed_at), under a clock that is the
+/// counts of the history. It is refused neither for its object nor for its aim.
 pub fn an_aim_at_the_top_is_one()
     ensures object { (h : List Op) → IsValid h → (p : Point) (v : Value) (c : Change)
         → AimsAtTop h p v (Some c) → (a : Op) → a.change ≡ c → IsCounts a.past h

@@ -1,11 +1,11 @@
-//! A look at versions: all of one object, the one on top at a point, and their texts.
+//! Queries about versions: all of one object, the one on top at a point, and their texts.
 //!
-//! - [`versions`]: the versions of an object, hidden ones too, topmost first; [`versions_with`]: the
-//!   same from a table; [`lines`]: their text.
-//! - [`top_at`]: the [`VersionName`] of what a history shows at a point; [`top_at_with`]: the same
+//! - [`versions`]: the versions of an object, hidden ones too, topmost first; [`versions_with`]:
+//!   these from a table; [`lines`]: their text.
+//! - [`top_at`]: the [`VersionName`] of what a history shows at a point; [`top_at_with`]: this name
 //!   with a table, which spares what is hidden; [`top_line`]: its text.
-//! - [`aimed_at`]: the change that aims at that version; [`aimed_at_with`]: the same with a table;
-//!   [`an_aim_at_the_top_is_one`]: the law.
+//! - [`aimed_at`]: the change that aims at that version; [`aimed_at_with`]: this change with a
+//!   table; [`an_aim_at_the_top_is_one`]: the law.
 #![tactic(auto)]
 
 mod aiming;

@@ -27,7 +27,7 @@ pub fn versions(
         AreVersionsOf history.now.ops object versions.items) }
     ensures no_object { result ≡ Err GroupFault.NoObject ↔ (¬ IsMade history.now.ops object) }
 {
-    // Its clause says that the history is valid.
+    // The clause of `ops` says that the history is valid.
     let _ = history.ops();
     let groups = groups_of(alloc, history, object)?;
     match settled(alloc, history, groups.as_slice()) {
@@ -36,7 +36,7 @@ pub fn versions(
     }
 }
 
-/// The same, listed from the table, which stands for the history.
+/// All versions of an object, listed from the table, which stands for the history.
 pub fn versions_with(
     alloc: Global,
     history: &History,
@@ -48,7 +48,7 @@ pub fn versions_with(
         AreVersionsOf history.now.ops object versions.items) }
     ensures no_object { result ≡ Err GroupFault.NoObject ↔ (¬ IsMade history.now.ops object) }
 {
-    // Its clause says that the history is valid.
+    // The clause of `ops` says that the history is valid.
     let _ = history.ops();
     let groups = table.groups(alloc, history, object)?;
     match settled(alloc, history, groups.as_slice()) {
@@ -67,7 +67,7 @@ fn settled(alloc: Global, history: &History, groups: &[Group]) -> Result<Vec<Ver
     Ok(versions)
 }
 
-/// The versions with these groups, in the order of these.
+/// The versions with these groups, in the order of the groups.
 fn in_order(alloc: Global, history: &History, groups: &[Group]) -> Result<Vec<Version>, OutOfMemory>
     requires { (g : Group) → Contains groups.now g → IsVersionGroup history.now.ops g }
     ensures { IfOk result (λ versions. AreSettled history.now.ops groups.now versions.items) }

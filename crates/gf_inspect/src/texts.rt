@@ -14,8 +14,8 @@ use gf_shape::{OutOfMemory, Point, Rgb};
 use gf_versions::Version;
 use std::alloc::{AllocError, Global};
 
-/// A line for each version, in their order: object, ids, kind, place, size or points, colour,
-/// layer, and whether it is shown.
+/// A line for each version, in their order. It has object, ids, kind, place, size or points,
+/// colour, layer, and whether the version is shown.
 pub fn lines(alloc: Global, versions: &[Version]) -> Result<Vec<u8>, OutOfMemory>
     ensures { IfOk result (λ text. text.items ≡ flat_map version_line versions.now) }
 {

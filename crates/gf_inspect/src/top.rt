@@ -21,8 +21,8 @@ pub struct VersionName {
     pub ops: Ids,
 }
 
-/// The name of the version that is on top at a point: a visible one that holds the point, above
-/// each other such one. None where no visible version holds it, and the history means white.
+/// The name of the version on top at a point: visible, holding the point, and above each other such
+/// version. None where no visible version holds the point, and the history means white.
 pub fn top_at(
     alloc: Global,
     history: &History,
@@ -34,8 +34,8 @@ pub fn top_at(
     Ok(first_name(ranked, point))
 }
 
-/// The same, by the visible versions that the table tells; it stands for the history. An object
-/// that is hidden costs a look at its operations, however many versions it has.
+/// The name that [`top_at`] gives, by the visible versions in the table, which stands for the
+/// history. A hidden object costs a pass over its operations, however many versions it has.
 pub fn top_at_with(
     alloc: Global,
     history: &History,

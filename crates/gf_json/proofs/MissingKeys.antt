@@ -58,7 +58,7 @@ abbrev EachMissing : Data → Type 0 → List (List ℕ) → Type 0
 EachMissing d P [] = Unit {0}
 EachMissing d P (key ∷ keys) = (is_some (get key d) ≡ false → P) × EachMissing d P keys
 
--- so it follows where one of them is not there
+-- P follows where one of the keys is not there
 by_key : {P : Type 0} (d : Data) (keys : List (List ℕ)) → EachMissing d P keys → list_all (λ key. is_some (get key d)) keys ≡ false → P
 by_key d [] each h = absurd cc
 by_key d (key ∷ keys) each h = elim (cases_Bool (is_some (get key d))) [

@@ -37,7 +37,8 @@ rising (Err e) = false
 abbrev pub few_ids : List Data → Got (List OpId)
 few_ids ds = if nat_le (length ds) 1000 then each name ds else Err fault.Range
 
--- the ids of an aim, from the elements of an array. Their order is of the form, before the limits
+-- the ids of an aim, from the elements of an array. A wrong order is a fault of form, before those
+-- of limits
 abbrev pub ids_of : List Data → Got (List OpId)
 ids_of ds = if rising (each numbers ds) then few_ids ds else Err fault.Field
 

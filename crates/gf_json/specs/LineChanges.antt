@@ -1,4 +1,4 @@
--- The change that a line tells of (RFC 8259 by serde_json's value; words and forms are this
+-- The change that a line denotes (RFC 8259 by serde_json's value; words and forms are this
 -- project's choice).
 use Rattle.std.specs.Prelude.{ℕ, List, [], Ok, Err, codes, if◌then◌else◌}
 use Rattle.gf_ops.specs.declared.op.OpId.{OpId}
@@ -48,12 +48,11 @@ new_value d = at (codes "to") (named_value d) d
 abbrev pub creation : Got Form → Data → Got Change
 creation form d = mapped Create (start form d)
 
--- the change that sets an attribute of an object to v, aimed at these
+-- the change that sets an attribute of an object to v, aimed at these ids
 abbrev pub setting : Got Value → Got (List OpId) → Data → Got Change
 setting v aim d = mapped (λ (o, (new, ids)). Set o new ids) (object d & v & aim)
 
--- the change of a line whose verb stands at this key, and which has these keys beside those of the
--- change
+-- the change of a line with its verb at this key, and with these keys beside those of the change
 abbrev pub change : List ℕ → List (List ℕ) → Data → Got Change
 change verb beside d =
     if creates verb beside (codes "box") (codes "size") d then creation (box_size d) d

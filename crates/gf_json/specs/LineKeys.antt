@@ -61,8 +61,8 @@ is_word word (Some text) = bytes_eq text word
 abbrev pub says : List ℕ → List ℕ → Data → Bool
 says key word d = is_word word (option_and_then as_str (get key d))
 
--- the line, with these keys beside those of its change, creates an object of the kind, its form at
--- the key `shape`
+-- the line creates an object of the kind, with its form at the key `shape`, and has these keys
+-- besides
 abbrev pub creates : List ℕ → List (List ℕ) → List ℕ → List ℕ → Data → Bool
 creates verb beside kind shape d =
     has_exactly (beside ++ create_keys shape) d && says verb (codes "create") d

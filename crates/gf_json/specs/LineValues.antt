@@ -14,7 +14,7 @@ Got A = Result A LineError
 
 -- ---- one part after the other, and side by side
 
--- f of what is read
+-- what is read, mapped by f
 abbrev pub mapped : {A B : Type 0} → (A → B) → Got A → Got B
 mapped f (Ok a) = Ok (f a)
 mapped f (Err e) = Err e

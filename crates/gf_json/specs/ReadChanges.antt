@@ -1,5 +1,4 @@
--- The change of a line by how many keys it has and by its words, without a look whether each key is
--- there (this project's choice).
+-- The change of a line, by the number of its keys and by its words alone (this project's choice).
 use Rattle.std.specs.Prelude.{ℕ, ◌+◌, Bool, ◌&&◌, List, [], Ok, Err, codes}
 use Rattle.std.specs.Prelude.{if◌then◌else◌}
 use Rattle.gf_ops.specs.declared.change.Change.{Change}
@@ -11,7 +10,7 @@ use Rattle.gf_json.specs.LineFields.{aim, box_size, circle_size, ellipse_size, p
 use Rattle.gf_json.specs.LineKeys.{has_count, says}
 use Rattle.gf_json.specs.LineChanges.{new_value, creation, setting}
 
--- the line has so many keys, and this word as its verb
+-- the line has this many keys, and this word as its verb
 abbrev pub tells : ℕ → List ℕ → List ℕ → Data → Bool
 tells count verb word d = has_count count (as_object d) && says verb word d
 
@@ -24,8 +23,7 @@ named_creation d =
     else (if says (codes "kind") (codes "polygon") d then creation (polygon_points d) d
     else Err fault.Field)))
 
--- the change of a line whose verb stands at this key, and which has so many keys beside those of
--- the change
+-- the change of a line with its verb at this key, and this many keys beside those of the change
 abbrev pub read_change : List ℕ → ℕ → Data → Got Change
 read_change verb beside d =
     if tells (beside + 6) verb (codes "create") d then named_creation d

@@ -74,7 +74,8 @@ setting_members id past o v =
     ∷ (codes "to", value_data v)
     ∷ []
 
--- the line that does so and aims at these ids. It has the key of the aim only where there is an id
+-- the line that sets an attribute of o to v, aimed at these ids. Without an id it has no key of the
+-- aim
 abbrev pub setting_data : Data → Data → ObjectId → Value → List OpId → Data
 setting_data id past o v [] = object (in_order (setting_members id past o v))
 setting_data id past o v (i ∷ is) =

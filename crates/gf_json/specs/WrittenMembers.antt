@@ -53,7 +53,7 @@ form_members (Circle radius) =
     shape_members (codes "circle") (codes "size") (size_data radius radius)
 form_members (Ellipse rx ry) = shape_members (codes "ellipse") (codes "size") (size_data rx ry)
 
--- the members for setting the object o to v, aimed at these
+-- the members for setting the object o to v, aimed at these ids
 abbrev pub set_members : ObjectId → Value → List OpId → List (List ℕ × Data)
 set_members o v aim =
     (codes "object", name_data o.0)

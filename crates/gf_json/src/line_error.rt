@@ -5,7 +5,7 @@ use thiserror::Error;
 /// Why a line is no operation and no command, in the order of the checks.
 #[derive(Clone, Copy, Debug, PartialEq, Eq, Error)]
 pub enum LineError {
-    /// It is no JSON.
+    /// The line is no JSON.
     #[error("Json")]
     Json,
     /// A key is missing or unknown, or a value has another form.

@@ -7,7 +7,7 @@ use gf_ops::{Change, OpId};
 pub enum Command {
     /// To make an operation with this change.
     Author(Change),
-    /// To wait until it has this operation.
+    /// To wait until the site has this operation.
     Await(OpId),
 }
 

@@ -86,7 +86,7 @@ fn creation_data(alloc: Global, op: &Op, start: &Start) -> Result<Value, AllocEr
     Ok(Value::Object(members))
 }
 
-/// What each line of an operation has, where that does what the word says.
+/// The members that each line of an operation has, with the word for what it does.
 fn begun(alloc: Global, op: &Op, word: &str) -> Result<Map<String, Value>, AllocError>
     ensures value { IfOk result (λ ms. members_view ms.entries ≡ begun op.now word.now) }
     ensures eight { OnOk result (length op.now.past.0 ≡ 8) }
@@ -144,7 +144,7 @@ fn put_command(
     }
 }
 
-/// What the line of a command to make this change has.
+/// Puts the members of a command to make this change.
 fn put_authored(
     alloc: Global,
     members: &mut Map<String, Value>,

@@ -11,7 +11,7 @@ is_end (Op o) = false
 is_end End = true
 is_end Stop = true
 
--- an End or a Stop is among them
+-- an End or a Stop is among the messages
 abbrev pub is_ended : List Message → Bool
 is_ended ms = list_any is_end ms
 
@@ -25,6 +25,6 @@ abbrev pub ends_last : List Message → Bool
 ends_last [] = true
 ends_last (m ∷ ms) = if is_end m then is_empty ms else ends_last ms
 
--- what was taken is a front of what was sent
-abbrev pub IsFront : List Message → List Message → Type 0
-IsFront taken sent = (rest : List Message) × (sent ≡ taken ++ rest)
+-- what was taken is a prefix of what was sent
+abbrev pub IsPrefix : List Message → List Message → Type 0
+IsPrefix taken sent = (rest : List Message) × (sent ≡ taken ++ rest)

@@ -1,5 +1,5 @@
-//! One way from a site to another: a queue of messages with a seat at each end, in which what was
-//! sent is what was taken and then what the queue holds.
+//! One way from a site to another: a queue of messages with a seat at each end. What was sent is
+//! what was taken and then what the queue holds.
 //!
 //! - [`Link`], [`SendSeat`], [`TakeSeat`]: the queue and the rights to send and to take.
 //! - [`links`]: as many links as are asked for.

@@ -2,7 +2,7 @@
 
 ghost use Rattle.std.specs.Prelude.{◌≡◌, ◌<◌, ◌≤◌, ◌++◌, ◌∷◌, [], length, vec_len, All, IfOk};
 ghost use Rattle.std.specs.Prelude.{IsTrue, IsFalse, MatchOption};
-ghost use Rattle.gf_link.specs.Ends.{is_end, is_ended, ends_last, IsFront};
+ghost use Rattle.gf_link.specs.Ends.{is_end, is_ended, ends_last, IsPrefix};
 ghost use Rattle.gf_link.specs.Fresh.{IsNewLink};
 
 use crate::rule::{Got, InOrder, Log, Roles, Sent, Total};
@@ -68,7 +68,7 @@ impl Link {
         Ok((Link { queue }, send, take))
     }
 
-    /// Sends a message, behind those that were sent before it. It is not refused.
+    /// Sends a message, behind those that were sent before it. The call is not refused.
     pub fn send<R: Wait>(&self, rt: &R, seat: &mut SendSeat, message: Message)
         requires seat { seat.old.link ≡ self.now }
         requires open { IsFalse (is_ended seat.old.sent) }
@@ -103,8 +103,8 @@ impl Link {
     }
 }
 
-/// As many links as are asked for, each with its two seats, as [`Link::new`] gives them. Eight sites
-/// have 56.
+/// As many links as are asked for, each with its two seats, as [`Link::new`] gives them. Eight
+/// sites have 56 links.
 pub fn links<R: Wait>(
     rt: &R,
     alloc: Global,
@@ -121,14 +121,14 @@ pub fn links<R: Wait>(
     Ok(links)
 }
 
-/// Compares the two seats of a link: what was taken is a front of what was sent, and all of it
+/// Compares the two seats of a link. What was taken is a prefix of what was sent, and all of it
 /// where an end was taken.
 pub fn settle<R: Wait>(_rt: &R, link: Link, send: SendSeat, take: TakeSeat) -> Settled
     requires send { send.link ≡ link }
     requires take { take.link ≡ link }
     ensures sent { result.sent ≡ length send.sent }
     ensures taken { result.taken ≡ length take.taken }
-    ensures prefix { IsFront take.taken send.sent }
+    ensures prefix { IsPrefix take.taken send.sent }
     ensures whole { IsTrue (is_ended take.taken) → take.taken ≡ send.sent }
     ensures lasts { IsTrue (ends_last send.sent) }
 {

@@ -17,7 +17,7 @@ pub enum Message {
 }
 
 impl Message {
-    /// Whether nothing follows it.
+    /// Whether nothing follows the message.
     pub(crate) fn is_end(&self) -> bool
         ensures { result ≡ is_end self.now }
     {

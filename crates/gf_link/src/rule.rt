@@ -4,7 +4,7 @@ use crate::Message;
 use crossbeam_queue::protocol::{Join, Lesson, Outcome, Protocol, Split};
 use std::collections::LinkedList;
 
-/// What a pass may do, and what it has sent and taken. No value of it is made.
+/// What a pass may do, and what it has sent and taken. No value of this type is made.
 pub struct Log {
     pub sends: bool,
     pub takes: bool,

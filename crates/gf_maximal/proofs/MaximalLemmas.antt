@@ -1,4 +1,4 @@
--- Those sets of a list that lie within no other one.
+-- The sets of a list that lie within no other one.
 use Rattle.std.proofs.Common.{◌≡◌, ℕ, Bool, true, false, List, [], ◌∷◌, ◌++◌, inl, inr, refl, subst, sym}
 use Rattle.std.specs.Prelude.{◌⊎◌, ◌↔◌, Contains, filter, not, ◌||◌, ◌==◌}
 use Rattle.std.specs.List.{list_any, fold}

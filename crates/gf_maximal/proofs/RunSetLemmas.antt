@@ -178,7 +178,7 @@ piece_one r p h = elim (cases_Bool (nat_lt r.start r.end)) [
   | inr f ↦ absurd (not_Contains-nil p (rw (cond-false (nat_lt r.start r.end) (r ∷ []) [] f) at h))
 ]
 
--- these runs end after n
+-- the runs end after n
 abbrev EndAfter : ℕ → List Run → Type 0
 EndAfter n qs = (q : Run) → Contains qs q → n < q.end
 

@@ -9,19 +9,19 @@ use Rattle.std.specs.Ordering.{nat_cmp}
 abbrev pub is_in : List ℕ → ℕ → Bool
 is_in g a = list_any (λ b. a == b) g
 
--- g has one of d
+-- g has a number of d
 abbrev pub meets : List ℕ → List ℕ → Bool
 meets d g = list_any (is_in d) g
 
--- g has none of d
+-- g has no number of d
 abbrev pub misses : List ℕ → List ℕ → Bool
 misses d g = not (meets d g)
 
--- those of g that are none of d
+-- the numbers of g that are not in d
 abbrev pub without : List ℕ → List ℕ → List ℕ
 without d g = filter (λ a. not (is_in d a)) g
 
--- k has all of g
+-- k has all numbers of g
 abbrev pub is_within : List ℕ → List ℕ → Bool
 is_within g k = list_all (is_in k) g
 
@@ -33,22 +33,22 @@ joined x g = insert_key nat_cmp g x
 abbrev pub united : List ℕ → List ℕ → List ℕ
 united g k = fold (insert_key nat_cmp) (fold (insert_key nat_cmp) [] g) k
 
--- those of g that are in d
+-- the numbers of g that are in d
 abbrev pub common : List ℕ → List ℕ → List ℕ
 common d g = filter (is_in d) g
 
--- gs with g in place of those within it, unless g lies within one of gs or of the others
+-- gs with g in place of the sets within it, unless g lies within one of gs or the others
 abbrev pub take_up : List (List ℕ) → List (List ℕ) → List ℕ → List (List ℕ)
 take_up others gs g =
     cond (list_any (is_within g) others || list_any (is_within g) gs) gs
     (filter (λ k. not (is_within k g)) gs ++ g ∷ [])
 
--- those of gs that lie within no other one and within none of the others, each once
+-- the sets of gs that lie within no other one and within none of the others, each once
 abbrev pub maximal : List (List ℕ) → List (List ℕ) → List (List ℕ)
 maximal others gs = fold (take_up others) [] gs
 
--- the sets gs after x came, which conflicts with d: what meets d stays, and x joins the others
--- and the maximal remainders without d
+-- the sets gs after x, which conflicts with d: sets that meet d stay. x joins the other sets, and
+-- the maximal remainders without d
 abbrev pub next : List ℕ → ℕ → List (List ℕ) → List (List ℕ)
 next d x gs =
     filter (meets d) gs

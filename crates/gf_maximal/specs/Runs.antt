@@ -1,4 +1,4 @@
--- A set of numbers as runs of such that follow each other.
+-- A set of numbers as runs of numbers that follow each other.
 use Rattle.std.specs.Prelude.{◌≡◌, ◌≤◌, max, true, length, slice_index_or, ℕ, ◌+◌}
 use Rattle.std.specs.Prelude.{◌-◌, ◌<◌}
 use Rattle.std.specs.Prelude.{Bool, cond, ◌==◌, ◌&&◌, ◌||◌, nat_le, nat_lt, List, []}
@@ -22,7 +22,7 @@ AreRuns [] = ⊤
 AreRuns (r ∷ rs) = (r.start < r.end) × ((q : Run) → Contains rs q → r.end < q.start)
     × AreRuns rs
 
--- from the first run on that has a number above n or n
+-- the runs from the first one on that has n or a number above it
 abbrev pub after : ℕ → List Run → List Run
 after n [] = []
 after n (r ∷ rs) = cond (nat_le r.end n) (after n rs) (r ∷ rs)
@@ -45,7 +45,7 @@ first_covers r (q ∷ qs) = nat_le q.start r.start && nat_le r.end q.end
 abbrev pub touches : List Run → Run → Bool
 touches qs r = nat_lt r.start r.end && first_touches r (after r.start qs)
 
--- these runs have all numbers of r
+-- the runs have all numbers of r
 abbrev pub covers : List Run → Run → Bool
 covers qs r = nat_le r.end r.start || first_covers r (after r.start qs)
 
@@ -71,14 +71,14 @@ absorb r [] = r ∷ []
 absorb r (q ∷ qs) =
     cond (r.end == q.start) (record { start = r.start; end = q.end } ∷ qs) (r ∷ q ∷ qs)
 
--- runs of which the first one ends at x or above it, and x
+-- the runs of which the first one ends at x or above it, with x added
 abbrev pub settle : ℕ → Run → List Run → List Run
 settle x q qs = cond (q.end == x) (absorb (record { start = q.start; end = x + 1 }) qs)
     (cond (nat_le q.start x) (q ∷ qs)
     (cond (q.start == x + 1) (record { start = x; end = q.end } ∷ qs)
     (record { start = x; end = x + 1 } ∷ q ∷ qs)))
 
--- the runs and x
+-- the runs with x added
 abbrev pub put : ℕ → List Run → List Run
 put x [] = record { start = x; end = x + 1 } ∷ []
 put x (q ∷ qs) = cond (nat_lt q.end x) (q ∷ put x qs) (settle x q qs)
@@ -90,12 +90,12 @@ pub record IsFirstFrom (x : ℕ) (rs : List Run) (i : ℕ) : Type 0 where
   pub above : (k : ℕ) (d : Run) → i ≤ k → k < length rs
       → nat_lt (slice_index_or rs k d).end x ≡ false
 
--- what settle makes of the runs from such a one on
+-- what settle makes of the runs from the first one on that ends at x or above it
 abbrev pub settled : ℕ → List Run → List Run
 settled x [] = record { start = x; end = x + 1 } ∷ []
 settled x (q ∷ qs) = settle x q qs
 
--- the runs and r, which begins where the last of them does or behind it
+-- the runs with r, which begins where the last of them does or behind it
 abbrev pub pushed : List Run → Run → List Run
 pushed [] r = r ∷ []
 pushed (q ∷ []) r =
@@ -114,7 +114,7 @@ pub record IsGathered (rs us : List Run) : Type 0 where
   pub rises : IsNonDecreasingBy (λ (r : Run). r.start) all
   pub made : us ≡ fold pushed [] all
 
--- what is left of others serves for all runs that are left
+-- rest are runs that serve as the others do, for all runs that are left
 pub record Serves (rest others left : List Run) : Type 0 where
   pub runs : AreRuns rest
   pub same : (q : Run) → Contains left q → after q.start rest ≡ after q.start others

@@ -4,7 +4,7 @@ use Rattle.std.specs.Prelude.{List, AllPairs, Contains}
 use Rattle.std.specs.List.Sorted.{IsStrictlySortedBy}
 use Rattle.std.specs.Ordering.{nat_cmp}
 
--- c tells whether two conflict
+-- c says whether two elements conflict
 module _ {X : Type 0} (c : X → X → Bool) where
   -- a conflicts with a member of p
   abbrev pub Hits : (X → Type 0) → X → Type 0

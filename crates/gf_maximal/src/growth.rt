@@ -42,8 +42,7 @@ fn drop_within(set: &Numbers, sets: &mut Vec<Numbers>)
     sets.retain(|other| !other.is_within(set));
 }
 
-/// Takes up a set that lies within none of the others and none of those taken up, in place of those
-/// that lie within it.
+/// Takes up a set, in place of the sets within it, unless it lies within another one.
 fn take_up(others: &[Numbers], set: Numbers, taken: &mut Vec<Numbers>) -> Result<(), OutOfMemory>
     ensures { OnOk result (taken.new.items ≡ take_up others.now taken.old.items set) }
 {
@@ -55,8 +54,8 @@ fn take_up(others: &[Numbers], set: Numbers, taken: &mut Vec<Numbers>) -> Result
     Ok(())
 }
 
-/// What remains of the sets that have one of the numbers, without these: the maximal ones that lie
-/// within none of the others.
+/// The maximal remainders, without the numbers, of the sets that have one of them. None lies within
+/// the others.
 fn maximal_remainders(
     alloc: Global,
     numbers: &Numbers,
@@ -95,7 +94,7 @@ fn keep_meeting(numbers: &Numbers, sets: &mut Vec<Numbers>)
     sets.retain(|set| numbers.meets(set));
 }
 
-/// The sets that come when a number comes that conflicts with these numbers.
+/// The new sets of a number that conflicts with these numbers.
 fn new_sets(
     alloc: Global,
     rivals: &Numbers,
@@ -115,8 +114,8 @@ fn new_sets(
     Ok(found)
 }
 
-/// Turns the largest compatible sets of some numbers into those of these and one more, which
-/// conflicts with the rivals among them. All memory is there before it changes anything.
+/// Turns the largest compatible sets of some numbers into those with one more, which conflicts with
+/// the rivals. All memory is there before anything changes.
 pub fn grow(
     alloc: Global,
     rivals: &Numbers,

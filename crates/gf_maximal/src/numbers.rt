@@ -42,7 +42,7 @@ fn all_covered(runs: &[Run], numbers: &Numbers) -> bool
 }
 
 impl Numbers {
-    /// No number.
+    /// The set of no number.
     pub fn new(alloc: Global) -> Numbers
         ensures { result ≡ [] }
     {
@@ -60,7 +60,7 @@ impl Numbers {
         })
     }
 
-    /// These numbers, which may stand in any order.
+    /// The set of these numbers, which may stand in any order.
     pub fn of(alloc: Global, numbers: &[usize]) -> Result<Numbers, OutOfMemory>
         requires { All (λ n. n + 1 < 2 ^ 64) numbers.now }
         ensures { IfOk result (λ set. set ≡ fold (insert_key nat_cmp) [] numbers.now) }
@@ -85,7 +85,7 @@ impl Numbers {
         numbers_in(alloc, &self.runs)
     }
 
-    /// A copy.
+    /// A copy of the set.
     pub fn copy(&self, alloc: Global) -> Result<Numbers, OutOfMemory>
         ensures { IfOk result (λ copy. copy ≡ self.now) }
     {
@@ -133,7 +133,7 @@ impl Numbers {
         all_covered(&self.runs, others)
     }
 
-    /// The numbers that are none of the others.
+    /// The numbers that the other set lacks.
     pub fn without(&self, alloc: Global, others: &Numbers) -> Result<Numbers, OutOfMemory>
         ensures { IfOk result (λ left. left ≡ without others.now self.now) }
     {
@@ -151,7 +151,7 @@ impl Numbers {
         put(&mut self.runs, number)
     }
 
-    /// The numbers that are some of the others.
+    /// The numbers that both sets have.
     pub fn common(&self, alloc: Global, others: &Numbers) -> Result<Numbers, OutOfMemory>
         ensures { IfOk result (λ found. found ≡ common others.now self.now) }
     {
@@ -159,7 +159,7 @@ impl Numbers {
         self.without(alloc, &rest)
     }
 
-    /// The numbers of both sets.
+    /// The numbers that either set has.
     pub fn united(&self, alloc: Global, others: &Numbers) -> Result<Numbers, OutOfMemory>
         ensures { IfOk result (λ all. all ≡ united self.now others.now) }
     {

@@ -19,7 +19,7 @@ pub struct Run {
     pub end: usize,
 }
 
-/// The runs from the first one on that has this number or one above it, found by halves.
+/// The runs from the first one on that has this number or one above it, found by binary search.
 fn searched(runs: &[Run], number: usize) -> &[Run]
     requires { AreRuns runs.now }
     ensures { result.now ≡ after number runs.now }
@@ -236,8 +236,8 @@ pub(crate) fn put(runs: &mut Vec<Run>, number: usize) -> Result<(), OutOfMemory>
     settle(runs, index, number)
 }
 
-/// Adds a run behind others, which begin no later than it does, and joins it to the last one where
-/// it touches that.
+/// Adds a run behind others, which begin no later. Where the run touches the last one, the two are
+/// joined.
 fn push_run(run: Run, runs: &mut Vec<Run>) -> Result<(), OutOfMemory>
     ensures { OnOk result (runs.new.items ≡ pushed runs.old.items run) }
 {
@@ -256,7 +256,7 @@ fn push_run(run: Run, runs: &mut Vec<Run>) -> Result<(), OutOfMemory>
     Ok(())
 }
 
-/// The runs, by where they begin.
+/// The runs, in the order in which they begin.
 fn sorted(mut runs: Vec<Run>) -> Result<Vec<Run>, OutOfMemory>
     ensures permutation { IfOk result (λ all. IsPermutation runs.items all.items) }
     ensures sorted { IfOk result (λ all. IsNonDecreasingBy (λ r. r.start) all.items) }

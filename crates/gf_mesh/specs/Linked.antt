@@ -48,8 +48,8 @@ pub record IsLinkedToOne (rows : List (List Peer)) (i : ℕ) (x : Peer) : Type 0
 abbrev pub HasOne : (Peer → ℕ) → List (List Peer) → ℕ → Type 0
 HasOne number rows k = sum_by (count_by (λ p. number p == k)) rows ≡ 1
 
--- any two sites meet, and no peer is without its other end; nothing was sent or taken; at each
--- place of the table stands one peer's link out, and one's link in
+-- any two sites meet, and no peer is without its other end. Nothing was sent or taken. At each
+-- place of the table stands one peer's link out, and one peer's link in
 pub record AreLinked (links : List TableId) (rows : List (List Peer)) : Type 0 where
   pub each : (i j : ℕ) (xs ys : List Peer) → i ≢ j → slice_get rows i ≡ Some xs
       → slice_get rows j ≡ Some ys → Meet xs ys

@@ -8,10 +8,9 @@ use Rattle.gf_worker.specs.declared.peer.Peer.{Peer}
 use Rattle.gf_mesh.specs.declared.joining.Mesh.TheInside.{Inside}
 use Rattle.gf_mesh.specs.Linked.{MeshTable, rows_of, seats_of}
 
--- sites that are joined one after the other: a row for each has what it has the others as, and the
--- last row that of the newest site, which has met the first of
--- them. R relates the tables of links before and after two sites met, and what these have each
--- other as
+-- sites that are joined one after the other, with a row of peers for each. The last row is that of
+-- the newest site, which has met the first of the others. R relates the tables of links before and
+-- after two sites met, and the peers that they became
 pub data IsMesh {X : Type 0} (R : List TableId → List TableId → X → X
     → Type 0) : List TableId → List (List X) → List X → Type 0 where
   none : IsMesh R [] [] []
@@ -22,8 +21,8 @@ pub data IsMesh {X : Type 0} (R : List TableId → List TableId → X → X
   next : {table : List TableId} {rows : List (List X)} {row : List X} → IsMesh R table rows row
       → length row ≡ length rows → IsMesh R table (rows ++ row ∷ []) []
 
--- two new links stand behind those of the table, one from each of two sites to the other, and x and
--- y are what these have each other as
+-- two new links stand behind those of the table, one each way between two sites. x and y are what
+-- the sites have each other as
 pub record Connects (table more : List TableId) (x y : Peer) : Type 0 where
   pub there : TableId
   pub back : TableId
@@ -41,7 +40,7 @@ pub record Connects (table more : List TableId) (x y : Peer) : Type 0 where
     take = record { link = there; taken = [] };
   }
 
--- the last two links of the table are those of x and y, each of which took to the end of its link
+-- the last two links of the table are those of x and y, which both took to the end
 pub record IsLinked (table more : List TableId) (x y : Peer) : Type 0 where
   pub there : TableId
   pub back : TableId

@@ -33,8 +33,8 @@ impl Model for Mesh {
 }
 
 impl Mesh {
-    /// The links between so many sites, on which nothing was sent, and the peers of each site: the
-    /// other sites, with their places in the table.
+    /// The links between this many sites, on which nothing was sent, and the peers of each site. A
+    /// peer is another site, with its places in the table.
     pub fn new<R: Wait>(
         rt: &R,
         alloc: Global,
@@ -62,7 +62,8 @@ impl Mesh {
     }
 }
 
-/// Joins one more site to the others, each of which gets it as a peer, and gives its own peers.
+/// Joins one more site to the others, each of which gets it as a peer. The call gives the peers of
+/// the new site.
 fn join<R: Wait>(
     rt: &R,
     alloc: Global,
@@ -83,7 +84,7 @@ fn join<R: Wait>(
     Ok(row)
 }
 
-/// Two more links, one from each of two sites to the other, and what each has the other as.
+/// Two more links, one each way between two sites, and what the sites have each other as.
 fn connect<R: Wait>(
     rt: &R,
     alloc: Global,

@@ -12,7 +12,7 @@ use gf_worker::Peer;
 use std::sync::Wait;
 
 impl Mesh {
-    /// Settles all links, with the peers that the sites have by then: each site took from every
+    /// Settles all links, with the peers that the sites have by then. Each site took from every
     /// other all that it sent.
     pub fn settle<R: Wait>(self, rt: &R, mut peers: Vec<Vec<Peer>>)
         requires seats { seats_of (rows_of peers.items) ≡ self.seats }

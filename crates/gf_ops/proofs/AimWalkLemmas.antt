@@ -66,7 +66,8 @@ module _ (h : List Op) (valid : IsValid h) where
   -- ---- a new operation, and those of one site that did not know it
 
   module _ (ids : List OpId) (t : ℕ) (x : Op) (there : Contains h x) (unknown : NoneKnew h ids t x.id) (object : (y : Op) → IsOfSite h ids t y → object_of x ≡ object_of y) where
-    -- it conflicts directly with those behind one with which it does, where they give another value
+    -- x conflicts directly with each later one behind y that gives another value, where it does
+    -- with y
     behind_met : (y : Op) → IsOfSite h ids t y → DirectConflict x y → (v w : Value) (i : OpId) (z : SetsAt h t i w) → Contains ids i → y.id.seq ≤ i.seq → Sets x v → place_of v ≡ place_of w → v ≢ w → MeetsAt h x i
     behind_met y of d v w i z c l s e n =
         let at = of_site ids t i w z c in

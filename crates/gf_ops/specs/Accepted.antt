@@ -23,15 +23,15 @@ pub record IsNumbered (h : List Op) (a : Op) : Type 0 where
 abbrev pub IsCausallyClosed : List Op → Op → Type 0
 IsCausallyClosed h a = (b : Op) → Contains h b → Precedes b a → IsWithin b.past a.past
 
--- a is the next operation of its site behind h: it has the next number, knows no more than h has,
--- and all that the operations that it knows knew
+-- a is the next operation of its site behind h: it has the next number. It knows no more than h
+-- has, and all that the operations that it knows knew
 pub record IsNext (h : List Op) (a : Op) : Type 0 where
   pub numbered : IsNumbered h a
   pub known : CountsAtMost a.past h
   pub closed : IsCausallyClosed h a
 
--- a may be added behind h: it is the next operation of its site, makes an object or gives one that
--- it knows a value that suits it, and its aim is one
+-- a may be added behind h: it is the next operation of its site, and its aim is valid. It makes an
+-- object, or gives an object that it knows a value that suits the object
 pub record IsAccepted (h : List Op) (a : Op) : Type 0 where
   pub next : IsNext h a
   pub suited : IsSuited h a a.change

@@ -1,4 +1,4 @@
--- Whether an aim is one, step by step. No public clause cites this module.
+-- Whether an aim is valid, step by step. No public clause cites this module.
 use Rattle.std.specs.Prelude.{◌≡◌, ◌&&◌, ◌==◌, cond, List, [], ◌∷◌, Contains}
 use Rattle.gf_ops.specs.declared.op.Op.{Op}
 use Rattle.gf_ops.specs.declared.op.OpId.{OpId}
@@ -53,7 +53,7 @@ pub record MemberMeets (h : List Op) (i : OpId) (b : Op) : Type 0 where
   pub id : op.id ≡ i
   pub meets : MeetsBrought h op b
 
--- an operation of h under one of the ids does
+-- an operation of h under one of the ids conflicts directly with b, or with one that b aims at
 pub record AimMeets (h : List Op) (ids : List OpId) (b : Op) : Type 0 where
   pub op : Op
   pub contained : Contains h op

@@ -42,13 +42,13 @@ abbrev pub AreOnOne : List Op → List OpId → Type 0
 AreOnOne h ids = (x y : Op) → Contains h x → Contains h y → Contains ids x.id
     → Contains ids y.id → object_of x ≡ object_of y
 
--- no operation of the site s under one of the ids conflicts directly with one of the site t under
--- one of the others
+-- no operation of the site s under the ids conflicts directly with one of the site t under the
+-- others
 abbrev pub AreParted : List Op → List OpId → List OpId → ℕ → ℕ → Type 0
 AreParted h ids others s t = (x y : Op) → IsOfSite h ids s x → IsOfSite h others t y
     → ¬ (DirectConflict x y)
 
--- none of the site s conflicts directly with one of a site below n
+-- no operation of the site s conflicts directly with one of a site below n
 abbrev pub ArePartedBelow : List Op → List OpId → ℕ → ℕ → Type 0
 ArePartedBelow h ids s n = (t : ℕ) → 1 ≤ t → t < n → AreParted h ids ids s t
 
@@ -72,7 +72,7 @@ pub record SetsAt (h : List Op) (t : ℕ) (i : OpId) (v : Value) : Type 0 where
   pub site : i.site ≡ t
   pub sets : Sets op v
 
--- it does, for some value
+-- the operation of h under i is of the site t, and sets an attribute
 pub record SetsSome (h : List Op) (t : ℕ) (i : OpId) : Type 0 where
   pub value : Value
   pub at : SetsAt h t i value
@@ -84,8 +84,8 @@ pub record GivesAnother (h : List Op) (i : OpId) (w : Value) : Type 0 where
   pub id : op.id ≡ i
   pub another : sets_another op.change w ≡ true
 
--- l is of the last setter at the place k, of those of the site t under the ids, and of the last one
--- that gives another value
+-- of the site t under the ids, l names the last setter at the place k. The other one of l is the
+-- last setter there of another value
 pub record IsLatest (h : List Op) (ids : List OpId) (t k : ℕ) (l : Latest) : Type 0 where
   pub value : Value
   pub nearest : SetsAt h t l.nearest value
@@ -100,23 +100,23 @@ pub record IsLatest (h : List Op) (ids : List OpId) (t k : ℕ) (l : Latest) : T
   pub beyond : (y : Op) (w : Value) → IsOfSite h ids t y → Sets y w → place_of w ≡ k
       → w ≢ value → (other_value ≢ value) × (y.id.seq ≤ l.other.seq)
 
--- what the entry tells of the place k: that there is no setter, or the latest ones
+-- what the entry has of the place k: no setter, or the latest ones
 abbrev pub TellsOne : List Op → List OpId → ℕ → ℕ → Option Latest → Type 0
 TellsOne h ids t k None = (y : Op) (w : Value) → IsOfSite h ids t y → Sets y w
     → ¬ (place_of w ≡ k)
 TellsOne h ids t k (Some l) = IsLatest h ids t k l
 
--- the table tells of each place
+-- the table has the entry of each place
 pub record IsAimTable (h : List Op) (ids : List OpId) (t : ℕ)
     (table : List (Option Latest)) : Type 0 where
   pub wide : length table ≡ 6
   pub each : (k : ℕ) → k < 6 → TellsOne h ids t k (slice_index_or table k None)
 
--- where i is of the site t, no operation of that site under one of the ids is numbered above it
+-- where i is of the site t, no operation of that site under the ids is numbered above it
 abbrev pub NoneAbove : List Op → List OpId → ℕ → OpId → Type 0
 NoneAbove h ids t i = i.site ≡ t → (y : Op) → IsOfSite h ids t y → y.id.seq ≤ i.seq
 
--- x conflicts directly with one of the two
+-- x conflicts directly with one of the two setters that l names
 abbrev pub MeetsLatest : List Op → Op → Latest → Type 0
 MeetsLatest h x l = MeetsAt h x l.nearest ⊎ MeetsAt h x l.other
 
@@ -132,7 +132,7 @@ pub record MeetsTable (h : List Op) (table : List (Option Latest)) (i : OpId) : 
   pub at : slice_index_or table (place_of value) None ≡ Some latest
   pub meets : MeetsLatest h op latest
 
--- of the ids, the table tells of the first n; none of these of the site t knew i
+-- the table has the setters of the first n ids; no operation of the site t under these knew i
 pub record IsNoted (h : List Op) (ids : List OpId) (t n : ℕ) (i : OpId)
     (table : List (Option Latest)) : Type 0 where
   pub within : n ≤ length ids

@@ -16,8 +16,7 @@ pub record AimsAt (h : List Op) (a x : Op) : Type 0 where
 abbrev pub Brings : List Op → Op → Op → Type 0
 Brings h a x = (x ≡ a) ⊎ AimsAt h a x
 
--- h has an operation under the id i, on the object of a; it comes before a, and a aims at all that
--- it aims at
+-- h has an operation under i before a, on its object, and a aims at all that this aims at
 pub record MayAimAt (h : List Op) (a : Op) (i : OpId) : Type 0 where
   pub op : Op
   pub contained : Contains h op
@@ -26,12 +25,12 @@ pub record MayAimAt (h : List Op) (a : Op) (i : OpId) : Type 0 where
   pub before : Precedes op a
   pub within : (j : OpId) → Contains (aim_of op) j → Contains (aim_of a) j
 
--- what a aims at is there, comes before it, concerns its object and is closed under aims, and no
--- two of it conflict
+-- the aim of a has earlier operations of its object, is closed under aims, and no two of them
+-- conflict
 pub record IsAimed (h : List Op) (a : Op) : Type 0 where
   pub each : (i : OpId) → Contains (aim_of a) i → MayAimAt h a i
   pub compatible : (x y : Op) → AimsAt h a x → AimsAt h a y → ¬ (DirectConflict x y)
 
--- no operation of h aims at one
+-- no operation of h aims at another one
 abbrev pub HasNoAims : List Op → Type 0
 HasNoAims h = (a : Op) → Contains h a → aim_of a ≡ []

@@ -88,8 +88,7 @@ points_in (value.Colour c) = None
 points_in (value.Layer n) = None
 points_in (value.Shown b) = None
 
--- the value of the attribute t that an object begins with, if its kind has t; s is what it begins
--- with
+-- the value of the attribute t in the start s, if the kind of the object has t
 abbrev pub start_value : Start → Attr → Option Value
 start_value s Place = Some (value.Place s.place)
 start_value s Size = size_in (form_value s.form)

@@ -1,5 +1,5 @@
--- Which operations cannot stand in one version by themselves, without a look at their aims
--- (conflict and compatible, Sun and Chen, ACM TOCHI 9(1), 2002).
+-- Which operations cannot stand in one version by themselves, whatever their aims (conflict and
+-- compatible, Sun and Chen, ACM TOCHI 9(1), 2002).
 use Rattle.std.specs.Prelude.{◌≡◌, ◌≢◌, Some}
 use Rattle.gf_ops.specs.declared.op.Op.{Op}
 use Rattle.gf_ops.specs.declared.change.Attr.{Attr}

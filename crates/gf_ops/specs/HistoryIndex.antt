@@ -7,11 +7,11 @@ use Rattle.gf_ops.specs.declared.op.Clock.{Clock}
 use Rattle.gf_ops.specs.OperationOrder.{IsSite, entry, count_of}
 use Rattle.gf_ops.specs.ValidHistory.{IsValid}
 
--- the number that the rows tell for the id i
+-- the number in the rows for the id i
 abbrev pub position : List (List ℕ) → OpId → ℕ
 position rows i = slice_index (slice_index_or rows (i.seq - 1) []) (i.site - 1)
 
--- the rows tell the position in h of the operation under i
+-- the rows have the position in h of the operation under i
 pub record IsIndexed (h : List Op) (rows : List (List ℕ)) (i : OpId) : Type 0 where
   pub row : i.seq - 1 < length rows
   pub op : Op
@@ -19,9 +19,8 @@ pub record IsIndexed (h : List Op) (rows : List (List ℕ)) (i : OpId) : Type 0 
   pub there : slice_index_or h (position rows i) op ≡ op
   pub id : op.id ≡ i
 
--- what every history keeps: it is valid; the clock counts its operations, which have the numbers
--- from 1 to the count of their site;
--- and the rows tell their positions
+-- what every history keeps: it is valid, and the clock counts its operations. The numbers of each
+-- site run from 1 to its count, and the rows have their positions
 pub record IsHistory (h : List Op) (rows : List (List ℕ)) (counts : Clock) : Type 0 where
   pub valid : IsValid h
   pub counted : (s : ℕ) → IsSite s → entry counts s ≡ count_of h s

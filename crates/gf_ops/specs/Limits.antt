@@ -77,8 +77,8 @@ ids_rise (i ∷ is) = rise_behind i is
 abbrev pub is_aim : List OpId → Bool
 is_aim aim = nat_le (length aim) 1000 && list_all is_id aim && ids_rise aim
 
--- a new object has a form in range, is near, and has a layer; an object is named by an id, and its
--- new value and the aim are in range
+-- a new object has a form and a layer in range, and is near. A set object has an id, and the new
+-- value and the aim are in range
 abbrev pub is_change : Change → Bool
 is_change (Create start) = is_form start.form && is_near start.place && is_layer start.layer
 is_change (Set object v aim) = is_id object.0 && is_value v && is_aim aim

@@ -9,8 +9,7 @@ use Rattle.gf_ops.specs.Attribute.{value_given}
 use Rattle.gf_ops.specs.OperationOrder.{Precedes}
 use Rattle.gf_ops.specs.Version.{IsMember}
 
--- in the group g of h the attribute t has the value v: a setter of t gives it, and no setter of t
--- comes after that one
+-- some setter of t in the group g gives v, and no setter of t there comes after it
 pub record IsSettled (h : List Op) (g : List OpId) (t : Attr) (v : Value) : Type 0 where
   pub setter : Op
   pub member : IsMember h g setter

@@ -20,17 +20,16 @@ pub record Counts (c : Clock) (i : OpId) : Type 0 where
   pub first : 1 ≤ i.seq
   pub last : i.seq ≤ entry c i.site
 
--- h has an operation under id i, and that one's past is within clock c
+-- h has an operation under id i, the past of which is within clock c
 pub record Has (h : List Op) (c : Clock) (i : OpId) : Type 0 where
   pub op : Op
   pub contained : Contains h op
   pub id : op.id ≡ i
   pub past : IsWithin op.past c
 
--- the operations of h keep all limits, each under its own id; each knows all of its site before it,
--- all that it knows is there and knew no more than it,
--- it makes an object or gives one that it knows a value that suits it, and its aim is a closed,
--- compatible set of earlier operations of its object
+-- the operations of h keep all limits, each under its own id. Each knows all of its site before it.
+-- All that it knows is there, and knew no more. It makes an object, or gives one that it knows a
+-- value that suits it. Its aim is a closed, compatible set of earlier operations of its object
 pub record IsValid (h : List Op) : Type 0 where
   pub in_range : (a : Op) → Contains h a → IsInRange a
   pub distinct : AllPairs (λ a b. a.id ≢ b.id) h

@@ -34,9 +34,8 @@ pub record ConflictsWithin (C : Op → Op → Type 0) (h : List Op) (g : List Op
   pub is_member : IsMember h g member
   pub conflict : C a member
 
--- the rising ids g are a group of operations of h on the object o, whose creation is in h;
--- no two of them conflict by the relation C, and each other operation on o conflicts with one of
--- them
+-- the rising ids g are operations of h on the object o, whose creation is in h. No two of them
+-- conflict by the relation C. Each other operation on o conflicts with one of them
 pub record IsLargestGroup (C : Op → Op → Type 0) (h : List Op) (o : ObjectId)
     (g : List OpId) : Type 0 where
   pub rising : IsStrictlySortedBy id_cmp g

@@ -14,15 +14,15 @@ ghost use Rattle.gf_ops.specs.OperationOrder.{IsSite};
 use crate::conflict::sets_another;
 use crate::{Change, History, Op, OpId, Value};
 
-/// The last of some operations of a site that sets an attribute, and the last that gives another
-/// value than it. Where all give one value, the other is any of them.
+/// The last setter of an attribute among operations of a site, and the last one with another value.
+/// Where all give one value, the other is any of them.
 #[derive(Clone, Copy)]
 struct Latest {
     nearest: OpId,
     other: OpId,
 }
 
-/// The place in a table of the attribute that it is a value of.
+/// The place of the value's attribute in a table.
 fn place_of(value: &Value) -> usize
     ensures place { result ≡ place_of value.now }
     ensures below { result < 6 }
@@ -38,14 +38,14 @@ fn place_of(value: &Value) -> usize
 }
 
 impl History {
-    /// Whether no two operations under these ids, which rise, conflict directly. It walks over the
-    /// ids once for every two sites.
+    /// Whether no two operations under these rising ids conflict directly. The cost is a walk over
+    /// the ids for every two sites.
     pub(crate) fn are_directly_compatible(&self, ids: &[OpId]) -> bool
         requires rising { IsTrue (ids_rise ids.now) }
         requires object { AreOnOne self.now.ops ids.now }
         ensures { IsTrue result ↔ AreDirectlyCompatible self.now.ops ids.now }
     {
-        // Its clause says that the history is valid.
+        // The clause of `ops` says that the history is valid.
         let _ = self.ops();
         for site in 1..9 {
             if !self.are_parted_below(ids, site) {
@@ -71,14 +71,15 @@ impl History {
     }
 
     /// Whether no operation of the one site conflicts directly with one of the other site. For each
-    /// of the one, it notes those of the other that did not know it, and looks at the latest ones.
+    /// of the one, the walk notes those of the other that did not know it. Only the latest noted
+    /// setters are compared.
     fn are_parted(&self, ids: &[OpId], site: u8, other: u8) -> bool
         requires rising { IsTrue (ids_rise ids.now) }
         requires object { AreOnOne self.now.ops ids.now }
         requires site { IsSite site }
         ensures { IsTrue result ↔ AreParted self.now.ops ids.now ids.now site other }
     {
-        // Its clause says that the history is valid.
+        // The clause of `ops` says that the history is valid.
         let _ = self.ops();
         let mut table = [None; 6];
         let mut noted = 0;
@@ -109,7 +110,7 @@ impl History {
         ensures stop { (d : OpId) → result < length ids.now
             → KnewAt self.now.ops site id (slice_index_or ids.now result d) }
     {
-        // Its clause says that the history is valid.
+        // The clause of `ops` says that the history is valid.
         let _ = self.ops();
         let mut noted = from;
         while noted < ids.len() && !self.knew(ids[noted], site, id) {
@@ -124,7 +125,7 @@ impl History {
         requires { IsSite id.site }
         ensures { IsTrue result ↔ KnewAt self.now.ops site id by }
     {
-        // Its clause says that the history is valid.
+        // The clause of `ops` says that the history is valid.
         let _ = self.ops();
         if by.site != site {
             return false;
@@ -141,7 +142,7 @@ impl History {
             → IsAimTable self.now.ops ids site table.old
             → IsAimTable self.now.ops (ids ++ id ∷ []) site table.new }
     {
-        // Its clause says that the history is valid.
+        // The clause of `ops` says that the history is valid.
         let _ = self.ops();
         if let Some(value) = self.setting(id, site) {
             let place = place_of(value);
@@ -155,7 +156,7 @@ impl History {
         ensures found { IfSome result (λ value. SetsAt self.now.ops site id value.now) }
         ensures none { IfNone result (¬ SetsSome self.now.ops site id) }
     {
-        // Its clause says that the history is valid.
+        // The clause of `ops` says that the history is valid.
         let _ = self.ops();
         if id.site != site {
             return None;
@@ -173,7 +174,7 @@ impl History {
             → SetsAt self.now.ops site id value.now
             → IsLatest self.now.ops (ids ++ id ∷ []) site (place_of value.now) result }
     {
-        // Its clause says that the history is valid.
+        // The clause of `ops` says that the history is valid.
         let _ = self.ops();
         let other = match latest {
             Some(Latest { nearest, other }) => {
@@ -192,7 +193,7 @@ impl History {
     fn gives_another(&self, id: OpId, value: &Value) -> bool
         ensures { IsTrue result ↔ GivesAnother self.now.ops id value.now }
     {
-        // Its clause says that the history is valid.
+        // The clause of `ops` says that the history is valid.
         let _ = self.ops();
         match self.get(id) {
             Some(op) => sets_another(&op.change, value),
@@ -200,12 +201,12 @@ impl History {
         }
     }
 
-    /// Whether the operation under this id conflicts directly with one of the two that the table
-    /// has for its attribute.
+    /// Whether the operation under this id conflicts directly with a setter that the table has for
+    /// its attribute.
     fn meets_table(&self, id: OpId, table: &[Option<Latest>; 6]) -> bool
         ensures { IsTrue result ↔ MeetsTable self.now.ops table.now id }
     {
-        // Its clause says that the history is valid.
+        // The clause of `ops` says that the history is valid.
         let _ = self.ops();
         let Some(op) = self.get(id) else {
             return false;

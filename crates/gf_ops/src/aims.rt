@@ -11,7 +11,7 @@ ghost use Rattle.gf_ops.specs.Limits.{IsInRange, ids_rise};
 use crate::{Change, History, Op, OpId, before, direct_conflict};
 
 impl Op {
-    /// The ids that it aims at, rising: a creation aims at none.
+    /// The ids that the operation aims at, rising: a creation aims at none.
     pub fn aim(&self) -> &[OpId]
         ensures { result.now ≡ aim_of self.now }
     {
@@ -22,7 +22,7 @@ impl Op {
     }
 }
 
-/// What is left of the ids after one was met: those behind the first, where that is it.
+/// The ids left after one was met: those behind the first, where the first is that one.
 fn after_id<'a>(ids: &'a [OpId], id: OpId) -> &'a [OpId]
     ensures { result.now ≡ after_id ids.now id }
 {
@@ -38,7 +38,7 @@ fn after_id<'a>(ids: &'a [OpId], id: OpId) -> &'a [OpId]
     }
 }
 
-/// What is left of the ids where they are met in the order of others.
+/// The ids left where they are met in the order of others.
 fn left_of<'a>(ids: &'a [OpId], others: &[OpId]) -> &'a [OpId]
     ensures { result.now ≡ fold after_id ids.now others.now }
 {
@@ -49,7 +49,7 @@ fn left_of<'a>(ids: &'a [OpId], others: &[OpId]) -> &'a [OpId]
     left
 }
 
-/// Whether the aim has each of these ids. Both rise, so one walk over the aim tells.
+/// Whether the aim has each of these ids. Both lists rise, so one walk over the aim is enough.
 fn is_within_aim(ids: &[OpId], aim: &[OpId]) -> bool
     requires ids { IsTrue (ids_rise ids.now) }
     requires aim { IsTrue (ids_rise aim.now) }
@@ -68,15 +68,15 @@ fn aims_within(member: &Op, op: &Op) -> bool
     ids.is_empty() || is_within_aim(ids, op.aim())
 }
 
-/// Whether they concern one object.
+/// Whether two operations concern one object.
 fn on_one_object(op: &Op, other: &Op) -> bool
     ensures { IsTrue result ↔ (object_of op.now ≡ object_of other.now) }
 {
     op.object() == other.object()
 }
 
-/// Whether an operation is on the object of another one and before it, and that one aims at all
-/// that it aims at.
+/// Whether `member` is on the object of `op` and before it, and `op` aims at all that `member` aims
+/// at.
 fn fits(member: &Op, op: &Op) -> bool
     requires member { IsInRange member.now }
     requires op { IsInRange op.now }
@@ -86,13 +86,13 @@ fn fits(member: &Op, op: &Op) -> bool
 }
 
 impl History {
-    /// Whether what the operation aims at is there, comes before it, concerns its object and is
-    /// closed under aims, and no two of it conflict directly.
+    /// Whether the aim is valid: earlier operations of its object, closed under aims, of which no
+    /// two conflict directly.
     pub(crate) fn is_aimed(&self, op: &Op) -> bool
         requires { IsInRange op.now }
         ensures { IsTrue result ↔ IsAimed self.now.ops op.now }
     {
-        // Its clause says that the history is valid.
+        // The clause of `ops` says that the history is valid.
         let _ = self.ops();
         self.may_aim(op) && self.are_directly_compatible(op.aim())
     }
@@ -110,13 +110,13 @@ impl History {
         true
     }
 
-    /// Whether there is an operation under this id, on its object and before it, of which the aim
-    /// is within its own.
+    /// Whether the operation under this id exists, is earlier on the same object, and aims within
+    /// the aim of `op`.
     fn may_aim_at(&self, op: &Op, id: OpId) -> bool
         requires { IsInRange op.now }
         ensures { IsTrue result ↔ MayAimAt self.now.ops op.now id }
     {
-        // Its clause says that the history is valid.
+        // The clause of `ops` says that the history is valid.
         let _ = self.ops();
         match self.get(id) {
             Some(member) => fits(member, op),
@@ -142,7 +142,7 @@ impl History {
         requires { IsInRange op.now }
         ensures { IsTrue result ↔ MeetsAt self.now.ops op.now id }
     {
-        // Its clause says that the history is valid.
+        // The clause of `ops` says that the history is valid.
         let _ = self.ops();
         match self.get(id) {
             Some(member) => direct_conflict(op, member),

@@ -66,7 +66,7 @@ pub enum Change {
 }
 
 impl Value {
-    /// The attribute that it is a value of.
+    /// The attribute of the value.
     pub fn attribute(&self) -> Attr
         ensures { result ≡ attribute_of self.now }
     {

@@ -13,8 +13,8 @@ ghost use Rattle.gf_ops.specs.Limits.{IsInRange};
 use crate::order::unordered;
 use crate::{Change, Form, History, ObjectId, Op, OpId, Points, Start, Value};
 
-/// Whether they are concurrent, concern one object and set one attribute to different values.
-/// Operations that set it to different values are two.
+/// Whether two operations are concurrent, concern one object and set one attribute to different
+/// values. Operations with different values are different ones.
 pub fn direct_conflict(a: &Op, b: &Op) -> bool
     requires a { IsInRange a.now }
     requires b { IsInRange b.now }
@@ -23,11 +23,11 @@ pub fn direct_conflict(a: &Op, b: &Op) -> bool
     unordered(a, b) && a.object() == b.object() && are_apart(&a.change, &b.change)
 }
 
-/// Whether two operations cannot stand in one version: one, or an operation that it aims at,
-/// conflicts directly with the other or with one that that aims at. What an aim has and the history
-/// lacks counts for nothing.
+/// Whether two operations cannot stand in one version: one side conflicts directly with the other.
+/// A side is an operation with those that it aims at. What the history lacks of an aim counts for
+/// nothing.
 ///
-/// It compares each of the one side with each of the other.
+/// Each of the one side is compared with each of the other.
 pub fn conflicts(history: &History, a: &Op, b: &Op) -> bool
     requires a { IsInRange a.now }
     requires b { IsInRange b.now }
@@ -36,7 +36,7 @@ pub fn conflicts(history: &History, a: &Op, b: &Op) -> bool
     meets_brought(history, a, b) || aim_meets(history, a.aim(), b)
 }
 
-/// Whether an operation conflicts directly with another one, or with one that that aims at.
+/// Whether `a` conflicts directly with `b`, or with one that `b` aims at.
 pub fn meets_brought(history: &History, a: &Op, b: &Op) -> bool
     requires a { IsInRange a.now }
     requires b { IsInRange b.now }
@@ -45,8 +45,7 @@ pub fn meets_brought(history: &History, a: &Op, b: &Op) -> bool
     direct_conflict(a, b) || history.meets(a, b.aim())
 }
 
-/// Whether one under these ids conflicts directly with an operation, or with one that that aims
-/// at.
+/// Whether one under these ids conflicts directly with `b`, or with one that `b` aims at.
 fn aim_meets(history: &History, aim: &[OpId], b: &Op) -> bool
     requires { IsInRange b.now }
     ensures { IsTrue result ↔ AimMeets history.now.ops aim.now b.now }
@@ -59,12 +58,12 @@ fn aim_meets(history: &History, aim: &[OpId], b: &Op) -> bool
     false
 }
 
-/// Whether the one under this id does.
+/// Whether the operation under this id conflicts directly with `b`, or with one that `b` aims at.
 fn member_meets(history: &History, id: OpId, b: &Op) -> bool
     requires { IsInRange b.now }
     ensures { IsTrue result ↔ MemberMeets history.now.ops id b.now }
 {
-    // Its clause says that the history is valid.
+    // The clause of `ops` says that the history is valid.
     let _ = history.ops();
     match history.get(id) {
         Some(member) => meets_brought(history, member, b),
@@ -73,7 +72,7 @@ fn member_meets(history: &History, id: OpId, b: &Op) -> bool
 }
 
 impl Op {
-    /// The object that it makes or changes.
+    /// The object that the operation makes or changes.
     pub fn object(&self) -> ObjectId
         ensures { result ≡ object_of self.now }
     {
@@ -162,7 +161,7 @@ fn begins_with_another(start: &Start, value: &Value) -> bool
     }
 }
 
-/// Whether a form has points, and other ones.
+/// Whether a form has points other than these.
 fn begins_with_other_points(form: &Form, points: &Points) -> bool
     ensures { result ≡ is_another (points_in (form_value form.now)) (Value.Points points.now) }
 {
@@ -172,7 +171,7 @@ fn begins_with_other_points(form: &Form, points: &Points) -> bool
     }
 }
 
-/// Whether a form has a size, and another one.
+/// Whether a form has a size other than this one.
 fn begins_with_another_size(form: &Form, width: u32, height: u32) -> bool
     ensures { result ≡ is_another (size_in (form_value form.now)) (Value.Size width height) }
 {

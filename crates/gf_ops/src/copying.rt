@@ -7,7 +7,7 @@ use gf_shape::OutOfMemory;
 use std::alloc::Global;
 
 impl Op {
-    /// The same operation once more.
+    /// A copy of the operation.
     pub fn copy(&self, alloc: Global) -> Result<Op, OutOfMemory>
         ensures { IfOk result (λ op. op ≡ self.now) }
     {
@@ -19,7 +19,7 @@ impl Op {
     }
 }
 
-/// The same operations once more, in their order.
+/// Copies of the operations, in their order.
 pub(crate) fn copy_ops(ops: &[Op], alloc: Global) -> Result<Vec<Op>, OutOfMemory>
     ensures { IfOk result (λ copies. copies.items ≡ ops.now) }
 {
@@ -86,7 +86,7 @@ impl Value {
 }
 
 impl Points {
-    /// The same points once more.
+    /// A copy of the points.
     pub fn copy(&self, alloc: Global) -> Result<Points, OutOfMemory>
         ensures { IfOk result (λ points. points ≡ self.now) }
     {

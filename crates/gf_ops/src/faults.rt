@@ -5,20 +5,20 @@ use thiserror::Error;
 /// Why an operation doesn't fit behind a history, in the order of the checks.
 #[derive(Clone, Copy, Debug, PartialEq, Eq, Error)]
 pub enum OpFault {
-    /// Its number is not the next of its site, or it knows another number of its own site's
-    /// operations, or more of another site's than there are, or less of some site than an operation
-    /// that it knows knew.
+    /// The number is not the next of its site, or the clock counts another number of its site. Or
+    /// the clock counts more of another site than there are. Or it counts less of some site than an
+    /// operation knew that it counts.
     #[error("BadClock")]
     BadClock,
-    /// It changes an object whose creation it doesn't know.
+    /// The operation changes an object whose creation it doesn't know.
     #[error("NoObject")]
     NoObject,
-    /// It gives an object a value that doesn't suit its kind: a box, a circle or an ellipse points,
-    /// a polygon a size, a circle two numbers that are not one.
+    /// The new value doesn't suit the kind of the object. Only polygons have points, polygons have
+    /// no size, and a circle's two numbers are one.
     #[error("WrongKind")]
     WrongKind,
-    /// The aim has an operation that is not there, does not come before it or concerns another
-    /// object, or two that conflict directly, or lacks one that an operation of the aim aims at.
+    /// The aim has an operation that is not there, not before this one, or on another object. Or
+    /// two of the aim conflict directly, or it lacks one that an operation of the aim aims at.
     #[error("BadAim")]
     BadAim,
 }
@@ -26,7 +26,7 @@ pub enum OpFault {
 /// Why [`History::add`](crate::History::add) refused an operation.
 #[derive(Clone, Copy, Debug, PartialEq, Eq, Error)]
 pub enum AddFault {
-    /// It doesn't fit behind the history.
+    /// The operation doesn't fit behind the history.
     #[error("{0}")]
     Op(OpFault),
     /// A growth of memory was refused.

@@ -4,7 +4,8 @@ ghost use Rattle.std.specs.Prelude.{◌≡◌, ◌≢◌, ◌<◌, ◌↔◌, �
 ghost use Rattle.std.specs.Prelude.{IsOk, IfOk, IfSome, IfNone, OnOk, OnErr};
 ghost use Rattle.gf_ops.specs.declared.op.Op.{Op};
 ghost use Rattle.gf_ops.specs.declared.history.History.{History};
-ghost use Rattle.gf_ops.specs.Accepted.{CountsAtMost, IsNumbered, IsCausallyClosed, IsNext, IsAccepted};
+ghost use Rattle.gf_ops.specs.Accepted.{CountsAtMost, IsNumbered, IsCausallyClosed, IsNext};
+ghost use Rattle.gf_ops.specs.Accepted.{IsAccepted};
 ghost use Rattle.gf_ops.specs.Accepted.{IsRefused};
 ghost use Rattle.gf_ops.specs.Attribute.{kind_of, suits};
 ghost use Rattle.gf_ops.specs.KnownObject.{Knows, KnowsSome, IsFounded, IsSuited};
@@ -38,7 +39,8 @@ impl Model for History {
 
     ghost view = { λ h. record {
       ops = h.ops.items;
-      room = min (vec_capacity h.ops - vec_len h.ops) (vec_capacity h.positions - vec_len h.positions);
+      room = min (vec_capacity h.ops - vec_len h.ops)
+          (vec_capacity h.positions - vec_len h.positions);
     } };
 
     ghost invariant = { λ h. IsHistory h.ops.items h.positions.items h.counts };
@@ -56,7 +58,7 @@ impl History {
         }
     }
 
-    /// The same history once more. It may have room for fewer operations.
+    /// A copy of the history. The copy may have room for fewer operations.
     pub fn copy(&self, alloc: Global) -> Result<History, OutOfMemory>
         ensures { IfOk result (λ copy. copy.ops ≡ self.now.ops) }
     {
@@ -70,7 +72,7 @@ impl History {
         })
     }
 
-    /// How many operations of this site it has.
+    /// How many operations of this site the history has.
     pub fn count(&self, site: u8) -> u32
         ensures { result ≡ count_of self.now.ops site }
     {
@@ -81,7 +83,7 @@ impl History {
         }
     }
 
-    /// The operation under this id. It takes constant time.
+    /// The operation under this id. The call takes constant time.
     pub fn get(&self, id: OpId) -> Option<&Op>
         ensures found { IfSome result (λ op. Contains self.now.ops op.now × (op.now.id ≡ id)) }
         ensures none { IfNone result ((op : Op) → Contains self.now.ops op → op.id ≢ id) }
@@ -95,7 +97,8 @@ impl History {
         }
     }
 
-    /// Where the operation under this id stands in the order of adding. It takes constant time.
+    /// Where the operation under this id stands in the order of adding. The call takes constant
+    /// time.
     pub fn position(&self, id: OpId) -> Option<usize>
         ensures found { IfSome result (λ k. StandsAt self.now.ops id k) }
         ensures none { IfNone result ((op : Op) → Contains self.now.ops op → op.id ≢ id) }
@@ -109,7 +112,7 @@ impl History {
         }
     }
 
-    /// Its operations in the order of adding.
+    /// The operations in the order of adding.
     pub fn ops(&self) -> &[Op]
         ensures ops { result.now ≡ self.now.ops }
         ensures valid { IsValid self.now.ops }
@@ -117,10 +120,10 @@ impl History {
         &self.ops
     }
 
-    /// Whether the operation may be added now, with the first of its faults. It looks up the last
-    /// operation of each site that it knows, and the creation of the object that it changes. Each id
-    /// of its aim costs fewer than thirty look-ups. One that aims at others itself costs a walk over
-    /// both aims.
+    /// Whether the operation may be added now, with the first of its faults. The check looks up the
+    /// last known operation of each site, and the creation of the changed object. Each id of the
+    /// aim costs fewer than thirty look-ups. One that aims at others itself costs a walk over both
+    /// aims.
     pub fn check(&self, op: &Op) -> Result<(), OpFault>
         requires { IsInRange op.now }
         ensures ok { IsOk result ↔ IsAccepted self.now.ops op.now }
@@ -144,7 +147,7 @@ impl History {
         }
     }
 
-    /// Whether it is the next operation of its site.
+    /// Whether the operation is the next one of its site.
     fn is_next(&self, op: &Op) -> bool
         requires { IsInRange op.now }
         ensures { IsTrue result ↔ IsNext self.now.ops op.now }
@@ -152,7 +155,7 @@ impl History {
         self.is_numbered(op) && self.has_known(&op.past) && self.is_closed(op)
     }
 
-    /// Whether it has the next number of its site, and knows all of its site before it.
+    /// Whether the operation has the next number of its site, and knows all of its site before it.
     fn is_numbered(&self, op: &Op) -> bool
         requires { IsInRange op.now }
         ensures { IsTrue result ↔ IsNumbered self.now.ops op.now }
@@ -161,15 +164,15 @@ impl History {
         before == self.count(op.id.site) && before == op.past.0[usize::from(op.id.site) - 1]
     }
 
-    /// Whether it has all that the clock counts.
+    /// Whether the history has all that the clock counts.
     fn has_known(&self, clock: &Clock) -> bool
         ensures { IsTrue result ↔ CountsAtMost clock.now self.now.ops }
     {
         clock.is_within(&self.counts)
     }
 
-    /// Whether it knows all that the operations that it knows knew. The pasts of a site only grow,
-    /// so the last of each site decides.
+    /// Whether the operation knows all that the operations that it knows knew. The pasts of a site
+    /// only grow, so the last of each site decides.
     fn is_closed(&self, op: &Op) -> bool
         requires within { CountsAtMost op.now.past self.now.ops }
         ensures { IsTrue result ↔ IsCausallyClosed self.now.ops op.now }

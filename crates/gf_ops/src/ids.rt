@@ -40,7 +40,7 @@ impl Ids {
         &self.ids
     }
 
-    /// The same ids once more.
+    /// A copy of the ids.
     pub fn copy(&self, alloc: Global) -> Result<Ids, OutOfMemory>
         ensures { IfOk result (λ ids. ids ≡ self.now) }
     {

@@ -13,7 +13,7 @@ ghost use Rattle.gf_ops.specs.OperationOrder.{Precedes};
 ghost use Rattle.gf_ops.specs.Version.{IsVersion, IsMember, IsLargestGroup};
 ghost use Rattle.gf_ops.specs.ValidHistory.{IsValid};
 
-/// On the operations of a valid history before is a strict order.
+/// On the operations of a valid history, `before` is a strict order.
 pub fn before_is_a_strict_order()
     ensures irreflexive { (h : List Op) → IsValid h → (a : Op) → Contains h a → ¬ (Precedes a a) }
     ensures transitive { (h : List Op) → IsValid h → (a b c : Op) → Contains h a → Contains h b
@@ -26,8 +26,8 @@ pub fn direct_conflict_is_symmetric_and_irreflexive()
     ensures irreflexive { (a : Op) → ¬ (DirectConflict a a) }
 {}
 
-/// A conflict is one from both sides, and no operation of a valid history conflicts with itself,
-/// nor with one that it aims at.
+/// A conflict is one from both sides. No operation of a valid history conflicts with itself, nor
+/// with one that it aims at.
 pub fn conflict_is_symmetric_and_irreflexive()
     ensures symmetric { (h : List Op) (a b : Op) → Conflict h a b → Conflict h b a }
     ensures irreflexive { (h : List Op) → IsValid h → (a : Op) → Contains h a
@@ -36,8 +36,8 @@ pub fn conflict_is_symmetric_and_irreflexive()
         → ¬ (Conflict h a x) }
 {}
 
-/// What conflicts with an operation conflicts with each that aims at it, and what conflicts with
-/// one that aims, but with nothing of its aim, does so directly, itself or by its own aim.
+/// What conflicts with an operation conflicts with each one that aims at it. What conflicts with an
+/// operation but with nothing of its aim does so directly, itself or by its aim.
 pub fn conflicts_come_from_aims()
     ensures carried { (h : List Op) → IsValid h → (a x b : Op) → Contains h a → AimsAt h a x
         → Conflict h x b → Conflict h a b }

@@ -6,8 +6,8 @@
 //! - [`Value`], [`Attr`]: what a change of an object sets.
 //! - [`same_op`]: whether two operations agree in everything.
 //! - [`before`], [`concurrent`]: the causal order of operations.
-//! - [`conflicts`]: whether two operations cannot stand in one version; [`direct_conflict`]: whether
-//!   they cannot by themselves, without a look at their aims, which are [`Ids`].
+//! - [`conflicts`]: whether two operations cannot stand in one version; [`direct_conflict`]:
+//!   whether they cannot by themselves, whatever their aims, which are [`Ids`].
 //! - [`History`]: the operations that a site has, always a valid history.
 //! - [`OpFault`], [`AddFault`]: why an operation was not added.
 //! - [`before_is_a_strict_order`], [`conflict_is_symmetric_and_irreflexive`]: the laws.

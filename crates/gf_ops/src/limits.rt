@@ -11,7 +11,7 @@ use crate::{Change, Clock, Form, Op, OpId, Value};
 use gf_shape::Point;
 
 impl Op {
-    /// Whether its site, its number, its clock and its change keep the limits.
+    /// Whether the site, the number, the clock and the change of the operation keep the limits.
     pub fn in_range(&self) -> bool
         ensures { result ≡ is_in_range self.now }
     {
@@ -20,8 +20,8 @@ impl Op {
 }
 
 impl Change {
-    /// Whether its values keep the limits: coordinates ±1,000,000, sizes 1 to 1,000,000, 3 to 64
-    /// points, layers 0 to 9,999, aims of at most 1,000 rising ids.
+    /// Whether the values keep the limits: coordinates ±1,000,000, sizes 1 to 1,000,000, 3 to 64
+    /// points, layers 0 to 9,999. An aim has at most 1,000 rising ids.
     pub fn in_range(&self) -> bool
         ensures { result ≡ is_change self.now }
     {
@@ -55,7 +55,7 @@ fn id_less(id: OpId, other: OpId) -> bool
     id.site < other.site || id.site == other.site && id.seq < other.seq
 }
 
-/// Whether these rise behind an id.
+/// Whether these ids rise behind another one.
 fn rise_behind(id: OpId, ids: &[OpId]) -> bool
     ensures { result ≡ rise_behind id ids.now }
 {

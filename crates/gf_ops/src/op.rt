@@ -28,7 +28,7 @@ pub struct ObjectId(pub OpId);
 pub struct Clock(pub [u32; 8]);
 
 impl Clock {
-    /// Whether none of its entries is above that of the other clock.
+    /// Whether no entry of the clock is above that of the other clock.
     pub fn is_within(&self, other: &Clock) -> bool
         ensures { IsTrue result ↔ IsWithin self.now other.now }
     {

@@ -15,7 +15,7 @@ pub fn before(a: &Op, b: &Op) -> bool
     a.id.seq <= b.past.0[usize::from(a.id.site) - 1]
 }
 
-/// Whether they are two operations, and neither was made at a site that knew the other.
+/// Whether two operations are different, and neither was made at a site that knew the other.
 pub fn concurrent(a: &Op, b: &Op) -> bool
     requires a { IsInRange a.now }
     requires b { IsInRange b.now }
@@ -24,7 +24,7 @@ pub fn concurrent(a: &Op, b: &Op) -> bool
     unordered(a, b) && !same_op(a, b)
 }
 
-/// Whether neither was made at a site that knew the other.
+/// Whether neither operation was made at a site that knew the other.
 pub(crate) fn unordered(a: &Op, b: &Op) -> bool
     requires a { IsInRange a.now }
     requires b { IsInRange b.now }

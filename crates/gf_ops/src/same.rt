@@ -4,7 +4,7 @@ ghost use Rattle.std.specs.Prelude.{◌≡◌, ◌↔◌, IsTrue};
 
 use crate::{Change, Form, Ids, Op, Points, Start, Value};
 
-/// Whether they agree in everything.
+/// Whether two operations agree in everything.
 pub fn same_op(a: &Op, b: &Op) -> bool
     ensures { IsTrue result ↔ a.now ≡ b.now }
 {

@@ -74,7 +74,7 @@ rows_parted colour w height i l =
 pub begins : (height i : ℕ) → i < height / 64 + min 1 (height % 64) → 64 * i < height
 begins height i l = omega arith
 
--- so many bands are all rows
+-- this many bands are all rows
 pub ends : (height i : ℕ) → height / 64 + min 1 (height % 64) ≤ i → min (64 * i) height ≡ height
 ends height i l = omega arith
 

@@ -15,7 +15,7 @@ cut_more count size k = let e = product_more k size in rw e (sums (k * size) siz
     sums : (p s w : ℕ) → min (p + s) w ≡ min p w + min s (w - min p w)
     sums p s w = omega arith
 
--- so many parts hold all
+-- this many parts hold all
 pub parts_hold : (count size : ℕ) → 1 ≤ size → count ≤ parts count size * size
 parts_hold count size l = (div_ceil_times count size (omega arith)).0
 

@@ -2,15 +2,15 @@
 use Rattle.std.specs.Prelude.{ℕ, ◌*◌, ◌+◌, ◌-◌, ◌/◌, ◌%◌, min}
 use Rattle.gf_scanline.specs.Windows.{View}
 
--- before which of so many things worker k begins, where each has so many
+-- at which of `count` things worker k begins, where each worker has `size` of them
 abbrev pub cut : ℕ → ℕ → ℕ → ℕ
 cut count size k = min (k * size) count
 
--- how many things worker k has
+-- how many of `count` things worker k has
 abbrev pub run : ℕ → ℕ → ℕ → ℕ
 run count size k = min size (count - cut count size k)
 
--- how many parts of a size make up so many things
+-- how many parts of this size make up `count` things
 abbrev pub parts : ℕ → ℕ → ℕ
 parts count size = count / size + min 1 (count % size)
 

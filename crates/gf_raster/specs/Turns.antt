@@ -14,7 +14,7 @@ use Rattle.gf_raster.specs.declared.rounds.Turn.{Turn}
 use Rattle.gf_raster.specs.Rows.{AreRows, AreShareOf}
 use Rattle.gf_raster.specs.Shares.{cut, run, stride}
 
--- each has the bytes of a row of the window, from row top on, in len columns from a first one on
+-- each piece has the bytes of a row from top on, in len columns from a first one on
 abbrev pub ArePieces : (Point → Rgb) → View → ℕ → ℕ → ℕ → List (Vec ℕ Global) → Type 0
 ArePieces colour w top from len pieces = (i : ℕ) (d : Vec ℕ Global) → i < length pieces
     → (slice_index_or pieces i d).items ≡ cells colour w (top + i) from len
@@ -26,7 +26,7 @@ ArePiecesWith colour w top from len old new = (i : ℕ) (d : Vec ℕ Global) →
     → (slice_index_or new i d).items
     ≡ (slice_index_or old i d).items ++ cells colour w (top + i) from len
 
--- each turn has a piece for each of so many rows
+-- each turn has a piece for each of `count` rows
 abbrev pub HaveLines : ℕ → List Turn → Type 0
 HaveLines count turns = (k : ℕ) (d : Turn) → k < length turns
     → length (slice_index_or turns k d).pieces.items ≡ count

@@ -28,8 +28,7 @@ pub(crate) fn first_band<'l, S: Shape + Sync, R: Threads + Sync, G: Gate + Sync>
     round(crew, window, 0, &[], part.as_ref(), &mut bytes)
 }
 
-/// Adds the bytes of band `index`, of which `strokes` tells what it shows, and tells what the next one
-/// shows.
+/// Adds the bytes of band `index`, which shows `strokes`. The answer is what the next band shows.
 pub(crate) fn band<'l, S: Shape + Sync, R: Threads + Sync, G: Gate + Sync>(
     crew: &Crew<'_, R, G>,
     layers: &'l Layers<'_, S>,

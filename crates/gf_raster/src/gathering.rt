@@ -47,7 +47,7 @@ pub(crate) fn gather(
     Ok(())
 }
 
-/// Adds the bytes of row `i`, of `count` ones.
+/// Adds the bytes of row `i`, of `count` rows.
 fn gather_row(
     turns: &[Turn<'_>],
     count: usize,

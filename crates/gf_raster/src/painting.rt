@@ -16,8 +16,8 @@ use std::alloc::Global;
 use std::marker::Model;
 use std::thread::Threads;
 
-/// The pixels of a window: its rows from the top, of each its points from the left, of each the
-/// bytes of red, green and blue.
+/// The pixels of a window: rows from the top, points from the left, and bytes of red, green and
+/// blue.
 #[derive(Debug, Drop)]
 pub struct Raster {
     bytes: Vec<u8>,
@@ -32,7 +32,7 @@ impl Model for Raster {
 }
 
 impl Raster {
-    /// Its bytes.
+    /// The bytes of the pixels.
     pub fn bytes(&self) -> &[u8]
         ensures { result.now ≡ self.now }
     {
@@ -40,13 +40,13 @@ impl Raster {
     }
 }
 
-/// Paints a window of a drawing by 1 to 16 workers, one band of 64 rows after another: pixel (i, j)
-/// has the drawing's colour at the point (x + i * step, y + j * step).
+/// Paints a window of a drawing by 1 to 16 workers, one band of 64 rows after another. The pixel
+/// (i, j) has the drawing's colour at the point (x + i * step, y + j * step).
 ///
 /// What a band shows is found before, while the band above is painted. Each worker has a run of the
-/// band's tiles: the worker passes `gate` for a tile, paints it, and goes on to the next one. Where
-/// the gate lets nobody wait, and there is little to find, the caller's thread does all, as worker 1.
-/// Where a thread can't be started, the caller's does its part.
+/// band's tiles. The worker passes `gate` for a tile, paints it, and goes on to the next one. Where
+/// the gate lets nobody wait, and there is little to find, the caller's thread does all as worker
+/// 1. Where a thread can't be started, the caller's does its part.
 pub fn paint<S: Shape + Sync, G: Gate + Sync, R: Threads + Sync>(
     rt: &R,
     alloc: Global,

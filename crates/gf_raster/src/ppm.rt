@@ -23,9 +23,9 @@ use gf_streams::{Sink, WriteError, write_all};
 use std::alloc::{AllocError, Global};
 use std::thread::Threads;
 
-/// Writes the picture of a window of a drawing as raw PPM, and flushes: the header, and then one
-/// band of 64 rows after another, each painted as [`paint`](crate::paint) does. No more than a band
-/// is in memory, where threads paint it twice, and what the next one shows.
+/// Writes the picture of a window of a drawing as raw PPM, and flushes. The header comes first, and
+/// then one band of 64 rows after another, each painted as [`paint`](crate::paint) does. At most a
+/// band is in memory, where threads paint it twice, and what the next one shows.
 pub fn ppm_to<S: Shape + Sync, G: Gate + Sync, R: Threads + Sync, W: Sink>(
     rt: &R,
     alloc: Global,
@@ -110,8 +110,7 @@ fn write_bands<S: Shape + Sync, G: Gate + Sync, R: Threads + Sync, W: Sink>(
     Ok(())
 }
 
-/// Writes the rows of band `index`, of which `strokes` tells what it shows, and tells what the next one
-/// shows.
+/// Writes the rows of band `index`, which shows `strokes`. The answer is what the next band shows.
 fn write_band<'l, S: Shape + Sync, G: Gate + Sync, R: Threads + Sync, W: Sink>(
     crew: &Crew<'_, R, G>,
     layers: &'l Layers<'_, S>,

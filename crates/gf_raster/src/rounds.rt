@@ -17,11 +17,11 @@ use gf_shape::{OutOfMemory, Shape};
 use std::thread;
 use std::thread::Threads;
 
-/// From how much work on threads are started: so many looks at a layer or an edge, as they are
-/// measured here, take about a millisecond.
+/// The least work for which threads are started. This many visits of a layer or an edge took about
+/// a millisecond when measured.
 const WORTH: usize = 200_000;
 
-/// How many looks it takes to find a stroke.
+/// How many visits it takes to find a stroke.
 const STROKE: usize = 16;
 
 /// What a worker does in a round.
@@ -29,15 +29,15 @@ const STROKE: usize = 16;
 pub(crate) struct Turn<'l> {
     /// Of each row of the band, the bytes of the worker's columns.
     pub pieces: Vec<Vec<u8>>,
-    /// What the worker's share of the next band's rows show.
+    /// What the worker's share of the next band's rows shows.
     pub rows: Vec<Vec<Stroke<'l>>>,
 }
 
-/// Adds the bytes of the rows from `top` on, and finds what the rows of a part show, where there is
-/// one. Of no rows no gate is passed.
+/// Adds the bytes of the rows from `top` on, and finds what the rows of a part show, if any. For no
+/// rows no gate is passed.
 ///
-/// All workers take part where the gate may let them wait, or where the work is worth threads.
-/// Else the caller passes for all tiles, as worker 1.
+/// All workers take part where the gate may let them wait, or where the work is worth threads. Else
+/// the caller passes for all tiles, as worker 1.
 pub(crate) fn round<'l, S: Shape + Sync, R: Threads + Sync, G: Gate + Sync>(
     crew: &Crew<'_, R, G>,
     window: Window,
@@ -59,8 +59,8 @@ pub(crate) fn round<'l, S: Shape + Sync, R: Threads + Sync, G: Gate + Sync>(
     }
 }
 
-/// How many looks it takes to find all rows of a part, where they have as many strokes as the rows
-/// above: a measure, of which nothing is proved.
+/// How many visits it takes to find all rows of a part, with as many strokes as the rows above.
+/// Nothing is proved of this measure.
 fn work<S: Shape>(strokes: &[Vec<Stroke<'_>>], next: Option<&Part<'_, '_, S>>) -> usize {
     match next {
         Some(part) => part
@@ -139,7 +139,7 @@ fn try_turns<'l, S: Shape + Sync, R: Threads + Sync, G: Gate + Sync>(
     Ok(results)
 }
 
-/// The turn of worker `k`: a run of tiles, each filled behind passing its gate, then a share of the
+/// The turn of worker `k`: a run of tiles, each filled behind its gate. Then comes a share of the
 /// next band's rows.
 fn take_turn<'l, S: Shape, R: Threads, G: Gate>(
     crew: &Crew<'_, R, G>,

@@ -22,7 +22,7 @@ pub(crate) fn all_found<'l, S: Shape>(
     }
 }
 
-/// What worker `k`'s share of the rows of a part show, where there is one.
+/// What worker `k`'s share of the rows of a part shows, where there is one.
 pub(crate) fn share_found<'l, S: Shape>(
     alloc: Global,
     part: Option<&Part<'l, '_, S>>,
@@ -38,7 +38,7 @@ pub(crate) fn share_found<'l, S: Shape>(
     }
 }
 
-/// What the rows of worker `k` show, of a part's rows, where each has so many.
+/// What the rows of worker `k` show, where each worker has `size` rows of a part.
 fn share<'l, S: Shape>(
     alloc: Global,
     part: &Part<'l, '_, S>,
@@ -66,7 +66,7 @@ fn found<'l, S: Shape>(
     ensures rows { IfOk result (λ rows.
         AreRows (layered S.holds part.now.layers) part.now.window top rows.items) }
 {
-    // The first row's clause says that the rows are few.
+    // The clause of `top` says that the rows are few.
     let _ = part.top();
     let mut rows = Vec::with_capacity(alloc, count)?;
     let mut strip = Strip::new(alloc);

@@ -20,7 +20,7 @@ use std::thread::Threads;
 /// How wide and how high a tile is, in pixels; a band has as many rows.
 pub(crate) const TILE: usize = 64;
 
-/// Passes the gate for each tile of the band from row `top` on, and adds the bytes of its rows. Of
+/// Passes the gate for each tile of the band from row `top` on, and adds the bytes of its rows. For
 /// no rows no gate is passed.
 pub(crate) fn fill_all<R: Threads, G: Gate>(
     crew: &Crew<'_, R, G>,
@@ -46,8 +46,8 @@ pub(crate) fn fill_all<R: Threads, G: Gate>(
     Ok(())
 }
 
-/// Of each row of the band from row `top` on the bytes of worker `k`'s columns, who fills a run of
-/// tiles: each behind passing its gate.
+/// The bytes of worker `k`'s columns, for each row of the band from row `top` on. The worker fills
+/// a run of tiles, each behind its gate.
 pub(crate) fn pieces<R: Threads, G: Gate>(
     crew: &Crew<'_, R, G>,
     window: Window,
@@ -86,7 +86,7 @@ fn number(window: Window, top: usize, column: usize) -> u32
     (top / TILE * tiles + column / TILE) as u32
 }
 
-/// So many pieces of no bytes, each with room for so many.
+/// Pieces of no bytes, `count` of them, each with room for `room` bytes.
 fn blank(alloc: Global, count: usize, room: usize) -> Result<Vec<Vec<u8>>, OutOfMemory>
     ensures len { IfOk result (λ ps. vec_len ps ≡ count) }
     ensures blank { IfOk result (λ ps. All (λ p. p.items ≡ []) ps.items) }

@@ -7,16 +7,16 @@ use Rattle.gf_json.specs.LineValues.{Got}
 use Rattle.gf_json.specs.OperationLines.{denoted}
 use Rattle.gf_json.specs.declared.line_error.LineError.TheVariants as fault
 
--- the line may read so: as what it denotes, or memory ran out
+-- the reading is what the line denotes, or memory ran out
 pub record IsReading (line : List ℕ) (reading : Got Op) : Type 0 where
   pub denoted : (reading ≡ Err fault.OutOfMemory) ⊎ (reading ≡ denoted line)
   pub in_range : IfOk reading (λ op. IsInRange op)
 
--- the lines read so, each in its place
+-- the readings are those of the lines, in their order
 abbrev pub AreReadings : List (List ℕ) → List (Got Op) → Type 0
 AreReadings lines readings = AllZip IsReading lines readings
 
--- the first of the numbered lines read so, each in its place
+-- the readings are those of the first of the numbered lines, in their order
 abbrev pub AreFirstReadings : List (ℕ × List ℕ) → List (Got Op) → Type 0
 AreFirstReadings lines [] = ⊤
 AreFirstReadings [] (r ∷ rs) = ⊥

@@ -11,7 +11,7 @@ use Rattle.gf_json.specs.OperationLines.{denoted}
 abbrev pub denotes_op : Op → Got Op
 denotes_op op = Ok op
 
--- each of the lines denotes an operation, and these are they in order
+-- the lines denote these operations, in their order
 abbrev pub AreLinesOf : List (ℕ × List ℕ) → List Op → Type 0
 AreLinesOf lines ops = map (λ (line : ℕ × List ℕ). denoted line.1) lines
     ≡ map denotes_op ops

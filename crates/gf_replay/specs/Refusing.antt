@@ -29,30 +29,28 @@ pub record IsAt (bytes : List ℕ) (n : ℕ) (line : List ℕ) : Type 0 where
   pub history : List Op
   pub delivers : Delivers ops history
 
--- the line denotes another operation under the id of one of these
+-- the line denotes another operation under the id of one of these operations
 pub record IsClashing (ops : List Op) (line : List ℕ) : Type 0 where
   pub op : Op
   pub denotes : denoted line ≡ Ok op
   pub other : HasOther ops op
 
--- what is wrong with a line behind those of these operations
+-- what is wrong with a line behind the lines of these operations
 abbrev pub IsFault : List Op → List ℕ → LineCause → Type 0
 IsFault ops text cause.Json = denoted text ≡ Err line.Json
 IsFault ops text cause.Field = denoted text ≡ Err line.Field
 IsFault ops text cause.Range = denoted text ≡ Err line.Range
 IsFault ops text cause.Clash = IsClashing ops text
 
--- line n is the first that denotes no operation, or another one under the id of an earlier one, for
--- this cause
+-- line n is the first that denotes no operation, or another one under an earlier id, for this cause
 pub record HasFault (bytes : List ℕ) (n : ℕ) (cause : LineCause) : Type 0 where
   pub line : List ℕ
   pub at : IsAt bytes n line
   pub fault : IsFault at.ops line cause
 
--- what the lines before some line deliver is a valid history; with that line the operation under
--- this id is there, and it is
--- ready behind a delivery of the operations so far, a valid history to which it cannot be added,
--- for this fault
+-- what the lines before some line deliver is a valid history. With that line, the operation under
+-- this id is ready behind a delivery of the operations so far. It cannot be added to the valid
+-- history of that delivery, for this fault
 pub record Drops (bytes : List ℕ) (id : OpId) (fault : OpFault) : Type 0 where
   pub number : ℕ
   pub line : List ℕ

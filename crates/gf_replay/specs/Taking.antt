@@ -35,8 +35,8 @@ pub data Offers (x : SiteState) (a : Op) (y : SiteState) : Type 0 where
 abbrev pub HoldsOthers : SiteState → Type 0
 HoldsOthers x = (a : Op) → Contains x.held a → ¬ (Contains x.ops a)
 
--- the site has the operations that it had
--- if it held none of its history before, it holds none of its history now
+-- the site has the operations that it had. If it held none of its history before, it holds none of
+-- its history now
 pub record KeepsAll (old new : SiteState) : Type 0 where
   pub same : (a : Op) → HasOrHolds old a ↔ HasOrHolds new a
   pub others : HoldsOthers old → HoldsOthers new
@@ -52,7 +52,7 @@ pub record Settles (old new : SiteState) : Type 0 where
   pub moves : Moves old new
   pub none : NoneIsReady new.ops new.held
 
--- after some steps one that the site had is ready and doesn't fit, for this fault
+-- after some steps an operation that the site had is ready and doesn't fit, for this fault
 pub record DropsReady (old : SiteState) (id : OpId) (fault : OpFault) : Type 0 where
   pub state : SiteState
   pub moves : Moves old state

@@ -7,7 +7,7 @@ use Rattle.gf_ops.specs.OperationOrder.{id_cmp}
 use Rattle.gf_causal.specs.HeldOperations.{ids_of}
 use Rattle.gf_replay.specs.Denoting.{AreLinesOf, Delivers}
 
--- the waiting operations are those of ops that h lacks, each once, rising by id
+-- the waiting operations are all of ops that h lacks, each once, rising by id
 pub record AreWaiting (ops h waiting : List Op) : Type 0 where
   pub exactly : (a : Op) → Contains waiting a ↔ (Contains ops a × (¬ (Contains h a)))
   pub rising : IsStrictlySortedBy id_cmp (ids_of waiting)

@@ -19,8 +19,8 @@ const SHARE_LINES: usize = 256;
 /// What a line reads as: the operation that it denotes, or its fault.
 pub(crate) type Reading = Result<Op, LineError>;
 
-/// What the first lines read as, in order: those of a block, or all where they are fewer. At most
-/// `workers` threads read them, and a few lines are read by one.
+/// What the first lines read as, in order: a block of them, or all where they are fewer. At most
+/// `workers` threads read them, and one thread reads a few lines.
 pub(crate) fn read_block<R: Threads + Sync>(
     rt: &R,
     alloc: Global,
@@ -38,7 +38,7 @@ pub(crate) fn read_block<R: Threads + Sync>(
     Ok(readings)
 }
 
-/// How many threads read so many lines.
+/// How many threads read this many lines.
 fn threads_for(lines: usize, workers: u8) -> usize
     requires { 1 ≤ workers }
     ensures { 1 ≤ result }
@@ -46,7 +46,7 @@ fn threads_for(lines: usize, workers: u8) -> usize
     lines.div_ceil(SHARE_LINES).clamp(1, workers as usize)
 }
 
-/// So many places for what lines read as.
+/// Places for what `count` lines read as.
 fn unread(alloc: Global, count: usize) -> Result<Vec<Reading>, AllocError>
     ensures { IfOk result (λ readings. vec_len readings ≡ count) }
 {

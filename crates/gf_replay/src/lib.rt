@@ -1,7 +1,7 @@
 //! From the bytes of operation lines to a site that has their operations.
 //!
 //! - [`read_site`]: receives the operation of each line, and steps until nothing is ready.
-//! - [`take_op`]: does so with one operation.
+//! - [`take_op`]: receives one operation, and steps until nothing is ready.
 //! - [`line_refusal`]: the refusal of a line for its fault.
 //! - [`ReadingError`], [`LineCause`]: why lines are no history.
 #![tactic(auto)]

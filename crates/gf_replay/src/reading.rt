@@ -16,9 +16,9 @@ use std::alloc::Global;
 use std::thread::Threads;
 
 /// A site whose history is that of the operations that the lines of a text denote. It holds each
-/// until all that it knows is there; what it holds at the end is no part of the history, and waits.
-/// The lines are read by 1 to 16 workers, and taken in order. The text's memory is given back as it
-/// is read.
+/// operation until all that this knows is there. What it holds at the end is no part of the
+/// history, and waits. The lines are read by 1 to 16 workers, and taken in order. The text's memory
+/// is given back as it is read.
 pub fn read_site<R: Threads + Sync>(
     rt: &R,
     alloc: Global,
@@ -41,7 +41,7 @@ pub fn read_site<R: Threads + Sync>(
         }
         take_block(&mut site, &mut lines, readings)?;
     }
-    // Its clause says that their ids rise.
+    // The clause of `held` says that the held ids rise.
     let _ = site.held();
     Ok(site)
 }

@@ -6,7 +6,7 @@ use thiserror::Error;
 /// What is wrong with a line.
 #[derive(Clone, Copy, Debug, PartialEq, Eq, Error)]
 pub enum LineCause {
-    /// It is no JSON.
+    /// The line is no JSON.
     #[error("Json")]
     Json,
     /// A key is missing or unknown, or a value has another form.
@@ -15,7 +15,7 @@ pub enum LineCause {
     /// A value is outside its limits.
     #[error("Range")]
     Range,
-    /// It is another operation under the id of an earlier line's.
+    /// The line is another operation under the id of an earlier line's operation.
     #[error("Clash")]
     Clash,
 }

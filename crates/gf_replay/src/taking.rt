@@ -45,7 +45,7 @@ fn settle(site: &mut Site) -> Result<(), ReadingError>
     ensures err { IfErr result (RefusesSettling site.old) }
 {
     loop {
-        // Their clauses say what every site keeps.
+        // The clauses of both calls say what every site keeps.
         let _ = site.history();
         let _ = site.held();
         match site.step() {

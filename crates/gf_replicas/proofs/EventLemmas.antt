@@ -54,7 +54,7 @@ record Reached (n : ℕ) (sites : List SiteState) (messages : List Op) : Type 0 
   run : IsWorld n events offers (record { sites = sites; messages = messages })
 
 module _ (n : ℕ) (sites : List SiteState) (messages : List Op) (k : ℕ) (h : List Op) (a : Op) (w : Reached n sites messages) (at : slice_get sites k ≡ Some (resting k h)) (ready : AreReady h) (accepted : IsAccepted h a) (in_range : IsInRange a) where
-  -- it is the site's own
+  -- the operation is the site's own
   make_one : a.id.site ≡ suc k → a.past ≡ clock_of h → Reached n (set sites k (resting k (h ++ a ∷ []))) (messages ++ a ∷ [])
   make_one s p =
       let number : a.id.seq ≡ count_of h (suc k) + 1 = subst (λ t. a.id.seq ≡ count_of h t + 1) s accepted.next.numbered.seq in
@@ -65,7 +65,7 @@ module _ (n : ℕ) (sites : List SiteState) (messages : List Op) (k : ℕ) (h : 
         run = next w.run (authors at (record { is = is; in_range = in_range; accepted = accepted; state = refl }));
       }
 
-  -- it was authored
+  -- the operation was authored
   take_one : Contains messages a → Reached n (set sites k (resting k (h ++ a ∷ []))) messages
   take_one c =
       let m = position_of messages a c in
@@ -90,7 +90,7 @@ module _ (n : ℕ) (sites : List SiteState) (messages : List Op) (k : ℕ) (h : 
             (set_set sites k held (resting k (h ++ a ∷ []))) stepped;
       }
 
--- so for some operations that follow in the site's course
+-- the events for some operations that follow in the site's course
 take_all : (n : ℕ) (messages : List Op) (k : ℕ) (all : List Op) → IsCourse (k + 1) all → (rest h more : List Op) → all ≡ (h ++ rest) ++ more → ((a : Op) → Contains rest a → Contains messages a) → (sites : List SiteState)
     → slice_get sites k ≡ Some (resting k h) → Reached n sites messages → Reached n (set sites k (resting k (h ++ rest))) messages
 take_all n messages k all c [] h more e among sites at w = subst (λ l. Reached n l messages) (sym (set_itself sites k (resting k h) at) ∙ ap (λ g. set sites k (resting k g)) (sym (append-nil h))) w
@@ -111,7 +111,7 @@ record IsAt (messages : List Op) (k : ℕ) (h : List Op) (x : SiteState) : Type 
   whole : h ≡ ops ++ rest
   from : (a : Op) → Contains ops a → Contains messages a
 
--- so for each site, and the first j of them are done
+-- each site is at a beginning of its course, and the first j of them are done
 record Come (lists : List (List Op)) (j : ℕ) (messages : List Op) : Type 0 where
   sites : List SiteState
   reached : Reached (length lists) sites messages

@@ -8,8 +8,7 @@ use Rattle.gf_site.specs.Course.{IsCourse}
 use Rattle.gf_replicas.specs.declared.event.Event.{Event}
 use Rattle.gf_replicas.specs.World.{WorldState, IsWorldOf}
 
--- the lists are courses of the sites from number 1 on, and have the same operations, each of which
--- is one of these sites'
+-- the lists are courses of sites from 1 on, with the same operations, each made by one of these
 pub record AreCourses (lists : List (List Op)) : Type 0 where
   pub course : (k : ℕ) (h : List Op) → slice_get lists k ≡ Some h → IsCourse (k + 1) h
   pub same : (g h : List Op) → Contains lists g → Contains lists h → HaveSame g h

@@ -1,4 +1,4 @@
-//! A world: the sites that work on one drawing, and what they tell each other.
+//! A world: the sites that work on one drawing, and the messages between them.
 
 ghost use Rattle.std.specs.Prelude.{◌≡◌, ◌≢◌, ◌+◌, ◌<◌, None, Err, length, slice_get};
 ghost use Rattle.std.specs.Prelude.{option_copied, IfOk, OnOk, OnErr, IfSome, IfNone};
@@ -23,8 +23,8 @@ pub struct World {
     pub messages: Vec<Op>,
 }
 
-/// The world that so many new sites come to by the events. An event that names no site or no
-/// message changes nothing, and neither does a change that its site refuses for another cause than
+/// The world that this many new sites come to by the events. An event that names no site or no
+/// message changes nothing. Neither does a change that its site refuses for another cause than
 /// memory.
 pub fn world_run(alloc: Global, sites: u8, events: Vec<Event>) -> Result<World, OutOfMemory>
     requires { IsSite sites }

@@ -127,7 +127,7 @@ module _ (h : List Op) (o : ObjectId) (cs : List (List Setter)) (tells : AreChai
       ] in
       unmade_by h valid c.first b there (brought_suited c.first c.brings_first) (brought_inside c.first c.brings_first) (subst (DirectConflict c.first) second c.direct) c.first.change refl start f
 
-  -- ITS CONFLICTS
+  -- THE CONFLICTS OF THE OPERATION
   module _ (es : List AimedState) (aimed : AreAimed h cs es) (r d : List ℕ) (met : (n : ℕ) → Contains r n ↔ IsMet h cs a n) (found : (n : ℕ) → Contains d n ↔ (Contains r n ⊎ AimsAtOne es r n)) where
     met_conflicts : (n : ℕ) → IsMet h cs a n → IsConflict h cs a n
     met_conflicts n w = record {

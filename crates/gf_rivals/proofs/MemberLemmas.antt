@@ -246,7 +246,7 @@ module _ (h : List Op) (o : ObjectId) (cs : List (List Setter)) (us : List ℕ) 
       let e = clash_values h o cs w.members.tells w.valid y n w.attribute z.0 w.site z.1 at_y z.2 w.clash in
       (z.1, subst (λ t. Stands h o cs t z.1 n) (sym e.0) z.2)
 
-  -- it stands from k on
+  -- y stands from k on
   pub from_start : k ≤ y
   from_start =
       let a = at_y in
@@ -286,7 +286,7 @@ module _ (h : List Op) (o : ObjectId) (cs : List (List Setter)) (us : List ℕ) 
             inr (t.0, t.1, before_y t.0 x (omega (arith, from, above)) t.2 (λ g. i.3 (g ∙ sym same)))
       ]
 
-  -- its member stands from k on
+  -- the member of y stands from k on
   pub member_there : (m : Member) × IsOfChain ms k m × (m.number ≡ y)
   member_there =
       let m = w.members.members.all y w.among in

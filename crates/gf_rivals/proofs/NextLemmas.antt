@@ -92,14 +92,14 @@ module _ (h : List Op) (valid : IsValid h) where
         let n = accepted.next.numbered.seq in
         omega (arith, l, n)
 
-    -- its id is new
+    -- the id of a is new
     pub fresh : (b : Op) → Contains h b → b.id ≢ a.id
     fresh b c e =
         let l = earlier b c (ap (λ (i : OpId). i.site) e) in
         let d : b.id.seq ≡ a.id.seq = ap (λ (i : OpId). i.seq) e in
         omega (arith, l, d)
 
-    -- none knows it
+    -- no operation knows a
     pub unknown : (b : Op) → Contains h b → ¬ (Precedes a b)
     unknown b c p =
         let t = valid.closed b c a.id (record { site = site_in_range a in_range; first = (seq_in_range a in_range).0; last = p }) in

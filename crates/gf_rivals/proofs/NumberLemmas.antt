@@ -211,7 +211,7 @@ module _ (h : List Op) (o : ObjectId) (cs : List (List Setter)) (tells : AreChai
       let e : n ≡ k * block + p = omega arith in
       subst (λ z. IsNumber cs z q) (sym e) (subst (IsNumber cs (k * block + p)) w.2 (number_in cs k p w.0 inside w.1))
 
-  -- so what is no setter's number has no position
+  -- what is no setter's number has no position
   pub position_none : (n : ℕ) → ((q : ℕ) → ¬ (IsNumber cs n q)) → position_of cs n ≡ None
   position_none n f = by_case (position_of cs n) refl
     where

@@ -74,7 +74,7 @@ pub record Clash (h : List Op) (cs : List (List Setter)) (m n : ℕ) : Type 0 wh
   pub at_second : op_of h cs n ≡ Some second
   pub direct : DirectConflict first second
 
--- a setter with one of the numbers us conflicts directly with that with the number n
+-- a setter with one of the numbers us conflicts directly with the setter with the number n
 pub record ClashesWithOne (h : List Op) (cs : List (List Setter)) (us : List ℕ)
     (n : ℕ) : Type 0 where
   pub one : ℕ

@@ -26,7 +26,7 @@ chain_of t s = rank t * 8 + s
 abbrev pub setters : List (List Setter) → Attr → ℕ → List Setter
 setters cs t s = slice_index_or cs (chain_of t s) []
 
--- n is the number of a setter of t by one of the first m sites, which the clock does not count
+-- the clock does not count n, the number of a setter of t by one of the first m sites
 pub record IsUnknown (cs : List (List Setter)) (t : Attr) (past : Clock) (m n : ℕ) : Type 0 where
   pub site : ℕ
   pub within : site < m
@@ -41,10 +41,10 @@ position_of cs n = option_map (λ (e : Setter). e.position)
 abbrev pub no_chains : List (List Setter)
 no_chains = repeat 48 ([] ∷ [])
 
--- the setters of t by the site s + 1 are ss
+-- the chains where the setters of t by the site s + 1 are ss
 abbrev pub with_chain : List (List Setter) → Attr → ℕ → List Setter → List (List Setter)
 with_chain cs t s ss = slice_set cs (chain_of t s) ss
 
--- the setter e of t by the site s + 1 behind the others
+-- the chains with the setter e of t by the site s + 1 behind the others
 abbrev pub with_setter : List (List Setter) → Attr → ℕ → Setter → List (List Setter)
 with_setter cs t s e = with_chain cs t s (setters cs t s ++ e ∷ [])

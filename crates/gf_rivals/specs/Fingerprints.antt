@@ -1,4 +1,4 @@
--- The fingerprint of a value, which tells most values: its attribute and three numbers of it.
+-- The fingerprint of a value, which identifies most values: its attribute and three of its numbers.
 use Rattle.std.specs.Prelude.{ℤ, pos, Bool, true, false, cond, Option, Some, None, slice_get}
 use Rattle.std.specs.declared.cmp.Ordering.{Ordering}
 use Rattle.std.specs.Ordering.{int_cmp, ordering_then}

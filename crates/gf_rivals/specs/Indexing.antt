@@ -14,8 +14,8 @@ abbrev pub PutsGiven : Entries → Option Fingerprint → ℕ → Entries → Ty
 PutsGiven old None x new = new ≡ old
 PutsGiven old (Some p) x new = PutsNumber old p x new
 
--- n is the number of one of the first m setters of ss, whose value has the fingerprint p;
--- the first setter of all has the number b
+-- n is the number of one of the first m setters of ss, with the fingerprint p. The first setter of
+-- all has the number b
 pub record IsListed (h : List Op) (ss : List Setter) (b m : ℕ) (p : Fingerprint)
     (n : ℕ) : Type 0 where
   pub place : ℕ

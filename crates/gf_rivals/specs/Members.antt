@@ -1,4 +1,4 @@
--- The setters of an aim, from the last one on, with the next one of their chain that gives another
+-- The setters of an aim, the last one first, each with the next one of its chain with another
 -- value.
 use Rattle.std.specs.Prelude.{◌≡◌, ◌≢◌, ℕ, ◌+◌, ◌*◌, ◌/◌, ◌<◌}
 use Rattle.std.specs.Prelude.{◌≤◌, List, Contains, Option, Some, None, slice_get}
@@ -73,7 +73,7 @@ pub record IsOfChain (ms : List Member) (k : ℕ) (m : Member) : Type 0 where
   pub from : k ≤ m.number
   pub chain : OneChain m.number k
 
--- k is the first number of a setter of t by the site s + 1 that the clock does not count
+-- the clock does not count k, the first such number of a setter of t by the site s + 1
 pub record IsFirstUnknown (cs : List (List Setter)) (t : Attr) (s : ℕ) (past : Clock)
     (k : ℕ) : Type 0 where
   pub chain : k / block ≡ chain_of t s
@@ -82,8 +82,7 @@ pub record IsFirstUnknown (cs : List (List Setter)) (t : Attr) (s : ℕ) (past :
   pub from : (p : ℕ) (e : Setter) → slice_get (setters cs t s) p ≡ Some e
       → entry past (s + 1) < e.seq → k ≤ chain_of t s * block + p
 
--- y is one of us and conflicts directly with the setter with the number n, which does not know what
--- stands from k on
+-- y is one of us and conflicts directly with the setter n, which knows nothing from k on
 pub record CanClash (h : List Op) (o : ObjectId) (cs : List (List Setter)) (us : List ℕ)
     (ms : List Member) (k n y : ℕ) : Type 0 where
   pub valid : IsValid h

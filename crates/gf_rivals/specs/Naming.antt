@@ -15,7 +15,7 @@ pub record HasSeq (ss : List Setter) (m p : ℕ) : Type 0 where
   pub at : slice_get ss p ≡ Some setter
   pub seq : setter.seq ≡ m
 
--- n is the number of the setter of the chain with the index k that has the number m at its site
+-- n is the number of the setter of chain k that has the number m at its site
 pub record IsSetterNumber (cs : List (List Setter)) (k m n : ℕ) : Type 0 where
   pub place : ℕ
   pub setter : HasSeq (slice_index_or cs k []) m place

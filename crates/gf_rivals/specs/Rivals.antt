@@ -52,7 +52,7 @@ pub record GivesAt (h : List Op) (o : ObjectId) (q : ℕ) (v : Value) : Type 0 w
   pub aim : List OpId
   pub change : op.change ≡ Set o v aim
 
--- d are the numbers of the setters that the clock does not count and that do not give the value v
+-- d are the numbers of setters that the clock does not count and that do not give the value v
 abbrev pub AreRivals : List Op → ObjectId → List (List Setter) → Value → Clock → List ℕ
     → Type 0
 AreRivals h o cs v past d = (n : ℕ) → Contains d n

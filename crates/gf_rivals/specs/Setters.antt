@@ -7,21 +7,21 @@ use Rattle.gf_rivals.specs.declared.chain.Setter.{Setter}
 abbrev pub block : ℕ
 block = 4294967296
 
--- their numbers rise, from one on
+-- the numbers of the setters at their site rise, from 1 on
 pub record AreSetters (ss : List Setter) : Type 0 where
   pub rise : (i j : ℕ) (d : Setter) → i < j → j < length ss
       → (slice_index_or ss i d).seq < (slice_index_or ss j d).seq
   pub above : (i : ℕ) (d : Setter) → i < length ss → i < (slice_index_or ss i d).seq
   pub short : length ss < block
 
--- the first k of them are those with a number up to m
+-- the first k setters are those with a number up to m at their site
 pub record IsCountUpTo (ss : List Setter) (m k : ℕ) : Type 0 where
   pub bound : k ≤ length ss
   pub below : (i : ℕ) (d : Setter) → i < k → (slice_index_or ss i d).seq ≤ m
   pub above : (i : ℕ) (d : Setter) → k ≤ i → i < length ss
       → m < (slice_index_or ss i d).seq
 
--- n is what the number of one of the setters above m is, where b is that of the first
+-- n is the number of a setter above m at its site; the first setter has the number b
 pub record IsNumberAbove (ss : List Setter) (b m n : ℕ) : Type 0 where
   pub place : ℕ
   pub setter : Setter

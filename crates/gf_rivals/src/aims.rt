@@ -41,7 +41,7 @@ impl Aimed {
         Aimed { number, aim }
     }
 
-    /// A copy.
+    /// A copy of the operation.
     pub fn copy(&self, alloc: Global) -> Result<Aimed, OutOfMemory>
         ensures { IfOk result (λ copy. copy ≡ self.now) }
     {
@@ -64,7 +64,7 @@ impl Aimed {
     }
 }
 
-/// The numbers, and those of the operations that aim at one of them.
+/// The numbers, with those of the operations that aim at one of them.
 pub fn with_aimed(alloc: Global, numbers: Numbers, aimed: &[Aimed]) -> Result<Numbers, OutOfMemory>
     ensures { IfOk result (λ found. (n : _)
         → Contains found n ↔ (Contains numbers n ⊎ AimsAtOne aimed.now numbers n)) }
@@ -79,14 +79,14 @@ pub fn with_aimed(alloc: Global, numbers: Numbers, aimed: &[Aimed]) -> Result<Nu
     Ok(found)
 }
 
-/// The number of the setter that has this id; none where that makes an object, or is not there.
+/// The number of the setter that has this id; none where it makes an object, or is not there.
 fn number_of(history: &History, chains: &Chains, id: OpId) -> Option<usize>
     requires { IsNamedOn history.now.ops chains.now id }
     ensures some { IfSome result (λ n. IsNamed history.now.ops chains.now id n) }
     ensures all { (n : _) → IsNamed history.now.ops chains.now id n → result ≡ Some n }
     ensures bound { IfSome result (λ n. n + 1 < 2 ^ 64) }
 {
-    // Its clause says that the history is valid.
+    // The clause of `ops` says that the history is valid.
     let _ = history.ops();
     let op = history.get(id)?;
     match &op.change {

@@ -37,7 +37,7 @@ impl Model for Chain {
 }
 
 impl Chain {
-    /// No setter.
+    /// The chain of no setter.
     pub fn new(alloc: Global) -> Chain
         ensures { result ≡ [] }
     {
@@ -120,7 +120,7 @@ impl Chain {
         self.setters.pop();
     }
 
-    /// A copy.
+    /// A copy of the chain.
     pub fn copy(&self, alloc: Global) -> Result<Chain, OutOfMemory>
         ensures { IfOk result (λ copy. copy ≡ self.now) }
     {

@@ -25,8 +25,8 @@ pub(crate) const BLOCK: usize = 4_294_967_296;
 /// How many chains there are: one for each attribute and site.
 pub(crate) const CHAINS: usize = 48;
 
-/// The chains of all attributes and sites. A chain is kept from its first setter on, so an object
-/// that few sites set in few attributes takes little memory.
+/// The chains of all attributes and sites. A chain is kept from its first setter on, so few setters
+/// take little memory.
 #[derive(Debug, Drop)]
 pub struct Chains {
     chains: KeptChains,
@@ -69,7 +69,7 @@ fn index_of(attribute: Attr, site: u8) -> usize
 }
 
 impl Chains {
-    /// No setter.
+    /// The chains of no setter.
     pub fn new(alloc: Global) -> Chains
         ensures { result ≡ no_chains }
     {
@@ -78,7 +78,7 @@ impl Chains {
         }
     }
 
-    /// A copy.
+    /// A copy of the chains.
     pub fn copy(&self, alloc: Global) -> Result<Chains, OutOfMemory>
         ensures { IfOk result (λ copy. copy ≡ self.now) }
     {
@@ -95,8 +95,8 @@ impl Chains {
         self.chains.get(&index)
     }
 
-    /// The numbers found, with those of one chain's setters whose number at their site is above this
-    /// one.
+    /// The numbers found, with those of one chain's setters whose number at their site is above
+    /// this one.
     fn with_unknown(
         &self,
         alloc: Global,

@@ -25,7 +25,8 @@ fn add_giving(
     some: &mut Numbers,
 ) -> Result<(), OutOfMemory>
     ensures { OnOk result
-        (AddsIf (number_gives ops.now chains.now value.now number ≡ true) number some.old some.new) }
+        (AddsIf (number_gives ops.now chains.now value.now number ≡ true) number
+        some.old some.new) }
 {
     if number_gives(ops, chains, value, number) {
         some.join(number)
@@ -34,7 +35,7 @@ fn add_giving(
     }
 }
 
-/// The numbers of which the setters give the value.
+/// The numbers whose setters give the value.
 fn giving(
     alloc: Global,
     ops: &[Op],
@@ -53,9 +54,8 @@ fn giving(
     Ok(some)
 }
 
-/// The rivals of the next operation of an object, which gives this value: of the setters that it
-/// does not know, the numbers of those that give another value. Only lists of points are compared in
-/// the history, and only with those that begin alike.
+/// The rivals of the next operation of an object: the numbers of unknown setters that give another
+/// value. Only lists of points are compared in the history, and only with those that begin alike.
 pub fn rivals(
     alloc: Global,
     history: &History,

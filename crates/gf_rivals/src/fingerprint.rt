@@ -1,4 +1,4 @@
-//! The fingerprint of a value, which tells most values.
+//! The fingerprint of a value, which identifies most values.
 
 ghost use Rattle.std.specs.Prelude.{◌≡◌, option_copied};
 ghost use Rattle.gf_rivals.specs.Fingerprints.{point_fingerprint, fingerprint_of};
@@ -7,8 +7,8 @@ ghost use Rattle.gf_rivals.specs.Fingerprints.{has_own_fingerprint};
 use gf_ops::{Attr, Value};
 use gf_shape::{Point, Rgb};
 
-/// The attribute of a value and three numbers of it. They tell all of it, but of a list of points
-/// only the first one.
+/// The attribute of a value and three numbers of it. They determine the value, but of a list of
+/// points only the first one.
 #[derive(Clone, Copy, Debug, PartialEq, Eq, PartialOrd, Ord)]
 pub(crate) struct Fingerprint {
     pub attribute: Attr,

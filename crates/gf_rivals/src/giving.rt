@@ -9,7 +9,7 @@ ghost use Rattle.gf_rivals.specs.Setters.{block};
 use crate::chains::Chains;
 use gf_ops::{Change, Op, Value};
 
-/// Whether they are one value of one attribute.
+/// Whether two values are one value of one attribute.
 fn value_eq(value: &Value, other: &Value) -> bool
     ensures { result ≡ value_eq value.now other.now }
 {
@@ -37,7 +37,7 @@ pub(crate) fn op_value(op: Option<&Op>) -> Option<&Value>
     }
 }
 
-/// Whether there is a value, and it is the other one.
+/// Whether there is a value, and this is the other one.
 fn is_value(value: Option<&Value>, other: &Value) -> bool
     ensures { result ≡ is_value (option_copied value.entry) other.now }
 {

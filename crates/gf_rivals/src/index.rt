@@ -23,7 +23,7 @@ use std::marker::Model;
 type NumbersByFingerprint = BTreeMap<Fingerprint, Numbers>;
 
 /// For each fingerprint of a value the numbers of the setters with such a value, none without a
-/// setter. An index can always be made anew from the history and the chains.
+/// setter. An index can always be made again from the history and the chains.
 #[derive(Debug, Drop)]
 pub struct Index {
     numbers: NumbersByFingerprint,
@@ -147,7 +147,7 @@ impl Index {
         Ok(Index { numbers })
     }
 
-    /// The index with one more setter. Where memory is refused there is none.
+    /// The index with one more setter. Where memory is refused there is no index.
     pub fn with(self, alloc: Global, value: &Value, number: usize) -> Option<Index>
         requires { number + 1 < 2 ^ 64 }
         ensures { IfSome result (λ index. PutsNumber self (fingerprint_of value.now) number index) }
@@ -159,7 +159,7 @@ impl Index {
         }
     }
 
-    /// A copy.
+    /// A copy of the index.
     pub fn copy(&self, alloc: Global) -> Result<Index, OutOfMemory>
         ensures { IfOk result (λ copy. copy ≡ self.now) }
     {

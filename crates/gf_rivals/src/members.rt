@@ -161,7 +161,7 @@ fn clashes_with_one(history: &History, chains: &Chains, members: &[Member], numb
         → (IsTrue result ↔ ClashesWithOne history.now.ops chains.now us number) }
     ensures bound { IsTrue result → number < 48 * block }
 {
-    // Its clause says that the history is valid.
+    // The clause of `ops` says that the history is valid.
     let _ = history.ops();
     let Some(op) = op_of(history, chains, number) else {
         return false;
@@ -199,8 +199,8 @@ fn add_clashing(
     }
 }
 
-/// Of some numbers those of the setters with which a setter of the others conflicts directly. Each
-/// is compared with two of the others for each site.
+/// The numbers of `among` whose setter conflicts directly with a setter of the others. Each is
+/// compared with two of the others for each site.
 pub fn clashing(
     alloc: Global,
     history: &History,

@@ -53,7 +53,7 @@ module _ (low high y : ℤ) (from : low ≤ℤ y) (upto : y ≤ℤ high) where
     | inr h ↦ (rw h (sym (beside e h).0), rw h (sym (beside e h).1))
   ]
 
-  -- those that come between them meet it as all do
+  -- the edges that come between the heights meet a row there as all edges do
   pub met_alike : (a : Point) (ps : List Point) → (crossings_at y (between_along low high a ps) ≡ crossings_along y a ps) × (contacts_at y (between_along low high a ps) ≡ contacts_along y a ps)
   met_alike a [] = (refl, refl)
   met_alike a (b ∷ ps) =
@@ -64,7 +64,7 @@ module _ (low high y : ℤ) (from : low ≤ℤ y) (upto : y ≤ℤ high) where
         flat_map-append (λ e. contacts_of y (e.from, e.to)) (between_of low high e) (between_along low high b ps) ∙ rw (one.1, rest.1) refl,
       )
 
-  -- so those of a closed path tell its row
+  -- the edges of a closed path that come between the heights tell its row
   pub closed_tells : (a : Point) (ps : List Point) → end_of a ps ≡ a → TellsRow (chain_holds (a ∷ ps)) y (between_along low high a ps)
   closed_tells a ps e =
       let same = met_alike a ps in
@@ -73,7 +73,7 @@ module _ (low high y : ℤ) (from : low ≤ℤ y) (upto : y ≤ℤ high) where
         exact = λ x. rw (same.0, same.1) (sym (rw (path_edges x y a ps, path_crosses x y a ps) refl));
       }
 
-  -- those of a ring do
+  -- the edges of a ring that come between the heights tell its row
   pub ring_tells : (r : Ring) (ps : List Point) → IsRing r → ps ≡ r.points → TellsRow (chain_holds ps) y (between_along low high (get_or ps 0 origin) (take (length ps - 1) (drop 1 ps)))
   ring_tells r [] h e = absurd (let l = h.least in omega (arith, ap length e))
   ring_tells r (a ∷ ps) h e =
@@ -91,7 +91,7 @@ none_empty y (e ∷ es) = any_append is_empty (contacts_of y (e.from, e.to)) (co
 pub told : (holds : Point → Bool) (y : ℤ) (es : List Edge) (ss : List Span) → IsJoined (crossings_at y es) (contacts_at y es) ss → TellsRow holds y es → IsRow holds y ss
 told holds y es ss joined tells = record { exact = λ x. joined.exact x ∙ tells.exact x; apart = joined.apart }
 
--- they lie within reach
+-- the edges that come between the heights lie within reach
 pub reached_along : (low high : ℤ) (a : Point) (ps : List Point) → IsTrue (is_within_reach a) → All (λ p. IsTrue (is_within_reach p)) ps → All IsWithinReach (between_along low high a ps)
 reached_along low high a [] h hs = All-nil IsWithinReach
 reached_along low high a (b ∷ ps) h hs =

@@ -29,7 +29,7 @@ rest [] = []
 rest (x ∷ xs) = xs
 
 module _ {S : Type 0} (holds : S → Point → Bool) where
-  -- they show the same colours
+  -- the layers and the figures show the same colours
   pub alike : (table : Table) (ls : List (Layer S)) (fs : List (Figure S)) (p : Point) → map seen ls ≡ map (seen_figure table) fs → layered holds ls p ≡ front_colour holds table fs p
   alike table [] [] p e = refl
   alike table (l ∷ ls) (f ∷ fs) p e =

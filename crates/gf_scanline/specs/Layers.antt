@@ -31,6 +31,6 @@ module _ {S : Type 0} (holds : S → Point → Bool) where
   abbrev pub row_colours : List (Layer S) → View → ℕ → ℕ → Rgb
   row_colours ls w j k = layered ls (sample w k j)
 
-  -- the colours there where the layer l is painted over others
+  -- the colours of row j where the layer l is painted over others
   abbrev pub layer_over : View → ℕ → (ℕ → Rgb) → Layer S → ℕ → Rgb
   layer_over w j behind l k = painted (sample w k j) (behind k) l

@@ -1,4 +1,4 @@
--- A part of a window, with the layers that it shows (this project's choice).
+-- Some rows of a window, with the layers that they show (this project's choice).
 use Rattle.std.specs.Prelude.{ℕ, ◌+◌, ◌≤◌, ◌<◌, Bool, List, All}
 use Rattle.gf_shape.specs.declared.point.Point.{Point}
 use Rattle.gf_scanline.specs.Windows.{View}
@@ -14,7 +14,7 @@ pub record PartView (S : Type 0) : Type 0 where
   pub count : ℕ
 
 module _ {S : Type 0} (holds : S → Point → Bool) where
-  -- the pieces have, in the part, the colours of all layers, and each row of theirs can be found
+  -- in these rows the pieces have the colours of all layers, and each row of a piece can be found
   pub record IsPart (all : List (Layer S)) (w : View) (top count : ℕ)
       (ps : List (Piece S)) : Type 0 where
     pub rows : top + count ≤ w.height

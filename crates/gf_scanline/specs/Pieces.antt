@@ -20,20 +20,20 @@ abbrev pub layers_of : {S : Type 0} → List (Piece S) → List (Layer S)
 layers_of ps = map (λ p. p.layer.now) ps
 
 module _ {S : Type 0} (holds : S → Point → Bool) (w : View) where
-  -- the piece's bounds are its layer's, its columns have all that the layer holds in the row j, and
-  -- its edges tell that row
+  -- the piece has its layer's bounds. Its columns have all that the layer holds in row j, and its
+  -- edges determine that row
   pub record IsPiece (j : ℕ) (p : Piece S) : Type 0 where
     pub bounds : IsBounds (holds p.layer.now.shape.now) p.bounds
     pub columns : (k : ℕ) → k < w.width → is_among p.columns k ≡ false
         → holds p.layer.now.shape.now (sample w k j) ≡ false
     pub edges : IfSome p.edges (λ es. TellsRow (holds p.layer.now.shape.now) (line w j) es)
 
-  -- the layer holds no point of the part
+  -- the layer holds no point of these rows
   abbrev pub IsUnseen : ℕ → ℕ → Layer S → Type 0
   IsUnseen top count l = (j k : ℕ) → top ≤ j → j < top + count → k < w.width
       → holds l.shape.now (sample w k j) ≡ false
 
-  -- some layers have, in the part, the colours of all
+  -- in these rows, some layers have the colours of all
   abbrev pub AreSeen : ℕ → ℕ → List (Layer S) → List (Layer S) → Type 0
   AreSeen top count all some = (j k : ℕ) → top ≤ j → j < top + count → k < w.width
       → row_colours holds some w j k ≡ row_colours holds all w j k

@@ -4,12 +4,12 @@ use Rattle.gf_shape.specs.declared.colour.Rgb.{Rgb}
 use Rattle.gf_scanline.specs.declared.segment.Segment.{Segment}
 use Rattle.gf_scanline.specs.Strips.{SegmentView, is_among, is_painted}
 
--- the segments without where their brushes lie
+-- the segments without the places of their brushes
 abbrev pub views : List Segment → List SegmentView
 views ss = map (λ s. record { columns = s.columns; colour = s.brush.now }) ss
 
--- the segments have the colours of target in n columns: each column is in one of them, and each of
--- them has the colour of its columns
+-- each of n columns lies in a segment, and each segment has the colour that target gives its
+-- columns
 pub record AreSegmentsOf (target : ℕ → Rgb) (n : ℕ) (ss : List SegmentView) : Type 0 where
   pub whole : (k : ℕ) → k < n → is_painted ss k ≡ true
   pub colours : (s : SegmentView) (k : ℕ) → Contains ss s → k < n → is_among s.columns k ≡ true

@@ -23,11 +23,11 @@ is_free free k = list_any (λ c. is_among c k) free
 abbrev pub over : (ℕ → Bool) → Rgb → (ℕ → Rgb) → ℕ → Rgb
 over test c f k = if test k then c else f k
 
--- of n columns, those that are not among c have the same colours
+-- the colourings f and g of n columns agree outside c
 abbrev pub AreSameOutside : Columns → ℕ → (ℕ → Rgb) → (ℕ → Rgb) → Type 0
 AreSameOutside c n f g = (k : ℕ) → k < n → is_among c k ≡ false → f k ≡ g k
 
--- each of the lists of columns has some, and they rise: each ends before the next ones begin
+-- each range has columns, and ends before the next ones begin
 abbrev pub AreRising : List Columns → Type 0
 AreRising [] = ⊤
 AreRising (c ∷ cs) = (c.from < c.to) × ((d : Columns) → Contains cs d → c.to ≤ d.from)
@@ -47,8 +47,7 @@ pub record Shown : Type 0 where
   pub segments : List SegmentView
   pub free : List Columns
 
--- a strip of n columns will show target, once its free columns show what lies behind: each column
--- is free or painted, and what is painted has the colours of target
+-- each of n columns is free or painted; with behind in the free columns, the strip shows target
 pub record IsPainted (target behind : ℕ → Rgb) (n : ℕ) (strip : Shown) : Type 0 where
   pub free : (k : ℕ) → k < n → is_free strip.free k ≡ true → behind k ≡ target k
   pub whole : (k : ℕ) → k < n → (is_free strip.free k || is_painted strip.segments k) ≡ true

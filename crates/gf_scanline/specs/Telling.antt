@@ -1,4 +1,4 @@
--- Edges that alone tell a row (this project's choice).
+-- Edges that alone determine a row (this project's choice).
 use Rattle.std.specs.Prelude.{◌≡◌, ◌%◌, Bool, ℤ, List, flat_map, length}
 use Rattle.gf_spans.specs.declared.crossing.Crossing.{Crossing}
 use Rattle.gf_spans.specs.declared.span.Span.{Span}
@@ -15,7 +15,7 @@ crossings_at y es = flat_map (λ e. crossings_of y (e.from, e.to)) es
 abbrev pub contacts_at : ℤ → List Edge → List Span
 contacts_at y es = flat_map (λ e. contacts_of y (e.from, e.to)) es
 
--- the edges pass the height y evenly often, and enclose there what is held
+-- an even number of the edges passes the height y, and the edges enclose there what is held
 pub record TellsRow (holds : Point → Bool) (y : ℤ) (es : List Edge) : Type 0 where
   pub even : length (crossings_at y es) % 2 ≡ 0
   pub exact : (x : ℤ) → is_enclosed (crossings_at y es) (contacts_at y es) x

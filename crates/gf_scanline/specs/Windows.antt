@@ -3,8 +3,8 @@ use Rattle.std.specs.Prelude.{ℕ, ◌*◌, Bool, ◌&&◌, nat_le, ℤ, pos, ne
 use Rattle.std.specs.Prelude.{int_le}
 use Rattle.gf_shape.specs.declared.point.Point.{Point}
 
--- what part of the plane a picture shows: the first point of its first row, how far its points are
--- apart, how many columns and rows it has
+-- the part of the plane that a picture shows: first point, step between points, number of columns
+-- and rows
 pub record View : Type 0 where
   pub x : ℤ
   pub y : ℤ

@@ -39,7 +39,7 @@ impl Brush {
         Ok(Brush { colour, pattern })
     }
 
-    /// Adds the bytes of so many columns, at most 64 at a time.
+    /// Adds the bytes of this many columns, at most 64 at a time.
     pub(crate) fn append(&self, count: usize, bytes: &mut Vec<u8>) -> Result<(), OutOfMemory>
         ensures { OnOk result (bytes.new.items
             ≡ bytes.old.items ++ pixels (λ _. self.now) 0 count) }
@@ -60,7 +60,7 @@ fn pattern(alloc: Global, colour: Rgb) -> Result<Vec<u8>, OutOfMemory>
     Ok(bytes)
 }
 
-/// Adds the bytes of so many columns, at most 64 at a time.
+/// Adds the bytes of this many columns, at most 64 at a time.
 fn append_pattern(pattern: &[u8], count: usize, bytes: &mut Vec<u8>) -> Result<(), OutOfMemory>
     requires { length pattern.now ≡ 192 }
     ensures { OnOk result ((c : Rgb) → pattern.now ≡ pixels (λ _. c) 0 64

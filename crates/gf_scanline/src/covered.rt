@@ -60,7 +60,7 @@ fn below(distance: u32, step: u32) -> usize
     (distance / step) as usize + 1
 }
 
-/// Those of the first `count` columns that there are.
+/// How many of the first `count` columns there are in a row of `width` columns.
 #[tactic(auto, using(crate::proofs::ColumnLemmas::clamped))]
 fn clamped(count: usize, width: usize) -> usize
     ensures { (k : ℕ) → k < width → nat_lt k result ≡ nat_lt k count }

@@ -13,8 +13,8 @@ pub struct Edge {
 }
 
 impl Edge {
-    /// Whether it comes between two heights: one of its points is at `low` or past it, and one at
-    /// `high` or before it.
+    /// Whether the edge comes between two heights: a point is at or past `low`, one at or before
+    /// `high`.
     pub(crate) fn comes_between(self, low: i32, high: i32) -> bool
         ensures { result ≡ comes_between low high self }
     {

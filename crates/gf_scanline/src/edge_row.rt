@@ -1,4 +1,4 @@
-//! Rows that edges tell.
+//! Rows found from edges.
 
 ghost use Rattle.std.specs.Prelude.{◌≡◌, ◌++◌, ◌%◌, [], Bool, All, OnOk, length};
 ghost use Rattle.gf_spans.specs.Joining.{IsJoined};
@@ -39,14 +39,14 @@ impl EdgeRow {
         }
     }
 
-    /// Its spans.
+    /// The spans of the row.
     pub fn spans(&self) -> &[Span]
         ensures { result.now ≡ self.now }
     {
         &self.spans
     }
 
-    /// Makes it what edges enclose in the row `y`.
+    /// Makes the row what edges enclose in the row `y`.
     pub(crate) fn set(&mut self, edges: &[Edge], y: i32) -> Result<(), OutOfMemory>
         requires reach { All IsWithinReach edges.now }
         requires even { length (crossings_at y edges.now) % 2 ≡ 0 }

@@ -38,8 +38,8 @@ impl Model for Edges {
 }
 
 impl Edges {
-    /// Those of a chain that come between `low` and `high`: they tell its rows from `low` to
-    /// `high`.
+    /// The edges of a chain that come between `low` and `high`. They determine its rows from `low`
+    /// to `high`.
     pub fn between(alloc: Global, chain: &Chain, low: i32, high: i32) -> Result<Edges, OutOfMemory>
         ensures { IfOk result (λ edges. (y : ℤ) → low ≤ℤ y → y ≤ℤ high
             → TellsRow (chain_holds chain.now.points) y edges) }
@@ -50,15 +50,14 @@ impl Edges {
         Ok(Edges { edges })
     }
 
-    /// How many there are.
+    /// How many edges there are.
     pub fn len(&self) -> usize
         ensures { result ≡ length self.now }
     {
         self.edges.len()
     }
 
-    /// From the leftmost of their points to the rightmost: what they tell a row of lies between
-    /// these.
+    /// The span from the leftmost point of the edges to the rightmost: their rows lie in it.
     pub fn reach(&self) -> Span
         ensures { (holds : Point → Bool) (x y : ℤ) → TellsRow holds y self.now
             → holds (record { x = x; y = y }) ≡ true → is_in_span x result ≡ true }
@@ -66,7 +65,7 @@ impl Edges {
         reach(&self.edges)
     }
 
-    /// Makes `row` the row `y` of what they tell it of.
+    /// Makes `row` the row `y` of each set of points whose row the edges determine.
     pub fn row_into(&self, y: i32, row: &mut EdgeRow) -> Result<(), OutOfMemory>
         requires { length (crossings_at y self.now) % 2 ≡ 0 }
         ensures { OnOk result ((holds : Point → Bool) → TellsRow holds y self.now
@@ -108,7 +107,7 @@ fn add(edge: Edge, low: i32, high: i32, edges: &mut Vec<Edge>) -> Result<(), Out
     Ok(())
 }
 
-/// From the leftmost point of edges to the rightmost; where there are none, a span of no numbers.
+/// The span from the leftmost point of edges to the rightmost; no numbers where there are no edges.
 fn reach(edges: &[Edge]) -> Span
     ensures { All (IsAcross result) edges.now }
 {

@@ -1,6 +1,7 @@
 //! The free columns of a row, from the left.
 
-ghost use Rattle.std.specs.Prelude.{◌≡◌, ℕ, ◌+◌, ◌-◌, ◌≤◌, false, ◌&&◌, IsTrue, OnOk, OnErr, [], ◌++◌};
+ghost use Rattle.std.specs.Prelude.{◌≡◌, ℕ, ◌+◌, ◌-◌, ◌≤◌, false, ◌&&◌, IsTrue, OnOk, OnErr, []};
+ghost use Rattle.std.specs.Prelude.{◌++◌};
 ghost use Rattle.std.specs.Prelude.{take, drop, length};
 ghost use Rattle.gf_scanline.specs.Free.{IsFirstBehind, AreFirstBefore, IsParted};
 ghost use Rattle.gf_scanline.specs.Strips.{AreRising, is_among, is_free};
@@ -8,7 +9,7 @@ ghost use Rattle.gf_scanline.specs.Strips.{AreRising, is_among, is_free};
 use crate::Columns;
 use gf_shape::OutOfMemory;
 
-/// How many of the first free columns end up to a column.
+/// How many of the first free ranges end up to a column.
 fn first_behind(free: &[Columns], column: usize) -> usize
     requires { AreRising free.now }
     ensures { IsFirstBehind column free.now result }
@@ -16,7 +17,7 @@ fn first_behind(free: &[Columns], column: usize) -> usize
     free.partition_point(|some| some.to <= column)
 }
 
-/// How many of the first free columns begin before a column.
+/// How many of the first free ranges begin before a column.
 fn first_from(free: &[Columns], column: usize) -> usize
     requires { AreRising free.now }
     ensures { AreFirstBefore column free.now result }
@@ -24,7 +25,7 @@ fn first_from(free: &[Columns], column: usize) -> usize
     free.partition_point(|some| some.from < column)
 }
 
-/// From which of the free columns to before which some columns may meet them.
+/// From which to before which free range some columns may meet one.
 pub(crate) fn met(free: &[Columns], columns: Columns) -> (usize, usize)
     requires { AreRising free.now }
     ensures bounds { (result.0 ≤ result.1) × (result.1 ≤ length free.now) }
@@ -36,7 +37,7 @@ pub(crate) fn met(free: &[Columns], columns: Columns) -> (usize, usize)
     (start, end)
 }
 
-/// Whether one of the columns is among free ones: only the first that does not end before them may
+/// Whether one of the columns is free. Only the first free range that does not end before them may
 /// have one.
 pub(crate) fn is_any_free(free: &[Columns], columns: Columns) -> bool
     requires { AreRising free.now }
@@ -56,8 +57,8 @@ fn overlap(a: Columns, b: Columns) -> bool
     a.from.max(b.from) < a.to.min(b.to)
 }
 
-/// Puts other columns in the place of those from `start` to before `end`. Where memory is refused,
-/// none is left.
+/// Replaces the free ranges from index `start` to before `end` by others. Where memory is refused,
+/// no range is left.
 pub(crate) fn replace(
     free: &mut Vec<Columns>,
     start: usize,
@@ -81,7 +82,7 @@ pub(crate) fn replace(
     Ok(())
 }
 
-/// Puts other columns in the place of as many from `start` on.
+/// Overwrites as many free ranges from index `start` on by others.
 fn put(free: &mut Vec<Columns>, start: usize, with: &[Columns])
     requires { start + length with.now ≤ length free.old.items }
     ensures { free.new.items ≡ take start free.old.items
@@ -90,7 +91,7 @@ fn put(free: &mut Vec<Columns>, start: usize, with: &[Columns])
     free[start..start + with.len()].copy_from_slice(with);
 }
 
-/// Removes the columns from `start` to before `end`.
+/// Removes the free ranges from index `start` to before `end`.
 fn remove(free: &mut Vec<Columns>, start: usize, end: usize)
     requires { (start ≤ end) × (end ≤ length free.old.items) }
     ensures { free.new.items ≡ take start free.old.items ++ drop end free.old.items }
@@ -98,7 +99,7 @@ fn remove(free: &mut Vec<Columns>, start: usize, end: usize)
     drop(free.drain(start..end));
 }
 
-/// Inserts more columns before those at `at`. Where memory is refused, none is left.
+/// Inserts more free ranges before the one at `at`. Where memory is refused, no range is left.
 fn insert_all(free: &mut Vec<Columns>, at: usize, more: &[Columns]) -> Result<(), OutOfMemory>
     requires { at ≤ length free.old.items }
     ensures ok { OnOk result (free.new.items

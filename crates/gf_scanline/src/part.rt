@@ -1,4 +1,4 @@
-//! A part of a window: some of its rows.
+//! A part of a window, which is some of its rows.
 
 ghost use Rattle.std.specs.Prelude.{◌≡◌, ℕ, ◌+◌, ◌≤◌, ◌<◌, ◌++◌, ◌∷◌, OnOk, IfOk, All, List};
 ghost use Rattle.gf_scanline.specs.declared.layer.Layer.{Layer as TheLayer};
@@ -39,8 +39,8 @@ impl<'l, 'a, S: Shape> Model for Part<'l, 'a, S> {
 }
 
 impl<'a, S: Shape> Layers<'a, S> {
-    /// What the rows of a window from `top` on, `count` of them, have of the layers: those whose
-    /// bounds meet these rows, and of their polygons the edges that come between the rows.
+    /// What the rows of a window from `top` on, `count` of them, have of the layers. These are the
+    /// layers whose bounds meet the rows, with the edges of polygons that come between the rows.
     pub fn part<'l>(
         &'l self,
         alloc: Global,
@@ -89,7 +89,7 @@ impl<'l, 'a, S: Shape> Part<'l, 'a, S> {
         Ok(strokes)
     }
 
-    /// Which row is its first one.
+    /// Which row is the first one of the part.
     pub fn top(&self) -> usize
         ensures top { result ≡ self.now.top }
         ensures within { self.now.top + self.now.count ≤ 4096 }
@@ -98,15 +98,15 @@ impl<'l, 'a, S: Shape> Part<'l, 'a, S> {
         self.top
     }
 
-    /// How many rows it has.
+    /// How many rows the part has.
     pub fn count(&self) -> usize
         ensures { result ≡ self.now.count }
     {
         self.count
     }
 
-    /// How many layers and edges there are, among which each row is found: a measure of the work
-    /// for a row, of which nothing is proved.
+    /// How many layers and edges there are, among which each row is found. This measures the work
+    /// for a row; nothing is proved of it.
     pub fn size(&self) -> usize {
         size_of(&self.pieces)
     }

@@ -14,8 +14,8 @@ use crate::{Columns, Edges, Layer, Window, Workspace};
 use gf_shape::{Bounds, OutOfMemory, Outline, Shape, Span};
 use std::alloc::Global;
 
-/// What a part of a window has of a layer: its bounds, the columns that it may be seen in, and of a
-/// polygon the edges that come between the rows.
+/// What a part of a window has of a layer: bounds, and the columns that it may be seen in. Of a
+/// polygon it has the edges that come between the rows.
 #[derive(Drop)]
 pub(crate) struct Piece<'l, 'a, S> {
     pub layer: &'l Layer<'a, S>,
@@ -69,8 +69,8 @@ pub(crate) fn reaches(bounds: Bounds, low: i32, high: i32) -> bool
     bounds.low.y <= high && low <= bounds.high.y
 }
 
-/// How far the points of a shape reach to the left and to the right, in a row that its edges tell,
-/// where it has some: no further than these, nor than its bounds.
+/// How far a shape reaches to the left and to the right, in a row that its edges determine. The
+/// span is within the bounds, and within the reach of the edges where there are some.
 fn reach(bounds: Bounds, edges: &Option<Edges>) -> Span
     ensures { (holds : Point → Bool) (x y : ℤ) → IsBounds holds bounds
         → IfSome edges.now (λ es. TellsRow holds y es) → holds (record { x = x; y = y }) ≡ true
@@ -82,7 +82,7 @@ fn reach(bounds: Bounds, edges: &Option<Edges>) -> Span
     }
 }
 
-/// From the left of bounds to their right.
+/// The span from the left of bounds to their right.
 fn across(bounds: Bounds) -> Span
     ensures { result ≡ record { first = bounds.low.x; last = bounds.high.x } }
 {
@@ -92,7 +92,7 @@ fn across(bounds: Bounds) -> Span
     }
 }
 
-/// Of a polygon, the edges that come between two heights.
+/// The edges of a shape that come between two heights, if it is a polygon.
 fn edges<S: Shape>(
     alloc: Global,
     shape: &S,

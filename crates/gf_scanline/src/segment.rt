@@ -45,7 +45,7 @@ pub(crate) fn sort(segments: &mut Vec<Segment<'_>>) -> Result<(), OutOfMemory>
     Ok(())
 }
 
-/// The strokes of a row that the segments have whole, from the left.
+/// The strokes of a row that the segments cover, from the left.
 pub(crate) fn strokes_of<'b>(
     alloc: Global,
     segments: &[Segment<'b>],

@@ -50,7 +50,7 @@ impl<'b> Strip<'b> {
         }
     }
 
-    /// Begins a row of so many columns, all of them free.
+    /// Begins a row of this many columns, all of them free.
     pub fn begin(&mut self, columns: usize) -> Result<(), OutOfMemory>
         ensures { OnOk result ((target : ℕ → Rgb) → IsPainted target target columns self.new) }
     {
@@ -74,7 +74,8 @@ impl<'b> Strip<'b> {
         self.free.is_empty()
     }
 
-    /// Whether one of the columns is still free. Where none is, what lies behind them is not seen.
+    /// Whether one of the columns is still free. Where none is, nothing that lies behind them is
+    /// seen.
     pub fn has_free(&self, columns: Columns) -> bool
         ensures some { IsTrue result
             → (k : ℕ) × IsTrue (is_free self.now.free k && is_among columns k) }
@@ -85,8 +86,8 @@ impl<'b> Strip<'b> {
         is_any_free(&self.free, columns)
     }
 
-    /// Paints those of the columns that are still free: a search by halves, a look at each of the
-    /// free ones that they meet, and a move of those behind.
+    /// Paints the columns that are still free. The cost is a binary search, a step for each free
+    /// range met, and a move of those behind.
     pub fn paint(&mut self, columns: Columns, brush: &'b Brush) -> Result<(), OutOfMemory>
         ensures free { OnOk result ((k : ℕ)
             → is_free self.new.free k ≡ (is_free self.old.free k && not (is_among columns k))) }
@@ -110,8 +111,8 @@ impl<'b> Strip<'b> {
         Ok(())
     }
 
-    /// Paints all columns that are still free, and gives the strokes of the row: a sort of what was
-    /// painted, by where it begins.
+    /// Paints all columns that are still free, and gives the strokes of the row. What was painted
+    /// is sorted by where it begins.
     pub fn finish(&mut self, ground: &'b Brush) -> Result<Vec<Stroke<'b>>, OutOfMemory>
         ensures { IfOk result (λ strokes. (target : ℕ → Rgb) (n : ℕ)
             → IsPainted target (λ _. ground.now) n self.old
@@ -124,7 +125,7 @@ impl<'b> Strip<'b> {
     }
 }
 
-/// Adds those of the columns that are free, in the colour of a brush, and those that are left free.
+/// Adds the segments of the columns that are free, in the colour of a brush, and what is left free.
 fn cover_all<'b>(
     free: &[Columns],
     columns: Columns,
@@ -143,8 +144,8 @@ fn cover_all<'b>(
     Ok(())
 }
 
-/// Adds those of the columns that are among some free ones, in the colour of a brush, and those of
-/// these that are left free.
+/// Adds the segment that the columns share with a free range, in the colour of a brush. What is
+/// left of the range is added as free.
 fn cover<'b>(
     free: Columns,
     columns: Columns,

@@ -15,8 +15,8 @@ pub struct Stroke<'b> {
     pub brush: &'b Brush,
 }
 
-/// Adds the bytes of `len` columns from `from` on, in the colours of a row's strokes: a search by
-/// halves, and a look at each stroke that has one of these columns.
+/// Adds the bytes of `len` columns from `from` on, in the colours of a row's strokes. The cost is a
+/// binary search, and a step for each stroke with one of these columns.
 pub fn fill(
     strokes: &[Stroke<'_>],
     from: usize,
@@ -41,8 +41,8 @@ fn first_ending(strokes: &[Stroke<'_>], column: usize) -> usize
     strokes.partition_point(|stroke| stroke.to <= column)
 }
 
-/// Adds the bytes of the columns from `from` to before `to`, of strokes whose first one begins there
-/// or before.
+/// Adds the bytes of the columns from `from` to before `to`. The first of the strokes begins at
+/// `from` or before.
 fn fill_on(
     strokes: &[Stroke<'_>],
     from: usize,

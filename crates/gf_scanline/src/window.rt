@@ -6,8 +6,8 @@ ghost use Rattle.gf_scanline.specs.Windows.{is_corner, is_side, is_step, is_view
 use gf_shape::Range;
 use std::marker::Model;
 
-/// Which part of the plane a picture shows: `height` rows of `width` points, `step` apart, of which
-/// (x, y) is the first. Its pixel (i, j) is the point (x + i * step, y + j * step).
+/// Which part of the plane a picture shows: `height` rows of `width` points, `step` apart. The
+/// first point is (x, y). The pixel (i, j) is the point (x + i * step, y + j * step).
 #[derive(Clone, Copy, Debug, PartialEq, Eq)]
 pub struct Window {
     x: i32,
@@ -44,8 +44,8 @@ impl Model for Window {
 }
 
 impl Window {
-    /// The window of this first point, step, width and height: x and y from -2,000,000 to
-    /// 2,000,000, the step from 1 to 10,000, width and height from 1 to 4,096.
+    /// The window of this first point, step, width and height. The numbers `x` and `y` are from
+    /// -2,000,000 to 2,000,000. The step is 1 to 10,000, and width and height are 1 to 4,096.
     pub fn new(x: i32, y: i32, step: u32, width: u32, height: u32) -> Result<Window, Range>
         ensures within { IsOk result ↔ IsTrue (is_view
             (record { x = x; y = y; step = step; width = width; height = height })) }
@@ -65,14 +65,14 @@ impl Window {
         }
     }
 
-    /// The x of its first column.
+    /// The x of the first column.
     pub fn x(&self) -> i32
         ensures { result ≡ self.now.x }
     {
         self.x
     }
 
-    /// How far its points are apart, 1 to 10,000.
+    /// How far neighbouring points are apart, 1 to 10,000.
     pub fn step(&self) -> u32
         ensures step { result ≡ self.now.step }
         ensures within { (1 ≤ result) × (result ≤ 10000) }
@@ -80,7 +80,7 @@ impl Window {
         self.step
     }
 
-    /// How many columns it has, 1 to 4,096.
+    /// How many columns the window has, 1 to 4,096.
     pub fn width(&self) -> u32
         ensures width { result ≡ self.now.width }
         ensures within { (1 ≤ result) × (result ≤ 4096) }
@@ -88,7 +88,7 @@ impl Window {
         self.width
     }
 
-    /// How many rows it has, 1 to 4,096.
+    /// How many rows the window has, 1 to 4,096.
     pub fn height(&self) -> u32
         ensures height { result ≡ self.now.height }
         ensures within { (1 ≤ result) × (result ≤ 4096) }

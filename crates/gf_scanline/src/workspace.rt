@@ -12,7 +12,7 @@ pub struct Workspace {
 }
 
 impl Workspace {
-    /// It takes no memory yet.
+    /// A workspace that takes no memory yet.
     pub fn new(alloc: Global) -> Workspace {
         Workspace {
             found: Row::new(alloc),

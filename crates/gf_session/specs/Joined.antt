@@ -37,8 +37,8 @@ pub record IsComplete (e : WorkerEnd) : Type 0 where
       → AreForeign e.site.number e.seats.items → (a : Op) → Contains h a
       → Contains e.site.ops a
 
--- each worker is complete, no two have one number, and each took from every other all that it made,
--- and nothing else
+-- each worker is complete and has its own number. Each took from every other just what that one
+-- made
 pub record AreJoined (ends : List WorkerEnd) : Type 0 where
   pub complete : (e : WorkerEnd) → Contains ends e → IsComplete e
   pub one : (e f : WorkerEnd) → Contains ends e → Contains ends f

@@ -25,7 +25,7 @@ places [] ds = []
 places (s ∷ ss) [] = []
 places (s ∷ ss) (d ∷ ds) = place_of s d ∷ places ss ds
 
--- for each script there is what its site came to; all these are an outcome, and some events bring
+-- for each script there is what its site came to, and all these are an outcome. Some events bring
 -- as many sites to their lists
 pub record IsSession (scripts : List Script) (dones : List Done) : Type 0 where
   pub long : length dones ≡ length scripts

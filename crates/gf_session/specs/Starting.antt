@@ -27,12 +27,11 @@ pub record IsReadyToStart (links : List TableId) (s : Start) : Type 0 where
   pub placed : All (StandsInTable links) s.peers.items
   pub fresh : All IsFresh s.peers.items
 
--- the worker of the site has run its script, or it sent Stop to each peer for a site whose thread
--- was not started
+-- the worker has run the site's script, or sent Stop to each peer since its thread was not started
 abbrev pub Gave : Start → WorkerEnd → Type 0
 Gave s e = HasWorked s.site.number s.script.0.items s.peers.items e
     ⊎ HasStopped s.site s.peers.items e
 
--- the same of each of the sites
+-- the worker of each site has run its script, or sent Stop to each peer
 abbrev pub GaveAll : List Start → List WorkerEnd → Type 0
 GaveAll starts ends = AllZip Gave starts ends

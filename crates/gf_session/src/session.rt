@@ -24,8 +24,8 @@ pub enum SessionError {
     /// There are fewer than two scripts, or more than eight.
     #[error("sites must be 2 to 8")]
     Sites,
-    /// Memory was refused: for a link or a list of sites before any ran, for a thread that was to
-    /// be started, to a site, or for the list of what the sites came to.
+    /// Memory was refused: for a link or a list of sites before any ran, or for a thread. Or it was
+    /// refused to a site, or for the list of what the sites came to.
     #[error("session: out of memory")]
     OutOfMemory,
 }
@@ -37,8 +37,8 @@ pub struct Done {
     pub report: Report,
 }
 
-/// Runs the scripts of two to eight sites, of at most 1,000 commands each, in threads of their own:
-/// the first is that of site 1, and so on. No thread waits for one that was not started.
+/// Runs the scripts of two to eight sites, of at most 1,000 commands each, in threads of their own.
+/// The first script is that of site 1, and so on. No thread waits for one that was not started.
 pub fn run_session<R: Threads + Wait + Sync, G: Gate + Sync>(
     rt: &R,
     alloc: Global,

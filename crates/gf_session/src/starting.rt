@@ -64,8 +64,8 @@ fn run_one<R: Wait, G: Gate>(
 }
 
 /// Runs sites at the same time, the last of them in a thread of its own. If that is refused, this
-/// site is stopped before the others run, so that none of them waits for it. What the sites give back
-/// goes where `ends` has room.
+/// site is stopped before the others run, so that none of them waits for it. What the sites give
+/// back goes where `ends` has room.
 pub(crate) fn fork<R: Threads + Wait + Sync, G: Gate + Sync>(
     rt: &R,
     alloc: Global,

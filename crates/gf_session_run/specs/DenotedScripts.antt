@@ -17,7 +17,7 @@ use Rattle.gf_replay.specs.declared.reading_error.LineCause.TheVariants as cause
 abbrev pub denotes_command : ScriptLine → Got ScriptLine
 denotes_command l = Ok l
 
--- each of the lines denotes a command of a site, and these are they in order
+-- the lines denote these commands of sites, in their order
 abbrev pub AreCommandsOf : List (ℕ × List ℕ) → List ScriptLine → Type 0
 AreCommandsOf lines ls = map (λ (line : ℕ × List ℕ). script_denoted line.1) lines
     ≡ map denotes_command ls
@@ -38,8 +38,7 @@ pub record AreScriptsOf (n : ℕ) (ls : List ScriptLine) (scripts : List Script)
   pub each : (k : ℕ) (s : Script) → slice_get scripts k ≡ Some s
       → s.0.items ≡ commands_of (k + 1) ls
 
--- the lines of the bytes denote commands of n sites, at most 1,000 each, and these are the scripts
--- of the sites
+-- the lines of the bytes denote commands of n sites, at most 1,000 each, in these scripts
 pub record DenotesScripts (n : ℕ) (bytes : List ℕ) (scripts : List Script) : Type 0 where
   pub commands : List ScriptLine
   pub lines : AreCommandsOf (numbered_lines bytes) commands
@@ -61,7 +60,7 @@ pub record GoesBeyond (n : ℕ) (ls : List ScriptLine) (text : List ℕ) : Type 
   pub denotes : script_denoted text ≡ Ok command
   pub beyond : (n < command.site) ⊎ (1000 ≤ length (commands_of command.site ls))
 
--- what is wrong with a line behind those of these commands
+-- what is wrong with a line behind the lines of these commands
 abbrev pub IsScriptFault : ℕ → List ScriptLine → List ℕ → LineCause → Type 0
 IsScriptFault n ls text cause.Json = script_denoted text ≡ Err line.Json
 IsScriptFault n ls text cause.Field = script_denoted text ≡ Err line.Field

@@ -25,7 +25,7 @@ use Rattle.gf_session_run.specs.Reports.{report_text}
 abbrev pub IsSiteCount : ℕ → Type 0
 IsSiteCount n = (2 ≤ n) × (n ≤ 8)
 
--- the bytes denote scripts of n sites, a session of them came to this for each site, and all sites
+-- the bytes denote scripts of n sites, and a session of them came to this for each site. All sites
 -- then had the operations of h
 pub record PlaysScripts (n : ℕ) (bytes : List ℕ) (dones : List Done) (h : List Op) : Type 0 where
   pub scripts : List Script
@@ -33,8 +33,8 @@ pub record PlaysScripts (n : ℕ) (bytes : List ℕ) (dones : List Done) (h : Li
   pub session : IsSession scripts dones
   pub common : (d : Done) → Contains dones d → HaveSame d.site.ops h
 
--- the text of a session of n sites that the bytes denote: the lines of all sites, and behind them
--- the one FIG text of the common history's drawing, which shows this history
+-- the text of a session of n sites that the bytes denote: the lines of sites, then a FIG text. This
+-- is the one FIG text of the common history's drawing, and shows this history
 pub record TellsSession (n : ℕ) (bytes text : List ℕ) : Type 0 where
   pub dones : List Done
   pub history : List Op
@@ -50,8 +50,8 @@ pub record WritesSession (n : ℕ) (bytes : List ℕ) (old new : Option (List �
   pub tells : TellsSession n bytes text
   pub written : Appends old new text
 
--- known bytes grow from old to new by a front, which may be none or all, of the text of a session
--- of n sites that the bytes denote
+-- known bytes grow from old to new by a prefix of the text of a session of n sites. The bytes
+-- denote this session, and the prefix may be none or all of the text
 pub record WritesSessionPrefix (n : ℕ) (bytes : List ℕ)
     (old new : Option (List ℕ)) : Type 0 where
   pub text : List ℕ
@@ -66,7 +66,7 @@ pub record HasNoDrawing (n : ℕ) (bytes : List ℕ) (fault : CompileFault) : Ty
   pub plays : PlaysScripts n bytes dones history
   pub refused : RefusesHistory history fault
 
--- why the history of a session is not exported: want of memory is no fault of its own
+-- why the history of a session is not exported; want of memory says nothing of the history
 abbrev pub RefusesExport : ℕ → List ℕ → CompileFault → Type 0
 RefusesExport n bytes compile.TooManyVersions = HasNoDrawing n bytes compile.TooManyVersions
 RefusesExport n bytes compile.TooManyColours = HasNoDrawing n bytes compile.TooManyColours

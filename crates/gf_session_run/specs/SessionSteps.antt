@@ -102,8 +102,7 @@ RefusesPlaying n bytes (studio.Session session.OutOfMemory) = ⊤
 RefusesPlaying n bytes studio.OutOfMemory = ⊤
 RefusesPlaying n bytes other = ⊥
 
--- the text has the lines of all sites, and behind them the one FIG text of the drawing of h, which
--- shows h
+-- the text has the lines of all sites, and then the one FIG text of h's drawing, which shows h
 pub record TellsHistory (h : List Op) (dones : List Done) (text : List ℕ) : Type 0 where
   pub drawing : DrawingState AnyShape
   pub drawn : IsDrawn h drawing

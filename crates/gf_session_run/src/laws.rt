@@ -14,10 +14,10 @@ ghost use Rattle.gf_session.specs.Session.{IsSession};
 ghost use Rattle.gf_studio.specs.FigRun.{IsDrawn};
 ghost use Rattle.gf_session_run.specs.SessionRun.{TellsSession};
 
-/// The histories of all sites of a session have one drawing: what one site's history draws, each
-/// site's draws, and no other. So the FIG text of every site's history is one and the same, and
-/// where it reads as the drawing of the outlines, it shows the history of each site. A run tells
-/// this text, and it shows the common history.
+/// The histories of all sites of a session have one drawing. What one site's history draws, each
+/// site's draws, and no other. All sites therefore have one FIG text. Where it reads as the drawing
+/// of the outlines, it shows the history of each site. A run writes this text, which shows the
+/// common history.
 pub fn the_sites_of_a_session_draw_alike()
     ensures one { (scripts : List Script) (dones : List Done) → IsSession scripts dones
         → (d e : Done) → Contains dones d → Contains dones e
@@ -40,7 +40,8 @@ pub fn the_sites_of_a_session_draw_alike()
         → Contains t.dones d → IsDrawn d.site.ops t.drawing }
     ensures told_text { (sites : ℕ) (bytes text : List ℕ) (t : TellsSession sites bytes text)
         → (d : Done) → Contains t.dones d → (drawing : DrawingState AnyShape)
-        → IsDrawn d.site.ops drawing → fig_text any_outline drawing ≡ fig_text any_outline t.drawing }
+        → IsDrawn d.site.ops drawing
+        → fig_text any_outline drawing ≡ fig_text any_outline t.drawing }
     ensures told_shows { (sites : ℕ) (bytes text : List ℕ) (t : TellsSession sites bytes text)
         → (d : Done) → Contains t.dones d → (drawing : DrawingState AnyShape)
         → IsDrawn d.site.ops drawing → Shows (fig_text any_outline drawing) t.history }

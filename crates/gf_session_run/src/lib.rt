@@ -1,8 +1,8 @@
-//! The run over a session text: from the lines of scripts to a report and the FIG text of the
-//! common history.
+//! The run over a session text: from script lines to a report and the FIG text of the common
+//! history.
 //!
-//! - [`session_run`]: reads script lines, runs the scripts at the same time, and writes for each
-//!   site what became of its commands, and behind these the FIG text.
+//! - [`session_run`]: reads script lines, runs the scripts at the same time, and writes what became
+//!   of the commands of each site. The FIG text stands behind this.
 //! - [`the_sites_of_a_session_draw_alike`]: each site's history is drawn, and the drawing is one.
 #![tactic(auto)]
 

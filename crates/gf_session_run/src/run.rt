@@ -18,10 +18,10 @@ use std::alloc::Global;
 use std::sync::Wait;
 use std::thread::Threads;
 
-/// Reads script lines to their end, runs the scripts of so many sites at the same time, and writes
-/// what became of the commands of each site and, behind that, the FIG text of the common history.
-/// It reads all before any script begins, and all have ended before the first write. Scripts that
-/// await each other in a circle may wait for ever.
+/// Reads script lines to their end, and runs the scripts of `sites` sites at the same time. What
+/// became of the commands of each site is written, and then the FIG text of the common history. All
+/// is read before any script begins, and all scripts have ended before the first write. Scripts
+/// that await each other in a circle may wait for ever.
 pub fn session_run<T: Threads + Wait + Sync, R: Source, W: Sink, G: Gate + Sync>(
     rt: &T,
     alloc: Global,
@@ -30,14 +30,15 @@ pub fn session_run<T: Threads + Wait + Sync, R: Source, W: Sink, G: Gate + Sync>
     sites: u8,
     gate: &G,
 ) -> Result<(), StudioError>
-    // What is written tells of a session of the scripts that the bytes denote, and shows the
+    // What is written is the text of a session of the scripts that the bytes denote. It shows the
     // history that all its sites have.
     ensures tells { OnOk result (IfSome (R.left source.old) (λ bytes.
         WritesSession sites bytes (W.taken sink.old) (W.taken sink.new))) }
     ensures flushed { OnOk result (IsTrue (W.flushed sink.new)) }
 
-    // Without so many sites nothing is read; else as of `fig_run`, with scripts in place of
-    // operations, and with the want of memory of a session told apart.
+    // Where a session may not have this many sites, nothing is read. Else this is the same as
+    // `fig_run` promises, with scripts in place of operations. Want of memory in a session is told
+    // apart.
     ensures sites { result ≡ Err (StudioError.Session SessionError.Sites) ↔
         (¬ (IsSiteCount sites)) }
     ensures source { ReadsFor MOST_INPUT_BYTES (R.left source.old) (R.left source.new)
@@ -45,7 +46,7 @@ pub fn session_run<T: Threads + Wait + Sync, R: Source, W: Sink, G: Gate + Sync>
     ensures refused { IfErr result (λ e. IfSome (R.left source.old) (λ bytes.
         RefusesSession sites bytes e)) }
 
-    // A front of the text is written at most, and that only where the sink failed.
+    // At most a prefix of the text is written, and that only where the sink failed.
     ensures prefix { result ≡ Err StudioError.WriteFailed → IfSome (R.left source.old) (λ bytes.
         WritesSessionPrefix sites bytes (W.taken sink.old) (W.taken sink.new)) }
     ensures failed { result ≡ Err StudioError.WriteFailed →

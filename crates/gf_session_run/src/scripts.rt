@@ -2,7 +2,8 @@
 
 ghost use Rattle.std.specs.Prelude.{◌≡◌, ◌<◌, ◌↔◌, [], length, IsTrue, IfOk, IfErr, OnOk};
 ghost use Rattle.gf_session_run.specs.DenotedScripts.{AreScriptsOf, DenotesScripts};
-ghost use Rattle.gf_session_run.specs.SessionSteps.{GainsCommand, HasNoRoomAt, RefusesScriptLine, RefusesScripts};
+ghost use Rattle.gf_session_run.specs.SessionSteps.{GainsCommand, HasNoRoomAt, RefusesScriptLine};
+ghost use Rattle.gf_session_run.specs.SessionSteps.{RefusesScripts};
 ghost use Rattle.gf_session_run.specs.SessionSteps.{TakesCommand, of_line};
 
 use gf_json::{Command, LineError, ScriptLine, read_script};
@@ -15,7 +16,7 @@ use std::alloc::Global;
 /// The most commands of a script.
 const MOST_COMMANDS: usize = 1_000;
 
-/// The scripts of so many sites that the lines of a text denote, the first that of site 1.
+/// The scripts of this many sites that the lines of a text denote, the first that of site 1.
 pub(crate) fn read_scripts(
     alloc: Global,
     text: Vec<u8>,
@@ -35,7 +36,7 @@ pub(crate) fn read_scripts(
     Ok(scripts)
 }
 
-/// So many scripts without commands.
+/// Scripts without commands, one for each of this many sites.
 fn empty_scripts(alloc: Global, sites: u8) -> Result<Vec<Script>, OutOfMemory>
     ensures { IfOk result (λ scripts. AreScriptsOf sites [] scripts.items) }
 {

@@ -29,7 +29,6 @@ unfoldable pub is_side : ℤ → ℕ → Bool
 is_side low size = nat_le 1 size && int_le (negsuc 9999999) low
     && int_le (low +ℤ pos size) (pos 10000000)
 
--- both sides of the box a have a size of at least 1, and their ends lie between -10,000,000 and
--- 10,000,000
+-- both sides of the box a are at least 1, and their ends lie between -10,000,000 and 10,000,000
 abbrev pub is_area : Area → Bool
 is_area a = is_side a.low.x a.width && is_side a.low.y a.height

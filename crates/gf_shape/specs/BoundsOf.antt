@@ -8,7 +8,7 @@ use Rattle.gf_shape.specs.declared.point.Point.{Point}
 abbrev pub least : Point → Point → Point
 least p q = record { x = int_min p.x q.x; y = int_min p.y q.y }
 
--- the greater of both
+-- the greater of both coordinates of two points
 abbrev pub most : Point → Point → Point
 most p q = record { x = int_max p.x q.x; y = int_max p.y q.y }
 

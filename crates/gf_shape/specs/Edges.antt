@@ -9,8 +9,7 @@ use Rattle.gf_shape.specs.declared.point.Point.{Point}
 abbrev pub Edge : Type 0
 Edge = Point × Point
 
--- 0 where d is on the line from a to b; where the line climbs past d, positive if it does so right
--- of d
+-- 0 where d is on the line from a to b; positive where a climbing line passes right of d
 unfoldable pub side : Edge → Point → ℤ
 side (a, b) d = (b.x -ℤ a.x) *ℤ (d.y -ℤ a.y) -ℤ (b.y -ℤ a.y) *ℤ (d.x -ℤ a.x)
 

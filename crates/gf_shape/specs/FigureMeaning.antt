@@ -12,8 +12,8 @@ use Rattle.gf_shape.specs.Edges.{Edge, is_on_edge, crosses_left}
 abbrev pub open_edges : List Point → List Edge
 open_edges ps = zip ps (drop 1 ps)
 
--- a chain, whose last point is its first, holds the points on an edge, and those from which the ray
--- to the left crosses an odd number of edges
+-- a closed chain holds its edges, and each point whose ray to the left crosses an odd number of
+-- them
 abbrev pub chain_holds : List Point → Point → Bool
 chain_holds ps p = list_any (is_on_edge p) (open_edges ps)
     || nat_eq (count_by (crosses_left p) (open_edges ps) % 2) 1

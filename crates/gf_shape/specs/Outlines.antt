@@ -17,8 +17,7 @@ rect_outline a = Chain (record { boxed = true; points = corners_again a })
 abbrev pub polygon_outline : List Point → Outline
 polygon_outline ps = Chain (ring_of ps)
 
--- a shape of any kind; a circle is the disc of its centre and radius, an ellipse the oval of its
--- centre and radii
+-- the outline of a shape of any kind: a disc for a circle, an oval for an ellipse
 abbrev pub any_outline : AnyShape → Outline
 any_outline (any.Rect a) = rect_outline a
 any_outline (any.Circle r) = Disc r

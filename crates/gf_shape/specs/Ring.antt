@@ -14,8 +14,8 @@ pub record Ring : Type 0 where
 abbrev pub ring_of : List Point → Ring
 ring_of ps = record { boxed = false; points = ps ++ take 1 ps }
 
--- the ring r has 4 to 65,536 points, 5 where FIG calls it a box, which need not be a rectangle; its
--- last point is its first; all lie within reach
+-- the ring r has 4 to 65,536 points within reach; its last point is its first. A box of FIG has 5
+-- points, and need not be a rectangle
 pub record IsRing (r : Ring) : Type 0 where
   pub least : 4 ≤ length r.points
   pub most : length r.points ≤ 65536

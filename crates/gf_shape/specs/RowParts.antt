@@ -18,18 +18,18 @@ on y = record { x = pos 0; y = y }
 abbrev pub passes : ℤ → Edge → Bool
 passes y e = climbs_past (on y) e || falls_past (on y) e
 
--- the place where it passes, from the height of its first point
+-- the place where the edge passes the height y, reckoned from its first point
 abbrev pub crossing : ℤ → Edge → Crossing
 crossing y (a, b) =
     cond (int_le a.y y)
     (place a.x (b.x -ℤ a.x) (y -ℤ a.y) (b.y -ℤ a.y))
     (place a.x (b.x -ℤ a.x) (a.y -ℤ y) (a.y -ℤ b.y))
 
--- the numbers from the lesser to the greater of two
+-- the numbers from the lesser to the greater of m and n
 abbrev pub span_between : ℤ → ℤ → Span
 span_between m n = record { first = int_min m n; last = int_max m n }
 
--- what an edge that does not pass the height y has at it
+-- the numbers at the height y of an edge that does not pass it, if there are any
 abbrev pub contact : ℤ → Edge → Option Span
 contact y (a, b) =
     cond (int_eq a.y y && int_eq b.y y)
@@ -41,7 +41,7 @@ contact y (a, b) =
 abbrev pub crossings_of : ℤ → Edge → List Crossing
 crossings_of y e = cond (passes y e) (crossing y e ∷ []) []
 
--- the contact of one that does not
+-- the contact of an edge that does not pass the height y
 abbrev pub contacts_of : ℤ → Edge → List Span
 contacts_of y e = cond (passes y e) [] (option_to_list (contact y e))
 
@@ -50,7 +50,7 @@ abbrev pub crossings_along : ℤ → Point → List Point → List Crossing
 crossings_along y a [] = []
 crossings_along y a (b ∷ ps) = crossings_of y (a, b) ++ crossings_along y b ps
 
--- their contacts
+-- the contacts of the edges from a along ps
 abbrev pub contacts_along : ℤ → Point → List Point → List Span
 contacts_along y a [] = []
 contacts_along y a (b ∷ ps) = contacts_of y (a, b) ++ contacts_along y b ps

@@ -5,8 +5,7 @@ use Rattle.gf_spans.specs.declared.span.Span.{Span}
 use Rattle.gf_spans.specs.Spans.{is_in_span, AreApart}
 use Rattle.gf_shape.specs.declared.point.Point.{Point}
 
--- row law: x lies in one of the spans exactly if (x, y) is held; the spans rise, and neither
--- overlap nor touch
+-- row law: the rising spans hold x exactly if (x, y) is held; they neither overlap nor touch
 pub record IsRow (holds : Point → Bool) (y : ℤ) (spans : List Span) : Type 0 where
   pub exact : (x : ℤ) → list_any (is_in_span x) spans ≡ holds (record { x = x; y = y })
   pub apart : AreApart spans

@@ -32,8 +32,7 @@ ellipse_holds rx ry d =
 abbrev pub closed_edges : List Point → List Edge
 closed_edges ps = zip ps (drop 1 ps ++ take 1 ps)
 
--- a polygon holds the points on an edge, and those from which the ray to the right crosses an odd
--- number of edges
+-- a polygon holds its edges, and each point whose ray to the right crosses an odd number of them
 abbrev pub polygon_holds : List Point → Point → Bool
 polygon_holds ps d = list_any (is_on_edge d) (closed_edges ps)
     || nat_eq (count_by (crosses_right d) (closed_edges ps) % 2) 1

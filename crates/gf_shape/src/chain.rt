@@ -42,14 +42,14 @@ impl Chain {
         Chain { boxed, points }
     }
 
-    /// Whether FIG calls it a box.
+    /// Whether FIG calls the chain a box.
     pub fn boxed(&self) -> bool
         ensures { result ≡ self.now.boxed }
     {
         self.boxed
     }
 
-    /// Its points in order, the first one again at the end.
+    /// The points of the chain in order, the first one again at the end.
     pub fn points(&self) -> &[Point]
         ensures points { result.now ≡ self.now.points }
         ensures lawful { IsRing self.now }
@@ -57,28 +57,28 @@ impl Chain {
         &self.points
     }
 
-    /// Whether it holds the point.
+    /// Whether the chain holds the point.
     pub(crate) fn holds(&self, p: Point) -> bool
         ensures { result ≡ chain_holds self.now.points p }
     {
         path_holds(self.points[0], &self.points[1..], p)
     }
 
-    /// The least bounds of what it holds.
+    /// The least bounds of what the chain holds.
     pub(crate) fn bounds(&self) -> Bounds
         ensures { IsBounds (chain_holds self.now.points) result }
     {
         bounds_from(self.points[0], &self.points[1..])
     }
 
-    /// Makes `row` its row `y`.
+    /// Makes `row` the row `y` of the chain.
     pub(crate) fn row_into(&self, y: i32, row: &mut Row) -> Result<(), OutOfMemory>
         ensures { OnOk result (IsRow (chain_holds self.now.points) y row.new) }
     {
         row.set_path(self.points[0], &self.points[1..], y)
     }
 
-    /// Whether each of its points, moved by `d`, lies within reach.
+    /// Whether each point of the chain, moved by `d`, lies within reach.
     pub(crate) fn movable(&self, d: Point) -> bool
         ensures { result ≡ points_movable self.now.points d }
     {
@@ -94,7 +94,7 @@ impl Chain {
         Ok(Chain::new(self.boxed, points))
     }
 
-    /// The same chain again.
+    /// A copy of the chain.
     pub(crate) fn copy(&self, alloc: Global) -> Result<Chain, OutOfMemory>
         ensures same { IfOk result (λ chain. chain ≡ self.now) }
         ensures lawful { IfOk result (λ chain. IsRing chain) }

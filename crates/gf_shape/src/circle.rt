@@ -13,7 +13,7 @@ use crate::{Bounds, Disc, OutOfMemory, Outline, Point, Range, Row, Shape};
 use std::alloc::Global;
 use std::marker::Model;
 
-/// A circle by its centre and radius. What it surrounds and its line belong to it.
+/// A circle by its centre and radius. The line and all within belong to the circle.
 #[derive(Clone, Copy, Debug, PartialEq, Eq)]
 pub struct Circle {
     disc: Disc,
@@ -67,7 +67,7 @@ impl Shape for Circle {
         self.disc.movable(d)
     }
 
-    /// The circle moved by `d`. It takes no memory, so it is not refused for want of it.
+    /// The circle moved by `d`. The call takes no memory, and is never refused for want of it.
     fn moved(&self, _alloc: Global, d: Point) -> Result<Circle, OutOfMemory>
         requires { IsTrue (round_movable self.now d) }
         ensures ok { IsOk result }
@@ -78,7 +78,8 @@ impl Shape for Circle {
         })
     }
 
-    /// The disc of its centre and radius. It takes no memory, so it is not refused for want of it.
+    /// The disc of the circle's centre and radius. The call takes no memory, and is never refused
+    /// for want of it.
     fn outline(&self, _alloc: Global) -> Result<Outline, OutOfMemory>
         ensures ok { IsOk result }
         ensures outline { IfOk result (λ o. o ≡ Outline.Disc self.now) }

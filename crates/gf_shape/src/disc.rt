@@ -48,7 +48,7 @@ impl Disc {
         Disc { centre, radius }
     }
 
-    /// Its middle.
+    /// The middle of the disc.
     pub fn centre(&self) -> Point
         ensures centre { result ≡ self.now.centre }
         ensures lawful { IsTrue (is_round self.now) }
@@ -56,7 +56,7 @@ impl Disc {
         self.centre
     }
 
-    /// How far it reaches from its centre.
+    /// How far the disc reaches from its centre.
     pub fn radius(&self) -> u32
         ensures radius { result ≡ self.now.radius }
         ensures lawful { IsTrue (is_round self.now) }
@@ -64,7 +64,7 @@ impl Disc {
         self.radius
     }
 
-    /// The same disc again.
+    /// A copy of the disc.
     pub(crate) fn copy(&self) -> Disc
         ensures same { result ≡ self.now }
         ensures lawful { IsTrue (is_round result) }
@@ -72,7 +72,7 @@ impl Disc {
         Disc::new(self.centre, self.radius)
     }
 
-    /// Whether it holds the point.
+    /// Whether the disc holds the point.
     pub(crate) fn holds(&self, p: Point) -> bool
         ensures { result ≡ round_holds self.now p }
     {
@@ -80,7 +80,7 @@ impl Disc {
         is_within(x, y, self.radius)
     }
 
-    /// The least bounds of what it holds.
+    /// The least bounds of what the disc holds.
     pub(crate) fn bounds(&self) -> Bounds
         ensures { IsBounds (round_holds self.now) result }
     {
@@ -90,7 +90,7 @@ impl Disc {
         }
     }
 
-    /// Makes `row` its row `y`.
+    /// Makes `row` the row `y` of the disc.
     pub(crate) fn row_into(&self, y: i32, row: &mut Row) -> Result<(), OutOfMemory>
         ensures { OnOk result (IsRow (round_holds self.now) y row.new) }
     {
@@ -104,7 +104,7 @@ impl Disc {
         Ok(())
     }
 
-    /// Whether its centre, moved by `d`, lies within reach.
+    /// Whether the centre of the disc, moved by `d`, lies within reach.
     pub(crate) fn movable(&self, d: Point) -> bool
         ensures { result ≡ round_movable self.now d }
     {

@@ -13,7 +13,8 @@ use crate::{Bounds, OutOfMemory, Outline, Oval, Point, Range, Row, Shape};
 use std::alloc::Global;
 use std::marker::Model;
 
-/// An ellipse with level axes, by its centre and radii. Its line and all within belong to it.
+/// An ellipse with level axes, by its centre and radii. The line and all within belong to the
+/// ellipse.
 #[derive(Clone, Copy, Debug, PartialEq, Eq)]
 pub struct Ellipse {
     oval: Oval,
@@ -67,7 +68,7 @@ impl Shape for Ellipse {
         self.oval.movable(d)
     }
 
-    /// The ellipse moved by `d`. It takes no memory, so it is not refused for want of it.
+    /// The ellipse moved by `d`. The call takes no memory, and is never refused for want of it.
     fn moved(&self, _alloc: Global, d: Point) -> Result<Ellipse, OutOfMemory>
         requires { IsTrue (oval_movable self.now d) }
         ensures ok { IsOk result }
@@ -78,7 +79,8 @@ impl Shape for Ellipse {
         })
     }
 
-    /// The oval of its centre and radii. It takes no memory, so it is not refused for want of it.
+    /// The oval of the ellipse's centre and radii. The call takes no memory, and is never refused
+    /// for want of it.
     fn outline(&self, _alloc: Global) -> Result<Outline, OutOfMemory>
         ensures ok { IsOk result }
         ensures outline { IfOk result (λ o. o ≡ Outline.Oval self.now) }

@@ -57,7 +57,7 @@ impl Shape for Outline {
         }
     }
 
-    /// A copy of itself.
+    /// A copy of the outline.
     fn outline(&self, alloc: Global) -> Result<Outline, OutOfMemory> {
         match self {
             Outline::Chain(chain) => Ok(Outline::Chain(chain.copy(alloc)?)),

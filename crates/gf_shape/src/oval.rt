@@ -44,7 +44,7 @@ impl Oval {
         Oval { centre, rx, ry }
     }
 
-    /// Its middle.
+    /// The middle of the oval.
     pub fn centre(&self) -> Point
         ensures centre { result ≡ self.now.centre }
         ensures lawful { IsTrue (is_oblong self.now) }
@@ -52,7 +52,7 @@ impl Oval {
         self.centre
     }
 
-    /// How far it reaches from its centre to both sides.
+    /// How far the oval reaches from its centre to both sides.
     pub fn rx(&self) -> u32
         ensures radius { result ≡ self.now.rx }
         ensures lawful { IsTrue (is_oblong self.now) }
@@ -60,7 +60,7 @@ impl Oval {
         self.rx
     }
 
-    /// How far it reaches from its centre upwards and downwards.
+    /// How far the oval reaches from its centre upwards and downwards.
     pub fn ry(&self) -> u32
         ensures radius { result ≡ self.now.ry }
         ensures lawful { IsTrue (is_oblong self.now) }
@@ -68,7 +68,7 @@ impl Oval {
         self.ry
     }
 
-    /// The same oval again.
+    /// A copy of the oval.
     pub(crate) fn copy(&self) -> Oval
         ensures same { result ≡ self.now }
         ensures lawful { IsTrue (is_oblong result) }
@@ -76,7 +76,7 @@ impl Oval {
         Oval::new(self.centre, self.rx, self.ry)
     }
 
-    /// Whether it holds the point.
+    /// Whether the oval holds the point.
     pub(crate) fn holds(&self, p: Point) -> bool
         ensures { result ≡ oval_holds self.now p }
     {
@@ -84,7 +84,7 @@ impl Oval {
         is_within(x, y, self.rx, self.ry)
     }
 
-    /// The least bounds of what it holds.
+    /// The least bounds of what the oval holds.
     pub(crate) fn bounds(&self) -> Bounds
         ensures { IsBounds (oval_holds self.now) result }
     {
@@ -94,7 +94,7 @@ impl Oval {
         }
     }
 
-    /// Makes `row` its row `y`.
+    /// Makes `row` the row `y` of the oval.
     pub(crate) fn row_into(&self, y: i32, row: &mut Row) -> Result<(), OutOfMemory>
         ensures { OnOk result (IsRow (oval_holds self.now) y row.new) }
     {
@@ -108,7 +108,7 @@ impl Oval {
         Ok(())
     }
 
-    /// Whether its centre, moved by `d`, lies within reach.
+    /// Whether the centre of the oval, moved by `d`, lies within reach.
     pub(crate) fn movable(&self, d: Point) -> bool
         ensures { result ≡ oval_movable self.now d }
     {
@@ -146,7 +146,7 @@ fn is_within(x: u64, y: u64, rx: u32, ry: u32) -> bool
     squares(x, ry) + squares(y, rx) <= squares(rx, ry)
 }
 
-/// A square times that of a radius.
+/// The square of a number times the square of a radius.
 fn squares(n: u64, radius: u64) -> u128
     requires n { n ≤ 2 ^ 32 }
     requires radius { radius ≤ 10000000 }
@@ -170,7 +170,8 @@ fn half_width(rx: u32, ry: u32, past: u64) -> u32
     part(rx.into(), ry.into(), past).isqrt() as u32
 }
 
-/// The square of `rx`, as many times as `ry` leaves of its own square past `past`, rounded down.
+/// The square of `rx` times the part of `ry` squared that is left past `past` squared, rounded
+/// down.
 fn part(rx: u64, ry: u64, past: u64) -> u64
     requires rx { rx ≤ 10000000 }
     requires ry { ry ≤ 10000000 }

@@ -1,5 +1,4 @@
-//! Where edges meet a row: in a crossing, where they pass it, or in a contact, where they only
-//! touch it.
+//! Where edges meet a row: in a crossing where they pass it, in a contact where they only touch it.
 
 ghost use Rattle.std.specs.Prelude.{◌≡◌, ◌++◌, ◌≤◌, ◌-ℤ◌, ◌≤ℤ◌, ◌<ℤ◌, pos, unsigned_abs, IsTrue};
 ghost use Rattle.std.specs.Prelude.{OnOk, All, true, Option};
@@ -36,8 +35,8 @@ pub(crate) fn meet_along(
     Ok(())
 }
 
-/// Adds where the edge between two points meets the row `y`: a crossing where it passes it, or else
-/// what it has in it.
+/// Adds where the edge between two points meets the row `y`: a crossing where it passes, else its
+/// contact.
 pub fn meet(a: Point, b: Point, y: i32, meetings: &mut Meetings) -> Result<(), OutOfMemory>
     requires a { IsTrue (is_within_reach a) }
     requires b { IsTrue (is_within_reach b) }
@@ -61,7 +60,7 @@ fn passes(y: i32, a: Point, b: Point) -> bool
     climbs_past(on, a, b) || climbs_past(on, b, a)
 }
 
-/// What an edge that doesn't pass a row has in it.
+/// The numbers in a row of an edge that doesn't pass it.
 fn contact(y: i32, a: Point, b: Point) -> Option<Span>
     ensures { result ≡ contact y (a, b) }
 {

@@ -16,8 +16,8 @@ use crate::{Bounds, Chain, OutOfMemory, Outline, Point, PolygonError, Row, Shape
 use std::alloc::Global;
 use std::marker::Model;
 
-/// A polygon by its points, the last one joined to the first. Its edges belong to it; inside is
-/// what an odd number of edges separates from far away.
+/// A polygon by its points, the last one joined to the first. The edges belong to the polygon;
+/// inside is what an odd number of edges separates from far away.
 #[derive(Debug, Drop)]
 pub struct Polygon {
     ring: Chain,
@@ -38,8 +38,8 @@ impl Model for Polygon {
 }
 
 impl Polygon {
-    /// The polygon of 3 to 64 points. It is refused for their count, else for a point out of
-    /// reach, else for want of memory alone.
+    /// The polygon of 3 to 64 points. Their count is checked first, then their reach. Only then may
+    /// memory be refused.
     pub fn new(alloc: Global, points: &[Point]) -> Result<Polygon, PolygonError>
         ensures same { IfOk result (λ polygon. polygon ≡ points.now) }
         ensures count { result ≡ Err PolygonError.Count

@@ -13,7 +13,7 @@ use crate::{Bounds, Chain, OutOfMemory, Outline, Point, REACH, Range, Row, Shape
 use std::alloc::Global;
 use std::marker::Model;
 
-/// A box by its least corner and its size. Its edges belong to it.
+/// A box by its least corner and its size. The edges belong to the box.
 #[derive(Clone, Copy, Debug, PartialEq, Eq)]
 pub struct Rect {
     low: Point,
@@ -99,7 +99,7 @@ impl Shape for Rect {
         self.low.movable(d) && self.far_corner().movable(d)
     }
 
-    /// The box moved by `d`. It takes no memory, so it is not refused for want of it.
+    /// The box moved by `d`. The call takes no memory, and is never refused for want of it.
     fn moved(&self, _alloc: Global, d: Point) -> Result<Rect, OutOfMemory>
         requires { IsTrue (rect_movable self.now d) }
         ensures ok { IsOk result }
@@ -111,7 +111,7 @@ impl Shape for Rect {
         })
     }
 
-    /// The closed chain of its corners.
+    /// The closed chain of the box's corners.
     fn outline(&self, alloc: Global) -> Result<Outline, OutOfMemory> {
         let points = Vec::from_array(alloc, self.corners_again())?;
         Ok(Outline::Chain(Chain::new(true, points)))

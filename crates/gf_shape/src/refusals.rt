@@ -16,10 +16,10 @@ pub struct OutOfMemory;
 /// Why points make no polygon.
 #[derive(Clone, Copy, Debug, PartialEq, Eq, Error)]
 pub enum PolygonError {
-    /// They are fewer than 3 or more than 64.
+    /// The points are fewer than 3 or more than 64.
     #[error("Count")]
     Count,
-    /// They are 3 to 64, and one of them is out of reach.
+    /// The points are 3 to 64, and one of them is out of reach.
     #[error("Range")]
     Range,
     /// A growth of memory was refused.

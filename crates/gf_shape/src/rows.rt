@@ -39,28 +39,28 @@ impl Row {
         }
     }
 
-    /// Its spans.
+    /// The spans of the row.
     pub fn spans(&self) -> &[Span]
         ensures { result.now ≡ self.now }
     {
         &self.spans
     }
 
-    /// Its spans alone.
+    /// The spans of the row, without the memory for further rows.
     pub(crate) fn into_spans(self) -> Vec<Span>
         ensures { result.items ≡ self }
     {
         self.spans
     }
 
-    /// Makes it the row of no points.
+    /// Makes the row that of no points.
     pub(crate) fn clear(&mut self)
         ensures { self.new ≡ [] }
     {
         self.spans.clear();
     }
 
-    /// Makes it the row of one span.
+    /// Makes the row that of one span.
     pub(crate) fn set(&mut self, first: i32, last: i32) -> Result<(), OutOfMemory>
         ensures { OnOk result (self.new ≡ record { first = first; last = last } ∷ []) }
     {
@@ -69,7 +69,7 @@ impl Row {
         Ok(())
     }
 
-    /// Makes it the row of the closed chain of a point and those after it.
+    /// Makes the row that of the closed chain of a point and those after it.
     pub(crate) fn set_path(
         &mut self,
         first: Point,

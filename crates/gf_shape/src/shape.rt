@@ -11,27 +11,27 @@ use std::alloc::Global;
 
 /// A set of grid points that a designer can draw.
 pub trait Shape: Drop {
-    /// Which points it holds.
+    /// Which points the shape holds.
     ghost holds: { Self → Point → Bool };
 
-    /// Whether each of its defining points, moved by a distance, lies within reach.
+    /// Whether each defining point of the shape, moved by a distance, lies within reach.
     ghost is_movable: { Self → Point → Bool };
 
     /// The shape whose defining points are moved by a distance.
     ghost moved: { Self → Point → Self };
 
-    /// What FIG draws of it.
+    /// What FIG draws of the shape.
     ghost outline: { Self → Outline };
 
-    /// Whether it holds the point.
+    /// Whether the shape holds the point.
     fn holds(&self, p: Point) -> bool
         ensures { result ≡ holds self.now p };
 
-    /// The least bounds of what it holds.
+    /// The least bounds of what the shape holds.
     fn bounds(&self) -> Bounds
         ensures { IsBounds (holds self.now) result };
 
-    /// Whether it, moved by `d`, keeps within reach.
+    /// Whether the shape, moved by `d`, keeps within reach.
     fn movable(&self, d: Point) -> bool
         ensures { result ≡ is_movable self.now d };
 
@@ -40,18 +40,19 @@ pub trait Shape: Drop {
         requires { IsTrue (is_movable self.now d) }
         ensures { IfOk result (λ shape. shape ≡ moved self.now d) };
 
-    /// Its outline, as a FIG file draws it.
+    /// The outline of the shape, as a FIG file draws it.
     fn outline(&self, alloc: Global) -> Result<Outline, OutOfMemory>
         ensures outline { IfOk result (λ o. o ≡ outline self.now) }
         ensures lawful { IfOk result IsLawful };
 
     /// Makes `row` the row `y`, in the memory that `row` has, and more where that is too little. A
-    /// box and a disc are asked once, a disc with one root; a chain looks at each edge once, and
-    /// sorts those that meet the row.
+    /// box takes constant time, and a disc or an oval one root. A chain takes one pass over its
+    /// edges, and a sort of those that meet the row.
     fn row_into(&self, y: i32, row: &mut Row) -> Result<(), OutOfMemory>
         ensures { OnOk result (IsRow (holds self.now) y row.new) };
 
-    /// The row `y`: the spans of x whose (x, y) it holds, rising, of which no two overlap or touch.
+    /// The row `y`: the rising spans of each x whose (x, y) the shape holds. No two of them overlap
+    /// or touch.
     fn row(&self, alloc: Global, y: i32) -> Result<Vec<Span>, OutOfMemory>
         ensures { IfOk result (λ spans. IsRow (holds self.now) y spans.items) }
     {

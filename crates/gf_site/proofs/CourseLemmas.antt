@@ -49,7 +49,7 @@ module _ (h : List Op) (run : AreAccepted h) (valid : IsValid h) where
 
 -- ---- what stands last in a valid history
 
--- it is not under the id of one before it
+-- the last operation is not under the id of one before it
 last_apart : (h : List Op) (a : Op) → AllPairs (λ x y. x.id ≢ y.id) (h ++ a ∷ []) → (b : Op) → Contains h b → b.id ≢ a.id
 last_apart h a pairs b (i, l, e) same =
     let k = length_push h a in
@@ -61,7 +61,7 @@ module _ (h : List Op) (a : Op) (ready : AreReady h) (valid : IsValid (h ++ a �
   there : Contains (h ++ a ∷ []) a
   there = Contains-push h a
 
-  -- it knows no more than stands before it
+  -- the last operation knows no more than stands before it
   last_known : (s : ℕ) → IsSite s → entry a.past s ≤ count_of h s
   last_known s i = elim (cases_lt 0 (entry a.past s)) [
     | inl m ↦
@@ -78,7 +78,7 @@ module _ (h : List Op) (a : Op) (ready : AreReady h) (valid : IsValid (h ++ a �
     | inr m ↦ omega arith
   ]
 
-  -- it has the next number of its site
+  -- the last operation has the next number of its site
   last_number : a.id.seq ≡ count_of h a.id.site + 1
   last_number =
       let range = valid.in_range a there in

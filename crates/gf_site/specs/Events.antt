@@ -24,8 +24,8 @@ pub record IsFit (s : ℕ) (h : List Op) (c : Change) : Type 0 where
   pub room : count_of h s < 10000
   pub in_range : IsTrue (is_change c)
 
--- site s with the history h refuses the change c, for the first of these causes; want of memory may
--- come where it refuses none
+-- site s with the history h refuses the change c, for its first fault; without one, memory may be
+-- refused
 abbrev pub Refuses : ℕ → List Op → Change → AuthorFault → Type 0
 Refuses s h c fault.Exhausted = 10000 ≤ count_of h s
 Refuses s h c fault.Range = (count_of h s < 10000) × (¬ (IsTrue (is_change c)))
@@ -59,8 +59,7 @@ pub record Applies (old : SiteState) (i : OpId) (new : SiteState) : Type 0 where
   pub accepted : IsAccepted old.ops op
   pub ops : new.ops ≡ old.ops ++ op ∷ []
 
--- the site took out the ready operation with the least id, which has the id i, and forgot it, since
--- its check failed with f
+-- the site forgot the ready operation with the least id, which is i, since its check failed with f
 pub record ForgetsReady (old : SiteState) (i : OpId) (f : OpFault) (new : SiteState) : Type 0 where
   pub op : Op
   pub id : op.id ≡ i

@@ -6,7 +6,7 @@ use Rattle.gf_ops.specs.declared.op.Clock.{Clock}
 use Rattle.gf_ops.specs.declared.change.Change.{Change}
 use Rattle.gf_ops.specs.OperationOrder.{count_of}
 
--- its number, its operations in the order of adding, and what it holds, rising by id
+-- the number, the operations in the order of adding, and the held operations, rising by id
 pub record SiteState : Type 0 where
   pub number : ℕ
   pub ops : List Op

@@ -34,13 +34,13 @@ pub enum Step {
     Idle,
 }
 
-/// A site of this number, with its history, the table of its versions, and the operations that it
-/// holds until they are ready.
+/// A site of this number, with its history, its table of versions, and the operations held until
+/// they are ready.
 #[derive(Debug, Drop)]
 pub struct Site {
     number: u8,
     history: History,
-    // Stands for the history.
+    // The table stands for the history.
     table: GroupTable,
     buffer: Buffer,
     alloc: Global,
@@ -75,7 +75,7 @@ impl Site {
         }
     }
 
-    /// The same site once more.
+    /// A copy of the site.
     pub fn copy(&self, alloc: Global) -> Result<Site, OutOfMemory>
         ensures { IfOk result (λ copy. copy ≡ self.now) }
     {
@@ -88,7 +88,7 @@ impl Site {
         })
     }
 
-    /// Its number.
+    /// The number of the site.
     pub fn number(&self) -> u8
         ensures number { result ≡ self.now.number }
         ensures site { IsSite self.now.number }
@@ -96,7 +96,7 @@ impl Site {
         self.number
     }
 
-    /// Its history.
+    /// The history of the site.
     pub fn history(&self) -> &History
         ensures ops { result.now.ops ≡ self.now.ops }
         ensures accepted { AreAccepted self.now.ops }
@@ -106,14 +106,14 @@ impl Site {
         &self.history
     }
 
-    /// The versions of all objects of its history.
+    /// The versions of all objects of the history.
     pub fn table(&self) -> &GroupTable
         ensures { StandsFor self.now.ops result.now }
     {
         &self.table
     }
 
-    /// How many operations it holds.
+    /// How many operations the site holds.
     pub fn held(&self) -> usize
         ensures held { result ≡ length self.now.held }
         ensures valid { AreHeld self.now.held }
@@ -121,7 +121,7 @@ impl Site {
         self.buffer.held()
     }
 
-    /// The operations that it holds, rising by id.
+    /// The operations that the site holds, rising by id.
     pub fn held_ops(&self, alloc: Global) -> Result<Vec<&Op>, OutOfMemory>
         ensures ops { IfOk result (λ ops. map (λ a. a.now) ops.items ≡ self.now.held) }
         ensures valid { AreHeld self.now.held }
@@ -130,7 +130,7 @@ impl Site {
     }
 
     /// Makes an operation of the change, adds it to the history, and answers a copy. All memory is
-    /// there before it changes anything.
+    /// there before anything changes.
     pub fn author(&mut self, change: Change) -> Result<Op, AuthorFault>
         ensures ok { IfOk result (λ op. Authors self.old change op self.new) }
         ensures err { IfErr result (Refuses self.old.number self.old.ops change) }
@@ -173,8 +173,8 @@ impl Site {
         self.buffer.offer(op, &self.history)
     }
 
-    /// Moves the held operation that is ready, with the least id of those, to the history, or
-    /// forgets it where it doesn't fit. All memory is there before it changes anything.
+    /// Moves the ready held operation with the least id to the history, or forgets it where it
+    /// doesn't fit. All memory is there before anything changes.
     pub fn step(&mut self) -> Result<Step, OutOfMemory>
         ensures ok { IfOk result (λ step. Steps self.old step self.new) }
         ensures out_of_memory { OnErr result (HasNext self.old) }
@@ -196,8 +196,8 @@ impl Site {
         Ok(Step::Applied(id))
     }
 
-    /// The operation that it would make of the change. Its history accepts it, where the object is
-    /// known and suits the value, and the aim has no fault.
+    /// The operation that the site would make of the change. The history accepts it, where the
+    /// object is known and suits the value, and the aim has no fault.
     fn next_op(&self, change: Change) -> Op
         requires room { count_of self.now.ops self.now.number < 10000 }
         requires in_range { IsTrue (is_change change) }
@@ -216,7 +216,7 @@ impl Site {
         }
     }
 
-    /// The clock that counts its history.
+    /// The clock that counts the site's history.
     fn clock(&self) -> Clock
         ensures { result ≡ clock_of self.now.ops }
     {

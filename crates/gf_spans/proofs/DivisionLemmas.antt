@@ -88,7 +88,7 @@ place_before x run rise h z p = sym (div_strict (run *ℤ rise) (z -ℤ x) h p �
     moved_lt : (q x z : ℤ) → int_lt (x +ℤ q) z ≡ int_lt q (z -ℤ x)
     moved_lt q x z = grind (arith, ints)
 
--- and it is z exactly if they are equal
+-- the place is z exactly if both are equal
 pub place_at : (x run rise : ℤ) (h : ℕ) (z : ℤ) → 0 < h → is_at z (place x run rise (pos h)) ≡ int_eq (run *ℤ rise) (pos h *ℤ (z -ℤ x))
 unfolding place
 place_at x run rise h z p = sym (div_equal (run *ℤ rise) (z -ℤ x) h p ∙ sym (exactly (int_eq (pos h *ℤ int_div_euclid (run *ℤ rise) (pos h)) (run *ℤ rise)) (int_div_euclid (run *ℤ rise) (pos h)) x z))

@@ -12,8 +12,7 @@ is_at x k = int_eq k.floor x && not k.between
 abbrev pub is_before : ℤ → Crossing → Bool
 is_before x k = int_lt k.floor x
 
--- the place x + run * rise / height: at the quotient, rounded down, if that is exact, else between
--- it and the next number
+-- the place x + run * rise / height, rounded down, and whether it lies between two numbers
 unfoldable pub place : ℤ → ℤ → ℤ → ℤ → Crossing
 place x run rise height = record {
   floor = x +ℤ int_div_euclid (run *ℤ rise) height;

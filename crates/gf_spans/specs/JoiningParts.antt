@@ -14,13 +14,11 @@ abbrev pub span_between : Crossing → Crossing → Option Span
 span_between k l =
     cond (int_le (start k) l.floor) (Some (record { first = start k; last = l.floor })) None
 
--- the numbers from the place k to the place l as a list of one span, or of none where there are no
--- such numbers
+-- the numbers from the place k to the place l as one span, or none where there are no numbers
 abbrev pub spans_between : Crossing → Crossing → List Span
 spans_between k l = option_to_list (span_between k l)
 
--- the spans between the first place and the second, the third and the fourth, and so on, where one
--- place may stand before the list
+-- the spans between each two places in turn; one place may stand before the list
 abbrev pub pairs_from : Option Crossing → List Crossing → List Span
 pairs_from before [] = []
 pairs_from None (k ∷ ks) = pairs_from (Some k) ks

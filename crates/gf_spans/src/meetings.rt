@@ -22,7 +22,7 @@ pub struct Meetings {
 }
 
 impl Meetings {
-    /// None, and no memory yet.
+    /// No crossings and no contacts. It takes no memory yet.
     pub fn new(alloc: Global) -> Meetings
         ensures crossings { result.crossings.items ≡ [] }
         ensures contacts { result.contacts.items ≡ [] }
@@ -33,7 +33,7 @@ impl Meetings {
         }
     }
 
-    /// Drops all of them, and keeps the memory.
+    /// Drops all crossings and contacts, and keeps the memory.
     pub fn clear(&mut self)
         ensures crossings { self.new.crossings.items ≡ [] }
         ensures contacts { self.new.contacts.items ≡ [] }
@@ -42,8 +42,8 @@ impl Meetings {
         self.contacts.clear();
     }
 
-    /// Makes `spans` what they enclose. It sorts them where they are, adds to the contacts, and
-    /// takes no memory but that of these and of `spans`.
+    /// Makes `spans` what the meetings enclose. It sorts them in place, and adds to the contacts.
+    /// It takes memory for the contacts and for `spans` alone.
     pub fn join_into(&mut self, spans: &mut Vec<Span>) -> Result<(), AllocError>
         requires even { length self.now.crossings.items % 2 ≡ 0 }
         requires full { list_any is_empty self.now.contacts.items ≡ false }
@@ -70,7 +70,7 @@ fn pair_up(places: &[Crossing], found: &mut Vec<Span>) -> Result<(), AllocError>
     Ok(())
 }
 
-/// One more place, where one may stand before it.
+/// Takes one more place. With a place that waits for it, the two make a span; else it waits itself.
 fn pair_one(
     before: Option<Crossing>,
     place: Crossing,
@@ -135,7 +135,7 @@ fn merge_from(first: Span, rest: &[Span], spans: &mut Vec<Span>) -> Result<(), A
     Ok(())
 }
 
-/// One more span, which widens the one before it or stands apart from it.
+/// Takes one more span, which widens the one before it or stands apart from it.
 fn merge_one(current: Span, span: Span, spans: &mut Vec<Span>) -> Result<Span, AllocError>
     ensures { IfOk result (λ last. (ss : List Span)
         → spans.new.items ++ merged last ss ≡ spans.old.items ++ merged current (span ∷ ss)) }
@@ -155,7 +155,7 @@ fn meets(current: Span, span: Span) -> bool
     span.first as i64 <= current.last as i64 + 1
 }
 
-/// A span up to its end or that of another.
+/// A span, widened to the end of another one.
 fn widened(current: Span, span: Span) -> Span
     ensures { result ≡ widened current span }
 {

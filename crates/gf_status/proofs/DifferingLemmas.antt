@@ -52,7 +52,7 @@ same_told (Some v) (Some w) t = elim (cases_Bool (value_eq v w)) [
 -- ---- the visible versions of an object
 
 module _ (h : List Op) (valid : IsValid h) (o : ObjectId) (groups : List Group) (all : AreVisibleOn h o groups) (vs : List Version) (settled : AreSettled h groups vs) where
-  -- those that were settled are visible
+  -- the versions that were settled are visible
   visible_settled : (v : Version) → Contains vs v → IsVisibleOn h o v
   visible_settled v c =
       let there = subst (λ gs. Contains gs (group_of v)) settled.grouped (Contains-map group_of vs v c) in
@@ -62,7 +62,7 @@ module _ (h : List Op) (valid : IsValid h) (o : ObjectId) (groups : List Group) 
       let same : w.1.version ≡ v = one_of_group h valid w.1.version v w.1.visible.version (settled.versions v c) object ops in
       record { visible = subst (IsVisible h) same w.1.visible; object = w.0 }
 
-  -- and they are all
+  -- the versions that were settled are all visible ones
   settled_visible : (v : Version) → IsVisibleOn h o v → Contains vs v
   settled_visible v is =
       let group : IsVisibleGroup h (group_of v) = record { version = v; visible = is.visible; group = refl } in

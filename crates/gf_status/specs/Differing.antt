@@ -40,8 +40,8 @@ pub record Differs (h : List Op) (o : ObjectId) (t : Attr) : Type 0 where
   pub other : IsVisibleOn h o second
   pub apart : version_value first t ≢ version_value second t
 
--- a gives the attribute t its value in a visible version of the object o:
--- a sets t, and no operation of this version that sets t comes after a
+-- a gives the attribute t its value in a visible version of the object o. There a sets t, and no
+-- other setter of t comes after a
 pub record Gives (h : List Op) (o : ObjectId) (t : Attr) (a : Op) : Type 0 where
   pub group : Group
   pub object : group.object ≡ o
@@ -61,11 +61,11 @@ pub record AreGivers (h : List Op) (o : ObjectId) (t : Attr) (ids : List OpId) :
   pub exactly : (i : OpId) → Contains ids i ↔ GivesUnder h o t i
   pub rising : IsStrictlySortedBy id_cmp ids
 
--- the attributes of which a status tells
+-- the attributes that a status compares
 abbrev pub attributes : List Attr
 attributes = Place ∷ Points ∷ Size ∷ Colour ∷ Layer ∷ []
 
--- those of the attributes that differ among the visible versions of the object o, in their order
+-- of these attributes, the ones that differ among the visible versions of o, in their order
 pub data AreDifferences (h : List Op) (o : ObjectId)
     : List Attr → List Difference → Type 0 where
   none : AreDifferences h o [] []

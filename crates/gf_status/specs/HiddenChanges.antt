@@ -21,8 +21,8 @@ pub record HidesLast (h : List Op) (o : ObjectId) (a : Op) : Type 0 where
   pub last : (b : Op) → Contains h b → object_of b ≡ o → IsSome (value_given b attr.Shown)
       → ¬ (Precedes a b)
 
--- a changes the object o and does not hide it
--- of a and some last hiding of o, neither comes before the other
+-- a changes the object o and does not hide it. Of a and some last hiding of o, neither comes before
+-- the other
 pub record ChangesUnknowing (h : List Op) (o : ObjectId) (a : Op) : Type 0 where
   pub contained : Contains h a
   pub object : object_of a ≡ o
@@ -31,7 +31,7 @@ pub record ChangesUnknowing (h : List Op) (o : ObjectId) (a : Op) : Type 0 where
   pub last : HidesLast h o hiding
   pub concurrent : IsConcurrent a hiding
 
--- the operation under the id i changes the object o so
+-- the operation under the id i changes the object o, and knew nothing of a last hiding of o
 pub record ChangesUnder (h : List Op) (o : ObjectId) (i : OpId) : Type 0 where
   pub op : Op
   pub id : op.id ≡ i

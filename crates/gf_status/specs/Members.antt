@@ -28,8 +28,8 @@ pub record IsMadeAt (h : List Op) (k : ℕ) : Type 0 where
   pub at : slice_get h k ≡ Some op
   pub made : IsSome (made_kind op.change)
 
--- the operation of h at the position k has one of the ids and sets t,
--- and no operation under one of the ids that sets t comes after it
+-- the operation of h at the position k has one of the ids and sets t. No setter of t under one of
+-- the ids comes after it
 pub record IsLastAt (h : List Op) (t : Attr) (ids : List OpId) (k : ℕ) : Type 0 where
   pub op : Op
   pub at : slice_get h k ≡ Some op
@@ -37,7 +37,7 @@ pub record IsLastAt (h : List Op) (t : Attr) (ids : List OpId) (k : ℕ) : Type 
   pub sets : IsSome (value_given op t)
   pub last : (b : Op) → IsMember h ids b → IsSome (value_given b t) → ¬ (Precedes op b)
 
--- the operation at the position k is a last one of these in one of the groups
+-- the operation at the position k is a last setter of t in one of the groups
 pub record IsLastInOne (h : List Op) (t : Attr) (groups : List Group) (k : ℕ) : Type 0 where
   pub group : Group
   pub listed : Contains groups group

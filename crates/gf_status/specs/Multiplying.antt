@@ -4,7 +4,7 @@ use Rattle.std.specs.List.{fold}
 use Rattle.gf_components.specs.Components.{ComponentState}
 use Rattle.gf_status.specs.Counting.{capped}
 
--- n times so many sets, or too many
+-- n times the number of sets, or 1,001 where these are too many
 abbrev pub sets_times : ℕ → Option (List (List ℕ)) → ℕ
 sets_times n (Some gs) = capped (n * length gs)
 sets_times n None = 1001

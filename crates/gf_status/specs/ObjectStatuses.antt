@@ -1,4 +1,4 @@
--- What a status tells of the objects of a history (this project's choice).
+-- The status of each object of a history (this project's choice).
 use Rattle.std.specs.Prelude.{◌≡◌, ℕ, ◌<◌, ◌≤◌, List, [], Contains, map}
 use Rattle.std.specs.List.Sorted.{IsStrictlySortedBy}
 use Rattle.gf_ops.specs.declared.op.Op.{Op}
@@ -12,18 +12,18 @@ use Rattle.gf_status.specs.declared.objects.ObjectStatus.{ObjectStatus}
 use Rattle.gf_status.specs.Differing.{AreDifferences, attributes}
 use Rattle.gf_status.specs.HiddenChanges.{AreUnknowing}
 
--- of an object with n visible versions the differences are told, where n is at most 1,000
+-- the differences of an object with n visible versions, which are listed where n is at most 1,000
 pub record TellsDifferences (h : List Op) (o : ObjectId) (n : ℕ)
     (ds : List Difference) : Type 0 where
   pub few : n ≤ 1000 → AreDifferences h o attributes ds
   pub many : 1000 < n → ds ≡ []
 
--- of an object with n visible versions it is told what changed it, where n is 0
+-- the operations that changed an object with n visible versions, which are listed where n is 0
 pub record TellsChanged (h : List Op) (o : ObjectId) (n : ℕ) (ids : List OpId) : Type 0 where
   pub hidden : n ≡ 0 → AreUnknowing h o ids
   pub visible : 0 < n → ids ≡ []
 
--- s tells of an object of h
+-- s is the status of an object of h
 pub record IsStatusOf (h : List Op) (s : ObjectStatus) : Type 0 where
   pub made : IsMade h s.object
   pub versions : IsCount h s.object s.versions
@@ -31,11 +31,11 @@ pub record IsStatusOf (h : List Op) (s : ObjectStatus) : Type 0 where
   pub differences : TellsDifferences h s.object s.shown s.differences.items
   pub changed : TellsChanged h s.object s.shown s.changed
 
--- the ids of the objects of which these tell, in their order
+-- the ids of the objects of these statuses, in their order
 abbrev pub told_ids : List ObjectStatus → List OpId
 told_ids ss = map (λ (s : ObjectStatus). s.object.0) ss
 
--- these tell of each object of h, rising by id
+-- the statuses are those of all objects of h, rising by id
 pub record AreStatuses (h : List Op) (ss : List ObjectStatus) : Type 0 where
   pub each : (s : ObjectStatus) → Contains ss s → IsStatusOf h s
   pub all : (o : ObjectId) → IsMade h o → Contains (told_ids ss) o.0

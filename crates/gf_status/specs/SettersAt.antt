@@ -51,15 +51,15 @@ module _ (h : List Op) where
   abbrev pub sets_at : Attr → ℕ → Bool
   sets_at t i = gives (slice_get h i) t
 
-  -- the operation at the position i comes before none of those at the positions us
+  -- the operation at the position i comes before no operation at the positions us
   abbrev pub is_last : List ℕ → ℕ → Bool
   is_last us i = not (list_any (before_at h i) us)
 
-  -- of the positions us those whose operations come before none of the others
+  -- the positions of us whose operations come before none of the others
   abbrev pub lasts : List ℕ → List ℕ → List ℕ
   lasts others us = filter (is_last others) us
 
-  -- of the positions us those at which the attribute t is set
+  -- the positions of us at which the attribute t is set
   abbrev pub setters : Attr → List ℕ → List ℕ
   setters t us = filter (sets_at t) us
 
@@ -71,19 +71,19 @@ module _ (h : List Op) where
   abbrev pub unordered_at : ℕ → ℕ → Bool
   unordered_at i j = both_unordered (slice_get h i) (slice_get h j)
 
-  -- of the positions us those that hide
+  -- the positions of us that hide
   abbrev pub hidings : List ℕ → List ℕ
   hidings us = filter hides_at us
 
-  -- of the positions us those that hide, and come before none of these that shows or hides
+  -- the positions of us that hide, and come before none of us that shows or hides
   abbrev pub last_hidings : List ℕ → List ℕ
   last_hidings us = lasts (setters attr.Shown us) (hidings us)
 
-  -- the operation at the position i does not hide, and one of those at js is unordered with it
+  -- the operation at the position i does not hide, and is unordered with an operation at js
   abbrev pub is_unknowing : List ℕ → ℕ → Bool
   is_unknowing js i = not (hides_at i) && list_any (unordered_at i) js
 
-  -- of the positions us those that do not hide, and are unordered with one of js
+  -- the positions of us that do not hide, and are unordered with one of js
   abbrev pub unknowing : List ℕ → List ℕ → List ℕ
   unknowing js us = filter (is_unknowing js) us
 

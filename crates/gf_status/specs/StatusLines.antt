@@ -23,7 +23,7 @@ id_text i = decimal i.site ++ codes "." ++ decimal i.seq
 abbrev pub ids_text : List OpId → List ℕ
 ids_text ids = flat_map (λ i. codes " " ++ id_text i) ids
 
--- that the site s has n operations
+-- the line that the site s has n operations
 unfoldable pub has_line : ℕ → ℕ → List ℕ
 has_line s n = codes "site " ++ decimal s ++ codes " has " ++ decimal n ++ codes "\n"
 
@@ -35,7 +35,7 @@ site_line h s = cond (nat_le 1 (count_of h s)) (has_line s (count_of h s)) []
 abbrev pub site_lines : List Op → List ℕ
 site_lines h = flat_map (site_line h) (1 ∷ 2 ∷ 3 ∷ 4 ∷ 5 ∷ 6 ∷ 7 ∷ 8 ∷ [])
 
--- that the operation under i waits for the one under j
+-- the line that the operation under i waits for the one under j
 unfoldable pub waits_line : OpId → OpId → List ℕ
 waits_line i j = codes "operation " ++ id_text i ++ codes " waits for " ++ id_text j ++ codes "\n"
 
@@ -47,7 +47,7 @@ waiting_line h a = waits_line a.id (waits_for h a)
 abbrev pub number_text : ℕ → List ℕ
 number_text n = cond (nat_le n 1000) (decimal n) (codes "more than 1000")
 
--- that the object o has n versions, of which m are shown
+-- the line that the object o has n versions, of which m are shown
 unfoldable pub has_versions_line : ObjectId → ℕ → ℕ → List ℕ
 has_versions_line o n m =
     codes "object " ++ id_text o.0 ++ codes " has " ++ number_text n ++ codes " versions, "
@@ -72,7 +72,7 @@ difference_line o d =
     codes "object " ++ id_text o.0 ++ codes " " ++ attribute_word d.attribute
     ++ ids_text d.givers ++ codes "\n"
 
--- that the object o is hidden, and the operations under these ids changed it
+-- the line that the object o is hidden, and was changed by the operations under these ids
 unfoldable pub changed_line : ObjectId → List OpId → List ℕ
 changed_line o ids =
     codes "object " ++ id_text o.0 ++ codes " hidden, changed by" ++ ids_text ids ++ codes "\n"
@@ -99,8 +99,8 @@ abbrev pub is_none : {X : Type 0} → List X → Bool
 is_none [] = true
 is_none (x ∷ xs) = false
 
--- nothing of the object is open: at most 1,000 versions are visible,
--- these agree, and no operation changed what is hidden
+-- at most 1,000 versions of the object are visible, they agree, and no operation changed what is
+-- hidden
 abbrev pub is_clean : ObjectStatus → Bool
 is_clean s = nat_le s.shown 1000 && is_none s.differences.items && is_none s.changed
 

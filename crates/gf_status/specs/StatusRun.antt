@@ -19,7 +19,8 @@ pub record TellsStatus (h waiting : List Op) (text : List ℕ) (state : State) :
   pub text_is : text ≡ status_text h waiting objects
   pub state_is : state ≡ state_of waiting objects
 
--- the text and the state tell of the history that the bytes denote, and of the other operations
+-- the text and the state are those of the history that the bytes denote, and of the other
+-- operations
 pub record DenotesStatus (bytes text : List ℕ) (state : State) : Type 0 where
   pub history : List Op
   pub waiting : List Op
@@ -33,7 +34,7 @@ pub record WritesStatus (bytes : List ℕ) (state : State)
   pub denotes : DenotesStatus bytes text state
   pub written : Appends old new text
 
--- known bytes grow by a front, which may be none or all, of the status of what the bytes denote
+-- known bytes grow by a prefix, which may be none or all, of the status of what the bytes denote
 pub record WritesStatusPrefix (bytes : List ℕ) (old new : Option (List ℕ)) : Type 0 where
   pub text : List ℕ
   pub state : State

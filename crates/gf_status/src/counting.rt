@@ -10,17 +10,17 @@ ghost use Rattle.gf_status.specs.Multiplying.{count_with, counted};
 use gf_components::{Component, Components};
 use gf_ops::{History, ObjectId};
 
-/// Up to so many versions are counted. One more stands for all that are more.
+/// Up to this many versions are counted. One more stands for any greater number.
 pub const MOST_COUNTED: usize = 1_000;
 
-/// How many versions an object has that the history made, hidden ones too, or 1,001 where they are
-/// more than 1,000. It multiplies no sets out.
+/// How many versions an object has that the history made, hidden ones too; 1,001 where there are
+/// more. No sets are multiplied out.
 pub(crate) fn count_versions(history: &History, object: ObjectId, components: &Components) -> usize
     requires on { AreComponentsOn history.now.ops object components.now }
     requires made { IsMade history.now.ops object }
     ensures { IsCount history.now.ops object result }
 {
-    // Its clause says that the history is valid.
+    // The clause of `ops` says that the history is valid.
     let _ = history.ops();
     counted(components.parts())
 }

@@ -21,7 +21,8 @@ use gf_shape::OutOfMemory;
 use gf_versions::{Version, settle};
 use std::alloc::Global;
 
-/// The attributes of which a status tells. What is visible is shown in all versions.
+/// The attributes that a status compares. `Shown` is none of them, since visible versions are all
+/// shown.
 const ATTRIBUTES: [Attr; 5] = [
     Attr::Place,
     Attr::Points,
@@ -30,8 +31,8 @@ const ATTRIBUTES: [Attr; 5] = [
     Attr::Layer,
 ];
 
-/// An attribute that differs among the visible versions of an object, and the operations that give
-/// its values there, rising by id.
+/// An attribute that differs among an object's visible versions, and the operations that give its
+/// values there, rising by id.
 #[derive(Debug, Drop)]
 pub struct Difference {
     pub attribute: Attr,
@@ -63,7 +64,7 @@ fn differing_of(
     ensures { IfOk result (λ found. (o : _) → AreVisibleOn history.now.ops o groups.now
         → AreDifferences history.now.ops o attributes.now found.items) }
 {
-    // Its clause says that the history is valid.
+    // The clause of `ops` says that the history is valid.
     let _ = history.ops();
     let versions = settled(alloc, history, groups)?;
     let mut found = Vec::new(alloc);
@@ -79,7 +80,7 @@ fn differing_of(
     Ok(found)
 }
 
-/// The versions with these groups, in the order of these.
+/// The versions with these groups, in the order of the groups.
 fn settled(alloc: Global, history: &History, groups: &[Group]) -> Result<Vec<Version>, OutOfMemory>
     requires { (g : Group) → Contains groups.now g → IsVersionGroup history.now.ops g }
     ensures { IfOk result (λ versions. AreSettled history.now.ops groups.now versions.items) }

@@ -11,8 +11,8 @@ use gf_ops::{History, Ids, ObjectId};
 use gf_shape::OutOfMemory;
 use std::alloc::Global;
 
-/// The ids of the operations that change the object without hiding it and know nothing of a last
-/// hiding, which knows nothing of them, rising. The components are those of the object.
+/// The rising ids of the operations that change the object without hiding it, unordered with a last
+/// hiding. The components are those of the object.
 pub(crate) fn changed_unknowing(
     alloc: Global,
     history: &History,
@@ -22,7 +22,7 @@ pub(crate) fn changed_unknowing(
     requires { AreComponentsOn history.now.ops object components.now }
     ensures { IfOk result (AreUnknowing history.now.ops object) }
 {
-    // Its clause says that the history is valid.
+    // The clause of `ops` says that the history is valid.
     let _ = history.ops();
     let all = numbers_in(alloc, components)?;
     let last = last_hidings(alloc, history, &all)?;

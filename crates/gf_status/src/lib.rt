@@ -1,8 +1,8 @@
-//! What a designer asks first after taking in other people's files: what each site has, what waits
-//! for what, which objects have several versions, and where these differ.
+//! The status of a history, which a designer asks for after taking in other people's files. It says
+//! what each site has, what waits for what, and where the versions of an object differ.
 //!
-//! - [`status_run`]: reads operation lines and writes the status of their history; it answers
-//!   a [`State`].
+//! - [`status_run`]: reads operation lines and writes the status of their history; it answers a
+//!   [`State`].
 //! - [`object_statuses`]: an [`ObjectStatus`] for each object, with a [`Difference`] for each
 //!   attribute that differs among its visible versions.
 #![tactic(auto)]

@@ -47,7 +47,7 @@ fn push_sites(out: &mut Vec<u8>, history: &History, sites: &[u8]) -> Result<(), 
     Ok(())
 }
 
-/// Appends the line of a site with so many operations, if it has some.
+/// Appends the line of a site with this many operations, if it has some.
 fn push_site(out: &mut Vec<u8>, site: u8, count: u32) -> Result<(), AllocError>
     ensures { OnOk result (out.new.items
         ≡ out.old.items ++ cond (nat_le 1 count) (has_line site count) []) }
@@ -58,7 +58,7 @@ fn push_site(out: &mut Vec<u8>, site: u8, count: u32) -> Result<(), AllocError>
     Ok(())
 }
 
-/// Appends that a site has so many operations.
+/// Appends that a site has this many operations.
 #[tactic(auto, unfolding(crate::specs::StatusLines::has_line))]
 fn push_has(out: &mut Vec<u8>, site: u8, count: u32) -> Result<(), AllocError>
     ensures { OnOk result (out.new.items ≡ out.old.items ++ has_line site count) }

@@ -1,4 +1,4 @@
-//! What a status tells of the objects of a history.
+//! The status of each object of a history.
 
 ghost use Rattle.std.specs.Prelude.{◌≡◌, IfOk};
 ghost use Rattle.gf_groups.specs.declared.group.Group.{Group};
@@ -20,24 +20,24 @@ use gf_table::GroupTable;
 use gf_visible::visible_groups;
 use std::alloc::Global;
 
-/// What a status tells of an object.
+/// The status of an object.
 #[derive(Debug, Drop)]
 pub struct ObjectStatus {
     pub object: ObjectId,
-    /// How many versions it has, or 1,001 where they are more than 1,000.
+    /// How many versions the object has, or 1,001 where they are more than 1,000.
     pub versions: usize,
-    /// How many are visible, or 1,001 where these are more than 1,000.
+    /// How many versions are visible, or 1,001 where these are more than 1,000.
     pub shown: usize,
     /// The attributes that differ among the visible versions; none where these are more than 1,000.
     pub differences: Vec<Difference>,
-    /// The operations that changed it and knew nothing of what hides it; none where a version is
-    /// visible.
+    /// The operations that changed the object and knew nothing of what hides it; none where a
+    /// version is visible.
     pub changed: Ids,
 }
 
-/// What a status tells of each object of a history, rising by id. The table stands for the history.
+/// The status of each object of a history, rising by id. The table stands for the history.
 ///
-/// It lists the visible versions of an object, at most 1,000, and multiplies out no others.
+/// The visible versions of an object are listed, at most 1,000, and no others are multiplied out.
 pub fn object_statuses(
     alloc: Global,
     history: &History,
@@ -46,7 +46,7 @@ pub fn object_statuses(
     requires { StandsFor history.now.ops table.now }
     ensures { IfOk result (λ found. AreStatuses history.now.ops found.items) }
 {
-    // Its clause says that the history is valid.
+    // The clause of `ops` says that the history is valid.
     let _ = history.ops();
     let made = creations(alloc, history)?;
     let ids = rising(alloc, history, &made)?;
@@ -57,7 +57,7 @@ pub fn object_statuses(
     Ok(found)
 }
 
-/// What a status tells of an object that the history made.
+/// The status of an object that the history made.
 fn object_status(
     alloc: Global,
     history: &History,
@@ -89,8 +89,8 @@ fn object_status(
     }
 }
 
-/// The ids of the operations that changed the object and knew nothing of what hides it; none where
-/// some versions are visible.
+/// The operations that changed the object and knew nothing of what hides it; none with a visible
+/// version.
 fn changed(
     alloc: Global,
     history: &History,

@@ -13,7 +13,7 @@ use gf_ops::{Change, History, Ids, OpId};
 use gf_shape::OutOfMemory;
 use std::alloc::Global;
 
-/// The positions of the operations under these ids, in the order of these.
+/// The positions of the operations under these ids, in the order of the ids.
 pub(crate) fn positions_of(
     alloc: Global,
     history: &History,
@@ -22,7 +22,7 @@ pub(crate) fn positions_of(
     ensures { IfOk result (λ found. (k : _) → Contains found.items k
         ↔ IsMemberAt history.now.ops ids.now k) }
 {
-    // Its clause says that the history is valid.
+    // The clause of `ops` says that the history is valid.
     let _ = history.ops();
     let mut found = Vec::new(alloc);
     for id in ids {
@@ -72,7 +72,7 @@ pub(crate) fn rising(
         ↔ IsIdAmong history.now.ops positions.now i) }
     ensures rising { IfOk result (IsStrictlySortedBy id_cmp) }
 {
-    // Its clause says that a position fits.
+    // The clause of `len` says that a position fits.
     let _ = history.ops().len();
     let set = Numbers::of(alloc, positions)?;
     let ids = rising_ids(alloc, history, &set.to_vec(alloc)?)?;

@@ -32,9 +32,9 @@ struct Status {
 
 /// Reads operation lines to their end, by 1 to 16 workers, and writes the status of their history.
 /// It has a line for each site with operations, and one for each operation that waits. The lines of
-/// an object tell how many versions it has, which attributes differ among the visible ones, and what
-/// changed it while it was hidden. The answer is whether something waits or differs. All is read
-/// before the first write.
+/// an object say how many versions it has, and which attributes differ among the visible ones. Of a
+/// hidden object they say what changed it. The answer is whether something waits or differs. All is
+/// read before the first write.
 pub fn status_run<T: Threads + Sync, R: Source, W: Sink>(
     rt: &T,
     alloc: Global,
@@ -48,13 +48,13 @@ pub fn status_run<T: Threads + Sync, R: Source, W: Sink>(
         WritesStatus bytes state (W.taken sink.old) (W.taken sink.new))) }
     ensures flushed { OnOk result (IsTrue (W.flushed sink.new)) }
 
-    // As of `fig_run`, with no drawing.
+    // The same as `fig_run` promises, with no drawing.
     ensures source { ReadsFor MOST_INPUT_BYTES (R.left source.old) (R.left source.new)
         (R.failures source.old) (R.failures source.new) result }
     ensures refused { IfErr result (λ e. IfSome (R.left source.old) (λ bytes.
         RefusesStatus bytes e)) }
 
-    // A front of the text is written at most, and that only where the sink failed.
+    // At most a prefix of the text is written, and that only where the sink failed.
     ensures prefix { result ≡ Err StudioError.WriteFailed → IfSome (R.left source.old) (λ bytes.
         WritesStatusPrefix bytes (W.taken sink.old) (W.taken sink.new)) }
     ensures failed { result ≡ Err StudioError.WriteFailed →
@@ -124,7 +124,7 @@ fn tell(alloc: Global, site: &Site) -> Result<Status, OutOfMemory>
     Ok(Status { text, state })
 }
 
-/// Whether something waits, or is open of an object.
+/// Whether something waits, or something of an object is open.
 fn state_of(waiting: &[&Op], objects: &[ObjectStatus]) -> State
     ensures { result ≡ state_of (map (λ a. a.now) waiting.now) objects.now }
 {

@@ -8,16 +8,15 @@ use Rattle.gf_streams.specs.TextLines.{is_blank, numbered_from}
 abbrev pub with_line : ℕ → List ℕ → List (ℕ × List ℕ) → List (ℕ × List ℕ)
 with_line n line others = if is_blank line then others else (n, line) ∷ others
 
--- the first line of the text that is not blank is its front of this size and has the number n, or
--- the text is at its end
+-- the text is empty, or its prefix of this size is the first line not blank, of number n
 pub record IsAtSomeLine (text : List ℕ) (n size : ℕ) : Type 0 where
   pub within : size ≤ length text
   pub few : n + length text < 2 ^ 64
   pub lines : (text ≡ []) ⊎ (numbered_from n text
       ≡ (n, take size text) ∷ numbered_from (n + 1) (drop (size + 1) text))
 
--- of the text, whose first line has the number n, the first line that is not blank is this one, of
--- number m, and the text goes on so from it on
+-- the text begins at line n; its first line that is not blank is `line`, with number m. `from` is
+-- the text from that line on
 pub record IsNextLine (n : ℕ) (text : List ℕ) (m : ℕ) (line from : List ℕ) : Type 0 where
   pub lines : numbered_from n text ≡ numbered_from m from
   pub first : numbered_from m from
@@ -27,8 +26,7 @@ pub record IsNextLine (n : ℕ) (text : List ℕ) (m : ℕ) (line from : List �
   pub behind : from ≡ drop (length text - length from) text
   pub few : m + length from ≤ n + length text
 
--- the lines from this place on, whose first has the number n, begin at `start` with the number m,
--- with a line of this size
+-- line n is at this place; the first line not blank begins at `start`, with number m and this size
 pub record AreLinesAt (text : List ℕ) (from n m start size : ℕ) : Type 0 where
   pub lines : numbered_from n (drop from text) ≡ numbered_from m (drop start text)
   pub within : start ≤ length text

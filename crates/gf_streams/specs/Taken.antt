@@ -3,7 +3,7 @@ use Rattle.std.specs.Prelude.{◌≡◌, ℕ, ◌<◌, ◌≤◌, List, Option, 
 use Rattle.std.specs.Prelude.{◌&&◌, nat_eq, length, take, Result, MatchResult}
 use Rattle.std.specs.Io.KnownBytes.{Appends}
 
--- known bytes grow from old to new by a front of bytes, which may be none or all
+-- known bytes grow from old to new by a prefix of bytes, which may be none or all
 abbrev pub AppendsPrefix : Option (List ℕ) → Option (List ℕ) → List ℕ → Type 0
 AppendsPrefix old new bytes = (n : ℕ) × (n ≤ length bytes) × Appends old new (take n bytes)
 
@@ -19,8 +19,8 @@ Unflushes old new result = MatchResult result (λ n. UnflushedBy n old new) (λ 
 abbrev pub Flushes : {T E : Type 0} → Bool → Bool → Result T E → Type 0
 Flushes old new result = MatchResult result (λ _. new ≡ true) (λ _. new ≡ old)
 
--- not all of the bytes were taken, but a front of them: known bytes grow by it from old to new, and
--- whether that is flushed goes from was to is
+-- known bytes grow from old to new by a prefix of the bytes, but not all. Whether all are flushed
+-- goes from was to is
 pub record TakesPart (bytes : List ℕ) (old new : Option (List ℕ)) (was is : Bool) : Type 0 where
   pub count : ℕ
   pub fewer : count < length bytes

@@ -2,8 +2,8 @@
 use Rattle.std.specs.Prelude.{◌≡◌, ℕ, ◌+◌, ◌-◌, ◌<◌, ◌≤◌, ◌⊎◌, min}
 use Rattle.std.specs.Prelude.{Bool, false, List, [], length, Option, None, Some}
 
--- what it took, the most that it may hold, how often it failed, whether it is flushed, and what it
--- has memory for
+-- the bytes taken, the limit, the number of failures, whether the tape is flushed, and its memory
+-- in bytes
 pub record TapeState : Type 0 where
   pub bytes : List ℕ
   pub limit : Option ℕ
@@ -24,7 +24,7 @@ fitting_under (Some limit) held n = min n (limit - held)
 abbrev pub fitting : TapeState → ℕ → ℕ
 fitting tape n = fitting_under tape.limit (length tape.bytes) n
 
--- there are some of n bytes, and none of them fits on the tape
+-- n is not 0, and none of n bytes fits on the tape
 abbrev pub IsFull : TapeState → ℕ → Type 0
 IsFull tape n = (0 < n) × (fitting tape n ≡ 0)
 

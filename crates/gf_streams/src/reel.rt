@@ -9,7 +9,7 @@ ghost use Rattle.gf_streams.specs.Counts.{CountsFailure, raised};
 use crate::{Source, SourceFault};
 use std::marker::Model;
 
-/// A source in memory. Where it has a number, its reads fail once it gave that many bytes.
+/// A source in memory. With a number, its reads fail once that many bytes were given.
 #[derive(Drop)]
 pub struct Reel<'a> {
     left: &'a [u8],
@@ -44,7 +44,7 @@ impl<'a> Reel<'a> {
         }
     }
 
-    /// How many bytes a read with so much room gives.
+    /// How many bytes a read with this much room gives.
     fn read_length(&self, room: usize) -> usize
         ensures { result ≡ read_length self.now room }
     {
@@ -63,7 +63,7 @@ impl<'a> Source for Reel<'a> {
 
     ghost failures = { λ r. r.failures };
 
-    /// Gives what is left and has room.
+    /// Gives the bytes that are left, as far as there is room.
     fn read(&mut self, buffer: &mut [u8]) -> Result<usize, SourceFault>
         ensures within { IfOk result (λ n. n ≤ length buffer.new) }
         ensures gives { ReadConsumes (Some self.old.left) (Some self.new.left) result buffer.new }

@@ -13,15 +13,15 @@ use thiserror::Error;
 #[error("the sink failed")]
 pub struct SinkFault;
 
-/// Where bytes go. A call that fails takes none of them.
+/// Where bytes go. A call that fails takes no bytes.
 pub trait Sink {
-    /// The bytes that it took, where it tells them.
+    /// The bytes that the sink took, where they are known.
     ghost taken: { Self → Option (List ℕ) };
 
-    /// How often it failed, up to the greatest `u64`.
+    /// How often the sink failed, up to the greatest `u64`.
     ghost failures: { Self → ℕ };
 
-    /// Whether a flush succeeded since it last took bytes.
+    /// Whether a flush succeeded since the sink last took bytes.
     ghost flushed: { Self → Bool };
 
     /// Takes the first of these bytes, and says how many.
@@ -32,14 +32,14 @@ pub trait Sink {
         ensures counts { CountsFailure (failures self.old) (failures self.new) result }
         ensures unflushes { Unflushes (flushed self.old) (flushed self.new) result };
 
-    /// Passes on what it took.
+    /// Passes on what the sink took.
     fn flush(&mut self) -> Result<(), SinkFault>
         ensures keeps { Keeps (taken self.old) (taken self.new) }
         ensures counts { CountsFailure (failures self.old) (failures self.new) result }
         ensures flushes { Flushes (flushed self.old) (flushed self.new) result };
 }
 
-/// Writes all these bytes, and does not flush: so a text may go out in several pieces.
+/// Writes all these bytes without a flush, so a text may go out in several pieces.
 #[tactic(auto, using(crate::proofs::TakenLemmas::appends_more, crate::proofs::TakenLemmas::within_more, crate::proofs::TakenLemmas::appends_whole, crate::proofs::TakenLemmas::unflushed_more))]
 pub fn write_all<W: Sink>(sink: &mut W, bytes: &[u8]) -> Result<(), SinkFault>
     ensures ok { OnOk result (Appends (W.taken sink.old) (W.taken sink.new) bytes.now) }

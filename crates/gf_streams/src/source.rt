@@ -54,18 +54,18 @@ impl From<AllocError> for InputError {
     }
 }
 
-/// Where bytes come from. A call that fails gives none of them.
+/// Where bytes come from. A call that fails gives no bytes.
 pub trait Source {
-    /// The bytes that are still to come, where it tells them.
+    /// The bytes that are still to come, where they are known.
     ghost left: { Self → Option (List ℕ) };
 
-    /// How often it was read, up to the greatest `u64`.
+    /// How often the source was read, up to the greatest `u64`.
     ghost reads: { Self → ℕ };
 
-    /// How often it failed, up to the greatest `u64`.
+    /// How often the source failed, up to the greatest `u64`.
     ghost failures: { Self → ℕ };
 
-    /// Gives its next bytes, and says how many. None of them where there is room is its end.
+    /// Gives the next bytes, and says how many. No bytes where there is room mean the end.
     fn read(&mut self, buffer: &mut [u8]) -> Result<usize, SourceFault>
         ensures within { IfOk result (λ n. n ≤ length buffer.new) }
         ensures gives { ReadConsumes (left self.old) (left self.new) result buffer.new }
@@ -98,22 +98,21 @@ fn read_onto<R: Source>(
     Ok(count)
 }
 
-/// Reads all that a source has, unless it is too long: no more than one byte past the longest
-/// input, and no more often.
+/// Reads all bytes of a source, unless there are too many. It takes at most one byte past the
+/// longest input, in no more reads than that.
 #[tactic(auto, using(crate::proofs::ReadsLemmas::consumes_continued, crate::proofs::ReadsLemmas::not_past))]
 pub fn read_input<R: Source>(alloc: Global, source: &mut R) -> Result<Vec<u8>, InputError>
     ensures ok { IfOk result (λ bytes. IfSome (R.left source.old) (λ all. bytes.items ≡ all)) }
     ensures end { OnOk result (IsAtEnd (R.left source.new)) }
     ensures within { IfOk result (λ bytes. vec_len bytes ≤ MOST_INPUT_BYTES) }
 
-    // The source failed exactly once at a failed read, and else not.
+    // The source failed exactly once where its read failed, and else not.
     ensures read_failed { IsErrOf result ReadFailed →
         Rises (R.failures source.old) (R.failures source.new) }
     ensures counts { CountsFailureAt ReadFailed (R.failures source.old) (R.failures source.new)
         result }
 
-    // One byte past the longest input shows that there is more, and no other error hides it than
-    // want of memory.
+    // One byte past the longest input shows that there is more. Only want of memory may hide this.
     ensures too_long { IsErrOf result TooLong →
         IfSome (R.left source.old) (λ all. MOST_INPUT_BYTES < length all) }
     ensures one_more { IsErrOf result TooLong →

@@ -47,14 +47,14 @@ impl Tape {
         }
     }
 
-    /// What it took.
+    /// The bytes that the tape took.
     pub fn bytes(&self) -> &[u8]
         ensures { result.now ≡ self.now.bytes }
     {
         &self.bytes
     }
 
-    /// How many of `count` bytes fit.
+    /// How many of `count` bytes fit on the tape.
     fn fitting(&self, count: usize) -> usize
         ensures { result ≡ fitting self.now count }
     {
@@ -75,7 +75,7 @@ impl Sink for Tape {
 
     ghost flushed = { λ t. t.flushed };
 
-    /// Takes what fits.
+    /// Takes the bytes that fit.
     fn write(&mut self, bytes: &[u8]) -> Result<usize, SinkFault>
         ensures takes { WriteAppends (Some self.old.bytes) (Some self.new.bytes) result bytes.now }
         ensures counts { CountsFailure self.old.failures self.new.failures result }
@@ -84,7 +84,7 @@ impl Sink for Tape {
         ensures limit { self.new.limit ≡ self.old.limit }
         ensures memory { self.old.capacity ≤ self.new.capacity }
 
-        // It fails where nothing fits, and else only where it has to ask for memory.
+        // The write fails where nothing fits, and else only where it has to ask for memory.
         ensures fails { IsFull self.old (length bytes.now) → IsErr result }
         ensures succeeds { CanTake self.old (length bytes.now) → IsOk result }
     {
@@ -98,7 +98,7 @@ impl Sink for Tape {
         Ok(count)
     }
 
-    /// It does not fail.
+    /// The flush does not fail.
     fn flush(&mut self) -> Result<(), SinkFault>
         ensures ok { IsOk result }
         ensures flushes { self.new ≡ record self.old { flushed = true } }

@@ -13,18 +13,18 @@ use std::marker::Model;
 /// What was given of a text is forgotten from this many bytes on.
 const FORGOTTEN_BYTES: usize = 65_536;
 
-/// The lines of a text that are not blank and not yet given, each with its number from 1. Their
-/// memory is given back as they are given.
+/// The lines of a text that are not blank and not yet given, each with its number from 1. Memory is
+/// given back as lines are given.
 ///
-/// Giving all of them takes time in proportion to the text.
+/// Giving all lines takes time in proportion to the text.
 #[derive(Debug, Drop)]
 pub struct TextLines {
     text: Vec<u8>,
     next: Place,
 }
 
-/// Where the line that comes next stands in a text: its number, its first byte, and how many bytes
-/// it has. Where none comes, it starts at the text's end.
+/// Where the next line stands in a text: its number, its first byte, and how many bytes it has.
+/// Without a next line, this is the end of the text.
 #[derive(Clone, Copy, Debug)]
 struct Place {
     number: u64,
@@ -39,7 +39,8 @@ impl Model for TextLines {
 
     ghost Value = { List (ℕ × List ℕ) };
 
-    ghost view = { λ lines. numbered_from lines.next.number (drop lines.next.start lines.text.items) };
+    ghost view = { λ lines. numbered_from lines.next.number
+        (drop lines.next.start lines.text.items) };
 
     ghost invariant = { λ lines. (lines.next.start ≤ length lines.text.items)
         × IsAtSomeLine (drop lines.next.start lines.text.items) lines.next.number lines.next.size };
@@ -54,7 +55,7 @@ impl TextLines {
         TextLines { text, next }
     }
 
-    /// The first of them and its number.
+    /// The first line and its number.
     pub fn first(&self) -> Option<(u64, &[u8])>
         ensures some { IfSome result (λ line. self.now ≡ (line.0, line.1.now) ∷ drop 1 self.now) }
         ensures none { IfNone result (self.now ≡ []) }
@@ -66,7 +67,7 @@ impl TextLines {
         Some((self.next.number, &left[..self.next.size]))
     }
 
-    /// The first `most` of them, or all where they are fewer, without their numbers.
+    /// The first `most` lines, or all where they are fewer, without their numbers.
     pub fn block(&self, alloc: Global, most: usize) -> Result<Vec<&[u8]>, AllocError>
         ensures { IfOk result (λ block.
             map (λ line. line.now) block.items ≡ map (λ line. line.1) (take most self.now)) }
@@ -91,8 +92,8 @@ impl TextLines {
         self.forget_given();
     }
 
-    /// Gives back the memory of what was given, once that is as much as what is left: so no more
-    /// bytes are moved in all than the text has.
+    /// Gives back the memory of what was given, once that is as much as what is left. No more bytes
+    /// are moved in all than the text has.
     fn forget_given(&mut self)
         ensures { self.new ≡ self.old }
     {
@@ -107,8 +108,8 @@ impl TextLines {
     }
 }
 
-/// Where the first line that is not blank stands in a text from this place on, where the first line
-/// from there has this number.
+/// Where the first line that is not blank stands in a text from `from` on; the line there has
+/// `number`.
 fn place_of(text: &[u8], from: usize, number: u64) -> Place
     requires within { from ≤ length text.now }
     requires few { number + length (drop from text.now) < 2 ^ 64 }
@@ -156,7 +157,7 @@ fn next_line(text: &[u8], number: u64) -> Option<NextLine<'_>>
     None
 }
 
-/// What stands in a text behind its first line, which has so many bytes.
+/// The text behind its first line, which has `size` bytes.
 fn behind(text: &[u8], size: usize) -> &[u8]
     ensures { result.now ≡ drop (size + 1) text.now }
 {

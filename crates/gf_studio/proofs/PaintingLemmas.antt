@@ -54,11 +54,11 @@ module _ (bytes before text : List ℕ) (x : Writes bytes (Some before) (Some (b
       let same : text ≡ fig_text any_outline x.drawing = append_cancel_left before text (fig_text any_outline x.drawing) x.written in
       subst (λ t. Reads t (outlined any_outline x.drawing)) (sym same) x.reads
 
-  -- it does not fail
+  -- the text does not fail
   pub text_not_refused : (fault : FigFault) (n : ℕ) → ¬ (Fails text fault n)
   text_not_refused fault n = not_both text (outlined any_outline x.drawing) fault n text_reads
 
-  -- it denotes the colours that the bytes mean
+  -- the text denotes the colours that the bytes mean
   text_colours : (colour other : Point → Rgb) (y : IsMeant bytes colour) → x.drawing ≡ y.drawing → IsDenoted text other → (p : Point) → colour p ≡ other p
   text_colours colour other y same z p =
       let d = x.drawing in

@@ -45,7 +45,7 @@ module _ (bytes others : List ℕ) (h k : List Op) (d : Denotes bytes h) (e : De
       let colours = drawn_colours bytes others x.colour y.colour x.shown y.shown same in
       x.written ∙ (ap (λ bytes. taken ++ bytes) (one_picture w x.colour y.colour colours) ∙ sym y.written)
 
--- so do inputs with the same operations
+-- inputs with the same operations draw alike
 pub draw_alike : (bytes others : List ℕ) → HaveSameOperations bytes others → (drawing other : DrawingState AnyShape) → Draws bytes drawing → Draws others other → drawing ≡ other
 draw_alike bytes others have drawing other d e =
     histories_draw bytes others d.history d.history d.denoted (denote_alike bytes others have d.history d.denoted) (λ a. (λ i. i, λ i. i)) drawing other d e

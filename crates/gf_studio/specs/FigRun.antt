@@ -18,9 +18,8 @@ use Rattle.gf_fig_write.specs.ShownHistory.{Shows}
 use Rattle.gf_replay.specs.Denoting.{Denotes}
 use Rattle.gf_visible.specs.ShownVersions.{HasMoreVisible}
 
--- the drawing is the canonical one of h, and has at every point the colour that h means there, by
--- its shapes and by the
--- outlines that FIG draws of them
+-- the drawing is the canonical one of h, and has at every point the colour that h means there. Both
+-- its shapes and the outlines that FIG draws of them have these colours
 pub record IsDrawn (h : List Op) (drawing : DrawingState AnyShape) : Type 0 where
   pub canonical : IsCanonical h drawing
   pub colours : Paints h drawing
@@ -40,16 +39,16 @@ pub record Exports (bytes : List ℕ) (old new : Option (List ℕ)) : Type 0 whe
   pub written : Appends old new text
   pub shown : Shows text history
 
--- known bytes grow from old to new by the one FIG text of what the bytes draw, which reads as the
--- drawing of its outlines
+-- known bytes grow from old to new by the one FIG text of what the bytes draw. The text reads as
+-- the drawing of its outlines
 pub record Writes (bytes : List ℕ) (old new : Option (List ℕ)) : Type 0 where
   pub drawing : DrawingState AnyShape
   pub drawn : Draws bytes drawing
   pub written : Appends old new (fig_text any_outline drawing)
   pub reads : Reads (fig_text any_outline drawing) (outlined any_outline drawing)
 
--- known bytes grow from old to new by a front, which may be none or all, of the one FIG text of
--- what the bytes draw
+-- known bytes grow from old to new by a prefix of the one FIG text of what the bytes draw. The
+-- prefix may be none or all of the text
 pub record WritesPrefix (bytes : List ℕ) (old new : Option (List ℕ)) : Type 0 where
   pub drawing : DrawingState AnyShape
   pub drawn : Draws bytes drawing
@@ -74,7 +73,7 @@ pub record DrawsNothing (bytes : List ℕ) (fault : CompileFault) : Type 0 where
   pub denoted : Denotes bytes history
   pub refused : RefusesHistory history fault
 
--- what a compile fault says of the bytes; want of memory is no fault of theirs
+-- what a compile fault says of the bytes; want of memory says nothing of them
 abbrev pub RefusesCompiling : List ℕ → CompileFault → Type 0
 RefusesCompiling bytes compile.TooManyVersions = DrawsNothing bytes compile.TooManyVersions
 RefusesCompiling bytes compile.TooManyColours = DrawsNothing bytes compile.TooManyColours

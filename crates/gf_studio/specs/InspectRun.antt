@@ -54,8 +54,8 @@ pub record WritesLook (bytes : List ℕ) (query : Query)
   pub looks : Looks bytes query text
   pub written : Appends old new text
 
--- known bytes grow from old to new by a front, which may be none or all, of a text that answers the
--- query about what the bytes denote
+-- known bytes grow from old to new by a prefix, which may be none or all, of a text. The text
+-- answers the query about what the bytes denote
 pub record WritesLookPrefix (bytes : List ℕ) (query : Query)
     (old new : Option (List ℕ)) : Type 0 where
   pub text : List ℕ

@@ -17,15 +17,14 @@ use Rattle.gf_scanline.specs.Picture.{header, picture}
 use Rattle.gf_raster.specs.Bands.{HasBands}
 use Rattle.gf_studio.specs.FigRun.{Draws}
 
--- the bytes denote a history with a drawing, and colour is at every point the colour that this
--- history means there
+-- the bytes denote a history with a drawing, and colour is at every point what this history means
 pub record IsMeant (bytes : List ℕ) (colour : Point → Rgb) : Type 0 where
   pub drawing : DrawingState AnyShape
   pub drawn : Draws bytes drawing
   pub means : (p : Point) → HistoryColour drawn.history p (colour p)
 
--- the text reads as a drawing, and colour is at every point the colour of this drawing, painted by
--- the figure meaning
+-- the text reads as a drawing, and colour is that of the drawing at every point, by the figure
+-- meaning
 pub record IsDenoted (text : List ℕ) (colour : Point → Rgb) : Type 0 where
   pub drawing : Drawn
   pub reads : Reads text drawing
@@ -34,21 +33,19 @@ pub record IsDenoted (text : List ℕ) (colour : Point → Rgb) : Type 0 where
 
 -- IsShown says which colours are to be painted in window w, and known bytes grow from old to new
 module _ (IsShown : (Point → Rgb) → Type 0) (w : View) (old new : Option (List ℕ)) where
-  -- they grow by the picture of colours that are to be painted
+  -- known bytes grow by the picture of colours that are to be painted
   pub record WritesPicture : Type 0 where
     pub colour : Point → Rgb
     pub shown : IsShown colour
     pub written : Appends old new (picture colour w)
 
-  -- they grow by a front, which may be none or all, of the picture of colours that are to be
-  -- painted
+  -- known bytes grow by a prefix, which may be none or all, of the picture of such colours
   pub record WritesPicturePrefix : Type 0 where
     pub colour : Point → Rgb
     pub shown : IsShown colour
     pub written : AppendsPrefix old new (picture colour w)
 
-  -- they grow by the header and whole bands of 64 rows, fewer than all, of the picture of colours
-  -- that are to be painted
+  -- known bytes grow by the header and whole bands of 64 rows, fewer than all, of such a picture
   pub record WritesBands : Type 0 where
     pub colour : Point → Rgb
     pub shown : IsShown colour

@@ -1,4 +1,4 @@
--- What the errors of the parts of a look say. No public clause cites this module.
+-- What the errors of the parts of an inspecting run say. No public clause cites this module.
 use Rattle.std.specs.Prelude.{◌≡◌, ℕ, List, ⊤}
 use Rattle.gf_ops.specs.declared.op.Op.{Op}
 use Rattle.gf_replay.specs.Refusing.{Drops, HasFault}

@@ -1,4 +1,4 @@
--- What the answer of a run tells of its source and of the bytes that came from it (this project's
+-- What the answer of a run says of its source and of the bytes that came from it (this project's
 -- choice).
 use Rattle.std.specs.Prelude.{◌≡◌, ℕ, ◌+◌, ◌<◌, ◌≤◌, List, length, Option}
 use Rattle.std.specs.Prelude.{IfSome, Result, MatchResult, ⊤}
@@ -12,8 +12,8 @@ use Rattle.gf_session.specs.declared.session.SessionError.TheVariants as session
 use Rattle.gf_replay.specs.Refusing.{Drops, HasFault}
 use Rattle.gf_studio.specs.FigRun.{RefusesCompiling}
 
--- an input has at most `most` bytes; those that are left go from old to new, and the count of
--- failures from was to is
+-- an input has at most `most` bytes. The bytes left go from old to new, and the count of failures
+-- from was to is
 module _ (most : ℕ) (old new : Option (List ℕ)) (was is : ℕ) where
   -- the whole input came, and no read failed
   pub record ReadsAll : Type 0 where

@@ -30,8 +30,8 @@ pub enum Query {
 }
 
 /// Reads operation lines to their end, by 1 to 16 workers, and writes what their history answers to
-/// a query: a line for each version of an object, or the line of the version on top at a point. It
-/// reads all before the first write.
+/// a query. The answer is a line for each version of an object, or that of the version on top. All
+/// is read before the first write.
 pub fn inspect_run<T: Threads + Sync, R: Source, W: Sink>(
     rt: &T,
     alloc: Global,
@@ -46,13 +46,13 @@ pub fn inspect_run<T: Threads + Sync, R: Source, W: Sink>(
         WritesLook bytes query (W.taken sink.old) (W.taken sink.new))) }
     ensures flushed { OnOk result (IsTrue (W.flushed sink.new)) }
 
-    // As of `fig_run`, with an object that the history has not in place of a drawing.
+    // The same as `fig_run` promises, with an object that the history lacks in place of a drawing.
     ensures source { ReadsFor MOST_INPUT_BYTES (R.left source.old) (R.left source.new)
         (R.failures source.old) (R.failures source.new) result }
     ensures refused { IfErr result (λ e. IfSome (R.left source.old) (λ bytes.
         RefusesLook query bytes e)) }
 
-    // A front of the text is written at most, and that only where the sink failed.
+    // At most a prefix of the text is written, and that only where the sink failed.
     ensures prefix { result ≡ Err StudioError.WriteFailed → IfSome (R.left source.old) (λ bytes.
         WritesLookPrefix bytes query (W.taken sink.old) (W.taken sink.new)) }
     ensures failed { result ≡ Err StudioError.WriteFailed →

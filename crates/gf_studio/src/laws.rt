@@ -22,9 +22,9 @@ ghost use Rattle.gf_replay.specs.Denoting.{Denotes, HaveSameOperations};
 ghost use Rattle.gf_replay.specs.Refusing.{Drops, HasFault};
 ghost use Rattle.gf_studio.specs.FigRun.{Draws, RefusesCompiling, Writes};
 
-/// Of what lines denote, the FIG text of the canonical drawing reads as the drawing of its outlines,
-/// and each drawing that it reads as has at every point of the grid the colour that the history
-/// means there. No run and no memory is in it.
+/// The FIG text of the canonical drawing of what lines denote reads as the drawing of its outlines.
+/// Each drawing that it reads as has at every grid point the colour that the history means there.
+/// The law speaks of no run and no memory.
 pub fn the_text_of_what_lines_denote_shows_it()
     ensures reads { (bytes : List ℕ) (h : List Op) (d : DrawingState AnyShape) → Denotes bytes h →
         IsCanonical h d → Reads (fig_text any_outline d) (outlined any_outline d) }
@@ -32,8 +32,8 @@ pub fn the_text_of_what_lines_denote_shows_it()
         IsCanonical h d → Shows (fig_text any_outline d) h }
 {}
 
-/// An input that denotes a history has no line at fault and drops no operation, and where that has
-/// a drawing, it is refused neither for its versions nor for its colours.
+/// An input that denotes a history has no line at fault and drops no operation. Where the history
+/// has a drawing, the input is refused neither for its versions nor for its colours.
 pub fn what_denotes_a_history_is_not_refused()
     ensures line { (bytes : List ℕ) (h : List Op) → Denotes bytes h → (n : ℕ) (cause : LineCause) →
         ¬ (HasFault bytes n cause) }
@@ -43,10 +43,10 @@ pub fn what_denotes_a_history_is_not_refused()
         (fault : CompileFault) → ¬ (RefusesCompiling bytes fault) }
 {}
 
-/// Inputs with the same operations, in whatever order and however often, denote the same histories,
-/// have no two drawings, and runs that succeed with them write the same bytes behind the same ones,
-/// text or picture in one window. So where one succeeds, no other is refused for a line, an
-/// operation or its drawing.
+/// Inputs with the same operations, in any order and however often, denote the same histories with
+/// at most one drawing. Runs that succeed with them write the same bytes behind the same ones, text
+/// or picture in one window. Where one run succeeds, no other is refused for a line, an operation
+/// or its drawing.
 pub fn the_same_operations_draw_alike()
     ensures denotes { (bytes others : List ℕ) → HaveSameOperations bytes others → (h : List Op) →
         Denotes bytes h → Denotes others h }
@@ -62,9 +62,9 @@ pub fn the_same_operations_draw_alike()
         WritesPicture (IsMeant others) w (Some taken) (Some other) → painted ≡ other }
 {}
 
-/// Inputs that denote histories of the same operations, whatever else waits in them, have one
-/// drawing: what the one draws, the other draws, and no other. Runs that succeed with them write
-/// the same bytes behind the same ones, text or picture in one window.
+/// Inputs that denote histories of the same operations have one drawing, whatever else waits in
+/// them. What the one draws, the other draws, and no other drawing. Runs that succeed with them
+/// write the same bytes behind the same ones, text or picture in one window.
 pub fn the_same_histories_draw_alike()
     ensures drawing { (bytes others : List ℕ) (h k : List Op) → Denotes bytes h → Denotes others k →
         HaveSame h k → (drawing other : DrawingState AnyShape) → Draws bytes drawing →
@@ -81,8 +81,8 @@ pub fn the_same_histories_draw_alike()
         WritesPicture (IsMeant others) w (Some taken) (Some other) → painted ≡ other }
 {}
 
-/// The FIG text that a run wrote of an input is no text at fault, and where it is repainted in a
-/// window, the picture is that of the input painted in this window.
+/// The FIG text that a run wrote of an input is no text at fault. Repainted in a window, it gives
+/// the picture of the input painted in this window.
 pub fn a_text_is_repainted_as_its_history_is_painted()
     ensures not_refused { (bytes before text : List ℕ) →
         Writes bytes (Some before) (Some (before ++ text)) → (fault : FigFault) (n : ℕ) →

@@ -1,5 +1,4 @@
-//! Whole runs: from the bytes of operation lines to FIG text or a picture, and from FIG text to a
-//! picture.
+//! Whole runs: from operation lines to FIG text or a picture, and from FIG text to a picture.
 
 ghost use Rattle.std.specs.Prelude.{◌≡◌, ◌+◌, ◌≤◌, ◌⊎◌, Err, IfSome, IfErr, OnOk, IsTrue};
 ghost use Rattle.gf_streams.specs.Counts.{Rises};
@@ -17,8 +16,8 @@ use gf_streams::{MOST_INPUT_BYTES, Sink, Source};
 use std::alloc::Global;
 use std::thread::Threads;
 
-/// Reads operation lines to their end, by 1 to 16 workers, and writes the FIG text of the drawing
-/// that their history means. It reads all before the first write.
+/// Reads operation lines to their end, by 1 to 16 workers, and writes the FIG text of their
+/// history's drawing. All is read before the first write.
 #[tactic(auto, using(crate::proofs::ExportLemmas::exported))]
 pub fn fig_run<T: Threads + Sync, R: Source, W: Sink>(
     rt: &T,
@@ -28,30 +27,30 @@ pub fn fig_run<T: Threads + Sync, R: Source, W: Sink>(
     workers: u8,
 ) -> Result<(), StudioError>
     requires { (1 ≤ workers) × (workers ≤ 16) }
-    // What is written reads, by the FIG grammar, as a drawing that has at every point of the grid
-    // the colour that the history means there which the bytes denote; to the byte it is the one
-    // text of that history's canonical drawing.
+    // By the FIG grammar, what is written reads as a drawing. At every grid point this has the
+    // colour that the denoted history means there. To the byte, the text is the one of that
+    // history's canonical drawing.
     ensures exports { OnOk result (IfSome (R.left source.old) (λ bytes.
         Exports bytes (W.taken sink.old) (W.taken sink.new))) }
     ensures text { OnOk result (IfSome (R.left source.old) (λ bytes.
         Writes bytes (W.taken sink.old) (W.taken sink.new))) }
     ensures flushed { OnOk result (IsTrue (W.flushed sink.new)) }
 
-    // The input was read whole, or the source failed, or had more than an input; the first line
-    // that is at fault, or the history has no drawing.
+    // The input was read whole, or the source failed, or had more than an input. The error names
+    // the first line at fault, or why the history has no drawing.
     ensures source { ReadsFor MOST_INPUT_BYTES (R.left source.old) (R.left source.new)
         (R.failures source.old) (R.failures source.new) result }
     ensures refused { IfErr result (λ e. IfSome (R.left source.old) (λ bytes.
         RefusesLines bytes e)) }
 
-    // A front of the text is written at most, and that only where the sink failed.
+    // At most a prefix of the text is written, and that only where the sink failed.
     ensures prefix { result ≡ Err StudioError.WriteFailed → IfSome (R.left source.old) (λ bytes.
         WritesPrefix bytes (W.taken sink.old) (W.taken sink.new)) }
     ensures failed { result ≡ Err StudioError.WriteFailed →
         Rises (W.failures sink.old) (W.failures sink.new) }
     ensures unwritten { IfErr result (λ e. (sink.new ≡ sink.old) ⊎ (e ≡ StudioError.WriteFailed)) }
 
-    // It reads no more than one byte past the longest input, and no more often.
+    // At most one byte past the longest input is read, in no more reads than that.
     ensures takes { ConsumesAtMost (MOST_INPUT_BYTES + 1) (R.left source.old) (R.left source.new) }
     ensures reads { R.reads source.new ≤ R.reads source.old + (MOST_INPUT_BYTES + 1) }
 {
@@ -60,8 +59,9 @@ pub fn fig_run<T: Threads + Sync, R: Source, W: Sink>(
     Ok(())
 }
 
-/// Reads operation lines to their end, and writes the picture, in a window, of the colours that
-/// their history means, read and painted by 1 to 16 workers. It reads all before the first write.
+/// Reads operation lines to their end, and writes the picture of their history's colours in a
+/// window. The lines are read and the picture is painted by 1 to 16 workers. All is read before the
+/// first write.
 pub fn paint_run<T: Threads + Sync, R: Source, W: Sink, G: Gate + Sync>(
     rt: &T,
     alloc: Global,
@@ -72,19 +72,19 @@ pub fn paint_run<T: Threads + Sync, R: Source, W: Sink, G: Gate + Sync>(
     gate: &G,
 ) -> Result<(), StudioError>
     requires { (1 ≤ workers) × (workers ≤ 16) }
-    // What is written is the picture of the colours that the history means which the bytes denote.
+    // What is written is the picture of the colours that the denoted history means.
     ensures paints { OnOk result (IfSome (R.left source.old) (λ bytes.
         WritesPicture (IsMeant bytes) window (W.taken sink.old) (W.taken sink.new))) }
     ensures flushed { OnOk result (IsTrue (W.flushed sink.new)) }
 
-    // As of `fig_run`.
+    // The same as `fig_run` promises.
     ensures source { ReadsFor MOST_INPUT_BYTES (R.left source.old) (R.left source.new)
         (R.failures source.old) (R.failures source.new) result }
     ensures refused { IfErr result (λ e. IfSome (R.left source.old) (λ bytes.
         RefusesLines bytes e)) }
 
-    // A front of the picture is written where the sink failed, and for want of memory nothing, or
-    // the header and whole bands; else nothing.
+    // A prefix of the picture is written where the sink failed. Want of memory leaves nothing, or
+    // the header and whole bands. With any other error nothing is written.
     ensures prefix { result ≡ Err StudioError.WriteFailed → IfSome (R.left source.old) (λ bytes.
         WritesPicturePrefix (IsMeant bytes) window (W.taken sink.old) (W.taken sink.new)) }
     ensures failed { result ≡ Err StudioError.WriteFailed →
@@ -103,8 +103,8 @@ pub fn paint_run<T: Threads + Sync, R: Source, W: Sink, G: Gate + Sync>(
     Ok(())
 }
 
-/// Reads a FIG text to its end, and writes the picture, in a window, of the drawing that it reads
-/// as, painted by 1 to 16 workers. It reads all before the first write.
+/// Reads a FIG text to its end, and writes the picture of its drawing in a window. The picture is
+/// painted by 1 to 16 workers. All is read before the first write.
 pub fn repaint_run<T: Threads + Sync, R: Source, W: Sink, G: Gate + Sync>(
     rt: &T,
     alloc: Global,
@@ -120,13 +120,13 @@ pub fn repaint_run<T: Threads + Sync, R: Source, W: Sink, G: Gate + Sync>(
         WritesPicture (IsDenoted text) window (W.taken sink.old) (W.taken sink.new))) }
     ensures flushed { OnOk result (IsTrue (W.flushed sink.new)) }
 
-    // The text was read whole, or the source failed, or had more than an input; and it reads as no
-    // drawing, for this fault of this object.
+    // The text was read whole, or the source failed, or had more than an input. The error names the
+    // fault of an object for which the text reads as no drawing.
     ensures source { ReadsFor MOST_INPUT_BYTES (R.left source.old) (R.left source.new)
         (R.failures source.old) (R.failures source.new) result }
     ensures refused { IfErr result (λ e. IfSome (R.left source.old) (λ text. RefusesFig text e)) }
 
-    // As of `paint_run`.
+    // The same as `paint_run` promises.
     ensures prefix { result ≡ Err StudioError.WriteFailed → IfSome (R.left source.old) (λ text.
         WritesPicturePrefix (IsDenoted text) window (W.taken sink.old) (W.taken sink.new)) }
     ensures failed { result ≡ Err StudioError.WriteFailed →

@@ -1,18 +1,17 @@
--- Components of numbers as components of what a function makes of these numbers, as of positions in
--- a history.
+-- Components of numbers, mapped by a function of the numbers, as to positions in a history.
 use Rattle.std.specs.Prelude.{ℕ, List, map, Option, option_map}
 use Rattle.gf_maximal.specs.Growing.{image}
 use Rattle.gf_components.specs.Components.{ComponentState, ComponentsState}
 
 module _ (f : ℕ → ℕ) where
-  -- what f makes of the numbers of each set
+  -- the sets, with each number mapped by f
   abbrev pub sets_at : Option (List (List ℕ)) → Option (List (List ℕ))
   sets_at r = option_map (map (image f)) r
 
-  -- of the numbers of the component
+  -- the component, with each number mapped by f
   abbrev pub component_at : ComponentState → ComponentState
   component_at p = record { all = image f p.all; sets = sets_at p.sets }
 
-  -- of all numbers
+  -- the components, with each number mapped by f
   abbrev pub components_at : ComponentsState → ComponentsState
   components_at s = record { free = image f s.free; parts = map component_at s.parts }

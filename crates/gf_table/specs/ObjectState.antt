@@ -1,5 +1,5 @@
--- What the table has of one object: its setters by attribute and site and by value, what aims, its
--- components, and where its creation stands.
+-- What the table has of one object: its setters, by site and by value, and its components. The
+-- table also has what aims, and where the creation stands.
 use Rattle.std.specs.Prelude.{ℕ, ◌-◌, ◌*◌, Bool, List, [], None, Option, unwrap_or}
 use Rattle.gf_ops.specs.declared.op.Op.{Op}
 use Rattle.gf_ops.specs.declared.op.OpId.{OpId}
@@ -23,7 +23,7 @@ pub record ObjectState : Type 0 where
 abbrev pub maker_number : ℕ
 maker_number = 48 * block
 
--- of an object whose creation stands at the position m
+-- the state of an object whose creation stands at the position m
 abbrev pub made : ℕ → ObjectState
 made m = record {
   chains = no_chains;
@@ -33,8 +33,8 @@ made m = record {
   maker = m;
 }
 
--- with a setter of the attribute u under the id, at the position p and with the number n, which has
--- the rivals d
+-- the state with a setter of the attribute u under the id, with the rivals d. The setter stands at
+-- the position p and has the number n
 abbrev pub with_grown : Attr → OpId → ℕ → ℕ → List ℕ → ObjectState → ObjectState
 with_grown u id p n d t = record {
   chains = with_setter t.chains u (id.site - 1) (record { seq = id.seq; position = p });

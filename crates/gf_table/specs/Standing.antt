@@ -1,5 +1,4 @@
--- When a table stands for a history: for each object it has the chains of its setters and the
--- components of its operations.
+-- When a table stands for a history: it has the setters and the components of each object.
 use Rattle.std.specs.Prelude.{◌≡◌, ◌≢◌, ◌↔◌, ◌⊎◌, ℕ, Bool, List, []}
 use Rattle.std.specs.Prelude.{◌∷◌, ◌++◌, AllPairs, Contains, length, Option, Some, None}
 use Rattle.std.specs.Prelude.{IfSome, slice_get, unwrap_or}
@@ -56,8 +55,7 @@ pub record IsNextOf (h : List Op) (a : Op) (v : Value) (t : ObjectState) : Type 
   pub change : a.change ≡ Set object v aim
   pub state : IsStateOf h object t
 
--- a setter with one of the numbers us conflicts directly with that with the number n, in one
--- component
+-- a setter with one of the numbers us conflicts directly with the setter n, in one component
 pub record IsMetByAim (h : List Op) (t : ObjectState) (us : List ℕ) (n : ℕ) : Type 0 where
   pub reached : IsReached us t.components.parts n
   pub one : ℕ
@@ -65,12 +63,12 @@ pub record IsMetByAim (h : List Op) (t : ObjectState) (us : List ℕ) (n : ℕ) 
   pub one_reached : IsReached us t.components.parts one
   pub clash : Clash h t.chains one n
 
--- the state of an aim is put behind es, where an operation with this aim has a state
+-- es with the state of an aim behind, where an operation with this aim has a state
 abbrev pub with_aim : List OpId → AimedState → List AimedState → List AimedState
 with_aim [] e es = es
 with_aim (i ∷ is) e es = es ++ e ∷ []
 
--- the table's state of an object, if it has one, is that of its operations, and else there is none
+-- a state that the table has of the object is that of its operations; without one there are none
 abbrev pub IsObjectState : List Op → ObjectId → Option ObjectState → Type 0
 IsObjectState h o (Some t) = IsStateOf h o t
 IsObjectState h o None = (a : Op) → Contains h a → object_of a ≢ o
@@ -94,7 +92,7 @@ module _ (c : ℕ → ℕ → Bool) where
   abbrev pub full : ComponentState → List (List ℕ)
   full p = unwrap_or p.sets (groups_at c p.all)
 
-  -- what is free, with one set of each component
+  -- the sets that are free numbers with one set of each component
   abbrev pub listed : ComponentsState → List (List ℕ)
   listed s = fold (λ gs p. products gs (full p)) (s.free ∷ []) s.parts
 

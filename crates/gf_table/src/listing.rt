@@ -13,8 +13,8 @@ use gf_ops::{History, ObjectId};
 use gf_shape::OutOfMemory;
 use std::alloc::Global;
 
-/// What is free, with one set of each component: all versions of the object. The sets of a component
-/// that has too many are made anew.
+/// All versions of the object: what is free, with one set of each component. The sets of a
+/// component that has too many are made anew.
 pub(crate) fn listed(
     alloc: Global,
     history: &History,
@@ -22,7 +22,8 @@ pub(crate) fn listed(
     components: &Components,
 ) -> Result<Vec<Numbers>, OutOfMemory>
     requires { AreComponentsOn history.now.ops object components.now }
-    ensures { IfOk result (λ sets. sets.items ≡ listed (conflict_at history.now.ops) components.now) }
+    ensures { IfOk result (λ sets.
+        sets.items ≡ listed (conflict_at history.now.ops) components.now) }
 {
     let mut sets = Vec::from_array(alloc, [components.free().copy(alloc)?])?;
     for part in components.parts() {
@@ -31,7 +32,7 @@ pub(crate) fn listed(
     Ok(sets)
 }
 
-/// Each of the sets with each of the component.
+/// Each of the sets united with each set of the component.
 fn multiplied(
     alloc: Global,
     history: &History,
@@ -43,7 +44,7 @@ fn multiplied(
     ensures { IfOk result (λ found. found.items
         ≡ products sets.now (full (conflict_at history.now.ops) part.now)) }
 {
-    // Its clause says that a position fits.
+    // The clause of `len` says that a position fits.
     let _ = history.ops().len();
     match part.sets() {
         Some(own) => products(alloc, sets, own),

@@ -38,8 +38,8 @@ fn copied(alloc: Global, index: &Option<Index>) -> Result<Option<Index>, OutOfMe
     }
 }
 
-/// The index that was made, or else the one that was kept, with one more setter; none where there is
-/// none, or memory is refused.
+/// An index with one more setter: the one that was made, or else the one that was kept. There is
+/// none without either, or where memory is refused.
 fn with_setter(
     alloc: Global,
     made: Option<Index>,
@@ -60,7 +60,7 @@ fn with_setter(
     }
 }
 
-/// Adds the state of an operation that aims at some.
+/// Adds the state of an operation that aims at others.
 fn push_aimed(
     aimed: &mut Vec<Aimed>,
     op: &Op,
@@ -79,7 +79,7 @@ fn push_aimed(
     Ok(())
 }
 
-/// Takes the state of the operation away that was added last.
+/// Takes the state away that was added last, that of the operation.
 fn pop_aimed(aimed: &mut Vec<Aimed>, op: &Op)
     ensures { (e : _) (es : _) → aimed.old.items ≡ with_aim (aim_of op.now) e es
         → aimed.new.items ≡ es }
@@ -100,8 +100,8 @@ fn copied_aimed(alloc: Global, aimed: &[Aimed]) -> Result<Vec<Aimed>, OutOfMemor
     Ok(copy)
 }
 
-/// The operations on an object, by numbers: the chains of its setters, what aims, their components,
-/// and the position of the creation.
+/// The operations on an object, by numbers: the chains of its setters, and their components. It
+/// also has what aims, and the position of the creation.
 #[derive(Debug, Drop)]
 pub(crate) struct ObjectTable {
     chains: Chains,
@@ -126,7 +126,7 @@ impl Model for ObjectTable {
 }
 
 impl ObjectTable {
-    /// Of an object whose creation stands at this position.
+    /// The table of an object whose creation stands at this position.
     pub(crate) fn made(alloc: Global, position: usize) -> Result<ObjectTable, OutOfMemory>
         ensures { IfOk result (λ table. table ≡ made position) }
     {
@@ -141,8 +141,8 @@ impl ObjectTable {
         })
     }
 
-    /// The numbers of the operations that conflict directly with one that knows these and gives the
-    /// value; and an index, where one was made for it.
+    /// The numbers of operations in direct conflict with one that knows these and gives the value.
+    /// Where an index was made for it, the call gives that too.
     fn direct_rivals(
         &self,
         alloc: Global,
@@ -172,7 +172,7 @@ impl ObjectTable {
         }
     }
 
-    /// The numbers, and those of the setters that conflict directly with one that the aim has. Only
+    /// The numbers, with those of the setters that conflict directly with one of the aim. Only
     /// operations of the components that the aim touches are compared.
     fn with_met(
         &self,
@@ -194,8 +194,8 @@ impl ObjectTable {
         direct.united(alloc, &met)
     }
 
-    /// The numbers of the operations that conflict with the next one, which has this aim and gives
-    /// the value; and an index, where one was made for it.
+    /// The numbers of operations that conflict with the next one, which has this aim and gives the
+    /// value. Where an index was made for it, the call gives that too.
     fn rivals(
         &self,
         alloc: Global,
@@ -280,7 +280,7 @@ impl ObjectTable {
         }
     }
 
-    /// The same once more.
+    /// A copy of the table.
     pub(crate) fn copy(&self, alloc: Global) -> Result<ObjectTable, OutOfMemory>
         ensures { IfOk result (λ copy. copy ≡ self.now) }
     {

@@ -19,8 +19,8 @@ use std::alloc::Global;
 use std::collections::BTreeMap;
 use std::marker::Model;
 
-/// For each object of a history the operations on it in components, seen as the list of objects with
-/// their states.
+/// For each object of a history the operations on it in components. The table is seen as the list
+/// of objects with their states.
 #[derive(Debug, Drop)]
 pub struct GroupTable {
     alloc: Global,
@@ -38,7 +38,7 @@ impl Model for GroupTable {
 }
 
 impl GroupTable {
-    /// Of the empty history.
+    /// The table of the empty history.
     pub fn new(alloc: Global) -> GroupTable
         ensures { StandsFor [] result }
     {
@@ -48,7 +48,7 @@ impl GroupTable {
         }
     }
 
-    /// The same table once more.
+    /// A copy of the table.
     pub fn copy(&self, alloc: Global) -> Result<GroupTable, OutOfMemory>
         ensures { IfOk result (λ copy. copy ≡ self.now) }
     {
@@ -60,9 +60,8 @@ impl GroupTable {
         Ok(GroupTable { alloc, objects })
     }
 
-    /// Adds an operation that the history may add. It is compared with none but those that set its
-    /// attribute of the object and that it does not know, and no more sets are made than a component
-    /// may keep.
+    /// Adds an operation that the history may add. It is compared only with unknown setters of its
+    /// attribute of the object. No more sets are made than a component may keep.
     pub fn add(&mut self, history: &History, op: &Op) -> Result<(), OutOfMemory>
         requires in_range { IsInRange op.now }
         requires accepted { IsAccepted history.now.ops op.now }
@@ -84,7 +83,7 @@ impl GroupTable {
         requires { StandsFor history.now.ops self.now }
         ensures { IfOk result (λ found. AreComponentsOn history.now.ops object found) }
     {
-        // Its clause says that a position fits.
+        // The clause of `len` says that a position fits.
         let _ = history.ops().len();
         match self.objects.get(&object) {
             Some(state) => state.by_position(alloc),
@@ -92,8 +91,8 @@ impl GroupTable {
         }
     }
 
-    /// The versions of an object, as `groups_of` gives them. The table has positions, and the
-    /// history of which it is tells what stands there.
+    /// The versions of an object, as `groups_of` gives them. The table has positions; the
+    /// operations come from its history.
     pub fn groups(
         &self,
         alloc: Global,
@@ -143,7 +142,7 @@ fn add_to(
     ensures ok { OnOk result (StandsFor (history.now.ops ++ op.now ∷ []) objects.new.entries) }
     ensures err { OnErr result (objects.new.entries ≡ objects.old.entries) }
 {
-    // Its clause says that the history is valid.
+    // The clause of `ops` says that the history is valid.
     let position = history.ops().len();
     match &op.change {
         Change::Create(_) => {

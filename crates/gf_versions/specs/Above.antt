@@ -18,7 +18,7 @@ key_cmp k l =
 abbrev pub IsAbove : VersionKey → VersionKey → Type 0
 IsAbove k l = key_cmp k l ≡ Greater
 
--- v and w are one, or one of them is above the other, and then not both
+-- v and w are one, or exactly one of them is above the other
 pub data AreOrdered (v w : Version) : Type 0 where
   same : v ≡ w → AreOrdered v w
   first_above : IsAbove v.key w.key → ¬ (IsAbove w.key v.key) → AreOrdered v w

@@ -16,7 +16,7 @@ pub record IsSeenAt (h : List Op) (p : Point) (v : Version) : Type 0 where
   pub visible : IsVisible h v
   pub holds : IsTrue (version_holds v p)
 
--- v is seen at p, and none that is seen there is above it
+-- v is seen at p, and no other version seen there is above it
 pub record IsTopAt (h : List Op) (p : Point) (v : Version) : Type 0 where
   pub seen : IsSeenAt h p v
   pub top : (w : Version) → IsSeenAt h p w → ¬ (IsAbove w.key v.key)

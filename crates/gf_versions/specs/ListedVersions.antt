@@ -13,7 +13,7 @@ pub record AreSettled (h : List Op) (groups : List Group) (vs : List Version) : 
   pub grouped : map group_of vs ≡ groups
   pub versions : (v : Version) → Contains vs v → IsVersionOf h v
 
--- those of the versions that are shown
+-- the versions that are shown
 abbrev pub shown_of : List Version → List Version
 shown_of vs = filter (λ v. v.shown) vs
 

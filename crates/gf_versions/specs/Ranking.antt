@@ -16,7 +16,7 @@ use Rattle.gf_versions.specs.Above.{IsAbove}
 use Rattle.gf_versions.specs.HistoryColour.{white}
 use Rattle.gf_versions.specs.Visible.{IsVisible}
 
--- the place of what is not moved
+-- the origin, from which no form is moved
 abbrev pub origin : Point
 origin = record { x = pos 0; y = pos 0 }
 

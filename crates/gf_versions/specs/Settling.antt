@@ -33,7 +33,7 @@ has k Shown = true
 abbrev pub HasAttribute : List Op → ObjectId → Attr → Type 0
 HasAttribute h o t = (k : Kind) → IsOfKind h o k → IsTrue (has k t)
 
--- in the group g the operation a sets t, and no operation of these ids that sets t comes after it
+-- a sets t in the group g, and no setter of t under these ids comes after it
 pub record IsLastOf (h : List Op) (g ids : List OpId) (t : Attr) (a : Op) : Type 0 where
   pub member : IsMember h g a
   pub sets : IsSome (value_given a t)

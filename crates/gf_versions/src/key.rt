@@ -1,4 +1,4 @@
-//! Versions, and what their order goes by.
+//! Versions, and the keys of their order.
 
 ghost use Rattle.std.specs.Prelude.{refl};
 ghost use Rattle.std.specs.Cmp.{partial_equiv_from_equiv, partial_order_from_total};
@@ -11,8 +11,8 @@ use gf_ops::{Form, Ids, ObjectId};
 use gf_shape::{Point, Rgb};
 use std::cmp::Ordering;
 
-/// What the order of versions goes by: the layer, then the object, then the group's ids. The
-/// greater of two keys is above the other.
+/// The key of a version in the order: the layer, then the object, then the group's ids. The greater
+/// of two keys is above the other.
 #[derive(Debug, Drop)]
 pub struct VersionKey {
     pub layer: u16,

@@ -20,8 +20,8 @@ ghost use Rattle.gf_versions.specs.HistoryColour.{HistoryColour, HasOneColour};
 ghost use Rattle.gf_versions.specs.Ranking.{AreRanked, first_colour};
 ghost use Rattle.gf_versions.specs.VersionOf.{IsVersionOf};
 
-/// Above is a strict total order of the versions of a valid history: of two that are not one,
-/// exactly one is above the other.
+/// Above is a strict total order of the versions of a valid history. Of two different ones, exactly
+/// one is above the other.
 pub fn versions_are_in_a_total_order()
     ensures irreflexive { (k : VersionKey) → ¬ (IsAbove k k) }
     ensures transitive { (k l m : VersionKey) → IsAbove k l → IsAbove l m → IsAbove k m }
@@ -46,8 +46,8 @@ pub fn the_first_that_holds_is_on_top()
         → HistoryColour h p (first_colour any_holds items p) }
 {}
 
-/// Histories of the same operations have one ranked list: what ranks the one ranks each other, so
-/// the order of the operations says nothing.
+/// Histories of the same operations have one ranked list. The order of the operations in a history
+/// says nothing.
 pub fn the_same_operations_rank_alike()
     ensures one { (h k : List Op) → ((a : Op) → Contains h a ↔ Contains k a)
         → (items others : List (Placed AnyShape)) → AreRanked h items → AreRanked k others

@@ -20,14 +20,14 @@ pub struct Ranked<S> {
 }
 
 impl<S> Ranked<S> {
-    /// How many they are.
+    /// How many visible versions there are.
     pub fn len(&self) -> usize
         ensures { result ≡ length self.now.items.items }
     {
         self.items.len()
     }
 
-    /// Whether there is none.
+    /// Whether there is no visible version.
     pub fn is_empty(&self) -> bool
         ensures { result ≡ (length self.now.items.items == 0) }
     {

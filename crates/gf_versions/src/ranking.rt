@@ -26,7 +26,7 @@ pub fn ranked(alloc: Global, history: &History) -> Result<Ranked<AnyShape>, OutO
     ranked_of(alloc, history, groups.as_slice())
 }
 
-/// Those of the versions with these groups that are visible, topmost first.
+/// The visible versions with these groups, topmost first.
 pub fn ranked_of(
     alloc: Global,
     history: &History,
@@ -52,7 +52,7 @@ fn sort(items: &mut Vec<Placed<AnyShape>>) -> Result<(), OutOfMemory>
     Ok(())
 }
 
-/// Those of the versions with these groups that are shown, at their places.
+/// The shown versions with these groups, at their places.
 fn shown(
     alloc: Global,
     history: &History,
@@ -62,7 +62,7 @@ fn shown(
     ensures shown { IfOk result (λ items. AreShown history.now.ops groups.now items.items) }
     ensures valid { IsValid history.now.ops }
 {
-    // Its clause says that the history is valid.
+    // The clause of `ops` says that the history is valid.
     let _ = history.ops();
     let mut items = Vec::new(alloc);
     for group in groups {

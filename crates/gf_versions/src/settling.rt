@@ -86,7 +86,7 @@ fn maker<'a>(history: &'a History, group: &Group) -> &'a Op
     ensures id { result.now.id ≡ group.now.object.0 }
     ensures valid { IsValid history.now.ops }
 {
-    // Its clause says that the history is valid.
+    // The clause of `ops` says that the history is valid.
     let _ = history.ops();
     match history.get(group.object.0) {
         Some(op) => op,

@@ -8,7 +8,7 @@ use gf_ops::Form;
 use gf_shape::{AnyShape, Circle, Ellipse, OutOfMemory, Point, Polygon, PolygonError, Rect, Shape};
 use std::alloc::Global;
 
-/// The place of what is not moved.
+/// The origin, from which no form is moved.
 const ORIGIN: Point = Point { x: 0, y: 0 };
 
 /// A form moved to its place.

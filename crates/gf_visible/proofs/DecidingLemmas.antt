@@ -69,7 +69,7 @@ module _ (h : List Op) (o : ObjectId) (t : ComponentsState) (on : AreComponentsO
           ]
     ]
 
-    -- so one that no setter comes after decides
+    -- a setter that no other one comes after decides
     last_decides : (i : ℕ) → Contains q i → shows_or_hides_at h i ≡ true → ((j : ℕ) → Contains q j → later_at h i j ≡ false) → Contains u i
     last_decides i x set none = elim ((parts i).0 x) [ inl j ↦ j | inr j ↦ let w = late i j set in never w.2 (none w.0 w.1) ]
 

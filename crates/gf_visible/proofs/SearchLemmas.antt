@@ -144,7 +144,7 @@ module _ (all : List StepState) where
     pub turn_none : false ≡ all_hold all b → false ≡ all_hold all a → length f < k → f ≡ goal
     turn_none n m few = none_more k f rest a few m ∙ turn_first n
 
-    -- so many are found the first way
+    -- at least k are found the first way
     pub turn_stopped : (more : List (List ℕ)) → more ≡ take k (f ++ answers all rest a) → k ≤ length more → more ≡ goal
     turn_stopped more had full =
         let count = ap length had ∙ length-take k (f ++ answers all rest a) in

@@ -29,7 +29,7 @@ set_same us form = one_rising nat_cmp nat_cmp_total (fold (insert_key nat_cmp) [
       λ i. (holds_all nat_cmp nat_cmp_total nat_cmp-IsAntisymmetric us [] a).1 (inr i),
     ))
 
--- those of rising numbers that pass a test, seen to the end
+-- the rising numbers that pass a test, seen to the end
 module _ (t : ℕ → Bool) (us : List ℕ) (i : ℕ) (found : List ℕ) (done : length us ≤ i) (is : found ≡ filter t (take i us)) where
   whole : found ≡ filter t us
   whole = is ∙ ap (filter t) (take_all i us done)

@@ -17,7 +17,7 @@ pub record StepState : Type 0 where
 abbrev pub holds : List ℕ → StepState → Bool
 holds p s = (meets s.own p && (not s.hides || meets s.covers p)) || meets s.rivals p
 
--- each of the steps does
+-- each of the steps holds where the positions p are possible
 abbrev pub all_hold : List StepState → List ℕ → Bool
 all_hold all p = list_all (holds p) all
 
@@ -25,7 +25,7 @@ all_hold all p = list_all (holds p) all
 abbrev pub first : StepState → List ℕ → List ℕ
 first s p = cond s.hides (without s.own p) (without s.rivals p)
 
--- and the other way round
+-- what is possible the other way round: a position that hides is chosen, another one left out
 abbrev pub second : StepState → List ℕ → List ℕ
 second s p = cond s.hides (without s.rivals p) (without s.own p)
 
@@ -55,18 +55,18 @@ module _ (hides : ℕ → Bool) (covers rivals : ℕ → ℕ → Bool) where
   abbrev pub showing : List ℕ → List (List ℕ)
   showing us = answers (map (step_of us) us) (map (step_of us) us) us
 
-  -- each of g that hides is covered in g
+  -- each position of g that hides is covered in g
   abbrev pub IsCovered : List ℕ → Type 0
   IsCovered g = (a : ℕ) → Contains g a → hides a ≡ true
       → (b : ℕ) × Contains g b × (covers a b ≡ true)
 
-  -- g is a largest compatible set of us in which each that hides is covered
+  -- g is a largest compatible set of us in which each position that hides is covered
   pub record IsShowing (us g : List ℕ) : Type 0 where
     pub rises : IsRising g
     pub largest : IsLargest rivals (Contains us) (Contains g)
     pub covered : IsCovered g
 
-  -- gs are all such sets, each once
+  -- gs are all largest compatible sets of us that show, each once
   pub record AreShowing (us : List ℕ) (gs : List (List ℕ)) : Type 0 where
     pub exactly : (g : List ℕ) → Contains gs g ↔ IsShowing us g
     pub once : AllPairs (λ g k. g ≢ k) gs

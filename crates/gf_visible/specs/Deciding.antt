@@ -17,7 +17,7 @@ at_most m gs None = None
 
 -- a setter is an operation of h that shows or hides, told by its position
 module _ (h : List Op) where
-  -- those of ls that j does not come after, and j
+  -- the positions of ls that j does not come after, and j
   abbrev pub taken : List ℕ → ℕ → List ℕ
   taken ls j = filter (λ i. not (later_at h i j)) ls ++ j ∷ []
 
@@ -33,7 +33,7 @@ module _ (h : List Op) where
   abbrev pub may_be_last : List ℕ → ℕ → Bool
   may_be_last ls i = shows_or_hides_at h i && not (list_any (later_at h i) ls)
 
-  -- a setter of the component may be the last one
+  -- some setter of the component may be the last one
   abbrev pub decides : List ℕ → ComponentState → Bool
   decides ls p = list_any (may_be_last ls) p.all
 
@@ -41,7 +41,7 @@ module _ (h : List Op) where
   abbrev pub with_deciding : List ℕ → List ℕ → ComponentState → List ℕ
   with_deciding ls us p = cond (decides ls p) (united us p.all) us
 
-  -- ls, which are last setters of what is free, and the positions of the components that decide
+  -- ls, the last setters of what is free, and the positions of the components that decide
   abbrev pub deciding : List ℕ → ComponentsState → List ℕ
   deciding ls s = fold (with_deciding ls) ls s.parts
 
@@ -49,7 +49,7 @@ module _ (h : List Op) where
   abbrev pub idle : List ℕ → ComponentsState → ComponentsState
   idle ls s = record { free = without ls s.free; parts = filter (λ p. not (decides ls p)) s.parts }
 
-  -- the versions with one of gs, if they are at most m: none where there is none of these
+  -- the versions with one of gs, if they are at most m; no versions where gs is empty
   abbrev pub with_idle : ℕ → List ℕ → ComponentsState → List (List ℕ)
       → Option (List (List ℕ))
   with_idle m ls s [] = Some []

@@ -28,7 +28,7 @@ pub record HasMoreOn (h : List Op) (o : ObjectId) (m : ℕ) : Type 0 where
   pub all : AreVisibleOn h o groups
   pub many : m < length groups
 
--- h has more than m visible versions: so long is its ranked list
+-- h has more than m visible versions: its ranked list is longer than m
 pub record HasMoreVisible (h : List Op) (m : ℕ) : Type 0 where
   pub items : List (Placed AnyShape)
   pub ranked : AreRanked h items

@@ -7,7 +7,8 @@ use Rattle.gf_groups.specs.declared.group.Group.{Group}
 use Rattle.gf_groups.specs.Versions.{IsMade, IsVersionGroup}
 use Rattle.gf_visible.specs.ShownVersions.{IsVisibleGroup}
 
--- groups of P, each once, with those of all visible versions of h, on objects that ops made
+-- the groups meet P, each once. They hold those of all visible versions of h on objects that ops
+-- made
 pub record HaveVisible (P : Group → Type 0) (h ops : List Op) (groups : List Group) : Type 0 where
   pub each : (g : Group) → Contains groups g → P g × IsMade ops g.object
   pub all : (g : Group) → IsVisibleGroup h g → IsMade ops g.object → Contains groups g

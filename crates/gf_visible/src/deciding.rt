@@ -30,7 +30,7 @@ fn taken(
     Ok(more)
 }
 
-/// The last ones of the positions that show or hide, in the order of the positions.
+/// The last positions that show or hide, in the order of the positions.
 fn last_setters(
     alloc: Global,
     history: &History,
@@ -48,7 +48,7 @@ fn last_setters(
     Ok(lasts)
 }
 
-/// The last ones of the positions that show or hide: each other setter has one of them after it.
+/// The last positions that show or hide: each other setter has one of them after it.
 pub(crate) fn lasts(
     alloc: Global,
     history: &History,

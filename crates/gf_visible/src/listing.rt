@@ -69,7 +69,7 @@ fn deciding(
     Ok(positions)
 }
 
-/// The component with another one, if that does not decide.
+/// The component, as one with another if that does not decide.
 fn with_idle_part(
     alloc: Global,
     history: &History,
@@ -106,8 +106,8 @@ fn whole_idle(
     Ok(part)
 }
 
-/// Each of the sets united with each of the others, if the others are kept and make at most so
-/// many.
+/// Each of the sets united with each of the others, if these are kept and give at most `most`
+/// products.
 fn at_most(
     alloc: Global,
     sets: &[Numbers],
@@ -130,7 +130,7 @@ fn at_most(
     }
 }
 
-/// Each of the sets that show united with each choice of the rest, if these are at most so many.
+/// Each of the sets that show united with each choice of the rest, if these are at most `most`.
 fn with_idle(
     alloc: Global,
     history: &History,
@@ -151,8 +151,8 @@ fn with_idle(
 }
 
 /// The largest compatible sets of an object's positions that show, each once, if they are at most
-/// so many. Those of what decides are searched for, and nothing else of the object is multiplied
-/// out unless some show.
+/// `most`. The sets of what decides are searched for. The rest is multiplied out only where some
+/// set shows.
 pub(crate) fn shown_sets(
     alloc: Global,
     history: &History,
@@ -167,7 +167,7 @@ pub(crate) fn shown_sets(
         (positions_below history.now.ops object (length history.now.ops))
         most (option_map (λ v. v.items) found)) }
 {
-    // Its clause says that the history is valid.
+    // The clause of `ops` says that the history is valid.
     let _ = history.ops();
     let components = table.components(alloc, history, object)?;
     let lasts = lasts(alloc, history, components.free())?;

@@ -20,9 +20,10 @@ use std::alloc::Global;
 /// they are more than `most`.
 ///
 /// Choices that do not decide whether a version shows are counted first. They are multiplied out
-/// only where some version shows, and at most `most` do. An object that an operation hid which
-/// knows all others costs a look at its operations. The choices that decide are searched for: a
-/// choice is dropped once it can't show any more, and the search stops beyond `most`.
+/// only where some version shows, and at most `most` do. Where an operation hid the object and
+/// knows all others, the call costs a pass over its operations. The choices that decide are
+/// searched for. A choice is dropped once it can't show any more, and the search stops beyond
+/// `most`.
 pub fn visible_groups(
     alloc: Global,
     history: &History,
@@ -38,7 +39,7 @@ pub fn visible_groups(
     ensures few { IfOk result (λ found. IfSome found (λ groups. length groups.items ≤ most)) }
     ensures more { IfOk result (λ found. IfNone found (HasMoreOn history.now.ops object most)) }
 {
-    // Its clause says that the history is valid.
+    // The clause of `ops` says that the history is valid.
     let _ = history.ops();
     let Some(sets) = shown_sets(alloc, history, table, object, most)? else {
         return Ok(None);
@@ -92,8 +93,8 @@ fn versions_made(
     }
 }
 
-/// The groups of the visible versions of the object that an operation of the history made, if it
-/// made one and they are at most [`MOST_SETS`]; else those of all its versions.
+/// The groups of the versions of an object, if an operation of the history made it. They are the
+/// visible ones where these are at most [`MOST_SETS`], and else all.
 pub(crate) fn visible_or_all(
     alloc: Global,
     history: &History,

@@ -18,7 +18,7 @@ use std::alloc::Global;
 /// The visible versions of a history, topmost first, as `ranked` gives them. The table stands for
 /// the history.
 ///
-/// Of an object with at most 1,000 visible versions it lists no others.
+/// Of an object with at most 1,000 visible versions no others are listed.
 pub fn ranked_with(
     alloc: Global,
     history: &History,
@@ -27,7 +27,7 @@ pub fn ranked_with(
     requires { StandsFor history.now.ops table.now }
     ensures { IfOk result (λ ranked. AreRanked history.now.ops ranked.items.items) }
 {
-    // Its clause says that the history is valid.
+    // The clause of `ops` says that the history is valid.
     let _ = history.ops();
     let groups = groups_to_rank(alloc, history, table)?;
     ranked_of(alloc, history, &groups)
@@ -51,11 +51,11 @@ fn groups_to_rank(
     Ok(groups)
 }
 
-/// The visible versions of a history, topmost first, if they are at most so many; None where they
+/// The visible versions of a history, topmost first, if they are at most `most`; None where they
 /// are more. The table stands for the history.
 ///
-/// It stops as soon as it has seen more. It multiplies out no choice that is not listed, as
-/// [`visible_groups`](crate::visible_groups) tells.
+/// The call stops as soon as it has seen more. Choices that are not listed are not multiplied out,
+/// as in [`visible_groups`](crate::visible_groups).
 pub fn ranked_within(
     alloc: Global,
     history: &History,
@@ -69,7 +69,7 @@ pub fn ranked_within(
     ensures few { IfOk result (λ found. IfSome found (λ ranked. length ranked.items.items ≤ most)) }
     ensures more { IfOk result (λ found. IfNone found (HasMoreVisible history.now.ops most)) }
 {
-    // Its clause says that the history is valid.
+    // The clause of `ops` says that the history is valid.
     let _ = history.ops();
     let Some(groups) = all_visible(alloc, history, table, most)? else {
         return Ok(None);
@@ -78,7 +78,7 @@ pub fn ranked_within(
     Ok(Some(ranked))
 }
 
-/// The groups of all visible versions, if they are at most so many.
+/// The groups of all visible versions, if they are at most `most`.
 fn all_visible(
     alloc: Global,
     history: &History,

@@ -77,7 +77,8 @@ pub(crate) fn shows_at(history: &History, position: usize) -> bool
     said_at(history, position).unwrap_or(false)
 }
 
-/// Whether the second one shows or hides, and comes after the first.
+/// Whether the operation at the second position shows or hides, and comes after the one at the
+/// first.
 pub(crate) fn later_at(history: &History, position: usize, other: usize) -> bool
     ensures { result ≡ later_at history.now.ops position other }
 {

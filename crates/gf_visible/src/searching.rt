@@ -15,9 +15,9 @@ fn all_hold(all: &[Step], possible: &Numbers) -> bool
     all.iter().all(|step| step.holds(possible))
 }
 
-/// Adds the choices that hold, until there are so many.
+/// Adds the choices that hold, up to a greatest number of them.
 ///
-/// It calls itself only where a step may be chosen as well as left out.
+/// The search calls itself only where a step may be chosen as well as left out.
 pub(crate) fn search(
     alloc: Global,
     all: &[Step],

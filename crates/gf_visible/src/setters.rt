@@ -17,21 +17,23 @@ pub trait Setters {
     /// Whether the position hides.
     ghost hides: { Self → ℕ → Bool };
 
-    /// Whether the second position covers the first: it shows, and comes after it.
+    /// Whether the second position covers the first: the second one shows, and comes after the
+    /// first.
     ghost covers: { Self → ℕ → ℕ → Bool };
 
-    /// Whether the two conflict.
+    /// Whether two positions conflict.
     ghost rivals: { Self → ℕ → ℕ → Bool };
 
     /// Whether the position hides.
     fn hides(&self, position: usize) -> bool
         ensures { result ≡ hides self.now position };
 
-    /// Whether the second position covers the first: it shows, and comes after it.
+    /// Whether the second position covers the first: the second one shows, and comes after the
+    /// first.
     fn covers(&self, position: usize, other: usize) -> bool
         ensures { result ≡ covers self.now position other };
 
-    /// Whether the two conflict.
+    /// Whether two positions conflict.
     fn rivals(&self, position: usize, other: usize) -> bool
         ensures { result ≡ rivals self.now position other };
 }
@@ -153,12 +155,12 @@ fn steps_of<T: Setters>(
     Ok(steps)
 }
 
-/// The largest compatible sets of the positions in which each that hides is covered, but no more
-/// than so many.
+/// The largest compatible sets of the positions in which each one that hides is covered, but no
+/// more than `limit`.
 ///
-/// Each two positions are compared. Then each step costs a look at all of them, and the search goes
-/// on only where each of them may still be chosen and covered, or be left out for a rival. No time
-/// is promised for the positions as a whole: there are some for which the search takes very long.
+/// Each two positions are compared. Then each step costs a pass over all of them. The search goes
+/// on only where each may still be chosen and covered, or be left out for a rival. No time is
+/// promised for the whole: for some positions the search takes very long.
 pub fn showing_within<T: Setters>(
     alloc: Global,
     setters: &T,

@@ -9,7 +9,7 @@ use gf_shape::OutOfMemory;
 use std::alloc::Global;
 use std::marker::Model;
 
-/// One position, and those others that matter to it.
+/// One position, and the other positions that matter to it.
 #[derive(Drop)]
 pub(crate) struct Step {
     own: Numbers,

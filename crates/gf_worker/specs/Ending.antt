@@ -15,7 +15,8 @@ use Rattle.gf_worker.specs.Peers.{seat_of, with_last}
 use Rattle.gf_worker.specs.Coming.{HasCome, IsJust, AreForeign}
 use Rattle.gf_worker.specs.Played.{IsPlayed}
 
--- the site's operations in order and End, or only where it was short a first part of them and Stop
+-- the peer was sent the site's operations in order, and then End. A site that was short may have
+-- sent a prefix of them, and then Stop
 pub record HasSent (ops : List Op) (short : Bool) (p : Peer) : Type 0 where
   pub first : List Op
   pub rest : List Op
@@ -25,7 +26,7 @@ pub record HasSent (ops : List Op) (short : Bool) (p : Peer) : Type 0 where
   pub unless : stopped ≡ true → short ≡ true
   pub all : stopped ≡ false → rest ≡ []
 
--- the script was played, or where the site was short up to one of its commands
+-- the script was played; a site that was short played it up to one of its commands
 pub record HasPlayed (script : List Command) (e : WorkerEnd) : Type 0 where
   pub done : List Command
   pub rest : List Command
@@ -49,7 +50,7 @@ pub record HasWorked (s : ℕ) (script : List Command) (peers : List Peer)
       → AreForeign s e.seats.items
       → (a : Op) → Contains h a → Contains e.site.ops a
 
--- what was done for a site that ran nothing: each peer was sent Stop, and the site is as it was
+-- for a site that ran nothing, each peer was sent Stop, and the site is as it was
 pub record HasStopped (old : SiteState) (peers : List Peer) (e : WorkerEnd) : Type 0 where
   pub site : e.site ≡ old
   pub seats : e.seats.items ≡ map (with_last true) peers

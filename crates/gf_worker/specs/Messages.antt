@@ -10,7 +10,7 @@ use Rattle.gf_link.specs.declared.message.Message.TheVariants as message
 abbrev pub own : ℕ → List Op → List Op
 own s ops = filter (λ a. a.id.site == s) ops
 
--- the messages that tell of the operations, in their order
+-- the messages with the operations, in their order
 abbrev pub told : List Op → List Message
 told ops = map (λ a. message.Op a) ops
 

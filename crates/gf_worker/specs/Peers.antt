@@ -1,5 +1,5 @@
--- The other sites of a session as one of them sees them: for each the places of two links in a
--- table, and the seats there (this project's choice).
+-- The other sites of a session as one of them sees them: two links for each, with their seats (this
+-- project's choice).
 use Rattle.std.specs.Prelude.{◌≡◌, ℕ, Bool, List, [], ◌∷◌, ◌++◌, Contains, Some}
 use Rattle.std.specs.Prelude.{slice_get}
 use Rattle.std.specs.List.{list_all}

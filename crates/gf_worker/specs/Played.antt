@@ -7,8 +7,8 @@ use Rattle.gf_worker.specs.declared.report.Report.{Report}
 use Rattle.gf_worker.specs.Messages.{own}
 use Rattle.gf_worker.specs.Turns.{Turn, IsCommandTurn, AreCounted, accepted_changes, refusals}
 
--- each command of site s has its turn, in order; the operations of s in the list and its report are
--- what these came to
+-- each command of site s has its turn, in order. The operations of s in the list, and its report,
+-- are what the turns came to
 pub record IsPlayed (s : ℕ) (commands : List Command) (ops : List Op)
     (report : Report) : Type 0 where
   pub turns : List Turn

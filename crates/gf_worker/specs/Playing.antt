@@ -20,7 +20,7 @@ pub record IsRefusal (number : ℕ) (cause : Option Cause) (done : Bool)
   pub refused : done ≡ true → new.refused.items ≡ old.refused.items ++ refusal_of number cause
   pub same : done ≡ false → new.refused.items ≡ old.refused.items
 
--- the cause of a refused change; want of memory is none
+-- the cause of a refused change; want of memory is no cause
 abbrev pub cause_of : AuthorFault → Option Cause
 cause_of fault.Exhausted = Some cause.Exhausted
 cause_of fault.Range = Some cause.Range
@@ -35,7 +35,7 @@ pub record IsFaultTold (number : ℕ) (refused_for : AuthorFault) (done : Bool)
   pub refusal : IsRefusal number (cause_of refused_for) done old new
   pub other : done ≡ true → refused_for ≢ fault.OutOfMemory
 
--- before the first command
+-- the worker w is before its first command
 pub record IsBegun (w : Work) : Type 0 where
   pub gathers : Gathers w
   pub underway : IsUnderway [] w
@@ -58,7 +58,7 @@ pub record PlaysOn (n : ℕ) (c : Command) (old new : Work) : Type 0 where
       → IsUnderway commands new ⊎ ((old.short ≡ false)
       × IsUnderway (commands ++ c ∷ []) new)
 
--- the commands were played in turn, if the worker is short up to one of them
+-- the commands were played in turn; a worker that is short played them up to one
 pub record Through (done : List Command) (old new : Work) : Type 0 where
   pub placed : (links : List TableId) → ArePlaced links old.peers.items
       → ArePlaced links new.peers.items

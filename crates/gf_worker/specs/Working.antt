@@ -27,8 +27,8 @@ use Rattle.gf_worker.specs.Played.{IsPlayed}
 use Rattle.gf_worker.specs.declared.report.Cause.{Cause}
 use Rattle.gf_worker.specs.Turns.{Turn, HasOp, AwaitAnswer}
 
--- what the site has and holds of other sites came, and unless it is short it has or holds what
--- came, as far as that is a valid history with what it made
+-- what the site has and holds of other sites came from peers. Unless it is short, it has or holds
+-- all that came, where that with its own is a valid history
 pub record Gathers (w : Work) : Type 0 where
   pub has : (a : Op) → Contains w.site.ops a → a.id.site ≢ w.site.number
       → HasCome w.peers.items a
@@ -38,8 +38,8 @@ pub record Gathers (w : Work) : Type 0 where
       → (a : Op) → HasCome w.peers.items a → a.id.site ≢ w.site.number
       → Contains w.site.ops a ⊎ Contains w.site.held a
 
--- where a command was refused as one whose operation never comes, nothing more comes, and of what
--- is held nothing was ready then
+-- where a command was refused as NeverComes, nothing more comes, and no held operation was ready
+-- then
 pub record IsSilent (w : Work) (t : Turn) : Type 0 where
   pub ended : IsTrue (all_ended w.peers.items)
   pub none : NoneIsReady t.before w.site.held
@@ -52,7 +52,7 @@ pub record IsUnderway (commands : List Command) (w : Work) : Type 0 where
   pub silent : (t : Turn) → Contains played.turns t → t.refusal ≡ Some NeverComes
       → IsSilent w t
 
--- the peer was told what the site made, or if it is short the first of it
+-- the peer was sent what the site made; a site that is short may have sent a prefix of it
 pub record IsTold (ops : List Op) (short : Bool) (p : Peer) : Type 0 where
   pub first : List Op
   pub rest : List Op
@@ -60,7 +60,7 @@ pub record IsTold (ops : List Op) (short : Bool) (p : Peer) : Type 0 where
   pub sent : p.send.sent ≡ told first
   pub all : short ≡ false → rest ≡ []
 
--- each peer of the worker was told what the site made, or if it is short the first of it
+-- each peer was sent what the site made; a site that is short may have sent a prefix of it
 abbrev pub AreTold : Work → Type 0
 AreTold w = (p : Peer) → Contains w.peers.items p
     → IsTold (own w.site.number w.site.ops) w.short p
@@ -78,9 +78,9 @@ pub record Continues (old new : Work) : Type 0 where
   pub underway : (commands : List Command) → Gathers old → IsUnderway commands old
       → IsUnderway commands new
 
--- what operations that came made of what the site holds: it holds no more than these besides, and
--- none of its own, and unless it is short it has or holds
--- each of another site, or that breaks a limit or is another one under a known id
+-- what the site holds after the operations come: no more than these besides, and none of its own.
+-- Unless it is short, it has or holds each of them that is of another site. Left out are those that
+-- break a limit, or that are others under a known id
 pub record Hears (s : ℕ) (ops held come : List Op) (short : Bool) (new : List Op) : Type 0 where
   pub from : (a : Op) → Contains new a
       → Contains held a ⊎ (Contains come a × (a.id.site ≢ s))
@@ -106,14 +106,14 @@ Waits i w Never = (w.short ≡ false) × IsFree w.site.ops i × IsTrue (all_ende
     × NoneIsReady w.site.ops w.site.held
 Waits i w Short = w.short ≡ true
 
--- what became of an Await, right now: its answer; if nothing comes any more, every peer has ended
--- and nothing is ready
+-- the answer to an Await right now. If it is that nothing comes any more, every peer has ended and
+-- nothing is ready
 pub record Judges (i : OpId) (w : Work) (r : Option Cause) : Type 0 where
   pub answer : AwaitAnswer w.site.number w.site.ops [] i r
   pub silent : r ≡ Some NeverComes
       → IsTrue (all_ended w.peers.items) × NoneIsReady w.site.ops w.site.held
 
--- the commands were played, if the worker is short up to one of them
+-- the commands were played; a worker that is short played them up to one
 pub record Plays (script : List Command) (w : Work) : Type 0 where
   pub done : List Command
   pub rest : List Command

@@ -20,7 +20,7 @@ fn is_id(id: OpId) -> bool
 }
 
 impl Work {
-    /// Waits for the operation under the id, and tells why that is refused, if it is.
+    /// Waits for the operation under the id. The answer is why the wait is refused, if it is.
     pub(crate) fn judge<R: Wait>(&mut self, rt: &R, links: &[Link], id: OpId) -> Option<Cause>
         requires { ArePlaced links.now self.old.peers.items }
         ensures continues { Continues self.old self.new }

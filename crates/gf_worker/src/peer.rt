@@ -7,14 +7,13 @@ ghost use Rattle.gf_worker.specs.Peers.{StandsInTable, with_message};
 use gf_link::{Link, Message, SendSeat, TakeSeat};
 use std::sync::Wait;
 
-/// Another site: the places of the links to it and from it in a table of links, with the seats
-/// there.
+/// Another site: where the links to and from it stand in a table of links, with the seats there.
 #[derive(Drop)]
 pub struct Peer {
-    /// Where the link to it stands.
+    /// Where the link to the peer stands.
     pub out: usize,
     pub send: SendSeat,
-    /// Where the link from it stands.
+    /// Where the link from the peer stands.
     pub into: usize,
     pub take: TakeSeat,
 }
@@ -23,7 +22,9 @@ pub struct Peer {
 pub(crate) fn take_from<R: Wait>(rt: &R, links: &[Link], peer: &mut Peer) -> Option<Message>
     requires { StandsInTable links.now peer.old }
     ensures { MatchOption result (peer.new ≡ peer.old) (λ m.
-        peer.new ≡ record peer.old { take = record peer.old.take { taken = peer.old.take.taken ++ m ∷ [] } }) }
+        peer.new ≡ record peer.old {
+          take = record peer.old.take { taken = peer.old.take.taken ++ m ∷ [] };
+        }) }
 {
     links[peer.into].take(rt, &mut peer.take)
 }

@@ -34,7 +34,7 @@ fn report_refusal(report: &mut Report, number: u32, cause: Option<Cause>) -> boo
         .is_ok()
 }
 
-/// The cause of a refused change; want of memory is none.
+/// The cause of a refused change; want of memory is no cause.
 fn cause_of(fault: AuthorFault) -> Option<Cause>
     ensures { result ≡ cause_of fault }
 {
@@ -60,8 +60,8 @@ fn report_fault(report: &mut Report, number: u32, fault: AuthorFault) -> bool
 }
 
 impl Work {
-    /// Runs the commands of a script in turn, each behind a call of the gate. Where the worker is
-    /// short it runs no more.
+    /// Runs the commands of a script in turn, each behind a call of the gate. A worker that is
+    /// short runs no more commands.
     pub(crate) fn play_all<R: Wait, G: Gate>(
         &mut self,
         rt: &R,

@@ -10,9 +10,9 @@ pub enum Cause {
     Exhausted,
     /// The change breaks a limit, or the id that was waited for does.
     Range,
-    /// It changes an object that the site doesn't have.
+    /// The change is of an object that the site doesn't have.
     NoObject,
-    /// Its value doesn't suit the object's kind.
+    /// The value doesn't suit the object's kind.
     WrongKind,
     /// The aim has an operation that the site doesn't have or that concerns another object. Or two
     /// operations of the aim conflict directly, or it lacks one that they aim at.

@@ -43,7 +43,7 @@ pub(crate) fn tell_last<R: Wait>(rt: &R, links: &[Link], peers: &mut [Peer], sho
     }
 }
 
-/// Sends the last message to one.
+/// Sends the last message to one peer.
 fn end_one<R: Wait>(rt: &R, links: &[Link], peer: &mut Peer, short: bool)
     requires placed { StandsInTable links.now peer.old }
     requires still { IsOpen peer.old }

@@ -13,8 +13,8 @@ use gf_ops::Op;
 use gf_site::{Site, Step};
 use std::sync::Wait;
 
-/// A worker: its site, its peers, its report, and whether memory was refused to it or to a peer
-/// that told it so.
+/// A worker: its site, its peers and its report. It is short if memory was refused to it or to a
+/// peer that told it so.
 #[derive(Drop)]
 pub(crate) struct Work {
     pub(crate) site: Site,
@@ -55,7 +55,10 @@ impl Work {
     /// it.
     fn receive(&mut self, op: Op)
         ensures same { self.new ≡
-            record self.old { site = record self.old.site { held = self.new.site.held }; short = self.new.short } }
+            record self.old {
+              site = record self.old.site { held = self.new.site.held };
+              short = self.new.short;
+            } }
         ensures short { self.new.short ≡ false → self.old.short ≡ false }
         ensures hears { Hears self.old.site.number self.old.site.ops self.old.site.held (op ∷ [])
             self.new.short self.new.site.held }
@@ -68,7 +71,7 @@ impl Work {
     }
 
     /// Takes the next message of the peer k, if there is one. A worker that takes a Stop is short,
-    /// too, so it awaits nothing any more that the peer has not made.
+    /// too: it no longer awaits what the peer has not made.
     fn take_one<R: Wait>(&mut self, rt: &R, links: &[Link], k: usize)
         requires placed { ArePlaced links.now self.old.peers.items }
         requires within { k < vec_len self.old.peers }
@@ -105,7 +108,7 @@ impl Work {
         }
     }
 
-    /// Steps until no held operation is ready. With each step one less is held.
+    /// Steps until no held operation is ready. With each step one operation less is held.
     pub(crate) fn settle(&mut self)
         ensures continues { Continues self.old self.new }
         ensures idle { self.new.short ≡ false → NoneIsReady self.new.site.ops self.new.site.held }
@@ -124,7 +127,7 @@ impl Work {
             self.short = true;
             return false;
         };
-        // Their clauses say what every site keeps.
+        // The clauses of both calls say what every site keeps.
         let _ = self.site.history();
         let _ = self.site.number();
         goes_on(step)

@@ -20,8 +20,8 @@ pub struct Ends<'a> {
     pub peers: Vec<Peer>,
 }
 
-/// What a worker gives back: its site, the seats of its links, what its commands came to, and
-/// whether memory was refused to it or to a peer that told it so.
+/// What a worker gives back: its site, the seats of its links, and what its commands came to. The
+/// worker is short if memory was refused to it or to a peer that told it so.
 #[derive(Drop)]
 pub struct WorkerEnd {
     pub site: Site,
@@ -30,9 +30,9 @@ pub struct WorkerEnd {
     pub short: bool,
 }
 
-/// Runs a script of at most 1,000 commands at a new site, each behind a call of the gate. Then it
-/// sends End to each peer, or Stop where memory was refused to it or a Stop came, and takes until
-/// every peer has ended.
+/// Runs a script of at most 1,000 commands at a new site, each behind a call of the gate. Then each
+/// peer is sent End, or Stop where memory was refused or a Stop came. Last, the worker takes
+/// messages until every peer has ended.
 pub fn site_worker<R: Wait, G: Gate>(
     rt: &R,
     alloc: Global,
@@ -62,7 +62,7 @@ pub fn site_worker<R: Wait, G: Gate>(
     work.play_all(rt, alloc, links, gate, script.0);
     tell_last(rt, links, &mut work.peers, work.short);
     work.take_rest(rt, links);
-    // Its clause says what every site keeps.
+    // The clause of `history` says what every site keeps.
     let _ = work.site.history();
     let Work {
         site,
@@ -78,8 +78,7 @@ pub fn site_worker<R: Wait, G: Gate>(
     }
 }
 
-/// Sends Stop to each peer of a new site whose worker does not run, so that none of them waits for
-/// it.
+/// Sends Stop to each peer of a new site whose worker does not run, so that none waits for it.
 pub fn stop_worker<R: Wait>(rt: &R, alloc: Global, site: Site, ends: Ends<'_>) -> WorkerEnd
     requires placed { All (StandsInTable ends.links.now) ends.peers.items }
     requires fresh { All IsFresh ends.peers.items }

@@ -1,4 +1,4 @@
-//! A box, and what two sites make of it at the same time: the one colours it red, the other blue.
+//! A box, and what two sites make of it at the same time: one colours it red, the other blue.
 
 use gf_json::read_op;
 use gf_ops::History;
@@ -11,7 +11,7 @@ pub const LINES: [&str; 3] = [
     r#"{"op":"set","id":[2,1],"past":[1,0,0,0,0,0,0,0],"object":[1,1],"set":"colour","to":"0000ff"}"#,
 ];
 
-/// Their history.
+/// The history of both sites.
 pub fn history(alloc: Global) -> Result<History, Fail> {
     let mut history = History::new(alloc);
     for line in LINES {

@@ -10,7 +10,7 @@ use std::test::Fail;
 use std::thread::Threads;
 use test_kit::RED_BOX;
 
-/// Lines of so many boxes, the n-th at (n, 0), of so many colours in turn.
+/// Lines of `count` boxes, the n-th at (n, 0), of `colours` colours in turn.
 fn boxes(alloc: Global, count: u32, colours: u32) -> Result<String, AllocError> {
     let mut text = String::new(alloc);
     for n in 1..=count {
@@ -28,7 +28,7 @@ const TOO_MANY_VERSIONS: &str = "1\n--\nfiggroup: export refused: TooManyVersion
 
 const TOO_MANY_COLOURS: &str = "1\n--\nfiggroup: export refused: TooManyColours\n";
 
-/// A run over lines of so many boxes, of so many colours in turn, and more.
+/// A run over lines of this many boxes, of this many colours in turn, and more.
 fn fig_of_boxes<T: AllocGlobal + Threads + Wait + Sync>(
     rt: &T,
     count: u32,
@@ -90,8 +90,8 @@ fn drawings_reach_their_limits(rt: HostRuntime) -> Result<(), Fail> {
     Ok(())
 }
 
-/// The red box from the origin, 10 by 10, and rounds in which two sites give it two colours at once,
-/// up to this operation of site 1.
+/// The red box from the origin, 10 by 10, and rounds in which two sites give it two colours. The
+/// rounds end with this operation of site 1.
 fn rounds(alloc: Global, last: u32) -> Result<String, AllocError> {
     let mut text = String::from_str(
         alloc,

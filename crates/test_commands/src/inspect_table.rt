@@ -1,9 +1,10 @@
-//! A table of looks: runs of `inspect`, with the answers that the texts and the faults ask for.
+//! A table of queries: runs of `inspect`, with the answers that the texts and the faults ask for.
 
 use crate::picture_table::is_as_told;
 use std::test::Fail;
 
-/// Each row: the words, the pieces of the input, and what the run answers, in the escapes of `escape_ascii`.
+/// Each row: the words, the pieces of the input, and what the run answers, in the escapes of
+/// `escape_ascii`.
 const LOOKS: &str = r#"
 // two colours at once are two versions, the green one on top; one who raises the other's box raises it
 inspect --object 1.1 | box / blue / green / | 0 version 1.1 [1.1 2.1] box place 0 0 size 10 10 colour 00ff00 layer 0 shown\nversion 1.1 [1.1 1.2] box place 0 0 size 10 10 colour 0000ff layer 0 shown\n

@@ -9,7 +9,7 @@ use std::test::Fail;
 use std::thread::Threads;
 
 /// Each row: the words behind the program's name, the pieces of the input, the status, the output,
-/// and what is told of faults, with their ends of lines spelt `\n`.
+/// and the faults. The ends of lines of the last two are spelt `\n`.
 const RUNS: &str = r#"
 // a command becomes an operation of the site, which knows what was read; what was made is told
 edit --site 2 | box / second_paints_it / | 0 | {"id":[2,1],"object":[1,1],"op":"set","past":[1,0,0,0,0,0,0,0],"set":"colour","to":"0000ff"}\n | figgroup: made 2.1\n

@@ -9,8 +9,8 @@ use std::sync::Wait;
 use std::test::Fail;
 use std::thread::Threads;
 
-/// Each row: the words behind the program's name, the pieces of the input, and the status with the
-/// output and the fault, their bytes spelled as in a literal of Rust.
+/// Each row: the words behind the program's name, the pieces of the input, the status, the output
+/// and the fault. The bytes of the last two are spelt as in a literal of Rust.
 const PICTURES: &str = r#"
 // what is painted: the ground, the circle of radius 1, the box with its edge, and the farthest corner of a triangle
 paint --width 1 --height 1 | | 0 P6\n1 1\n255\n\xff\xff\xff

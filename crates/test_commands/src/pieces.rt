@@ -4,7 +4,8 @@ use std::alloc::Global;
 use std::test::Fail;
 use test_kit::{EMPTY_FIG, RED_BOX, RED_BOX_FIG};
 
-/// Each row: the name of a piece, and the piece, with its ends of lines and tabs spelt `\n` and `\t`.
+/// Each row: the name of a piece, and the piece. The ends of lines and tabs are spelt `\n` and
+/// `\t`.
 const PIECES: &str = r#"
 / \n
 

@@ -9,8 +9,8 @@ use std::test::Fail;
 use std::thread::Threads;
 use test_kit::{EMPTY_FIG, RED_BOX, RED_BOX_FIG};
 
-/// Each row: the status, the pieces of the input, and the pieces of the output or, at status 1,
-/// the fault.
+/// Each row: the status, the pieces of the input, and those of the output or, at status 1, the
+/// fault.
 const RUNS: &str = r#"
 // lines_become_fig_text
 0 |                                              | empty_fig
@@ -98,13 +98,13 @@ fn answers_each_input(rt: HostRuntime) -> Result<(), Fail> {
     Ok(())
 }
 
-/// A run over the red box, with so much room for its output.
+/// A run over the red box, with this much room for its output.
 fn fig_in_room<T: AllocGlobal + Threads + Wait + Sync>(rt: &T, room: u64) -> Result<String, Fail> {
     let mut source = Reel::new(RED_BOX.as_bytes(), None);
     run(rt, "figgroup fig", &mut source, (Some(room), None))
 }
 
-/// That run where its output ends behind these bytes.
+/// The answer of a run whose output ends behind these bytes.
 fn cut_behind(alloc: Global, front: &[u8]) -> Result<String, Fail> {
     let front = std::str::from_utf8(front)?;
     Ok(format!(in alloc; "1\n{front}--\nfiggroup: write failed\n")?)

@@ -16,8 +16,8 @@ pub fn words(alloc: Global, text: &str) -> Result<Vec<String>, AllocError> {
     Ok(words)
 }
 
-/// A run over this source, with so much room for its output and its faults: the status, the output,
-/// a line of dashes, and the faults.
+/// A run over this source, with this much room for its output and its faults. The answer is the
+/// status, the output, a line of dashes, and the faults.
 pub fn run<T: AllocGlobal + Threads + Wait + Sync>(
     rt: &T,
     text: &str,

@@ -8,8 +8,8 @@ use std::sync::Wait;
 use std::test::Fail;
 use std::thread::Threads;
 
-/// Each row: the words behind the program's name, the pieces of the input, the status, and the
-/// pieces of the output or, at status 1, the fault.
+/// Each row: the words behind the program's name, the pieces of the input, and the status. Then
+/// come the pieces of the output or, at status 1, the fault.
 const SESSIONS: &str = r#"
 // the second site paints the box of the first one, when it has come
 session           | first_box / await_first / second_paints_it /           | 0 | each_made_one empty_fig blue_box_fig
@@ -73,7 +73,7 @@ fn answers_each_session(rt: HostRuntime) -> Result<(), Fail> {
     Ok(())
 }
 
-/// So many lines in which site 1 awaits what it makes itself.
+/// Lines in which site 1 awaits what it makes itself, `count` of them.
 fn awaits(alloc: Global, count: u32) -> Result<String, AllocError> {
     let mut text = String::new(alloc);
     for _ in 0..count {

@@ -19,7 +19,7 @@ use Rattle.serde_json.proofs.OnLiterals.{serde_json_on_literals}
 abbrev pub aimed : List ℕ → List ℕ
 aimed aim = line (codes "[1,1]") (codes "layer") (codes "5,\"aim\":" ++ aim)
 
--- the operation of such a line
+-- the operation of a line with this aim
 abbrev pub aims_at : List OpId → Op
 aims_at ids = aims_to ids (value.Layer 5)
 
@@ -48,7 +48,7 @@ pub aim_of_site_nine : denoted (aimed (codes "[[1,1],[9,1]]")) ≡ Err fault.Ran
 unfolding serde_json_on_literals digits is_utf8 chars
 aim_of_site_nine = refl
 
--- the order is of the form, and comes before the limits
+-- a wrong order is a fault of form, and comes before the limits
 pub falling_from_site_nine : denoted (aimed (codes "[[9,1],[1,1]]")) ≡ Err fault.Field
 unfolding serde_json_on_literals digits is_utf8 chars
 falling_from_site_nine = refl
@@ -63,7 +63,7 @@ command_line =
     codes "{\"site\":2,\"do\":\"set\",\"object\":[1,1],"
     ++ codes "\"set\":\"layer\",\"to\":5,\"aim\":[[1,1]]}"
 
--- the change that it tells of
+-- the change that the line denotes
 abbrev pub wanted : Change
 wanted = Set (record { 0 = first_of 1 }) (value.Layer 5) (first_of 1 ∷ [])
 

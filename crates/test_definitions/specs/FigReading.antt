@@ -1,5 +1,5 @@
--- Worked examples of the FIG grammar, checked by computing: the drawing that a text reads as, and
--- the fault with which one fails.
+-- Worked examples of the FIG grammar, checked by computing: drawings that texts read as, and faults
+-- with which some fail.
 use Rattle.std.specs.Prelude.{refl, ℕ, ℤ, pos, false, List, [], ◌∷◌, ◌++◌, codes}
 use Rattle.gf_shape.specs.declared.point.Point.{Point}
 use Rattle.gf_shape.specs.declared.outline.Outline.TheVariants.{Chain, Disc, Oval}
@@ -24,7 +24,7 @@ at x y = record { x = pos x; y = pos y }
 abbrev pub head : List ℕ
 head = codes "#FIG 3.2\nLandscape\nCenter\nMetric\nA4\n100.00\nSingle\n-2\n1200 2\n"
 
--- they alone are the drawing of no colours and no figures
+-- the head alone is the drawing of no colours and no figures
 pub no_objects : Reads head nothing
 unfolding outcome_of objects_of object_tokens
 no_objects = reads_by head nothing refl
@@ -45,7 +45,7 @@ no_resolution = fails_by (codes "#FIG 3.2\nLandscape\nCenter\nMetric\nA4\n100.00
 
 -- ---- a triangle of another program
 
--- its first line, header, resolution and comment
+-- the first line, header, resolution and comment of the text
 abbrev pub front : List ℕ
 front = codes
     "#FIG 3.2  Produced by xfig version 3.2.5\nLandscape\nCenter\nInches\nLetter  \n100.00\nSingle\n-2\n1200 2\n# a triangle\n"

@@ -34,7 +34,7 @@ red_box = record {
   } ∷ [];
 }
 
--- its colour and its five points, after the header
+-- the colour and the five points of the red box, after the header
 pub red_box_text : fig_text rect_outline red_box
     ≡ fig_header
     ++ codes "0 32 #ff0000\n2 2 0 0 32 32 0 -1 20 0.000 0 0 -1 0 0 5\n\t 100 200 400 200 400 600 100 600 100 200\n"

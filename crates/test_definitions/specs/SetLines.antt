@@ -52,7 +52,7 @@ pub points_read : denoted (line (codes "[1,1]") (codes "points") (codes "[[0,0],
 unfolding serde_json_on_literals digits is_utf8 chars
 points_read = refl
 
--- whether it suits the object is not asked of the line
+-- a line is read whether or not the value suits the object
 pub unequal_size_read : denoted (line (codes "[1,1]") (codes "size") (codes "[7,8]"))
     ≡ Ok (sets_to (value.Size 7 8))
 unfolding serde_json_on_literals digits is_utf8 chars

@@ -24,7 +24,7 @@ fn boxed(before: u32, layer: u16, colour: Rgb, shown: bool) -> Op {
     created(id, [before, 0, 0, 0, 0, 0, 0, 0], start)
 }
 
-/// Adds such a box behind those that are there.
+/// Adds a box of this layer and colour behind the boxes that are there.
 fn create(history: &mut History, layer: u16, colour: Rgb, shown: bool) -> Result<(), Fail> {
     let op = boxed(history.count(1), layer, colour, shown);
     if !op.in_range() {
@@ -75,7 +75,7 @@ fn nth_colour(n: u16) -> Rgb {
     }
 }
 
-/// So many boxes of so many colours; the last one may be hidden.
+/// Boxes of `colours` colours, `count` of them; the last one may be hidden.
 fn boxes(
     alloc: Global,
     count: u16,
@@ -106,7 +106,7 @@ fn ends<S: Shape>(alloc: Global, drawing: Drawing<S>) -> Result<String, AllocErr
     format!(in alloc; "{} to depth {depth} and number {number}", figures.len())
 }
 
-/// The drawing of such boxes by its ends, or why there is none.
+/// The drawing of this many boxes of this many colours by its ends, or why there is none.
 fn answer(alloc: Global, count: u16, colours: u16, last_shown: bool) -> Result<String, Fail> {
     match compile(alloc, boxes(alloc, count, colours, last_shown)?) {
         Ok(drawing) => Ok(ends(alloc, drawing)?),

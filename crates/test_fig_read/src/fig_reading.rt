@@ -9,7 +9,8 @@ use std::test::Fail;
 use test_kit::{EMPTY_FIG, at};
 use test_kit_drawings::seen;
 
-/// Each row: how many colours and figures are read, the colours at points, the points, and the text.
+/// Each row: how many colours and figures are read, the colours at points, the points, and the
+/// text.
 const DRAWINGS: &str = r"
 // the_empty_drawing_is_white
 0 0 ffffff        | 5 7            | empty:
@@ -102,7 +103,7 @@ fn other_spellings_make_the_same_drawing(rt: HostRuntime) -> Result<(), Fail> {
     Ok(())
 }
 
-/// The text of a red polygon of so many points, (n, 0) or (n, 1) in turn.
+/// The text of a red polygon of this many points, (n, 0) or (n, 1) in turn.
 fn comb(alloc: Global, points: u32) -> Result<String, Fail> {
     let count = points.saturating_add(1);
     let mut text = format!(in alloc;
@@ -123,7 +124,7 @@ fn push_point(alloc: Global, text: &mut String, n: u32) -> Result<(), Fail> {
 #[test]
 fn a_polygon_may_have_many_points(rt: HostRuntime) -> Result<(), Fail> {
     let alloc = rt.alloc();
-    // With the first point again they are 65,536.
+    // With the first point again there are 65,536 points.
     let text = comb(alloc, 65_535)?;
     let answer = answer(alloc, text.as_str(), "0 0, 65533 1, 65534 1")?;
     assert_eq!(rt; answer.as_str(), "0 1 ff0000 ff0000 ffffff");

@@ -10,12 +10,12 @@ use test_kit::{EMPTY_FIG, RED_BOX_FIG};
 pub(crate) const TRIANGLE: &str =
     "#FIG 3.2  Produced by xfig version 3.2.5\nLandscape\nCenter\nInches\nLetter  \n100.00\nSingle\n-2\n1200 2\n# a triangle\n2 3 0 0 4 4 50 -1 20 0.000 0 0 -1 0 0 4\n\t 0 0 1200 0\n\t 600 900 0 0\n";
 
-/// The lines of its text before its object.
+/// The lines of the triangle's text before the object.
 const FRONT: &str =
     "#FIG 3.2  Produced by xfig version 3.2.5\nLandscape\nCenter\nInches\nLetter  \n100.00\nSingle\n-2\n1200 2\n# a triangle\n";
 
-/// The text of a cell such as `empty: 0 32 #ff0000\n`: behind the front of this name the rest, which
-/// spells its white space `\n`, `\t`, `\r` and, at its start, `\s`.
+/// The text of a cell such as `empty: 0 32 #ff0000\n`: a beginning by its name, and the rest. The
+/// rest spells its white space `\n`, `\t`, `\r` and, at its start, `\s`.
 pub(crate) fn text(alloc: Global, cell: &str) -> Result<String, Fail> {
     let Some((front, rest)) = cell.trim().split_once(':') else {
         return Err(Fail::new("a text has no front"));

@@ -82,7 +82,7 @@ fn three_kinds(alloc: Global) -> Result<Drawing<AnyShape>, Fail> {
     )
 }
 
-/// Their outlines.
+/// The outlines of the three shapes.
 fn three_outlines(alloc: Global) -> Result<Drawing<Outline>, Fail> {
     let circle = Circle::new(at(0, 0), 1)?;
     let rect = Rect::new(at(0, 0), 10, 10)?;

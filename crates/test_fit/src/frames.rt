@@ -11,8 +11,8 @@ pub(crate) fn frame(text: &str) -> Option<Result<Frame, Range>> {
     Some(Frame::new(width.parse().ok()?, height.parse().ok()?))
 }
 
-/// `-5 0 2`: the corner of a window and its step, and what is amiss where its picture is another
-/// one than that which is painted in it.
+/// `-5 0 2`: the corner of a window and its step. Behind these stands what is amiss where the
+/// picture is not the one painted in this window.
 pub(crate) fn told(alloc: Global, window: Window, is_same: bool) -> Option<String> {
     let _ = window.height();
     let (x, y, step) = (window.x(), window.line(0), window.step());
@@ -20,7 +20,7 @@ pub(crate) fn told(alloc: Global, window: Window, is_same: bool) -> Option<Strin
     format!(in alloc; "{x} {y} {step}{amiss}").ok()
 }
 
-/// Each row: width and height, and whether there is such a frame.
+/// Each row: width and height, and whether there is a frame of these.
 const ROWS: &str = "
 1 1 | a frame
 4096 4096 | a frame

@@ -20,7 +20,7 @@ fn said(alloc: Global, answer: Result<Offered, OfferFault>, held: usize) -> Opti
     }
 }
 
-/// How many it holds.
+/// How many operations the buffer holds.
 pub(crate) fn held(alloc: Global, buffer: &Buffer) -> Option<String> {
     format!(in alloc; "{}", buffer.held()).ok()
 }
@@ -86,8 +86,8 @@ fn delivered(alloc: Global, id: OpId, answer: Result<(), AddFault>) -> Option<St
     }
 }
 
-/// What the buffer says to the first of so many operations of site 1, which are offered from the last
-/// one on, and how many it holds then.
+/// What the buffer says to the first of `count` operations of site 1, and how many it holds then.
+/// They are offered from the last one on.
 pub(crate) fn backwards(alloc: Global, scene: &mut Scene, count: u32) -> Option<String> {
     let mut answer = None;
     for later in 0..count {
@@ -97,7 +97,7 @@ pub(crate) fn backwards(alloc: Global, scene: &mut Scene, count: u32) -> Option<
     answer
 }
 
-/// What the buffer says to the operation of site 1 that knows so many of its own.
+/// What the buffer says to the operation of site 1 that knows `before` of its own.
 fn offer_next(alloc: Global, scene: &mut Scene, before: u32) -> Option<String> {
     let seq = before.checked_add(1)?;
     let text = format!(in alloc; "1.{seq} after {before}: circle 1").ok()?;

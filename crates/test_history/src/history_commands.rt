@@ -14,7 +14,7 @@ pub(crate) fn add(alloc: Global, history: &mut History, text: &str) -> Option<St
     added(alloc, history.add(op))
 }
 
-/// What it says before.
+/// What the history says to an operation before it is added.
 pub(crate) fn check(alloc: Global, history: &History, text: &str) -> Option<String> {
     let op = operation(alloc, text)?;
     if !op.in_range() {
@@ -37,7 +37,7 @@ fn checked(alloc: Global, answer: Result<(), OpFault>) -> Option<String> {
     }
 }
 
-/// Its operations, in the order in which they were added.
+/// The operations of the history, in the order in which they were added.
 pub(crate) fn operations(alloc: Global, history: &History) -> Option<String> {
     let mut ids = String::new(alloc);
     for op in history.ops() {
@@ -47,13 +47,13 @@ pub(crate) fn operations(alloc: Global, history: &History) -> Option<String> {
     Some(ids)
 }
 
-/// How many it has of a site.
+/// How many operations of a site the history has.
 pub(crate) fn count(alloc: Global, history: &History, text: &str) -> Option<String> {
     let site: u8 = text.parse().ok()?;
     format!(in alloc; "{}", history.count(site)).ok()
 }
 
-/// What it has under an id.
+/// What the history has under an id.
 pub(crate) fn get(alloc: Global, history: &History, text: &str) -> Option<String> {
     match history.get(id(text)?) {
         Some(op) => format!(in alloc; "{}", op.id).ok(),

@@ -1,5 +1,5 @@
-//! Worked examples of the history, by public calls alone: operations, their conflicts, histories and
-//! buffers, as tables of commands with their answers.
+//! Worked examples of the history, by public calls alone, as tables of commands with their answers.
+//! The tables are of operations, their conflicts, histories and buffers.
 #![tactic(auto)]
 
 #[cfg(test)]

@@ -1,5 +1,5 @@
-//! The limits of operations, what was known where they were made, and how they are printed, from the
-//! project's own limits and rules.
+//! The limits of operations, what was known where they were made, and how they are printed. The
+//! expected values come from the project's own limits and rules.
 
 use crate::script::answers;
 use std::test::Fail;

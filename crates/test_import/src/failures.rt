@@ -10,7 +10,7 @@ use test_kit::RED_BOX_FIG;
 const RED_BOX_COMMAND: &str =
     "{\"colour\":\"ff0000\",\"do\":\"create\",\"kind\":\"box\",\"layer\":999,\"place\":[100,200],\"shown\":true,\"site\":1,\"size\":[300,400]}\n";
 
-/// What an import of the red box tells whose source fails behind so many bytes.
+/// What an import of the red box tells whose source fails behind this many bytes.
 fn read_to(alloc: Global, count: u64) -> Result<(), ImportError> {
     let mut sink = Tape::new(alloc, None);
     let mut source = Reel::new(RED_BOX_FIG.as_bytes(), Some(count));
@@ -28,8 +28,7 @@ fn a_source_that_fails_anywhere_is_told(rt: HostRuntime) {
     }
 }
 
-/// What an import of the red box onto a tape of this limit tells, and whether the tape then holds
-/// these bytes.
+/// What an import of the red box onto a tape of this limit tells, and whether it holds these bytes.
 fn taken(alloc: Global, limit: u64, want: &[u8]) -> (Result<(), ImportError>, bool) {
     let mut sink = Tape::new(alloc, Some(limit));
     let mut source = Reel::new(RED_BOX_FIG.as_bytes(), None);

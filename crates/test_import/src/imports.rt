@@ -6,9 +6,9 @@ use std::alloc::Global;
 use std::test::Fail;
 use test_kit::{EMPTY_FIG, is_answer};
 
-/// Each row: the site and the objects behind the header, what is written, and what is told. `/` ends
-/// a line. Other words are pieces by their names, perhaps with another text in the place of a part,
-/// as `piece~part~text`, or words that stand for themselves.
+/// Each row: the site and the objects behind the header, what is written, and what is told. `/`
+/// ends a line. Other words are pieces by their names, or words that stand for themselves.
+/// `piece~part~text` is a piece with another text in the place of a part.
 const ROWS: &str = r#"
 // A box becomes a box, in all eight orders of its corners.
 2 red / 2 2 0 0 32 32 7 line 5 100 200 400 200 400 600 100 600 100 200 | box / |
@@ -174,7 +174,7 @@ fn imports_write_what_creates_the_figures(rt: HostRuntime) -> Result<(), Fail> {
     Ok(())
 }
 
-/// The FIG text of so many circles.
+/// The FIG text of this many circles.
 fn circles(alloc: Global, n: usize) -> Option<String> {
     let mut fig = String::new(alloc);
     fig.push_str(EMPTY_FIG).ok()?;
@@ -185,7 +185,7 @@ fn circles(alloc: Global, n: usize) -> Option<String> {
     Some(fig)
 }
 
-/// What an import of so many circles tells.
+/// What an import of this many circles tells.
 fn told_of_circles(alloc: Global, n: usize) -> Option<String> {
     let fig = circles(alloc, n)?;
     imported(alloc, 2, &fig)
@@ -197,7 +197,7 @@ fn more_figures_than_a_site_makes_are_refused(rt: HostRuntime) -> Result<(), Fai
     is_answer("10,001 circles", "TooManyFigures", told)
 }
 
-/// The FIG text of a polygon of so many points, of which all but one are the same.
+/// The FIG text of a polygon of this many points, of which all but one are the same.
 fn polygon(alloc: Global, n: usize) -> Option<String> {
     let mut fig = String::new(alloc);
     fig.push_str(EMPTY_FIG).ok()?;
@@ -209,7 +209,7 @@ fn polygon(alloc: Global, n: usize) -> Option<String> {
     Some(fig)
 }
 
-/// What an import of a polygon of so many points tells.
+/// What an import of a polygon of this many points tells.
 fn told_of_polygon(alloc: Global, n: usize) -> Option<String> {
     let fig = polygon(alloc, n)?;
     imported(alloc, 2, &fig)

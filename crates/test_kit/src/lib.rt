@@ -1,5 +1,5 @@
-//! What the worked examples share: points and colours, operations and how tables write them, the
-//! reader of tables, and the red box as a line and as FIG text.
+//! What the worked examples share: points and colours, operations and how tables write them, and
+//! the reader of tables. The red box stands here as a line and as FIG text.
 #![tactic(auto)]
 
 pub mod notation;

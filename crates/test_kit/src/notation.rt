@@ -1,6 +1,5 @@
-//! Ids, values and operations as the tables of examples write them, as
-//! `2.1 after 1 0 3: 1.1 layer 3` and `1.1: box 3 4, colour ff0000`. What is no such text has no
-//! value.
+//! Ids, values and operations as the tables of examples write them. Examples are `2.1 after 1 0 3:
+//! 1.1 layer 3` and `1.1: box 3 4, colour ff0000`. A text of another form has no value.
 
 use crate::plain;
 use gf_ops::{Change, Clock, Form, Ids, ObjectId, Op, OpId, Points, Start, Value};

@@ -11,7 +11,7 @@ pub trait Answers {
 }
 
 /// Asks each question of a table. A line is a question and, behind the first `|`, what is to be
-/// answered; one that begins with `//` says what the lines below it try.
+/// answered. A line that begins with `//` says what the lines below it try.
 pub fn ask<A: Answers>(alloc: Global, rows: &str, asked: &mut A) -> Result<(), Fail> {
     for row in rows.lines() {
         if let Some((question, want)) = row.split_once('|') {

@@ -1,5 +1,5 @@
-//! What the worked examples of drawings and of FIG text share: figures, what is seen and told of a
-//! drawing, and printed texts.
+//! What the worked examples of drawings and of FIG text share: figures, what a drawing shows, and
+//! printed texts.
 #![tactic(auto)]
 
 mod figures;

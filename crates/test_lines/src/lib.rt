@@ -1,4 +1,4 @@
-//! Worked examples of lines of JSON, by public calls alone: what lines denote, what is refused, and
+//! Worked examples of lines of JSON, by public calls alone: what lines denote, refused lines, and
 //! how operations are written.
 #![tactic(auto)]
 

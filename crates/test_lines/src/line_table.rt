@@ -592,7 +592,7 @@ fn named(name: &str) -> Option<&'static str> {
     }
 }
 
-/// The fault of this line with something in the place of its first such part.
+/// The fault of this line with something in the place of the first part of this text.
 fn fault_of(alloc: Global, name: &str, part: &str, new: &str) -> Result<Option<LineError>, Fail> {
     let Some(line) = named(name) else {
         return Err(Fail::new("a line has no name"));
@@ -615,7 +615,7 @@ fn answer(alloc: Global, cells: &str) -> Result<String, Fail> {
     }
 }
 
-/// A line whose aim has so many ids.
+/// A line whose aim has this many ids.
 fn aimed(alloc: Global, count: u32) -> Result<String, Fail> {
     let mut line = String::from_str(
         alloc,

@@ -84,7 +84,7 @@ fn reads_each_line(rt: HostRuntime) -> Result<(), Fail> {
     Ok(())
 }
 
-/// Whether the line of the red box with something in the place of its first such part denotes it.
+/// Whether the line of the red box denotes it with other text in the place of the first such part.
 fn is_red_box(alloc: Global, part: &str, new: &str) -> Option<bool> {
     let line = RED_BOX.replacen(alloc, part, new, 1).ok()?;
     denotes(

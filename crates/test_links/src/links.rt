@@ -10,8 +10,8 @@ use std::test::Fail;
 use test_kit::create;
 use test_kit::notation::id;
 
-/// Each row: what is sent, how many messages are taken then, and what came, with the numbers that were
-/// sent and taken.
+/// Each row: what is sent, how many messages are taken then, and what came. Behind this stand the
+/// numbers that were sent and taken.
 const LINKS: [(&str, u32, &str); 6] = [
     ("", 1, "-, 0 0"),
     ("1.2", 2, "1.2 -, 1 1"),
@@ -91,7 +91,7 @@ fn all_taken<R: Wait>(
     Ok(text)
 }
 
-/// What comes where these words are sent and so many messages are taken.
+/// What comes where these words are sent and this many messages are taken.
 fn passed<R: Wait>(rt: &R, alloc: Global, words: &str, takes: u32) -> Result<String, Fail> {
     let (link, mut send, mut take) = Link::new(rt, alloc)?;
     send_all(rt, &link, &mut send, words)?;

@@ -7,8 +7,8 @@ use std::test::Fail;
 use test_kit::{Answers, ask};
 
 /// Each row: the lines of an input, and the lines that tell its faults, with ` / ` between them. A
-/// line is a piece by its name, perhaps with another text in the place of a part of it, as
-/// `piece~part~text`, or a text that stands for itself. `+` puts two pieces on one line.
+/// line is a piece by its name, or a text that stands for itself. `piece~part~text` is a piece with
+/// another text in the place of a part. `+` puts two pieces on one line.
 const ROWS: &str = r##"
 // Nothing is told of what has no fault, waits, comes again, or has a key twice.
 box move aimed |

@@ -6,9 +6,9 @@ use std::alloc::Global;
 use std::test::Fail;
 use test_kit::is_answer;
 
-/// Each row: the site and the input, what is written, and what is told. `/` ends a line. Other words
-/// are pieces by their names, perhaps with another text in the place of a part, as
-/// `piece~part~text`, or texts that stand for themselves.
+/// Each row: the site and the input, what is written, and what is told. `/` ends a line. Other
+/// words are pieces by their names, or texts that stand for themselves. `piece~part~text` is a
+/// piece with another text in the place of a part.
 const ROWS: &str = r#"
 // A new operation knows all that was read, in whatever order it stands there and however often.
 2 box / move / | moved / | made 2.1

@@ -59,7 +59,7 @@ fn push_op(alloc: Global, input: &mut Vec<u8>, text: &str) -> Option<()> {
     input.push(b'\n').ok()
 }
 
-/// An object, and so many times two layers that know all but each other.
+/// An object, and `count` times two layers that know all but each other.
 fn rounds(alloc: Global, count: u32) -> Option<Vec<u8>> {
     let mut input = Vec::new(alloc);
     push_op(alloc, &mut input, "1.1: box 1 1")?;

@@ -1,4 +1,5 @@
-//! Trials of drawings and of FIG texts: the red box, two versions of a box, and the drawing of nothing.
+//! Trials of drawings and of FIG texts: the red box, two versions of a box, and the drawing of
+//! nothing.
 
 use crate::examples::{MOVED, RED_BOX_MADE, is_text, red_box, site};
 use crate::trial::{Came, Marks};
@@ -271,7 +272,7 @@ fn creations(alloc: Global, marks: &mut Marks) -> Option<Came> {
     })
 }
 
-/// Whether these are the creation of the red box.
+/// Whether the changes are the creation of the red box.
 fn is_box_created(answer: Result<Vec<Change>, CreationError>) -> bool {
     match answer {
         Ok(changes) => matches!(changes.as_slice(), [Change::Create(start)]

@@ -1,5 +1,5 @@
-//! Trials of operations, histories and buffers: the red box as a line, and a box with its changes by
-//! two sites.
+//! Trials of operations, histories and buffers: the red box as a line, and a box changed by two
+//! sites.
 
 use crate::examples::{BOX, RED_BOX_MADE, TWO_COLOURS, site};
 use crate::trial::{Came, Marks};

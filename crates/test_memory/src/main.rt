@@ -1,8 +1,7 @@
-//! Tries the call that the one word names on its worked example, or each call where there is no
-//! word.
+//! Tries the call that the one word names on its worked example, or each call without a word.
 //!
-//! A trial marks on standard error where its call begins and ends, so that memory can be refused to
-//! the call alone. After a refusal it looks whether all is as it was, and calls again.
+//! A trial marks on standard error where its call begins and ends. Memory can thus be refused to
+//! the call alone. After a refusal the trial compares all with what it was, and calls again.
 #![tactic(auto)]
 
 mod drawings;
@@ -97,7 +96,7 @@ fn all<T: Threads + Wait + Sync, W: Sink>(rt: &T, alloc: Global, output: &mut W)
     status(are_right)
 }
 
-/// Tries the call of a line of names, which has a word behind the name where the call may do
+/// Tries the call of a line of names. The line has a word behind the name where the call may do
 /// without some of its memory.
 fn listed<T: Threads + Wait + Sync, W: Sink>(
     rt: &T,

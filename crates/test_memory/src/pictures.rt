@@ -79,7 +79,7 @@ const BANDS: Picture = Picture {
     bands: &[0, 13, 589, 1165],
 };
 
-/// The same for three workers.
+/// The three bands for three workers.
 const ROWS: Picture = Picture {
     figures: BOX,
     size: (3, 130),

@@ -82,9 +82,9 @@ enum Run {
 struct Example<'a> {
     run: Run,
     input: &'a [u8],
-    /// What it writes.
+    /// What the run writes.
     whole: &'a [u8],
-    /// Behind how many of these bytes it may want memory.
+    /// Behind how many of these bytes the run may want memory.
     cuts: &'a [usize],
 }
 
@@ -161,7 +161,7 @@ impl Example<'_> {
         self.run(rt, alloc, &mut tape) == Ok(()) && tape.bytes() == whole
     }
 
-    /// Whether this tells want of memory: of the run, or of the session in it.
+    /// Whether the error tells want of memory: of the run, or of the session in it.
     fn is_want(&self, error: StudioError) -> bool {
         match self.run {
             Run::Session if error == StudioError::Session(SessionError::OutOfMemory) => true,
@@ -196,8 +196,8 @@ fn lines(alloc: Global, text: &str) -> Option<String> {
     Some(lines)
 }
 
-/// The picture of the moved box: its left edge is the second column, and its lower edge the eleventh
-/// row.
+/// The picture of the moved box: its left edge is the second column, and its lower edge the
+/// eleventh row.
 fn moved_box(alloc: Global) -> Option<Vec<u8>> {
     let mut bytes = Vec::from_slice(alloc, b"P6\n3 130\n255\n").ok()?;
     for _ in 0..11 {
@@ -237,8 +237,8 @@ fn repaint<T: Threads + Wait + Sync>(rt: &T, alloc: Global, marks: &mut Marks) -
     Some(example.tried(rt, alloc, marks))
 }
 
-/// The picture of the moved box in the window that fits it: three columns, of which the middle one
-/// meets it, and two rows.
+/// The picture of the moved box in the window that fits it: three columns and two rows. The middle
+/// column meets the box.
 fn paint_fitted<T: Threads + Wait + Sync>(
     rt: &T,
     alloc: Global,
@@ -274,7 +274,7 @@ fn repaint_fitted<T: Threads + Wait + Sync>(
 const TWO_VERSIONS: &[u8] =
     b"version 1.1 [1.1 2.1] box place 0 0 size 10 10 colour 00ff00 layer 0 shown\nversion 1.1 [1.1 1.2] box place 0 0 size 10 10 colour 0000ff layer 0 shown\n";
 
-/// The version of it that is on top.
+/// The version of the box that is on top.
 const TOP: &[u8] = b"top 10 10 is 1.1 [1.1 2.1]\n";
 
 fn inspect<T: Threads + Wait + Sync>(

@@ -1,4 +1,4 @@
-//! Trials of sessions: two sites, of which the second paints the box of the first, and waits for an
+//! Trials of sessions of two sites. The second site paints the box of the first, and waits for an
 //! operation that nobody makes.
 
 ghost use Rattle.std.specs.Prelude.{◌≡◌, ◌≤◌, All, IfSome, vec_len};
@@ -271,7 +271,7 @@ fn worked<R: Wait>(rt: &R, alloc: Global, marks: &mut Marks) -> Option<(bool, bo
     Some((end.short, is_worked(&end, came)))
 }
 
-/// Whether this comes from a worker that ended so.
+/// Whether these messages come from a worker with this end.
 fn is_worked(end: &WorkerEnd, came: [Taken; 2]) -> bool {
     let is_told = came[0] == Taken::Op(PAINT);
     if end.short {
@@ -282,7 +282,7 @@ fn is_worked(end: &WorkerEnd, came: [Taken; 2]) -> bool {
     }
 }
 
-/// Whether a worker sent and took so many messages.
+/// Whether a worker sent and took this many messages.
 fn has_passed(end: &WorkerEnd, sent: u32, taken: u32) -> bool {
     match end.seats.as_slice() {
         [peer] => peer.send.sent() == sent && peer.take.taken() == taken,
@@ -294,8 +294,8 @@ fn is_whole(end: &WorkerEnd) -> bool {
     has_passed(end, 2, 2) && is_done(&end.site, &end.report, &[PAINT], &[NEVER])
 }
 
-/// Whether a worker that stopped took all that came, made and told a front of what it has to, and
-/// told nothing else.
+/// Whether a worker that stopped took all that came, and made and told a prefix of what it has to.
+/// Such a worker tells nothing else.
 fn is_stopped(end: &WorkerEnd, is_told: bool) -> bool {
     let accepted = end.report.accepted.as_slice();
     if accepted.is_empty() {

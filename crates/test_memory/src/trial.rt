@@ -47,8 +47,8 @@ pub(crate) enum Came {
     Right,
     /// The call wanted memory, left all as it was, and then answered as its worked example does.
     RightAfterMemory,
-    /// The tape wanted memory, the call left a front of the text there, and then answered as its
-    /// worked example does.
+    /// The tape wanted memory and has a prefix of the text. The call then answered as its worked
+    /// example does.
     RightAfterWrite,
     /// Memory was refused before the call.
     TooEarly,
@@ -66,14 +66,13 @@ impl Came {
         if is_right { Came::Right } else { Came::Wrong }
     }
 
-    /// A call that wanted memory: whether all is as it was, and whether the next answer is that of
-    /// the worked example.
+    /// A call that wanted memory: whether all is as it was, and whether the next answer is right.
     pub(crate) fn after_memory(is_kept: bool, is_right: bool) -> Came {
         Came::after(Came::RightAfterMemory, is_kept, is_right)
     }
 
-    /// A call whose tape wanted memory: whether it holds a front of the text, and whether the next
-    /// answer is that of the worked example.
+    /// A call whose tape wanted memory: whether it holds a prefix of the text, and the next answer
+    /// is right.
     pub(crate) fn after_write(is_front: bool, is_right: bool) -> Came {
         Came::after(Came::RightAfterWrite, is_front, is_right)
     }
@@ -96,7 +95,7 @@ impl Came {
         }
     }
 
-    /// What is printed of it.
+    /// What is printed of a trial.
     pub(crate) fn text(self) -> &'static str {
         match self {
             Came::Right => "right",

@@ -22,15 +22,15 @@ struct Painters {
     passed: [AtomicUsize; 3],
     /// How often a row was asked for.
     asked: AtomicUsize,
-    /// How often that was before the gate of the second band above was passed.
+    /// How often a row was asked for before the gate of the second band above was passed.
     early: AtomicUsize,
-    /// How many saw `wanted` of them ask.
+    /// How many painters saw `wanted` of them ask.
     met: AtomicUsize,
     wanted: usize,
 }
 
 impl Painters {
-    /// Nobody has painted, and so many are to meet.
+    /// Nobody has painted, and this many painters are to meet.
     fn new(wanted: usize) -> Painters {
         Painters {
             passed: [none(), none(), none()],
@@ -141,7 +141,7 @@ fn none() -> AtomicUsize {
     AtomicUsize::new(0)
 }
 
-/// A box of 300 rows, in which so many painters are to meet.
+/// A box of 300 rows, in which this many painters are to meet.
 fn drawing_of_box(alloc: Global, wanted: usize) -> Option<Drawing<Watched>> {
     let painters = Painters::new(wanted);
     let rect = Rect::new(Point { x: 0, y: 0 }, 300, 300).ok()?;
@@ -156,8 +156,8 @@ fn drawing_of_box(alloc: Global, wanted: usize) -> Option<Drawing<Watched>> {
     Some(drawing)
 }
 
-/// How often a row of the box was asked for, how often more than a band ahead, and how many painters
-/// met.
+/// How often a row of the box was asked for, and how often more than a band ahead. Behind these
+/// stands how many painters met.
 fn told<R: Threads + Sync>(
     rt: &R,
     alloc: Global,

@@ -25,8 +25,8 @@ pub(crate) fn answers<R: Threads + Sync, G: Gate + Sync>(
     Ok(())
 }
 
-/// `box ; 0 0 1 3 2 1`: the pixels; `600 box ; 0 0 1 3 2 1`: the PPM, into so much room;
-/// `alike box ; 0 0 1 3 2 1`: how many pixels have another colour than the drawing at their point.
+/// `box ; 0 0 1 3 2 1`: the pixels; `600 box ; 0 0 1 3 2 1`: the PPM, into this much room. `alike
+/// box ; 0 0 1 3 2 1`: how many pixels have another colour than the drawing at their point.
 fn told<R: Threads + Sync, G: Gate + Sync>(
     rt: &R,
     alloc: Global,
@@ -83,7 +83,7 @@ fn drawing(alloc: Global, name: &str) -> Option<Drawing<Outline>> {
     read_fig(alloc, text.as_bytes()).ok()
 }
 
-/// Its figures, as FIG has them.
+/// The figures of the drawing of this name, as FIG has them.
 fn figures(name: &str) -> Option<&'static str> {
     match name {
         "nothing" => Some(""),
@@ -101,7 +101,8 @@ fn figures(name: &str) -> Option<&'static str> {
         "overlaid" => Some(
             "2 2 0 0 1 1 7 -1 20 0.000 0 0 -1 0 0 5\n\t 1 0 2 0 2 2 1 2 1 0\n2 2 0 0 4 4 9 -1 20 0.000 0 0 -1 0 0 5\n\t 0 0 2 0 2 2 0 2 0 0\n",
         ),
-        // Discs and chains over one another: a star, a comb of slanted teeth, a line there and back.
+        // Discs and chains over one another: a star, a comb of slanted teeth, a line there and
+        // back.
         "crowd" => Some(
             "1 3 0 0 2 2 40 -1 20 0.000 1 0.0000 3 4 9 9 3 4 12 4\n2 3 0 0 4 4 30 -1 20 0.000 0 0 -1 0 0 6\n\t 0 -12 7 10 -11 -4 11 -4 -7 10 0 -12\n1 3 0 0 6 6 20 -1 20 0.000 1 0.0000 -8 -8 3 3 -8 -8 -5 -8\n2 3 0 0 1 1 10 -1 20 0.000 0 0 -1 0 0 10\n\t -14 14 -10 3 -8 14 -4 5 -2 14 2 7 4 14 8 9 10 14 -14 14\n2 3 0 0 5 5 5 -1 20 0.000 0 0 -1 0 0 4\n\t -13 0 13 2 -13 0 -13 0\n2 2 0 0 0 0 2 -1 20 0.000 0 0 -1 0 0 5\n\t 9 -9 13 -9 13 -5 9 -5 9 -9\n",
         ),
@@ -210,7 +211,7 @@ fn written<R: Threads + Sync, G: Gate + Sync>(
     format!(in alloc; "{how} {}{}", bytes.len(), spelt(alloc, bytes)?).ok()
 }
 
-/// The three lines before the pixels, then the pixels as runs of one colour, then what is left of a
+/// The three lines before the pixels, the pixels as runs of one colour, and what is left of a
 /// pixel.
 fn spelt(alloc: Global, bytes: &[u8]) -> Option<String> {
     let (header, pixels) = bytes.split_at(header_len(bytes).min(bytes.len()));

@@ -1,4 +1,4 @@
-//! That sites run at the same time: a gate lets a site wait until others were called, and gives up
+//! That sites run at the same time: a gate lets a site wait until others were called. It gives up
 //! after many turns, so that sites which run one after another are told and don't hang.
 
 use crate::sessions::ran;
@@ -8,7 +8,7 @@ use std::sync::atomic::Ordering::SeqCst;
 use std::test::Fail;
 use std::thread;
 
-/// Waits until so many came, and counts it where they did.
+/// Waits until `wanted` sites came, and counts it where they did.
 fn meet(come: &AtomicUsize, wanted: usize, met: &AtomicUsize) {
     for _ in 0..2_000_000u32 {
         if come.load(SeqCst) >= wanted {
@@ -39,7 +39,7 @@ impl Gate for Late {
     }
 }
 
-/// Each site waits before its first command until so many are there.
+/// Each site waits before its first command until this many sites are there.
 #[derive(Drop)]
 struct Meeting {
     sites: usize,

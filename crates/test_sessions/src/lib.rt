@@ -1,5 +1,5 @@
-//! Worked examples of sessions of two to eight sites in threads of their own, and of one worker, by
-//! public calls alone.
+//! Worked examples of sessions of two to eight sites in threads of their own, and of one worker.
+//! All use public calls alone.
 #![tactic(auto)]
 
 #[cfg(test)]

@@ -1,4 +1,5 @@
-//! Scripts as the table writes them, such as `box 3 4; await 2.1; 2.1 layer 3`, with ` / ` between sites.
+//! Scripts as the table writes them, such as `box 3 4; await 2.1; 2.1 layer 3`. Between sites
+//! stands ` / `.
 
 ghost use Rattle.std.specs.Prelude.{◌≤◌, All, IfSome, vec_len};
 

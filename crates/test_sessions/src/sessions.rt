@@ -1,5 +1,5 @@
-//! A table of sessions: for each site the operations that it made, its refused commands, and how
-//! many operations it has at the end.
+//! A table of sessions: for each site the operations that it made, and its refused commands. Behind
+//! these stands how many operations it has at the end.
 
 use crate::scripts::scripts;
 use gf_gate::{Gate, OpenGate};
@@ -36,7 +36,7 @@ const SESSIONS: [(&str, &str); 14] = [
         "box 9 9 / await 1.1; 1.1 colour 0000ff; 1.1 layer 1 aim 1.9",
         "1.1 has 2 / 2.1 3:BadAim has 2 / ",
     ),
-    // The same beside a third site, which waits for the box alone.
+    // The same aim beside a third site, which waits for the box alone.
     (
         "box 10 10, colour ff0000 / await 1.1; 1.1 colour 0000ff; 1.1 layer 1 aim 1.9 / await 1.1",
         "1.1 has 2 / 2.1 3:BadAim has 2 / has 2 / ",

@@ -1,5 +1,4 @@
-//! A table of workers: what site 1 comes to by itself, where the messages of its one peer were sent
-//! by hand.
+//! A table of workers: what site 1 comes to by itself, with messages of its one peer sent by hand.
 
 ghost use Rattle.std.specs.Prelude.{All, IfSome};
 ghost use Rattle.gf_worker.specs.Peers.{StandsInTable, IsFresh};
@@ -17,10 +16,12 @@ use std::sync::Wait;
 use std::test::Fail;
 use test_kit::notation::operation;
 
-/// Each row: the commands of site 1, what site 2 sends, and what comes of it: the site's operations,
-/// its report, whether it is short, how many messages it sent and took, and what it sent.
+/// Each row: the commands of site 1, what site 2 sends, and what comes of it. That is the site's
+/// operations, its report, and whether it is short. Then come how many messages it sent and took,
+/// and what it sent.
 const WORKERS: [(&str, &str, &str); 5] = [
-    // Another operation under a known id, one under the site's own number, and one that doesn't fit.
+    // Another operation under a known id, one under the site's own number, and one that doesn't
+    // fit.
     (
         "box 9 9; await 2.1; 2.1 layer 3; await 2.9",
         "2.1: circle 3; 2.1: circle 4; 1.7: box 8 8; 2.2 after 0 1: 2.1 points 0,0 8,0 0,8; End",

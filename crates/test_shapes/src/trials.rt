@@ -19,7 +19,7 @@ fn difference<S: Shape>(shape: &S, row: &mut Row) -> Result<Option<Point>, OutOf
     Ok(None)
 }
 
-/// The same of the polygon of these points, then of its outline.
+/// The first difference of the polygon of these points, or else of its outline.
 fn difference_of(alloc: Global, points: &[Point], row: &mut Row) -> Result<Option<Point>, Fail> {
     let shape = AnyShape::Polygon(Polygon::new(alloc, points)?);
     let outline = shape.outline(alloc)?;

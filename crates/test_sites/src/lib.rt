@@ -1,5 +1,5 @@
-//! Worked examples of sites and of the world, by public calls alone, as tables of commands with their
-//! answers.
+//! Worked examples of sites and of the world, by public calls alone, as tables of commands with
+//! their answers.
 #![tactic(auto)]
 
 #[cfg(test)]

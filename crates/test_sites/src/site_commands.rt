@@ -20,7 +20,7 @@ fn said(alloc: Global, answer: &Result<Op, AuthorFault>) -> Option<String> {
     }
 }
 
-/// The last operation of so many, each of which makes a small box.
+/// The last of this many operations, each of which makes a small box.
 pub(crate) fn fill(alloc: Global, site: &mut Site, text: &str) -> Option<String> {
     let count: u32 = text.parse().ok()?;
     for _ in 1..count {
@@ -72,7 +72,7 @@ pub(crate) fn held(alloc: Global, site: &Site) -> Option<String> {
     format!(in alloc; "{}", site.held()).ok()
 }
 
-/// How many versions its table has of an object.
+/// How many versions the site's table has of an object.
 pub(crate) fn versions(alloc: Global, site: &Site, text: &str) -> Option<String> {
     let object = ObjectId(id(text)?);
     match site.table().groups(alloc, site.history(), object) {

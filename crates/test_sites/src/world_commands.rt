@@ -5,7 +5,8 @@ use gf_replicas::{Event, World, world_run};
 use std::alloc::Global;
 use test_kit::notation::change;
 
-/// `2; author 1 box 1 1; offer 2 0; step 2`: what the sites have once that happened, and the messages.
+/// `2; author 1 box 1 1; offer 2 0; step 2`: what the sites have behind these events, and the
+/// messages.
 pub(crate) fn run(alloc: Global, text: &str) -> Option<String> {
     let (sites, events) = text.split_once("; ")?;
     let sites: u8 = sites.parse().ok()?;

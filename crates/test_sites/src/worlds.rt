@@ -1,5 +1,5 @@
-//! Which worlds events lead to, by hand from the rules of worlds: what each site has, and how many
-//! messages there are.
+//! Which worlds events lead to, by hand from the rules of worlds. The answer is what each site has,
+//! and how many messages there are.
 
 use crate::script::answers;
 use std::test::Fail;

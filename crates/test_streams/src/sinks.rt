@@ -39,8 +39,8 @@ fn tapes_take_what_fits(rt: HostRuntime) {
     }
 }
 
-/// What the write of a whole text onto a tape of this limit answers, and whether the tape then
-/// holds these bytes.
+/// What the write of a whole text onto a tape of this limit answers, and whether it holds these
+/// bytes.
 fn whole(alloc: Global, text: &[u8], limit: u64, want: &[u8]) -> (Result<(), SinkFault>, bool) {
     let mut tape = Tape::new(alloc, Some(limit));
     let result = write_whole(&mut tape, text);
@@ -57,7 +57,7 @@ fn whole_writes_onto_tapes(rt: HostRuntime) {
     }
 }
 
-/// Takes at most so many bytes a call, fails at one write or at each flush, and counts its calls.
+/// Takes at most some bytes a call, fails at one write or at each flush, and counts its calls.
 #[derive(Drop)]
 struct Fake {
     most: usize,

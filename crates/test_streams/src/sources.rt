@@ -68,7 +68,7 @@ fn reels_are_read_whole(rt: HostRuntime) -> Result<(), Fail> {
     Ok(())
 }
 
-/// Gives so many bytes `a`, at most `most` a read, and fails at one read.
+/// Gives a number of bytes `a`, at most `most` a read, and fails at one read.
 #[derive(Drop)]
 struct Fake {
     left: usize,
@@ -101,7 +101,7 @@ impl Read for Fake {
     }
 }
 
-/// What the read of such a reader gives, and how many bytes are left after how many reads.
+/// What the read of this reader gives, and how many bytes are left after how many reads.
 fn answer(alloc: Global, left: usize, most: usize, failing_read: u32) -> Result<String, Fail> {
     let mut fake = Fake::new(left, most, failing_read);
     let text = whole(alloc, &mut In::new(&mut fake))?;

@@ -4,7 +4,7 @@ use gf_streams::TextLines;
 use std::alloc::Global;
 use std::test::Fail;
 
-/// All lines of a text, as a caller takes them, as text: each with its number, and ended by a bar.
+/// All lines of a text, as a caller takes them: each with its number, and ended by a bar.
 fn told(alloc: Global, text: &str) -> Result<String, Fail> {
     let mut told = String::new(alloc);
     let mut lines = TextLines::new(text.as_bytes().to_vec(alloc)?);

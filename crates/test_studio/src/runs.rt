@@ -10,8 +10,8 @@ use std::thread::Threads;
 use test_kit::{RED_BOX, RED_BOX_FIG};
 use test_kit_drawings::printed;
 
-/// Each row: the answer and how many bytes the sink took, which side fails after how many, and the
-/// pieces of the input.
+/// Each row: the answer and how many bytes the sink took, and which side fails after how many. The
+/// pieces of the input stand behind these.
 const RUNS: &str = r"
 // runs_answer_the_first_fault
 ok, 60                             |          |
@@ -103,8 +103,7 @@ fn a_source_that_fails_anywhere_is_told(rt: HostRuntime) -> Result<(), Fail> {
     Ok(())
 }
 
-/// What a run over the red box onto a tape of this limit answers, and whether the tape then holds
-/// these bytes.
+/// What a run over the red box onto a tape of this limit answers, and whether it holds these bytes.
 fn taken<T: Threads + Sync>(
     rt: &T,
     alloc: Global,
@@ -134,7 +133,8 @@ fn a_sink_that_fails_anywhere_has_a_front(rt: HostRuntime) {
     }
 }
 
-/// What a run answers to so many blank lines before the red box, and how many bytes its sink takes.
+/// What a run answers to this many blank lines before the red box, and how many bytes its sink
+/// takes.
 fn answer_behind<T: Threads + Sync>(rt: &T, alloc: Global, blank: usize) -> Result<String, Fail> {
     let mut input = Vec::new(alloc);
     input.resize(blank, b'\n')?;
@@ -151,7 +151,7 @@ fn an_input_may_have_many_lines(rt: HostRuntime) -> Result<(), Fail> {
     Ok(())
 }
 
-/// What a run by so many workers answers to so many red boxes, a blank line and a brace.
+/// What a run by this many workers answers to this many red boxes, a blank line and a brace.
 fn answer_of_boxes<T: Threads + Sync>(
     rt: &T,
     alloc: Global,

@@ -1,5 +1,5 @@
-//! The groups that a table lists where operations aim at others, and what is visible of them, by
-//! hand from the rules of conflicts.
+//! The groups that a table lists where operations aim at others, and which versions are visible.
+//! The answers are worked out by hand from the rules of conflicts.
 
 use crate::script::answers;
 use std::test::Fail;

@@ -86,7 +86,7 @@ pub(crate) fn ranking(alloc: Global, site: &Site, text: &str) -> Option<String> 
     counted(alloc, found.map(|ranked| ranked.len()))
 }
 
-/// The figures of the drawing of at most so many versions, the last one's depth, and the colours.
+/// The figures of the drawing of at most this many versions, the last one's depth, and the colours.
 pub(crate) fn drawn(alloc: Global, site: &Site, text: &str) -> Option<String> {
     match ranked_within(alloc, site.history(), site.table(), bound(text)?).ok()? {
         Some(ranked) => drawing(alloc, ranked),

@@ -1,5 +1,5 @@
-//! Worked examples of tables of versions, by public calls alone: the groups that a table lists, the
-//! visible versions within a bound, and looks and aims at versions, as tables of commands.
+//! Worked examples of tables of versions, by public calls alone, as tables of commands. They try
+//! the groups that a table lists, the visible versions within a bound, and queries and aims.
 #![tactic(auto)]
 
 #[cfg(test)]

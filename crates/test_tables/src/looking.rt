@@ -1,4 +1,4 @@
-//! Commands that look at versions: all of an object, the one on top at a point, and aims at it.
+//! Commands that query versions: all of an object, the one on top at a point, and aims at it.
 
 use gf_groups::GroupFault;
 use gf_inspect::{
@@ -61,8 +61,7 @@ fn line_of(alloc: Global, point: Point, name: Option<VersionName>) -> Option<Str
     String::from_str(alloc, text.trim()).ok()
 }
 
-/// Of `10,10: 1.1 layer 7 aim 1.1 1.2`, whether a value that is aimed at the point, by the table,
-/// makes this change.
+/// Of `10,10: 1.1 layer 7 aim 1.1 1.2`, whether a value aimed at the point makes this change.
 pub(crate) fn aimed(alloc: Global, site: &Site, text: &str) -> Option<String> {
     let (place, what) = text.split_once(": ")?;
     let Change::Set { value, .. } = change(alloc, what)? else {

@@ -1,4 +1,4 @@
-//! Looks at versions, by the table and by the plain calls.
+//! Queries of versions, by the table and by the plain calls.
 
 use crate::script::answers;
 use std::test::Fail;

@@ -14,7 +14,7 @@ pub(crate) fn add(site: &mut Site, op: Op) -> Option<()> {
     }
 }
 
-/// Adds so many rounds of two colours of the object 1.1.
+/// Adds this many rounds of two colours of the object 1.1.
 pub(crate) fn rounds(alloc: Global, site: &mut Site, count: u32) -> Option<()> {
     for _ in 0..count {
         round(alloc, site, Value::Colour(BLUE), Value::Colour(GREEN))?;
@@ -22,7 +22,7 @@ pub(crate) fn rounds(alloc: Global, site: &mut Site, count: u32) -> Option<()> {
     Some(())
 }
 
-/// Adds so many rounds in which site 1 hides the object 1.1 and site 2 shows it.
+/// Adds this many rounds in which site 1 hides the object 1.1 and site 2 shows it.
 pub(crate) fn hidings(alloc: Global, site: &mut Site, count: u32) -> Option<()> {
     for _ in 0..count {
         round(alloc, site, Value::Shown(false), Value::Shown(true))?;
@@ -39,8 +39,8 @@ fn round(alloc: Global, site: &mut Site, one: Value, other: Value) -> Option<()>
     add_value(alloc, site, 2, second, known, other)
 }
 
-/// Adds an operation of the site of this number, which has made so many, that gives the object 1.1
-/// a value.
+/// Adds an operation that gives the object 1.1 a value. The site `number` makes it, and made `made`
+/// operations before.
 fn add_value(
     alloc: Global,
     site: &mut Site,

@@ -1,5 +1,5 @@
-//! All histories of few changes with aims by two sites, in each order in which they may be added:
-//! the groups that a table lists, against the plain ones.
+//! All histories of few changes with aims by two sites, in each order that they may have. The
+//! groups that a table lists are compared with the plain ones.
 
 use crate::rounds::add;
 use crate::small_histories::{BOX, agrees, value};
@@ -9,10 +9,10 @@ use std::alloc::Global;
 use std::test::Fail;
 use test_kit::create;
 
-/// A code below this one tells of a change.
+/// A change has a code below this one.
 const CODES: u32 = 384;
 
-/// The codes of a blue by site 1 and a green by site 2, of which none knows the other one.
+/// The codes of a blue by site 1 and a green by site 2, neither of which knows the other.
 const TWO_COLOURS: [u32; 2] = [0, 11];
 
 /// Whether the set has the operation with this index.
@@ -35,8 +35,7 @@ fn aim(alloc: Global, history: &History, set: u32) -> Option<Ids> {
     Some(Ids::new(ids))
 }
 
-/// The site that a code tells of, how many operations it has, and what it knows: of the other site
-/// so many.
+/// The site of a code, how many operations it has, and how much it knows of the other site.
 fn known(code: u32, history: &History) -> (u8, u32, [u32; 8]) {
     let other = code / 2 % 4;
     let first = history.count(1);
@@ -48,8 +47,8 @@ fn known(code: u32, history: &History) -> (u8, u32, [u32; 8]) {
     }
 }
 
-/// The change of the box 1.1 that a code tells of: site 1 or 2 gives it one of three values, aims
-/// at a set of the first four operations, and knows so many of the other site.
+/// The change of the box 1.1 with this code: site 1 or 2 gives it one of three values. The change
+/// aims at a set of the first four operations, and knows a number of the other site's.
 fn coded(alloc: Global, code: u32, history: &History) -> Option<Op> {
     let (site, own, past) = known(code, history);
     let seq = own.saturating_add(1);
@@ -85,7 +84,7 @@ fn started(alloc: Global, codes: &[u32]) -> Option<Site> {
     Some(site)
 }
 
-/// How many histories one more change makes. Their groups are as they should be.
+/// How many histories one more change makes. The groups of each have to be as they should be.
 fn ends(alloc: Global, site: &Site) -> Result<u32, Fail> {
     let mut count = 0u32;
     for code in 0..CODES {

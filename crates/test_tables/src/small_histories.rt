@@ -1,5 +1,5 @@
-//! All histories of at most four changes of a box by two sites, in each order in which they may be
-//! added: the groups that a table lists, against the plain ones.
+//! All histories of at most four changes of a box by two sites, in each order that they may have.
+//! The groups that a table lists are compared with the plain ones.
 
 use crate::commands::{groups, plain_groups};
 use crate::rounds::add;
@@ -20,8 +20,8 @@ pub(crate) fn value(code: u32) -> Value {
     }
 }
 
-/// The change of the box 1.1 that a code below 30 tells of: site 1 or 2 gives it one of three values
-/// and knows so many operations of the other site.
+/// The change of the box 1.1 with a code below 30: either site gives it one of three values. The
+/// change knows a number of operations of the other site.
 fn coded(alloc: Global, code: u32, history: &History) -> Op {
     let known = code / 2 % 5;
     let first = history.count(1);
@@ -35,7 +35,7 @@ fn coded(alloc: Global, code: u32, history: &History) -> Op {
     changed(alloc, OpId { site, seq }, past, BOX, value(code / 10))
 }
 
-/// Adds the box 1.1 and the changes that the codes tell of, if each is valid.
+/// Adds the box 1.1 and the changes with these codes, if each is valid.
 fn fill(alloc: Global, site: &mut Site, codes: &[u32]) -> Option<()> {
     add(site, create(1, 1, [0; 8], Form::Rect(10, 10)))?;
     for code in codes {
@@ -53,8 +53,8 @@ pub(crate) fn agrees(alloc: Global, site: &Site) -> bool {
     }
 }
 
-/// How many operations the history of these codes has, whose groups are as they should be; 0 where
-/// there is no such history.
+/// How many operations the history of these codes has, whose groups are as they should be. The
+/// answer is 0 where there is no history of these codes.
 fn tried(alloc: Global, codes: &[u32]) -> Result<usize, Fail> {
     let mut site = Site::new(alloc, 1);
     if fill(alloc, &mut site, codes).is_none() {

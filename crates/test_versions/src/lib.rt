@@ -1,5 +1,5 @@
-//! Worked examples of what a history means, by public calls alone: groups and versions, as tables of
-//! commands with their answers.
+//! Worked examples of what a history means, by public calls alone: groups and versions. They are
+//! tables of commands with their answers.
 #![tactic(auto)]
 
 #[cfg(test)]

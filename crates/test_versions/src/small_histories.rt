@@ -10,8 +10,8 @@ use test_kit::{BLUE, GREEN, changed, create};
 
 const BOX: OpId = OpId { site: 1, seq: 1 };
 
-/// The change of the box 1.1 that a code below 20 tells of: site 1 or 2 gives it one of two colours
-/// and knows so many operations of the other site.
+/// The change of the box 1.1 with a code below 20: either site gives it one of two colours. The
+/// change knows a number of operations of the other site.
 fn coded(alloc: Global, code: u32, history: &History) -> Op {
     let colour = if code / 2 % 2 == 0 { BLUE } else { GREEN };
     let known = code / 4 % 5;
@@ -38,7 +38,7 @@ fn adds(history: &mut History, op: Op) -> Result<bool, AddFault> {
     Ok(true)
 }
 
-/// The history of the box 1.1 and the changes that the codes tell of, if it is valid.
+/// The history of the box 1.1 and the changes with these codes, if it is valid.
 fn small(alloc: Global, codes: &[u32]) -> Result<Option<History>, AddFault> {
     let mut history = History::new(alloc);
     adds(&mut history, create(1, 1, [0; 8], Form::Rect(10, 10)))?;
@@ -94,8 +94,8 @@ fn version(alloc: Global, ops: &[Op], set: u32) -> Option<String> {
     Some(text)
 }
 
-/// How many versions the box has, found by trying all sets of at most five operations; nothing where
-/// a version is missing in the text.
+/// How many versions the box has, found by trying all sets of at most five operations. Nothing
+/// where a version is missing in the text.
 fn found(alloc: Global, ops: &[Op], text: &str) -> Option<usize> {
     let mut count: usize = 0;
     for set in 0..32 {
@@ -117,8 +117,8 @@ fn agrees(alloc: Global, history: &History) -> Option<bool> {
     Some(found == Some(groups.as_slice().len()))
 }
 
-/// How many operations the history of these codes has, whose groups are its versions; 0 where there
-/// is no such history.
+/// How many operations the history of these codes has, whose groups are its versions. The answer is
+/// 0 where there is no history of these codes.
 fn tried(alloc: Global, codes: &[u32]) -> Result<usize, Fail> {
     let Some(history) = small(alloc, codes)? else {
         return Ok(0);

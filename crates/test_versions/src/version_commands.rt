@@ -1,4 +1,5 @@
-//! Commands about the versions of a history: its groups, how they are ranked, and what they look like.
+//! Commands about the versions of a history: its groups, how they are ranked, and what they look
+//! like.
 
 use gf_groups::{GroupFault, Groups, all_groups, groups_of};
 use gf_ops::{Form, History, ObjectId, OpId};
@@ -26,7 +27,7 @@ fn are_of(groups: &Groups, object: ObjectId) -> bool {
     true
 }
 
-/// How many they are.
+/// How many groups an object has.
 pub(crate) fn versions(alloc: Global, history: &History, text: &str) -> Option<String> {
     let groups = groups_of(alloc, history, ObjectId(id(text)?)).ok()?;
     format!(in alloc; "{}", groups.as_slice().len()).ok()
@@ -37,7 +38,7 @@ pub(crate) fn all(alloc: Global, history: &History) -> Option<String> {
     text_of(alloc, &all_groups(alloc, history).ok()?)
 }
 
-/// How many they are.
+/// How many groups all objects have.
 pub(crate) fn total(alloc: Global, history: &History) -> Option<String> {
     let groups = all_groups(alloc, history).ok()?;
     format!(in alloc; "{}", groups.as_slice().len()).ok()

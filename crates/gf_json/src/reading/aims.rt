@@ -22,7 +22,7 @@ pub(crate) fn ids(alloc: Global, value: &Value) -> Result<Ids, LineError>
     ids_of(alloc, elements(value)?)
 }
 
-/// The ids of the elements of an array. Their order is of the form: it comes before the limits.
+/// The ids of the elements of an array. A wrong order is a fault of form, before those of limits.
 fn ids_of(alloc: Global, values: &[Value]) -> Result<Ids, LineError>
     ensures value { (result ≡ Err LineError.OutOfMemory)
         ⊎ (result ≡ ids_of (elements (items_view values.now))) }
@@ -91,7 +91,8 @@ fn pair_less(first: (i64, i64), second: (i64, i64)) -> bool
     first.0 < second.0 || first.0 == second.0 && first.1 < second.1
 }
 
-/// The ids that the values name. Their form is right, so that a fault is of a limit or of memory.
+/// The ids that the values name. The form of the values is right, so a fault is one of limits or of
+/// memory.
 fn names(alloc: Global, values: &[Value]) -> Result<Vec<OpId>, LineError>
     requires { IsTrue (rising (each numbers (elements (items_view values.now)))) }
     ensures { (result ≡ Err LineError.OutOfMemory)

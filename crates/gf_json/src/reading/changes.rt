@@ -1,4 +1,4 @@
-//! The change that a line tells of.
+//! The change that a line denotes.
 
 ghost use Rattle.std.specs.Prelude.{◌≡◌, ◌≤◌, ◌⊎◌, ◌&&◌, [], Ok, Err, IfOk, IsTrue};
 ghost use Rattle.serde_json.specs.View.{view};
@@ -22,9 +22,9 @@ use gf_shape::Rgb;
 use serde_json::Value;
 use std::alloc::Global;
 
-/// The change of a line whose verb stands at this key, and which has so many keys beside those of
-/// the change. Which line it is shows in how many keys it has and in its words: a key that is not
-/// there is a fault of form where it is read.
+/// The change of a line with its verb at this key, and this many keys beside those of the change.
+/// The number of keys and the words show which line it is. A missing key is a fault of form where
+/// it is read.
 pub(crate) fn change(
     alloc: Global,
     line: &Value,

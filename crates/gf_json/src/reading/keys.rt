@@ -8,7 +8,7 @@ ghost use Rattle.gf_json.specs.ReadChanges.{tells};
 
 use serde_json::Value;
 
-/// Whether the line has so many keys, and this word as its verb.
+/// Whether the line has this many keys, and this word as its verb.
 pub(crate) fn tells(line: &Value, count: usize, verb: &str, word: &str) -> bool
     ensures { result ≡ tells count verb.now word.now (view line.now) }
 {

@@ -15,7 +15,7 @@ use gf_ops::{Form, Ids, ObjectId, Start};
 use serde_json::{Map, Value, put};
 use std::alloc::{AllocError, Global};
 
-/// What the line of each new object has.
+/// Puts the members that the line of each new object has.
 pub(crate) fn put_look(
     alloc: Global,
     members: &mut Map<String, Value>,
@@ -74,7 +74,7 @@ fn put_shape(
     put(members, alloc, key, shape)
 }
 
-/// What the line of each change to an attribute has.
+/// Puts the members that each line of a change to an attribute has.
 pub(crate) fn put_setting(
     alloc: Global,
     members: &mut Map<String, Value>,

@@ -65,8 +65,7 @@ is_on_edge-upright p x a b = elim (cases_Bool (is_between x p.x x)) [
   | inr h ↦ rw (h, and-false)
 ]
 
--- an upright edge that climbs past the height of a point crosses its ray to the left exactly if the
--- point is past the edge
+-- where an upright edge climbs past p, the ray to the left crosses it exactly if p is past it
 climbs-past : (p : Point) (x a b : ℤ) → int_le a p.y ≡ true → int_le b p.y ≡ false
     → int_lt (side (at x a, at x b) p) (pos 0) ≡ not (int_le p.x x)
 climbs-past p x a b h l =
@@ -89,7 +88,7 @@ falls-past p x a b h l =
     (omega (arith, ints)) in grind (arith, ints))
     (λ from. let s = side-upright p x a b (omega (arith, ints)) in rw s (grind (arith, ints))))
 
--- one is true and the other is not
+-- one of the two tests is true and the other is not
 abbrev differ : Bool → Bool → Bool
 differ a b = (a && not b) || (b && not a)
 

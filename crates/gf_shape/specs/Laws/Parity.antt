@@ -1,5 +1,5 @@
--- Off the edges of a closed ring, the ray to the right crosses an even number of edges exactly if
--- the ray to the left does. No public clause cites this module.
+-- Off the edges of a closed ring, the rays to the left and right cross equally many edges modulo 2.
+-- No public clause cites this module.
 use Rattle.std.specs.Prelude.{◌≡◌, ℕ, ◌+◌, ◌%◌, take, nat_eq, Bool, true, false}
 use Rattle.std.specs.Prelude.{not, cond, ◌&&◌, ◌||◌, List, [], ◌∷◌, ◌++◌, zip}
 use Rattle.std.specs.Prelude.{count_by, pos, int_le, int_lt, refl}
@@ -38,7 +38,7 @@ edge_even : (d a b : Point) → is_on_edge d (a, b) ≡ false
 edge_even d a b off = bits_even (int_le a.y d.y) (int_le b.y d.y) (int_lt (pos 0) (side (a, b) d))
     (int_lt (side (a, b) d) (pos 0)) (side_strict d a b off)
 
--- over a row of edges from a to z
+-- off a path from a to z, the crossings of both rays and the ends up to d are even
 path_even : (d a z : Point) (ps : List Point)
     → list_any (is_on_edge d) (zip (a ∷ ps) (ps ++ z ∷ [])) ≡ false
     → (count_by (crosses_right d) (zip (a ∷ ps) (ps ++ z ∷ [])) + count_by (crosses_left d)
@@ -59,7 +59,7 @@ same_or : (t b c : Bool) → (t ≡ false → b ≡ c) → (t || b) ≡ (t || c)
 same_or true b c h = refl
 same_or false b c h = h refl
 
--- the edges of an open row whose last point is written again are those of the row
+-- the edges of an open path whose last point is written again are those of the path
 edges_again : (a z : Point) (ps : List Point)
     → zip (a ∷ (ps ++ z ∷ [])) (ps ++ z ∷ []) ≡ zip (a ∷ ps) (ps ++ z ∷ [])
 edges_again a z [] = refl

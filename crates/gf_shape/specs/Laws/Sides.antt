@@ -1,5 +1,5 @@
--- On which side of an edge a point lies: strictly on one of an edge that passes its height and is
--- off it. No public clause cites this module.
+-- A point off an edge that passes its height lies strictly on one side of it. No public clause
+-- cites this module.
 use Rattle.std.specs.Prelude.{◌≡◌, ℕ, zero, suc, ◌+◌, ◌*◌, ◌≤◌, ◌<◌, Bool}
 use Rattle.std.specs.Prelude.{true, false, ◌&&◌, ◌⊎◌, ℤ, pos, negsuc, ◌-ℤ◌}
 use Rattle.std.specs.Prelude.{◌*ℤ◌, ◌≤ℤ◌, ◌<ℤ◌, int_le, int_lt}

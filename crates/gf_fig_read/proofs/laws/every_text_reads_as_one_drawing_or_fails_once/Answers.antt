@@ -14,8 +14,8 @@ returns-clause-one_fault c = one_fault
 pub returns-clause-not_both : goal.returns-clause-not_both
 returns-clause-not_both c = not_both
 
-pub returns-clause-prefix : goal.returns-clause-prefix
-returns-clause-prefix c = front_has_no_object
+pub returns-clause-header : goal.returns-clause-header
+returns-clause-header c = front_has_no_object
 
 pub returns-clause-memory : goal.returns-clause-memory
 returns-clause-memory c = memory_is_no_fault

@@ -5,7 +5,7 @@ use Rattle.gf_json.specs.LineLimits.{point}
 use Rattle.gf_json.specs.CheckedPoints.{checked}
 use Rattle.gf_json.proofs.reading.points.are_points.Given as goal
 
--- those from the first that is left to check on are checked
+-- what is found is the check of the points from the first on that is left to check
 abbrev pub invariant-loop-left : goal.invariant-loop-left
 invariant-loop-left l = record {
   within : l.left ≤ length l.values;

@@ -1,4 +1,4 @@
-use Rattle.std.proofs.Common.{arith, rules, ◌<◌}
+use Rattle.std.proofs.Common.{rules, ◌<◌}
 use Rattle.gf_shape.proofs.OvalLemmas.{IsBounds-oval}
 use Rattle.gf_shape.proofs.oval.Oval.bounds.Goals as goal
 
