@@ -1,6 +1,6 @@
 -- A picture, band by band, and what is written of it.
 use Rattle.std.specs.Prelude.{ℕ, ◌≡◌, ◌≤◌, ◌<◌, ◌+◌, ◌-◌, ◌*◌, ◌/◌, ◌%◌, min, List, ◌++◌, length, take, Option}
-use Rattle.std.proofs.Common.{arith, ap, append-nil, append_assoc, sym, ◌∙◌}
+use Rattle.std.proofs.Common.{arith, ap, append-nil, append_assoc, sym, refl, ◌∙◌}
 use Rattle.std.specs.Io.KnownBytes.{Appends}
 use Rattle.std.proofs.KnownBytes.{Appends-trans}
 use Rattle.std.proofs.lemmas.List.{length-append, take-append-le}
@@ -12,6 +12,8 @@ use Rattle.gf_scanline.proofs.RangeLemmas.{ranged_more}
 use Rattle.gf_scanline.specs.Pixels.{pixel}
 use Rattle.gf_scanline.specs.Picture.{cells, rows}
 use Rattle.gf_scanline.specs.Windows.{View, sample}
+use Rattle.gf_raster.specs.declared.shown_rows.ShownRows.{ShownRows}
+use Rattle.gf_raster.specs.Rows.{AreBand, bytes_of}
 use Rattle.gf_raster.specs.Shares.{cut, run}
 use Rattle.gf_raster.proofs.ShareLemmas.{cut_more}
 
@@ -77,6 +79,20 @@ begins height i l = omega arith
 -- this many bands are all rows
 pub ends : (height i : ℕ) → height / 64 + min 1 (height % 64) ≤ i → min (64 * i) height ≡ height
 ends height i l = omega arith
+
+-- the bytes of a band
+pub band_bytes : (colour : Point → Rgb) (w : View) (n : ℕ) (shown : ShownRows) → AreBand colour w n shown → bytes_of colour shown ≡ rows colour w n (min 64 (w.height - n))
+band_bytes colour w n shown a = rw (a.window, a.top, a.count) refl
+
+-- a band that was found begins before the end
+pub band_begins : (colour : Point → Rgb) (w : View) (i : ℕ) (shown : ShownRows) → AreBand colour w (64 * i) shown → i < w.height / 64 + min 1 (w.height % 64) → shown.top < shown.window.height
+band_begins colour w i shown a l = rw (a.window, a.top) (begins w.height i l)
+
+-- the band behind one
+pub band_behind : (colour : Point → Rgb) (w : View) (i : ℕ) (shown next : ShownRows) → AreBand colour w (64 * i) shown → AreBand colour shown.window (shown.top + 64) next → AreBand colour w (64 * (i + 1)) next
+band_behind colour w i shown next a b =
+    let more : 64 * i + 64 ≡ 64 * (i + 1) = omega arith in
+    rw (a.window, a.top, more) at b
 
 -- a front of what comes next, behind what came, is a front of all
 pub front_more : (a b c : Option (List ℕ)) (xs ys whole rest : List ℕ) → whole ≡ xs ++ (ys ++ rest) → Appends a b xs → AppendsPrefix b c ys → AppendsPrefix a c whole

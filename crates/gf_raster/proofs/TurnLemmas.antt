@@ -1,6 +1,6 @@
 -- The turns of workers: their columns side by side, and their shares one below the other.
 use Rattle.std.specs.Prelude.{ℕ, zero, suc, ◌≡◌, ◌≤◌, ◌<◌, ◌+◌, ◌*◌, min, Bool, List, [], ◌∷◌, ◌++◌, map, Vec, Result, Ok}
-use Rattle.std.specs.Prelude.{IfOk, None, Some, Option, length, slice_index_or}
+use Rattle.std.specs.Prelude.{None, Some, Option, length, slice_index_or}
 use Rattle.std.specs.List.{flat_map}
 use Rattle.std.proofs.Common.{arith, ap, sym, subst, refl, Global, Bor, length-append, ◌∙◌}
 use Rattle.std.proofs.lemmas.List.{get_or-map, length-map}
@@ -13,7 +13,8 @@ use Rattle.gf_scanline.specs.Layers.{layered}
 use Rattle.gf_scanline.specs.Parts.{PartView}
 use Rattle.gf_scanline.specs.Picture.{ShowsRow, cells}
 use Rattle.gf_raster.specs.declared.rounds.Turn.{Turn}
-use Rattle.gf_raster.specs.Rows.{AreFound, AreRows, AreShareOf}
+use Rattle.gf_raster.specs.declared.shown_rows.ShownRows.{ShownRows}
+use Rattle.gf_raster.specs.Rows.{AreFound, AreRows, ShowsRows}
 use Rattle.gf_raster.specs.Shares.{cut, parts, run, stride}
 use Rattle.gf_raster.specs.Turns.{AreColumns, AreTaken, AreTurns, HaveLines}
 use Rattle.gf_raster.proofs.ShareLemmas.{cut_more, shared}
@@ -64,9 +65,9 @@ none_found : (ts : List Turn) → ((i : ℕ) (d : Turn) → i < length ts → (s
 none_found [] h = refl
 none_found (t ∷ ts) h = rw (h zero t (omega arith), none_found ts (λ i d l. h (suc i) d (omega (arith, l)))) refl
 
-module _ {S : Type 0} (holds : S → Point → Bool) (w : View) (top : ℕ) (rows : List (Vec Stroke Global)) (next : Option (Bor (PartView S))) (workers : ℕ) where
+module _ {S : Type 0} (holds : S → Point → Bool) (shown : ShownRows) (next : Option (Bor (PartView S))) (workers : ℕ) where
   -- turns that were taken
-  pub taken : (results : List (Result Turn OutOfMemory)) (turns : List Turn) → AreTaken holds w top rows next workers results → length results ≡ workers → results ≡ map Ok turns → AreTurns holds w top rows next workers turns
+  pub taken : (results : List (Result Turn OutOfMemory)) (turns : List Turn) → AreTaken holds shown next workers results → length results ≡ workers → results ≡ map Ok turns → AreTurns holds shown next workers turns
   taken results turns h n e =
       let count : length turns ≡ workers = sym (length-map {A = Turn} {B = Result Turn OutOfMemory} turns Ok) ∙ (ap length (sym e) ∙ n) in
       record {
@@ -75,24 +76,24 @@ module _ {S : Type 0} (holds : S → Point → Bool) (w : View) (top : ℕ) (row
       }
 
   -- each worker has a piece of each row
-  pub lines_of : (turns : List Turn) → AreTurns holds w top rows next workers turns → HaveLines (length rows) turns
+  pub lines_of : (turns : List Turn) → AreTurns holds shown next workers turns → HaveLines (length shown.strokes.items) turns
   lines_of turns a = λ k d l. (a.each k d l).lines
 
   -- the workers' columns of a row
-  pub columns_of : (colour : Point → Rgb) (turns : List Turn) (i : ℕ) → AreTurns holds w top rows next workers turns → AreRows colour w top rows → i < length rows → AreColumns colour w (top + i) i (stride w workers) turns
+  pub columns_of : (colour : Point → Rgb) (turns : List Turn) (i : ℕ) → AreTurns holds shown next workers turns → ShowsRows colour shown → i < length shown.strokes.items → AreColumns colour shown.window (shown.top + i) i (stride shown.window workers) turns
   columns_of colour turns i a h l = λ k d e m. (a.each k d m).pieces colour h i e (rw (a.each k d m).lines l)
 
 -- the workers found all rows
-pub found_of : {S : Type 0} (holds : S → Point → Bool) (w : View) (top : ℕ) (rows : List (Vec Stroke Global)) (next : Option (Bor (PartView S))) (workers : ℕ) (turns : List Turn) → 1 ≤ workers → AreTurns holds w top rows next workers turns → AreFound holds next (flat_map (λ (t : Turn). t.rows.items) turns)
-found_of holds w top rows None workers turns l a = none_found turns (λ i d m. (a.each i d m).found)
-found_of holds w top rows (Some p) workers turns l a =
-    let count = p.now.count in
+pub found_of : {S : Type 0} (holds : S → Point → Bool) (shown : ShownRows) (next : Option (Bor (PartView S))) (workers : ℕ) (turns : List Turn) → 1 ≤ workers → AreTurns holds shown next workers turns → AreFound holds next (flat_map (λ (t : Turn). t.rows.items) turns)
+found_of holds shown None workers turns l a = none_found turns (λ i d m. (a.each i d m).found)
+found_of holds shown (Some p) workers turns l a =
+    let count = p.now.band.count in
     let size = parts count workers in
     let found = flat_map (λ (t : Turn). t.rows.items) turns in
-    let all = shares_from (layered holds p.now.layers) p.now.window p.now.top count size 0 turns (λ i d m. let e : 0 + i ≡ i = omega arith in rw e (a.each i d m).found) in
+    let all = shares_from (layered holds p.now.layers) p.now.band.window p.now.band.top count size 0 turns (λ i d m. let e : 0 + i ≡ i = omega arith in rw e (a.each i d m).found) in
     let end : 0 + length turns ≡ workers = omega (arith, a.count) in (
       whole (length found) (cut count size 0) count (nothing size count) ((rw end at all.0) ∙ shared count workers l),
-      subst (λ n. AreRows (layered holds p.now.layers) p.now.window n found) (still p.now.top (cut count size 0) (nothing size count)) all.1,
+      subst (λ n. AreRows (layered holds p.now.layers) p.now.band.window n found) (still p.now.band.top (cut count size 0) (nothing size count)) all.1,
     )
   where
     nothing : (s n : ℕ) → min (0 * s) n ≡ 0

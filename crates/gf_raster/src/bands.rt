@@ -1,16 +1,15 @@
-//! Bands of rows, one after another.
+//! Bands of 64 rows, one after another.
 
-ghost use Rattle.std.specs.Prelude.{◌≡◌, ◌*◌, ◌+◌, ◌-◌, ◌<◌, ◌≤◌, ◌++◌, IfOk, OnOk, IfSome, None};
-ghost use Rattle.std.specs.Prelude.{min};
+ghost use Rattle.std.specs.Prelude.{◌≡◌, ◌+◌, ◌-◌, ◌<◌, ◌≤◌, ◌++◌, IfOk, OnOk, IfSome, None, min};
 ghost use Rattle.gf_scanline.specs.Layers.{layered};
-ghost use Rattle.gf_scanline.specs.Picture.{rows};
-ghost use Rattle.gf_raster.specs.Rows.{AreBand};
+ghost use Rattle.gf_raster.specs.Rows.{AreBand, ShowsRows, bytes_of};
 
 use crate::Gate;
 use crate::crew::Crew;
 use crate::rounds::round;
+use crate::shown_rows::ShownRows;
 use crate::tiles::TILE;
-use gf_scanline::{Layers, Part, Stroke, Window};
+use gf_scanline::{Band, Layers, Part, Window};
 use gf_shape::{OutOfMemory, Shape};
 use std::alloc::Global;
 use std::thread::Threads;
@@ -20,35 +19,53 @@ pub(crate) fn first_band<'l, S: Shape + Sync, R: Threads + Sync, G: Gate + Sync>
     crew: &Crew<'_, R, G>,
     layers: &'l Layers<'_, S>,
     window: Window,
-) -> Result<Vec<Vec<Stroke<'l>>>, OutOfMemory>
-    ensures { IfOk result (λ rows. AreBand (layered S.holds layers.now) window 0 rows.items) }
+) -> Result<ShownRows<'l>, OutOfMemory>
+    ensures { IfOk result (AreBand (layered S.holds layers.now) window 0) }
 {
+    let above = ShownRows {
+        window,
+        top: 0,
+        strokes: Vec::new(crew.alloc),
+    };
     let part = part(crew.alloc, layers, window, 0)?;
     let mut bytes = Vec::new(crew.alloc);
-    round(crew, window, 0, &[], part.as_ref(), &mut bytes)
+    let strokes = round(crew, &above, part.as_ref(), &mut bytes)?;
+    Ok(ShownRows {
+        window,
+        top: 0,
+        strokes,
+    })
 }
 
-/// Adds the bytes of band `index`, which shows `strokes`. The answer is what the next band shows.
+/// Adds the bytes of a band, of which `shown` has the strokes. The answer is what the next band
+/// shows.
 pub(crate) fn band<'l, S: Shape + Sync, R: Threads + Sync, G: Gate + Sync>(
     crew: &Crew<'_, R, G>,
     layers: &'l Layers<'_, S>,
-    window: Window,
-    index: usize,
-    strokes: &[Vec<Stroke<'_>>],
+    shown: &ShownRows<'_>,
     bytes: &mut Vec<u8>,
-) -> Result<Vec<Vec<Stroke<'l>>>, OutOfMemory>
-    requires index { 64 * index < window.height }
-    requires strokes { AreBand (layered S.holds layers.now) window index strokes.now }
-    ensures bytes { OnOk result (bytes.new.items ≡ bytes.old.items ++ rows
-        (layered S.holds layers.now) window (64 * index) (min 64 (window.height - 64 * index))) }
-    ensures next { IfOk result (λ next.
-        AreBand (layered S.holds layers.now) window (index + 1) next.items) }
+) -> Result<ShownRows<'l>, OutOfMemory>
+    requires top { shown.now.top < shown.now.window.height }
+    requires shown { ShowsRows (layered S.holds layers.now) shown.now }
+    ensures bytes { OnOk result (bytes.new.items
+        ≡ bytes.old.items ++ bytes_of (layered S.holds layers.now) shown.now) }
+    ensures next { IfOk result
+        (AreBand (layered S.holds layers.now) shown.now.window (shown.now.top + 64)) }
 {
-    let next = part(crew.alloc, layers, window, TILE * (index + 1))?;
-    round(crew, window, TILE * index, strokes, next.as_ref(), bytes)
+    let window = shown.window;
+    // The clause of `height` says that the rows are few.
+    let _ = window.height();
+    let top = shown.top + TILE;
+    let next = part(crew.alloc, layers, window, top)?;
+    let strokes = round(crew, shown, next.as_ref(), bytes)?;
+    Ok(ShownRows {
+        window,
+        top,
+        strokes,
+    })
 }
 
-/// The layers of the band from row `top` on, where there is one.
+/// What the band from row `top` on has of layers, where there is one.
 fn part<'l, 'a, S: Shape>(
     alloc: Global,
     layers: &'l Layers<'a, S>,
@@ -57,9 +74,7 @@ fn part<'l, 'a, S: Shape>(
 ) -> Result<Option<Part<'l, 'a, S>>, OutOfMemory>
     ensures some { IfOk result (λ found. IfSome found (λ part. part ≡ record {
       layers = layers.now;
-      window = window;
-      top = top;
-      count = min 64 (window.height - top);
+      band = record { window = window; top = top; count = min 64 (window.height - top) };
     })) }
     ensures none { IfOk result (λ found. found ≡ None → window.height ≤ top) }
 {
@@ -67,6 +82,7 @@ fn part<'l, 'a, S: Shape>(
     if height <= top {
         return Ok(None);
     }
-    let part = layers.part(alloc, window, top, TILE.min(height - top))?;
+    let band = Band::new(window, top, TILE.min(height - top));
+    let part = layers.part(alloc, band)?;
     Ok(Some(part))
 }

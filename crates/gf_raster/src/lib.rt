@@ -13,6 +13,7 @@ mod painting;
 mod ppm;
 mod rounds;
 mod rows;
+mod shown_rows;
 mod tiles;
 
 pub use gf_gate::{Gate, OpenGate};

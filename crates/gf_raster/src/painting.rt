@@ -80,9 +80,9 @@ fn paint_all<S: Shape + Sync, G: Gate + Sync, R: Threads + Sync>(
 {
     let height = window.height() as usize;
     let mut bytes = Vec::with_capacity(crew.alloc, 3 * window.width() as usize * height)?;
-    let mut rows = first_band(crew, layers, window)?;
+    let mut shown = first_band(crew, layers, window)?;
     for index in 0..height.div_ceil(TILE) {
-        rows = band(crew, layers, window, index, &rows, &mut bytes)?;
+        shown = band(crew, layers, &shown, &mut bytes)?;
     }
     Ok(bytes)
 }

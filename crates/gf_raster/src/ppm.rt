@@ -1,23 +1,23 @@
 //! The whole picture, written.
 
-ghost use Rattle.std.specs.Prelude.{◌≡◌, ℕ, ◌+◌, ◌-◌, ◌*◌, ◌<◌, ◌≤◌, min, ◌⊎◌, [], IsTrue, IfOk};
-ghost use Rattle.std.specs.Prelude.{OnOk, Err};
+ghost use Rattle.std.specs.Prelude.{◌≡◌, ℕ, ◌+◌, ◌<◌, ◌≤◌, ◌⊎◌, [], IsTrue, IfOk, OnOk, Err};
 ghost use Rattle.std.specs.Io.KnownBytes.{Appends};
 ghost use Rattle.gf_streams.specs.Counts.{Rises};
 ghost use Rattle.gf_streams.specs.Taken.{AppendsPrefix};
 ghost use Rattle.gf_drawing.specs.DrawingColour.{drawing_colour};
 ghost use Rattle.gf_scanline.specs.Layers.{layered};
-ghost use Rattle.gf_scanline.specs.Picture.{header, picture, raster, rows};
+ghost use Rattle.gf_scanline.specs.Picture.{header, picture, raster};
 ghost use Rattle.gf_raster.specs.Bands.{HasBands};
-ghost use Rattle.gf_raster.specs.Rows.{AreBand};
+ghost use Rattle.gf_raster.specs.Rows.{AreBand, ShowsRows, bytes_of};
 
 use crate::Gate;
 use crate::bands::{band, first_band};
 use crate::crew::Crew;
+use crate::shown_rows::ShownRows;
 use crate::tiles::TILE;
 use gf_digits::push_number;
 use gf_drawing::Drawing;
-use gf_scanline::{Layers, Stroke, Window};
+use gf_scanline::{Layers, Window};
 use gf_shape::Shape;
 use gf_streams::{Sink, WriteError, write_all};
 use std::alloc::{AllocError, Global};
@@ -99,43 +99,41 @@ fn write_bands<S: Shape + Sync, G: Gate + Sync, R: Threads + Sync, W: Sink>(
         → Rises (W.failures sink.old) (W.failures sink.new) }
 {
     let height = window.height() as usize;
-    let Ok(mut rows) = first_band(crew, layers, window) else {
+    let Ok(mut shown) = first_band(crew, layers, window) else {
         return Err(WriteError::OutOfMemory);
     };
     let mut bytes = Vec::new(crew.alloc);
     for index in 0..height.div_ceil(TILE) {
         bytes.clear();
-        rows = write_band(crew, layers, window, index, &rows, &mut bytes, sink)?;
+        shown = write_band(crew, layers, &shown, &mut bytes, sink)?;
     }
     Ok(())
 }
 
-/// Writes the rows of band `index`, which shows `strokes`. The answer is what the next band shows.
+/// Writes a band, of which `shown` has the strokes. The answer is what the next band shows.
 fn write_band<'l, S: Shape + Sync, G: Gate + Sync, R: Threads + Sync, W: Sink>(
     crew: &Crew<'_, R, G>,
     layers: &'l Layers<'_, S>,
-    window: Window,
-    index: usize,
-    strokes: &[Vec<Stroke<'_>>],
+    shown: &ShownRows<'_>,
     bytes: &mut Vec<u8>,
     sink: &mut W,
-) -> Result<Vec<Vec<Stroke<'l>>>, WriteError>
-    requires index { 64 * index < window.height }
-    requires strokes { AreBand (layered S.holds layers.now) window index strokes.now }
+) -> Result<ShownRows<'l>, WriteError>
+    requires top { shown.now.top < shown.now.window.height }
+    requires shown { ShowsRows (layered S.holds layers.now) shown.now }
     requires empty { bytes.old.items ≡ [] }
-    ensures next { IfOk result (λ next.
-        AreBand (layered S.holds layers.now) window (index + 1) next.items) }
-    ensures whole { OnOk result (Appends (W.taken sink.old) (W.taken sink.new) (rows
-        (layered S.holds layers.now) window (64 * index) (min 64 (window.height - 64 * index)))) }
+    ensures next { IfOk result
+        (AreBand (layered S.holds layers.now) shown.now.window (shown.now.top + 64)) }
+    ensures whole { OnOk result (Appends (W.taken sink.old) (W.taken sink.new)
+        (bytes_of (layered S.holds layers.now) shown.now)) }
     ensures unfailed { OnOk result (W.failures sink.new ≡ W.failures sink.old) }
     ensures memory { result ≡ Err WriteError.OutOfMemory → sink.new ≡ sink.old }
     ensures prefix { result ≡ Err WriteError.WriteFailed
-        → AppendsPrefix (W.taken sink.old) (W.taken sink.new) (rows
-        (layered S.holds layers.now) window (64 * index) (min 64 (window.height - 64 * index))) }
+        → AppendsPrefix (W.taken sink.old) (W.taken sink.new)
+        (bytes_of (layered S.holds layers.now) shown.now) }
     ensures failed { result ≡ Err WriteError.WriteFailed
         → Rises (W.failures sink.old) (W.failures sink.new) }
 {
-    let Ok(next) = band(crew, layers, window, index, strokes, bytes) else {
+    let Ok(next) = band(crew, layers, shown, bytes) else {
         return Err(WriteError::OutOfMemory);
     };
     write_all(sink, bytes)?;

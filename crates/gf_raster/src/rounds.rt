@@ -1,18 +1,18 @@
 //! Rounds: in each the workers fill a band, and find what the next one shows.
 
-ghost use Rattle.std.specs.Prelude.{◌≡◌, ℕ, ◌<◌, ◌≤◌, ◌++◌, OnOk, IfOk, length, vec_len};
+ghost use Rattle.std.specs.Prelude.{◌≡◌, ◌++◌, OnOk, IfOk, vec_len};
 ghost use Rattle.gf_shape.specs.declared.colour.Rgb.{Rgb};
 ghost use Rattle.gf_shape.specs.declared.point.Point.{Point};
-ghost use Rattle.gf_scanline.specs.Picture.{rows};
-ghost use Rattle.gf_raster.specs.Rows.{AreFound, AreRows};
+ghost use Rattle.gf_raster.specs.Rows.{AreFound, ShowsRows, bytes_of};
 ghost use Rattle.gf_raster.specs.Turns.{AreTaken, AreTurns, IsTurn};
 
 use crate::Gate;
 use crate::crew::Crew;
 use crate::gathering::{all_taken, gather, joined};
 use crate::rows::{all_found, share_found};
+use crate::shown_rows::ShownRows;
 use crate::tiles::{fill_all, pieces};
-use gf_scanline::{Part, Stroke, Window};
+use gf_scanline::{Part, Stroke};
 use gf_shape::{OutOfMemory, Shape};
 use std::thread;
 use std::thread::Threads;
@@ -33,40 +33,37 @@ pub(crate) struct Turn<'l> {
     pub rows: Vec<Vec<Stroke<'l>>>,
 }
 
-/// Adds the bytes of the rows from `top` on, and finds what the rows of a part show, if any. For no
+/// Adds the bytes of rows that were found, and finds what the rows of a part show, if any. For no
 /// rows no gate is passed.
 ///
 /// All workers take part where the gate may let them wait, or where the work is worth threads. Else
 /// the caller passes for all tiles, as worker 1.
 pub(crate) fn round<'l, S: Shape + Sync, R: Threads + Sync, G: Gate + Sync>(
     crew: &Crew<'_, R, G>,
-    window: Window,
-    top: usize,
-    strokes: &[Vec<Stroke<'_>>],
+    shown: &ShownRows<'_>,
     next: Option<&Part<'l, '_, S>>,
     bytes: &mut Vec<u8>,
 ) -> Result<Vec<Vec<Stroke<'l>>>, OutOfMemory>
-    requires { top < window.height }
-    ensures bytes { OnOk result ((colour : Point → Rgb) → AreRows colour window top strokes.now
-        → bytes.new.items ≡ bytes.old.items ++ rows colour window top (length strokes.now)) }
+    ensures bytes { OnOk result ((colour : Point → Rgb) → ShowsRows colour shown.now
+        → bytes.new.items ≡ bytes.old.items ++ bytes_of colour shown.now) }
     ensures next { IfOk result (λ found. AreFound S.holds next.entry found.items) }
 {
-    if crew.workers == 1 || !crew.gate.may_wait() && work(strokes, next) < WORTH {
-        fill_all(crew, window, top, strokes, bytes)?;
+    if crew.workers == 1 || !crew.gate.may_wait() && work(shown, next) < WORTH {
+        fill_all(crew, shown, bytes)?;
         all_found(crew.alloc, next)
     } else {
-        shared_round(crew, window, top, strokes, next, bytes)
+        shared_round(crew, shown, next, bytes)
     }
 }
 
 /// How many visits it takes to find all rows of a part, with as many strokes as the rows above.
 /// Nothing is proved of this measure.
-fn work<S: Shape>(strokes: &[Vec<Stroke<'_>>], next: Option<&Part<'_, '_, S>>) -> usize {
+fn work<S: Shape>(shown: &ShownRows<'_>, next: Option<&Part<'_, '_, S>>) -> usize {
     match next {
         Some(part) => part
             .count()
             .saturating_mul(part.size())
-            .saturating_add(count(strokes).saturating_mul(STROKE)),
+            .saturating_add(count(&shown.strokes).saturating_mul(STROKE)),
         None => 0,
     }
 }
@@ -83,19 +80,16 @@ fn count(strokes: &[Vec<Stroke<'_>>]) -> usize {
 /// The round of all workers, each of whom takes a turn.
 fn shared_round<'l, S: Shape + Sync, R: Threads + Sync, G: Gate + Sync>(
     crew: &Crew<'_, R, G>,
-    window: Window,
-    top: usize,
-    strokes: &[Vec<Stroke<'_>>],
+    shown: &ShownRows<'_>,
     next: Option<&Part<'l, '_, S>>,
     bytes: &mut Vec<u8>,
 ) -> Result<Vec<Vec<Stroke<'l>>>, OutOfMemory>
-    requires { top < window.height }
-    ensures bytes { OnOk result ((colour : Point → Rgb) → AreRows colour window top strokes.now
-        → bytes.new.items ≡ bytes.old.items ++ rows colour window top (length strokes.now)) }
+    ensures bytes { OnOk result ((colour : Point → Rgb) → ShowsRows colour shown.now
+        → bytes.new.items ≡ bytes.old.items ++ bytes_of colour shown.now) }
     ensures next { IfOk result (λ found. AreFound S.holds next.entry found.items) }
 {
-    let turns = turns(crew, window, top, strokes, next)?;
-    gather(&turns, strokes.len(), bytes)?;
+    let turns = turns(crew, shown, next)?;
+    gather(&turns, shown.strokes.len(), bytes)?;
     let found = joined(crew.alloc, turns)?;
     Ok(found)
 }
@@ -103,16 +97,13 @@ fn shared_round<'l, S: Shape + Sync, R: Threads + Sync, G: Gate + Sync>(
 /// The turns of all workers.
 fn turns<'l, S: Shape + Sync, R: Threads + Sync, G: Gate + Sync>(
     crew: &Crew<'_, R, G>,
-    window: Window,
-    top: usize,
-    strokes: &[Vec<Stroke<'_>>],
+    shown: &ShownRows<'_>,
     next: Option<&Part<'l, '_, S>>,
 ) -> Result<Vec<Turn<'l>>, OutOfMemory>
-    requires { top < window.height }
-    ensures { IfOk result (λ turns. AreTurns S.holds window top strokes.now next.entry
+    ensures { IfOk result (λ turns. AreTurns S.holds shown.now next.entry
         crew.now.workers turns.items) }
 {
-    let results = try_turns(crew, window, top, strokes, next)?;
+    let results = try_turns(crew, shown, next)?;
     let turns = all_taken(crew.alloc, results)?;
     Ok(turns)
 }
@@ -120,21 +111,18 @@ fn turns<'l, S: Shape + Sync, R: Threads + Sync, G: Gate + Sync>(
 /// The turns of all workers, each in a thread of its own where one can be started.
 fn try_turns<'l, S: Shape + Sync, R: Threads + Sync, G: Gate + Sync>(
     crew: &Crew<'_, R, G>,
-    window: Window,
-    top: usize,
-    strokes: &[Vec<Stroke<'_>>],
+    shown: &ShownRows<'_>,
     next: Option<&Part<'l, '_, S>>,
 ) -> Result<Vec<Result<Turn<'l>, OutOfMemory>>, OutOfMemory>
-    requires { top < window.height }
     ensures len { IfOk result (λ results. vec_len results ≡ crew.now.workers) }
-    ensures each { IfOk result (λ results. AreTaken S.holds window top strokes.now next.entry
+    ensures each { IfOk result (λ results. AreTaken S.holds shown.now next.entry
         crew.now.workers results.items) }
 {
     let results = thread::map_indices(
         crew.rt,
         crew.alloc,
         crew.workers,
-        &|k| { take_turn(crew, window, top, strokes, next, k) },
+        &|k| { take_turn(crew, shown, next, k) },
     )?;
     Ok(results)
 }
@@ -143,17 +131,14 @@ fn try_turns<'l, S: Shape + Sync, R: Threads + Sync, G: Gate + Sync>(
 /// next band's rows.
 fn take_turn<'l, S: Shape, R: Threads, G: Gate>(
     crew: &Crew<'_, R, G>,
-    window: Window,
-    top: usize,
-    strokes: &[Vec<Stroke<'_>>],
+    shown: &ShownRows<'_>,
     next: Option<&Part<'l, '_, S>>,
     k: usize,
 ) -> Result<Turn<'l>, OutOfMemory>
-    requires { top < window.height }
-    ensures { IfOk result (λ turn. IsTurn S.holds window top strokes.now next.entry crew.now.workers k
+    ensures { IfOk result (λ turn. IsTurn S.holds shown.now next.entry crew.now.workers k
         turn) }
 {
-    let pieces = pieces(crew, window, top, strokes, k)?;
+    let pieces = pieces(crew, shown, k)?;
     let rows = share_found(crew.alloc, next, crew.workers, k)?;
     Ok(Turn { pieces, rows })
 }

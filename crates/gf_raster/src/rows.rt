@@ -45,9 +45,9 @@ fn share<'l, S: Shape>(
     size: usize,
     k: usize,
 ) -> Result<Vec<Vec<Stroke<'l>>>, OutOfMemory>
-    ensures len { IfOk result (λ rows. vec_len rows ≡ run part.now.count size k) }
+    ensures len { IfOk result (λ rows. vec_len rows ≡ run part.now.band.count size k) }
     ensures rows { IfOk result (λ rows. AreRows (layered S.holds part.now.layers)
-        part.now.window (part.now.top + cut part.now.count size k) rows.items) }
+        part.now.band.window (part.now.band.top + cut part.now.band.count size k) rows.items) }
 {
     let count = part.count();
     let from = k.saturating_mul(size).min(count);
@@ -61,10 +61,11 @@ fn found<'l, S: Shape>(
     top: usize,
     count: usize,
 ) -> Result<Vec<Vec<Stroke<'l>>>, OutOfMemory>
-    requires { (part.now.top ≤ top) × (top + count ≤ part.now.top + part.now.count) }
+    requires { (part.now.band.top ≤ top)
+        × (top + count ≤ part.now.band.top + part.now.band.count) }
     ensures len { IfOk result (λ rows. vec_len rows ≡ count) }
     ensures rows { IfOk result (λ rows.
-        AreRows (layered S.holds part.now.layers) part.now.window top rows.items) }
+        AreRows (layered S.holds part.now.layers) part.now.band.window top rows.items) }
 {
     // The clause of `top` says that the rows are few.
     let _ = part.top();

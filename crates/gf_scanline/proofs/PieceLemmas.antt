@@ -1,4 +1,4 @@
--- What a part of a window shows of layers.
+-- What a band shows of layers.
 use Rattle.std.specs.Prelude.{ℕ, ◌≡◌, ◌≤◌, ◌<◌, ◌+◌, ◌*◌, ◌-◌, Bool, true, false, IfSome, Option, None, Some, ◌≤ℤ◌, List, [], ◌∷◌, ◌++◌, if◌then◌else◌, ℤ, refl}
 use Rattle.std.proofs.Common.{arith, ap, sym, inl, inr, ◌∙◌}
 use Rattle.std.proofs.lemmas.Bool.{cases_Bool}
@@ -12,6 +12,7 @@ use Rattle.gf_shape.specs.declared.colour.Rgb.{Rgb}
 use Rattle.gf_shape.specs.declared.point.Point.{Point}
 use Rattle.gf_shape.specs.ShapeLaws.{IsBounds}
 use Rattle.gf_scanline.specs.declared.columns.Columns.{Columns}
+use Rattle.gf_scanline.specs.Bands.{BandView}
 use Rattle.gf_scanline.specs.Strips.{AreSameOutside, is_among}
 use Rattle.gf_scanline.specs.Windows.{View, column, line, sample}
 use Rattle.gf_scanline.specs.declared.edge.Edge.{Edge}
@@ -52,54 +53,59 @@ beside_columns f w j s c reach covers k l out = elim (cases_Bool (f (sample w k 
   | inr t ↦ t
 ]
 
-module _ {S : Type 0} (holds : S → Point → Bool) (w : View) where
-  -- a layer that reaches no row of the part
-  pub unseen_beside : (top count : ℕ) (l : Layer S) (b : Bounds) → 1 ≤ count → IsBounds (holds l.shape.now) b → reaches (line w top) (line w (top + count - 1)) b ≡ false → IsUnseen holds w top count l
-  unseen_beside top count l b one bounds out = λ j k low high in_it. elim (cases_Bool (holds l.shape.now (sample w k j))) [
-    | inl t ↦
-        let it = bounds.within (sample w k j) t in
-        let above = line_later w top j low in
-        let below = line_later w j (top + count - 1) (omega arith) in
-        let up : b.low.y ≤ℤ line w j = it.top in
-        let down : line w j ≤ℤ b.high.y = it.bottom in
-        absurd (true_not_false (sym (meet b (line w top) (line w j) (line w (top + count - 1)) above below up down) ∙ out))
-    | inr t ↦ t
-  ]
+module _ {S : Type 0} (holds : S → Point → Bool) where
+  -- a layer that reaches no row of the band
+  pub unseen_beside : (band : BandView) (l : Layer S) (b : Bounds) → IsBounds (holds l.shape.now) b → reaches (line band.window band.top) (line band.window (band.top + band.count - 1)) b ≡ false → IsUnseen holds band l
+  unseen_beside band l b bounds out = λ j k row in_it.
+      let w = band.window in
+      let last = band.top + band.count - 1 in
+      elim (cases_Bool (holds l.shape.now (sample w k j))) [
+        | inl t ↦
+            let it = bounds.within (sample w k j) t in
+            let above = line_later w band.top j row.0 in
+            let below = line_later w j last (omega (arith, row.1)) in
+            let up : b.low.y ≤ℤ line w j = it.top in
+            let down : line w j ≤ℤ b.high.y = it.bottom in
+            absurd (true_not_false (sym (meet b (line w band.top) (line w j) (line w last) above below up down) ∙ out))
+        | inr t ↦ t
+      ]
     where
       meet : (b : Bounds) (low y high : ℤ) → low ≤ℤ y → y ≤ℤ high → b.low.y ≤ℤ y → y ≤ℤ b.high.y → reaches low high b ≡ true
       meet b low y high f g h i = grind (arith, ints)
 
   -- a layer whose bounds cover no column
-  pub unseen_narrow : (top count : ℕ) (l : Layer S) (b : Bounds) (c : Columns) → IsBounds (holds l.shape.now) b → ((k : ℕ) → k < w.width → is_among c k ≡ is_in_span (column w k) (record { first = b.low.x; last = b.high.x })) → c.to ≤ c.from → IsUnseen holds w top count l
-  unseen_narrow top count l b c bounds covers none = λ j k low high in_it. elim (cases_Bool (holds l.shape.now (sample w k j))) [
-    | inl t ↦
-        let it = bounds.within (sample w k j) t in
-        let left : b.low.x ≤ℤ column w k = it.left in
-        let right : column w k ≤ℤ b.high.x = it.right in
-        let e : is_in_span (column w k) (record { first = b.low.x; last = b.high.x }) ≡ true = in_bounds (column w k) b left right in
-        absurd (true_not_false (sym (covers k in_it ∙ e) ∙ empty c k none))
-    | inr t ↦ t
-  ]
+  pub unseen_narrow : (band : BandView) (l : Layer S) (b : Bounds) (c : Columns) → IsBounds (holds l.shape.now) b → ((k : ℕ) → k < band.window.width → is_among c k ≡ is_in_span (column band.window k) (record { first = b.low.x; last = b.high.x })) → c.to ≤ c.from → IsUnseen holds band l
+  unseen_narrow band l b c bounds covers none = λ j k row in_it.
+      let w = band.window in
+      elim (cases_Bool (holds l.shape.now (sample w k j))) [
+        | inl t ↦
+            let it = bounds.within (sample w k j) t in
+            let left : b.low.x ≤ℤ column w k = it.left in
+            let right : column w k ≤ℤ b.high.x = it.right in
+            let e : is_in_span (column w k) (record { first = b.low.x; last = b.high.x }) ≡ true = in_bounds (column w k) b left right in
+            absurd (true_not_false (sym (covers k in_it ∙ e) ∙ empty c k none))
+        | inr t ↦ t
+      ]
     where
       empty : (c : Columns) (k : ℕ) → c.to ≤ c.from → is_among c k ≡ false
       empty c k l = grind (arith, nat_tests)
 
   -- a piece changes its columns alone
-  pub piece_columns : (j : ℕ) (p : Piece S) (behind : ℕ → Rgb) → IsPiece holds w j p → AreSameOutside p.columns w.width (layer_over holds w j behind p.layer.now) behind
-  piece_columns j p behind h = λ k l out. rw (h.columns k l out) refl
+  pub piece_columns : (w : View) (j : ℕ) (p : Piece S) (behind : ℕ → Rgb) → IsPiece holds w j p → AreSameOutside p.columns w.width (layer_over holds w j behind p.layer.now) behind
+  piece_columns w j p behind h = λ k l out. rw (h.columns k l out) refl
 
   -- a layer that does not hold a point changes no colour there
   unseen_at : (xs rest : List (Layer S)) (l : Layer S) (p : Point) → holds l.shape.now p ≡ false → layered holds (xs ++ rest) p ≡ layered holds (xs ++ l ∷ rest) p
   unseen_at [] rest l p e = rw e refl
   unseen_at (x ∷ xs) rest l p e = ap (λ c. if holds x.shape.now p then x.brush else c) (unseen_at xs rest l p e)
 
-  -- a layer that is not seen in the part may be left out
-  pub seen_without : (top count : ℕ) (xs rest : List (Layer S)) (l : Layer S) → IsUnseen holds w top count l → AreSeen holds w top count (xs ++ l ∷ rest) (xs ++ rest)
-  seen_without top count xs rest l h = λ j k low high in_it. unseen_at xs rest l (sample w k j) (h j k low high in_it)
+  -- a layer that is not seen in the band may be left out
+  pub seen_without : (band : BandView) (xs rest : List (Layer S)) (l : Layer S) → IsUnseen holds band l → AreSeen holds band (xs ++ l ∷ rest) (xs ++ rest)
+  seen_without band xs rest l h = λ j k row in_it. unseen_at xs rest l (sample band.window k j) (h j k row in_it)
 
   -- a layer that is kept
-  pub seen_with : (top count : ℕ) (ps : List (Piece S)) (p : Piece S) (rest : List (Layer S)) (l : Layer S) → p.layer.now ≡ l → AreSeen holds w top count (layers_of ps ++ l ∷ rest) (layers_of (ps ++ p ∷ []) ++ rest)
-  seen_with top count ps p rest l e = λ j k low high in_it. ap (λ (ls : List (Layer S)). row_colours holds ls w j k) (moved ps p rest l e)
+  pub seen_with : (band : BandView) (ps : List (Piece S)) (p : Piece S) (rest : List (Layer S)) (l : Layer S) → p.layer.now ≡ l → AreSeen holds band (layers_of ps ++ l ∷ rest) (layers_of (ps ++ p ∷ []) ++ rest)
+  seen_with band ps p rest l e = λ j k row in_it. ap (λ (ls : List (Layer S)). row_colours holds ls band.window j k) (moved ps p rest l e)
     where
       moved : (ps : List (Piece S)) (p : Piece S) (rest : List (Layer S)) (l : Layer S) → p.layer.now ≡ l → layers_of (ps ++ p ∷ []) ++ rest ≡ layers_of ps ++ l ∷ rest
       moved [] p rest l e = ap (λ x. x ∷ rest) e

@@ -1,21 +1,28 @@
 -- Layers over a white ground, the foremost first (this project's choice).
-use Rattle.std.specs.Prelude.{◌≡◌, ℕ, Bool, All, List, [], ◌∷◌}
+use Rattle.std.specs.Prelude.{◌≡◌, ℕ, Bool, All, List, [], ◌∷◌, Option, IfSome}
 use Rattle.std.specs.Prelude.{if◌then◌else◌}
 use Rattle.gf_shape.specs.declared.colour.Rgb.{Rgb}
 use Rattle.gf_shape.specs.declared.point.Point.{Point}
-use Rattle.gf_shape.specs.ShapeLaws.{IsBounds}
+use Rattle.gf_shape.specs.declared.outline.Outline.TheVariants.{Chain}
+use Rattle.gf_shape.specs.Ring.{Ring}
+use Rattle.gf_shape.specs.ShapeLaws.{IsBounds, IsOutlineOf}
 use Rattle.gf_versions.specs.HistoryColour.{white}
 use Rattle.gf_scanline.specs.Windows.{View, sample}
 use Rattle.gf_scanline.specs.declared.layer.Layer.{Layer}
 
-module _ {S : Type 0} (holds : S → Point → Bool) where
-  -- the bounds of a layer are its shape's
-  abbrev pub HasBounds : Layer S → Type 0
-  HasBounds l = IsBounds (holds l.shape.now) l.bounds
+-- the chain, where there is one, is an outline of what is held
+abbrev pub IsChainOf : (Point → Bool) → Option Ring → Type 0
+IsChainOf holds found = IfSome found (λ ring. IsOutlineOf holds (Chain ring))
 
-  -- layers with their bounds, over a white ground
+module _ {S : Type 0} (holds : S → Point → Bool) where
+  -- the bounds of a layer are its shape's, and its chain is an outline of its shape
+  pub record IsLayer (l : Layer S) : Type 0 where
+    pub bounds : IsBounds (holds l.shape.now) l.bounds
+    pub chain : IsChainOf (holds l.shape.now) l.chain
+
+  -- layers with their bounds and chains, over a white ground
   pub record AreLayers (ls : List (Layer S)) (ground : Rgb) : Type 0 where
-    pub bounds : All HasBounds ls
+    pub layers : All IsLayer ls
     pub ground_is : ground ≡ white
 
   -- the colour at p where the layer l is painted over what lies below

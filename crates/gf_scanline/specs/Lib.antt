@@ -1,3 +1,4 @@
+pub mod Bands
 pub mod Between
 pub mod Reaching
 pub mod Telling

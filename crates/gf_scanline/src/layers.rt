@@ -1,14 +1,14 @@
 //! The layers of a drawing.
 
-ghost use Rattle.std.specs.Prelude.{◌≡◌, All, IfOk, map};
+ghost use Rattle.std.specs.Prelude.{◌≡◌, All, IfOk, IfSome, map};
 ghost use Rattle.gf_shape.specs.declared.point.Point.{Point};
 ghost use Rattle.gf_drawing.specs.DrawingColour.{drawing_colour, figure_colour};
-ghost use Rattle.gf_scanline.specs.Layers.{HasBounds, layered};
+ghost use Rattle.gf_scanline.specs.Layers.{IsChainOf, IsLayer, layered};
 ghost use Rattle.gf_scanline.specs.Seen.{seen, seen_figure};
 
 use crate::{Brush, Layer};
 use gf_drawing::{Drawing, Figure};
-use gf_shape::{OutOfMemory, Rgb, Shape};
+use gf_shape::{Chain, OutOfMemory, Outline, Rgb, Shape};
 use std::alloc::Global;
 use std::marker::Model;
 
@@ -60,7 +60,7 @@ fn layers_of<'a, S: Shape>(
 ) -> Result<Vec<Layer<'a, S>>, OutOfMemory>
     ensures seen { IfOk result (λ ls. map seen ls.items
         ≡ map (λ f. seen_figure drawing.now.table f.now) figures.now) }
-    ensures bounds { IfOk result (λ ls. All (HasBounds S.holds) ls.items) }
+    ensures layers { IfOk result (λ ls. All (IsLayer S.holds) ls.items) }
 {
     let mut layers = Vec::new(alloc);
     for figure in figures {
@@ -70,19 +70,43 @@ fn layers_of<'a, S: Shape>(
     Ok(layers)
 }
 
+/// The layer of a figure.
 fn layer<'a, S: Shape>(
     alloc: Global,
     drawing: &'a Drawing<S>,
     figure: &'a Figure<S>,
 ) -> Result<Layer<'a, S>, OutOfMemory>
     ensures seen { IfOk result (λ l. seen l ≡ seen_figure drawing.now.table figure.now) }
-    ensures bounds { IfOk result (HasBounds S.holds) }
+    ensures layer { IfOk result (IsLayer S.holds) }
 {
     let colour = drawing.rgb(figure.colour).unwrap_or(WHITE);
     let brush = Brush::new(alloc, colour)?;
+    let chain = chain(alloc, &figure.shape)?;
     Ok(Layer {
         shape: &figure.shape,
         brush,
         bounds: figure.shape.bounds(),
+        chain,
     })
+}
+
+/// The chain of a shape that is a polygon.
+fn chain<S: Shape>(alloc: Global, shape: &S) -> Result<Option<Chain>, OutOfMemory>
+    ensures { IfOk result (IsChainOf (S.holds shape.now)) }
+{
+    let outline = shape.outline(alloc)?;
+    match outline {
+        Outline::Chain(chain) => Ok(polygon(chain)),
+        Outline::Disc(_) | Outline::Oval(_) => Ok(None),
+    }
+}
+
+/// A chain that is no box.
+fn polygon(chain: Chain) -> Option<Chain>
+    ensures { IfSome result (λ polygon. polygon ≡ chain) }
+{
+    if chain.boxed() {
+        return None;
+    }
+    Some(chain)
 }

@@ -1,7 +1,8 @@
 //! Scan lines: what a drawing shows in the rows of a window, painted from the front to the back.
 //!
 //! - [`Window`]: which points a picture shows, and which of its columns a span of a row covers.
-//! - [`Layers`]: the layers of a drawing; [`Part`]: what some rows of a window have of them.
+//! - [`Band`]: some rows of a window.
+//! - [`Layers`]: the layers of a drawing; [`Part`]: what a band has of them.
 //! - [`Edge`], [`Edges`]: the edges of a chain between two heights; [`EdgeRow`]: a row that edges
 //!   tell, with memory for the next ones.
 //! - [`Strip`]: some columns of a row, and which of them are still free; [`Columns`]: the columns
@@ -9,6 +10,7 @@
 //! - [`Stroke`]: columns in one colour, as [`fill`] makes them bytes.
 #![tactic(auto)]
 
+mod band;
 mod brush;
 mod columns;
 mod covered;
@@ -27,6 +29,7 @@ mod stroke;
 mod window;
 mod workspace;
 
+pub use band::Band;
 pub use brush::Brush;
 pub use columns::Columns;
 pub use edge::Edge;

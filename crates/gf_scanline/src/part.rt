@@ -1,25 +1,24 @@
-//! A part of a window, which is some of its rows.
+//! What a band has of layers.
 
-ghost use Rattle.std.specs.Prelude.{◌≡◌, ℕ, ◌+◌, ◌≤◌, ◌<◌, ◌++◌, ◌∷◌, OnOk, IfOk, All, List};
+ghost use Rattle.std.specs.Prelude.{◌≡◌, ℕ, ◌+◌, ◌≤◌, ◌++◌, ◌∷◌, OnOk, IfOk, All, List};
 ghost use Rattle.gf_scanline.specs.declared.layer.Layer.{Layer as TheLayer};
-ghost use Rattle.gf_scanline.specs.Layers.{HasBounds, layered};
+ghost use Rattle.gf_scanline.specs.Bands.{HasRow};
+ghost use Rattle.gf_scanline.specs.Layers.{IsLayer, layered};
 ghost use Rattle.gf_scanline.specs.Picture.{ShowsRow};
 ghost use Rattle.gf_scanline.specs.Pieces.{AreSeen, IsPiece, layers_of};
 
 use crate::piece::{Piece, piece_of};
 use crate::row::paint_pieces;
-use crate::{Layer, Layers, Strip, Stroke, Window, Workspace};
+use crate::{Band, Layer, Layers, Strip, Stroke, Workspace};
 use gf_shape::{OutOfMemory, Shape};
 use std::alloc::Global;
 use std::marker::Model;
 
-/// What a part of a window has of layers, ready to be painted row by row.
+/// What a band has of layers, ready to be painted row by row.
 #[derive(Drop)]
 pub struct Part<'l, 'a, S: Shape> {
     layers: &'l Layers<'a, S>,
-    window: Window,
-    top: usize,
-    count: usize,
+    band: Band,
     pieces: Vec<Piece<'l, 'a, S>>,
 }
 
@@ -28,41 +27,21 @@ impl<'l, 'a, S: Shape> Model for Part<'l, 'a, S> {
 
     ghost Value = { PartView S };
 
-    ghost view = { λ p. record {
-      layers = p.layers.now;
-      window = p.window;
-      top = p.top;
-      count = p.count;
-    } };
+    ghost view = { λ p. record { layers = p.layers.now; band = p.band } };
 
-    ghost invariant = { λ p. IsPart S.holds p.layers.now p.window p.top p.count p.pieces.items };
+    ghost invariant = { λ p. IsPart S.holds p.layers.now p.band p.pieces.items };
 }
 
 impl<'a, S: Shape> Layers<'a, S> {
-    /// What the rows of a window from `top` on, `count` of them, have of the layers. These are the
-    /// layers whose bounds meet the rows, with the edges of polygons that come between the rows.
-    pub fn part<'l>(
-        &'l self,
-        alloc: Global,
-        window: Window,
-        top: usize,
-        count: usize,
-    ) -> Result<Part<'l, 'a, S>, OutOfMemory>
-        requires { (1 ≤ count) × (top + count ≤ window.height) }
-        ensures { IfOk result (λ part. part
-            ≡ record {
-              layers = self.now;
-              window = window;
-              top = top;
-              count = count;
-            }) }
+    /// What a band has of the layers. These are the layers whose bounds meet the band's rows, with
+    /// the edges of polygons that come between the rows.
+    pub fn part<'l>(&'l self, alloc: Global, band: Band) -> Result<Part<'l, 'a, S>, OutOfMemory>
+        ensures { IfOk result (λ part. part ≡ record { layers = self.now; band = band }) }
     {
-        let pieces = pieces_of(alloc, &self.layers, window, top, count)?;
+        let pieces = pieces_of(alloc, &self.layers, band)?;
         Ok(Part {
             layers: self,
-            window,
-            top,
-            count,
+            band,
             pieces,
         })
     }
@@ -78,12 +57,13 @@ impl<'l, 'a, S: Shape> Part<'l, 'a, S> {
         strip: &mut Strip<'l>,
         space: &mut Workspace,
     ) -> Result<Vec<Stroke<'l>>, OutOfMemory>
-        requires { (self.now.top ≤ j) × (j < self.now.top + self.now.count) }
+        requires { HasRow self.now.band j }
         ensures { IfOk result (λ strokes.
-            ShowsRow (layered S.holds self.now.layers) self.now.window j strokes.items) }
+            ShowsRow (layered S.holds self.now.layers) self.now.band.window j strokes.items) }
     {
-        strip.begin(self.window.width() as usize)?;
-        paint_pieces(&self.pieces, self.window, j, strip, space)?;
+        let window = self.band.window();
+        strip.begin(window.width() as usize)?;
+        paint_pieces(&self.pieces, window, j, strip, space)?;
         let layers = self.layers;
         let strokes = strip.finish(&layers.ground)?;
         Ok(strokes)
@@ -91,18 +71,18 @@ impl<'l, 'a, S: Shape> Part<'l, 'a, S> {
 
     /// Which row is the first one of the part.
     pub fn top(&self) -> usize
-        ensures top { result ≡ self.now.top }
-        ensures within { self.now.top + self.now.count ≤ 4096 }
+        ensures top { result ≡ self.now.band.top }
+        ensures within { self.now.band.top + self.now.band.count ≤ 4096 }
     {
-        let _ = self.window.height();
-        self.top
+        let _ = self.band.count();
+        self.band.top()
     }
 
     /// How many rows the part has.
     pub fn count(&self) -> usize
-        ensures { result ≡ self.now.count }
+        ensures { result ≡ self.now.band.count }
     {
-        self.count
+        self.band.count()
     }
 
     /// How many layers and edges there are, among which each row is found. This measures the work
@@ -123,24 +103,20 @@ fn size_of<S: Shape>(pieces: &[Piece<'_, '_, S>]) -> usize {
     count
 }
 
-/// The pieces of layers in a part of a window.
+/// The pieces of layers in a band.
 fn pieces_of<'l, 'a, S: Shape>(
     alloc: Global,
     layers: &'l [Layer<'a, S>],
-    window: Window,
-    top: usize,
-    count: usize,
+    band: Band,
 ) -> Result<Vec<Piece<'l, 'a, S>>, OutOfMemory>
-    requires rows { (1 ≤ count) × (top + count ≤ window.height) }
-    requires bounds { All (HasBounds S.holds) layers.now }
-    ensures pieces { IfOk result (λ ps. (j : ℕ) → top ≤ j → j < top + count
-        → All (IsPiece S.holds window j) ps.items) }
-    ensures seen { IfOk result (λ ps.
-        AreSeen S.holds window top count layers.now (layers_of ps.items)) }
+    requires { All (IsLayer S.holds) layers.now }
+    ensures pieces { IfOk result (λ ps. (j : ℕ) → HasRow band j
+        → All (IsPiece S.holds band.window j) ps.items) }
+    ensures seen { IfOk result (λ ps. AreSeen S.holds band layers.now (layers_of ps.items)) }
 {
     let mut pieces = Vec::new(alloc);
     for layer in layers {
-        add_piece(alloc, layer, window, top, count, &mut pieces)?;
+        add_piece(alloc, layer, band, &mut pieces)?;
     }
     Ok(pieces)
 }
@@ -149,21 +125,18 @@ fn pieces_of<'l, 'a, S: Shape>(
 fn add_piece<'l, 'a, S: Shape>(
     alloc: Global,
     layer: &'l Layer<'a, S>,
-    window: Window,
-    top: usize,
-    count: usize,
+    band: Band,
     pieces: &mut Vec<Piece<'l, 'a, S>>,
 ) -> Result<(), OutOfMemory>
-    requires rows { (1 ≤ count) × (top + count ≤ window.height) }
-    requires bounds { HasBounds S.holds layer.now }
-    ensures pieces { OnOk result ((j : ℕ) → top ≤ j → j < top + count
-        → All (IsPiece S.holds window j) pieces.old.items
-        → All (IsPiece S.holds window j) pieces.new.items) }
+    requires { IsLayer S.holds layer.now }
+    ensures pieces { OnOk result ((j : ℕ) → HasRow band j
+        → All (IsPiece S.holds band.window j) pieces.old.items
+        → All (IsPiece S.holds band.window j) pieces.new.items) }
     ensures seen { OnOk result ((rest : List (TheLayer S))
-        → AreSeen S.holds window top count (layers_of pieces.old.items ++ layer.now ∷ rest)
+        → AreSeen S.holds band (layers_of pieces.old.items ++ layer.now ∷ rest)
         (layers_of pieces.new.items ++ rest)) }
 {
-    if let Some(piece) = piece_of(alloc, layer, window, top, count)? {
+    if let Some(piece) = piece_of(alloc, layer, band)? {
         pieces.push(piece)?;
     }
     Ok(())

@@ -1,21 +1,22 @@
-//! Pieces: what a part of a window has of a layer.
+//! Pieces: what a band has of a layer.
 
-ghost use Rattle.std.specs.Prelude.{◌≡◌, ℕ, ℤ, ◌+◌, ◌≤◌, ◌<◌, ◌≤ℤ◌, Bool, true, ◌&&◌, int_le, IfOk};
+ghost use Rattle.std.specs.Prelude.{◌≡◌, ℕ, ℤ, ◌≤ℤ◌, Bool, true, ◌&&◌, int_le, IfOk};
 ghost use Rattle.std.specs.Prelude.{IfSome, None};
 ghost use Rattle.gf_scanline.specs.Telling.{TellsRow};
 ghost use Rattle.gf_spans.specs.Spans.{is_in_span};
 ghost use Rattle.gf_shape.specs.declared.point.Point.{Point};
 ghost use Rattle.gf_shape.specs.Rows.{IsRow};
 ghost use Rattle.gf_shape.specs.ShapeLaws.{IsBounds};
-ghost use Rattle.gf_scanline.specs.Layers.{HasBounds};
+ghost use Rattle.gf_scanline.specs.Bands.{HasRow};
+ghost use Rattle.gf_scanline.specs.Layers.{IsLayer};
 ghost use Rattle.gf_scanline.specs.Pieces.{IsPiece, IsUnseen, reaches};
 
-use crate::{Columns, Edges, Layer, Window, Workspace};
-use gf_shape::{Bounds, OutOfMemory, Outline, Shape, Span};
+use crate::{Band, Columns, Edges, Layer, Workspace};
+use gf_shape::{Bounds, OutOfMemory, Shape, Span};
 use std::alloc::Global;
 
-/// What a part of a window has of a layer: bounds, and the columns that it may be seen in. Of a
-/// polygon it has the edges that come between the rows.
+/// What a band has of a layer: bounds, and the columns that it may be seen in. Of a polygon it has
+/// the edges that come between the rows.
 #[derive(Drop)]
 pub(crate) struct Piece<'l, 'a, S> {
     pub layer: &'l Layer<'a, S>,
@@ -24,26 +25,22 @@ pub(crate) struct Piece<'l, 'a, S> {
     pub edges: Option<Edges>,
 }
 
-/// What the rows from `top` on, `count` of them, have of a layer.
+/// What a band has of a layer.
 pub(crate) fn piece_of<'l, 'a, S: Shape>(
     alloc: Global,
     layer: &'l Layer<'a, S>,
-    window: Window,
-    top: usize,
-    count: usize,
+    band: Band,
 ) -> Result<Option<Piece<'l, 'a, S>>, OutOfMemory>
-    requires rows { (1 ≤ count) × (top + count ≤ window.height) }
-    requires bounds { HasBounds S.holds layer.now }
+    requires { IsLayer S.holds layer.now }
     ensures layer { IfOk result (λ found. IfSome found (λ p. p.layer.now ≡ layer.now)) }
     ensures some { IfOk result (λ found.
-        IfSome found (λ p. (j : ℕ) → top ≤ j → j < top + count
-        → IsPiece S.holds window j p)) }
-    ensures none { IfOk result (λ found. found ≡ None
-        → IsUnseen S.holds window top count layer.now) }
+        IfSome found (λ p. (j : ℕ) → HasRow band j → IsPiece S.holds band.window j p)) }
+    ensures none { IfOk result (λ found. found ≡ None → IsUnseen S.holds band layer.now) }
 {
     let bounds = layer.bounds;
-    let low = window.line(top);
-    let high = window.line(top + count - 1);
+    let window = band.window();
+    let low = window.line(band.top());
+    let high = window.line(band.last());
     if !reaches(bounds, low, high) {
         return Ok(None);
     }
@@ -51,7 +48,7 @@ pub(crate) fn piece_of<'l, 'a, S: Shape>(
     if columns.to <= columns.from {
         return Ok(None);
     }
-    let edges = edges(alloc, layer.shape, low, high)?;
+    let edges = edges(alloc, layer, low, high)?;
     let columns = window.columns(reach(bounds, &edges));
     Ok(Some(Piece {
         layer,
@@ -92,23 +89,23 @@ fn across(bounds: Bounds) -> Span
     }
 }
 
-/// The edges of a shape that come between two heights, if it is a polygon.
+/// The edges of a layer's chain that come between two heights, if it has one.
 fn edges<S: Shape>(
     alloc: Global,
-    shape: &S,
+    layer: &Layer<'_, S>,
     low: i32,
     high: i32,
 ) -> Result<Option<Edges>, OutOfMemory>
-    ensures { IfOk result (λ found.
-        IfSome found (λ es. (y : ℤ) → low ≤ℤ y → y ≤ℤ high → TellsRow (S.holds shape.now) y es)) }
+    requires { IsLayer S.holds layer.now }
+    ensures { IfOk result (λ found. IfSome found (λ es. (y : ℤ) → low ≤ℤ y → y ≤ℤ high
+        → TellsRow (S.holds layer.now.shape.now) y es)) }
 {
-    let outline = shape.outline(alloc)?;
-    match &outline {
-        Outline::Chain(chain) if !chain.boxed() => {
+    match &layer.chain {
+        Some(chain) => {
             let edges = Edges::between(alloc, chain, low, high)?;
             Ok(Some(edges))
         }
-        Outline::Chain(_) | Outline::Disc(_) | Outline::Oval(_) => Ok(None),
+        None => Ok(None),
     }
 }
 

@@ -6,5 +6,5 @@ use Rattle.gf_raster.proofs.rows.found.Given as goal
 abbrev pub invariant-loop-i : goal.invariant-loop-i
 invariant-loop-i g l = record {
   count : length l.rows.items ≡ l.i;
-  shown : AreRows (layered g.S.Shape.holds l.part.layers) l.part.window l.top l.rows.items;
+  shown : AreRows (layered g.S.Shape.holds l.part.layers) l.part.band.window l.top l.rows.items;
 }

@@ -6,11 +6,12 @@ use Rattle.gf_raster.proofs.tiles.fill_all.Goals as goal
 
 pub loop-row-preserved : goal.loop-row-preserved
 loop-row-preserved g c = λ colour h.
-    let w = c.args.window in
-    let top = c.args.top in
+    let w = c.args.shown.now.window in
+    let top = c.args.shown.now.top in
     let i = c.loop-row.row-index in
-    let within : i < length c.args.strokes.now = search rules in
-    let shown = row_at colour w top i c.args.strokes.now c.row-item.result c.deref.result.now h within c.row-item.is c.deref.ensures.value in
+    let items = c.deref-row-items.result.now in
+    let within : i < length items = search rules in
+    let shown = row_at colour w top i items c.row-item.result c.deref.result.now (rw c.deref-row-items.ensures.value h) within c.row-item.is c.deref.ensures.value in
     let width : c.width-width.result ≡ w.width = c.width-width.ensures.width in
     let fits : 0 + c.width-width.result ≤ w.width = search (rules, arith) in
     rows_pushed colour w top i c.args.bytes.now.items c.loop-row.bytes.items c.fill.new.bytes.items

@@ -1,13 +1,12 @@
 use Rattle.std.proofs.Common.{◌≡◌, ◌+◌, ◌-◌, ◌*◌, ◌≤◌, ◌<◌, ◌/◌, ◌%◌, ◌∙◌, min, length, rules, arith}
 use Rattle.gf_raster.specs.Shares.{cut, run, stride}
-use Rattle.gf_raster.specs.Turns.{ArePieces}
 use Rattle.gf_raster.proofs.PictureLemmas.{begins, ends}
 use Rattle.gf_raster.proofs.RowLemmas.{pieces_more}
 use Rattle.gf_raster.proofs.tiles.pieces.Goals as goal
 
 pub loop-i-preserved : goal.loop-i-preserved
 loop-i-preserved g c =
-    let w = c.args.window in
+    let w = c.args.shown.now.window in
     let i = c.loop-i.i in
     let start = c.min-start.result in
     let len = c.min-len.result in
@@ -19,13 +18,13 @@ loop-i-preserved g c =
     record {
       count = same ∙ c.loop-i.invariant.count;
       filled = λ colour h.
-          pieces_more colour w c.args.top start len i c.loop-i.pieces.items c.fill_tile.new.pieces.items (omega (arith, first)) same
-          (c.loop-i.invariant.filled colour h) (rw count at (c.in_ok-fill_tile.ensures.pieces colour w c.args.top fits h));
+          pieces_more colour w c.args.shown.now.top start len i c.loop-i.pieces.items c.fill_tile.new.pieces.items (omega (arith, first)) same
+          (c.loop-i.invariant.filled colour h) (rw count at (c.in_ok-fill_tile.ensures.pieces colour w c.args.shown.now.top fits (rw c.deref.ensures.value h)));
     }
 
 pub returns-clause-pieces : goal.returns-clause-pieces
 returns-clause-pieces g c = λ colour h.
-    let w = c.args.window in
+    let w = c.args.shown.now.window in
     let size = stride w c.args.crew.now.workers in
     let len = c.min-len.result in
     let l : len / 64 + min 1 (len % 64) ≤ c.loop-i.i = search (rules, arith) in
