@@ -63,9 +63,26 @@ fn run_one<R: Wait, G: Gate>(
     site_worker(rt, alloc, site, script, Ends { links, peers }, gate)
 }
 
-/// Runs sites at the same time, the last of them in a thread of its own. If that is refused, this
-/// site is stopped before the others run, so that none of them waits for it. What the sites give
-/// back goes where `ends` has room.
+/// Runs a site, or sends Stop for it where its thread was not started.
+fn run_or_stop<R: Wait, G: Gate>(
+    rt: &R,
+    alloc: Global,
+    gate: &G,
+    links: &[Link],
+    unstarted: &AtomicBool,
+    start: Start,
+) -> WorkerEnd
+    requires { IsReadyToStart links.now start }
+    ensures { Gave start result }
+{
+    if unstarted.load(Ordering::SeqCst) {
+        return stop_one(rt, alloc, links, start);
+    }
+    run_one(rt, alloc, gate, links, start)
+}
+
+/// Runs sites at the same time. What they give back goes where `ends` has room.
+#[cycle(sites)]
 pub(crate) fn fork<R: Threads + Wait + Sync, G: Gate + Sync>(
     rt: &R,
     alloc: Global,
@@ -80,13 +97,36 @@ pub(crate) fn fork<R: Threads + Wait + Sync, G: Gate + Sync>(
     ensures gave { GaveAll starts.items result.items }
     ensures room { vec_capacity result ≡ vec_capacity ends }
 {
+    if 1 < starts.len() {
+        return fork_last(rt, alloc, gate, links, starts, ends);
+    }
+    let Some(only) = starts.pop() else {
+        return ends;
+    };
+    ends.push_reserved(run_one(rt, alloc, gate, links, only));
+    ends
+}
+
+/// Runs the last site in a thread of its own, beside the others. If the thread is refused, this site
+/// is stopped before the others run, so that none of them waits for it.
+#[cycle(sites)]
+fn fork_last<R: Threads + Wait + Sync, G: Gate + Sync>(
+    rt: &R,
+    alloc: Global,
+    gate: &G,
+    links: &[Link],
+    mut starts: Vec<Start>,
+    ends: Vec<WorkerEnd>,
+) -> Vec<WorkerEnd>
+    requires ready { All (IsReadyToStart links.now) starts.items }
+    requires empty { ends.items ≡ [] }
+    requires room { vec_len starts ≤ vec_capacity ends }
+    ensures gave { GaveAll starts.items result.items }
+    ensures room { vec_capacity result ≡ vec_capacity ends }
+{
     let Some(last) = starts.pop() else {
         return ends;
     };
-    if starts.is_empty() {
-        ends.push_reserved(run_one(rt, alloc, gate, links, last));
-        return ends;
-    }
     let unstarted = AtomicBool::new(false);
     let flag = &unstarted;
     thread::scope(
@@ -103,12 +143,7 @@ pub(crate) fn fork<R: Threads + Wait + Sync, G: Gate + Sync>(
             let theirs = move || -> WorkerEnd
                 requires { IsSync R.row × IsSync G.row × IsReadyToStart links.now last }
                 ensures { Gave last result }
-            {
-                if flag.load(Ordering::SeqCst) {
-                    return stop_one(rt, alloc, links, last);
-                }
-                run_one(rt, alloc, gate, links, last)
-            };
+            { run_or_stop(rt, alloc, gate, links, flag, last) };
             match scope.spawn_with(promise, theirs) {
                 Ok(child) => {
                     let mut ends = fork(rt, alloc, gate, links, starts, ends);
