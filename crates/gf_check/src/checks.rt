@@ -1,17 +1,14 @@
 //! From the bytes of operation lines to all of their faults.
 
-ghost use Rattle.std.specs.Prelude.{◌≡◌, ◌≢◌, ◌+◌, ◌≤◌, ◌⊎◌, Err, IfSome, IfOk, IfErr, IsTrue};
-ghost use Rattle.std.specs.Prelude.{OnOk, List, ℕ};
-ghost use Rattle.gf_streams.specs.Counts.{Rises};
-ghost use Rattle.gf_streams.specs.Reads.{ConsumesAtMost};
-ghost use Rattle.gf_studio.specs.RunAnswers.{ReadsFor};
+ghost use Rattle.std.specs.Prelude.{◌≢◌, IfSome, IfOk, IfErr, List, ℕ};
+ghost use Rattle.gf_studio.specs.RefusedRuns.{IsOfRun};
+ghost use Rattle.gf_studio.specs.RunAnswers.{LeavesSink, ReadsInput};
 ghost use Rattle.gf_check.specs.AllFaults.{AnswersText};
-ghost use Rattle.gf_check.specs.CheckRun.{RefusesCheck, WritesCheck, WritesCheckPrefix};
-ghost use Rattle.gf_check.specs.CheckRun.{Checks};
+ghost use Rattle.gf_check.specs.CheckRun.{Checks, WritesCheck};
 
 use crate::faults_of;
 use gf_shape::OutOfMemory;
-use gf_streams::{MOST_INPUT_BYTES, Sink, SinkFault, Source, write_whole};
+use gf_streams::{Sink, SinkFault, Source, write_whole};
 use gf_studio::{StudioError, input};
 use std::alloc::Global;
 
@@ -37,22 +34,13 @@ pub fn check_run<R: Source, W: Sink>(
     // denotes no operation then has a line.
     ensures tells { IfOk result (λ verdict. IfSome (R.left source.old) (λ bytes.
         WritesCheck bytes verdict (W.taken sink.old) (W.taken sink.new))) }
-    ensures flushed { OnOk result (IsTrue (W.flushed sink.new)) }
 
     // No fault of the input refuses the run.
-    ensures source { ReadsFor MOST_INPUT_BYTES (R.left source.old) (R.left source.new)
-        (R.failures source.old) (R.failures source.new) result }
-    ensures refused { IfErr result RefusesCheck }
+    ensures source { ReadsInput R.Source source.old source.new result }
+    ensures refused { IfErr result IsOfRun }
 
     // At most a prefix of the text is written, and that only where the sink failed.
-    ensures prefix { result ≡ Err StudioError.WriteFailed → IfSome (R.left source.old) (λ bytes.
-        WritesCheckPrefix bytes (W.taken sink.old) (W.taken sink.new)) }
-    ensures failed { result ≡ Err StudioError.WriteFailed →
-        Rises (W.failures sink.old) (W.failures sink.new) }
-    ensures unwritten { IfErr result (λ e. (sink.new ≡ sink.old) ⊎ (e ≡ StudioError.WriteFailed)) }
-
-    ensures takes { ConsumesAtMost (MOST_INPUT_BYTES + 1) (R.left source.old) (R.left source.new) }
-    ensures reads { R.reads source.new ≤ R.reads source.old + (MOST_INPUT_BYTES + 1) }
+    ensures sink { LeavesSink W.Sink (R.left source.old) AnswersText sink.old sink.new result }
 {
     let text = told_of_lines(alloc, source)?;
     match write_whole(sink, &text) {
@@ -76,12 +64,9 @@ fn verdict_of(text: &[u8]) -> Verdict
 fn told_of_lines<R: Source>(alloc: Global, source: &mut R) -> Result<Vec<u8>, StudioError>
     ensures ok { IfOk result (λ text. IfSome (R.left source.old) (λ bytes.
         AnswersText bytes text.items)) }
-    ensures source { ReadsFor MOST_INPUT_BYTES (R.left source.old) (R.left source.new)
-        (R.failures source.old) (R.failures source.new) result }
-    ensures refused { IfErr result RefusesCheck }
+    ensures source { ReadsInput R.Source source.old source.new result }
+    ensures refused { IfErr result IsOfRun }
     ensures no_write { IfErr result (λ e. e ≢ StudioError.WriteFailed) }
-    ensures takes { ConsumesAtMost (MOST_INPUT_BYTES + 1) (R.left source.old) (R.left source.new) }
-    ensures reads { R.reads source.new ≤ R.reads source.old + (MOST_INPUT_BYTES + 1) }
 {
     let bytes = input(alloc, source)?;
     match faults_of(alloc, bytes) {

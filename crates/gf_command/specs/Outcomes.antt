@@ -1,6 +1,8 @@
--- What an outcome says of the output. No public clause cites this module.
+-- What an outcome says of the output, and which window it tells. No public clause cites this module.
 use Rattle.std.specs.Prelude.{ℕ, List, Option}
 use Rattle.gf_command.specs.declared.runs.Run.{Run}
+use Rattle.gf_scanline.specs.Windows.{View}
+use Rattle.gf_command.specs.declared.chosen.Chosen.{Chosen}
 use Rattle.gf_command.specs.declared.answering.Outcome.{Outcome}
 use Rattle.gf_command.specs.declared.answering.Outcome.TheVariants as outcome
 use Rattle.gf_command.specs.Outputs.{Answers, AnswersOpen}
@@ -10,3 +12,7 @@ abbrev pub AnswersSo : Outcome → Run → List ℕ → Option (List ℕ) → Op
     → Type 0
 AnswersSo outcome.Open run bytes old new = AnswersOpen run bytes old new
 AnswersSo other run bytes old new = Answers run bytes old new
+
+-- the numbers of a window
+abbrev pub numbers_of : View → Chosen
+numbers_of w = record { x = w.x; y = w.y; step = w.step; width = w.width; height = w.height }

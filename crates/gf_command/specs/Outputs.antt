@@ -1,23 +1,24 @@
 -- What the runs of the program leave on their output (this project's choice).
 use Rattle.std.specs.Prelude.{◌≡◌, ◌⊎◌, ℕ, true, List, Option}
-use Rattle.gf_studio.specs.FigRun.{Exports, WritesPrefix}
-use Rattle.gf_studio.specs.PaintRun.{IsDenoted, IsMeant, WritesBands, WritesPicture}
-use Rattle.gf_studio.specs.PaintRun.{WritesPicturePrefix}
 use Rattle.gf_shape.specs.declared.colour.Rgb.{Rgb}
 use Rattle.gf_shape.specs.declared.point.Point.{Point}
 use Rattle.gf_scanline.specs.Windows.{View}
+use Rattle.gf_studio.specs.FigRun.{Exports, IsFigOf}
+use Rattle.gf_studio.specs.InspectRun.{AnswersQuery, WritesAnswer}
+use Rattle.gf_studio.specs.PaintRun.{IsDenoted, IsMeant, IsPicture, WritesBands, WritesPicture}
+use Rattle.gf_studio.specs.RunAnswers.{WritesPrefix}
 use Rattle.gf_fit.specs.Frames.{Sides}
-use Rattle.gf_fit.specs.FittedRun.{FitsLines, FitsText, WritesFittedBands, WritesFittedPrefix}
-use Rattle.gf_import.specs.ImportRun.{WritesImport, WritesImportPrefix}
-use Rattle.gf_studio.specs.InspectRun.{WritesLook, WritesLookPrefix}
+use Rattle.gf_fit.specs.FittedRun.{FitsLines, FitsText, IsFittedPicture, WritesFittedBands}
+use Rattle.gf_import.specs.ImportRun.{Imports, WritesImport}
 use Rattle.gf_edit.specs.declared.made.Made.{Made}
-use Rattle.gf_edit.specs.EditRun.{WritesEdit, WritesEditPrefix}
+use Rattle.gf_edit.specs.EditRun.{IsEditOf, WritesEdit}
 use Rattle.gf_status.specs.declared.state.State.{State}
 use Rattle.gf_status.specs.declared.state.State.TheVariants.{Clean, Open}
-use Rattle.gf_status.specs.StatusRun.{WritesStatus, WritesStatusPrefix}
+use Rattle.gf_status.specs.StatusRun.{IsStatusOf, WritesStatus}
+use Rattle.gf_check.specs.AllFaults.{AnswersText}
 use Rattle.gf_check.specs.declared.checks.Verdict.TheVariants as verdict
-use Rattle.gf_check.specs.CheckRun.{WritesCheck, WritesCheckPrefix}
-use Rattle.gf_session_run.specs.SessionRun.{WritesSession, WritesSessionPrefix}
+use Rattle.gf_check.specs.CheckRun.{WritesCheck}
+use Rattle.gf_session_run.specs.SessionRun.{TellsSession, WritesSession}
 use Rattle.gf_command.specs.declared.runs.Run.{Run}
 use Rattle.gf_command.specs.declared.runs.Extent.{Extent}
 use Rattle.gf_command.specs.declared.runs.Extent.TheVariants.{Window, Fitted}
@@ -36,8 +37,8 @@ module _ (Fits : Sides → View → Type 0) (IsShown : (Point → Rgb) → Type 
   -- known bytes grow by a prefix of such a picture, perhaps by whole bands
   abbrev pub WritesExtentPrefix : Extent → Type 0
   WritesExtentPrefix (Window w) =
-      WritesPicturePrefix IsShown w old new ⊎ WritesBands IsShown w old new
-  WritesExtentPrefix (Fitted frame) = WritesFittedPrefix (Fits frame) IsShown old new
+      WritesPrefix (IsPicture IsShown w) old new ⊎ WritesBands IsShown w old new
+  WritesExtentPrefix (Fitted frame) = WritesPrefix (IsFittedPicture (Fits frame) IsShown) old new
       ⊎ WritesFittedBands (Fits frame) IsShown old new
 
 -- known bytes grow from old to new by what the run asks for. This is the FIG text, the picture, the
@@ -50,7 +51,7 @@ Answers (Paint canvas) bytes old new =
     WritesExtent (FitsLines bytes) (IsMeant bytes) old new canvas.extent
 Answers (Repaint canvas) bytes old new =
     WritesExtent (FitsText bytes) (IsDenoted bytes) old new canvas.extent
-Answers (Inspect query workers) bytes old new = WritesLook bytes query old new
+Answers (Inspect query workers) bytes old new = WritesAnswer query bytes old new
 Answers (Import editor) bytes old new = WritesImport editor.site bytes old new
 Answers (Edit editor) bytes old new =
     (made : Option Made) × WritesEdit editor.site bytes made old new
@@ -62,17 +63,17 @@ Answers (Session sites) bytes old new = WritesSession sites bytes old new
 -- known bytes grow from old to new by a prefix of what the run asks for. The prefix of a picture
 -- may be whole bands
 abbrev pub AnswersPrefix : Run → List ℕ → Option (List ℕ) → Option (List ℕ) → Type 0
-AnswersPrefix (Fig workers) bytes old new = WritesPrefix bytes old new
+AnswersPrefix (Fig workers) bytes old new = WritesPrefix (IsFigOf bytes) old new
 AnswersPrefix (Paint canvas) bytes old new =
     WritesExtentPrefix (FitsLines bytes) (IsMeant bytes) old new canvas.extent
 AnswersPrefix (Repaint canvas) bytes old new =
     WritesExtentPrefix (FitsText bytes) (IsDenoted bytes) old new canvas.extent
-AnswersPrefix (Inspect query workers) bytes old new = WritesLookPrefix bytes query old new
-AnswersPrefix (Import editor) bytes old new = WritesImportPrefix editor.site bytes old new
-AnswersPrefix (Edit editor) bytes old new = WritesEditPrefix editor.site bytes old new
-AnswersPrefix (Status check workers) bytes old new = WritesStatusPrefix bytes old new
-AnswersPrefix Check bytes old new = WritesCheckPrefix bytes old new
-AnswersPrefix (Session sites) bytes old new = WritesSessionPrefix sites bytes old new
+AnswersPrefix (Inspect query workers) bytes old new = WritesPrefix (AnswersQuery query bytes) old new
+AnswersPrefix (Import editor) bytes old new = WritesPrefix (Imports editor.site bytes) old new
+AnswersPrefix (Edit editor) bytes old new = WritesPrefix (IsEditOf editor.site bytes) old new
+AnswersPrefix (Status check workers) bytes old new = WritesPrefix (IsStatusOf bytes) old new
+AnswersPrefix Check bytes old new = WritesPrefix (AnswersText bytes) old new
+AnswersPrefix (Session sites) bytes old new = WritesPrefix (TellsSession sites bytes) old new
 
 -- known bytes grow from old to new by what the run asks for, which is to be seen to. Something
 -- waits or differs, where that is asked for, or there is a fault

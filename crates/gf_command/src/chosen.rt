@@ -1,5 +1,8 @@
 //! What is told of a window that was chosen.
 
+ghost use Rattle.std.specs.Prelude.{◌≡◌};
+ghost use Rattle.gf_command.specs.Outcomes.{numbers_of};
+
 use gf_studio::Window;
 use std::fmt;
 
@@ -21,7 +24,9 @@ impl fmt::Display for Chosen {
 }
 
 /// The numbers of this window.
-pub(crate) fn numbers_of(window: Window) -> Chosen {
+pub(crate) fn numbers_of(window: Window) -> Chosen
+    ensures { result ≡ numbers_of window }
+{
     let height = window.height();
     Chosen {
         x: window.x(),

@@ -17,7 +17,7 @@ use Rattle.gf_edit.specs.declared.reading.ReadLines.{ReadLines}
 use Rattle.gf_edit.specs.Making.{HasRefusal, Makes}
 use Rattle.gf_edit.specs.MakingSteps.{HasPassed, RefusesMaking}
 use Rattle.gf_edit.specs.EditedText.{AreEntriesOf, AreDelivered, entry_at, ops_in}
-use Rattle.gf_edit.specs.EditRun.{Edits, HasBlocking, RefusesEdit, RefusesEditRun}
+use Rattle.gf_edit.specs.EditRun.{Edits, HasBlocking, RefusesEdit}
 use Rattle.gf_edit.specs.EntrySteps.{HasReadEntries, HoldsBlocking, IsUnblocked, RefusesWaiting}
 use Rattle.gf_edit.specs.Waiting.{is_blocking}
 use Rattle.gf_edit.proofs.BlockingLemmas.{first_blocks, none_blocks}
@@ -102,22 +102,8 @@ module _ (s : ℕ) (bytes : List ℕ) (r : ReadLines) (read : HasReadEntries s b
 
 -- ---- the run
 
-run_refused : (s : ℕ) (bytes : List ℕ) (e : EditError) → RefusesEdit s bytes e → RefusesEditRun s bytes e
-run_refused s bytes (edit.Refused n why) f = f
-run_refused s bytes (edit.Waits i j) f = f
-run_refused s bytes (edit.Run studio.OutOfMemory) f = f
-run_refused s bytes (edit.Run (studio.Line m why)) f = f
-run_refused s bytes (edit.Run (studio.Dropped id fault)) f = f
-run_refused s bytes (edit.Run (studio.Fig x)) f = f
-run_refused s bytes (edit.Run (studio.Compile x)) f = f
-run_refused s bytes (edit.Run (studio.Session x)) f = f
-run_refused s bytes (edit.Run (studio.NoObject o)) f = f
-run_refused s bytes (edit.Run studio.ReadFailed) f = tt
-run_refused s bytes (edit.Run studio.TooLong) f = tt
-run_refused s bytes (edit.Run studio.WriteFailed) f = tt
-
-pub run_refuses : {X : Type 0} (s : ℕ) (left : Option (List ℕ)) (items : List ℕ) (r : Result X EditError) → IfSome left (λ all. items ≡ all) → IfErr r (RefusesEdit s items) → IfErr r (λ e. IfSome left (λ bytes. RefusesEditRun s bytes e))
-run_refuses s (Some bytes) items (Err e) is f = run_refused s bytes e (subst (λ b. RefusesEdit s b e) is f)
+pub run_refuses : {X : Type 0} (s : ℕ) (left : Option (List ℕ)) (items : List ℕ) (r : Result X EditError) → IfSome left (λ all. items ≡ all) → IfErr r (RefusesEdit s items) → IfErr r (λ e. IfSome left (λ bytes. RefusesEdit s bytes e))
+run_refuses s (Some bytes) items (Err e) is f = subst (λ b. RefusesEdit s b e) is f
 run_refuses s None items (Err e) is f = tt
 run_refuses s left items (Ok x) is f = tt
 

@@ -1,9 +1,6 @@
 -- What the editing run writes, and why it is refused (this project's choice).
-use Rattle.std.specs.Prelude.{◌≡◌, ◌≢◌, ℕ, List, Contains, Option}
-use Rattle.std.specs.Prelude.{Result, MatchResult, ⊤}
+use Rattle.std.specs.Prelude.{◌≡◌, ◌≢◌, ℕ, List, Contains, Option, None, Some}
 use Rattle.std.specs.declared.cmp.Ordering.TheVariants.{Less}
-use Rattle.std.specs.Io.KnownBytes.{Appends}
-use Rattle.gf_streams.specs.Taken.{AppendsPrefix}
 use Rattle.gf_streams.specs.TextLines.{numbered_lines}
 use Rattle.gf_ops.specs.declared.op.Op.{Op}
 use Rattle.gf_ops.specs.declared.op.OpId.{OpId}
@@ -11,8 +8,10 @@ use Rattle.gf_ops.specs.Accepted.{AreAccepted}
 use Rattle.gf_ops.specs.OperationOrder.{id_cmp}
 use Rattle.gf_causal.specs.Waiting.{waits_for}
 use Rattle.gf_replay.specs.Denoting.{AreLinesOf, Delivers}
+use Rattle.gf_studio.specs.declared.studio_error.StudioError.{StudioError}
 use Rattle.gf_studio.specs.declared.studio_error.StudioError.TheVariants as studio
-use Rattle.gf_studio.specs.RunAnswers.{ReadsAll, ReadsUntil}
+use Rattle.gf_studio.specs.RefusedRuns.{IsOfRun}
+use Rattle.gf_studio.specs.RunAnswers.{WritesText}
 use Rattle.gf_worker.specs.declared.report.Cause.{Cause}
 use Rattle.gf_edit.specs.declared.entries.Entry.{Entry}
 use Rattle.gf_edit.specs.declared.edit_error.EditError.{EditError}
@@ -34,18 +33,12 @@ pub record Edits (s : ℕ) (bytes text : List ℕ) (made : Option Made) : Type 0
   pub told : made ≡ made_of new
 
 -- known bytes grow from old to new by the lines of the new operations, which made is about
-pub record WritesEdit (s : ℕ) (bytes : List ℕ) (made : Option Made)
-    (old new : Option (List ℕ)) : Type 0 where
-  pub text : List ℕ
-  pub edits : Edits s bytes text made
-  pub written : Appends old new text
+abbrev pub WritesEdit : ℕ → List ℕ → Option Made → Option (List ℕ) → Option (List ℕ) → Type 0
+WritesEdit s bytes made old new = WritesText (λ text. Edits s bytes text made) old new
 
--- known bytes grow by a prefix, which may be none or all, of the lines of an edit
-pub record WritesEditPrefix (s : ℕ) (bytes : List ℕ) (old new : Option (List ℕ)) : Type 0 where
-  pub text : List ℕ
-  pub made : Option Made
-  pub edits : Edits s bytes text made
-  pub written : AppendsPrefix old new text
+-- the text has the lines of the new operations
+abbrev pub IsEditOf : ℕ → List ℕ → List ℕ → Type 0
+IsEditOf s bytes text = (made : Option Made) × Edits s bytes text made
 
 -- of these operations, op has the least id of all that block site s behind h
 pub record IsFirstBlocking (s : ℕ) (h ops : List Op) (op : Op) : Type 0 where
@@ -73,31 +66,15 @@ pub record HasRefusedCommand (s : ℕ) (bytes : List ℕ) (n : ℕ) (why : Cause
   pub behind : AreDelivered s entries history
   pub refusal : HasRefusal s history (commands_in entries) n why
 
--- why an edit of these bytes is refused; want of memory may come with any
+-- why an editing run is refused
 abbrev pub RefusesEdit : ℕ → List ℕ → EditError → Type 0
 RefusesEdit s bytes (edit.Run (studio.Line n why)) = HasLineFault s bytes n why
 RefusesEdit s bytes (edit.Run (studio.Dropped id fault)) = DropsAt s bytes id fault
-RefusesEdit s bytes (edit.Run studio.OutOfMemory) = ⊤
+RefusesEdit s bytes (edit.Run e) = IsOfRun e
 RefusesEdit s bytes (edit.Waits i j) = HasBlocking s bytes i j
 RefusesEdit s bytes (edit.Refused n why) = HasRefusedCommand s bytes n why
-RefusesEdit s bytes other = ⊥
 
--- why an editing run is refused
-abbrev pub RefusesEditRun : ℕ → List ℕ → EditError → Type 0
-RefusesEditRun s bytes (edit.Run studio.ReadFailed) = ⊤
-RefusesEditRun s bytes (edit.Run studio.TooLong) = ⊤
-RefusesEditRun s bytes (edit.Run studio.WriteFailed) = ⊤
-RefusesEditRun s bytes e = RefusesEdit s bytes e
-
--- an input has at most `most` bytes. The bytes left go from old to new, and the count of failures
--- from was to is
-module _ (most : ℕ) (old new : Option (List ℕ)) (was is : ℕ) where
-  -- what was read where an editing run is refused with this error
-  abbrev pub ReadsBeforeEdit : EditError → Type 0
-  ReadsBeforeEdit (edit.Run e) = ReadsUntil most old new was is e
-  ReadsBeforeEdit (edit.Waits i j) = ReadsAll most old new was is
-  ReadsBeforeEdit (edit.Refused n why) = ReadsAll most old new was is
-
-  -- what was read where an editing run gives this answer
-  abbrev pub ReadsForEdit : {T : Type 0} → Result T EditError → Type 0
-  ReadsForEdit result = MatchResult result (λ _. ReadsAll most old new was is) ReadsBeforeEdit
+-- the error of an edit that other runs may have too
+abbrev pub of_edit : EditError → Option StudioError
+of_edit (edit.Run e) = Some e
+of_edit other = None

@@ -1,8 +1,9 @@
 //! From the bytes of an edited text to the lines of what its commands make.
 
-ghost use Rattle.std.specs.Prelude.{ℕ, List, [], IfOk, IfErr};
+ghost use Rattle.std.specs.Prelude.{ℕ, List, [], IfSome, IfOk, IfErr};
 ghost use Rattle.gf_ops.specs.OperationOrder.{IsSite};
-ghost use Rattle.gf_edit.specs.EditRun.{Edits, RefusesEdit};
+ghost use Rattle.gf_studio.specs.RefusedParts.{IsBetween};
+ghost use Rattle.gf_edit.specs.EditRun.{Edits, RefusesEdit, of_edit};
 ghost use Rattle.gf_edit.specs.EntrySteps.{HasReadEntries};
 
 use crate::EditError;
@@ -16,7 +17,8 @@ use std::alloc::Global;
 pub(crate) fn edit(alloc: Global, bytes: Vec<u8>, editor: u8) -> Result<Edited, EditError>
     requires { IsSite editor }
     ensures ok { IfOk result (λ edited. Edits editor bytes.items edited.text.items edited.made) }
-    ensures err { IfErr result (RefusesEdit editor bytes.items) }
+    ensures refused { IfErr result (RefusesEdit editor bytes.items) }
+    ensures between { IfErr result (λ e. IfSome (of_edit e) IsBetween) }
 {
     let read = read_lines(alloc, bytes, editor)?;
     make(alloc, read)
@@ -27,8 +29,9 @@ pub(crate) fn edit(alloc: Global, bytes: Vec<u8>, editor: u8) -> Result<Edited, 
 fn make(alloc: Global, read: ReadLines) -> Result<Edited, EditError>
     ensures ok { IfOk result (λ edited. (s : ℕ) (bytes : List ℕ) → HasReadEntries s bytes [] read
         → Edits s bytes edited.text.items edited.made) }
-    ensures err { IfErr result (λ e. (s : ℕ) (bytes : List ℕ) → HasReadEntries s bytes [] read
+    ensures refused { IfErr result (λ e. (s : ℕ) (bytes : List ℕ) → HasReadEntries s bytes [] read
         → RefusesEdit s bytes e) }
+    ensures between { IfErr result (λ e. IfSome (of_edit e) IsBetween) }
 {
     let ReadLines { mut site, commands } = read;
     // The clause of `held` says that what a site holds rises by id.

@@ -1,18 +1,15 @@
 //! The whole run over an edited text.
 
-ghost use Rattle.std.specs.Prelude.{◌≡◌, ◌≢◌, ◌+◌, ◌≤◌, ◌⊎◌, Err, IfSome, IfOk, IfErr, OnOk};
-ghost use Rattle.std.specs.Prelude.{IsTrue};
-ghost use Rattle.gf_streams.specs.Counts.{Rises};
-ghost use Rattle.gf_streams.specs.Reads.{ConsumesAtMost};
+ghost use Rattle.std.specs.Prelude.{◌≢◌, Some, IfSome, IfOk, IfErr};
 ghost use Rattle.gf_ops.specs.OperationOrder.{IsSite};
 ghost use Rattle.gf_studio.specs.declared.studio_error.StudioError.{StudioError};
-ghost use Rattle.gf_edit.specs.EditRun.{Edits, ReadsForEdit, RefusesEditRun, WritesEdit};
-ghost use Rattle.gf_edit.specs.EditRun.{WritesEditPrefix};
+ghost use Rattle.gf_studio.specs.RunAnswers.{LeavesSinkBy, ReadsInputBy};
+ghost use Rattle.gf_edit.specs.EditRun.{Edits, IsEditOf, RefusesEdit, WritesEdit, of_edit};
 
 use crate::edited::Edited;
 use crate::editing::edit;
 use crate::{EditError, Made};
-use gf_streams::{MOST_INPUT_BYTES, Sink, SinkFault, Source, write_whole};
+use gf_streams::{Sink, SinkFault, Source, write_whole};
 use gf_studio::{StudioError, input};
 use std::alloc::Global;
 
@@ -31,26 +28,16 @@ pub fn edit_run<R: Source, W: Sink>(
     // made.
     ensures edits { IfOk result (λ made. IfSome (R.left source.old) (λ bytes.
         WritesEdit editor bytes made (W.taken sink.old) (W.taken sink.new))) }
-    ensures flushed { OnOk result (IsTrue (W.flushed sink.new)) }
 
     // The same as `fig_run` promises. In place of a drawing, the error says what blocks the site,
     // or which command it refuses.
-    ensures source { ReadsForEdit MOST_INPUT_BYTES (R.left source.old) (R.left source.new)
-        (R.failures source.old) (R.failures source.new) result }
+    ensures source { ReadsInputBy R.Source source.old source.new of_edit result }
     ensures refused { IfErr result (λ e. IfSome (R.left source.old) (λ bytes.
-        RefusesEditRun editor bytes e)) }
+        RefusesEdit editor bytes e)) }
 
     // At most a prefix of the text is written, and that only where the sink failed.
-    ensures prefix { result ≡ Err (EditError.Run StudioError.WriteFailed)
-        → IfSome (R.left source.old) (λ bytes.
-        WritesEditPrefix editor bytes (W.taken sink.old) (W.taken sink.new)) }
-    ensures failed { result ≡ Err (EditError.Run StudioError.WriteFailed) →
-        Rises (W.failures sink.old) (W.failures sink.new) }
-    ensures unwritten { IfErr result (λ e. (sink.new ≡ sink.old)
-        ⊎ (e ≡ EditError.Run StudioError.WriteFailed)) }
-
-    ensures takes { ConsumesAtMost (MOST_INPUT_BYTES + 1) (R.left source.old) (R.left source.new) }
-    ensures reads { R.reads source.new ≤ R.reads source.old + (MOST_INPUT_BYTES + 1) }
+    ensures sink { LeavesSinkBy W.Sink (R.left source.old) (IsEditOf editor) sink.old sink.new of_edit
+        result }
 {
     let edited = edit_lines(alloc, source, editor)?;
     match write_whole(sink, &edited.text) {
@@ -64,13 +51,10 @@ fn edit_lines<R: Source>(alloc: Global, source: &mut R, editor: u8) -> Result<Ed
     requires { IsSite editor }
     ensures ok { IfOk result (λ edited. IfSome (R.left source.old) (λ bytes.
         Edits editor bytes edited.text.items edited.made)) }
-    ensures source { ReadsForEdit MOST_INPUT_BYTES (R.left source.old) (R.left source.new)
-        (R.failures source.old) (R.failures source.new) result }
+    ensures source { ReadsInputBy R.Source source.old source.new of_edit result }
     ensures refused { IfErr result (λ e. IfSome (R.left source.old) (λ bytes.
-        RefusesEditRun editor bytes e)) }
-    ensures no_write { IfErr result (λ e. e ≢ EditError.Run StudioError.WriteFailed) }
-    ensures takes { ConsumesAtMost (MOST_INPUT_BYTES + 1) (R.left source.old) (R.left source.new) }
-    ensures reads { R.reads source.new ≤ R.reads source.old + (MOST_INPUT_BYTES + 1) }
+        RefusesEdit editor bytes e)) }
+    ensures no_write { IfErr result (λ e. of_edit e ≢ Some StudioError.WriteFailed) }
 {
     let bytes = match input(alloc, source) {
         Ok(bytes) => bytes,

@@ -2,7 +2,6 @@
 use Rattle.std.specs.Prelude.{Some}
 use Rattle.std.proofs.Common.{◌≡◌, ◌∙◌, ◌||◌, ◌++◌, ◌∷◌, [], Bool, List, ap, map, refl}
 use Rattle.std.proofs.Common.{subst, sym, ℕ}
-use Rattle.std.proofs.lemmas.List.{append_cancel_left}
 use Rattle.gf_shape.specs.declared.any_shape.AnyShape.{AnyShape}
 use Rattle.gf_shape.specs.declared.point.Point.{Point}
 use Rattle.gf_shape.specs.FigureMeaning.{outline_holds}
@@ -12,15 +11,13 @@ use Rattle.gf_shape.specs.ShapeMeaning.{any_holds}
 use Rattle.gf_drawing.specs.declared.figure.Figure.{Figure}
 use Rattle.gf_drawing.specs.DrawingState.{DrawingState}
 use Rattle.gf_drawing.specs.Outlined.{figure_outlined, outlined}
-use Rattle.gf_fig_read.specs.FigGrammar.{Reads}
 use Rattle.gf_fig_read.specs.Objects.{Drawn}
 use Rattle.gf_fig_read.proofs.GrammarLemmas.{one_drawing}
-use Rattle.gf_fig_write.specs.FigText.{fig_text}
 use Rattle.gf_replay.specs.Denoting.{HaveSameOperations}
 use Rattle.gf_scanline.specs.Windows.{View}
 use Rattle.gf_studio.specs.FigRun.{Draws, Writes}
 use Rattle.gf_studio.specs.PaintRun.{IsDenoted, IsMeant, WritesPicture}
-use Rattle.gf_studio.proofs.PaintingLemmas.{text_repaints}
+use Rattle.gf_studio.proofs.PaintingLemmas.{text_reads, text_repaints}
 use Rattle.gf_studio.proofs.SameLemmas.{draw_alike, histories_draw, paint_alike}
 use Rattle.gf_fit.specs.FittedRun.{FitsLines, FitsText}
 use Rattle.gf_fit.specs.FittedWindow.{IsFitted, held}
@@ -68,26 +65,23 @@ outlines_fit frame w d =
 module _ (bytes before text : List ℕ) (x : Writes bytes (Some before) (Some (before ++ text)))
     (frame : Sides) (v w : View) (y : FitsLines bytes frame v) (z : FitsText text frame w) where
   -- the text reads as the outlines of what the bytes draw
-  text_drawing : outlined any_outline x.drawing ≡ z.drawing
+  text_drawing : outlined any_outline x.is.drawing ≡ z.drawing
   text_drawing =
-      let drawing = outlined any_outline x.drawing in
-      let written = fig_text any_outline x.drawing in
-      let same : text ≡ written = append_cancel_left before text written x.written in
-      let reads = subst (λ t. Reads t drawing) (sym same) x.reads in
-      one_drawing text drawing z.drawing reads z.reads
+      one_drawing text (outlined any_outline x.is.drawing) z.drawing (text_reads bytes before text x)
+      z.reads
 
-  drawing_same : (other : DrawingState AnyShape) → Draws bytes other → x.drawing ≡ other
+  drawing_same : (other : DrawingState AnyShape) → Draws bytes other → x.is.drawing ≡ other
   drawing_same other drawn =
-      let h = x.drawn.history in
-      let denoted = x.drawn.denoted in
-      histories_draw bytes bytes h h denoted denoted (λ a. (λ i. i, λ i. i)) x.drawing other
-      x.drawn drawn
+      let h = x.is.drawn.history in
+      let denoted = x.is.drawn.denoted in
+      histories_draw bytes bytes h h denoted denoted (λ a. (λ i. i, λ i. i)) x.is.drawing
+      other x.is.drawn drawn
 
   pub text_fits : v ≡ w
   text_fits =
       let same = sym (drawing_same y.drawing y.drawn) in
       let shapes = subst (FitsShapes frame v) same y.fitted in
-      let outlines = outlines_fit frame v x.drawing shapes in
+      let outlines = outlines_fit frame v x.is.drawing shapes in
       one_window (held outline_holds z.drawing.figures) frame v w
       (subst (FitsOutlines frame v) text_drawing outlines) z.fitted
 
@@ -95,5 +89,5 @@ module _ (bytes before text : List ℕ) (x : Writes bytes (Some before) (Some (b
       → WritesPicture (IsDenoted text) w (Some taken) (Some repainted) → painted ≡ repainted
   text_fits-picture taken painted repainted p q =
       let there = subst (Paints bytes taken painted) text_fits p in
-      let same = drawing_same there.shown.drawing there.shown.drawn in
+      let same = drawing_same there.is.shown.drawing there.is.shown.drawn in
       text_repaints bytes before text x w taken painted repainted there same q

@@ -1,3 +1,4 @@
 pub mod BoundsLemmas
 pub mod FittingLemmas
 pub mod FittedLaws
+pub mod LeavingLemmas

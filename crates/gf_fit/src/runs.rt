@@ -1,17 +1,15 @@
 //! Whole runs: from operation lines, or a FIG text, to a picture in the window that fits what they
 //! draw.
 
-ghost use Rattle.std.specs.Prelude.{◌≡◌, ◌+◌, ◌≤◌, ◌⊎◌, Err, IfSome, IfOk, IfErr, OnOk, IsTrue};
-ghost use Rattle.gf_streams.specs.Counts.{Rises};
-ghost use Rattle.gf_streams.specs.Reads.{ConsumesAtMost};
+ghost use Rattle.std.specs.Prelude.{◌≤◌, IfSome, IfOk, IfErr};
 ghost use Rattle.gf_studio.specs.PaintRun.{IsDenoted, IsMeant, WritesPicture};
-ghost use Rattle.gf_studio.specs.RunAnswers.{ReadsFor, RefusesFig, RefusesLines};
-ghost use Rattle.gf_fit.specs.FittedRun.{FitsLines, FitsText, WritesFittedBands};
-ghost use Rattle.gf_fit.specs.FittedRun.{WritesFittedPrefix};
+ghost use Rattle.gf_studio.specs.RefusedRuns.{RefusesFig, RefusesLines};
+ghost use Rattle.gf_studio.specs.RunAnswers.{ReadsInput};
+ghost use Rattle.gf_fit.specs.FittedRun.{FitsLines, FitsText, PaintsFitted};
 
 use crate::{Frame, fitted_window};
 use gf_raster::ppm_to;
-use gf_streams::{MOST_INPUT_BYTES, Sink, Source};
+use gf_streams::{Sink, Source};
 use gf_studio::{Gate, StudioError, Window, drawing_of_fig, drawing_of_lines};
 use std::alloc::Global;
 use std::thread::Threads;
@@ -19,6 +17,7 @@ use std::thread::Threads;
 /// Reads operation lines to their end, and writes the picture of their history's colours in the
 /// window that fits. The lines are read and the picture is painted by 1 to 16 workers. The answer
 /// is this window. All is read before the first write.
+#[tactic(auto, using(crate::proofs::LeavingLemmas::fitted_prefix, crate::proofs::LeavingLemmas::fitted_bands))]
 pub fn paint_fitted_run<T: Threads + Sync, R: Source, W: Sink, G: Gate + Sync>(
     rt: &T,
     alloc: Global,
@@ -35,30 +34,16 @@ pub fn paint_fitted_run<T: Threads + Sync, R: Source, W: Sink, G: Gate + Sync>(
         FitsLines bytes frame window)) }
     ensures paints { IfOk result (λ window. IfSome (R.left source.old) (λ bytes.
         WritesPicture (IsMeant bytes) window (W.taken sink.old) (W.taken sink.new))) }
-    ensures flushed { OnOk result (IsTrue (W.flushed sink.new)) }
 
     // The same as `paint_run` of `gf_studio` promises.
-    ensures source { ReadsFor MOST_INPUT_BYTES (R.left source.old) (R.left source.new)
-        (R.failures source.old) (R.failures source.new) result }
+    ensures source { ReadsInput R.Source source.old source.new result }
     ensures refused { IfErr result (λ e. IfSome (R.left source.old) (λ bytes.
         RefusesLines bytes e)) }
 
     // A prefix of the picture is written where the sink failed. Want of memory leaves nothing, or
     // the header and whole bands. With any other error nothing is written.
-    ensures prefix { result ≡ Err StudioError.WriteFailed → IfSome (R.left source.old) (λ bytes.
-        WritesFittedPrefix (FitsLines bytes frame) (IsMeant bytes)
-        (W.taken sink.old) (W.taken sink.new)) }
-    ensures failed { result ≡ Err StudioError.WriteFailed →
-        Rises (W.failures sink.old) (W.failures sink.new) }
-    ensures memory { result ≡ Err StudioError.OutOfMemory → (sink.new ≡ sink.old) ⊎
-        IfSome (R.left source.old) (λ bytes.
-        WritesFittedBands (FitsLines bytes frame) (IsMeant bytes)
-        (W.taken sink.old) (W.taken sink.new)) }
-    ensures unwritten { IfErr result (λ e.
-        (sink.new ≡ sink.old) ⊎ (e ≡ StudioError.WriteFailed) ⊎ (e ≡ StudioError.OutOfMemory)) }
-
-    ensures takes { ConsumesAtMost (MOST_INPUT_BYTES + 1) (R.left source.old) (R.left source.new) }
-    ensures reads { R.reads source.new ≤ R.reads source.old + (MOST_INPUT_BYTES + 1) }
+    ensures sink { PaintsFitted W.Sink (R.left source.old) FitsLines IsMeant frame sink.old sink.new
+        result }
 {
     let meant = drawing_of_lines(rt, alloc, source, workers)?;
     let window = fitted_window(&meant, frame);
@@ -69,6 +54,7 @@ pub fn paint_fitted_run<T: Threads + Sync, R: Source, W: Sink, G: Gate + Sync>(
 /// Reads a FIG text to its end, and writes the picture of its drawing in the window that fits. The
 /// picture is painted by 1 to 16 workers. The answer is this window. All is read before the first
 /// write.
+#[tactic(auto, using(crate::proofs::LeavingLemmas::fitted_prefix, crate::proofs::LeavingLemmas::fitted_bands))]
 pub fn repaint_fitted_run<T: Threads + Sync, R: Source, W: Sink, G: Gate + Sync>(
     rt: &T,
     alloc: Global,
@@ -85,28 +71,13 @@ pub fn repaint_fitted_run<T: Threads + Sync, R: Source, W: Sink, G: Gate + Sync>
         FitsText text frame window)) }
     ensures paints { IfOk result (λ window. IfSome (R.left source.old) (λ text.
         WritesPicture (IsDenoted text) window (W.taken sink.old) (W.taken sink.new))) }
-    ensures flushed { OnOk result (IsTrue (W.flushed sink.new)) }
 
     // The same as `repaint_run` of `gf_studio` promises.
-    ensures source { ReadsFor MOST_INPUT_BYTES (R.left source.old) (R.left source.new)
-        (R.failures source.old) (R.failures source.new) result }
+    ensures source { ReadsInput R.Source source.old source.new result }
     ensures refused { IfErr result (λ e. IfSome (R.left source.old) (λ text. RefusesFig text e)) }
 
-    // The same as `paint_fitted_run` promises.
-    ensures prefix { result ≡ Err StudioError.WriteFailed → IfSome (R.left source.old) (λ text.
-        WritesFittedPrefix (FitsText text frame) (IsDenoted text)
-        (W.taken sink.old) (W.taken sink.new)) }
-    ensures failed { result ≡ Err StudioError.WriteFailed →
-        Rises (W.failures sink.old) (W.failures sink.new) }
-    ensures memory { result ≡ Err StudioError.OutOfMemory → (sink.new ≡ sink.old) ⊎
-        IfSome (R.left source.old) (λ text.
-        WritesFittedBands (FitsText text frame) (IsDenoted text)
-        (W.taken sink.old) (W.taken sink.new)) }
-    ensures unwritten { IfErr result (λ e.
-        (sink.new ≡ sink.old) ⊎ (e ≡ StudioError.WriteFailed) ⊎ (e ≡ StudioError.OutOfMemory)) }
-
-    ensures takes { ConsumesAtMost (MOST_INPUT_BYTES + 1) (R.left source.old) (R.left source.new) }
-    ensures reads { R.reads source.new ≤ R.reads source.old + (MOST_INPUT_BYTES + 1) }
+    ensures sink { PaintsFitted W.Sink (R.left source.old) FitsText IsDenoted frame sink.old
+        sink.new result }
 {
     let denoted = drawing_of_fig(alloc, source)?;
     let window = fitted_window(&denoted, frame);

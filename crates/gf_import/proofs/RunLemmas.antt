@@ -10,7 +10,7 @@ run_refused : (fig : List ℕ) (e : ImportError) → RefusesImport fig e → Ref
 run_refused fig import_error.TooManyFigures f = f
 run_refused fig (import_error.Fig line e) f = f
 run_refused fig (import_error.Figure line object fault) f = f
-run_refused fig (import_error.Run studio.OutOfMemory) f = f
+run_refused fig (import_error.Run studio.OutOfMemory) f = tt
 run_refused fig (import_error.Run (studio.Fig x)) f = absurd f
 run_refused fig (import_error.Run (studio.Line m why)) f = absurd f
 run_refused fig (import_error.Run (studio.Dropped id fault)) f = absurd f

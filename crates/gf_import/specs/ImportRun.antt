@@ -1,12 +1,12 @@
 -- What an import writes, and why it is refused (this project's choice).
-use Rattle.std.specs.Prelude.{◌≡◌, ℕ, List, Option, Result, MatchResult, ⊤}
-use Rattle.std.specs.Io.KnownBytes.{Appends}
-use Rattle.gf_streams.specs.Taken.{AppendsPrefix}
+use Rattle.std.specs.Prelude.{◌≡◌, ℕ, List, Option, None, Some, ⊤}
 use Rattle.gf_fig_read.specs.FaultLines.{BeginsOn, IsFaultLine}
 use Rattle.gf_fig_read.specs.FigGrammar.{Fails, Reads}
 use Rattle.gf_fig_read.specs.Objects.{Drawn}
+use Rattle.gf_studio.specs.declared.studio_error.StudioError.{StudioError}
 use Rattle.gf_studio.specs.declared.studio_error.StudioError.TheVariants as studio
-use Rattle.gf_studio.specs.RunAnswers.{ReadsAll, ReadsUntil}
+use Rattle.gf_studio.specs.RefusedRuns.{IsOfRun}
+use Rattle.gf_studio.specs.RunAnswers.{WritesText}
 use Rattle.gf_import.specs.declared.faults.CreationError.{CreationError}
 use Rattle.gf_import.specs.declared.faults.CreationError.TheVariants as creation
 use Rattle.gf_import.specs.declared.import_error.ImportError.{ImportError}
@@ -26,16 +26,8 @@ pub record Imports (s : ℕ) (fig text : List ℕ) : Type 0 where
   pub denotes : DenotesChanges s text (creations_of drawing)
 
 -- known bytes grow from old to new by the lines of an import
-pub record WritesImport (s : ℕ) (fig : List ℕ) (old new : Option (List ℕ)) : Type 0 where
-  pub text : List ℕ
-  pub imports : Imports s fig text
-  pub written : Appends old new text
-
--- known bytes grow by a prefix, which may be none or all, of the lines of an import
-pub record WritesImportPrefix (s : ℕ) (fig : List ℕ) (old new : Option (List ℕ)) : Type 0 where
-  pub text : List ℕ
-  pub imports : Imports s fig text
-  pub written : AppendsPrefix old new text
+abbrev pub WritesImport : ℕ → List ℕ → Option (List ℕ) → Option (List ℕ) → Type 0
+WritesImport s fig old new = WritesText (Imports s fig) old new
 
 -- the FIG text reads as a drawing that has no creations for this reason
 pub record HasNoCreations (fig : List ℕ) (e : CreationError) : Type 0 where
@@ -55,21 +47,10 @@ RefusesImport fig other = ⊥
 
 -- why an importing run is refused
 abbrev pub RefusesImportRun : List ℕ → ImportError → Type 0
-RefusesImportRun fig (import_error.Run studio.ReadFailed) = ⊤
-RefusesImportRun fig (import_error.Run studio.TooLong) = ⊤
-RefusesImportRun fig (import_error.Run studio.WriteFailed) = ⊤
+RefusesImportRun fig (import_error.Run e) = IsOfRun e
 RefusesImportRun fig e = RefusesImport fig e
 
--- an input has at most `most` bytes. The bytes left go from old to new, and the count of failures
--- from was to is
-module _ (most : ℕ) (old new : Option (List ℕ)) (was is : ℕ) where
-  -- what was read where an importing run is refused with this error
-  abbrev pub ReadsBeforeImport : ImportError → Type 0
-  ReadsBeforeImport (import_error.Run e) = ReadsUntil most old new was is e
-  ReadsBeforeImport import_error.TooManyFigures = ReadsAll most old new was is
-  ReadsBeforeImport (import_error.Fig line e) = ReadsAll most old new was is
-  ReadsBeforeImport (import_error.Figure line object fault) = ReadsAll most old new was is
-
-  -- what was read where an importing run gives this answer
-  abbrev pub ReadsForImport : {T : Type 0} → Result T ImportError → Type 0
-  ReadsForImport result = MatchResult result (λ _. ReadsAll most old new was is) ReadsBeforeImport
+-- the error of an import that other runs may have too
+abbrev pub of_import : ImportError → Option StudioError
+of_import (import_error.Run e) = Some e
+of_import other = None

@@ -1,17 +1,14 @@
 //! The whole run over an imported text.
 
-ghost use Rattle.std.specs.Prelude.{◌≡◌, ◌≢◌, ◌+◌, ◌≤◌, ◌⊎◌, Err, IfSome, IfOk, IfErr, OnOk};
-ghost use Rattle.std.specs.Prelude.{IsTrue};
-ghost use Rattle.gf_streams.specs.Counts.{Rises};
-ghost use Rattle.gf_streams.specs.Reads.{ConsumesAtMost};
+ghost use Rattle.std.specs.Prelude.{◌≢◌, Some, IfSome, IfOk, IfErr, OnOk};
 ghost use Rattle.gf_ops.specs.OperationOrder.{IsSite};
 ghost use Rattle.gf_studio.specs.declared.studio_error.StudioError.{StudioError};
-ghost use Rattle.gf_import.specs.ImportRun.{Imports, ReadsForImport, RefusesImportRun};
-ghost use Rattle.gf_import.specs.ImportRun.{WritesImport, WritesImportPrefix};
+ghost use Rattle.gf_studio.specs.RunAnswers.{LeavesSinkBy, ReadsInputBy};
+ghost use Rattle.gf_import.specs.ImportRun.{Imports, RefusesImportRun, WritesImport, of_import};
 
 use crate::ImportError;
 use crate::importing::import;
-use gf_streams::{MOST_INPUT_BYTES, Sink, SinkFault, Source, write_whole};
+use gf_streams::{Sink, SinkFault, Source, write_whole};
 use gf_studio::{StudioError, input};
 use std::alloc::Global;
 
@@ -29,27 +26,16 @@ pub fn import_run<R: Source, W: Sink>(
     // commands.
     ensures imports { OnOk result (IfSome (R.left source.old) (λ fig.
         WritesImport site fig (W.taken sink.old) (W.taken sink.new))) }
-    ensures flushed { OnOk result (IsTrue (W.flushed sink.new)) }
 
     // The text was read whole, or the source failed, or had more than an input. It reads as no
     // drawing, or as one of too many figures, or one of its figures breaks a limit.
-    ensures source { ReadsForImport MOST_INPUT_BYTES (R.left source.old) (R.left source.new)
-        (R.failures source.old) (R.failures source.new) result }
+    ensures source { ReadsInputBy R.Source source.old source.new of_import result }
     ensures refused { IfErr result (λ e. IfSome (R.left source.old) (λ fig.
         RefusesImportRun fig e)) }
 
     // At most a prefix of the lines is written, and that only where the sink failed.
-    ensures prefix { result ≡ Err (ImportError.Run StudioError.WriteFailed)
-        → IfSome (R.left source.old) (λ fig.
-        WritesImportPrefix site fig (W.taken sink.old) (W.taken sink.new)) }
-    ensures failed { result ≡ Err (ImportError.Run StudioError.WriteFailed) →
-        Rises (W.failures sink.old) (W.failures sink.new) }
-    ensures unwritten { IfErr result (λ e. (sink.new ≡ sink.old)
-        ⊎ (e ≡ ImportError.Run StudioError.WriteFailed)) }
-
-    // At most one byte past the longest input is read, in no more reads than that.
-    ensures takes { ConsumesAtMost (MOST_INPUT_BYTES + 1) (R.left source.old) (R.left source.new) }
-    ensures reads { R.reads source.new ≤ R.reads source.old + (MOST_INPUT_BYTES + 1) }
+    ensures sink { LeavesSinkBy W.Sink (R.left source.old) (Imports site) sink.old sink.new of_import
+        result }
 {
     let text = import_lines(alloc, source, site)?;
     match write_whole(sink, &text) {
@@ -63,13 +49,10 @@ fn import_lines<R: Source>(alloc: Global, source: &mut R, site: u8) -> Result<Ve
     requires { IsSite site }
     ensures ok { IfOk result (λ text. IfSome (R.left source.old) (λ fig.
         Imports site fig text.items)) }
-    ensures source { ReadsForImport MOST_INPUT_BYTES (R.left source.old) (R.left source.new)
-        (R.failures source.old) (R.failures source.new) result }
+    ensures source { ReadsInputBy R.Source source.old source.new of_import result }
     ensures refused { IfErr result (λ e. IfSome (R.left source.old) (λ fig.
         RefusesImportRun fig e)) }
-    ensures no_write { IfErr result (λ e. e ≢ ImportError.Run StudioError.WriteFailed) }
-    ensures takes { ConsumesAtMost (MOST_INPUT_BYTES + 1) (R.left source.old) (R.left source.new) }
-    ensures reads { R.reads source.new ≤ R.reads source.old + (MOST_INPUT_BYTES + 1) }
+    ensures no_write { IfErr result (λ e. of_import e ≢ Some StudioError.WriteFailed) }
 {
     let fig = match input(alloc, source) {
         Ok(fig) => fig,

@@ -23,8 +23,8 @@ use Rattle.gf_session.specs.declared.session.Done.{Done}
 use Rattle.gf_session.specs.Session.{IsSession, place_of, places}
 use Rattle.gf_session_run.specs.DenotedScripts.{DenotesScripts}
 use Rattle.gf_session_run.specs.Reports.{report_text}
-use Rattle.gf_session_run.specs.SessionRun.{IsSiteCount, PlaysScripts, TellsSession}
-use Rattle.gf_session_run.specs.SessionSteps.{RefusesPlaying, RefusesTelling, TellsHistory}
+use Rattle.gf_session_run.specs.SessionRun.{IsSiteCount, PlaysScripts, RefusesSession, TellsSession}
+use Rattle.gf_session_run.specs.SessionSteps.{RefusesTelling, TellsHistory}
 
 -- the place that a site has in the outcome
 record IsPlace (scripts : List Script) (dones : List Done) (d : Done) : Type 0 where
@@ -86,17 +86,17 @@ module _ (n : ℕ) (bytes : List ℕ) (scripts : List Script) (dones : List Done
   told_session items (Ok t) tells = record { dones = dones; history = first.site.ops; plays = plays; drawing = tells.drawing; drawn = tells.drawn; shown = tells.shown; is = tells.is }
   told_session items (Err e) tells = tt
 
-  pub not_told : {T : Type 0} (r : Result T StudioError) → IfErr r (RefusesTelling first.site.ops) → IfErr r (RefusesPlaying n bytes)
+  pub not_told : {T : Type 0} (r : Result T StudioError) → IfErr r (RefusesTelling first.site.ops) → IfErr r (RefusesSession n bytes)
   not_told (Ok t) refused = tt
   not_told (Err (studio.Compile compile.TooManyVersions)) refused = record { dones = dones; history = first.site.ops; plays = plays; refused = refused }
   not_told (Err (studio.Compile compile.TooManyColours)) refused = record { dones = dones; history = first.site.ops; plays = plays; refused = refused }
-  not_told (Err (studio.Compile compile.OutOfMemory)) refused = refused
+  not_told (Err (studio.Compile compile.OutOfMemory)) refused = absurd refused
   not_told (Err studio.OutOfMemory) refused = tt
   not_told (Err (studio.Line m why)) refused = absurd refused
-  not_told (Err (studio.Dropped id fault)) refused = refused
-  not_told (Err (studio.Fig e)) refused = refused
+  not_told (Err (studio.Dropped id fault)) refused = absurd refused
+  not_told (Err (studio.Fig e)) refused = absurd refused
   not_told (Err (studio.Session e)) refused = absurd refused
-  not_told (Err (studio.NoObject o)) refused = refused
-  not_told (Err studio.ReadFailed) refused = refused
-  not_told (Err studio.TooLong) refused = refused
-  not_told (Err studio.WriteFailed) refused = refused
+  not_told (Err (studio.NoObject o)) refused = absurd refused
+  not_told (Err studio.ReadFailed) refused = absurd refused
+  not_told (Err studio.TooLong) refused = absurd refused
+  not_told (Err studio.WriteFailed) refused = absurd refused

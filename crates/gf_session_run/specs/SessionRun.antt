@@ -1,10 +1,8 @@
 -- What the run over a session text writes, and why it is refused (this project's choice).
 use Rattle.std.specs.Prelude.{◌≡◌, ◌≤◌, ℕ, List, ◌++◌, Option, Contains, ⊤}
-use Rattle.std.specs.Io.KnownBytes.{Appends}
 use Rattle.gf_shape.specs.declared.any_shape.AnyShape.{AnyShape}
 use Rattle.gf_shape.specs.Outlines.{any_outline}
 use Rattle.gf_ops.specs.declared.op.Op.{Op}
-use Rattle.gf_streams.specs.Taken.{AppendsPrefix}
 use Rattle.gf_causal.specs.DeliveredPart.{HaveSame}
 use Rattle.gf_drawing.specs.declared.compiling.CompileFault.{CompileFault}
 use Rattle.gf_drawing.specs.declared.compiling.CompileFault.TheVariants as compile
@@ -18,6 +16,8 @@ use Rattle.gf_session.specs.Session.{IsSession}
 use Rattle.gf_studio.specs.declared.studio_error.StudioError.{StudioError}
 use Rattle.gf_studio.specs.declared.studio_error.StudioError.TheVariants as studio
 use Rattle.gf_studio.specs.FigRun.{IsDrawn, RefusesHistory}
+use Rattle.gf_studio.specs.RefusedRuns.{IsOfRun}
+use Rattle.gf_studio.specs.RunAnswers.{WritesText}
 use Rattle.gf_session_run.specs.DenotedScripts.{DenotesScripts, HasScriptFault}
 use Rattle.gf_session_run.specs.Reports.{report_text}
 
@@ -45,18 +45,8 @@ pub record TellsSession (n : ℕ) (bytes text : List ℕ) : Type 0 where
   pub is : text ≡ report_text dones ++ fig_text any_outline drawing
 
 -- known bytes grow from old to new by the text of a session of n sites that the bytes denote
-pub record WritesSession (n : ℕ) (bytes : List ℕ) (old new : Option (List ℕ)) : Type 0 where
-  pub text : List ℕ
-  pub tells : TellsSession n bytes text
-  pub written : Appends old new text
-
--- known bytes grow from old to new by a prefix of the text of a session of n sites. The bytes
--- denote this session, and the prefix may be none or all of the text
-pub record WritesSessionPrefix (n : ℕ) (bytes : List ℕ)
-    (old new : Option (List ℕ)) : Type 0 where
-  pub text : List ℕ
-  pub tells : TellsSession n bytes text
-  pub written : AppendsPrefix old new text
+abbrev pub WritesSession : ℕ → List ℕ → Option (List ℕ) → Option (List ℕ) → Type 0
+WritesSession n bytes old new = WritesText (TellsSession n bytes) old new
 
 -- a session of the scripts that the bytes denote came to a history that has no drawing, for this
 -- fault
@@ -68,20 +58,13 @@ pub record HasNoDrawing (n : ℕ) (bytes : List ℕ) (fault : CompileFault) : Ty
 
 -- why the history of a session is not exported; want of memory says nothing of the history
 abbrev pub RefusesExport : ℕ → List ℕ → CompileFault → Type 0
-RefusesExport n bytes compile.TooManyVersions = HasNoDrawing n bytes compile.TooManyVersions
-RefusesExport n bytes compile.TooManyColours = HasNoDrawing n bytes compile.TooManyColours
 RefusesExport n bytes compile.OutOfMemory = ⊥
+RefusesExport n bytes fault = HasNoDrawing n bytes fault
 
 -- why the run is refused
 abbrev pub RefusesSession : ℕ → List ℕ → StudioError → Type 0
 RefusesSession n bytes (studio.Line m cause) = HasScriptFault n bytes m cause
-RefusesSession n bytes (studio.Dropped id fault) = ⊥
-RefusesSession n bytes (studio.Fig e) = ⊥
 RefusesSession n bytes (studio.Compile fault) = RefusesExport n bytes fault
 RefusesSession n bytes (studio.Session session.Sites) = ¬ (IsSiteCount n)
 RefusesSession n bytes (studio.Session session.OutOfMemory) = ⊤
-RefusesSession n bytes (studio.NoObject o) = ⊥
-RefusesSession n bytes studio.ReadFailed = ⊤
-RefusesSession n bytes studio.TooLong = ⊤
-RefusesSession n bytes studio.WriteFailed = ⊤
-RefusesSession n bytes studio.OutOfMemory = ⊤
+RefusesSession n bytes e = IsOfRun e

@@ -19,13 +19,11 @@ use Rattle.gf_json.specs.declared.scripts.Command.{Command}
 use Rattle.gf_json.specs.declared.scripts.ScriptLine.{ScriptLine}
 use Rattle.gf_json.specs.ScriptLines.{script_denoted}
 use Rattle.gf_worker.specs.declared.script.Script.{Script}
-use Rattle.gf_session.specs.declared.session.SessionError.TheVariants as session
 use Rattle.gf_replay.specs.declared.reading_error.LineCause.{LineCause}
 use Rattle.gf_replay.specs.declared.reading_error.LineCause.TheVariants as cause
 use Rattle.gf_studio.specs.declared.studio_error.StudioError.{StudioError}
 use Rattle.gf_studio.specs.declared.studio_error.StudioError.TheVariants as studio
 use Rattle.gf_session_run.specs.DenotedScripts.{AreCommandsOf, AreScriptsOf, Fit, HasScriptFault}
-use Rattle.gf_session_run.specs.SessionRun.{RefusesExport}
 
 -- line m has this fault
 abbrev pub of_line : ℕ → LineError → StudioError
@@ -94,15 +92,8 @@ RefusesScripts n bytes (studio.Line m why) = HasScriptFault n bytes m why
 RefusesScripts n bytes studio.OutOfMemory = ⊤
 RefusesScripts n bytes other = ⊥
 
--- why what a text denotes is not played and told
-abbrev pub RefusesPlaying : ℕ → List ℕ → StudioError → Type 0
-RefusesPlaying n bytes (studio.Line m why) = HasScriptFault n bytes m why
-RefusesPlaying n bytes (studio.Compile fault) = RefusesExport n bytes fault
-RefusesPlaying n bytes (studio.Session session.OutOfMemory) = ⊤
-RefusesPlaying n bytes studio.OutOfMemory = ⊤
-RefusesPlaying n bytes other = ⊥
-
--- the text has the lines of all sites, and then the one FIG text of h's drawing, which shows h
+-- the text has the lines of all sites, and behind them the one FIG text of the drawing of h, which
+-- shows h
 pub record TellsHistory (h : List Op) (dones : List Done) (text : List ℕ) : Type 0 where
   pub drawing : DrawingState AnyShape
   pub drawn : IsDrawn h drawing

@@ -2,9 +2,10 @@
 
 ghost use Rattle.std.specs.Prelude.{◌≡◌, ◌≤◌, ◌++◌, All, IfOk, IfErr, vec_len};
 ghost use Rattle.gf_session.specs.Session.{IsSession};
+ghost use Rattle.gf_studio.specs.RefusedParts.{IsBetween};
 ghost use Rattle.gf_session_run.specs.Reports.{report_text};
-ghost use Rattle.gf_session_run.specs.SessionRun.{IsSiteCount, TellsSession};
-ghost use Rattle.gf_session_run.specs.SessionSteps.{RefusesPlaying, RefusesTelling, TellsHistory};
+ghost use Rattle.gf_session_run.specs.SessionRun.{IsSiteCount, RefusesSession, TellsSession};
+ghost use Rattle.gf_session_run.specs.SessionSteps.{RefusesTelling, TellsHistory};
 
 use crate::reports::push_reports;
 use crate::scripts::read_scripts;
@@ -29,7 +30,8 @@ pub(crate) fn play<T: Threads + Wait + Sync, G: Gate + Sync>(
 ) -> Result<Vec<u8>, StudioError>
     requires { IsSiteCount sites }
     ensures ok { IfOk result (λ text. TellsSession sites bytes.items text.items) }
-    ensures err { IfErr result (RefusesPlaying sites bytes.items) }
+    ensures refused { IfErr result (RefusesSession sites bytes.items) }
+    ensures between { IfErr result IsBetween }
 {
     let scripts = read_scripts(alloc, bytes, sites)?;
     let dones = run(rt, alloc, scripts, gate)?;

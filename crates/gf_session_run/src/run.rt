@@ -1,18 +1,15 @@
 //! The whole run over a session text.
 
-ghost use Rattle.std.specs.Prelude.{◌≡◌, ◌≢◌, ◌↔◌, ◌+◌, ◌≤◌, ◌⊎◌, Err, IfSome, IfOk, IfErr, OnOk};
-ghost use Rattle.std.specs.Prelude.{IsTrue};
-ghost use Rattle.gf_streams.specs.Counts.{Rises};
-ghost use Rattle.gf_streams.specs.Reads.{ConsumesAtMost};
+ghost use Rattle.std.specs.Prelude.{◌≡◌, ◌≢◌, ◌↔◌, ◌≤◌, Err, IfSome, IfOk, IfErr, OnOk, IsTrue};
 ghost use Rattle.gf_session.specs.declared.session.SessionError.{SessionError};
-ghost use Rattle.gf_studio.specs.RunAnswers.{ReadsFor};
+ghost use Rattle.gf_studio.specs.RunAnswers.{LeavesSink, ReadsInput};
 ghost use Rattle.gf_session_run.specs.SessionRun.{IsSiteCount, RefusesSession, TellsSession};
-ghost use Rattle.gf_session_run.specs.SessionRun.{WritesSession, WritesSessionPrefix};
+ghost use Rattle.gf_session_run.specs.SessionRun.{WritesSession};
 
 use crate::playing::play;
 use gf_gate::Gate;
 use gf_session::SessionError;
-use gf_streams::{MOST_INPUT_BYTES, Sink, SinkFault, Source, write_whole};
+use gf_streams::{Sink, SinkFault, Source, write_whole};
 use gf_studio::{StudioError, input};
 use std::alloc::Global;
 use std::sync::Wait;
@@ -34,27 +31,19 @@ pub fn session_run<T: Threads + Wait + Sync, R: Source, W: Sink, G: Gate + Sync>
     // history that all its sites have.
     ensures tells { OnOk result (IfSome (R.left source.old) (λ bytes.
         WritesSession sites bytes (W.taken sink.old) (W.taken sink.new))) }
-    ensures flushed { OnOk result (IsTrue (W.flushed sink.new)) }
 
     // Where a session may not have this many sites, nothing is read. Else this is the same as
     // `fig_run` promises, with scripts in place of operations. Want of memory in a session is told
     // apart.
     ensures sites { result ≡ Err (StudioError.Session SessionError.Sites) ↔
         (¬ (IsSiteCount sites)) }
-    ensures source { ReadsFor MOST_INPUT_BYTES (R.left source.old) (R.left source.new)
-        (R.failures source.old) (R.failures source.new) result }
+    ensures source { ReadsInput R.Source source.old source.new result }
     ensures refused { IfErr result (λ e. IfSome (R.left source.old) (λ bytes.
         RefusesSession sites bytes e)) }
 
     // At most a prefix of the text is written, and that only where the sink failed.
-    ensures prefix { result ≡ Err StudioError.WriteFailed → IfSome (R.left source.old) (λ bytes.
-        WritesSessionPrefix sites bytes (W.taken sink.old) (W.taken sink.new)) }
-    ensures failed { result ≡ Err StudioError.WriteFailed →
-        Rises (W.failures sink.old) (W.failures sink.new) }
-    ensures unwritten { IfErr result (λ e. (sink.new ≡ sink.old) ⊎ (e ≡ StudioError.WriteFailed)) }
-
-    ensures takes { ConsumesAtMost (MOST_INPUT_BYTES + 1) (R.left source.old) (R.left source.new) }
-    ensures reads { R.reads source.new ≤ R.reads source.old + (MOST_INPUT_BYTES + 1) }
+    ensures sink { LeavesSink W.Sink (R.left source.old) (TellsSession sites) sink.old sink.new
+        result }
 {
     if !is_site_count(sites) {
         return Err(StudioError::Session(SessionError::Sites));
@@ -83,14 +72,11 @@ fn play_lines<T: Threads + Wait + Sync, R: Source, G: Gate + Sync>(
     requires { IsSiteCount sites }
     ensures ok { IfOk result (λ text. IfSome (R.left source.old) (λ bytes.
         TellsSession sites bytes text.items)) }
-    ensures source { ReadsFor MOST_INPUT_BYTES (R.left source.old) (R.left source.new)
-        (R.failures source.old) (R.failures source.new) result }
+    ensures source { ReadsInput R.Source source.old source.new result }
     ensures refused { IfErr result (λ e. IfSome (R.left source.old) (λ bytes.
         RefusesSession sites bytes e)) }
     ensures no_write { IfErr result (λ e. e ≢ StudioError.WriteFailed) }
     ensures no_sites { result ≢ Err (StudioError.Session SessionError.Sites) }
-    ensures takes { ConsumesAtMost (MOST_INPUT_BYTES + 1) (R.left source.old) (R.left source.new) }
-    ensures reads { R.reads source.new ≤ R.reads source.old + (MOST_INPUT_BYTES + 1) }
 {
     let bytes = input(alloc, source)?;
     play(rt, alloc, bytes, sites, gate)

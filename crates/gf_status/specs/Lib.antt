@@ -5,6 +5,5 @@ pub mod HiddenChanges
 pub mod ObjectStatuses
 pub mod StatusLines
 pub mod StatusRun
-pub mod RefusedParts
 pub mod SettersAt
 pub mod Members

@@ -1,12 +1,8 @@
--- What the run of a status writes, and why it is refused (this project's choice).
-use Rattle.std.specs.Prelude.{◌≡◌, ℕ, List, Option, ⊤}
-use Rattle.std.specs.Io.KnownBytes.{Appends}
+-- What the run of a status writes (this project's choice).
+use Rattle.std.specs.Prelude.{◌≡◌, ℕ, List, Option}
 use Rattle.gf_ops.specs.declared.op.Op.{Op}
-use Rattle.gf_streams.specs.Taken.{AppendsPrefix}
-use Rattle.gf_replay.specs.Refusing.{Drops, HasFault}
 use Rattle.gf_replay.specs.Waiting.{DenotesWaiting}
-use Rattle.gf_studio.specs.declared.studio_error.StudioError.{StudioError}
-use Rattle.gf_studio.specs.declared.studio_error.StudioError.TheVariants as studio
+use Rattle.gf_studio.specs.RunAnswers.{WritesText}
 use Rattle.gf_status.specs.declared.objects.ObjectStatus.{ObjectStatus}
 use Rattle.gf_status.specs.declared.state.State.{State}
 use Rattle.gf_status.specs.ObjectStatuses.{AreStatuses}
@@ -28,28 +24,9 @@ pub record DenotesStatus (bytes text : List ℕ) (state : State) : Type 0 where
   pub tells : TellsStatus history waiting text state
 
 -- known bytes grow from old to new by the status of what the bytes denote
-pub record WritesStatus (bytes : List ℕ) (state : State)
-    (old new : Option (List ℕ)) : Type 0 where
-  pub text : List ℕ
-  pub denotes : DenotesStatus bytes text state
-  pub written : Appends old new text
+abbrev pub WritesStatus : List ℕ → State → Option (List ℕ) → Option (List ℕ) → Type 0
+WritesStatus bytes state old new = WritesText (λ text. DenotesStatus bytes text state) old new
 
--- known bytes grow by a prefix, which may be none or all, of the status of what the bytes denote
-pub record WritesStatusPrefix (bytes : List ℕ) (old new : Option (List ℕ)) : Type 0 where
-  pub text : List ℕ
-  pub state : State
-  pub denotes : DenotesStatus bytes text state
-  pub written : AppendsPrefix old new text
-
--- why a run of a status is refused
-abbrev pub RefusesStatus : List ℕ → StudioError → Type 0
-RefusesStatus bytes (studio.Line n cause) = HasFault bytes n cause
-RefusesStatus bytes (studio.Dropped id fault) = Drops bytes id fault
-RefusesStatus bytes (studio.Fig e) = ⊥
-RefusesStatus bytes (studio.Compile fault) = ⊥
-RefusesStatus bytes (studio.Session e) = ⊥
-RefusesStatus bytes (studio.NoObject o) = ⊥
-RefusesStatus bytes studio.ReadFailed = ⊤
-RefusesStatus bytes studio.TooLong = ⊤
-RefusesStatus bytes studio.WriteFailed = ⊤
-RefusesStatus bytes studio.OutOfMemory = ⊤
+-- the text is the status of what the bytes denote
+abbrev pub IsStatusOf : List ℕ → List ℕ → Type 0
+IsStatusOf bytes text = (state : State) × DenotesStatus bytes text state

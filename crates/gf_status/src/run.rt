@@ -1,14 +1,11 @@
 //! From the bytes of operation lines to the status of their history.
 
-ghost use Rattle.std.specs.Prelude.{◌≡◌, ◌≢◌, ◌+◌, ◌≤◌, ◌⊎◌, Err, IfSome, IfOk, IfErr, OnOk};
-ghost use Rattle.std.specs.Prelude.{IsTrue, map};
+ghost use Rattle.std.specs.Prelude.{◌≡◌, ◌≢◌, ◌≤◌, IfSome, IfOk, IfErr, map};
 ghost use Rattle.std.specs.List.{list_all};
-ghost use Rattle.gf_streams.specs.Counts.{Rises};
-ghost use Rattle.gf_streams.specs.Reads.{ConsumesAtMost};
-ghost use Rattle.gf_studio.specs.RunAnswers.{ReadsFor};
-ghost use Rattle.gf_status.specs.RefusedParts.{RefusesReading};
-ghost use Rattle.gf_status.specs.StatusRun.{DenotesStatus, RefusesStatus, TellsStatus};
-ghost use Rattle.gf_status.specs.StatusRun.{WritesStatus, WritesStatusPrefix};
+ghost use Rattle.gf_studio.specs.RefusedParts.{IsBetween};
+ghost use Rattle.gf_studio.specs.RefusedRuns.{RefusesReading};
+ghost use Rattle.gf_studio.specs.RunAnswers.{LeavesSink, ReadsInput};
+ghost use Rattle.gf_status.specs.StatusRun.{DenotesStatus, IsStatusOf, TellsStatus, WritesStatus};
 ghost use Rattle.gf_status.specs.StatusLines.{is_clean, state_of};
 
 use crate::counting::MOST_COUNTED;
@@ -18,7 +15,7 @@ use gf_ops::Op;
 use gf_replay::read_site;
 use gf_shape::OutOfMemory;
 use gf_site::Site;
-use gf_streams::{MOST_INPUT_BYTES, Sink, SinkFault, Source, write_whole};
+use gf_streams::{Sink, SinkFault, Source, write_whole};
 use gf_studio::{StudioError, input};
 use std::alloc::Global;
 use std::thread::Threads;
@@ -46,23 +43,14 @@ pub fn status_run<T: Threads + Sync, R: Source, W: Sink>(
     // What is written is the status of the history that the bytes denote.
     ensures tells { IfOk result (λ state. IfSome (R.left source.old) (λ bytes.
         WritesStatus bytes state (W.taken sink.old) (W.taken sink.new))) }
-    ensures flushed { OnOk result (IsTrue (W.flushed sink.new)) }
 
     // The same as `fig_run` promises, with no drawing.
-    ensures source { ReadsFor MOST_INPUT_BYTES (R.left source.old) (R.left source.new)
-        (R.failures source.old) (R.failures source.new) result }
+    ensures source { ReadsInput R.Source source.old source.new result }
     ensures refused { IfErr result (λ e. IfSome (R.left source.old) (λ bytes.
-        RefusesStatus bytes e)) }
+        RefusesReading bytes e)) }
 
     // At most a prefix of the text is written, and that only where the sink failed.
-    ensures prefix { result ≡ Err StudioError.WriteFailed → IfSome (R.left source.old) (λ bytes.
-        WritesStatusPrefix bytes (W.taken sink.old) (W.taken sink.new)) }
-    ensures failed { result ≡ Err StudioError.WriteFailed →
-        Rises (W.failures sink.old) (W.failures sink.new) }
-    ensures unwritten { IfErr result (λ e. (sink.new ≡ sink.old) ⊎ (e ≡ StudioError.WriteFailed)) }
-
-    ensures takes { ConsumesAtMost (MOST_INPUT_BYTES + 1) (R.left source.old) (R.left source.new) }
-    ensures reads { R.reads source.new ≤ R.reads source.old + (MOST_INPUT_BYTES + 1) }
+    ensures sink { LeavesSink W.Sink (R.left source.old) IsStatusOf sink.old sink.new result }
 {
     let status = status_of_lines(rt, alloc, source, workers)?;
     match write_whole(sink, &status.text) {
@@ -81,13 +69,10 @@ fn status_of_lines<T: Threads + Sync, R: Source>(
     requires { (1 ≤ workers) × (workers ≤ 16) }
     ensures ok { IfOk result (λ status. IfSome (R.left source.old) (λ bytes.
         DenotesStatus bytes status.text.items status.state)) }
-    ensures source { ReadsFor MOST_INPUT_BYTES (R.left source.old) (R.left source.new)
-        (R.failures source.old) (R.failures source.new) result }
+    ensures source { ReadsInput R.Source source.old source.new result }
     ensures refused { IfErr result (λ e. IfSome (R.left source.old) (λ bytes.
-        RefusesStatus bytes e)) }
+        RefusesReading bytes e)) }
     ensures no_write { IfErr result (λ e. e ≢ StudioError.WriteFailed) }
-    ensures takes { ConsumesAtMost (MOST_INPUT_BYTES + 1) (R.left source.old) (R.left source.new) }
-    ensures reads { R.reads source.new ≤ R.reads source.old + (MOST_INPUT_BYTES + 1) }
 {
     let bytes = input(alloc, source)?;
     status_of(rt, alloc, bytes, workers)
@@ -102,7 +87,8 @@ fn status_of<T: Threads + Sync>(
 ) -> Result<Status, StudioError>
     requires { (1 ≤ workers) × (workers ≤ 16) }
     ensures ok { IfOk result (λ status. DenotesStatus bytes.items status.text.items status.state) }
-    ensures err { IfErr result (RefusesReading bytes.items) }
+    ensures refused { IfErr result (RefusesReading bytes.items) }
+    ensures between { IfErr result IsBetween }
 {
     let site = read_site(rt, alloc, bytes, workers)?;
     match tell(alloc, &site) {

@@ -17,7 +17,8 @@ use Rattle.gf_shape.specs.declared.refusals.OutOfMemory.{OutOfMemory}
 use Rattle.gf_visible.specs.ShownVersions.{HasMoreVisible}
 use Rattle.gf_studio.specs.Refusals.{of_compile, of_ranked}
 use Rattle.gf_studio.specs.FigRun.{IsDrawn, RefusesHistory}
-use Rattle.gf_studio.specs.RefusedParts.{RefusesDrawing}
+use Rattle.gf_studio.specs.RefusedParts.{IsBetween}
+use Rattle.gf_studio.specs.RefusedRuns.{RefusesLines}
 
 pub drawn : (h : List Op) (d : DrawingState AnyShape) → IsCanonical h d → IsDrawn h d
 drawn h d canonical = record { canonical = canonical; colours = canonical_colour h d canonical; figures = canonical_colour-outlined h d canonical }
@@ -48,10 +49,10 @@ module _ (h : List Op) (items : List (Placed AnyShape)) (ranked : AreRanked h it
   not_compiled (Err compile.OutOfMemory) versions colours = tt
 
 -- what refuses the history that the bytes denote, refuses them
-pub history_refused : (bytes : List ℕ) (h : List Op) → Denotes bytes h → (fault : CompileFault) → RefusesHistory h fault → RefusesDrawing bytes (of_compile fault)
-history_refused bytes h denoted compile.TooManyVersions r = record { history = h; denoted = denoted; refused = r }
-history_refused bytes h denoted compile.TooManyColours r = record { history = h; denoted = denoted; refused = r }
-history_refused bytes h denoted compile.OutOfMemory r = tt
+pub history_refused : (bytes : List ℕ) (h : List Op) → Denotes bytes h → (fault : CompileFault) → RefusesHistory h fault → RefusesLines bytes (of_compile fault) × IsBetween (of_compile fault)
+history_refused bytes h denoted compile.TooManyVersions r = (record { history = h; denoted = denoted; such = r }, tt)
+history_refused bytes h denoted compile.TooManyColours r = (record { history = h; denoted = denoted; such = r }, tt)
+history_refused bytes h denoted compile.OutOfMemory r = (tt, tt)
 
 -- a list that was made keeps what it has
 pub list_made : {T : Type 0} (P : T → Type 0) (found : Result (Option T) OutOfMemory) → IfOk found (λ f. IfSome f P) → IfOk (of_ranked found) P

@@ -1,21 +1,28 @@
 -- The FIG text of what some bytes draw shows the history that they denote.
 use Rattle.std.specs.Prelude.{Option}
 use Rattle.std.specs.Io.KnownBytes.{Appends}
-use Rattle.std.proofs.Common.{ℕ, List}
+use Rattle.std.proofs.Common.{ℕ, List, refl}
 use Rattle.gf_shape.specs.declared.any_shape.AnyShape.{AnyShape}
 use Rattle.gf_shape.specs.Outlines.{any_outline}
 use Rattle.gf_drawing.specs.DrawingState.{DrawingState}
 use Rattle.gf_drawing.specs.Outlined.{outlined}
 use Rattle.gf_fig_read.specs.FigGrammar.{Reads}
 use Rattle.gf_fig_write.specs.FigText.{fig_text}
-use Rattle.gf_fig_write.proofs.CanonicalLemmas.{shows}
-use Rattle.gf_studio.specs.FigRun.{Draws, Exports}
+use Rattle.gf_fig_write.proofs.CanonicalLemmas.{canonical_reads, shows}
+use Rattle.gf_replay.proofs.ByteLemmas.{history_bytes}
+use Rattle.gf_studio.specs.FigRun.{Draws, Exports, IsFigOf}
 
 pub exported : (bytes : List ℕ) (old new : Option (List ℕ)) (drawing : DrawingState AnyShape) → Draws bytes drawing → Appends old new (fig_text any_outline drawing) → Reads (fig_text any_outline drawing) (outlined any_outline drawing) → Exports bytes old new
 exported bytes old new drawing drawn written reads = record {
-  history = drawn.history;
-  denoted = drawn.denoted;
   text = fig_text any_outline drawing;
+  is = record { history = drawn.history; denoted = drawn.denoted; such = shows drawn.history drawing drawn.such.figures reads };
   written = written;
-  shown = shows drawn.history drawing drawn.drawn.figures reads;
+}
+
+pub fig_of : (bytes : List ℕ) (drawing : DrawingState AnyShape) → Draws bytes drawing → IsFigOf bytes (fig_text any_outline drawing)
+fig_of bytes drawing drawn = record {
+  drawing = drawing;
+  drawn = drawn;
+  is = refl;
+  reads = canonical_reads drawn.history drawing drawn.denoted.delivers.valid (history_bytes bytes drawn.history drawn.denoted) drawn.such.canonical;
 }

@@ -1,6 +1,5 @@
 -- What a run makes of the history that its bytes denote (this project's choice).
-use Rattle.std.specs.Prelude.{◌<◌, ◌≤◌, ℕ, List, length, Option, ⊤}
-use Rattle.std.specs.Io.KnownBytes.{Appends}
+use Rattle.std.specs.Prelude.{◌≡◌, ◌<◌, ◌≤◌, ℕ, List, length, Option, ⊤}
 use Rattle.gf_shape.specs.declared.any_shape.AnyShape.{AnyShape}
 use Rattle.gf_shape.specs.Outlines.{any_outline}
 use Rattle.gf_ops.specs.declared.op.Op.{Op}
@@ -11,12 +10,18 @@ use Rattle.gf_drawing.specs.declared.compiling.CompileFault.TheVariants as compi
 use Rattle.gf_drawing.specs.CanonicalDrawing.{IsCanonical, Paints, colours_of}
 use Rattle.gf_drawing.specs.DrawingState.{DrawingState}
 use Rattle.gf_drawing.specs.Outlined.{PaintsAsFig, outlined}
-use Rattle.gf_streams.specs.Taken.{AppendsPrefix}
 use Rattle.gf_fig_read.specs.FigGrammar.{Reads}
 use Rattle.gf_fig_write.specs.FigText.{fig_text}
 use Rattle.gf_fig_write.specs.ShownHistory.{Shows}
 use Rattle.gf_replay.specs.Denoting.{Denotes}
 use Rattle.gf_visible.specs.ShownVersions.{HasMoreVisible}
+use Rattle.gf_studio.specs.RunAnswers.{WritesText}
+
+-- the bytes denote a history of which this holds
+pub record DenotesSuch (bytes : List ℕ) (IsSuch : List Op → Type 0) : Type 0 where
+  pub history : List Op
+  pub denoted : Denotes bytes history
+  pub such : IsSuch history
 
 -- the drawing is the canonical one of h, and has at every point the colour that h means there. Both
 -- its shapes and the outlines that FIG draws of them have these colours
@@ -26,33 +31,23 @@ pub record IsDrawn (h : List Op) (drawing : DrawingState AnyShape) : Type 0 wher
   pub figures : PaintsAsFig h (outlined any_outline drawing)
 
 -- the bytes denote a history of which this is the drawing
-pub record Draws (bytes : List ℕ) (drawing : DrawingState AnyShape) : Type 0 where
-  pub history : List Op
-  pub denoted : Denotes bytes history
-  pub drawn : IsDrawn history drawing
+abbrev pub Draws : List ℕ → DrawingState AnyShape → Type 0
+Draws bytes drawing = DenotesSuch bytes (λ h. IsDrawn h drawing)
 
 -- known bytes grow from old to new by a text that shows the history that the bytes denote
-pub record Exports (bytes : List ℕ) (old new : Option (List ℕ)) : Type 0 where
-  pub history : List Op
-  pub denoted : Denotes bytes history
-  pub text : List ℕ
-  pub written : Appends old new text
-  pub shown : Shows text history
+abbrev pub Exports : List ℕ → Option (List ℕ) → Option (List ℕ) → Type 0
+Exports bytes old new = WritesText (λ text. DenotesSuch bytes (Shows text)) old new
 
--- known bytes grow from old to new by the one FIG text of what the bytes draw. The text reads as
--- the drawing of its outlines
-pub record Writes (bytes : List ℕ) (old new : Option (List ℕ)) : Type 0 where
+-- the text is the one FIG text of what the bytes draw, and reads as the drawing of its outlines
+pub record IsFigOf (bytes text : List ℕ) : Type 0 where
   pub drawing : DrawingState AnyShape
   pub drawn : Draws bytes drawing
-  pub written : Appends old new (fig_text any_outline drawing)
-  pub reads : Reads (fig_text any_outline drawing) (outlined any_outline drawing)
+  pub is : text ≡ fig_text any_outline drawing
+  pub reads : Reads text (outlined any_outline drawing)
 
--- known bytes grow from old to new by a prefix of the one FIG text of what the bytes draw. The
--- prefix may be none or all of the text
-pub record WritesPrefix (bytes : List ℕ) (old new : Option (List ℕ)) : Type 0 where
-  pub drawing : DrawingState AnyShape
-  pub drawn : Draws bytes drawing
-  pub written : AppendsPrefix old new (fig_text any_outline drawing)
+-- known bytes grow from old to new by the one FIG text of what the bytes draw
+abbrev pub Writes : List ℕ → Option (List ℕ) → Option (List ℕ) → Type 0
+Writes bytes old new = WritesText (IsFigOf bytes) old new
 
 -- h has at most 1,000 visible versions, of more than 512 distinct colours
 pub record HasMoreColours (h : List Op) : Type 0 where
@@ -67,14 +62,7 @@ RefusesHistory h compile.TooManyVersions = HasMoreVisible h 1000
 RefusesHistory h compile.TooManyColours = HasMoreColours h
 RefusesHistory h compile.OutOfMemory = ⊤
 
--- the bytes denote a history that has no drawing for this reason
-pub record DrawsNothing (bytes : List ℕ) (fault : CompileFault) : Type 0 where
-  pub history : List Op
-  pub denoted : Denotes bytes history
-  pub refused : RefusesHistory history fault
-
--- what a compile fault says of the bytes; want of memory says nothing of them
+-- the bytes denote a history that has no drawing, for this fault; want of memory is none of theirs
 abbrev pub RefusesCompiling : List ℕ → CompileFault → Type 0
-RefusesCompiling bytes compile.TooManyVersions = DrawsNothing bytes compile.TooManyVersions
-RefusesCompiling bytes compile.TooManyColours = DrawsNothing bytes compile.TooManyColours
 RefusesCompiling bytes compile.OutOfMemory = ⊥
+RefusesCompiling bytes fault = DenotesSuch bytes (λ h. RefusesHistory h fault)

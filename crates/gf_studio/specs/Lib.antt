@@ -1,7 +1,7 @@
 pub mod Refusals
+pub mod RunAnswers
 pub mod FigRun
 pub mod PaintRun
-pub mod RunAnswers
-pub mod RefusedParts
 pub mod InspectRun
-pub mod RefusedQueries
+pub mod RefusedRuns
+pub mod RefusedParts

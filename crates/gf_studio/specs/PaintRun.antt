@@ -1,7 +1,6 @@
 -- What the painting runs write: pictures of the colours that the bytes mean (this project's choice,
 -- over Netpbm's ppm(5)).
-use Rattle.std.specs.Prelude.{◌≡◌, ℕ, List, Option}
-use Rattle.std.specs.Io.KnownBytes.{Appends}
+use Rattle.std.specs.Prelude.{◌≡◌, ℕ, List, Option, Result}
 use Rattle.gf_shape.specs.declared.any_shape.AnyShape.{AnyShape}
 use Rattle.gf_shape.specs.declared.colour.Rgb.{Rgb}
 use Rattle.gf_shape.specs.declared.point.Point.{Point}
@@ -9,13 +8,15 @@ use Rattle.gf_shape.specs.FigureMeaning.{outline_holds}
 use Rattle.gf_versions.specs.HistoryColour.{HistoryColour}
 use Rattle.gf_drawing.specs.DrawingColour.{drawing_colour}
 use Rattle.gf_drawing.specs.DrawingState.{DrawingState}
-use Rattle.gf_streams.specs.Taken.{AppendsPrefix}
+use Rattle.gf_streams.specs.declared.sink.Sink.{Ghosts as Sink}
 use Rattle.gf_fig_read.specs.FigGrammar.{Reads}
 use Rattle.gf_fig_read.specs.Objects.{Drawn}
 use Rattle.gf_scanline.specs.Windows.{View}
 use Rattle.gf_scanline.specs.Picture.{header, picture}
 use Rattle.gf_raster.specs.Bands.{HasBands}
+use Rattle.gf_studio.specs.declared.studio_error.StudioError.{StudioError}
 use Rattle.gf_studio.specs.FigRun.{Draws}
+use Rattle.gf_studio.specs.RunAnswers.{LeavesPicture, WritesText}
 
 -- the bytes denote a history with a drawing, and colour is at every point what this history means
 pub record IsMeant (bytes : List ℕ) (colour : Point → Rgb) : Type 0 where
@@ -31,22 +32,28 @@ pub record IsDenoted (text : List ℕ) (colour : Point → Rgb) : Type 0 where
   pub paints : (p : Point) → colour p
       ≡ drawing_colour outline_holds drawing.table drawing.figures p
 
--- IsShown says which colours are to be painted in window w, and known bytes grow from old to new
-module _ (IsShown : (Point → Rgb) → Type 0) (w : View) (old new : Option (List ℕ)) where
-  -- known bytes grow by the picture of colours that are to be painted
-  pub record WritesPicture : Type 0 where
+-- IsShown says which colours are to be painted in window w
+module _ (IsShown : (Point → Rgb) → Type 0) (w : View) where
+  -- the text is the picture of colours that are to be painted
+  pub record IsPicture (text : List ℕ) : Type 0 where
     pub colour : Point → Rgb
     pub shown : IsShown colour
-    pub written : Appends old new (picture colour w)
+    pub is : text ≡ picture colour w
 
-  -- known bytes grow by a prefix, which may be none or all, of the picture of such colours
-  pub record WritesPicturePrefix : Type 0 where
-    pub colour : Point → Rgb
-    pub shown : IsShown colour
-    pub written : AppendsPrefix old new (picture colour w)
+  -- known bytes grow from old to new by the picture of colours that are to be painted
+  abbrev pub WritesPicture : Option (List ℕ) → Option (List ℕ) → Type 0
+  WritesPicture old new = WritesText IsPicture old new
 
-  -- known bytes grow by the header and whole bands of 64 rows, fewer than all, of such a picture
-  pub record WritesBands : Type 0 where
+  -- known bytes grow from old to new by the header and whole bands of 64 rows, fewer than all, of
+  -- the picture of colours that are to be painted
+  pub record WritesBands (old new : Option (List ℕ)) : Type 0 where
     pub colour : Point → Rgb
     pub shown : IsShown colour
     pub written : HasBands (header w) colour w old new
+
+-- what a run leaves of its sink that paints, in window w, colours that IsShown says of the bytes
+-- that are left in its source
+abbrev pub PaintsWindow : {W T : Type 0} → Sink W → Option (List ℕ)
+    → (List ℕ → (Point → Rgb) → Type 0) → View → W → W → Result T StudioError → Type 0
+PaintsWindow sink left IsShown w old new result = LeavesPicture sink left
+    (λ bytes. IsPicture (IsShown bytes) w) old new (λ bytes. WritesBands (IsShown bytes) w) result

@@ -1,78 +1,105 @@
--- What the answer of a run says of its source and of the bytes that came from it (this project's
--- choice).
-use Rattle.std.specs.Prelude.{◌≡◌, ℕ, ◌+◌, ◌<◌, ◌≤◌, List, length, Option}
-use Rattle.std.specs.Prelude.{IfSome, Result, MatchResult, ⊤}
-use Rattle.std.specs.Io.KnownBytes.{IsAtEnd}
+-- What a run does to its source and leaves of its sink, by its answer (this project's choice).
+use Rattle.std.specs.Prelude.{◌≡◌, ℕ, ◌+◌, ◌<◌, ◌≤◌, ◌⊎◌, List, length, Option, Some, IsTrue}
+use Rattle.std.specs.Prelude.{IfSome, IfErr, OnOk, Err, Result, MatchOption, MatchResult}
+use Rattle.std.specs.Io.KnownBytes.{Appends, IsAtEnd}
 use Rattle.gf_streams.specs.Counts.{Rises, raised}
-use Rattle.gf_streams.specs.Reads.{CamePast, ConsumesExactly}
-use Rattle.gf_fig_read.specs.FigGrammar.{Fails}
+use Rattle.gf_streams.specs.Reads.{CamePast, ConsumesAtMost, ConsumesExactly}
+use Rattle.gf_streams.specs.Taken.{AppendsPrefix}
+use Rattle.gf_streams.specs.declared.source.Source.{Ghosts as Source}
+use Rattle.gf_streams.specs.declared.sink.Sink.{Ghosts as Sink}
+use Rattle.gf_session.specs.declared.session.SessionError.TheVariants as session
 use Rattle.gf_studio.specs.declared.studio_error.StudioError.{StudioError}
 use Rattle.gf_studio.specs.declared.studio_error.StudioError.TheVariants as studio
-use Rattle.gf_session.specs.declared.session.SessionError.TheVariants as session
-use Rattle.gf_replay.specs.Refusing.{Drops, HasFault}
-use Rattle.gf_studio.specs.FigRun.{RefusesCompiling}
 
--- an input has at most `most` bytes. The bytes left go from old to new, and the count of failures
--- from was to is
-module _ (most : ℕ) (old new : Option (List ℕ)) (was is : ℕ) where
+-- the most bytes of an input
+abbrev pub most_input : ℕ
+most_input = 16777216
+
+-- a run brings its source from old to new
+module _ {R : Type 0} (source : Source R) (old new : R) where
   -- the whole input came, and no read failed
   pub record ReadsAll : Type 0 where
-    pub within : IfSome old (λ bytes. length bytes ≤ most)
-    pub end : IsAtEnd new
-    pub unfailed : is ≡ was
+    pub within : IfSome (source.left old) (λ bytes. length bytes ≤ most_input)
+    pub end : IsAtEnd (source.left new)
+    pub unfailed : source.failures new ≡ source.failures old
 
   -- one read failed, the last one, and no more than an input came
   pub record FailsToRead : Type 0 where
-    pub failed : is ≡ raised was
-    pub rises : Rises was is
-    pub not_past : ¬ (CamePast most old new)
+    pub failed : source.failures new ≡ raised (source.failures old)
+    pub rises : Rises (source.failures old) (source.failures new)
+    pub not_past : ¬ (CamePast most_input (source.left old) (source.left new))
 
   -- there is more than an input, of which one byte came, and no read failed
   pub record ReadsTooMuch : Type 0 where
-    pub longer : IfSome old (λ bytes. most < length bytes)
-    pub one_more : ConsumesExactly (most + 1) old new
-    pub unfailed : is ≡ was
+    pub longer : IfSome (source.left old) (λ bytes. most_input < length bytes)
+    pub one_more : ConsumesExactly (most_input + 1) (source.left old) (source.left new)
+    pub unfailed : source.failures new ≡ source.failures old
 
   -- what was read where a run is refused with this error
   abbrev pub ReadsUntil : StudioError → Type 0
   ReadsUntil studio.ReadFailed = FailsToRead
   ReadsUntil studio.TooLong = ReadsTooMuch
-  ReadsUntil (studio.Line n cause) = ReadsAll
-  ReadsUntil (studio.Dropped id fault) = ReadsAll
-  ReadsUntil (studio.Fig e) = ReadsAll
-  ReadsUntil (studio.Compile fault) = ReadsAll
-  ReadsUntil (studio.Session session.Sites) = (new ≡ old) × (is ≡ was)
-  ReadsUntil (studio.Session session.OutOfMemory) = ReadsAll
-  ReadsUntil (studio.NoObject o) = ReadsAll
-  ReadsUntil studio.WriteFailed = ReadsAll
-  ReadsUntil studio.OutOfMemory = is ≡ was
+  ReadsUntil studio.OutOfMemory = source.failures new ≡ source.failures old
+  ReadsUntil (studio.Session session.Sites) = new ≡ old
+  ReadsUntil other = ReadsAll
 
-  -- what was read where a run gives this answer
-  abbrev pub ReadsFor : {T : Type 0} → Result T StudioError → Type 0
-  ReadsFor result = MatchResult result (λ _. ReadsAll) ReadsUntil
+  -- how far a run with this answer read; one byte past an input came at most, and it read no more
+  -- often than that. `of` gives an error that any run may have, and behind any other one all is read
+  pub record ReadsInputBy {T E : Type 0} (of : E → Option StudioError) (result : Result T E)
+      : Type 0 where
+    pub came : MatchResult result (λ _. ReadsAll) (λ e. MatchOption (of e) ReadsAll ReadsUntil)
+    pub takes : ConsumesAtMost (most_input + 1) (source.left old) (source.left new)
+    pub reads : source.reads new ≤ source.reads old + (most_input + 1)
 
--- why a run over operation lines is refused
-abbrev pub RefusesLines : List ℕ → StudioError → Type 0
-RefusesLines bytes (studio.Line n cause) = HasFault bytes n cause
-RefusesLines bytes (studio.Dropped id fault) = Drops bytes id fault
-RefusesLines bytes (studio.Fig e) = ⊥
-RefusesLines bytes (studio.Compile fault) = RefusesCompiling bytes fault
-RefusesLines bytes (studio.Session e) = ⊥
-RefusesLines bytes (studio.NoObject o) = ⊥
-RefusesLines bytes studio.ReadFailed = ⊤
-RefusesLines bytes studio.TooLong = ⊤
-RefusesLines bytes studio.WriteFailed = ⊤
-RefusesLines bytes studio.OutOfMemory = ⊤
+  -- the same where a run has no other errors than any run
+  abbrev pub ReadsInput : {T : Type 0} → Result T StudioError → Type 0
+  ReadsInput result = ReadsInputBy Some result
 
--- why a run over a FIG text is refused
-abbrev pub RefusesFig : List ℕ → StudioError → Type 0
-RefusesFig text (studio.Line n cause) = ⊥
-RefusesFig text (studio.Dropped id fault) = ⊥
-RefusesFig text (studio.Fig e) = Fails text e.fault e.object
-RefusesFig text (studio.Compile fault) = ⊥
-RefusesFig text (studio.Session e) = ⊥
-RefusesFig text (studio.NoObject o) = ⊥
-RefusesFig text studio.ReadFailed = ⊤
-RefusesFig text studio.TooLong = ⊤
-RefusesFig text studio.WriteFailed = ⊤
-RefusesFig text studio.OutOfMemory = ⊤
+-- IsText says which texts may be written, and known bytes grow from old to new
+module _ (IsText : List ℕ → Type 0) (old new : Option (List ℕ)) where
+  -- they grow by such a text
+  pub record WritesText : Type 0 where
+    pub text : List ℕ
+    pub is : IsText text
+    pub written : Appends old new text
+
+  -- they grow by a prefix, which may be none or all, of such a text
+  pub record WritesPrefix : Type 0 where
+    pub text : List ℕ
+    pub is : IsText text
+    pub written : AppendsPrefix old new text
+
+-- the answer is that the sink failed
+abbrev pub FailsToWrite : {T E : Type 0} → (E → Option StudioError) → Result T E → Type 0
+FailsToWrite of result = MatchResult result (λ _. ⊥) (λ e. of e ≡ Some studio.WriteFailed)
+
+-- a run brings its sink from old to new, to write a text of which IsText holds with the bytes that
+-- were left in its source, where that tells them
+module _ {W : Type 0} (sink : Sink W) (left : Option (List ℕ)) (IsText : List ℕ → List ℕ → Type 0)
+    (old new : W) where
+  module _ {T E : Type 0} (of : E → Option StudioError) (result : Result T E) where
+    -- success flushes the sink; where it failed, a prefix of the text is written
+    pub record WritesOrFails : Type 0 where
+      pub flushed : OnOk result (IsTrue (sink.flushed new))
+      pub failed : FailsToWrite of result → Rises (sink.failures old) (sink.failures new)
+      pub prefix : FailsToWrite of result
+          → IfSome left (λ bytes. WritesPrefix (IsText bytes) (sink.taken old) (sink.taken new))
+
+    -- and any other error leaves the sink as it was
+    pub record LeavesSinkBy : Type 0 where
+      pub writes : WritesOrFails
+      pub unwritten : IfErr result (λ e. (new ≡ old) ⊎ (of e ≡ Some studio.WriteFailed))
+
+  -- the same where a run has no other errors than any run
+  abbrev pub LeavesSink : {T : Type 0} → Result T StudioError → Type 0
+  LeavesSink result = LeavesSinkBy Some result
+
+  -- the same of a picture, of which want of memory may leave a part as IsPart says
+  pub record LeavesPicture {T : Type 0}
+      (IsPart : List ℕ → Option (List ℕ) → Option (List ℕ) → Type 0)
+      (result : Result T StudioError) : Type 0 where
+    pub writes : WritesOrFails Some result
+    pub memory : result ≡ Err studio.OutOfMemory → (new ≡ old)
+        ⊎ IfSome left (λ bytes. IsPart bytes (sink.taken old) (sink.taken new))
+    pub unwritten : IfErr result (λ e.
+        (new ≡ old) ⊎ (e ≡ studio.WriteFailed) ⊎ (e ≡ studio.OutOfMemory))

@@ -1,16 +1,16 @@
 //! From the bytes of a source to a drawing.
 
-ghost use Rattle.std.specs.Prelude.{◌≡◌, ◌≢◌, ◌+◌, ◌≤◌, IfSome, IfOk, IfErr};
-ghost use Rattle.gf_streams.specs.Reads.{ConsumesAtMost};
+ghost use Rattle.std.specs.Prelude.{◌≡◌, ◌≢◌, ◌≤◌, IfSome, IfOk, IfErr};
 ghost use Rattle.gf_shape.specs.ShapeMeaning.{any_holds};
 ghost use Rattle.gf_drawing.specs.DrawingColour.{drawing_colour};
 ghost use Rattle.gf_fig_read.specs.FigGrammar.{Reads};
 ghost use Rattle.gf_versions.specs.Ranking.{AreRanked};
 ghost use Rattle.gf_studio.specs.FigRun.{Draws, IsDrawn, RefusesHistory};
 ghost use Rattle.gf_studio.specs.Refusals.{of_ranked};
-ghost use Rattle.gf_studio.specs.RefusedParts.{IsOfInput, RefusesDrawing, RefusesOutlines};
+ghost use Rattle.gf_studio.specs.RefusedParts.{IsBetween};
+ghost use Rattle.gf_studio.specs.RefusedRuns.{IsOfInput, RefusesFig, RefusesLines};
 ghost use Rattle.gf_studio.specs.PaintRun.{IsMeant};
-ghost use Rattle.gf_studio.specs.RunAnswers.{ReadsFor, RefusesFig, RefusesLines};
+ghost use Rattle.gf_studio.specs.RunAnswers.{ReadsInput};
 
 use crate::StudioError;
 use gf_drawing::{CompileFault, Drawing, MOST_VERSIONS, compile};
@@ -18,7 +18,7 @@ use gf_fig_read::read_fig;
 use gf_replay::read_site;
 use gf_shape::{AnyShape, OutOfMemory, Outline};
 use gf_site::Site;
-use gf_streams::{MOST_INPUT_BYTES, Source, read_input};
+use gf_streams::{Source, read_input};
 use gf_versions::Ranked;
 use gf_visible::ranked_within;
 use std::alloc::Global;
@@ -36,13 +36,10 @@ pub fn drawing_of_lines<T: Threads + Sync, R: Source>(
         Draws bytes drawing)) }
     ensures meant { IfOk result (λ drawing. IfSome (R.left source.old) (λ bytes.
         IsMeant bytes (drawing_colour any_holds drawing.table drawing.figures))) }
-    ensures source { ReadsFor MOST_INPUT_BYTES (R.left source.old) (R.left source.new)
-        (R.failures source.old) (R.failures source.new) result }
+    ensures source { ReadsInput R.Source source.old source.new result }
     ensures refused { IfErr result (λ e. IfSome (R.left source.old) (λ bytes.
         RefusesLines bytes e)) }
     ensures no_write { IfErr result (λ e. e ≢ StudioError.WriteFailed) }
-    ensures takes { ConsumesAtMost (MOST_INPUT_BYTES + 1) (R.left source.old) (R.left source.new) }
-    ensures reads { R.reads source.new ≤ R.reads source.old + (MOST_INPUT_BYTES + 1) }
 {
     let bytes = input(alloc, source)?;
     draw(rt, alloc, bytes, workers)
@@ -54,12 +51,9 @@ pub fn drawing_of_fig<R: Source>(
     source: &mut R,
 ) -> Result<Drawing<Outline>, StudioError>
     ensures ok { IfOk result (λ drawing. IfSome (R.left source.old) (λ text. Reads text drawing)) }
-    ensures source { ReadsFor MOST_INPUT_BYTES (R.left source.old) (R.left source.new)
-        (R.failures source.old) (R.failures source.new) result }
+    ensures source { ReadsInput R.Source source.old source.new result }
     ensures refused { IfErr result (λ e. IfSome (R.left source.old) (λ text. RefusesFig text e)) }
     ensures no_write { IfErr result (λ e. e ≢ StudioError.WriteFailed) }
-    ensures takes { ConsumesAtMost (MOST_INPUT_BYTES + 1) (R.left source.old) (R.left source.new) }
-    ensures reads { R.reads source.new ≤ R.reads source.old + (MOST_INPUT_BYTES + 1) }
 {
     let text = input(alloc, source)?;
     outlines(alloc, &text)
@@ -68,11 +62,8 @@ pub fn drawing_of_fig<R: Source>(
 /// All bytes of a source.
 pub fn input<R: Source>(alloc: Global, source: &mut R) -> Result<Vec<u8>, StudioError>
     ensures ok { IfOk result (λ bytes. IfSome (R.left source.old) (λ all. bytes.items ≡ all)) }
-    ensures source { ReadsFor MOST_INPUT_BYTES (R.left source.old) (R.left source.new)
-        (R.failures source.old) (R.failures source.new) result }
+    ensures source { ReadsInput R.Source source.old source.new result }
     ensures refused { IfErr result IsOfInput }
-    ensures takes { ConsumesAtMost (MOST_INPUT_BYTES + 1) (R.left source.old) (R.left source.new) }
-    ensures reads { R.reads source.new ≤ R.reads source.old + (MOST_INPUT_BYTES + 1) }
 {
     let bytes = read_input(alloc, source)?;
     Ok(bytes)
@@ -87,7 +78,8 @@ fn draw<T: Threads + Sync>(
 ) -> Result<Drawing<AnyShape>, StudioError>
     requires { (1 ≤ workers) × (workers ≤ 16) }
     ensures ok { IfOk result (λ drawing. Draws bytes.items drawing) }
-    ensures err { IfErr result (RefusesDrawing bytes.items) }
+    ensures refused { IfErr result (RefusesLines bytes.items) }
+    ensures between { IfErr result IsBetween }
 {
     let site = read_site(rt, alloc, bytes, workers)?;
     let drawing = draw_site(alloc, &site)?;
@@ -127,7 +119,8 @@ fn listed(
 /// The drawing that this text reads as.
 fn outlines(alloc: Global, text: &[u8]) -> Result<Drawing<Outline>, StudioError>
     ensures ok { IfOk result (λ drawing. Reads text.now drawing) }
-    ensures err { IfErr result (RefusesOutlines text.now) }
+    ensures refused { IfErr result (RefusesFig text.now) }
+    ensures between { IfErr result IsBetween }
 {
     let drawing = read_fig(alloc, text)?;
     Ok(drawing)

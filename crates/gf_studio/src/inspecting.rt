@@ -1,13 +1,11 @@
 //! From the bytes of operation lines to the lines of versions.
 
-ghost use Rattle.std.specs.Prelude.{◌≡◌, ◌≢◌, ◌+◌, ◌≤◌, ◌⊎◌, Err, IfSome, IfOk, IfErr, OnOk};
-ghost use Rattle.std.specs.Prelude.{IsTrue};
-ghost use Rattle.gf_streams.specs.Counts.{Rises};
-ghost use Rattle.gf_streams.specs.Reads.{ConsumesAtMost};
-ghost use Rattle.gf_studio.specs.RunAnswers.{ReadsFor};
-ghost use Rattle.gf_studio.specs.InspectRun.{Looks, RefusesLook, Tells, TellsTop, TellsVersions};
-ghost use Rattle.gf_studio.specs.InspectRun.{WritesLook, WritesLookPrefix};
-ghost use Rattle.gf_studio.specs.RefusedQueries.{RefusesAsking, RefusesQuery};
+ghost use Rattle.std.specs.Prelude.{◌≢◌, ◌≤◌, IfSome, IfOk, IfErr, OnOk};
+ghost use Rattle.gf_studio.specs.InspectRun.{AnswersQuery, Tells, TellsTop, TellsVersions};
+ghost use Rattle.gf_studio.specs.InspectRun.{WritesAnswer};
+ghost use Rattle.gf_studio.specs.RefusedParts.{IsBetween, RefusesQuery};
+ghost use Rattle.gf_studio.specs.RefusedRuns.{RefusesAnswer};
+ghost use Rattle.gf_studio.specs.RunAnswers.{LeavesSink, ReadsInput};
 
 use crate::{StudioError, input};
 use gf_groups::GroupFault;
@@ -16,7 +14,7 @@ use gf_ops::ObjectId;
 use gf_replay::read_site;
 use gf_shape::{OutOfMemory, Point};
 use gf_site::Site;
-use gf_streams::{MOST_INPUT_BYTES, Sink, SinkFault, Source, write_whole};
+use gf_streams::{Sink, SinkFault, Source, write_whole};
 use std::alloc::Global;
 use std::thread::Threads;
 
@@ -43,26 +41,18 @@ pub fn inspect_run<T: Threads + Sync, R: Source, W: Sink>(
     requires { (1 ≤ workers) × (workers ≤ 16) }
     // What is written answers the query about the history that the bytes denote.
     ensures tells { OnOk result (IfSome (R.left source.old) (λ bytes.
-        WritesLook bytes query (W.taken sink.old) (W.taken sink.new))) }
-    ensures flushed { OnOk result (IsTrue (W.flushed sink.new)) }
+        WritesAnswer query bytes (W.taken sink.old) (W.taken sink.new))) }
 
     // The same as `fig_run` promises, with an object that the history lacks in place of a drawing.
-    ensures source { ReadsFor MOST_INPUT_BYTES (R.left source.old) (R.left source.new)
-        (R.failures source.old) (R.failures source.new) result }
+    ensures source { ReadsInput R.Source source.old source.new result }
     ensures refused { IfErr result (λ e. IfSome (R.left source.old) (λ bytes.
-        RefusesLook query bytes e)) }
+        RefusesAnswer query bytes e)) }
 
     // At most a prefix of the text is written, and that only where the sink failed.
-    ensures prefix { result ≡ Err StudioError.WriteFailed → IfSome (R.left source.old) (λ bytes.
-        WritesLookPrefix bytes query (W.taken sink.old) (W.taken sink.new)) }
-    ensures failed { result ≡ Err StudioError.WriteFailed →
-        Rises (W.failures sink.old) (W.failures sink.new) }
-    ensures unwritten { IfErr result (λ e. (sink.new ≡ sink.old) ⊎ (e ≡ StudioError.WriteFailed)) }
-
-    ensures takes { ConsumesAtMost (MOST_INPUT_BYTES + 1) (R.left source.old) (R.left source.new) }
-    ensures reads { R.reads source.new ≤ R.reads source.old + (MOST_INPUT_BYTES + 1) }
+    ensures sink { LeavesSink W.Sink (R.left source.old) (AnswersQuery query) sink.old sink.new
+        result }
 {
-    let text = look_at_lines(rt, alloc, source, query, workers)?;
+    let text = answer_of_lines(rt, alloc, source, query, workers)?;
     match write_whole(sink, &text) {
         Ok(()) => Ok(()),
         Err(SinkFault) => Err(StudioError::WriteFailed),
@@ -70,7 +60,7 @@ pub fn inspect_run<T: Threads + Sync, R: Source, W: Sink>(
 }
 
 /// The text that answers a query about the history that the lines of a source denote.
-fn look_at_lines<T: Threads + Sync, R: Source>(
+fn answer_of_lines<T: Threads + Sync, R: Source>(
     rt: &T,
     alloc: Global,
     source: &mut R,
@@ -79,21 +69,18 @@ fn look_at_lines<T: Threads + Sync, R: Source>(
 ) -> Result<Vec<u8>, StudioError>
     requires { (1 ≤ workers) × (workers ≤ 16) }
     ensures ok { IfOk result (λ text. IfSome (R.left source.old) (λ bytes.
-        Looks bytes query text.items)) }
-    ensures source { ReadsFor MOST_INPUT_BYTES (R.left source.old) (R.left source.new)
-        (R.failures source.old) (R.failures source.new) result }
+        AnswersQuery query bytes text.items)) }
+    ensures source { ReadsInput R.Source source.old source.new result }
     ensures refused { IfErr result (λ e. IfSome (R.left source.old) (λ bytes.
-        RefusesLook query bytes e)) }
+        RefusesAnswer query bytes e)) }
     ensures no_write { IfErr result (λ e. e ≢ StudioError.WriteFailed) }
-    ensures takes { ConsumesAtMost (MOST_INPUT_BYTES + 1) (R.left source.old) (R.left source.new) }
-    ensures reads { R.reads source.new ≤ R.reads source.old + (MOST_INPUT_BYTES + 1) }
 {
     let bytes = input(alloc, source)?;
-    look(rt, alloc, bytes, query, workers)
+    answer(rt, alloc, bytes, query, workers)
 }
 
 /// The text that answers a query about the history that these bytes denote.
-fn look<T: Threads + Sync>(
+fn answer<T: Threads + Sync>(
     rt: &T,
     alloc: Global,
     bytes: Vec<u8>,
@@ -101,8 +88,9 @@ fn look<T: Threads + Sync>(
     workers: u8,
 ) -> Result<Vec<u8>, StudioError>
     requires { (1 ≤ workers) × (workers ≤ 16) }
-    ensures ok { IfOk result (λ text. Looks bytes.items query text.items) }
-    ensures err { IfErr result (RefusesAsking query bytes.items) }
+    ensures ok { IfOk result (λ text. AnswersQuery query bytes.items text.items) }
+    ensures refused { IfErr result (RefusesAnswer query bytes.items) }
+    ensures between { IfErr result IsBetween }
 {
     let site = read_site(rt, alloc, bytes, workers)?;
     tell(alloc, &site, query)

@@ -1,24 +1,22 @@
 //! Whole runs: from operation lines to FIG text or a picture, and from FIG text to a picture.
 
-ghost use Rattle.std.specs.Prelude.{◌≡◌, ◌+◌, ◌≤◌, ◌⊎◌, Err, IfSome, IfErr, OnOk, IsTrue};
-ghost use Rattle.gf_streams.specs.Counts.{Rises};
-ghost use Rattle.gf_streams.specs.Reads.{ConsumesAtMost};
-ghost use Rattle.gf_studio.specs.FigRun.{Exports, Writes, WritesPrefix};
-ghost use Rattle.gf_studio.specs.PaintRun.{IsDenoted, IsMeant, WritesBands, WritesPicture};
-ghost use Rattle.gf_studio.specs.PaintRun.{WritesPicturePrefix};
-ghost use Rattle.gf_studio.specs.RunAnswers.{ReadsFor, RefusesFig, RefusesLines};
+ghost use Rattle.std.specs.Prelude.{◌≤◌, IfSome, IfErr, OnOk};
+ghost use Rattle.gf_studio.specs.FigRun.{Exports, IsFigOf, Writes};
+ghost use Rattle.gf_studio.specs.PaintRun.{IsDenoted, IsMeant, PaintsWindow, WritesPicture};
+ghost use Rattle.gf_studio.specs.RefusedRuns.{RefusesFig, RefusesLines};
+ghost use Rattle.gf_studio.specs.RunAnswers.{LeavesSink, ReadsInput};
 
 use crate::StudioError;
 use crate::drawings::{drawing_of_fig, drawing_of_lines};
 use gf_fig_write::write_fig;
 use gf_raster::{Gate, Window, ppm_to};
-use gf_streams::{MOST_INPUT_BYTES, Sink, Source};
+use gf_streams::{Sink, Source};
 use std::alloc::Global;
 use std::thread::Threads;
 
 /// Reads operation lines to their end, by 1 to 16 workers, and writes the FIG text of their
 /// history's drawing. All is read before the first write.
-#[tactic(auto, using(crate::proofs::ExportLemmas::exported))]
+#[tactic(auto, using(crate::proofs::ExportLemmas::exported, crate::proofs::ExportLemmas::fig_of))]
 pub fn fig_run<T: Threads + Sync, R: Source, W: Sink>(
     rt: &T,
     alloc: Global,
@@ -34,25 +32,15 @@ pub fn fig_run<T: Threads + Sync, R: Source, W: Sink>(
         Exports bytes (W.taken sink.old) (W.taken sink.new))) }
     ensures text { OnOk result (IfSome (R.left source.old) (λ bytes.
         Writes bytes (W.taken sink.old) (W.taken sink.new))) }
-    ensures flushed { OnOk result (IsTrue (W.flushed sink.new)) }
 
     // The input was read whole, or the source failed, or had more than an input. The error names
     // the first line at fault, or why the history has no drawing.
-    ensures source { ReadsFor MOST_INPUT_BYTES (R.left source.old) (R.left source.new)
-        (R.failures source.old) (R.failures source.new) result }
+    ensures source { ReadsInput R.Source source.old source.new result }
     ensures refused { IfErr result (λ e. IfSome (R.left source.old) (λ bytes.
         RefusesLines bytes e)) }
 
     // At most a prefix of the text is written, and that only where the sink failed.
-    ensures prefix { result ≡ Err StudioError.WriteFailed → IfSome (R.left source.old) (λ bytes.
-        WritesPrefix bytes (W.taken sink.old) (W.taken sink.new)) }
-    ensures failed { result ≡ Err StudioError.WriteFailed →
-        Rises (W.failures sink.old) (W.failures sink.new) }
-    ensures unwritten { IfErr result (λ e. (sink.new ≡ sink.old) ⊎ (e ≡ StudioError.WriteFailed)) }
-
-    // At most one byte past the longest input is read, in no more reads than that.
-    ensures takes { ConsumesAtMost (MOST_INPUT_BYTES + 1) (R.left source.old) (R.left source.new) }
-    ensures reads { R.reads source.new ≤ R.reads source.old + (MOST_INPUT_BYTES + 1) }
+    ensures sink { LeavesSink W.Sink (R.left source.old) IsFigOf sink.old sink.new result }
 {
     let drawing = drawing_of_lines(rt, alloc, source, workers)?;
     write_fig(alloc, &drawing, sink)?;
@@ -75,28 +63,16 @@ pub fn paint_run<T: Threads + Sync, R: Source, W: Sink, G: Gate + Sync>(
     // What is written is the picture of the colours that the denoted history means.
     ensures paints { OnOk result (IfSome (R.left source.old) (λ bytes.
         WritesPicture (IsMeant bytes) window (W.taken sink.old) (W.taken sink.new))) }
-    ensures flushed { OnOk result (IsTrue (W.flushed sink.new)) }
 
     // The same as `fig_run` promises.
-    ensures source { ReadsFor MOST_INPUT_BYTES (R.left source.old) (R.left source.new)
-        (R.failures source.old) (R.failures source.new) result }
+    ensures source { ReadsInput R.Source source.old source.new result }
     ensures refused { IfErr result (λ e. IfSome (R.left source.old) (λ bytes.
         RefusesLines bytes e)) }
 
     // A prefix of the picture is written where the sink failed. Want of memory leaves nothing, or
     // the header and whole bands. With any other error nothing is written.
-    ensures prefix { result ≡ Err StudioError.WriteFailed → IfSome (R.left source.old) (λ bytes.
-        WritesPicturePrefix (IsMeant bytes) window (W.taken sink.old) (W.taken sink.new)) }
-    ensures failed { result ≡ Err StudioError.WriteFailed →
-        Rises (W.failures sink.old) (W.failures sink.new) }
-    ensures memory { result ≡ Err StudioError.OutOfMemory → (sink.new ≡ sink.old) ⊎
-        IfSome (R.left source.old) (λ bytes.
-        WritesBands (IsMeant bytes) window (W.taken sink.old) (W.taken sink.new)) }
-    ensures unwritten { IfErr result (λ e.
-        (sink.new ≡ sink.old) ⊎ (e ≡ StudioError.WriteFailed) ⊎ (e ≡ StudioError.OutOfMemory)) }
-
-    ensures takes { ConsumesAtMost (MOST_INPUT_BYTES + 1) (R.left source.old) (R.left source.new) }
-    ensures reads { R.reads source.new ≤ R.reads source.old + (MOST_INPUT_BYTES + 1) }
+    ensures sink { PaintsWindow W.Sink (R.left source.old) IsMeant window sink.old sink.new
+        result }
 {
     let meant = drawing_of_lines(rt, alloc, source, workers)?;
     ppm_to(rt, alloc, &meant, window, workers, gate, sink)?;
@@ -118,27 +94,14 @@ pub fn repaint_run<T: Threads + Sync, R: Source, W: Sink, G: Gate + Sync>(
     // What is written is the picture of the colours of the drawing that the text reads as.
     ensures paints { OnOk result (IfSome (R.left source.old) (λ text.
         WritesPicture (IsDenoted text) window (W.taken sink.old) (W.taken sink.new))) }
-    ensures flushed { OnOk result (IsTrue (W.flushed sink.new)) }
 
     // The text was read whole, or the source failed, or had more than an input. The error names the
     // fault of an object for which the text reads as no drawing.
-    ensures source { ReadsFor MOST_INPUT_BYTES (R.left source.old) (R.left source.new)
-        (R.failures source.old) (R.failures source.new) result }
+    ensures source { ReadsInput R.Source source.old source.new result }
     ensures refused { IfErr result (λ e. IfSome (R.left source.old) (λ text. RefusesFig text e)) }
 
-    // The same as `paint_run` promises.
-    ensures prefix { result ≡ Err StudioError.WriteFailed → IfSome (R.left source.old) (λ text.
-        WritesPicturePrefix (IsDenoted text) window (W.taken sink.old) (W.taken sink.new)) }
-    ensures failed { result ≡ Err StudioError.WriteFailed →
-        Rises (W.failures sink.old) (W.failures sink.new) }
-    ensures memory { result ≡ Err StudioError.OutOfMemory → (sink.new ≡ sink.old) ⊎
-        IfSome (R.left source.old) (λ text.
-        WritesBands (IsDenoted text) window (W.taken sink.old) (W.taken sink.new)) }
-    ensures unwritten { IfErr result (λ e.
-        (sink.new ≡ sink.old) ⊎ (e ≡ StudioError.WriteFailed) ⊎ (e ≡ StudioError.OutOfMemory)) }
-
-    ensures takes { ConsumesAtMost (MOST_INPUT_BYTES + 1) (R.left source.old) (R.left source.new) }
-    ensures reads { R.reads source.new ≤ R.reads source.old + (MOST_INPUT_BYTES + 1) }
+    ensures sink { PaintsWindow W.Sink (R.left source.old) IsDenoted window sink.old sink.new
+        result }
 {
     let denoted = drawing_of_fig(alloc, source)?;
     ppm_to(rt, alloc, &denoted, window, workers, gate, sink)?;

@@ -14,8 +14,8 @@ returns-clause-ok g c =
     let tells = subst (λ ds. IfOk c.tell.result (λ t. TellsHistory first.site.ops ds t.items)) c.as_slice.ensures.value c.tell.ensures.ok in
     told_session c.args.sites c.args.bytes.items scripts dones first denoted session (first_there c.args.sites c.args.bytes.items scripts dones first c.requires denoted session c.index.ensures) (λ (t : Vec ℕ Global). t.items) c.tell.result tells
 
-pub returns-clause-err : goal.returns-clause-err
-returns-clause-err g c =
+pub returns-clause-refused : goal.returns-clause-refused
+returns-clause-refused g c =
     let scripts = c.in_ok-scripts.scripts.items in
     let dones = c.in_ok-dones.dones.items in
     let first = c.index.result.now in

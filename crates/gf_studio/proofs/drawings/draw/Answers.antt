@@ -1,14 +1,22 @@
 use Rattle.std.proofs.Common.{subst, sym}
 use Rattle.std.proofs.lemmas.Result.{err_from_is_err_and}
-use Rattle.gf_studio.specs.RefusedParts.{RefusesDrawing}
+use Rattle.gf_studio.specs.RefusedParts.{IsBetween}
+use Rattle.gf_studio.specs.RefusedRuns.{RefusesLines}
 use Rattle.gf_studio.proofs.DrawnLemmas.{history_refused}
 use Rattle.gf_studio.proofs.drawings.draw.Goals as goal
 
 pub returns-clause-ok : goal.returns-clause-ok
 returns-clause-ok g c =
-    record { history = c.in_ok-site.site.ops; denoted = c.in_ok-site.ensures.ok; drawn = c.in_ok-drawing.ensures.ok }
+    record { history = c.in_ok-site.site.ops; denoted = c.in_ok-site.ensures.ok; such = c.in_ok-drawing.ensures.ok }
 
-pub returns-in_err-drawing-clause-err : goal.returns-in_err-drawing-clause-err
-returns-in_err-drawing-clause-err g c =
+pub returns-in_err-drawing-clause-refused : goal.returns-in_err-drawing-clause-refused
+returns-in_err-drawing-clause-refused g c =
     let p = err_from_is_err_and c.from_residual-in_err-drawing.result c.from_residual-in_err-drawing.ensures.1 in
-    rw p.1 (subst (RefusesDrawing c.args.bytes.items) (sym p.2) (history_refused c.args.bytes.items c.in_ok-site.site.ops c.in_ok-site.ensures.ok _ c.in_err-drawing.ensures.err))
+    let bytes = c.args.bytes.items in
+    rw p.1 (subst (RefusesLines bytes) (sym p.2) (history_refused bytes c.in_ok-site.site.ops c.in_ok-site.ensures.ok _ c.in_err-drawing.ensures.err).0)
+
+pub returns-in_err-drawing-clause-between : goal.returns-in_err-drawing-clause-between
+returns-in_err-drawing-clause-between g c =
+    let p = err_from_is_err_and c.from_residual-in_err-drawing.result c.from_residual-in_err-drawing.ensures.1 in
+    let bytes = c.args.bytes.items in
+    rw p.1 (subst IsBetween (sym p.2) (history_refused bytes c.in_ok-site.site.ops c.in_ok-site.ensures.ok _ c.in_err-drawing.ensures.err).1)

@@ -1,5 +1,6 @@
 use Rattle.gf_studio.specs.FigRun.{Draws}
-use Rattle.gf_studio.proofs.AnswerLemmas.{left_ok, left_refuses, reads_for, unwritten}
+use Rattle.gf_studio.specs.RefusedRuns.{RefusesLines}
+use Rattle.gf_studio.proofs.AnswerLemmas.{left_ok, left_refuses, reads_on, unwritten}
 use Rattle.gf_studio.proofs.PaintingLemmas.{left_meant}
 use Rattle.gf_studio.proofs.drawings.drawing_of_lines.Goals as goal
 
@@ -10,10 +11,10 @@ pub returns-clause-meant : goal.returns-clause-meant
 returns-clause-meant g c = left_meant _ c.draw.result (returns-clause-ok g c)
 
 pub returns-clause-refused : goal.returns-clause-refused
-returns-clause-refused g c = left_refuses _ c.in_ok-bytes.bytes.items c.draw.result c.in_ok-bytes.ensures.ok c.draw.ensures.err
+returns-clause-refused g c = left_refuses _ c.in_ok-bytes.bytes.items RefusesLines c.draw.result c.in_ok-bytes.ensures.ok c.draw.ensures.refused
 
 pub returns-clause-source : goal.returns-clause-source
-returns-clause-source g c = reads_for _ _ _ _ _ c.in_ok-bytes.ensures.source c.in_ok-bytes.bytes.items c.draw.result c.draw.ensures.err
+returns-clause-source g c = reads_on _ _ _ c.in_ok-bytes.bytes c.draw.result c.in_ok-bytes.ensures.source c.draw.ensures.between
 
 pub returns-clause-no_write : goal.returns-clause-no_write
-returns-clause-no_write g c = unwritten c.in_ok-bytes.bytes.items c.draw.result c.draw.ensures.err
+returns-clause-no_write g c = unwritten c.draw.result c.draw.ensures.between

@@ -7,6 +7,6 @@ returns-clause-not_refused c = λ bytes before text x fault n. text_not_refused 
 
 pub returns-clause-picture : goal.returns-clause-picture
 returns-clause-picture c = λ bytes before text x w taken painted repainted y z.
-    let d = x.drawn in
-    let same = histories_draw bytes bytes d.history d.history d.denoted d.denoted (λ a. (λ i. i, λ i. i)) x.drawing y.shown.drawing d y.shown.drawn in
+    let d = x.is.drawn in
+    let same = histories_draw bytes bytes d.history d.history d.denoted d.denoted (λ a. (λ i. i, λ i. i)) x.is.drawing y.is.shown.drawing d y.is.shown.drawn in
     text_repaints bytes before text x w taken painted repainted y same z
