@@ -15,13 +15,13 @@ HEADLINES = {
     "f": ("fig", "gf_studio.FigRun.Exports"),
     "p": ("paint", "gf_studio.PaintRun.IsMeant gf_studio.PaintRun.WritesPicture gf_fit.FittedRun.FitsLines"),
     "r": ("repaint", "gf_studio.PaintRun.IsDenoted gf_studio.PaintRun.WritesPicture gf_fit.FittedRun.FitsText"),
-    "i": ("inspect", "gf_studio.InspectRun.WritesLook"),
+    "i": ("inspect", "gf_studio.InspectRun.WritesAnswer"),
     "m": ("import", "gf_import.ImportRun.WritesImport"),
     "e": ("edit", "gf_edit.EditRun.WritesEdit"),
     "t": ("status", "gf_status.StatusRun.WritesStatus"),
     "c": ("check", "gf_check.CheckRun.WritesCheck"),
     "s": ("session", "gf_session_run.SessionRun.WritesSession"),
-    "w": ("the words of a command line", "gf_command.Asking.Tells gf_command.Outputs.WritesExtent"),
+    "w": ("the words of a command line", "gf_command.Asking.AsksFor gf_command.Outputs.WritesExtent"),
 }
 HEAD = """# Definitions
 
@@ -83,7 +83,8 @@ class File:
     def row(self, letters):
         found = re.fullmatch(r"(.*?)\s*\(([^()]*(?:\([^()]*\)[^()]*)*)\)\.(.*)", self.head)
         meaning, source, more = found.groups() if found else (self.head.rstrip("."), "", "")
-        source = re.sub(r"^this project's choice(, over |; )?|, ACM TOC(HI|S) [^,]*, \d+", "", source)
+        source = re.sub(r", ACM TOC(HI|S) [^,]*, \d+", "", source)
+        source = "; ".join(part for part in re.split(r"; |, over ", source) if "this project's" not in part)
         path = f"`{self.crate}/specs/{self.module.replace('.', '/')}`"
         return f"| {path} | {meaning}{f' ({source})' if source else ''}{more} | {letters} |"
 
@@ -91,6 +92,9 @@ class File:
 def rests_on(files, names):
     """The definitions that these rest on, themselves too."""
     seen, left = set(), [tuple(name.rsplit(".", 1)) for name in names.split()]
+    for at, name in left:
+        if name not in files[at].texts:
+            sys.exit(f"{at} has no {name}")
     while left:
         at, name = left.pop()
         if (at, name) in seen or at not in files or name not in files[at].texts:

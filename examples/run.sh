@@ -6,7 +6,8 @@
 # status of the lines is expected, or their faults are, these are compared; and where there are changes,
 # the operations that site 1 makes of them, and the status with these. Each picture that the file
 # pictures names, with its lines and its window, is painted anew and compared. What an import makes of
-# house.fig is compared with imported.jsonl. Last the tutorial is typed, and the script of by-git run.
+# house.fig is compared with imported.jsonl. Last README and the tutorial are typed, and the script of by-git
+# is run.
 set -eu
 examples=$(cd "$(dirname "$0")" && pwd)
 root=$(dirname "$examples")
@@ -170,6 +171,7 @@ for example in "$examples"/*/; do
     done
 done
 
+compare "README" /dev/null python3 "$examples/transcript.py" "$root/README.md" "$root"
 compare "tutorial" /dev/null python3 "$examples/transcript.py" "$root/docs/TUTORIAL.md" "$root"
 if command -v git > /dev/null; then
     compare "by-git" "$examples/by-git/expected.txt" "$examples/by-git/run.sh"

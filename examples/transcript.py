@@ -2,7 +2,7 @@
 """Runs each command of a page in a new folder, and compares what it puts out with what stands behind it.
 
 A command is a line that begins with `$ ` in a block for the shell; what follows it in the block is its output, faults
-among it. Each picture NAME.png that the page shows is compared with what the commands painted as NAME.ppm.
+among it. Each picture NAME.png that the page shows is compared with the NAME.ppm that the commands painted, if they did.
 
 Words: the page, and the root of the repository."""
 import os
@@ -58,11 +58,14 @@ def main():
                 failed += 1
                 print(f"$ {command}\n{said}and not\n{output}", file=sys.stderr)
         for link in re.findall(r"!\[[^\]]*\]\(([^)]*\.png)\)", page):
+            pixels = painted(folder, os.path.basename(link)[: -len(".png")])
+            if not pixels:
+                continue
             picture = os.path.join(os.path.dirname(name), link)
-            pixels = subprocess.run(
+            shown = subprocess.run(
                 ["python3", os.path.join(root, "examples", "pixels.py"), picture], stdout=subprocess.PIPE, check=True
             ).stdout
-            if pixels != painted(folder, os.path.basename(link)[: -len(".png")]):
+            if shown != pixels:
                 failed += 1
                 print(f"{link} is another picture", file=sys.stderr)
     sys.exit(1 if failed or len(came) != len(told) + 1 else 0)
