@@ -1,4 +1,5 @@
--- What an outcome says of the output, and which window it tells. No public clause cites this module.
+-- What an outcome says of the output, and which window it tells. No public clause cites this
+-- module.
 use Rattle.std.specs.Prelude.{ℕ, List, Option}
 use Rattle.gf_command.specs.declared.runs.Run.{Run}
 use Rattle.gf_scanline.specs.Windows.{View}

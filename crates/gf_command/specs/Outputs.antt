@@ -68,7 +68,8 @@ AnswersPrefix (Paint canvas) bytes old new =
     WritesExtentPrefix (FitsLines bytes) (IsMeant bytes) old new canvas.extent
 AnswersPrefix (Repaint canvas) bytes old new =
     WritesExtentPrefix (FitsText bytes) (IsDenoted bytes) old new canvas.extent
-AnswersPrefix (Inspect query workers) bytes old new = WritesPrefix (AnswersQuery query bytes) old new
+AnswersPrefix (Inspect query workers) bytes old new =
+    WritesPrefix (AnswersQuery query bytes) old new
 AnswersPrefix (Import editor) bytes old new = WritesPrefix (Imports editor.site bytes) old new
 AnswersPrefix (Edit editor) bytes old new = WritesPrefix (IsEditOf editor.site bytes) old new
 AnswersPrefix (Status check workers) bytes old new = WritesPrefix (IsStatusOf bytes) old new

@@ -44,7 +44,7 @@ module _ {R : Type 0} (source : Source R) (old new : R) where
   ReadsUntil other = ReadsAll
 
   -- how far a run with this answer read; one byte past an input came at most, and it read no more
-  -- often than that. `of` gives an error that any run may have, and behind any other one all is read
+  -- often than that. `of` gives an error that any run may have; behind any other one all is read
   pub record ReadsInputBy {T E : Type 0} (of : E → Option StudioError) (result : Result T E)
       : Type 0 where
     pub came : MatchResult result (λ _. ReadsAll) (λ e. MatchOption (of e) ReadsAll ReadsUntil)
