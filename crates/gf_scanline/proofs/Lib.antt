@@ -7,7 +7,6 @@ pub mod FreeLemmas
 pub mod PaintedLemmas
 pub mod PixelLemmas
 pub mod RangeLemmas
-pub mod ReplaceLemmas
-pub mod RisingLemmas
 pub mod StrokeLemmas
 pub mod ColumnLemmas
+pub mod WordLemmas

@@ -1,19 +1,20 @@
 -- Strips, painted segment by segment.
-use Rattle.std.specs.Prelude.{ℕ, zero, suc, ◌≡◌, ◌⊎◌, ◌<◌, ◌≤◌, min, max, Bool, true, false, ◌&&◌, ◌||◌, not, nat_lt, List, [], ◌∷◌, ◌++◌, Contains, refl}
-use Rattle.std.specs.List.{flat_map}
+use Rattle.std.specs.Prelude.{ℕ, zero, suc, ◌≡◌, ◌⊎◌, ◌<◌, ◌≤◌, Bool, true, false, ◌&&◌, ◌||◌, not, nat_lt, if◌then◌else◌, List, [], ◌∷◌, ◌++◌, Contains, refl}
 use Rattle.std.specs.List.Sorted.{IsPermutation}
 use Rattle.std.proofs.Common.{arith, ap, sym, subst, inl, inr, ◌∙◌}
-use Rattle.std.proofs.lemmas.Bool.{cases_Bool}
+use Rattle.std.proofs.lemmas.Bool.{cases_Bool, cases_lt}
 use Rattle.std.proofs.lemmas.Bool.Decides.{nat_tests}
 use Rattle.std.proofs.lemmas.List.Elements.{Contains-append_cases}
 use Rattle.std.proofs.lemmas.List.Folds.{list_any-append, list_any_at}
 use Rattle.std.proofs.lemmas.List.Sorted.{Contains-permutation, IsPermutation-sym, list_any-IsPermutation}
 use Rattle.gf_shape.specs.declared.colour.Rgb.{Rgb}
 use Rattle.gf_scanline.specs.declared.columns.Columns.{Columns}
-use Rattle.gf_scanline.specs.Free.{all_of, met_of}
+use Rattle.gf_scanline.specs.Columns.{is_among, is_from}
+use Rattle.gf_scanline.specs.Free.{IsTaken, is_free}
 use Rattle.gf_scanline.specs.Segments.{AreSegmentsOf}
-use Rattle.gf_scanline.specs.Strips.{AreSameOutside, IsPainted, SegmentView, Shown, is_among, is_free, is_painted, over}
-use Rattle.gf_scanline.proofs.FreeLemmas.{both, none_between, or_false}
+use Rattle.gf_scanline.specs.Strips.{AreSameOutside, IsPainted, SegmentView, Shown, is_painted, over}
+use Rattle.gf_scanline.proofs.FreeLemmas.{among_is}
+use Rattle.gf_scanline.proofs.WordLemmas.{and_false, and_true}
 
 and_left : (x y : Bool) → (x && y) ≡ true → x ≡ true
 and_left true y e = refl
@@ -43,89 +44,148 @@ one_in : (t s : SegmentView) → Contains (t ∷ []) s → s ≡ t
 one_in t s (zero, h, e) = sym e
 one_in t s (suc k, h, e) = absurd (omega arith)
 
-module _ (c : Columns) (colour : Rgb) where
-  met_one : (g : Columns) (k : ℕ) → is_painted (met_of c colour g) k ≡ (is_among g k && is_among c k)
-  met_one g k = elim (cases_Bool (nat_lt (max c.from g.from) (min c.to g.to))) [
-    | inl t ↦ rw t (or_false (is_among (record { from = max c.from g.from; to = min c.to g.to }) k) ∙ both c.from c.to g.from g.to k)
-    | inr t ↦
-        let l : min c.to g.to ≤ max c.from g.from = grind (arith, nat_tests) in
-        rw t (sym (none_between (max c.from g.from) (min c.to g.to) k l) ∙ both c.from c.to g.from g.to k)
-  ]
-
-  -- what is met is what is free among c
-  pub met_painted : (gs : List Columns) (k : ℕ) → is_painted (flat_map (met_of c colour) gs) k ≡ (is_free gs k && is_among c k)
-  met_painted [] k = refl
-  met_painted (g ∷ gs) k = painted_both (met_of c colour g) (flat_map (met_of c colour) gs) k ∙ rw (met_one g k, met_painted gs k) (shared (is_among g k) (is_free gs k) (is_among c k))
-    where
-      shared : (x y z : Bool) → ((x && z) || (y && z)) ≡ ((x || y) && z)
-      shared true true true = refl
-      shared true true false = refl
-      shared true false true = refl
-      shared true false false = refl
-      shared false true true = refl
-      shared false true false = refl
-      shared false false true = refl
-      shared false false false = refl
-
-  met_one_colour : (g : Columns) (s : SegmentView) → Contains (met_of c colour g) s → s.colour ≡ colour
-  met_one_colour g s i = elim (cases_Bool (nat_lt (max c.from g.from) (min c.to g.to))) [
-    | inl t ↦ ap (λ (z : SegmentView). z.colour) (one_in (record { columns = record { from = max c.from g.from; to = min c.to g.to }; colour = colour }) s (rw t at i))
-    | inr t ↦ absurd (none_in s (rw t at i))
-  ]
-
-  pub met_colour : (gs : List Columns) (s : SegmentView) → Contains (flat_map (met_of c colour) gs) s → s.colour ≡ colour
-  met_colour [] s i = absurd (none_in s i)
-  met_colour (g ∷ gs) s i = elim (Contains-append_cases (met_of c colour g) (flat_map (met_of c colour) gs) s i) [
-    | inl j ↦ met_one_colour g s j
-    | inr j ↦ met_colour gs s j
-  ]
-
-module _ (colour : Rgb) where
-  all_painted : (gs : List Columns) (k : ℕ) → is_painted (all_of colour gs) k ≡ is_free gs k
-  all_painted [] k = refl
-  all_painted (g ∷ gs) k = ap (λ z. is_among g k || z) (all_painted gs k)
-
-  all_colour : (gs : List Columns) (s : SegmentView) → Contains (all_of colour gs) s → s.colour ≡ colour
-  all_colour [] s i = absurd (none_in s i)
-  all_colour (g ∷ gs) s i = elim (Contains-append_cases (record { columns = g; colour = colour } ∷ []) (all_of colour gs) s i) [
-    | inl j ↦ ap (λ (z : SegmentView). z.colour) (one_in (record { columns = g; colour = colour }) s j)
-    | inr j ↦ all_colour gs s j
-  ]
-
 -- ---- what a strip will show
 
--- some columns in one colour, where they are free
-pub painted_more : (target behind : ℕ → Rgb) (old new : Shown) (c : Columns) (colour : Rgb) (more : List SegmentView) (n : ℕ) →
-    ((k : ℕ) → is_free new.free k ≡ (is_free old.free k && not (is_among c k))) →
-    new.segments ≡ old.segments ++ more → ((k : ℕ) → is_painted more k ≡ (is_free old.free k && is_among c k)) → ((s : SegmentView) → Contains more s → s.colour ≡ colour) →
-    IsPainted target (over (is_among c) colour behind) n old → IsPainted target behind n new
-painted_more target behind old new c colour more n free segments met same h = record {
-  free = λ k l e.
-      let both = sym (free k) ∙ e in
-      let out = not_false (is_among c k) (and_right (is_free old.free k) (not (is_among c k)) both) in
-      rw out at (h.free k l (and_left (is_free old.free k) (not (is_among c k)) both));
-  whole = λ k l. rw (free k, segments, painted_both old.segments more k, met k) (cases (is_free old.free k) (is_among c k) (is_painted old.segments k) (h.whole k l));
-  colours = λ s k i l a. pick s k l a (Contains-append_cases old.segments more s (subst (λ z. Contains z s) segments i));
-}
-  where
-    cases : (x y z : Bool) → (x || z) ≡ true → ((x && not y) || (z || (x && y))) ≡ true
-    cases true true true e = refl
-    cases true true false e = refl
-    cases true false z e = refl
-    cases false y true e = refl
-    cases false y false e = e
+-- a run of the columns that are still to be painted
+module _ (target behind : ℕ → Rgb) (n : ℕ) (old new : Shown) (c run : Columns) (colour : Rgb) (taken : IsTaken c old.free new.free run)
+    (pushed : new.segments ≡ old.segments ++ record { columns = run; colour = colour } ∷ []) where
+  -- what is free still lies behind the run
+  still_behind : (k : ℕ) → is_free old.free k ≡ true → is_among run k ≡ false → is_among (record { from = run.to; to = c.to }) k ≡ is_among c k
+  still_behind k was out = elim (cases_lt k run.from) [
+    | inl l ↦ elim (cases_lt k c.from) [
+      | inl m ↦
+          let some = taken.some in
+          let x : is_from run.to c.to k ≡ false = grind (arith, nat_tests) in
+          let y : is_from c.from c.to k ≡ false = grind (arith, nat_tests) in x ∙ sym y
+      | inr m ↦ absurd (let e : true ≡ false = sym was ∙ taken.passed k m l in absurd cc)
+    ]
+    | inr l ↦
+        let past : run.to ≤ k = elim (cases_lt k run.to) [
+          | inl m ↦ absurd (let e : is_from run.from run.to k ≡ true = grind (arith, nat_tests) in let f : true ≡ false = sym e ∙ out in absurd cc)
+          | inr m ↦ m
+        ] in
+        let from = taken.from in
+        elim (cases_lt k c.to) [
+          | inl m ↦
+              let x : is_from run.to c.to k ≡ true = grind (arith, nat_tests) in
+              let y : is_from c.from c.to k ≡ true = grind (arith, nat_tests) in x ∙ sym y
+          | inr m ↦
+              let x : is_from run.to c.to k ≡ false = grind (arith, nat_tests) in
+              let y : is_from c.from c.to k ≡ false = grind (arith, nat_tests) in x ∙ sym y
+        ]
+  ]
 
-    pick : (s : SegmentView) (k : ℕ) → k < n → is_among s.columns k ≡ true → Contains old.segments s ⊎ Contains more s → s.colour ≡ target k
-    pick s k l a (inl i) = h.colours s k i l a
-    pick s k l a (inr i) =
-        let there = sym (met k) ∙ painted_in more s k i a in
-        let within = and_right (is_free old.free k) (is_among c k) there in
-        same s i ∙ (rw within at (h.free k l (and_left (is_free old.free k) (is_among c k) there)))
+  run_within : (k : ℕ) → is_among run k ≡ true → is_among c k ≡ true
+  run_within k a = let w = among_is run k a in let from = taken.from in let to = taken.to in let l = w.0 in let m = w.1 in grind (arith, nat_tests)
+
+  pub painted_run : IsPainted target (over (is_among c) colour behind) n old → IsPainted target (over (is_among (record { from = run.to; to = c.to })) colour behind) n new
+  painted_run h = record {
+    free = λ k l e.
+        let both = sym (taken.left k) ∙ e in
+        let was = and_left (is_free old.free k) (not (is_among run k)) both in
+        let out = not_false (is_among run k) (and_right (is_free old.free k) (not (is_among run k)) both) in
+        ap (λ t. if t then colour else behind k) (still_behind k was out) ∙ h.free k l was;
+    whole = λ k l. rw (taken.left k, pushed, painted_both old.segments (record { columns = run; colour = colour } ∷ []) k) (cases (is_free old.free k) (is_among run k) (is_painted old.segments k) (h.whole k l));
+    colours = λ s k i l a. pick s k l a (Contains-append_cases old.segments (record { columns = run; colour = colour } ∷ []) s (subst (λ z. Contains z s) pushed i));
+  }
+    where
+      cases : (x y z : Bool) → (x || z) ≡ true → ((x && not y) || (z || (y || false))) ≡ true
+      cases true true true e = refl
+      cases true true false e = refl
+      cases true false z e = refl
+      cases false y true e = refl
+      cases false y false e = absurd cc
+
+      pick : (s : SegmentView) (k : ℕ) → k < n → is_among s.columns k ≡ true → Contains old.segments s ⊎ Contains (record { columns = run; colour = colour } ∷ []) s → s.colour ≡ target k
+      pick s k l a (inl i) = h.colours s k i l a
+      pick s k l a (inr i) =
+          let one = one_in (record { columns = run; colour = colour }) s i in
+          let among : is_among run k ≡ true = subst (λ (z : SegmentView). is_among z.columns k ≡ true) one a in
+          let there = h.free k l (taken.free k among) in
+          ap (λ (z : SegmentView). z.colour) one ∙ (rw (run_within k among) at there)
+
+-- what is free behind the columns that were painted
+module _ (old mid : List ℕ) (c rest : Columns) (from : c.from ≤ rest.from) (left : (k : ℕ) → is_free mid k ≡ (is_free old k && not (is_from c.from rest.from k))) where
+  painted_out : (k : ℕ) → is_from c.from rest.from k ≡ true → is_free mid k ≡ false
+  painted_out k e = left k ∙ (rw e (and_false (is_free old k)))
+
+  kept_out : (k : ℕ) → is_from c.from rest.from k ≡ false → is_free mid k ≡ is_free old k
+  kept_out k e = left k ∙ (rw e (and_true (is_free old k)))
+
+  pub free_behind : (new : List ℕ) (run : Columns) → IsTaken rest mid new run → (k : ℕ) → is_free new k ≡ (is_free old k && not (is_from c.from run.to k))
+  free_behind new run t k = elim (cases_lt k run.from) [
+    | inl l ↦ elim (cases_lt k rest.from) [
+      | inl m ↦ elim (cases_lt k c.from) [
+        | inl o ↦
+            let x : is_from c.from rest.from k ≡ false = grind (arith, nat_tests) in
+            let y : is_among run k ≡ false = grind (arith, nat_tests) in
+            let z : is_from c.from run.to k ≡ false = grind (arith, nat_tests) in
+            t.left k ∙ (rw (y, z) (ap (λ p. p && true) (kept_out k x)))
+        | inr o ↦
+            let x : is_from c.from rest.from k ≡ true = grind (arith, nat_tests) in
+            let z : is_from c.from run.to k ≡ true = let s = t.some in grind (arith, nat_tests) in
+            t.left k ∙ (rw (painted_out k x, z) (sym (and_false (is_free old k))))
+      ]
+      | inr m ↦
+          let x : is_from c.from rest.from k ≡ false = grind (arith, nat_tests) in
+          let z : is_from c.from run.to k ≡ true = let s = t.some in grind (arith, nat_tests) in
+          t.left k ∙ (rw (t.passed k m l, z) (sym (and_false (is_free old k))))
+    ]
+    | inr l ↦
+        let start = t.from in
+        let x : is_from c.from rest.from k ≡ false = grind (arith, nat_tests) in
+        let same : is_from c.from run.to k ≡ is_among run k = elim (cases_lt k run.to) [
+          | inl m ↦ let y : is_among run k ≡ true = grind (arith, nat_tests) in let z : is_from c.from run.to k ≡ true = grind (arith, nat_tests) in z ∙ sym y
+          | inr m ↦ let y : is_among run k ≡ false = grind (arith, nat_tests) in let z : is_from c.from run.to k ≡ false = grind (arith, nat_tests) in z ∙ sym y
+        ] in
+        t.left k ∙ (rw (kept_out k x, same) refl)
+  ]
+
+  pub free_end : (rest.from ≡ c.from) ⊎ (rest.from ≤ c.to) → rest.to ≡ c.to → ((k : ℕ) → (is_free mid k && is_among rest k) ≡ false) → (k : ℕ) → is_free mid k ≡ (is_free old k && not (is_among c k))
+  free_end b e none k = elim (cases_lt k rest.from) [
+    | inl l ↦ elim (cases_lt k c.from) [
+      | inl o ↦
+          let x : is_from c.from rest.from k ≡ false = grind (arith, nat_tests) in
+          let z : is_among c k ≡ false = grind (arith, nat_tests) in
+          rw z (kept_out k x ∙ sym (and_true (is_free old k)))
+      | inr o ↦
+          let x : is_from c.from rest.from k ≡ true = grind (arith, nat_tests) in
+          let z : is_among c k ≡ true = elim b [
+            | inl f ↦ absurd (omega (arith, f, l, o))
+            | inr f ↦ grind (arith, nat_tests)
+          ] in
+          rw z (painted_out k x ∙ sym (and_false (is_free old k)))
+    ]
+    | inr l ↦
+        let x : is_from c.from rest.from k ≡ false = grind (arith, nat_tests) in
+        elim (cases_lt k c.to) [
+          | inl m ↦
+              let y : is_among rest k ≡ true = grind (arith, nat_tests) in
+              let z : is_among c k ≡ true = grind (arith, nat_tests) in
+              let gone : is_free mid k ≡ false = sym (and_true (is_free mid k)) ∙ (rw y at (none k)) in
+              rw z (gone ∙ sym (and_false (is_free old k)))
+          | inr m ↦
+              let z : is_among c k ≡ false = grind (arith, nat_tests) in
+              rw z (kept_out k x ∙ sym (and_true (is_free old k)))
+        ]
+  ]
+
+-- no column is left to be painted
+pub painted_end : (target behind : ℕ → Rgb) (n : ℕ) (strip : Shown) (rest : Columns) (colour : Rgb) → ((k : ℕ) → (is_free strip.free k && is_among rest k) ≡ false) → IsPainted target (over (is_among rest) colour behind) n strip → IsPainted target behind n strip
+painted_end target behind n strip rest colour none h = record {
+  free = λ k l e.
+      let out : is_among rest k ≡ false = elim (cases_Bool (is_among rest k)) [
+        | inl a ↦ absurd (let f : true ≡ false = rw (e, a) at (none k) in absurd cc)
+        | inr a ↦ a
+      ] in rw out at (h.free k l e);
+  whole = h.whole;
+  colours = h.colours;
+}
 
 -- where nothing is free, nothing behind is seen
-pub painted_behind : (target behind other : ℕ → Rgb) (n : ℕ) (strip : Shown) → strip.free ≡ [] → IsPainted target behind n strip → IsPainted target other n strip
+pub painted_behind : (target behind other : ℕ → Rgb) (n : ℕ) (strip : Shown) → ((k : ℕ) → is_free strip.free k ≡ false) → IsPainted target behind n strip → IsPainted target other n strip
 painted_behind target behind other n strip none h = record {
-  free = λ k l e. let f : false ≡ true = rw none at e in absurd cc;
+  free = λ k l e. let f : false ≡ true = sym (none k) ∙ e in absurd cc;
   whole = h.whole;
   colours = h.colours;
 }
@@ -139,42 +199,34 @@ painted_unseen target behind other c n strip none same h = record {
 }
 
 -- nothing is painted yet
-pub painted_none : (target : ℕ → Rgb) (n : ℕ) (strip : Shown) → strip.free ≡ record { from = 0; to = n } ∷ [] → strip.segments ≡ [] → IsPainted target target n strip
+pub painted_none : (target : ℕ → Rgb) (n : ℕ) (strip : Shown) → ((k : ℕ) → is_free strip.free k ≡ nat_lt k n) → strip.segments ≡ [] → IsPainted target target n strip
 painted_none target n strip free none = record {
   free = λ k l e. refl;
-  whole = λ k l. let e : is_free (record { from = 0; to = n } ∷ []) k ≡ true = first k l in rw (free, e) refl;
+  whole = λ k l. let e : nat_lt k n ≡ true = grind (arith, nat_tests) in rw (free k, e) refl;
   colours = λ s k i l a. absurd (none_in s (rw none at i));
 }
-  where
-    first : (k : ℕ) → k < n → is_free (record { from = 0; to = n } ∷ []) k ≡ true
-    first k l = let e : is_among (record { from = 0; to = n }) k ≡ true = grind (arith, nat_tests) in rw e refl
 
--- a strip of no column
-pub painted_empty : (target : ℕ → Rgb) (n : ℕ) (strip : Shown) → n ≤ 0 → IsPainted target target n strip
-painted_empty target n strip none = record {
-  free = λ k l e. refl;
-  whole = λ k l. absurd (omega (arith, none, l));
-  colours = λ s k i l a. absurd (omega (arith, none, l));
-}
-
--- what is free in the colour of the ground is the end of it
-pub finished : (target : ℕ → Rgb) (ground : Rgb) (n : ℕ) (strip : Shown) → IsPainted target (λ _. ground) n strip → AreSegmentsOf target n (strip.segments ++ all_of ground strip.free)
-finished target ground n strip h = record {
-  whole = λ k l. rw (painted_both strip.segments (all_of ground strip.free) k, all_painted ground strip.free k) (swapped (is_free strip.free k) (is_painted strip.segments k) (h.whole k l));
-  colours = λ s k i l a. pick s k l a (Contains-append_cases strip.segments (all_of ground strip.free) s i);
+-- the ground over the ground
+pub ground_over : (target : ℕ → Rgb) (test : ℕ → Bool) (ground : Rgb) (n : ℕ) (strip : Shown) → IsPainted target (λ _. ground) n strip → IsPainted target (over test ground (λ _. ground)) n strip
+ground_over target test ground n strip h = record {
+  free = λ k l e. same (test k) ∙ h.free k l e;
+  whole = h.whole;
+  colours = h.colours;
 }
   where
-    swapped : (x y : Bool) → (x || y) ≡ true → (y || x) ≡ true
-    swapped true true e = refl
-    swapped true false e = refl
-    swapped false true e = refl
-    swapped false false e = e
+    same : (x : Bool) → (if x then ground else ground) ≡ ground
+    same true = refl
+    same false = refl
 
-    pick : (s : SegmentView) (k : ℕ) → k < n → is_among s.columns k ≡ true → Contains strip.segments s ⊎ Contains (all_of ground strip.free) s → s.colour ≡ target k
-    pick s k l a (inl i) = h.colours s k i l a
-    pick s k l a (inr i) =
-        let there = sym (all_painted ground strip.free k) ∙ painted_in (all_of ground strip.free) s k i a in
-        all_colour ground strip.free s i ∙ h.free k l there
+-- all that was free has the colour of the ground
+pub finished : (target : ℕ → Rgb) (ground : Rgb) (n : ℕ) (old new : Shown) → IsPainted target (λ _. ground) n new → ((k : ℕ) → is_free new.free k ≡ (is_free old.free k && not (is_among (record { from = 0; to = n }) k))) → AreSegmentsOf target n new.segments
+finished target ground n old new h free = record {
+  whole = λ k l.
+      let e : is_among (record { from = 0; to = n }) k ≡ true = grind (arith, nat_tests) in
+      let none : is_free new.free k ≡ false = free k ∙ (rw e (and_false (is_free old.free k))) in
+      rw none at (h.whole k l);
+  colours = h.colours;
+}
 
 -- segments in another order
 pub moved : (target : ℕ → Rgb) (n : ℕ) (xs ys : List SegmentView) → IsPermutation xs ys → AreSegmentsOf target n xs → AreSegmentsOf target n ys

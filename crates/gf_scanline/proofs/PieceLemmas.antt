@@ -13,7 +13,8 @@ use Rattle.gf_shape.specs.declared.point.Point.{Point}
 use Rattle.gf_shape.specs.ShapeLaws.{IsBounds}
 use Rattle.gf_scanline.specs.declared.columns.Columns.{Columns}
 use Rattle.gf_scanline.specs.Bands.{BandView}
-use Rattle.gf_scanline.specs.Strips.{AreSameOutside, is_among}
+use Rattle.gf_scanline.specs.Columns.{is_among}
+use Rattle.gf_scanline.specs.Strips.{AreSameOutside}
 use Rattle.gf_scanline.specs.Windows.{View, column, line, sample}
 use Rattle.gf_scanline.specs.declared.edge.Edge.{Edge}
 use Rattle.gf_scanline.specs.Telling.{TellsRow}

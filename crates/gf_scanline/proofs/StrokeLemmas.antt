@@ -1,5 +1,5 @@
 -- Strokes from segments, and bytes from strokes.
-use Rattle.std.specs.Prelude.{ℕ, zero, suc, ◌≡◌, ◌≤◌, ◌<◌, ◌+◌, ◌-◌, true, ◌||◌, nat_le, Contains, List, [], ◌∷◌, ◌++◌, length, drop, max, min, refl}
+use Rattle.std.specs.Prelude.{ℕ, zero, suc, ◌≡◌, ◌≤◌, ◌<◌, ◌+◌, ◌-◌, true, ◌||◌, nat_le, false, Contains, List, [], ◌∷◌, ◌++◌, length, drop, max, min, refl}
 use Rattle.std.specs.List.{list_any}
 use Rattle.std.specs.List.Sorted.{IsNonDecreasingBy}
 use Rattle.std.proofs.Common.{append_assoc, arith, ap, sym, subst, inl, inr, get_or, ◌∙◌}
@@ -14,7 +14,8 @@ use Rattle.gf_scanline.specs.declared.segment.Segment.{Segment}
 use Rattle.gf_scanline.specs.declared.stroke.Stroke.{Stroke}
 use Rattle.gf_scanline.specs.Pixels.{pixels}
 use Rattle.gf_scanline.specs.Segments.{AreSegmentsOf, views}
-use Rattle.gf_scanline.specs.Strips.{is_among, is_painted}
+use Rattle.gf_scanline.specs.Columns.{is_among}
+use Rattle.gf_scanline.specs.Strips.{is_painted}
 use Rattle.gf_scanline.specs.Strokes.{AreStrokesFrom, AreStrokesOf}
 use Rattle.gf_scanline.proofs.PixelLemmas.{pixels_more, pixels_one, pixels_same}
 
@@ -145,3 +146,11 @@ filling_ends target n to at ss i bytes all m l h = elim (cases_lt at to) [
   | inl p ↦ let none : n ≤ at = rw (drop_of_length-le ss l) at (h.rest_are p) in absurd (omega (arith, m, none, p))
   | inr p ↦ filling_done target n to at (drop i ss) bytes all (omega (arith, p)) h
 ]
+
+-- ---- tests that decide
+
+pub le_true : (a b : ℕ) → nat_le a b ≡ true → a ≤ b
+le_true a b h = grind (arith, nat_tests)
+
+pub le_false : (a b : ℕ) → nat_le a b ≡ false → b < a
+le_false a b h = grind (arith, nat_tests)

@@ -1,50 +1,36 @@
--- Where columns meet free ones, and what they leave free. No public clause cites this module.
-use Rattle.std.specs.Prelude.{◌≡◌, ℕ, ◌≤◌, ◌<◌, cond, max, min, nat_lt, List, []}
-use Rattle.std.specs.Prelude.{◌∷◌, ◌++◌, length, map}
-use Rattle.std.specs.Prelude.{Contains, slice_index_or}
-use Rattle.gf_shape.specs.declared.colour.Rgb.{Rgb}
+-- Which columns of a row are free: a set bit for each, in words of 64 (this project's choice).
+use Rattle.std.specs.Prelude.{ℕ, ◌≡◌, ◌/◌, ◌%◌, ◌≤◌, ◌<◌, Bool, true, false, ◌&&◌, not, nat_lt}
+use Rattle.std.specs.Prelude.{List, slice_index_or, length, ◌^◌}
+use Rattle.std.specs.Int.{bit_at}
 use Rattle.gf_scanline.specs.declared.columns.Columns.{Columns}
-use Rattle.gf_scanline.specs.Strips.{SegmentView}
+use Rattle.gf_scanline.specs.Columns.{is_among}
 
--- the columns from a to before b, where there are any
-abbrev pub some_from : ℕ → ℕ → List Columns
-some_from a b = cond (nat_lt a b) (record { from = a; to = b } ∷ []) []
+-- bit i of a word is set
+unfoldable pub is_set : ℕ → ℕ → Bool
+is_set word i = nat_lt 0 (bit_at word i)
 
--- what the columns c leave of the free columns g
-abbrev pub left_of : Columns → Columns → List Columns
-left_of c g = cond (nat_lt (max c.from g.from) (min c.to g.to))
-    (some_from g.from (max c.from g.from) ++ some_from (min c.to g.to) g.to)
-    (some_from g.from g.to)
+-- column k is free
+unfoldable pub is_free : List ℕ → ℕ → Bool
+is_free words k = is_set (slice_index_or words (k / 64) 0) (k % 64)
 
--- the columns that c shares with the free columns g, in a colour
-abbrev pub met_of : Columns → Rgb → Columns → List SegmentView
-met_of c colour g = cond (nat_lt (max c.from g.from) (min c.to g.to))
-    (record {
-      columns = record { from = max c.from g.from; to = min c.to g.to };
-      colour = colour;
-    } ∷ [])
-    []
+-- i is the first number from a on for which the test holds; it is n where there is none below n
+pub record IsFirst (test : ℕ → Bool) (n a i : ℕ) : Type 0 where
+  pub bound : i ≤ n
+  pub from : i < n → a ≤ i
+  pub none : (k : ℕ) → a ≤ k → k < i → test k ≡ false
+  pub some : i < n → test i ≡ true
 
--- the free columns in a colour
-abbrev pub all_of : Rgb → List Columns → List SegmentView
-all_of colour gs = map (λ g. record { columns = g; colour = colour }) gs
+-- there are 64 words, and the summary has the bits of those that have a set bit
+pub record IsSummary (words : List ℕ) (summary : ℕ) : Type 0 where
+  pub count : length words ≡ 64
+  pub fits : (i : ℕ) → slice_index_or words i 0 < 2 ^ 64
+  pub bits : (i : ℕ) → i < 64 → is_set summary i ≡ nat_lt 0 (slice_index_or words i 0)
 
--- the first i ranges of columns end up to the column n, and no other one does
-pub record IsFirstBehind (n : ℕ) (gs : List Columns) (i : ℕ) : Type 0 where
-  pub bound : i ≤ length gs
-  pub below : (k : ℕ) (d : Columns) → k < i → (slice_index_or gs k d).to ≤ n
-  pub above : (k : ℕ) (d : Columns) → i ≤ k → k < length gs
-      → n < (slice_index_or gs k d).to
-
--- the first i ranges of columns begin before the column n, and no other one does
-pub record AreFirstBefore (n : ℕ) (gs : List Columns) (i : ℕ) : Type 0 where
-  pub bound : i ≤ length gs
-  pub below : (k : ℕ) (d : Columns) → k < i → (slice_index_or gs k d).from < n
-  pub above : (k : ℕ) (d : Columns) → i ≤ k → k < length gs
-      → n ≤ (slice_index_or gs k d).from
-
--- the ranges gs are some that end before c, some others, and some that begin behind c
-pub record IsParted (c : Columns) (gs before met behind : List Columns) : Type 0 where
-  pub whole : before ++ (met ++ behind) ≡ gs
-  pub below : (g : Columns) → Contains before g → g.to ≤ c.from
-  pub above : (g : Columns) → Contains behind g → c.to ≤ g.from
+-- a run of the columns c, the first that are free in the words old, is free no longer in new
+pub record IsTaken (c : Columns) (old new : List ℕ) (run : Columns) : Type 0 where
+  pub from : c.from ≤ run.from
+  pub some : run.from < run.to
+  pub to : run.to ≤ c.to
+  pub passed : (k : ℕ) → c.from ≤ k → k < run.from → is_free old k ≡ false
+  pub free : (k : ℕ) → is_among run k ≡ true → is_free old k ≡ true
+  pub left : (k : ℕ) → is_free new k ≡ (is_free old k && not (is_among run k))

@@ -9,6 +9,7 @@ pub mod Pieces
 pub mod Seen
 pub mod Pixels
 pub mod Strips
+pub mod Columns
 pub mod Free
 pub mod Segments
 pub mod Strokes

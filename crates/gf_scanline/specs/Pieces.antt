@@ -5,7 +5,7 @@ use Rattle.gf_shape.specs.declared.bounds.Bounds.{Bounds}
 use Rattle.gf_shape.specs.declared.point.Point.{Point}
 use Rattle.gf_shape.specs.ShapeLaws.{IsBounds}
 use Rattle.gf_scanline.specs.Bands.{BandView, HasRow}
-use Rattle.gf_scanline.specs.Strips.{is_among}
+use Rattle.gf_scanline.specs.Columns.{is_among}
 use Rattle.gf_scanline.specs.Windows.{View, line, sample}
 use Rattle.gf_scanline.specs.Telling.{TellsRow}
 use Rattle.gf_scanline.specs.declared.layer.Layer.{Layer}

@@ -2,7 +2,8 @@
 use Rattle.std.specs.Prelude.{ℕ, ◌≡◌, ◌<◌, true, List, Contains, map}
 use Rattle.gf_shape.specs.declared.colour.Rgb.{Rgb}
 use Rattle.gf_scanline.specs.declared.segment.Segment.{Segment}
-use Rattle.gf_scanline.specs.Strips.{SegmentView, is_among, is_painted}
+use Rattle.gf_scanline.specs.Columns.{is_among}
+use Rattle.gf_scanline.specs.Strips.{SegmentView, is_painted}
 
 -- the segments without the places of their brushes
 abbrev pub views : List Segment → List SegmentView

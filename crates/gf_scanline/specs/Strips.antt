@@ -1,23 +1,12 @@
 -- Some columns of a row, painted from the front to the back: each once, while it is free (this
 -- project's choice).
-use Rattle.std.specs.Prelude.{ℕ, ◌≤◌, ◌≡◌, ◌<◌, Bool, true, false, ◌&&◌, ◌||◌}
-use Rattle.std.specs.Prelude.{nat_le, nat_lt, if◌then◌else◌}
-use Rattle.std.specs.Prelude.{List, [], ◌∷◌, Contains, ⊤}
+use Rattle.std.specs.Prelude.{ℕ, ◌≡◌, ◌<◌, Bool, true, false, ◌||◌, if◌then◌else◌}
+use Rattle.std.specs.Prelude.{List, Contains}
 use Rattle.std.specs.List.{list_any}
 use Rattle.gf_shape.specs.declared.colour.Rgb.{Rgb}
 use Rattle.gf_scanline.specs.declared.columns.Columns.{Columns}
-
--- k lies from a to before b
-abbrev pub is_from : ℕ → ℕ → ℕ → Bool
-is_from a b k = nat_le a k && nat_lt k b
-
--- k is one of the columns
-abbrev pub is_among : Columns → ℕ → Bool
-is_among c k = is_from c.from c.to k
-
--- k is one of the columns of a list
-abbrev pub is_free : List Columns → ℕ → Bool
-is_free free k = list_any (λ c. is_among c k) free
+use Rattle.gf_scanline.specs.Columns.{is_among}
+use Rattle.gf_scanline.specs.Free.{is_free}
 
 -- the colour c where the test holds, else what was there
 abbrev pub over : (ℕ → Bool) → Rgb → (ℕ → Rgb) → ℕ → Rgb
@@ -26,12 +15,6 @@ over test c f k = if test k then c else f k
 -- the colourings f and g of n columns agree outside c
 abbrev pub AreSameOutside : Columns → ℕ → (ℕ → Rgb) → (ℕ → Rgb) → Type 0
 AreSameOutside c n f g = (k : ℕ) → k < n → is_among c k ≡ false → f k ≡ g k
-
--- each range has columns, and ends before the next ones begin
-abbrev pub AreRising : List Columns → Type 0
-AreRising [] = ⊤
-AreRising (c ∷ cs) = (c.from < c.to) × ((d : Columns) → Contains cs d → c.to ≤ d.from)
-    × AreRising cs
 
 -- a segment: columns in one colour
 pub record SegmentView : Type 0 where
@@ -42,10 +25,10 @@ pub record SegmentView : Type 0 where
 abbrev pub is_painted : List SegmentView → ℕ → Bool
 is_painted ss k = list_any (λ s. is_among s.columns k) ss
 
--- a strip: what of its columns is painted, and which are still free
+-- a strip: what of its columns is painted, and the bits of those that are still free
 pub record Shown : Type 0 where
   pub segments : List SegmentView
-  pub free : List Columns
+  pub free : List ℕ
 
 -- each of n columns is free or painted; with behind in the free columns, the strip shows target
 pub record IsPainted (target behind : ℕ → Rgb) (n : ℕ) (strip : Shown) : Type 0 where

@@ -3,7 +3,7 @@
 ghost use Rattle.std.specs.Prelude.{◌≡◌, ℕ, ◌*◌, ◌≤◌, ◌<◌, nat_le, nat_lt, int_le, ◌+ℤ◌, ◌≤ℤ◌};
 ghost use Rattle.std.specs.Prelude.{pos};
 ghost use Rattle.gf_spans.specs.Spans.{is_in_span};
-ghost use Rattle.gf_scanline.specs.Strips.{is_among};
+ghost use Rattle.gf_scanline.specs.Columns.{is_among};
 ghost use Rattle.gf_scanline.specs.Windows.{column};
 
 use crate::{Columns, Window};

@@ -1,120 +1,144 @@
-//! The free columns of a row, from the left.
+//! Which columns of a row are free.
 
-ghost use Rattle.std.specs.Prelude.{◌≡◌, ℕ, ◌+◌, ◌-◌, ◌≤◌, false, ◌&&◌, IsTrue, OnOk, OnErr, []};
-ghost use Rattle.std.specs.Prelude.{◌++◌};
-ghost use Rattle.std.specs.Prelude.{take, drop, length};
-ghost use Rattle.gf_scanline.specs.Free.{IsFirstBehind, AreFirstBefore, IsParted};
-ghost use Rattle.gf_scanline.specs.Strips.{AreRising, is_among, is_free};
+ghost use Rattle.std.specs.Prelude.{◌≡◌, ◌↔◌, ℕ, ◌≤◌, ◌<◌, ◌+◌, ◌*◌, ◌/◌, ◌&&◌, not, nat_lt, false};
+ghost use Rattle.std.specs.Prelude.{IsTrue, IfSome, None};
+ghost use Rattle.gf_scanline.specs.Columns.{is_among, is_from};
+ghost use Rattle.gf_scanline.specs.Free.{IsFirst, IsTaken, is_free};
 
 use crate::Columns;
-use gf_shape::OutOfMemory;
+use crate::word::{BITS, first_bits, first_clear, first_set, without};
+use std::marker::Model;
 
-/// How many of the first free ranges end up to a column.
-fn first_behind(free: &[Columns], column: usize) -> usize
-    requires { AreRising free.now }
-    ensures { IsFirstBehind column free.now result }
-{
-    free.partition_point(|some| some.to <= column)
+/// How many columns a row has at most.
+const COLUMNS: usize = BITS * BITS;
+
+/// Which of 4,096 columns are free: a set bit for each, in words of 64. A bit of the summary is set
+/// where its word has a set bit.
+#[derive(Debug, Drop)]
+pub(crate) struct FreeColumns {
+    words: [u64; BITS],
+    summary: u64,
 }
 
-/// How many of the first free ranges begin before a column.
-fn first_from(free: &[Columns], column: usize) -> usize
-    requires { AreRising free.now }
-    ensures { AreFirstBefore column free.now result }
-{
-    free.partition_point(|some| some.from < column)
+impl Model for FreeColumns {
+    ghost use Rattle.std.specs.Prelude.{ℕ, List};
+    ghost use Rattle.gf_scanline.specs.Free.{IsSummary};
+
+    ghost Value = { List ℕ };
+
+    ghost view = { λ f. f.words };
+
+    ghost invariant = { λ f. IsSummary f.words f.summary };
 }
 
-/// From which to before which free range some columns may meet one.
-pub(crate) fn met(free: &[Columns], columns: Columns) -> (usize, usize)
-    requires { AreRising free.now }
-    ensures bounds { (result.0 ≤ result.1) × (result.1 ≤ length free.now) }
-    ensures parted { IsParted columns free.now (take result.0 free.now)
-        (take (result.1 - result.0) (drop result.0 free.now)) (drop result.1 free.now) }
-{
-    let start = first_behind(free, columns.from);
-    let end = first_from(free, columns.to).max(start);
-    (start, end)
-}
-
-/// Whether one of the columns is free. Only the first free range that does not end before them may
-/// have one.
-pub(crate) fn is_any_free(free: &[Columns], columns: Columns) -> bool
-    requires { AreRising free.now }
-    ensures some { IsTrue result → (k : ℕ) × IsTrue (is_free free.now k && is_among columns k) }
-    ensures none { result ≡ false → (k : ℕ) → (is_free free.now k && is_among columns k) ≡ false }
-{
-    match free.get(first_behind(free, columns.from)) {
-        Some(some) => overlap(*some, columns),
-        None => false,
+impl FreeColumns {
+    /// The first `count` columns.
+    pub fn first(count: usize) -> FreeColumns
+        requires { count ≤ 4096 }
+        ensures { (k : ℕ) → is_free result k ≡ nat_lt k count }
+    {
+        let mut words = [0; BITS];
+        for i in 0..BITS {
+            words[i] = first_bits(count.saturating_sub(BITS * i).min(BITS));
+        }
+        let summary = first_bits(count.div_ceil(BITS));
+        FreeColumns { words, summary }
     }
-}
 
-fn overlap(a: Columns, b: Columns) -> bool
-    ensures some { IsTrue result → (k : ℕ) × IsTrue (is_among a k && is_among b k) }
-    ensures none { result ≡ false → (k : ℕ) → (is_among a k && is_among b k) ≡ false }
-{
-    a.from.max(b.from) < a.to.min(b.to)
-}
-
-/// Replaces the free ranges from index `start` to before `end` by others. Where memory is refused,
-/// no range is left.
-pub(crate) fn replace(
-    free: &mut Vec<Columns>,
-    start: usize,
-    end: usize,
-    with: &[Columns],
-) -> Result<(), OutOfMemory>
-    requires { (start ≤ end) × (end ≤ length free.old.items) }
-    ensures ok { OnOk result (free.new.items
-        ≡ (take start free.old.items ++ with.now) ++ drop end free.old.items) }
-    ensures err { OnErr result (free.new.items ≡ []) }
-{
-    let count = end - start;
-    if with.len() <= count {
-        put(free, start, with);
-        remove(free, start + with.len(), end);
-        return Ok(());
+    /// Whether no column is free.
+    pub fn is_empty(&self) -> bool
+        ensures { IsTrue result ↔ ((k : ℕ) → is_free self.now k ≡ false) }
+    {
+        self.first_free(0) == COLUMNS
     }
-    let (first, more) = with.split_at(count);
-    put(free, start, first);
-    insert_all(free, end, more)?;
-    Ok(())
-}
 
-/// Overwrites as many free ranges from index `start` on by others.
-fn put(free: &mut Vec<Columns>, start: usize, with: &[Columns])
-    requires { start + length with.now ≤ length free.old.items }
-    ensures { free.new.items ≡ take start free.old.items
-        ++ (with.now ++ drop (start + length with.now) free.old.items) }
-{
-    free[start..start + with.len()].copy_from_slice(with);
-}
+    /// Whether one of the columns is free.
+    pub fn has(&self, columns: Columns) -> bool
+        ensures some { IsTrue result → (k : ℕ) × IsTrue (is_free self.now k && is_among columns k) }
+        ensures none { result ≡ false → (k : ℕ) → (is_free self.now k && is_among columns k) ≡ false }
+    {
+        self.first_free(columns.from) < columns.to.min(COLUMNS)
+    }
 
-/// Removes the free ranges from index `start` to before `end`.
-fn remove(free: &mut Vec<Columns>, start: usize, end: usize)
-    requires { (start ≤ end) × (end ≤ length free.old.items) }
-    ensures { free.new.items ≡ take start free.old.items ++ drop end free.old.items }
-{
-    drop(free.drain(start..end));
-}
-
-/// Inserts more free ranges before the one at `at`. Where memory is refused, no range is left.
-fn insert_all(free: &mut Vec<Columns>, at: usize, more: &[Columns]) -> Result<(), OutOfMemory>
-    requires { at ≤ length free.old.items }
-    ensures ok { OnOk result (free.new.items
-        ≡ take at free.old.items ++ (more.now ++ drop at free.old.items)) }
-    ensures err { OnErr result (free.new.items ≡ []) }
-{
-    let mut place = at;
-    for columns in more {
-        match free.insert(place, *columns) {
-            Ok(()) => place += 1,
-            Err(_) => {
-                free.clear();
-                return Err(OutOfMemory);
+    /// Takes a run of free columns among some, from the first free one on. They are free no longer.
+    pub fn take(&mut self, columns: Columns) -> Option<Columns>
+        ensures none { result ≡ None
+            → (k : ℕ) → (is_free self.old k && is_among columns k) ≡ false }
+        ensures same { result ≡ None → self.new ≡ self.old }
+        ensures some { IfSome result (λ run. IsTaken columns self.old self.new run) }
+    {
+        let mut run = self.take_from_word(columns)?;
+        while run.to < columns.to && self.is_free(run.to) {
+            let rest = Columns {
+                from: run.to,
+                to: columns.to,
+            };
+            match self.take_from_word(rest) {
+                Some(more) => run.to = more.to,
+                None => return Some(run),
             }
         }
+        Some(run)
     }
-    Ok(())
+
+    fn is_free(&self, column: usize) -> bool
+        ensures { result ≡ is_free self.now column }
+    {
+        self.first_free(column) == column && column < COLUMNS
+    }
+
+    #[tactic(auto, using(crate::proofs::FreeLemmas::beyond, crate::proofs::FreeLemmas::first_here, crate::proofs::FreeLemmas::first_nowhere, crate::proofs::FreeLemmas::first_later))]
+    /// The first free column from `start` on; 4,096 where there is none.
+    fn first_free(&self, start: usize) -> usize
+        ensures first { IsFirst (is_free self.now) 4096 start result }
+        ensures beyond { (k : ℕ) → 4096 ≤ k → is_free self.now k ≡ false }
+    {
+        // The summary is read first, so that its invariant is known on each way out.
+        let summary = self.summary;
+        if COLUMNS <= start {
+            return COLUMNS;
+        }
+        let index = start / BITS;
+        let bit = first_set(self.words[index], start % BITS);
+        if bit < BITS {
+            return BITS * index + bit;
+        }
+        let next = first_set(summary, index + 1);
+        if BITS <= next {
+            return COLUMNS;
+        }
+        BITS * next + first_set(self.words[next], 0)
+    }
+
+    /// Takes a run of free columns among some, from the first free one on, all of one word.
+    fn take_from_word(&mut self, columns: Columns) -> Option<Columns>
+        ensures none { result ≡ None
+            → (k : ℕ) → (is_free self.old k && is_among columns k) ≡ false }
+        ensures same { result ≡ None → self.new ≡ self.old }
+        ensures some { IfSome result (λ run. IsTaken columns self.old self.new run) }
+    {
+        let from = self.first_free(columns.from);
+        if columns.to.min(COLUMNS) <= from {
+            return None;
+        }
+        let index = from / BITS;
+        let end = BITS * index + first_clear(self.words[index], from % BITS);
+        let to = end.min(columns.to);
+        self.remove(index, from % BITS, to - BITS * index);
+        Some(Columns { from, to })
+    }
+
+    /// Removes the columns of a word from its bit `low` to before `high`.
+    fn remove(&mut self, index: usize, low: usize, high: usize)
+        requires index { index < 64 }
+        requires bits { (low < high) × (high ≤ 64) }
+        ensures { (k : ℕ) → is_free self.new k ≡ (is_free self.old k
+            && not (is_from (64 * index + low) (64 * index + high) k)) }
+    {
+        let word = without(self.words[index], low, high);
+        self.words[index] = word;
+        if word == 0 {
+            self.summary = without(self.summary, index, index + 1);
+        }
+    }
 }

@@ -27,6 +27,7 @@ mod segment;
 mod strip;
 mod stroke;
 mod window;
+mod word;
 mod workspace;
 
 pub use band::Band;

@@ -62,10 +62,10 @@ impl<'l, 'a, S: Shape> Part<'l, 'a, S> {
             ShowsRow (layered S.holds self.now.layers) self.now.band.window j strokes.items) }
     {
         let window = self.band.window();
-        strip.begin(window.width() as usize)?;
+        strip.begin(window);
         paint_pieces(&self.pieces, window, j, strip, space)?;
         let layers = self.layers;
-        let strokes = strip.finish(&layers.ground)?;
+        let strokes = strip.finish(window, &layers.ground)?;
         Ok(strokes)
     }
 

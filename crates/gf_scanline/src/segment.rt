@@ -1,9 +1,8 @@
 //! Columns in one colour, in whatever order they were painted.
 
-ghost use Rattle.std.specs.Prelude.{◌≡◌, ℕ, ◌++◌, IfOk, OnOk};
+ghost use Rattle.std.specs.Prelude.{ℕ, IfOk, OnOk};
 ghost use Rattle.std.specs.List.Sorted.{IsNonDecreasingBy, IsPermutation};
 ghost use Rattle.gf_shape.specs.declared.colour.Rgb.{Rgb};
-ghost use Rattle.gf_scanline.specs.Free.{all_of};
 ghost use Rattle.gf_scanline.specs.Segments.{AreSegmentsOf, views};
 ghost use Rattle.gf_scanline.specs.Strokes.{AreStrokesOf};
 
@@ -16,24 +15,6 @@ use std::alloc::Global;
 pub(crate) struct Segment<'b> {
     pub columns: Columns,
     pub brush: &'b Brush,
-}
-
-/// Adds the free columns in the colour of a brush.
-pub(crate) fn push_all<'b>(
-    free: &[Columns],
-    brush: &'b Brush,
-    segments: &mut Vec<Segment<'b>>,
-) -> Result<(), OutOfMemory>
-    ensures { OnOk result (views segments.new.items
-        ≡ views segments.old.items ++ all_of brush.now free.now) }
-{
-    for columns in free {
-        segments.push(Segment {
-            columns: *columns,
-            brush,
-        })?;
-    }
-    Ok(())
 }
 
 /// Puts the segments in order, from the left.

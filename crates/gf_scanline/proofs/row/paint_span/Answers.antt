@@ -1,6 +1,7 @@
 use Rattle.std.proofs.Common.{sym, ap, if◌then◌else◌}
 use Rattle.gf_spans.specs.Spans.{is_in_span}
-use Rattle.gf_scanline.specs.Strips.{over, is_among}
+use Rattle.gf_scanline.specs.Columns.{is_among}
+use Rattle.gf_scanline.specs.Strips.{over}
 use Rattle.gf_scanline.specs.Windows.{column}
 use Rattle.gf_scanline.proofs.RowLemmas.{painted_same}
 use Rattle.gf_scanline.proofs.row.paint_span.Goals as goal

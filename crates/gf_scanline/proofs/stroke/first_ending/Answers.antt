@@ -1,6 +1,6 @@
 use Rattle.std.proofs.Common.{rules, arith, get_or, nat_le}
 use Rattle.std.proofs.lemmas.List.Sorted.{IsPartitionPoint-from_clause}
-use Rattle.gf_scanline.proofs.RisingLemmas.{le_true, le_false}
+use Rattle.gf_scanline.proofs.StrokeLemmas.{le_true, le_false}
 use Rattle.gf_scanline.proofs.StrokeLemmas.{strokes_parted}
 use Rattle.gf_scanline.proofs.stroke.first_ending.Goals as goal
 

@@ -15,6 +15,6 @@ returns g c =
     let p = c.self.inside in
     let all = row_colours g.S.Shape.holds p.layers.now p.band.window c.args.j in
     let some = row_colours g.S.Shape.holds (layers_of p.pieces.items) p.band.window c.args.j in
-    let begun = painted_same all all some p.band.window.width c.begin.new.self (λ k l. sym (c.self.invariant.seen c.args.j k within l)) (rw (c.width.ensures.width, c.window-window.ensures.window) at (c.in_ok-begin.ensures all)) in
+    let begun = painted_same all all some p.band.window.width c.begin.new.self (λ k l. sym (c.self.invariant.seen c.args.j k within l)) (rw c.window-window.ensures.window at (c.begin.ensures all)) in
     let painted = (rw (c.deref.ensures.value, c.window-window.ensures.window) at c.in_ok-paint_pieces.ensures) all begun in
-    rw (← c.self.view_is) (c.in_ok-strokes.ensures all p.band.window.width (rw c.layers.invariant.ground_is painted))
+    rw (← c.self.view_is) ((rw c.window-window.ensures.window at c.in_ok-strokes.ensures) all (rw c.layers.invariant.ground_is painted))
