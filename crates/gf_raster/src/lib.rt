@@ -10,6 +10,7 @@ mod bands;
 mod crew;
 mod gathering;
 mod painting;
+mod pass;
 mod ppm;
 mod rounds;
 mod rows;

@@ -10,6 +10,7 @@ ghost use Rattle.gf_raster.specs.Turns.{ArePiecesOf, ArePiecesWith};
 
 use crate::Gate;
 use crate::crew::Crew;
+use crate::pass::Pass;
 use crate::shown_rows::ShownRows;
 use gf_scanline::{Stroke, fill};
 use gf_shape::OutOfMemory;
@@ -32,12 +33,9 @@ pub(crate) fn fill_all<R: Threads, G: Gate>(
     if shown.strokes.is_empty() {
         return Ok(());
     }
-    let width = shown.window.width() as usize;
-    for i in 0..width.div_ceil(TILE) {
-        crew.gate.enter(1, number(shown, TILE * i));
-    }
+    let pass = Pass::through(crew, shown, 1, 0, shown.window.width() as usize);
     for row in &shown.strokes {
-        fill(row, 0, width, bytes)?;
+        fill(row, pass.from(), pass.len(), bytes)?;
     }
     Ok(())
 }
@@ -61,23 +59,13 @@ pub(crate) fn pieces<R: Threads, G: Gate>(
     let start = k.saturating_mul(size).min(width);
     let len = size.min(width - start);
     let mut pieces = blank(crew.alloc, shown.strokes.len(), 3 * len)?;
+    let who = (k % 255 + 1) as u8;
     for i in 0..len.div_ceil(TILE) {
         let from = start + TILE * i;
-        crew.gate.enter((k % 255 + 1) as u8, number(shown, from));
-        fill_tile(&shown.strokes, from, TILE.min(len - TILE * i), &mut pieces)?;
+        let pass = Pass::through(crew, shown, who, from, TILE.min(len - TILE * i));
+        fill_tile(&shown.strokes, pass, &mut pieces)?;
     }
     Ok(pieces)
-}
-
-/// The number of a band's tile at a column.
-fn number(shown: &ShownRows<'_>, column: usize) -> u32
-    requires top { shown.now.top < shown.now.window.height }
-    requires column { column < shown.now.window.width }
-{
-    // The clause of `height` says that the rows are few.
-    let _ = shown.window.height();
-    let tiles = (shown.window.width() as usize).div_ceil(TILE);
-    (shown.top / TILE * tiles + column / TILE) as u32
 }
 
 /// Pieces of no bytes, `count` of them, each with room for `room` bytes.
@@ -93,22 +81,21 @@ fn blank(alloc: Global, count: usize, room: usize) -> Result<Vec<Vec<u8>>, OutOf
     Ok(pieces)
 }
 
-/// Adds to each row's piece the bytes of `len` columns from `from` on.
+/// Adds to each row's piece the bytes of the columns for which the gate was passed.
 fn fill_tile(
     strokes: &[Vec<Stroke<'_>>],
-    from: usize,
-    len: usize,
+    pass: Pass,
     pieces: &mut Vec<Vec<u8>>,
 ) -> Result<(), OutOfMemory>
     requires len { vec_len pieces.old ≡ length strokes.now }
-    requires columns { from + len ≤ 4096 }
+    requires columns { pass.from + pass.len ≤ 4096 }
     ensures len { OnOk result (vec_len pieces.new ≡ vec_len pieces.old) }
     ensures pieces { OnOk result ((colour : Point → Rgb) (w : View) (top : ℕ)
-        → from + len ≤ w.width → AreRows colour w top strokes.now
-        → ArePiecesWith colour w top from len pieces.old.items pieces.new.items) }
+        → pass.from + pass.len ≤ w.width → AreRows colour w top strokes.now
+        → ArePiecesWith colour w top pass.from pass.len pieces.old.items pieces.new.items) }
 {
     for i in 0..strokes.len() {
-        fill(&strokes[i], from, len, &mut pieces[i])?;
+        fill(&strokes[i], pass.from(), pass.len(), &mut pieces[i])?;
     }
     Ok(())
 }

@@ -15,11 +15,12 @@ loop-i-preserved g c =
     let same : length c.fill_tile.new.pieces.items ≡ length c.loop-i.pieces.items = search (rules, arith, c.in_ok-fill_tile.ensures.len) in
     let count : c.min.result ≡ min 64 (len - 64 * i) = c.min.ensures in
     let fits : start + 64 * i + c.min.result ≤ w.width = search (rules, arith, first, count) in
+    let filled = rw c.through-pass.ensures at c.in_ok-fill_tile.ensures.pieces in
     record {
       count = same ∙ c.loop-i.invariant.count;
       filled = λ colour h.
           pieces_more colour w c.args.shown.now.top start len i c.loop-i.pieces.items c.fill_tile.new.pieces.items (omega (arith, first)) same
-          (c.loop-i.invariant.filled colour h) (rw count at (c.in_ok-fill_tile.ensures.pieces colour w c.args.shown.now.top fits (rw c.deref.ensures.value h)));
+          (c.loop-i.invariant.filled colour h) (rw count at (filled colour w c.args.shown.now.top fits (rw c.deref.ensures.value h)));
     }
 
 pub returns-clause-pieces : goal.returns-clause-pieces

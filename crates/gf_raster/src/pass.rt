@@ -1,0 +1,74 @@
+//! Passes, without which no tile is filled.
+
+ghost use Rattle.std.specs.Prelude.{◌≡◌, ◌+◌, ◌≤◌, ◌<◌};
+
+use crate::Gate;
+use crate::crew::Crew;
+use crate::shown_rows::ShownRows;
+use crate::tiles::TILE;
+use std::marker::Model;
+use std::thread::Threads;
+
+/// Says that a worker passed the gate for the tiles of some columns. Only [`Pass::through`] makes
+/// one, and only with one is a tile filled.
+#[derive(Drop)]
+pub(crate) struct Pass {
+    from: usize,
+    len: usize,
+}
+
+impl Model for Pass {
+    ghost use Rattle.gf_raster.specs.Passes.{PassView};
+
+    ghost Value = { PassView };
+
+    ghost view = { λ p. record { from = p.from; len = p.len } };
+}
+
+impl Pass {
+    /// Passes the gate, as worker `who`, for each tile of a band that begins among `len` columns from
+    /// `from` on.
+    pub fn through<R: Threads, G: Gate>(
+        crew: &Crew<'_, R, G>,
+        shown: &ShownRows<'_>,
+        who: u8,
+        from: usize,
+        len: usize,
+    ) -> Pass
+        requires top { shown.now.top < shown.now.window.height }
+        requires columns { from + len ≤ shown.now.window.width }
+        ensures { result ≡ record { from = from; len = len } }
+    {
+        // The clause of `width` says that the columns are few.
+        let _ = shown.window.width();
+        for i in 0..len.div_ceil(TILE) {
+            crew.gate.enter(who, number(shown, from + TILE * i));
+        }
+        Pass { from, len }
+    }
+
+    /// The first of the columns.
+    pub fn from(&self) -> usize
+        ensures { result ≡ self.now.from }
+    {
+        self.from
+    }
+
+    /// How many columns there are.
+    pub fn len(&self) -> usize
+        ensures { result ≡ self.now.len }
+    {
+        self.len
+    }
+}
+
+/// The number of a band's tile at a column.
+fn number(shown: &ShownRows<'_>, column: usize) -> u32
+    requires top { shown.now.top < shown.now.window.height }
+    requires column { column < shown.now.window.width }
+{
+    // The clause of `height` says that the rows are few.
+    let _ = shown.window.height();
+    let tiles = (shown.window.width() as usize).div_ceil(TILE);
+    (shown.top / TILE * tiles + column / TILE) as u32
+}
