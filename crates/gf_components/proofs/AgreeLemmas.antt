@@ -27,19 +27,19 @@ kept_agree : (c d : ℕ → ℕ → Bool) (us : List ℕ) → ((a b : ℕ) → C
 kept_agree c d us same (Some gs) k = (table_agree c d us gs same k.0, k.1)
 kept_agree c d us same None k = λ gs t. k gs (table_agree d c us gs (λ a b u v. sym (same a b u v)) t)
 
--- THE SAME COMPONENTS, when the history, or what tells of its conflicts, becomes longer
+-- THE SAME COMPONENTS, when the history becomes longer, or the test of its conflicts changes
 pub components_agree : (c d : ℕ → ℕ → Bool) (t : ComponentsState) → ((a b : ℕ) → Contains (whole t).all a → Contains (whole t).all b → c a b ≡ d a b) → AreComponents c t → AreComponents d t
 components_agree c d t same m =
-    let free_in : (a : ℕ) → Contains t.free a → Contains (whole t).all a = λ a h. (all_of_fold c (alone t.free) t.parts a).1 (inl h) in
-    let part_in : (p : ComponentState) → Contains t.parts p → (a : ℕ) → Contains p.all a → Contains (whole t).all a = λ p i a h. (all_of_fold c (alone t.free) t.parts a).1 (inr (p, i, h)) in
+    let free_in : (a : ℕ) → Contains t.free a → Contains (whole t).all a = λ a h. (all_of_fold c (alone t.free) t.components a).1 (inl h) in
+    let component_in : (p : ComponentState) → Contains t.components p → (a : ℕ) → Contains p.all a → Contains (whole t).all a = λ p i a h. (all_of_fold c (alone t.free) t.components a).1 (inr (p, i, h)) in
     record {
       rises = m.rises;
       calm = λ a b h i. sym (same a b (free_in a h) (free_in b i)) ∙ m.calm a b h i;
-      parts = λ p i. record {
-        rises = (m.parts p i).rises;
-        sets = kept_agree c d p.all (λ a b h k. same a b (part_in p i a h) (part_in p i b k)) p.sets (m.parts p i).sets;
+      components = λ p i. record {
+        rises = (m.components p i).rises;
+        sets = kept_agree c d p.all (λ a b h k. same a b (component_in p i a h) (component_in p i b k)) p.sets (m.components p i).sets;
       };
-      loose = λ p i a b h k. let w = m.loose p i a b h k in (w.0, sym (same a b (free_in a h) (part_in p i b k)) ∙ w.1);
-      apart = Pairs-from (λ (p q : ComponentState). Apart c p.all q.all) (λ (p q : ComponentState). Apart d p.all q.all) t.parts
-          (λ p q i j w a b h k. let v = w a b h k in (v.0, sym (same a b (part_in p i a h) (part_in q j b k)) ∙ v.1)) m.apart;
+      loose = λ p i a b h k. let w = m.loose p i a b h k in (w.0, sym (same a b (free_in a h) (component_in p i b k)) ∙ w.1);
+      apart = Pairs-from (λ (p q : ComponentState). Apart c p.all q.all) (λ (p q : ComponentState). Apart d p.all q.all) t.components
+          (λ p q i j w a b h k. let v = w a b h k in (v.0, sym (same a b (component_in p i a h) (component_in q j b k)) ∙ v.1)) m.apart;
     }

@@ -29,7 +29,7 @@ use Rattle.gf_components.specs.Separate.{Apart, IsComponent, AreComponents, IsNe
 use Rattle.gf_components.proofs.ProductLemmas.{table_alone}
 use Rattle.gf_components.proofs.CountLemmas.{kept_merged, kept_grown}
 
--- one more part joins if it passes
+-- one more component joins if it passes
 pub merged_more : (P : ComponentState → Bool) (p : ComponentState) (ps : List ComponentState) (q : ComponentState) → fold merged p (filter P (ps ++ q ∷ [])) ≡ cond (P q) (merged (fold merged p (filter P ps)) q) (fold merged p (filter P ps))
 merged_more P p ps q = ap (fold merged p) (filter-append P ps (q ∷ [])) ∙ elim (cases_Bool (P q)) [
   | inl y ↦
@@ -57,26 +57,26 @@ module _ (c : ℕ → ℕ → Bool) where
   abbrev AreApart : ComponentState → ComponentState → Type 0
   AreApart p q = Apart c p.all q.all
 
-  -- a is a number of one of the parts
-  abbrev pub IsInParts : List ComponentState → ℕ → Type 0
-  IsInParts ps a = (p : ComponentState) × Contains ps p × Contains p.all a
+  -- a is a number of one of the components
+  abbrev pub IsInComponents : List ComponentState → ℕ → Type 0
+  IsInComponents ps a = (p : ComponentState) × Contains ps p × Contains p.all a
 
-  in_head : (p : ComponentState) (ps : List ComponentState) (a : ℕ) → Contains p.all a → IsInParts (p ∷ ps) a
+  in_head : (p : ComponentState) (ps : List ComponentState) (a : ℕ) → Contains p.all a → IsInComponents (p ∷ ps) a
   in_head p ps a h = (p, Contains-cons_head p ps, h)
 
-  in_tail : (p : ComponentState) (ps : List ComponentState) (a : ℕ) → IsInParts ps a → IsInParts (p ∷ ps) a
+  in_tail : (p : ComponentState) (ps : List ComponentState) (a : ℕ) → IsInComponents ps a → IsInComponents (p ∷ ps) a
   in_tail p ps a h = (h.0, Contains-cons_tail p ps h.0 h.1, h.2)
 
-  in_cases : (p : ComponentState) (ps : List ComponentState) (a : ℕ) → IsInParts (p ∷ ps) a → Contains p.all a ⊎ IsInParts ps a
+  in_cases : (p : ComponentState) (ps : List ComponentState) (a : ℕ) → IsInComponents (p ∷ ps) a → Contains p.all a ⊎ IsInComponents ps a
   in_cases p ps a h = elim (Contains-cons_cases p ps h.0 h.1) [
     | inl e ↦ inl (subst (λ (q : ComponentState). Contains q.all a) e h.2)
     | inr i ↦ inr (h.0, i, h.2)
   ]
 
-  -- ---- parts in one
+  -- ---- components in one
 
   -- where the numbers of the union are
-  pub all_of_fold : (p : ComponentState) (ps : List ComponentState) (a : ℕ) → Contains (fold merged p ps).all a ↔ (Contains p.all a ⊎ IsInParts ps a)
+  pub all_of_fold : (p : ComponentState) (ps : List ComponentState) (a : ℕ) → Contains (fold merged p ps).all a ↔ (Contains p.all a ⊎ IsInComponents ps a)
   all_of_fold p [] a = (λ h. inl h, λ h. elim h [ inl i ↦ i | inr w ↦ absurd (not_Contains-nil w.0 w.1) ])
   all_of_fold p (q ∷ ps) a = (
     λ h. elim ((all_of_fold (merged p q) ps a).0 h) [
@@ -90,18 +90,18 @@ module _ (c : ℕ → ℕ → Bool) where
   )
 
   module _ (s : IsConflict c) where
-    pub part_merged : (p q : ComponentState) → IsComponent c p → IsComponent c q → AreApart p q → IsComponent c (merged p q)
-    part_merged p q x y w = merged_is p q (λ r. IsComponent c r) (λ e. y) (record {
+    pub component_merged : (p q : ComponentState) → IsComponent c p → IsComponent c q → AreApart p q → IsComponent c (merged p q)
+    component_merged p q x y w = merged_is p q (λ r. IsComponent c r) (λ e. y) (record {
       rises = united_rises p.all q.all;
       sets = kept_merged c s p.all q.all x.rises y.rises w p.sets q.sets x.sets y.sets;
     })
 
-    pub part_of_fold : (p : ComponentState) (ps : List ComponentState) → IsComponent c p → ((q : ComponentState) → Contains ps q → IsComponent c q) →
+    pub component_of_fold : (p : ComponentState) (ps : List ComponentState) → IsComponent c p → ((q : ComponentState) → Contains ps q → IsComponent c q) →
         ((q : ComponentState) → Contains ps q → AreApart p q) → Pairs AreApart ps → IsComponent c (fold merged p ps)
-    part_of_fold p [] x ys ws zs = x
-    part_of_fold p (q ∷ ps) x ys ws zs =
-        part_of_fold (merged p q) ps
-        (part_merged p q x (ys q (Contains-cons_head q ps)) (ws q (Contains-cons_head q ps)))
+    component_of_fold p [] x ys ws zs = x
+    component_of_fold p (q ∷ ps) x ys ws zs =
+        component_of_fold (merged p q) ps
+        (component_merged p q x (ys q (Contains-cons_head q ps)) (ws q (Contains-cons_head q ps)))
         (λ r i. ys r (Contains-cons_tail q ps r i))
         (λ r i a b h k. elim ((all_of_merged p q a).0 h) [
           | inl j ↦ ws r (Contains-cons_tail q ps r i) a b j k
@@ -109,18 +109,18 @@ module _ (c : ℕ → ℕ → Bool) where
         ])
         zs.1
 
-    pub part_alone : (us : List ℕ) → IsRising us → ((a b : ℕ) → Contains us a → Contains us b → c a b ≡ false) → IsComponent c (alone us)
-    part_alone us r f = record { rises = r; sets = (table_alone c us r f, omega arith) }
+    pub component_alone : (us : List ℕ) → IsRising us → ((a b : ℕ) → Contains us a → Contains us b → c a b ≡ false) → IsComponent c (alone us)
+    component_alone us r f = record { rises = r; sets = (table_alone c us r f, omega arith) }
 
-    -- THE VERSIONS: what is free with one set of each part
+    -- THE VERSIONS: what is free with one set of each component
     pub table_whole : (t : ComponentsState) → AreComponents c t → IsComponent c (whole t)
-    table_whole t m = part_of_fold (alone t.free) t.parts (part_alone t.free m.rises m.calm) m.parts m.loose m.apart
+    table_whole t m = component_of_fold (alone t.free) t.components (component_alone t.free m.rises m.calm) m.components m.loose m.apart
 
-    pub first_parts : AreComponents c (record { free = []; parts = [] })
-    first_parts = record {
+    pub first_components : AreComponents c (record { free = []; components = [] })
+    first_components = record {
       rises = rising_nil nat_cmp nat_cmp_total;
       calm = λ a b i j. absurd (not_Contains-nil a i);
-      parts = λ p i. absurd (not_Contains-nil p i);
+      components = λ p i. absurd (not_Contains-nil p i);
       loose = λ p i. absurd (not_Contains-nil p i);
       apart = tt;
     }
@@ -129,10 +129,10 @@ module _ (c : ℕ → ℕ → Bool) where
 
     module _ (t : ComponentsState) (m : AreComponents c t) (x : ℕ) (d : List ℕ) (k : IsNewWith c t x d) where
       free_in : (a : ℕ) → Contains t.free a → Contains (whole t).all a
-      free_in a h = (all_of_fold (alone t.free) t.parts a).1 (inl h)
+      free_in a h = (all_of_fold (alone t.free) t.components a).1 (inl h)
 
-      parts_in : (p : ComponentState) → Contains t.parts p → (a : ℕ) → Contains p.all a → Contains (whole t).all a
-      parts_in p i a h = (all_of_fold (alone t.free) t.parts a).1 (inr (p, i, h))
+      components_in : (p : ComponentState) → Contains t.components p → (a : ℕ) → Contains p.all a → Contains (whole t).all a
+      components_in p i a h = (all_of_fold (alone t.free) t.components a).1 (inr (p, i, h))
 
       flipped : (a b : ℕ) → c a b ≡ false → c b a ≡ false
       flipped a b h = s.symmetric b a ∙ h
@@ -167,10 +167,10 @@ module _ (c : ℕ → ℕ → Bool) where
             | inr f ↦ subst (λ z. c z b ≡ false) (sym e) (subst (λ z. c x z ≡ false) (sym f) (s.alone x))
           ]
         ];
-        parts = m.parts;
+        components = m.components;
         loose = λ p i a b h j. elim ((has t.free a).0 h) [
           | inl f ↦ m.loose p i a b f j
-          | inr e ↦ subst (λ z. (z ≢ b) × (c z b ≡ false)) (sym e) (spared b (parts_in p i b j) (n b))
+          | inr e ↦ subst (λ z. (z ≢ b) × (c z b ≡ false)) (sym e) (spared b (components_in p i b j) (n b))
         ];
         apart = m.apart;
       }
@@ -181,53 +181,53 @@ module _ (c : ℕ → ℕ → Bool) where
         λ h. (Contains-filter (is_in d) t.free a).1 (h.0, in_list d a h.1),
       )
 
-      of_touched : (p : ComponentState) → Contains (filter (touches d) t.parts) p → Contains t.parts p × (touches d p ≡ true)
-      of_touched p h = (Contains-filter (touches d) t.parts p).0 h
+      of_touched : (p : ComponentState) → Contains (filter (touches d) t.components) p → Contains t.components p × (touches d p ≡ true)
+      of_touched p h = (Contains-filter (touches d) t.components p).0 h
 
       abbrev missed : List ComponentState
-      missed = filter (λ q. not (touches d q)) t.parts
+      missed = filter (λ q. not (touches d q)) t.components
 
-      of_rest : (p : ComponentState) → Contains missed p → Contains t.parts p × (touches d p ≡ false)
-      of_rest p h = let w = (Contains-filter (λ q. not (touches d q)) t.parts p).0 h in (w.0, not-true (touches d p) w.1)
+      of_rest : (p : ComponentState) → Contains missed p → Contains t.components p × (touches d p ≡ false)
+      of_rest p h = let w = (Contains-filter (λ q. not (touches d q)) t.components p).0 h in (w.0, not-true (touches d p) w.1)
 
-      part_touched : IsComponent c (touched d t)
-      part_touched = part_of_fold (alone (common d t.free)) (filter (touches d) t.parts)
-          (part_alone (common d t.free) (IsStrictlySortedBy-filter nat_cmp (is_in d) t.free m.rises) (λ a b h i. m.calm a b ((singles a).0 h).0 ((singles b).0 i).0))
-          (λ q i. m.parts q (of_touched q i).0)
+      component_touched : IsComponent c (touched d t)
+      component_touched = component_of_fold (alone (common d t.free)) (filter (touches d) t.components)
+          (component_alone (common d t.free) (IsStrictlySortedBy-filter nat_cmp (is_in d) t.free m.rises) (λ a b h i. m.calm a b ((singles a).0 h).0 ((singles b).0 i).0))
+          (λ q i. m.components q (of_touched q i).0)
           (λ q i a b h j. m.loose q (of_touched q i).0 a b ((singles a).0 h).0 j)
-          (Pairs-filter AreApart (touches d) t.parts m.apart)
+          (Pairs-filter AreApart (touches d) t.components m.apart)
 
-      in_touched : (a : ℕ) → Contains (touched d t).all a ↔ (Contains (common d t.free) a ⊎ IsInParts (filter (touches d) t.parts) a)
-      in_touched a = all_of_fold (alone (common d t.free)) (filter (touches d) t.parts) a
+      in_touched : (a : ℕ) → Contains (touched d t).all a ↔ (Contains (common d t.free) a ⊎ IsInComponents (filter (touches d) t.components) a)
+      in_touched a = all_of_fold (alone (common d t.free)) (filter (touches d) t.components) a
 
       touched_in : (a : ℕ) → Contains (touched d t).all a → Contains (whole t).all a
       touched_in a h = elim ((in_touched a).0 h) [
         | inl i ↦ free_in a ((singles a).0 i).0
-        | inr w ↦ parts_in w.0 (of_touched w.0 w.1).0 a w.2
+        | inr w ↦ components_in w.0 (of_touched w.0 w.1).0 a w.2
       ]
 
       -- all that x conflicts with is of it
       rivals_touched : (a : ℕ) → Contains d a → Contains (touched d t).all a
-      rivals_touched a h = (in_touched a).1 (elim ((all_of_fold (alone t.free) t.parts a).0 ((k.rivals a).0 h).0) [
+      rivals_touched a h = (in_touched a).1 (elim ((all_of_fold (alone t.free) t.components a).0 ((k.rivals a).0 h).0) [
         | inl f ↦ inl ((singles a).1 (f, h))
-        | inr w ↦ inr (w.0, (Contains-filter (touches d) t.parts w.0).1 (w.1, meets_from d w.0.all a h w.2), w.2)
+        | inr w ↦ inr (w.0, (Contains-filter (touches d) t.components w.0).1 (w.1, meets_from d w.0.all a h w.2), w.2)
       ])
 
       comes : Comes c (touched d t).all x d (sets.joined x (touched d t).all)
       comes = record {
-        rising = part_touched.rises;
+        rising = component_touched.rises;
         fresh = λ h. k.fresh (touched_in x h);
         rivals = λ a. (λ h. (rivals_touched a h, ((k.rivals a).0 h).1), λ h. (k.rivals a).1 (touched_in a h.0, h.1));
         exactly = has (touched d t).all;
       }
 
-      abbrev new_part : ComponentState
-      new_part = grown d x (touched d t)
+      abbrev new_component : ComponentState
+      new_component = grown d x (touched d t)
 
-      part_grown : IsComponent c new_part
-      part_grown = record {
-        rises = rises (touched d t).all part_touched.rises;
-        sets = kept_grown c s (touched d t).all x d (sets.joined x (touched d t).all) comes (touched d t).sets part_touched.sets;
+      component_grown : IsComponent c new_component
+      component_grown = record {
+        rises = rises (touched d t).all component_touched.rises;
+        sets = kept_grown c s (touched d t).all x d (sets.joined x (touched d t).all) comes (touched d t).sets component_touched.sets;
       }
 
       -- two numbers of different components of one list
@@ -249,19 +249,19 @@ module _ (c : ℕ → ℕ → Bool) where
           let r = of_rest q i in
           elim ((in_touched a).0 h) [
             | inl f ↦ m.loose q r.0 a b ((singles a).0 f).0 j
-            | inr w ↦ let u = of_touched w.0 w.1 in of_two t.parts m.apart w.0 q u.0 r.0 u.1 r.1 a b w.2 j
+            | inr w ↦ let u = of_touched w.0 w.1 in of_two t.components m.apart w.0 q u.0 r.0 u.1 r.1 a b w.2 j
           ]
 
-      grown_apart : (q : ComponentState) → Contains missed q → Apart c q.all new_part.all
-      grown_apart q i = apart_flipped new_part.all q.all (λ a b h j. elim ((has (touched d t).all a).0 h) [
+      grown_apart : (q : ComponentState) → Contains missed q → Apart c q.all new_component.all
+      grown_apart q i = apart_flipped new_component.all q.all (λ a b h j. elim ((has (touched d t).all a).0 h) [
         | inl f ↦ touched_apart q i a b f j
-        | inr e ↦ let r = of_rest q i in subst (λ z. (z ≢ b) × (c z b ≡ false)) (sym e) (spared b (parts_in q r.0 b j) (meets_none d q.all r.1 b j))
+        | inr e ↦ let r = of_rest q i in subst (λ z. (z ≢ b) × (c z b ≡ false)) (sym e) (spared b (components_in q r.0 b j) (meets_none d q.all r.1 b j))
       ])
 
       of_free : (a : ℕ) → Contains (without d t.free) a → Contains t.free a × (¬ (Contains d a))
       of_free a h = (Contains-without d t.free a).0 h
 
-      free_grown : Apart c (without d t.free) new_part.all
+      free_grown : Apart c (without d t.free) new_component.all
       free_grown a b h j =
           let f = of_free a h in
           elim ((has (touched d t).all b).0 j) [
@@ -273,45 +273,45 @@ module _ (c : ℕ → ℕ → Bool) where
           ]
 
       abbrev plain : ComponentsState
-      plain = record { free = without d t.free; parts = missed ++ new_part ∷ [] }
+      plain = record { free = without d t.free; components = missed ++ new_component ∷ [] }
 
-      not_old : (p : ComponentState) → Contains t.parts p → is_in p.all x ≡ false
-      not_old p i = out_of p.all x (λ h. k.fresh (parts_in p i x h))
+      not_old : (p : ComponentState) → Contains t.components p → is_in p.all x ≡ false
+      not_old p i = out_of p.all x (λ h. k.fresh (components_in p i x h))
 
-      is_new : is_in new_part.all x ≡ true
-      is_new = in_list new_part.all x ((has (touched d t).all x).1 (inr refl))
+      is_new : is_in new_component.all x ≡ true
+      is_new = in_list new_component.all x ((has (touched d t).all x).1 (inr refl))
 
-      same_filter : (ps : List ComponentState) → ((p : ComponentState) → Contains ps p → is_in p.all x ≡ false) → filter (stays d x) (ps ++ new_part ∷ []) ≡ filter (λ p. not (touches d p)) ps ++ new_part ∷ []
-      same_filter [] f = cond-true (stays d x new_part) (new_part ∷ []) [] (or_left (is_in new_part.all x) (misses d new_part.all) is_new)
+      same_filter : (ps : List ComponentState) → ((p : ComponentState) → Contains ps p → is_in p.all x ≡ false) → filter (stays d x) (ps ++ new_component ∷ []) ≡ filter (λ p. not (touches d p)) ps ++ new_component ∷ []
+      same_filter [] f = cond-true (stays d x new_component) (new_component ∷ []) [] (or_left (is_in new_component.all x) (misses d new_component.all) is_new)
       same_filter (p ∷ ps) f =
           let e : stays d x p ≡ not (touches d p) = ap (λ b. b || not (touches d p)) (f p (Contains-cons_head p ps)) in
           let r = same_filter ps (λ q i. f q (Contains-cons_tail p ps q i)) in
           elim (cases_Bool (not (touches d p))) [
             | inl y ↦
-                cond-true (stays d x p) (p ∷ filter (stays d x) (ps ++ new_part ∷ [])) (filter (stays d x) (ps ++ new_part ∷ [])) (e ∙ y)
-                ∙ (ap (λ zs. p ∷ zs) r ∙ ap (λ zs. zs ++ new_part ∷ []) (sym (cond-true (not (touches d p)) (p ∷ filter (λ q. not (touches d q)) ps) (filter (λ q. not (touches d q)) ps) y)))
+                cond-true (stays d x p) (p ∷ filter (stays d x) (ps ++ new_component ∷ [])) (filter (stays d x) (ps ++ new_component ∷ [])) (e ∙ y)
+                ∙ (ap (λ zs. p ∷ zs) r ∙ ap (λ zs. zs ++ new_component ∷ []) (sym (cond-true (not (touches d p)) (p ∷ filter (λ q. not (touches d q)) ps) (filter (λ q. not (touches d q)) ps) y)))
             | inr n ↦
-                cond-false (stays d x p) (p ∷ filter (stays d x) (ps ++ new_part ∷ [])) (filter (stays d x) (ps ++ new_part ∷ [])) (e ∙ n)
-                ∙ (r ∙ ap (λ zs. zs ++ new_part ∷ []) (sym (cond-false (not (touches d p)) (p ∷ filter (λ q. not (touches d q)) ps) (filter (λ q. not (touches d q)) ps) n)))
+                cond-false (stays d x p) (p ∷ filter (stays d x) (ps ++ new_component ∷ [])) (filter (stays d x) (ps ++ new_component ∷ [])) (e ∙ n)
+                ∙ (r ∙ ap (λ zs. zs ++ new_component ∷ []) (sym (cond-false (not (touches d p)) (p ∷ filter (λ q. not (touches d q)) ps) (filter (λ q. not (touches d q)) ps) n)))
           ]
 
-      same_part : connected d x t ≡ plain
-      same_part = let e = same_filter t.parts not_old in λ i. record { free = without d t.free; parts = e i }
+      same_components : connected d x t ≡ plain
+      same_components = let e = same_filter t.components not_old in λ i. record { free = without d t.free; components = e i }
 
-      each_part : (p : ComponentState) → Contains plain.parts p → Contains missed p ⊎ (new_part ≡ p)
-      each_part p i = Contains-push_cases missed new_part p i
+      each_component : (p : ComponentState) → Contains plain.components p → Contains missed p ⊎ (new_component ≡ p)
+      each_component p i = Contains-push_cases missed new_component p i
 
       keeps_plain : AreComponents c plain
       keeps_plain = record {
         rises = IsStrictlySortedBy-filter nat_cmp (λ a. not (is_in d a)) t.free m.rises;
         calm = λ a b h i. m.calm a b (of_free a h).0 (of_free b i).0;
-        parts = λ p i. elim (each_part p i) [ inl j ↦ m.parts p (of_rest p j).0 | inr e ↦ subst (IsComponent c) e part_grown ];
-        loose = λ p i. elim (each_part p i) [
+        components = λ p i. elim (each_component p i) [ inl j ↦ m.components p (of_rest p j).0 | inr e ↦ subst (IsComponent c) e component_grown ];
+        loose = λ p i. elim (each_component p i) [
           | inl j ↦ λ a b h l. m.loose p (of_rest p j).0 a b (of_free a h).0 l
           | inr e ↦ subst (λ (q : ComponentState). Apart c (without d t.free) q.all) e free_grown
         ];
-        apart = Pairs-append AreApart missed (new_part ∷ []) (Pairs-filter AreApart (λ q. not (touches d q)) t.parts m.apart) (λ y i. absurd (not_Contains-nil y i), tt)
-            (λ p q i j. elim (Contains-cons_cases new_part [] q j) [
+        apart = Pairs-append AreApart missed (new_component ∷ []) (Pairs-filter AreApart (λ q. not (touches d q)) t.components m.apart) (λ y i. absurd (not_Contains-nil y i), tt)
+            (λ p q i j. elim (Contains-cons_cases new_component [] q j) [
               | inl e ↦ subst (λ (z : ComponentState). Apart c p.all z.all) (sym e) (grown_apart p i)
               | inr l ↦ absurd (not_Contains-nil q l)
             ]);
@@ -320,36 +320,36 @@ module _ (c : ℕ → ℕ → Bool) where
       -- what plain holds
       plain_has : (a : ℕ) → Contains (whole plain).all a ↔ (Contains (whole t).all a ⊎ (a ≡ x))
       plain_has a = (
-        λ h. elim ((all_of_fold (alone (without d t.free)) (missed ++ new_part ∷ []) a).0 h) [
+        λ h. elim ((all_of_fold (alone (without d t.free)) (missed ++ new_component ∷ []) a).0 h) [
           | inl f ↦ inl (free_in a (of_free a f).0)
-          | inr w ↦ elim (each_part w.0 w.1) [
-            | inl j ↦ inl (parts_in w.0 (of_rest w.0 j).0 a w.2)
+          | inr w ↦ elim (each_component w.0 w.1) [
+            | inl j ↦ inl (components_in w.0 (of_rest w.0 j).0 a w.2)
             | inr e ↦ elim ((has (touched d t).all a).0 (subst (λ (q : ComponentState). Contains q.all a) (sym e) w.2)) [ inl i ↦ inl (touched_in a i) | inr f ↦ inr f ]
           ]
         ],
-        λ h. (all_of_fold (alone (without d t.free)) (missed ++ new_part ∷ []) a).1 (elim h [
-          | inl i ↦ elim ((all_of_fold (alone t.free) t.parts a).0 i) [
+        λ h. (all_of_fold (alone (without d t.free)) (missed ++ new_component ∷ []) a).1 (elim h [
+          | inl i ↦ elim ((all_of_fold (alone t.free) t.components a).0 i) [
             | inl f ↦ elim (cases_Bool (is_in d a)) [
-              | inl y ↦ inr (new_part, Contains-push missed new_part, (has (touched d t).all a).1 (inl (rivals_touched a (from_list d a y))))
+              | inl y ↦ inr (new_component, Contains-push missed new_component, (has (touched d t).all a).1 (inl (rivals_touched a (from_list d a y))))
               | inr n ↦ inl ((Contains-without d t.free a).1 (f, λ j. let y = in_list d a j in absurd cc))
             ]
             | inr w ↦ elim (cases_Bool (touches d w.0)) [
-              | inl y ↦ inr (new_part, Contains-push missed new_part, (has (touched d t).all a).1 (inl ((in_touched a).1 (inr (w.0, (Contains-filter (touches d) t.parts w.0).1 (w.1, y), w.2)))))
-              | inr n ↦ inr (w.0, Contains-append_left missed (new_part ∷ []) w.0 ((Contains-filter (λ q. not (touches d q)) t.parts w.0).1 (w.1, not_from_false (touches d w.0) n)), w.2)
+              | inl y ↦ inr (new_component, Contains-push missed new_component, (has (touched d t).all a).1 (inl ((in_touched a).1 (inr (w.0, (Contains-filter (touches d) t.components w.0).1 (w.1, y), w.2)))))
+              | inr n ↦ inr (w.0, Contains-append_left missed (new_component ∷ []) w.0 ((Contains-filter (λ q. not (touches d q)) t.components w.0).1 (w.1, not_from_false (touches d w.0) n)), w.2)
             ]
           ]
-          | inr e ↦ inr (new_part, Contains-push missed new_part, (has (touched d t).all a).1 (inr e))
+          | inr e ↦ inr (new_component, Contains-push missed new_component, (has (touched d t).all a).1 (inr e))
         ]),
       )
 
       free_has : (a : ℕ) → Contains (whole (with_free x t)).all a ↔ (Contains (whole t).all a ⊎ (a ≡ x))
       free_has a = (
-        λ h. elim ((all_of_fold (alone (sets.joined x t.free)) t.parts a).0 h) [
+        λ h. elim ((all_of_fold (alone (sets.joined x t.free)) t.components a).0 h) [
           | inl f ↦ elim ((has t.free a).0 f) [ inl i ↦ inl (free_in a i) | inr e ↦ inr e ]
-          | inr w ↦ inl ((all_of_fold (alone t.free) t.parts a).1 (inr w))
+          | inr w ↦ inl ((all_of_fold (alone t.free) t.components a).1 (inr w))
         ],
-        λ h. (all_of_fold (alone (sets.joined x t.free)) t.parts a).1 (elim h [
-          | inl i ↦ elim ((all_of_fold (alone t.free) t.parts a).0 i) [ inl f ↦ inl ((has t.free a).1 (inl f)) | inr w ↦ inr w ]
+        λ h. (all_of_fold (alone (sets.joined x t.free)) t.components a).1 (elim h [
+          | inl i ↦ elim ((all_of_fold (alone t.free) t.components a).0 i) [ inl f ↦ inl ((has t.free a).1 (inl f)) | inr w ↦ inr w ]
           | inr e ↦ inl ((has t.free a).1 (inr e))
         ]),
       )
@@ -359,6 +359,6 @@ module _ (c : ℕ → ℕ → Bool) where
         AreComponents c (after d x t) × ((a : ℕ) → Contains (whole (after d x t)).all a ↔ (Contains (whole t).all a ⊎ (a ≡ x)))
     components_after t m x [] k = (keeps_free t m x [] k (λ a h. not_Contains-nil a h), free_has t m x [] k)
     components_after t m x (b ∷ d) k =
-        let e = same_part t m x (b ∷ d) k in
+        let e = same_components t m x (b ∷ d) k in
         subst (λ (z : ComponentsState). AreComponents c z × ((a : ℕ) → Contains (whole z).all a ↔ (Contains (whole t).all a ⊎ (a ≡ x)))) (sym e)
         (keeps_plain t m x (b ∷ d) k, plain_has t m x (b ∷ d) k)

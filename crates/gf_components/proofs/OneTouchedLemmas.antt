@@ -76,31 +76,31 @@ module _ (d : List ℕ) (x : ℕ) where
         filter-append (stays d x) all added ∙ (ap (λ zs. zs ++ filter (stays d x) added) old ∙ ap (λ zs. (before ++ behind) ++ zs) last)
 
 -- one component alone grows
-connected_one : (d : List ℕ) (x : ℕ) (s : ComponentsState) (before : List ComponentState) (p : ComponentState) (behind : List ComponentState) → s.parts ≡ before ++ p ∷ behind → stays d x p ≡ false →
-    list_any (touches d) before ≡ false → list_any (touches d) behind ≡ false → meets d s.free ≡ false → connected d x s ≡ record { free = s.free; parts = (before ++ behind) ++ grown d x p ∷ [] }
+connected_one : (d : List ℕ) (x : ℕ) (s : ComponentsState) (before : List ComponentState) (p : ComponentState) (behind : List ComponentState) → s.components ≡ before ++ p ∷ behind → stays d x p ≡ false →
+    list_any (touches d) before ≡ false → list_any (touches d) behind ≡ false → meets d s.free ≡ false → connected d x s ≡ record { free = s.free; components = (before ++ behind) ++ grown d x p ∷ [] }
 connected_one d x s before p behind all grows e f free =
     let lone : common d s.free ≡ [] = none_pass (is_in d) s.free free in
     let one : touched d s ≡ p =
-    ap (λ us. fold merged (alone us) (filter (touches d) s.parts)) lone
+    ap (λ us. fold merged (alone us) (filter (touches d) s.components)) lone
     ∙ (ap (λ ps. fold merged (alone []) (filter (touches d) ps)) all ∙ ap (fold merged (alone [])) (one_touched d x before p behind grows e f)) in
-    let parts : filter (stays d x) (s.parts ++ grown d x (touched d s) ∷ []) ≡ (before ++ behind) ++ grown d x p ∷ [] =
-    ap (λ (q : ComponentState). filter (stays d x) (s.parts ++ grown d x q ∷ [])) one
+    let components : filter (stays d x) (s.components ++ grown d x (touched d s) ∷ []) ≡ (before ++ behind) ++ grown d x p ∷ [] =
+    ap (λ (q : ComponentState). filter (stays d x) (s.components ++ grown d x q ∷ [])) one
     ∙ (ap (λ ps. filter (stays d x) (ps ++ grown d x p ∷ [])) all ∙ one_grows d x before p behind grows e f) in
     let left = without_missing d x s.free free in
-    λ i. record { free = left i; parts = parts i }
+    λ i. record { free = left i; components = components i }
 
 -- ---- what calls leave
 
 -- no component before the first touched one is touched
-pub found_first : (d : List ℕ) (parts : List ComponentState) (i : ℕ) (z : ComponentState) → position (touches d) parts ≡ Some i → (i < length parts) × (list_any (touches d) (take i parts) ≡ false)
-found_first d parts i z e = let w = position-Some (touches d) parts i z e in (w.0, none_before (touches d) z parts i w.0 w.2)
+pub found_first : (d : List ℕ) (components : List ComponentState) (i : ℕ) (z : ComponentState) → position (touches d) components ≡ Some i → (i < length components) × (list_any (touches d) (take i components) ≡ false)
+found_first d components i z e = let w = position-Some (touches d) components i z e in (w.0, none_before (touches d) z components i w.0 w.2)
 
-pub one_connected : {A B : Type 0} (r : Result A B) (d : List ℕ) (x : ℕ) (s t : ComponentsState) (i : ℕ) (new : List ComponentState) → IsOneTouched d x s.parts i → meets d s.free ≡ false → s ≡ t →
-    OnOk r ((part : ComponentState) (behind : List ComponentState) → drop i s.parts ≡ part ∷ behind → new ≡ (take i s.parts ++ behind) ++ grown d x part ∷ []) → OnOk r (record { free = s.free; parts = new } ≡ connected d x t)
+pub one_connected : {A B : Type 0} (r : Result A B) (d : List ℕ) (x : ℕ) (s t : ComponentsState) (i : ℕ) (new : List ComponentState) → IsOneTouched d x s.components i → meets d s.free ≡ false → s ≡ t →
+    OnOk r ((component : ComponentState) (behind : List ComponentState) → drop i s.components ≡ component ∷ behind → new ≡ (take i s.components ++ behind) ++ grown d x component ∷ []) → OnOk r (record { free = s.free; components = new } ≡ connected d x t)
 one_connected (Ok a) d x s t i new one free e f =
     let m = one.alone in
-    let parts = f m.part m.behind m.all in
-    let all : s.parts ≡ take i s.parts ++ m.part ∷ m.behind = sym (take-append-drop i s.parts) ∙ ap (λ zs. take i s.parts ++ zs) m.all in
-    let made : record { free = s.free; parts = new } ≡ record { free = s.free; parts = (take i s.parts ++ m.behind) ++ grown d x m.part ∷ [] } = λ j. record { free = s.free; parts = parts j } in
-    made ∙ (sym (connected_one d x s (take i s.parts) m.part m.behind all m.grows one.before m.others free) ∙ ap (connected d x) e)
+    let components = f m.component m.behind m.all in
+    let all : s.components ≡ take i s.components ++ m.component ∷ m.behind = sym (take-append-drop i s.components) ∙ ap (λ zs. take i s.components ++ zs) m.all in
+    let made : record { free = s.free; components = new } ≡ record { free = s.free; components = (take i s.components ++ m.behind) ++ grown d x m.component ∷ [] } = λ j. record { free = s.free; components = components j } in
+    made ∙ (sym (connected_one d x s (take i s.components) m.component m.behind all m.grows one.before m.others free) ∙ ap (connected d x) e)
 one_connected (Err b) d x s t i new one free e f = tt

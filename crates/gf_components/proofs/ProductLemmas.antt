@@ -100,24 +100,24 @@ module _ (c : ℕ → ℕ → Bool) (s : IsConflict c) (us vs : List ℕ) (apart
   abbrev IsOf : List ℕ → List ℕ → Type 0
   IsOf ws g = IsRising g × ((a : ℕ) → Contains g a → Contains ws a)
 
-  -- the two groups of a union are told by it
-  first_told : (g k f l : List ℕ) → IsOf us g → IsOf vs k → IsOf us f → IsOf vs l → united g k ≡ united f l → (a : ℕ) → Contains g a → Contains f a
-  first_told g k f l x y z w e a h = elim ((Contains-united f l a).0 (subst (λ q. Contains q a) e ((Contains-united g k a).1 (inl h)))) [
+  -- a union determines its two groups
+  first_determined : (g k f l : List ℕ) → IsOf us g → IsOf vs k → IsOf us f → IsOf vs l → united g k ≡ united f l → (a : ℕ) → Contains g a → Contains f a
+  first_determined g k f l x y z w e a h = elim ((Contains-united f l a).0 (subst (λ q. Contains q a) e ((Contains-united g k a).1 (inl h)))) [
     | inl i ↦ i
     | inr i ↦ absurd ((apart a a (x.1 a h) (w.1 a i)).0 refl)
   ]
 
-  second_told : (g k f l : List ℕ) → IsOf us g → IsOf vs k → IsOf us f → IsOf vs l → united g k ≡ united f l → (a : ℕ) → Contains k a → Contains l a
-  second_told g k f l x y z w e a h = elim ((Contains-united f l a).0 (subst (λ q. Contains q a) e ((Contains-united g k a).1 (inr h)))) [
+  second_determined : (g k f l : List ℕ) → IsOf us g → IsOf vs k → IsOf us f → IsOf vs l → united g k ≡ united f l → (a : ℕ) → Contains k a → Contains l a
+  second_determined g k f l x y z w e a h = elim ((Contains-united f l a).0 (subst (λ q. Contains q a) e ((Contains-united g k a).1 (inr h)))) [
     | inl i ↦ absurd ((apart a a (z.1 a i) (y.1 a h)).0 refl)
     | inr i ↦ i
   ]
 
   first_same : (g k f l : List ℕ) → IsOf us g → IsOf vs k → IsOf us f → IsOf vs l → united g k ≡ united f l → g ≡ f
-  first_same g k f l x y z w e = one_rising nat_cmp nat_cmp_total g f x.0 z.0 (λ a. (first_told g k f l x y z w e a, first_told f l g k z w x y (sym e) a))
+  first_same g k f l x y z w e = one_rising nat_cmp nat_cmp_total g f x.0 z.0 (λ a. (first_determined g k f l x y z w e a, first_determined f l g k z w x y (sym e) a))
 
   second_same : (g k f l : List ℕ) → IsOf us g → IsOf vs k → IsOf us f → IsOf vs l → united g k ≡ united f l → k ≡ l
-  second_same g k f l x y z w e = one_rising nat_cmp nat_cmp_total k l y.0 w.0 (λ a. (second_told g k f l x y z w e a, second_told f l g k z w x y (sym e) a))
+  second_same g k f l x y z w e = one_rising nat_cmp nat_cmp_total k l y.0 w.0 (λ a. (second_determined g k f l x y z w e a, second_determined f l g k z w x y (sym e) a))
 
   pub products_once : (gs ks : List (List ℕ)) → ((g : List ℕ) → Contains gs g → IsOf us g) → ((k : List ℕ) → Contains ks k → IsOf vs k) →
       AllPairs (λ g h. g ≢ h) gs → AllPairs (λ g h. g ≢ h) ks → AllPairs (λ g h. g ≢ h) (products gs ks)

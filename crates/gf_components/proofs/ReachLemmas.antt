@@ -29,11 +29,11 @@ module _ (d : List ℕ) where
         λ j. elim ((g n).0 j) [
           | inl k ↦
               let w = (f n).0 k in
-              record { part = w.part; listed = subst (λ z. Contains z w.part) (sym more) (Contains-append_left (take i ps) (p ∷ []) w.part w.listed); touched = w.touched; reached = w.reached }
-          | inr k ↦ record { part = p; listed = subst (λ z. Contains z p) (sym more) (Contains-push (take i ps) p); touched = k.0; reached = k.1 }
+              record { component = w.component; listed = subst (λ z. Contains z w.component) (sym more) (Contains-append_left (take i ps) (p ∷ []) w.component w.listed); touched = w.touched; reached = w.reached }
+          | inr k ↦ record { component = p; listed = subst (λ z. Contains z p) (sym more) (Contains-push (take i ps) p); touched = k.0; reached = k.1 }
         ],
-        λ w. (g n).1 (elim (Contains-push_cases (take i ps) p w.part (subst (λ z. Contains z w.part) more w.listed)) [
-          | inl c ↦ inl ((f n).1 (record { part = w.part; listed = c; touched = w.touched; reached = w.reached }))
+        λ w. (g n).1 (elim (Contains-push_cases (take i ps) p w.component (subst (λ z. Contains z w.component) more w.listed)) [
+          | inl c ↦ inl ((f n).1 (record { component = w.component; listed = c; touched = w.touched; reached = w.reached }))
           | inr s ↦ inr (subst (λ z. touches d z ≡ true) (sym s) w.touched, subst (λ (z : ComponentState). Contains z.all n) (sym s) w.reached)
         ]),
       )
@@ -46,19 +46,19 @@ module _ (c : ℕ → ℕ → Bool) (test : IsConflict c) (s : ComponentsState) 
   turned : (us vs : List ℕ) → Apart c us vs → Apart c vs us
   turned us vs f x y i j = let w = f y x j i in (λ e. w.0 (sym e), test.symmetric x y ∙ w.1)
 
-  pub conflict_reached : (m n : ℕ) → Contains d m → Contains (whole s).all m → Contains (whole s).all n → c m n ≡ true → IsReached d s.parts m × IsReached d s.parts n
-  conflict_reached m n i in_m in_n k = elim ((all_of_fold c (alone s.free) s.parts m).0 in_m) [
-    | inl free ↦ elim ((all_of_fold c (alone s.free) s.parts n).0 in_n) [
+  pub conflict_reached : (m n : ℕ) → Contains d m → Contains (whole s).all m → Contains (whole s).all n → c m n ≡ true → IsReached d s.components m × IsReached d s.components n
+  conflict_reached m n i in_m in_n k = elim ((all_of_fold c (alone s.free) s.components m).0 in_m) [
+    | inl free ↦ elim ((all_of_fold c (alone s.free) s.components n).0 in_n) [
       | inl loose ↦ absurd (let e = a.calm m n free loose in cc)
       | inr w ↦ absurd (let e = (a.loose w.0 w.1 m n free w.2).1 in cc)
     ]
-    | inr v ↦ elim ((all_of_fold c (alone s.free) s.parts n).0 in_n) [
+    | inr v ↦ elim ((all_of_fold c (alone s.free) s.components n).0 in_n) [
       | inl free ↦ absurd (let e = (a.loose v.0 v.1 n m free v.2).1 in let t = test.symmetric m n in cc)
-      | inr w ↦ elim (Pairs-two (λ (p q : ComponentState). Apart c p.all q.all) s.parts (λ p q. turned p.all q.all) a.apart v.0 w.0 v.1 w.1) [
+      | inr w ↦ elim (Pairs-two (λ (p q : ComponentState). Apart c p.all q.all) s.components (λ p q. turned p.all q.all) a.apart v.0 w.0 v.1 w.1) [
         | inl e ↦
             let hit = meets_from d v.0.all m i v.2 in (
-              record { part = v.0; listed = v.1; touched = hit; reached = v.2 },
-              record { part = v.0; listed = v.1; touched = hit; reached = subst (λ (p : ComponentState). Contains p.all n) (sym e) w.2 },
+              record { component = v.0; listed = v.1; touched = hit; reached = v.2 },
+              record { component = v.0; listed = v.1; touched = hit; reached = subst (λ (p : ComponentState). Contains p.all n) (sym e) w.2 },
             )
         | inr f ↦ absurd (let e = (f m n v.2 w.2).1 in cc)
       ]

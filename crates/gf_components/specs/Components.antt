@@ -17,7 +17,7 @@ pub record ComponentState : Type 0 where
 -- numbers that are in every version, and the components of which each gives a version one set
 pub record ComponentsState : Type 0 where
   pub free : List ℕ
-  pub parts : List ComponentState
+  pub components : List ComponentState
 
 -- the sets gs, unless they are too many
 abbrev pub kept : List (List ℕ) → Option (List (List ℕ))
@@ -56,11 +56,11 @@ alone us = record { all = us; sets = Some (us ∷ []) }
 
 -- all numbers as one component
 abbrev pub whole : ComponentsState → ComponentState
-whole s = fold merged (alone s.free) s.parts
+whole s = fold merged (alone s.free) s.components
 
 -- the components of no number
 abbrev pub no_components : ComponentsState
-no_components = record { free = []; parts = [] }
+no_components = record { free = []; components = [] }
 
 -- the component has a number of d
 abbrev pub touches : List ℕ → ComponentState → Bool
@@ -68,14 +68,14 @@ touches d p = meets d p.all
 
 -- all that d connects, as one component
 abbrev pub touched : List ℕ → ComponentsState → ComponentState
-touched d s = fold merged (alone (common d s.free)) (filter (touches d) s.parts)
+touched d s = fold merged (alone (common d s.free)) (filter (touches d) s.components)
 
 -- n is a number of a component that has one of d
 pub record IsReached (d : List ℕ) (ps : List ComponentState) (n : ℕ) : Type 0 where
-  pub part : ComponentState
-  pub listed : Contains ps part
-  pub touched : touches d part ≡ true
-  pub reached : Contains part.all n
+  pub component : ComponentState
+  pub listed : Contains ps component
+  pub touched : touches d component ≡ true
+  pub reached : Contains component.all n
 
 -- the sets after x, which conflicts with the numbers d
 abbrev pub grown_sets : List ℕ → ℕ → Option (List (List ℕ)) → Option (List (List ℕ))
@@ -92,13 +92,13 @@ stays d x p = is_in p.all x || misses d p.all
 
 -- the components after x, which conflicts with no number
 abbrev pub with_free : ℕ → ComponentsState → ComponentsState
-with_free x s = record { free = joined x s.free; parts = s.parts }
+with_free x s = record { free = joined x s.free; components = s.components }
 
 -- the components after x, which connects the numbers d with which it conflicts
 abbrev pub connected : List ℕ → ℕ → ComponentsState → ComponentsState
 connected d x s = record {
   free = without d s.free;
-  parts = filter (stays d x) (s.parts ++ grown d x (touched d s) ∷ []);
+  components = filter (stays d x) (s.components ++ grown d x (touched d s) ∷ []);
 }
 
 -- the components after x, which conflicts with the numbers d

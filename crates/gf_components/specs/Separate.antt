@@ -6,7 +6,7 @@ use Rattle.gf_maximal.specs.Pairs.{Pairs}
 use Rattle.gf_maximal.specs.Tables.{IsRising, IsTable}
 use Rattle.gf_components.specs.Components.{ComponentState, ComponentsState, most_sets, whole}
 
--- c tells whether two numbers conflict
+-- c is the test whether two numbers conflict
 module _ (c : ℕ → ℕ → Bool) where
   -- no number is in both lists, and no conflict connects the two
   abbrev pub Apart : List ℕ → List ℕ → Type 0
@@ -26,9 +26,9 @@ module _ (c : ℕ → ℕ → Bool) where
   pub record AreComponents (s : ComponentsState) : Type 0 where
     pub rises : IsRising s.free
     pub calm : (a b : ℕ) → Contains s.free a → Contains s.free b → c a b ≡ false
-    pub parts : (p : ComponentState) → Contains s.parts p → IsComponent p
-    pub loose : (p : ComponentState) → Contains s.parts p → Apart s.free p.all
-    pub apart : Pairs (λ (p q : ComponentState). Apart p.all q.all) s.parts
+    pub components : (p : ComponentState) → Contains s.components p → IsComponent p
+    pub loose : (p : ComponentState) → Contains s.components p → Apart s.free p.all
+    pub apart : Pairs (λ (p q : ComponentState). Apart p.all q.all) s.components
 
   -- x is new to s, and d are the numbers of s that conflict with x
   pub record IsNewWith (s : ComponentsState) (x : ℕ) (d : List ℕ) : Type 0 where

@@ -35,7 +35,7 @@ impl Model for Component {
 #[derive(Debug, Drop)]
 pub struct Components {
     free: Numbers,
-    parts: Vec<Component>,
+    components: Vec<Component>,
 }
 
 impl Model for Components {
@@ -43,7 +43,7 @@ impl Model for Components {
 
     ghost Value = { ComponentsState };
 
-    ghost view = { λ p. record { free = p.free; parts = p.parts.items } };
+    ghost view = { λ p. record { free = p.free; components = p.components.items } };
 }
 
 impl Component {
@@ -113,20 +113,24 @@ impl Component {
 
 /// Two components as one, a copy of the second where the first has no number. Where the sets of
 /// both make too many, none is made.
-pub fn merged(alloc: Global, part: &Component, other: &Component) -> Result<Component, OutOfMemory>
-    ensures { IfOk result (λ both. both ≡ merged part.now other.now) }
+pub fn merged(
+    alloc: Global,
+    component: &Component,
+    other: &Component,
+) -> Result<Component, OutOfMemory>
+    ensures { IfOk result (λ both. both ≡ merged component.now other.now) }
 {
-    if part.all.is_empty() {
+    if component.all.is_empty() {
         return other.copy(alloc);
     }
-    let sets = part.sets.times(alloc, &other.sets)?;
-    let all = part.all.united(alloc, &other.all)?;
+    let sets = component.sets.times(alloc, &other.sets)?;
+    let all = component.all.united(alloc, &other.all)?;
     Ok(Component { all, sets })
 }
 
 /// Numbers as a component of one set.
 pub fn alone(alloc: Global, numbers: Numbers) -> Result<Component, OutOfMemory>
-    ensures { IfOk result (λ part. part ≡ alone numbers) }
+    ensures { IfOk result (λ component. component ≡ alone numbers) }
 {
     let set = numbers.copy(alloc)?;
     Ok(Component {
@@ -139,16 +143,16 @@ pub fn alone(alloc: Global, numbers: Numbers) -> Result<Component, OutOfMemory>
 fn with_touched(
     alloc: Global,
     rivals: &Numbers,
-    part: Component,
+    component: Component,
     other: &Component,
 ) -> Result<Component, OutOfMemory>
     ensures { IfOk result (λ both. both
-        ≡ cond (touches rivals.now other.now) (merged part other.now) part) }
+        ≡ cond (touches rivals.now other.now) (merged component other.now) component) }
 {
     if other.touches(rivals) {
-        merged(alloc, &part, other)
+        merged(alloc, &component, other)
     } else {
-        Ok(part)
+        Ok(component)
     }
 }
 
@@ -157,61 +161,64 @@ fn with_reached(
     alloc: Global,
     numbers: &Numbers,
     found: Numbers,
-    part: &Component,
+    component: &Component,
 ) -> Result<Numbers, OutOfMemory>
     ensures { IfOk result (λ all. (n : _) → Contains all n
-        ↔ (Contains found n ⊎ ((touches numbers.now part.now ≡ true) × Contains part.now.all n))) }
+        ↔ (Contains found n
+        ⊎ ((touches numbers.now component.now ≡ true) × Contains component.now.all n))) }
 {
-    if part.touches(numbers) {
-        found.united(alloc, &part.all)
+    if component.touches(numbers) {
+        found.united(alloc, &component.all)
     } else {
         Ok(found)
     }
 }
 
 /// Copies of the components.
-fn copied_components(alloc: Global, parts: &[Component]) -> Result<Vec<Component>, OutOfMemory>
-    ensures { IfOk result (λ copy. copy.items ≡ parts.now) }
+fn copied_components(alloc: Global, components: &[Component]) -> Result<Vec<Component>, OutOfMemory>
+    ensures { IfOk result (λ copy. copy.items ≡ components.now) }
 {
     let mut copy = Vec::new(alloc);
-    for part in parts {
-        copy.push(part.copy(alloc)?)?;
+    for component in components {
+        copy.push(component.copy(alloc)?)?;
     }
     Ok(copy)
 }
 
 /// Whether one of the components has one of the rivals.
-fn any_touched(rivals: &Numbers, parts: &[Component]) -> bool
-    ensures { result ≡ list_any (touches rivals.now) parts.now }
+fn any_touched(rivals: &Numbers, components: &[Component]) -> bool
+    ensures { result ≡ list_any (touches rivals.now) components.now }
 {
-    parts.iter().any(|part| part.touches(rivals))
+    components.iter().any(|component| component.touches(rivals))
 }
 
 /// Whether the first component alone has some of the rivals, and lacks the number.
-fn is_first_alone(rivals: &Numbers, number: usize, parts: &[Component]) -> bool
+fn is_first_alone(rivals: &Numbers, number: usize, components: &[Component]) -> bool
     requires { number + 1 < 2 ^ 64 }
-    ensures { IsTrue result → IsFirstAlone rivals.now number parts.now }
+    ensures { IsTrue result → IsFirstAlone rivals.now number components.now }
 {
-    match parts.split_first() {
+    match components.split_first() {
         Some((first, others)) => !first.stays(rivals, number) && !any_touched(rivals, others),
         None => false,
     }
 }
 
 /// The index of the first component that has some of the rivals.
-fn first_touched(rivals: &Numbers, parts: &[Component]) -> Option<usize>
-    ensures { result ≡ position (touches rivals.now) parts.now }
+fn first_touched(rivals: &Numbers, components: &[Component]) -> Option<usize>
+    ensures { result ≡ position (touches rivals.now) components.now }
 {
-    parts.iter().position(|part| part.touches(rivals))
+    components
+        .iter()
+        .position(|component| component.touches(rivals))
 }
 
 /// The index of the component that alone has some of the rivals, if it lacks the number.
-fn one_touched(rivals: &Numbers, number: usize, parts: &[Component]) -> Option<usize>
+fn one_touched(rivals: &Numbers, number: usize, components: &[Component]) -> Option<usize>
     requires { number + 1 < 2 ^ 64 }
-    ensures { IfSome result (λ index. IsOneTouched rivals.now number parts.now index) }
+    ensures { IfSome result (λ index. IsOneTouched rivals.now number components.now index) }
 {
-    let index = first_touched(rivals, parts)?;
-    if is_first_alone(rivals, number, parts.split_at(index).1) {
+    let index = first_touched(rivals, components)?;
+    if is_first_alone(rivals, number, components.split_at(index).1) {
         Some(index)
     } else {
         None
@@ -225,27 +232,28 @@ fn grow_one(
     rivals: &Numbers,
     number: usize,
     index: usize,
-    parts: &mut Vec<Component>,
+    components: &mut Vec<Component>,
 ) -> Result<(), OutOfMemory>
     requires number { number + 1 < 2 ^ 64 }
-    requires index { index < length parts.old.items }
-    ensures ok { OnOk result ((part : _) (behind : _) → drop index parts.old.items ≡ part ∷ behind
-        → parts.new.items
-        ≡ (take index parts.old.items ++ behind) ++ grown rivals.now number part ∷ []) }
-    ensures err { OnErr result (parts.new.items ≡ parts.old.items) }
+    requires index { index < length components.old.items }
+    ensures ok { OnOk result ((component : _) (behind : _)
+        → drop index components.old.items ≡ component ∷ behind
+        → components.new.items
+        ≡ (take index components.old.items ++ behind) ++ grown rivals.now number component ∷ []) }
+    ensures err { OnErr result (components.new.items ≡ components.old.items) }
 {
-    parts[index].grow(alloc, rivals, number)?;
-    let part = parts.remove(index);
-    parts.push_reserved(part);
+    components[index].grow(alloc, rivals, number)?;
+    let component = components.remove(index);
+    components.push_reserved(component);
     Ok(())
 }
 
 /// Drops the components that have one of the rivals and not the number.
-fn drop_touched(rivals: &Numbers, number: usize, parts: &mut Vec<Component>)
+fn drop_touched(rivals: &Numbers, number: usize, components: &mut Vec<Component>)
     requires { number + 1 < 2 ^ 64 }
-    ensures { parts.new.items ≡ filter (stays rivals.now number) parts.old.items }
+    ensures { components.new.items ≡ filter (stays rivals.now number) components.old.items }
 {
-    parts.retain(|part| part.stays(rivals, number));
+    components.retain(|component| component.stays(rivals, number));
 }
 
 impl Components {
@@ -255,15 +263,15 @@ impl Components {
     {
         Components {
             free: Numbers::new(alloc),
-            parts: Vec::new(alloc),
+            components: Vec::new(alloc),
         }
     }
 
     /// These numbers in every version, and these components.
-    pub fn of(free: Numbers, parts: Vec<Component>) -> Components
-        ensures { result ≡ record { free = free; parts = parts.items } }
+    pub fn of(free: Numbers, components: Vec<Component>) -> Components
+        ensures { result ≡ record { free = free; components = components.items } }
     {
-        Components { free, parts }
+        Components { free, components }
     }
 
     /// The numbers that are in every version.
@@ -274,10 +282,10 @@ impl Components {
     }
 
     /// The components that no conflict connects.
-    pub fn parts(&self) -> &[Component]
-        ensures { result.now ≡ self.now.parts }
+    pub fn components(&self) -> &[Component]
+        ensures { result.now ≡ self.now.components }
     {
-        &self.parts
+        &self.components
     }
 
     /// A copy of the components.
@@ -285,32 +293,32 @@ impl Components {
         ensures { IfOk result (λ copy. copy ≡ self.now) }
     {
         let free = self.free.copy(alloc)?;
-        let parts = copied_components(alloc, &self.parts)?;
-        Ok(Components { free, parts })
+        let components = copied_components(alloc, &self.components)?;
+        Ok(Components { free, components })
     }
 
     /// All numbers of the components that have one of these numbers.
     pub fn reach(&self, alloc: Global, numbers: &Numbers) -> Result<Numbers, OutOfMemory>
         ensures { IfOk result (λ found. (n : _)
-            → Contains found n ↔ IsReached numbers.now self.now.parts n) }
+            → Contains found n ↔ IsReached numbers.now self.now.components n) }
     {
         let mut found = Numbers::new(alloc);
-        for part in &self.parts {
-            found = with_reached(alloc, numbers, found, part)?;
+        for component in &self.components {
+            found = with_reached(alloc, numbers, found, component)?;
         }
         Ok(found)
     }
 
     /// All components that have one of the rivals, as one.
     fn touched(&self, alloc: Global, rivals: &Numbers) -> Result<Component, OutOfMemory>
-        ensures { IfOk result (λ part. part ≡ touched rivals.now self.now) }
+        ensures { IfOk result (λ component. component ≡ touched rivals.now self.now) }
     {
         let lone = self.free.common(alloc, rivals)?;
-        let mut part = alone(alloc, lone)?;
-        for other in &self.parts {
-            part = with_touched(alloc, rivals, part, other)?;
+        let mut component = alone(alloc, lone)?;
+        for other in &self.components {
+            component = with_touched(alloc, rivals, component, other)?;
         }
-        Ok(part)
+        Ok(component)
     }
 
     /// Adds a number, which conflicts with these rivals, and makes one component of all that it
@@ -321,15 +329,15 @@ impl Components {
         ensures err { OnErr result (self.new ≡ self.old) }
     {
         if !rivals.meets(&self.free) {
-            if let Some(index) = one_touched(rivals, number, &self.parts) {
-                return grow_one(alloc, rivals, number, index, &mut self.parts);
+            if let Some(index) = one_touched(rivals, number, &self.components) {
+                return grow_one(alloc, rivals, number, index, &mut self.components);
             }
         }
         let free = self.free.without(alloc, rivals)?;
-        let mut part = self.touched(alloc, rivals)?;
-        part.grow(alloc, rivals, number)?;
-        self.parts.push(part)?;
-        drop_touched(rivals, number, &mut self.parts);
+        let mut component = self.touched(alloc, rivals)?;
+        component.grow(alloc, rivals, number)?;
+        self.components.push(component)?;
+        drop_touched(rivals, number, &mut self.components);
         self.free = free;
         Ok(())
     }

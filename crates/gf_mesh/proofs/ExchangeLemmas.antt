@@ -16,7 +16,7 @@ exchanged_mesh m =
     let h = whole_mesh Took (mesh_weaker Exchanged (Pairs Took) (λ t n x y d. (d.back, d.there)) m) in record {
       each = λ i j xs ys n a b. let k = h.each i j xs ys n a b in record { taker = k.one; sender = k.two; took = k.in_one; sent = k.in_two; all = k.there };
       only = λ i xs x a c.
-          let q = h.only i xs x a c in record { place = q.place; row = q.row; sender = q.peer; apart = q.apart; at = q.at; sent = q.contained; all = q.held };
+          let q = h.only i xs x a c in record { index = q.index; row = q.row; sender = q.peer; apart = q.apart; at = q.at; sent = q.contained; all = q.held };
     }
 
 -- a mesh that has no row left, and what is known of the first if the rest has exchanged

@@ -1,4 +1,4 @@
--- In a mesh of new links any two sites meet, and each place of the table is used once.
+-- In a mesh of new links any two sites meet, and each index of the table is used once.
 use Rattle.std.proofs.Common.{◌≡◌, ◌≢◌, ℕ, zero, suc, ◌+◌, ◌≤◌, ◌<◌, cond, List, [], ◌∷◌, ◌++◌, length, length-append, set, inl, inr, refl, sym, ap, subst, ◌∙◌, arith}
 use Rattle.std.specs.Prelude.{◌⊎◌, ◌==◌, sum_by, Some, slice_get}
 use Rattle.std.specs.List.{count_by}
@@ -12,7 +12,7 @@ use Rattle.gf_mesh.proofs.MeshLemmas.{mesh_weaker}
 use Rattle.gf_mesh.proofs.PairLemmas.{Pairs, whole_mesh}
 use Rattle.gf_mesh.proofs.PlacedLemmas.{mesh_new}
 
--- ---- how often a place is used
+-- ---- how often an index is used
 
 sum_set : {X : Type 0} (f : X → ℕ) (xs : List X) (k : ℕ) (y x : X) → slice_get xs k ≡ Some x → sum_by f (set xs k y) + f x ≡ sum_by f xs + f y
 sum_set f [] k y x e = absurd cc
@@ -20,14 +20,14 @@ sum_set f (z ∷ zs) zero y x e = let q : z ≡ x = cc in let a = sum_by-cons f 
 sum_set f (z ∷ zs) (suc k) y x e = let h = sum_set f zs k y x e in let a = sum_by-cons f z (set zs k y) in let b = sum_by-cons f z zs in omega (arith, a, b, h)
 
 -- g is 1 where a is k, and else 0
-abbrev Tells : ℕ → ℕ → ℕ → Type 0
-Tells a k g = ((a ≡ k) × (g ≡ 1)) ⊎ ((a ≢ k) × (g ≡ 0))
+abbrev Counts : ℕ → ℕ → ℕ → Type 0
+Counts a k g = ((a ≡ k) × (g ≡ 1)) ⊎ ((a ≢ k) × (g ≡ 0))
 
-tells : (a k : ℕ) → Tells a k (cond (a == k) 1 0)
-tells a k = elim (eqb_tells a k) [ inl p ↦ inl (p.1, ap (λ b. cond b 1 0) p.0) | inr p ↦ inr (p.1, ap (λ b. cond b 1 0) p.0) ]
+counts : (a k : ℕ) → Counts a k (cond (a == k) 1 0)
+counts a k = elim (eqb_tells a k) [ inl p ↦ inl (p.1, ap (λ b. cond b 1 0) p.0) | inr p ↦ inr (p.1, ap (λ b. cond b 1 0) p.0) ]
 
--- two places more are used, each once
-two_more : (n old new g h k : ℕ) → (k < n → old ≡ 1) → (n ≤ k → old ≡ 0) → Tells n k g → Tells (n + 1) k h → new ≡ old + g + h → (k < n + 2 → new ≡ 1) × (n + 2 ≤ k → new ≡ 0)
+-- two indices more are used, each once
+two_more : (n old new g h k : ℕ) → (k < n → old ≡ 1) → (n ≤ k → old ≡ 0) → Counts n k g → Counts (n + 1) k h → new ≡ old + g + h → (k < n + 2 → new ≡ 1) × (n + 2 ≤ k → new ≡ 0)
 two_more n old new g h k within beyond a b is = elim a [
   | inl p ↦ elim b [
     | inl q ↦ absurd (omega (arith, p.0, q.0))
@@ -39,7 +39,7 @@ two_more n old new g h k within beyond a b is = elim a [
   ]
 ]
 
--- the numbers of two peers are the next two places, in either order
+-- the numbers of two peers are the next two indices, in either order
 abbrev AreNext : ℕ → ℕ → ℕ → Type 0
 AreNext n a b = ((a ≡ n) × (b ≡ n + 1)) ⊎ ((a ≡ n + 1) × (b ≡ n))
 
@@ -62,14 +62,14 @@ module _ (number : Peer → ℕ) (nexts : (table more : List TableId) (x y : Pee
       let s = sum_set (many k) rs (length r) (xs ++ x ∷ []) xs at in
       let p = sum_by_push (λ (z : Peer). cond (number z == k) 1 0) xs x in
       let q = sum_by_push (λ (z : Peer). cond (number z == k) 1 0) r y in
-      let a = tells (number x) k in
-      let b = tells (number y) k in
+      let a = counts (number x) k in
+      let b = counts (number y) k in
       let new : ℕ = all k (set rs (length r) (xs ++ x ∷ [])) (r ++ y ∷ []) in
       let g : ℕ = cond (number x == k) 1 0 in
       let j : ℕ = cond (number y == k) 1 0 in
       let w : (k < length t + 2 → new ≡ 1) × (length t + 2 ≤ k → new ≡ 0) = elim (nexts t n x y c) [
-        | inl e ↦ two_more (length t) (all k rs r) new g j k h.0 h.1 (subst (λ i. Tells i k g) e.0 a) (subst (λ i. Tells i k j) e.1 b) (omega (arith, s, p, q))
-        | inr e ↦ two_more (length t) (all k rs r) new j g k h.0 h.1 (subst (λ i. Tells i k j) e.1 b) (subst (λ i. Tells i k g) e.0 a) (omega (arith, s, p, q))
+        | inl e ↦ two_more (length t) (all k rs r) new g j k h.0 h.1 (subst (λ i. Counts i k g) e.0 a) (subst (λ i. Counts i k j) e.1 b) (omega (arith, s, p, q))
+        | inr e ↦ two_more (length t) (all k rs r) new j g k h.0 h.1 (subst (λ i. Counts i k j) e.1 b) (subst (λ i. Counts i k g) e.0 a) (omega (arith, s, p, q))
       ] in
       (λ l. w.0 (omega (arith, l, grown)), λ l. w.1 (omega (arith, l, grown)))
 
@@ -89,7 +89,7 @@ linked_mesh table rows m =
     let new = mesh_new m in record {
       each = λ i j xs ys n a b. let k = h.each i j xs ys n a b in record { one = k.one; two = k.two; in_one = k.in_one; in_two = k.in_two; ends = k.there };
       only = λ i xs x a c.
-          let q = h.only i xs x a c in record { place = q.place; row = q.row; other = q.peer; apart = q.apart; at = q.at; contained = q.contained; ends = q.held };
+          let q = h.only i xs x a c in record { index = q.index; row = q.row; other = q.peer; apart = q.apart; at = q.at; contained = q.contained; ends = q.held };
       placed = λ xs c p b. (new.rows_all xs c p b).placed;
       fresh = λ xs c p b. (new.rows_all xs c p b).fresh;
       outs = λ k l. let t = (counted (λ p. p.out) (λ t n x y c. inl (ap (λ (p : Peer). p.out) c.theirs, ap (λ (p : Peer). p.out) c.mine)) m k).0 l in omega (arith, t);

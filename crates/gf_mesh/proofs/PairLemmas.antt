@@ -29,11 +29,11 @@ module _ (P : Peer → Peer → Type 0) where
 
   -- P holds between the peer x of the row i and one of another row
   pub record Partner (all : List (List Peer)) (i : ℕ) (x : Peer) : Type 0 where
-    pub place : ℕ
+    pub index : ℕ
     pub row : List Peer
     pub peer : Peer
-    pub apart : place ≢ i
-    pub at : slice_get all place ≡ Some row
+    pub apart : index ≢ i
+    pub at : slice_get all index ≡ Some row
     pub contained : Contains row peer
     pub held : P x peer
 
@@ -72,7 +72,7 @@ module _ (P : Peer → Peer → Type 0) where
     at_n : slice_get more n ≡ Some (row ++ y ∷ [])
     at_n = subst (λ j. slice_get more j ≡ Some (row ++ y ∷ [])) (length-set rows k (xs ++ x ∷ [])) (got_last grown (row ++ y ∷ []))
 
-    -- what stood at a place before
+    -- what stood at an index before
     record Was (i : ℕ) (zs : List Peer) : Type 0 where
       old : List Peer
       was : slice_get all i ≡ Some old
@@ -124,7 +124,7 @@ module _ (P : Peer → Peer → Type 0) where
 
     partner_more : (i : ℕ) (p : Peer) → Partner all i p → Partner more i p
     partner_more i p q =
-        let t = is q.place q.row q.at in record { place = q.place; row = t.new; peer = q.peer; apart = q.apart; at = t.is; contained = t.stays q.peer q.contained; held = q.held }
+        let t = is q.index q.row q.at in record { index = q.index; row = t.new; peer = q.peer; apart = q.apart; at = t.is; contained = t.stays q.peer q.contained; held = q.held }
 
     paired_meet : ArePaired n k all → ArePaired n (k + 1) more
     paired_meet h = record {
@@ -156,7 +156,7 @@ module _ (P : Peer → Peer → Type 0) where
             | inl d ↦ partner_more i p (h.partner i s.old p s.was d)
             | inr d ↦ elim d [
               | inl f ↦ record {
-                place = n;
+                index = n;
                 row = row ++ y ∷ [];
                 peer = y;
                 apart = λ g. absurd (omega (arith, f.0, g, early));
@@ -165,7 +165,7 @@ module _ (P : Peer → Peer → Type 0) where
                 held = subst (λ q. P q y) (sym f.1) there;
               }
               | inr f ↦ record {
-                place = k;
+                index = k;
                 row = xs ++ x ∷ [];
                 peer = x;
                 apart = λ g. absurd (omega (arith, f.0, g, early));
@@ -198,7 +198,7 @@ module _ (P : Peer → Peer → Type 0) where
         partner = λ i us p a c. elim (got_push all [] i us a) [
           | inr e ↦ absurd (not_Contains-nil p (subst (λ w. Contains w p) e.1 c))
           | inl e ↦
-              let q = h.partner i us p e c in record { place = q.place; row = q.row; peer = q.peer; apart = q.apart; at = got_more all ([] ∷ []) q.place q.row q.at; contained = q.contained; held = q.held }
+              let q = h.partner i us p e c in record { index = q.index; row = q.row; peer = q.peer; apart = q.apart; at = got_more all ([] ∷ []) q.index q.row q.at; contained = q.contained; held = q.held }
         ];
       }
 
@@ -238,8 +238,8 @@ module _ (P : Peer → Peer → Type 0) where
         ];
         only = λ i xs x a c.
             let q = h.partner i xs x (up i xs a) c in
-            elim (got_push rows [] q.place q.row q.at) [
-              | inl e ↦ record { place = q.place; row = q.row; peer = q.peer; apart = q.apart; at = e; contained = q.contained; held = q.held }
+            elim (got_push rows [] q.index q.row q.at) [
+              | inl e ↦ record { index = q.index; row = q.row; peer = q.peer; apart = q.apart; at = e; contained = q.contained; held = q.held }
               | inr e ↦ absurd (not_Contains-nil q.peer (subst (λ w. Contains w q.peer) e.1 q.contained))
             ];
       }

@@ -18,7 +18,7 @@ pub record AreAll {X : Type 0} (Q : X → Type 0) (rows : List (List X)) (row : 
   pub rows_all : (xs : List X) → Contains rows xs → (x : X) → Contains xs x → Q x
   pub row_all : (x : X) → Contains row x → Q x
 
--- ---- the places of new peers
+-- ---- the indices of new peers
 
 pub record IsNew (table : List TableId) (p : Peer) : Type 0 where
   pub placed : StandsInTable table p

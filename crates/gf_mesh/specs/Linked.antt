@@ -36,11 +36,11 @@ pub record Meet (xs ys : List Peer) : Type 0 where
 
 -- the peer x of the row i and a peer of another row are the ends of two links
 pub record IsLinkedToOne (rows : List (List Peer)) (i : ℕ) (x : Peer) : Type 0 where
-  pub place : ℕ
+  pub index : ℕ
   pub row : List Peer
   pub other : Peer
-  pub apart : place ≢ i
-  pub at : slice_get rows place ≡ Some row
+  pub apart : index ≢ i
+  pub at : slice_get rows index ≡ Some row
   pub contained : Contains row other
   pub ends : AreEnds x other
 
@@ -49,7 +49,7 @@ abbrev pub HasOne : (Peer → ℕ) → List (List Peer) → ℕ → Type 0
 HasOne number rows k = sum_by (count_by (λ p. number p == k)) rows ≡ 1
 
 -- any two sites meet, and no peer is without its other end. Nothing was sent or taken. At each
--- place of the table stands one peer's link out, and one peer's link in
+-- index of the table stands one peer's link out, and one peer's link in
 pub record AreLinked (links : List TableId) (rows : List (List Peer)) : Type 0 where
   pub each : (i j : ℕ) (xs ys : List Peer) → i ≢ j → slice_get rows i ≡ Some xs
       → slice_get rows j ≡ Some ys → Meet xs ys

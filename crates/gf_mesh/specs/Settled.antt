@@ -12,11 +12,11 @@ pub record TookAll (xs ys : List Peer) : Type 0 where
 
 -- the peer x of the row i took all that one of another row sent
 pub record TookOne (rows : List (List Peer)) (i : ℕ) (x : Peer) : Type 0 where
-  pub place : ℕ
+  pub index : ℕ
   pub row : List Peer
   pub sender : Peer
-  pub apart : place ≢ i
-  pub at : slice_get rows place ≡ Some row
+  pub apart : index ≢ i
+  pub at : slice_get rows index ≡ Some row
   pub sent : Contains row sender
   pub all : x.take.taken ≡ sender.send.sent
 

@@ -34,7 +34,7 @@ impl Model for Mesh {
 
 impl Mesh {
     /// The links between this many sites, on which nothing was sent, and the peers of each site. A
-    /// peer is another site, with its places in the table.
+    /// peer is another site, with its indices in the table.
     pub fn new<R: Wait>(
         rt: &R,
         alloc: Global,
@@ -54,7 +54,7 @@ impl Mesh {
         Ok((Mesh { links, first }, peers))
     }
 
-    /// The links, by their places.
+    /// The links, by their indices.
     pub fn links(&self) -> &[Link]
         ensures { result.now ≡ self.now.links }
     {

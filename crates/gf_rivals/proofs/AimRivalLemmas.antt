@@ -47,14 +47,14 @@ module _ (h : List Op) (valid : IsValid h) (x y : Op) (there : Contains h y) (su
       by (Create s) e = absurd (unmade_by x.change refl s e)
       by (Set p v aim) e = (v, aim, e ∙ ap (λ z. Set z v aim) (sym (ap (changed_object y.id) e) ∙ on))
 
-place_of : (h : List Op) (x : Op) → Contains h x → (q : ℕ) × (slice_get h q ≡ Some x)
-place_of h x (q, l, e) = (q, slice_get_read h (length h) q x refl l (sym e))
+position_in_history : (h : List Op) (x : Op) → Contains h x → (q : ℕ) × (slice_get h q ≡ Some x)
+position_in_history h x (q, l, e) = (q, slice_get_read h (length h) q x refl l (sym e))
 
 there_at : (h : List Op) (r : Option ℕ) (x : Op) → op_at h r ≡ Some x → (q : ℕ) × (r ≡ Some q) × (slice_get h q ≡ Some x)
 there_at h (Some q) x e = (q, refl, e)
 there_at h None x e = absurd cc
 
-module _ (h : List Op) (o : ObjectId) (cs : List (List Setter)) (tells : AreChainsOf h o cs) (valid : IsValid h) (a : Op) (accepted : IsAccepted h a) (v : Value) {aim : List OpId} (change : a.change ≡ Set o v aim) where
+module _ (h : List Op) (o : ObjectId) (cs : List (List Setter)) (chains : AreChainsOf h o cs) (valid : IsValid h) (a : Op) (accepted : IsAccepted h a) (v : Value) {aim : List OpId} (change : a.change ≡ Set o v aim) where
   -- what the operation brings is on the object, and suited
   brought_on : (x : Op) → Brings h a x → object_of x ≡ o
   brought_on x b = elim b [
@@ -72,11 +72,11 @@ module _ (h : List Op) (o : ObjectId) (cs : List (List Setter)) (tells : AreChai
 
   -- the number of a setter of the object
   number_at : (x : Op) → Contains h x → (w : Value) (t : List OpId) → x.change ≡ Set o w t → (n : ℕ) × (q : ℕ) × IsNumber cs n q × (slice_get h q ≡ Some x)
-  number_at x c w t e = let p = place_of h x c in let k = tells.all p.0 x w t p.1 e in (k.0, p.0, k.1, p.1)
+  number_at x c w t e = let p = position_in_history h x c in let k = chains.all p.0 x w t p.1 e in (k.0, p.0, k.1, p.1)
 
   -- what stands at a number's position is one operation
   one_op : (n q r : ℕ) (x y : Op) → IsNumber cs n q → IsNumber cs n r → slice_get h q ≡ Some x → slice_get h r ≡ Some y → x ≡ y
-  one_op n q r x y k m e f = some_one x y (sym e ∙ (ap (slice_get h) (one_position h o cs tells n q r k m) ∙ f))
+  one_op n q r x y k m e f = some_one x y (sym e ∙ (ap (slice_get h) (one_position h o cs chains n q r k m) ∙ f))
 
   -- WHAT IT AND ITS AIM MEET, where by_aim is what its aim meets
   module _ (own us r : List ℕ) (by_aim : ℕ → Type 0) (own_are : (n : ℕ) → Contains own n ↔ IsDirect h cs a n) (us_are : AreNumbersOf h cs (aim_of a) us)
@@ -92,11 +92,11 @@ module _ (h : List Op) (o : ObjectId) (cs : List (List Setter)) (tells : AreChai
             let m = (us_are w.one).0 w.among in
             let x = there_at h (position_of cs w.one) c.first c.at_first in
             let y = there_at h (position_of cs n) c.second c.at_second in
-            let same : m.op ≡ c.first = one_op w.one m.position x.0 m.op c.first m.number (number_from h o cs tells w.one x.0 x.1) m.at x.2 in
+            let same : m.op ≡ c.first = one_op w.one m.position x.0 m.op c.first m.number (number_from h o cs chains w.one x.0 x.1) m.at x.2 in
             record {
               first = c.first;
               brings = inr (record { contained = contained_at h x.0 c.first x.2; aimed = subst (λ (z : Op). Contains (aim_of a) z.id) same m.among });
-              direct = record { position = y.0; op = c.second; number = number_from h o cs tells n y.0 y.1; at = y.2; direct = c.direct };
+              direct = record { position = y.0; op = c.second; number = number_from h o cs chains n y.0 y.1; at = y.2; direct = c.direct };
             }
       ],
       λ w. (r_are n).1 (elim w.brings [
@@ -111,8 +111,8 @@ module _ (h : List Op) (o : ObjectId) (cs : List (List Setter)) (tells : AreChai
             inr (to p.0 n among (record {
               first = w.first;
               second = d.op;
-              at_first = ap (op_at h) (position_is h o cs tells p.0 p.1 p.2) ∙ p.3;
-              at_second = ap (op_at h) (position_is h o cs tells n d.position d.number) ∙ d.at;
+              at_first = ap (op_at h) (position_is h o cs chains p.0 p.1 p.2) ∙ p.3;
+              at_second = ap (op_at h) (position_is h o cs chains n d.position d.number) ∙ d.at;
               direct = d.direct;
             }))
       ]),
@@ -190,7 +190,7 @@ module _ (h : List Op) (o : ObjectId) (cs : List (List Setter)) (tells : AreChai
 -- what clashes are two setters
 pub clash_numbers : (h : List Op) (o : ObjectId) (cs : List (List Setter)) → AreChainsOf h o cs → (m n : ℕ) → (c : Clash h cs m n) →
     (p : ℕ) × (q : ℕ) × IsNumber cs m p × IsNumber cs n q × (slice_get h p ≡ Some c.first) × (slice_get h q ≡ Some c.second)
-clash_numbers h o cs tells m n c =
+clash_numbers h o cs chains m n c =
     let x = there_at h (position_of cs m) c.first c.at_first in
     let y = there_at h (position_of cs n) c.second c.at_second in
-    (x.0, y.0, number_from h o cs tells m x.0 x.1, number_from h o cs tells n y.0 y.1, x.2, y.2)
+    (x.0, y.0, number_from h o cs chains m x.0 x.1, number_from h o cs chains n y.0 y.1, x.2, y.2)

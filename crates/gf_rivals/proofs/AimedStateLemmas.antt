@@ -20,19 +20,19 @@ use Rattle.gf_rivals.specs.Setters.{block}
 use Rattle.gf_rivals.proofs.LongerLemmas.{get_front, get_within, get_last}
 use Rattle.gf_rivals.proofs.NextLemmas.{fresh}
 use Rattle.gf_rivals.proofs.NumberLemmas.{some_one, contained_at, number_within}
-use Rattle.gf_rivals.proofs.TellsLemmas.{last_number, number_cases, numbered}
+use Rattle.gf_rivals.proofs.ChainLemmas.{last_number, number_cases, numbered}
 
 -- no operation aims at any
 pub none_aimed : (h : List Op) (cs : List (List Setter)) → ((n q : ℕ) → ¬ (IsNumber cs n q)) → AreAimed h cs []
 none_aimed h cs f = record { each = λ e i. absurd (not_Contains-nil e i); all = λ n q b k at m. absurd (f n q k) }
 
-module _ (h : List Op) (o : ObjectId) (cs : List (List Setter)) (tells : AreChainsOf h o cs) (a : Op) where
+module _ (h : List Op) (o : ObjectId) (cs : List (List Setter)) (chains : AreChainsOf h o cs) (a : Op) where
   abbrev longer : List Op
   longer = h ++ a ∷ []
 
   -- what stands at a number's position stood there
   stood : (n q : ℕ) (b : Op) → IsNumber cs n q → slice_get longer q ≡ Some b → slice_get h q ≡ Some b
-  stood n q b k at = sym (get_within h a q (number_within h o cs tells n q k)) ∙ at
+  stood n q b k at = sym (get_within h a q (number_within h o cs chains n q k)) ∙ at
 
   still_among : (ids : List OpId) (m : ℕ) → IsAmong h cs ids m → IsAmong longer cs ids m
   still_among ids m k = record { position = k.position; op = k.op; number = k.number; at = get_front h a k.position k.op k.at; among = k.among }
@@ -71,13 +71,13 @@ module _ (h : List Op) (o : ObjectId) (cs : List (List Setter)) (tells : AreChai
     more_among ids m k = record {
       position = k.position;
       op = k.op;
-      number = numbered h o cs tells a valid in_range accepted v change m k.position k.number;
+      number = numbered h o cs chains a valid in_range accepted v change m k.position k.number;
       at = get_front h a k.position k.op k.at;
       among = k.among;
     }
 
     less_among : (b : Op) → Contains h b ⊎ (b ≡ a) → (m : ℕ) → IsAmong longer new (aim_of b) m → IsAmong h cs (aim_of b) m
-    less_among b w m k = elim (number_cases h o cs tells a valid in_range accepted v change m k.position k.number) [
+    less_among b w m k = elim (number_cases h o cs chains a valid in_range accepted v change m k.position k.number) [
       | inl old ↦ record { position = k.position; op = k.op; number = old; at = stood m k.position k.op old k.at; among = k.among }
       | inr e ↦
           let one : k.op ≡ a = some_one k.op a (sym k.at ∙ (ap (slice_get longer) e.1 ∙ get_last h a)) in
@@ -91,7 +91,7 @@ module _ (h : List Op) (o : ObjectId) (cs : List (List Setter)) (tells : AreChai
     state_longer e s = record {
       position = s.position;
       op = s.op;
-      number = numbered h o cs tells a valid in_range accepted v change e.number s.position s.number;
+      number = numbered h o cs chains a valid in_range accepted v change e.number s.position s.number;
       at = get_front h a s.position s.op s.at;
       aim = numbers_longer s.op (inl (contained_at h s.position s.op s.at)) e.aim s.aim;
     }
@@ -100,7 +100,7 @@ module _ (h : List Op) (o : ObjectId) (cs : List (List Setter)) (tells : AreChai
     pub aimed_none : (es : List AimedState) → AreAimed h cs es → aim_of a ≡ [] → AreAimed longer new es
     aimed_none es aimed none = record {
       each = λ e i. state_longer e (aimed.each e i);
-      all = λ n q b k at some. elim (number_cases h o cs tells a valid in_range accepted v change n q k) [
+      all = λ n q b k at some. elim (number_cases h o cs chains a valid in_range accepted v change n q k) [
         | inl old ↦ aimed.all n q b old (stood n q b old at) some
         | inr e ↦
             let one : b ≡ a = some_one b a (sym at ∙ (ap (slice_get longer) e.1 ∙ get_last h a)) in
@@ -116,12 +116,12 @@ module _ (h : List Op) (o : ObjectId) (cs : List (List Setter)) (tells : AreChai
         | inr d ↦ subst (IsAimedState longer new) d (record {
           position = length h;
           op = a;
-          number = last_number h o cs tells a valid in_range accepted v change;
+          number = last_number h o cs chains a valid in_range accepted v change;
           at = get_last h a;
           aim = numbers_longer a (inr refl) us are;
         })
       ];
-      all = λ n q b k at some. elim (number_cases h o cs tells a valid in_range accepted v change n q k) [
+      all = λ n q b k at some. elim (number_cases h o cs chains a valid in_range accepted v change n q k) [
         | inl old ↦
             let s = aimed.all n q b old (stood n q b old at) some in
             record { state = s.state; listed = Contains-append_left es (last ∷ []) s.state s.listed; number = s.number }

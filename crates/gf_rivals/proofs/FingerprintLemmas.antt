@@ -1,4 +1,4 @@
--- The order of fingerprints is total, and only one fingerprint ties with another: itself. What one tells of a value.
+-- The order of fingerprints is total, and only one fingerprint ties with another: itself. What one determines of a value.
 use Rattle.std.proofs.Common.{◌≡◌, ◌≢◌, ℕ, true, false, inl, inr, refl, sym, ap, ◌∙◌, pos}
 use Rattle.std.specs.Prelude.{Option, Some, None, slice_get}
 use Rattle.std.specs.BTreeMap.{is_at}
@@ -59,13 +59,13 @@ fingerprint_cmp_exact p q e =
 pub at_itself : (p : Fingerprint) → is_at (fingerprint_cmp p) p ≡ true
 at_itself p = ap is_eq (tied_itself fingerprint_cmp_total p)
 
-pub at_told : (p q : Fingerprint) → is_at (fingerprint_cmp p) q ≡ true → p ≡ q
-at_told p q t = fingerprint_cmp_exact p q ((Equal-is (fingerprint_cmp p q)).0 t)
+pub at_same : (p q : Fingerprint) → is_at (fingerprint_cmp p) q ≡ true → p ≡ q
+at_same p q t = fingerprint_cmp_exact p q ((Equal-is (fingerprint_cmp p q)).0 t)
 
 pub at_other : (p q : Fingerprint) → p ≢ q → is_at (fingerprint_cmp p) q ≡ false
-at_other p q n = elim (cases_Bool (is_at (fingerprint_cmp p) q)) [ inl y ↦ absurd (n (at_told p q y)) | inr f ↦ f ]
+at_other p q n = elim (cases_Bool (is_at (fingerprint_cmp p) q)) [ inl y ↦ absurd (n (at_same p q y)) | inr f ↦ f ]
 
--- ---- what it tells
+-- ---- what it determines
 
 pos_one : (m n : ℕ) → pos m ≡ pos n → m ≡ n
 pos_one m n e = cc
@@ -78,19 +78,19 @@ own_attribute : (v : Value) → (fingerprint_of v).attribute ≡ attribute_of v
 own_attribute (Points ps) = point_attribute attr.Points (slice_get ps 0)
 own_attribute v = refl
 
--- no other value has the fingerprint of one that tells it
-pub told_one : (v w : Value) → has_own_fingerprint v ≡ true → fingerprint_of w ≡ fingerprint_of v → w ≡ v
-told_one (Place p) (Place q) y e = λ i. Place (record { x = (e i).first; y = (e i).second })
-told_one (Size w h) (Size x k) y e =
+-- a value with a fingerprint of its own is determined by it
+pub determined_value : (v w : Value) → has_own_fingerprint v ≡ true → fingerprint_of w ≡ fingerprint_of v → w ≡ v
+determined_value (Place p) (Place q) y e = λ i. Place (record { x = (e i).first; y = (e i).second })
+determined_value (Size w h) (Size x k) y e =
     let a = pos_one x w (ap (λ (p : Fingerprint). p.first) e) in
     let b = pos_one k h (ap (λ (p : Fingerprint). p.second) e) in
     λ i. Size (a i) (b i)
-told_one (Colour c) (Colour d) y e =
+determined_value (Colour c) (Colour d) y e =
     let r = pos_one d.r c.r (ap (λ (p : Fingerprint). p.first) e) in
     let g = pos_one d.g c.g (ap (λ (p : Fingerprint). p.second) e) in
     let b = pos_one d.b c.b (ap (λ (p : Fingerprint). p.third) e) in
     λ i. Colour (record { r = r i; g = g i; b = b i })
-told_one (Layer m) (Layer n) y e = ap Layer (pos_one n m (ap (λ (p : Fingerprint). p.first) e))
-told_one (Shown true) (Shown true) y e = refl
-told_one (Shown false) (Shown false) y e = refl
-told_one v w y e = let t = sym (own_attribute w) ∙ (ap (λ (p : Fingerprint). p.attribute) e ∙ own_attribute v) in let n = ap (λ (p : Fingerprint). p.first) e in absurd cc
+determined_value (Layer m) (Layer n) y e = ap Layer (pos_one n m (ap (λ (p : Fingerprint). p.first) e))
+determined_value (Shown true) (Shown true) y e = refl
+determined_value (Shown false) (Shown false) y e = refl
+determined_value v w y e = let t = sym (own_attribute w) ∙ (ap (λ (p : Fingerprint). p.attribute) e ∙ own_attribute v) in let n = ap (λ (p : Fingerprint). p.first) e in absurd cc

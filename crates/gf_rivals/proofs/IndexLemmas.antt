@@ -19,8 +19,8 @@ use Rattle.gf_rivals.specs.Rivals.{IsNumber}
 use Rattle.gf_rivals.specs.Chains.{chain_of}
 use Rattle.gf_rivals.specs.Indexes.{Entries, numbers_at, IsIndex, PutsNumber}
 use Rattle.gf_rivals.specs.Indexing.{PutsGiven, IsListed, Lists, IsListedBelow, ListsChain}
-use Rattle.gf_rivals.proofs.FingerprintLemmas.{at_itself, at_told}
-use Rattle.gf_rivals.proofs.SetterLemmas.{at_place}
+use Rattle.gf_rivals.proofs.FingerprintLemmas.{at_itself, at_same}
+use Rattle.gf_rivals.proofs.SetterLemmas.{at_index}
 use Rattle.gf_rivals.proofs.NumberLemmas.{some_one, got_at, rank_below, number_in}
 
 -- ---- one more number
@@ -32,7 +32,7 @@ Contains-joined x g n = holds nat_cmp nat_cmp_total nat_cmp-IsAntisymmetric x g 
 pub Contains-numbers_at : (old new : Entries) (p : Fingerprint) (x : ℕ) → PutsNumber old p x new → (q : Fingerprint) (n : ℕ) → Contains (numbers_at new q) n ↔ (Contains (numbers_at old q) n ⊎ ((p ≡ q) × (n ≡ x)))
 Contains-numbers_at old new p x f q n = elim (cases_Bool (is_at (fingerprint_cmp p) q)) [
   | inl y ↦
-      let same = at_told p q y in
+      let same = at_same p q y in
       let e : numbers_at new q ≡ joined x (numbers_at old q) =
       ap (λ (o : Option (List ℕ)). unwrap_or o []) (f q ∙ cond-true (is_at (fingerprint_cmp p) q) (Some (joined x (numbers_at old p))) (lookup (is_at (fingerprint_cmp q)) old) y)
       ∙ ap (λ z. joined x (numbers_at old z)) same in (
@@ -57,15 +57,15 @@ listed_more : (h : List Op) (ss : List Setter) (b m : ℕ) (e : Setter) (old mid
 listed_more h ss b m e old mid new there f g p n = by_given (fingerprint_given (op_value (slice_get h e.position))) refl g
   where
     one_up : IsListed h ss b m p n → IsListed h ss b (m + 1) p n
-    one_up i = record { place = i.place; within = let w = i.within in omega (arith, w); setter = i.setter; at = i.at; given = i.given; number = i.number }
+    one_up i = record { index = i.index; within = let w = i.within in omega (arith, w); setter = i.setter; at = i.at; given = i.given; number = i.number }
 
-    -- of the new place
+    -- of the setter at the new index m
     last : (i : IsListed h ss b (m + 1) p n) → IsListed h ss b m p n ⊎ ((fingerprint_given (op_value (slice_get h e.position)) ≡ Some p) × (n ≡ b + m))
-    last i = elim (cases_lt i.place m) [
-      | inl w ↦ inl (record { place = i.place; within = w; setter = i.setter; at = i.at; given = i.given; number = i.number })
+    last i = elim (cases_lt i.index m) [
+      | inl w ↦ inl (record { index = i.index; within = w; setter = i.setter; at = i.at; given = i.given; number = i.number })
       | inr w ↦
           let v = i.within in
-          let same : i.place ≡ m = omega (arith, v, w) in
+          let same : i.index ≡ m = omega (arith, v, w) in
           let one : i.setter ≡ e = some_one i.setter e (sym i.at ∙ (ap (slice_get ss) same ∙ there)) in
           inr (ap (λ (z : Setter). fingerprint_given (op_value (slice_get h z.position))) (sym one) ∙ i.given, i.number ∙ ap (λ z. b + z) same)
     ]
@@ -82,7 +82,7 @@ listed_more h ss b m e old mid new there f g p n = by_given (fingerprint_given (
         let w = Contains-numbers_at mid new q (b + m) put p n in (
           λ i. elim (w.0 i) [
             | inl j ↦ elim ((f p n).0 j) [ inl k ↦ inl k | inr k ↦ inr (one_up k) ]
-            | inr j ↦ inr (record { place = m; within = omega arith; setter = e; at = there; given = some ∙ ap Some j.0; number = j.1 })
+            | inr j ↦ inr (record { index = m; within = omega arith; setter = e; at = there; given = some ∙ ap Some j.0; number = j.1 })
           ],
           λ i. w.1 (elim i [
             | inl j ↦ inl ((f p n).1 (inl j))
@@ -92,7 +92,7 @@ listed_more h ss b m e old mid new there f g p n = by_given (fingerprint_given (
 
 pub lists_more : (h : List Op) (ss : List Setter) (b m : ℕ) (d : Setter) (old mid new : Entries) → m < length ss →
     Lists h ss b m old mid → PutsGiven mid (fingerprint_given (op_value (slice_get h (get_or ss m d).position))) (b + m) new → Lists h ss b (m + 1) old new
-lists_more h ss b m d old mid new l f g = listed_more h ss b m (get_or ss m d) old mid new (at_place ss m d l) f g
+lists_more h ss b m d old mid new l f g = listed_more h ss b m (get_or ss m d) old mid new (at_index ss m d l) f g
 
 pub lists_all : (h : List Op) (ss : List Setter) (b m : ℕ) (old new : Entries) → m ≡ length ss → Lists h ss b m old new → Lists h ss b (length ss) old new
 lists_all h ss b m old new e f = subst (λ z. Lists h ss b z old new) e f
@@ -103,22 +103,22 @@ pub below_more : (h : List Op) (cs : List (List Setter)) (k : ℕ) (old new : En
     (p : Fingerprint) (n : ℕ) → Contains (numbers_at new p) n ↔ IsListedBelow h cs (k + 1) p n
 below_more h cs k old new f g p n = (
   λ i. elim ((g p n).0 i) [
-    | inl j ↦ let w = (f p n).0 j in record { chain = w.chain; below = let l = w.below in omega (arith, l); place = w.place; setter = w.setter; at = w.at; given = w.given; number = w.number }
-    | inr j ↦ record { chain = k; below = omega arith; place = j.place; setter = j.setter; at = j.at; given = j.given; number = j.number }
+    | inl j ↦ let w = (f p n).0 j in record { chain = w.chain; below = let l = w.below in omega (arith, l); index = w.index; setter = w.setter; at = w.at; given = w.given; number = w.number }
+    | inr j ↦ record { chain = k; below = omega arith; index = j.index; setter = j.setter; at = j.at; given = j.given; number = j.number }
   ],
   λ i. (g p n).1 (elim (cases_lt i.chain k) [
-    | inl l ↦ inl ((f p n).1 (record { chain = i.chain; below = l; place = i.place; setter = i.setter; at = i.at; given = i.given; number = i.number }))
+    | inl l ↦ inl ((f p n).1 (record { chain = i.chain; below = l; index = i.index; setter = i.setter; at = i.at; given = i.given; number = i.number }))
     | inr l ↦
         let m = i.below in
         let same : i.chain ≡ k = omega (arith, l, m) in
-        let at : slice_get (get_or cs k []) i.place ≡ Some i.setter = subst (λ z. slice_get (get_or cs z []) i.place ≡ Some i.setter) same i.at in
+        let at : slice_get (get_or cs k []) i.index ≡ Some i.setter = subst (λ z. slice_get (get_or cs z []) i.index ≡ Some i.setter) same i.at in
         inr (record {
-          place = i.place;
-          within = (got_at (get_or cs k []) i.place i.setter at).0;
+          index = i.index;
+          within = (got_at (get_or cs k []) i.index i.setter at).0;
           setter = i.setter;
           at = at;
           given = i.given;
-          number = i.number ∙ ap (λ z. z * block + i.place) same;
+          number = i.number ∙ ap (λ z. z * block + i.index) same;
         })
   ]),
 )
@@ -128,7 +128,7 @@ index_made h cs k ix e f p n = (
   λ i.
       let w = (f p n).0 i in
       let l = w.below in
-      record { position = w.setter.position; number = subst (λ z. IsNumber cs z w.setter.position) (sym w.number) (number_in cs w.chain w.place w.setter (omega (arith, l, e)) w.at); given = w.given },
+      record { position = w.setter.position; number = subst (λ z. IsNumber cs z w.setter.position) (sym w.number) (number_in cs w.chain w.index w.setter (omega (arith, l, e)) w.at); given = w.given },
   λ i.
       let k = i.number in
       let r = rank_below k.attribute in
@@ -136,7 +136,7 @@ index_made h cs k ix e f p n = (
       (f p n).1 (record {
         chain = chain_of k.attribute k.site;
         below = omega (arith, r, l, e);
-        place = k.place;
+        index = k.index;
         setter = k.setter;
         at = k.at;
         given = ap (λ z. fingerprint_given (op_value (slice_get h z))) k.position ∙ i.given;

@@ -24,7 +24,7 @@ at_other k j n = elim (cases_Bool (is_at (nat_cmp k) j)) [
   | inr f ↦ f
 ]
 
--- ---- places
+-- ---- chains by their indices
 
 get-from : (es : Kept) (k n i j : ℕ) (d : List Setter) → i < n → j ≡ k + i → get_or (chains_from es k n) i d ≡ chain_at es j
 get-from es k zero i j d l e = absurd (omega arith)

@@ -3,7 +3,7 @@ pub mod SetterLemmas
 pub mod NumberLemmas
 pub mod RivalLemmas
 pub mod LongerLemmas
-pub mod TellsLemmas
+pub mod ChainLemmas
 pub mod KeptLemmas
 pub mod FingerprintLemmas
 pub mod IndexLemmas

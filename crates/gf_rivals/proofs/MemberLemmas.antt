@@ -36,15 +36,15 @@ use Rattle.gf_rivals.specs.Members.{AreFalling, AreMembers, AreMembersOf, CanCla
 use Rattle.gf_rivals.specs.Rivals.{IsNumber, AreChainsOf}
 use Rattle.gf_rivals.specs.Setters.{block, IsCountUpTo}
 use Rattle.gf_rivals.proofs.AimRivalLemmas.{clash_numbers}
-use Rattle.gf_rivals.proofs.NumberLemmas.{some_one, contained_at, got_at, place_short, position_is, rank_one}
+use Rattle.gf_rivals.proofs.NumberLemmas.{some_one, contained_at, got_at, index_short, position_is, rank_one}
 use Rattle.gf_rivals.proofs.RivalLemmas.{given_is, own_value}
 
 -- a number of the chain of t and the site s + 1
 pub record Stands (h : List Op) (o : ObjectId) (cs : List (List Setter)) (t : Attr) (s n : ℕ) : Type 0 where
-  pub place : ℕ
+  pub index : ℕ
   pub setter : Setter
-  pub at : slice_get (setters cs t s) place ≡ Some setter
-  pub number : n ≡ chain_of t s * block + place
+  pub at : slice_get (setters cs t s) index ≡ Some setter
+  pub number : n ≡ chain_of t s * block + index
   pub op : Op
   pub stands : slice_get h setter.position ≡ Some op
   pub found : op_of h cs n ≡ Some op
@@ -56,15 +56,15 @@ pub record Stands (h : List Op) (o : ObjectId) (cs : List (List Setter)) (t : At
   pub attribute : attribute_of value ≡ t
   pub gives : value_of h cs n ≡ Some value
 
-module _ (h : List Op) (o : ObjectId) (cs : List (List Setter)) (tells : AreChainsOf h o cs) where
+module _ (h : List Op) (o : ObjectId) (cs : List (List Setter)) (chains : AreChainsOf h o cs) where
   -- a setter stands in its chain
   pub stands : (n q : ℕ) → (k : IsNumber cs n q) → Stands h o cs k.attribute k.site n
   stands n q k =
-      let is = tells.each k.attribute k.site k.place k.setter k.within k.at in
+      let is = chains.each k.attribute k.site k.index k.setter k.within k.at in
       let here : slice_get h q ≡ Some is.op = subst (λ z. slice_get h z ≡ Some is.op) k.position is.at in
-      let found : op_of h cs n ≡ Some is.op = ap (op_at h) (position_is h o cs tells n q k) ∙ here in
+      let found : op_of h cs n ≡ Some is.op = ap (op_at h) (position_is h o cs chains n q k) ∙ here in
       record {
-        place = k.place;
+        index = k.index;
         setter = k.setter;
         at = k.at;
         number = k.number;
@@ -80,10 +80,10 @@ module _ (h : List Op) (o : ObjectId) (cs : List (List Setter)) (tells : AreChai
         gives = ap op_value found ∙ ap value_set is.change;
       }
 
-  -- and that chain is told by the number
+  -- and the number determines that chain
   pub in_chain : (n q : ℕ) → (k : IsNumber cs n q) → (t : Attr) (s : ℕ) → s < 8 → n / block ≡ chain_of t s → Stands h o cs t s n
   in_chain n q k t s l e =
-      let p = place_short h o cs tells k.attribute k.site k.place k.setter k.within k.at in
+      let p = index_short h o cs chains k.attribute k.site k.index k.setter k.within k.at in
       let m = k.number in
       let w = k.within in
       let one : chain_of k.attribute k.site ≡ chain_of t s = omega (arith, p, m, e) in
@@ -95,17 +95,17 @@ module _ (h : List Op) (o : ObjectId) (cs : List (List Setter)) (tells : AreChai
   in_order : (t : Attr) (s m n : ℕ) → s < 8 → (a : Stands h o cs t s m) → (b : Stands h o cs t s n) → m ≤ n → a.op.id.seq ≤ b.op.id.seq
   in_order t s m n l a b u =
       let x = a.number in let y = b.number in
-      let v = got_at (setters cs t s) a.place a.setter a.at in
-      let w = got_at (setters cs t s) b.place b.setter b.at in
+      let v = got_at (setters cs t s) a.index a.setter a.at in
+      let w = got_at (setters cs t s) b.index b.setter b.at in
       let p = a.seq in let q = b.seq in
-      elim (cases_lt a.place b.place) [
+      elim (cases_lt a.index b.index) [
         | inl k ↦
-            let r = (tells.ordered t s l).rise a.place b.place a.setter k w.0 in
-            let f = subst (λ (z : Setter). z.seq < (slice_index_or (setters cs t s) b.place a.setter).seq) v.1 r in
-            let g = subst (λ (z : Setter). a.setter.seq < z.seq) (get_or_default (setters cs t s) b.place a.setter b.setter w.0 ∙ w.1) f in
+            let r = (chains.ordered t s l).rise a.index b.index a.setter k w.0 in
+            let f = subst (λ (z : Setter). z.seq < (slice_index_or (setters cs t s) b.index a.setter).seq) v.1 r in
+            let g = subst (λ (z : Setter). a.setter.seq < z.seq) (get_or_default (setters cs t s) b.index a.setter b.setter w.0 ∙ w.1) f in
             omega (arith, p, q, g)
         | inr k ↦
-            let same : a.place ≡ b.place = omega (arith, x, y, u, k) in
+            let same : a.index ≡ b.index = omega (arith, x, y, u, k) in
             let e : a.setter ≡ b.setter = some_one a.setter b.setter (sym a.at ∙ (ap (slice_get (setters cs t s)) same ∙ b.at)) in
             let f : a.setter.seq ≡ b.setter.seq = ap (λ (z : Setter). z.seq) e in
             omega (arith, p, q, f)
@@ -137,7 +137,7 @@ module _ (h : List Op) (o : ObjectId) (cs : List (List Setter)) (tells : AreChai
           let e = other_of.1 in
           let x : c.first ≡ a.op = some_one c.first a.op (sym c.at_first ∙ a.found) in
           let z : c.second ≡ e.op = some_one c.second e.op (sym c.at_second ∙ e.found) in
-          let late = first.unknown d.place d.setter d.at (let u = d.number in omega (arith, u, from)) in
+          let late = first.unknown d.index d.setter d.at (let u = d.number in omega (arith, u, from)) in
           let there = contained_at h d.setter.position d.op d.stands in
           let site = d.site in
           let seq = d.seq in
@@ -216,8 +216,8 @@ module _ (h : List Op) (cs : List (List Setter)) where
   )
   other_value None v = (λ t e. absurd cc, λ f. refl)
 
-  pub others_told : (n m : ℕ) (v : Value) (b : Bool) → Some v ≡ value_of h cs n → b ≡ number_gives h cs v m → IsTrue (not b) ↔ (value_of h cs n ≢ value_of h cs m)
-  others_told n m v b e f =
+  pub others_differ : (n m : ℕ) (v : Value) (b : Bool) → Some v ≡ value_of h cs n → b ≡ number_gives h cs v m → IsTrue (not b) ↔ (value_of h cs n ≢ value_of h cs m)
+  others_differ n m v b e f =
       let same : number_gives h cs v m ≡ is_value (value_of h cs m) v = ap (λ r. is_value r v) (value_found (position_of cs m)) in
       subst (λ z. IsTrue (not z) ↔ (value_of h cs n ≢ value_of h cs m)) (sym (f ∙ same)) (subst (λ z. IsTrue (not (is_value (value_of h cs m) v)) ↔ (z ≢ value_of h cs m)) e (other_value (value_of h cs m) v))
 
@@ -226,24 +226,24 @@ module _ (h : List Op) (cs : List (List Setter)) where
   other_kept n r m e f one = subst (λ z. IsOther h cs n z m.other) (sym e) (λ off. absurd (off one), λ c differ. absurd (f differ), λ c same. refl)
 
 -- a setter stands in one chain
-pub chain_told : (h : List Op) (o : ObjectId) (cs : List (List Setter)) → AreChainsOf h o cs → (n q : ℕ) → (k : IsNumber cs n q) → n / block ≡ chain_of k.attribute k.site
-chain_told h o cs tells n q k =
-    let p = place_short h o cs tells k.attribute k.site k.place k.setter k.within k.at in
+pub chain_determined : (h : List Op) (o : ObjectId) (cs : List (List Setter)) → AreChainsOf h o cs → (n q : ℕ) → (k : IsNumber cs n q) → n / block ≡ chain_of k.attribute k.site
+chain_determined h o cs chains n q k =
+    let p = index_short h o cs chains k.attribute k.site k.index k.setter k.within k.at in
     let m = k.number in
     omega (arith, p, m)
 
 module _ (h : List Op) (o : ObjectId) (cs : List (List Setter)) (us : List ℕ) (ms : List Member) (k n y : ℕ) (w : CanClash h o cs us ms k n y) where
   abbrev at_y : Stands h o cs w.attribute w.site y
-  at_y = let q = w.members.setters y w.among in in_chain h o cs w.members.tells y q.0 q.1 w.attribute w.site w.within (w.chain ∙ w.unknown.chain)
+  at_y = let q = w.members.setters y w.among in in_chain h o cs w.members.chains y q.0 q.1 w.attribute w.site w.within (w.chain ∙ w.unknown.chain)
 
   abbrev at_n : (t : Attr) × (r : ℕ) × Stands h o cs t r n
-  at_n = let z = clash_numbers h o cs w.members.tells y n w.clash in (z.3.attribute, z.3.site, stands h o cs w.members.tells n z.1 z.3)
+  at_n = let z = clash_numbers h o cs w.members.chains y n w.clash in (z.3.attribute, z.3.site, stands h o cs w.members.chains n z.1 z.3)
 
   -- what clashes is of the attribute of the setter
   of_attribute : (r : ℕ) × Stands h o cs w.attribute r n
   of_attribute =
       let z = at_n in
-      let e = clash_values h o cs w.members.tells w.valid y n w.attribute z.0 w.site z.1 at_y z.2 w.clash in
+      let e = clash_values h o cs w.members.chains w.valid y n w.attribute z.0 w.site z.1 at_y z.2 w.clash in
       (z.1, subst (λ t. Stands h o cs t z.1 n) (sym e.0) z.2)
 
   -- y stands from k on
@@ -258,15 +258,15 @@ module _ (h : List Op) (o : ObjectId) (cs : List (List Setter)) (us : List ℕ) 
             let known : a.op.id.seq ≤ entry w.clash.second.past (w.site + 1) = omega (arith, l, seq) in
             absurd (w.clash.direct.concurrent.not_before (subst (λ (z : Op). Precedes z w.clash.second) (sym x) (subst (λ z. a.op.id.seq ≤ entry w.clash.second.past z) (sym a.site) known)))
       ] in
-      let r = w.unknown.from a.place a.setter a.at late in
+      let r = w.unknown.from a.index a.setter a.at late in
       let e = a.number in
       omega (arith, r, e)
 
   at_member : (x : ℕ) → Contains us x → OneChain x k → Stands h o cs w.attribute w.site x
-  at_member x i c = let q = w.members.setters x i in in_chain h o cs w.members.tells x q.0 q.1 w.attribute w.site w.within (c ∙ w.unknown.chain)
+  at_member x i c = let q = w.members.setters x i in in_chain h o cs w.members.chains x q.0 q.1 w.attribute w.site w.within (c ∙ w.unknown.chain)
 
   before_y : (x : ℕ) → (d : Stands h o cs w.attribute w.site x) → k ≤ x → x ≤ y → value_of h cs x ≢ value_of h cs n → Clash h cs x n
-  before_y = clash_before h o cs w.members.tells w.valid w.attribute w.site y n w.within at_y (inr of_attribute) w.clash k w.unknown
+  before_y = clash_before h o cs w.members.chains w.valid w.attribute w.site y n w.within at_y (inr of_attribute) w.clash k w.unknown
 
   -- THE FIRST MEMBER from k on, or its other, clashes
   pub first_clashes : (f : Member) → IsOfChain ms k f → f.number ≤ y → Clash h cs f.number n ⊎ ((x : ℕ) × (f.other ≡ Some x) × Clash h cs x n)
@@ -276,9 +276,9 @@ module _ (h : List Op) (o : ObjectId) (cs : List (List Setter)) (us : List ℕ) 
       elim (values_parted (value_of h cs f.number) (value_of h cs n) d.value e.value d.gives e.gives) [
         | inr differ ↦ inl (before_y f.number d c.from le differ)
         | inl same ↦
-            let parted = (clash_values h o cs w.members.tells w.valid y n w.attribute w.attribute w.site of_attribute.0 at_y e w.clash).1 in
+            let parted = (clash_values h o cs w.members.chains w.valid y n w.attribute w.attribute w.site of_attribute.0 at_y e w.clash).1 in
             let m = w.members.members.each f c.listed in
-            let t = m.told y w.among (w.chain ∙ sym c.chain) le (λ g. parted (g ∙ same)) in
+            let t = m.first y w.among (w.chain ∙ sym c.chain) le (λ g. parted (g ∙ same)) in
             let i = m.is t.0 t.1 in
             let from = c.from in
             let above = i.2 in
@@ -309,13 +309,13 @@ module _ (h : List Op) (cs : List (List Setter)) (ms : List Member) (n : ℕ) wh
     | inl less ↦ none o us members y q i k less c
     | inr more ↦
         let here : k.site ≡ j = omega (arith, more, m) in
-        let a = stands h o cs members.tells y q k in
-        let z = clash_numbers h o cs members.tells y n c in
-        let b = stands h o cs members.tells n z.1 z.3 in
+        let a = stands h o cs members.chains y q k in
+        let z = clash_numbers h o cs members.chains y n c in
+        let b = stands h o cs members.chains n z.1 z.3 in
         let second : c.second ≡ op = some_one c.second op (sym c.at_second ∙ found) in
         let own : b.op ≡ op = some_one b.op op (sym b.found ∙ found) in
         let value : b.value ≡ v = some_one b.value v (ap value_set (sym b.change) ∙ (ap (λ (w : Op). value_set w.change) own ∙ gives)) in
-        let e = (clash_values h o cs members.tells valid y n k.attribute z.3.attribute k.site z.3.site a b c).0 in
+        let e = (clash_values h o cs members.chains valid y n k.attribute z.3.attribute k.site z.3.site a b c).0 in
         let attribute : k.attribute ≡ attribute_of v = e ∙ (sym b.attribute ∙ ap attribute_of value) in
         let chain : chain_of k.attribute k.site ≡ chain_of (attribute_of v) j = ap (λ t. chain_of t k.site) attribute ∙ ap (chain_of (attribute_of v)) here in
         calm o us y (record {
@@ -327,7 +327,7 @@ module _ (h : List Op) (cs : List (List Setter)) (ms : List Member) (n : ℕ) wh
           site = j;
           within = l;
           unknown = subst (λ (w : Op). IsFirstUnknown cs (attribute_of v) j w.past start) (sym second) first;
-          chain = chain_told h o cs members.tells y q k ∙ (chain ∙ sym first.chain);
+          chain = chain_determined h o cs members.chains y q k ∙ (chain ∙ sym first.chain);
         })
   ]
 
@@ -343,8 +343,8 @@ module _ (h : List Op) (cs : List (List Setter)) (ms : List Member) (n : ℕ) wh
 
   pub none_given : (o : ObjectId) (us : List ℕ) → AreMembersOf h o cs us ms → (op : Op) → op_of h cs n ≡ Some op → op_value (Some op) ≡ None → ¬ (ClashesWithOne h cs us n)
   none_given o us members op found e w =
-      let z = clash_numbers h o cs members.tells w.one n w.clash in
-      let b = stands h o cs members.tells n z.1 z.3 in
+      let z = clash_numbers h o cs members.chains w.one n w.clash in
+      let b = stands h o cs members.chains n z.1 z.3 in
       let own : b.op ≡ op = some_one b.op op (sym b.found ∙ found) in
       let g : Some b.value ≡ None = ap value_set (sym b.change) ∙ (ap (λ (w : Op). value_set w.change) own ∙ e) in
       absurd cc
@@ -388,14 +388,14 @@ module _ (h : List Op) (cs : List (List Setter)) where
     no_last : slice_get ms (length ms - 1) ≡ None → (m : Member) → ¬ (Contains ms m)
     no_last e m i =
         let b = i.1 in
-        let g = at_member_place ms (length ms - 1) m (omega (arith, b)) in
+        let g = at_member_index ms (length ms - 1) m (omega (arith, b)) in
         let f : Some (slice_index_or ms (length ms - 1) m) ≡ None = sym g ∙ e in
         absurd cc
       where
-        at_member_place : (xs : List Member) (k : ℕ) (d : Member) → k < length xs → slice_get xs k ≡ Some (slice_index_or xs k d)
-        at_member_place [] k d l = absurd (omega arith)
-        at_member_place (y ∷ ys) zero d l = refl
-        at_member_place (y ∷ ys) (suc k) d l = at_member_place ys k d (omega arith)
+        at_member_index : (xs : List Member) (k : ℕ) (d : Member) → k < length xs → slice_get xs k ≡ Some (slice_index_or xs k d)
+        at_member_index [] k d l = absurd (omega arith)
+        at_member_index (y ∷ ys) zero d l = refl
+        at_member_index (y ∷ ys) (suc k) d l = at_member_index ys k d (omega arith)
 
     tail : (o : ℕ) → Contains us o → Contains (x ∷ us) o
     tail o i = Contains-cons_tail x us o i
@@ -414,7 +414,7 @@ module _ (h : List Op) (cs : List (List Setter)) where
               is = λ o g.
                   let same : l.number ≡ o = some_one l.number o (sym e ∙ g) in
                   subst (λ z. Contains (x ∷ us) z × OneChain z x × (x ≤ z) × (value_of h cs z ≢ value_of h cs x)) same (tail l.number inside, one, omega (arith, low), λ k. differ (sym k));
-              told = λ y i c le d. elim (Contains-cons_cases x us y i) [
+              first = λ y i c le d. elim (Contains-cons_cases x us y i) [
                 | inl same ↦ absurd (d (ap (value_of h cs) same))
                 | inr j ↦ let n = are.all y j in let q = w.1 n.0 n.1 in let k = n.2 in (l.number, e, omega (arith, q, k))
               ];
@@ -428,13 +428,13 @@ module _ (h : List Op) (cs : List (List Setter)) where
                   let k = m.is o (sym e ∙ g) in
                   let up = k.2 in
                   (tail o k.0, k.1 ∙ one, omega (arith, low, up), λ q. k.3 (q ∙ same));
-              told = λ y i c le d. elim (Contains-cons_cases x us y i) [
+              first = λ y i c le d. elim (Contains-cons_cases x us y i) [
                 | inl equal ↦ absurd (d (ap (value_of h cs) equal))
                 | inr j ↦
                     let n = are.all y j in
                     let q = w.1 n.0 n.1 in
                     let k = n.2 in
-                    let t = m.told y j (c ∙ sym one) (omega (arith, q, k)) (λ z. d (z ∙ sym same)) in
+                    let t = m.first y j (c ∙ sym one) (omega (arith, q, k)) (λ z. d (z ∙ sym same)) in
                     (t.0, e ∙ t.1, t.2)
               ];
             }
@@ -443,7 +443,7 @@ module _ (h : List Op) (cs : List (List Setter)) where
         by_chain l w f (inl one) = by_values l w one f (options_parted (value_of h cs x) (value_of h cs l.number))
         by_chain l w f (inr off) = record {
           is = λ o g. absurd (let k : None ≡ Some o = sym (f.0 off) ∙ g in cc);
-          told = λ y i c le d. elim (Contains-cons_cases x us y i) [
+          first = λ y i c le d. elim (Contains-cons_cases x us y i) [
             | inl same ↦ absurd (d (ap (value_of h cs) same))
             | inr j ↦
                 let n = are.all y j in
@@ -457,7 +457,7 @@ module _ (h : List Op) (cs : List (List Setter)) where
         by_last : (q : Option Member) → slice_get ms (length ms - 1) ≡ q → IsOther h cs x q r → PointsToOther h cs (x ∷ us) new
         by_last None e f = record {
           is = λ o g. absurd (let k : None ≡ Some o = sym f ∙ g in cc);
-          told = λ y i c le d. elim (Contains-cons_cases x us y i) [
+          first = λ y i c le d. elim (Contains-cons_cases x us y i) [
             | inl same ↦ absurd (d (ap (value_of h cs) same))
             | inr j ↦ let m = are.all y j in absurd (no_last e m.0 m.1)
           ];
@@ -471,9 +471,9 @@ module _ (h : List Op) (cs : List (List Setter)) where
         let low = below m.number (are.listed m i) in
         record {
           is = λ o g. let t = k.is o g in (tail o t.0, t.1, t.2, t.3);
-          told = λ y j c le d. elim (Contains-cons_cases x us y j) [
+          first = λ y j c le d. elim (Contains-cons_cases x us y j) [
             | inl e ↦ absurd (omega (arith, e, le, low))
-            | inr t ↦ k.told y t c le d
+            | inr t ↦ k.first y t c le d
           ];
         }
 
@@ -567,8 +567,8 @@ module _ (ms : List Member) (falls : AreFalling ms) (k p : ℕ) (before : (i : �
   pub none_from : p ≡ 0 → (m : Member) → Contains ms m → k ≤ m.number → ⊥
   none_from e m i l = let u = stands_before m i l in omega (arith, u, e)
 
-  pub first_told : (f : Member) (q : ℕ) → q + 1 ≡ p → slice_get ms q ≡ Some f → Contains ms f × (k ≤ f.number) × ((m : Member) → Contains ms m → k ≤ m.number → f.number ≤ m.number)
-  first_told f q e at =
+  pub first_least : (f : Member) (q : ℕ) → q + 1 ≡ p → slice_get ms q ≡ Some f → Contains ms f × (k ≤ f.number) × ((m : Member) → Contains ms m → k ≤ m.number → f.number ≤ m.number)
+  first_least f q e at =
       let w = got_at ms q f at in
       let t = before q f (omega (arith, e)) w.0 in
       let from = leb-true k f.number (subst (λ (z : Member). nat_le k z.number ≡ true) w.1 t) in (

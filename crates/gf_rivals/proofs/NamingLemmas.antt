@@ -25,12 +25,12 @@ use Rattle.gf_rivals.proofs.NumberLemmas.{some_one, contained_at}
 
 -- ---- in one chain
 
--- what has the number in its chain has the place there
-pub place_in : (cs : List (List Setter)) (i k m n : ℕ) (ss : List Setter) → ss ≡ slice_index_or cs i [] → i ≡ k → IsSetterNumber cs k m n → (p : ℕ) × HasSeq ss m p × (n ≡ i * block + p)
-place_in cs i k m n ss e same w = (
-  w.place,
-  subst (λ z. HasSeq z m w.place) (sym (e ∙ ap (λ z. slice_index_or cs z []) same)) w.setter,
-  w.number ∙ ap (λ z. z * block + w.place) (sym same),
+-- the setter with the number m in its chain has an index there
+pub index_in : (cs : List (List Setter)) (i k m n : ℕ) (ss : List Setter) → ss ≡ slice_index_or cs i [] → i ≡ k → IsSetterNumber cs k m n → (p : ℕ) × HasSeq ss m p × (n ≡ i * block + p)
+index_in cs i k m n ss e same w = (
+  w.index,
+  subst (λ z. HasSeq z m w.index) (sym (e ∙ ap (λ z. slice_index_or cs z []) same)) w.setter,
+  w.number ∙ ap (λ z. z * block + w.index) (sym same),
 )
 
 -- ---- by an id
@@ -38,19 +38,19 @@ place_in cs i k m n ss e same w = (
 pub own_site : (h : List Op) → IsValid h → (op : Op) (id : OpId) → Contains h op → op.id ≡ id → IsSite id.site
 own_site h valid op id c e = subst (λ (z : OpId). IsSite z.site) e (site_in_range op (valid.in_range op c))
 
-module _ (h : List Op) (o : ObjectId) (cs : List (List Setter)) (tells : AreChainsOf h o cs) (id : OpId) where
+module _ (h : List Op) (o : ObjectId) (cs : List (List Setter)) (chains : AreChainsOf h o cs) (id : OpId) where
   -- a setter with the number of the id at its site is that of the id
   pub named_from : (t : Attr) (n : ℕ) → IsSite id.site → IsSetterNumber cs (chain_of t (id.site - 1)) id.seq n → IsNamed h cs id n
   named_from t n site w =
       let within : id.site - 1 < 8 = let l = site in omega (arith, l.0, l.1) in
       let e = w.setter.setter in
-      let is = tells.each t (id.site - 1) w.place e within w.setter.at in
+      let is = chains.each t (id.site - 1) w.index e within w.setter.at in
       let own : is.op.id.site ≡ id.site = let l = site in let s = is.site in omega (arith, l.0, s) in
       let seq : is.op.id.seq ≡ id.seq = is.seq ∙ w.setter.seq in
       record {
         position = e.position;
         op = is.op;
-        number = record { attribute = t; site = id.site - 1; within = within; place = w.place; setter = e; at = w.setter.at; number = w.number; position = refl };
+        number = record { attribute = t; site = id.site - 1; within = within; index = w.index; setter = e; at = w.setter.at; number = w.number; position = refl };
         at = is.at;
         named = λ i. record { site = own i; seq = seq i };
       }
@@ -64,7 +64,7 @@ module _ (h : List Op) (o : ObjectId) (cs : List (List Setter)) (tells : AreChai
       (t : Attr) → t ≡ attribute_of v → (n : ℕ) → IsNamed h cs id n → IsSetterNumber cs (chain_of t (id.site - 1)) id.seq n
   numbered_from valid op x v aim c e change t own n k =
       let m = k.number in
-      let is = tells.each m.attribute m.site m.place m.setter m.within m.at in
+      let is = chains.each m.attribute m.site m.index m.setter m.within m.at in
       let same : is.op ≡ k.op = some_one is.op k.op (sym is.at ∙ (ap (slice_get h) m.position ∙ k.at)) in
       let one : k.op ≡ op = same_op h valid k.op op (contained_at h k.position k.op k.at) c (k.named ∙ sym e) in
       let name : is.op.id ≡ id = ap (λ (z : Op). z.id) same ∙ k.named in
@@ -73,20 +73,20 @@ module _ (h : List Op) (o : ObjectId) (cs : List (List Setter)) (tells : AreChai
       let value : Some is.value ≡ Some v = ap value_set (sym is.change) ∙ (ap (λ (z : Op). value_set z.change) (same ∙ one) ∙ ap value_set change) in
       let attribute : m.attribute ≡ t = sym is.attribute ∙ (ap attribute_of (some_one is.value v value) ∙ sym own) in
       record {
-        place = m.place;
+        index = m.index;
         setter = record {
           setter = m.setter;
-          at = subst (λ z. slice_get (setters cs t z) m.place ≡ Some m.setter) site (subst (λ z. slice_get (setters cs z m.site) m.place ≡ Some m.setter) attribute m.at);
+          at = subst (λ z. slice_get (setters cs t z) m.index ≡ Some m.setter) site (subst (λ z. slice_get (setters cs z m.site) m.index ≡ Some m.setter) attribute m.at);
           seq = seq;
         };
-        number = subst (λ z. n ≡ chain_of t z * block + m.place) site (subst (λ z. n ≡ chain_of z m.site * block + m.place) attribute m.number);
+        number = subst (λ z. n ≡ chain_of t z * block + m.index) site (subst (λ z. n ≡ chain_of z m.site * block + m.index) attribute m.number);
       }
 
   -- what makes an object is no setter
   pub made_unnamed : IsValid h → (op : Op) (start : Start) → Contains h op → op.id ≡ id → op.change ≡ Create start → (n : ℕ) → ¬ (IsNamed h cs id n)
   made_unnamed valid op start c e change n k =
       let m = k.number in
-      let is = tells.each m.attribute m.site m.place m.setter m.within m.at in
+      let is = chains.each m.attribute m.site m.index m.setter m.within m.at in
       let same : is.op ≡ k.op = some_one is.op k.op (sym is.at ∙ (ap (slice_get h) m.position ∙ k.at)) in
       let one : k.op ≡ op = same_op h valid k.op op (contained_at h k.position k.op k.at) c (k.named ∙ sym e) in
       let value : Some is.value ≡ None = ap value_set (sym is.change) ∙ (ap (λ (z : Op). value_set z.change) (same ∙ one) ∙ ap value_set change) in

@@ -14,7 +14,7 @@ use Rattle.gf_rivals.specs.declared.chain.Setter.{Setter}
 use Rattle.gf_rivals.specs.Setters.{block}
 use Rattle.gf_rivals.specs.Chains.{rank, chain_of, setters, position_of}
 use Rattle.gf_rivals.specs.Rivals.{IsNumber, AreChainsOf}
-use Rattle.gf_rivals.proofs.SetterLemmas.{from_place}
+use Rattle.gf_rivals.proofs.SetterLemmas.{from_index}
 
 pub some_one : {X : Type 0} (a b : X) → Some a ≡ Some b → a ≡ b
 some_one a b e = ap (λ o. unwrap_or o a) e
@@ -99,7 +99,7 @@ setter_found (Some e) q f = (e, refl, some_one e.position q f)
 
 -- ---- numbers
 
--- the number of the setter at a place of the chain with the index k
+-- the number of the setter at the index p in the chain with the index k
 pub number_in : (cs : List (List Setter)) (k p : ℕ) (e : Setter) → k < 48 → slice_get (get_or cs k []) p ≡ Some e → IsNumber cs (k * block + p) e.position
 number_in cs k p e l at =
     let first : rank (unranked (k / 8)) ≡ k / 8 = rank_to (k / 8) (omega (arith, l)) in
@@ -108,21 +108,21 @@ number_in cs k p e l at =
       attribute = unranked (k / 8);
       site = k % 8;
       within = omega arith;
-      place = p;
+      index = p;
       setter = e;
       at = subst (λ z. slice_get (get_or cs z []) p ≡ Some e) chain at;
       number = ap (λ z. z * block + p) chain;
       position = refl;
     }
 
-module _ (h : List Op) (o : ObjectId) (cs : List (List Setter)) (tells : AreChainsOf h o cs) where
-  pub place_short : (t : Attr) (s p : ℕ) (e : Setter) → s < 8 → slice_get (setters cs t s) p ≡ Some e → p < block
-  place_short t s p e l a = let w = (from_place (setters cs t s) p e a).0 in let k = (tells.ordered t s l).short in omega (arith, w, k)
+module _ (h : List Op) (o : ObjectId) (cs : List (List Setter)) (chains : AreChainsOf h o cs) where
+  pub index_short : (t : Attr) (s p : ℕ) (e : Setter) → s < 8 → slice_get (setters cs t s) p ≡ Some e → p < block
+  index_short t s p e l a = let w = (from_index (setters cs t s) p e a).0 in let k = (chains.ordered t s l).short in omega (arith, w, k)
 
   pub one_setter : (n : ℕ) (t u : Attr) (s r p q : ℕ) (e f : Setter) → s < 8 → r < 8 → slice_get (setters cs t s) p ≡ Some e → slice_get (setters cs u r) q ≡ Some f →
       n ≡ chain_of t s * block + p → n ≡ chain_of u r * block + q → (t ≡ u) × (s ≡ r) × (e ≡ f)
   one_setter n t u s r p q e f l m a b x y =
-      let w = one_block (chain_of t s) (chain_of u r) p q (place_short t s p e l a) (place_short u r q f m b) (sym x ∙ y) in
+      let w = one_block (chain_of t s) (chain_of u r) p q (index_short t s p e l a) (index_short u r q f m b) (sym x ∙ y) in
       let c = w.0 in
       let same_site : s ≡ r = omega (arith, c, l, m) in
       let same_rank : rank t ≡ rank u = omega (arith, c, l, m) in
@@ -135,12 +135,12 @@ module _ (h : List Op) (o : ObjectId) (cs : List (List Setter)) (tells : AreChai
   -- a number has one position
   pub one_position : (n q r : ℕ) → IsNumber cs n q → IsNumber cs n r → q ≡ r
   one_position n q r k m =
-      let w = one_setter n k.attribute m.attribute k.site m.site k.place m.place k.setter m.setter k.within m.within k.at m.at k.number m.number in
+      let w = one_setter n k.attribute m.attribute k.site m.site k.index m.index k.setter m.setter k.within m.within k.at m.at k.number m.number in
       sym k.position ∙ (ap (λ (z : Setter). z.position) w.2 ∙ m.position)
 
-  -- setters with one number at their site stand at one place
-  one_place : (t : Attr) (s p q : ℕ) (e f : Setter) → s < 8 → slice_get (setters cs t s) p ≡ Some e → slice_get (setters cs t s) q ≡ Some f → e.seq ≡ f.seq → p ≡ q
-  one_place t s p q e f l a b same =
+  -- setters with one number at their site have one index
+  one_index : (t : Attr) (s p q : ℕ) (e f : Setter) → s < 8 → slice_get (setters cs t s) p ≡ Some e → slice_get (setters cs t s) q ≡ Some f → e.seq ≡ f.seq → p ≡ q
+  one_index t s p q e f l a b same =
       let ss = setters cs t s in
       let v = got_at ss p e a in
       let w = got_at ss q f b in
@@ -148,11 +148,11 @@ module _ (h : List Op) (o : ObjectId) (cs : List (List Setter)) (tells : AreChai
       let y : get_or ss p f ≡ e = get_or_default ss p f e v.0 ∙ v.1 in
       elim (cases_lt p q) [
         | inl n ↦
-            let u = subst (λ (z : Setter). (get_or ss p e).seq < z.seq) x ((tells.ordered t s l).rise p q e n w.0) in
+            let u = subst (λ (z : Setter). (get_or ss p e).seq < z.seq) x ((chains.ordered t s l).rise p q e n w.0) in
             let r = subst (λ (z : Setter). z.seq < f.seq) v.1 u in absurd (omega (arith, r, same))
         | inr n ↦ elim (cases_lt q p) [
           | inl m ↦
-              let u = subst (λ (z : Setter). (get_or ss q f).seq < z.seq) y ((tells.ordered t s l).rise q p f m v.0) in
+              let u = subst (λ (z : Setter). (get_or ss q f).seq < z.seq) y ((chains.ordered t s l).rise q p f m v.0) in
               let r = subst (λ (z : Setter). z.seq < e.seq) w.1 u in absurd (omega (arith, r, same))
           | inr m ↦ omega (arith, n, m)
         ]
@@ -161,38 +161,38 @@ module _ (h : List Op) (o : ObjectId) (cs : List (List Setter)) (tells : AreChai
   -- a position has one number
   pub one_number : (m n q : ℕ) → IsNumber cs m q → IsNumber cs n q → m ≡ n
   one_number m n q k l =
-      let i = tells.each k.attribute k.site k.place k.setter k.within k.at in
-      let j = tells.each l.attribute l.site l.place l.setter l.within l.at in
+      let i = chains.each k.attribute k.site k.index k.setter k.within k.at in
+      let j = chains.each l.attribute l.site l.index l.setter l.within l.at in
       let there : k.setter.position ≡ l.setter.position = k.position ∙ sym l.position in
       let op : i.op ≡ j.op = some_one i.op j.op (sym i.at ∙ (ap (slice_get h) there ∙ j.at)) in
       let site : k.site ≡ l.site = let x : k.site + 1 ≡ l.site + 1 = sym i.site ∙ (ap (λ (z : Op). z.id.site) op ∙ j.site) in omega (arith, x) in
       let seq : k.setter.seq ≡ l.setter.seq = sym i.seq ∙ (ap (λ (z : Op). z.id.seq) op ∙ j.seq) in
       let attribute : k.attribute ≡ l.attribute =
       sym i.attribute ∙ (ap attribute_set (sym i.change) ∙ (ap (λ (z : Op). attribute_set z.change) op ∙ (ap attribute_set j.change ∙ j.attribute))) in
-      let at : slice_get (setters cs l.attribute l.site) k.place ≡ Some k.setter =
-      subst (λ z. slice_get (setters cs l.attribute z) k.place ≡ Some k.setter) site (subst (λ z. slice_get (setters cs z k.site) k.place ≡ Some k.setter) attribute k.at) in
-      let place = one_place l.attribute l.site k.place l.place k.setter l.setter l.within at l.at seq in
-      k.number ∙ (ap (λ z. chain_of z k.site * block + k.place) attribute ∙ (ap (λ z. chain_of l.attribute z * block + k.place) site ∙ (ap (λ z. chain_of l.attribute l.site * block + z) place ∙ sym l.number)))
+      let at : slice_get (setters cs l.attribute l.site) k.index ≡ Some k.setter =
+      subst (λ z. slice_get (setters cs l.attribute z) k.index ≡ Some k.setter) site (subst (λ z. slice_get (setters cs z k.site) k.index ≡ Some k.setter) attribute k.at) in
+      let index = one_index l.attribute l.site k.index l.index k.setter l.setter l.within at l.at seq in
+      k.number ∙ (ap (λ z. chain_of z k.site * block + k.index) attribute ∙ (ap (λ z. chain_of l.attribute z * block + k.index) site ∙ (ap (λ z. chain_of l.attribute l.site * block + z) index ∙ sym l.number)))
 
   -- numbers lie below those of all chains
   pub number_below : (n q : ℕ) → IsNumber cs n q → n < 48 * block
   number_below n q k =
       let r = rank_below k.attribute in
       let l = k.within in
-      let p = place_short k.attribute k.site k.place k.setter k.within k.at in
+      let p = index_short k.attribute k.site k.index k.setter k.within k.at in
       let e = k.number in
       omega (arith, r, l, p, e)
 
   -- a number's position is in the history
   pub number_within : (n q : ℕ) → IsNumber cs n q → q < length h
   number_within n q k =
-      let i = tells.each k.attribute k.site k.place k.setter k.within k.at in
+      let i = chains.each k.attribute k.site k.index k.setter k.within k.at in
       subst (λ z. z < length h) k.position (got_at h k.setter.position i.op i.at).0
 
   -- a setter's number leads to its position
   pub position_is : (n q : ℕ) → IsNumber cs n q → position_of cs n ≡ Some q
   position_is n q k =
-      let w = by_block (chain_of k.attribute k.site) k.place n (place_short k.attribute k.site k.place k.setter k.within k.at) k.number in
+      let w = by_block (chain_of k.attribute k.site) k.index n (index_short k.attribute k.site k.index k.setter k.within k.at) k.number in
       ap (λ z. option_map (λ (e : Setter). e.position) (slice_get (get_or cs z []) (n % block))) w.0
       ∙ (ap (λ z. option_map (λ (e : Setter). e.position) (slice_get (setters cs k.attribute k.site) z)) w.1
       ∙ (ap (option_map (λ (e : Setter). e.position)) k.at ∙ ap Some k.position))
@@ -203,7 +203,7 @@ module _ (h : List Op) (o : ObjectId) (cs : List (List Setter)) (tells : AreChai
       let k = n / block in
       let p = n % block in
       let w = setter_found (slice_get (get_or cs k []) p) q f in
-      let all = tells.count in
+      let all = chains.count in
       let inside : k < 48 = elim (cases_lt k 48) [
         | inl l ↦ l
         | inr l ↦ absurd (let e : slice_get [] p ≡ Some w.0 = ap (λ z. slice_get z p) (sym (past_end cs k (omega (arith, l, all)))) ∙ w.1 in cc)

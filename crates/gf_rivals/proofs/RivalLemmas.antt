@@ -28,7 +28,7 @@ use Rattle.gf_rivals.specs.Fingerprints.{fingerprint_of, fingerprint_cmp, has_ow
 use Rattle.gf_rivals.specs.Giving.{op_value, value_set, fingerprint_given}
 use Rattle.gf_rivals.specs.Comparing.{is_value, value_at, number_gives}
 use Rattle.gf_rivals.specs.Indexes.{numbers_at, IsIndex}
-use Rattle.gf_rivals.proofs.FingerprintLemmas.{told_one}
+use Rattle.gf_rivals.proofs.FingerprintLemmas.{determined_value}
 use Rattle.gf_rivals.specs.declared.chain.Setter.{Setter}
 use Rattle.gf_rivals.specs.Setters.{block}
 use Rattle.gf_rivals.specs.Chains.{chain_of, setters, position_of, IsUnknown}
@@ -58,7 +58,7 @@ given_is v t w e = absurd cc
 
 -- ---- one direction, and the other
 
-module _ (h : List Op) (o : ObjectId) (cs : List (List Setter)) (tells : AreChainsOf h o cs) where
+module _ (h : List Op) (o : ObjectId) (cs : List (List Setter)) (chains : AreChainsOf h o cs) where
   module _ (valid : IsValid h) (a : Op) (in_range : IsInRange a) (accepted : IsAccepted h a) (v : Value) {aim : List OpId} (change : a.change ≡ Set o v aim) (d : List ℕ) (rivals : AreRivals h o cs v a.past d) where
     abbrev t : Attr
     t = attribute_of v
@@ -73,12 +73,12 @@ module _ (h : List Op) (o : ObjectId) (cs : List (List Setter)) (tells : AreChai
     rival_conflicts : (n : ℕ) → IsUnknown cs t a.past 8 n → ((q : ℕ) → IsNumber cs n q → ¬ (GivesAt h o q v)) → IsDirect h cs a n
     rival_conflicts n u other =
         let e = u.setter.setter in
-        let is = tells.each t u.site u.setter.place e u.within u.setter.at in
+        let is = chains.each t u.site u.setter.index e u.within u.setter.at in
         let number : IsNumber cs n e.position = record {
           attribute = t;
           site = u.site;
           within = u.within;
-          place = u.setter.place;
+          index = u.setter.index;
           setter = e;
           at = u.setter.at;
           number = u.setter.number;
@@ -114,7 +114,7 @@ module _ (h : List Op) (o : ObjectId) (cs : List (List Setter)) (tells : AreChai
     conflict_rivals : (n : ℕ) → IsDirect h cs a n → IsUnknown cs t a.past 8 n × ((q : ℕ) → IsNumber cs n q → ¬ (GivesAt h o q v))
     conflict_rivals n c =
         let k = c.number in
-        let is = tells.each k.attribute k.site k.place k.setter k.within k.at in
+        let is = chains.each k.attribute k.site k.index k.setter k.within k.at in
         let same_op : is.op ≡ c.op = some_one is.op c.op (sym is.at ∙ (ap (slice_get h) k.position ∙ c.at)) in
         let set_to : c.op.change ≡ Set o is.value is.aim = ap (λ (z : Op). z.change) (sym same_op) ∙ is.change in
         let apart = c.direct.apart in
@@ -130,15 +130,15 @@ module _ (h : List Op) (o : ObjectId) (cs : List (List Setter)) (tells : AreChai
             site = k.site;
             within = k.within;
             setter = record {
-              place = k.place;
+              index = k.index;
               setter = k.setter;
-              at = subst (λ z. slice_get (setters cs z k.site) k.place ≡ Some k.setter) one k.at;
+              at = subst (λ z. slice_get (setters cs z k.site) k.index ≡ Some k.setter) one k.at;
               unknown = late;
-              number = subst (λ z. n ≡ chain_of z k.site * block + k.place) one k.number;
+              number = subst (λ z. n ≡ chain_of z k.site * block + k.index) one k.number;
             };
           },
           λ q m g.
-              let there : c.position ≡ q = one_position h o cs tells n c.position q k m in
+              let there : c.position ≡ q = one_position h o cs chains n c.position q k m in
               let b : c.op ≡ g.op = some_one c.op g.op (sym c.at ∙ (ap (slice_get h) there ∙ g.at)) in
               let gave : set_value v apart.attribute ≡ Some apart.second =
               ap (λ z. change_value z apart.attribute) (sym g.change) ∙ (ap (λ (z : Op). change_value z.change apart.attribute) (sym b) ∙ apart.second_given) in
@@ -154,7 +154,7 @@ module _ (h : List Op) (o : ObjectId) (cs : List (List Setter)) (tells : AreChai
 
 -- ---- by what is found
 
-module _ (h : List Op) (o : ObjectId) (cs : List (List Setter)) (tells : AreChainsOf h o cs) (ix : List (Fingerprint × List ℕ)) (index : IsIndex h cs ix) (v : Value) (past : Clock)
+module _ (h : List Op) (o : ObjectId) (cs : List (List Setter)) (chains : AreChainsOf h o cs) (ix : List (Fingerprint × List ℕ)) (index : IsIndex h cs ix) (v : Value) (past : Clock)
     (u : List ℕ) (unknowns : (n : ℕ) → Contains u n ↔ IsUnknown cs (attribute_of v) past 8 n) where
   -- a setter that gives v
   Gives : ℕ → Type 0
@@ -171,7 +171,7 @@ module _ (h : List Op) (o : ObjectId) (cs : List (List Setter)) (tells : AreChai
   -- what stands at a number's position sets a value of the object
   value_set_at : (n q : ℕ) → IsNumber cs n q → (x : Value) × GivesAt h o q x
   value_set_at n q k =
-      let i = tells.each k.attribute k.site k.place k.setter k.within k.at in
+      let i = chains.each k.attribute k.site k.index k.setter k.within k.at in
       (i.value, record { op = i.op; at = ap (slice_get h) (sym k.position) ∙ i.at; aim = i.aim; change = i.change })
 
   value_given_at : (q : ℕ) (x : Value) → GivesAt h o q x → op_value (slice_get h q) ≡ Some x
@@ -202,7 +202,7 @@ module _ (h : List Op) (o : ObjectId) (cs : List (List Setter)) (tells : AreChai
         let x = value_set_at n f.position f.number in
         let same : fingerprint_of x.0 ≡ fingerprint_of v =
         some_one (fingerprint_of x.0) (fingerprint_of v) (ap fingerprint_given (sym (value_given_at f.position x.0 x.1)) ∙ f.given) in
-        (f.position, f.number, subst (GivesAt h o f.position) (told_one v x.0 own same) x.1))
+        (f.position, f.number, subst (GivesAt h o f.position) (determined_value v x.0 own same) x.1))
         (λ n i w. subst (λ z. Contains z n) there (listed n w))
         (λ n. let w = Contains-without s u n in (λ i. w.0 (subst (λ z. Contains z n) e i), λ i. subst (λ z. Contains z n) (sym e) (w.1 i)))
 
@@ -213,7 +213,7 @@ module _ (h : List Op) (o : ObjectId) (cs : List (List Setter)) (tells : AreChai
         (λ n i. gives_v n ((f n).0 i).1)
         (λ n i w. (f n).1 (
           subst (λ z. Contains z n) (sym both) ((Contains-filter (is_in s) u n).1 (i, in_list s n (subst (λ z. Contains z n) there (listed n w)))),
-          ap (λ r. is_value (value_at h r) v) (position_is h o cs tells n w.0 w.1) ∙ (ap (λ r. is_value r v) (value_given_at w.0 v w.2) ∙ value_eq-same v),
+          ap (λ r. is_value (value_at h r) v) (position_is h o cs chains n w.0 w.1) ∙ (ap (λ r. is_value r v) (value_given_at w.0 v w.2) ∙ value_eq-same v),
         ))
         (λ n. let w = Contains-without e u n in (λ i. w.0 (subst (λ z. Contains z n) k i), λ i. subst (λ z. Contains z n) (sym k) (w.1 i)))
       where
@@ -223,7 +223,7 @@ module _ (h : List Op) (o : ObjectId) (cs : List (List Setter)) (tells : AreChai
             by_position : (r : Option ℕ) → position_of cs n ≡ r → is_value (value_at h r) v ≡ true → Gives n
             by_position None a b = absurd cc
             by_position (Some q) a b =
-                let m = number_from h o cs tells n q a in
+                let m = number_from h o cs chains n q a in
                 let x = value_set_at n q m in
                 let same : x.0 ≡ v = value_eq-true x.0 v (ap (λ r. is_value r v) (sym (value_given_at q x.0 x.1)) ∙ b) in
                 (q, m, subst (GivesAt h o q) same x.1)

@@ -1,4 +1,4 @@
--- Setters by their places.
+-- Setters by their indices.
 use Rattle.std.proofs.Common.{◌≡◌, ℕ, zero, suc, ◌<◌, ◌≤◌, ◌+◌, ◌-◌, ◌*◌, List, [], ◌∷◌, ◌++◌, length, get_or, inl, inr, refl, subst, sym, ap, arith, nat_le, true, false}
 use Rattle.std.specs.Prelude.{◌⊎◌, ◌↔◌, Contains, Option, Some, None, slice_get, Result, Ok, Err, IfOk}
 use Rattle.std.specs.List.{range_with_len}
@@ -26,14 +26,14 @@ seqs_parted ss a m i j d l k h =
     ] in
     let v = seq_up_to (get_or ss j d).seq m h in grind (arith, nat_tests)
 
-pub at_place : (ss : List Setter) (i : ℕ) (d : Setter) → i < length ss → slice_get ss i ≡ Some (get_or ss i d)
-at_place [] i d l = absurd (omega arith)
-at_place (s ∷ ss) zero d l = refl
-at_place (s ∷ ss) (suc i) d l = at_place ss i d (omega arith)
+pub at_index : (ss : List Setter) (i : ℕ) (d : Setter) → i < length ss → slice_get ss i ≡ Some (get_or ss i d)
+at_index [] i d l = absurd (omega arith)
+at_index (s ∷ ss) zero d l = refl
+at_index (s ∷ ss) (suc i) d l = at_index ss i d (omega arith)
 
-pub from_place : (ss : List Setter) (i : ℕ) (s : Setter) → slice_get ss i ≡ Some s → (i < length ss) × (get_or ss i s ≡ s)
-from_place [] i s e = absurd cc
-from_place (t ∷ ss) zero s e = (omega arith, option_some t s e)
+pub from_index : (ss : List Setter) (i : ℕ) (s : Setter) → slice_get ss i ≡ Some s → (i < length ss) × (get_or ss i s ≡ s)
+from_index [] i s e = absurd cc
+from_index (t ∷ ss) zero s e = (omega arith, option_some t s e)
   where
     option_some : (a b : Setter) → Some a ≡ Some b → a ≡ b
     option_some a b f = ap (λ o. unwrap o b) f
@@ -41,14 +41,14 @@ from_place (t ∷ ss) zero s e = (omega arith, option_some t s e)
         unwrap : Option Setter → Setter → Setter
         unwrap (Some x) y = x
         unwrap None y = y
-from_place (t ∷ ss) (suc i) s e = let w = from_place ss i s e in (let l = w.0 in omega arith, w.1)
+from_index (t ∷ ss) (suc i) s e = let w = from_index ss i s e in (let l = w.0 in omega arith, w.1)
 
 a_setter : Setter
 a_setter = record { seq = 0; position = 0 }
 
 -- the numbers from the first unknown one on are those of the setters above m
-pub above_told : (ss : List Setter) (b m k n : ℕ) (g : List ℕ) → IsCountUpTo ss m k → g ≡ range_with_len (b + k) (b + length ss - (b + k)) → Contains g n ↔ IsNumberAbove ss b m n
-above_told ss b m k n g c e =
+pub above_exact : (ss : List Setter) (b m k n : ℕ) (g : List ℕ) → IsCountUpTo ss m k → g ≡ range_with_len (b + k) (b + length ss - (b + k)) → Contains g n ↔ IsNumberAbove ss b m n
+above_exact ss b m k n g c e =
     let r = Contains-range (b + length ss - (b + k)) (b + k) n in
     let bound = c.bound in (
       λ h.
@@ -58,16 +58,16 @@ above_told ss b m k n g c e =
           let in_it : p < length ss = omega arith in
           let from : k ≤ p = omega arith in
           record {
-            place = p;
+            index = p;
             setter = get_or ss p a_setter;
-            at = at_place ss p a_setter in_it;
+            at = at_index ss p a_setter in_it;
             unknown = c.above p a_setter from in_it;
             number = omega arith;
           },
       λ h.
-          let w = from_place ss h.place h.setter h.at in
+          let w = from_index ss h.index h.setter h.at in
           let l = w.0 in
-          let from : k ≤ h.place = not_below h.place h.setter w.1 h.unknown in
+          let from : k ≤ h.index = not_below h.index h.setter w.1 h.unknown in
           let f = h.number in
           subst (λ z. Contains z n) (sym e) (r.1 (omega arith, omega arith)),
     )
@@ -133,7 +133,7 @@ setters_push ss qs s e a f z b = subst AreSetters (sym e) (record {
     ]
 
 pub above_result : {B : Type 0} (r : Result (List ℕ) B) (ss : List Setter) (b m k l : ℕ) → IsCountUpTo ss m k → l ≡ length ss → IfOk r (λ g. g ≡ range_with_len (b + k) (b + l - (b + k))) → IfOk r (λ g. (n : ℕ) → Contains g n ↔ IsNumberAbove ss b m n)
-above_result (Ok g) ss b m k l c e f = λ n. above_told ss b m k n g c (subst (λ z. g ≡ range_with_len (b + k) (b + z - (b + k))) e f)
+above_result (Ok g) ss b m k l c e f = λ n. above_exact ss b m k n g c (subst (λ z. g ≡ range_with_len (b + k) (b + z - (b + k))) e f)
 above_result (Err x) ss b m k l c e f = tt
 
 pub counted : (ss qs : List Setter) (m k : ℕ) → ss ≡ qs → k ≤ length qs → ((i : ℕ) (d : Setter) → 0 ≤ i → i < k → nat_le (get_or qs i d).seq m ≡ true) × ((i : ℕ) (d : Setter) → k ≤ i → i < length qs → nat_le (get_or qs i d).seq m ≡ false) → IsCountUpTo ss m k

@@ -18,12 +18,12 @@ PutsGiven old (Some p) x new = PutsNumber old p x new
 -- all has the number b
 pub record IsListed (h : List Op) (ss : List Setter) (b m : ℕ) (p : Fingerprint)
     (n : ℕ) : Type 0 where
-  pub place : ℕ
-  pub within : place < m
+  pub index : ℕ
+  pub within : index < m
   pub setter : Setter
-  pub at : slice_get ss place ≡ Some setter
+  pub at : slice_get ss index ≡ Some setter
   pub given : fingerprint_given (op_value (slice_get h setter.position)) ≡ Some p
-  pub number : n ≡ b + place
+  pub number : n ≡ b + index
 
 -- new has what old has, and the first m setters of ss
 abbrev pub Lists : List Op → List Setter → ℕ → ℕ → Entries → Entries → Type 0
@@ -40,8 +40,8 @@ pub record IsListedBelow (h : List Op) (cs : List (List Setter)) (k : ℕ) (p : 
     (n : ℕ) : Type 0 where
   pub chain : ℕ
   pub below : chain < k
-  pub place : ℕ
+  pub index : ℕ
   pub setter : Setter
-  pub at : slice_get (slice_index_or cs chain []) place ≡ Some setter
+  pub at : slice_get (slice_index_or cs chain []) index ≡ Some setter
   pub given : fingerprint_given (op_value (slice_get h setter.position)) ≡ Some p
-  pub number : n ≡ chain * block + place
+  pub number : n ≡ chain * block + index

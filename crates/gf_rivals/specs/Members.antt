@@ -44,7 +44,7 @@ pub record PointsToOther (h : List Op) (cs : List (List Setter)) (us : List ℕ)
     (m : Member) : Type 0 where
   pub is : (o : ℕ) → m.other ≡ Some o → Contains us o × OneChain o m.number
       × (m.number ≤ o) × (value_of h cs o ≢ value_of h cs m.number)
-  pub told : (y : ℕ) → Contains us y → OneChain y m.number → m.number ≤ y
+  pub first : (y : ℕ) → Contains us y → OneChain y m.number → m.number ≤ y
       → value_of h cs y ≢ value_of h cs m.number → (o : ℕ) × (m.other ≡ Some o)
       × (o ≤ y)
 
@@ -63,7 +63,7 @@ ListsSetters cs us = (n : ℕ) → Contains us n → (q : ℕ) × IsNumber cs n 
 -- ms are members of the object o
 pub record AreMembersOf (h : List Op) (o : ObjectId) (cs : List (List Setter)) (us : List ℕ)
     (ms : List Member) : Type 0 where
-  pub tells : AreChainsOf h o cs
+  pub chains : AreChainsOf h o cs
   pub setters : ListsSetters cs us
   pub members : AreMembers h cs us ms
 

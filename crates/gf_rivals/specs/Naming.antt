@@ -9,7 +9,7 @@ use Rattle.gf_rivals.specs.declared.chain.Setter.{Setter}
 use Rattle.gf_rivals.specs.Setters.{block}
 use Rattle.gf_rivals.specs.Rivals.{IsNumber, AreChainsOf}
 
--- the setter at the place p has the number m at its site
+-- the setter at the index p has the number m at its site
 pub record HasSeq (ss : List Setter) (m p : ℕ) : Type 0 where
   pub setter : Setter
   pub at : slice_get ss p ≡ Some setter
@@ -17,9 +17,9 @@ pub record HasSeq (ss : List Setter) (m p : ℕ) : Type 0 where
 
 -- n is the number of the setter of chain k that has the number m at its site
 pub record IsSetterNumber (cs : List (List Setter)) (k m n : ℕ) : Type 0 where
-  pub place : ℕ
-  pub setter : HasSeq (slice_index_or cs k []) m place
-  pub number : n ≡ k * block + place
+  pub index : ℕ
+  pub setter : HasSeq (slice_index_or cs k []) m index
+  pub number : n ≡ k * block + index
 
 -- n is the number of the setter with the id
 pub record IsNamed (h : List Op) (cs : List (List Setter)) (id : OpId) (n : ℕ) : Type 0 where
@@ -32,7 +32,7 @@ pub record IsNamed (h : List Op) (cs : List (List Setter)) (id : OpId) (n : ℕ)
 -- the chains are those of an object, and an operation with the id is on it
 pub record IsNamedOn (h : List Op) (cs : List (List Setter)) (id : OpId) : Type 0 where
   pub object : ObjectId
-  pub tells : AreChainsOf h object cs
+  pub chains : AreChainsOf h object cs
   pub on : (b : Op) → Contains h b → b.id ≡ id → object_of b ≡ object
 
 -- new has what old has, and the number of the setter with the id

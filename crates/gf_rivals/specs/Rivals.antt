@@ -30,10 +30,10 @@ pub record IsNumber (cs : List (List Setter)) (n q : ℕ) : Type 0 where
   pub attribute : Attr
   pub site : ℕ
   pub within : site < 8
-  pub place : ℕ
+  pub index : ℕ
   pub setter : Setter
-  pub at : slice_get (setters cs attribute site) place ≡ Some setter
-  pub number : n ≡ chain_of attribute site * block + place
+  pub at : slice_get (setters cs attribute site) index ≡ Some setter
+  pub number : n ≡ chain_of attribute site * block + index
   pub position : setter.position ≡ q
 
 -- the chains have the setters of o in h, those of each site in their order

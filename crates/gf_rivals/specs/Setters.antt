@@ -23,8 +23,8 @@ pub record IsCountUpTo (ss : List Setter) (m k : ℕ) : Type 0 where
 
 -- n is the number of a setter above m at its site; the first setter has the number b
 pub record IsNumberAbove (ss : List Setter) (b m n : ℕ) : Type 0 where
-  pub place : ℕ
+  pub index : ℕ
   pub setter : Setter
-  pub at : slice_get ss place ≡ Some setter
+  pub at : slice_get ss index ≡ Some setter
   pub unknown : m < setter.seq
-  pub number : n ≡ b + place
+  pub number : n ≡ b + index

@@ -62,11 +62,11 @@ impl Chain {
         &self.setters
     }
 
-    /// The setter at this place.
-    pub fn get(&self, place: usize) -> Option<&Setter>
-        ensures { option_copied result ≡ slice_get self.now place }
+    /// The setter at this index.
+    pub fn get(&self, index: usize) -> Option<&Setter>
+        ensures { option_copied result ≡ slice_get self.now index }
     {
-        self.setters.get(place)
+        self.setters.get(index)
     }
 
     /// How many of the first setters have a number up to this one.
@@ -77,15 +77,15 @@ impl Chain {
         self.setters.partition_point(|setter| setter.seq <= count)
     }
 
-    /// The place of the setter that has this number at its site.
-    pub fn place(&self, seq: u32) -> Option<usize>
-        ensures some { IfSome result (λ place. HasSeq self.now seq place) }
+    /// The index of the setter that has this number at its site.
+    pub fn index(&self, seq: u32) -> Option<usize>
+        ensures some { IfSome result (λ index. HasSeq self.now seq index) }
         ensures all { (p : _) → HasSeq self.now seq p → result ≡ Some p }
-        ensures bound { IfSome result (λ place. place < block) }
+        ensures bound { IfSome result (λ index. index < block) }
     {
-        let place = self.count_up_to(seq).checked_sub(1)?;
-        let setter = self.setters.get(place)?;
-        if setter.seq == seq { Some(place) } else { None }
+        let index = self.count_up_to(seq).checked_sub(1)?;
+        let setter = self.setters.get(index)?;
+        if setter.seq == seq { Some(index) } else { None }
     }
 
     /// The numbers of the setters whose number at their site is above this one. The first setter of

@@ -169,8 +169,8 @@ impl Chains {
         ensures bound { IfSome result (λ n. n + 1 < 2 ^ 64) }
     {
         let index = index_of(attribute, id.site);
-        let place = self.chain(index)?.place(id.seq)?;
-        Some(index * BLOCK + place)
+        let at = self.chain(index)?.index(id.seq)?;
+        Some(index * BLOCK + at)
     }
 
     /// The number that the next setter of the attribute by the site will have.

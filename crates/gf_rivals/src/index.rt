@@ -110,8 +110,8 @@ fn add_setters(
     ensures { OnOk result (Lists ops.now setters.now base (length setters.now)
         numbers.old.entries numbers.new.entries) }
 {
-    for (place, setter) in setters.iter().enumerate() {
-        add_setter(alloc, ops, setter.position, base + place, numbers)?;
+    for (index, setter) in setters.iter().enumerate() {
+        add_setter(alloc, ops, setter.position, base + index, numbers)?;
     }
     Ok(())
 }

@@ -115,10 +115,10 @@ fn first_from(members: &[Member], start: usize) -> Option<&Member>
     ensures least { (m : _) → IsOfChain members.now start m
         → (f : _) × (option_copied result ≡ Some f) × (f.number ≤ m.number) }
 {
-    let place = members
+    let index = members
         .partition_point(|member| member.number >= start)
         .checked_sub(1)?;
-    let first = members.get(place)?;
+    let first = members.get(index)?;
     if first.number / BLOCK == start / BLOCK {
         Some(first)
     } else {

@@ -7,7 +7,7 @@ use Rattle.gf_site.specs.SiteState.{SiteState}
 use Rattle.gf_worker.specs.declared.worker.WorkerEnd.{WorkerEnd}
 use Rattle.gf_worker.specs.Peers.{seat_of}
 use Rattle.gf_worker.specs.Ending.{HasWorked}
-use Rattle.gf_worker.proofs.TellLemmas.{all_from, seats_told}
+use Rattle.gf_worker.proofs.SendLemmas.{all_from, seats_sent}
 use Rattle.gf_session.specs.declared.starting.Start.{Start}
 use Rattle.gf_session.specs.Starting.{Gave, GaveAll}
 
@@ -15,7 +15,7 @@ pub gave_number : (s : Start) (e : WorkerEnd) → Gave s e → e.site.number ≡
 gave_number s e g = elim g [ inl w ↦ w.number | inr t ↦ ap (λ (x : SiteState). x.number) t.site ]
 
 pub gave_seats : (s : Start) (e : WorkerEnd) → Gave s e → map seat_of e.seats.items ≡ map seat_of s.peers.items
-gave_seats s e g = elim g [ inl w ↦ w.seats | inr t ↦ ap (map seat_of) t.seats ∙ seats_told true s.peers.items ]
+gave_seats s e g = elim g [ inl w ↦ w.seats | inr t ↦ ap (map seat_of) t.seats ∙ seats_sent true s.peers.items ]
 
 -- a site that is not short ran its script
 pub gave_worked : (s : Start) (e : WorkerEnd) → Gave s e → e.short ≡ false → HasWorked s.site.number s.script.0.items s.peers.items e

@@ -12,7 +12,7 @@ use Rattle.gf_site.specs.SiteState.{SiteState}
 use Rattle.gf_worker.specs.declared.script.Script.{Script}
 use Rattle.gf_worker.specs.declared.peer.Peer.{Peer}
 use Rattle.gf_worker.specs.declared.worker.WorkerEnd.{WorkerEnd}
-use Rattle.gf_worker.specs.Messages.{own, told, ops_of, last_message}
+use Rattle.gf_worker.specs.Messages.{own, messages_of, ops_of, last_message}
 use Rattle.gf_worker.specs.Played.{IsPlayed}
 use Rattle.gf_worker.specs.Ending.{HasSent, HasWorked}
 use Rattle.gf_mesh.specs.Settled.{AreAllTaken}
@@ -30,10 +30,10 @@ use Rattle.gf_replicas.proofs.EventLemmas.{courses_have_events}
 use Rattle.gf_session.proofs.GaveLemmas.{gave_number, gave_worked, same_long}
 use Rattle.gf_session.proofs.JoinedLemmas.{one_history, origin}
 
-ops_told : (ops : List Op) (short : Bool) → ops_of (told ops ++ last_message short ∷ []) ≡ ops
-ops_told [] true = refl
-ops_told [] false = refl
-ops_told (a ∷ ops) short = ap (λ l. a ∷ l) (ops_told ops short)
+ops_sent : (ops : List Op) (short : Bool) → ops_of (messages_of ops ++ last_message short ∷ []) ≡ ops
+ops_sent [] true = refl
+ops_sent [] false = refl
+ops_sent (a ∷ ops) short = ap (λ l. a ∷ l) (ops_sent ops short)
 
 not_true : (b : Bool) → b ≢ true → b ≡ false
 not_true true n = absurd (n refl)
@@ -43,7 +43,7 @@ not_true false n = refl
 pub sent_all : (ops : List Op) (short : Bool) (p : Peer) → short ≡ false → HasSent ops short p → ops_of p.send.sent ≡ ops
 sent_all ops short p e s =
     let whole = s.all (not_true s.stopped (λ q. true≢false (sym (s.unless q) ∙ e))) in
-    ap ops_of s.sent ∙ ops_told s.first s.stopped ∙ sym (s.whole ∙ ap (λ l. s.first ++ l) whole ∙ append-nil s.first)
+    ap ops_of s.sent ∙ ops_sent s.first s.stopped ∙ sym (s.whole ∙ ap (λ l. s.first ++ l) whole ∙ append-nil s.first)
 
 complete_here : (script : List Command) (peers : List Peer) (e : WorkerEnd) → e.short ≡ false → HasWorked e.site.number script peers e → IsComplete e
 complete_here script peers e q w = record { course = w.course; valid = w.valid; has = w.has; all = w.all q }
@@ -154,14 +154,14 @@ module _ (scripts : List Script) (rows : List (List Peer)) (starts : List Start)
       senders = λ e c p m.
           let k = position_at ends e c in
           let s = settled.only k.0 e.seats.items p (row_of k.0 e k.1) m in
-          let t = got_map (λ (x : WorkerEnd). x.seats.items) ends s.place s.row s.at in
+          let t = got_map (λ (x : WorkerEnd). x.seats.items) ends s.index s.row s.at in
           let a = number k.0 e k.1 in
-          let b = number s.place t.0 t.1 in
+          let b = number s.index t.0 t.1 in
           record {
             end = t.0;
-            contained = position_in ends s.place t.0 t.1;
+            contained = position_in ends s.index t.0 t.1;
             other = λ n. s.apart (omega (arith, a, b, n));
-            all = from s.place t.0 t.1 p s.sender (subst (λ l. Contains l s.sender) (sym t.2) s.sent) s.all;
+            all = from s.index t.0 t.1 p s.sender (subst (λ l. Contains l s.sender) (sym t.2) s.sent) s.all;
           };
     }
 

@@ -12,7 +12,7 @@ use Rattle.gf_worker.specs.declared.script.Script.{Script}
 use Rattle.gf_worker.specs.declared.peer.Peer.{Peer}
 use Rattle.gf_worker.specs.declared.worker.WorkerEnd.{WorkerEnd}
 use Rattle.gf_worker.specs.Peers.{StandsInTable, IsFresh}
-use Rattle.gf_worker.proofs.TellLemmas.{all_from}
+use Rattle.gf_worker.proofs.SendLemmas.{all_from}
 use Rattle.gf_mesh.specs.Linked.{AreLinked, HaveEnded, seats_of}
 use Rattle.gf_session.specs.declared.starting.Start.{Start}
 use Rattle.gf_session.specs.Starting.{AreStarts, IsReadyToStart, GaveAll}

@@ -19,7 +19,8 @@ pub record AreStarts (scripts : List Script) (rows : List (List Peer))
   pub scripts_are : map (λ s. s.script) starts ≡ scripts
   pub rows_are : map (λ s. s.peers.items) starts ≡ rows
 
--- the site has nothing, its script is not long, and its seats are new, at their places in the table
+-- the site has nothing, its script is not long, and its seats are new, at their indices in the
+-- table
 pub record IsReadyToStart (links : List TableId) (s : Start) : Type 0 where
   pub ops : s.site.ops ≡ []
   pub held : s.site.held ≡ []

@@ -21,10 +21,10 @@ module _ (f : ℕ → ℕ) (c e : ℕ → ℕ → Bool) (first : IsConflict c) (
   Within us = (a : ℕ) → Contains us a → Contains (whole s).all a
 
   free_within : Within s.free
-  free_within a i = (all_of_fold c (alone s.free) s.parts a).1 (inl i)
+  free_within a i = (all_of_fold c (alone s.free) s.components a).1 (inl i)
 
-  part_within : (p : ComponentState) → Contains s.parts p → Within p.all
-  part_within p h a i = (all_of_fold c (alone s.free) s.parts a).1 (inr (p, h, i))
+  component_within : (p : ComponentState) → Contains s.components p → Within p.all
+  component_within p h a i = (all_of_fold c (alone s.free) s.components a).1 (inr (p, h, i))
 
   kept_image : (us : List ℕ) → IsRising us → Within us → (r : Option (List (List ℕ))) → AreSetsKept c us r → AreSetsKept e (image f us) (sets_at f r)
   kept_image us rises w (Some gs) k = (
@@ -41,10 +41,10 @@ module _ (f : ℕ → ℕ) (c e : ℕ → ℕ → Bool) (first : IsConflict c) (
       let many = k own.sets own.table in
       omega (arith, long, alike, many)
 
-  component_image : (p : ComponentState) → Contains s.parts p → IsComponent e (component_at f p)
+  component_image : (p : ComponentState) → Contains s.components p → IsComponent e (component_at f p)
   component_image p i =
-      let is = m.parts p i in
-      record { rises = image_rises f p.all; sets = kept_image p.all is.rises (part_within p i) p.sets is.sets }
+      let is = m.components p i in
+      record { rises = image_rises f p.all; sets = kept_image p.all is.rises (component_within p i) p.sets is.sets }
 
   apart_image : (us vs : List ℕ) → Within us → Within vs → Apart c us vs → Apart e (image f us) (image f vs)
   apart_image us vs w z apart q r i j =
@@ -56,7 +56,7 @@ module _ (f : ℕ → ℕ) (c e : ℕ → ℕ → Bool) (first : IsConflict c) (
       )
 
   abbrev Both : ComponentState → ComponentState → Type 0
-  Both p q = Contains s.parts p × Contains s.parts q × Apart c p.all q.all
+  Both p q = Contains s.components p × Contains s.components q × Apart c p.all q.all
 
   pub components_image : AreComponents e (components_at f s)
   components_image = record {
@@ -65,26 +65,26 @@ module _ (f : ℕ → ℕ) (c e : ℕ → ℕ → Bool) (first : IsConflict c) (
         let a = (in_image f s.free q).0 i in
         let b = (in_image f s.free r).0 j in
         ap (λ x. e x r) a.2 ∙ (ap (e (f a.0)) b.2 ∙ (sym (same a.0 b.0 (free_within a.0 a.1) (free_within b.0 b.1)) ∙ m.calm a.0 b.0 a.1 b.1));
-    parts = λ p i. let w = Contains-map_from (component_at f) s.parts p i in subst (IsComponent e) (sym w.2) (component_image w.0 w.1);
+    components = λ p i. let w = Contains-map_from (component_at f) s.components p i in subst (IsComponent e) (sym w.2) (component_image w.0 w.1);
     loose = λ p i.
-        let w = Contains-map_from (component_at f) s.parts p i in
-        subst (λ (z : ComponentState). Apart e (image f s.free) z.all) (sym w.2) (apart_image s.free w.0.all free_within (part_within w.0 w.1) (m.loose w.0 w.1));
-    apart = Pairs-map Both (λ (p q : ComponentState). Apart e p.all q.all) (component_at f) s.parts
-        (λ p q b. apart_image p.all q.all (part_within p b.0) (part_within q b.1) b.2)
-        (Pairs-from (λ (p q : ComponentState). Apart c p.all q.all) Both s.parts (λ p q i j k. (i, j, k)) m.apart);
+        let w = Contains-map_from (component_at f) s.components p i in
+        subst (λ (z : ComponentState). Apart e (image f s.free) z.all) (sym w.2) (apart_image s.free w.0.all free_within (component_within w.0 w.1) (m.loose w.0 w.1));
+    apart = Pairs-map Both (λ (p q : ComponentState). Apart e p.all q.all) (component_at f) s.components
+        (λ p q b. apart_image p.all q.all (component_within p b.0) (component_within q b.1) b.2)
+        (Pairs-from (λ (p q : ComponentState). Apart c p.all q.all) Both s.components (λ p q i j k. (i, j, k)) m.apart);
   }
 
   pub whole_image : (q : ℕ) → Contains (whole (components_at f s)).all q ↔ Made f (whole s).all q
   whole_image q = (
-    λ i. elim ((all_of_fold e (alone (image f s.free)) (map (component_at f) s.parts) q).0 i) [
+    λ i. elim ((all_of_fold e (alone (image f s.free)) (map (component_at f) s.components) q).0 i) [
       | inl j ↦ let w = (in_image f s.free q).0 j in (w.0, free_within w.0 w.1, w.2)
       | inr j ↦
-          let w = Contains-map_from (component_at f) s.parts j.0 j.1 in
+          let w = Contains-map_from (component_at f) s.components j.0 j.1 in
           let k = (in_image f w.0.all q).0 (subst (λ (z : ComponentState). Contains z.all q) w.2 j.2) in
-          (k.0, part_within w.0 w.1 k.0 k.1, k.2)
+          (k.0, component_within w.0 w.1 k.0 k.1, k.2)
     ],
-    λ w. (all_of_fold e (alone (image f s.free)) (map (component_at f) s.parts) q).1 (elim ((all_of_fold c (alone s.free) s.parts w.0).0 w.1) [
+    λ w. (all_of_fold e (alone (image f s.free)) (map (component_at f) s.components) q).1 (elim ((all_of_fold c (alone s.free) s.components w.0).0 w.1) [
       | inl j ↦ inl ((in_image f s.free q).1 (w.0, j, w.2))
-      | inr j ↦ inr (component_at f j.0, Contains-map (component_at f) s.parts j.0 j.1, (in_image f j.0.all q).1 (w.0, j.2, w.2))
+      | inr j ↦ inr (component_at f j.0, Contains-map (component_at f) s.components j.0 j.1, (in_image f j.0.all q).1 (w.0, j.2, w.2))
     ]),
   )

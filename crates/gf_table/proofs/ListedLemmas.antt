@@ -55,7 +55,7 @@ module _ (c : ℕ → ℕ → Bool) (s : IsConflict c) where
 
   -- what is free with one set of each component
   pub table_listed : (t : ComponentsState) → AreComponents c t → IsTable c (whole t).all (listed c t)
-  table_listed t m = table_fold (alone t.free) (t.free ∷ []) t.parts (table_alone c t.free m.rises m.calm) m.parts m.loose m.apart
+  table_listed t m = table_fold (alone t.free) (t.free ∷ []) t.components (table_alone c t.free m.rises m.calm) m.components m.loose m.apart
 
 -- ---- the versions of an object
 

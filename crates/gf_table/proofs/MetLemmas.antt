@@ -22,7 +22,7 @@ use Rattle.gf_rivals.specs.Rivals.{AreChainsOf}
 use Rattle.gf_table.specs.ObjectState.{ObjectState}
 use Rattle.gf_table.specs.Standing.{IsMetByAim}
 
-pub met_united : (h : List Op) (t : ObjectState) (us own reach members met r : List ℕ) → ((n : ℕ) → Contains reach n ↔ IsReached us t.components.parts n) → members ≡ common reach us →
+pub met_united : (h : List Op) (t : ObjectState) (us own reach members met r : List ℕ) → ((n : ℕ) → Contains reach n ↔ IsReached us t.components.components n) → members ≡ common reach us →
     ((n : ℕ) → Contains met n ↔ (Contains reach n × ClashesWithOne h t.chains members n)) → r ≡ united own met → (n : ℕ) → Contains r n ↔ (Contains own n ⊎ IsMetByAim h t us n)
 met_united h t us own reach members met r u c k e n =
     let w = Contains-united own met n in (
@@ -46,7 +46,7 @@ pub aim_named : (h : List Op) → IsValid h → (a : Op) → IsAimed h a → (o 
     (ids : List OpId) → ids ≡ aim_of a → (id : OpId) → Contains ids id → IsNamedOn h cs id
 aim_named h valid a aimed o own cs tells ids e id i =
     let w = aimed.each id (subst (λ z. Contains z id) e i) in
-    record { object = o; tells = tells; on = λ b c f. ap object_of (same_op h valid b w.op c w.contained (f ∙ sym w.id)) ∙ (w.object ∙ own) }
+    record { object = o; chains = tells; on = λ b c f. ap object_of (same_op h valid b w.op c w.contained (f ∙ sym w.id)) ∙ (w.object ∙ own) }
 
 -- the conflicts that are told of a state are those of its fields
 pub conflicts_of : (h : List Op) (a : Op) (t u : ObjectState) → t ≡ u → (d : List ℕ) → ((n : ℕ) → Contains d n ↔ ConflictsAt h t.chains a n) → (n : ℕ) → Contains d n ↔ ConflictsAt h u.chains a n

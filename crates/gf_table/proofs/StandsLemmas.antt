@@ -31,7 +31,7 @@ use Rattle.gf_groups.proofs.PartingLemmas.{object_cmp_total, object_cmp_exact}
 use Rattle.gf_groups.proofs.SortedLemmas.{equal_left}
 use Rattle.gf_groups.proofs.TableLemmas.{conflict_at_test}
 use Rattle.gf_components.specs.Components.{ComponentState, ComponentsState, alone, no_components, whole}
-use Rattle.gf_components.proofs.ComponentLemmas.{all_of_fold, first_parts}
+use Rattle.gf_components.proofs.ComponentLemmas.{all_of_fold, first_components}
 use Rattle.gf_table.specs.ByPosition.{components_at}
 use Rattle.gf_table.specs.ObjectState.{ObjectState, maker_number, number_conflict, position_in}
 use Rattle.gf_table.specs.Standing.{AreComponentsOn, IsStateOf, IsObjectState, StandsFor, state_of}
@@ -89,7 +89,7 @@ one_position h valid i j b p q =
 module _ (h : List Op) (o : ObjectId) where
   pub none_on : ((a : Op) → Contains h a → object_of a ≢ o) → AreComponentsOn h o no_components
   none_on none = record {
-    components = first_parts (conflict_at h) (conflict_at_test h);
+    components = first_components (conflict_at h) (conflict_at_test h);
     all = λ i. (
       λ j. absurd (not_Contains-nil i j),
       λ j. let w = on_op o (slice_get h i) ((all_positions h o i).0 j) in absurd (none w.0 (contained_at h i w.0 w.1) w.2),
@@ -97,9 +97,9 @@ module _ (h : List Op) (o : ObjectId) where
   }
 
   -- what is of a component stands in the history
-  pub part_below : (s : ComponentsState) → AreComponentsOn h o s → (p : ComponentState) → Contains s.parts p → (i : ℕ) → Contains p.all i → i < length h
-  part_below s on p inside i j =
-      let w = (on.all i).0 ((all_of_fold (conflict_at h) (alone s.free) s.parts i).1 (inr (p, inside, j))) in
+  pub component_below : (s : ComponentsState) → AreComponentsOn h o s → (p : ComponentState) → Contains s.components p → (i : ℕ) → Contains p.all i → i < length h
+  component_below s on p inside i j =
+      let w = (on.all i).0 ((all_of_fold (conflict_at h) (alone s.free) s.components i).1 (inr (p, inside, j))) in
       ((Contains-positions_below h o (length h) i).0 w).0
 
   module _ (valid : IsValid h) (t : ObjectState) (s : IsStateOf h o t) where

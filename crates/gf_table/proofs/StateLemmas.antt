@@ -44,7 +44,7 @@ use Rattle.gf_ops.proofs.ConflictLemmas.{conflict_direct}
 use Rattle.gf_rivals.proofs.NumberLemmas.{number_below, number_from, position_is, position_none}
 use Rattle.gf_rivals.proofs.NumberLemmas as numbers
 use Rattle.gf_rivals.proofs.RivalLemmas.{rivals_conflict}
-use Rattle.gf_rivals.proofs.TellsLemmas.{behind_all, empty_tells, index_other, index_setter, last_number, number_cases, numbered, tells_other, tells_setter}
+use Rattle.gf_rivals.proofs.ChainLemmas.{behind_all, empty_chains, index_other, index_setter, last_number, number_cases, numbered, chains_other, chains_setter}
 use Rattle.gf_table.specs.ObjectState.{ObjectState, made, maker_number, number_conflict, position_in}
 use Rattle.gf_table.specs.Standing.{IsMaker, IsMetByAim, IsStateOf, with_aim}
 use Rattle.gf_table.proofs.LongerLemmas.{got_before, got_cases, got_last, last_from, last_with, same_conflict}
@@ -76,7 +76,7 @@ number_at h o t tells n q k = ap (λ r. unwrap_or r t.maker) (position_is h o t.
 module _ (h : List Op) (o : ObjectId) (t : ObjectState) (s : IsStateOf h o t) where
   pub setter_at : (n q : ℕ) → IsNumber t.chains n q → (op : Op) × (slice_get h q ≡ Some op) × (v : Value) × (aim : List OpId) × (op.change ≡ Set o v aim)
   setter_at n q k =
-      let i = s.tells.each k.attribute k.site k.place k.setter k.within k.at in
+      let i = s.tells.each k.attribute k.site k.index k.setter k.within k.at in
       (i.op, subst (λ z. slice_get h z ≡ Some i.op) k.position i.at, i.value, i.aim, i.change)
 
   number_within : (n q : ℕ) → IsNumber t.chains n q → q < length h
@@ -134,7 +134,7 @@ module _ (h : List Op) (o : ObjectId) (t : ObjectState) (s : IsStateOf h o t) wh
     pub state_kept : IsValid h → IsInRange a → IsAccepted h a → ((v : Value) (aim : List OpId) → a.change ≢ Set o v aim) → IsStateOf longer o t
     state_kept valid in_range accepted n = record {
       maker = maker_still;
-      tells = tells_other h o t.chains s.tells a n;
+      tells = chains_other h o t.chains s.tells a n;
       index = if_some t.index (λ ix. index_other h o t.chains s.tells a ix) s.index;
       aimed = aimed_other h o t.chains s.tells a t.aimed s.aimed;
       components = components_agree (number_conflict h t) (number_conflict longer t) t.components
@@ -159,7 +159,7 @@ module _ (h : List Op) (o : ObjectId) (t : ObjectState) (s : IsStateOf h o t) wh
         grown = record { chains = chains; index = i; aimed = es; components = after d x t.components; maker = t.maker }
 
         tells : AreChainsOf longer o chains
-        tells = tells_setter h o t.chains s.tells a valid in_range accepted v change
+        tells = chains_setter h o t.chains s.tells a valid in_range accepted v change
 
         cases : (n q : ℕ) → IsNumber chains n q → IsNumber t.chains n q ⊎ ((n ≡ x) × (q ≡ length h))
         cases n q k = number_cases h o t.chains s.tells a valid in_range accepted v change n q k
@@ -293,7 +293,7 @@ module _ (h : List Op) (a : Op) (o : ObjectId) (k : Kind) (id : a.id ≡ o.0) (i
   new = made (length h)
 
   no_number : (n q : ℕ) → ¬ (IsNumber no_chains n q)
-  no_number n q j = let w = (empty_tells o).each j.attribute j.site j.place j.setter j.within j.at in let e = w.at in absurd cc
+  no_number n q j = let w = (empty_chains o).each j.attribute j.site j.index j.setter j.within j.at in let e = w.at in absurd cc
 
   not_a : (v : Value) (aim : List OpId) → a.change ≢ Set o v aim
   not_a v aim e = let n : made_kind a.change ≡ None = ap made_kind e in absurd cc
@@ -305,10 +305,10 @@ module _ (h : List Op) (a : Op) (o : ObjectId) (k : Kind) (id : a.id ≡ o.0) (i
   state_made = record {
     maker = record { op = a; at = got_last h a; id = id; kind = k; made = is_made };
     tells = record {
-      each = λ t s p e l i. absurd (no_number (chain_of t s * block + p) e.position (record { attribute = t; site = s; within = l; place = p; setter = e; at = i; number = refl; position = refl }));
+      each = λ t s p e l i. absurd (no_number (chain_of t s * block + p) e.position (record { attribute = t; site = s; within = l; index = p; setter = e; at = i; number = refl; position = refl }));
       all = λ q b v m e c. elim (got_cases h a q b e) [ inl i ↦ absurd (none q b v m i c) | inr i ↦ absurd (not_a v m (ap (λ (z : Op). z.change) i ∙ c)) ];
-      ordered = (empty_tells o).ordered;
-      count = (empty_tells o).count;
+      ordered = (empty_chains o).ordered;
+      count = (empty_chains o).count;
     };
     index = tt;
     aimed = none_aimed (h ++ a ∷ []) no_chains no_number;
@@ -317,7 +317,7 @@ module _ (h : List Op) (a : Op) (o : ObjectId) (k : Kind) (id : a.id ≡ o.0) (i
       calm = λ i j e f.
           let x = alone i e in let y = alone j f in
           ap (λ z. number_conflict (h ++ a ∷ []) new z j) x ∙ (ap (number_conflict (h ++ a ∷ []) new maker_number) y ∙ (numbers_test (h ++ a ∷ []) new).alone maker_number);
-      parts = λ p i. absurd (not_Contains-nil p i);
+      components = λ p i. absurd (not_Contains-nil p i);
       loose = λ p i. absurd (not_Contains-nil p i);
       apart = tt;
     };

@@ -14,4 +14,4 @@ module _ (f : ℕ → ℕ) where
 
   -- the components, with each number mapped by f
   abbrev pub components_at : ComponentsState → ComponentsState
-  components_at s = record { free = image f s.free; parts = map component_at s.parts }
+  components_at s = record { free = image f s.free; components = map component_at s.components }

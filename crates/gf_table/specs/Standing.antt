@@ -57,10 +57,10 @@ pub record IsNextOf (h : List Op) (a : Op) (v : Value) (t : ObjectState) : Type 
 
 -- a setter with one of the numbers us conflicts directly with the setter n, in one component
 pub record IsMetByAim (h : List Op) (t : ObjectState) (us : List ℕ) (n : ℕ) : Type 0 where
-  pub reached : IsReached us t.components.parts n
+  pub reached : IsReached us t.components.components n
   pub one : ℕ
   pub among : Contains us one
-  pub one_reached : IsReached us t.components.parts one
+  pub one_reached : IsReached us t.components.components one
   pub clash : Clash h t.chains one n
 
 -- es with the state of an aim behind, where an operation with this aim has a state
@@ -94,7 +94,7 @@ module _ (c : ℕ → ℕ → Bool) where
 
   -- the sets that are free numbers with one set of each component
   abbrev pub listed : ComponentsState → List (List ℕ)
-  listed s = fold (λ gs p. products gs (full p)) (s.free ∷ []) s.parts
+  listed s = fold (λ gs p. products gs (full p)) (s.free ∷ []) s.components
 
 -- the groups are the versions of the object o of h, each once
 pub record AreAllOf (h : List Op) (o : ObjectId) (groups : List Group) : Type 0 where

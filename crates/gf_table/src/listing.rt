@@ -26,8 +26,8 @@ pub(crate) fn listed(
         sets.items ≡ listed (conflict_at history.now.ops) components.now) }
 {
     let mut sets = Vec::from_array(alloc, [components.free().copy(alloc)?])?;
-    for part in components.parts() {
-        sets = multiplied(alloc, history, &sets, part)?;
+    for component in components.components() {
+        sets = multiplied(alloc, history, &sets, component)?;
     }
     Ok(sets)
 }
@@ -37,19 +37,19 @@ fn multiplied(
     alloc: Global,
     history: &History,
     sets: &[Numbers],
-    part: &Component,
+    component: &Component,
 ) -> Result<Vec<Numbers>, OutOfMemory>
-    requires rises { IsRising part.now.all }
-    requires within { (i : _) → Contains part.now.all i → i < length history.now.ops }
+    requires rises { IsRising component.now.all }
+    requires within { (i : _) → Contains component.now.all i → i < length history.now.ops }
     ensures { IfOk result (λ found. found.items
-        ≡ products sets.now (full (conflict_at history.now.ops) part.now)) }
+        ≡ products sets.now (full (conflict_at history.now.ops) component.now)) }
 {
     // The clause of `len` says that a position fits.
     let _ = history.ops().len();
-    match part.sets() {
+    match component.sets() {
         Some(own) => products(alloc, sets, own),
         None => {
-            let own = groups_at(alloc, history, &part.all().to_vec(alloc)?)?;
+            let own = groups_at(alloc, history, &component.all().to_vec(alloc)?)?;
             products(alloc, sets, &own)
         }
     }

@@ -341,12 +341,12 @@ impl ObjectTable {
     }
 
     /// A component, by positions.
-    fn component(&self, alloc: Global, part: &Component) -> Result<Component, OutOfMemory>
+    fn component(&self, alloc: Global, component: &Component) -> Result<Component, OutOfMemory>
         requires { (n : _) → position_in self.now n + 1 < 2 ^ 64 }
-        ensures { IfOk result (λ found. found ≡ component_at (position_in self.now) part.now) }
+        ensures { IfOk result (λ found. found ≡ component_at (position_in self.now) component.now) }
     {
-        let all = self.set_by_position(alloc, part.all())?;
-        match part.sets() {
+        let all = self.set_by_position(alloc, component.all())?;
+        match component.sets() {
             Some(sets) => {
                 let sets = self.sets_by_position(alloc, sets)?;
                 Ok(Component::new(all, Some(sets)))
@@ -362,10 +362,10 @@ impl ObjectTable {
             ≡ components_at (position_in self.now) self.now.components) }
     {
         let free = self.set_by_position(alloc, self.components.free())?;
-        let mut parts = Vec::new(alloc);
-        for part in self.components.parts() {
-            parts.push(self.component(alloc, part)?)?;
+        let mut components = Vec::new(alloc);
+        for component in self.components.components() {
+            components.push(self.component(alloc, component)?)?;
         }
-        Ok(Components::of(free, parts))
+        Ok(Components::of(free, components))
     }
 }

@@ -20,7 +20,7 @@ use Rattle.gf_maximal.proofs.PairLemmas.{Pairs-filter, Pairs-two}
 use Rattle.gf_maximal.proofs.UnitedLemmas.{Contains-united, united_rises}
 use Rattle.gf_components.specs.Components.{ComponentState, ComponentsState, alone, whole}
 use Rattle.gf_components.specs.Separate.{Apart, AreComponents}
-use Rattle.gf_components.proofs.ComponentLemmas.{IsInParts, all_of_fold}
+use Rattle.gf_components.proofs.ComponentLemmas.{IsInComponents, all_of_fold}
 use Rattle.gf_table.specs.Standing.{AreComponentsOn}
 use Rattle.gf_visible.specs.Deciding.{decides, with_deciding, deciding, idle, lasts}
 use Rattle.gf_visible.proofs.LastLemmas.{never, are_last, lasts_rise}
@@ -30,27 +30,27 @@ use Rattle.gf_visible.proofs.LastLemmas.{never, are_last, lasts_rise}
 module _ (h : List Op) (ls : List ℕ) where
   -- a is of a component that decides
   abbrev pub IsDeciding : List ComponentState → ℕ → Type 0
-  IsDeciding parts a = (p : ComponentState) × Contains parts p × (decides h ls p ≡ true) × Contains p.all a
+  IsDeciding components a = (p : ComponentState) × Contains components p × (decides h ls p ≡ true) × Contains p.all a
 
-  in_folded : (parts : List ComponentState) (us : List ℕ) (a : ℕ) → Contains (fold (with_deciding h ls) us parts) a ↔ (Contains us a ⊎ IsDeciding parts a)
+  in_folded : (components : List ComponentState) (us : List ℕ) (a : ℕ) → Contains (fold (with_deciding h ls) us components) a ↔ (Contains us a ⊎ IsDeciding components a)
   in_folded [] us a = (λ i. inl i, λ i. elim i [ inl j ↦ j | inr w ↦ absurd (not_Contains-nil w.0 w.1) ])
-  in_folded (p ∷ parts) us a = (
-    λ i. elim ((in_folded parts (with_deciding h ls us p) a).0 i) [
+  in_folded (p ∷ components) us a = (
+    λ i. elim ((in_folded components (with_deciding h ls us p) a).0 i) [
       | inl j ↦ elim (cases_Bool (decides h ls p)) [
         | inl y ↦ elim ((Contains-united us p.all a).0 (subst (λ z. Contains z a) (cond-true (decides h ls p) (united us p.all) us y) j)) [
           | inl k ↦ inl k
-          | inr k ↦ inr (p, Contains-cons_head p parts, y, k)
+          | inr k ↦ inr (p, Contains-cons_head p components, y, k)
         ]
         | inr n ↦ inl (subst (λ z. Contains z a) (cond-false (decides h ls p) (united us p.all) us n) j)
       ]
-      | inr w ↦ inr (w.0, Contains-cons_tail p parts w.0 w.1, w.2, w.3)
+      | inr w ↦ inr (w.0, Contains-cons_tail p components w.0 w.1, w.2, w.3)
     ],
-    λ i. (in_folded parts (with_deciding h ls us p) a).1 (elim i [
+    λ i. (in_folded components (with_deciding h ls us p) a).1 (elim i [
       | inl j ↦ inl (elim (cases_Bool (decides h ls p)) [
         | inl y ↦ subst (λ z. Contains z a) (sym (cond-true (decides h ls p) (united us p.all) us y)) ((Contains-united us p.all a).1 (inl j))
         | inr n ↦ subst (λ z. Contains z a) (sym (cond-false (decides h ls p) (united us p.all) us n)) j
       ])
-      | inr w ↦ elim (Contains-cons_cases p parts w.0 w.1) [
+      | inr w ↦ elim (Contains-cons_cases p components w.0 w.1) [
         | inl e ↦
             let y : decides h ls p ≡ true = subst (λ (z : ComponentState). decides h ls z ≡ true) e w.2 in
             inl (subst (λ z. Contains z a) (sym (cond-true (decides h ls p) (united us p.all) us y)) ((Contains-united us p.all a).1 (inr (subst (λ (z : ComponentState). Contains z.all a) e w.3))))
@@ -59,9 +59,9 @@ module _ (h : List Op) (ls : List ℕ) where
     ]),
   )
 
-  folded_rises : (parts : List ComponentState) (us : List ℕ) → IsRising us → IsRising (fold (with_deciding h ls) us parts)
+  folded_rises : (components : List ComponentState) (us : List ℕ) → IsRising us → IsRising (fold (with_deciding h ls) us components)
   folded_rises [] us r = r
-  folded_rises (p ∷ parts) us r = folded_rises parts (with_deciding h ls us p) (elim (cases_Bool (decides h ls p)) [
+  folded_rises (p ∷ components) us r = folded_rises components (with_deciding h ls us p) (elim (cases_Bool (decides h ls p)) [
     | inl y ↦ subst IsRising (sym (cond-true (decides h ls p) (united us p.all) us y)) (united_rises us p.all)
     | inr n ↦ subst IsRising (sym (cond-false (decides h ls p) (united us p.all) us n)) r
   ])
@@ -87,11 +87,11 @@ module _ (h : List Op) (o : ObjectId) (t : ComponentsState) (on : AreComponentsO
   abbrev AreApart : ComponentState → ComponentState → Type 0
   AreApart p q = Apart c p.all q.all
 
-  two_apart : (p q : ComponentState) → Contains t.parts p → Contains t.parts q → (p ≡ q) ⊎ Apart (conflict_at h) p.all q.all
-  two_apart = Pairs-two AreApart t.parts (λ p q w a b i j. let d = w b a j i in ((λ e. d.0 (sym e)), s.symmetric a b ∙ d.1)) m.apart
+  two_apart : (p q : ComponentState) → Contains t.components p → Contains t.components q → (p ≡ q) ⊎ Apart (conflict_at h) p.all q.all
+  two_apart = Pairs-two AreApart t.components (λ p q w a b i j. let d = w b a j i in ((λ e. d.0 (sym e)), s.symmetric a b ∙ d.1)) m.apart
 
-  where_is : (a : ℕ) → Contains (positions_below h o (length h)) a ↔ (Contains t.free a ⊎ IsInParts (conflict_at h) t.parts a)
-  where_is a = let w = all_of_fold c (alone t.free) t.parts a in (λ i. w.0 ((on.all a).1 i), λ i. (on.all a).0 (w.1 i))
+  where_is : (a : ℕ) → Contains (positions_below h o (length h)) a ↔ (Contains t.free a ⊎ IsInComponents (conflict_at h) t.components a)
+  where_is a = let w = all_of_fold c (alone t.free) t.components a in (λ i. w.0 ((on.all a).1 i), λ i. (on.all a).0 (w.1 i))
 
   pub free_in : (a : ℕ) → Contains t.free a → Contains (positions_below h o (length h)) a
   free_in a i = (where_is a).1 (inl i)
@@ -116,22 +116,22 @@ module _ (h : List Op) (o : ObjectId) (t : ComponentsState) (on : AreComponentsO
 
   -- a is of a component that does not decide
   abbrev pub IsIdle : ℕ → Type 0
-  IsIdle a = (p : ComponentState) × Contains t.parts p × (decides h ls p ≡ false) × Contains p.all a
+  IsIdle a = (p : ComponentState) × Contains t.components p × (decides h ls p ≡ false) × Contains p.all a
 
-  in_first : (a : ℕ) → Contains (deciding h (lasts h t.free) t) a ↔ (Contains (lasts h t.free) a ⊎ IsDeciding h (lasts h t.free) t.parts a)
-  in_first = in_folded h ls t.parts ls
+  in_first : (a : ℕ) → Contains (deciding h (lasts h t.free) t) a ↔ (Contains (lasts h t.free) a ⊎ IsDeciding h (lasts h t.free) t.components a)
+  in_first = in_folded h ls t.components ls
 
   pub first_rises : IsRising (deciding h (lasts h t.free) t)
-  first_rises = folded_rises h ls t.parts ls (lasts_rise h t.free)
+  first_rises = folded_rises h ls t.components ls (lasts_rise h t.free)
 
   abbrev Idle : ComponentState → Bool
   Idle p = not (decides h ls p)
 
   pub in_second : (a : ℕ) → Contains (whole (idle h (lasts h t.free) t)).all a ↔ (Contains (without (lasts h t.free) t.free) a ⊎ IsIdle a)
   in_second a =
-      let e = all_of_fold c (alone (without ls t.free)) (filter Idle t.parts) a in (
-        λ i. elim (e.0 i) [ inl j ↦ inl j | inr w ↦ let v = (Contains-filter Idle t.parts w.0).0 w.1 in inr (w.0, v.0, not-true (decides h ls w.0) v.1, w.2) ],
-        λ i. e.1 (elim i [ inl j ↦ inl j | inr w ↦ inr (w.0, (Contains-filter Idle t.parts w.0).1 (w.1, not_from_false (decides h ls w.0) w.2), w.3) ]),
+      let e = all_of_fold c (alone (without ls t.free)) (filter Idle t.components) a in (
+        λ i. elim (e.0 i) [ inl j ↦ inl j | inr w ↦ let v = (Contains-filter Idle t.components w.0).0 w.1 in inr (w.0, v.0, not-true (decides h ls w.0) v.1, w.2) ],
+        λ i. e.1 (elim i [ inl j ↦ inl j | inr w ↦ inr (w.0, (Contains-filter Idle t.components w.0).1 (w.1, not_from_false (decides h ls w.0) w.2), w.3) ]),
       )
 
   pub last_free : (a : ℕ) → Contains (lasts h t.free) a → Contains t.free a
@@ -144,13 +144,13 @@ module _ (h : List Op) (o : ObjectId) (t : ComponentsState) (on : AreComponentsO
   components_idle = record {
     rises = IsStrictlySortedBy-filter nat_cmp (λ a. not (is_in ls a)) t.free m.rises;
     calm = λ a b i j. m.calm a b (other_free a i).0 (other_free b j).0;
-    parts = λ p i. m.parts p (of_parts p i);
-    loose = λ p i a b j k. m.loose p (of_parts p i) a b (other_free a j).0 k;
-    apart = Pairs-filter AreApart Idle t.parts m.apart;
+    components = λ p i. m.components p (of_components p i);
+    loose = λ p i a b j k. m.loose p (of_components p i) a b (other_free a j).0 k;
+    apart = Pairs-filter AreApart Idle t.components m.apart;
   }
     where
-      of_parts : (p : ComponentState) → Contains (filter Idle t.parts) p → Contains t.parts p
-      of_parts p i = ((Contains-filter Idle t.parts p).0 i).0
+      of_components : (p : ComponentState) → Contains (filter Idle t.components) p → Contains t.components p
+      of_components p i = ((Contains-filter Idle t.components p).0 i).0
 
   pub halves_apart : Apart (conflict_at h) (deciding h (lasts h t.free) t) (whole (idle h (lasts h t.free) t)).all
   halves_apart a b i j = elim ((in_first a).0 i) [

@@ -43,11 +43,11 @@ module _ (h : List Op) where
 
   -- ls, the last setters of what is free, and the positions of the components that decide
   abbrev pub deciding : List ℕ → ComponentsState → List ℕ
-  deciding ls s = fold (with_deciding ls) ls s.parts
+  deciding ls s = fold (with_deciding ls) ls s.components
 
   -- what is free but for ls, and the components that do not decide
   abbrev pub idle : List ℕ → ComponentsState → ComponentsState
-  idle ls s = record { free = without ls s.free; parts = filter (λ p. not (decides ls p)) s.parts }
+  idle ls s = record { free = without ls s.free; components = filter (λ p. not (decides ls p)) s.components }
 
   -- the versions with one of gs, if they are at most m; no versions where gs is empty
   abbrev pub with_idle : ℕ → List ℕ → ComponentsState → List (List ℕ)

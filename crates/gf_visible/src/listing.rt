@@ -25,11 +25,11 @@ fn decides(
     alloc: Global,
     history: &History,
     lasts: &[usize],
-    part: &Component,
+    component: &Component,
 ) -> Result<bool, OutOfMemory>
-    ensures { IfOk result (λ test. test ≡ decides history.now.ops lasts.now part.now) }
+    ensures { IfOk result (λ test. test ≡ decides history.now.ops lasts.now component.now) }
 {
-    let positions = part.all().to_vec(alloc)?;
+    let positions = component.all().to_vec(alloc)?;
     Ok(one_may_be_last(history, lasts, &positions))
 }
 
@@ -39,13 +39,13 @@ fn with_deciding(
     history: &History,
     lasts: &[usize],
     positions: Numbers,
-    part: &Component,
+    component: &Component,
 ) -> Result<Numbers, OutOfMemory>
     ensures { IfOk result (λ more. more
-        ≡ with_deciding history.now.ops lasts.now positions part.now) }
+        ≡ with_deciding history.now.ops lasts.now positions component.now) }
 {
-    if decides(alloc, history, lasts, part)? {
-        positions.united(alloc, part.all())
+    if decides(alloc, history, lasts, component)? {
+        positions.united(alloc, component.all())
     } else {
         Ok(positions)
     }
@@ -63,27 +63,28 @@ fn deciding(
 {
     let setters = lasts.to_vec(alloc)?;
     let mut positions = lasts.copy(alloc)?;
-    for part in components.parts() {
-        positions = with_deciding(alloc, history, &setters, positions, part)?;
+    for component in components.components() {
+        positions = with_deciding(alloc, history, &setters, positions, component)?;
     }
     Ok(positions)
 }
 
 /// The component, as one with another if that does not decide.
-fn with_idle_part(
+fn with_idle_component(
     alloc: Global,
     history: &History,
     lasts: &[usize],
-    part: Component,
+    component: Component,
     other: &Component,
 ) -> Result<Component, OutOfMemory>
     ensures { IfOk result (λ both. both
-        ≡ cond (not (decides history.now.ops lasts.now other.now)) (merged part other.now) part) }
+        ≡ cond (not (decides history.now.ops lasts.now other.now))
+        (merged component other.now) component) }
 {
     if !decides(alloc, history, lasts, other)? {
-        merged(alloc, &part, other)
+        merged(alloc, &component, other)
     } else {
-        Ok(part)
+        Ok(component)
     }
 }
 
@@ -94,16 +95,16 @@ fn whole_idle(
     components: &Components,
     lasts: &Numbers,
 ) -> Result<Component, OutOfMemory>
-    ensures { IfOk result (λ part. part
+    ensures { IfOk result (λ component. component
         ≡ whole (idle history.now.ops lasts.now components.now)) }
 {
     let setters = lasts.to_vec(alloc)?;
     let free = components.free().without(alloc, lasts)?;
-    let mut part = alone(alloc, free)?;
-    for other in components.parts() {
-        part = with_idle_part(alloc, history, &setters, part, other)?;
+    let mut component = alone(alloc, free)?;
+    for other in components.components() {
+        component = with_idle_component(alloc, history, &setters, component, other)?;
     }
-    Ok(part)
+    Ok(component)
 }
 
 /// Each of the sets united with each of the others, if these are kept and give at most `most`

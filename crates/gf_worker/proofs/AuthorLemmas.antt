@@ -24,14 +24,14 @@ use Rattle.gf_worker.specs.Messages.{own}
 use Rattle.gf_worker.specs.Peers.{seat_of}
 use Rattle.gf_worker.specs.Coming.{HasCome}
 use Rattle.gf_worker.specs.Played.{IsPlayed}
-use Rattle.gf_worker.specs.Telling.{TellsPeers}
-use Rattle.gf_worker.specs.Working.{Gathers, IsUnderway, IsSilent, IsTold, AreTold}
+use Rattle.gf_worker.specs.Sending.{SendsToPeers}
+use Rattle.gf_worker.specs.Working.{Gathers, IsUnderway, IsSilent, IsSent, AreSent}
 use Rattle.gf_worker.specs.Turns.{Turn, AuthorAnswer, refusal_of, accepted_change}
-use Rattle.gf_worker.specs.Playing.{IsRefusal, IsFaultTold, PlaysOn, cause_of}
+use Rattle.gf_worker.specs.Playing.{IsRefusal, IsFaultReported, PlaysOn, cause_of}
 use Rattle.gf_worker.proofs.TurnLemmas.{own_same}
 use Rattle.gf_worker.proofs.PlayLemmas.{played_turn, played_author}
-use Rattle.gf_worker.proofs.AwaitLemmas.{gathers_report, told_report, underway_entries}
-use Rattle.gf_worker.proofs.TellLemmas.{placed_by_seats, come_by_takes, ended_by_takes, map_sent, sent_cases}
+use Rattle.gf_worker.proofs.AwaitLemmas.{gathers_report, sent_report, underway_entries}
+use Rattle.gf_worker.proofs.SendLemmas.{placed_by_seats, come_by_takes, ended_by_takes, map_sent, sent_cases}
 
 -- ---- a refused change
 
@@ -59,11 +59,11 @@ not_never fault.WrongKind e = absurd cc
 not_never fault.BadAim e = absurd cc
 not_never fault.OutOfMemory e = absurd cc
 
-module _ (w : Work) (report : Report) (short : Bool) (n : ℕ) (c : Change) (f : AuthorFault) (refuses : Refuses w.site.number w.site.ops c f) (other : f ≢ fault.OutOfMemory) (told : IsRefusal n (cause_of f) true w.report report)
+module _ (w : Work) (report : Report) (short : Bool) (n : ℕ) (c : Change) (f : AuthorFault) (refuses : Refuses w.site.number w.site.ops c f) (other : f ≢ fault.OutOfMemory) (reported : IsRefusal n (cause_of f) true w.report report)
     (commands : List Command) (count : n ≡ 1 + length commands) (u : IsUnderway commands w) where
   refused_played : IsPlayed w.site.number (commands ++ Author c ∷ []) w.site.ops report
   refused_played = played_turn w.site.number commands w.site.ops w.report report u.played (Author c) (cause_of f) (refused_answer w.site.number w.site.ops c f other refuses) (refused_none c f other)
-      (ap (λ v. v.items) told.accepted) (subst (λ k. report.refused.items ≡ w.report.refused.items ++ refusal_of k (cause_of f)) count (told.refused refl))
+      (ap (λ v. v.items) reported.accepted) (subst (λ k. report.refused.items ≡ w.report.refused.items ++ refusal_of k (cause_of f)) count (reported.refused refl))
 
   refused_silent : (t : Turn) → Contains refused_played.turns t → t.refusal ≡ Some NeverComes → IsSilent (record w { report = report; short = short }) t
   unfolding refused_played played_turn
@@ -76,14 +76,14 @@ module _ (w : Work) (report : Report) (short : Bool) (n : ℕ) (c : Change) (f :
   underway_refused = record { course = u.course; played = refused_played; silent = refused_silent }
 
 pub plays_refused : (old : Work) (mid report : Report) (n : ℕ) (c : Change) (f : AuthorFault) (done : Bool) → old.short ≡ false → mid.accepted.items ≡ old.report.accepted.items → mid.refused ≡ old.report.refused →
-    Refuses old.site.number old.site.ops c f → IsFaultTold n f done mid report → PlaysOn n (Author c) old (record old { report = report; short = not done })
+    Refuses old.site.number old.site.ops c f → IsFaultReported n f done mid report → PlaysOn n (Author c) old (record old { report = report; short = not done })
 plays_refused old mid report n c f true l ma mr refuses q = record {
   placed = λ links p. p;
   seats = refl;
   number = refl;
   short = λ e. l;
   gathers = λ g. gathers_report old report false (λ e. l) g;
-  told = λ g t. told_report old report false (λ e. l) t;
+  sent = λ g t. sent_report old report false (λ e. l) t;
   played = λ e commands k g u. underway_refused (record old { report = mid }) report false n c f refuses (q.other refl) q.refusal commands k (underway_entries old mid old.short ma (ap (λ v. v.items) mr) commands u);
   stays = λ e. absurd (true≢false (sym e));
 }
@@ -93,7 +93,7 @@ plays_refused old mid report n c f false l ma mr refuses q = record {
   number = refl;
   short = λ e. l;
   gathers = λ g. gathers_report old report true (λ e. l) g;
-  told = λ g t. told_report old report true (λ e. l) t;
+  sent = λ g t. sent_report old report true (λ e. l) t;
   played = λ e. absurd (true≢false e);
   stays = λ e commands g u. inl (underway_entries old report true (ap (λ v. v.items) q.refusal.accepted ∙ ma) (q.refusal.same refl ∙ ap (λ v. v.items) mr) commands u);
 }
@@ -106,7 +106,7 @@ not_false false e = absurd (true≢false e)
 
 module _ (old : Work) (c : Change) (report : Report) (peers : Vec Peer Global) (all : Bool) (long : old.short ≡ false) (accepted : IsAccepted old.site.ops (authored old.site.number old.site.ops c))
     (valid : IsValid (old.site.ops ++ authored old.site.number old.site.ops c ∷ [])) (ra : report.accepted.items ≡ old.report.accepted.items ++ (authored old.site.number old.site.ops c).id ∷ [])
-    (rr : report.refused.items ≡ old.report.refused.items) (tells : TellsPeers (authored old.site.number old.site.ops c) all old.peers.items peers.items) where
+    (rr : report.refused.items ≡ old.report.refused.items) (sends : SendsToPeers (authored old.site.number old.site.ops c) all old.peers.items peers.items) where
   abbrev made : Op
   made = authored old.site.number old.site.ops c
 
@@ -114,10 +114,10 @@ module _ (old : Work) (c : Change) (report : Report) (peers : Vec Peer Global) (
   now = record { site = record { number = old.site.number; ops = old.site.ops ++ made ∷ []; held = old.site.held }; peers = peers; report = report; short = not all }
 
   now_seats : map seat_of peers.items ≡ map seat_of old.peers.items
-  now_seats = ap (map seat_of) tells.now ∙ map_sent seat_of (message.Op made) (λ p. refl) tells.reached old.peers.items
+  now_seats = ap (map seat_of) sends.now ∙ map_sent seat_of (message.Op made) (λ p. refl) sends.reached old.peers.items
 
   now_takes : map (λ p. p.take) peers.items ≡ map (λ p. p.take) old.peers.items
-  now_takes = ap (map (λ (p : Peer). p.take)) tells.now ∙ map_sent (λ (p : Peer). p.take) (message.Op made) (λ p. refl) tells.reached old.peers.items
+  now_takes = ap (map (λ (p : Peer). p.take)) sends.now ∙ map_sent (λ (p : Peer). p.take) (message.Op made) (λ p. refl) sends.reached old.peers.items
 
   come_back : (a : Op) → HasCome peers.items a → HasCome old.peers.items a
   come_back = come_by_takes peers.items old.peers.items (sym now_takes)
@@ -136,24 +136,24 @@ module _ (old : Work) (c : Change) (report : Report) (peers : Vec Peer Global) (
         ];
   }
 
-  told_whole : (p : Peer) (i : IsTold (own old.site.number old.site.ops) old.short p) → own old.site.number (old.site.ops ++ made ∷ []) ≡ i.first ++ made ∷ []
-  told_whole p i = own_same old.site.number old.site.ops made refl ∙ ap (λ l. l ++ made ∷ []) (i.whole ∙ ap (λ l. i.first ++ l) (i.all long) ∙ append-nil i.first)
+  sent_whole : (p : Peer) (i : IsSent (own old.site.number old.site.ops) old.short p) → own old.site.number (old.site.ops ++ made ∷ []) ≡ i.first ++ made ∷ []
+  sent_whole p i = own_same old.site.number old.site.ops made refl ∙ ap (λ l. l ++ made ∷ []) (i.whole ∙ ap (λ l. i.first ++ l) (i.all long) ∙ append-nil i.first)
 
-  told_made : AreTold old → AreTold now
-  told_made t p k = elim (sent_cases (message.Op made) tells.reached old.peers.items p (subst (λ l. Contains l p) tells.now k)) [
-    | inl q ↦ let i = t q.0 q.1 in subst (IsTold (own old.site.number (old.site.ops ++ made ∷ [])) (not all)) (sym q.2) (record {
+  sent_made : AreSent old → AreSent now
+  sent_made t p k = elim (sent_cases (message.Op made) sends.reached old.peers.items p (subst (λ l. Contains l p) sends.now k)) [
+    | inl q ↦ let i = t q.0 q.1 in subst (IsSent (own old.site.number (old.site.ops ++ made ∷ [])) (not all)) (sym q.2) (record {
       first = i.first ++ made ∷ [];
       rest = [];
-      whole = told_whole q.0 i ∙ sym (append-nil (i.first ++ made ∷ []));
+      whole = sent_whole q.0 i ∙ sym (append-nil (i.first ++ made ∷ []));
       sent = ap (λ l. l ++ message.Op made ∷ []) i.sent ∙ sym (map-append (λ (a : Op). message.Op a) i.first (made ∷ []));
       all = λ e. refl;
     })
     | inr q ↦ let i = t p q.0 in record {
       first = i.first;
       rest = made ∷ [];
-      whole = told_whole p i;
+      whole = sent_whole p i;
       sent = i.sent;
-      all = λ e. absurd (let r = tells.whole (not_false all e) in let l = q.1 in omega (arith, r, l));
+      all = λ e. absurd (let r = sends.whole (not_false all e) in let l = q.1 in omega (arith, r, l));
     }
   ]
 
@@ -178,20 +178,20 @@ module _ (old : Work) (c : Change) (report : Report) (peers : Vec Peer Global) (
     number = refl;
     short = λ e. long;
     gathers = gathers_made;
-    told = λ g t. told_made t;
+    sent = λ g t. sent_made t;
     played = λ e commands k g u. underway_made commands u;
     stays = λ e commands g u. inr (long, underway_made commands u);
   }
 
 pub plays_author : (old : Work) (report : Report) (n : ℕ) (c : Change) (a : Op) (new : SiteState) (peers : Vec Peer Global) (all : Bool) → old.short ≡ false → Authors old.site c a new → IsValid new.ops →
-    report.accepted.items ≡ old.report.accepted.items ++ a.id ∷ [] → report.refused.items ≡ old.report.refused.items → TellsPeers a all old.peers.items peers.items →
+    report.accepted.items ≡ old.report.accepted.items ++ a.id ∷ [] → report.refused.items ≡ old.report.refused.items → SendsToPeers a all old.peers.items peers.items →
     PlaysOn n (Author c) old (record { site = new; peers = peers; report = report; short = not all })
-plays_author old report n c a new peers all long au valid ra rr tells =
+plays_author old report n c a new peers all long au valid ra rr sends =
     let is = au.is in
     let state : new ≡ record { number = old.site.number; ops = old.site.ops ++ authored old.site.number old.site.ops c ∷ []; held = old.site.held } = au.state ∙ ap (λ x. record old.site { ops = old.site.ops ++ x ∷ [] }) is in
     subst (λ s. PlaysOn n (Author c) old (record { site = s; peers = peers; report = report; short = not all })) (sym state)
     (plays_made old c report peers all long (subst (IsAccepted old.site.ops) is au.accepted) (subst (λ (s : SiteState). IsValid s.ops) state valid) (subst (λ (x : Op). report.accepted.items ≡ old.report.accepted.items ++ x.id ∷ []) is ra) rr
-    (subst (λ x. TellsPeers x all old.peers.items peers.items) is tells) n)
+    (subst (λ x. SendsToPeers x all old.peers.items peers.items) is sends) n)
 
 -- a worker without memory for one entry more
 pub plays_unreserved : (old : Work) (report : Report) (n : ℕ) (c : Command) → report.accepted.items ≡ old.report.accepted.items → report.refused.items ≡ old.report.refused.items → old.short ≡ false →
@@ -202,14 +202,14 @@ plays_unreserved old report n c ra rr l = record {
   number = refl;
   short = λ e. l;
   gathers = λ g. gathers_report old report true (λ e. l) g;
-  told = λ g t. told_report old report true (λ e. l) t;
+  sent = λ g t. sent_report old report true (λ e. l) t;
   played = λ e. absurd (true≢false e);
   stays = λ e commands g u. inl (underway_entries old report true ra rr commands u);
 }
 
--- what was told to a slice of the peers
-pub tells_items : (a : Op) (all : Bool) (peers : Vec Peer Global) (old new : List Peer) → old ≡ peers.items → TellsPeers a all old new → TellsPeers a all peers.items (with_items peers new).items
-tells_items a all peers old new e t =
-    let t = subst (λ l. TellsPeers a all l new) e t in
+-- what was sent to a slice of the peers
+pub sends_items : (a : Op) (all : Bool) (peers : Vec Peer Global) (old new : List Peer) → old ≡ peers.items → SendsToPeers a all old new → SendsToPeers a all peers.items (with_items peers new).items
+sends_items a all peers old new e t =
+    let t = subst (λ l. SendsToPeers a all l new) e t in
     let long : length new ≡ length peers.items = ap length t.now ∙ sym (length-map _ (λ (p : Peer). p.out)) ∙ ap length (map_sent (λ (p : Peer). p.out) (message.Op a) (λ p. refl) t.reached peers.items) ∙ length-map peers.items (λ (p : Peer). p.out) in
-    subst (TellsPeers a all peers.items) (sym (with_items_is peers new (long ∙ sym peers.ok.0))) t
+    subst (SendsToPeers a all peers.items) (sym (with_items_is peers new (long ∙ sym peers.ok.0))) t

@@ -11,17 +11,17 @@ use Rattle.gf_worker.specs.declared.report.Report.{Report}
 use Rattle.gf_worker.specs.declared.work.Work.{Work}
 use Rattle.gf_worker.specs.Turns.{Turn, refusal_of}
 use Rattle.gf_worker.specs.Played.{IsPlayed}
-use Rattle.gf_worker.specs.Working.{AreTold, Gathers, IsUnderway, IsSilent, Continues, Judges}
-use Rattle.gf_worker.proofs.TellLemmas.{told_continues}
+use Rattle.gf_worker.specs.Working.{AreSent, Gathers, IsUnderway, IsSilent, Continues, Judges}
+use Rattle.gf_worker.proofs.SendLemmas.{sent_continues}
 use Rattle.gf_worker.specs.Playing.{IsRefusal, PlaysOn}
 use Rattle.gf_site.proofs.CourseLemmas.{course_ready}
 use Rattle.gf_worker.proofs.PlayLemmas.{played_turn}
 
 -- what was judged is one more turn
-module _ (w : Work) (report : Report) (short : Bool) (n : ℕ) (i : OpId) (r : Option Cause) (judges : Judges i w r) (told : IsRefusal n r true w.report report) (commands : List Command) (count : n ≡ 1 + length commands)
+module _ (w : Work) (report : Report) (short : Bool) (n : ℕ) (i : OpId) (r : Option Cause) (judges : Judges i w r) (reported : IsRefusal n r true w.report report) (commands : List Command) (count : n ≡ 1 + length commands)
     (u : IsUnderway commands w) where
   awaited : IsPlayed w.site.number (commands ++ Await i ∷ []) w.site.ops report
-  awaited = played_turn w.site.number commands w.site.ops w.report report u.played (Await i) r judges.answer refl (ap (λ v. v.items) told.accepted) (subst (λ k. report.refused.items ≡ w.report.refused.items ++ refusal_of k r) count (told.refused refl))
+  awaited = played_turn w.site.number commands w.site.ops w.report report u.played (Await i) r judges.answer refl (ap (λ v. v.items) reported.accepted) (subst (λ k. report.refused.items ≡ w.report.refused.items ++ refusal_of k r) count (reported.refused refl))
 
   silent_all : (t : Turn) → Contains awaited.turns t → t.refusal ≡ Some NeverComes → IsSilent (record w { report = report; short = short }) t
   unfolding awaited played_turn
@@ -39,8 +39,8 @@ module _ (w : Work) (report : Report) (short : Bool) (n : ℕ) (i : OpId) (r : O
 pub gathers_report : (w : Work) (report : Report) (short : Bool) → (short ≡ false → w.short ≡ false) → Gathers w → Gathers (record w { report = report; short = short })
 gathers_report w report short l g = record { has = g.has; holds = g.holds; keeps = λ e. g.keeps (l e) }
 
-pub told_report : (w : Work) (report : Report) (short : Bool) → (short ≡ false → w.short ≡ false) → AreTold w → AreTold (record w { report = report; short = short })
-told_report w report short l t p k = let i = t p k in record { first = i.first; rest = i.rest; whole = i.whole; sent = i.sent; all = λ e. i.all (l e) }
+pub sent_report : (w : Work) (report : Report) (short : Bool) → (short ≡ false → w.short ≡ false) → AreSent w → AreSent (record w { report = report; short = short })
+sent_report w report short l t p k = let i = t p k in record { first = i.first; rest = i.rest; whole = i.whole; sent = i.sent; all = λ e. i.all (l e) }
 
 -- a report with the same entries
 pub underway_entries : (w : Work) (report : Report) (short : Bool) → report.accepted.items ≡ w.report.accepted.items → report.refused.items ≡ w.report.refused.items → (commands : List Command) → IsUnderway commands w →
@@ -53,7 +53,7 @@ underway_entries w report short a r commands u = let p = u.played in record {
 
 -- a report with the same entries, where memory was refused
 underway_same : (w : Work) (report : Report) (short : Bool) (n : ℕ) (r : Option Cause) → IsRefusal n r false w.report report → (commands : List Command) → IsUnderway commands w → IsUnderway commands (record w { report = report; short = short })
-underway_same w report short n r told commands u = let p = u.played in record {
+underway_same w report short n r reported commands u = let p = u.played in record {
   course = u.course;
   played = record {
     turns = p.turns;
@@ -62,8 +62,8 @@ underway_same w report short n r told commands u = let p = u.played in record {
     rising = p.rising;
     counted = p.counted;
     made = p.made;
-    accepted = ap (λ v. v.items) told.accepted ∙ p.accepted;
-    refused = told.same refl ∙ p.refused;
+    accepted = ap (λ v. v.items) reported.accepted ∙ p.accepted;
+    refused = reported.same refl ∙ p.refused;
   };
   silent = λ t c e. let q = u.silent t c e in record { ended = q.ended; none = q.none; ready = q.ready };
 }
@@ -76,7 +76,7 @@ plays_await old mid report n i r true c l judges refusal = record {
   number = c.number;
   short = λ e. c.short l;
   gathers = λ g. gathers_report mid report false (λ e. l) (c.gathers g);
-  told = λ g t. told_report mid report false (λ e. l) (told_continues old mid c g t);
+  sent = λ g t. sent_report mid report false (λ e. l) (sent_continues old mid c g t);
   played = λ e commands k g u. underway_await mid report false n i r judges refusal commands k (c.underway commands g u);
   stays = λ e. absurd (true≢false (sym e));
 }
@@ -86,7 +86,7 @@ plays_await old mid report n i r false c l judges refusal = record {
   number = c.number;
   short = λ e. c.short l;
   gathers = λ g. gathers_report mid report true (λ e. l) (c.gathers g);
-  told = λ g t. told_report mid report true (λ e. l) (told_continues old mid c g t);
+  sent = λ g t. sent_report mid report true (λ e. l) (sent_continues old mid c g t);
   played = λ e. absurd (true≢false e);
   stays = λ e commands g u. inl (underway_same mid report true n r refusal commands (c.underway commands g u));
 }
@@ -99,7 +99,7 @@ plays_short old new n c go e = record {
   number = go.number;
   short = go.short;
   gathers = go.gathers;
-  told = λ g t. told_continues old new go g t;
+  sent = λ g t. sent_continues old new go g t;
   played = λ q. absurd (true≢false (sym e ∙ q));
   stays = λ q commands g u. inl (go.underway commands g u);
 }

@@ -26,12 +26,12 @@ use Rattle.gf_worker.specs.declared.worker.WorkerEnd.{WorkerEnd}
 use Rattle.gf_worker.specs.Messages.{own, ops_of, last_message}
 use Rattle.gf_worker.specs.Peers.{all_ended, StandsInTable, ArePlaced, IsFresh, seat_of, with_last}
 use Rattle.gf_worker.specs.Coming.{HasCome, IsJust, AreForeign}
-use Rattle.gf_worker.specs.Telling.{IsOpen}
+use Rattle.gf_worker.specs.Sending.{IsOpen}
 use Rattle.gf_worker.specs.Working.{Gathers, IsUnderway, Continues, Plays}
 use Rattle.gf_worker.specs.Playing.{IsBegun, Through}
 use Rattle.gf_worker.specs.Ending.{HasSent, HasWorked}
 use Rattle.gf_site.proofs.CourseLemmas.{course_ready}
-use Rattle.gf_worker.proofs.TellLemmas.{all_from, plays_open, seats_told, same_image, placed_by_seats, come_by_takes, ended_by_takes}
+use Rattle.gf_worker.proofs.SendLemmas.{all_from, plays_open, seats_sent, same_image, placed_by_seats, come_by_takes, ended_by_takes}
 
 -- ---- at the beginning
 
@@ -60,7 +60,7 @@ begins site peers report ops held fresh accepted refused = record {
     };
     silent = λ t c e. absurd (not_Contains-nil t c);
   };
-  told = λ p c. record {
+  sent = λ p c. record {
     first = [];
     rest = [];
     whole = ap (own site.number) ops;
@@ -71,12 +71,12 @@ begins site peers report ops held fresh accepted refused = record {
 
 -- ---- the last messages
 
-takes_told : (short : Bool) (peers : List Peer) → map (λ p. p.take) (map (with_last short) peers) ≡ map (λ p. p.take) peers
-takes_told short [] = refl
-takes_told short (p ∷ peers) = ap (λ l. p.take ∷ l) (takes_told short peers)
+takes_sent : (short : Bool) (peers : List Peer) → map (λ p. p.take) (map (with_last short) peers) ≡ map (λ p. p.take) peers
+takes_sent short [] = refl
+takes_sent short (p ∷ peers) = ap (λ l. p.take ∷ l) (takes_sent short peers)
 
-gathers_told : (w : Work) (peers : Vec Peer Global) → map (λ p. p.take) peers.items ≡ map (λ p. p.take) w.peers.items → Gathers w → Gathers (record w { peers = peers })
-gathers_told w peers e g =
+gathers_sent : (w : Work) (peers : Vec Peer Global) → map (λ p. p.take) peers.items ≡ map (λ p. p.take) w.peers.items → Gathers w → Gathers (record w { peers = peers })
+gathers_sent w peers e g =
     let on = come_by_takes w.peers.items peers.items e in
     let back = come_by_takes peers.items w.peers.items (sym e) in record {
       has = λ a c d. on a (g.has a c d);
@@ -84,8 +84,8 @@ gathers_told w peers e g =
       keeps = λ q h k a c d. g.keeps q h (record { valid = k.valid; has = k.has; come = λ b m. k.come b (on b m) }) a (back a c) d;
     }
 
-underway_told : (w : Work) (peers : Vec Peer Global) → map (λ p. p.take) peers.items ≡ map (λ p. p.take) w.peers.items → (commands : List Command) → IsUnderway commands w → IsUnderway commands (record w { peers = peers })
-underway_told w peers e commands u = record {
+underway_sent : (w : Work) (peers : Vec Peer Global) → map (λ p. p.take) peers.items ≡ map (λ p. p.take) w.peers.items → (commands : List Command) → IsUnderway commands w → IsUnderway commands (record w { peers = peers })
+underway_sent w peers e commands u = record {
   course = u.course;
   played = u.played;
   silent = λ t c q. let k = u.silent t c q in record { ended = subst IsTrue (sym (ended_by_takes w.peers.items peers.items e)) k.ended; none = k.none; ready = k.ready };
@@ -129,23 +129,23 @@ has_all w g course valid idle e h just foreign a c =
 
 module _ (script : List Command) (old mid : Work) (peers : Vec Peer Global) (new : Work) (begun : IsBegun old) (through : Through script old mid) (is : peers.items ≡ map (with_last mid.short) mid.peers.items)
     (rest : Continues (record mid { peers = peers }) new) (ended : IsTrue (all_ended new.peers.items)) (idle : new.short ≡ false → NoneIsReady new.site.ops new.site.held) where
-  abbrev told_work : Work
-  told_work = record mid { peers = peers }
+  abbrev sent_work : Work
+  sent_work = record mid { peers = peers }
 
   abbrev end : WorkerEnd
   end = record { site = new.site; seats = new.peers; report = new.report; short = new.short }
 
   takes : map (λ p. p.take) peers.items ≡ map (λ p. p.take) mid.peers.items
-  takes = ap (map (λ (p : Peer). p.take)) is ∙ takes_told mid.short mid.peers.items
+  takes = ap (map (λ (p : Peer). p.take)) is ∙ takes_sent mid.short mid.peers.items
 
-  gathers_mid : Gathers told_work
-  gathers_mid = gathers_told mid peers takes (through.gathers begun.gathers)
+  gathers_mid : Gathers sent_work
+  gathers_mid = gathers_sent mid peers takes (through.gathers begun.gathers)
 
   plays : Plays script mid
   plays = through.plays begun.gathers begun.underway
 
   under : IsUnderway plays.done new
-  under = rest.underway plays.done gathers_mid (underway_told mid peers takes plays.done plays.underway)
+  under = rest.underway plays.done gathers_mid (underway_sent mid peers takes plays.done plays.underway)
 
   gathers_new : Gathers new
   gathers_new = rest.gathers gathers_mid
@@ -153,7 +153,7 @@ module _ (script : List Command) (old mid : Work) (peers : Vec Peer Global) (new
   sent_last : (p : Peer) → Contains peers.items p → HasSent (own mid.site.number mid.site.ops) mid.short p
   sent_last p c =
       let t = Contains-map_from (with_last mid.short) mid.peers.items p (subst (λ l. Contains l p) is c) in
-      let i = through.told begun.gathers begun.told t.0 t.1 in
+      let i = through.sent begun.gathers begun.sent t.0 t.1 in
       subst (HasSent (own mid.site.number mid.site.ops) mid.short) (sym t.2) (record {
         first = i.first;
         rest = i.rest;
@@ -180,7 +180,7 @@ module _ (script : List Command) (old mid : Work) (peers : Vec Peer Global) (new
   worked : IsValid new.site.ops → HasWorked new.site.number script old.peers.items end
   worked valid = record {
     number = refl;
-    seats = rest.seats ∙ ap (map seat_of) is ∙ seats_told mid.short mid.peers.items ∙ through.seats;
+    seats = rest.seats ∙ ap (map seat_of) is ∙ seats_sent mid.short mid.peers.items ∙ through.seats;
     sent = sent_new;
     ended = ended_each new.peers.items ended;
     course = under.course;
@@ -203,7 +203,7 @@ module _ (script : List Command) (old mid : Work) (peers : Vec Peer Global) (new
 -- ---- what the calls of site_worker ask
 
 pub opens : (script : List Command) (old mid : Work) → IsBegun old → Through script old mid → length script ≤ 1000 → (now : List Peer) → now ≡ mid.peers.items → All IsOpen now
-opens script old mid b t few now e = subst (All IsOpen) (sym e) (all_from IsOpen mid.peers.items (plays_open script mid (t.plays b.gathers b.underway) (t.told b.gathers b.told) (omega (arith, few))))
+opens script old mid b t few now e = subst (All IsOpen) (sym e) (all_from IsOpen mid.peers.items (plays_open script mid (t.plays b.gathers b.underway) (t.sent b.gathers b.sent) (omega (arith, few))))
 
 pub last_items : (peers : Vec Peer Global) (short : Bool) (now new : List Peer) → now ≡ peers.items → new ≡ map (with_last short) now → (with_items peers new).items ≡ map (with_last short) peers.items
 last_items peers short now new e f =
@@ -212,4 +212,4 @@ last_items peers short now new e f =
 
 pub placed_last : (links : List TableId) (script : List Command) (old mid : Work) (peers : List Peer) → All (StandsInTable links) old.peers.items → Through script old mid → peers ≡ map (with_last mid.short) mid.peers.items → ArePlaced links peers
 placed_last links script old mid peers p t e =
-    placed_by_seats links old.peers.items peers (ap (map seat_of) e ∙ seats_told mid.short mid.peers.items ∙ t.seats) (λ x c. All-contains (StandsInTable links) old.peers.items x p c)
+    placed_by_seats links old.peers.items peers (ap (map seat_of) e ∙ seats_sent mid.short mid.peers.items ∙ t.seats) (λ x c. All-contains (StandsInTable links) old.peers.items x p c)

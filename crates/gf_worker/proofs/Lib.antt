@@ -4,7 +4,7 @@ pub mod TurnLemmas
 pub mod HearLemmas
 pub mod StepLemmas
 pub mod PlayLemmas
-pub mod TellLemmas
+pub mod SendLemmas
 pub mod AwaitLemmas
 pub mod AuthorLemmas
 pub mod ThroughLemmas

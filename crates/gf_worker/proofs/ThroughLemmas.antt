@@ -7,7 +7,7 @@ use Rattle.gf_worker.specs.Working.{Gathers, IsUnderway, Plays}
 use Rattle.gf_worker.specs.Playing.{PlaysOn, Through}
 
 pub through_none : (w : Work) → Through [] w w
-through_none w = record { placed = λ links p. p; seats = refl; number = refl; gathers = λ g. g; told = λ g t. t; plays = λ g u. record { done = []; rest = []; whole = refl; full = λ e. refl; underway = u } }
+through_none w = record { placed = λ links p. p; seats = refl; number = refl; gathers = λ g. g; sent = λ g t. t; plays = λ g u. record { done = []; rest = []; whole = refl; full = λ e. refl; underway = u } }
 
 plays_more : (done : List Command) (c : Command) (n : ℕ) (mid new : Work) (b : Bool) → new.short ≡ b → n ≡ 1 + length done → Gathers mid → Plays done mid → PlaysOn n c mid new → Plays (done ++ c ∷ []) new
 plays_more done c n mid new true e k g p on = elim (on.stays e p.done g p.underway) [
@@ -41,7 +41,7 @@ through_more done c n old mid new k t on = record {
   seats = on.seats ∙ t.seats;
   number = on.number ∙ t.number;
   gathers = λ g. on.gathers (t.gathers g);
-  told = λ g k. on.told (t.gathers g) (t.told g k);
+  sent = λ g k. on.sent (t.gathers g) (t.sent g k);
   plays = λ g u. plays_more done c n mid new new.short refl k (t.gathers g) (t.plays g u) on;
 }
 
@@ -53,7 +53,7 @@ plays_not w n c e = record {
   number = refl;
   short = λ q. q;
   gathers = λ g. g;
-  told = λ g t. t;
+  sent = λ g t. t;
   played = λ q. absurd (true≢false (sym e ∙ q));
   stays = λ q commands g u. inl u;
 }

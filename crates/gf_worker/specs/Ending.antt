@@ -10,7 +10,7 @@ use Rattle.gf_site.specs.SiteState.{SiteState}
 use Rattle.gf_json.specs.declared.scripts.Command.{Command}
 use Rattle.gf_worker.specs.declared.peer.Peer.{Peer}
 use Rattle.gf_worker.specs.declared.worker.WorkerEnd.{WorkerEnd}
-use Rattle.gf_worker.specs.Messages.{own, told, last_message}
+use Rattle.gf_worker.specs.Messages.{own, messages_of, last_message}
 use Rattle.gf_worker.specs.Peers.{seat_of, with_last}
 use Rattle.gf_worker.specs.Coming.{HasCome, IsJust, AreForeign}
 use Rattle.gf_worker.specs.Played.{IsPlayed}
@@ -22,7 +22,7 @@ pub record HasSent (ops : List Op) (short : Bool) (p : Peer) : Type 0 where
   pub rest : List Op
   pub whole : ops ≡ first ++ rest
   pub stopped : Bool
-  pub sent : p.send.sent ≡ told first ++ last_message stopped ∷ []
+  pub sent : p.send.sent ≡ messages_of first ++ last_message stopped ∷ []
   pub unless : stopped ≡ true → short ≡ true
   pub all : stopped ≡ false → rest ≡ []
 

@@ -5,5 +5,5 @@ pub mod Turns
 pub mod Played
 pub mod Ending
 pub mod Working
-pub mod Telling
+pub mod Sending
 pub mod Playing

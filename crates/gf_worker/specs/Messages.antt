@@ -11,8 +11,8 @@ abbrev pub own : ℕ → List Op → List Op
 own s ops = filter (λ a. a.id.site == s) ops
 
 -- the messages with the operations, in their order
-abbrev pub told : List Op → List Message
-told ops = map (λ a. message.Op a) ops
+abbrev pub messages_of : List Op → List Message
+messages_of ops = map (λ a. message.Op a) ops
 
 -- the last message of a site, by whether it is short
 abbrev pub last_message : Bool → Message

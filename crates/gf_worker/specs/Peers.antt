@@ -9,12 +9,12 @@ use Rattle.gf_link.specs.Ends.{is_ended}
 use Rattle.gf_worker.specs.declared.peer.Peer.{Peer}
 use Rattle.gf_worker.specs.Messages.{last_message}
 
--- the links of the peer stand at its places in the table
+-- the links of the peer stand at its indices in the table
 pub record StandsInTable (links : List TableId) (p : Peer) : Type 0 where
   pub out : slice_get links p.out ≡ Some p.send.link
   pub into : slice_get links p.into ≡ Some p.take.link
 
--- the links of each of the peers stand at its places in the table
+-- the links of each of the peers stand at its indices in the table
 abbrev pub ArePlaced : List TableId → List Peer → Type 0
 ArePlaced links peers = (p : Peer) → Contains peers p → StandsInTable links p
 
@@ -27,14 +27,14 @@ pub record IsFresh (p : Peer) : Type 0 where
 abbrev pub all_ended : List Peer → Bool
 all_ended peers = list_all (λ p. is_ended p.take.taken) peers
 
--- the places and the links of a peer, which no message changes
+-- the indices and the links of a peer, which no message changes
 pub record Seat : Type 0 where
   pub out : ℕ
   pub to : TableId
   pub into : ℕ
   pub from : TableId
 
--- the places and the links of the peer p
+-- the indices and the links of the peer p
 abbrev pub seat_of : Peer → Seat
 seat_of p = record { out = p.out; to = p.send.link; into = p.into; from = p.take.link }
 

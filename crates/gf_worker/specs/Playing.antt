@@ -7,7 +7,7 @@ use Rattle.gf_worker.specs.declared.report.Cause.{Cause}
 use Rattle.gf_worker.specs.declared.report.Report.{Report}
 use Rattle.gf_worker.specs.declared.work.Work.{Work}
 use Rattle.gf_worker.specs.Peers.{ArePlaced, seat_of}
-use Rattle.gf_worker.specs.Working.{Gathers, IsUnderway, AreTold, Plays}
+use Rattle.gf_worker.specs.Working.{Gathers, IsUnderway, AreSent, Plays}
 use Rattle.gf_worker.specs.Turns.{refusal_of}
 use Rattle.gf_site.specs.declared.faults.AuthorFault.{AuthorFault}
 use Rattle.gf_site.specs.declared.faults.AuthorFault.TheVariants as fault
@@ -30,7 +30,7 @@ cause_of fault.BadAim = Some cause.BadAim
 cause_of fault.OutOfMemory = None
 
 -- the refusal of a change is in the report, unless memory was refused
-pub record IsFaultTold (number : ℕ) (refused_for : AuthorFault) (done : Bool)
+pub record IsFaultReported (number : ℕ) (refused_for : AuthorFault) (done : Bool)
     (old new : Report) : Type 0 where
   pub refusal : IsRefusal number (cause_of refused_for) done old new
   pub other : done ≡ true → refused_for ≢ fault.OutOfMemory
@@ -39,7 +39,7 @@ pub record IsFaultTold (number : ℕ) (refused_for : AuthorFault) (done : Bool)
 pub record IsBegun (w : Work) : Type 0 where
   pub gathers : Gathers w
   pub underway : IsUnderway [] w
-  pub told : AreTold w
+  pub sent : AreSent w
 
 -- the command was played, or the worker became short
 pub record PlaysOn (n : ℕ) (c : Command) (old new : Work) : Type 0 where
@@ -49,7 +49,7 @@ pub record PlaysOn (n : ℕ) (c : Command) (old new : Work) : Type 0 where
   pub number : new.site.number ≡ old.site.number
   pub short : new.short ≡ false → old.short ≡ false
   pub gathers : Gathers old → Gathers new
-  pub told : Gathers old → AreTold old → AreTold new
+  pub sent : Gathers old → AreSent old → AreSent new
   pub played : new.short ≡ false → (commands : List Command) → n ≡ 1 + length commands
       → Gathers old → IsUnderway commands old
       → IsUnderway (commands ++ c ∷ []) new
@@ -65,5 +65,5 @@ pub record Through (done : List Command) (old new : Work) : Type 0 where
   pub seats : map seat_of new.peers.items ≡ map seat_of old.peers.items
   pub number : new.site.number ≡ old.site.number
   pub gathers : Gathers old → Gathers new
-  pub told : Gathers old → AreTold old → AreTold new
+  pub sent : Gathers old → AreSent old → AreSent new
   pub plays : Gathers old → IsUnderway [] old → Plays done new

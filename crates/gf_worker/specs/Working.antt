@@ -20,7 +20,7 @@ use Rattle.gf_worker.specs.declared.peer.Peer.{Peer}
 use Rattle.gf_worker.specs.declared.work.Work.{Work}
 use Rattle.gf_worker.specs.declared.waiting.Waited.{Waited}
 use Rattle.gf_worker.specs.declared.waiting.Waited.TheVariants.{Came, Never, Short}
-use Rattle.gf_worker.specs.Messages.{own, told}
+use Rattle.gf_worker.specs.Messages.{own, messages_of}
 use Rattle.gf_worker.specs.Peers.{all_ended, ArePlaced, seat_of}
 use Rattle.gf_worker.specs.Coming.{HasCome, IsWhole}
 use Rattle.gf_worker.specs.Played.{IsPlayed}
@@ -53,17 +53,17 @@ pub record IsUnderway (commands : List Command) (w : Work) : Type 0 where
       → IsSilent w t
 
 -- the peer was sent what the site made; a site that is short may have sent a prefix of it
-pub record IsTold (ops : List Op) (short : Bool) (p : Peer) : Type 0 where
+pub record IsSent (ops : List Op) (short : Bool) (p : Peer) : Type 0 where
   pub first : List Op
   pub rest : List Op
   pub whole : ops ≡ first ++ rest
-  pub sent : p.send.sent ≡ told first
+  pub sent : p.send.sent ≡ messages_of first
   pub all : short ≡ false → rest ≡ []
 
 -- each peer was sent what the site made; a site that is short may have sent a prefix of it
-abbrev pub AreTold : Work → Type 0
-AreTold w = (p : Peer) → Contains w.peers.items p
-    → IsTold (own w.site.number w.site.ops) w.short p
+abbrev pub AreSent : Work → Type 0
+AreSent w = (p : Peer) → Contains w.peers.items p
+    → IsSent (own w.site.number w.site.ops) w.short p
 
 -- what stays true while a worker takes messages and its site steps
 pub record Continues (old new : Work) : Type 0 where

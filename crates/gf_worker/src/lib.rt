@@ -13,7 +13,7 @@ mod peer;
 mod playing;
 mod report;
 mod script;
-mod telling;
+mod sending;
 mod waiting;
 mod work;
 mod worker;

@@ -3,11 +3,11 @@
 ghost use Rattle.std.specs.Prelude.{◌≡◌, ◌≤◌, false, vec_len};
 ghost use Rattle.gf_json.specs.declared.scripts.Command.{Command};
 ghost use Rattle.gf_worker.specs.Peers.{ArePlaced};
-ghost use Rattle.gf_worker.specs.Telling.{AreOpen};
-ghost use Rattle.gf_worker.specs.Playing.{IsRefusal, IsFaultTold, IsBegun, PlaysOn, Through};
+ghost use Rattle.gf_worker.specs.Sending.{AreOpen};
+ghost use Rattle.gf_worker.specs.Playing.{IsRefusal, IsFaultReported, IsBegun, PlaysOn, Through};
 ghost use Rattle.gf_worker.specs.Playing.{cause_of};
 
-use crate::telling::tell_all;
+use crate::sending::send_all;
 use crate::work::Work;
 use crate::{Cause, Refused, Report};
 use gf_gate::Gate;
@@ -18,7 +18,7 @@ use gf_site::AuthorFault;
 use std::alloc::Global;
 use std::sync::Wait;
 
-/// Reports a refusal, if there is one, and tells whether there was memory for it.
+/// Reports a refusal, if there is one, and says whether there was memory for it.
 fn report_refusal(report: &mut Report, number: u32, cause: Option<Cause>) -> bool
     ensures { IsRefusal number cause result report.old report.new }
 {
@@ -48,10 +48,10 @@ fn cause_of(fault: AuthorFault) -> Option<Cause>
     }
 }
 
-/// Reports why a change was refused, and tells whether memory was there for that and for the
+/// Reports why a change was refused, and says whether memory was there for that and for the
 /// change.
 fn report_fault(report: &mut Report, number: u32, fault: AuthorFault) -> bool
-    ensures { IsFaultTold number fault result report.old report.new }
+    ensures { IsFaultReported number fault result report.old report.new }
 {
     let Some(cause) = cause_of(fault) else {
         return false;
@@ -134,7 +134,7 @@ impl Work {
             Ok(op) => {
                 let _ = self.site.history();
                 self.report.accepted.push_reserved(op.id);
-                self.short = !tell_all(rt, alloc, links, &mut self.peers, &op);
+                self.short = !send_all(rt, alloc, links, &mut self.peers, &op);
                 return;
             }
             Err(fault) => {

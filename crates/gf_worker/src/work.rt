@@ -14,7 +14,7 @@ use gf_site::{Site, Step};
 use std::sync::Wait;
 
 /// A worker: its site, its peers and its report. It is short if memory was refused to it or to a
-/// peer that told it so.
+/// peer that sent it Stop.
 #[derive(Drop)]
 pub(crate) struct Work {
     pub(crate) site: Site,

@@ -4,7 +4,7 @@ ghost use Rattle.std.specs.Prelude.{◌≡◌, ◌≤◌, [], All, vec_len};
 ghost use Rattle.gf_worker.specs.Peers.{StandsInTable, IsFresh};
 ghost use Rattle.gf_worker.specs.Ending.{HasWorked, HasStopped};
 
-use crate::telling::tell_last;
+use crate::sending::send_last;
 use crate::work::Work;
 use crate::{Peer, Report, Script};
 use gf_gate::Gate;
@@ -13,7 +13,7 @@ use gf_site::Site;
 use std::alloc::Global;
 use std::sync::Wait;
 
-/// The table of a session's links, and the peers of one site with their places there.
+/// The table of a session's links, and the peers of one site with their indices there.
 #[derive(Drop)]
 pub struct Ends<'a> {
     pub links: &'a [Link],
@@ -21,7 +21,7 @@ pub struct Ends<'a> {
 }
 
 /// What a worker gives back: its site, the seats of its links, and what its commands came to. The
-/// worker is short if memory was refused to it or to a peer that told it so.
+/// worker is short if memory was refused to it or to a peer that sent it Stop.
 #[derive(Drop)]
 pub struct WorkerEnd {
     pub site: Site,
@@ -60,7 +60,7 @@ pub fn site_worker<R: Wait, G: Gate>(
         short: false,
     };
     work.play_all(rt, alloc, links, gate, script.0);
-    tell_last(rt, links, &mut work.peers, work.short);
+    send_last(rt, links, &mut work.peers, work.short);
     work.take_rest(rt, links);
     // The clause of `history` says what every site keeps.
     let _ = work.site.history();
@@ -85,7 +85,7 @@ pub fn stop_worker<R: Wait>(rt: &R, alloc: Global, site: Site, ends: Ends<'_>) -
     ensures { HasStopped site ends.entry.peers.items result }
 {
     let Ends { links, mut peers } = ends;
-    tell_last(rt, links, &mut peers, true);
+    send_last(rt, links, &mut peers, true);
     WorkerEnd {
         site,
         seats: peers,

@@ -1,4 +1,4 @@
--- The peers of a new mesh stand at their places, and nothing was sent to them.
+-- The peers of a new mesh stand at their indices in the table, and nothing was sent to them.
 use Rattle.std.proofs.Common.{◌≡◌, List, [], ◌∷◌, ◌++◌, sym, subst}
 use Rattle.std.specs.Prelude.{All, Contains}
 use Rattle.std.specs.Global.{Vec}
@@ -6,7 +6,7 @@ use Rattle.std.proofs.lemmas.List.Elements.{Contains-append_left, Contains-push}
 use Rattle.gf_ops.proofs.ListLemmas.{Contains-map}
 use Rattle.gf_worker.specs.declared.peer.Peer.{Peer}
 use Rattle.gf_worker.specs.Peers.{StandsInTable, IsFresh}
-use Rattle.gf_worker.proofs.TellLemmas.{all_from}
+use Rattle.gf_worker.proofs.SendLemmas.{all_from}
 use Rattle.gf_mesh.specs.Linked.{MeshTable, AreLinked, rows_of}
 
 module _ (table : MeshTable) (rows before none : List (Vec Peer)) (first second : Vec Peer) (linked : AreLinked table.links (rows_of rows)) (e : rows ≡ before ++ second ∷ []) (f : before ≡ none ++ first ∷ []) where

@@ -17,9 +17,9 @@ loop-number-preserved c = λ o members.
     c.loop-number-test.true (c.loop-number.invariant o members) added
 
 pub returns : goal.returns
-returns c = λ o tells setters.
+returns c = λ o chains setters.
     let numbers = c.deref.ensures.value ∙ c.in_ok-to_vec.ensures.value in
     let are = subst (λ (z : List ℕ). AreMembers c.args.history.now.ops c.args.chains.now z c.in_ok-members.members.items) numbers c.in_ok-members.ensures in
-    let members : AreMembersOf c.args.history.now.ops o c.args.chains.now c.args.others.now c.in_ok-members.members.items = record { tells = tells; setters = setters; members = are } in
+    let members : AreMembersOf c.args.history.now.ops o c.args.chains.now c.args.others.now c.in_ok-members.members.items = record { chains = chains; setters = setters; members = are } in
     gathers_all (ClashesWithOne c.args.history.now.ops c.args.chains.now c.args.others.now) c.loop-number.found c.deref-number-items.result.now c.args.among.now c.loop-number.number-index
     c.loop-number-test.false (c.deref-number-items.ensures.value ∙ c.in_ok-all.ensures.value) (c.loop-number.invariant o members)

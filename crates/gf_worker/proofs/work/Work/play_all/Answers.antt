@@ -1,6 +1,6 @@
 use Rattle.std.proofs.Common.{◌≡◌, ◌+◌, [], ◌∷◌, ◌++◌, append_assoc, length, length-append, sym, ap, ◌∙◌, arith}
 use Rattle.gf_worker.proofs.ThroughLemmas.{through_more}
-use Rattle.gf_worker.proofs.TellLemmas.{plays_open}
+use Rattle.gf_worker.proofs.SendLemmas.{plays_open}
 use Rattle.gf_worker.proofs.work.Work.play_all.Goals as goal
 
 pub loop-command-preserved : goal.loop-command-preserved
@@ -21,4 +21,4 @@ play-requires-clause-still g c =
     let b = c.requires.begun in
     let long = c.args.script.ok.0 in
     let few = c.requires.few in
-    λ e. plays_open l.yielded l.self (t.plays b.gathers b.underway) (t.told b.gathers b.told) (omega (arith, ap length l.invariant.rest, length-append l.yielded l.command-iterator.rest.items, long, few))
+    λ e. plays_open l.yielded l.self (t.plays b.gathers b.underway) (t.sent b.gathers b.sent) (omega (arith, ap length l.invariant.rest, length-append l.yielded l.command-iterator.rest.items, long, few))

@@ -3,7 +3,7 @@ use Rattle.std.specs.Vec.{with_items}
 use Rattle.gf_json.specs.declared.scripts.Command.TheVariants.{Author}
 use Rattle.std.specs.Prelude.{not}
 use Rattle.gf_worker.specs.Playing.{PlaysOn}
-use Rattle.gf_worker.proofs.AuthorLemmas.{plays_author, plays_refused, plays_unreserved, tells_items}
+use Rattle.gf_worker.proofs.AuthorLemmas.{plays_author, plays_refused, plays_unreserved, sends_items}
 use Rattle.gf_worker.proofs.work.Work.play_author.Goals as goal
 
 pub returns-then-is_err : goal.returns-then-is_err
@@ -12,9 +12,9 @@ returns-then-is_err g c = plays_unreserved c.args.self.now (record { accepted = 
 pub returns-in-Ok : goal.returns-in-Ok
 returns-in-Ok g c =
     let w = c.args.self.now in
-    plays_author w (record { accepted = c.push_reserved.new.self; refused = w.report.refused }) c.args.number c.args.change c.in-Ok.op c.author.new.self (with_items w.peers c.tell_all.new.peers) c.tell_all.result c.requires.long c.in-Ok.ensures.ok
+    plays_author w (record { accepted = c.push_reserved.new.self; refused = w.report.refused }) c.args.number c.args.change c.in-Ok.op c.author.new.self (with_items w.peers c.send_all.new.peers) c.send_all.result c.requires.long c.in-Ok.ensures.ok
     c.history.ensures.valid (c.push_reserved.ensures.items ∙ ap (λ l. l ++ c.in-Ok.op.id ∷ []) c.reserve.ensures.items) refl
-    (tells_items c.in-Ok.op c.tell_all.result w.peers c.deref_mut.result.now c.tell_all.new.peers c.deref_mut.ensures.value c.tell_all.ensures)
+    (sends_items c.in-Ok.op c.send_all.result w.peers c.deref_mut.result.now c.send_all.new.peers c.deref_mut.ensures.value c.send_all.ensures)
 
 pub returns-in-Err : goal.returns-in-Err
 returns-in-Err g c =

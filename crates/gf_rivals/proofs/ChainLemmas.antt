@@ -1,4 +1,4 @@
--- Chains tell the setters of an object, as the history becomes longer.
+-- Chains have the setters of an object, as the history becomes longer.
 use Rattle.std.proofs.Common.{◌≡◌, ◌≢◌, ℕ, zero, suc, ◌<◌, ◌+◌, ◌-◌, ◌*◌, List, [], ◌∷◌, ◌++◌, length, get_or, set, inl, inr, refl, subst, sym, ap, ◌∙◌, arith}
 use Rattle.std.specs.Prelude.{◌⊎◌, Some, slice_get}
 use Rattle.std.specs.List.{repeat}
@@ -28,7 +28,7 @@ use Rattle.gf_rivals.proofs.IndexLemmas.{Contains-numbers_at}
 use Rattle.gf_rivals.proofs.LongerLemmas.{get_front, get_within, get_last, get_cases, set_here, set_else, set_back}
 use Rattle.gf_rivals.proofs.NextLemmas.{earlier}
 use Rattle.gf_rivals.proofs.NumberLemmas.{some_one, rank_one, rank_below, contained_at, number_within}
-use Rattle.gf_rivals.proofs.SetterLemmas.{setters_push, at_place}
+use Rattle.gf_rivals.proofs.SetterLemmas.{setters_push, at_index}
 
 -- a setter that was put behind the others and taken away again leaves the chains as they were
 pub taken_back : (cs now new : List (List Setter)) (t : Attr) (s : ℕ) (e : Setter) → length cs ≡ 48 → s < 8 → now ≡ with_setter cs t s e →
@@ -52,8 +52,8 @@ as_many zero = refl
 as_many (suc n) = let r = as_many n in omega arith
 
 -- no operation has set anything
-pub empty_tells : (o : ObjectId) → AreChainsOf [] o no_chains
-empty_tells o = record {
+pub empty_chains : (o : ObjectId) → AreChainsOf [] o no_chains
+empty_chains o = record {
   each = λ t s p e l i. absurd (let n : slice_get [] p ≡ Some e = ap (λ z. slice_get z p) (sym (empty (chain_of t s) 48)) ∙ i in cc);
   all = λ q b v m g c. absurd cc;
   ordered = λ t s l. subst AreSetters (sym (empty (chain_of t s) 48)) (record {
@@ -64,7 +64,7 @@ empty_tells o = record {
   count = as_many 48;
 }
 
-module _ (h : List Op) (o : ObjectId) (cs : List (List Setter)) (tells : AreChainsOf h o cs) (a : Op) where
+module _ (h : List Op) (o : ObjectId) (cs : List (List Setter)) (chains : AreChainsOf h o cs) (a : Op) where
   abbrev longer : List Op
   longer = h ++ a ∷ []
 
@@ -72,15 +72,15 @@ module _ (h : List Op) (o : ObjectId) (cs : List (List Setter)) (tells : AreChai
   still t s e i = record { op = i.op; at = get_front h a e.position i.op i.at; site = i.site; seq = i.seq; value = i.value; aim = i.aim; change = i.change; attribute = i.attribute }
 
   -- an operation that does not set anything of the object
-  pub tells_other : ((v : Value) (aim : List OpId) → a.change ≢ Set o v aim) → AreChainsOf longer o cs
-  tells_other n = record {
-    each = λ t s p e l i. still t s e (tells.each t s p e l i);
+  pub chains_other : ((v : Value) (aim : List OpId) → a.change ≢ Set o v aim) → AreChainsOf longer o cs
+  chains_other n = record {
+    each = λ t s p e l i. still t s e (chains.each t s p e l i);
     all = λ q b v m g c. elim (get_cases h a q b g) [
-      | inl i ↦ tells.all q b v m i c
+      | inl i ↦ chains.all q b v m i c
       | inr w ↦ absurd (n v m (ap (λ (z : Op). z.change) w.1 ∙ c))
     ];
-    ordered = tells.ordered;
-    count = tells.count;
+    ordered = chains.ordered;
+    count = chains.count;
   }
 
   -- what has a fingerprint keeps it
@@ -88,14 +88,14 @@ module _ (h : List Op) (o : ObjectId) (cs : List (List Setter)) (tells : AreChai
   given_still p n f = record {
     position = f.position;
     number = f.number;
-    given = ap (λ r. fingerprint_given (op_value r)) (get_within h a f.position (number_within h o cs tells n f.position f.number)) ∙ f.given;
+    given = ap (λ r. fingerprint_given (op_value r)) (get_within h a f.position (number_within h o cs chains n f.position f.number)) ∙ f.given;
   }
 
   given_back : (p : Fingerprint) (n q : ℕ) → IsNumber cs n q → fingerprint_given (op_value (slice_get longer q)) ≡ Some p → HasFingerprint h cs p n
   given_back p n q k g = record {
     position = q;
     number = k;
-    given = ap (λ r. fingerprint_given (op_value r)) (sym (get_within h a q (number_within h o cs tells n q k))) ∙ g;
+    given = ap (λ r. fingerprint_given (op_value r)) (sym (get_within h a q (number_within h o cs chains n q k))) ∙ g;
   }
 
   -- the index stays one, whatever comes
@@ -128,7 +128,7 @@ module _ (h : List Op) (o : ObjectId) (cs : List (List Setter)) (tells : AreChai
     pub behind_all : (i : ℕ) (d : Setter) → i < length (setters cs t s) → (get_or (setters cs t s) i d).seq < a.id.seq
     behind_all i d l =
         let e = get_or (setters cs t s) i d in
-        let is = tells.each t s i e within (at_place (setters cs t s) i d l) in
+        let is = chains.each t s i e within (at_index (setters cs t s) i d l) in
         let k = earlier h valid a in_range accepted is.op (contained_at h e.position is.op is.at) (is.site ∙ sym site) in
         let q = is.seq in
         omega (arith, k, q)
@@ -140,7 +140,7 @@ module _ (h : List Op) (o : ObjectId) (cs : List (List Setter)) (tells : AreChai
     new = with_setter cs t s last
 
     there : chain_of t s < length cs
-    there = let r = rank_below t in let w = within in let k = tells.count in omega (arith, r, w, k)
+    there = let r = rank_below t in let w = within in let k = chains.count in omega (arith, r, w, k)
 
     own : setters new t s ≡ setters cs t s ++ last ∷ []
     own = set_here cs (chain_of t s) (setters cs t s ++ last ∷ []) [] there
@@ -174,11 +174,11 @@ module _ (h : List Op) (o : ObjectId) (cs : List (List Setter)) (tells : AreChai
       | inl w ↦
           let here : slice_get (setters new t s) p ≡ Some e = subst (λ z. slice_get (setters new z s) p ≡ Some e) w.0 (subst (λ z. slice_get (setters new u z) p ≡ Some e) w.1 i) in
           let found : IsSetter longer o t s e = elim (get_cases (setters cs t s) last p e (ap (λ z. slice_get z p) (sym own) ∙ here)) [
-            | inl k ↦ still t s e (tells.each t s p e within k)
+            | inl k ↦ still t s e (chains.each t s p e within k)
             | inr k ↦ subst (IsSetter longer o t s) k.1 is_last
           ] in
           subst (λ z. IsSetter longer o z r e) (sym w.0) (subst (λ z. IsSetter longer o t z e) (sym w.1) found)
-      | inr w ↦ still u r e (tells.each u r p e l (ap (λ z. slice_get z p) (sym w) ∙ i))
+      | inr w ↦ still u r e (chains.each u r p e l (ap (λ z. slice_get z p) (sym w) ∙ i))
     ]
 
     pub numbered : (n q : ℕ) → IsNumber cs n q → IsNumber new n q
@@ -186,9 +186,9 @@ module _ (h : List Op) (o : ObjectId) (cs : List (List Setter)) (tells : AreChai
       attribute = k.attribute;
       site = k.site;
       within = k.within;
-      place = k.place;
+      index = k.index;
       setter = k.setter;
-      at = kept k.attribute k.site k.place k.setter k.within k.at;
+      at = kept k.attribute k.site k.index k.setter k.within k.at;
       number = k.number;
       position = k.position;
     }
@@ -199,7 +199,7 @@ module _ (h : List Op) (o : ObjectId) (cs : List (List Setter)) (tells : AreChai
       attribute = t;
       site = s;
       within = within;
-      place = length (setters cs t s);
+      index = length (setters cs t s);
       setter = last;
       at = ap (λ z. slice_get z (length (setters cs t s))) own ∙ get_last (setters cs t s) last;
       number = refl;
@@ -210,21 +210,21 @@ module _ (h : List Op) (o : ObjectId) (cs : List (List Setter)) (tells : AreChai
     ordered_new u r l = elim (same_chain u r l) [
       | inl w ↦
           let k = (seq_in_range a in_range).1 in
-          let here : AreSetters (setters new t s) = setters_push (setters cs t s) (setters new t s) last own (tells.ordered t s within) behind_all first_number (omega (arith, k)) in
+          let here : AreSetters (setters new t s) = setters_push (setters cs t s) (setters new t s) last own (chains.ordered t s within) behind_all first_number (omega (arith, k)) in
           subst (λ z. AreSetters (setters new z r)) (sym w.0) (subst (λ z. AreSetters (setters new t z)) (sym w.1) here)
-      | inr w ↦ subst AreSetters (sym w) (tells.ordered u r l)
+      | inr w ↦ subst AreSetters (sym w) (chains.ordered u r l)
     ]
 
     -- ONE MORE SETTER
-    pub tells_setter : AreChainsOf longer o new
-    tells_setter = record {
+    pub chains_setter : AreChainsOf longer o new
+    chains_setter = record {
       each = each_new;
       all = λ q b w m g c. elim (get_cases h a q b g) [
-        | inl i ↦ let k = tells.all q b w m i c in (k.0, numbered k.0 q k.1)
+        | inl i ↦ let k = chains.all q b w m i c in (k.0, numbered k.0 q k.1)
         | inr z ↦ (chain_of t s * block + length (setters cs t s), subst (IsNumber new (chain_of t s * block + length (setters cs t s))) (sym z.0) last_number)
       ];
       ordered = ordered_new;
-      count = length-set cs (chain_of t s) (setters cs t s ++ last ∷ []) ∙ tells.count;
+      count = length-set cs (chain_of t s) (setters cs t s ++ last ∷ []) ∙ chains.count;
     }
 
     abbrev x : ℕ
@@ -234,19 +234,19 @@ module _ (h : List Op) (o : ObjectId) (cs : List (List Setter)) (tells : AreChai
     pub number_cases : (n q : ℕ) → IsNumber new n q → IsNumber cs n q ⊎ ((n ≡ x) × (q ≡ length h))
     number_cases n q k = elim (same_chain k.attribute k.site k.within) [
       | inl w ↦
-          let here : slice_get (setters new t s) k.place ≡ Some k.setter = subst (λ z. slice_get (setters new z s) k.place ≡ Some k.setter) w.0 (subst (λ z. slice_get (setters new k.attribute z) k.place ≡ Some k.setter) w.1 k.at) in
-          let number : n ≡ chain_of t s * block + k.place = subst (λ z. n ≡ chain_of z s * block + k.place) w.0 (subst (λ z. n ≡ chain_of k.attribute z * block + k.place) w.1 k.number) in
-          elim (get_cases (setters cs t s) last k.place k.setter (ap (λ z. slice_get z k.place) (sym own) ∙ here)) [
-            | inl old ↦ inl (record { attribute = t; site = s; within = within; place = k.place; setter = k.setter; at = old; number = number; position = k.position })
+          let here : slice_get (setters new t s) k.index ≡ Some k.setter = subst (λ z. slice_get (setters new z s) k.index ≡ Some k.setter) w.0 (subst (λ z. slice_get (setters new k.attribute z) k.index ≡ Some k.setter) w.1 k.at) in
+          let number : n ≡ chain_of t s * block + k.index = subst (λ z. n ≡ chain_of z s * block + k.index) w.0 (subst (λ z. n ≡ chain_of k.attribute z * block + k.index) w.1 k.number) in
+          elim (get_cases (setters cs t s) last k.index k.setter (ap (λ z. slice_get z k.index) (sym own) ∙ here)) [
+            | inl old ↦ inl (record { attribute = t; site = s; within = within; index = k.index; setter = k.setter; at = old; number = number; position = k.position })
             | inr z ↦ inr (number ∙ ap (λ y. chain_of t s * block + y) z.0, sym k.position ∙ ap (λ (y : Setter). y.position) (sym z.1))
           ]
       | inr w ↦ inl (record {
         attribute = k.attribute;
         site = k.site;
         within = k.within;
-        place = k.place;
+        index = k.index;
         setter = k.setter;
-        at = ap (λ z. slice_get z k.place) (sym w) ∙ k.at;
+        at = ap (λ z. slice_get z k.index) (sym w) ∙ k.at;
         number = k.number;
         position = k.position;
       })

@@ -1,7 +1,7 @@
 use Rattle.std.proofs.lemmas.List.Edits.{map_over_more}
 use Rattle.gf_link.specs.declared.message.Message.TheVariants as message
 use Rattle.gf_worker.specs.Peers.{with_message}
-use Rattle.gf_worker.proofs.telling.tell_all.Goals as goal
+use Rattle.gf_worker.proofs.sending.send_all.Goals as goal
 
 pub loop-peer-preserved : goal.loop-peer-preserved
 loop-peer-preserved g c =

@@ -18,12 +18,12 @@ use Rattle.gf_worker.specs.declared.report.Cause.{Cause}
 use Rattle.gf_worker.specs.declared.report.Report.{Report}
 use Rattle.gf_worker.specs.declared.peer.Peer.{Peer}
 use Rattle.gf_worker.specs.declared.work.Work.{Work}
-use Rattle.gf_worker.specs.Messages.{own, told, ops_of}
+use Rattle.gf_worker.specs.Messages.{own, messages_of, ops_of}
 use Rattle.gf_worker.specs.Peers.{all_ended, ArePlaced, Seat, seat_of, with_message, with_last}
 use Rattle.gf_worker.specs.Coming.{HasCome}
 use Rattle.gf_worker.specs.Played.{IsPlayed}
-use Rattle.gf_worker.specs.Telling.{IsOpen, AreOpen}
-use Rattle.gf_worker.specs.Working.{Gathers, Continues, IsTold, AreTold, Plays}
+use Rattle.gf_worker.specs.Sending.{IsOpen, AreOpen}
+use Rattle.gf_worker.specs.Working.{Gathers, Continues, IsSent, AreSent, Plays}
 use Rattle.gf_worker.specs.Turns.{Turn, accepted_change, accepted_changes}
 
 -- ---- lists whose images are one
@@ -72,10 +72,10 @@ sent_cases m (suc n) (x ∷ xs) p c = elim (Contains-cons_cases (with_message m 
   ]
 ]
 
--- ---- what each peer was told stays what it was told
+-- ---- what each peer was sent stays what it was sent
 
-pub told_continues : (old new : Work) → Continues old new → Gathers old → AreTold old → AreTold new
-told_continues old new c g t p k =
+pub sent_continues : (old new : Work) → Continues old new → Gathers old → AreSent old → AreSent new
+sent_continues old new c g t p k =
     let q = same_image (λ (x : Peer). x.send) old.peers.items new.peers.items (sym c.sends) p k in
     let i = t q.0 q.1 in
     record {
@@ -88,9 +88,9 @@ told_continues old new c g t p k =
 
 -- ---- a link to which operations alone were sent is open
 
-told_unended : (ops : List Op) → is_ended (told ops) ≡ false
-told_unended [] = refl
-told_unended (a ∷ ops) = told_unended ops
+messages_unended : (ops : List Op) → is_ended (messages_of ops) ≡ false
+messages_unended [] = refl
+messages_unended (a ∷ ops) = messages_unended ops
 
 one_few : (c : Command) (r : Option Cause) → length (accepted_change c r) ≤ 1
 one_few (Author c) None = omega arith
@@ -110,21 +110,21 @@ own_few s commands ops report p =
     let turns : length p.turns ≡ length commands = sym (length-map p.turns (λ (t : Turn). t.command)) ∙ ap length p.each in
     let f = changes_few p.turns in omega (arith, made, turns)
 
-pub told_open : (ops : List Op) (short : Bool) (p : Peer) → IsTold ops short p → length ops < 1024 → IsOpen p
-told_open ops short p t l = record {
-  still = ap is_ended t.sent ∙ told_unended t.first;
+pub sent_open : (ops : List Op) (short : Bool) (p : Peer) → IsSent ops short p → length ops < 1024 → IsOpen p
+sent_open ops short p t l = record {
+  still = ap is_ended t.sent ∙ messages_unended t.first;
   room =
       let e : length p.send.sent ≡ length t.first = ap length t.sent ∙ length-map t.first (λ a. message.Op a) in
       let f : length ops ≡ length (t.first ++ t.rest) = ap length t.whole in omega (arith, e, f, length-append t.first t.rest);
 }
 
-pub plays_open : (done : List Command) (w : Work) → Plays done w → AreTold w → length done < 1024 → AreOpen w.peers.items
+pub plays_open : (done : List Command) (w : Work) → Plays done w → AreSent w → length done < 1024 → AreOpen w.peers.items
 plays_open done w p t l q c =
     let few = own_few w.site.number p.done w.site.ops w.report p.underway.played in
     let part : length done ≡ length (p.done ++ p.rest) = ap length p.whole in
-    told_open (own w.site.number w.site.ops) w.short q (t q c) (omega (arith, few, part, length-append p.done p.rest))
+    sent_open (own w.site.number w.site.ops) w.short q (t q c) (omega (arith, few, part, length-append p.done p.rest))
 
--- a last message leaves the places and the links
-pub seats_told : (short : Bool) (peers : List Peer) → map seat_of (map (with_last short) peers) ≡ map seat_of peers
-seats_told short [] = refl
-seats_told short (p ∷ peers) = ap (λ l. seat_of p ∷ l) (seats_told short peers)
+-- a last message leaves the indices and the links
+pub seats_sent : (short : Bool) (peers : List Peer) → map seat_of (map (with_last short) peers) ≡ map seat_of peers
+seats_sent short [] = refl
+seats_sent short (p ∷ peers) = ap (λ l. seat_of p ∷ l) (seats_sent short peers)

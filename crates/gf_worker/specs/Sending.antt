@@ -21,7 +21,7 @@ abbrev pub sent_first : Op → ℕ → List Peer → List Peer
 sent_first a n peers = map (with_message (message.Op a)) (take n peers) ++ drop n peers
 
 -- the first peers were sent the operation, and all of them if nothing was refused
-pub record TellsPeers (a : Op) (all : Bool) (old new : List Peer) : Type 0 where
+pub record SendsToPeers (a : Op) (all : Bool) (old new : List Peer) : Type 0 where
   pub reached : ℕ
   pub within : reached ≤ length old
   pub now : new ≡ sent_first a reached old

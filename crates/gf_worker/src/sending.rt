@@ -2,7 +2,7 @@
 
 ghost use Rattle.std.specs.Prelude.{◌≡◌, All, map};
 ghost use Rattle.gf_worker.specs.Peers.{StandsInTable, with_last};
-ghost use Rattle.gf_worker.specs.Telling.{IsOpen, TellsPeers};
+ghost use Rattle.gf_worker.specs.Sending.{IsOpen, SendsToPeers};
 
 use crate::Peer;
 use crate::peer::send_to;
@@ -11,8 +11,8 @@ use gf_ops::Op;
 use std::alloc::Global;
 use std::sync::Wait;
 
-/// Sends a copy of the operation to each peer, and tells whether there was memory for all copies.
-pub(crate) fn tell_all<R: Wait>(
+/// Sends a copy of the operation to each peer, and says whether there was memory for all copies.
+pub(crate) fn send_all<R: Wait>(
     rt: &R,
     alloc: Global,
     links: &[Link],
@@ -21,7 +21,7 @@ pub(crate) fn tell_all<R: Wait>(
 ) -> bool
     requires placed { All (StandsInTable links.now) peers.old }
     requires still { All IsOpen peers.old }
-    ensures { TellsPeers op.now result peers.old peers.new }
+    ensures { SendsToPeers op.now result peers.old peers.new }
 {
     for peer in peers.iter_mut() {
         let Ok(copy) = op.copy(alloc) else {
@@ -33,7 +33,7 @@ pub(crate) fn tell_all<R: Wait>(
 }
 
 /// Sends the last message to each peer.
-pub(crate) fn tell_last<R: Wait>(rt: &R, links: &[Link], peers: &mut [Peer], short: bool)
+pub(crate) fn send_last<R: Wait>(rt: &R, links: &[Link], peers: &mut [Peer], short: bool)
     requires placed { All (StandsInTable links.now) peers.old }
     requires still { All IsOpen peers.old }
     ensures { peers.new ≡ map (with_last short) peers.old }

@@ -1,6 +1,6 @@
 use Rattle.std.proofs.lemmas.List.Edits.{map_over_more}
 use Rattle.gf_worker.specs.Peers.{with_last}
-use Rattle.gf_worker.proofs.telling.tell_last.Goals as goal
+use Rattle.gf_worker.proofs.sending.send_last.Goals as goal
 
 pub loop-peer-preserved : goal.loop-peer-preserved
 loop-peer-preserved g c =
