@@ -21,7 +21,7 @@ pub(crate) struct OpsById {
     // An operation lies here while it is alone, as lines in causal order do for a moment. The
     // memory stays for the next one.
     alone: Vec<Op>,
-    // Several lie here.
+    // Several operations lie here.
     many: BoxedOps,
 }
 

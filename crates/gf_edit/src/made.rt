@@ -23,7 +23,7 @@ impl fmt::Display for Made {
     }
 }
 
-/// What is told of operations with one more behind them.
+/// What is told of the operations that were made, with one more behind them.
 pub(crate) fn until(made: Option<Made>, last: OpId) -> Made
     ensures { result ≡ made_until made last }
 {

@@ -45,8 +45,8 @@ module _ (Fits : View → Type 0) (IsShown : (Point → Rgb) → Type 0) where
     pub fits : Fits window
     pub written : WritesBands IsShown window old new
 
--- what a run leaves of its sink that paints, in a window that fits in the frame, colours that
--- IsShown says of the bytes that are left in its source
+-- what a painting run leaves of its sink: a picture in the window that fits in the frame, of
+-- colours that IsShown relates to the bytes that were left in its source
 abbrev pub PaintsFitted : {W T : Type 0} → Sink W → Option (List ℕ) →
     (List ℕ → Sides → View → Type 0) → (List ℕ → (Point → Rgb) → Type 0) →
     Sides → W → W → Result T StudioError → Type 0

@@ -7,9 +7,9 @@
 //! - [`the_versions_are_a_list_that_computes`]: the law.
 //!
 //! For tables of versions: whether the operations at two positions conflict ([`conflict_at`]), and
-//! the largest sets of positions without a conflict ([`groups_at`]). The groups of an object come
-//! [from](groups_from) such sets, or are [added](add_groups) to others. The [rising
-//! ids](rising_ids) are those of positions.
+//! the largest sets of positions without a conflict ([`groups_at`]). [`groups_from`] makes such
+//! sets the groups of an object, and [`add_groups`] adds these groups to others. [`rising_ids`] are
+//! the ids of the operations at some positions.
 #![tactic(auto)]
 
 mod conflict;

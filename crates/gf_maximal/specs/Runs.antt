@@ -107,14 +107,14 @@ pushed (q ∷ p ∷ ps) r = q ∷ pushed (p ∷ ps) r
 abbrev pub single : ℕ → Run
 single n = record { start = n; end = n + 1 }
 
--- all of the runs rs by where they begin, one behind the other
+-- us are the runs rs, sorted by where they begin and pushed one behind the other
 pub record IsGathered (rs us : List Run) : Type 0 where
   pub all : List Run
   pub moved : IsPermutation rs all
   pub rises : IsNonDecreasingBy (λ (r : Run). r.start) all
   pub made : us ≡ fold pushed [] all
 
--- rest are runs that serve as the others do, for all runs that are left
+-- from the start of each run that is left, rest has the runs that the others have
 pub record Serves (rest others left : List Run) : Type 0 where
   pub runs : AreRuns rest
   pub same : (q : Run) → Contains left q → after q.start rest ≡ after q.start others

@@ -54,8 +54,8 @@ fn take_up(others: &[Numbers], set: Numbers, taken: &mut Vec<Numbers>) -> Result
     Ok(())
 }
 
-/// The maximal remainders, without the numbers, of the sets that have one of them. None lies within
-/// the others.
+/// What the numbers leave of each set that has one of them: the maximal ones, of which none lies
+/// within one of `others`.
 fn maximal_remainders(
     alloc: Global,
     numbers: &Numbers,

@@ -28,7 +28,8 @@ fn searched(runs: &[Run], number: usize) -> &[Run]
     runs.split_at(index).1
 }
 
-/// The runs from the first one on that has this number or one above it: mostly one of the first.
+/// The runs from the first one on that has this number or a greater one. This run mostly is one of
+/// the first.
 fn after(runs: &[Run], number: usize) -> &[Run]
     requires { AreRuns runs.now }
     ensures { result.now ≡ after number runs.now }

@@ -84,8 +84,8 @@ pub record GivesAnother (h : List Op) (i : OpId) (w : Value) : Type 0 where
   pub id : op.id ≡ i
   pub another : sets_another op.change w ≡ true
 
--- of the site t under the ids, l names the last setter at the place k. The other one of l is the
--- last setter there of another value
+-- of the operations of site t under the ids, l names the last setter at the place k. Its `other` is
+-- the last setter there of another value, or any one where all give one value
 pub record IsLatest (h : List Op) (ids : List OpId) (t k : ℕ) (l : Latest) : Type 0 where
   pub value : Value
   pub nearest : SetsAt h t l.nearest value
@@ -120,8 +120,8 @@ NoneAbove h ids t i = i.site ≡ t → (y : Op) → IsOfSite h ids t y → y.id.
 abbrev pub MeetsLatest : List Op → Op → Latest → Type 0
 MeetsLatest h x l = MeetsAt h x l.nearest ⊎ MeetsAt h x l.other
 
--- the operation of h under i conflicts directly with one of the two that the table has for its
--- attribute
+-- the operation of h under i conflicts directly with one of the two setters that the table names
+-- for its attribute
 pub record MeetsTable (h : List Op) (table : List (Option Latest)) (i : OpId) : Type 0 where
   pub op : Op
   pub contained : Contains h op

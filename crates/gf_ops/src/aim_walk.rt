@@ -71,8 +71,8 @@ impl History {
     }
 
     /// Whether no operation of the one site conflicts directly with one of the other site. For each
-    /// of the one, the walk notes those of the other that did not know it. Only the latest noted
-    /// setters are compared.
+    /// operation of the one site, the walk notes the other site's operations that did not know it.
+    /// Only the latest noted setters are compared.
     fn are_parted(&self, ids: &[OpId], site: u8, other: u8) -> bool
         requires rising { IsTrue (ids_rise ids.now) }
         requires object { AreOnOne self.now.ops ids.now }

@@ -27,7 +27,7 @@ pub fn direct_conflict(a: &Op, b: &Op) -> bool
 /// A side is an operation with those that it aims at. What the history lacks of an aim counts for
 /// nothing.
 ///
-/// Each of the one side is compared with each of the other.
+/// Each operation of the one side is compared with each of the other side.
 pub fn conflicts(history: &History, a: &Op, b: &Op) -> bool
     requires a { IsInRange a.now }
     requires b { IsInRange b.now }
@@ -45,7 +45,7 @@ pub fn meets_brought(history: &History, a: &Op, b: &Op) -> bool
     direct_conflict(a, b) || history.meets(a, b.aim())
 }
 
-/// Whether one under these ids conflicts directly with `b`, or with one that `b` aims at.
+/// Whether an operation under these ids conflicts directly with `b`, or with one that `b` aims at.
 fn aim_meets(history: &History, aim: &[OpId], b: &Op) -> bool
     requires { IsInRange b.now }
     ensures { IsTrue result ↔ AimMeets history.now.ops aim.now b.now }

@@ -6,8 +6,8 @@ use thiserror::Error;
 #[derive(Clone, Copy, Debug, PartialEq, Eq, Error)]
 pub enum OpFault {
     /// The number is not the next of its site, or the clock counts another number of its site. Or
-    /// the clock counts more of another site than there are. Or it counts less of some site than an
-    /// operation knew that it counts.
+    /// the clock counts more of another site than there are. Or it counts fewer operations of some
+    /// site than one of those that it counts knew.
     #[error("BadClock")]
     BadClock,
     /// The operation changes an object whose creation it doesn't know.
@@ -18,7 +18,7 @@ pub enum OpFault {
     #[error("WrongKind")]
     WrongKind,
     /// The aim has an operation that is not there, not before this one, or on another object. Or
-    /// two of the aim conflict directly, or it lacks one that an operation of the aim aims at.
+    /// two of them conflict directly, or it lacks an operation that one of them aims at.
     #[error("BadAim")]
     BadAim,
 }

@@ -122,8 +122,8 @@ impl History {
 
     /// Whether the operation may be added now, with the first of its faults. The check looks up the
     /// last known operation of each site, and the creation of the changed object. Each id of the
-    /// aim costs fewer than thirty look-ups. One that aims at others itself costs a walk over both
-    /// aims.
+    /// aim costs fewer than thirty look-ups. An id whose operation has an aim of its own costs a
+    /// walk over both aims.
     pub fn check(&self, op: &Op) -> Result<(), OpFault>
         requires { IsInRange op.now }
         ensures ok { IsOk result ↔ IsAccepted self.now.ops op.now }
@@ -171,8 +171,8 @@ impl History {
         clock.is_within(&self.counts)
     }
 
-    /// Whether the operation knows all that the operations that it knows knew. The pasts of a site
-    /// only grow, so the last of each site decides.
+    /// Whether the operation's past has all that each operation in this past knew. The pasts of a
+    /// site only grow, so the last operation of each site decides.
     fn is_closed(&self, op: &Op) -> bool
         requires within { CountsAtMost op.now.past self.now.ops }
         ensures { IsTrue result ↔ IsCausallyClosed self.now.ops op.now }

@@ -23,8 +23,8 @@ pub enum LineCause {
 /// Why lines are no history.
 #[derive(Clone, Copy, Debug, PartialEq, Eq, Error)]
 pub enum ReadingError {
-    /// The line of this number, counted from 1, is no operation, or another one under an earlier
-    /// id.
+    /// The line of this number, counted from 1, is no operation, or it is another operation under
+    /// the id of an earlier one.
     #[error("line {0}: {1}")]
     Line(u64, LineCause),
     /// The operation of this id came in its turn and doesn't fit behind those before it.

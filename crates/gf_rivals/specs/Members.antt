@@ -1,5 +1,5 @@
--- The setters of an aim, the last one first, each with the next one of its chain with another
--- value.
+-- The setters of an aim, the last one first, each with the next setter of its chain that gives
+-- another value.
 use Rattle.std.specs.Prelude.{◌≡◌, ◌≢◌, ℕ, ◌+◌, ◌*◌, ◌/◌, ◌<◌}
 use Rattle.std.specs.Prelude.{◌≤◌, List, Contains, Option, Some, None, slice_get}
 use Rattle.std.specs.Prelude.{slice_index_or, length}
@@ -39,7 +39,7 @@ IsOther h cs n (Some m) r = (¬ (OneChain m.number n) → r ≡ None)
     × (OneChain m.number n → value_of h cs n ≢ value_of h cs m.number → r ≡ Some m.number)
     × (OneChain m.number n → value_of h cs n ≡ value_of h cs m.number → r ≡ m.other)
 
--- the other of a member is the first one of us behind it, in its chain, with another value
+-- the `other` of a member is the first number of us behind it, in its chain, with another value
 pub record PointsToOther (h : List Op) (cs : List (List Setter)) (us : List ℕ)
     (m : Member) : Type 0 where
   pub is : (o : ℕ) → m.other ≡ Some o → Contains us o × OneChain o m.number

@@ -107,8 +107,8 @@ pub(crate) fn fork<R: Threads + Wait + Sync, G: Gate + Sync>(
     ends
 }
 
-/// Runs the last site in a thread of its own, beside the others. If the thread is refused, this site
-/// is stopped before the others run, so that none of them waits for it.
+/// Runs the last site in a thread of its own, beside the others. If the thread is refused, this
+/// site is stopped before the others run, so none of them waits for it.
 #[cycle(sites)]
 fn fork_last<R: Threads + Wait + Sync, G: Gate + Sync>(
     rt: &R,

@@ -92,8 +92,8 @@ RefusesScripts n bytes (studio.Line m why) = HasScriptFault n bytes m why
 RefusesScripts n bytes studio.OutOfMemory = ⊤
 RefusesScripts n bytes other = ⊥
 
--- the text has the lines of all sites, and behind them the one FIG text of the drawing of h, which
--- shows h
+-- the text has the lines of all sites. Behind them stands the one FIG text of the drawing of h, and
+-- this shows h
 pub record TellsHistory (h : List Op) (dones : List Done) (text : List ℕ) : Type 0 where
   pub drawing : DrawingState AnyShape
   pub drawn : IsDrawn h drawing

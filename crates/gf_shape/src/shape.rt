@@ -45,9 +45,9 @@ pub trait Shape: Drop {
         ensures outline { IfOk result (λ o. o ≡ outline self.now) }
         ensures lawful { IfOk result IsLawful };
 
-    /// Makes `row` the row `y`, in the memory that `row` has, and more where that is too little. A
-    /// box takes constant time, and a disc or an oval one root. A chain takes one pass over its
-    /// edges, and a sort of those that meet the row.
+    /// Makes `row` the row `y`. The memory of `row` is used again, and grows where it is too
+    /// little. A box takes constant time, and a disc or an oval one root. A chain takes one pass
+    /// over its edges, and a sort of the edges that meet the row.
     fn row_into(&self, y: i32, row: &mut Row) -> Result<(), OutOfMemory>
         ensures { OnOk result (IsRow (holds self.now) y row.new) };
 

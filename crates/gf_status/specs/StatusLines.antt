@@ -43,7 +43,7 @@ waits_line i j = codes "operation " ++ id_text i ++ codes " waits for " ++ id_te
 abbrev pub waiting_line : List Op → Op → List ℕ
 waiting_line h a = waits_line a.id (waits_for h a)
 
--- n in words, up to 1,000
+-- n in digits, or `more than 1000`
 abbrev pub number_text : ℕ → List ℕ
 number_text n = cond (nat_le n 1000) (decimal n) (codes "more than 1000")
 

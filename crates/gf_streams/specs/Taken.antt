@@ -19,8 +19,8 @@ Unflushes old new result = MatchResult result (λ n. UnflushedBy n old new) (λ 
 abbrev pub Flushes : {T E : Type 0} → Bool → Bool → Result T E → Type 0
 Flushes old new result = MatchResult result (λ _. new ≡ true) (λ _. new ≡ old)
 
--- known bytes grow from old to new by a prefix of the bytes, but not all. Whether all are flushed
--- goes from was to is
+-- known bytes grow from old to new by a prefix of the bytes, but not all. That all was flushed held
+-- before as `was` says, and holds afterwards as `is` says
 pub record TakesPart (bytes : List ℕ) (old new : Option (List ℕ)) (was is : Bool) : Type 0 where
   pub count : ℕ
   pub fewer : count < length bytes

@@ -18,7 +18,6 @@ use Rattle.gf_fig_read.specs.FigGrammar.{Fails, Reads}
 use Rattle.gf_fig_read.specs.Objects.{Drawn}
 use Rattle.gf_fig_tokens.specs.declared.faults.FigFault.{FigFault}
 use Rattle.gf_fig_read.proofs.GrammarLemmas.{not_both, one_drawing}
-use Rattle.gf_fig_write.specs.FigText.{fig_text}
 use Rattle.gf_scanline.specs.Picture.{picture}
 use Rattle.gf_scanline.specs.Windows.{View}
 use Rattle.gf_studio.specs.declared.studio_error.StudioError.{StudioError}

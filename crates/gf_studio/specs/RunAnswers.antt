@@ -43,8 +43,8 @@ module _ {R : Type 0} (source : Source R) (old new : R) where
   ReadsUntil (studio.Session session.Sites) = new ≡ old
   ReadsUntil other = ReadsAll
 
-  -- how far a run with this answer read; one byte past an input came at most, and it read no more
-  -- often than that. `of` gives an error that any run may have; behind any other one all is read
+  -- how far a run with this answer read: at most one byte past an input, in no more reads than
+  -- that. `of` gives the errors that any run may have; with any other error all was read
   pub record ReadsInputBy {T E : Type 0} (of : E → Option StudioError) (result : Result T E)
       : Type 0 where
     pub came : MatchResult result (λ _. ReadsAll) (λ e. MatchOption (of e) ReadsAll ReadsUntil)
@@ -73,8 +73,8 @@ module _ (IsText : List ℕ → Type 0) (old new : Option (List ℕ)) where
 abbrev pub FailsToWrite : {T E : Type 0} → (E → Option StudioError) → Result T E → Type 0
 FailsToWrite of result = MatchResult result (λ _. ⊥) (λ e. of e ≡ Some studio.WriteFailed)
 
--- a run brings its sink from old to new, to write a text of which IsText holds with the bytes that
--- were left in its source, where that tells them
+-- a run brings its sink from old to new. IsText relates the bytes that were left in its source to
+-- the texts that it may write
 module _ {W : Type 0} (sink : Sink W) (left : Option (List ℕ)) (IsText : List ℕ → List ℕ → Type 0)
     (old new : W) where
   module _ {T E : Type 0} (of : E → Option StudioError) (result : Result T E) where

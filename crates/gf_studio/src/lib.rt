@@ -1,5 +1,5 @@
-//! Whole runs over bytes: from the lines of an input to a history, its drawing, and the drawing's
-//! text or picture, or to lines of versions, and from FIG text to a picture.
+//! Whole runs over bytes. A run makes operation lines a FIG text, a picture or lines of versions,
+//! or it makes a FIG text a picture.
 //!
 //! - [`fig_run`]: reads operation lines and writes the FIG text of their drawing; [`StudioError`]
 //!   with [`LineCause`] tells why not.
@@ -16,9 +16,8 @@
 //!   history.
 //!
 //! [`Source`], [`read_input`], [`MOST_INPUT_BYTES`], [`In`], [`Reel`], [`SourceFault`],
-//! [`InputError`] and [`TextLines`] are those of `gf_streams`; [`Window`], [`Gate`] and [`OpenGate`]
-//! are those of `gf_raster`; [`LineCause`] is that of `gf_replay`, and [`SessionError`] that of
-//! `gf_session`.
+//! [`InputError`] and [`TextLines`] come from `gf_streams`, [`Window`], [`Gate`] and [`OpenGate`]
+//! from `gf_raster`, [`LineCause`] from `gf_replay`, and [`SessionError`] from `gf_session`.
 #![tactic(auto)]
 
 mod drawings;

@@ -39,8 +39,7 @@ choices (s ∷ steps) p =
 abbrev pub answers : List StepState → List StepState → List ℕ → List (List ℕ)
 answers all steps p = filter (all_hold all) (choices steps p)
 
--- hides tells whether a position hides, covers whether the second covers the first,
--- rivals whether two conflict
+-- `hides x`: the position x hides. `covers x y`: y covers x. `rivals x y`: x and y conflict
 module _ (hides : ℕ → Bool) (covers rivals : ℕ → ℕ → Bool) where
   -- the step of the position x among the positions us
   abbrev pub step_of : List ℕ → ℕ → StepState

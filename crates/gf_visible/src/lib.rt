@@ -6,8 +6,8 @@
 //! - [`ranked_within`]: the ranked list of the visible versions of a history; [`ranked_with`]: the
 //!   same with no bound, as `ranked` gives it.
 //! - [`showing_within`]: the largest compatible sets of positions that show, but no more than so
-//!   many, found from what [`Setters`] say of each other: each position is chosen or left out, and
-//!   a partial choice is dropped as soon as it can't hold.
+//!   many. [`Setters`] say what positions do to each other. Each position is chosen or left out,
+//!   and a partial choice is dropped as soon as it can't hold.
 //! - [`the_choices_are_the_largest_sets_that_show`]: the law of this search.
 #![tactic(auto)]
 

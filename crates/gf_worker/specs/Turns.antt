@@ -95,8 +95,8 @@ abbrev pub refusals : ℕ → List Turn → List Refused
 refusals n [] = []
 refusals n (t ∷ ts) = refusal_of n t.refusal ++ refusals (n + 1) ts
 
--- each turn has before it the operations accepted earlier, n at first, and none of site s accepted
--- later
+-- the first turn has n operations of site s before it, and each change that was accepted adds one
+-- before the turns behind it
 abbrev pub AreCounted : ℕ → ℕ → List Turn → Type 0
 AreCounted s n [] = ⊤
 AreCounted s n (t ∷ ts) = (count_of t.before s ≡ n)

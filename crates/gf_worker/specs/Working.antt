@@ -78,9 +78,9 @@ pub record Continues (old new : Work) : Type 0 where
   pub underway : (commands : List Command) → Gathers old → IsUnderway commands old
       → IsUnderway commands new
 
--- what the site holds after the operations come: no more than these besides, and none of its own.
--- Unless it is short, it has or holds each of them that is of another site. Left out are those that
--- break a limit, or that are others under a known id
+-- what the site holds after operations came: what it held, and of these only operations of other
+-- sites. Unless it is short, it has or holds each of them. Left out are operations that break a
+-- limit, or that are others under a known id
 pub record Hears (s : ℕ) (ops held come : List Op) (short : Bool) (new : List Op) : Type 0 where
   pub from : (a : Op) → Contains new a
       → Contains held a ⊎ (Contains come a × (a.id.site ≢ s))

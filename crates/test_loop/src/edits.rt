@@ -56,7 +56,7 @@ const ROWS: &str = r#"
 2 box / green / await~[1,1]~[2,1] / | | line 3: OwnId
 2 box / await~[1,1]~[9,1] / | | line 2: Range
 
-// One command that is refused, and nothing is written.
+// Where one command is refused, nothing is written.
 2 box / move / gone / move / | | line 3: NoObject
 2 blue / gone~[1,2]~[1,1] / | | line 2: NoObject
 2 box / move / bend / | | line 3: WrongKind

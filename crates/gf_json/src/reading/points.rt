@@ -46,7 +46,7 @@ fn counted(count: usize) -> Result<usize, LineError>
     }
 }
 
-/// Whether each value is a point, or the first fault.
+/// Success where each value is a point, and else the first fault.
 fn are_points(values: &[Value]) -> Result<(), LineError>
     ensures { result ≡ checked (each point (elements (items_view values.now))) }
 {
@@ -59,7 +59,7 @@ fn are_points(values: &[Value]) -> Result<(), LineError>
     found
 }
 
-/// Whether a point and those behind it are right.
+/// Success where a point and all behind it were read, and else the first fault.
 fn beside(first: Result<Point, LineError>, others: Result<(), LineError>) -> Result<(), LineError>
     ensures { result ≡ checked (first & others) }
 {

@@ -84,7 +84,7 @@ pub(crate) fn size_data(alloc: Global, width: u32, height: u32) -> Result<Value,
     pair_data(alloc, Value::from(width), Value::from(height))
 }
 
-/// An array of two.
+/// An array of two values.
 fn pair_data(alloc: Global, first: Value, second: Value) -> Result<Value, AllocError>
     ensures { IfOk result (λ v. view v ≡ pair_data (view first) (view second)) }
 {
