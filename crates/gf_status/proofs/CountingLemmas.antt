@@ -71,11 +71,11 @@ module _ (c : ℕ → ℕ → Bool) (s : IsConflict c) where
       ap (λ n. fold count_with n ps) e ∙ counts_all ps (λ q i. are q (Contains-cons_tail p ps q i)) (products gs (full c p)) (omega (arith, long, more, o))
 
 -- THE COUNT: the product of the components' sets is how many versions the object has
-pub count_told : (h : List Op) → IsValid h → (o : ObjectId) → (t : ComponentsState) → AreComponentsOn h o t → IsMade h o → (n : ℕ) → n ≡ counted t.parts → IsCount h o n
+pub count_told : (h : List Op) → IsValid h → (o : ObjectId) → (t : ComponentsState) → AreComponentsOn h o t → IsMade h o → (n : ℕ) → n ≡ counted t.components → IsCount h o n
 count_told h valid o t on made n e =
     let c = conflict_at h in
     record {
       groups = map (group_at h o) (listed c t);
       all = versions_listed h o t on valid made;
-      is = e ∙ (counts_all c (conflict_at_test h) t.parts on.components.parts (t.free ∷ []) (omega arith) ∙ ap capped (sym (length-map (listed c t) (group_at h o))));
+      is = e ∙ (counts_all c (conflict_at_test h) t.components on.components.components (t.free ∷ []) (omega arith) ∙ ap capped (sym (length-map (listed c t) (group_at h o))));
     }

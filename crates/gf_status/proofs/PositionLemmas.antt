@@ -108,14 +108,14 @@ to_flat (q ∷ ps) k p i c = elim (Contains-cons_cases q ps p i) [
 -- the numbers of an object's components are the positions of the operations on it
 pub numbers_on : (h : List Op) (o : ObjectId) (t : ComponentsState) → AreComponentsOn h o t → (k : ℕ) → Contains (numbers_in t) k ↔ (is_on o (slice_get h k) ≡ true)
 numbers_on h o t on k =
-    let w = all_of_fold (conflict_at h) (alone t.free) t.parts k in
-    let flat = flat_map (λ (p : ComponentState). p.all) t.parts in (
+    let w = all_of_fold (conflict_at h) (alone t.free) t.components k in
+    let flat = flat_map (λ (p : ComponentState). p.all) t.components in (
       λ c. (all_positions h o k).0 ((on.all k).0 (w.1 (elim (Contains-append_cases t.free flat k c) [
         | inl i ↦ inl i
-        | inr i ↦ inr (in_flat t.parts k i)
+        | inr i ↦ inr (in_flat t.components k i)
       ]))),
       λ y. elim (w.0 ((on.all k).1 ((all_positions h o k).1 y))) [
         | inl i ↦ Contains-append_left t.free flat k i
-        | inr p ↦ Contains-append_right t.free flat k (to_flat t.parts k p.0 p.1 p.2)
+        | inr p ↦ Contains-append_right t.free flat k (to_flat t.components k p.0 p.1 p.2)
       ],
     )

@@ -89,7 +89,7 @@ module _ (h : List Op) where
 
 -- all numbers of the components, in no order
 abbrev pub numbers_in : ComponentsState → List ℕ
-numbers_in s = s.free ++ flat_map (λ (p : ComponentState). p.all) s.parts
+numbers_in s = s.free ++ flat_map (λ (p : ComponentState). p.all) s.components
 
 -- two values, or none, are not the same
 abbrev pub are_others : Option Value → Option Value → Bool

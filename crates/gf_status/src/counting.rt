@@ -22,25 +22,25 @@ pub(crate) fn count_versions(history: &History, object: ObjectId, components: &C
 {
     // The clause of `ops` says that the history is valid.
     let _ = history.ops();
-    counted(components.parts())
+    counted(components.components())
 }
 
 /// How many ways there are to take one set of each component.
-fn counted(parts: &[Component]) -> usize
-    ensures { result ≡ counted parts.now }
+fn counted(components: &[Component]) -> usize
+    ensures { result ≡ counted components.now }
 {
     let mut count = 1;
-    for part in parts {
-        count = count_with(count, part);
+    for component in components {
+        count = count_with(count, component);
     }
     count
 }
 
 /// The number of ways, times the number of sets of the component; capped.
-fn count_with(count: usize, part: &Component) -> usize
-    ensures { result ≡ count_with count part.now }
+fn count_with(count: usize, component: &Component) -> usize
+    ensures { result ≡ count_with count component.now }
 {
-    match part.sets() {
+    match component.sets() {
         Some(sets) => capped(count.saturating_mul(sets.len())),
         None => MOST_COUNTED + 1,
     }

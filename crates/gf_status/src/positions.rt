@@ -53,8 +53,8 @@ pub(crate) fn numbers_in(alloc: Global, components: &Components) -> Result<Vec<u
     ensures { IfOk result (λ found. found.items ≡ numbers_in components.now) }
 {
     let mut found = components.free().to_vec(alloc)?;
-    for part in components.parts() {
-        let mut more = part.all().to_vec(alloc)?;
+    for component in components.components() {
+        let mut more = component.all().to_vec(alloc)?;
         found.append(&mut more)?;
     }
     Ok(found)

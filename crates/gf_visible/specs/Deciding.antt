@@ -47,7 +47,10 @@ module _ (h : List Op) where
 
   -- what is free but for ls, and the components that do not decide
   abbrev pub idle : List ℕ → ComponentsState → ComponentsState
-  idle ls s = record { free = without ls s.free; components = filter (λ p. not (decides ls p)) s.components }
+  idle ls s = record {
+    free = without ls s.free;
+    components = filter (λ p. not (decides ls p)) s.components;
+  }
 
   -- the versions with one of gs, if they are at most m; no versions where gs is empty
   abbrev pub with_idle : ℕ → List ℕ → ComponentsState → List (List ℕ)

@@ -6,4 +6,4 @@ use Rattle.gf_status.proofs.counting.count_versions.Goals as goal
 pub returns : goal.returns
 returns c =
     let h = c.args.history.now.ops in
-    count_told h c.ops.ensures.valid c.args.object c.args.components.now c.requires.on c.requires.made c.counted.result (c.counted.ensures ∙ ap counted c.parts.ensures)
+    count_told h c.ops.ensures.valid c.args.object c.args.components.now c.requires.on c.requires.made c.counted.result (c.counted.ensures ∙ ap counted c.components.ensures)

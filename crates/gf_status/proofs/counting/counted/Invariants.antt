@@ -3,5 +3,5 @@ use Rattle.std.specs.List.{fold}
 use Rattle.gf_status.specs.Multiplying.{count_with}
 use Rattle.gf_status.proofs.counting.counted.Given as goal
 
-abbrev pub invariant-loop-part : goal.invariant-loop-part
-invariant-loop-part l = l.count ≡ fold count_with 1 (take l.part-index l.parts)
+abbrev pub invariant-loop-component : goal.invariant-loop-component
+invariant-loop-component l = l.count ≡ fold count_with 1 (take l.component-index l.components)

@@ -3,5 +3,5 @@ use Rattle.std.specs.List.{flat_map}
 use Rattle.gf_components.specs.Components.{ComponentState}
 use Rattle.gf_status.proofs.positions.numbers_in.Given as goal
 
-abbrev pub invariant-loop-part : goal.invariant-loop-part
-invariant-loop-part l = l.found.items ≡ l.components.free ++ flat_map (λ (p : ComponentState). p.all) (take l.part-index l.part-items)
+abbrev pub invariant-loop-component : goal.invariant-loop-component
+invariant-loop-component l = l.found.items ≡ l.components.free ++ flat_map (λ (p : ComponentState). p.all) (take l.component-index l.component-items)
