@@ -36,8 +36,8 @@ pub fn edit_run<R: Source, W: Sink>(
         RefusesEdit editor bytes e)) }
 
     // At most a prefix of the text is written, and that only where the sink failed.
-    ensures sink { LeavesSinkBy W.Sink (R.left source.old) (IsEditOf editor) sink.old sink.new of_edit
-        result }
+    ensures sink { LeavesSinkBy W.Sink (R.left source.old) (IsEditOf editor) sink.old sink.new
+        of_edit result }
 {
     let edited = edit_lines(alloc, source, editor)?;
     match write_whole(sink, &edited.text) {

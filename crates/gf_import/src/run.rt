@@ -34,8 +34,8 @@ pub fn import_run<R: Source, W: Sink>(
         RefusesImportRun fig e)) }
 
     // At most a prefix of the lines is written, and that only where the sink failed.
-    ensures sink { LeavesSinkBy W.Sink (R.left source.old) (Imports site) sink.old sink.new of_import
-        result }
+    ensures sink { LeavesSinkBy W.Sink (R.left source.old) (Imports site) sink.old sink.new
+        of_import result }
 {
     let text = import_lines(alloc, source, site)?;
     match write_whole(sink, &text) {

@@ -26,8 +26,8 @@ impl Model for Pass {
 }
 
 impl Pass {
-    /// Passes the gate, as worker `who`, for each tile of a band that begins among `len` columns from
-    /// `from` on.
+    /// Passes the gate, as worker `who`, for each tile of a band that begins among `len` columns
+    /// from `from` on.
     pub fn through<R: Threads, G: Gate>(
         crew: &Crew<'_, R, G>,
         shown: &ShownRows<'_>,

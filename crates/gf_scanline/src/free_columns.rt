@@ -55,7 +55,8 @@ impl FreeColumns {
     /// Whether one of the columns is free.
     pub fn has(&self, columns: Columns) -> bool
         ensures some { IsTrue result → (k : ℕ) × IsTrue (is_free self.now k && is_among columns k) }
-        ensures none { result ≡ false → (k : ℕ) → (is_free self.now k && is_among columns k) ≡ false }
+        ensures none { result ≡ false
+            → (k : ℕ) → (is_free self.now k && is_among columns k) ≡ false }
     {
         self.first_free(columns.from) < columns.to.min(COLUMNS)
     }
@@ -87,8 +88,8 @@ impl FreeColumns {
         self.first_free(column) == column && column < COLUMNS
     }
 
-    #[tactic(auto, using(crate::proofs::FreeLemmas::beyond, crate::proofs::FreeLemmas::first_here, crate::proofs::FreeLemmas::first_nowhere, crate::proofs::FreeLemmas::first_later))]
     /// The first free column from `start` on; 4,096 where there is none.
+    #[tactic(auto, using(crate::proofs::FreeLemmas::beyond))]
     fn first_free(&self, start: usize) -> usize
         ensures first { IsFirst (is_free self.now) 4096 start result }
         ensures beyond { (k : ℕ) → 4096 ≤ k → is_free self.now k ≡ false }

@@ -29,8 +29,10 @@ red f = record {
 abbrev pub red_box : Op
 red_box = red (Rect 300 400)
 
-pub red_box_read : denoted (codes
-    "{\"colour\":\"ff0000\",\"id\":[1,1],\"kind\":\"box\",\"layer\":0,\"op\":\"create\",\"past\":[0,0,0,0,0,0,0,0],\"place\":[100,200],\"shown\":true,\"size\":[300,400]}") ≡ Ok red_box
+pub red_box_read : denoted
+    (codes "{\"colour\":\"ff0000\",\"id\":[1,1],\"kind\":\"box\",\"layer\":0,"
+    ++ codes "\"op\":\"create\",\"past\":[0,0,0,0,0,0,0,0],\"place\":[100,200],"
+    ++ codes "\"shown\":true,\"size\":[300,400]}") ≡ Ok red_box
 unfolding serde_json_on_literals digits is_utf8 chars
 red_box_read = refl
 
@@ -39,7 +41,8 @@ abbrev pub line : List ℕ → List ℕ → List ℕ → List ℕ → List ℕ
 line id past layer size =
     codes "{\"size\":" ++ size ++ codes ",\"layer\":" ++ layer ++ codes ",\"past\":" ++ past
     ++ codes ", \"id\" :" ++ id
-    ++ codes ",\"colour\":\"FF0000\",\"kind\":\"box\",\"op\":\"create\",\"place\":[100,200],\"shown\":true}"
+    ++ codes ",\"colour\":\"FF0000\",\"kind\":\"box\",\"op\":\"create\","
+    ++ codes "\"place\":[100,200],\"shown\":true}"
 
 abbrev pub zeros : List ℕ
 zeros = codes "[0,0,0,0,0,0,0,0]"

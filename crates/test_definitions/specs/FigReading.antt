@@ -47,8 +47,8 @@ no_resolution = fails_by (codes "#FIG 3.2\nLandscape\nCenter\nMetric\nA4\n100.00
 
 -- the first line, header, resolution and comment of the text
 abbrev pub front : List ℕ
-front = codes
-    "#FIG 3.2  Produced by xfig version 3.2.5\nLandscape\nCenter\nInches\nLetter  \n100.00\nSingle\n-2\n1200 2\n# a triangle\n"
+front = codes "#FIG 3.2  Produced by xfig version 3.2.5\nLandscape\nCenter\nInches\n"
+    ++ codes "Letter  \n100.00\nSingle\n-2\n1200 2\n# a triangle\n"
 
 abbrev pub triangle_text : List ℕ
 triangle_text =

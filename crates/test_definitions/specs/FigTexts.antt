@@ -37,7 +37,8 @@ red_box = record {
 -- the colour and the five points of the red box, after the header
 pub red_box_text : fig_text rect_outline red_box
     ≡ fig_header
-    ++ codes "0 32 #ff0000\n2 2 0 0 32 32 0 -1 20 0.000 0 0 -1 0 0 5\n\t 100 200 400 200 400 600 100 600 100 200\n"
+    ++ codes "0 32 #ff0000\n2 2 0 0 32 32 0 -1 20 0.000 0 0 -1 0 0 5\n"
+    ++ codes "\t 100 200 400 200 400 600 100 600 100 200\n"
 unfolding digits
 red_box_text = refl
 
@@ -84,6 +85,7 @@ triangle = at (negsuc 999999) (negsuc 999999) ∷ at (negsuc 1999999) (negsuc 99
 
 -- a polygon of FIG, the first of its three points written again
 pub triangle_lines : outline_lines 32 0 (Chain (record { boxed = false; points = triangle })) ≡
-    codes "2 3 0 0 32 32 0 -1 20 0.000 0 0 -1 0 0 4\n\t -1000000 -1000000 -2000000 -1000000 -1000000 -2000000 -1000000 -1000000\n"
+    codes "2 3 0 0 32 32 0 -1 20 0.000 0 0 -1 0 0 4\n\t -1000000 -1000000 -2000000 "
+    ++ codes "-1000000 -1000000 -2000000 -1000000 -1000000\n"
 unfolding digits
 triangle_lines = refl

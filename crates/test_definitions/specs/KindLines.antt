@@ -13,7 +13,8 @@ use Rattle.serde_json.proofs.OnLiterals.{serde_json_on_literals}
 abbrev pub shaped : List ℕ → List ℕ → List ℕ
 shaped kind shape =
     codes "{" ++ shape ++ codes ",\"kind\":\"" ++ kind
-    ++ codes "\",\"layer\":0,\"past\":[0,0,0,0,0,0,0,0],\"id\":[1,1],\"colour\":\"ff0000\",\"op\":\"create\",\"place\":[100,200],\"shown\":true}"
+    ++ codes "\",\"layer\":0,\"past\":[0,0,0,0,0,0,0,0],\"id\":[1,1],"
+    ++ codes "\"colour\":\"ff0000\",\"op\":\"create\",\"place\":[100,200],\"shown\":true}"
 
 pub red_circle_read : denoted (shaped (codes "circle") (codes "\"size\":[7,7]"))
     ≡ Ok (red (Circle 7))

@@ -1,5 +1,5 @@
 -- Worked examples of script lines, checked by computing.
-use Rattle.std.specs.Prelude.{◌≡◌, [], Ok, Err, refl, codes, pos, true}
+use Rattle.std.specs.Prelude.{◌≡◌, [], Ok, Err, refl, codes, pos, true, ◌++◌}
 use Rattle.std.specs.Str.{is_utf8, chars}
 use Rattle.std.specs.Fmt.{digits}
 use Rattle.gf_ops.specs.declared.change.Form.TheVariants.{Rect}
@@ -12,7 +12,18 @@ use Rattle.test_definitions.specs.SetLines.{blue}
 use Rattle.serde_json.proofs.OnLiterals.{serde_json_on_literals}
 
 pub create_read : script_denoted
-    (codes "{\"site\":1,\"do\":\"create\",\"kind\":\"box\",\"place\":[0,0],\"size\":[10,10],\"colour\":\"ff0000\",\"layer\":0,\"shown\":true}") ≡ Ok (record { site = 1; command = Author (Create (record { form = Rect 10 10; place = record { x = pos 0; y = pos 0 }; colour = record { r = 255; g = 0; b = 0 }; layer = 0; shown = true })) })
+    (codes "{\"site\":1,\"do\":\"create\",\"kind\":\"box\",\"place\":[0,0],"
+    ++ codes "\"size\":[10,10],\"colour\":\"ff0000\",\"layer\":0,\"shown\":true}")
+    ≡ Ok (record {
+      site = 1;
+      command = Author (Create (record {
+        form = Rect 10 10;
+        place = record { x = pos 0; y = pos 0 };
+        colour = record { r = 255; g = 0; b = 0 };
+        layer = 0;
+        shown = true;
+      }));
+    })
 unfolding serde_json_on_literals digits is_utf8 chars
 create_read = refl
 
@@ -36,18 +47,21 @@ pub later_await_read : script_denoted (codes "{\"site\":2,\"do\":\"await\",\"id\
 unfolding serde_json_on_literals digits is_utf8 chars
 later_await_read = refl
 
-pub no_operation : denoted (codes
-    "{\"site\":1,\"do\":\"create\",\"kind\":\"box\",\"place\":[0,0],\"size\":[10,10],\"colour\":\"ff0000\",\"layer\":0,\"shown\":true}") ≡ Err fault.Field
+pub no_operation : denoted (codes "{\"site\":1,\"do\":\"create\",\"kind\":\"box\",\"place\":[0,0],"
+    ++ codes "\"size\":[10,10],\"colour\":\"ff0000\",\"layer\":0,\"shown\":true}") ≡ Err fault.Field
 unfolding serde_json_on_literals digits is_utf8 chars
 no_operation = refl
 
 pub with_a_past : script_denoted
-    (codes "{\"site\":1,\"do\":\"create\",\"kind\":\"box\",\"place\":[0,0],\"size\":[10,10],\"colour\":\"ff0000\",\"layer\":0,\"shown\":true,\"past\":[0,0,0,0,0,0,0,0]}") ≡ Err fault.Field
+    (codes "{\"site\":1,\"do\":\"create\",\"kind\":\"box\",\"place\":[0,0],"
+    ++ codes "\"size\":[10,10],\"colour\":\"ff0000\",\"layer\":0,\"shown\":true,"
+    ++ codes "\"past\":[0,0,0,0,0,0,0,0]}") ≡ Err fault.Field
 unfolding serde_json_on_literals digits is_utf8 chars
 with_a_past = refl
 
 pub with_an_id : script_denoted
-    (codes "{\"site\":2,\"do\":\"set\",\"id\":[1,1],\"object\":[1,1],\"set\":\"colour\",\"to\":\"0000ff\"}") ≡ Err fault.Field
+    (codes "{\"site\":2,\"do\":\"set\",\"id\":[1,1],\"object\":[1,1],\"set\":\"colour\","
+    ++ codes "\"to\":\"0000ff\"}") ≡ Err fault.Field
 unfolding serde_json_on_literals digits is_utf8 chars
 with_an_id = refl
 

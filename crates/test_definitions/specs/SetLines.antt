@@ -28,8 +28,9 @@ sets_to v = aims_to [] v
 abbrev pub blue : Value
 blue = value.Colour (record { r = 0; g = 0; b = 255 })
 
-pub blue_read : denoted (codes
-    "{\"id\":[1,2],\"object\":[1,1],\"op\":\"set\",\"past\":[1,0,0,0,0,0,0,0],\"set\":\"colour\",\"to\":\"0000ff\"}") ≡ Ok (sets_to blue)
+pub blue_read : denoted
+    (codes "{\"id\":[1,2],\"object\":[1,1],\"op\":\"set\",\"past\":[1,0,0,0,0,0,0,0],"
+    ++ codes "\"set\":\"colour\",\"to\":\"0000ff\"}") ≡ Ok (sets_to blue)
 unfolding serde_json_on_literals digits is_utf8 chars
 blue_read = refl
 
