@@ -44,9 +44,9 @@ met_united h t us own reach members met r u c k e n =
 -- the members of an aim are on its object
 pub aim_named : (h : List Op) → IsValid h → (a : Op) → IsAimed h a → (o : ObjectId) → object_of a ≡ o → (cs : List (List Setter)) → AreChainsOf h o cs →
     (ids : List OpId) → ids ≡ aim_of a → (id : OpId) → Contains ids id → IsNamedOn h cs id
-aim_named h valid a aimed o own cs tells ids e id i =
+aim_named h valid a aimed o own cs chained ids e id i =
     let w = aimed.each id (subst (λ z. Contains z id) e i) in
-    record { object = o; chains = tells; on = λ b c f. ap object_of (same_op h valid b w.op c w.contained (f ∙ sym w.id)) ∙ (w.object ∙ own) }
+    record { object = o; chains = chained; on = λ b c f. ap object_of (same_op h valid b w.op c w.contained (f ∙ sym w.id)) ∙ (w.object ∙ own) }
 
 -- the conflicts that are told of a state are those of its fields
 pub conflicts_of : (h : List Op) (a : Op) (t u : ObjectState) → t ≡ u → (d : List ℕ) → ((n : ℕ) → Contains d n ↔ ConflictsAt h t.chains a n) → (n : ℕ) → Contains d n ↔ ConflictsAt h u.chains a n

@@ -67,20 +67,20 @@ made_by (Set o v aim) k e = absurd cc
 
 -- the creation stands in no chain
 pub maker_position : (h : List Op) (o : ObjectId) (t : ObjectState) → AreChainsOf h o t.chains → position_in t maker_number ≡ t.maker
-maker_position h o t tells = ap (λ r. unwrap_or r t.maker) (position_none h o t.chains tells maker_number (λ q k. let l = number_below h o t.chains tells maker_number q k in omega (arith, l)))
+maker_position h o t chained = ap (λ r. unwrap_or r t.maker) (position_none h o t.chains chained maker_number (λ q k. let l = number_below h o t.chains chained maker_number q k in omega (arith, l)))
 
 -- a number stands for its setter's position
 pub number_at : (h : List Op) (o : ObjectId) (t : ObjectState) → AreChainsOf h o t.chains → (n q : ℕ) → IsNumber t.chains n q → position_in t n ≡ q
-number_at h o t tells n q k = ap (λ r. unwrap_or r t.maker) (position_is h o t.chains tells n q k)
+number_at h o t chained n q k = ap (λ r. unwrap_or r t.maker) (position_is h o t.chains chained n q k)
 
 module _ (h : List Op) (o : ObjectId) (t : ObjectState) (s : IsStateOf h o t) where
   pub setter_at : (n q : ℕ) → IsNumber t.chains n q → (op : Op) × (slice_get h q ≡ Some op) × (v : Value) × (aim : List OpId) × (op.change ≡ Set o v aim)
   setter_at n q k =
-      let i = s.tells.each k.attribute k.site k.index k.setter k.within k.at in
+      let i = s.chained.each k.attribute k.site k.index k.setter k.within k.at in
       (i.op, subst (λ z. slice_get h z ≡ Some i.op) k.position i.at, i.value, i.aim, i.change)
 
   number_within : (n q : ℕ) → IsNumber t.chains n q → q < length h
-  number_within n q k = numbers.number_within h o t.chains s.tells n q k
+  number_within n q k = numbers.number_within h o t.chains s.chained n q k
 
   maker_within : t.maker < length h
   maker_within = slice_get_within h t.maker s.maker.op s.maker.at
@@ -88,8 +88,8 @@ module _ (h : List Op) (o : ObjectId) (t : ObjectState) (s : IsStateOf h o t) wh
   -- each operation of the object stands in the history
   pub position_within : (n : ℕ) → Contains (whole t.components).all n → position_in t n < length h
   position_within n i = elim ((s.exactly n).0 i) [
-    | inl e ↦ subst (λ z. position_in t z < length h) (sym e) (subst (λ z. z < length h) (sym (maker_position h o t s.tells)) maker_within)
-    | inr w ↦ subst (λ z. z < length h) (sym (number_at h o t s.tells n w.0 w.1)) (number_within n w.0 w.1)
+    | inl e ↦ subst (λ z. position_in t z < length h) (sym e) (subst (λ z. z < length h) (sym (maker_position h o t s.chained)) maker_within)
+    | inr w ↦ subst (λ z. z < length h) (sym (number_at h o t s.chained n w.0 w.1)) (number_within n w.0 w.1)
   ]
 
   -- no number leads out of the history
@@ -97,7 +97,7 @@ module _ (h : List Op) (o : ObjectId) (t : ObjectState) (s : IsStateOf h o t) wh
   all_within n = by_case (position_of t.chains n) refl
     where
       by_case : (r : Option ℕ) → position_of t.chains n ≡ r → unwrap_or r t.maker < length h
-      by_case (Some q) e = number_within n q (number_from h o t.chains s.tells n q e)
+      by_case (Some q) e = number_within n q (number_from h o t.chains s.chained n q e)
       by_case None e = maker_within
 
   not_set : (q : ℕ) (n : ℕ) → IsNumber t.chains n q → t.maker ≢ q
@@ -113,13 +113,13 @@ module _ (h : List Op) (o : ObjectId) (t : ObjectState) (s : IsStateOf h o t) wh
   one_number i j a b e = elim ((s.exactly i).0 a) [
     | inl x ↦ elim ((s.exactly j).0 b) [
       | inl y ↦ x ∙ sym y
-      | inr w ↦ absurd (not_set w.0 j w.1 (sym (maker_position h o t s.tells) ∙ (ap (position_in t) (sym x) ∙ (e ∙ number_at h o t s.tells j w.0 w.1))))
+      | inr w ↦ absurd (not_set w.0 j w.1 (sym (maker_position h o t s.chained) ∙ (ap (position_in t) (sym x) ∙ (e ∙ number_at h o t s.chained j w.0 w.1))))
     ]
     | inr v ↦ elim ((s.exactly j).0 b) [
-      | inl y ↦ absurd (not_set v.0 i v.1 (sym (maker_position h o t s.tells) ∙ (ap (position_in t) (sym y) ∙ (sym e ∙ number_at h o t s.tells i v.0 v.1))))
+      | inl y ↦ absurd (not_set v.0 i v.1 (sym (maker_position h o t s.chained) ∙ (ap (position_in t) (sym y) ∙ (sym e ∙ number_at h o t s.chained i v.0 v.1))))
       | inr w ↦
-          let q : v.0 ≡ w.0 = sym (number_at h o t s.tells i v.0 v.1) ∙ (e ∙ number_at h o t s.tells j w.0 w.1) in
-          numbers.one_number h o t.chains s.tells i j w.0 (subst (IsNumber t.chains i) q v.1) w.1
+          let q : v.0 ≡ w.0 = sym (number_at h o t s.chained i v.0 v.1) ∙ (e ∙ number_at h o t s.chained j w.0 w.1) in
+          numbers.one_number h o t.chains s.chained i j w.0 (subst (IsNumber t.chains i) q v.1) w.1
     ]
   ]
 
@@ -134,9 +134,9 @@ module _ (h : List Op) (o : ObjectId) (t : ObjectState) (s : IsStateOf h o t) wh
     pub state_kept : IsValid h → IsInRange a → IsAccepted h a → ((v : Value) (aim : List OpId) → a.change ≢ Set o v aim) → IsStateOf longer o t
     state_kept valid in_range accepted n = record {
       maker = maker_still;
-      tells = chains_other h o t.chains s.tells a n;
-      index = if_some t.index (λ ix. index_other h o t.chains s.tells a ix) s.index;
-      aimed = aimed_other h o t.chains s.tells a t.aimed s.aimed;
+      chained = chains_other h o t.chains s.chained a n;
+      index = if_some t.index (λ ix. index_other h o t.chains s.chained a ix) s.index;
+      aimed = aimed_other h o t.chains s.chained a t.aimed s.aimed;
       components = components_agree (number_conflict h t) (number_conflict longer t) t.components
           (λ i j k l. same_conflict h a valid in_range accepted (position_in t i) (position_in t j) (position_within i k) (position_within j l)) s.components;
       exactly = s.exactly;
@@ -158,32 +158,32 @@ module _ (h : List Op) (o : ObjectId) (t : ObjectState) (s : IsStateOf h o t) wh
         abbrev pub grown : ObjectState
         grown = record { chains = chains; index = i; aimed = es; components = after d x t.components; maker = t.maker }
 
-        tells : AreChainsOf longer o chains
-        tells = chains_setter h o t.chains s.tells a valid in_range accepted v change
+        chained : AreChainsOf longer o chains
+        chained = chains_setter h o t.chains s.chained a valid in_range accepted v change
 
         cases : (n q : ℕ) → IsNumber chains n q → IsNumber t.chains n q ⊎ ((n ≡ x) × (q ≡ length h))
-        cases n q k = number_cases h o t.chains s.tells a valid in_range accepted v change n q k
+        cases n q k = number_cases h o t.chains s.chained a valid in_range accepted v change n q k
 
         new_number : IsNumber chains x (length h)
-        new_number = last_number h o t.chains s.tells a valid in_range accepted v change
+        new_number = last_number h o t.chains s.chained a valid in_range accepted v change
 
         old_number : (n q : ℕ) → IsNumber t.chains n q → IsNumber chains n q
-        old_number n q k = numbered h o t.chains s.tells a valid in_range accepted v change n q k
+        old_number n q k = numbered h o t.chains s.chained a valid in_range accepted v change n q k
 
         position_new : (n q : ℕ) → IsNumber chains n q → position_in grown n ≡ q
-        position_new n q k = number_at longer o grown tells n q k
+        position_new n q k = number_at longer o grown chained n q k
 
         at_last : position_in grown x ≡ length h
         at_last = position_new x (length h) new_number
 
         at_maker : position_in grown maker_number ≡ t.maker
-        at_maker = maker_position longer o grown tells
+        at_maker = maker_position longer o grown chained
 
         -- what was there stays where it was
         as_before : (n : ℕ) → Contains (whole t.components).all n → position_in grown n ≡ position_in t n
         as_before n i = elim ((s.exactly n).0 i) [
-          | inl e ↦ subst (λ z. position_in grown z ≡ position_in t z) (sym e) (at_maker ∙ sym (maker_position h o t s.tells))
-          | inr w ↦ position_new n w.0 (old_number n w.0 w.1) ∙ sym (number_at h o t s.tells n w.0 w.1)
+          | inl e ↦ subst (λ z. position_in grown z ≡ position_in t z) (sym e) (at_maker ∙ sym (maker_position h o t s.chained))
+          | inr w ↦ position_new n w.0 (old_number n w.0 w.1) ∙ sym (number_at h o t s.chained n w.0 w.1)
         ]
 
         before : AreComponents (number_conflict longer grown) t.components
@@ -200,7 +200,7 @@ module _ (h : List Op) (o : ObjectId) (t : ObjectState) (s : IsStateOf h o t) wh
         known_maker b at k =
             let mine : s.maker.op ≡ b = let y = s.maker.at in cc in
             let m = made_by s.maker.op.change s.maker.kind s.maker.made in
-            maker_calm h o t.chains s.tells valid a accepted v change b (contained_at h t.maker b at) m.0 (ap (λ (z : Op). z.change) (sym mine) ∙ m.1) k
+            maker_calm h o t.chains s.chained valid a accepted v change b (contained_at h t.maker b at) m.0 (ap (λ (z : Op). z.change) (sym mine) ∙ m.1) k
 
         conflict_last : (n q : ℕ) → position_in grown n ≡ q → number_conflict longer grown x n ≡ conflict_at longer (length h) q
         conflict_last n q e = ap (λ z. conflict_at longer z (position_in grown n)) at_last ∙ ap (conflict_at longer (length h)) e
@@ -233,7 +233,7 @@ module _ (h : List Op) (o : ObjectId) (t : ObjectState) (s : IsStateOf h o t) wh
         pub state_more : IsStateOf longer o grown
         state_more = record {
           maker = maker_still;
-          tells = tells;
+          chained = chained;
           index = index;
           aimed = aimed;
           components = step.0;
@@ -257,13 +257,13 @@ module _ (h : List Op) (o : ObjectId) (t : ObjectState) (s : IsStateOf h o t) (a
 
   pub behind : (i : ℕ) (e : Setter) → i < length (setters t.chains u place) → (get_or (setters t.chains u place) i e).seq < a.id.seq
   behind = subst (λ z. (i : ℕ) (e : Setter) → i < length (setters t.chains z place) → (get_or (setters t.chains z place) i e).seq < a.id.seq) (sym own)
-      (behind_all h o t.chains s.tells a valid in_range accepted v change)
+      (behind_all h o t.chains s.chained a valid in_range accepted v change)
 
   aimed_added : (us : List ℕ) (is : List OpId) → aim_of a ≡ is → AreNumbersOf h t.chains is us →
       AreAimed (h ++ a ∷ []) (with_setter t.chains (attribute_of v) place (record { seq = a.id.seq; position = length h }))
       (with_aim is (record { number = chain_of (attribute_of v) place * block + length (setters t.chains (attribute_of v) place); aim = us }) t.aimed)
-  aimed_added us [] e f = aimed_none h o t.chains s.tells a valid in_range accepted v change t.aimed s.aimed e
-  aimed_added us (i ∷ is) e f = aimed_more h o t.chains s.tells a valid in_range accepted v change t.aimed us s.aimed (subst (λ z. AreNumbersOf h t.chains z us) (sym e) f)
+  aimed_added us [] e f = aimed_none h o t.chains s.chained a valid in_range accepted v change t.aimed s.aimed e
+  aimed_added us (i ∷ is) e f = aimed_more h o t.chains s.chained a valid in_range accepted v change t.aimed us s.aimed (subst (λ z. AreNumbersOf h t.chains z us) (sym e) f)
 
   pub state_added : (d : List ℕ) → ((n : ℕ) → Contains d n ↔ ConflictsAt h t.chains a n) → (us : List ℕ) → AreNumbersOf h t.chains (aim_of a) us →
       (n p : ℕ) → n ≡ chain_of u place * block + length (setters t.chains u place) → p ≡ length h →
@@ -280,7 +280,7 @@ module _ (h : List Op) (o : ObjectId) (t : ObjectState) (s : IsStateOf h o t) (a
       ap (λ z. with_setter t.chains z place (record { seq = a.id.seq; position = p })) own
       ∙ ap (λ z. with_setter t.chains (attribute_of v) place (record { seq = a.id.seq; position = z })) position in
       let last : n ≡ chain_of (attribute_of v) place * block + length (setters t.chains (attribute_of v) place) = number ∙ ap (λ z. chain_of z place * block + length (setters t.chains z place)) own in
-      let tells_new = if_some i (λ new w. index_setter h o t.chains s.tells a valid in_range accepted v change w.0 new w.1 (subst (λ z. PutsNumber w.0 (fingerprint_of v) z new) last w.2)) index in
+      let tells_new = if_some i (λ new w. index_setter h o t.chains s.chained a valid in_range accepted v change w.0 new w.1 (subst (λ z. PutsNumber w.0 (fingerprint_of v) z new) last w.2)) index in
       let es = with_aim (aim_of a) (record { number = chain_of (attribute_of v) place * block + length (setters t.chains (attribute_of v) place); aim = us }) t.aimed in
       let whole_is : w ≡ grown h o t s a valid in_range accepted v change d rivals i tells_new es (aimed_added us (aim_of a) refl are) =
       is ∙ (λ j. record { chains = chains j; index = i; aimed = with_aim (aim_of a) (record { number = last j; aim = us }) t.aimed; components = after d (last j) t.components; maker = t.maker }) in
@@ -304,7 +304,7 @@ module _ (h : List Op) (a : Op) (o : ObjectId) (k : Kind) (id : a.id ≡ o.0) (i
   pub state_made : IsStateOf (h ++ a ∷ []) o new
   state_made = record {
     maker = record { op = a; at = got_last h a; id = id; kind = k; made = is_made };
-    tells = record {
+    chained = record {
       each = λ t s p e l i. absurd (no_number (chain_of t s * block + p) e.position (record { attribute = t; site = s; within = l; index = p; setter = e; at = i; number = refl; position = refl }));
       all = λ q b v m e c. elim (got_cases h a q b e) [ inl i ↦ absurd (none q b v m i c) | inr i ↦ absurd (not_a v m (ap (λ (z : Op). z.change) i ∙ c)) ];
       ordered = (empty_chains o).ordered;
@@ -334,7 +334,7 @@ no_rivals h o cs v past u none f n = (
   λ w. (f n).1 w.0,
 )
 
--- an index that is there tells
+-- an index that is there chained
 pub index_there : (h : List Op) (o : ObjectId) (t : ObjectState) → IsStateOf h o t → (ix : List (Fingerprint × List ℕ)) → t.index ≡ Some ix → IsIndex h t.chains ix
 index_there h o t s ix e = subst (λ r. IfSome r (IsIndex h t.chains)) e s.index
 
@@ -344,16 +344,16 @@ module _ (h : List Op) (o : ObjectId) (t : ObjectState) (s : IsStateOf h o t) (a
   -- what clashes with one of the aim is of its component
   met_by_aim : (m n : ℕ) → Contains us m → Clash h t.chains m n → IsMetByAim h t us n
   met_by_aim m n i c =
-      let w = clash_numbers h o t.chains s.tells m n c in
+      let w = clash_numbers h o t.chains s.chained m n c in
       let told : conflict_at h w.0 w.1 ≡ true = conflict_from h valid w.0 w.1 c.first c.second w.4 w.5 (conflict_direct h c.first c.second c.direct) in
-      let same : number_conflict h t m n ≡ true = ap (λ z. conflict_at h z (position_in t n)) (number_at h o t s.tells m w.0 w.2) ∙ (ap (conflict_at h w.0) (number_at h o t s.tells n w.1 w.3) ∙ told) in
+      let same : number_conflict h t m n ≡ true = ap (λ z. conflict_at h z (position_in t n)) (number_at h o t s.chained m w.0 w.2) ∙ (ap (conflict_at h w.0) (number_at h o t s.chained n w.1 w.3) ∙ told) in
       let r = conflict_reached (number_conflict h t) (numbers_test h t) t.components s.components us m n i ((s.exactly m).1 (inr (w.0, w.2))) ((s.exactly n).1 (inr (w.1, w.3))) same in
       record { reached = r.1; one = m; among = i; one_reached = r.0; clash = c }
 
   pub rivals_found : (own met d : List ℕ) → AreRivals h o t.chains v a.past own → ((n : ℕ) → Contains met n ↔ (Contains own n ⊎ IsMetByAim h t us n)) →
       ((n : ℕ) → Contains d n ↔ (Contains met n ⊎ AimsAtOne t.aimed met n)) → (n : ℕ) → Contains d n ↔ ConflictsAt h t.chains a n
   rivals_found own met d rivals met_are d_are =
-      aims_conflict h o t.chains s.tells valid a accepted v change t.aimed s.aimed met d
-      (aim_met h o t.chains s.tells valid a accepted v change own us met (IsMetByAim h t us) (rivals_conflict h o t.chains s.tells valid a in_range accepted v change own rivals) are
+      aims_conflict h o t.chains s.chained valid a accepted v change t.aimed s.aimed met d
+      (aim_met h o t.chains s.chained valid a accepted v change own us met (IsMetByAim h t us) (rivals_conflict h o t.chains s.chained valid a in_range accepted v change own rivals) are
       (λ n w. record { one = w.one; among = w.among; clash = w.clash }) met_by_aim met_are)
       d_are

@@ -38,7 +38,7 @@ pub record IsMaker (h : List Op) (o : ObjectId) (m : ℕ) : Type 0 where
 -- the state is that of the operations of h on the object o
 pub record IsStateOf (h : List Op) (o : ObjectId) (t : ObjectState) : Type 0 where
   pub maker : IsMaker h o t.maker
-  pub tells : AreChainsOf h o t.chains
+  pub chained : AreChainsOf h o t.chains
   pub index : IfSome t.index (IsIndex h t.chains)
   pub aimed : AreAimed h t.chains t.aimed
   pub components : AreComponents (number_conflict h t) t.components
@@ -86,7 +86,7 @@ pub record AreComponentsOn (h : List Op) (o : ObjectId) (s : ComponentsState) : 
   pub components : AreComponents (conflict_at h) s
   pub all : (i : ℕ) → Contains (whole s).all i ↔ Contains (positions_below h o (length h)) i
 
--- c tells whether the operations at two positions conflict
+-- `c` says whether the operations at two positions conflict
 module _ (c : ℕ → ℕ → Bool) where
   -- all largest compatible sets of the component
   abbrev pub full : ComponentState → List (List ℕ)

@@ -15,7 +15,7 @@ numbers_of-requires c =
     let n = c.requires in
     let t : ObjectState = record { chains = c.self.inside.chains; index = c.self.inside.index; aimed = c.self.inside.aimed.items; components = c.self.inside.components; maker = c.self.inside.maker } in
     let s : IsStateOf c.args.history.now.ops n.object t = subst (IsStateOf c.args.history.now.ops n.object) (sym c.self.view_is) n.state in
-    aim_named c.args.history.now.ops n.valid c.args.op.now n.accepted.aimed n.object (ap (changed_object c.args.op.now.id) n.change) t.chains s.tells c.aim.result.now c.aim.ensures
+    aim_named c.args.history.now.ops n.valid c.args.op.now n.accepted.aimed n.object (ap (changed_object c.args.op.now.id) n.change) t.chains s.chained c.aim.result.now c.aim.ensures
 
 pub rivals-requires-clause-aim : goal.rivals-requires-clause-aim
 rivals-requires-clause-aim c =

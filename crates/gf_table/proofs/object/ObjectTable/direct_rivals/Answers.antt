@@ -25,7 +25,7 @@ returns-in_ok-found-in-Some-clause-rivals c = λ o s.
     let told = subst (λ (z : Attr). (n : ℕ) → Contains c.in_ok-unknown.unknown n ↔ IsUnknown t.chains z c.args.past.now 8 n) c.attribute.ensures c.in_ok-unknown.ensures in
     let there : t.index ≡ Some c.in-Some.index = c.in-Some.is in
     subst (λ (z : ObjectState). AreRivals c.args.history.now.ops o z.chains c.args.value.now c.args.past.now c.in_ok-found-in-Some.found) same
-    (c.in_ok-found-in-Some.ensures o c.args.past.now own.tells (index_there c.args.history.now.ops o t own c.in-Some.index there) told)
+    (c.in_ok-found-in-Some.ensures o c.args.past.now own.chained (index_there c.args.history.now.ops o t own c.in-Some.index there) told)
 
 pub returns-in_ok-found-in-None-clause-rivals : goal.returns-in_ok-found-in-None-clause-rivals
 returns-in_ok-found-in-None-clause-rivals c = λ o s.
@@ -34,7 +34,7 @@ returns-in_ok-found-in-None-clause-rivals c = λ o s.
     let own : IsStateOf c.args.history.now.ops o t = subst (IsStateOf c.args.history.now.ops o) (sym same) s in
     let told = subst (λ (z : Attr). (n : ℕ) → Contains c.in_ok-unknown.unknown n ↔ IsUnknown t.chains z c.args.past.now 8 n) c.attribute.ensures c.in_ok-unknown.ensures in
     subst (λ (z : ObjectState). AreRivals c.args.history.now.ops o z.chains c.args.value.now c.args.past.now c.in_ok-found-in-None.found) same
-    (c.in_ok-found-in-None.ensures o c.args.past.now own.tells c.in_ok-index-in-None.ensures told)
+    (c.in_ok-found-in-None.ensures o c.args.past.now own.chained c.in_ok-index-in-None.ensures told)
 
 pub returns-in_ok-found-in-None-clause-made : goal.returns-in_ok-found-in-None-clause-made
 returns-in_ok-found-in-None-clause-made c =
