@@ -10,7 +10,7 @@ use Rattle.gf_ops.specs.declared.op.OpId.{OpId}
 use Rattle.gf_ops.specs.OperationOrder.{count_of}
 use Rattle.gf_causal.specs.Ready.{IsReady}
 use Rattle.gf_causal.specs.DeliveredPart.{AreOneById, AreReady, none, next, IsDelivery, IsLastDelivery, IsDeliveredPart, HaveSame}
-use Rattle.gf_ops.proofs.ListLemmas.{not_Contains-nil}
+use Rattle.gf_base.proofs.ListLemmas.{not_Contains-nil}
 
 -- one operation counts at its own site
 count_one : (a : Op) (s : ℕ) → a.id.site ≡ s → count_of (a ∷ []) s ≡ 1

@@ -8,7 +8,7 @@ use Rattle.gf_ops.specs.declared.op.Op.{Op}
 use Rattle.gf_ops.specs.OperationOrder.{entry, count_of}
 use Rattle.gf_causal.specs.Ready.{KnowsNoMore, IsReady, NoneIsReady}
 use Rattle.gf_causal.specs.DeliveredPart.{none, next, IsDelivery, HasLastDelivery}
-use Rattle.gf_ops.proofs.ListLemmas.{not_Contains-nil, Contains-cons_cases}
+use Rattle.gf_base.proofs.ListLemmas.{not_Contains-nil, Contains-cons_cases}
 use Rattle.gf_causal.proofs.ListLemmas.{Contains-between, Contains-between_itself, Contains-between_cases}
 use Rattle.gf_causal.proofs.CourseLemmas.{number_counted}
 

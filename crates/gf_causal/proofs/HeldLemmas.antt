@@ -18,7 +18,7 @@ use Rattle.gf_ops.specs.Limits.{IsInRange}
 use Rattle.gf_ops.specs.OperationOrder.{id_cmp}
 use Rattle.gf_causal.specs.HeldOperations.{ids_of, IsFree, Adds}
 use Rattle.gf_causal.specs.Keeping.{keyed, IsKept}
-use Rattle.gf_ops.proofs.ListLemmas.{Contains-cons_head, Contains-cons_tail, Contains-map, Contains-map_from}
+use Rattle.gf_base.proofs.ListLemmas.{Contains-cons_head, Contains-cons_tail, Contains-map, Contains-map_from}
 use Rattle.gf_causal.proofs.ListLemmas.{Contains-between, Contains-between_cases}
 
 -- ids that compare alike are one

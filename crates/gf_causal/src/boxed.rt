@@ -6,8 +6,8 @@ ghost use Rattle.std.specs.List.Sorted.{IsStrictlySortedBy};
 ghost use Rattle.std.specs.Map.{keys_of, lookup, remove_entry, values_of};
 ghost use Rattle.gf_ops.specs.OperationOrder.{id_cmp};
 
+use gf_base::OutOfMemory;
 use gf_ops::{Op, OpId};
-use gf_shape::OutOfMemory;
 use std::alloc::Global;
 use std::collections::BTreeMap;
 use std::marker::Model;

@@ -16,8 +16,8 @@ use crate::OfferFault;
 use crate::by_id::OpsById;
 use crate::ready::knows_no_more;
 use crate::standing::{Standing, compare, in_history, join};
+use gf_base::OutOfMemory;
 use gf_ops::{History, Op, OpId};
-use gf_shape::OutOfMemory;
 use std::alloc::Global;
 use std::marker::Model;
 

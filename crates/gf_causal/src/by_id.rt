@@ -9,8 +9,8 @@ ghost use Rattle.gf_ops.specs.OperationOrder.{id_cmp};
 ghost use Rattle.gf_causal.specs.Keeping.{entry_of};
 
 use crate::boxed::BoxedOps;
+use gf_base::OutOfMemory;
 use gf_ops::{Op, OpId};
-use gf_shape::OutOfMemory;
 use std::alloc::Global;
 use std::marker::Model;
 

@@ -5,7 +5,7 @@ use Rattle.std.proofs.lemmas.Grind.{flat_map-append}
 use Rattle.std.proofs.lemmas.List.{append-nil, map-append}
 use Rattle.std.proofs.lemmas.List.Elements.{Contains-append_left, Contains-append_right, Contains-push_cases}
 use Rattle.gf_streams.specs.TextLines.{numbered_lines}
-use Rattle.gf_ops.proofs.ListLemmas.{Contains-cons_head, not_Contains-nil}
+use Rattle.gf_base.proofs.ListLemmas.{Contains-cons_head, not_Contains-nil}
 use Rattle.gf_site.specs.SiteState.{SiteState}
 use Rattle.gf_json.specs.OperationLines.{denoted}
 use Rattle.gf_json.specs.declared.line_error.LineError.{LineError}

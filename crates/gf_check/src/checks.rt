@@ -7,7 +7,7 @@ ghost use Rattle.gf_check.specs.AllFaults.{AnswersText};
 ghost use Rattle.gf_check.specs.CheckRun.{Checks, WritesCheck};
 
 use crate::faults_of;
-use gf_shape::OutOfMemory;
+use gf_base::OutOfMemory;
 use gf_streams::{Sink, SinkFault, Source, write_whole};
 use gf_studio::{StudioError, input};
 use std::alloc::Global;

@@ -4,10 +4,10 @@ ghost use Rattle.std.specs.Prelude.{◌≡◌, ◌++◌, codes, OnOk};
 ghost use Rattle.gf_check.specs.FaultLines.{cause_word, fault_head, fault_word, id_text};
 ghost use Rattle.gf_check.specs.FaultLines.{told_line};
 
+use gf_base::OutOfMemory;
 use gf_digits::push_number;
 use gf_ops::{OpFault, OpId};
 use gf_replay::{LineCause, ReadingError};
-use gf_shape::OutOfMemory;
 use std::alloc::AllocError;
 
 /// Appends the line that tells a fault and explains it.

@@ -4,8 +4,8 @@ use crate::forms::form_of;
 use crate::keys::{KEYS, Key, has_name, keys_of};
 use crate::limits::limit_fault;
 use crate::reasons::{Reason, text_of};
+use gf_base::OutOfMemory;
 use gf_replay::LineCause;
-use gf_shape::OutOfMemory;
 use serde_json::{Map, Value};
 use std::alloc::Global;
 

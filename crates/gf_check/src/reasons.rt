@@ -1,7 +1,7 @@
 //! The explanations of faults.
 
+use gf_base::OutOfMemory;
 use gf_ops::OpId;
-use gf_shape::OutOfMemory;
 use std::alloc::Global;
 use thiserror::Error;
 

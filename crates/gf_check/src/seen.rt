@@ -1,7 +1,7 @@
 //! The operations that came, by id.
 
+use gf_base::OutOfMemory;
 use gf_ops::{Op, OpId, same_op};
-use gf_shape::OutOfMemory;
 use std::alloc::Global;
 use std::collections::BTreeMap;
 

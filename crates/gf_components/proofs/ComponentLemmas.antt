@@ -11,15 +11,15 @@ use Rattle.std.proofs.lemmas.List.{append-nil}
 use Rattle.std.proofs.lemmas.List.Elements.{filter-append}
 use Rattle.std.proofs.lemmas.List.Sums.{fold_push}
 use Rattle.std.proofs.lemmas.List.Kept.{IsStrictlySortedBy-filter}
-use Rattle.gf_ops.proofs.ListLemmas.{Contains-cons_cases, Contains-cons_head, Contains-cons_tail, not_Contains-nil}
+use Rattle.gf_base.proofs.ListLemmas.{Contains-cons_cases, Contains-cons_head, Contains-cons_tail, not_Contains-nil}
 use Rattle.gf_maximal.specs.Growing.{is_in, misses, without, common}
 use Rattle.gf_maximal.specs.Growing as sets
 use Rattle.gf_maximal.specs.Tables.{IsRising}
 use Rattle.gf_maximal.specs.Pairs.{Pairs}
 use Rattle.gf_maximal.proofs.InsertLemmas.{inserted, holds}
 use Rattle.gf_maximal.proofs.LargestLemmas.{IsConflict}
-use Rattle.gf_maximal.proofs.ListLemmas.{Contains-filter}
-use Rattle.gf_maximal.proofs.RisingLemmas.{rising_nil}
+use Rattle.gf_base.proofs.FilterLemmas.{Contains-filter}
+use Rattle.gf_base.proofs.RisingLemmas.{rising_nil}
 use Rattle.gf_maximal.proofs.PairLemmas.{Pairs-append, Pairs-filter}
 use Rattle.gf_maximal.proofs.MaximalLemmas.{in_list, from_list, out_of, meets_from, meets_none, Contains-without}
 use Rattle.gf_maximal.proofs.GrowingLemmas.{Comes}

@@ -7,9 +7,9 @@ use Rattle.std.proofs.lemmas.Bool.{cases_Bool, cond-true, cond-false, leb-true, 
 use Rattle.std.proofs.lemmas.Cmp.{nat_cmp_total}
 use Rattle.std.proofs.lemmas.List.{length-append, length-map, append-nil}
 use Rattle.std.proofs.lemmas.List.Elements.{All-contains, Contains-append_left, Contains-push, Contains-push_cases}
-use Rattle.gf_ops.proofs.ListLemmas.{Contains-cons_cases, Contains-cons_head, Contains-cons_tail, not_Contains-nil}
-use Rattle.gf_maximal.proofs.ListLemmas.{Contains-filter}
-use Rattle.gf_maximal.proofs.RisingLemmas.{rising_front, rising_below, never_both}
+use Rattle.gf_base.proofs.ListLemmas.{Contains-cons_cases, Contains-cons_head, Contains-cons_tail, not_Contains-nil}
+use Rattle.gf_base.proofs.FilterLemmas.{Contains-filter}
+use Rattle.gf_base.proofs.RisingLemmas.{rising_front, rising_below, never_both}
 use Rattle.gf_maximal.specs.Growing.{meets, misses, without, joined, maximal, united, next}
 use Rattle.gf_maximal.specs.Tables.{IsRising, IsTable}
 use Rattle.gf_maximal.proofs.GrowingLemmas.{Comes, table_first, table_next}

@@ -6,7 +6,7 @@ use Rattle.std.proofs.lemmas.Cmp.{nat_cmp_total}
 use Rattle.std.proofs.lemmas.List.{append-nil}
 use Rattle.std.proofs.lemmas.List.Elements.{All-contains, Contains-append_cases, Contains-append_left, Contains-append_right}
 use Rattle.std.proofs.lemmas.List.Kept.{IsStrictlySortedBy-filter}
-use Rattle.gf_ops.proofs.ListLemmas.{Contains-cons_cases, Contains-cons_head, Contains-cons_tail, not_Contains-nil, Contains-map, Contains-map_from}
+use Rattle.gf_base.proofs.ListLemmas.{Contains-cons_cases, Contains-cons_head, Contains-cons_tail, not_Contains-nil, Contains-map, Contains-map_from}
 use Rattle.gf_components.specs.Components.{products}
 use Rattle.gf_maximal.specs.Growing.{is_in, united}
 use Rattle.gf_maximal.proofs.MaximalLemmas.{in_list, from_list}
@@ -14,8 +14,8 @@ use Rattle.gf_maximal.proofs.UnitedLemmas.{Contains-united, united_rises}
 use Rattle.gf_maximal.specs.Tables.{IsLargest, IsRising, IsTable}
 use Rattle.gf_components.specs.Separate.{Apart}
 use Rattle.gf_maximal.proofs.LargestLemmas.{IsConflict, largest_alike}
-use Rattle.gf_maximal.proofs.ListLemmas.{Contains-filter}
-use Rattle.gf_maximal.proofs.RisingLemmas.{one_rising}
+use Rattle.gf_base.proofs.FilterLemmas.{Contains-filter}
+use Rattle.gf_base.proofs.RisingLemmas.{one_rising}
 use Rattle.gf_maximal.proofs.PairLemmas.{AllPairs-map, AllPairs-append}
 
 -- ---- as predicates

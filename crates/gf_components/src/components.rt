@@ -11,8 +11,8 @@ ghost use Rattle.gf_components.specs.Components.{IsReached, no_components, with_
 ghost use Rattle.gf_components.specs.Components.{after};
 
 use crate::sets::Sets;
+use gf_base::OutOfMemory;
 use gf_maximal::Numbers;
-use gf_shape::OutOfMemory;
 use std::alloc::Global;
 use std::marker::Model;
 

@@ -5,8 +5,8 @@ ghost use Rattle.std.specs.Prelude.{IfOk, OnOk, OnErr};
 ghost use Rattle.gf_maximal.specs.Growing.{united};
 ghost use Rattle.gf_components.specs.Components.{kept, products, kept_products, times, grown_sets};
 
+use gf_base::OutOfMemory;
 use gf_maximal::{Numbers, grow};
-use gf_shape::OutOfMemory;
 use std::alloc::Global;
 use std::marker::Model;
 

@@ -2,7 +2,7 @@
 use Rattle.std.proofs.Common.{◌≡◌, ℕ, ◌<◌, ◌+◌, ◌*◌, ◌/◌, ◌%◌, Some, false, refl, ap, arith}
 use Rattle.std.specs.Fmt.{digit_glyph}
 use Rattle.gf_shape.specs.declared.colour.Rgb.{Rgb}
-use Rattle.gf_digits.specs.ColourBytes.{HasBytes}
+use Rattle.gf_shape.specs.ColourBytes.{HasBytes}
 use Rattle.gf_digits.specs.HexDigits.{hex_rgb, hex_value, byte_of_hex, rgb_of_hex}
 
 hex_value-digit_glyph : (n : ℕ) → n < 16 → hex_value (digit_glyph false n) ≡ Some n

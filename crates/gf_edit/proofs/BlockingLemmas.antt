@@ -9,8 +9,8 @@ use Rattle.std.proofs.lemmas.Map.Keys.{sorted_tail}
 use Rattle.std.proofs.Math.Seq.{drop-cons}
 use Rattle.gf_ops.specs.declared.op.Op.{Op}
 use Rattle.gf_ops.specs.OperationOrder.{count_of, entry, id_cmp}
-use Rattle.gf_ops.proofs.ListLemmas.{Contains-cons_cases, Contains-cons_head, Contains-cons_tail, Contains-map, not_Contains-nil}
-use Rattle.gf_maximal.proofs.RisingLemmas.{below_tail, never_both}
+use Rattle.gf_base.proofs.ListLemmas.{Contains-cons_cases, Contains-cons_head, Contains-cons_tail, Contains-map, not_Contains-nil}
+use Rattle.gf_base.proofs.RisingLemmas.{below_tail, never_both}
 use Rattle.gf_causal.specs.HeldOperations.{AreHeld, ids_of}
 use Rattle.gf_causal.proofs.HeldLemmas.{ids_total}
 use Rattle.gf_site.specs.SiteState.{SiteState}

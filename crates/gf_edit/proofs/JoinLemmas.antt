@@ -10,7 +10,7 @@ use Rattle.gf_ops.specs.OperationOrder.{IsSite, entry, count_of}
 use Rattle.gf_ops.specs.Accepted.{AreAccepted, next}
 use Rattle.gf_ops.specs.ValidHistory.{IsValid}
 use Rattle.gf_ops.proofs.HistoryLemmas.{seq_in_range}
-use Rattle.gf_ops.proofs.ListLemmas.{not_Contains-nil}
+use Rattle.gf_base.proofs.ListLemmas.{not_Contains-nil}
 use Rattle.gf_ops.proofs.ValidityLemmas.{same_op}
 use Rattle.gf_causal.specs.Ready.{IsReady}
 use Rattle.gf_causal.specs.DeliveredPart.{AreOneById, HaveSame, IsDelivery, IsLastDelivery}

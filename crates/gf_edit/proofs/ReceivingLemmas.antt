@@ -8,7 +8,7 @@ use Rattle.gf_ops.specs.declared.op.Op.{Op}
 use Rattle.gf_ops.specs.declared.op.OpId.{OpId}
 use Rattle.gf_ops.specs.declared.faults.OpFault.{OpFault}
 use Rattle.gf_ops.specs.Accepted.{none as none_accepted}
-use Rattle.gf_ops.proofs.ListLemmas.{not_Contains-nil}
+use Rattle.gf_base.proofs.ListLemmas.{not_Contains-nil}
 use Rattle.gf_causal.specs.Ready.{NoneIsReady}
 use Rattle.gf_site.specs.SiteState.{SiteState, new_site}
 use Rattle.gf_json.specs.declared.line_error.LineError.{LineError}

@@ -4,7 +4,7 @@ use Rattle.std.proofs.Common.{◌≡◌, ℕ, ◌+◌, false, List, [], ◌∷�
 use Rattle.std.proofs.lemmas.List.Splits.{slice_split_at}
 use Rattle.gf_streams.specs.TextLines.{is_blank, is_line_end, numbered_from}
 use Rattle.gf_ops.specs.declared.op.Op.{Op}
-use Rattle.gf_ops.proofs.ListLemmas.{Contains-cons_head, Contains-cons_tail}
+use Rattle.gf_base.proofs.ListLemmas.{Contains-cons_head, Contains-cons_tail}
 use Rattle.gf_json.specs.OperationLines.{denoted}
 use Rattle.gf_ops.specs.declared.change.Form.{Form}
 use Rattle.gf_ops.specs.declared.change.Form.TheVariants.{Rect, Polygon, Circle, Ellipse}

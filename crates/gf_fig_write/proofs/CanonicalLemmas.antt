@@ -19,7 +19,7 @@ use Rattle.gf_shape.specs.ShapeLaws.{IsLawful}
 use Rattle.gf_shape.specs.ShapeMoves.{points_movable, points_moved, rect_moved}
 use Rattle.gf_shape.proofs.BoxLemmas.{IsRing-corners_again, is_area-moved}
 use Rattle.gf_shape.proofs.RingLemmas.{IsRing-ring_of}
-use Rattle.gf_digits.specs.ColourBytes.{HasBytes}
+use Rattle.gf_shape.specs.ColourBytes.{HasBytes}
 use Rattle.gf_ops.specs.ConflictTests.{colour_eq}
 use Rattle.gf_ops.specs.Limits.{is_form, is_near, is_size}
 use Rattle.gf_ops.specs.ValidHistory.{IsValid}

@@ -9,7 +9,7 @@ use Rattle.std.proofs.Math.Seq.{get_or-append_seam}
 use Rattle.gf_shape.specs.declared.outline.Outline.{Outline}
 use Rattle.gf_shape.specs.declared.colour.Rgb.{Rgb}
 use Rattle.gf_shape.specs.ShapeLaws.{IsLawful}
-use Rattle.gf_digits.specs.ColourBytes.{HasBytes}
+use Rattle.gf_shape.specs.ColourBytes.{HasBytes}
 use Rattle.gf_drawing.specs.declared.figure.Figure.{Figure}
 use Rattle.gf_drawing.specs.Colours.{Table, colour_in, rgb_of}
 use Rattle.gf_drawing.specs.DrawingState.{IsFreeNumber, IsLawfulDrawing, IsLawfulFigure, is_table_number}

@@ -10,7 +10,7 @@ use Rattle.std.proofs.lemmas.List.Sums.{fold_push}
 use Rattle.std.proofs.lemmas.Fmt.{decimal_by_steps, length-decimal-le}
 use Rattle.std.proofs.Math.Nat.{div-add-mod}
 use Rattle.gf_shape.specs.declared.colour.Rgb.{Rgb}
-use Rattle.gf_digits.specs.ColourBytes.{HasBytes}
+use Rattle.gf_shape.specs.ColourBytes.{HasBytes}
 use Rattle.gf_digits.specs.HexDigits.{hex_rgb}
 use Rattle.gf_digits.proofs.HexLemmas.{rgb_of_hex-hex_rgb}
 use Rattle.gf_fig_tokens.specs.Layout.{is_filled}

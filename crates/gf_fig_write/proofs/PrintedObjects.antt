@@ -13,7 +13,7 @@ use Rattle.gf_shape.specs.Reach.{is_reached, is_within_reach}
 use Rattle.gf_shape.specs.Ring.{Ring, IsRing}
 use Rattle.gf_shape.specs.Round.{Round, is_round}
 use Rattle.gf_shape.specs.Oblong.{Oblong, is_oblong, is_radius}
-use Rattle.gf_digits.specs.ColourBytes.{HasBytes}
+use Rattle.gf_shape.specs.ColourBytes.{HasBytes}
 use Rattle.gf_drawing.specs.Colours.{Table, colour_in, rgb_of}
 use Rattle.gf_drawing.specs.DrawingState.{IsFreeNumber, is_table_number}
 use Rattle.gf_fig_tokens.specs.declared.faults.FigFault.{FigFault}

@@ -14,7 +14,7 @@ use Rattle.gf_shape.specs.Ring.{Ring}
 use Rattle.gf_shape.specs.Round.{Round, is_round}
 use Rattle.gf_shape.specs.Oblong.{Oblong, is_oblong}
 use Rattle.gf_shape.specs.ShapeLaws.{IsLawful}
-use Rattle.gf_digits.specs.ColourBytes.{HasBytes}
+use Rattle.gf_shape.specs.ColourBytes.{HasBytes}
 use Rattle.gf_digits.specs.HexDigits.{hex_rgb}
 use Rattle.gf_drawing.specs.declared.figure.Figure.{Figure}
 use Rattle.gf_drawing.specs.DrawingState.{DrawingState, IsLawfulDrawing, IsLawfulFigure}

@@ -2,7 +2,7 @@
 -- choice).
 use Rattle.std.specs.Prelude.{◌≡◌, ℕ, List, Contains, Some}
 use Rattle.gf_shape.specs.declared.colour.Rgb.{Rgb}
-use Rattle.gf_digits.specs.ColourBytes.{HasBytes}
+use Rattle.gf_shape.specs.ColourBytes.{HasBytes}
 use Rattle.gf_ops.specs.declared.op.Op.{Op}
 use Rattle.gf_ops.specs.declared.change.Attr.TheVariants.{Colour}
 use Rattle.gf_ops.specs.declared.change.Value.TheVariants as value

@@ -2,7 +2,7 @@
 
 ghost use Rattle.std.specs.Prelude.{◌≡◌, [], ◌++◌, OnOk, IfSome, All, flat_map, slice_get};
 ghost use Rattle.std.specs.Prelude.{option_map, unwrap_or};
-ghost use Rattle.gf_digits.specs.ColourBytes.{HasBytes};
+ghost use Rattle.gf_shape.specs.ColourBytes.{HasBytes};
 ghost use Rattle.gf_fig_write.specs.FigText.{colour_line};
 
 use gf_digits::{push_hex_rgb, push_number};

@@ -15,7 +15,7 @@ use Rattle.gf_ops.specs.declared.change.Change.TheVariants.{Create, Set}
 use Rattle.gf_ops.specs.Attribute.{kind_of, made_kind, object_of, changed_object}
 use Rattle.gf_ops.specs.KnownObject.{IsSuited}
 use Rattle.gf_ops.specs.ValidHistory.{IsValid}
-use Rattle.gf_ops.proofs.ListLemmas.{Contains-cons_cases, Contains-cons_head, Contains-cons_tail, Contains-map, not_Contains-nil}
+use Rattle.gf_base.proofs.ListLemmas.{Contains-cons_cases, Contains-cons_head, Contains-cons_tail, Contains-map, not_Contains-nil}
 use Rattle.gf_groups.specs.declared.group.Group.{Group}
 use Rattle.gf_groups.specs.Versions.{IsMade, IsVersionGroup, AreAllVersions}
 use Rattle.gf_groups.specs.Growing.{conflict_at, groups_at}
@@ -27,7 +27,7 @@ use Rattle.gf_groups.proofs.GroupLemmas.{groups_once, group_on, groups_exactly}
 use Rattle.gf_groups.proofs.OnPositionLemmas.{on_op, on_to, all_positions, contained_at, position_of_op}
 use Rattle.gf_groups.proofs.PartingLemmas.{object_cmp_total, entries_parts, entry_position, entry_of}
 use Rattle.gf_groups.proofs.PositionLemmas.{positions_below-rising}
-use Rattle.gf_maximal.proofs.RisingLemmas.{below_tail}
+use Rattle.gf_base.proofs.RisingLemmas.{below_tail}
 use Rattle.gf_maximal.proofs.PairLemmas.{AllPairs-append}
 
 -- ---- lists in a row

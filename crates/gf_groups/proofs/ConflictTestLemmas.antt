@@ -16,9 +16,9 @@ use Rattle.gf_ops.proofs.DirectConflictLemmas.{direct_told, direct_from}
 use Rattle.gf_ops.specs.Aims.{Brings}
 use Rattle.gf_ops.specs.Conflict.{Conflict}
 use Rattle.gf_ops.proofs.ConflictLemmas.{conflict-sym}
-use Rattle.gf_ops.proofs.ListLemmas.{Contains-cons_cases, Contains-cons_head, Contains-cons_tail}
+use Rattle.gf_base.proofs.ListLemmas.{Contains-cons_cases, Contains-cons_head, Contains-cons_tail}
 use Rattle.gf_groups.specs.VersionList.{id_eq, is_before, are_unordered, in_direct_conflict, aims_at, brought, in_conflict}
-use Rattle.gf_maximal.proofs.ListLemmas.{Contains-filter, list_any_true, list_any_from}
+use Rattle.gf_base.proofs.FilterLemmas.{Contains-filter, list_any_true, list_any_from}
 
 pub id_decided : (i j : OpId) → Decides (id_eq i j) (i ≡ j)
 id_decided i j = Decides-like (id_eq i j) (λ h k. record { site = h.0 k; seq = h.1 k }) (λ e. (ap (λ (k : OpId). k.site) e, ap (λ (k : OpId). k.seq) e))

@@ -13,7 +13,7 @@ use Rattle.gf_ops.specs.declared.op.Op.{Op}
 use Rattle.gf_ops.specs.declared.op.ObjectId.{ObjectId}
 use Rattle.gf_ops.specs.ValidHistory.{IsValid}
 use Rattle.gf_ops.specs.Version.{IsVersion}
-use Rattle.gf_ops.proofs.ListLemmas.{Contains-map, Contains-map_from}
+use Rattle.gf_base.proofs.ListLemmas.{Contains-map, Contains-map_from}
 use Rattle.gf_groups.specs.declared.group.Group.{Group}
 use Rattle.gf_groups.specs.Versions.{IsMade, IsVersionGroup, AreVersions, group_cmp}
 use Rattle.gf_groups.specs.Growing.{conflict_at}
@@ -22,7 +22,7 @@ use Rattle.gf_maximal.specs.Tables.{IsRising, IsTable}
 use Rattle.gf_groups.proofs.IdLemmas.{id_cmp_total, id_cmp_exact}
 use Rattle.gf_groups.proofs.IdPositionLemmas.{Contains-rising_ids, same_position}
 use Rattle.gf_groups.proofs.OnPositionLemmas.{on_op}
-use Rattle.gf_maximal.proofs.RisingLemmas.{one_rising}
+use Rattle.gf_base.proofs.RisingLemmas.{one_rising}
 use Rattle.gf_groups.proofs.SortedLemmas.{ties, equal_left, rising_sorted}
 use Rattle.gf_maximal.proofs.PairLemmas.{AllPairs-map}
 use Rattle.gf_groups.proofs.VersionLemmas.{version_of_largest, largest_of_version, same_ids, positions_in, positions_in-rising}

@@ -14,11 +14,11 @@ use Rattle.gf_ops.specs.declared.op.Op.{Op}
 use Rattle.gf_ops.specs.declared.op.OpId.{OpId}
 use Rattle.gf_ops.specs.OperationOrder.{id_cmp}
 use Rattle.gf_ops.specs.ValidHistory.{IsValid}
-use Rattle.gf_ops.proofs.ListLemmas.{Contains-cons_cases, Contains-cons_head, Contains-cons_tail, not_Contains-nil}
+use Rattle.gf_base.proofs.ListLemmas.{Contains-cons_cases, Contains-cons_head, Contains-cons_tail, not_Contains-nil}
 use Rattle.gf_groups.specs.GroupedPositions.{ids_at, rising_ids}
 use Rattle.gf_maximal.specs.Tables.{IsRising}
 use Rattle.gf_groups.proofs.IdLemmas.{id_cmp_total, id_cmp_exact}
-use Rattle.gf_maximal.proofs.RisingLemmas.{below_tail, rising_nil}
+use Rattle.gf_base.proofs.RisingLemmas.{below_tail, rising_nil}
 use Rattle.gf_maximal.proofs.InsertLemmas.{inserted_all, holds_all}
 use Rattle.gf_groups.proofs.SortedLemmas.{same_sorted}
 use Rattle.gf_groups.proofs.TableLemmas.{below_from_less}

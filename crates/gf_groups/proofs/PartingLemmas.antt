@@ -20,7 +20,7 @@ use Rattle.gf_groups.proofs.ConflictTestLemmas.{id_decided}
 use Rattle.gf_groups.proofs.IdLemmas.{id_cmp_total, id_cmp_exact}
 use Rattle.gf_groups.proofs.PositionLemmas.{positions_with, positions_without}
 use Rattle.gf_groups.proofs.SortedLemmas.{equal_left}
-use Rattle.gf_ops.proofs.ListLemmas.{not_Contains-nil, Contains-cons_head}
+use Rattle.gf_base.proofs.ListLemmas.{not_Contains-nil, Contains-cons_head}
 
 pub object_cmp_total : IsTotalOrder object_cmp
 object_cmp_total = on_total (λ (o : ObjectId). o.0) id_cmp_total

@@ -12,9 +12,9 @@ use Rattle.std.specs.Ordering.{ordering_reverse, is_lt, is_eq}
 use Rattle.std.proofs.lemmas.Bool.{cases_Bool}
 use Rattle.std.proofs.lemmas.List.Sorted.{Contains-permutation, IsPermutation-sym}
 use Rattle.std.proofs.lemmas.Map.Keys.{IsDistinct-from_apart, IsDistinct-IsPermutation, apart_from_distinct, sorted_from_all_adjacent}
-use Rattle.gf_ops.proofs.ListLemmas.{not_Contains-nil}
+use Rattle.gf_base.proofs.ListLemmas.{not_Contains-nil}
 use Rattle.gf_maximal.proofs.InsertLemmas.{inserted_all, holds_all}
-use Rattle.gf_maximal.proofs.RisingLemmas.{one_rising, rising_nil}
+use Rattle.gf_base.proofs.RisingLemmas.{one_rising, rising_nil}
 
 pub equal_left : (o : Ordering) → is_eq o ≡ true → o ≡ Equal
 equal_left Less e = absurd cc

@@ -9,11 +9,11 @@ use Rattle.std.specs.declared.cmp.Ordering.TheVariants.{Less}
 use Rattle.std.proofs.lemmas.Cmp.{tied_itself}
 use Rattle.std.proofs.lemmas.List.Elements.{Contains-append_left, Contains-append_right, Contains-append_cases, Contains-get_or}
 use Rattle.std.proofs.lemmas.Map.Keys.{sorted_tail}
-use Rattle.gf_ops.proofs.ListLemmas.{Contains-cons_cases, Contains-cons_head, Contains-cons_tail, not_Contains-nil, Contains-map, Contains-map_from}
+use Rattle.gf_base.proofs.ListLemmas.{Contains-cons_cases, Contains-cons_head, Contains-cons_tail, not_Contains-nil, Contains-map, Contains-map_from}
 use Rattle.gf_groups.specs.VersionList.{sublists}
 use Rattle.gf_maximal.specs.Pairs.{Pairs}
 use Rattle.gf_maximal.proofs.PairLemmas.{Pairs-append, Pairs-map}
-use Rattle.gf_maximal.proofs.RisingLemmas.{below_tail, rising_cons}
+use Rattle.gf_base.proofs.RisingLemmas.{below_tail, rising_cons}
 
 -- ---- each element stands to all later ones as R says
 

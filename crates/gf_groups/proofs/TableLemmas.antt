@@ -19,8 +19,8 @@ use Rattle.gf_groups.proofs.ConflictTestLemmas.{in_conflict-sym}
 use Rattle.gf_maximal.proofs.GrowingLemmas.{Comes, table_first, table_next}
 use Rattle.gf_maximal.proofs.InsertLemmas.{inserted, holds}
 use Rattle.gf_maximal.proofs.LargestLemmas.{IsConflict}
-use Rattle.gf_maximal.proofs.ListLemmas.{Contains-filter}
-use Rattle.gf_maximal.proofs.RisingLemmas.{one_rising, rising_front, rising_below}
+use Rattle.gf_base.proofs.FilterLemmas.{Contains-filter}
+use Rattle.gf_base.proofs.RisingLemmas.{one_rising, rising_front, rising_below}
 
 both_conflict-sym : (h : List Op) (r s : Option Op) → both_conflict h r s ≡ both_conflict h s r
 both_conflict-sym h (Some a) (Some b) = in_conflict-sym h a b

@@ -15,16 +15,16 @@ use Rattle.gf_ops.specs.Attribute.{Kind, made_kind, object_of}
 use Rattle.gf_ops.specs.Conflict.{Conflict}
 use Rattle.gf_ops.specs.OperationOrder.{id_cmp}
 use Rattle.gf_ops.specs.Version.{HasOn, IsMember, ConflictsWithin, IsVersion}
-use Rattle.gf_ops.proofs.ListLemmas.{Contains-cons_cases, Contains-cons_head, Contains-cons_tail, Contains-map, Contains-map_from, not_Contains-nil}
+use Rattle.gf_base.proofs.ListLemmas.{Contains-cons_cases, Contains-cons_head, Contains-cons_tail, Contains-map, Contains-map_from, not_Contains-nil}
 use Rattle.gf_groups.specs.declared.group.Group.{Group}
 use Rattle.gf_groups.specs.Versions.{IsMade, IsVersionGroup, AreVersions, group_cmp}
 use Rattle.gf_groups.specs.VersionList.{id_eq, in_conflict, is_in, ops_on, members, is_compatible, is_largest, sublists, ids_on, versions_of}
 use Rattle.gf_groups.proofs.ConflictTestLemmas.{id_decided, conflict_decided}
 use Rattle.gf_groups.proofs.IdLemmas.{id_cmp_total, id_cmp_exact}
-use Rattle.gf_maximal.proofs.ListLemmas.{Contains-filter, list_any_true, list_any_from, list_all_true, list_all_from}
+use Rattle.gf_base.proofs.FilterLemmas.{Contains-filter, list_any_true, list_any_from, list_all_true, list_all_from}
 use Rattle.gf_groups.proofs.GroupLemmas.{group_cmp_total}
 use Rattle.gf_groups.proofs.OnPositionLemmas.{made_object}
-use Rattle.gf_maximal.proofs.RisingLemmas.{one_rising}
+use Rattle.gf_base.proofs.RisingLemmas.{one_rising}
 use Rattle.gf_maximal.proofs.InsertLemmas.{inserted_all, holds_all}
 use Rattle.gf_maximal.proofs.PairLemmas.{Pairs-filter, Pairs-from, Pairs-map}
 use Rattle.gf_groups.proofs.SublistLemmas.{Pairs_from_rising, StandsBefore, rising_from_Pairs, rising_sublist, sublist_rising, sublist_within, sublists_in_order}

@@ -12,9 +12,9 @@ use crate::growth::groups_at;
 use crate::listing::{add_groups, positions_on};
 use crate::parting::positions_by_object;
 use crate::{Group, GroupFault, Groups};
+use gf_base::OutOfMemory;
 use gf_maximal::Numbers;
 use gf_ops::{Change, History, ObjectId};
-use gf_shape::OutOfMemory;
 use std::alloc::Global;
 
 /// The versions of an object, each once, rising by their ids as a dictionary orders them.

@@ -6,9 +6,9 @@ ghost use Rattle.std.specs.Ordering.{nat_cmp};
 ghost use Rattle.gf_groups.specs.Growing.{conflict_at, rivals, groups_at};
 
 use crate::conflict::conflict_at;
+use gf_base::OutOfMemory;
 use gf_maximal::{Numbers, grow};
 use gf_ops::History;
-use gf_shape::OutOfMemory;
 use std::alloc::Global;
 
 /// The positions whose operations conflict with the one at a position.

@@ -8,9 +8,9 @@ ghost use Rattle.gf_groups.specs.GroupedPositions.{positions_below, id_at, ids_a
 ghost use Rattle.gf_groups.specs.GroupedPositions.{group_at};
 
 use crate::Group;
+use gf_base::OutOfMemory;
 use gf_maximal::Numbers;
 use gf_ops::{History, Ids, ObjectId, Op, OpId};
-use gf_shape::OutOfMemory;
 use std::alloc::Global;
 
 /// The positions of the operations on the object.

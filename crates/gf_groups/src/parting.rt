@@ -4,8 +4,8 @@ ghost use Rattle.std.specs.Prelude.{length, IfOk, OnOk};
 ghost use Rattle.gf_groups.specs.Parting.{AddsPosition, HasPositionsBelow};
 
 use crate::positions::Positions;
+use gf_base::OutOfMemory;
 use gf_ops::{ObjectId, Op};
-use gf_shape::OutOfMemory;
 use std::alloc::Global;
 use std::collections::BTreeMap;
 

@@ -11,7 +11,7 @@ use Rattle.gf_streams.specs.TextLines.{is_blank, is_line_end, numbered_from}
 use Rattle.gf_ops.specs.declared.change.Change.{Change}
 use Rattle.gf_ops.specs.Limits.{is_change}
 use Rattle.gf_ops.specs.OperationOrder.{IsSite}
-use Rattle.gf_ops.proofs.ListLemmas.{Contains-cons_head, Contains-cons_tail, not_Contains-nil}
+use Rattle.gf_base.proofs.ListLemmas.{Contains-cons_head, Contains-cons_tail, not_Contains-nil}
 use Rattle.gf_json.specs.declared.scripts.Command.{Command}
 use Rattle.gf_json.specs.declared.scripts.Command.TheVariants.{Author, Await}
 use Rattle.gf_json.specs.declared.scripts.ScriptLine.{ScriptLine}

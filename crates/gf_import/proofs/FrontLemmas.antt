@@ -14,7 +14,7 @@ use Rattle.gf_shape.specs.Moving.{minus}
 use Rattle.gf_ops.specs.declared.op.Op.{Op}
 use Rattle.gf_ops.specs.declared.change.Change.TheVariants.{Create}
 use Rattle.gf_ops.specs.declared.change.Start.{Start}
-use Rattle.gf_ops.proofs.ListLemmas.{Contains-cons_head}
+use Rattle.gf_base.proofs.ListLemmas.{Contains-cons_head}
 use Rattle.gf_versions.specs.Visible.{form_holds}
 use Rattle.gf_drawing.specs.declared.figure.Figure.{Figure}
 use Rattle.gf_drawing.specs.Colours.{Table}

@@ -10,7 +10,7 @@ use Rattle.gf_shape.specs.ShapeLaws.{IsLawful}
 use Rattle.gf_ops.specs.declared.op.Op.{Op}
 use Rattle.gf_ops.specs.OperationOrder.{IsSite, count_of}
 use Rattle.gf_ops.specs.ValidHistory.{IsValid}
-use Rattle.gf_ops.proofs.ListLemmas.{not_Contains-nil}
+use Rattle.gf_base.proofs.ListLemmas.{not_Contains-nil}
 use Rattle.gf_causal.proofs.CourseLemmas.{count_push_same}
 use Rattle.gf_site.specs.SiteState.{authored}
 use Rattle.gf_versions.specs.declared.key.Version.{Version}

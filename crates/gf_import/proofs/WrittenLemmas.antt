@@ -13,7 +13,7 @@ use Rattle.gf_ops.specs.Accepted.{next as accepted_next}
 use Rattle.gf_ops.specs.Limits.{IsInRange, is_change}
 use Rattle.gf_ops.specs.OperationOrder.{IsSite, count_of}
 use Rattle.gf_ops.specs.ValidHistory.{IsValid}
-use Rattle.gf_ops.proofs.ListLemmas.{not_Contains-nil}
+use Rattle.gf_base.proofs.ListLemmas.{not_Contains-nil}
 use Rattle.gf_causal.proofs.CourseLemmas.{count_push_same}
 use Rattle.gf_site.specs.SiteState.{SiteState, authored, new_site}
 use Rattle.gf_site.proofs.AuthorLemmas.{authored_in_range, authored_next}

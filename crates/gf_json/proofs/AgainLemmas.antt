@@ -4,12 +4,12 @@ use Rattle.std.specs.List.{list_all}
 use Rattle.std.proofs.lemmas.List.{length-map}
 use Rattle.gf_shape.specs.declared.point.Point.{Point}
 use Rattle.gf_shape.specs.declared.colour.Rgb.{Rgb}
-use Rattle.gf_digits.specs.ColourBytes.{HasBytes}
+use Rattle.gf_ops.proofs.ColourLemmas.{bytes_within}
 use Rattle.gf_digits.proofs.HexLemmas.{rgb_of_hex-hex_rgb}
 use Rattle.gf_ops.specs.declared.op.OpId.{OpId}
 use Rattle.gf_ops.specs.declared.op.Clock.{Clock}
 use Rattle.gf_shape.specs.Polygons.{is_polygon_count}
-use Rattle.gf_ops.specs.Limits.{is_site, is_id, is_clock, is_near, is_size, is_polygon, is_layer}
+use Rattle.gf_ops.specs.Limits.{is_site, is_id, is_clock, is_near, is_size, is_polygon, is_layer, is_colour}
 use Rattle.serde_json.specs.Data.{Data}
 use Rattle.serde_json.specs.View.{items_of}
 use Rattle.gf_json.specs.LineValues.{Got, and_then, whole, elements, array, each}
@@ -113,6 +113,5 @@ points_again ps h =
 
 -- ---- colours
 
--- a colour of bytes
-pub colour_again : (c : Rgb) → HasBytes c → hex_colour (colour_data c) ≡ Ok c
-colour_again c bytes = rw (rgb_of_hex-hex_rgb c bytes) refl
+pub colour_again : (c : Rgb) → is_colour c ≡ true → hex_colour (colour_data c) ≡ Ok c
+colour_again c h = rw (rgb_of_hex-hex_rgb c (bytes_within c h)) refl

@@ -8,4 +8,3 @@ pub mod OpAgainLemmas
 pub mod ScriptAgainLemmas
 pub mod OneLineLemmas
 pub mod MissingKeys
-pub mod ByteLemmas

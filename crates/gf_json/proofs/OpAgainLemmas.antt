@@ -2,7 +2,6 @@
 use Rattle.std.proofs.Common.{◌≡◌, ℕ, List, [], ◌∷◌, length, refl, Ok, Bool, true, ◌&&◌, ◌∙◌, codes}
 use Rattle.gf_shape.specs.declared.point.Point.{Point}
 use Rattle.gf_shape.specs.declared.colour.Rgb.{Rgb}
-use Rattle.gf_digits.specs.ColourBytes.{HasBytes}
 use Rattle.gf_ops.specs.declared.op.Op.{Op}
 use Rattle.gf_ops.specs.declared.op.OpId.{OpId}
 use Rattle.gf_ops.specs.declared.op.ObjectId.{ObjectId}
@@ -14,7 +13,7 @@ use Rattle.gf_ops.specs.declared.change.Change.{Change}
 use Rattle.gf_ops.specs.declared.change.Change.TheVariants.{Create, Set}
 use Rattle.gf_ops.specs.declared.change.Value.{Value}
 use Rattle.gf_ops.specs.declared.change.Value.TheVariants as value
-use Rattle.gf_ops.specs.Limits.{is_id, is_clock, is_near, is_form, is_layer, is_value, is_aim, is_change, IsInRange}
+use Rattle.gf_ops.specs.Limits.{is_id, is_clock, is_near, is_form, is_layer, is_colour, is_value, is_aim, is_change, IsInRange}
 use Rattle.serde_json.specs.Data.{Data}
 use Rattle.gf_json.specs.LineValues.{Got, mapped, and_then, ◌&◌, array}
 use Rattle.gf_json.specs.LineLimits.{name, clock}
@@ -22,7 +21,6 @@ use Rattle.gf_json.specs.LineFields.{id, past, object, aim, place, box_size, cir
 use Rattle.gf_json.specs.LineKeys.{op_keys}
 use Rattle.gf_json.specs.LineChanges.{change, new_value}
 use Rattle.gf_json.specs.OperationLines.{op_of}
-use Rattle.gf_json.specs.ColourBytes.{ValueHasBytes, ChangeHasBytes}
 use Rattle.gf_json.specs.WrittenValues.{name_data, clock_data}
 use Rattle.gf_json.specs.WrittenLines.{creation_data, setting_data, change_data, data_of}
 use Rattle.gf_json.proofs.IdLemmas.{ids_again}
@@ -49,34 +47,34 @@ setting_parts x y z o v ids h k l = rw (h, k, l) refl
 
 -- ---- creations
 
-creation_again : (i p : Data) (s : Start) (f : Form) → is_form f ≡ true → is_near s.place ≡ true → is_layer s.layer ≡ true → HasBytes s.colour
+creation_again : (i p : Data) (s : Start) (f : Form) → is_form f ≡ true → is_near s.place ≡ true → is_layer s.layer ≡ true → is_colour s.colour ≡ true
     → change (codes "op") op_keys (creation_data i p s f) ≡ Ok (Create (record { form = f; place = s.place; colour = s.colour; layer = s.layer; shown = s.shown }))
-creation_again i p s (Rect width height) form near level bytes =
+creation_again i p s (Rect width height) form near level fill =
     let d = creation_data i p s (Rect width height) in
     start_parts (box_size d) (place d) (colour d) (layer d) (shown d) (Rect width height) s
-    (mapped-Ok (λ q. Rect q.0 q.1) _ (width, height) (size_again width height form)) (point_again s.place near) (colour_again s.colour bytes) (level_again s.layer level) refl
-creation_again i p s (Polygon ps) form near level bytes =
+    (mapped-Ok (λ q. Rect q.0 q.1) _ (width, height) (size_again width height form)) (point_again s.place near) (colour_again s.colour fill) (level_again s.layer level) refl
+creation_again i p s (Polygon ps) form near level fill =
     let d = creation_data i p s (Polygon ps) in
     start_parts (polygon_points d) (place d) (colour d) (layer d) (shown d) (Polygon ps) s
-    (mapped-Ok Polygon _ ps (points_again ps form)) (point_again s.place near) (colour_again s.colour bytes) (level_again s.layer level) refl
-creation_again i p s (Circle radius) form near level bytes =
+    (mapped-Ok Polygon _ ps (points_again ps form)) (point_again s.place near) (colour_again s.colour fill) (level_again s.layer level) refl
+creation_again i p s (Circle radius) form near level fill =
     let d = creation_data i p s (Circle radius) in
     start_parts (circle_size d) (place d) (colour d) (layer d) (shown d) (Circle radius) s
-    (mapped-Ok Circle _ radius (radius_again radius form)) (point_again s.place near) (colour_again s.colour bytes) (level_again s.layer level) refl
-creation_again i p s (Ellipse rx ry) form near level bytes =
+    (mapped-Ok Circle _ radius (radius_again radius form)) (point_again s.place near) (colour_again s.colour fill) (level_again s.layer level) refl
+creation_again i p s (Ellipse rx ry) form near level fill =
     let d = creation_data i p s (Ellipse rx ry) in
     start_parts (ellipse_size d) (place d) (colour d) (layer d) (shown d) (Ellipse rx ry) s
-    (mapped-Ok (λ q. Ellipse q.0 q.1) _ (rx, ry) (size_again rx ry form)) (point_again s.place near) (colour_again s.colour bytes) (level_again s.layer level) refl
+    (mapped-Ok (λ q. Ellipse q.0 q.1) _ (rx, ry) (size_again rx ry form)) (point_again s.place near) (colour_again s.colour fill) (level_again s.layer level) refl
 
 -- ---- settings
 
-value_again : (i p : Data) (o : ObjectId) (v : Value) → is_value v ≡ true → ValueHasBytes v → new_value (setting_data i p o v []) ≡ Ok v
-value_again i p o (value.Place q) h bytes = mapped-Ok value.Place _ q (point_again q h)
-value_again i p o (value.Points ps) h bytes = mapped-Ok value.Points _ ps (points_again ps h)
-value_again i p o (value.Size width height) h bytes = mapped-Ok (λ s. value.Size s.0 s.1) _ (width, height) (size_again width height h)
-value_again i p o (value.Colour c) h bytes = mapped-Ok value.Colour _ c (colour_again c bytes)
-value_again i p o (value.Layer n) h bytes = mapped-Ok value.Layer _ n (level_again n h)
-value_again i p o (value.Shown b) h bytes = refl
+value_again : (i p : Data) (o : ObjectId) (v : Value) → is_value v ≡ true → new_value (setting_data i p o v []) ≡ Ok v
+value_again i p o (value.Place q) h = mapped-Ok value.Place _ q (point_again q h)
+value_again i p o (value.Points ps) h = mapped-Ok value.Points _ ps (points_again ps h)
+value_again i p o (value.Size width height) h = mapped-Ok (λ s. value.Size s.0 s.1) _ (width, height) (size_again width height h)
+value_again i p o (value.Colour c) h = mapped-Ok value.Colour _ c (colour_again c h)
+value_again i p o (value.Layer n) h = mapped-Ok value.Layer _ n (level_again n h)
+value_again i p o (value.Shown b) h = refl
 
 -- the key of an aim changes nothing of the value
 aimed_value : (i p : Data) (o : ObjectId) (v : Value) (j : OpId) (js : List OpId) → new_value (setting_data i p o v (j ∷ js)) ≡ new_value (setting_data i p o v [])
@@ -87,27 +85,28 @@ aimed_value i p o (value.Colour c) j js = refl
 aimed_value i p o (value.Layer n) j js = refl
 aimed_value i p o (value.Shown b) j js = refl
 
-setting_again : (i p : Data) (o : ObjectId) (v : Value) (ids : List OpId) → is_id o.0 ≡ true → is_value v ≡ true → is_aim ids ≡ true → ValueHasBytes v
+setting_again : (i p : Data) (o : ObjectId) (v : Value) (ids : List OpId) → is_id o.0 ≡ true → is_value v ≡ true → is_aim ids ≡ true
     → change (codes "op") op_keys (setting_data i p o v ids) ≡ Ok (Set o v ids)
-setting_again i p o v [] name h few bytes =
+setting_again i p o v [] name h few =
     let d = setting_data i p o v [] in
-    setting_parts (object d) (new_value d) (Ok []) o v [] (mapped-Ok {B = ObjectId} (λ n. record { 0 = n }) _ o.0 (name_again o.0 name)) (value_again i p o v h bytes) refl
-setting_again i p o v (j ∷ js) name h few bytes =
+    setting_parts (object d) (new_value d) (Ok []) o v [] (mapped-Ok {B = ObjectId} (λ n. record { 0 = n }) _ o.0 (name_again o.0 name)) (value_again i p o v h) refl
+setting_again i p o v (j ∷ js) name h few =
     let d = setting_data i p o v (j ∷ js) in
     setting_parts (object d) (new_value d) (aim d) o v (j ∷ js) (mapped-Ok {B = ObjectId} (λ n. record { 0 = n }) _ o.0 (name_again o.0 name))
-    (aimed_value i p o v j js ∙ value_again i p o v h bytes) (ids_again (j ∷ js) few)
+    (aimed_value i p o v j js ∙ value_again i p o v h) (ids_again (j ∷ js) few)
 
 -- ---- operations
 
-pub change_again : (i p : Data) (c : Change) → is_change c ≡ true → ChangeHasBytes c → change (codes "op") op_keys (change_data i p c) ≡ Ok c
-change_again i p (Create s) h bytes =
-    let rest = both_true (is_form s.form && is_near s.place) (is_layer s.layer) h in
+pub change_again : (i p : Data) (c : Change) → is_change c ≡ true → change (codes "op") op_keys (change_data i p c) ≡ Ok c
+change_again i p (Create s) h =
+    let whole = both_true (is_form s.form && is_near s.place && is_layer s.layer) (is_colour s.colour) h in
+    let rest = both_true (is_form s.form && is_near s.place) (is_layer s.layer) whole.0 in
     let first = both_true (is_form s.form) (is_near s.place) rest.0 in
-    creation_again i p s s.form first.0 first.1 rest.1 bytes
-change_again i p (Set o v ids) h bytes =
+    creation_again i p s s.form first.0 first.1 rest.1 whole.1
+change_again i p (Set o v ids) h =
     let rest = both_true (is_id o.0 && is_value v) (is_aim ids) h in
     let first = both_true (is_id o.0) (is_value v) rest.0 in
-    setting_again i p o v ids first.0 first.1 rest.1 bytes
+    setting_again i p o v ids first.0 first.1 rest.1
 
 id-creation_data : (i p : Data) (s : Start) (f : Form) → id (creation_data i p s f) ≡ name i
 id-creation_data i p s (Rect width height) = refl
@@ -131,13 +130,13 @@ past-change_data i p (Create s) = past-creation_data i p s s.form
 past-change_data i p (Set o v []) = refl
 past-change_data i p (Set o v (j ∷ js)) = refl
 
--- an operation within the limits, with a clock of eight entries and colours of bytes
-pub op_of-data_of : (a : Op) → length a.past.0 ≡ 8 → ChangeHasBytes a.change → IsInRange a → op_of (data_of a) ≡ Ok a
-op_of-data_of a eight bytes h =
+-- an operation within the limits, with a clock of eight entries
+pub op_of-data_of : (a : Op) → length a.past.0 ≡ 8 → IsInRange a → op_of (data_of a) ≡ Ok a
+op_of-data_of a eight h =
     let rest = both_true (is_id a.id && is_clock a.past) (is_change a.change) h in
     let first = both_true (is_id a.id) (is_clock a.past) rest.0 in
     let d = data_of a in
     op_parts (id d) (past d) (change (codes "op") op_keys d) a.id a.past a.change
     (id-change_data (name_data a.id) (clock_data a.past) a.change ∙ name_again a.id first.0)
     (past-change_data (name_data a.id) (clock_data a.past) a.change ∙ clock_again a.past eight first.1)
-    (change_again (name_data a.id) (clock_data a.past) a.change rest.1 bytes)
+    (change_again (name_data a.id) (clock_data a.past) a.change rest.1)

@@ -19,7 +19,6 @@ use Rattle.gf_json.specs.LineFields.{id, site}
 use Rattle.gf_json.specs.LineKeys.{op_keys, author_keys}
 use Rattle.gf_json.specs.LineChanges.{change}
 use Rattle.gf_json.specs.ScriptLines.{is_command, IsScriptInRange, authored, script_of}
-use Rattle.gf_json.specs.ColourBytes.{CommandHasBytes}
 use Rattle.gf_json.specs.WrittenLines.{creation_data, setting_data, change_data}
 use Rattle.gf_json.specs.WrittenScripts.{script_data}
 use Rattle.gf_json.proofs.AgainLemmas.{both_true, name_again, site_again}
@@ -100,20 +99,20 @@ script_parts : {A : Type 0} (f : A → Command) (x : Got ℕ) (y : Got A) (n : �
     ≡ Ok (record { site = n; command = f a })
 script_parts f x y n a h k = rw (h, k) refl
 
-script_of-line_data : (n : ℕ) (c : Command) → CommandHasBytes c → is_site n ≡ true
+script_of-line_data : (n : ℕ) (c : Command) → is_site n ≡ true
     → is_command c ≡ true → script_of (line_data n c) ≡ Ok (record { site = n; command = c })
-script_of-line_data n (Author c) bytes h k =
+script_of-line_data n (Author c) h k =
     let d = line_data n (Author c) in
     authored-line_data n c
     ∙ script_parts Author (site d) (change (codes "do") author_keys d) n c
-    (site-line_data n (Author c) h) (same_change n c ∙ change_again null null c k bytes)
-script_of-line_data n (Await i) bytes h k =
+    (site-line_data n (Author c) h) (same_change n c ∙ change_again null null c k)
+script_of-line_data n (Await i) h k =
     let d = line_data n (Await i) in
     script_parts Await (site d) (id d) n i (site-line_data n (Await i) h) (name_again i k)
 
--- a command within the limits, with colours of bytes
-pub script_of-script_data : (s : ScriptLine) → CommandHasBytes s.command → IsScriptInRange s
+-- a command within the limits
+pub script_of-script_data : (s : ScriptLine) → IsScriptInRange s
     → script_of (script_data s) ≡ Ok s
-script_of-script_data s bytes h =
+script_of-script_data s h =
     let parts = both_true (is_site s.site) (is_command s.command) h in
-    script_of-line_data s.site s.command bytes parts.0 parts.1
+    script_of-line_data s.site s.command parts.0 parts.1

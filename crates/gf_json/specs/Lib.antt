@@ -14,4 +14,3 @@ pub mod WrittenMembers
 pub mod WrittenScripts
 pub mod CheckedPoints
 pub mod CheckedIds
-pub mod ColourBytes

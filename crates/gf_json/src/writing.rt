@@ -3,8 +3,6 @@
 ghost use Rattle.std.specs.Prelude.{◌≡◌, Ok, IfOk, OnOk, length, string_bytes};
 ghost use Rattle.serde_json.specs.View.{view, members_view};
 ghost use Rattle.gf_ops.specs.Limits.{IsInRange};
-ghost use Rattle.gf_digits.specs.ColourBytes.{HasBytes};
-ghost use Rattle.gf_json.specs.ColourBytes.{ValueHasBytes, ChangeHasBytes, CommandHasBytes};
 ghost use Rattle.gf_json.specs.OperationLines.{denoted};
 ghost use Rattle.gf_json.specs.ScriptLines.{IsScriptInRange, script_denoted};
 ghost use Rattle.gf_json.specs.WrittenValues.{name_data, clock_data};
@@ -65,7 +63,6 @@ fn command_line(alloc: Global, script: &ScriptLine) -> Result<String, AllocError
 fn data_of(alloc: Global, op: &Op) -> Result<Value, AllocError>
     ensures value { IfOk result (λ v. view v ≡ data_of op.now) }
     ensures eight { OnOk result (length op.now.past.0 ≡ 8) }
-    ensures bytes { OnOk result (ChangeHasBytes op.now.change) }
 {
     match &op.change {
         Change::Create(start) => creation_data(alloc, op, start),
@@ -78,7 +75,6 @@ fn creation_data(alloc: Global, op: &Op, start: &Start) -> Result<Value, AllocEr
     ensures value { IfOk result (λ v. view v
         ≡ creation_data (name_data op.now.id) (clock_data op.now.past) start.now start.now.form) }
     ensures eight { OnOk result (length op.now.past.0 ≡ 8) }
-    ensures bytes { OnOk result (HasBytes start.now.colour) }
 {
     let mut members = begun(alloc, op, "create")?;
     put_look(alloc, &mut members, start)?;
@@ -109,7 +105,6 @@ fn setting_data(
     ensures value { IfOk result (λ v. view v
         ≡ setting_data (name_data op.now.id) (clock_data op.now.past) object value.now aim.now) }
     ensures eight { OnOk result (length op.now.past.0 ≡ 8) }
-    ensures bytes { OnOk result (ValueHasBytes value.now) }
 {
     let mut members = begun(alloc, op, "set")?;
     put_setting(alloc, &mut members, object, value, aim)?;
@@ -117,8 +112,7 @@ fn setting_data(
 }
 
 fn script_data(alloc: Global, script: &ScriptLine) -> Result<Value, AllocError>
-    ensures value { IfOk result (λ v. view v ≡ script_data script.now) }
-    ensures bytes { OnOk result (CommandHasBytes script.now.command) }
+    ensures { IfOk result (λ v. view v ≡ script_data script.now) }
 {
     let mut members = Map::new(alloc);
     put(&mut members, alloc, "site", Value::from(script.site))?;
@@ -131,9 +125,8 @@ fn put_command(
     members: &mut Map<String, Value>,
     command: &Command,
 ) -> Result<(), AllocError>
-    ensures value { OnOk result (members_view members.new.entries
+    ensures { OnOk result (members_view members.new.entries
         ≡ put_all (command_members command.now) (members_view members.old.entries)) }
-    ensures bytes { OnOk result (CommandHasBytes command.now) }
 {
     match command {
         Command::Author(change) => put_authored(alloc, members, change),
@@ -150,9 +143,8 @@ fn put_authored(
     members: &mut Map<String, Value>,
     change: &Change,
 ) -> Result<(), AllocError>
-    ensures value { OnOk result (members_view members.new.entries
+    ensures { OnOk result (members_view members.new.entries
         ≡ put_all (authored_members change.now) (members_view members.old.entries)) }
-    ensures bytes { OnOk result (ChangeHasBytes change.now) }
 {
     match change {
         Change::Create(start) => {

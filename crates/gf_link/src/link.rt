@@ -8,7 +8,7 @@ ghost use Rattle.gf_link.specs.Fresh.{IsNewLink};
 use crate::rule::{Got, InOrder, Log, Roles, Sent, Total};
 use crate::{Message, SendSeat, TakeSeat};
 use crossbeam_queue::RuledArrayQueue;
-use gf_shape::OutOfMemory;
+use gf_base::OutOfMemory;
 use std::alloc::Global;
 use std::marker::Model;
 use std::sync::Wait;

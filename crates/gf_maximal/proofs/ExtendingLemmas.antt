@@ -5,8 +5,8 @@ use Rattle.std.specs.List.{list_any}
 use Rattle.std.proofs.lemmas.Bool.{cases_Bool}
 use Rattle.std.proofs.lemmas.List.Elements.{Contains-append_left, Contains-append_right, Contains-push_cases}
 use Rattle.gf_maximal.proofs.LargestLemmas.{IsConflict}
-use Rattle.gf_ops.proofs.ListLemmas.{Contains-cons_cases, Contains-cons_head, not_Contains-nil}
-use Rattle.gf_maximal.proofs.ListLemmas.{list_any_true, list_any_false}
+use Rattle.gf_base.proofs.ListLemmas.{Contains-cons_cases, Contains-cons_head, not_Contains-nil}
+use Rattle.gf_base.proofs.FilterLemmas.{list_any_true, list_any_false}
 use Rattle.gf_maximal.specs.Tables.{Hits}
 
 module _ {X : Type 0} (c : X → X → Bool) (s : IsConflict c) where

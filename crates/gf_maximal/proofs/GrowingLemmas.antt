@@ -10,9 +10,9 @@ use Rattle.std.proofs.lemmas.List.Elements.{Contains-append_cases, Contains-appe
 use Rattle.std.proofs.lemmas.List.Kept.{IsStrictlySortedBy-filter, AllPairs-filter}
 use Rattle.gf_maximal.specs.Growing.{is_in, meets, misses, without, joined, maximal, next}
 use Rattle.gf_maximal.specs.Tables.{Hits, IsLargest, IsRising, IsTable}
-use Rattle.gf_ops.proofs.ListLemmas.{Contains-cons_cases, Contains-cons_head, not_Contains-nil, Contains-map, Contains-map_from}
-use Rattle.gf_maximal.proofs.ListLemmas.{Contains-filter, list_any_true, list_any_false}
-use Rattle.gf_maximal.proofs.RisingLemmas.{one_rising, rising_nil}
+use Rattle.gf_base.proofs.ListLemmas.{Contains-cons_cases, Contains-cons_head, not_Contains-nil, Contains-map, Contains-map_from}
+use Rattle.gf_base.proofs.FilterLemmas.{Contains-filter, list_any_true, list_any_false}
+use Rattle.gf_base.proofs.RisingLemmas.{one_rising, rising_nil}
 use Rattle.gf_maximal.proofs.InsertLemmas.{inserted, holds}
 use Rattle.gf_maximal.proofs.LargestLemmas.{With, IsConflict, largest_with, largest_stays, largest_was, largest_alike}
 use Rattle.gf_maximal.proofs.ExtendingLemmas.{extended}

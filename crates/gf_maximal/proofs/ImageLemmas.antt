@@ -7,9 +7,9 @@ use Rattle.std.proofs.lemmas.Cmp.{nat_cmp_total}
 use Rattle.std.proofs.lemmas.List.Kept.{IsStrictlySortedBy-filter}
 use Rattle.gf_maximal.specs.Growing.{is_in, image}
 use Rattle.gf_maximal.specs.Tables.{IsLargest, IsRising, IsTable}
-use Rattle.gf_ops.proofs.ListLemmas.{not_Contains-nil, Contains-map, Contains-map_from}
-use Rattle.gf_maximal.proofs.ListLemmas.{Contains-filter}
-use Rattle.gf_maximal.proofs.RisingLemmas.{one_rising, rising_nil}
+use Rattle.gf_base.proofs.ListLemmas.{not_Contains-nil, Contains-map, Contains-map_from}
+use Rattle.gf_base.proofs.FilterLemmas.{Contains-filter}
+use Rattle.gf_base.proofs.RisingLemmas.{one_rising, rising_nil}
 use Rattle.gf_maximal.proofs.InsertLemmas.{inserted_all, holds_all}
 use Rattle.gf_maximal.proofs.PairLemmas.{AllPairs-map}
 use Rattle.gf_maximal.proofs.MaximalLemmas.{in_list, from_list}

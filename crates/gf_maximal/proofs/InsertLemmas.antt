@@ -12,8 +12,8 @@ use Rattle.std.specs.Ordering.{match_ordering, ordering_reverse}
 use Rattle.std.proofs.lemmas.List.Elements.{All-from_recursion, All-cons}
 use Rattle.std.proofs.lemmas.Map.Keys.{sorted_head, sorted_tail}
 use Rattle.std.proofs.lemmas.Map.Views.{All-insert_key}
-use Rattle.gf_ops.proofs.ListLemmas.{Contains-cons_cases, Contains-cons_head, Contains-cons_tail, not_Contains-nil}
-use Rattle.gf_maximal.proofs.RisingLemmas.{rising_cons}
+use Rattle.gf_base.proofs.ListLemmas.{Contains-cons_cases, Contains-cons_head, Contains-cons_tail, not_Contains-nil}
+use Rattle.gf_base.proofs.RisingLemmas.{rising_cons}
 
 module _ {X : Type 0} (R : X → X → Ordering) (total : IsTotalOrder R) (exact : IsAntisymmetric R) where
   abbrev with_key : X → List X → List X

@@ -1,5 +1,3 @@
-pub mod ListLemmas
-pub mod RisingLemmas
 pub mod LargestLemmas
 pub mod ExtendingLemmas
 pub mod InsertLemmas

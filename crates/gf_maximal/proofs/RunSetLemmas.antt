@@ -17,11 +17,11 @@ use Rattle.gf_maximal.specs.declared.run.Run.{Run}
 use Rattle.gf_maximal.specs.Growing.{is_in, meets, without, is_within, joined}
 use Rattle.gf_maximal.specs.Runs.{numbers_of, members, AreRuns, Serves, after, is_inside, first_touches, first_covers, touches, covers, piece, cut, all_cut, absorb, settle, put, single}
 use Rattle.gf_maximal.specs.Tables.{IsRising}
-use Rattle.gf_ops.proofs.ListLemmas.{Contains-cons_cases, Contains-cons_head, Contains-cons_tail, not_Contains-nil}
-use Rattle.gf_maximal.proofs.ListLemmas.{list_any_true, list_any_from, list_all_true, list_all_from}
+use Rattle.gf_base.proofs.ListLemmas.{Contains-cons_cases, Contains-cons_head, Contains-cons_tail, not_Contains-nil}
+use Rattle.gf_base.proofs.FilterLemmas.{list_any_true, list_any_from, list_all_true, list_all_from}
 use Rattle.gf_maximal.proofs.InsertLemmas.{inserted, holds}
 use Rattle.gf_maximal.proofs.MaximalLemmas.{in_list, from_list, Contains-without}
-use Rattle.gf_maximal.proofs.RisingLemmas.{one_rising, rising_cons}
+use Rattle.gf_base.proofs.RisingLemmas.{one_rising, rising_cons}
 use Rattle.gf_maximal.proofs.RunLemmas.{nat_le_true, nat_le_from, nat_le_false, nat_lt_true, nat_lt_from, nat_lt_false}
 
 -- a is in the run

@@ -4,7 +4,7 @@ use Rattle.std.specs.Prelude.{◌&&◌, Contains}
 use Rattle.std.specs.List.{list_any}
 use Rattle.gf_maximal.specs.declared.run.Run.{Run}
 use Rattle.gf_maximal.specs.Runs.{AreRuns, Serves, after, first_touches, touches}
-use Rattle.gf_ops.proofs.ListLemmas.{Contains-cons_head}
+use Rattle.gf_base.proofs.ListLemmas.{Contains-cons_head}
 use Rattle.gf_maximal.proofs.RunSetLemmas.{drop_at, drop_runs, serves_more}
 
 -- runs and others, of which the rest serves from the run r at i on

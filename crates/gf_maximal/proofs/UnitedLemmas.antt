@@ -12,10 +12,10 @@ use Rattle.std.proofs.lemmas.List.Sorted.{Contains-permutation, IsPermutation-sy
 use Rattle.gf_maximal.specs.declared.run.Run.{Run}
 use Rattle.std.specs.BTreeSet.{insert_key}
 use Rattle.gf_maximal.specs.Tables.{IsRising}
-use Rattle.gf_maximal.proofs.RisingLemmas.{rising_nil}
+use Rattle.gf_base.proofs.RisingLemmas.{rising_nil}
 use Rattle.gf_maximal.specs.Growing.{is_in, without, united, common}
 use Rattle.gf_maximal.specs.Runs.{members, AreRuns, pushed, single, IsGathered}
-use Rattle.gf_ops.proofs.ListLemmas.{Contains-cons_cases, Contains-cons_head, Contains-cons_tail, Contains-map, Contains-map_from, not_Contains-nil}
+use Rattle.gf_base.proofs.ListLemmas.{Contains-cons_cases, Contains-cons_head, Contains-cons_tail, Contains-map, Contains-map_from, not_Contains-nil}
 use Rattle.gf_maximal.proofs.InsertLemmas.{inserted_all, holds_all}
 use Rattle.gf_maximal.proofs.MaximalLemmas.{in_list, from_list, out_of, Contains-without}
 use Rattle.gf_maximal.proofs.RunLemmas.{nat_le_true, nat_le_false, nat_lt_true, nat_lt_false}

@@ -8,7 +8,7 @@ ghost use Rattle.gf_maximal.specs.Growing.{meets, misses, without, is_within, jo
 ghost use Rattle.gf_maximal.specs.Growing.{take_up, maximal, next};
 
 use crate::numbers::Numbers;
-use gf_shape::OutOfMemory;
+use gf_base::OutOfMemory;
 use std::alloc::Global;
 
 /// Copies of the sets that have none of the numbers.

@@ -13,7 +13,7 @@ ghost use Rattle.gf_maximal.specs.Runs.{is_inside, members, numbers_of};
 use crate::run::{
     Run, all_cut, any_touches, covers, numbers_in, one_run, put, runs_of, touches, united,
 };
-use gf_shape::OutOfMemory;
+use gf_base::OutOfMemory;
 use std::alloc::Global;
 use std::marker::Model;
 

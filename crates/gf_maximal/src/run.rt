@@ -9,7 +9,7 @@ ghost use Rattle.gf_maximal.specs.Runs.{first_touches, first_covers, touches, co
 ghost use Rattle.gf_maximal.specs.Runs.{piece, cut, all_cut, absorb, settled, put, IsFirstFrom};
 ghost use Rattle.gf_maximal.specs.Runs.{pushed, IsGathered};
 
-use gf_shape::OutOfMemory;
+use gf_base::OutOfMemory;
 use std::alloc::Global;
 
 /// The numbers from `start` on that are below `end`.

@@ -2,7 +2,7 @@
 use Rattle.std.proofs.Common.{◌≡◌, List, [], ◌∷◌, ◌++◌, length, set, refl, sym, subst}
 use Rattle.std.specs.Prelude.{Some, slice_get}
 use Rattle.atomic_table.specs.Seated.{TableId}
-use Rattle.gf_ops.proofs.PositionLemmas.{got_set_same, set_back, not_snoc, snoc_same}
+use Rattle.gf_base.proofs.PositionLemmas.{got_set_same, set_back, not_snoc, snoc_same}
 use Rattle.gf_mesh.specs.Mesh.{IsMesh, none, meet, next}
 
 -- the mesh before the last two sites met

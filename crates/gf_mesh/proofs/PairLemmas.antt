@@ -6,8 +6,8 @@ use Rattle.std.proofs.lemmas.List.{length-set}
 use Rattle.std.proofs.lemmas.List.Elements.{Contains-append_left, Contains-push, Contains-push_cases}
 use Rattle.std.proofs.lemmas.Option.{slice_get_within}
 use Rattle.atomic_table.specs.Seated.{TableId}
-use Rattle.gf_ops.proofs.ListLemmas.{not_Contains-nil}
-use Rattle.gf_ops.proofs.PositionLemmas.{got_set, got_set_same, got_set_other, got_push, got_more, got_last, one_value}
+use Rattle.gf_base.proofs.ListLemmas.{not_Contains-nil}
+use Rattle.gf_base.proofs.PositionLemmas.{got_set, got_set_same, got_set_other, got_push, got_more, got_last, one_value}
 use Rattle.gf_worker.specs.declared.peer.Peer.{Peer}
 use Rattle.gf_mesh.specs.Mesh.{IsMesh, none, meet, next}
 

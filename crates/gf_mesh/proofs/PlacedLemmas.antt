@@ -6,8 +6,8 @@ use Rattle.std.proofs.lemmas.List.Elements.{Contains-append_left, Contains-push,
 use Rattle.std.proofs.lemmas.Option.{slice_get-map}
 use Rattle.atomic_table.specs.Seated.{TableId}
 use Rattle.gf_link.specs.Ends.{is_ended}
-use Rattle.gf_ops.proofs.ListLemmas.{not_Contains-nil}
-use Rattle.gf_ops.proofs.PositionLemmas.{got_set_same, set_back, got_more, got_last, position_in, map_nil, map_ends}
+use Rattle.gf_base.proofs.ListLemmas.{not_Contains-nil}
+use Rattle.gf_base.proofs.PositionLemmas.{got_set_same, set_back, got_more, got_last, position_in, map_nil, map_ends}
 use Rattle.gf_worker.specs.declared.peer.Peer.{Peer}
 use Rattle.gf_worker.specs.Peers.{StandsInTable, IsFresh, Seat, seat_of}
 use Rattle.gf_worker.proofs.PeerLemmas.{set_cases}

@@ -5,7 +5,7 @@ use Rattle.std.specs.Global.{Vec}
 use Rattle.std.proofs.lemmas.List.{nil_from_length, with_items_is, length-map, map-append, map-set}
 use Rattle.std.proofs.lemmas.Option.{slice_get_within, slice_get_read, slice_get-map}
 use Rattle.atomic_table.specs.Seated.{TableId}
-use Rattle.gf_ops.proofs.PositionLemmas.{got_set_same, set_back, snoc_same, one_value}
+use Rattle.gf_base.proofs.PositionLemmas.{got_set_same, set_back, snoc_same, one_value}
 use Rattle.gf_link.specs.Ends.{is_ended}
 use Rattle.gf_worker.specs.declared.peer.Peer.{Peer}
 use Rattle.gf_mesh.specs.Mesh.{IsMesh, none, meet, next, Connects, IsLinked, HaveExchanged, Exchanged}

@@ -4,8 +4,8 @@ ghost use Rattle.std.specs.Prelude.{◌≡◌, [], length, IfOk, vec_len};
 ghost use Rattle.gf_mesh.specs.Linked.{AreLinked, rows_of, seats_of};
 ghost use Rattle.gf_mesh.specs.Mesh.{IsMesh, Connects};
 
+use gf_base::OutOfMemory;
 use gf_link::Link;
-use gf_shape::OutOfMemory;
 use gf_worker::Peer;
 use std::alloc::Global;
 use std::marker::Model;

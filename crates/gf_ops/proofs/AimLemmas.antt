@@ -16,7 +16,7 @@ use Rattle.gf_ops.specs.Limits.{is_id, is_clock, is_value, is_change, is_aim, id
 use Rattle.gf_ops.specs.Conflict.{Conflict, MeetsBrought}
 use Rattle.gf_ops.specs.DirectConflict.{DirectConflict}
 use Rattle.gf_ops.specs.ValidHistory.{IsValid}
-use Rattle.gf_ops.proofs.ListLemmas.{Contains-cons_cases, Contains-cons_head, Contains-cons_tail, not_Contains-nil}
+use Rattle.gf_base.proofs.ListLemmas.{Contains-cons_cases, Contains-cons_head, Contains-cons_tail, not_Contains-nil}
 use Rattle.gf_ops.proofs.ValidityLemmas.{same_op}
 
 -- ---- the order of ids

@@ -19,7 +19,7 @@ use Rattle.gf_ops.specs.DirectConflict.{DirectConflict}
 use Rattle.gf_ops.specs.OperationOrder.{Precedes, entry}
 use Rattle.gf_ops.specs.ValidHistory.{IsValid}
 use Rattle.gf_ops.proofs.DirectConflictLemmas.{apart_from, direct_told}
-use Rattle.gf_ops.proofs.ListLemmas.{Contains-cons_head}
+use Rattle.gf_base.proofs.ListLemmas.{Contains-cons_head}
 use Rattle.gf_ops.proofs.ValidityLemmas.{same_op}
 use Rattle.gf_ops.proofs.SetterLemmas.{placed, value_cases, sets_one, other_told, other_from, sets_apart, SetBoth, both_set}
 

@@ -13,7 +13,7 @@ use Rattle.gf_ops.specs.OperationOrder.{Precedes}
 use Rattle.gf_ops.specs.ValidHistory.{IsValid}
 use Rattle.gf_ops.specs.Version.{IsVersion, IsMember, IsLargestGroup}
 use Rattle.gf_ops.proofs.DirectConflictLemmas.{direct-sym}
-use Rattle.gf_ops.proofs.ListLemmas.{Contains-cons_cases, Contains-cons_head, Contains-cons_tail, not_Contains-nil}
+use Rattle.gf_base.proofs.ListLemmas.{Contains-cons_cases, Contains-cons_head, Contains-cons_tail, not_Contains-nil}
 use Rattle.gf_ops.proofs.HistoryLemmas.{site_in_range, seq_in_range}
 use Rattle.gf_ops.proofs.ValidityLemmas.{same_op, precedes_transitive}
 

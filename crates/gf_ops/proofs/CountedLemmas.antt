@@ -8,7 +8,7 @@ use Rattle.gf_ops.specs.declared.op.OpId.{OpId}
 use Rattle.gf_ops.specs.OperationOrder.{count_of}
 use Rattle.gf_ops.specs.ValidHistory.{IsValid}
 use Rattle.gf_ops.proofs.HistoryLemmas.{site_in_range}
-use Rattle.gf_ops.proofs.ListLemmas.{Contains-cons_cases, not_Contains-nil}
+use Rattle.gf_base.proofs.ListLemmas.{Contains-cons_cases, not_Contains-nil}
 
 weight_none : (b : Bool) → b ≡ false → cond b 1 0 ≤ 0
 weight_none b h = rw h (omega arith)

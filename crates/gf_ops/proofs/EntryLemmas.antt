@@ -10,7 +10,7 @@ use Rattle.std.specs.declared.cmp.Ordering.{Ordering}
 use Rattle.std.specs.declared.cmp.Ordering.TheVariants.{Less, Greater}
 use Rattle.std.proofs.lemmas.List.Elements.{All-contains, All-from_recursion}
 use Rattle.std.proofs.lemmas.Map.Keys.{sorted_head, sorted_tail}
-use Rattle.gf_ops.proofs.ListLemmas.{Contains-cons_head, Contains-cons_tail}
+use Rattle.gf_base.proofs.ListLemmas.{Contains-cons_head, Contains-cons_tail}
 
 module _ {K X : Type 0} (R : K → K → Ordering) (total : IsTotalOrder R) where
   in_keys : (es : List (K × X)) (k : K) (v : X) (rest : List (K × X)) → Contains (keys_of (es ++ (k, v) ∷ rest)) k

@@ -1,5 +1,3 @@
-pub mod ListLemmas
-pub mod PositionLemmas
 pub mod SameLemmas
 pub mod ValidityLemmas
 pub mod AimLemmas
@@ -13,3 +11,4 @@ pub mod DirectConflictLemmas
 pub mod ConflictLemmas
 pub mod AimedLemmas
 pub mod EntryLemmas
+pub mod ColourLemmas

@@ -2,6 +2,7 @@
 use Rattle.std.specs.Prelude.{ℕ, pos, negsuc, Bool, true, IsTrue, ◌&&◌, ◌||◌, ◌==◌}
 use Rattle.std.specs.Prelude.{nat_lt, nat_le, int_le, List, [], ◌∷◌, length}
 use Rattle.std.specs.List.{list_all}
+use Rattle.gf_shape.specs.declared.colour.Rgb.{Rgb}
 use Rattle.gf_shape.specs.declared.point.Point.{Point}
 use Rattle.gf_shape.specs.Polygons.{is_polygon_count}
 use Rattle.gf_ops.specs.declared.op.Op.{Op}
@@ -11,6 +12,7 @@ use Rattle.gf_ops.specs.declared.change.Form.{Form}
 use Rattle.gf_ops.specs.declared.change.Form.TheVariants.{Rect, Polygon, Circle, Ellipse}
 use Rattle.gf_ops.specs.declared.change.Change.{Change}
 use Rattle.gf_ops.specs.declared.change.Change.TheVariants.{Create, Set}
+use Rattle.gf_ops.specs.declared.change.Start.{Start}
 use Rattle.gf_ops.specs.declared.change.Value.{Value}
 use Rattle.gf_ops.specs.declared.change.Value.TheVariants as value
 
@@ -54,12 +56,16 @@ is_form (Ellipse rx ry) = is_size rx && is_size ry
 abbrev pub is_layer : ℕ → Bool
 is_layer n = nat_le n 9999
 
+-- the red, the green and the blue of c are bytes
+abbrev pub is_colour : Rgb → Bool
+is_colour c = nat_lt c.r 256 && nat_lt c.g 256 && nat_lt c.b 256
+
 -- a value keeps the limits of its attribute
 abbrev pub is_value : Value → Bool
 is_value (value.Place p) = is_near p
 is_value (value.Points ps) = is_polygon ps
 is_value (value.Size width height) = is_size width && is_size height
-is_value (value.Colour c) = true
+is_value (value.Colour c) = is_colour c
 is_value (value.Layer n) = is_layer n
 is_value (value.Shown b) = true
 
@@ -77,10 +83,13 @@ ids_rise (i ∷ is) = rise_behind i is
 abbrev pub is_aim : List OpId → Bool
 is_aim aim = nat_le (length aim) 1000 && list_all is_id aim && ids_rise aim
 
--- a new object has a form and a layer in range, and is near. A set object has an id, and the new
--- value and the aim are in range
+-- a new object has a form, a layer and a colour in range, and is near
+abbrev pub is_start : Start → Bool
+is_start s = is_form s.form && is_near s.place && is_layer s.layer && is_colour s.colour
+
+-- a new object begins in range. A set object has an id, and the new value and the aim are in range
 abbrev pub is_change : Change → Bool
-is_change (Create start) = is_form start.form && is_near start.place && is_layer start.layer
+is_change (Create start) = is_start start
 is_change (Set object v aim) = is_id object.0 && is_value v && is_aim aim
 
 -- the id, the clock and the change of a keep the limits

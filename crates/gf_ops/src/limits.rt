@@ -1,14 +1,15 @@
 //! The limits of operations.
 
-ghost use Rattle.std.specs.Prelude.{◌≡◌};
+ghost use Rattle.std.specs.Prelude.{◌≡◌, nat_lt};
 ghost use Rattle.std.specs.List.{list_all};
 ghost use Rattle.gf_shape.specs.Polygons.{is_polygon_count};
 ghost use Rattle.gf_ops.specs.Limits.{is_site, is_size, is_near, is_id, is_clock, is_polygon};
 ghost use Rattle.gf_ops.specs.Limits.{is_form, is_layer, is_value, is_change, is_in_range};
+ghost use Rattle.gf_ops.specs.Limits.{is_colour, is_start};
 ghost use Rattle.gf_ops.specs.Limits.{id_less, rise_behind, ids_rise, is_aim};
 
-use crate::{Change, Clock, Form, Op, OpId, Value};
-use gf_shape::Point;
+use crate::{Change, Clock, Form, Op, OpId, Start, Value};
+use gf_shape::{Point, Rgb};
 
 impl Op {
     /// Whether the site, the number, the clock and the change of the operation keep the limits.
@@ -26,9 +27,7 @@ impl Change {
         ensures { result ≡ is_change self.now }
     {
         match self {
-            Change::Create(start) => {
-                is_form(&start.form) && is_near(start.place) && is_layer(start.layer)
-            }
+            Change::Create(start) => is_start(start),
             Change::Set { object, value, aim } => {
                 is_id(object.0) && is_value(value) && is_aim(aim.as_slice())
             }
@@ -120,9 +119,29 @@ fn is_value(value: &Value) -> bool
         Value::Place(place) => is_near(*place),
         Value::Points(points) => is_polygon(points.as_slice()),
         Value::Size(width, height) => is_size(*width) && is_size(*height),
-        Value::Colour(_) | Value::Shown(_) => true,
+        Value::Colour(colour) => is_colour(*colour),
         Value::Layer(layer) => is_layer(*layer),
+        Value::Shown(_) => true,
     }
+}
+
+fn is_start(start: &Start) -> bool
+    ensures { result ≡ is_start start.now }
+{
+    is_form(&start.form) && is_near(start.place) && is_layer(start.layer) && is_colour(start.colour)
+}
+
+/// Whether the parts are bytes, which their type says.
+fn is_colour(colour: Rgb) -> bool
+    ensures { result ≡ is_colour colour }
+{
+    is_byte(colour.r) && is_byte(colour.g) && is_byte(colour.b)
+}
+
+fn is_byte(_part: u8) -> bool
+    ensures { result ≡ nat_lt _part 256 }
+{
+    true
 }
 
 fn is_layer(layer: u16) -> bool

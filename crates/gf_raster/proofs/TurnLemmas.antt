@@ -6,7 +6,7 @@ use Rattle.std.proofs.Common.{arith, ap, sym, subst, refl, Global, Bor, length-a
 use Rattle.std.proofs.lemmas.List.{get_or-map, length-map}
 use Rattle.gf_shape.specs.declared.colour.Rgb.{Rgb}
 use Rattle.gf_shape.specs.declared.point.Point.{Point}
-use Rattle.gf_shape.specs.declared.refusals.OutOfMemory.{OutOfMemory}
+use Rattle.gf_base.specs.declared.memory.OutOfMemory.{OutOfMemory}
 use Rattle.gf_scanline.specs.declared.stroke.Stroke.{Stroke}
 use Rattle.gf_scanline.specs.Windows.{View}
 use Rattle.gf_scanline.specs.Layers.{layered}

@@ -5,7 +5,7 @@ use denote.Ref.{Bor}
 use Rattle.std.proofs.Common.{Global}
 use Rattle.gf_shape.specs.declared.colour.Rgb.{Rgb}
 use Rattle.gf_shape.specs.declared.point.Point.{Point}
-use Rattle.gf_shape.specs.declared.refusals.OutOfMemory.{OutOfMemory}
+use Rattle.gf_base.specs.declared.memory.OutOfMemory.{OutOfMemory}
 use Rattle.gf_scanline.specs.Windows.{View}
 use Rattle.gf_scanline.specs.Parts.{PartView}
 use Rattle.gf_scanline.specs.Picture.{cells}

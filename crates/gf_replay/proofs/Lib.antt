@@ -2,5 +2,4 @@ pub mod TakingLemmas
 pub mod ReadingLemmas
 pub mod SameLemmas
 pub mod RefusalLemmas
-pub mod ByteLemmas
 pub mod BlockLemmas

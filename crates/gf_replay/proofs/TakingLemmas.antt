@@ -6,7 +6,7 @@ use Rattle.std.specs.List.Sorted.{IsStrictlySortedBy}
 use Rattle.std.proofs.lemmas.Cmp.{tied_itself}
 use Rattle.std.proofs.lemmas.List.Elements.{All-contains, All-from_recursion, Contains-append_left, Contains-push, Contains-push_cases}
 use Rattle.std.proofs.lemmas.Map.Keys.{sorted_head, sorted_tail}
-use Rattle.gf_ops.proofs.ListLemmas.{Contains-cons_cases, Contains-map}
+use Rattle.gf_base.proofs.ListLemmas.{Contains-cons_cases, Contains-map}
 use Rattle.gf_ops.specs.OperationOrder.{id_cmp}
 use Rattle.std.proofs.lemmas.List.{length-append}
 use Rattle.gf_ops.specs.declared.op.Op.{Op}

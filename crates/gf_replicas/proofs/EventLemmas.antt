@@ -11,9 +11,9 @@ use Rattle.gf_ops.specs.OperationOrder.{entry, count_of}
 use Rattle.gf_ops.specs.Accepted.{IsAccepted}
 use Rattle.gf_ops.specs.ValidHistory.{IsValid}
 use Rattle.gf_ops.proofs.HistoryLemmas.{site_in_range, seq_in_range}
-use Rattle.gf_ops.proofs.ListLemmas.{not_Contains-nil, Contains-cons_cases, Contains-cons_head, Contains-cons_tail}
+use Rattle.gf_base.proofs.ListLemmas.{not_Contains-nil, Contains-cons_cases, Contains-cons_head, Contains-cons_tail}
 use Rattle.gf_ops.proofs.ValidityLemmas.{same_op}
-use Rattle.gf_ops.proofs.PositionLemmas.{got_set, got_set_same, set_set, set_itself, one_value, there_is, position_in, position_of}
+use Rattle.gf_base.proofs.PositionLemmas.{got_set, got_set_same, set_set, set_itself, one_value, there_is, position_in, position_of}
 use Rattle.gf_causal.specs.DeliveredPart.{AreReady}
 use Rattle.gf_causal.proofs.CourseLemmas.{has_counted, number_counted, same_id}
 use Rattle.gf_causal.proofs.ReadyLemmas.{least_ready}

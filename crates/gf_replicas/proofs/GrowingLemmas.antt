@@ -7,7 +7,7 @@ use Rattle.gf_ops.specs.Limits.{IsInRange}
 use Rattle.gf_ops.specs.OperationOrder.{count_of}
 use Rattle.gf_ops.specs.Accepted.{IsAccepted, AreAccepted}
 use Rattle.gf_ops.specs.ValidHistory.{IsValid}
-use Rattle.gf_ops.proofs.ListLemmas.{not_Contains-nil}
+use Rattle.gf_base.proofs.ListLemmas.{not_Contains-nil}
 use Rattle.gf_ops.proofs.ValidityLemmas.{IsValid-push}
 use Rattle.gf_causal.specs.DeliveredPart.{AreReady}
 use Rattle.gf_causal.proofs.CourseLemmas.{has_counted, number_counted}

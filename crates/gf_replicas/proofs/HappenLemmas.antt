@@ -9,7 +9,7 @@ use Rattle.gf_ops.specs.declared.change.Change.{Change}
 use Rattle.gf_ops.specs.Limits.{IsInRange}
 use Rattle.gf_ops.specs.ValidHistory.{IsValid}
 use Rattle.gf_ops.proofs.ValidityLemmas.{same_op}
-use Rattle.gf_ops.proofs.PositionLemmas.{position_in, set_itself}
+use Rattle.gf_base.proofs.PositionLemmas.{position_in, set_itself}
 use Rattle.gf_causal.specs.declared.buffer.Offered.{Offered}
 use Rattle.gf_causal.specs.declared.buffer.Offered.TheVariants.{Already, Held}
 use Rattle.gf_causal.specs.declared.faults.OfferFault.{OfferFault}

@@ -4,7 +4,7 @@ use Rattle.std.specs.Prelude.{Contains, slice_get}
 use Rattle.std.proofs.lemmas.List.Elements.{Contains-append_left, Contains-append_right, Contains-push}
 use Rattle.gf_ops.specs.declared.op.Op.{Op}
 use Rattle.gf_ops.specs.declared.change.Change.{Change}
-use Rattle.gf_ops.proofs.ListLemmas.{Contains-cons_head}
+use Rattle.gf_base.proofs.ListLemmas.{Contains-cons_head}
 use Rattle.gf_replicas.specs.declared.event.Event.{Event}
 use Rattle.gf_replicas.specs.declared.event.Event.TheVariants.{Author, Offer}
 use Rattle.gf_replicas.specs.Settled.{IsOfferedLast}

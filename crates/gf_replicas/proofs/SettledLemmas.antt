@@ -7,7 +7,7 @@ use Rattle.gf_ops.specs.declared.op.Op.{Op}
 use Rattle.gf_ops.specs.declared.op.OpId.{OpId}
 use Rattle.gf_ops.specs.declared.faults.OpFault.{OpFault}
 use Rattle.gf_ops.specs.ValidHistory.{IsValid}
-use Rattle.gf_ops.proofs.ListLemmas.{not_Contains-nil, Contains-cons_cases}
+use Rattle.gf_base.proofs.ListLemmas.{not_Contains-nil, Contains-cons_cases}
 use Rattle.gf_causal.specs.Ready.{NoneIsReady}
 use Rattle.gf_causal.specs.DeliveredPart.{none as ready_none, IsDelivery, IsLastDelivery, HaveSame}
 use Rattle.gf_causal.proofs.CourseLemmas.{number_counted, delivered_part}

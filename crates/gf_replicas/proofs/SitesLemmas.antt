@@ -1,7 +1,7 @@
 -- The sites of a world by their numbers.
 use Rattle.std.proofs.Common.{◌≡◌, ◌≢◌, ℕ, zero, suc, ◌+◌, List, [], ◌∷◌, ◌++◌, length, length-append, Some, add-one, inl, inr, refl, sym, ap, ◌∙◌, arith}
 use Rattle.std.specs.Prelude.{◌⊎◌}
-use Rattle.gf_ops.proofs.PositionLemmas.{got_set, got_push}
+use Rattle.gf_base.proofs.PositionLemmas.{got_set, got_push}
 use Rattle.gf_site.specs.SiteState.{SiteState, new_site}
 use Rattle.gf_replicas.specs.World.{new_sites, site_at, with_site}
 

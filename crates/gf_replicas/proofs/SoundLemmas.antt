@@ -14,7 +14,7 @@ use Rattle.gf_ops.specs.ValidHistory.{IsValid}
 use Rattle.gf_ops.proofs.AimedLemmas.{aimed_beyond}
 use Rattle.gf_ops.proofs.HistoryLemmas.{site_in_range, seq_in_range}
 use Rattle.gf_ops.proofs.ValidityLemmas.{same_op}
-use Rattle.gf_ops.proofs.PositionLemmas.{position_in}
+use Rattle.gf_base.proofs.PositionLemmas.{position_in}
 use Rattle.gf_causal.specs.HeldOperations.{Adds}
 use Rattle.gf_causal.proofs.CourseLemmas.{has_counted, number_counted, count_within, same_id}
 use Rattle.gf_causal.proofs.ListLemmas.{Contains-between, Contains-between_cases}

@@ -10,9 +10,9 @@ ghost use Rattle.gf_replicas.specs.Sound.{IsSound};
 ghost use Rattle.gf_replicas.specs.World.{state_of, new_sites, site_at, Happens, IsWorldOf};
 
 use crate::Event;
+use gf_base::OutOfMemory;
 use gf_causal::{OfferFault, Offered};
 use gf_ops::{Change, Op};
-use gf_shape::OutOfMemory;
 use gf_site::{AuthorFault, Site};
 use std::alloc::Global;
 

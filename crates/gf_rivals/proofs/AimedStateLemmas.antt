@@ -11,7 +11,7 @@ use Rattle.gf_ops.specs.Accepted.{IsAccepted}
 use Rattle.gf_ops.specs.Attribute.{aim_of, attribute_of}
 use Rattle.gf_ops.specs.Limits.{IsInRange}
 use Rattle.gf_ops.specs.ValidHistory.{IsValid}
-use Rattle.gf_ops.proofs.ListLemmas.{not_Contains-nil}
+use Rattle.gf_base.proofs.ListLemmas.{not_Contains-nil}
 use Rattle.gf_rivals.specs.declared.chain.Setter.{Setter}
 use Rattle.gf_rivals.specs.Aimed.{AimedState, AreAimed, AreNumbersOf, IsAimedState, IsAmong}
 use Rattle.gf_rivals.specs.Chains.{chain_of, setters, with_setter}

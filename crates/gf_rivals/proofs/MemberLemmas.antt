@@ -9,7 +9,7 @@ use Rattle.std.proofs.lemmas.Cmp.{nat_cmp_total, ranked}
 use Rattle.std.proofs.lemmas.List.Elements.{Contains-append_left, Contains-push, Contains-push_cases}
 use Rattle.std.proofs.lemmas.Map.Keys.{sorted_tail}
 use Rattle.gf_maximal.specs.Tables.{IsRising}
-use Rattle.gf_maximal.proofs.RisingLemmas.{below_tail}
+use Rattle.gf_base.proofs.RisingLemmas.{below_tail}
 use Rattle.std.proofs.lemmas.List.{drop_all, drop_more, get_or_default}
 use Rattle.gf_ops.specs.declared.op.Op.{Op}
 use Rattle.gf_ops.specs.declared.op.OpId.{OpId}
@@ -24,7 +24,7 @@ use Rattle.gf_ops.specs.OperationOrder.{Precedes, entry}
 use Rattle.gf_ops.specs.ValidHistory.{IsValid}
 use Rattle.gf_ops.proofs.HistoryLemmas.{site_in_range, seq_in_range}
 use Rattle.gf_ops.proofs.SameLemmas.{value_eq-same, value_eq-true}
-use Rattle.gf_ops.proofs.ListLemmas.{Contains-cons_cases, Contains-cons_head, Contains-cons_tail, not_Contains-nil}
+use Rattle.gf_base.proofs.ListLemmas.{Contains-cons_cases, Contains-cons_head, Contains-cons_tail, not_Contains-nil}
 use Rattle.gf_ops.proofs.ValidityLemmas.{pasts_grow}
 use Rattle.gf_rivals.specs.declared.chain.Setter.{Setter}
 use Rattle.gf_rivals.specs.declared.members.Member.{Member}

@@ -19,9 +19,9 @@ use Rattle.gf_ops.specs.OperationOrder.{entry, Precedes}
 use Rattle.std.specs.BTreeMap.{is_at}
 use Rattle.std.specs.Map.{lookup}
 use Rattle.gf_maximal.specs.Growing.{is_in, without, common}
-use Rattle.gf_maximal.proofs.ListLemmas.{Contains-filter}
+use Rattle.gf_base.proofs.FilterLemmas.{Contains-filter}
 use Rattle.gf_maximal.proofs.MaximalLemmas.{Contains-without, in_list}
-use Rattle.gf_ops.proofs.ListLemmas.{not_Contains-nil}
+use Rattle.gf_base.proofs.ListLemmas.{not_Contains-nil}
 use Rattle.gf_ops.proofs.SameLemmas.{value_eq-same, value_eq-true}
 use Rattle.gf_rivals.specs.declared.fingerprint.Fingerprint.{Fingerprint}
 use Rattle.gf_rivals.specs.Fingerprints.{fingerprint_of, fingerprint_cmp, has_own_fingerprint}

@@ -2,7 +2,7 @@
 use Rattle.std.proofs.Common.{◌≡◌, true, false, List, [], ◌∷◌, ◌++◌, map, length, inl, inr, suc, refl, sym, ap, subst, ◌∙◌, true≢false}
 use Rattle.std.specs.Prelude.{All, Contains}
 use Rattle.std.proofs.lemmas.List.Elements.{All-contains, Contains-append_left, Contains-append_right}
-use Rattle.gf_ops.proofs.ListLemmas.{Contains-cons_head}
+use Rattle.gf_base.proofs.ListLemmas.{Contains-cons_head}
 use Rattle.gf_site.specs.SiteState.{SiteState}
 use Rattle.gf_worker.specs.declared.worker.WorkerEnd.{WorkerEnd}
 use Rattle.gf_worker.specs.Peers.{seat_of}

@@ -23,8 +23,8 @@ use Rattle.gf_session.specs.Joined.{IsFrom, IsComplete, AreJoined, HaveOne}
 use Rattle.gf_session.specs.Starting.{AreStarts, Gave, GaveAll}
 use Rattle.gf_session.specs.Session.{IsSession, done_of, place_of, places}
 use Rattle.gf_site.specs.Course.{IsCourse}
-use Rattle.gf_ops.proofs.ListLemmas.{Contains-map_from}
-use Rattle.gf_ops.proofs.PositionLemmas.{one_value, position_in, position_of as position_at}
+use Rattle.gf_base.proofs.ListLemmas.{Contains-map_from}
+use Rattle.gf_base.proofs.PositionLemmas.{one_value, position_in, position_of as position_at}
 use Rattle.gf_replicas.specs.Courses.{AreCourses, HaveEvents}
 use Rattle.gf_replicas.proofs.EventLemmas.{courses_have_events}
 use Rattle.gf_session.proofs.GaveLemmas.{gave_number, gave_worked, same_long}

@@ -5,8 +5,8 @@ use Rattle.std.specs.List.{list_any}
 use Rattle.std.proofs.lemmas.List.{nil_from_length, append_assoc, append-nil, length-map, map-append}
 use Rattle.std.proofs.lemmas.List.Elements.{All-contains}
 use Rattle.atomic_table.specs.Seated.{TableId}
-use Rattle.gf_ops.proofs.ListLemmas.{Contains-map, Contains-map_from}
-use Rattle.gf_ops.proofs.PositionLemmas.{got_push, position_of}
+use Rattle.gf_base.proofs.ListLemmas.{Contains-map, Contains-map_from}
+use Rattle.gf_base.proofs.PositionLemmas.{got_push, position_of}
 use Rattle.gf_site.specs.SiteState.{SiteState, new_site}
 use Rattle.gf_worker.specs.declared.script.Script.{Script}
 use Rattle.gf_worker.specs.declared.peer.Peer.{Peer}

@@ -8,9 +8,9 @@ ghost use Rattle.gf_session.specs.Starting.{AreStarts};
 ghost use denote.Param.Send.{IsSync};
 
 use crate::starting::{Start, fork};
+use gf_base::OutOfMemory;
 use gf_gate::Gate;
 use gf_mesh::Mesh;
-use gf_shape::OutOfMemory;
 use gf_site::Site;
 use gf_worker::{Peer, Report, Script, WorkerEnd};
 use std::alloc::Global;

@@ -8,9 +8,9 @@ use Rattle.std.proofs.lemmas.Bool.Decides.{eqb_tells}
 use Rattle.std.proofs.lemmas.List.{length-append, map-append, append-nil}
 use Rattle.std.proofs.lemmas.List.Elements.{All-cons, All-from_recursion, Contains-get_or, Contains-push_cases, filter-append}
 use Rattle.std.proofs.lemmas.Option.{get_or_from_slice_get, slice_get_cases, slice_get_within}
-use Rattle.gf_ops.proofs.ListLemmas.{not_Contains-nil}
+use Rattle.gf_base.proofs.ListLemmas.{not_Contains-nil}
 use Rattle.gf_ops.specs.Limits.{is_site}
-use Rattle.gf_ops.proofs.PositionLemmas.{position_in}
+use Rattle.gf_base.proofs.PositionLemmas.{position_in}
 use Rattle.gf_json.specs.declared.scripts.ScriptLine.{ScriptLine}
 use Rattle.gf_worker.specs.declared.script.Script.{Script}
 use Rattle.gf_session_run.specs.DenotedScripts.{AreScriptsOf, Fit, commands_of}

@@ -17,3 +17,4 @@ pub mod RowParts
 pub mod BoundsOf
 pub mod Opened
 pub mod Laws
+pub mod ColourBytes

@@ -1,17 +1,11 @@
 //! Why a call was refused, where there is one cause alone.
 
-use std::alloc::{AllocError, AllocFailed};
 use thiserror::Error;
 
 /// A number or a point beyond its limits.
 #[derive(Clone, Copy, Debug, PartialEq, Eq, Error)]
 #[error("out of range")]
 pub struct Range;
-
-/// A growth of memory was refused.
-#[derive(Clone, Copy, Debug, PartialEq, Eq, Error)]
-#[error("out of memory")]
-pub struct OutOfMemory;
 
 /// Why points make no polygon.
 #[derive(Clone, Copy, Debug, PartialEq, Eq, Error)]
@@ -25,16 +19,4 @@ pub enum PolygonError {
     /// A growth of memory was refused.
     #[error("out of memory")]
     OutOfMemory,
-}
-
-impl From<AllocError> for OutOfMemory {
-    fn from(_: AllocError) -> OutOfMemory {
-        OutOfMemory
-    }
-}
-
-impl<T: Drop> From<AllocFailed<T>> for OutOfMemory {
-    fn from(_: AllocFailed<T>) -> OutOfMemory {
-        OutOfMemory
-    }
 }

@@ -47,7 +47,8 @@ pub trait Shape: Drop {
 
     /// Makes `row` the row `y`. The memory of `row` is used again, and grows where it is too
     /// little. A box takes constant time, and a disc or an oval one root. A chain takes one pass
-    /// over its edges, and a sort of the edges that meet the row.
+    /// over its edges, and a sort of the edges that meet the row. After an error nothing is
+    /// promised of the points of `row`.
     fn row_into(&self, y: i32, row: &mut Row) -> Result<(), OutOfMemory>
         ensures { OnOk result (IsRow (holds self.now) y row.new) };
 

@@ -16,9 +16,9 @@ ghost use Rattle.gf_site.specs.Events.{Refuses, Authors, Steps, HasNext};
 ghost use Rattle.gf_site.specs.Offers.{HasOtherThan, HasAlready, IsNewTo, ComesToHold};
 
 use crate::AuthorFault;
+use gf_base::OutOfMemory;
 use gf_causal::{Buffer, OfferFault, Offered};
 use gf_ops::{Change, Clock, History, Op, OpFault, OpId};
-use gf_shape::OutOfMemory;
 use gf_table::GroupTable;
 use std::alloc::Global;
 use std::marker::Model;

@@ -5,7 +5,7 @@ use Rattle.std.proofs.Common.{◌≡◌, ℕ, ◌*◌, ◌≤◌, ◌<◌, Bool,
 use Rattle.std.proofs.Math.Nat.{mul-one, mul_comm, mul-le-mul_left}
 use Rattle.std.proofs.lemmas.Bool.{cases_lt, cond-true, cond-false, le-leb, lt-leb}
 use Rattle.std.proofs.lemmas.List.{length-map}
-use Rattle.gf_ops.proofs.ListLemmas.{Contains-cons_head, Contains-cons_tail}
+use Rattle.gf_base.proofs.ListLemmas.{Contains-cons_head, Contains-cons_tail}
 use Rattle.gf_ops.specs.declared.op.Op.{Op}
 use Rattle.gf_ops.specs.declared.op.ObjectId.{ObjectId}
 use Rattle.gf_ops.specs.ValidHistory.{IsValid}

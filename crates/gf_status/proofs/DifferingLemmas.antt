@@ -12,11 +12,11 @@ use Rattle.gf_ops.specs.declared.change.Value.{Value}
 use Rattle.gf_ops.specs.ConflictTests.{value_eq}
 use Rattle.gf_ops.specs.OperationOrder.{id_cmp}
 use Rattle.gf_ops.specs.ValidHistory.{IsValid}
-use Rattle.gf_ops.proofs.ListLemmas.{Contains-cons_cases, Contains-cons_head, Contains-cons_tail, Contains-map, Contains-map_from, not_Contains-nil}
+use Rattle.gf_base.proofs.ListLemmas.{Contains-cons_cases, Contains-cons_head, Contains-cons_tail, Contains-map, Contains-map_from, not_Contains-nil}
 use Rattle.gf_ops.proofs.SameLemmas.{value_eq-same, value_eq-true}
 use Rattle.gf_groups.specs.declared.group.Group.{Group}
 use Rattle.gf_groups.proofs.OnPositionLemmas.{contained_at, position_of_op}
-use Rattle.gf_maximal.proofs.ListLemmas.{list_any_false, list_any_true}
+use Rattle.gf_base.proofs.FilterLemmas.{list_any_false, list_any_true}
 use Rattle.gf_versions.specs.declared.key.Version.{Version}
 use Rattle.gf_versions.specs.ListedVersions.{AreSettled}
 use Rattle.gf_versions.specs.Ranking.{group_of}

@@ -18,7 +18,7 @@ use Rattle.gf_groups.specs.GroupedPositions.{is_on}
 use Rattle.gf_groups.specs.VersionList.{are_unordered, is_before}
 use Rattle.gf_groups.proofs.ConflictTestLemmas.{before_decided}
 use Rattle.gf_groups.proofs.OnPositionLemmas.{contained_at, on_op, on_to, position_of_op}
-use Rattle.gf_maximal.proofs.ListLemmas.{Contains-filter, list_any_from, list_any_true}
+use Rattle.gf_base.proofs.FilterLemmas.{Contains-filter, list_any_from, list_any_true}
 use Rattle.gf_visible.proofs.SetterLemmas.{one_op, shown_once}
 use Rattle.gf_status.specs.HiddenChanges.{AreUnknowing, ChangesUnknowing, Hides, HidesLast}
 use Rattle.gf_status.specs.Members.{IsIdAmong}

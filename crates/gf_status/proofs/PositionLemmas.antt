@@ -14,7 +14,7 @@ use Rattle.gf_ops.specs.declared.op.OpId.{OpId}
 use Rattle.gf_ops.specs.OperationOrder.{id_cmp}
 use Rattle.gf_ops.specs.Standing.{StandsAt}
 use Rattle.gf_ops.specs.ValidHistory.{IsValid}
-use Rattle.gf_ops.proofs.ListLemmas.{Contains-cons_cases, Contains-cons_head, Contains-cons_tail, not_Contains-nil}
+use Rattle.gf_base.proofs.ListLemmas.{Contains-cons_cases, Contains-cons_head, Contains-cons_tail, not_Contains-nil}
 use Rattle.gf_components.specs.Components.{ComponentState, ComponentsState, alone}
 use Rattle.gf_components.proofs.ComponentLemmas.{all_of_fold}
 use Rattle.gf_groups.specs.Growing.{conflict_at}

@@ -10,11 +10,11 @@ use Rattle.gf_ops.specs.declared.change.Attr.{Attr}
 use Rattle.gf_ops.specs.Attribute.{value_given}
 use Rattle.gf_ops.specs.OperationOrder.{Precedes}
 use Rattle.gf_ops.specs.Version.{IsMember}
-use Rattle.gf_ops.proofs.ListLemmas.{not_Contains-nil}
+use Rattle.gf_base.proofs.ListLemmas.{not_Contains-nil}
 use Rattle.gf_groups.specs.declared.group.Group.{Group}
 use Rattle.gf_groups.proofs.ConflictTestLemmas.{before_decided}
 use Rattle.gf_groups.proofs.OnPositionLemmas.{contained_at, position_of_op}
-use Rattle.gf_maximal.proofs.ListLemmas.{Contains-filter, list_any_false, list_any_true}
+use Rattle.gf_base.proofs.FilterLemmas.{Contains-filter, list_any_false, list_any_true}
 use Rattle.gf_visible.specs.ShownAt.{before_at, both_before}
 use Rattle.gf_visible.proofs.SetterLemmas.{one_op}
 use Rattle.gf_status.specs.Members.{IsLastAt, IsLastInOne, IsMemberAt}

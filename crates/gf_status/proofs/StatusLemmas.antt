@@ -18,7 +18,7 @@ use Rattle.gf_ops.specs.OperationOrder.{id_cmp}
 use Rattle.gf_groups.specs.declared.group.Group.{Group}
 use Rattle.gf_groups.specs.Versions.{IsMade, IsVersionGroup}
 use Rattle.gf_groups.proofs.OnPositionLemmas.{contained_at, position_of_op}
-use Rattle.gf_ops.proofs.ListLemmas.{not_Contains-nil}
+use Rattle.gf_base.proofs.ListLemmas.{not_Contains-nil}
 use Rattle.gf_visible.specs.ShownVersions.{AreVisibleOn, HasMoreOn}
 use Rattle.gf_status.specs.Counting.{IsShownCount}
 use Rattle.gf_status.specs.Members.{IsIdAmong, IsMadeAt}

@@ -15,9 +15,9 @@ ghost use Rattle.gf_status.specs.Members.{IsLastAt, IsLastInOne};
 
 use crate::positions::{positions_of, rising};
 use crate::setters::{lasts, setters};
+use gf_base::OutOfMemory;
 use gf_groups::Group;
 use gf_ops::{Attr, Form, History, Ids, Points};
-use gf_shape::OutOfMemory;
 use gf_versions::{Version, settle};
 use std::alloc::Global;
 

@@ -6,9 +6,9 @@ ghost use Rattle.gf_status.specs.HiddenChanges.{AreUnknowing};
 
 use crate::positions::{numbers_in, rising};
 use crate::setters::{last_hidings, unknowing};
+use gf_base::OutOfMemory;
 use gf_components::Components;
 use gf_ops::{History, Ids, ObjectId};
-use gf_shape::OutOfMemory;
 use std::alloc::Global;
 
 /// The rising ids of the operations that change the object without hiding it, unordered with a last

@@ -10,10 +10,10 @@ ghost use Rattle.gf_status.specs.StatusLines.{waits_line};
 
 use crate::counting::MOST_COUNTED;
 use crate::{Difference, ObjectStatus};
+use gf_base::OutOfMemory;
 use gf_causal::waits_for;
 use gf_digits::push_number;
 use gf_ops::{Attr, History, ObjectId, Op, OpId};
-use gf_shape::OutOfMemory;
 use std::alloc::{AllocError, Global};
 
 /// The numbers of all sites.

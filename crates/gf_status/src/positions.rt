@@ -6,11 +6,11 @@ ghost use Rattle.gf_ops.specs.OperationOrder.{id_cmp};
 ghost use Rattle.gf_status.specs.Members.{IsIdAmong, IsMemberAt, IsMadeAt};
 ghost use Rattle.gf_status.specs.SettersAt.{numbers_in};
 
+use gf_base::OutOfMemory;
 use gf_components::Components;
 use gf_groups::rising_ids;
 use gf_maximal::Numbers;
 use gf_ops::{Change, History, Ids, OpId};
-use gf_shape::OutOfMemory;
 use std::alloc::Global;
 
 /// The positions of the operations under these ids, in the order of the ids.

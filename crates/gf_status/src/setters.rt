@@ -9,8 +9,8 @@ ghost use Rattle.gf_status.specs.SettersAt.{hides, hides_at, hidings, last_hidin
 ghost use Rattle.gf_status.specs.SettersAt.{setters};
 ghost use Rattle.gf_status.specs.SettersAt.{unordered_at, is_unknowing, unknowing};
 
+use gf_base::OutOfMemory;
 use gf_ops::{Attr, Change, History, Op, Value, before};
-use gf_shape::OutOfMemory;
 use gf_versions::sets;
 use std::alloc::Global;
 

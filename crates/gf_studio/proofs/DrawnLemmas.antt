@@ -13,7 +13,7 @@ use Rattle.gf_drawing.specs.CanonicalDrawing.{Fits, IsCanonical, canonical_drawi
 use Rattle.gf_drawing.specs.DrawingState.{DrawingState}
 use Rattle.gf_drawing.proofs.CanonicalColour.{canonical_colour, canonical_colour-outlined}
 use Rattle.gf_replay.specs.Denoting.{Denotes}
-use Rattle.gf_shape.specs.declared.refusals.OutOfMemory.{OutOfMemory}
+use Rattle.gf_base.specs.declared.memory.OutOfMemory.{OutOfMemory}
 use Rattle.gf_visible.specs.ShownVersions.{HasMoreVisible}
 use Rattle.gf_studio.specs.Refusals.{of_compile, of_ranked}
 use Rattle.gf_studio.specs.FigRun.{IsDrawn, RefusesHistory}

@@ -1,6 +1,6 @@
 -- What the errors of a run's parts become (this project's choice).
 use Rattle.std.specs.Prelude.{Option, Some, None, Result, Ok, Err}
-use Rattle.gf_shape.specs.declared.refusals.OutOfMemory.{OutOfMemory}
+use Rattle.gf_base.specs.declared.memory.OutOfMemory.{OutOfMemory}
 use Rattle.gf_drawing.specs.declared.compiling.CompileFault.{CompileFault}
 use Rattle.gf_drawing.specs.declared.compiling.CompileFault.TheVariants as compile
 use Rattle.gf_streams.specs.declared.write_error.WriteError.{WriteError}

@@ -2,7 +2,7 @@
 use Rattle.std.proofs.Common.{◌≡◌, ℕ, Bool, List, map, length, inl, inr, subst, sym, ap, ◌∙◌, arith}
 use Rattle.std.specs.Prelude.{◌↔◌, Contains, Option, Some, None}
 use Rattle.std.proofs.lemmas.List.{length-map}
-use Rattle.gf_ops.proofs.ListLemmas.{Contains-map, Contains-map_from}
+use Rattle.gf_base.proofs.ListLemmas.{Contains-map, Contains-map_from}
 use Rattle.gf_maximal.specs.Growing.{image}
 use Rattle.gf_maximal.specs.Tables.{IsRising}
 use Rattle.gf_maximal.proofs.ImageLemmas.{Made, image_rises, in_image, table_image}

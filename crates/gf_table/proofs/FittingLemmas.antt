@@ -2,7 +2,7 @@
 use Rattle.std.proofs.Common.{◌≡◌, ℕ, ◌<◌, ◌+◌, ◌^◌, List, map, get_or, subst, sym, arith}
 use Rattle.std.specs.Prelude.{All, Contains}
 use Rattle.std.proofs.lemmas.List.Elements.{Contains-get_or}
-use Rattle.gf_ops.proofs.ListLemmas.{Contains-map_from}
+use Rattle.gf_base.proofs.ListLemmas.{Contains-map_from}
 
 -- what lies below a length that fits
 pub below_fit : (us : List ℕ) (n : ℕ) → n < 2 ^ 64 → ((i : ℕ) → Contains us i → i < n) → All (λ i. i + 1 < 2 ^ 64) us

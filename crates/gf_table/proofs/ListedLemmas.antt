@@ -5,7 +5,7 @@ use Rattle.std.specs.List.{fold}
 use Rattle.gf_ops.specs.declared.op.Op.{Op}
 use Rattle.gf_ops.specs.declared.op.ObjectId.{ObjectId}
 use Rattle.gf_ops.specs.ValidHistory.{IsValid}
-use Rattle.gf_ops.proofs.ListLemmas.{Contains-cons_head, Contains-cons_tail}
+use Rattle.gf_base.proofs.ListLemmas.{Contains-cons_head, Contains-cons_tail}
 use Rattle.gf_maximal.specs.Pairs.{Pairs}
 use Rattle.gf_maximal.specs.Tables.{IsRising, IsTable}
 use Rattle.gf_maximal.proofs.LargestLemmas.{IsConflict}

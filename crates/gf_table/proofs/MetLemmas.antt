@@ -2,7 +2,7 @@
 use Rattle.std.proofs.Common.{◌≡◌, ℕ, List, inl, inr, subst, sym, ap, ◌∙◌}
 use Rattle.std.specs.Prelude.{◌⊎◌, ◌↔◌, Contains}
 use Rattle.gf_maximal.specs.Growing.{common, is_in, united}
-use Rattle.gf_maximal.proofs.ListLemmas.{Contains-filter}
+use Rattle.gf_base.proofs.FilterLemmas.{Contains-filter}
 use Rattle.gf_maximal.proofs.MaximalLemmas.{from_list, in_list}
 use Rattle.gf_maximal.proofs.UnitedLemmas.{Contains-united}
 use Rattle.gf_ops.specs.declared.op.Op.{Op}

@@ -17,9 +17,9 @@ use Rattle.gf_ops.specs.Attribute.{Kind, aim_of, attribute_of, made_kind}
 use Rattle.gf_ops.specs.Conflict.{Conflict}
 use Rattle.gf_ops.specs.Limits.{IsInRange}
 use Rattle.gf_ops.specs.ValidHistory.{IsValid}
-use Rattle.gf_ops.proofs.ListLemmas.{Contains-cons_cases, Contains-cons_head, not_Contains-nil}
+use Rattle.gf_base.proofs.ListLemmas.{Contains-cons_cases, Contains-cons_head, not_Contains-nil}
 use Rattle.gf_maximal.proofs.LargestLemmas.{IsConflict}
-use Rattle.gf_maximal.proofs.RisingLemmas.{rising_cons, rising_nil}
+use Rattle.gf_base.proofs.RisingLemmas.{rising_cons, rising_nil}
 use Rattle.gf_components.specs.Components.{after, whole}
 use Rattle.gf_components.specs.Separate.{AreComponents, IsNewWith}
 use Rattle.gf_components.proofs.AgreeLemmas.{components_agree}

@@ -6,11 +6,11 @@ ghost use Rattle.gf_groups.specs.Growing.{conflict_at};
 ghost use Rattle.gf_maximal.specs.Tables.{IsRising};
 ghost use Rattle.gf_table.specs.Standing.{AreComponentsOn, full, listed};
 
+use gf_base::OutOfMemory;
 use gf_components::{Component, Components, products};
 use gf_groups::groups_at;
 use gf_maximal::Numbers;
 use gf_ops::{History, ObjectId};
-use gf_shape::OutOfMemory;
 use std::alloc::Global;
 
 /// All versions of the object: what is free, with one set of each component. The sets of a

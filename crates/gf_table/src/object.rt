@@ -17,11 +17,11 @@ ghost use Rattle.gf_table.specs.ByPosition.{sets_at, component_at, components_at
 ghost use Rattle.gf_table.specs.ObjectState.{made, maker_number, position_in, with_grown};
 ghost use Rattle.gf_table.specs.Standing.{IsMetByAim, IsNextOf, IsStateOf, with_aim};
 
+use gf_base::OutOfMemory;
 use gf_components::{Component, Components};
 use gf_maximal::Numbers;
 use gf_ops::{Attr, Clock, History, Op, OpId, Value};
 use gf_rivals::{Aimed, Chains, Index, clashing, numbers_of, rivals, with_aimed};
-use gf_shape::OutOfMemory;
 use std::alloc::Global;
 use std::marker::Model;
 

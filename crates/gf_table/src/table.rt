@@ -11,10 +11,10 @@ ghost use Rattle.gf_table.specs.Standing.{StandsFor, AreComponentsOn, state_of};
 
 use crate::listing::listed;
 use crate::object::ObjectTable;
+use gf_base::OutOfMemory;
 use gf_components::Components;
 use gf_groups::{GroupFault, Groups, groups_from, is_made};
 use gf_ops::{Change, History, ObjectId, Op};
-use gf_shape::OutOfMemory;
 use std::alloc::Global;
 use std::collections::BTreeMap;
 use std::marker::Model;

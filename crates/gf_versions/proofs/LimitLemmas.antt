@@ -14,7 +14,7 @@ use Rattle.gf_ops.specs.declared.change.Start.{Start}
 use Rattle.gf_ops.specs.declared.change.Value.{Value}
 use Rattle.gf_ops.specs.declared.change.Value.TheVariants.{Place, Points, Size, Colour, Layer, Shown}
 use Rattle.gf_ops.specs.Attribute.{change_value, form_value, points_in, set_value, size_in, start_value}
-use Rattle.gf_ops.specs.Limits.{is_change, is_clock, is_form, is_id, is_layer, is_near, is_size, is_value, is_aim}
+use Rattle.gf_ops.specs.Limits.{is_change, is_clock, is_colour, is_form, is_id, is_layer, is_near, is_size, is_start, is_value, is_aim}
 use Rattle.gf_ops.specs.SettledValue.{IsSettled}
 use Rattle.gf_ops.specs.ValidHistory.{IsValid}
 use Rattle.gf_versions.specs.declared.key.Version.{Version}
@@ -43,11 +43,14 @@ points_fit : (u v : Value) → IsTrue (is_value u) → points_in u ≡ Some v �
 points_fit (Points ps) v fits e = one_fits (Points ps) v fits e
 points_fit u v fits e = absurd cc
 
-start_fits : (s : Start) (t : Attr) (v : Value) → IsTrue (is_form s.form && is_near s.place && is_layer s.layer) → start_value s t ≡ Some v → IsTrue (is_value v)
+start_fits : (s : Start) (t : Attr) (v : Value) → IsTrue (is_start s) → start_value s t ≡ Some v → IsTrue (is_value v)
 start_fits s t v fits e = by_attribute t e
   where
+    whole : IsTrue (is_form s.form && is_near s.place && is_layer s.layer) × IsTrue (is_colour s.colour)
+    whole = and_parts (is_form s.form && is_near s.place && is_layer s.layer) (is_colour s.colour) fits
+
     parts : IsTrue (is_form s.form && is_near s.place) × IsTrue (is_layer s.layer)
-    parts = and_parts (is_form s.form && is_near s.place) (is_layer s.layer) fits
+    parts = and_parts (is_form s.form && is_near s.place) (is_layer s.layer) whole.0
 
     shape : IsTrue (is_form s.form) × IsTrue (is_near s.place)
     shape = and_parts (is_form s.form) (is_near s.place) parts.0
@@ -56,7 +59,7 @@ start_fits s t v fits e = by_attribute t e
     by_attribute attr.Place e = one_fits (Place s.place) v shape.1 e
     by_attribute attr.Size e = size_fits (form_value s.form) v (form_fits s.form shape.0) e
     by_attribute attr.Points e = points_fit (form_value s.form) v (form_fits s.form shape.0) e
-    by_attribute attr.Colour e = one_fits (Colour s.colour) v refl e
+    by_attribute attr.Colour e = one_fits (Colour s.colour) v whole.1 e
     by_attribute attr.Layer e = one_fits (Layer s.layer) v parts.1 e
     by_attribute attr.Shown e = one_fits (Shown s.shown) v refl e
 
@@ -73,7 +76,7 @@ change_fits : (c : Change) (t : Attr) (v : Value) → IsTrue (is_change c) → c
 change_fits (Create s) t v fits e = start_fits s t v fits e
 change_fits (Set o u aim) t v fits e = set_fits u v t (and_parts (is_id o.0) (is_value u) (and_parts (is_id o.0 && is_value u) (is_aim aim) fits).0).1 e
 
-settled_fits : (h : List Op) → IsValid h → (g : List OpId) (t : Attr) (v : Value) → IsSettled h g t v → IsTrue (is_value v)
+pub settled_fits : (h : List Op) → IsValid h → (g : List OpId) (t : Attr) (v : Value) → IsSettled h g t v → IsTrue (is_value v)
 settled_fits h valid g t v s =
     let a = s.setter in
     change_fits a.change t v (and_parts (is_id a.id && is_clock a.past) (is_change a.change) (valid.in_range a s.member.contained)).1 s.gives

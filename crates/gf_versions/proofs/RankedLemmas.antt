@@ -6,7 +6,7 @@ use Rattle.std.proofs.lemmas.List.Kept.{AllPairs-cons}
 use Rattle.gf_shape.specs.declared.any_shape.AnyShape.{AnyShape}
 use Rattle.gf_ops.specs.declared.op.Op.{Op}
 use Rattle.gf_ops.specs.ValidHistory.{IsValid}
-use Rattle.gf_ops.proofs.ListLemmas.{Contains-cons_cases, Contains-cons_head, Contains-cons_tail, Contains-map, Contains-map_from, not_Contains-nil}
+use Rattle.gf_base.proofs.ListLemmas.{Contains-cons_cases, Contains-cons_head, Contains-cons_tail, Contains-map, Contains-map_from, not_Contains-nil}
 use Rattle.gf_maximal.specs.Pairs.{Pairs}
 use Rattle.gf_maximal.proofs.PairLemmas.{Pairs-map}
 use Rattle.gf_versions.specs.declared.key.Version.{Version}

@@ -27,8 +27,8 @@ use Rattle.gf_groups.specs.Versions.{IsVersionGroup}
 use Rattle.gf_versions.proofs.VersionLemmas.{one_of_group}
 use Rattle.gf_versions.specs.KeyOrder.{key_cmp_total}
 use Rattle.gf_versions.proofs.KeyLemmas.{key_cmp_exact}
-use Rattle.gf_ops.proofs.ListLemmas.{Contains-map, Contains-map_from, not_Contains-nil}
-use Rattle.gf_maximal.proofs.ListLemmas.{Contains-filter}
+use Rattle.gf_base.proofs.ListLemmas.{Contains-map, Contains-map_from, not_Contains-nil}
+use Rattle.gf_base.proofs.FilterLemmas.{Contains-filter}
 use Rattle.gf_groups.proofs.SortedLemmas.{equal_left}
 
 pub falls_by_order : {S : Type 0} → IsStrictWeakOrder (falls_by {S = S})

@@ -12,7 +12,7 @@ use Rattle.gf_ops.specs.Attribute.{Kind}
 use Rattle.gf_ops.specs.Conflict.{Conflict}
 use Rattle.gf_ops.specs.SettledValue.{IsSettled}
 use Rattle.gf_ops.specs.Version.{ConflictsWithin, HasOn, IsMember, IsOfKind, IsVersion}
-use Rattle.gf_ops.proofs.ListLemmas.{Contains-cons_cases, Contains-cons_head, Contains-cons_tail, not_Contains-nil}
+use Rattle.gf_base.proofs.ListLemmas.{Contains-cons_cases, Contains-cons_head, Contains-cons_tail, not_Contains-nil}
 use Rattle.gf_versions.specs.declared.key.Version.{Version}
 use Rattle.gf_versions.specs.declared.placed.Placed.{Placed}
 use Rattle.gf_versions.specs.Above.{IsAbove}

@@ -18,7 +18,7 @@ use Rattle.gf_ops.specs.ValidHistory.{IsValid}
 use Rattle.gf_ops.specs.Version.{IsMember, IsVersion}
 use Rattle.gf_ops.proofs.ConflictLemmas.{conflict_direct}
 use Rattle.gf_ops.proofs.HistoryLemmas.{site_in_range, seq_in_range}
-use Rattle.gf_ops.proofs.ListLemmas.{Contains-cons_head, Contains-cons_tail, not_Contains-nil}
+use Rattle.gf_base.proofs.ListLemmas.{Contains-cons_head, Contains-cons_tail, not_Contains-nil}
 use Rattle.gf_ops.proofs.SameLemmas.{value_eq-same, value_eq-true}
 use Rattle.gf_ops.proofs.ValidityLemmas.{same_op, precedes_irreflexive, precedes_transitive}
 use Rattle.gf_versions.specs.Settling.{IsLastOf, IsLastSetter, HasAttribute}

@@ -23,7 +23,7 @@ use Rattle.gf_versions.specs.Visible.{IsVisible, version_holds}
 use Rattle.gf_versions.proofs.VersionLemmas.{one_of_group, versions_listed, visible_exactly}
 use Rattle.gf_versions.specs.KeyOrder.{key_cmp_total}
 use Rattle.gf_versions.proofs.KeyLemmas.{above_one_way, above_transitive, neither_above, key_cmp_exact}
-use Rattle.gf_ops.proofs.ListLemmas.{Contains-cons_cases, Contains-cons_head, Contains-cons_tail, not_Contains-nil}
+use Rattle.gf_base.proofs.ListLemmas.{Contains-cons_cases, Contains-cons_head, Contains-cons_tail, not_Contains-nil}
 use Rattle.gf_versions.proofs.ShapeLemmas.{shape_holds}
 
 module _ {X : Type 0} (Above : X → X → Type 0) where

@@ -18,10 +18,10 @@ use Rattle.gf_ops.specs.Attribute.{Kind, Box, Circle, Ellipse, Polygon, change_v
 use Rattle.gf_ops.specs.SettledValue.{IsSettled}
 use Rattle.gf_ops.specs.ValidHistory.{IsValid}
 use Rattle.gf_ops.specs.Version.{IsOfKind, IsVersion}
-use Rattle.gf_ops.proofs.ListLemmas.{Contains-cons_cases, Contains-cons_head, Contains-cons_tail, Contains-map_from, not_Contains-nil}
+use Rattle.gf_base.proofs.ListLemmas.{Contains-cons_cases, Contains-cons_head, Contains-cons_tail, Contains-map_from, not_Contains-nil}
 use Rattle.gf_groups.specs.declared.group.Group.{Group}
 use Rattle.gf_groups.specs.Versions.{IsVersionGroup}
-use Rattle.gf_maximal.proofs.ListLemmas.{Contains-filter}
+use Rattle.gf_base.proofs.FilterLemmas.{Contains-filter}
 use Rattle.gf_groups.proofs.VersionListLemmas.{all_listed}
 use Rattle.gf_versions.specs.declared.key.Version.{Version}
 use Rattle.gf_versions.specs.ListedVersions.{AreSettled, shown_of}

@@ -19,7 +19,7 @@ use Rattle.gf_groups.proofs.TableLemmas.{conflict_at_test, table_groups}
 use Rattle.gf_groups.proofs.VersionLemmas.{version_of_largest}
 use Rattle.gf_maximal.specs.Growing.{united}
 use Rattle.gf_maximal.specs.Tables.{IsLargest, IsTable}
-use Rattle.gf_maximal.proofs.ListLemmas.{list_any_true, list_any_false}
+use Rattle.gf_base.proofs.FilterLemmas.{list_any_true, list_any_false}
 use Rattle.gf_maximal.proofs.UnitedLemmas.{Contains-united}
 use Rattle.gf_components.specs.Components.{ComponentsState, products, whole}
 use Rattle.gf_components.proofs.ProductLemmas.{Contains-products, Contains-products_from, products_once, table_alike, table_product}

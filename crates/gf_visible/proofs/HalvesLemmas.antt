@@ -7,14 +7,14 @@ use Rattle.std.proofs.lemmas.Bool.{cases_Bool, cond-true, cond-false, not-true, 
 use Rattle.std.proofs.lemmas.List.Kept.{IsStrictlySortedBy-filter}
 use Rattle.gf_ops.specs.declared.op.Op.{Op}
 use Rattle.gf_ops.specs.declared.op.ObjectId.{ObjectId}
-use Rattle.gf_ops.proofs.ListLemmas.{Contains-cons_cases, Contains-cons_head, Contains-cons_tail, not_Contains-nil}
+use Rattle.gf_base.proofs.ListLemmas.{Contains-cons_cases, Contains-cons_head, Contains-cons_tail, not_Contains-nil}
 use Rattle.gf_groups.specs.GroupedPositions.{positions_below}
 use Rattle.gf_groups.specs.Growing.{conflict_at}
 use Rattle.gf_groups.proofs.TableLemmas.{conflict_at_test}
 use Rattle.gf_maximal.specs.Growing.{is_in, united, without}
 use Rattle.gf_maximal.specs.Tables.{IsLargest, IsRising}
 use Rattle.gf_maximal.proofs.LargestLemmas.{IsConflict}
-use Rattle.gf_maximal.proofs.ListLemmas.{Contains-filter}
+use Rattle.gf_base.proofs.FilterLemmas.{Contains-filter}
 use Rattle.gf_maximal.proofs.MaximalLemmas.{from_list, not_in, Contains-without}
 use Rattle.gf_maximal.proofs.PairLemmas.{Pairs-filter, Pairs-two}
 use Rattle.gf_maximal.proofs.UnitedLemmas.{Contains-united, united_rises}

@@ -9,11 +9,11 @@ use Rattle.std.proofs.lemmas.Cmp.{nat_cmp_total}
 use Rattle.std.proofs.lemmas.List.Elements.{All-contains, All-contains_itself, All-weaker, Contains-append_left, Contains-push, Contains-push_cases}
 use Rattle.std.proofs.lemmas.List.{append_assoc, append-nil}
 use Rattle.gf_ops.specs.declared.op.Op.{Op}
-use Rattle.gf_ops.proofs.ListLemmas.{not_Contains-nil}
+use Rattle.gf_base.proofs.ListLemmas.{not_Contains-nil}
 use Rattle.gf_maximal.specs.Tables.{IsRising}
 use Rattle.gf_maximal.proofs.InsertLemmas.{inserted_all, holds_all}
-use Rattle.gf_maximal.proofs.ListLemmas.{Contains-filter}
-use Rattle.gf_maximal.proofs.RisingLemmas.{rising_nil}
+use Rattle.gf_base.proofs.FilterLemmas.{Contains-filter}
+use Rattle.gf_base.proofs.RisingLemmas.{rising_nil}
 use Rattle.gf_visible.specs.Deciding.{taken, next_lasts, lasts}
 use Rattle.gf_visible.specs.ShownAt.{shows_or_hides_at, later_at}
 

@@ -4,9 +4,9 @@ use Rattle.std.specs.Prelude.{◌⊎◌, Contains}
 use Rattle.std.proofs.lemmas.Bool.{cases_Bool, cond-true, cond-false, and_parts, and_from, or_cases}
 use Rattle.std.proofs.lemmas.List.Elements.{filter-append, Contains-append_cases, Contains-append_left, Contains-append_right}
 use Rattle.std.proofs.lemmas.List.{append_assoc, append-nil, take_all, take-append-le, length-take}
-use Rattle.gf_ops.proofs.ListLemmas.{Contains-cons_cases, Contains-cons_head, Contains-cons_tail, not_Contains-nil}
+use Rattle.gf_base.proofs.ListLemmas.{Contains-cons_cases, Contains-cons_head, Contains-cons_tail, not_Contains-nil}
 use Rattle.gf_maximal.specs.Growing.{meets, without}
-use Rattle.gf_maximal.proofs.ListLemmas.{list_all_true, list_all_from}
+use Rattle.gf_base.proofs.FilterLemmas.{list_all_true, list_all_from}
 use Rattle.gf_maximal.proofs.MaximalLemmas.{Within, meets_one, meets_from, Contains-without}
 use Rattle.gf_visible.specs.Choices.{StepState, holds, all_hold, choices, answers, first, second}
 

@@ -9,14 +9,14 @@ use Rattle.std.proofs.lemmas.Cmp.{nat_cmp_total}
 use Rattle.std.proofs.lemmas.List.Elements.{All-filter, filter-append}
 use Rattle.std.proofs.lemmas.List.{take_all}
 use Rattle.std.proofs.lemmas.List.Kept.{IsStrictlySortedBy-filter}
-use Rattle.gf_ops.proofs.ListLemmas.{Contains-cons_cases, Contains-cons_head, Contains-cons_tail, Contains-map, Contains-map_from, not_Contains-nil}
+use Rattle.gf_base.proofs.ListLemmas.{Contains-cons_cases, Contains-cons_head, Contains-cons_tail, Contains-map, Contains-map_from, not_Contains-nil}
 use Rattle.gf_maximal.specs.Growing.{is_in, meets, without}
 use Rattle.gf_maximal.specs.Tables.{IsRising}
 use Rattle.gf_maximal.proofs.InsertLemmas.{inserted_all, holds_all}
-use Rattle.gf_maximal.proofs.ListLemmas.{Contains-filter, list_all_true, list_all_from}
+use Rattle.gf_base.proofs.FilterLemmas.{Contains-filter, list_all_true, list_all_from}
 use Rattle.gf_maximal.proofs.MaximalLemmas.{Within, from_list, not_in, meets_one, meets_from, Contains-without}
 use Rattle.gf_maximal.proofs.PairLemmas.{AllPairs-append}
-use Rattle.gf_maximal.proofs.RisingLemmas.{one_rising, rising_nil}
+use Rattle.gf_base.proofs.RisingLemmas.{one_rising, rising_nil}
 use Rattle.gf_visible.specs.Choices.{StepState, holds, all_hold, choices, first, second, step_of, showing, IsShowing, AreShowing}
 use Rattle.gf_visible.proofs.SearchLemmas.{ways, by_chosen, by_left, choices_in, choices_out, choice_within, or_first, or_second}
 

@@ -9,7 +9,7 @@ use Rattle.gf_ops.specs.declared.change.Attr.TheVariants as attr
 use Rattle.gf_ops.specs.declared.change.Value.TheVariants as value
 use Rattle.gf_ops.specs.SettledValue.{IsSettled}
 use Rattle.gf_ops.specs.ValidHistory.{IsValid}
-use Rattle.gf_ops.proofs.ListLemmas.{Contains-map, Contains-map_from}
+use Rattle.gf_base.proofs.ListLemmas.{Contains-map, Contains-map_from}
 use Rattle.gf_groups.specs.declared.group.Group.{Group}
 use Rattle.gf_groups.specs.GroupedPositions.{is_on, positions_below, rising_ids, group_at}
 use Rattle.gf_groups.specs.Growing.{conflict_at, groups_at}

@@ -11,7 +11,7 @@ use Rattle.std.proofs.lemmas.List.Elements.{Contains-get_or}
 use Rattle.std.proofs.lemmas.List.Kept.{AllPairs-cons}
 use Rattle.std.proofs.lemmas.Map.Keys.{sorted_tail}
 use Rattle.gf_groups.proofs.GroupLemmas.{group_cmp_total}
-use Rattle.gf_maximal.proofs.RisingLemmas.{below_tail}
+use Rattle.gf_base.proofs.RisingLemmas.{below_tail}
 use Rattle.gf_shape.specs.declared.any_shape.AnyShape.{AnyShape}
 use Rattle.gf_ops.specs.declared.op.Op.{Op}
 use Rattle.gf_ops.specs.declared.op.ObjectId.{ObjectId}
@@ -20,7 +20,7 @@ use Rattle.gf_ops.specs.declared.change.Change.TheVariants.{Create, Set}
 use Rattle.gf_ops.specs.declared.change.Start.{Start}
 use Rattle.gf_ops.specs.Attribute.{Kind, kind_of, made_kind}
 use Rattle.gf_ops.specs.ValidHistory.{IsValid}
-use Rattle.gf_ops.proofs.ListLemmas.{Contains-cons_cases, Contains-cons_head, Contains-map, not_Contains-nil}
+use Rattle.gf_base.proofs.ListLemmas.{Contains-cons_cases, Contains-cons_head, Contains-map, not_Contains-nil}
 use Rattle.gf_groups.specs.declared.group.Group.{Group}
 use Rattle.gf_groups.specs.Versions.{IsMade, IsVersionGroup, AreVersions, group_cmp}
 use Rattle.gf_groups.proofs.IdPositionLemmas.{same_position}

@@ -8,7 +8,7 @@ use Rattle.atomic_table.specs.Seated.{TableId}
 use Rattle.gf_ops.specs.declared.op.Op.{Op}
 use Rattle.gf_ops.specs.ValidHistory.{IsValid}
 use Rattle.gf_ops.specs.OperationOrder.{count_of}
-use Rattle.gf_ops.proofs.ListLemmas.{not_Contains-nil, Contains-cons_cases, Contains-map_from}
+use Rattle.gf_base.proofs.ListLemmas.{not_Contains-nil, Contains-cons_cases, Contains-map_from}
 use Rattle.gf_ops.proofs.ValidityLemmas.{same_op}
 use Rattle.gf_causal.specs.Ready.{NoneIsReady}
 use Rattle.gf_causal.specs.DeliveredPart.{IsLastDelivery}

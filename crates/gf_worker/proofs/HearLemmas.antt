@@ -4,7 +4,7 @@ use Rattle.std.specs.Prelude.{◌⊎◌, Contains, Result, Ok, Err, IsTrue}
 use Rattle.gf_ops.specs.declared.op.Op.{Op}
 use Rattle.gf_ops.specs.Limits.{IsInRange}
 use Rattle.gf_ops.proofs.ValidityLemmas.{same_op}
-use Rattle.gf_ops.proofs.ListLemmas.{not_Contains-nil, Contains-cons_cases, Contains-cons_head}
+use Rattle.gf_base.proofs.ListLemmas.{not_Contains-nil, Contains-cons_cases, Contains-cons_head}
 use Rattle.gf_causal.proofs.ListLemmas.{Contains-between, Contains-between_itself, Contains-between_cases}
 use Rattle.gf_causal.specs.declared.buffer.Offered.{Offered}
 use Rattle.gf_causal.specs.declared.buffer.Offered.TheVariants.{Already, Held}

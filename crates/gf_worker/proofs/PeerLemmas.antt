@@ -6,7 +6,7 @@ use Rattle.std.proofs.lemmas.List.Folds.{list_all_at}
 use Rattle.std.proofs.lemmas.List.Concat.{flat_map-append}
 use Rattle.atomic_table.specs.Seated.{TableId}
 use Rattle.gf_ops.specs.declared.op.Op.{Op}
-use Rattle.gf_ops.proofs.ListLemmas.{not_Contains-nil, Contains-cons_cases, Contains-cons_head, Contains-cons_tail}
+use Rattle.gf_base.proofs.ListLemmas.{not_Contains-nil, Contains-cons_cases, Contains-cons_head, Contains-cons_tail}
 use Rattle.gf_link.specs.declared.message.Message.{Message}
 use Rattle.gf_link.specs.Ends.{is_ended}
 use Rattle.gf_worker.specs.declared.peer.Peer.{Peer}

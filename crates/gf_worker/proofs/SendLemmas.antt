@@ -7,7 +7,7 @@ use Rattle.std.proofs.lemmas.List.{length-map}
 use Rattle.std.proofs.lemmas.List.Folds.{list_all-map}
 use Rattle.atomic_table.specs.Seated.{TableId}
 use Rattle.gf_ops.specs.declared.op.Op.{Op}
-use Rattle.gf_ops.proofs.ListLemmas.{not_Contains-nil, Contains-cons_cases, Contains-cons_head, Contains-cons_tail, Contains-map, Contains-map_from}
+use Rattle.gf_base.proofs.ListLemmas.{not_Contains-nil, Contains-cons_cases, Contains-cons_head, Contains-cons_tail, Contains-map, Contains-map_from}
 use Rattle.gf_link.specs.declared.message.Message.{Message}
 use Rattle.gf_link.specs.declared.message.Message.TheVariants as message
 use Rattle.gf_link.specs.Ends.{is_ended}

@@ -3,7 +3,7 @@ use Rattle.std.proofs.Common.{◌≡◌, List, [], ◌∷◌, ◌++◌, sym, sub
 use Rattle.std.specs.Prelude.{All, Contains}
 use Rattle.std.specs.Global.{Vec}
 use Rattle.std.proofs.lemmas.List.Elements.{Contains-append_left, Contains-push}
-use Rattle.gf_ops.proofs.ListLemmas.{Contains-map}
+use Rattle.gf_base.proofs.ListLemmas.{Contains-map}
 use Rattle.gf_worker.specs.declared.peer.Peer.{Peer}
 use Rattle.gf_worker.specs.Peers.{StandsInTable, IsFresh}
 use Rattle.gf_worker.proofs.SendLemmas.{all_from}

@@ -2,7 +2,8 @@
 
 ghost use Rattle.std.specs.Prelude.{◌≡◌, ◌≤◌, ◌⊎◌, ◌&&◌, [], Ok, Err, IfOk, IsTrue};
 ghost use Rattle.serde_json.specs.View.{view};
-ghost use Rattle.gf_ops.specs.Limits.{is_aim, is_change, is_form, is_layer, is_near, is_value};
+ghost use Rattle.gf_ops.specs.Limits.{is_aim, is_change, is_colour, is_form, is_layer, is_start};
+ghost use Rattle.gf_ops.specs.Limits.{is_value};
 ghost use Rattle.gf_json.specs.LineValues.{◌&◌};
 ghost use Rattle.gf_json.specs.LineFields.{aim, polygon_points, colour, layer, shown};
 ghost use Rattle.gf_json.specs.LineChanges.{start, named_value, new_value, creation, setting};
@@ -92,8 +93,7 @@ fn creation(form: Result<Form, LineError>, line: &Value) -> Result<Change, LineE
 fn start(form: Result<Form, LineError>, line: &Value) -> Result<Start, LineError>
     requires { IfOk form (λ f. IsTrue (is_form f)) }
     ensures value { result ≡ start form (view line.now) }
-    ensures in_range { IfOk result (λ s.
-        IsTrue (is_form s.form && is_near s.place && is_layer s.layer)) }
+    ensures in_range { IfOk result (λ s. IsTrue (is_start s)) }
 {
     let (form, (place, look)) = both(form, both(place(line), look(line)))?;
     let (colour, (layer, shown)) = look;
@@ -109,7 +109,8 @@ fn start(form: Result<Form, LineError>, line: &Value) -> Result<Start, LineError
 fn look(line: &Value) -> Result<(Rgb, (u16, bool)), LineError>
     ensures value { result ≡ (colour (view line.now) & layer (view line.now) & shown
         (view line.now)) }
-    ensures in_range { IfOk result (λ l. IsTrue (is_layer l.1.0)) }
+    ensures colour { IfOk result (λ l. IsTrue (is_colour l.0)) }
+    ensures layer { IfOk result (λ l. IsTrue (is_layer l.1.0)) }
 {
     both(colour(line), both(layer(line), shown(line)))
 }

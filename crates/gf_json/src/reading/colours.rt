@@ -1,7 +1,8 @@
 //! Colours in a line.
 
-ghost use Rattle.std.specs.Prelude.{◌≡◌};
+ghost use Rattle.std.specs.Prelude.{◌≡◌, IfOk, IsTrue};
 ghost use Rattle.serde_json.specs.View.{view};
+ghost use Rattle.gf_ops.specs.Limits.{is_colour};
 ghost use Rattle.gf_json.specs.LineColours.{hex_colour};
 
 use crate::LineError;
@@ -10,7 +11,8 @@ use gf_shape::Rgb;
 use serde_json::Value;
 
 pub(crate) fn hex_colour(value: &Value) -> Result<Rgb, LineError>
-    ensures { result ≡ hex_colour (view value.now) }
+    ensures value { result ≡ hex_colour (view value.now) }
+    ensures in_range { IfOk result (λ c. IsTrue (is_colour c)) }
 {
     let Some(text) = value.as_str() else {
         return Err(LineError::Field);

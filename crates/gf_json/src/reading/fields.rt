@@ -3,6 +3,7 @@
 ghost use Rattle.std.specs.Prelude.{◌≡◌, ◌⊎◌, Err, IsTrue, IfOk};
 ghost use Rattle.serde_json.specs.View.{view};
 ghost use Rattle.gf_ops.specs.Limits.{is_site, is_id, is_clock, is_aim, is_near, is_form, is_layer};
+ghost use Rattle.gf_ops.specs.Limits.{is_colour};
 ghost use Rattle.gf_json.specs.LineValues.{mapped};
 ghost use Rattle.gf_json.specs.LineFields.{value_at, id, past, site, object, aim, place};
 ghost use Rattle.gf_json.specs.LineFields.{box_size, circle_size, ellipse_size, polygon_points};
@@ -94,7 +95,8 @@ pub(crate) fn polygon_points(alloc: Global, line: &Value) -> Result<Form, LineEr
 }
 
 pub(crate) fn colour(line: &Value) -> Result<Rgb, LineError>
-    ensures { result ≡ colour (view line.now) }
+    ensures value { result ≡ colour (view line.now) }
+    ensures in_range { IfOk result (λ c. IsTrue (is_colour c)) }
 {
     value_at(line, "colour").and_then(hex_colour)
 }

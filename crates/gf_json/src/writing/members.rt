@@ -2,8 +2,6 @@
 
 ghost use Rattle.std.specs.Prelude.{◌≡◌, OnOk};
 ghost use Rattle.serde_json.specs.View.{view, members_view};
-ghost use Rattle.gf_digits.specs.ColourBytes.{HasBytes};
-ghost use Rattle.gf_json.specs.ColourBytes.{ValueHasBytes};
 ghost use Rattle.gf_json.specs.WrittenLines.{attribute_word};
 ghost use Rattle.gf_json.specs.WrittenMembers.{put_all, look_members, form_members};
 ghost use Rattle.gf_json.specs.WrittenMembers.{shape_members, set_members, aim_members};
@@ -21,9 +19,8 @@ pub(crate) fn put_look(
     members: &mut Map<String, Value>,
     start: &Start,
 ) -> Result<(), AllocError>
-    ensures value { OnOk result (members_view members.new.entries
+    ensures { OnOk result (members_view members.new.entries
         ≡ put_all (look_members start.now) (members_view members.old.entries)) }
-    ensures bytes { OnOk result (HasBytes start.now.colour) }
 {
     put(members, alloc, "colour", colour_data(alloc, start.colour)?)?;
     put(members, alloc, "layer", Value::from(start.layer))?;
@@ -82,9 +79,8 @@ pub(crate) fn put_setting(
     value: &gf_ops::Value,
     aim: &Ids,
 ) -> Result<(), AllocError>
-    ensures value { OnOk result (members_view members.new.entries
+    ensures { OnOk result (members_view members.new.entries
         ≡ put_all (set_members object value.now aim.now) (members_view members.old.entries)) }
-    ensures bytes { OnOk result (ValueHasBytes value.now) }
 {
     put(members, alloc, "object", name_data(alloc, object.0)?)?;
     let word = Value::try_from_str(alloc, attribute_word(value))?;

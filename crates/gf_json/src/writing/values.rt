@@ -1,10 +1,8 @@
 //! The values of a written line.
 
 ghost use Rattle.std.specs.Prelude.{◌≡◌, IfOk, OnOk, length, map, string_bytes};
-ghost use Rattle.gf_digits.specs.ColourBytes.{HasBytes};
 ghost use Rattle.gf_digits.specs.HexDigits.{hex_rgb};
 ghost use Rattle.serde_json.specs.View.{view};
-ghost use Rattle.gf_json.specs.ColourBytes.{ValueHasBytes};
 ghost use Rattle.gf_json.specs.WrittenValues.{natural_data, pair_data, name_data, ids_data};
 ghost use Rattle.gf_json.specs.WrittenValues.{clock_data, point_data, points_data, size_data};
 ghost use Rattle.gf_json.specs.WrittenValues.{colour_data, value_data};
@@ -92,8 +90,7 @@ fn pair_data(alloc: Global, first: Value, second: Value) -> Result<Value, AllocE
 }
 
 pub(crate) fn colour_data(alloc: Global, colour: Rgb) -> Result<Value, AllocError>
-    ensures value { IfOk result (λ v. view v ≡ colour_data colour) }
-    ensures bytes { HasBytes colour }
+    ensures { IfOk result (λ v. view v ≡ colour_data colour) }
 {
     let text = hex_rgb(alloc, colour)?;
     Ok(Value::String(text))
@@ -109,8 +106,7 @@ fn hex_rgb(alloc: Global, colour: Rgb) -> Result<String, AllocError>
 
 /// The value in the form of its attribute.
 pub(crate) fn value_data(alloc: Global, value: &gf_ops::Value) -> Result<Value, AllocError>
-    ensures value { IfOk result (λ v. view v ≡ value_data value.now) }
-    ensures bytes { ValueHasBytes value.now }
+    ensures { IfOk result (λ v. view v ≡ value_data value.now) }
 {
     match value {
         gf_ops::Value::Place(point) => point_data(alloc, *point),

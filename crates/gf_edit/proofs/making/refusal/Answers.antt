@@ -1,7 +1,7 @@
 use Rattle.std.specs.Prelude.{IsTrue}
 use Rattle.std.proofs.Common.{◌≢◌, rules, subst}
 use Rattle.gf_ops.specs.Limits.{is_id}
-use Rattle.gf_ops.proofs.ListLemmas.{not_Contains-nil}
+use Rattle.gf_base.proofs.ListLemmas.{not_Contains-nil}
 use Rattle.gf_causal.specs.HeldOperations.{IsFree}
 use Rattle.gf_edit.proofs.making.refusal.Goals as goal
 

@@ -4,7 +4,7 @@ use Rattle.std.proofs.lemmas.Cmp.{nat_cmp_total}
 use Rattle.std.proofs.lemmas.List.{take_more}
 use Rattle.gf_groups.specs.Growing.{conflict_at, rivals}
 use Rattle.gf_maximal.specs.Growing.{next}
-use Rattle.gf_maximal.proofs.RisingLemmas.{rising_front}
+use Rattle.gf_base.proofs.RisingLemmas.{rising_front}
 use Rattle.gf_groups.proofs.TableLemmas.{groups_at-push}
 use Rattle.gf_groups.proofs.growth.groups_at.Goals as goal
 

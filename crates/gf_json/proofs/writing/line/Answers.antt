@@ -21,4 +21,4 @@ returns-clause-read_again c = λ within.
     let built = c.in_ok-value.ensures.value in
     let shallow : depth (view c.in_ok-value.value) ≤ max_depth = rw built (depth-data_of c.args.op.now) in
     let read = json-read (string_bytes c.in_ok-line.line) (data_of c.args.op.now) (IsUtf8-string_bytes c.in_ok-line.line) (c.in_ok-line.ensures.reads_back shallow ∙ ap Some built) in
-    rw read (op_of-data_of c.args.op.now c.in_ok-value.ensures.eight c.in_ok-value.ensures.bytes within)
+    rw read (op_of-data_of c.args.op.now c.in_ok-value.ensures.eight within)

@@ -2,7 +2,7 @@ use Rattle.std.proofs.Common.{◌≡◌, ◌∙◌, [], sym, subst}
 use Rattle.std.specs.Prelude.{Contains}
 use Rattle.gf_ops.specs.Attribute.{aim_of}
 use Rattle.gf_ops.proofs.AimLemmas.{aim_rises, empty_told}
-use Rattle.gf_ops.proofs.ListLemmas.{not_Contains-nil}
+use Rattle.gf_base.proofs.ListLemmas.{not_Contains-nil}
 use Rattle.gf_ops.proofs.aims.aims_within.Goals as goal
 
 pub is_within_aim-requires-clause-ids : goal.is_within_aim-requires-clause-ids

@@ -1,5 +1,5 @@
 use Rattle.std.proofs.Common.{[], sym, subst}
-use Rattle.gf_ops.proofs.ListLemmas.{not_Contains-nil}
+use Rattle.gf_base.proofs.ListLemmas.{not_Contains-nil}
 use Rattle.gf_table.specs.Standing.{StandsFor}
 use Rattle.gf_table.proofs.table.GroupTable.new.Goals as goal
 

@@ -1,0 +1,4 @@
+pub mod ListLemmas
+pub mod FilterLemmas
+pub mod PositionLemmas
+pub mod RisingLemmas
