@@ -1,4 +1,4 @@
--- The canonical drawing of a history is lawful, with lawful outlines, and its colours are bytes where those of the history are. So its text shows the history.
+-- The canonical drawing of a history is lawful, with lawful outlines and colours of bytes. So its text shows the history.
 use Rattle.std.proofs.Common.{◌≡◌, ◌≢◌, ℕ, ◌+◌, ◌<◌, ◌≤◌, true, List, [], ◌∷◌, map, length, get_or, refl, sym, subst, arith}
 use Rattle.std.specs.Prelude.{All, AllPairs, Contains, IsTrue, nat_le, not, filter}
 use Rattle.std.specs.List.{enumerate_from, list_all, list_any}
@@ -20,15 +20,18 @@ use Rattle.gf_shape.specs.ShapeMoves.{points_movable, points_moved, rect_moved}
 use Rattle.gf_shape.proofs.BoxLemmas.{IsRing-corners_again, is_area-moved}
 use Rattle.gf_shape.proofs.RingLemmas.{IsRing-ring_of}
 use Rattle.gf_shape.specs.ColourBytes.{HasBytes}
+use Rattle.gf_ops.proofs.ColourLemmas.{bytes_within}
 use Rattle.gf_ops.specs.ConflictTests.{colour_eq}
 use Rattle.gf_ops.specs.Limits.{is_form, is_near, is_size}
 use Rattle.gf_ops.specs.ValidHistory.{IsValid}
 use Rattle.gf_ops.specs.declared.op.Op.{Op}
+use Rattle.gf_ops.specs.declared.change.Attr.TheVariants.{Colour}
+use Rattle.gf_ops.specs.declared.change.Value.TheVariants as value
 use Rattle.gf_ops.specs.declared.change.Form.{Form}
 use Rattle.gf_ops.specs.declared.change.Form.TheVariants.{Rect, Circle, Ellipse, Polygon}
 use Rattle.gf_versions.specs.declared.placed.Placed.{Placed}
 use Rattle.gf_versions.specs.Ranking.{AreRanked, form_at, origin}
-use Rattle.gf_versions.proofs.LimitLemmas.{version_fits}
+use Rattle.gf_versions.proofs.LimitLemmas.{settled_fits, version_fits}
 use Rattle.gf_versions.proofs.ShapeLemmas.{is_area-sizes, is_polygon-lawful, shape_movable}
 use Rattle.gf_drawing.specs.CanonicalDrawing.{IsCanonical, canonical_drawing, canonical_figure, colours_of, first_seen, number_of}
 use Rattle.gf_drawing.specs.DrawingState.{DrawingState, IsLawfulDrawing, IsLawfulFigure, is_table_number}
@@ -40,7 +43,7 @@ use Rattle.gf_fig_read.specs.FigGrammar.{Reads}
 use Rattle.gf_fig_read.specs.Objects.{Drawn}
 use Rattle.gf_fig_read.proofs.GrammarLemmas.{one_drawing}
 use Rattle.gf_fig_write.specs.FigText.{fig_text}
-use Rattle.gf_fig_write.specs.ShownHistory.{GivesBytes, Shows}
+use Rattle.gf_fig_write.specs.ShownHistory.{Shows}
 use Rattle.gf_fig_write.proofs.ReadingBack.{DrawsLawfully, text_reads}
 
 -- ---- outlines
@@ -92,17 +95,17 @@ module _ (h : List Op) (valid : IsValid h) (items : List (Placed AnyShape)) (ran
       let fits = and_parts (is_form w.version.form) (is_near w.version.place) (version_fits h valid w.version w.visible.version) in
       subst IsOutlined (sym w.placed) (form_outlined w.version.form w.version.place fits.0 fits.1)
 
-  item_bytes : GivesBytes h → (i : Placed AnyShape) → Contains items i → IsOfBytes i
-  item_bytes bytes i c =
+  item_bytes : (i : Placed AnyShape) → Contains items i → IsOfBytes i
+  item_bytes i c =
       let w = (ranked.exactly i).1 c in
-      let s = w.visible.version.colour in
-      subst IsOfBytes (sym w.placed) (bytes s.setter w.version.colour s.member.contained s.gives)
+      let v = w.version in
+      subst IsOfBytes (sym w.placed) (bytes_within v.colour (settled_fits h valid v.key.ops Colour (value.Colour v.colour) w.visible.version.colour))
 
   items_outlined : All (λ (i : Placed AnyShape). IsLawful (any_outline i.shape)) items
   items_outlined = λ k d l. item_outlined (get_or items k d) (Contains-get_or items k d l)
 
-  items_bytes : GivesBytes h → All (λ (i : Placed AnyShape). HasBytes i.colour) items
-  items_bytes bytes = λ k d l. item_bytes bytes (get_or items k d) (Contains-get_or items k d l)
+  items_bytes : All (λ (i : Placed AnyShape). HasBytes i.colour) items
+  items_bytes = λ k d l. item_bytes (get_or items k d) (Contains-get_or items k d l)
 
 -- ---- the table
 
@@ -164,12 +167,12 @@ lawful_canonical items few colours = record {
 }
 
 -- the text of the drawing reads as the drawing of the outlines
-pub canonical_reads : (h : List Op) (d : DrawingState AnyShape) → IsValid h → GivesBytes h → IsCanonical h d → Reads (fig_text any_outline d) (outlined any_outline d)
-canonical_reads h d valid bytes c =
+pub canonical_reads : (h : List Op) (d : DrawingState AnyShape) → IsValid h → IsCanonical h d → Reads (fig_text any_outline d) (outlined any_outline d)
+canonical_reads h d valid c =
     let items = c.items in
     subst (λ (e : DrawingState AnyShape). Reads (fig_text any_outline e) (outlined any_outline e)) (sym c.drawing)
     (text_reads any_outline (canonical_drawing items) (lawful_canonical items c.fits.versions c.fits.colours)
-    (table_bytes 32 (colours_of items) (seen_bytes (map (λ (i : Placed AnyShape). i.colour) items) (All-map HasBytes (λ (i : Placed AnyShape). i.colour) items (items_bytes h valid items c.ranked bytes))))
+    (table_bytes 32 (colours_of items) (seen_bytes (map (λ (i : Placed AnyShape). i.colour) items) (All-map HasBytes (λ (i : Placed AnyShape). i.colour) items (items_bytes h valid items c.ranked))))
     (figures_outlined (colours_of items) 0 items (items_outlined h valid items c.ranked)))
 
 -- the FIG text of a drawing with the colours that h means shows h
@@ -181,5 +184,5 @@ shows h drawing figures reads = record {
 }
 
 -- the text of the canonical drawing shows the history
-pub canonical_shows : (h : List Op) (d : DrawingState AnyShape) → IsValid h → GivesBytes h → IsCanonical h d → Shows (fig_text any_outline d) h
-canonical_shows h d valid bytes c = shows h d (canonical_colour-outlined h d c) (canonical_reads h d valid bytes c)
+pub canonical_shows : (h : List Op) (d : DrawingState AnyShape) → IsValid h → IsCanonical h d → Shows (fig_text any_outline d) h
+canonical_shows h d valid c = shows h d (canonical_colour-outlined h d c) (canonical_reads h d valid c)

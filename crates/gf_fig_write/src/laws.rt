@@ -10,14 +10,14 @@ ghost use Rattle.gf_drawing.specs.DrawingState.{DrawingState};
 ghost use Rattle.gf_drawing.specs.Outlined.{outlined};
 ghost use Rattle.gf_fig_read.specs.FigGrammar.{Reads};
 ghost use Rattle.gf_fig_write.specs.FigText.{fig_text};
-ghost use Rattle.gf_fig_write.specs.ShownHistory.{GivesBytes, Shows};
+ghost use Rattle.gf_fig_write.specs.ShownHistory.{Shows};
 
 /// The FIG text of a valid history's canonical drawing reads as the drawing of its outlines. Each
 /// drawing that it reads as has at every grid point the colour that the history means there. The
 /// law speaks of no call and no memory.
 pub fn the_text_of_a_history_shows_it()
-    ensures reads { (h : List Op) (d : DrawingState AnyShape) → IsValid h → GivesBytes h →
-        IsCanonical h d → Reads (fig_text any_outline d) (outlined any_outline d) }
-    ensures shows { (h : List Op) (d : DrawingState AnyShape) → IsValid h → GivesBytes h →
-        IsCanonical h d → Shows (fig_text any_outline d) h }
+    ensures reads { (h : List Op) (d : DrawingState AnyShape) → IsValid h → IsCanonical h d →
+        Reads (fig_text any_outline d) (outlined any_outline d) }
+    ensures shows { (h : List Op) (d : DrawingState AnyShape) → IsValid h → IsCanonical h d →
+        Shows (fig_text any_outline d) h }
 {}
