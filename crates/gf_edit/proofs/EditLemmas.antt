@@ -66,7 +66,6 @@ module _ (s : ℕ) (bytes : List ℕ) (r : ReadLines) (read : HasReadEntries s b
   refused none (edit.Run (studio.Dropped id fault)) f = absurd f
   refused none (edit.Run (studio.Fig x)) f = absurd f
   refused none (edit.Run (studio.Compile x)) f = absurd f
-  refused none (edit.Run (studio.Session x)) f = absurd f
   refused none (edit.Run (studio.NoObject o)) f = absurd f
   refused none (edit.Run studio.ReadFailed) f = absurd f
   refused none (edit.Run studio.TooLong) f = absurd f
@@ -94,7 +93,6 @@ module _ (s : ℕ) (bytes : List ℕ) (r : ReadLines) (read : HasReadEntries s b
   refused_waiting (edit.Run (studio.Dropped id fault)) f = absurd f
   refused_waiting (edit.Run (studio.Fig x)) f = absurd f
   refused_waiting (edit.Run (studio.Compile x)) f = absurd f
-  refused_waiting (edit.Run (studio.Session x)) f = absurd f
   refused_waiting (edit.Run (studio.NoObject o)) f = absurd f
   refused_waiting (edit.Run studio.ReadFailed) f = absurd f
   refused_waiting (edit.Run studio.TooLong) f = absurd f

@@ -89,7 +89,6 @@ module _ (s : ℕ) (h : List Op) (done : List Numbered) (n : ℕ) (x : SiteState
   refused_there c rest commands whole (edit.Run (studio.Dropped id fault)) r = absurd r
   refused_there c rest commands whole (edit.Run (studio.Fig f)) r = absurd r
   refused_there c rest commands whole (edit.Run (studio.Compile f)) r = absurd r
-  refused_there c rest commands whole (edit.Run (studio.Session f)) r = absurd r
   refused_there c rest commands whole (edit.Run (studio.NoObject o)) r = absurd r
   refused_there c rest commands whole (edit.Run studio.ReadFailed) r = absurd r
   refused_there c rest commands whole (edit.Run studio.TooLong) r = absurd r

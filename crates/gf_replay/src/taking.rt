@@ -12,7 +12,8 @@ use gf_ops::Op;
 use gf_shape::OutOfMemory;
 use gf_site::{Site, Step};
 
-/// Receives the operation of the line of this number, and steps until nothing is ready.
+/// Receives the operation of the line of this number, and steps until nothing is ready. After an
+/// error nothing is promised of the site.
 pub fn take_op(site: &mut Site, number: u64, op: Op) -> Result<(), ReadingError>
     requires { IsInRange op }
     ensures ok { OnOk result (TakesOp op site.old site.new) }

@@ -1,9 +1,10 @@
 //! Sessions of two to eight sites.
 
-ghost use Rattle.std.specs.Prelude.{◌≡◌, ◌↔◌, ◌⊎◌, ◌<◌, ◌≤◌, Err, All, IfOk, map, vec_len};
+ghost use Rattle.std.specs.Prelude.{◌≡◌, ◌↔◌, ◌⊎◌, ◌<◌, ◌≤◌, Err, Some, All, IfOk, map, vec_len};
 ghost use Rattle.std.specs.List.{list_any};
 ghost use Rattle.gf_mesh.specs.Linked.{rows_of};
 ghost use Rattle.gf_session.specs.Session.{IsSession, done_of};
+ghost use Rattle.gf_session.specs.SessionErrors.{session_error_text};
 ghost use Rattle.gf_session.specs.Starting.{AreStarts};
 ghost use denote.Param.Send.{IsSync};
 
@@ -14,21 +15,32 @@ use gf_mesh::Mesh;
 use gf_site::Site;
 use gf_worker::{Peer, Report, Script, WorkerEnd};
 use std::alloc::Global;
+use std::fmt;
 use std::sync::Wait;
 use std::thread::Threads;
-use thiserror::Error;
 
 /// Why a session gave nothing, in the order of the checks.
-#[derive(Clone, Copy, Debug, PartialEq, Eq, Error)]
+#[derive(Clone, Copy, Debug, PartialEq, Eq)]
 pub enum SessionError {
     /// There are fewer than two scripts, or more than eight.
-    #[error("sites must be 2 to 8")]
     Sites,
     /// Memory was refused: for a link or a list of sites before any ran, or for a thread. Or it was
     /// refused to a site, or for the list of what the sites came to.
-    #[error("session: out of memory")]
     OutOfMemory,
 }
+
+impl fmt::Display for SessionError {
+    ghost output = { λ e. Some (session_error_text e) };
+
+    fn fmt<W: fmt::Write>(&self, f: &mut fmt::Formatter<W>) -> fmt::Result {
+        match self {
+            SessionError::Sites => f.write_str("sites must be 2 to 8"),
+            SessionError::OutOfMemory => f.write_str("session: out of memory"),
+        }
+    }
+}
+
+impl std::error::Error for SessionError {}
 
 /// What a site came to: its history, and what became of its commands.
 #[derive(Drop)]

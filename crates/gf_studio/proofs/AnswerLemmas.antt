@@ -2,7 +2,6 @@
 use Rattle.std.specs.Prelude.{IfErr, IfOk, IfSome, None, Option, Some}
 use Rattle.std.proofs.Common.{◌≡◌, ◌≢◌, List, ℕ, Result, Ok, Err, subst}
 use Rattle.gf_streams.specs.declared.source.Source.{Ghosts as Source}
-use Rattle.gf_session.specs.declared.session.SessionError.TheVariants as session
 use Rattle.gf_studio.specs.declared.studio_error.StudioError.{StudioError}
 use Rattle.gf_studio.specs.declared.studio_error.StudioError.TheVariants as studio
 use Rattle.gf_studio.specs.RefusedParts.{IsBetween}
@@ -27,7 +26,6 @@ unwritten_error (studio.Line n cause) r w = cc
 unwritten_error (studio.Dropped id fault) r w = cc
 unwritten_error (studio.Fig e) r w = cc
 unwritten_error (studio.Compile fault) r w = cc
-unwritten_error (studio.Session e) r w = cc
 unwritten_error (studio.NoObject o) r w = cc
 unwritten_error studio.OutOfMemory r w = cc
 
@@ -42,8 +40,6 @@ module _ {R : Type 0} (source : Source R) (old new : R) where
   reads_until all (studio.Dropped id fault) b = all
   reads_until all (studio.Fig e) b = all
   reads_until all (studio.Compile fault) b = all
-  reads_until all (studio.Session session.OutOfMemory) b = all
-  reads_until all (studio.Session session.Sites) b = absurd b
   reads_until all (studio.NoObject o) b = all
   reads_until all studio.OutOfMemory b = all.unfailed
   reads_until all studio.ReadFailed b = absurd b

@@ -9,7 +9,6 @@ use Rattle.gf_drawing.specs.Outlined.{outlined}
 use Rattle.gf_fig_read.specs.FigGrammar.{Reads}
 use Rattle.gf_fig_write.specs.FigText.{fig_text}
 use Rattle.gf_fig_write.proofs.CanonicalLemmas.{canonical_reads, shows}
-use Rattle.gf_replay.proofs.ByteLemmas.{history_bytes}
 use Rattle.gf_studio.specs.FigRun.{Draws, Exports, IsFigOf}
 
 pub exported : (bytes : List ℕ) (old new : Option (List ℕ)) (drawing : DrawingState AnyShape) → Draws bytes drawing → Appends old new (fig_text any_outline drawing) → Reads (fig_text any_outline drawing) (outlined any_outline drawing) → Exports bytes old new
@@ -24,5 +23,5 @@ fig_of bytes drawing drawn = record {
   drawing = drawing;
   drawn = drawn;
   is = refl;
-  reads = canonical_reads drawn.history drawing drawn.denoted.delivers.valid (history_bytes bytes drawn.history drawn.denoted) drawn.such.canonical;
+  reads = canonical_reads drawn.history drawing drawn.denoted.delivers.valid drawn.such.canonical;
 }

@@ -1,7 +1,6 @@
 -- What the errors of the parts of a run say. No public clause cites this module.
 use Rattle.std.specs.Prelude.{◌≡◌, List, ⊤}
 use Rattle.gf_ops.specs.declared.op.Op.{Op}
-use Rattle.gf_session.specs.declared.session.SessionError.TheVariants as session
 use Rattle.gf_studio.specs.declared.studio_error.StudioError.{StudioError}
 use Rattle.gf_studio.specs.declared.studio_error.StudioError.TheVariants as studio
 use Rattle.gf_studio.specs.declared.inspecting.Query.{Query}
@@ -18,6 +17,5 @@ RefusesQuery h query other = ⊥
 abbrev pub IsBetween : StudioError → Type 0
 IsBetween studio.ReadFailed = ⊥
 IsBetween studio.TooLong = ⊥
-IsBetween (studio.Session session.Sites) = ⊥
 IsBetween studio.WriteFailed = ⊥
 IsBetween other = ⊤

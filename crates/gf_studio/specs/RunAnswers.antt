@@ -7,7 +7,6 @@ use Rattle.gf_streams.specs.Reads.{CamePast, ConsumesAtMost, ConsumesExactly}
 use Rattle.gf_streams.specs.Taken.{AppendsPrefix}
 use Rattle.gf_streams.specs.declared.source.Source.{Ghosts as Source}
 use Rattle.gf_streams.specs.declared.sink.Sink.{Ghosts as Sink}
-use Rattle.gf_session.specs.declared.session.SessionError.TheVariants as session
 use Rattle.gf_studio.specs.declared.studio_error.StudioError.{StudioError}
 use Rattle.gf_studio.specs.declared.studio_error.StudioError.TheVariants as studio
 
@@ -40,7 +39,6 @@ module _ {R : Type 0} (source : Source R) (old new : R) where
   ReadsUntil studio.ReadFailed = FailsToRead
   ReadsUntil studio.TooLong = ReadsTooMuch
   ReadsUntil studio.OutOfMemory = source.failures new ≡ source.failures old
-  ReadsUntil (studio.Session session.Sites) = new ≡ old
   ReadsUntil other = ReadsAll
 
   -- how far a run with this answer read: at most one byte past an input, in no more reads than

@@ -17,7 +17,7 @@
 //!
 //! [`Source`], [`read_input`], [`MOST_INPUT_BYTES`], [`In`], [`Reel`], [`SourceFault`],
 //! [`InputError`] and [`TextLines`] come from `gf_streams`, [`Window`], [`Gate`] and [`OpenGate`]
-//! from `gf_raster`, [`LineCause`] from `gf_replay`, and [`SessionError`] from `gf_session`.
+//! from `gf_raster`, and [`LineCause`] from `gf_replay`.
 #![tactic(auto)]
 
 mod drawings;
@@ -29,7 +29,6 @@ mod studio_error;
 pub use drawings::{draw_site, drawing_of_fig, drawing_of_lines, input};
 pub use gf_raster::{Gate, OpenGate, Window};
 pub use gf_replay::LineCause;
-pub use gf_session::SessionError;
 pub use gf_streams::{
     In, InputError, MOST_INPUT_BYTES, Reel, Source, SourceFault, TextLines, read_input,
 };

@@ -1,14 +1,12 @@
 //! Why a run was refused.
 
 ghost use Rattle.std.specs.Prelude.{◌≡◌};
-ghost use Rattle.gf_studio.specs.declared.studio_error.StudioError.TheVariants as studio;
 ghost use Rattle.gf_studio.specs.Refusals.{of_input, of_reading, of_compile, of_fig, of_write};
 
 use gf_drawing::CompileFault;
 use gf_fig_read::{FigError, FigFault};
 use gf_ops::{ObjectId, OpFault, OpId};
 use gf_replay::{LineCause, ReadingError};
-use gf_session::SessionError;
 use gf_streams::{InputError, WriteError};
 use thiserror::Error;
 
@@ -34,9 +32,6 @@ pub enum StudioError {
     /// The history has no drawing.
     #[error("export refused: {0}")]
     Compile(CompileFault),
-    /// The session was refused.
-    #[error("{0}")]
-    Session(SessionError),
     /// The history has no such object.
     #[error("no object {}", .0.0)]
     NoObject(ObjectId),
@@ -104,13 +99,5 @@ impl From<WriteError> for StudioError {
             WriteError::OutOfMemory => StudioError::OutOfMemory,
             WriteError::WriteFailed => StudioError::WriteFailed,
         }
-    }
-}
-
-impl From<SessionError> for StudioError {
-    ghost from_gives = { λ fault e. e ≡ studio.Session fault };
-
-    fn from(fault: SessionError) -> StudioError {
-        StudioError::Session(fault)
     }
 }
