@@ -14,6 +14,7 @@ use Rattle.gf_ops.specs.declared.change.Change.TheVariants.{Create, Set}
 use Rattle.gf_ops.specs.declared.change.Value.TheVariants as value
 use Rattle.gf_ops.specs.Attribute.{change_value, object_of}
 use Rattle.gf_ops.specs.OperationOrder.{Precedes, id_cmp}
+use Rattle.gf_ops.specs.ValidHistory.{IsValid}
 use Rattle.gf_groups.specs.GroupedPositions.{is_on}
 use Rattle.gf_groups.specs.VersionList.{are_unordered, is_before}
 use Rattle.gf_groups.proofs.ConflictTestLemmas.{before_decided}
@@ -22,14 +23,11 @@ use Rattle.gf_base.proofs.FilterLemmas.{Contains-filter, list_any_from, list_any
 use Rattle.gf_visible.proofs.SetterLemmas.{one_op, shown_once}
 use Rattle.gf_status.specs.HiddenChanges.{AreUnknowing, ChangesUnknowing, Hides, HidesLast}
 use Rattle.gf_status.specs.Members.{IsIdAmong}
-use Rattle.gf_status.specs.SettersAt.{both_unordered, hides, hides_at, hidings, is_last, is_unknowing, last_hidings, op_hides, sets_at, setters, unknowing, unordered_at}
-use Rattle.gf_status.proofs.SetterLemmas.{gives_from, gives_told, last_from, none_after}
+use Rattle.gf_status.specs.SettersAt.{both_unordered, hides, hides_at, is_unknowing, last_hidings, lasts, op_hides, sets_at, setters, unknowing, unordered_at}
+use Rattle.gf_status.proofs.LastLemmas.{Contains-lasts, last_from, none_after, not_told}
+use Rattle.gf_status.proofs.SetterLemmas.{gives_from, gives_told}
 
 -- ---- one operation
-
-not_told : (b : Bool) → not b ≡ true → b ≡ false
-not_told false e = refl
-not_told true e = absurd cc
 
 hidden_told : (b : Bool) → not b ≡ true → value.Shown b ≡ value.Shown false
 hidden_told b e = ap value.Shown (not_told b e)
@@ -79,7 +77,7 @@ both_from r s a b e f t = subst (λ x. both_unordered x s ≡ true) (sym e) (sub
 
 -- ---- the operations on an object
 
-module _ (h : List Op) (o : ObjectId) (us : List ℕ) (on : (k : ℕ) → Contains us k ↔ (is_on o (slice_get h k) ≡ true)) where
+module _ (h : List Op) (valid : IsValid h) (o : ObjectId) (us : List ℕ) (on : (k : ℕ) → Contains us k ↔ (is_on o (slice_get h k) ≡ true)) where
   there : (a : Op) → Contains h a → object_of a ≡ o → (k : ℕ) × (slice_get h k ≡ Some a) × Contains us k
   there a i e =
       let w = position_of_op h a i in
@@ -89,35 +87,36 @@ module _ (h : List Op) (o : ObjectId) (us : List ℕ) (on : (k : ℕ) → Contai
   hiding_told : (k : ℕ) → Contains (last_hidings h us) k → (a : Op) × (slice_get h k ≡ Some a) × HidesLast h o a
   hiding_told k c =
       let set = setters h attr.Shown us in
-      let f = (Contains-filter (is_last h set) (hidings h us) k).0 c in
-      let g = (Contains-filter (hides_at h) us k).0 f.0 in
-      let w = on_op o (slice_get h k) ((on k).0 g.0) in (
+      let f = (Contains-filter (hides_at h) (lasts h set) k).0 c in
+      let g = (Contains-lasts h valid set k).0 f.0 in
+      let s = (Contains-filter (sets_at h attr.Shown) us k).0 g.0 in
+      let w = on_op o (slice_get h k) ((on k).0 s.0) in (
         w.0,
         w.1,
         record {
           contained = contained_at h k w.0 w.1;
           object = w.2;
-          hides = hides_told (slice_get h k) w.0 w.1 g.1;
+          hides = hides_told (slice_get h k) w.0 w.1 f.1;
           last = λ b i e s p.
               let j = there b i e in
               let in_set = (Contains-filter (sets_at h attr.Shown) us j.0).1 (j.2, gives_from (slice_get h j.0) b attr.Shown j.1 s) in
-              none_after h set k w.0 w.1 f.1 j.0 b in_set j.1 p;
+              none_after h set k w.0 w.1 g.1 j.0 b in_set j.1 p;
         },
       )
 
   hiding_from : (a : Op) → HidesLast h o a → (k : ℕ) → slice_get h k ≡ Some a → Contains us k → Contains (last_hidings h us) k
   hiding_from a l k at c =
       let set = setters h attr.Shown us in
-      let in_hidings = (Contains-filter (hides_at h) us k).1 (c, hides_from (slice_get h k) a at l.hides) in
+      let hides = hides_from (slice_get h k) a at l.hides in
+      let in_set = (Contains-filter (sets_at h attr.Shown) us k).1 (c, gives_from (slice_get h k) a attr.Shown at (rw l.hides refl)) in
       let last = last_from h set k a at
       (λ j b i at_j p.
       let s = (Contains-filter (sets_at h attr.Shown) us j).0 i in
       let w = on_op o (slice_get h j) ((on j).0 s.0) in
       let same : w.0 ≡ b = one_op (slice_get h j) w.0 b w.1 at_j in
       l.last b (contained_at h j b at_j) (subst (λ z. object_of z ≡ o) same w.2) (gives_told (slice_get h j) b attr.Shown at_j s.1) p)
-      (λ j i. let s = (Contains-filter (sets_at h attr.Shown) us j).0 i in let w = on_op o (slice_get h j) ((on j).0 s.0) in (w.0, w.1))
       in
-      (Contains-filter (is_last h set) (hidings h us) k).1 (in_hidings, last)
+      (Contains-filter (hides_at h) (lasts h set) k).1 ((Contains-lasts h valid set k).1 (in_set, last), hides)
 
   unknowing_told : (k : ℕ) → Contains (unknowing h (last_hidings h us) us) k → (a : Op) × (slice_get h k ≡ Some a) × ChangesUnknowing h o a
   unknowing_told k c =

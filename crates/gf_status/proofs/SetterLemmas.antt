@@ -9,6 +9,7 @@ use Rattle.gf_ops.specs.declared.op.OpId.{OpId}
 use Rattle.gf_ops.specs.declared.change.Attr.{Attr}
 use Rattle.gf_ops.specs.Attribute.{value_given}
 use Rattle.gf_ops.specs.OperationOrder.{Precedes}
+use Rattle.gf_ops.specs.ValidHistory.{IsValid}
 use Rattle.gf_ops.specs.Version.{IsMember}
 use Rattle.gf_base.proofs.ListLemmas.{not_Contains-nil}
 use Rattle.gf_groups.specs.declared.group.Group.{Group}
@@ -18,7 +19,8 @@ use Rattle.gf_base.proofs.FilterLemmas.{Contains-filter, list_any_false, list_an
 use Rattle.gf_visible.specs.ShownAt.{before_at, both_before}
 use Rattle.gf_visible.proofs.SetterLemmas.{one_op}
 use Rattle.gf_status.specs.Members.{IsLastAt, IsLastInOne, IsMemberAt}
-use Rattle.gf_status.specs.SettersAt.{gives, is_last, lasts, sets_at, setters}
+use Rattle.gf_status.specs.SettersAt.{gives, lasts, sets_at, setters}
+use Rattle.gf_status.proofs.LastLemmas.{Contains-lasts, last_from, none_after}
 
 -- ---- one operation
 
@@ -37,44 +39,15 @@ gives_told None a t e g = absurd cc
 pub gives_from : (r : Option Op) (a : Op) (t : Attr) → r ≡ Some a → IsSome (value_given a t) → gives r t ≡ true
 gives_from r a t e s = subst (λ z. gives z t ≡ true) (sym e) (is_some_from (value_given a t) s)
 
-pub before_told : (r s : Option Op) (a b : Op) → r ≡ Some a → s ≡ Some b → both_before r s ≡ true → Precedes a b
-before_told r s a b e f t =
-    let at : both_before (Some a) (Some b) ≡ true = subst (λ x. both_before x (Some b) ≡ true) e (subst (λ y. both_before r y ≡ true) f t) in
-    (before_decided a b).0 at
-
-pub before_from : (r s : Option Op) (a b : Op) → r ≡ Some a → s ≡ Some b → Precedes a b → both_before r s ≡ true
-before_from r s a b e f p = subst (λ x. both_before x s ≡ true) (sym e) (subst (λ y. both_before (Some a) y ≡ true) (sym f) ((before_decided a b).1 p))
-
-not_told : (b : Bool) → not b ≡ true → b ≡ false
-not_told false e = refl
-not_told true e = absurd cc
-
--- where an operation comes before none at the positions us, none there comes after it
-pub none_after : (h : List Op) (us : List ℕ) (k : ℕ) (a : Op) → slice_get h k ≡ Some a → is_last h us k ≡ true → (j : ℕ) (b : Op) → Contains us j → slice_get h j ≡ Some b → ¬ (Precedes a b)
-none_after h us k a at l j b c at_j p =
-    let f = list_any_false (before_at h k) us (not_told (list_any (before_at h k) us) l) j c in
-    let t : before_at h k j ≡ true = before_from (slice_get h k) (slice_get h j) a b at at_j p in
-    absurd cc
-
--- and back: where none at these positions comes after an operation, it is a last one
-pub last_from : (h : List Op) (us : List ℕ) (k : ℕ) (a : Op) → slice_get h k ≡ Some a → ((j : ℕ) (b : Op) → Contains us j → slice_get h j ≡ Some b → ¬ (Precedes a b)) → ((j : ℕ) → Contains us j → (b : Op) × (slice_get h j ≡ Some b)) → is_last h us k ≡ true
-last_from h us k a at none there = elim (cases_Bool (list_any (before_at h k) us)) [
-  | inl t ↦
-      let w = list_any_true (before_at h k) us t in
-      let b = there w.0 w.1 in
-      absurd (none w.0 b.0 w.1 b.1 (before_told (slice_get h k) (slice_get h w.0) a b.0 at b.1 w.2))
-  | inr f ↦ not_from_false (list_any (before_at h k) us) f
-]
-
 -- ---- a group
 
 module _ (h : List Op) (t : Attr) where
   -- the last setters of the operations under these ids
-  pub lasts_told : (ids : List OpId) (us found : List ℕ) → ((k : ℕ) → Contains us k ↔ IsMemberAt h ids k) → found ≡ lasts h (setters h t us) (setters h t us) → (k : ℕ) → Contains found k ↔ IsLastAt h t ids k
-  lasts_told ids us found at e k =
+  pub lasts_told : IsValid h → (ids : List OpId) (us found : List ℕ) → ((k : ℕ) → Contains us k ↔ IsMemberAt h ids k) → found ≡ lasts h (setters h t us) → (k : ℕ) → Contains found k ↔ IsLastAt h t ids k
+  lasts_told valid ids us found at e k =
       let set = setters h t us in (
         λ c.
-            let f = (Contains-filter (is_last h set) set k).0 (subst (λ z. Contains z k) e c) in
+            let f = (Contains-lasts h valid set k).0 (subst (λ z. Contains z k) e c) in
             let s = (Contains-filter (sets_at h t) us k).0 f.0 in
             let m = (at k).0 s.0 in
             record {
@@ -98,9 +71,8 @@ module _ (h : List Op) (t : Attr) where
             let same : m.op ≡ b = one_op (slice_get h j) m.op b m.at at_j in
             let member : IsMember h ids b = record { contained = contained_at h j b at_j; grouped = subst (λ (z : Op). Contains ids z.id) same m.among } in
             l.last b member (gives_told (slice_get h j) b t at_j s.1) p)
-            (λ j c. let m = (at j).0 ((Contains-filter (sets_at h t) us j).0 c).0 in (m.op, m.at))
             in
-            subst (λ z. Contains z k) (sym e) ((Contains-filter (is_last h set) set k).1 (in_set, last)),
+            subst (λ z. Contains z k) (sym e) ((Contains-lasts h valid set k).1 (in_set, last)),
       )
 
   -- ---- several groups

@@ -1,7 +1,7 @@
 -- What the operations at positions set, and in which order. No public clause cites this module.
-use Rattle.std.specs.Prelude.{ℕ, Bool, true, false, not, ◌&&◌, ◌++◌, List, [], ◌∷◌}
+use Rattle.std.specs.Prelude.{ℕ, Bool, true, false, not, cond, ◌&&◌, ◌++◌, List, [], ◌∷◌}
 use Rattle.std.specs.Prelude.{filter, Option, Some, None, is_some, slice_get}
-use Rattle.std.specs.List.{list_any, flat_map}
+use Rattle.std.specs.List.{list_any, flat_map, fold}
 use Rattle.gf_ops.specs.declared.op.Op.{Op}
 use Rattle.gf_ops.specs.declared.change.Attr.{Attr}
 use Rattle.gf_ops.specs.declared.change.Attr.TheVariants as attr
@@ -51,13 +51,17 @@ module _ (h : List Op) where
   abbrev pub sets_at : Attr → ℕ → Bool
   sets_at t i = gives (slice_get h i) t
 
-  -- the operation at the position i comes before no operation at the positions us
-  abbrev pub is_last : List ℕ → ℕ → Bool
-  is_last us i = not (list_any (before_at h i) us)
+  -- the positions of ls whose operations do not come before the one at j, and j
+  abbrev pub taken : List ℕ → ℕ → List ℕ
+  taken ls j = filter (λ i. not (before_at h i j)) ls ++ j ∷ []
 
-  -- the positions of us whose operations come before none of the others
-  abbrev pub lasts : List ℕ → List ℕ → List ℕ
-  lasts others us = filter (is_last others) us
+  -- the last positions so far, after j came too: without j where one of them comes after it
+  abbrev pub next_lasts : List ℕ → ℕ → List ℕ
+  next_lasts ls j = cond (list_any (before_at h j) ls) ls (taken ls j)
+
+  -- the positions of us whose operations come before no other one at us
+  abbrev pub lasts : List ℕ → List ℕ
+  lasts us = fold next_lasts [] us
 
   -- the positions of us at which the attribute t is set
   abbrev pub setters : Attr → List ℕ → List ℕ
@@ -77,7 +81,7 @@ module _ (h : List Op) where
 
   -- the positions of us that hide, and come before none of us that shows or hides
   abbrev pub last_hidings : List ℕ → List ℕ
-  last_hidings us = lasts (setters attr.Shown us) (hidings us)
+  last_hidings us = hidings (lasts (setters attr.Shown us))
 
   -- the operation at the position i does not hide, and is unordered with an operation at js
   abbrev pub is_unknowing : List ℕ → ℕ → Bool

@@ -218,8 +218,10 @@ fn last_setters(
     ensures { IfOk result (λ found. (k : _) → Contains found.items k
         ↔ IsLastAt history.now.ops attribute group.now.ops k) }
 {
+    // The clause of `ops` says that the history is valid.
+    let _ = history.ops();
     let members = positions_of(alloc, history, group.ops.as_slice())?;
     let found = setters(alloc, history, attribute, &members)?;
-    let last = lasts(alloc, history, &found, &found)?;
+    let last = lasts(alloc, history, &found)?;
     Ok(last)
 }

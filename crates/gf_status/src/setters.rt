@@ -6,7 +6,7 @@ ghost use Rattle.gf_groups.specs.VersionList.{are_unordered, is_before};
 ghost use Rattle.gf_visible.specs.ShownAt.{before_at};
 ghost use Rattle.std.specs.List.{list_any};
 ghost use Rattle.gf_status.specs.SettersAt.{hides, hides_at, hidings, last_hidings, lasts, sets_at};
-ghost use Rattle.gf_status.specs.SettersAt.{setters};
+ghost use Rattle.gf_status.specs.SettersAt.{setters, taken};
 ghost use Rattle.gf_status.specs.SettersAt.{unordered_at, is_unknowing, unknowing};
 
 use gf_base::OutOfMemory;
@@ -71,23 +71,41 @@ fn some_later(history: &History, position: usize, others: &[usize]) -> bool
         .any(|other| before_at(history, position, *other))
 }
 
-/// The positions whose operations come before none of the others, in their order.
+/// The last positions so far that the operation at this one does not come after, and this one.
+fn taken(
+    alloc: Global,
+    history: &History,
+    lasts: &[usize],
+    position: usize,
+) -> Result<Vec<usize>, OutOfMemory>
+    ensures { IfOk result (λ more. more.items ≡ taken history.now.ops lasts.now position) }
+{
+    let mut more = Vec::new(alloc);
+    for last in lasts {
+        if !before_at(history, *last, position) {
+            more.push(*last)?;
+        }
+    }
+    more.push(position)?;
+    Ok(more)
+}
+
+/// The positions whose operations come before none of the others. Of each site at most one is
+/// compared with a next one.
 pub(crate) fn lasts(
     alloc: Global,
     history: &History,
     positions: &[usize],
-    others: &[usize],
 ) -> Result<Vec<usize>, OutOfMemory>
-    ensures { IfOk result (λ found. found.items
-        ≡ lasts history.now.ops others.now positions.now) }
+    ensures { IfOk result (λ found. found.items ≡ lasts history.now.ops positions.now) }
 {
-    let mut found = Vec::new(alloc);
+    let mut lasts = Vec::new(alloc);
     for position in positions {
-        if !some_later(history, *position, others) {
-            found.push(*position)?;
+        if !some_later(history, *position, &lasts) {
+            lasts = taken(alloc, history, &lasts, *position)?;
         }
     }
-    Ok(found)
+    Ok(lasts)
 }
 
 /// The positions at which the attribute is set, in their order.
@@ -146,8 +164,7 @@ fn hidings(alloc: Global, history: &History, positions: &[usize]) -> Result<Vec<
     Ok(found)
 }
 
-/// The positions of operations that hide, and come before none that shows or hides, in their
-/// order.
+/// The positions of operations that hide, and come before none that shows or hides.
 pub(crate) fn last_hidings(
     alloc: Global,
     history: &History,
@@ -155,9 +172,9 @@ pub(crate) fn last_hidings(
 ) -> Result<Vec<usize>, OutOfMemory>
     ensures { IfOk result (λ found. found.items ≡ last_hidings history.now.ops positions.now) }
 {
-    let others = setters(alloc, history, Attr::Shown, positions)?;
-    let found = hidings(alloc, history, positions)?;
-    lasts(alloc, history, &found, &others)
+    let found = setters(alloc, history, Attr::Shown, positions)?;
+    let last = lasts(alloc, history, &found)?;
+    hidings(alloc, history, &last)
 }
 
 /// Whether the operation at this position and one of the others know nothing of each other.

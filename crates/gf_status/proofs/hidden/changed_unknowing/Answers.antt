@@ -12,7 +12,7 @@ rising-requires c =
     let all = c.deref.ensures.value ∙ c.in_ok-all.ensures in
     let last = c.in_ok-last.ensures ∙ ap (last_hidings h) all in
     let found : c.in_ok-found.found.items ≡ unknowing h (last_hidings h us) us = rw (c.deref-2.ensures.value, c.deref-3.ensures.value, last, c.in_ok-all.ensures) at c.in_ok-found.ensures in
-    rw c.deref-4.ensures.value (within h c.args.object us (numbers_on h c.args.object t c.requires) c.in_ok-found.found.items found)
+    rw c.deref-4.ensures.value (within h c.ops.ensures.valid c.args.object us (numbers_on h c.args.object t c.requires) c.in_ok-found.found.items found)
 
 pub returns : goal.returns
 returns c =
@@ -23,4 +23,4 @@ returns c =
     let last = c.in_ok-last.ensures ∙ ap (last_hidings h) all in
     let found : c.in_ok-found.found.items ≡ unknowing h (last_hidings h us) us = rw (c.deref-2.ensures.value, c.deref-3.ensures.value, last, c.in_ok-all.ensures) at c.in_ok-found.ensures in
     let told = rw c.deref-4.ensures.value at c.in_ok-ids.ensures.exactly in
-    changes_told h c.args.object us (numbers_on h c.args.object t c.requires) c.in_ok-found.found.items found c.in_ok-ids.ids told c.in_ok-ids.ensures.rising
+    changes_told h c.ops.ensures.valid c.args.object us (numbers_on h c.args.object t c.requires) c.in_ok-found.found.items found c.in_ok-ids.ids told c.in_ok-ids.ensures.rising

@@ -1,7 +1,7 @@
-use Rattle.std.proofs.Common.{◌≡◌, take}
-use Rattle.std.specs.Prelude.{filter}
-use Rattle.gf_status.specs.SettersAt.{is_last}
+use Rattle.std.proofs.Common.{◌≡◌, [], take}
+use Rattle.std.specs.List.{fold}
+use Rattle.gf_status.specs.SettersAt.{next_lasts}
 use Rattle.gf_status.proofs.setters.lasts.Given as goal
 
 abbrev pub invariant-loop-position : goal.invariant-loop-position
-invariant-loop-position l = l.found.items ≡ filter (is_last l.history.ops l.others) (take l.position-index l.positions)
+invariant-loop-position l = l.lasts.items ≡ fold (next_lasts l.history.ops) [] (take l.position-index l.positions)
