@@ -17,7 +17,7 @@ use gf_causal::OfferFault;
 use gf_json::{LineError, read_op};
 use gf_ops::{Op, OpFault, OpId};
 use gf_replay::{LineCause, ReadingError};
-use gf_site::{Site, Step};
+use gf_site::{NoTable, Replica, Step};
 use gf_streams::TextLines;
 use std::alloc::Global;
 
@@ -26,7 +26,7 @@ use std::alloc::Global;
 pub fn faults_of(alloc: Global, text: Vec<u8>) -> Result<Vec<u8>, OutOfMemory>
     ensures { IfOk result (λ told. AnswersText text.items told.items) }
 {
-    let mut site = Site::new(alloc, 1);
+    let mut site: Replica<NoTable> = Replica::new(alloc, 1);
     let mut seen = Seen::new(alloc);
     let mut told = Vec::new(alloc);
     let mut lines = TextLines::new(text);
@@ -40,7 +40,7 @@ pub fn faults_of(alloc: Global, text: Vec<u8>) -> Result<Vec<u8>, OutOfMemory>
 /// Takes the operation that a line denotes, or tells what is wrong with the line.
 fn take_line(
     alloc: Global,
-    site: &mut Site,
+    site: &mut Replica<NoTable>,
     seen: &mut Seen,
     told: &mut Vec<u8>,
     number: u64,
@@ -61,7 +61,7 @@ fn take_line(
 /// Receives an operation, and steps until nothing is ready.
 fn take_op(
     alloc: Global,
-    site: &mut Site,
+    site: &mut Replica<NoTable>,
     seen: &mut Seen,
     told: &mut Vec<u8>,
     number: u64,
@@ -86,7 +86,7 @@ fn take_op(
 /// Steps until nothing is ready, and tells each operation that is dropped.
 fn settle(
     alloc: Global,
-    site: &mut Site,
+    site: &mut Replica<NoTable>,
     seen: &Seen,
     told: &mut Vec<u8>,
 ) -> Result<(), OutOfMemory>
@@ -146,7 +146,7 @@ fn tell_clash(
 /// Tells that an operation was dropped.
 fn tell_drop(
     alloc: Global,
-    site: &Site,
+    site: &Replica<NoTable>,
     seen: &Seen,
     told: &mut Vec<u8>,
     dropped: (OpId, OpFault),

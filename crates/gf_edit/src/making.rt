@@ -17,7 +17,7 @@ use crate::{EditError, Numbered};
 use gf_json::{Command, op_line};
 use gf_ops::{Change, History, Op, OpId};
 use gf_shape::OutOfMemory;
-use gf_site::{AuthorFault, Site};
+use gf_site::{AuthorFault, NoTable, Replica};
 use gf_studio::StudioError;
 use gf_worker::Cause;
 use std::alloc::Global;
@@ -25,7 +25,7 @@ use std::alloc::Global;
 /// The lines of the operations that the site makes of these commands, in order.
 pub(crate) fn make_all(
     alloc: Global,
-    site: &mut Site,
+    site: &mut Replica<NoTable>,
     commands: Vec<Numbered>,
 ) -> Result<Edited, EditError>
     ensures ok { IfOk result (HasPassed site.old.number site.old.ops commands.items site.new) }
@@ -45,7 +45,7 @@ pub(crate) fn make_all(
 /// one.
 fn pass(
     alloc: Global,
-    site: &mut Site,
+    site: &mut Replica<NoTable>,
     edited: &mut Edited,
     number: u64,
     command: Command,
@@ -64,7 +64,7 @@ fn pass(
 
 fn author(
     alloc: Global,
-    site: &mut Site,
+    site: &mut Replica<NoTable>,
     edited: &mut Edited,
     number: u64,
     change: Change,
@@ -109,7 +109,7 @@ fn push_line(alloc: Global, text: &mut Vec<u8>, op: &Op) -> Result<(), OutOfMemo
 }
 
 /// Why an Await of this operation is refused, if it is.
-fn refusal(site: &Site, id: OpId) -> Option<Cause>
+fn refusal(site: &Replica<NoTable>, id: OpId) -> Option<Cause>
     ensures { AwaitAnswer site.now.number site.now.ops [] id result }
 {
     if !is_id(id) {

@@ -10,14 +10,14 @@ ghost use Rattle.gf_edit.specs.EntrySteps.{TakesEntry};
 use crate::entries::read_entry;
 use crate::{Entry, Numbered};
 use gf_replay::{ReadingError, line_refusal, take_op};
-use gf_site::Site;
+use gf_site::{NoTable, Replica};
 use gf_streams::TextLines;
 use std::alloc::Global;
 
 /// What was read: a site with the operations, and the commands in order.
 #[derive(Drop)]
 pub(crate) struct ReadLines {
-    pub(crate) site: Site,
+    pub(crate) site: Replica<NoTable>,
     pub(crate) commands: Vec<Numbered>,
 }
 
@@ -32,7 +32,7 @@ pub(crate) fn read_lines(
     ensures err { IfErr result (RefusesEntries editor text.items) }
 {
     let mut read = ReadLines {
-        site: Site::new(alloc, editor),
+        site: Replica::new(alloc, editor),
         commands: Vec::new(alloc),
     };
     let mut lines = TextLines::new(text);

@@ -10,11 +10,15 @@ use gf_causal::OfferFault;
 use gf_json::LineError;
 use gf_ops::Op;
 use gf_shape::OutOfMemory;
-use gf_site::{Site, Step};
+use gf_site::{Replica, Step, Table};
 
 /// Receives the operation of the line of this number, and steps until nothing is ready. After an
 /// error nothing is promised of the site.
-pub fn take_op(site: &mut Site, number: u64, op: Op) -> Result<(), ReadingError>
+pub fn take_op<T: Table>(
+    site: &mut Replica<T>,
+    number: u64,
+    op: Op,
+) -> Result<(), ReadingError>
     requires { IsInRange op }
     ensures ok { OnOk result (TakesOp op site.old site.new) }
     ensures err { IfErr result (RefusesOp number op site.old) }
@@ -40,7 +44,7 @@ pub fn line_refusal(number: u64, fault: LineError) -> ReadingError
 }
 
 /// Steps until nothing is ready.
-fn settle(site: &mut Site) -> Result<(), ReadingError>
+fn settle<T: Table>(site: &mut Replica<T>) -> Result<(), ReadingError>
     ensures ok { OnOk result (Settles site.old site.new) }
     ensures number { OnOk result (site.new.number ≡ site.old.number) }
     ensures err { IfErr result (RefusesSettling site.old) }

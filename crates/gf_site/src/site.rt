@@ -15,7 +15,7 @@ ghost use Rattle.gf_site.specs.SiteState.{new_site, clock_of, authored};
 ghost use Rattle.gf_site.specs.Events.{Refuses, Authors, Steps, HasNext};
 ghost use Rattle.gf_site.specs.Offers.{HasOtherThan, HasAlready, IsNewTo, ComesToHold};
 
-use crate::AuthorFault;
+use crate::{AuthorFault, Table};
 use gf_base::OutOfMemory;
 use gf_causal::{Buffer, OfferFault, Offered};
 use gf_ops::{Change, Clock, History, Op, OpFault, OpId};
@@ -34,22 +34,23 @@ pub enum Step {
     Idle,
 }
 
-/// A site of this number, with its history, its table of versions, and the operations held until
-/// they are ready.
+/// A site that keeps the table of its versions.
+pub type Site = Replica<GroupTable>;
+
+/// A site of this number, with its history, a table that stands for the history, and the operations
+/// held until they are ready.
 #[derive(Debug, Drop)]
-pub struct Site {
+pub struct Replica<T: Table> {
     number: u8,
     history: History,
-    // The table stands for the history.
-    table: GroupTable,
+    table: T,
     buffer: Buffer,
     alloc: Global,
 }
 
-impl Model for Site {
+impl<T: Table> Model for Replica<T> {
     ghost use Rattle.gf_ops.specs.OperationOrder.{IsSite};
     ghost use Rattle.gf_ops.specs.Accepted.{AreAccepted};
-    ghost use Rattle.gf_table.specs.Standing.{StandsFor};
     ghost use Rattle.gf_site.specs.SiteState.{SiteState};
 
     ghost Value = { SiteState };
@@ -57,29 +58,38 @@ impl Model for Site {
     ghost view = { λ s. record { number = s.number; ops = s.history.ops; held = s.buffer } };
 
     ghost invariant = { λ s.
-        IsSite s.number × AreAccepted s.history.ops × StandsFor s.history.ops s.table };
+        IsSite s.number × AreAccepted s.history.ops × T.stands s.table s.history.ops };
 }
 
-impl Site {
+impl Replica<GroupTable> {
+    /// The versions of all objects of the history.
+    pub fn table(&self) -> &GroupTable
+        ensures { StandsFor self.now.ops result.now }
+    {
+        &self.table
+    }
+}
+
+impl<T: Table> Replica<T> {
     /// A site that has and holds nothing.
-    pub fn new(alloc: Global, number: u8) -> Site
+    pub fn new(alloc: Global, number: u8) -> Replica<T>
         requires { IsSite number }
         ensures { result ≡ new_site number }
     {
-        Site {
+        Replica {
             number,
             history: History::new(alloc),
-            table: GroupTable::new(alloc),
+            table: T::new(alloc),
             buffer: Buffer::new(alloc),
             alloc,
         }
     }
 
     /// A copy of the site.
-    pub fn copy(&self, alloc: Global) -> Result<Site, OutOfMemory>
+    pub fn copy(&self, alloc: Global) -> Result<Replica<T>, OutOfMemory>
         ensures { IfOk result (λ copy. copy ≡ self.now) }
     {
-        Ok(Site {
+        Ok(Replica {
             number: self.number,
             history: self.history.copy(alloc)?,
             table: self.table.copy(alloc)?,
@@ -104,13 +114,6 @@ impl Site {
     {
         let _ = self.history.ops();
         &self.history
-    }
-
-    /// The versions of all objects of the history.
-    pub fn table(&self) -> &GroupTable
-        ensures { StandsFor self.now.ops result.now }
-    {
-        &self.table
     }
 
     /// How many operations the site holds.
@@ -235,13 +238,13 @@ impl Site {
 }
 
 /// Makes room in the history for an operation that it accepts, and notes it in the table.
-fn grow(history: &mut History, table: &mut GroupTable, op: &Op) -> Result<(), OutOfMemory>
+fn grow<T: Table>(history: &mut History, table: &mut T, op: &Op) -> Result<(), OutOfMemory>
     requires in_range { IsInRange op.now }
     requires accepted { IsAccepted history.old.ops op.now }
-    requires stands { StandsFor history.old.ops table.old }
+    requires stands { T.stands table.old history.old.ops }
     ensures history { history.new.ops ≡ history.old.ops }
     ensures room { OnOk result (0 < history.new.room) }
-    ensures table { OnOk result (StandsFor (history.old.ops ++ op.now ∷ []) table.new) }
+    ensures table { OnOk result (T.stands table.new (history.old.ops ++ op.now ∷ [])) }
     ensures err { OnErr result (table.new ≡ table.old) }
 {
     history.room()?;

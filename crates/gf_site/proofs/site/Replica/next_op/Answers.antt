@@ -2,13 +2,13 @@ use Rattle.std.proofs.Common.{◌<◌, refl, sym, subst}
 use Rattle.gf_ops.specs.OperationOrder.{count_of}
 use Rattle.gf_site.specs.SiteState.{SiteState}
 use Rattle.gf_site.proofs.AuthorLemmas.{authored_in_range, authored_next}
-use Rattle.gf_site.proofs.site.Site.next_op.Goals as goal
+use Rattle.gf_site.proofs.site.Replica.next_op.Goals as goal
 
 pub returns-clause-is : goal.returns-clause-is
-returns-clause-is c = rw (← c.self.view_is, c.count.ensures, c.clock.ensures, ← c.self.view_is) refl
+returns-clause-is g c = rw (← c.self.view_is, c.count.ensures, c.clock.ensures, ← c.self.view_is) refl
 
 pub returns-clause-in_range : goal.returns-clause-in_range
-returns-clause-in_range c =
+returns-clause-in_range g c =
     rw (c.count.ensures, c.clock.ensures, ← c.self.view_is) (
     let room = c.requires.room in
     let fits = c.requires.in_range in
@@ -16,5 +16,5 @@ returns-clause-in_range c =
     )
 
 pub returns-clause-next : goal.returns-clause-next
-returns-clause-next c =
+returns-clause-next g c =
     rw (c.count.ensures, c.clock.ensures, ← c.self.view_is) (authored_next c.self.inside.history.ops c.self.invariant.1 c.ops.ensures.valid c.self.inside.number c.args.change c.self.invariant.0)
