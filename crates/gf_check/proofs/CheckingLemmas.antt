@@ -1,12 +1,13 @@
 -- What is told of the lines so far, and of all lines.
-use Rattle.std.specs.Prelude.{ℕ, ◌⊎◌, Contains, Err, map}
+use Rattle.std.specs.Prelude.{ℕ, ◌⊎◌, Contains, Ok, Err, map}
 use Rattle.std.proofs.Common.{◌≡◌, List, [], ◌∷◌, ◌++◌, refl, sym, subst, ap, ◌∙◌, inl, inr, append_assoc}
 use Rattle.std.proofs.lemmas.Grind.{flat_map-append}
 use Rattle.std.proofs.lemmas.List.{append-nil, map-append}
 use Rattle.std.proofs.lemmas.List.Elements.{Contains-append_left, Contains-append_right, Contains-push_cases}
 use Rattle.gf_streams.specs.TextLines.{numbered_lines}
 use Rattle.gf_base.proofs.ListLemmas.{Contains-cons_head, not_Contains-nil}
-use Rattle.gf_site.specs.SiteState.{SiteState}
+use Rattle.gf_ops.specs.ValidHistory.{IsValid}
+use Rattle.gf_site.specs.SiteState.{SiteState, new_site}
 use Rattle.gf_json.specs.OperationLines.{denoted}
 use Rattle.gf_json.specs.declared.line_error.LineError.{LineError}
 use Rattle.gf_json.specs.declared.line_error.LineError.TheVariants as line
@@ -14,14 +15,12 @@ use Rattle.gf_replay.specs.declared.reading_error.LineCause.TheVariants as cause
 use Rattle.gf_replay.specs.declared.reading_error.ReadingError.{ReadingError}
 use Rattle.gf_replay.specs.declared.reading_error.ReadingError.TheVariants as reading
 use Rattle.gf_replay.specs.LineSteps.{HasRead, RefusesLine, TakesLine}
-use Rattle.gf_replay.specs.Taking.{of_line}
+use Rattle.gf_replay.specs.Taking.{HasOrHolds, of_line}
 use Rattle.gf_replay.proofs.ReadingLemmas.{Denotes-read, HasRead-line, RefusesText-line}
 use Rattle.gf_check.specs.FaultLines.{Told, told_line, told_text}
-use Rattle.gf_check.specs.AllFaults.{AnswersText, nothing, faults, IsInputFault, TellsEach}
-use Rattle.gf_check.specs.CheckSteps.{BeginsBefore, BeginsWith, HasChecked, TellsLine}
-
-abbrev errors : List Told → List ReadingError
-errors told = map (λ (t : Told). t.error) told
+use Rattle.gf_check.specs.AllFaults.{AnswersText, AreKept, nothing, faults, HasOneById, IsInputFault, KeepsOrTells, TellsEach, TellsOp, errors}
+use Rattle.gf_check.specs.CheckSteps.{BeginsBefore, BeginsWith, HasChecked, LeavesLine, TellsLine}
+use Rattle.gf_check.proofs.LeavingLemmas.{dropped_right, op_left, op_right}
 
 -- ---- one line more
 
@@ -52,6 +51,17 @@ each_more before n bytes told more each one m l f i d =
       | inr j ↦ Contains-append_right (errors told) (errors more) (of_line m f) j
     ])
 
+kept_more : (before : List (ℕ × List ℕ)) (n : ℕ) (bytes : List ℕ) (x y : SiteState) (told more : List Told) → KeepsOrTells before told x → LeavesLine n bytes x y more →
+    KeepsOrTells (before ++ (n, bytes) ∷ []) (told ++ more) y
+kept_more before n bytes x y told more all l m line a i d = elim (Contains-push_cases before (n, bytes) (m, line) i) [
+  | inl j ↦ elim (all m line a j d) [
+    | inl k ↦ elim (l.leaves.had a k) [ inl h ↦ inl h | inr t ↦ inr (inr (dropped_right told more a.id t)) ]
+    | inr t ↦ inr (op_left told more m a.id t)
+  ]
+  | inr e ↦ subst (λ (k : ℕ × List ℕ). denoted k.1 ≡ Ok a → HasOrHolds y a ⊎ TellsOp (told ++ more) k.0 a.id) e
+      (λ f. elim (l.own a f) [ inl h ↦ inl h | inr t ↦ inr (op_right told more n a.id t) ]) d
+]
+
 begins_line : (bytes : List ℕ) (n : ℕ) (line : List ℕ) (left : List (ℕ × List ℕ)) (x y : SiteState) (told more : List Told) → BeginsBefore bytes ((n, line) ∷ left) x told →
     BeginsWith (TakesLine line x y) (RefusesLine n line x) more → BeginsBefore bytes left y (told ++ more)
 begins_line bytes n line left x y [] [] read takes = HasRead-line bytes n line left x y read takes
@@ -67,23 +77,33 @@ checked_line bytes n line left x y text new h t = record {
   before = h.before ++ (n, line) ∷ [];
   whole = h.whole ∙ sym (append_assoc h.before ((n, line) ∷ []) left);
   each = each_more h.before n line h.told t.told h.each (line_told n line x y t.told t.first);
+  all = kept_more h.before n line x y h.told t.told h.all t.after;
+  none = t.after.none h.none;
+  one = t.after.leaves.one h.one;
 }
 
 -- ---- all lines
 
-pub checked_none : (bytes : List ℕ) (x : SiteState) → HasRead bytes (numbered_lines bytes) x → HasChecked bytes (numbered_lines bytes) x []
-checked_none bytes x read = record {
+pub checked_none : (bytes : List ℕ) (s : ℕ) → HasRead bytes (numbered_lines bytes) (new_site s) → HasChecked bytes (numbered_lines bytes) (new_site s) []
+checked_none bytes s read = record {
   told = [];
   is = refl;
   first = read;
   before = [];
   whole = refl;
   each = λ n line e i d. absurd (not_Contains-nil (n, line) i);
+  all = λ n line a i d. absurd (not_Contains-nil (n, line) i);
+  none = λ a i. absurd (not_Contains-nil a i);
+  one = λ a b i j e. absurd (elim i [ inl k ↦ not_Contains-nil a k | inr k ↦ not_Contains-nil a k ]);
 }
 
-told_all : (bytes : List ℕ) (x : SiteState) (text : List ℕ) (told : List Told) → text ≡ told_text told → BeginsBefore bytes [] x told → TellsEach (numbered_lines bytes) told → AnswersText bytes text
-told_all bytes x text [] is read each = nothing is (record { history = x.ops; denoted = Denotes-read bytes x read })
-told_all bytes x text (t ∷ ts) is fault each = faults (record { first = t; others = ts; is = is; refuses = fault; each = each })
+told_all : (bytes : List ℕ) (x : SiteState) (text : List ℕ) (told : List Told) → text ≡ told_text told → BeginsBefore bytes [] x told → TellsEach (numbered_lines bytes) told →
+    AreKept (numbered_lines bytes) told → AnswersText bytes text
+told_all bytes x text [] is read each kept = nothing is (record { history = x.ops; denoted = Denotes-read bytes x read })
+told_all bytes x text (t ∷ ts) is fault each kept = faults (record { first = t; others = ts; is = is; refuses = fault; each = each; kept = kept })
 
-pub checked_all : (bytes : List ℕ) (x : SiteState) (text : List ℕ) → HasChecked bytes [] x text → AnswersText bytes text
-checked_all bytes x text h = told_all bytes x text h.told h.is h.first (subst (λ lines. TellsEach lines h.told) (sym (h.whole ∙ append-nil h.before)) h.each)
+pub checked_all : (bytes : List ℕ) (x : SiteState) (text : List ℕ) → IsValid x.ops → HasChecked bytes [] x text → AnswersText bytes text
+checked_all bytes x text valid h =
+    let all = sym (h.whole ∙ append-nil h.before) in
+    told_all bytes x text h.told h.is h.first (subst (λ lines. TellsEach lines h.told) all h.each)
+    (subst (λ lines. AreKept lines h.told) all (record { site = x; valid = valid; none = h.none; one = h.one; all = h.all }))

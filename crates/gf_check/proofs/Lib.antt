@@ -1,2 +1,3 @@
+pub mod LeavingLemmas
 pub mod TellingLemmas
 pub mod CheckingLemmas

@@ -34,6 +34,8 @@ pub fn faults_of(alloc: Global, text: Vec<u8>) -> Result<Vec<u8>, OutOfMemory>
         take_line(alloc, &mut site, &mut seen, &mut told, number, line)?;
         lines.advance();
     }
+    // The clause of `history` says that it is valid.
+    let _ = site.history();
     Ok(told)
 }
 

@@ -40,13 +40,13 @@ use Rattle.gf_replay.specs.LineSteps.{TakesLine, RefusesLine, RefusesSettling}
 
 -- ---- one operation more
 
-more_there : (held more : List Op) (a : Op) → Adds held a more → (b : Op) → Contains more b → (b ≡ a) ⊎ Contains held b
+pub more_there : (held more : List Op) (a : Op) → Adds held a more → (b : Op) → Contains more b → (b ≡ a) ⊎ Contains held b
 more_there held more a adds b i = elim (Contains-between_cases adds.before a adds.after b (subst (λ l. Contains l b) adds.with_it i)) [
   | inl e ↦ inl e
   | inr j ↦ inr (subst (λ l. Contains l b) (sym adds.without) j)
 ]
 
-held_more : (held more : List Op) (a : Op) → Adds held a more → (b : Op) → Contains held b → Contains more b
+pub held_more : (held more : List Op) (a : Op) → Adds held a more → (b : Op) → Contains held b → Contains more b
 held_more held more a adds b i = subst (λ l. Contains l b) (sym adds.with_it) (Contains-between adds.before a adds.after b (subst (λ l. Contains l b) adds.without i))
 
 itself_more : (held more : List Op) (a : Op) → Adds held a more → Contains more a
@@ -55,18 +55,18 @@ itself_more held more a adds = subst (λ l. Contains l a) (sym adds.with_it) (Co
 -- ---- an offer
 
 -- what was offered is there
-offered_there : (x y : SiteState) (a : Op) → Offers x a y → HasOrHolds y a
+pub offered_there : (x y : SiteState) (a : Op) → Offers x a y → HasOrHolds y a
 offered_there x y a (again known same) = subst (λ s. HasOrHolds s a) (sym same) known.known
 offered_there x y a (new fresh adds ops) = inl (itself_more x.held y.held a adds)
 
 -- what was there stays
-offer_keeps : (x y : SiteState) (a : Op) → Offers x a y → (b : Op) → HasOrHolds x b → HasOrHolds y b
+pub offer_keeps : (x y : SiteState) (a : Op) → Offers x a y → (b : Op) → HasOrHolds x b → HasOrHolds y b
 offer_keeps x y a (again known same) b i = subst (λ s. HasOrHolds s b) (sym same) i
 offer_keeps x y a (new fresh adds ops) b (inl i) = inl (held_more x.held y.held a adds b i)
 offer_keeps x y a (new fresh adds ops) b (inr i) = inr (subst (λ l. Contains l b) (sym ops) i)
 
 -- and nothing else is there
-offer_from : (x y : SiteState) (a : Op) → Offers x a y → (b : Op) → HasOrHolds y b → (b ≡ a) ⊎ HasOrHolds x b
+pub offer_from : (x y : SiteState) (a : Op) → Offers x a y → (b : Op) → HasOrHolds y b → (b ≡ a) ⊎ HasOrHolds x b
 offer_from x y a (again known same) b i = inr (subst (λ s. HasOrHolds s b) same i)
 offer_from x y a (new fresh adds ops) b (inl i) = elim (more_there x.held y.held a adds b i) [ inl e ↦ inl e | inr j ↦ inr (inl j) ]
 offer_from x y a (new fresh adds ops) b (inr i) = inr (inr (subst (λ l. Contains l b) ops i))

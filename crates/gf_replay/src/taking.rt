@@ -14,11 +14,7 @@ use gf_site::{Replica, Step, Table};
 
 /// Receives the operation of the line of this number, and steps until nothing is ready. After an
 /// error nothing is promised of the site.
-pub fn take_op<T: Table>(
-    site: &mut Replica<T>,
-    number: u64,
-    op: Op,
-) -> Result<(), ReadingError>
+pub fn take_op<T: Table>(site: &mut Replica<T>, number: u64, op: Op) -> Result<(), ReadingError>
     requires { IsInRange op }
     ensures ok { OnOk result (TakesOp op site.old site.new) }
     ensures err { IfErr result (RefusesOp number op site.old) }

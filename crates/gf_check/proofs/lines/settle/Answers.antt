@@ -1,5 +1,8 @@
-use Rattle.gf_check.proofs.TellingLemmas.{step_applied, step_dropped, steps_end}
+use Rattle.gf_check.proofs.TellingLemmas.{step_applied, step_dropped, steps_begin, steps_end}
 use Rattle.gf_check.proofs.lines.settle.Goals as goal
+
+pub loop-id-init : goal.loop-id-init
+loop-id-init c = steps_begin c.args.site.now c.args.told.now.items
 
 pub loop-id-preserved-in-Ok-Applied : goal.loop-id-preserved-in-Ok-Applied
 loop-id-preserved-in-Ok-Applied c =

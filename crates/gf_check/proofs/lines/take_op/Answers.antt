@@ -1,4 +1,4 @@
-use Rattle.std.proofs.Common.{ap}
+use Rattle.std.proofs.Common.{ap, sym, ◌∙◌}
 use Rattle.gf_site.specs.SiteState.{SiteState}
 use Rattle.gf_replay.proofs.TakingLemmas.{offered}
 use Rattle.gf_check.proofs.TellingLemmas.{offer_clashes, offer_settles}
@@ -13,4 +13,5 @@ returns-in-Ok c =
 pub returns-in-Err-Clash : goal.returns-in-Err-Clash
 returns-in-Err-Clash c =
     offer_clashes c.args.number c.args.op c.args.site.now c.receive.new.self c.tell_clash.result c.args.told.now.items c.tell_clash.new.told.items
-    ((c.receive.ensures.clash.0 (rw c.in-Err-Clash.field-0-is at c.in-Err-Clash.is)).1) c.tell_clash.ensures
+    ((c.receive.ensures.clash.0 (rw c.in-Err-Clash.field-0-is at c.in-Err-Clash.is)).1)
+    (c.receive.ensures.same (λ f. let g = sym c.in-Err-Clash.is ∙ f in absurd cc)) c.tell_clash.ensures
