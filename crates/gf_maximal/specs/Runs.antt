@@ -1,12 +1,22 @@
 -- A set of numbers as runs of numbers that follow each other.
 use Rattle.std.specs.Prelude.{◌≡◌, ◌≤◌, max, true, length, slice_index_or, ℕ, ◌+◌}
 use Rattle.std.specs.Prelude.{◌-◌, ◌<◌}
-use Rattle.std.specs.Prelude.{Bool, cond, ◌==◌, ◌&&◌, ◌||◌, nat_le, nat_lt, List, []}
+use Rattle.std.specs.Prelude.{Bool, cond, ◌==◌, ◌&&◌, ◌||◌, nat_eq, nat_le, nat_lt, List, []}
 use Rattle.std.specs.Prelude.{◌∷◌}
 use Rattle.std.specs.Prelude.{◌++◌, Contains, ⊤, false}
 use Rattle.std.specs.List.{flat_map, range_with_len, fold}
 use Rattle.std.specs.List.Sorted.{IsPermutation, IsNonDecreasingBy}
+use Rattle.std.specs.Cmp.Lexicographic.{pointwise}
+use Rattle.std.specs.Ordering.{on, eq_of_both}
 use Rattle.gf_maximal.specs.declared.run.Run.{Run}
+
+-- r and q are one run
+abbrev pub is_same : Run → Run → Bool
+is_same = eq_of_both (on (λ r. r.start) nat_eq) (on (λ r. r.end) nat_eq)
+
+-- the runs are the others
+abbrev pub are_same : List Run → List Run → Bool
+are_same rs qs = pointwise is_same rs qs
 
 -- the numbers of a run
 abbrev pub numbers_of : Run → List ℕ

@@ -1,7 +1,7 @@
 //! Sets of numbers.
 
 ghost use Rattle.std.specs.Prelude.{◌≡◌, ◌+◌, ◌-◌, ◌^◌, ◌<◌, [], IfOk, OnOk, OnErr, IsTrue, ◌↔◌};
-ghost use Rattle.std.specs.Prelude.{All};
+ghost use Rattle.std.specs.Prelude.{All, bytes_eq};
 ghost use Rattle.std.specs.BTreeSet.{insert_key};
 ghost use Rattle.std.specs.List.{fold, list_any, list_all, range_with_len};
 ghost use Rattle.std.specs.Ordering.{nat_cmp};
@@ -11,7 +11,7 @@ ghost use Rattle.gf_maximal.specs.Growing.{united, common};
 ghost use Rattle.gf_maximal.specs.Runs.{is_inside, members, numbers_of};
 
 use crate::run::{
-    Run, all_cut, any_touches, covers, numbers_in, one_run, put, runs_of, touches, united,
+    Run, all_cut, any_touches, are_same, covers, numbers_in, one_run, put, runs_of, touches, united,
 };
 use gf_base::OutOfMemory;
 use std::alloc::Global;
@@ -117,6 +117,13 @@ impl Numbers {
             start: number,
             end: number + 1,
         })
+    }
+
+    /// Whether both sets have the same numbers.
+    pub fn equals(&self, others: &Numbers) -> bool
+        ensures { result ≡ bytes_eq self.now others.now }
+    {
+        are_same(&self.runs, &others.runs)
     }
 
     /// Whether a number of the set is one of the others.

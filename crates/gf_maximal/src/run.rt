@@ -7,16 +7,23 @@ ghost use Rattle.std.specs.List.Sorted.{IsPermutation, IsNonDecreasingBy};
 ghost use Rattle.gf_maximal.specs.Runs.{AreRuns, numbers_of, members, single, after};
 ghost use Rattle.gf_maximal.specs.Runs.{first_touches, first_covers, touches, covers};
 ghost use Rattle.gf_maximal.specs.Runs.{piece, cut, all_cut, absorb, settled, put, IsFirstFrom};
-ghost use Rattle.gf_maximal.specs.Runs.{pushed, IsGathered};
+ghost use Rattle.gf_maximal.specs.Runs.{pushed, are_same, IsGathered};
 
 use gf_base::OutOfMemory;
 use std::alloc::Global;
 
 /// The numbers from `start` on that are below `end`.
-#[derive(Clone, Copy, Debug)]
+#[derive(Clone, Copy, Debug, PartialEq, Eq)]
 pub struct Run {
     pub start: usize,
     pub end: usize,
+}
+
+/// Whether the runs are the others.
+pub(crate) fn are_same(runs: &[Run], others: &[Run]) -> bool
+    ensures { result ≡ are_same runs.now others.now }
+{
+    runs == others
 }
 
 /// The runs from the first one on that has this number or one above it, found by binary search.

@@ -4,3 +4,8 @@ pub mod ShownSets
 pub mod ShownVersions
 pub mod VisibleSoFar
 pub mod Choices
+pub mod Cuts
+pub mod OnePass
+pub mod TwoSides
+pub mod SettersAt
+pub mod Passing

@@ -31,7 +31,7 @@ fn taken(
 }
 
 /// The last positions that show or hide, in the order of the positions.
-fn last_setters(
+pub(crate) fn last_setters(
     alloc: Global,
     history: &History,
     positions: &[usize],

@@ -12,16 +12,21 @@
 #![tactic(auto)]
 
 mod deciding;
+mod gathering;
 mod laws;
 mod listing;
 mod objects;
+mod passing;
 mod ranking;
 mod saying;
 mod searching;
 mod setters;
+mod sides;
 mod step;
 
-pub use laws::the_choices_are_the_largest_sets_that_show;
+pub use laws::{
+    one_pass_finds_the_largest_sets_that_show, the_choices_are_the_largest_sets_that_show,
+};
 pub use objects::visible_groups;
 pub use ranking::{ranked_with, ranked_within};
 pub use setters::{Setters, showing_within};

@@ -1,18 +1,26 @@
 //! The largest compatible sets of an object's positions that show, listed unless they are too many.
 
 ghost use Rattle.std.specs.Prelude.{◌≡◌, ◌≤◌, ◌<◌, ◌-◌, ◌^◌, cond, not, length, IfOk};
-ghost use Rattle.std.specs.Prelude.{option_map};
+ghost use Rattle.std.specs.Prelude.{◌+◌, All, option_map, true};
+ghost use Rattle.std.specs.List.Sorted.{IsStrictlySortedBy};
+ghost use Rattle.std.specs.Ordering.{nat_cmp};
+ghost use Rattle.gf_ops.specs.declared.op.ObjectId.{ObjectId};
 ghost use Rattle.gf_components.specs.Components.{merged, most_sets, whole};
 ghost use Rattle.gf_groups.specs.GroupedPositions.{positions_below};
 ghost use Rattle.gf_groups.specs.Versions.{IsMade};
 ghost use Rattle.gf_table.specs.Standing.{StandsFor};
 ghost use Rattle.gf_visible.specs.Deciding.{at_most, decides, deciding, idle};
 ghost use Rattle.gf_visible.specs.Deciding.{with_deciding, with_idle};
-ghost use Rattle.gf_visible.specs.ShownSets.{IsSetListing};
+ghost use Rattle.gf_visible.specs.Cuts.{has_some};
+ghost use Rattle.gf_visible.specs.SettersAt.{are_setters};
+ghost use Rattle.gf_visible.specs.ShownSets.{AreOn, IsSetListing, IsShowingListing};
 
 use crate::deciding::{lasts, one_may_be_last};
+use crate::gathering::with_hidings;
+use crate::passing::found_within;
 use crate::saying::Timeline;
 use crate::showing_within;
+use crate::sides::{are_setters, has_some, hidings, showings};
 use gf_components::{Component, Components, alone, merged, products};
 use gf_maximal::Numbers;
 use gf_ops::{History, ObjectId};
@@ -151,8 +159,74 @@ fn with_idle(
     at_most(alloc, shown, &idle, most)
 }
 
+/// The sets that show of positions at which one object is shown or hidden without an aim, if they
+/// are at most `most`. One pass over the positions that hide finds them.
+fn shown_by_pass(
+    alloc: Global,
+    history: &History,
+    positions: &[usize],
+    most: usize,
+) -> Result<Option<Vec<Numbers>>, OutOfMemory>
+    requires rising { IsStrictlySortedBy nat_cmp positions.now }
+    requires bounded { All (λ n. n + 1 < 2 ^ 64) positions.now }
+    requires some { has_some positions.now ≡ true }
+    requires setters { are_setters history.now.ops positions.now ≡ true }
+    ensures { (o : ObjectId) → AreOn history.now.ops o positions.now → IfOk result (λ found.
+        IsShowingListing history.now.ops positions.now most (option_map (λ v. v.items) found)) }
+{
+    // The clause of `ops` says that the history is valid.
+    let _ = history.ops();
+    let showings = showings(alloc, history, positions)?;
+    let hidings = hidings(alloc, history, positions)?;
+    let Some(found) = found_within(alloc, history, &showings, &hidings, most)? else {
+        return Ok(None);
+    };
+    let sets = with_hidings(alloc, history, positions, &showings, found)?;
+    Ok(Some(sets))
+}
+
+/// The sets that show of any positions, if they are at most `most`, by a search.
+fn shown_by_search(
+    alloc: Global,
+    history: &History,
+    positions: &[usize],
+    most: usize,
+) -> Result<Option<Vec<Numbers>>, OutOfMemory>
+    requires rising { IsStrictlySortedBy nat_cmp positions.now }
+    requires bounded { All (λ n. n + 1 < 2 ^ 64) positions.now }
+    requires most { most < 2 ^ 64 - 1 }
+    ensures { IfOk result (λ found.
+        IsShowingListing history.now.ops positions.now most (option_map (λ v. v.items) found)) }
+{
+    let found = showing_within(alloc, &Timeline(history), positions, most + 1)?;
+    if found.len() > most {
+        return Ok(None);
+    }
+    Ok(Some(found))
+}
+
+/// The sets that show of positions on one object, if they are at most `most`.
+fn shown_of(
+    alloc: Global,
+    history: &History,
+    positions: &[usize],
+    most: usize,
+) -> Result<Option<Vec<Numbers>>, OutOfMemory>
+    requires rising { IsStrictlySortedBy nat_cmp positions.now }
+    requires bounded { All (λ n. n + 1 < 2 ^ 64) positions.now }
+    requires most { most < 2 ^ 64 - 1 }
+    ensures { (o : ObjectId) → AreOn history.now.ops o positions.now → IfOk result (λ found.
+        IsShowingListing history.now.ops positions.now most (option_map (λ v. v.items) found)) }
+{
+    if has_some(positions) && are_setters(history, positions) {
+        shown_by_pass(alloc, history, positions, most)
+    } else {
+        shown_by_search(alloc, history, positions, most)
+    }
+}
+
 /// The largest compatible sets of an object's positions that show, each once, if they are at most
-/// `most`. The sets of what decides are searched for. The rest is multiplied out only where some
+/// `most`. The sets of what decides are found first. The rest is multiplied out only where some
 /// set shows.
 pub(crate) fn shown_sets(
     alloc: Global,
@@ -173,6 +247,8 @@ pub(crate) fn shown_sets(
     let components = table.components(alloc, history, object)?;
     let lasts = lasts(alloc, history, components.free())?;
     let positions = deciding(alloc, history, &components, &lasts)?.to_vec(alloc)?;
-    let shown = showing_within(alloc, &Timeline(history), &positions, most + 1)?;
+    let Some(shown) = shown_of(alloc, history, &positions, most)? else {
+        return Ok(None);
+    };
     with_idle(alloc, history, &components, &lasts, &shown, most)
 }

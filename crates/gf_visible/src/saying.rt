@@ -5,6 +5,7 @@ ghost use Rattle.gf_ops.specs.Limits.{IsInRange};
 ghost use Rattle.gf_groups.specs.VersionList.{is_before};
 ghost use Rattle.gf_visible.specs.ShownAt.{shown_value, shown_by, before_at};
 ghost use Rattle.gf_visible.specs.ShownAt.{said_at, shows_or_hides_at, shows_at, later_at};
+ghost use Rattle.gf_visible.specs.ShownAt.{hides_at};
 
 use crate::Setters;
 use gf_groups::conflict_at;
@@ -25,7 +26,7 @@ fn shown_value(value: &Value) -> Option<bool>
 }
 
 /// Whether the change shows its object, if it says that.
-fn shown_by(change: &Change) -> Option<bool>
+pub(crate) fn shown_by(change: &Change) -> Option<bool>
     ensures { result ≡ shown_by change.now }
 {
     match change {
@@ -53,7 +54,7 @@ fn is_before(a: &Op, b: &Op) -> bool
 }
 
 /// Whether there are two operations at these positions, and the first comes before the second.
-fn before_at(history: &History, position: usize, other: usize) -> bool
+pub(crate) fn before_at(history: &History, position: usize, other: usize) -> bool
     ensures { result ≡ before_at history.now.ops position other }
 {
     let ops = history.ops();
@@ -85,6 +86,13 @@ pub(crate) fn later_at(history: &History, position: usize, other: usize) -> bool
     shows_or_hides_at(history, other) && before_at(history, position, other)
 }
 
+/// Whether the operation at this position hides.
+pub(crate) fn hides_at(history: &History, position: usize) -> bool
+    ensures { result ≡ hides_at history.now.ops position }
+{
+    shows_or_hides_at(history, position) && !shows_at(history, position)
+}
+
 /// A history, asked for what the operations at its positions say of `Shown`.
 #[derive(Drop)]
 pub(crate) struct Timeline<'a>(pub(crate) &'a History);
@@ -100,7 +108,7 @@ impl Setters for Timeline<'_> {
     ghost rivals = { λ s i j. conflict_at s.0.now.ops i j };
 
     fn hides(&self, position: usize) -> bool {
-        shows_or_hides_at(self.0, position) && !shows_at(self.0, position)
+        hides_at(self.0, position)
     }
 
     fn covers(&self, position: usize, other: usize) -> bool {

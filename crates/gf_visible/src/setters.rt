@@ -39,7 +39,7 @@ pub trait Setters {
 }
 
 /// Rising positions as a set.
-fn set_of(alloc: Global, positions: &[usize]) -> Result<Numbers, OutOfMemory>
+pub(crate) fn set_of(alloc: Global, positions: &[usize]) -> Result<Numbers, OutOfMemory>
     requires rising { IsStrictlySortedBy nat_cmp positions.now }
     requires bounded { All (λ n. n + 1 < 2 ^ 64) positions.now }
     ensures { IfOk result (λ set. set ≡ positions.now) }
