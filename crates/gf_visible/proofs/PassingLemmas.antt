@@ -75,7 +75,7 @@ drop_at [] i d l = absurd (omega arith)
 drop_at (x ∷ xs) zero d l = refl
 drop_at (x ∷ xs) (suc i) d l = drop_at xs i d (omega arith)
 
-drop_next : {X : Type 0} (xs : List X) (i : ℕ) (d : X) → i < length xs → drop i xs ≡ get_or xs i d ∷ drop (i + 1) xs
+pub drop_next : {X : Type 0} (xs : List X) (i : ℕ) (d : X) → i < length xs → drop i xs ≡ get_or xs i d ∷ drop (i + 1) xs
 drop_next xs i d l = let e : suc i ≡ i + 1 = omega arith in subst (λ n. drop i xs ≡ get_or xs i d ∷ drop n xs) e (drop_at xs i d l)
 
 get_map : {X Y : Type 0} (f : X → Y) (xs : List X) (i : ℕ) (d : X) (e : Y) → i < length xs → get_or (map f xs) i e ≡ f (get_or xs i d)
@@ -135,7 +135,7 @@ module _ (h : List Op) (T F : List ℕ) (ws : List (List ℕ)) (is : ws ≡ wall
 
 -- ---- what is gathered position by position
 
-fold_more : {A S : Type 0} (f : S → A → S) (s : S) (xs : List A) (x : A) → fold f s (xs ++ x ∷ []) ≡ f (fold f s xs) x
+pub fold_more : {A S : Type 0} (f : S → A → S) (s : S) (xs : List A) (x : A) → fold f s (xs ++ x ∷ []) ≡ f (fold f s xs) x
 fold_more f s [] x = refl
 fold_more f s (y ∷ ys) x = fold_more f (f s y) ys x
 

@@ -1,14 +1,17 @@
 -- A choice that can't hold any more is dropped, and the others are found in their order.
-use Rattle.std.proofs.Common.{◌≡◌, ℕ, zero, suc, ◌≤◌, ◌<◌, Bool, true, false, not, ◌&&◌, ◌||◌, List, [], ◌∷◌, ◌++◌, filter, take, length, inl, inr, refl, subst, sym, ap, ◌∙◌, arith}
+use Rattle.std.proofs.Common.{◌≡◌, ℕ, zero, suc, ◌≤◌, ◌<◌, Bool, true, false, not, ◌&&◌, ◌||◌, List, [], ◌∷◌, ◌++◌, ◌+◌, ◌-◌, ◌^◌, filter, drop, get_or, length, inl, inr, refl, subst, sym, ap, ◌∙◌, arith}
 use Rattle.std.specs.Prelude.{◌⊎◌, Contains}
 use Rattle.std.proofs.lemmas.Bool.{cases_Bool, cond-true, cond-false, and_parts, and_from, or_cases}
 use Rattle.std.proofs.lemmas.List.Elements.{filter-append, Contains-append_cases, Contains-append_left, Contains-append_right}
-use Rattle.std.proofs.lemmas.List.{append_assoc, append-nil, take_all, take-append-le, length-take}
+use Rattle.std.proofs.Math.Nat.{pow-suc}
+use Rattle.std.proofs.lemmas.List.{append_assoc}
 use Rattle.gf_base.proofs.ListLemmas.{Contains-cons_cases, Contains-cons_head, Contains-cons_tail, not_Contains-nil}
 use Rattle.gf_maximal.specs.Growing.{meets, without}
 use Rattle.gf_base.proofs.FilterLemmas.{list_all_true, list_all_from}
 use Rattle.gf_maximal.proofs.MaximalLemmas.{Within, meets_one, meets_from, Contains-without}
 use Rattle.gf_visible.specs.Choices.{StepState, holds, all_hold, choices, answers, first, second}
+use Rattle.gf_visible.specs.PendingChoices.{ChoiceState, all_answers, weight_of}
+use Rattle.gf_visible.proofs.PassingLemmas.{drop_next}
 
 -- ---- what is possible shrinks
 
@@ -105,11 +108,6 @@ filter_none : {X : Type 0} (t : X → Bool) (xs : List X) → ((x : X) → Conta
 filter_none t [] f = refl
 filter_none t (x ∷ xs) f = rw (cond-false (t x) (x ∷ filter t xs) (filter t xs) (f x (Contains-cons_head x xs))) (filter_none t xs (λ y i. f y (Contains-cons_tail x xs y i)))
 
-take_again : {X : Type 0} (k : ℕ) (xs ys : List X) → take k (take k xs ++ ys) ≡ take k (xs ++ ys)
-take_again zero xs ys = refl
-take_again (suc k) [] ys = refl
-take_again (suc k) (x ∷ xs) ys = ap (λ zs. x ∷ zs) (take_again k xs ys)
-
 module _ (all : List StepState) where
   all_more : (g p : List ℕ) → Within g p → all_hold all g ≡ true → all_hold all p ≡ true
   all_more g p w t = list_all_from (holds p) all (λ s i. holds_more g p s w (list_all_true (holds g) all t s i))
@@ -124,32 +122,59 @@ module _ (all : List StepState) where
   answers_in : (s : StepState) (steps : List StepState) (p : List ℕ) → meets s.own p ≡ true → answers all (s ∷ steps) p ≡ answers all steps (first s p) ++ answers all steps (second s p)
   answers_in s steps p y = ap (filter (all_hold all)) (choices_in s steps p y) ∙ filter-append (all_hold all) (choices steps (first s p)) (choices steps (second s p))
 
+  -- ---- what is left
+
+  -- a choice that can't hold is not put there
+  pub left_same : (left new : List ChoiceState) (o : ChoiceState) → new ≡ left → false ≡ all_hold all o.possible → all_answers all new ≡ answers all (drop o.at all) o.possible ++ all_answers all left
+  left_same left new o e n = ap (all_answers all) e ∙ rw (hopeless (drop o.at all) o.possible (sym n)) refl
+
   -- where nothing holds, nothing more is found
-  pub none_more : (k : ℕ) (f : List (List ℕ)) (steps : List StepState) (p : List ℕ) → length f < k → false ≡ all_hold all p → f ≡ take k (f ++ answers all steps p)
-  none_more k f steps p few n =
-      sym (ap (λ zs. take k (f ++ zs)) (hopeless steps p (sym n)) ∙ (ap (take k) (append-nil f) ∙ take_all k f (omega (arith, few))))
+  pub none_more : (f rest : List (List ℕ)) (steps : List StepState) (p : List ℕ) → false ≡ all_hold all p → f ++ rest ≡ f ++ (answers all steps p ++ rest)
+  none_more f rest steps p n = rw (hopeless steps p (sym n)) refl
 
-  -- ---- a turn of the search, which has found f, and is to come to goal within the bound k
+  -- ---- a turn of the choice, at the step s
 
-  module _ (k : ℕ) (goal f : List (List ℕ)) (s : StepState) (left rest : List StepState) (p a b : List ℕ) (is : left ≡ s ∷ rest) (is_a : a ≡ first s p) (is_b : b ≡ second s p)
-      (leads : take k (f ++ answers all left p) ≡ goal) (y : true ≡ meets s.own p) where
-    both : take k (f ++ (answers all rest a ++ answers all rest b)) ≡ goal
-    both = rw (is_a, is_b) (ap (λ zs. take k (f ++ zs)) (sym (ap (λ z. answers all z p) is ∙ answers_in s rest p (sym y))) ∙ leads)
+  module _ (i : ℕ) (s : StepState) (p : List ℕ) (less : i < length all) (is : s ≡ get_or all i s) where
+    abbrev rest : List StepState
+    rest = drop (i + 1) all
 
-    -- the second way can't hold
-    pub turn_first : false ≡ all_hold all b → take k (f ++ answers all rest a) ≡ goal
-    turn_first n = ap (λ zs. take k (f ++ zs)) (sym (ap (λ zs. answers all rest a ++ zs) (hopeless rest b (sym n)) ∙ append-nil (answers all rest a))) ∙ both
+    split : drop i all ≡ s ∷ rest
+    split = drop_next all i s less ∙ ap (λ (z : StepState). z ∷ rest) (sym is)
 
-    -- nor the first
-    pub turn_none : false ≡ all_hold all b → false ≡ all_hold all a → length f < k → f ≡ goal
-    turn_none n m few = none_more k f rest a few m ∙ turn_first n
+    both : meets s.own p ≡ true → answers all (drop i all) p ≡ answers all rest (first s p) ++ answers all rest (second s p)
+    both y = ap (λ zs. answers all zs p) split ∙ answers_in s rest p y
 
-    -- at least k are found the first way
-    pub turn_stopped : (more : List (List ℕ)) → more ≡ take k (f ++ answers all rest a) → k ≤ length more → more ≡ goal
-    turn_stopped more had full =
-        let count = ap length had ∙ length-take k (f ++ answers all rest a) in
-        let few : length more ≤ k = omega (arith, count) in
-        sym (take_all k more few)
-        ∙ (sym (take-append-le k more (answers all rest b) full)
-        ∙ (ap (λ zs. take k (zs ++ answers all rest b)) had
-        ∙ (take_again k (f ++ answers all rest a) (answers all rest b) ∙ (ap (take k) (append_assoc f (answers all rest a) (answers all rest b)) ∙ both))))
+    pub turn_out : (goal left : List (List ℕ)) → meets s.own p ≡ false → answers all (drop i all) p ++ left ≡ goal → answers all rest p ++ left ≡ goal
+    turn_out goal left n leads =
+        ap (λ zs. zs ++ left) (sym (ap (λ zs. answers all zs p) split ∙ ap (filter (all_hold all)) (choices_out s rest p n))) ∙ leads
+
+    module _ (a b : List ℕ) (is_a : a ≡ first s p) (is_b : b ≡ second s p) (y : true ≡ meets s.own p) where
+      ways_told : answers all (drop i all) p ≡ answers all rest a ++ answers all rest b
+      ways_told = both (sym y) ∙ (ap (λ z. answers all rest z ++ answers all rest (second s p)) (sym is_a) ∙ ap (λ z. answers all rest a ++ answers all rest z) (sym is_b))
+
+      -- the second way is left, and the first one goes on
+      pub turn_both : (goal left new : List (List ℕ)) → new ≡ answers all rest b ++ left → answers all (drop i all) p ++ left ≡ goal → answers all rest a ++ new ≡ goal
+      turn_both goal left new pushed leads =
+          ap (λ zs. answers all rest a ++ zs) pushed
+          ∙ (sym (append_assoc (answers all rest a) (answers all rest b) left)
+          ∙ (ap (λ zs. zs ++ left) (sym ways_told) ∙ leads))
+
+  -- where the first way can't hold, only what is left goes on
+  pub turn_none : (f goal left : List (List ℕ)) (steps : List StepState) (a : List ℕ) → false ≡ all_hold all a → answers all steps a ++ left ≡ goal → f ++ left ≡ f ++ goal
+  turn_none f goal left steps a n leads = ap (λ zs. f ++ zs) (ap (λ zs. zs ++ left) (sym (hopeless steps a (sym n))) ∙ leads)
+
+-- ---- the greatest number of choices
+
+pow_some : (k : ℕ) → 1 ≤ 2 ^ k
+pow_some zero = omega arith
+pow_some (suc k) = let e = pow-suc 2 k in let l = pow_some k in omega (arith, e, l)
+
+pub weight_some : (n i : ℕ) → 1 ≤ weight_of n i
+weight_some n i = pow_some (n - i)
+
+pub weight_halves : (n i : ℕ) → i < n → weight_of n i ≡ weight_of n (i + 1) + weight_of n (i + 1)
+weight_halves n i l =
+    let k : n - i ≡ suc (n - (i + 1)) = omega arith in
+    let e = pow-suc 2 (n - (i + 1)) in
+    let d = ap (λ z. 2 ^ z) k in
+    omega (arith, e, d)

@@ -9,3 +9,4 @@ pub mod OnePass
 pub mod TwoSides
 pub mod SettersAt
 pub mod Passing
+pub mod PendingChoices

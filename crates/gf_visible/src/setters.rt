@@ -175,14 +175,5 @@ pub fn showing_within<T: Setters>(
         positions.now)) }
 {
     let steps = steps_of(alloc, setters, positions)?;
-    let mut found = Vec::new(alloc);
-    search(
-        alloc,
-        &steps,
-        &steps,
-        set_of(alloc, positions)?,
-        limit,
-        &mut found,
-    )?;
-    Ok(found)
+    search(alloc, &steps, set_of(alloc, positions)?, limit)
 }
