@@ -15,9 +15,10 @@ use Rattle.gf_shape.specs.declared.point.Point.{Point}
 use Rattle.gf_shape.specs.Moving.{minus}
 use Rattle.gf_shape.specs.ShapeLaws.{IsLawful}
 use Rattle.gf_ops.specs.declared.change.Change.{Change}
-use Rattle.gf_ops.specs.Limits.{is_change, is_form, is_near, is_polygon, is_size}
+use Rattle.gf_ops.specs.Limits.{is_change, is_colour, is_form, is_near, is_polygon, is_size}
 use Rattle.gf_drawing.specs.declared.figure.Figure.{Figure}
 use Rattle.gf_drawing.specs.Colours.{Table}
+use Rattle.gf_drawing.specs.DrawingColour.{figure_colour}
 use Rattle.gf_drawing.specs.DrawingState.{DrawingState, IsLawfulDrawing}
 use Rattle.gf_import.specs.declared.faults.FigureFault.{FigureFault}
 use Rattle.gf_import.specs.declared.faults.FigureFault.TheVariants as fault
@@ -27,9 +28,10 @@ use Rattle.gf_import.specs.Boxes.{is_box, point_at}
 use Rattle.gf_import.specs.Importing.{creation_of, creations_of, form_of, place_of, seen_from}
 use Rattle.gf_import.specs.Imported.{IsImportable}
 
--- the figure f is a lawful outline, and what it becomes breaks no limit
+-- the figure f is a lawful outline of a colour of bytes, and what it becomes breaks no limit
 pub record IsSound (table : Table) (f : Figure Outline) : Type 0 where
   pub lawful : IsLawful f.shape
+  pub colour : IsTrue (is_colour (figure_colour table f))
   pub fits : figure_fault table f ≡ None
 
 -- the changes are the creations of the first i figures, which are sound
@@ -53,8 +55,9 @@ module _ (table : Table) (fs : List (Figure Outline)) where
 
   pub created_more : (old new : List Change) (c : Change) (i : ℕ) (d : Figure Outline)
       → i < length fs → AreCreated table fs i old → IsLawful (get_or fs i d).shape
+      → IsTrue (is_colour (figure_colour table (get_or fs i d)))
       → made table (get_or fs i d) ≡ Ok c → new ≡ old ++ c ∷ [] → AreCreated table fs (i + 1) new
-  created_more old new c i d l k lawful e pushed =
+  created_more old new c i d l k lawful colour e pushed =
       let f = get_or fs i d in
       let told = ok_told (figure_fault table f) (creation_of table f) c e in
       let more = take_more fs i d l in
@@ -63,7 +66,7 @@ module _ (table : Table) (fs : List (Figure Outline)) where
             (sym (ap (map (creation_of table)) more ∙ map-append (creation_of table) (take i fs)
             (f ∷ []))));
         sound = rw more (All-push (IsSound table) (take i fs) f k.sound
-            (record { lawful = lawful; fits = told.0 }));
+            (record { lawful = lawful; colour = colour; fits = told.0 }));
       }
 
   pub created_to : (changes : List Change) (i : ℕ) → AreCreated table fs i changes → i ≤ length fs
@@ -109,8 +112,8 @@ sound_fits : (table : Table) (f : Figure Outline) → IsSound table f
     → IsTrue (is_change (creation_of table f))
 sound_fits table f k =
     let told = near_told (is_near (place_of f.shape)) (form_fault (form_of f.shape)) k.fits in
-    and_from _ _ (and_from _ _ (form_fits f.shape k.lawful told.1) told.0)
-    (le-leb (999 - f.depth) 9999 (omega arith))
+    and_from _ _ (and_from _ _ (and_from _ _ (form_fits f.shape k.lawful told.1) told.0)
+    (le-leb (999 - f.depth) 9999 (omega arith))) k.colour
 
 all_fit : (table : Table) (fs : List (Figure Outline)) → All (IsSound table) fs
     → All (λ c. IsTrue (is_change c)) (map (creation_of table) fs)

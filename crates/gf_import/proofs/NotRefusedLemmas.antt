@@ -1,5 +1,5 @@
 -- What can be imported is refused for want of memory alone.
-use Rattle.std.proofs.Common.{◌≡◌, ℕ, ◌<◌, true, ◌&&◌, List, ◌∷◌, ◌++◌, length}
+use Rattle.std.proofs.Common.{◌≡◌, ℕ, ◌-◌, ◌<◌, true, ◌&&◌, List, ◌∷◌, ◌++◌, length}
 use Rattle.std.proofs.Common.{length-append, refl, subst, arith}
 use Rattle.std.specs.Prelude.{All, IsTrue, None, nat_le}
 use Rattle.std.specs.List.{list_all}
@@ -9,7 +9,7 @@ use Rattle.gf_shape.specs.declared.outline.Outline.{Outline}
 use Rattle.gf_shape.proofs.PolygonBounds.{All-from_map}
 use Rattle.gf_ops.specs.declared.change.Form.{Form}
 use Rattle.gf_ops.specs.declared.change.Form.TheVariants.{Rect, Circle, Ellipse, Polygon}
-use Rattle.gf_ops.specs.Limits.{is_change, is_form, is_near}
+use Rattle.gf_ops.specs.Limits.{is_change, is_form, is_layer, is_near}
 use Rattle.gf_drawing.specs.declared.figure.Figure.{Figure}
 use Rattle.gf_drawing.specs.Colours.{Table}
 use Rattle.gf_drawing.specs.DrawingState.{DrawingState}
@@ -37,7 +37,9 @@ form_unbroken (Polygon ps) t =
 figure_unbroken : (table : Table) (f : Figure Outline) → IsTrue (is_change (creation_of table f))
     → figure_fault table f ≡ None
 figure_unbroken table f t =
-    let parts = and_parts (is_form (form_of f.shape) && is_near (place_of f.shape)) _ t in
+    let whole = and_parts (is_form (form_of f.shape) && is_near (place_of f.shape)
+    && is_layer (999 - f.depth)) _ t in
+    let parts = and_parts (is_form (form_of f.shape) && is_near (place_of f.shape)) _ whole.0 in
     let two = and_parts (is_form (form_of f.shape)) (is_near (place_of f.shape)) parts.0 in
     rw two.1 (form_unbroken (form_of f.shape) two.0)
 
@@ -74,7 +76,6 @@ only_memory fig d (import_error.Run (studio.Fig x)) reads imports f = absurd f
 only_memory fig d (import_error.Run (studio.Line m why)) reads imports f = absurd f
 only_memory fig d (import_error.Run (studio.Dropped id fault)) reads imports f = absurd f
 only_memory fig d (import_error.Run (studio.Compile x)) reads imports f = absurd f
-only_memory fig d (import_error.Run (studio.Session x)) reads imports f = absurd f
 only_memory fig d (import_error.Run (studio.NoObject o)) reads imports f = absurd f
 only_memory fig d (import_error.Run studio.ReadFailed) reads imports f = absurd f
 only_memory fig d (import_error.Run studio.TooLong) reads imports f = absurd f

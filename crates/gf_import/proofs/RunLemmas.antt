@@ -15,7 +15,6 @@ run_refused fig (import_error.Run (studio.Fig x)) f = absurd f
 run_refused fig (import_error.Run (studio.Line m why)) f = absurd f
 run_refused fig (import_error.Run (studio.Dropped id fault)) f = absurd f
 run_refused fig (import_error.Run (studio.Compile x)) f = absurd f
-run_refused fig (import_error.Run (studio.Session x)) f = absurd f
 run_refused fig (import_error.Run (studio.NoObject o)) f = absurd f
 run_refused fig (import_error.Run studio.ReadFailed) f = tt
 run_refused fig (import_error.Run studio.TooLong) f = tt

@@ -1,10 +1,12 @@
 //! The creations of the figures of a drawing.
 
-ghost use Rattle.std.specs.Prelude.{◌≡◌, ◌≤◌, ℕ, ◌+◌, IfOk, IfErr, OnOk, length, [], ◌∷◌, ◌++◌};
+ghost use Rattle.std.specs.Prelude.{◌≡◌, ◌≤◌, ℕ, ◌+◌, IfOk, IfErr, IsTrue, OnOk, length};
+ghost use Rattle.std.specs.Prelude.{[], ◌∷◌, ◌++◌};
 ghost use Rattle.std.specs.List.{list_all};
 ghost use Rattle.gf_shape.specs.ShapeLaws.{IsLawful};
-ghost use Rattle.gf_ops.specs.Limits.{is_near, is_size};
+ghost use Rattle.gf_ops.specs.Limits.{is_colour, is_near, is_size};
 ghost use Rattle.gf_ops.specs.OperationOrder.{IsSite};
+ghost use Rattle.gf_drawing.specs.DrawingColour.{figure_colour};
 ghost use Rattle.gf_drawing.specs.Outlined.{PaintsAsFig};
 ghost use Rattle.gf_import.specs.CreationFaults.{RefusesCreations, form_fault, start_fault};
 ghost use Rattle.gf_import.specs.CreationFaults.{made, points_fault, unless};
@@ -79,6 +81,8 @@ fn creation(
 ) -> Result<Result<Change, FigureFault>, OutOfMemory>
     ensures made { IfOk result (λ creation. creation ≡ made drawing.now.table figure.now) }
     ensures lawful { OnOk result (IsLawful figure.now.shape) }
+    ensures colour { OnOk result (IsTrue (is_colour
+        (figure_colour drawing.now.table figure.now))) }
 {
     let start = start_of(alloc, drawing, figure)?;
     Ok(match fault(&start) {

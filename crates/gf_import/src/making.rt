@@ -5,6 +5,7 @@ ghost use Rattle.gf_shape.specs.declared.outline.Outline.TheVariants as outline;
 ghost use Rattle.gf_shape.specs.Moving.{minus};
 ghost use Rattle.gf_shape.specs.Reach.{is_reached, is_within_reach};
 ghost use Rattle.gf_shape.specs.ShapeLaws.{IsLawful};
+ghost use Rattle.gf_ops.specs.Limits.{is_colour};
 ghost use Rattle.gf_drawing.specs.DrawingColour.{figure_colour};
 ghost use Rattle.gf_import.specs.Importing.{form_of, place_of, seen_from, start_of};
 
@@ -32,6 +33,8 @@ pub(crate) fn start_of(
 ) -> Result<Start, OutOfMemory>
     ensures start { IfOk result (λ start. start ≡ start_of drawing.now.table figure.now) }
     ensures lawful { OnOk result (IsLawful figure.now.shape) }
+    ensures colour { OnOk result (IsTrue (is_colour
+        (figure_colour drawing.now.table figure.now))) }
 {
     Ok(Start {
         form: form_of(alloc, &figure.shape)?,
@@ -44,7 +47,8 @@ pub(crate) fn start_of(
 
 /// The colour of a figure by its number.
 fn colour_of(drawing: &Drawing<Outline>, figure: &Figure<Outline>) -> Rgb
-    ensures { result ≡ figure_colour drawing.now.table figure.now }
+    ensures colour { result ≡ figure_colour drawing.now.table figure.now }
+    ensures in_range { IsTrue (is_colour result) }
 {
     drawing.rgb(figure.colour).unwrap_or(WHITE)
 }

@@ -1,9 +1,11 @@
 use Rattle.std.proofs.Common.{rules, ◌≡◌, ◌+◌, ◌≤◌, ◌<◌, ◌∙◌, List, length, sym, ap, subst, arith}
 use Rattle.std.proofs.Common.{get_or}
-use Rattle.std.specs.Prelude.{Ok, Err}
+use Rattle.std.specs.Prelude.{IsTrue, Ok, Err}
 use Rattle.gf_shape.specs.declared.outline.Outline.{Outline}
 use Rattle.gf_shape.specs.ShapeLaws.{IsLawful}
 use Rattle.gf_drawing.specs.declared.figure.Figure.{Figure}
+use Rattle.gf_ops.specs.Limits.{is_colour}
+use Rattle.gf_drawing.specs.DrawingColour.{figure_colour}
 use Rattle.gf_drawing.specs.Outlined.{PaintsAsFig}
 use Rattle.gf_import.specs.Imported.{history_of}
 use Rattle.gf_import.proofs.PictureLemmas.{creations_paint}
@@ -46,6 +48,7 @@ loop-figure-preserved c =
     created_more table fs c.loop-figure.changes.items c.push_change.new.changes.items c.in-Ok.change
     i f c.loop-figure-test.true c.loop-figure.invariant
     (subst (λ (g : Figure Outline). IsLawful g.shape) item c.in_ok-change.ensures.lawful)
+    (subst (λ g. IsTrue (is_colour (figure_colour table g))) item c.in_ok-change.ensures.colour)
     (subst (λ g. made table g ≡ Ok c.in-Ok.change) item told) c.in_ok-push_change-in-Ok.ensures
 
 pub returns-clause-importable : goal.returns-clause-importable
