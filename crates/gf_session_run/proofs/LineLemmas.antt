@@ -63,7 +63,6 @@ module _ (n : ℕ) (bytes : List ℕ) (m : ℕ) (line : List ℕ) (left : List (
   RefusesScripts-line (studio.Dropped id fault) r = absurd r
   RefusesScripts-line (studio.Fig e) r = absurd r
   RefusesScripts-line (studio.Compile fault) r = absurd r
-  RefusesScripts-line (studio.Session e) r = absurd r
   RefusesScripts-line (studio.NoObject o) r = absurd r
   RefusesScripts-line studio.ReadFailed r = absurd r
   RefusesScripts-line studio.TooLong r = absurd r

@@ -1,8 +1,9 @@
 -- All sites of a session have the operations of each.
-use Rattle.std.specs.Prelude.{Contains, IfErr, IfOk, Result, Ok, Err}
+use Rattle.std.specs.Prelude.{Contains}
 use Rattle.std.proofs.Common.{◌≡◌, ◌∙◌, ℕ, ◌++◌, List, [], ◌∷◌, length, get_or, ap, arith, subst, sym, inl, inr}
 use Rattle.std.proofs.lemmas.List.Elements.{Contains-get_or}
 use Rattle.gf_ops.specs.declared.op.Op.{Op}
+use Rattle.gf_ops.specs.ValidHistory.{IsValid}
 use Rattle.gf_base.proofs.ListLemmas.{Contains-cons_cases, Contains-cons_head, Contains-cons_tail, not_Contains-nil}
 use Rattle.gf_causal.specs.DeliveredPart.{HaveSame}
 use Rattle.gf_shape.specs.declared.any_shape.AnyShape.{AnyShape}
@@ -13,18 +14,22 @@ use Rattle.gf_drawing.specs.Outlined.{outlined}
 use Rattle.gf_fig_read.specs.FigGrammar.{Reads}
 use Rattle.gf_fig_write.specs.FigText.{fig_text}
 use Rattle.gf_fig_write.specs.ShownHistory.{Shows}
-use Rattle.gf_fig_write.proofs.CanonicalLemmas.{shows}
+use Rattle.gf_fig_write.proofs.CanonicalLemmas.{canonical_shows, shows}
 use Rattle.gf_studio.specs.declared.studio_error.StudioError.{StudioError}
 use Rattle.gf_studio.specs.declared.studio_error.StudioError.TheVariants as studio
 use Rattle.gf_studio.specs.FigRun.{IsDrawn}
 use Rattle.gf_studio.proofs.DrawnLemmas.{both_drawn, one_drawing}
 use Rattle.gf_worker.specs.declared.script.Script.{Script}
 use Rattle.gf_session.specs.declared.session.Done.{Done}
+use Rattle.gf_site.specs.Course.{IsCourse}
+use Rattle.gf_site.specs.Course.{none as course_none, next as course_next}
+use Rattle.gf_replicas.proofs.GrowingLemmas.{valid_nil}
 use Rattle.gf_session.specs.Session.{IsSession, place_of, places}
 use Rattle.gf_session_run.specs.DenotedScripts.{DenotesScripts}
 use Rattle.gf_session_run.specs.Reports.{report_text}
-use Rattle.gf_session_run.specs.SessionRun.{IsSiteCount, PlaysScripts, RefusesSession, TellsSession}
-use Rattle.gf_session_run.specs.SessionSteps.{RefusesTelling, TellsHistory}
+use Rattle.gf_session_run.specs.SessionRun.{IsSiteCount, PlaysScripts, TellsSession}
+use Rattle.gf_session_run.specs.SessionSteps.{RefusesPlaying, RefusesTelling, TellsHistory}
+use Rattle.gf_session_run.specs.declared.session_run_error.SessionRunError.TheVariants as run
 
 -- the place that a site has in the outcome
 record IsPlace (scripts : List Script) (dones : List Done) (d : Done) : Type 0 where
@@ -45,13 +50,22 @@ common_history scripts dones session d e i j =
     let q = has_place scripts dones session.long e j in
     session.outcome.same (place_of p.script d) (place_of q.script e) p.there q.there
 
+course_valid : {s : ℕ} {h : List Op} → IsCourse s h → IsValid h
+course_valid course_none = valid_nil
+course_valid (course_next a c valid own) = valid
+
+pub site_valid : (scripts : List Script) (dones : List Done) → IsSession scripts dones → (d : Done) → Contains dones d → IsValid d.site.ops
+site_valid scripts dones session d i =
+    let p = has_place scripts dones session.long d i in
+    course_valid (session.outcome.each (place_of p.script d) p.there).course
+
 -- histories of the same operations have one FIG text, which shows both
 module _ (h k : List Op) (same : HaveSame h k) where
   pub one_text : (drawing other : DrawingState AnyShape) → IsDrawn h drawing → IsDrawn k other → fig_text any_outline drawing ≡ fig_text any_outline other
   one_text drawing other x y = ap (fig_text any_outline) (one_drawing h k same drawing other x.canonical y.canonical)
 
-  pub text_shows : (drawing : DrawingState AnyShape) → IsDrawn h drawing → Reads (fig_text any_outline drawing) (outlined any_outline drawing) → Shows (fig_text any_outline drawing) k
-  text_shows drawing x reads = shows k drawing (both_drawn h k same drawing x).figures reads
+  pub text_shows : IsValid k → (drawing : DrawingState AnyShape) → IsDrawn h drawing → Shows (fig_text any_outline drawing) k
+  text_shows valid drawing x = canonical_shows k drawing valid (both_drawn h k same drawing x).canonical
 
 -- each site has the common history, whose text is told
 module _ (n : ℕ) (bytes text : List ℕ) (t : TellsSession n bytes text) (d : Done) (i : Contains t.dones d) where
@@ -82,21 +96,18 @@ module _ (n : ℕ) (bytes : List ℕ) (scripts : List Script) (dones : List Done
   plays : PlaysScripts n bytes dones first.site.ops
   plays = record { scripts = scripts; denoted = denoted; session = session; common = λ d i. common_history scripts dones session d first i there }
 
-  pub told_session : {T : Type 0} (items : T → List ℕ) (r : Result T StudioError) → IfOk r (λ t. TellsHistory first.site.ops dones (items t)) → IfOk r (λ t. TellsSession n bytes (items t))
-  told_session items (Ok t) tells = record { dones = dones; history = first.site.ops; plays = plays; drawing = tells.drawing; drawn = tells.drawn; shown = tells.shown; is = tells.is }
-  told_session items (Err e) tells = tt
+  pub told_session : (text : List ℕ) → TellsHistory first.site.ops dones text → TellsSession n bytes text
+  told_session text tells = record { dones = dones; history = first.site.ops; plays = plays; drawing = tells.drawing; drawn = tells.drawn; shown = tells.shown; is = tells.is }
 
-  pub not_told : {T : Type 0} (r : Result T StudioError) → IfErr r (RefusesTelling first.site.ops) → IfErr r (RefusesSession n bytes)
-  not_told (Ok t) refused = tt
-  not_told (Err (studio.Compile compile.TooManyVersions)) refused = record { dones = dones; history = first.site.ops; plays = plays; refused = refused }
-  not_told (Err (studio.Compile compile.TooManyColours)) refused = record { dones = dones; history = first.site.ops; plays = plays; refused = refused }
-  not_told (Err (studio.Compile compile.OutOfMemory)) refused = absurd refused
-  not_told (Err studio.OutOfMemory) refused = tt
-  not_told (Err (studio.Line m why)) refused = absurd refused
-  not_told (Err (studio.Dropped id fault)) refused = absurd refused
-  not_told (Err (studio.Fig e)) refused = absurd refused
-  not_told (Err (studio.Session e)) refused = absurd refused
-  not_told (Err (studio.NoObject o)) refused = absurd refused
-  not_told (Err studio.ReadFailed) refused = absurd refused
-  not_told (Err studio.TooLong) refused = absurd refused
-  not_told (Err studio.WriteFailed) refused = absurd refused
+  pub not_told : (e : StudioError) → RefusesTelling first.site.ops e → RefusesPlaying n bytes (run.Run e)
+  not_told (studio.Compile compile.TooManyVersions) refused = record { dones = dones; history = first.site.ops; plays = plays; refused = refused }
+  not_told (studio.Compile compile.TooManyColours) refused = record { dones = dones; history = first.site.ops; plays = plays; refused = refused }
+  not_told (studio.Compile compile.OutOfMemory) refused = absurd refused
+  not_told studio.OutOfMemory refused = tt
+  not_told (studio.Line m why) refused = absurd refused
+  not_told (studio.Dropped id fault) refused = absurd refused
+  not_told (studio.Fig e) refused = absurd refused
+  not_told (studio.NoObject o) refused = absurd refused
+  not_told studio.ReadFailed refused = absurd refused
+  not_told studio.TooLong refused = absurd refused
+  not_told studio.WriteFailed refused = absurd refused

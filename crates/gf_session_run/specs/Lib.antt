@@ -1,4 +1,5 @@
 pub mod DenotedScripts
+pub mod ErrorTexts
 pub mod Reports
 pub mod SessionRun
 pub mod SessionSteps

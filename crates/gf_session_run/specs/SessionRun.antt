@@ -1,5 +1,5 @@
 -- What the run over a session text writes, and why it is refused (this project's choice).
-use Rattle.std.specs.Prelude.{◌≡◌, ◌≤◌, ℕ, List, ◌++◌, Option, Contains, ⊤}
+use Rattle.std.specs.Prelude.{◌≡◌, ◌≤◌, ℕ, List, ◌++◌, Option, Some, None, Contains, ⊤}
 use Rattle.gf_shape.specs.declared.any_shape.AnyShape.{AnyShape}
 use Rattle.gf_shape.specs.Outlines.{any_outline}
 use Rattle.gf_ops.specs.declared.op.Op.{Op}
@@ -20,6 +20,8 @@ use Rattle.gf_studio.specs.RefusedRuns.{IsOfRun}
 use Rattle.gf_studio.specs.RunAnswers.{WritesText}
 use Rattle.gf_session_run.specs.DenotedScripts.{DenotesScripts, HasScriptFault}
 use Rattle.gf_session_run.specs.Reports.{report_text}
+use Rattle.gf_session_run.specs.declared.session_run_error.SessionRunError.{SessionRunError}
+use Rattle.gf_session_run.specs.declared.session_run_error.SessionRunError.TheVariants as run
 
 -- a session may have n sites: 2 to 8
 abbrev pub IsSiteCount : ℕ → Type 0
@@ -62,9 +64,14 @@ RefusesExport n bytes compile.OutOfMemory = ⊥
 RefusesExport n bytes fault = HasNoDrawing n bytes fault
 
 -- why the run is refused
-abbrev pub RefusesSession : ℕ → List ℕ → StudioError → Type 0
-RefusesSession n bytes (studio.Line m cause) = HasScriptFault n bytes m cause
-RefusesSession n bytes (studio.Compile fault) = RefusesExport n bytes fault
-RefusesSession n bytes (studio.Session session.Sites) = ¬ (IsSiteCount n)
-RefusesSession n bytes (studio.Session session.OutOfMemory) = ⊤
-RefusesSession n bytes e = IsOfRun e
+abbrev pub RefusesSession : ℕ → List ℕ → SessionRunError → Type 0
+RefusesSession n bytes (run.Run (studio.Line m cause)) = HasScriptFault n bytes m cause
+RefusesSession n bytes (run.Run (studio.Compile fault)) = RefusesExport n bytes fault
+RefusesSession n bytes (run.Run e) = IsOfRun e
+RefusesSession n bytes (run.Session session.Sites) = ¬ (IsSiteCount n)
+RefusesSession n bytes (run.Session session.OutOfMemory) = ⊤
+
+-- the error of a session run that other runs may have too
+abbrev pub of_session : SessionRunError → Option StudioError
+of_session (run.Run e) = Some e
+of_session (run.Session e) = None

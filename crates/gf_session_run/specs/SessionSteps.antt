@@ -11,8 +11,12 @@ use Rattle.gf_drawing.specs.DrawingState.{DrawingState}
 use Rattle.gf_fig_write.specs.FigText.{fig_text}
 use Rattle.gf_fig_write.specs.ShownHistory.{Shows}
 use Rattle.gf_session.specs.declared.session.Done.{Done}
+use Rattle.gf_session.specs.declared.session.SessionError.TheVariants as session
 use Rattle.gf_studio.specs.FigRun.{IsDrawn, RefusesHistory}
 use Rattle.gf_session_run.specs.Reports.{report_text}
+use Rattle.gf_session_run.specs.SessionRun.{RefusesExport}
+use Rattle.gf_session_run.specs.declared.session_run_error.SessionRunError.{SessionRunError}
+use Rattle.gf_session_run.specs.declared.session_run_error.SessionRunError.TheVariants as run
 use Rattle.gf_json.specs.declared.line_error.LineError.{LineError}
 use Rattle.gf_json.specs.declared.line_error.LineError.TheVariants as line
 use Rattle.gf_json.specs.declared.scripts.Command.{Command}
@@ -106,3 +110,11 @@ RefusesTelling h (studio.Compile compile.TooManyVersions) = RefusesHistory h com
 RefusesTelling h (studio.Compile compile.TooManyColours) = RefusesHistory h compile.TooManyColours
 RefusesTelling h studio.OutOfMemory = ⊤
 RefusesTelling h other = ⊥
+
+-- why scripts that the bytes denote are not played to a text, or why the bytes denote none
+abbrev pub RefusesPlaying : ℕ → List ℕ → SessionRunError → Type 0
+RefusesPlaying n bytes (run.Run (studio.Line m why)) = HasScriptFault n bytes m why
+RefusesPlaying n bytes (run.Run (studio.Compile fault)) = RefusesExport n bytes fault
+RefusesPlaying n bytes (run.Run studio.OutOfMemory) = ⊤
+RefusesPlaying n bytes (run.Session session.OutOfMemory) = ⊤
+RefusesPlaying n bytes other = ⊥

@@ -1,12 +1,12 @@
 //! From the bytes of a session text to the text that tells what came of it.
 
-ghost use Rattle.std.specs.Prelude.{◌≡◌, ◌≤◌, ◌++◌, All, IfOk, IfErr, vec_len};
+ghost use Rattle.std.specs.Prelude.{◌≡◌, ◌≢◌, ◌≤◌, ◌++◌, Err, All, IfOk, IfErr, vec_len};
 ghost use Rattle.gf_session.specs.Session.{IsSession};
-ghost use Rattle.gf_studio.specs.RefusedParts.{IsBetween};
 ghost use Rattle.gf_session_run.specs.Reports.{report_text};
-ghost use Rattle.gf_session_run.specs.SessionRun.{IsSiteCount, RefusesSession, TellsSession};
-ghost use Rattle.gf_session_run.specs.SessionSteps.{RefusesTelling, TellsHistory};
+ghost use Rattle.gf_session_run.specs.SessionRun.{IsSiteCount, TellsSession};
+ghost use Rattle.gf_session_run.specs.SessionSteps.{RefusesPlaying, RefusesTelling, TellsHistory};
 
+use crate::SessionRunError;
 use crate::reports::push_reports;
 use crate::scripts::read_scripts;
 use gf_fig_write::fig_bytes;
@@ -27,34 +27,32 @@ pub(crate) fn play<T: Threads + Wait + Sync, G: Gate + Sync>(
     bytes: Vec<u8>,
     sites: u8,
     gate: &G,
-) -> Result<Vec<u8>, StudioError>
+) -> Result<Vec<u8>, SessionRunError>
     requires { IsSiteCount sites }
     ensures ok { IfOk result (λ text. TellsSession sites bytes.items text.items) }
-    ensures refused { IfErr result (RefusesSession sites bytes.items) }
-    ensures between { IfErr result IsBetween }
+    ensures err { IfErr result (RefusesPlaying sites bytes.items) }
 {
     let scripts = read_scripts(alloc, bytes, sites)?;
     let dones = run(rt, alloc, scripts, gate)?;
-    tell(alloc, dones.as_slice(), &dones[0].site)
+    match tell(alloc, dones.as_slice(), &dones[0].site) {
+        Ok(text) => Ok(text),
+        Err(fault) => Err(SessionRunError::Run(fault)),
+    }
 }
 
-/// What the sites of these scripts come to. Want of memory in a session is told as the session's.
+/// What the sites of these scripts come to.
 fn run<T: Threads + Wait + Sync, G: Gate + Sync>(
     rt: &T,
     alloc: Global,
     scripts: Vec<Script>,
     gate: &G,
-) -> Result<Vec<Done>, StudioError>
+) -> Result<Vec<Done>, SessionError>
     requires sites { IsSiteCount (vec_len scripts) }
     requires few { All (λ s. vec_len s.0 ≤ 1000) scripts.items }
     ensures ok { IfOk result (λ dones. IsSession scripts.items dones.items) }
-    ensures err { IfErr result (λ e. e ≡ StudioError.Session SessionError.OutOfMemory) }
+    ensures err { result ≢ Err SessionError.Sites }
 {
-    match run_session(rt, alloc, scripts, gate) {
-        Ok(dones) => Ok(dones),
-        Err(SessionError::Sites) => unreachable!(),
-        Err(SessionError::OutOfMemory) => Err(StudioError::Session(SessionError::OutOfMemory)),
-    }
+    run_session(rt, alloc, scripts, gate)
 }
 
 /// The lines of all sites, and the FIG text of this one's history behind them.

@@ -1,11 +1,14 @@
 //! The whole run over a session text.
 
-ghost use Rattle.std.specs.Prelude.{◌≡◌, ◌≢◌, ◌↔◌, ◌≤◌, Err, IfSome, IfOk, IfErr, OnOk, IsTrue};
+ghost use Rattle.std.specs.Prelude.{◌≡◌, ◌≢◌, ◌↔◌, ◌≤◌, Err, Some, IfSome, IfOk, IfErr, OnOk};
+ghost use Rattle.std.specs.Prelude.{IsTrue};
 ghost use Rattle.gf_session.specs.declared.session.SessionError.{SessionError};
-ghost use Rattle.gf_studio.specs.RunAnswers.{LeavesSink, ReadsInput};
+ghost use Rattle.gf_studio.specs.declared.studio_error.StudioError.{StudioError};
+ghost use Rattle.gf_studio.specs.RunAnswers.{LeavesSinkBy, ReadsInputBy};
 ghost use Rattle.gf_session_run.specs.SessionRun.{IsSiteCount, RefusesSession, TellsSession};
-ghost use Rattle.gf_session_run.specs.SessionRun.{WritesSession};
+ghost use Rattle.gf_session_run.specs.SessionRun.{WritesSession, of_session};
 
+use crate::SessionRunError;
 use crate::playing::play;
 use gf_gate::Gate;
 use gf_session::SessionError;
@@ -26,32 +29,34 @@ pub fn session_run<T: Threads + Wait + Sync, R: Source, W: Sink, G: Gate + Sync>
     sink: &mut W,
     sites: u8,
     gate: &G,
-) -> Result<(), StudioError>
+) -> Result<(), SessionRunError>
     // What is written is the text of a session of the scripts that the bytes denote. It shows the
     // history that all its sites have.
     ensures tells { OnOk result (IfSome (R.left source.old) (λ bytes.
         WritesSession sites bytes (W.taken sink.old) (W.taken sink.new))) }
 
     // Where a session may not have this many sites, nothing is read. Else this is the same as
-    // `fig_run` promises, with scripts in place of operations. Want of memory in a session is told
-    // apart.
-    ensures sites { result ≡ Err (StudioError.Session SessionError.Sites) ↔
+    // `fig_run` promises, with scripts in place of operations. Want of memory in a session is an
+    // error of its own, with a text of its own.
+    ensures sites { result ≡ Err (SessionRunError.Session SessionError.Sites) ↔
         (¬ (IsSiteCount sites)) }
-    ensures source { ReadsInput R.Source source.old source.new result }
+    ensures unread { ¬ (IsSiteCount sites) → source.new ≡ source.old }
+    ensures source { IsSiteCount sites → ReadsInputBy R.Source source.old source.new of_session
+        result }
     ensures refused { IfErr result (λ e. IfSome (R.left source.old) (λ bytes.
         RefusesSession sites bytes e)) }
 
     // At most a prefix of the text is written, and that only where the sink failed.
-    ensures sink { LeavesSink W.Sink (R.left source.old) (TellsSession sites) sink.old sink.new
-        result }
+    ensures sink { LeavesSinkBy W.Sink (R.left source.old) (TellsSession sites) sink.old sink.new
+        of_session result }
 {
     if !is_site_count(sites) {
-        return Err(StudioError::Session(SessionError::Sites));
+        return Err(SessionRunError::Session(SessionError::Sites));
     }
     let text = play_lines(rt, alloc, source, sites, gate)?;
     match write_whole(sink, &text) {
         Ok(()) => Ok(()),
-        Err(SinkFault) => Err(StudioError::WriteFailed),
+        Err(SinkFault) => Err(SessionRunError::Run(StudioError::WriteFailed)),
     }
 }
 
@@ -68,15 +73,15 @@ fn play_lines<T: Threads + Wait + Sync, R: Source, G: Gate + Sync>(
     source: &mut R,
     sites: u8,
     gate: &G,
-) -> Result<Vec<u8>, StudioError>
+) -> Result<Vec<u8>, SessionRunError>
     requires { IsSiteCount sites }
     ensures ok { IfOk result (λ text. IfSome (R.left source.old) (λ bytes.
         TellsSession sites bytes text.items)) }
-    ensures source { ReadsInput R.Source source.old source.new result }
+    ensures source { ReadsInputBy R.Source source.old source.new of_session result }
     ensures refused { IfErr result (λ e. IfSome (R.left source.old) (λ bytes.
         RefusesSession sites bytes e)) }
-    ensures no_write { IfErr result (λ e. e ≢ StudioError.WriteFailed) }
-    ensures no_sites { result ≢ Err (StudioError.Session SessionError.Sites) }
+    ensures no_write { IfErr result (λ e. of_session e ≢ Some StudioError.WriteFailed) }
+    ensures no_sites { result ≢ Err (SessionRunError.Session SessionError.Sites) }
 {
     let bytes = input(alloc, source)?;
     play(rt, alloc, bytes, sites, gate)
