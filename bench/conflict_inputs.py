@@ -50,9 +50,9 @@ def busy(count, apart):
     return lines.lines
 
 
-def heard(count, chance):
-    """One box that eight sites, which know it, move in turn, so many times each; before a move a
-    site hears by this chance all that another one knows."""
+def heard(count, chance, name, to):
+    """One box that eight sites, which know it, change in turn, so many times each; before a change
+    a site hears by this chance all that another one knows."""
     rng = random.Random(7)
     lines = Lines()
     box = Object(lines, rng, 0)
@@ -62,7 +62,35 @@ def heard(count, chance):
         learnt = [0] * SITES
         if rng.random() < chance:
             learnt = lines.knows[rng.randrange(SITES)]
-        lines.make(number % SITES, box.set("place", value(rng, "box", "place")), learnt)
+        lines.make(number % SITES, box.set(name, to(rng)), learnt)
+    return lines.lines
+
+
+def crossed(count):
+    """One box, and so many rounds in which one site hides it and another one shows it at once."""
+    lines = Lines()
+    box = Object(lines, random.Random(8), 0)
+    for _ in range(count):
+        first = lines.make(0, box.set("shown", False), box.knows)
+        second = lines.make(1, box.set("shown", True), box.knows)
+        box.knows = list(map(max, first, second))
+    return lines.lines
+
+
+def deep(count):
+    """One box, and so many rounds in which seven sites hide it, and then the first one shows it. All
+    know the shows of earlier rounds, but of another site's hides those alone that are some rounds
+    old, so each hide is an open choice."""
+    lines = Lines()
+    box = Object(lines, random.Random(10), 0)
+
+    def old(rounds):
+        return [max(0, rounds - (SITES - 1 - site)) for site in range(1, SITES)]
+
+    for number in range(1, count + 1):
+        for site in range(1, SITES):
+            lines.make(site, box.set("shown", False), [number] + old(number - 2))
+        lines.make(0, box.set("shown", True), [number] + old(number - 1))
     return lines.lines
 
 
@@ -85,4 +113,11 @@ for apart, name in ((False, "causal"), (True, "apart")):
     write(folder, "busy_" + name, busy(9_900, apart))
 for name, count, chance in (("rare", 1_000, 0.001), ("often", 200, 0.02)):
     write(folder, name + "_causal", changed(count, "place", lambda rng: value(rng, "box", "place"), False))
-    write(folder, name + "_apart", heard(count, chance))
+    write(folder, name + "_apart", heard(count, chance, "place", lambda rng: value(rng, "box", "place")))
+# What strangers may send.
+for count in (50, 100):
+    write(folder, f"toggles_{8 * count}", heard(count, 0.05, "shown", lambda rng: rng.random() < 0.5))
+write(folder, "toggles_apart", changed(1_000, "shown", lambda rng: rng.random() < 0.5, True))
+write(folder, "hides_apart", changed(9_900, "shown", lambda rng: False, True))
+write(folder, "crossed", crossed(9_998))
+write(folder, "deep", deep(400))

@@ -36,6 +36,11 @@ def comb(rng, teeth, width):
     return points
 
 
+def saw(rng):
+    """The corners of a saw, each edge of which goes through all rows of the picture."""
+    return [(rng.randrange(SIDE), 9_999 * (k % 2)) for k in range(65_534)]
+
+
 def chain(kind, colour, depth, points):
     """The lines of a closed chain: 2 for a box, 3 for a polygon."""
     points = points + points[:1]
@@ -79,3 +84,4 @@ write("stars", drawing(1_000, lambda rng, colour, depth: chain(3, colour, depth,
 write("combs", drawing(16, lambda rng, colour, depth: chain(3, colour, depth, comb(rng, 21, 8))))
 write("hair", drawing(200, lambda rng, colour, depth: chain(3, colour, depth, comb(rng, 1_024, 1))))
 write("many", drawing(20_000, lambda rng, colour, depth: chain(3, colour, depth, ring(rng, 100, SIDE // 2))))
+write("saws", drawing(22, lambda rng, colour, depth: chain(3, colour, depth, saw(rng))))

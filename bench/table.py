@@ -29,7 +29,8 @@ class Run:
 
     words: list
     source: str = os.devnull
-    status: int = 0
+    # None where a refusal is an answer too.
+    status: int | None = 0
     seconds: float = 1e9
     kib: int = 0
     output: bytes = field(default=b"", repr=False)
@@ -41,7 +42,7 @@ class Run:
             timed = ["/usr/bin/time", "-q", "-o", told, "-f", "%M", *self.words]
             ended = subprocess.run(timed, stdin=source, stdout=output, stderr=subprocess.PIPE)
             seconds = time.perf_counter() - began
-        if ended.returncode != self.status:
+        if ended.returncode not in ((0, 1) if self.status is None else (self.status,)):
             sys.exit(f"{self.words} < {self.source}: status {ended.returncode}: {ended.stderr.decode()}")
         self.seconds = min(self.seconds, seconds)
         with open(told) as kib:
@@ -107,6 +108,25 @@ def conflict_rows(folder):
         yield Row(f"{text}, beside causal order", fig(folder, f"{name}_apart"), fig(folder, f"{name}_causal"), goal)
     yield Row("200 conflicts of one object: too many versions", fig(folder, "rounds_200", status=1), None, 0.1)
     yield Row("the same, hidden: nothing is drawn", fig(folder, "hidden_200"), None, 0.1)
+
+
+def strange_rows(folder):
+    """Inputs of strangers, one round each, as some are slow."""
+    inspect = Run([FIGGROUP, "inspect", "--at=5,5"], f"{folder}/rounds_30.jsonl", 1)
+    yield Row("`inspect --at` of 30 conflicts of one object: too many versions", inspect, None, 0.1)
+    little = Run(["sh", "-c", 'ulimit -s 512 && exec "$0" fig', FIGGROUP], f"{folder}/deep.jsonl", 1)
+    yield Row("2,800 hides of a box, each an open choice, with 512 KB of stack", little, None, 2)
+    for name, text, goal, status in (
+        ("crossed", "two sites at once hide and show a box, 9,998 times each", 10, 1),
+        ("toggles_400", "eight sites hide or show a box 50 times each, and hear of each other before one in twenty", 2, None),
+        ("toggles_800", "the same 100 times", 10, None),
+        ("toggles_apart", "the same 1,000 times, apart", 10, None),
+    ):
+        yield Row(text, fig(folder, name, status=status), None, goal)
+    status = Run([FIGGROUP, "status"], f"{folder}/hides_apart.jsonl")
+    yield Row("`status` where eight sites hide a box 9,900 times each, apart", status, None, 1)
+    rows = [FIGGROUP, "repaint", "--width", str(SIDE), "--height", "64", "--y", "1000"]
+    yield Row("`repaint` of 22 saws of 65,534 points, 64 rows", Run(rows, f"{folder}/saws.fig"), None, 10)
 
 
 def aim_rows(folder):
@@ -190,11 +210,11 @@ def agree(folder):
             sys.exit("a session came to another outcome")
 
 
-def measured(folder, rows):
+def measured(folder, rows, rounds=ROUNDS):
     """The rows, each run measured in as many rounds."""
     rows = list(rows)
     runs = {id(run): run for row in rows for run in (row.run, row.beside) if run}
-    for _ in range(ROUNDS):
+    for _ in range(rounds):
         for run in runs.values():
             run.measure(folder)
     return rows
@@ -217,6 +237,7 @@ def main():
         rows = lines
         for part in (conflict_rows, aim_rows, text_rows, picture_rows, session_rows):
             rows += measured(folder, part(folder))
+        rows += measured(folder, strange_rows(folder), 1)
         busy = [subprocess.Popen([sys.executable, "-c", "while True: pass"]) for _ in range(BUSY)]
         try:
             rows += measured(folder, busy_rows(folder))
