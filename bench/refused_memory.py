@@ -4,8 +4,10 @@
 A refused call has to answer want of memory, leave what was there, and answer rightly when it is called again: test_memory
 tells by one line whether it did. A refused command has to end with status 1, want of memory for an answer, and no output but the
 header and whole bands of a picture. Where the program does without what was refused, the answer has to be the expected one:
-of calls, only those may do so of which test_memory says it. The threads of fig, repaint and session are refused likewise."""
+of calls, only those may do so of which test_memory says it. The threads of a command are refused likewise: it has to start as
+many as are told here, and only a session may be refused for want of one."""
 
+import json
 import os
 import re
 import subprocess
@@ -55,6 +57,7 @@ class Call:
     """A public call on its worked example, as test_memory runs it."""
 
     what = "ALLOCATION"
+    threads = None
     between = True
     given = b""
 
@@ -76,13 +79,15 @@ class Call:
 
 
 class Command:
-    """A command on an example."""
+    """A command on an example, of which the allocations are refused, or the threads where it is told how many it starts."""
 
     between = False
 
-    def __init__(self, program, words, given, what="ALLOCATION"):
-        self.name = "figgroup " + " ".join(words) + (", its threads" if what == "THREAD" else "")
-        self.words, self.given, self.what = [program, *words], given, what
+    def __init__(self, program, words, given, threads=None):
+        self.name = "figgroup " + " ".join(words) + (", its threads" if threads else "")
+        self.words, self.given, self.threads = [program, *words], given, threads
+        self.what = "THREAD" if threads else "ALLOCATION"
+        self.refusal = refusal_of(words[0], self.what)
         whole = subprocess.run(self.words, input=given, capture_output=True)
         self.expected, self.status = whole.stdout, whole.returncode
         if self.status > 1:
@@ -100,8 +105,15 @@ class Command:
         """What came of a run, or none where it must not come."""
         if run.returncode == self.status and run.stdout == self.expected and b"memory" not in run.stderr:
             return "as expected"
-        answers_so = re.fullmatch(rb"figgroup: (session: )?out of memory\n", run.stderr)
+        answers_so = self.refusal and re.fullmatch(self.refusal, run.stderr)
         return "out of memory" if refused and run.returncode == 1 and answers_so and self.is_front(run.stdout) else None
+
+
+def refusal_of(command, what):
+    """The line that tells want of memory, or none where a command does without what is refused."""
+    if what == "THREAD":
+        return rb"figgroup: session: out of memory\n" if command == "session" else None
+    return rb"figgroup: (session: )?out of memory\n" if command == "session" else rb"figgroup: out of memory\n"
 
 
 def refuse_each(refuser, trial):
@@ -117,6 +129,8 @@ def refuse_each(refuser, trial):
             break
         came[answer] = came.get(answer, 0) + 1
         number += 1
+    if trial.threads not in (None, number - 1):
+        raise SystemExit(f"{trial.name}: {number - 1} started, and not {trial.threads}")
     told = "; ".join(f"{count} {answer}" for answer, count in sorted(came.items()))
     return f"{trial.name}: {number - 1} refused" + (f": {told}" if told else "")
 
@@ -147,17 +161,23 @@ def combs(count):
     return (header + comb * count).encode()
 
 
+def zigzags(count):
+    """The lines that create so many polygons of 64 points over 1,000 by 128, whose rows are work enough for threads."""
+    zigzag = {"kind": "polygon", "place": [0, 0], "points": [[15 * k, 128 * (k % 2)] for k in range(64)]}
+    zigzag.update(op="create", colour="ff0000", layer=0, shown=True)
+    lines = [json.dumps({**zigzag, "id": [1, n + 1], "past": [n] + [0] * 7}) + "\n" for n in range(count)]
+    return "".join(lines).encode()
+
+
 def commands(program):
     lines, places = input_of("three-sites"), input_of("two-places")
     edited, mistakes = input_of("two-colours", "[sc]*.jsonl"), input_of("mistakes")
     window, figure = words_of("two-places", "window"), input_of("two-places", "expected.fig")
-    session = ["session", "--sites", *words_of("session", "sites")]
+    session, script = ["session", "--sites", *words_of("session", "sites")], input_of("session")
     return [
         Command(program, ["fig"], lines),
         Command(program, ["paint", *window, "--workers", "3"], places),
         Command(program, ["repaint", *window], figure),
-        Command(program, ["fig"], input_of("red-box") * 1_000, "THREAD"),
-        Command(program, ["repaint", "--width", "1000", "--height", "128", "--workers", "3"], combs(20), "THREAD"),
         Command(program, ["paint", "--fit"], places),
         Command(program, ["repaint", "--fit"], figure),
         Command(program, ["import", "--site", "1"], figure),
@@ -166,8 +186,25 @@ def commands(program):
         Command(program, ["edit", "--site", "1"], edited),
         Command(program, ["status"], lines),
         Command(program, ["check"], mistakes),
-        Command(program, session, input_of("session")),
-        Command(program, session, input_of("session"), "THREAD"),
+        Command(program, session, script),
+        Command(program, session, script, threads=2),
+        *threaded(program),
+    ]
+
+
+def threaded(program):
+    """Commands of several workers, one of which is the first thread. All of them read so many lines, and paint two bands."""
+    read = input_of("red-box") * 1_000
+    size = ["--width", "1000", "--height", "128", "--workers", "3"]
+    return [
+        Command(program, ["fig", "--workers", "4"], read, threads=3),
+        Command(program, ["inspect", "--object", "1.1", "--workers", "4"], read, threads=3),
+        Command(program, ["inspect", "--at", "0,0", "--workers", "4"], read, threads=3),
+        Command(program, ["status", "--workers", "4"], read, threads=3),
+        Command(program, ["paint", *size], zigzags(100) * 8, threads=2 + 2 * 2),
+        Command(program, ["paint", "--fit", *size], zigzags(100) * 8, threads=2 + 2 * 2),
+        Command(program, ["repaint", *size], combs(20), threads=2 * 2),
+        Command(program, ["repaint", "--fit", *size], combs(20), threads=2 * 2),
     ]
 
 
