@@ -216,6 +216,20 @@ fn unread_input_and_a_full_output_are_told(rt: HostRuntime) -> Result<(), Fail> 
         // a_full_output_is_told
         (FIG, red_box, None, (Some(100), None), CUT_RUN),
         (PAINT, red_box, None, (Some(13), None), CUT_PICTURE),
+        (
+            "figgroup --help",
+            b"",
+            None,
+            (Some(0), None),
+            "1\n--\nfiggroup: write failed\n",
+        ),
+        (
+            "figgroup --version",
+            b"",
+            None,
+            (Some(8), None),
+            "1\nfiggroup--\nfiggroup: write failed\n",
+        ),
         // Where no fault can be told either, the status stays.
         (FIG, b"{", None, (Some(0), Some(0)), "1\n--\n"),
     ] {
