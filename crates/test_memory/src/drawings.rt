@@ -9,7 +9,8 @@ use gf_fig_write::fig_bytes as text_of;
 use gf_import::CreationError;
 use gf_ops::{Change, Form};
 use gf_shape::{AnyShape, OutOfMemory, Outline, Rect, Shape};
-use gf_streams::{Tape, WriteError};
+use gf_streams::{Reel, Tape, WriteError};
+use gf_studio::StudioError;
 use gf_versions::ranked;
 use std::alloc::Global;
 use test_kit::{EMPTY_FIG, RED, RED_BOX_FIG, at};
@@ -17,6 +18,8 @@ use test_kit_drawings::figure;
 
 pub(crate) const NAMES: &str = "
 compile
+draw_site may do without
+drawing_of_fig
 add_colour
 add_figure
 front_to_back may do without
@@ -34,6 +37,8 @@ creations
 pub(crate) fn tried(alloc: Global, name: &str, marks: &mut Marks) -> Option<Came> {
     let came = match name {
         "compile" => compile(alloc, marks),
+        "draw_site" => draw_site(alloc, marks),
+        "drawing_of_fig" => Some(drawing_of_fig(alloc, marks)),
         "add_colour" => add_colour(alloc, marks),
         "add_figure" => add_figure(alloc, marks),
         "front_to_back" => front_to_back(alloc, marks),
@@ -67,6 +72,42 @@ fn compile(alloc: Global, marks: &mut Marks) -> Option<Came> {
 }
 
 fn is_compiled(alloc: Global, answer: Result<Drawing<AnyShape>, CompileFault>) -> bool {
+    match answer {
+        Ok(drawing) => is_text(text_of(alloc, &drawing), RED_BOX_FIG),
+        Err(_) => false,
+    }
+}
+
+fn draw_site(alloc: Global, marks: &mut Marks) -> Option<Came> {
+    let site = site(alloc, RED_BOX_MADE)?;
+    marks.begin();
+    let first = gf_studio::draw_site(alloc, &site);
+    marks.end();
+    Some(match first {
+        Err(CompileFault::OutOfMemory) => {
+            let next = gf_studio::draw_site(alloc, &site);
+            Came::after_memory(true, is_compiled(alloc, next))
+        }
+        first => Came::first(is_compiled(alloc, first)),
+    })
+}
+
+fn drawing_of_fig(alloc: Global, marks: &mut Marks) -> Came {
+    let mut source = Reel::new(RED_BOX_FIG.as_bytes(), None);
+    let mut same = Reel::new(RED_BOX_FIG.as_bytes(), None);
+    marks.begin();
+    let first = gf_studio::drawing_of_fig(alloc, &mut source);
+    marks.end();
+    match first {
+        Err(StudioError::OutOfMemory) => {
+            let next = gf_studio::drawing_of_fig(alloc, &mut same);
+            Came::after_memory(true, is_drawn(alloc, next))
+        }
+        first => Came::first(is_drawn(alloc, first)),
+    }
+}
+
+fn is_drawn(alloc: Global, answer: Result<Drawing<Outline>, StudioError>) -> bool {
     match answer {
         Ok(drawing) => is_text(text_of(alloc, &drawing), RED_BOX_FIG),
         Err(_) => false,

@@ -5,7 +5,7 @@ use crate::examples::{BOX, RED_BOX_MADE, TWO_COLOURS, site};
 use crate::trial::{Came, Marks};
 use gf_causal::{Buffer, OfferFault, Offered};
 use gf_json::LineError;
-use gf_ops::{AddFault, History, Op};
+use gf_ops::{AddFault, History, Ids, Op, OpId};
 use gf_shape::OutOfMemory;
 use std::alloc::Global;
 use test_kit::RED_BOX;
@@ -16,10 +16,12 @@ read_op
 op_line
 script_line
 op_copy
+ids_copy
 room
 add
 history_copy
 offer
+buffer_ops
 buffer_copy
 ";
 
@@ -30,10 +32,12 @@ pub(crate) fn tried(alloc: Global, name: &str, marks: &mut Marks) -> Option<Came
         "op_line" => op_line(alloc, marks),
         "script_line" => script_line(alloc, marks),
         "op_copy" => op_copy(alloc, marks),
+        "ids_copy" => ids_copy(alloc, marks),
         "room" => room(alloc, marks),
         "add" => add(alloc, marks),
         "history_copy" => history_copy(alloc, marks),
         "offer" => offer(alloc, marks),
+        "buffer_ops" => buffer_ops(alloc, marks),
         "buffer_copy" => buffer_copy(alloc, marks),
         _ => return None,
     };
@@ -114,6 +118,25 @@ fn is_copy(op: &Op, answer: Result<Op, OutOfMemory>) -> bool {
     }
 }
 
+/// The copy of an aim.
+fn ids_copy(alloc: Global, marks: &mut Marks) -> Option<Came> {
+    let ids = Ids::new(Vec::from_array(alloc, [BOX, RECOLOUR]).ok()?);
+    marks.begin();
+    let first = ids.copy(alloc);
+    marks.end();
+    Some(match first {
+        Err(OutOfMemory) => Came::after_memory(true, are_copied(ids.copy(alloc))),
+        first => Came::first(are_copied(first)),
+    })
+}
+
+fn are_copied(answer: Result<Ids, OutOfMemory>) -> bool {
+    match answer {
+        Ok(copy) => copy.as_slice() == [BOX, RECOLOUR].as_slice(),
+        Err(OutOfMemory) => false,
+    }
+}
+
 fn room(alloc: Global, marks: &mut Marks) -> Option<Came> {
     let mut history = History::new(alloc);
     marks.begin();
@@ -173,6 +196,9 @@ fn is_same(history: &History, answer: Result<History, OutOfMemory>) -> bool {
     }
 }
 
+/// The id of the change of a box that is not there yet.
+const RECOLOUR: OpId = OpId { site: 2, seq: 1 };
+
 /// The change of a box that is not there yet.
 const RECOLOURED: &str = "2.1 after 1: 1.1 colour 0000ff";
 
@@ -197,13 +223,38 @@ fn is_held(answer: Result<Offered, OfferFault>, buffer: &Buffer) -> bool {
     answer == Ok(Offered::Held) && buffer.held() == 1
 }
 
+/// A buffer that was offered the change and then the box.
+fn holding(alloc: Global, history: &History) -> Option<Buffer> {
+    let mut buffer = Buffer::new(alloc);
+    buffer.offer(operation(alloc, RECOLOURED)?, history).ok()?;
+    buffer
+        .offer(operation(alloc, RED_BOX_MADE)?, history)
+        .ok()?;
+    Some(buffer)
+}
+
+fn buffer_ops(alloc: Global, marks: &mut Marks) -> Option<Came> {
+    let buffer = holding(alloc, &History::new(alloc))?;
+    marks.begin();
+    let first = buffer.ops(alloc);
+    marks.end();
+    Some(match first {
+        Err(OutOfMemory) => Came::after_memory(true, are_both(buffer.ops(alloc))),
+        first => Came::first(are_both(first)),
+    })
+}
+
+/// Whether these are the box and its change.
+fn are_both(answer: Result<Vec<&Op>, OutOfMemory>) -> bool {
+    match answer {
+        Ok(ops) => matches!(ops.as_slice(), [one, other] if one.id == BOX && other.id == RECOLOUR),
+        Err(OutOfMemory) => false,
+    }
+}
+
 fn buffer_copy(alloc: Global, marks: &mut Marks) -> Option<Came> {
     let history = History::new(alloc);
-    let mut buffer = Buffer::new(alloc);
-    buffer.offer(operation(alloc, RECOLOURED)?, &history).ok()?;
-    buffer
-        .offer(operation(alloc, RED_BOX_MADE)?, &history)
-        .ok()?;
+    let buffer = holding(alloc, &history)?;
     marks.begin();
     let first = buffer.copy(alloc);
     marks.end();

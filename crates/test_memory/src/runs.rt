@@ -1,14 +1,17 @@
 //! Trials of whole runs: from the bytes of an input to those of a tape.
 
-use crate::examples::{BOX, MOVED, TWO_COLOURS};
+use crate::examples::{BOX, MOVED, TWO_COLOURS, is_text};
 use crate::sessions::SCRIPT;
 use crate::trial::{Came, Marks};
 use gf_check::check_run;
+use gf_drawing::Drawing;
 use gf_edit::{EditError, edit_run};
+use gf_fig_write::fig_bytes;
 use gf_fit::{Frame, paint_fitted_run, repaint_fitted_run};
 use gf_import::{ImportError, import_run};
 use gf_json::op_line;
 use gf_ops::ObjectId;
+use gf_shape::{AnyShape, OutOfMemory};
 use gf_session_run::session_run;
 use gf_status::status_run;
 use gf_streams::{Reel, Tape};
@@ -23,6 +26,8 @@ use test_kit::notation::operation;
 use test_kit::{RED_BOX, RED_BOX_FIG, at};
 
 pub(crate) const NAMES: &str = "
+drawing_of_lines may do without
+faults_of may do without
 fig_run may do without
 paint_run may do without
 repaint_run may do without
@@ -45,6 +50,8 @@ pub(crate) fn tried<T: Threads + Wait + Sync>(
     marks: &mut Marks,
 ) -> Option<Came> {
     let came = match name {
+        "drawing_of_lines" => drawing_of_lines(rt, alloc, marks),
+        "faults_of" => faults_of(alloc, marks),
         "fig_run" => Some(fig(rt, alloc, marks)),
         "paint_run" => paint(rt, alloc, marks),
         "repaint_run" => repaint(rt, alloc, marks),
@@ -172,6 +179,32 @@ impl Example<'_> {
     /// Whether a run that wanted memory may leave these bytes.
     fn is_cut(&self, bytes: &[u8]) -> bool {
         self.cuts.contains(&bytes.len()) && self.whole.starts_with(bytes)
+    }
+}
+
+fn drawing_of_lines<T: Threads + Wait + Sync>(
+    rt: &T,
+    alloc: Global,
+    marks: &mut Marks,
+) -> Option<Came> {
+    let mut source = Reel::new(RED_BOX.as_bytes(), None);
+    let mut same = Reel::new(RED_BOX.as_bytes(), None);
+    marks.begin();
+    let first = gf_studio::drawing_of_lines(rt, alloc, &mut source, 2);
+    marks.end();
+    Some(match first {
+        Err(StudioError::OutOfMemory) => {
+            let next = gf_studio::drawing_of_lines(rt, alloc, &mut same, 2);
+            Came::after_memory(true, is_red_box(alloc, next))
+        }
+        first => Came::first(is_red_box(alloc, first)),
+    })
+}
+
+fn is_red_box(alloc: Global, answer: Result<Drawing<AnyShape>, StudioError>) -> bool {
+    match answer {
+        Ok(drawing) => is_text(fig_bytes(alloc, &drawing), RED_BOX_FIG),
+        Err(_) => false,
     }
 }
 
@@ -342,13 +375,36 @@ fn status<T: Threads + Wait + Sync>(rt: &T, alloc: Global, marks: &mut Marks) ->
     Some(example.tried(rt, alloc, marks))
 }
 
-fn check<T: Threads + Wait + Sync>(rt: &T, alloc: Global, marks: &mut Marks) -> Option<Came> {
+/// Lines of which the last one is no operation.
+fn mistaken(alloc: Global) -> Option<String> {
     let mut input = lines(alloc, TWO_COLOURS)?;
     input.push_str("{}\n").ok()?;
+    Some(input)
+}
+
+/// What is told of them.
+const MISTAKE: &str = "line 4: Field: the key \"op\" is missing\n";
+
+fn faults_of(alloc: Global, marks: &mut Marks) -> Option<Came> {
+    let (input, same) = (mistaken(alloc)?, mistaken(alloc)?);
+    marks.begin();
+    let first = gf_check::faults_of(alloc, input.into_bytes());
+    marks.end();
+    Some(match first {
+        Err(OutOfMemory) => {
+            let next = gf_check::faults_of(alloc, same.into_bytes());
+            Came::after_memory(true, is_text(next, MISTAKE))
+        }
+        first => Came::first(is_text(first, MISTAKE)),
+    })
+}
+
+fn check<T: Threads + Wait + Sync>(rt: &T, alloc: Global, marks: &mut Marks) -> Option<Came> {
+    let input = mistaken(alloc)?;
     let example = Example {
         run: Run::Check,
         input: input.as_bytes(),
-        whole: b"line 4: Field: the key \"op\" is missing\n",
+        whole: MISTAKE.as_bytes(),
         cuts: &[0],
     };
     Some(example.tried(rt, alloc, marks))

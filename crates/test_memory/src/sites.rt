@@ -7,6 +7,7 @@ ghost use Rattle.gf_table.specs.Standing.{StandsFor};
 use crate::examples::{BOX, TWO_COLOURS, are_groups, site};
 use crate::trial::{Came, Marks};
 use gf_causal::{OfferFault, Offered};
+use gf_components::{Component, Components};
 use gf_ops::{History, ObjectId, Op};
 use gf_replicas::{Event, World};
 use gf_shape::OutOfMemory;
@@ -19,8 +20,10 @@ pub(crate) const NAMES: &str = "
 receive
 step
 author
+held_ops
 site_copy
 table_add may do without
+table_components may do without
 table_copy
 world_run
 ";
@@ -31,8 +34,10 @@ pub(crate) fn tried(alloc: Global, name: &str, marks: &mut Marks) -> Option<Came
         "receive" => receive(alloc, marks),
         "step" => step(alloc, marks),
         "author" => author(alloc, marks),
+        "held_ops" => held_ops(alloc, marks),
         "site_copy" => site_copy(alloc, marks),
         "table_add" => table_add(alloc, marks),
+        "table_components" => table_components(alloc, marks),
         "table_copy" => table_copy(alloc, marks),
         "world_run" => world_run(alloc, marks),
         _ => return None,
@@ -63,10 +68,35 @@ fn is_held(answer: Result<Offered, OfferFault>, site: &Site) -> bool {
     answer == Ok(Offered::Held) && site.held() == 1
 }
 
-fn step(alloc: Global, marks: &mut Marks) -> Option<Came> {
+/// The third site, which received the change and then the box.
+fn holding(alloc: Global) -> Option<Site> {
     let mut site = Site::new(alloc, 3);
     site.receive(operation(alloc, RECOLOURED)?).ok()?;
     site.receive(operation(alloc, "1.1: box 10 10")?).ok()?;
+    Some(site)
+}
+
+fn held_ops(alloc: Global, marks: &mut Marks) -> Option<Came> {
+    let site = holding(alloc)?;
+    marks.begin();
+    let first = site.held_ops(alloc);
+    marks.end();
+    Some(match first {
+        Err(OutOfMemory) => Came::after_memory(true, are_both(site.held_ops(alloc))),
+        first => Came::first(are_both(first)),
+    })
+}
+
+/// Whether these are the box and its change.
+fn are_both(answer: Result<Vec<&Op>, OutOfMemory>) -> bool {
+    match answer {
+        Ok(ops) => matches!(ops.as_slice(), [one, other] if one.id == BOX && other.id.site == 2),
+        Err(OutOfMemory) => false,
+    }
+}
+
+fn step(alloc: Global, marks: &mut Marks) -> Option<Came> {
+    let mut site = holding(alloc)?;
     marks.begin();
     let first = site.step();
     marks.end();
@@ -148,6 +178,38 @@ fn has_two(alloc: Global, history: &History, table: &GroupTable) -> bool
         table.groups(alloc, history, ObjectId(BOX)),
         TWO_GROUPS,
     )
+}
+
+fn table_components(alloc: Global, marks: &mut Marks) -> Option<Came> {
+    let site = site(alloc, TWO_COLOURS)?;
+    let (history, table) = (site.history(), site.table());
+    marks.begin();
+    let first = table.components(alloc, history, ObjectId(BOX));
+    marks.end();
+    Some(match first {
+        Err(OutOfMemory) => {
+            let next = table.components(alloc, history, ObjectId(BOX));
+            Came::after_memory(true, are_parted(next))
+        }
+        first => Came::first(are_parted(first)),
+    })
+}
+
+/// Whether the creation is free, and the two colours are a component of two sets.
+fn are_parted(answer: Result<Components, OutOfMemory>) -> bool {
+    match answer {
+        Ok(found) => found.free().has(0) && is_pair(found.components()),
+        Err(OutOfMemory) => false,
+    }
+}
+
+fn is_pair(components: &[Component]) -> bool {
+    match components {
+        [both] => {
+            both.all().has(1) && both.all().has(2) && matches!(both.sets(), Some([_, _]))
+        }
+        _ => false,
+    }
 }
 
 fn table_copy(alloc: Global, marks: &mut Marks) -> Option<Came> {

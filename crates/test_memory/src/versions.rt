@@ -6,8 +6,9 @@ use crate::examples::{BOX, RED_BOX_MADE, TWO_COLOURS, are_groups, are_told, is_t
 use crate::trial::{Came, Marks};
 use gf_groups::{Group, GroupFault, Groups, is_made};
 use gf_inspect::VersionName;
-use gf_ops::{History, ObjectId};
+use gf_ops::{Change, History, ObjectId, OpId, Value};
 use gf_shape::{AnyShape, Bounds, OutOfMemory, Shape};
+use gf_status::ObjectStatus;
 use gf_versions::{Placed, Ranked, Version};
 use std::alloc::Global;
 use test_kit::{RED, at};
@@ -25,6 +26,9 @@ versions may do without
 versions_with may do without
 top_at may do without
 top_at_with may do without
+aimed_at may do without
+aimed_at_with may do without
+object_statuses may do without
 lines
 top_line
 ";
@@ -44,6 +48,9 @@ pub(crate) fn tried(alloc: Global, name: &str, marks: &mut Marks) -> Option<Came
         "versions_with" => versions_with(alloc, marks),
         "top_at" => top_at(alloc, marks),
         "top_at_with" => top_at_with(alloc, marks),
+        "aimed_at" => aimed_at(alloc, marks),
+        "aimed_at_with" => aimed_at_with(alloc, marks),
+        "object_statuses" => object_statuses(alloc, marks),
         "lines" => lines(alloc, marks),
         "top_line" => top_line(alloc, marks),
         _ => return None,
@@ -325,6 +332,78 @@ fn is_green(alloc: Global, answer: Result<Option<VersionName>, OutOfMemory>) -> 
             gf_inspect::top_line(alloc, at(10, 10), name.as_ref()),
             TOP_LINE,
         ),
+        Err(OutOfMemory) => false,
+    }
+}
+
+fn aimed_at(alloc: Global, marks: &mut Marks) -> Option<Came> {
+    let site = site(alloc, TWO_COLOURS)?;
+    marks.begin();
+    let first = gf_inspect::aimed_at(alloc, site.history(), at(10, 10), Value::Shown(false));
+    marks.end();
+    Some(match first {
+        Err(OutOfMemory) => {
+            let value = Value::Shown(false);
+            let next = gf_inspect::aimed_at(alloc, site.history(), at(10, 10), value);
+            Came::after_memory(true, is_aimed(&next))
+        }
+        first => Came::first(is_aimed(&first)),
+    })
+}
+
+fn aimed_at_with(alloc: Global, marks: &mut Marks) -> Option<Came> {
+    let site = site(alloc, TWO_COLOURS)?;
+    let (history, table) = (site.history(), site.table());
+    let (value, same) = (Value::Shown(false), Value::Shown(false));
+    marks.begin();
+    let first = gf_inspect::aimed_at_with(alloc, history, table, at(10, 10), value);
+    marks.end();
+    Some(match first {
+        Err(OutOfMemory) => {
+            let next = gf_inspect::aimed_at_with(alloc, history, table, at(10, 10), same);
+            Came::after_memory(true, is_aimed(&next))
+        }
+        first => Came::first(is_aimed(&first)),
+    })
+}
+
+/// The operations of the version that is on top.
+const TOP: [OpId; 2] = [BOX, OpId { site: 2, seq: 1 }];
+
+/// Whether a change hides the version that is on top.
+fn is_aimed(answer: &Result<Option<Change>, OutOfMemory>) -> bool {
+    match answer {
+        Ok(Some(Change::Set { object, value, aim })) => {
+            *object == ObjectId(BOX)
+                && *value == Value::Shown(false)
+                && aim.as_slice() == TOP.as_slice()
+        }
+        _ => false,
+    }
+}
+
+fn object_statuses(alloc: Global, marks: &mut Marks) -> Option<Came> {
+    let site = site(alloc, TWO_COLOURS)?;
+    let (history, table) = (site.history(), site.table());
+    marks.begin();
+    let first = gf_status::object_statuses(alloc, history, table);
+    marks.end();
+    Some(match first {
+        Err(OutOfMemory) => {
+            let next = gf_status::object_statuses(alloc, history, table);
+            Came::after_memory(true, is_open(next))
+        }
+        first => Came::first(is_open(first)),
+    })
+}
+
+/// Whether the status of the box tells two visible versions, which differ in one attribute.
+fn is_open(answer: Result<Vec<ObjectStatus>, OutOfMemory>) -> bool {
+    match answer {
+        Ok(statuses) => match statuses.as_slice() {
+            [one] => one.versions == 2 && one.shown == 2 && one.differences.len() == 1,
+            _ => false,
+        },
         Err(OutOfMemory) => false,
     }
 }
