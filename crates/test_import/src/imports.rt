@@ -191,6 +191,24 @@ fn told_of_circles(alloc: Global, n: usize) -> Option<String> {
     imported(alloc, 2, &fig)
 }
 
+/// How many lines a text has, where each of them is this one.
+fn count_alike(text: &str, line: &str) -> Option<usize> {
+    if text.lines().all(|other| other == line) {
+        Some(text.lines().count())
+    } else {
+        None
+    }
+}
+
+#[test]
+fn as_many_figures_as_a_site_makes_are_imported(rt: HostRuntime) -> Result<(), Fail> {
+    let Some(told) = told_of_circles(rt.alloc(), 10_000) else {
+        return Err(Fail::new("no answer"));
+    };
+    assert_eq!(rt; count_alike(&told, piece("circle")), Some(10_000));
+    Ok(())
+}
+
 #[test]
 fn more_figures_than_a_site_makes_are_refused(rt: HostRuntime) -> Result<(), Fail> {
     let told = told_of_circles(rt.alloc(), 10_001);

@@ -40,6 +40,19 @@ ranked 0                               | 0
 add 4.1: circle 10                     | ok
 ranked 1                               | 1
 ranked 0                               | more
+// So are a thousand.
+new                                      | ok
+add 1.1: box 10 10                       | ok
+rounds 1000                              | ok
+ranked 1000                              | more
+add 3.1 after 1001 1000: 1.1 shown false | ok
+ranked 0                                 | 0
+
+// eleven_rounds_are_2048_groups_by_the_plain_call
+new                                  | ok
+add 1.1: box 10 10                   | ok
+rounds 11                            | ok
+plain_count 1.1                      | 2048
 
 // what_is_hidden_is_not_ranked
 new                                  | ok

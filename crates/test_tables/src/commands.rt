@@ -24,6 +24,12 @@ pub(crate) fn plain_groups(alloc: Global, site: &Site, text: &str) -> Option<Str
     told(alloc, groups_of(alloc, site.history(), object))
 }
 
+/// How many groups an object has, by the plain call.
+pub(crate) fn plain_count(alloc: Global, site: &Site, text: &str) -> Option<String> {
+    let groups = groups_of(alloc, site.history(), ObjectId(id(text)?)).ok()?;
+    counted(alloc, Some(groups.as_slice().len()))
+}
+
 /// The groups of an object, by a copy of the table.
 pub(crate) fn copied(alloc: Global, site: &Site, text: &str) -> Option<String> {
     let object = ObjectId(id(text)?);

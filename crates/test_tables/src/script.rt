@@ -61,6 +61,7 @@ fn told_of(alloc: Global, site: &Site, verb: &str, text: &str) -> Option<String>
     match verb {
         "groups" => commands::groups(alloc, site, text),
         "plain" => commands::plain_groups(alloc, site, text),
+        "plain_count" => commands::plain_count(alloc, site, text),
         "copied" => commands::copied(alloc, site, text),
         "visible" => commands::visible(alloc, site, text),
         "ranked" => commands::ranking(alloc, site, text),
