@@ -2,6 +2,7 @@
 
 use gf_edit::EditError;
 use gf_import::ImportError;
+use gf_session_run::SessionRunError;
 use gf_studio::StudioError;
 use thiserror::Error;
 
@@ -14,4 +15,6 @@ pub(crate) enum Refusal {
     Edit(#[from] EditError),
     #[error(transparent)]
     Import(#[from] ImportError),
+    #[error(transparent)]
+    Session(#[from] SessionRunError),
 }

@@ -11,13 +11,13 @@ use gf_fit::{Frame, paint_fitted_run, repaint_fitted_run};
 use gf_import::{ImportError, import_run};
 use gf_json::op_line;
 use gf_ops::ObjectId;
+use gf_session::SessionError;
+use gf_session_run::{SessionRunError, session_run};
 use gf_shape::{AnyShape, OutOfMemory};
-use gf_session_run::session_run;
 use gf_status::status_run;
 use gf_streams::{Reel, Tape};
 use gf_studio::{
-    OpenGate, Query, SessionError, StudioError, Window, fig_run, inspect_run, paint_run,
-    repaint_run,
+    OpenGate, Query, StudioError, Window, fig_run, inspect_run, paint_run, repaint_run,
 };
 use std::alloc::Global;
 use std::sync::Wait;
@@ -108,7 +108,7 @@ impl Example<'_> {
                 let is_front = whole.starts_with(tape.bytes());
                 Came::after_write(is_front, self.is_right(rt, alloc))
             }
-            Err(error) if self.is_want(error) => {
+            Err(StudioError::OutOfMemory) => {
                 let is_kept = self.is_cut(tape.bytes());
                 Came::after_memory(is_kept, self.is_right(rt, alloc))
             }
@@ -157,7 +157,14 @@ impl Example<'_> {
                 check_run(alloc, &mut source, tape)?;
                 Ok(())
             }
-            Run::Session => session_run(rt, alloc, &mut source, tape, 2, &OpenGate),
+            Run::Session => match session_run(rt, alloc, &mut source, tape, 2, &OpenGate) {
+                Ok(()) => Ok(()),
+                Err(SessionRunError::Run(error)) => Err(error),
+                Err(SessionRunError::Session(SessionError::OutOfMemory)) => {
+                    Err(StudioError::OutOfMemory)
+                }
+                Err(SessionRunError::Session(SessionError::Sites)) => Err(StudioError::ReadFailed),
+            },
         }
     }
 
@@ -166,14 +173,6 @@ impl Example<'_> {
         let whole = self.whole;
         let mut tape = Tape::new(alloc, None);
         self.run(rt, alloc, &mut tape) == Ok(()) && tape.bytes() == whole
-    }
-
-    /// Whether the error tells want of memory: of the run, or of the session in it.
-    fn is_want(&self, error: StudioError) -> bool {
-        match self.run {
-            Run::Session if error == StudioError::Session(SessionError::OutOfMemory) => true,
-            _ => error == StudioError::OutOfMemory,
-        }
     }
 
     /// Whether a run that wanted memory may leave these bytes.

@@ -3,7 +3,7 @@
 use gf_drawing::CompileFault;
 use gf_ops::{OpFault, OpId};
 use gf_streams::{Reel, Tape};
-use gf_studio::{LineCause, SessionError, StudioError, fig_run};
+use gf_studio::{LineCause, StudioError, fig_run};
 use std::alloc::{AllocError, Global};
 use std::test::Fail;
 use std::thread::Threads;
@@ -205,15 +205,13 @@ fn refusals_have_their_texts(rt: HostRuntime) -> Result<(), Fail> {
         StudioError::Dropped(OpId { site: 3, seq: 1 }, OpFault::BadClock),
         StudioError::Compile(CompileFault::TooManyVersions),
         StudioError::Compile(CompileFault::TooManyColours),
-        StudioError::Session(SessionError::Sites),
-        StudioError::Session(SessionError::OutOfMemory),
         StudioError::WriteFailed,
         StudioError::OutOfMemory,
     ];
     let text = printed(rt.alloc(), &errors)?;
     assert_eq!(rt;
         text.as_str(),
-        "read failed\ninput too long\nline 3: Json\nline 3: Field\nline 3: Range\nline 3: Clash\noperation 3.1 dropped: BadClock\nexport refused: TooManyVersions\nexport refused: TooManyColours\nsites must be 2 to 8\nsession: out of memory\nwrite failed\nout of memory\n"
+        "read failed\ninput too long\nline 3: Json\nline 3: Field\nline 3: Range\nline 3: Clash\noperation 3.1 dropped: BadClock\nexport refused: TooManyVersions\nexport refused: TooManyColours\nwrite failed\nout of memory\n"
     );
     Ok(())
 }
