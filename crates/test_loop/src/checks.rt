@@ -8,7 +8,8 @@ use test_kit::{Answers, ask};
 
 /// Each row: the lines of an input, and the lines that tell its faults, with ` / ` between them. A
 /// line is a piece by its name, or a text that stands for itself. `piece~part~text` is a piece with
-/// another text in the place of a part. `+` puts two pieces on one line.
+/// another text in the place of a part, and such a text `3*x` is x three times. `+` puts two pieces
+/// on one line. `^` is the byte ff.
 const ROWS: &str = r##"
 // Nothing is told of what has no fault, waits, comes again, or has a key twice.
 box move aimed |
@@ -56,6 +57,10 @@ polygon~,[0,9]~ | line 1: Range: points: count 2 is below 3
 polygon~[9,0]~[9,-1000001] | line 1: Range: points -1000001 is below -1000000
 move~"to":[7,8]~"to":[7,1000001] | line 1: Range: place 1000001 is above 1000000
 aimed~[1,2]]~[9,2]] | line 1: Range: aim: site 9 is above 8
+polygon~[9,0],~62*[9,0], |
+polygon~[9,0],~63*[9,0], | line 1: Range: points: count 65 is above 64
+aimed~[1,1],[1,2]~1000*id |
+aimed~[1,1],[1,2]~1001*id | line 1: Range: aim: count 1001 is above 1000
 
 // What is no JSON.
 box+circle | line 1: Json: more behind the first object: an LF is missing between two lines?
@@ -65,6 +70,9 @@ box~"shown":true}~"shown":true}, | line 1: Json: more behind the first object: a
 #note | line 1: Json: this is no JSON value
 box~"layer":0~"layer":01 | line 1: Json: this is no JSON value
 mark+box | line 1: Json: it begins with a byte order mark
+^ | line 1: Json: this is no UTF-8
+box+^ | line 1: Json: this is no UTF-8
+box~ff0000~^ | line 1: Json: this is no UTF-8
 
 // Ids that come again.
 box move move~[7,8]~[7,9] | line 3: Clash: 1.2 is in line 2 too, with another value of place
@@ -80,10 +88,15 @@ box move~"id":[1,2],"past":[1~"id":[1,1],"past":[0 | line 2: Clash: 1.1 is in li
 box move~[1,0,~[0,0, | operation 1.2: BadClock: its past counts 0 of its own site, and must count 1
 box move~[1,0,~[2,0, | operation 1.2: BadClock: its past counts 2 of its own site, and must count 1
 circle box~[0,0,0,0,0,0,0,0]~[0,1,0,0,0,0,0,0] move | operation 1.2: BadClock: its past counts 0 of site 2, and 1.1, which it counts, had 1
+circle~[2,1]~[8,1] box~[0,0,0,0,0,0,0,0]~[0,0,0,0,0,0,0,1] move~[1,2]~[2,1] | operation 2.1: BadClock: its past counts 0 of site 8, and 1.1, which it counts, had 1
+box move~[1,2]~[8,1] circle~[0,0,0,0,0,0,0,0]~[0,0,0,0,0,0,0,1] | operation 2.1: BadClock: its past counts 0 of site 1, and 8.1, which it counts, had 1
 box move~"object":[1,1]~"object":[1,9] | operation 1.2: NoObject: it changes 1.9, which is no object that its past counts
 circle resize | operation 2.2: WrongKind: 2.1 is a circle: its size is two equal numbers
+polygon resize~[2,2]~[3,2]~[0,1,0,~[0,0,1,~[2,1]~[3,1] | operation 3.2: WrongKind: 3.1 is a polygon: it has no size
 circle resize~"size"~"points"~[5,6]~[[0,0],[9,0],[0,9]] | operation 2.2: WrongKind: 2.1 is a circle: it has no points
 box move aimed~[1,1],[1,2]~[1,1],[1,3] | operation 1.3: BadAim: its aim has 1.3, which its past does not count
+box circle aimed~[1,3],"past":[2,0,~[1,2],"past":[1,1,~[1,1],[1,2]]~[1,1],[2,1]] | operation 1.2: BadAim: its aim has 2.1, which concerns another object
+box move move~[1,2]~[2,1]~[7,8]~[9,9] aimed~[2,0,~[2,1,~[1,2]]~[1,2],[2,1]] | operation 1.3: BadAim: its aim has two operations that conflict
 box move aimed layer~"id":[1,3],"past":[2~"id":[1,4],"past":[3~"to":5~"to":5,"aim":[[1,3]] | operation 1.4: BadAim: its aim has 1.3, and lacks an operation that 1.3 is aimed at
 
 // All at once, each with the number of its line.
@@ -136,19 +149,48 @@ fn push_piece(alloc: Global, name: &str, text: &mut String) -> Option<()> {
     let mut line = String::new(alloc);
     line.push_str(piece(parts.next()?)).ok()?;
     while let Some(old) = parts.next() {
-        line = line.as_str().replacen(alloc, old, parts.next()?, 1).ok()?;
+        let new = repeated(alloc, parts.next()?)?;
+        line = line.as_str().replacen(alloc, old, &new, 1).ok()?;
     }
     text.push_str(&line).ok()
 }
 
-/// The text of an input.
-fn input(alloc: Global, names: &str) -> Option<String> {
+/// `3*x` is x three times, and `3*id` the ids of the first three operations of site 1. Another text
+/// stands for itself.
+fn repeated(alloc: Global, word: &str) -> Option<String> {
+    let mut text = String::new(alloc);
+    let Some((count, what)) = word.split_once('*') else {
+        text.push_str(word).ok()?;
+        return Some(text);
+    };
+    if what == "id" {
+        text.push_str("[1,1]").ok()?;
+        for number in 2..=count.parse::<u32>().ok()? {
+            let next = format!(in alloc; ",[1,{number}]").ok()?;
+            text.push_str(next.as_str()).ok()?;
+        }
+        return Some(text);
+    }
+    for _ in 0..count.parse::<u32>().ok()? {
+        text.push_str(what).ok()?;
+    }
+    Some(text)
+}
+
+/// The bytes of an input.
+fn input(alloc: Global, names: &str) -> Option<Vec<u8>> {
     let mut text = String::new(alloc);
     for line in names.split_whitespace() {
         push_pieces(alloc, line, &mut text)?;
         text.push_str("\n").ok()?;
     }
-    Some(text)
+    let mut bytes = text.into_bytes();
+    for byte in &mut bytes {
+        if *byte == b'^' {
+            *byte = 0xff;
+        }
+    }
+    Some(bytes)
 }
 
 #[derive(Drop)]
@@ -156,8 +198,7 @@ struct Checks;
 
 impl Answers for Checks {
     fn answer(&mut self, alloc: Global, question: &str) -> Option<String> {
-        let text = input(alloc, question)?;
-        let told = faults_of(alloc, text.into_bytes()).ok()?;
+        let told = faults_of(alloc, input(alloc, question)?).ok()?;
         let told = String::from_utf8(told).ok()?;
         told.as_str().trim().replace(alloc, "\n", " / ").ok()
     }
@@ -175,8 +216,8 @@ box move box~"layer":0~"layer":10000 | Faulty, 41
 "#;
 
 /// What a check answers, and how many bytes its sink takes.
-fn answer(alloc: Global, input: &str) -> Option<String> {
-    let mut source = Reel::new(input.as_bytes(), None);
+fn answer(alloc: Global, input: &[u8]) -> Option<String> {
+    let mut source = Reel::new(input, None);
     let mut sink = Tape::new(alloc, None);
     let verdict = check_run(alloc, &mut source, &mut sink).ok()?;
     counted(alloc, verdict, sink.bytes().len())

@@ -1,10 +1,13 @@
 //! What one site makes of its commands behind the operations that are read with them.
 
-use gf_edit::edit_run;
+use gf_edit::{EditError, edit_run};
+use gf_ops::OpId;
 use gf_streams::{Reel, Tape};
+use gf_studio::StudioError;
+use gf_worker::Cause;
 use std::alloc::Global;
 use std::test::Fail;
-use test_kit::is_answer;
+use test_kit::{is_answer, prints};
 
 /// Each row: the site and the input, what is written, and what is told. `/` ends a line. Other
 /// words are pieces by their names, or texts that stand for themselves. `piece~part~text` is a
@@ -196,6 +199,58 @@ fn edits_write_what_commands_make(rt: HostRuntime) -> Result<(), Fail> {
             return Err(Fail::new("no piece"));
         };
         is_answer(row, want.as_str().trim(), answer(alloc, question))?;
+    }
+    Ok(())
+}
+
+/// A box, and `count` commands that move it.
+fn moves(alloc: Global, count: u32) -> Option<String> {
+    let mut text = joined(alloc, "box /")?;
+    for _ in 0..count {
+        push_piece(alloc, "move", &mut text)?;
+        text.push_str("\n").ok()?;
+    }
+    Some(text)
+}
+
+/// How many lines the edit of site 2 writes, and what it tells.
+fn counted(alloc: Global, count: u32) -> Option<String> {
+    let input = moves(alloc, count)?;
+    let mut sink = Tape::new(alloc, None);
+    let made = edit_run(alloc, &mut Reel::new(input.as_bytes(), None), &mut sink, 2);
+    let made = made.ok()??;
+    let lines = str::from_utf8(sink.bytes()).ok()?.lines().count();
+    format!(in alloc; "{lines}: {made}").ok()
+}
+
+#[test]
+fn a_thousand_commands_and_one_more_are_made(rt: HostRuntime) -> Result<(), Fail> {
+    let row = "1001";
+    is_answer(row, "1001: made 2.1 to 2.1001", counted(rt.alloc(), 1_001))
+}
+
+#[test]
+fn refusals_have_their_texts(rt: HostRuntime) -> Result<(), Fail> {
+    let first = OpId { site: 3, seq: 1 };
+    let second = OpId { site: 2, seq: 4 };
+    for (error, text) in [
+        (EditError::Run(StudioError::TooLong), "input too long"),
+        (
+            EditError::Waits(first, second),
+            "operation 3.1 waits for 2.4",
+        ),
+        (EditError::Refused(7, Cause::Exhausted), "line 7: Exhausted"),
+        (EditError::Refused(7, Cause::Range), "line 7: Range"),
+        (EditError::Refused(7, Cause::NoObject), "line 7: NoObject"),
+        (EditError::Refused(7, Cause::WrongKind), "line 7: WrongKind"),
+        (EditError::Refused(7, Cause::BadAim), "line 7: BadAim"),
+        (EditError::Refused(7, Cause::OwnId), "line 7: OwnId"),
+        (
+            EditError::Refused(7, Cause::NeverComes),
+            "line 7: NeverComes",
+        ),
+    ] {
+        prints(rt.alloc(), error, text)?;
     }
     Ok(())
 }

@@ -42,6 +42,9 @@ const ROWS: &str = "
 rounds 9 | Open; site 1 has 10; site 2 has 9; object 1.1 has 512 versions, 512 shown; object 1.1 layer 1.10 2.9
 rounds 10 | Open; site 1 has 11; site 2 has 10; object 1.1 has more than 1000 versions, more than 1000 shown
 
+// A thousand objects and one more.
+boxes 1001 | Clean; site 1 has 1001
+
 // Moved while it was hidden, and hidden anew.
 1.1: box 1 1; 1.2 after 1: 1.1 shown false; 2.1 after 1: 1.1 place 7,7 | Open; site 1 has 2; site 2 has 1; object 1.1 hidden, changed by 2.1
 1.1: box 1 1; 1.2 after 1: 1.1 shown false; 2.1 after 1: 1.1 place 7,7; 1.3 after 2 1: 1.1 shown false | Clean; site 1 has 3; site 2 has 1
@@ -74,8 +77,22 @@ fn rounds(alloc: Global, count: u32) -> Option<Vec<u8>> {
     Some(input)
 }
 
+/// So many objects of one site.
+fn boxes(alloc: Global, count: u32) -> Option<Vec<u8>> {
+    let mut input = Vec::new(alloc);
+    for number in 1..=count {
+        let before = number.saturating_sub(1);
+        let one = format!(in alloc; "1.{number} after {before}: box 1 1").ok()?;
+        push_op(alloc, &mut input, one.as_str())?;
+    }
+    Some(input)
+}
+
 /// The lines of the operations of a question.
 fn lines(alloc: Global, question: &str) -> Option<Vec<u8>> {
+    if let Some(count) = question.strip_prefix("boxes ") {
+        return boxes(alloc, count.parse().ok()?);
+    }
     if let Some(count) = question.strip_prefix("rounds ") {
         return rounds(alloc, count.parse().ok()?);
     }
