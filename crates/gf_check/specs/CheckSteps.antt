@@ -9,8 +9,8 @@ use Rattle.gf_replay.specs.declared.reading_error.ReadingError.{ReadingError}
 use Rattle.gf_replay.specs.LineSteps.{HasRead, RefusesLine, RefusesSettling, TakesLine}
 use Rattle.gf_replay.specs.Taking.{HasOrHolds, KeepsAll, RefusesOp, Settles, TakesOp}
 use Rattle.gf_check.specs.FaultLines.{Told, told_line, told_text}
-use Rattle.gf_check.specs.AllFaults.{HasOneById, IsInputFault, IsFaultOf, KeepsOrTells, TellsDropped}
-use Rattle.gf_check.specs.AllFaults.{TellsEach, TellsOp}
+use Rattle.gf_check.specs.AllFaults.{HasOneById, IsInputFault, IsFaultOf, KeepsOrTells}
+use Rattle.gf_check.specs.AllFaults.{TellsDropped, TellsEach, TellsOp}
 
 -- the text grows from old to new by a line that tells this fault
 pub record TellsFault (e : ReadingError) (old new : List ℕ) : Type 0 where
