@@ -1,5 +1,5 @@
 -- What clap's clauses tell of the options and of the faults.
-use Rattle.std.proofs.Common.{◌≡◌, ◌∙◌, ℕ, true, refl, sym, Option, Some, None, Result, Ok, Err, IfErr, IfSome}
+use Rattle.std.proofs.Common.{◌≡◌, ◌∙◌, ℕ, [], true, refl, sym, Option, Some, None, Result, Ok, Err, IfErr, IfSome, OnOk}
 use Rattle.std.specs.Str.Parse.{ParsesUnsigned}
 use Rattle.clap.specs.Words.{FailsBy, HasKind, Kinds, ReadsOne, Text, is_simple, is_simple_and_free, one_text, rows_of}
 use Rattle.clap.specs.declared.error.Error.{Error}
@@ -21,6 +21,11 @@ program_free = refl
 pub has_kind : {T : Type 0} (kinds : Kinds) (r : Result T Error) → FailsBy kinds r → IfErr r (HasKind kinds)
 has_kind kinds (Ok x) h = tt
 has_kind kinds (Err e) h = h
+
+-- an answer comes only where there is no kind
+pub no_kind : {T : Type 0} (kinds : Kinds) (r : Result T Error) → FailsBy kinds r → OnOk r (kinds ≡ [])
+no_kind kinds (Ok x) h = h
+no_kind kinds (Err e) h = tt
 
 -- a number that was read is that of the option's text
 pub natural_given : (E : Type 0) (G : Text → Result ℕ E → Type 0) (k : ℕ) (f : Found) (name : Text) (r : Option ℕ)

@@ -1,5 +1,5 @@
 -- What the words of the command line ask for, by what clap reads of them (this project's choice).
-use Rattle.std.specs.Prelude.{◌≡◌, ◌⊎◌, ◌&&◌, ◌||◌, ℕ, ℤ, pos, Bool, false, List}
+use Rattle.std.specs.Prelude.{◌≡◌, ◌≢◌, ◌⊎◌, ◌&&◌, ◌||◌, ℕ, ℤ, pos, Bool, false, List, []}
 use Rattle.std.specs.Prelude.{Option, Some, None, Result, Ok, Err, codes, is_some, FitsSigned}
 use Rattle.std.specs.Prelude.{IsTrue, MatchOption, ⊤}
 use Rattle.std.specs.Str.{bytes_eq}
@@ -18,6 +18,7 @@ use Rattle.gf_studio.specs.declared.inspecting.Query.{Query}
 use Rattle.gf_studio.specs.declared.inspecting.Query.TheVariants.{Object, At}
 use Rattle.gf_command.specs.declared.runs.Asked.{Asked}
 use Rattle.gf_command.specs.declared.runs.Asked.TheVariants as asked
+use Rattle.gf_command.specs.declared.runs.Mistake.{Mistake}
 use Rattle.gf_command.specs.declared.runs.Mistake.TheVariants as mistake
 use Rattle.gf_command.specs.declared.runs.QueryFault.{QueryFault}
 use Rattle.gf_command.specs.declared.runs.QueryFault.TheVariants.{NotOne, Unreadable}
@@ -160,16 +161,32 @@ IsAsked met (asked.Mistake mistake.PlacedFit) =
 IsAsked met (asked.Mistake (mistake.Query fault)) =
     Meets met (codes "inspect") (λ rows. IsInspected rows (Err fault))
 
+-- clap takes the words
+abbrev pub AreTaken : List Text → Type 0
+AreTaken words = fault_of program words ≡ []
+
 -- the words ask for this run
 abbrev pub Asks : List Text → Run → Type 0
-Asks words = AsksRun (subcommand_of program words)
+Asks words run = AreTaken words × AsksRun (subcommand_of program words) run
 
 -- what the words tell: a run, or a mistake in its options
 abbrev pub AsksFor : List Text → Asked → Type 0
-AsksFor words = IsAsked (subcommand_of program words)
+AsksFor words asked = AreTaken words × IsAsked (subcommand_of program words) asked
 
 -- the words ask for the help or the version
 pub record AsksHelp (words : List Text) : Type 0 where
   pub kind : ErrorKind
   pub among : IsAmong kind (fault_of program words)
   pub told : (kind ≡ DisplayHelp) ⊎ (kind ≡ DisplayVersion)
+
+-- clap refuses the words
+pub record AreRefused (words : List Text) : Type 0 where
+  pub kind : ErrorKind
+  pub among : IsAmong kind (fault_of program words)
+  pub no_help : kind ≢ DisplayHelp
+  pub no_version : kind ≢ DisplayVersion
+
+-- the words ask for nothing: clap refuses them, or there is a mistake in their options
+abbrev pub AreMistaken : List Text → Type 0
+AreMistaken words =
+    AreRefused words ⊎ ((mistake : Mistake) × AsksFor words (asked.Mistake mistake))

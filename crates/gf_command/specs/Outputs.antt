@@ -3,7 +3,7 @@ use Rattle.std.specs.Prelude.{◌≡◌, ◌⊎◌, ℕ, true, List, Option}
 use Rattle.gf_shape.specs.declared.colour.Rgb.{Rgb}
 use Rattle.gf_shape.specs.declared.point.Point.{Point}
 use Rattle.gf_scanline.specs.Windows.{View}
-use Rattle.gf_studio.specs.FigRun.{Exports, IsFigOf}
+use Rattle.gf_studio.specs.FigRun.{Exports, IsFigOf, Writes}
 use Rattle.gf_studio.specs.InspectRun.{AnswersQuery, WritesAnswer}
 use Rattle.gf_studio.specs.PaintRun.{IsDenoted, IsMeant, IsPicture, WritesBands, WritesPicture}
 use Rattle.gf_studio.specs.RunAnswers.{WritesPrefix}
@@ -44,9 +44,9 @@ module _ (Fits : Sides → View → Type 0) (IsShown : (Point → Rgb) → Type 
 -- known bytes grow from old to new by what the run asks for. This is the FIG text, the picture, the
 -- status or the answer to a query of what the bytes denote. Or it is the picture of a FIG text's
 -- drawing, the lines of an import or those of an edit. Or it is what a session came to, or nothing
--- where there is no fault
+-- where there is no fault. The FIG text shows the history, and is to the byte that of its drawing
 abbrev pub Answers : Run → List ℕ → Option (List ℕ) → Option (List ℕ) → Type 0
-Answers (Fig workers) bytes old new = Exports bytes old new
+Answers (Fig workers) bytes old new = Exports bytes old new × Writes bytes old new
 Answers (Paint canvas) bytes old new =
     WritesExtent (FitsLines bytes) (IsMeant bytes) old new canvas.extent
 Answers (Repaint canvas) bytes old new =

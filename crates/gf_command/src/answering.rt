@@ -1,10 +1,11 @@
 //! The command line.
 
-ghost use Rattle.std.specs.Prelude.{◌≡◌, ◌≤◌, ◌⊎◌, IfSome, IfErr, IfOk, OnOk, IsTrue, map};
+ghost use Rattle.std.specs.Prelude.{◌≡◌, ◌≤◌, ◌⊎◌, IfSome, IfErr, IfOk, OnErr, OnOk, IsTrue, map};
 ghost use Rattle.std.specs.Prelude.{string_bytes};
+ghost use Rattle.gf_streams.specs.Counts.{Rises};
 ghost use Rattle.gf_command.specs.Outputs.{Answers, AnswersPrefix, AnswersOpen};
 ghost use Rattle.gf_command.specs.Outcomes.{AnswersSo};
-ghost use Rattle.gf_command.specs.Asking.{Asks, AsksHelp};
+ghost use Rattle.gf_command.specs.Asking.{AreMistaken, Asks, AsksHelp};
 ghost use Rattle.gf_command.specs.declared.runs.Run.{Run};
 
 use crate::chosen::Chosen;
@@ -29,8 +30,8 @@ use std::thread::Threads;
 /// Status 0 is success, 1 a refusal or something to be seen to, 2 a mistake in the words.
 ///
 /// Faults go to `faults`, as do the usage after a mistake, what an edit made and the chosen window.
-/// Help and version go to `output`. The words are read before any input. A text for `faults` or a
-/// help that can't be written changes no status.
+/// Help and version go to `output`. The words are read before any input. A text for `faults` that
+/// can't be written changes no status.
 pub fn command<T: Threads + Wait + Sync, R: Source, W: Sink, E: Sink>(
     rt: &T,
     alloc: Global,
@@ -46,25 +47,29 @@ pub fn command<T: Threads + Wait + Sync, R: Source, W: Sink, E: Sink>(
         × (source.new ≡ source.old)) ⊎ ((run : Run) × Asks (map string_bytes words.now) run ×
         IfSome (R.left source.old) (λ bytes.
         Answers run bytes (W.taken output.old) (W.taken output.new))) }
-    ensures flushed { result ≡ 0 → AsksHelp (map string_bytes words.now)
-        ⊎ IsTrue (W.flushed output.new) }
+    ensures flushed { result ≡ 0 → IsTrue (W.flushed output.new) }
     // A refusal leaves the output as it was, or with a prefix of what the words ask for. What is to
     // be seen to is written.
-    ensures refused { result ≡ 1 → (output.new ≡ output.old) ⊎ ((run : Run)
-        × Asks (map string_bytes words.now) run × IfSome (R.left source.old) (λ bytes.
-        AnswersPrefix run bytes (W.taken output.old) (W.taken output.new)
+    ensures refused { result ≡ 1 → (output.new ≡ output.old)
+        ⊎ (AsksHelp (map string_bytes words.now) × (source.new ≡ source.old)
+        × Rises (W.failures output.old) (W.failures output.new))
+        ⊎ ((run : Run) × Asks (map string_bytes words.now) run × IfSome (R.left source.old)
+        (λ bytes. AnswersPrefix run bytes (W.taken output.old) (W.taken output.new)
         ⊎ AnswersOpen run bytes (W.taken output.old) (W.taken output.new))) }
+    // Status 2 comes only where the words ask for nothing.
+    ensures mistaken { result ≡ 2 → AreMistaken (map string_bytes words.now) }
     ensures mistake { result ≡ 2 → (source.new ≡ source.old) × (output.new ≡ output.old) }
 {
     match parse(alloc, words) {
-        Ok(Asked::Run(run)) => match answer(rt, alloc, run, source, output) {
+        Ok(Some(Asked::Run(run))) => match answer(rt, alloc, run, source, output) {
             Ok(Outcome::Written) => 0,
             Ok(Outcome::Made(made)) => tell_made(alloc, made, faults),
             Ok(Outcome::Painted(chosen)) => tell_chosen(alloc, chosen, faults),
             Ok(Outcome::Open) => 1,
             Err(error) => refuse(alloc, error, faults),
         },
-        Ok(Asked::Mistake(mistake)) => tell_mistake(mistake, faults),
+        Ok(Some(Asked::Mistake(mistake))) => tell_mistake(mistake, faults),
+        Ok(None) => refuse(alloc, Refusal::Options, faults),
         Err(error) if error.kind() == ErrorKind::OutOfMemory => {
             refuse(alloc, Refusal::Run(StudioError::OutOfMemory), faults)
         }
@@ -72,10 +77,10 @@ pub fn command<T: Threads + Wait + Sync, R: Source, W: Sink, E: Sink>(
             let _ = print(alloc, &error, faults);
             2
         }
-        Err(error) => {
-            let _ = print(alloc, &error, output);
-            0
-        }
+        Err(error) => match print(alloc, &error, output) {
+            Ok(()) => 0,
+            Err(fault) => refuse(alloc, Refusal::Run(StudioError::from(fault)), faults),
+        },
     }
 }
 
@@ -195,7 +200,9 @@ fn tell_mistake<E: Sink>(mistake: Mistake, faults: &mut E) -> u8
 
 /// Writes what clap says, and flushes.
 fn print<W: Sink>(alloc: Global, error: &Error, sink: &mut W) -> Result<(), WriteError>
-    ensures { OnOk result (IsTrue (W.flushed sink.new)) }
+    ensures flushed { OnOk result (IsTrue (W.flushed sink.new)) }
+    ensures failed { OnErr result ((sink.new ≡ sink.old)
+        ⊎ Rises (W.failures sink.old) (W.failures sink.new)) }
 {
     let text = format!(in alloc; "{error}")?;
     write_whole(sink, text.as_bytes())?;

@@ -1,11 +1,11 @@
 //! What the words of the command line ask for.
 
 ghost use Rattle.std.specs.Prelude.{◌≡◌, ◌⊎◌, Some, codes, false, is_some, map, pos};
-ghost use Rattle.std.specs.Prelude.{IfErr, IfOk, IfSome, option_map, string_bytes};
-ghost use Rattle.clap.specs.Words.{HasKind, fault_of, found_of, kind_of, rows_of};
+ghost use Rattle.std.specs.Prelude.{IfErr, IfOk, IfSome, OnOk, option_map, string_bytes};
+ghost use Rattle.clap.specs.Words.{HasKind, fault_of, found_of, rows_of};
 ghost use Rattle.clap.specs.Words.{subcommand_of, subcommand_rows_of};
 ghost use Rattle.gf_command.specs.CommandLine as line;
-ghost use Rattle.gf_command.specs.Asking.{AsksQuery, HasNatural, HasNaturalOr, HasWholeOr};
+ghost use Rattle.gf_command.specs.Asking.{AreTaken, AsksQuery, HasNatural, HasNaturalOr, HasWholeOr};
 ghost use Rattle.gf_command.specs.Asking.{HasWorkers};
 ghost use Rattle.gf_command.specs.Asking.{IsAsked, IsCanvas, IsExtent, IsFrame, IsInspected};
 ghost use Rattle.gf_command.specs.Asking.{IsNaturalOr, IsWholeOr, IsWindow, AsksFor, has_flag};
@@ -14,28 +14,25 @@ ghost use Rattle.gf_command.specs.Asking.{is_given, is_placed, is_placed_fit, is
 use crate::describing::program;
 use crate::querying::{spelt_id, spelt_point};
 use crate::runs::{Asked, Canvas, Editor, Extent, Mistake, QueryFault, Run, Workers};
-use clap::error::ErrorKind;
 use clap::{ArgMatches, Error};
 use gf_fit::Frame;
 use gf_ops::ObjectId;
 use gf_studio::{Query, Window};
-use std::alloc::{AllocError, Global};
+use std::alloc::Global;
 
-/// Reads the words, the first of which is the program's name.
-pub fn parse(alloc: Global, words: &[String]) -> Result<Asked, Error>
-    ensures asked { IfOk result (λ asked. AsksFor (map string_bytes words.now) asked) }
-    ensures fails { IfErr result (λ e. (kind_of e ≡ ErrorKind.ValueValidation)
-        ⊎ HasKind (fault_of line.program (map string_bytes words.now)) e) }
+/// Reads the words, the first of which is the program's name. The answer is none where an option
+/// that clap took is outside its limits, for which clap's own checks leave no room.
+pub fn parse(alloc: Global, words: &[String]) -> Result<Option<Asked>, Error>
+    ensures asked { IfOk result (λ asked. IfSome asked (AsksFor (map string_bytes words.now))) }
+    ensures fails { IfErr result (HasKind (fault_of line.program (map string_bytes words.now))) }
 {
     let matches = matches_of(alloc, words)?;
-    match read_matches(&matches) {
-        Some(asked) => Ok(asked),
-        None => Err(out_of_range(alloc)?),
-    }
+    Ok(read_matches(&matches))
 }
 
 /// What clap reads of the words.
 fn matches_of<'a>(alloc: Global, words: &'a [String]) -> Result<ArgMatches<'a>, Error>
+    ensures taken { OnOk result (AreTaken (map string_bytes words.now)) }
     ensures read { IfOk result (λ m. subcommand_rows_of m
         ≡ subcommand_of line.program (map string_bytes words.now)) }
     ensures fails { IfErr result (HasKind (fault_of line.program (map string_bytes words.now))) }
@@ -248,11 +245,4 @@ fn natural_or_one(text: Option<&str>) -> Option<u32>
         None => Some(1),
         Some(text) => text.parse().ok(),
     }
-}
-
-/// A mistake that clap's own checks of the options leave no room for.
-fn out_of_range(alloc: Global) -> Result<Error, AllocError>
-    ensures { IfOk result (λ e. kind_of e ≡ ErrorKind.ValueValidation) }
-{
-    program(alloc)?.error(ErrorKind::ValueValidation, "an option is out of range")
 }

@@ -17,4 +17,7 @@ pub(crate) enum Refusal {
     Import(#[from] ImportError),
     #[error(transparent)]
     Session(#[from] SessionRunError),
+    /// An option that clap took is outside its limits.
+    #[error("an option is out of range")]
+    Options,
 }

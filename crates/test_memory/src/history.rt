@@ -227,9 +227,7 @@ fn is_held(answer: Result<Offered, OfferFault>, buffer: &Buffer) -> bool {
 fn holding(alloc: Global, history: &History) -> Option<Buffer> {
     let mut buffer = Buffer::new(alloc);
     buffer.offer(operation(alloc, RECOLOURED)?, history).ok()?;
-    buffer
-        .offer(operation(alloc, RED_BOX_MADE)?, history)
-        .ok()?;
+    buffer.offer(operation(alloc, RED_BOX_MADE)?, history).ok()?;
     Some(buffer)
 }
 

@@ -205,9 +205,7 @@ fn are_parted(answer: Result<Components, OutOfMemory>) -> bool {
 
 fn is_pair(components: &[Component]) -> bool {
     match components {
-        [both] => {
-            both.all().has(1) && both.all().has(2) && matches!(both.sets(), Some([_, _]))
-        }
+        [both] => { both.all().has(1) && both.all().has(2) && matches!(both.sets(), Some([_, _])) }
         _ => false,
     }
 }

@@ -1,8 +1,15 @@
-use Rattle.std.proofs.Common.{◌∙◌, IfErr, ap, map, string_bytes, subst}
+use Rattle.std.proofs.Common.{◌≡◌, ◌∙◌, [], IfErr, OnOk, ap, map, string_bytes, subst}
 use Rattle.std.proofs.lemmas.Result.{IfOk-weaker}
 use Rattle.clap.specs.Words.{HasKind, fault_of, is_simple, is_simple_and_free, subcommand_of}
-use Rattle.gf_command.proofs.ReadingLemmas.{has_kind, program_free, program_simple}
+use Rattle.gf_command.proofs.ReadingLemmas.{has_kind, no_kind, program_free, program_simple}
 use Rattle.gf_command.proofs.asking.matches_of.Goals as goal
+
+pub returns-clause-taken : goal.returns-clause-taken
+returns-clause-taken c =
+    let is = c.in_ok-program.ensures in
+    let read = c.try_get_matches_from in
+    subst (λ a. OnOk read.result (fault_of a (map string_bytes c.args.words.now) ≡ [])) is
+    (no_kind _ read.result (read.ensures.kinds (ap is_simple_and_free is ∙ program_free)))
 
 pub returns-clause-read : goal.returns-clause-read
 returns-clause-read c =
