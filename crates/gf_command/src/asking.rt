@@ -5,8 +5,8 @@ ghost use Rattle.std.specs.Prelude.{IfErr, IfOk, IfSome, OnOk, option_map, strin
 ghost use Rattle.clap.specs.Words.{HasKind, fault_of, found_of, rows_of};
 ghost use Rattle.clap.specs.Words.{subcommand_of, subcommand_rows_of};
 ghost use Rattle.gf_command.specs.CommandLine as line;
-ghost use Rattle.gf_command.specs.Asking.{AreTaken, AsksQuery, HasNatural, HasNaturalOr, HasWholeOr};
-ghost use Rattle.gf_command.specs.Asking.{HasWorkers};
+ghost use Rattle.gf_command.specs.Asking.{AreTaken, AsksQuery, HasNatural, HasNaturalOr};
+ghost use Rattle.gf_command.specs.Asking.{HasWholeOr, HasWorkers};
 ghost use Rattle.gf_command.specs.Asking.{IsAsked, IsCanvas, IsExtent, IsFrame, IsInspected};
 ghost use Rattle.gf_command.specs.Asking.{IsNaturalOr, IsWholeOr, IsWindow, AsksFor, has_flag};
 ghost use Rattle.gf_command.specs.Asking.{is_given, is_placed, is_placed_fit, is_true};

@@ -1,5 +1,5 @@
 -- The largest compatible sets of showings and hidings, and which of them are visible (this
--- project's choice). No public clause but the law of one pass cites this module.
+-- project's choice). Only the law of one pass cites this module in public.
 use Rattle.std.specs.Prelude.{◌≡◌, ◌↔◌, ◌⊎◌, Bool, true, false, not, ◌&&◌}
 use Rattle.std.specs.Prelude.{List, [], ◌∷◌, filter, Contains}
 use Rattle.std.specs.List.{list_any, list_all, fold}
@@ -71,9 +71,9 @@ module _ {S H : Type 0} (knows : H → S → Bool) (follows : S → H → Bool) 
   abbrev pub beside : List H → List S → List H
   beside F t = filter (λ f. not (list_any (rivals f) t)) F
 
-  -- found are seen sets that are left of T when the rivals of some hidings of F are taken away. T is
-  -- one of them if it is seen, and with each one the sets that are seen without the rivals of one
-  -- more hiding
+  -- found are seen sets that are left of T when the rivals of some hidings of F are taken away.
+  -- T is one of them if it is seen, and with each one the sets that are seen without the rivals of
+  -- one more hiding
   pub record IsSearched (T : List S) (F : List H) (found : List (List S)) : Type 0 where
     pub each : (t : List S) → Contains found t
         → (seen knows F t ≡ true) × ((g : List H) × AreWithin g F × (t ≡ cut_all T g))

@@ -1,6 +1,7 @@
-//! The visible versions of a history, listed within a bound from its table of versions. Choices
-//! that decide whether a version shows are searched for. The others are counted before they are
-//! multiplied out.
+//! The visible versions of a history, listed within a bound from its table of versions. First the
+//! choices are found that decide whether a version shows: in one pass over the hidings where there
+//! is no aim among them, and else by a search. The others are counted before they are multiplied
+//! out.
 //!
 //! - [`visible_groups`]: the groups of the visible versions of one object.
 //! - [`ranked_within`]: the ranked list of the visible versions of a history; [`ranked_with`]: the
@@ -8,7 +9,8 @@
 //! - [`showing_within`]: the largest compatible sets of positions that show, but no more than so
 //!   many. [`Setters`] say what positions do to each other. Each position is chosen or left out,
 //!   and a partial choice is dropped as soon as it can't hold.
-//! - [`the_choices_are_the_largest_sets_that_show`]: the law of this search.
+//! - [`one_pass_finds_the_largest_sets_that_show`]: the law of the pass;
+//!   [`the_choices_are_the_largest_sets_that_show`]: the law of the search.
 #![tactic(auto)]
 
 mod deciding;

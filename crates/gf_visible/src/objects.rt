@@ -21,9 +21,8 @@ use std::alloc::Global;
 ///
 /// Choices that do not decide whether a version shows are counted first. They are multiplied out
 /// only where some version shows, and at most `most` do. Where an operation hid the object and
-/// knows all others, the call costs a pass over its operations. The choices that decide are
-/// searched for. A choice is dropped once it can't show any more, and the search stops beyond
-/// `most`.
+/// knows all others, the call costs a pass over its operations. The choices that decide are found
+/// in one pass where there is no aim among them, and else by a search. Either stops beyond `most`.
 pub fn visible_groups(
     alloc: Global,
     history: &History,

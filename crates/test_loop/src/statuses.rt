@@ -77,7 +77,7 @@ fn rounds(alloc: Global, count: u32) -> Option<Vec<u8>> {
     Some(input)
 }
 
-/// So many objects of one site.
+/// The lines of one site that makes so many objects.
 fn boxes(alloc: Global, count: u32) -> Option<Vec<u8>> {
     let mut input = Vec::new(alloc);
     for number in 1..=count {
