@@ -112,8 +112,8 @@ def conflict_rows(folder):
 
 def strange_rows(folder):
     """Inputs of strangers, one round each, as some are slow."""
-    inspect = Run([FIGGROUP, "inspect", "--at=5,5"], f"{folder}/rounds_30.jsonl", 1)
-    yield Row("`inspect --at` of 30 conflicts of one object: too many versions", inspect, None, 0.1)
+    inspect = ["sh", "-c", 'ulimit -v 2000000 && exec "$0" inspect --at=5,5', FIGGROUP]
+    yield Row("`inspect --at` of 30 conflicts of one object, with 2 GB: out of memory", Run(inspect, f"{folder}/rounds_30.jsonl", 1), None)
     little = Run(["sh", "-c", 'ulimit -s 512 && exec "$0" fig', FIGGROUP], f"{folder}/deep.jsonl", 1)
     yield Row("2,800 hides of a box, each an open choice, with 512 KB of stack", little, None, 2)
     for name, text, goal, status in (
