@@ -31,7 +31,8 @@ pub fn check_run<R: Source, W: Sink>(
 ) -> Result<Verdict, StudioError>
     // Where the answer is that there is no fault, the bytes denote a history, and nothing is
     // written. Where there are faults, the first that is written refuses the bytes. Each line that
-    // denotes no operation then has a line.
+    // denotes no operation then has a line. Each operation that has none is in a valid history, or
+    // waits behind it.
     ensures tells { IfOk result (λ verdict. IfSome (R.left source.old) (λ bytes.
         WritesCheck bytes verdict (W.taken sink.old) (W.taken sink.new))) }
 
