@@ -10,12 +10,11 @@ use Rattle.gf_ops.specs.OperationOrder.{Precedes}
 use Rattle.gf_ops.specs.ValidHistory.{IsValid}
 use Rattle.gf_ops.proofs.HistoryLemmas.{seq_in_range, site_in_range}
 use Rattle.gf_ops.proofs.ValidityLemmas.{precedes_irreflexive, precedes_transitive}
-use Rattle.gf_base.proofs.FilterLemmas.{Contains-filter, list_any_false, list_any_from, list_any_true}
+use Rattle.gf_base.proofs.FilterLemmas.{Contains-filter, list_any_false, list_any_true}
 use Rattle.gf_base.proofs.ListLemmas.{not_Contains-nil}
 use Rattle.gf_groups.proofs.ConflictTestLemmas.{before_decided}
 use Rattle.gf_groups.proofs.OnPositionLemmas.{contained_at}
 use Rattle.gf_visible.specs.ShownAt.{before_at, both_before}
-use Rattle.gf_visible.proofs.SetterLemmas.{one_op}
 use Rattle.gf_status.specs.SettersAt.{lasts, next_lasts, taken}
 
 -- ---- two operations
@@ -154,6 +153,13 @@ module _ (h : List Op) where
     all_last seen [] ls a = rw append-nil a
     all_last seen (x ∷ xs) ls a = subst (λ zs. AreLast zs (fold (next_lasts h) ls (x ∷ xs))) (append_assoc seen (x ∷ []) xs) (all_last (seen ++ x ∷ []) xs (next_lasts h ls x) (next_last seen ls x a))
 
+    last_of : (us : List ℕ) → AreLast us (lasts h us)
+    last_of us = all_last [] us [] (record { within = λ i c. c; others = λ i c. absurd (not_Contains-nil i c); apart = λ i j c d. absurd (not_Contains-nil i c) })
+
+    -- each position is a last one, or a last one comes after it
+    pub last_or_later : (us : List ℕ) (k : ℕ) → Contains us k → Contains (lasts h us) k ⊎ ((j : ℕ) × Contains (lasts h us) j × (before_at h k j ≡ true))
+    last_or_later us k c = (last_of us).others k c
+
     -- THE LAST ONES of us come before none at us, and no other one does that
     pub Contains-lasts : (us : List ℕ) (k : ℕ) → Contains (lasts h us) k ↔ (Contains us k × (is_last us k ≡ true))
     Contains-lasts us k = (
@@ -174,7 +180,7 @@ module _ (h : List Op) where
     )
       where
         a : AreLast us (lasts h us)
-        a = all_last [] us [] (record { within = λ i c. c; others = λ i c. absurd (not_Contains-nil i c); apart = λ i j c d. absurd (not_Contains-nil i c) })
+        a = last_of us
 
         never : {b : Bool} → b ≡ true → b ≡ false → ⊥
         never t f = absurd cc

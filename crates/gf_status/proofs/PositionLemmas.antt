@@ -8,6 +8,7 @@ use Rattle.std.specs.List.Sorted.{IsStrictlySortedBy}
 use Rattle.std.specs.Ordering.{nat_cmp}
 use Rattle.std.proofs.lemmas.Cmp.{nat_cmp_total}
 use Rattle.std.proofs.lemmas.List.Elements.{All-contains_itself, All-weaker, Contains-append_cases, Contains-append_left, Contains-append_right, Contains-push, Contains-push_cases}
+use Rattle.std.proofs.lemmas.Option.{slice_get_within}
 use Rattle.gf_ops.specs.declared.op.Op.{Op}
 use Rattle.gf_ops.specs.declared.op.ObjectId.{ObjectId}
 use Rattle.gf_ops.specs.declared.op.OpId.{OpId}
@@ -20,7 +21,7 @@ use Rattle.gf_components.proofs.ComponentLemmas.{all_of_fold}
 use Rattle.gf_groups.specs.Growing.{conflict_at}
 use Rattle.gf_groups.specs.GroupedPositions.{is_on, rising_ids}
 use Rattle.gf_groups.proofs.IdPositionLemmas.{Contains-rising_ids, rising_ids-rising, same_position}
-use Rattle.gf_groups.proofs.OnPositionLemmas.{all_positions, contained_at}
+use Rattle.gf_groups.proofs.OnPositionLemmas.{all_positions, contained_at, on_op}
 use Rattle.gf_maximal.proofs.InsertLemmas.{holds_all}
 use Rattle.gf_table.specs.Standing.{AreComponentsOn}
 use Rattle.gf_status.specs.Members.{IsIdAmong, IsMemberAt}
@@ -119,3 +120,7 @@ numbers_on h o t on k =
         | inr p ↦ Contains-append_right t.free flat k (to_flat t.components k p.0 p.1 p.2)
       ],
     )
+
+-- and so they stand within the history
+pub numbers_within : (h : List Op) (o : ObjectId) (t : ComponentsState) → AreComponentsOn h o t → (k : ℕ) → Contains (numbers_in t) k → k < length h
+numbers_within h o t on k c = let w = on_op o (slice_get h k) ((numbers_on h o t on k).0 c) in slice_get_within h k w.0 w.1

@@ -1,7 +1,8 @@
 pub mod Counting
 pub mod Multiplying
 pub mod Differing
-pub mod HiddenChanges
+pub mod Hidings
+pub mod UnseenChanges
 pub mod ObjectStatuses
 pub mod StatusLines
 pub mod StatusRun

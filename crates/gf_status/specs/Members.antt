@@ -14,6 +14,12 @@ pub record IsMemberAt (h : List Op) (ids : List OpId) (k : ℕ) : Type 0 where
   pub at : slice_get h k ≡ Some op
   pub among : Contains ids op.id
 
+-- the operation of h at the position k is of one of the groups
+pub record IsMemberInOne (h : List Op) (groups : List Group) (k : ℕ) : Type 0 where
+  pub group : Group
+  pub listed : Contains groups group
+  pub member : IsMemberAt h group.ops k
+
 -- an operation of h at one of the positions us has the id i
 pub record IsIdAmong (h : List Op) (us : List ℕ) (i : OpId) : Type 0 where
   pub position : ℕ

@@ -10,7 +10,8 @@ use Rattle.gf_status.specs.Counting.{IsCount, IsShownCount}
 use Rattle.gf_status.specs.declared.differing.Difference.{Difference}
 use Rattle.gf_status.specs.declared.objects.ObjectStatus.{ObjectStatus}
 use Rattle.gf_status.specs.Differing.{AreDifferences, attributes}
-use Rattle.gf_status.specs.HiddenChanges.{AreUnknowing}
+use Rattle.gf_status.specs.Hidings.{AreLastHidings}
+use Rattle.gf_status.specs.UnseenChanges.{AreUnseen}
 
 -- the differences of an object with n visible versions, which are listed where n is at most 1,000
 pub record TellsDifferences (h : List Op) (o : ObjectId) (n : ℕ)
@@ -18,10 +19,16 @@ pub record TellsDifferences (h : List Op) (o : ObjectId) (n : ℕ)
   pub few : n ≤ 1000 → AreDifferences h o attributes ds
   pub many : 1000 < n → ds ≡ []
 
--- the operations that changed an object with n visible versions, which are listed where n is 0
-pub record TellsChanged (h : List Op) (o : ObjectId) (n : ℕ) (ids : List OpId) : Type 0 where
-  pub hidden : n ≡ 0 → AreUnknowing h o ids
+-- the last hidings of an object with n visible versions, which are listed where n is 0
+pub record TellsHidings (h : List Op) (o : ObjectId) (n : ℕ) (ids : List OpId) : Type 0 where
+  pub hidden : n ≡ 0 → AreLastHidings h o ids
   pub visible : 0 < n → ids ≡ []
+
+-- the operations that changed what is not shown of an object with n visible versions, and knew
+-- nothing of what hides it; they are listed where n is at most 1,000
+pub record TellsUnseen (h : List Op) (o : ObjectId) (n : ℕ) (ids : List OpId) : Type 0 where
+  pub few : n ≤ 1000 → AreUnseen h o ids
+  pub many : 1000 < n → ids ≡ []
 
 -- s is the status of an object of h
 pub record IsStatusOf (h : List Op) (s : ObjectStatus) : Type 0 where
@@ -29,7 +36,8 @@ pub record IsStatusOf (h : List Op) (s : ObjectStatus) : Type 0 where
   pub versions : IsCount h s.object s.versions
   pub shown : IsShownCount h s.object s.shown
   pub differences : TellsDifferences h s.object s.shown s.differences.items
-  pub changed : TellsChanged h s.object s.shown s.changed
+  pub hidings : TellsHidings h s.object s.shown s.hidings
+  pub changed : TellsUnseen h s.object s.shown s.changed
 
 -- the ids of the objects of these statuses, in their order
 abbrev pub told_ids : List ObjectStatus → List OpId

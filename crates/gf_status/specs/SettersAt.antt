@@ -1,7 +1,7 @@
 -- What the operations at positions set, and in which order. No public clause cites this module.
 use Rattle.std.specs.Prelude.{ℕ, Bool, true, false, not, cond, ◌&&◌, ◌++◌, List, [], ◌∷◌}
 use Rattle.std.specs.Prelude.{filter, Option, Some, None, is_some, slice_get}
-use Rattle.std.specs.List.{list_any, flat_map, fold}
+use Rattle.std.specs.List.{list_all, list_any, flat_map, fold}
 use Rattle.gf_ops.specs.declared.op.Op.{Op}
 use Rattle.gf_ops.specs.declared.change.Attr.{Attr}
 use Rattle.gf_ops.specs.declared.change.Attr.TheVariants as attr
@@ -9,6 +9,8 @@ use Rattle.gf_ops.specs.declared.change.Value.{Value}
 use Rattle.gf_ops.specs.Attribute.{value_given}
 use Rattle.gf_ops.specs.declared.change.Value.TheVariants as value
 use Rattle.gf_ops.specs.ConflictTests.{value_eq}
+use Rattle.gf_maximal.specs.Growing.{is_in}
+use Rattle.gf_groups.specs.Growing.{conflict_at}
 use Rattle.gf_groups.specs.VersionList.{are_unordered}
 use Rattle.gf_components.specs.Components.{ComponentState, ComponentsState}
 use Rattle.gf_versions.specs.declared.key.Version.{Version}
@@ -83,13 +85,37 @@ module _ (h : List Op) where
   abbrev pub last_hidings : List ℕ → List ℕ
   last_hidings us = hidings (lasts (setters attr.Shown us))
 
-  -- the operation at the position i does not hide, and is unordered with an operation at js
-  abbrev pub is_unknowing : List ℕ → ℕ → Bool
-  is_unknowing js i = not (hides_at i) && list_any (unordered_at i) js
+  -- the operation at the position k does not conflict with the one at j
+  abbrev pub is_beside : ℕ → ℕ → Bool
+  is_beside k j = not (conflict_at h k j)
 
-  -- the positions of us that do not hide, and are unordered with one of js
-  abbrev pub unknowing : List ℕ → List ℕ → List ℕ
-  unknowing js us = filter (is_unknowing js) us
+  -- the positions of us whose operations do not conflict with the one at k
+  abbrev pub beside : List ℕ → ℕ → List ℕ
+  beside us k = filter (is_beside k) us
+
+  -- the last hidings among these setters us that do not conflict with the operation at k; ls are
+  -- the last ones of us
+  abbrev pub hidings_beside : List ℕ → List ℕ → ℕ → List ℕ
+  hidings_beside us ls k =
+      cond (list_all (is_beside k) ls) (hidings ls) (hidings (lasts (beside us k)))
+
+  -- the operation at k is unordered with one of these last hidings
+  abbrev pub is_unknowing : List ℕ → List ℕ → ℕ → Bool
+  is_unknowing us ls k = list_any (unordered_at k) (hidings_beside us ls k)
+
+  -- the operation at k neither shows nor hides, and k is none of these positions
+  abbrev pub is_left_out : List ℕ → ℕ → Bool
+  is_left_out seen k = not (sets_at attr.Shown k) && not (is_in seen k)
+
+  -- the positions of ks that are left out, and unordered with a last hiding among us
+  abbrev pub unknowing : List ℕ → List ℕ → List ℕ → List ℕ → List ℕ
+  unknowing seen us ls ks =
+      filter (λ k. is_left_out seen k && is_unknowing us ls k) ks
+
+-- the elements of the second list, where the first one has none
+abbrev pub where_none : {X Y : Type 0} → List X → List Y → List Y
+where_none [] ys = ys
+where_none (x ∷ xs) ys = []
 
 -- all numbers of the components, in no order
 abbrev pub numbers_in : ComponentsState → List ℕ

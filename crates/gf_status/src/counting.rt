@@ -1,12 +1,14 @@
 //! How many versions an object has, counted from the components of its operations.
 
-ghost use Rattle.std.specs.Prelude.{◌≡◌, ◌∷◌, [], IfOk, map};
+ghost use Rattle.std.specs.Prelude.{◌≡◌, ◌+◌, ◌∷◌, [], IfOk, map};
 ghost use Rattle.gf_components.specs.Components.{ComponentState};
 ghost use Rattle.gf_groups.specs.Versions.{IsMade};
 ghost use Rattle.gf_table.specs.Standing.{AreComponentsOn};
 ghost use Rattle.gf_status.specs.Counting.{IsCount, capped};
 ghost use Rattle.gf_status.specs.Multiplying.{count_with, counted};
+ghost use Rattle.gf_status.specs.StatusLines.{shown_in};
 
+use crate::ObjectStatus;
 use gf_components::{Component, Components};
 use gf_ops::{History, ObjectId};
 
@@ -54,4 +56,22 @@ fn capped(count: usize) -> usize
     } else {
         MOST_COUNTED + 1
     }
+}
+
+/// How many versions of the objects are shown in all; 1,001 where there are more than 1,000.
+pub(crate) fn shown_in(statuses: &[ObjectStatus]) -> usize
+    ensures { result ≡ shown_in statuses.now }
+{
+    let mut count = 0;
+    for status in statuses {
+        count = shown_with(count, status);
+    }
+    count
+}
+
+/// The count, and the shown versions of one object more; capped.
+fn shown_with(count: usize, status: &ObjectStatus) -> usize
+    ensures { result ≡ capped (count + status.now.shown) }
+{
+    capped(count.saturating_add(status.shown))
 }

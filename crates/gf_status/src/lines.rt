@@ -2,13 +2,14 @@
 
 ghost use Rattle.std.specs.Prelude.{◌≡◌, ◌++◌, [], IfOk, OnOk, cond, flat_map, map, nat_le};
 ghost use Rattle.gf_ops.specs.declared.op.Op.{Op};
-ghost use Rattle.gf_status.specs.StatusLines.{attribute_word, changed_line, difference_line};
-ghost use Rattle.gf_status.specs.StatusLines.{has_line, has_versions_line, hidden_line, id_text};
-ghost use Rattle.gf_status.specs.StatusLines.{ids_text, number_text, object_lines, site_line};
-ghost use Rattle.gf_status.specs.StatusLines.{site_lines, status_text, versions_line, waiting_line};
-ghost use Rattle.gf_status.specs.StatusLines.{waits_line};
+ghost use Rattle.gf_status.specs.StatusLines.{attribute_word, changed_line, crossed_line};
+ghost use Rattle.gf_status.specs.StatusLines.{difference_line, drawing_line, has_line};
+ghost use Rattle.gf_status.specs.StatusLines.{has_versions_line, hidden_line, hidings_line, id_text};
+ghost use Rattle.gf_status.specs.StatusLines.{ids_text, many_line, more_ids_text, number_text};
+ghost use Rattle.gf_status.specs.StatusLines.{object_lines, site_line, site_lines, status_text};
+ghost use Rattle.gf_status.specs.StatusLines.{versions_line, waiting_line, waits_line};
 
-use crate::counting::MOST_COUNTED;
+use crate::counting::{MOST_COUNTED, shown_in};
 use crate::{Difference, ObjectStatus};
 use gf_base::OutOfMemory;
 use gf_causal::waits_for;
@@ -33,6 +34,7 @@ pub(crate) fn status_text(
     push_sites(&mut out, history, &SITES)?;
     push_waiting(&mut out, history, waiting)?;
     push_objects(&mut out, statuses)?;
+    push_drawing(&mut out, shown_in(statuses))?;
     Ok(out)
 }
 
@@ -112,6 +114,7 @@ fn push_object(out: &mut Vec<u8>, status: &ObjectStatus) -> Result<(), AllocErro
 {
     push_versions(out, status.object, status.versions, status.shown)?;
     push_differences(out, status.object, &status.differences)?;
+    push_hidings(out, status.object, status.hidings.as_slice())?;
     push_hidden(out, status.object, status.changed.as_slice())
 }
 
@@ -210,7 +213,47 @@ fn attribute_word(attribute: Attr) -> &'static [u8]
     }
 }
 
-/// Appends that an object is hidden, if operations changed it.
+/// Appends that the hidings of an object crossed, if they are two or more.
+fn push_hidings(out: &mut Vec<u8>, object: ObjectId, hidings: &[OpId]) -> Result<(), AllocError>
+    ensures { OnOk result (out.new.items ≡ out.old.items ++ hidings_line object hidings.now) }
+{
+    match hidings {
+        [] | [_] => Ok(()),
+        [first, others @ ..] => push_crossed(out, object, *first, others),
+    }
+}
+
+/// Appends that an object is hidden by this operation and by these others.
+#[tactic(auto, unfolding(crate::specs::StatusLines::crossed_line))]
+fn push_crossed(
+    out: &mut Vec<u8>,
+    object: ObjectId,
+    first: OpId,
+    others: &[OpId],
+) -> Result<(), AllocError>
+    ensures { OnOk result (out.new.items ≡ out.old.items ++ crossed_line object first others.now) }
+{
+    out.extend_from_slice(b"object ")?;
+    push_id(out, object.0)?;
+    out.extend_from_slice(b" hidden by ")?;
+    push_id(out, first)?;
+    push_more_ids(out, others)?;
+    out.push(b'\n')?;
+    Ok(())
+}
+
+/// Appends ids, with ` and ` before each.
+fn push_more_ids(out: &mut Vec<u8>, ids: &[OpId]) -> Result<(), AllocError>
+    ensures { OnOk result (out.new.items ≡ out.old.items ++ more_ids_text ids.now) }
+{
+    for id in ids {
+        out.extend_from_slice(b" and ")?;
+        push_id(out, *id)?;
+    }
+    Ok(())
+}
+
+/// Appends that operations changed what is hidden of an object, if they did.
 fn push_hidden(out: &mut Vec<u8>, object: ObjectId, changed: &[OpId]) -> Result<(), AllocError>
     ensures { OnOk result (out.new.items ≡ out.old.items ++ hidden_line object changed.now) }
 {
@@ -220,7 +263,7 @@ fn push_hidden(out: &mut Vec<u8>, object: ObjectId, changed: &[OpId]) -> Result<
     }
 }
 
-/// Appends that an object is hidden, and which operations changed it.
+/// Appends which operations changed what is hidden of an object.
 #[tactic(auto, unfolding(crate::specs::StatusLines::changed_line))]
 fn push_changed(out: &mut Vec<u8>, object: ObjectId, changed: &[OpId]) -> Result<(), AllocError>
     ensures { OnOk result (out.new.items ≡ out.old.items ++ changed_line object changed.now) }
@@ -250,4 +293,22 @@ fn push_id(out: &mut Vec<u8>, id: OpId) -> Result<(), AllocError>
     push_number(out, id.site)?;
     out.push(b'.')?;
     push_number(out, id.seq)
+}
+
+/// Appends that more versions are shown than a drawing has, if they are.
+fn push_drawing(out: &mut Vec<u8>, shown: usize) -> Result<(), AllocError>
+    ensures { OnOk result (out.new.items ≡ out.old.items ++ drawing_line shown) }
+{
+    if MOST_COUNTED < shown {
+        push_many(out)?;
+    }
+    Ok(())
+}
+
+/// Appends the line that more versions are shown than a drawing has.
+#[tactic(auto, unfolding(crate::specs::StatusLines::many_line))]
+fn push_many(out: &mut Vec<u8>) -> Result<(), AllocError>
+    ensures { OnOk result (out.new.items ≡ out.old.items ++ many_line) }
+{
+    out.extend_from_slice(b"drawing has more than 1000 versions shown\n")
 }

@@ -3,18 +3,14 @@
 ghost use Rattle.std.specs.Prelude.{◌≡◌, IfOk};
 ghost use Rattle.gf_groups.specs.declared.group.Group.{Group};
 ghost use Rattle.gf_groups.specs.Versions.{IsMade};
-ghost use Rattle.gf_table.specs.Standing.{AreComponentsOn, StandsFor};
-ghost use Rattle.gf_visible.specs.ShownVersions.{AreVisibleOn};
-ghost use Rattle.gf_status.specs.HiddenChanges.{AreUnknowing};
-ghost use Rattle.gf_status.specs.ObjectStatuses.{AreStatuses, IsStatusOf, TellsChanged};
+ghost use Rattle.gf_table.specs.Standing.{StandsFor};
+ghost use Rattle.gf_status.specs.ObjectStatuses.{AreStatuses, IsStatusOf};
 
 use crate::counting::{MOST_COUNTED, count_versions};
 use crate::differing::{Difference, differences};
-use crate::hidden::changed_unknowing;
+use crate::hidden::hidden_of;
 use crate::positions::{creations, rising};
 use gf_base::OutOfMemory;
-use gf_components::Components;
-use gf_groups::Group;
 use gf_ops::{History, Ids, ObjectId};
 use gf_table::GroupTable;
 use gf_visible::visible_groups;
@@ -30,8 +26,11 @@ pub struct ObjectStatus {
     pub shown: usize,
     /// The attributes that differ among the visible versions; none where these are more than 1,000.
     pub differences: Vec<Difference>,
-    /// The operations that changed the object and knew nothing of what hides it; none where a
-    /// version is visible.
+    /// The hidings behind which nothing shows or hides the object, rising by id; none where a
+    /// version is visible. Of two of them, neither knew the other.
+    pub hidings: Ids,
+    /// The operations that no visible version has, and that knew nothing of what hides them, rising
+    /// by id; none where more than 1,000 versions are visible.
     pub changed: Ids,
 }
 
@@ -72,38 +71,24 @@ fn object_status(
     let components = table.components(alloc, history, object)?;
     let versions = count_versions(history, object, &components);
     match visible_groups(alloc, history, table, object, MOST_COUNTED)? {
-        Some(groups) => Ok(ObjectStatus {
-            object,
-            versions,
-            shown: groups.len(),
-            differences: differences(alloc, history, &groups)?,
-            changed: changed(alloc, history, object, &components, groups.len())?,
-        }),
+        Some(groups) => {
+            let hidden = hidden_of(alloc, history, object, &components, &groups)?;
+            Ok(ObjectStatus {
+                object,
+                versions,
+                shown: groups.len(),
+                differences: differences(alloc, history, &groups)?,
+                hidings: hidden.hidings,
+                changed: hidden.changed,
+            })
+        }
         None => Ok(ObjectStatus {
             object,
             versions,
             shown: MOST_COUNTED + 1,
             differences: Vec::new(alloc),
+            hidings: Ids::new(Vec::new(alloc)),
             changed: Ids::new(Vec::new(alloc)),
         }),
     }
-}
-
-/// The operations that changed the object and knew nothing of what hides it; none with a visible
-/// version.
-fn changed(
-    alloc: Global,
-    history: &History,
-    object: ObjectId,
-    components: &Components,
-    shown: usize,
-) -> Result<Ids, OutOfMemory>
-    requires { AreComponentsOn history.now.ops object components.now }
-    ensures { IfOk result (TellsChanged history.now.ops object shown) }
-{
-    if shown == 0 {
-        let ids = changed_unknowing(alloc, history, object, components)?;
-        return Ok(ids);
-    }
-    Ok(Ids::new(Vec::new(alloc)))
 }

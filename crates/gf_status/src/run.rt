@@ -6,13 +6,13 @@ ghost use Rattle.gf_studio.specs.RefusedParts.{IsBetween};
 ghost use Rattle.gf_studio.specs.RefusedRuns.{RefusesReading};
 ghost use Rattle.gf_studio.specs.RunAnswers.{LeavesSink, ReadsInput};
 ghost use Rattle.gf_status.specs.StatusRun.{DenotesStatus, IsStatusOf, TellsStatus, WritesStatus};
-ghost use Rattle.gf_status.specs.StatusLines.{is_clean, state_of};
+ghost use Rattle.gf_status.specs.StatusLines.{are_clean, is_at_most_one, is_clean, state_of};
 
-use crate::counting::MOST_COUNTED;
+use crate::counting::{MOST_COUNTED, shown_in};
 use crate::lines::status_text;
 use crate::{ObjectStatus, State, object_statuses};
 use gf_base::OutOfMemory;
-use gf_ops::Op;
+use gf_ops::{Op, OpId};
 use gf_replay::read_site;
 use gf_site::Site;
 use gf_streams::{Sink, SinkFault, Source, write_whole};
@@ -29,9 +29,10 @@ struct Status {
 
 /// Reads operation lines to their end, by 1 to 16 workers, and writes the status of their history.
 /// It has a line for each site with operations, and one for each operation that waits. The lines of
-/// an object say how many versions it has, and which attributes differ among the visible ones. Of a
-/// hidden object they say what changed it. The answer is whether something waits or differs. All is
-/// read before the first write.
+/// an object say how many versions it has, and which attributes differ among the visible ones. They
+/// name hidings of a hidden object that crossed, and who changed what is hidden without knowing it.
+/// The last line says where more versions are shown than a drawing has. The answer is whether
+/// something waits or is open. All is read before the first write.
 pub fn status_run<T: Threads + Sync, R: Source, W: Sink>(
     rt: &T,
     alloc: Global,
@@ -110,15 +111,22 @@ fn tell(alloc: Global, site: &Site) -> Result<Status, OutOfMemory>
     Ok(Status { text, state })
 }
 
-/// Whether something waits, or something of an object is open.
+/// Whether something waits, something of an object is open, or more versions are shown than a
+/// drawing has.
 fn state_of(waiting: &[&Op], objects: &[ObjectStatus]) -> State
     ensures { result ≡ state_of (map (λ a. a.now) waiting.now) objects.now }
 {
-    if waiting.is_empty() && all_clean(objects) {
+    if are_clean(waiting, objects) {
         State::Clean
     } else {
         State::Open
     }
+}
+
+fn are_clean(waiting: &[&Op], objects: &[ObjectStatus]) -> bool
+    ensures { result ≡ are_clean (map (λ a. a.now) waiting.now) objects.now }
+{
+    waiting.is_empty() && all_clean(objects) && shown_in(objects) <= MOST_COUNTED
 }
 
 fn all_clean(objects: &[ObjectStatus]) -> bool
@@ -127,12 +135,21 @@ fn all_clean(objects: &[ObjectStatus]) -> bool
     objects.iter().all(|status| is_clean(status))
 }
 
-/// Whether at most 1,000 versions of the object are visible, these agree, and no operation changed
-/// what is hidden.
+/// Whether the shown versions of the object agree, no two last hidings of a hidden object crossed,
+/// and no operation changed what is hidden.
 fn is_clean(status: &ObjectStatus) -> bool
     ensures { result ≡ is_clean status.now }
 {
-    status.shown <= MOST_COUNTED
-        && status.differences.is_empty()
+    status.differences.is_empty()
+        && is_at_most_one(status.hidings.as_slice())
         && status.changed.as_slice().is_empty()
+}
+
+fn is_at_most_one(ids: &[OpId]) -> bool
+    ensures { result ≡ is_at_most_one ids.now }
+{
+    match ids {
+        [] | [_] => true,
+        [_, _, ..] => false,
+    }
 }

@@ -1,15 +1,17 @@
 //! What the operations at positions set, and in which order.
 
-ghost use Rattle.std.specs.Prelude.{◌≡◌, IfOk};
+ghost use Rattle.std.specs.Prelude.{◌≡◌, ◌+◌, ◌^◌, ◌<◌, All, IfOk};
 ghost use Rattle.gf_ops.specs.Limits.{IsInRange};
 ghost use Rattle.gf_groups.specs.VersionList.{are_unordered, is_before};
 ghost use Rattle.gf_visible.specs.ShownAt.{before_at};
-ghost use Rattle.std.specs.List.{list_any};
-ghost use Rattle.gf_status.specs.SettersAt.{hides, hides_at, hidings, last_hidings, lasts, sets_at};
-ghost use Rattle.gf_status.specs.SettersAt.{setters, taken};
-ghost use Rattle.gf_status.specs.SettersAt.{unordered_at, is_unknowing, unknowing};
+ghost use Rattle.std.specs.List.{list_all, list_any};
+ghost use Rattle.gf_status.specs.SettersAt.{beside, hides, hides_at, hidings, hidings_beside};
+ghost use Rattle.gf_status.specs.SettersAt.{is_beside, is_left_out, is_unknowing, lasts, sets_at};
+ghost use Rattle.gf_status.specs.SettersAt.{setters, taken, unknowing, unordered_at};
 
 use gf_base::OutOfMemory;
+use gf_groups::conflict_at;
+use gf_maximal::Numbers;
 use gf_ops::{Attr, Change, History, Op, Value, before};
 use gf_versions::sets;
 use std::alloc::Global;
@@ -152,7 +154,11 @@ fn hides_at(history: &History, position: usize) -> bool
 }
 
 /// The positions of operations that hide, in their order.
-fn hidings(alloc: Global, history: &History, positions: &[usize]) -> Result<Vec<usize>, OutOfMemory>
+pub(crate) fn hidings(
+    alloc: Global,
+    history: &History,
+    positions: &[usize],
+) -> Result<Vec<usize>, OutOfMemory>
     ensures { IfOk result (λ found. found.items ≡ hidings history.now.ops positions.now) }
 {
     let mut found = Vec::new(alloc);
@@ -164,19 +170,6 @@ fn hidings(alloc: Global, history: &History, positions: &[usize]) -> Result<Vec<
     Ok(found)
 }
 
-/// The positions of operations that hide, and come before none that shows or hides.
-pub(crate) fn last_hidings(
-    alloc: Global,
-    history: &History,
-    positions: &[usize],
-) -> Result<Vec<usize>, OutOfMemory>
-    ensures { IfOk result (λ found. found.items ≡ last_hidings history.now.ops positions.now) }
-{
-    let found = setters(alloc, history, Attr::Shown, positions)?;
-    let last = lasts(alloc, history, &found)?;
-    hidings(alloc, history, &last)
-}
-
 /// Whether the operation at this position and one of the others know nothing of each other.
 fn some_unordered(history: &History, position: usize, others: &[usize]) -> bool
     ensures { result ≡ list_any (unordered_at history.now.ops position) others.now }
@@ -186,26 +179,95 @@ fn some_unordered(history: &History, position: usize, others: &[usize]) -> bool
         .any(|other| unordered_at(history, position, *other))
 }
 
-/// Whether the operation at this position does not hide, and is unordered with one of the hidings.
-fn is_unknowing(history: &History, hidings: &[usize], position: usize) -> bool
-    ensures { result ≡ is_unknowing history.now.ops hidings.now position }
+/// Whether the operation at this position conflicts with none of these.
+fn are_beside(history: &History, positions: &[usize], position: usize) -> bool
+    ensures { result ≡ list_all (is_beside history.now.ops position) positions.now }
 {
-    !hides_at(history, position) && some_unordered(history, position, hidings)
+    positions
+        .iter()
+        .all(|other| !conflict_at(history, position, *other))
 }
 
-/// The positions of operations that do not hide, and are unordered with one of the hidings.
+/// The positions whose operations do not conflict with that at this one, in their order.
+fn beside(
+    alloc: Global,
+    history: &History,
+    positions: &[usize],
+    position: usize,
+) -> Result<Vec<usize>, OutOfMemory>
+    ensures { IfOk result (λ found. found.items ≡ beside history.now.ops positions.now position) }
+{
+    let mut found = Vec::new(alloc);
+    for other in positions {
+        if !conflict_at(history, position, *other) {
+            found.push(*other)?;
+        }
+    }
+    Ok(found)
+}
+
+/// The last hidings among these setters of `Shown` with which the operation at this position does
+/// not conflict. The setters in `last` come before none of the others: where it conflicts with none
+/// of these, no other one is asked.
+fn hidings_beside(
+    alloc: Global,
+    history: &History,
+    setters: &[usize],
+    last: &[usize],
+    position: usize,
+) -> Result<Vec<usize>, OutOfMemory>
+    ensures { IfOk result (λ found. found.items
+        ≡ hidings_beside history.now.ops setters.now last.now position) }
+{
+    if are_beside(history, last, position) {
+        return hidings(alloc, history, last);
+    }
+    let found = beside(alloc, history, setters, position)?;
+    let found = lasts(alloc, history, &found)?;
+    hidings(alloc, history, &found)
+}
+
+/// Whether the operation at this position is unordered with a last hiding beside it.
+fn is_unknowing(
+    alloc: Global,
+    history: &History,
+    setters: &[usize],
+    last: &[usize],
+    position: usize,
+) -> Result<bool, OutOfMemory>
+    ensures { IfOk result (λ answer. answer
+        ≡ is_unknowing history.now.ops setters.now last.now position) }
+{
+    let hidings = hidings_beside(alloc, history, setters, last, position)?;
+    Ok(some_unordered(history, position, &hidings))
+}
+
+/// Whether the operation at this position neither shows nor hides, and is none of those seen.
+fn is_left_out(history: &History, seen: &Numbers, position: usize) -> bool
+    requires { position + 1 < 2 ^ 64 }
+    ensures { result ≡ is_left_out history.now.ops seen.now position }
+{
+    !sets_at(history, Attr::Shown, position) && !seen.has(position)
+}
+
+/// The positions that are left out, and unordered with a last hiding beside them.
 pub(crate) fn unknowing(
     alloc: Global,
     history: &History,
-    hidings: &[usize],
+    seen: &Numbers,
+    setters: &[usize],
+    last: &[usize],
     positions: &[usize],
 ) -> Result<Vec<usize>, OutOfMemory>
+    requires { All (λ n. n + 1 < 2 ^ 64) positions.now }
     ensures { IfOk result (λ found. found.items
-        ≡ unknowing history.now.ops hidings.now positions.now) }
+        ≡ unknowing history.now.ops seen.now setters.now last.now positions.now) }
 {
     let mut found = Vec::new(alloc);
     for position in positions {
-        if is_unknowing(history, hidings, *position) {
+        if is_left_out(history, seen, *position)
+            && is_unknowing(alloc, history, setters, last, *position)?
+        {
             found.push(*position)?;
         }
     }

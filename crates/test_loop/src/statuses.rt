@@ -35,15 +35,37 @@ const ROWS: &str = "
 // A later value settles it, and so does an aim that hides one of the versions.
 1.1: box 1 1; 1.2 after 1: 1.1 place 5,5; 2.1 after 1: 1.1 place 7,7; 1.3 after 2 1: 1.1 place 9,9 | Clean; site 1 has 3; site 2 has 1; object 1.1 has 2 versions, 2 shown
 1.1: box 1 1; 1.2 after 1: 1.1 place 5,5; 2.1 after 1: 1.1 place 7,7; 1.3 after 2 1: 1.1 shown false aim 1.1 2.1 | Clean; site 1 has 3; site 2 has 1; object 1.1 has 2 versions, 1 shown
-// Each site hides what the other made, and nothing is left.
-1.1: box 1 1; 1.2 after 1: 1.1 place 5,5; 2.1 after 1: 1.1 place 7,7; 1.3 after 2 1: 1.1 shown false aim 1.1 2.1; 2.2 after 2 1: 1.1 shown false aim 1.1 1.2 | Clean; site 1 has 3; site 2 has 2; object 1.1 has 2 versions, 0 shown
+// Each site hides what the other made, and nothing is left. Then one hides it anew, or shows one.
+1.1: box 1 1; 1.2 after 1: 1.1 place 5,5; 2.1 after 1: 1.1 place 7,7; 1.3 after 2 1: 1.1 shown false aim 1.1 2.1; 2.2 after 2 1: 1.1 shown false aim 1.1 1.2 | Open; site 1 has 3; site 2 has 2; object 1.1 has 2 versions, 0 shown; object 1.1 hidden by 1.3 and 2.2
+1.1: box 1 1; 1.2 after 1: 1.1 place 5,5; 2.1 after 1: 1.1 place 7,7; 1.3 after 2 1: 1.1 shown false aim 1.1 2.1; 2.2 after 2 1: 1.1 shown false aim 1.1 1.2; 1.4 after 3 2: 1.1 shown false | Clean; site 1 has 4; site 2 has 2; object 1.1 has 2 versions, 0 shown
+1.1: box 1 1; 1.2 after 1: 1.1 place 5,5; 2.1 after 1: 1.1 place 7,7; 1.3 after 2 1: 1.1 shown false aim 1.1 2.1; 2.2 after 2 1: 1.1 shown false aim 1.1 1.2; 1.4 after 3 2: 1.1 shown false; 1.5 after 4 2: 1.1 shown true aim 1.1 1.2 1.4 2.2 | Clean; site 1 has 5; site 2 has 2; object 1.1 has 2 versions, 1 shown
+// Two or three hide the whole object, and know nothing of each other; or the second one knows.
+1.1: box 1 1; 1.2 after 1: 1.1 shown false; 2.1 after 1: 1.1 shown false | Open; site 1 has 2; site 2 has 1; object 1.1 hidden by 1.2 and 2.1
+1.1: box 1 1; 1.2 after 1: 1.1 shown false; 2.1 after 1: 1.1 shown false; 3.1 after 1: 1.1 shown false | Open; site 1 has 2; site 2 has 1; site 3 has 1; object 1.1 hidden by 1.2 and 2.1 and 3.1
+1.1: box 1 1; 1.2 after 1: 1.1 shown false; 2.1 after 2: 1.1 shown false | Clean; site 1 has 2; site 2 has 1
+
+// A version that was hidden is changed by one who did not know it, while another one shows.
+1.1: box 1 1; 1.2 after 1: 1.1 place 5,5; 2.1 after 1: 1.1 place 7,7; 1.3 after 2 1: 1.1 shown false aim 1.1 2.1; 2.2 after 1 1: 1.1 colour 00ff00 aim 1.1 2.1 | Open; site 1 has 3; site 2 has 2; object 1.1 has 2 versions, 1 shown; object 1.1 hidden, changed by 2.2
+// Then the version is hidden anew.
+1.1: box 1 1; 1.2 after 1: 1.1 place 5,5; 2.1 after 1: 1.1 place 7,7; 1.3 after 2 1: 1.1 shown false aim 1.1 2.1; 2.2 after 1 1: 1.1 colour 00ff00 aim 1.1 2.1; 1.4 after 3 2: 1.1 shown false aim 1.1 2.1 2.2 | Clean; site 1 has 4; site 2 has 2; object 1.1 has 2 versions, 1 shown
+// A change of all versions is seen in the one that shows.
+1.1: box 1 1; 1.2 after 1: 1.1 place 5,5; 2.1 after 1: 1.1 place 7,7; 1.3 after 2 1: 1.1 shown false aim 1.1 2.1; 2.2 after 2 1: 1.1 colour 00ff00 | Clean; site 1 has 3; site 2 has 2; object 1.1 has 2 versions, 1 shown
+// Another conflict was settled since, by a hiding that the change did not know either.
+1.1: box 1 1; 1.2 after 1: 1.1 place 5,5; 2.1 after 1: 1.1 place 7,7; 1.3 after 2 1: 1.1 shown false aim 1.1 2.1; 1.4 after 3 1: 1.1 colour 00ff00; 3.1 after 3 1: 1.1 colour 0000ff; 1.5 after 4 1 1: 1.1 shown false aim 1.1 3.1; 2.2 after 1 1: 1.1 layer 5 aim 1.1 2.1 | Open; site 1 has 5; site 2 has 2; site 3 has 1; object 1.1 has 4 versions, 1 shown; object 1.1 hidden, changed by 2.2
+// Then the other version was hidden, too: what hides the changed one is asked, and no later hiding.
+1.1: box 1 1; 1.2 after 1: 1.1 place 5,5; 2.1 after 1: 1.1 place 7,7; 1.3 after 2 1: 1.1 shown false aim 1.1 2.1; 2.2 after 1 1: 1.1 colour 00ff00 aim 1.1 2.1; 1.4 after 3 1: 1.1 shown false aim 1.1 1.2 | Open; site 1 has 4; site 2 has 2; object 1.1 has 2 versions, 0 shown; object 1.1 hidden, changed by 2.2
+// Who hid the last version knew a change of both.
+1.1: box 1 1; 1.2 after 1: 1.1 place 5,5; 2.1 after 1: 1.1 place 7,7; 1.3 after 2 1: 1.1 shown false aim 1.1 1.2; 2.2 after 2 1: 1.1 colour 00ff00; 1.4 after 3 2: 1.1 shown false aim 1.1 2.1 | Clean; site 1 has 4; site 2 has 2; object 1.1 has 2 versions, 0 shown
 
 // Nine rounds are compared, and ten are too many.
 rounds 9 | Open; site 1 has 10; site 2 has 9; object 1.1 has 512 versions, 512 shown; object 1.1 layer 1.10 2.9
-rounds 10 | Open; site 1 has 11; site 2 has 10; object 1.1 has more than 1000 versions, more than 1000 shown
+rounds 10 | Open; site 1 has 11; site 2 has 10; object 1.1 has more than 1000 versions, more than 1000 shown; drawing has more than 1000 versions shown
 
-// A thousand objects and one more.
-boxes 1001 | Clean; site 1 has 1001
+// A thousand objects and one more; and two objects of 512 versions each.
+boxes 1000 | Clean; site 1 has 1000
+boxes 1001 | Open; site 1 has 1001; drawing has more than 1000 versions shown
+settled 8 | Clean; site 1 has 20; site 2 has 16; object 1.1 has 256 versions, 256 shown; object 1.2 has 256 versions, 256 shown
+settled 9 | Open; site 1 has 22; site 2 has 18; object 1.1 has 512 versions, 512 shown; object 1.2 has 512 versions, 512 shown; drawing has more than 1000 versions shown
 
 // Moved while it was hidden, and hidden anew.
 1.1: box 1 1; 1.2 after 1: 1.1 shown false; 2.1 after 1: 1.1 place 7,7 | Open; site 1 has 2; site 2 has 1; object 1.1 hidden, changed by 2.1
@@ -77,6 +99,32 @@ fn rounds(alloc: Global, count: u32) -> Option<Vec<u8>> {
     Some(input)
 }
 
+/// Two objects, of each `count` times two layers that know all but each other, and a last layer of
+/// each, which settles these.
+fn settled(alloc: Global, count: u32) -> Option<Vec<u8>> {
+    let mut input = Vec::new(alloc);
+    push_op(alloc, &mut input, "1.1: box 1 1")?;
+    push_op(alloc, &mut input, "1.2 after 1: box 1 1")?;
+    let rounds = count.saturating_mul(2);
+    for round in 0..rounds {
+        let known = round.saturating_add(2);
+        let next = known.saturating_add(1);
+        let other = round.saturating_add(1);
+        let object = round % 2 + 1;
+        let one = format!(in alloc; "1.{next} after {known} {round}: 1.{object} layer 1").ok()?;
+        push_op(alloc, &mut input, one.as_str())?;
+        let two = format!(in alloc; "2.{other} after {known} {round}: 1.{object} layer 2").ok()?;
+        push_op(alloc, &mut input, two.as_str())?;
+    }
+    for object in 1..=2u32 {
+        let known = rounds.saturating_add(object).saturating_add(1);
+        let next = known.saturating_add(1);
+        let last = format!(in alloc; "1.{next} after {known} {rounds}: 1.{object} layer 3").ok()?;
+        push_op(alloc, &mut input, last.as_str())?;
+    }
+    Some(input)
+}
+
 /// The lines of one site that makes so many objects.
 fn boxes(alloc: Global, count: u32) -> Option<Vec<u8>> {
     let mut input = Vec::new(alloc);
@@ -92,6 +140,9 @@ fn boxes(alloc: Global, count: u32) -> Option<Vec<u8>> {
 fn lines(alloc: Global, question: &str) -> Option<Vec<u8>> {
     if let Some(count) = question.strip_prefix("boxes ") {
         return boxes(alloc, count.parse().ok()?);
+    }
+    if let Some(count) = question.strip_prefix("settled ") {
+        return settled(alloc, count.parse().ok()?);
     }
     if let Some(count) = question.strip_prefix("rounds ") {
         return rounds(alloc, count.parse().ok()?);
