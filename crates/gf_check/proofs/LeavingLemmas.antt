@@ -1,87 +1,116 @@
--- What steps, offers and lines leave of the operations that a site has.
-use Rattle.std.specs.Prelude.{ℕ, ◌⊎◌, Contains, Ok, Err, map}
-use Rattle.std.proofs.Common.{◌≡◌, ◌≢◌, List, [], ◌∷◌, ◌++◌, sym, subst, ap, ◌∙◌, inl, inr}
-use Rattle.std.proofs.lemmas.List.{map-append}
-use Rattle.std.proofs.lemmas.List.Elements.{Contains-append_left, Contains-append_right, Contains-push}
-use Rattle.gf_base.proofs.ListLemmas.{Contains-cons_head}
+-- What steps, offers and lines leave of the operations that a site has, and what is told of them.
+use Rattle.std.specs.Prelude.{ℕ, ◌⊎◌, Contains, Ok, Err, Option}
+use Rattle.std.proofs.Common.{◌≡◌, ◌≢◌, List, [], ◌∷◌, ◌++◌, refl, sym, subst, ap, ◌∙◌, inl, inr}
 use Rattle.gf_ops.specs.declared.op.Op.{Op}
 use Rattle.gf_ops.specs.declared.op.OpId.{OpId}
 use Rattle.gf_ops.specs.declared.faults.OpFault.{OpFault}
-use Rattle.gf_causal.specs.HeldOperations.{AreHeld, IsNew}
-use Rattle.gf_causal.specs.Ready.{NoneIsReady}
+use Rattle.gf_ops.specs.ValidHistory.{IsValid}
+use Rattle.gf_causal.specs.HeldOperations.{AreHeld, IsClash, IsNew}
 use Rattle.gf_site.specs.SiteState.{SiteState}
 use Rattle.gf_site.specs.Events.{Applies, ForgetsReady}
-use Rattle.gf_json.specs.OperationLines.{denoted}
 use Rattle.gf_json.specs.declared.line_error.LineError.{LineError}
+use Rattle.gf_json.specs.declared.scripts.Command.{Command}
+use Rattle.gf_replay.specs.declared.reading_error.LineCause.{LineCause}
 use Rattle.gf_replay.specs.declared.reading_error.LineCause.TheVariants as cause
 use Rattle.gf_replay.specs.declared.reading_error.ReadingError.{ReadingError}
 use Rattle.gf_replay.specs.declared.reading_error.ReadingError.TheVariants as reading
-use Rattle.gf_replay.specs.Taking.{HasOrHolds, KeepsAll, Offers, again, new}
+use Rattle.gf_replay.specs.Taking.{HasOrHolds, KeepsAll, Offers, again, new, of_line}
 use Rattle.gf_replay.proofs.TakingLemmas.{held_more, keeps_applied, more_there, offer_from, offer_keeps, offered_there}
-use Rattle.gf_check.specs.FaultLines.{Told}
-use Rattle.gf_check.specs.AllFaults.{HasOneById, TellsDropped, TellsOp, errors}
-use Rattle.gf_check.specs.CheckSteps.{Leaves, LeavesLine, LeavesNone, LeavesOp}
+use Rattle.gf_edit.specs.declared.entries.Entry.TheVariants as entry
+use Rattle.gf_check.specs.CheckedText.{denoted_by}
+use Rattle.gf_check.specs.FaultLines.{Told, errors}
+use Rattle.gf_check.specs.TrueFaults.{RefusesAmong}
+use Rattle.gf_check.specs.AllFaults.{HasOneById, TellsDropped, TellsOp}
+use Rattle.gf_check.specs.ToldBehind.{Leaves}
+use Rattle.gf_check.specs.CheckSteps.{IsDropOf, IsFaultWith, IsOrHas, LeavesNone, LeavesOp, LeavesSteps}
+use Rattle.gf_check.specs.CheckedLines.{IsFaultAt, IsLineFault, IsOfLine, LeavesLine}
+use Rattle.gf_check.proofs.OrderLemmas.{order_drop, order_line}
+use Rattle.gf_check.proofs.ToldLemmas.{error_cases, error_last, error_there}
 
--- ---- told faults
+-- ---- refused operations
 
-pub told_left : (told more : List Told) (e : ReadingError) → Contains (errors told) e → Contains (errors (told ++ more)) e
-told_left told more e c = subst (λ es. Contains es e) (sym (map-append (λ (t : Told). t.error) told more)) (Contains-append_left (errors told) (errors more) e c)
+pub among_weaker : (P Q : Op → Type 0) (i : OpId) (why : OpFault) → ((a : Op) → P a → Q a) → RefusesAmong P i why → RefusesAmong Q i why
+among_weaker P Q i why f r = record {
+  history = r.history;
+  valid = r.valid;
+  of_these = λ a c. f a (r.of_these a c);
+  op = r.op;
+  one = f r.op r.one;
+  named = r.named;
+  ready = r.ready;
+  refused = r.refused;
+}
 
-pub told_right : (told more : List Told) (e : ReadingError) → Contains (errors more) e → Contains (errors (told ++ more)) e
-told_right told more e c = subst (λ es. Contains es e) (sym (map-append (λ (t : Told). t.error) told more)) (Contains-append_right (errors told) (errors more) e c)
-
-pub dropped_left : (told more : List Told) (i : OpId) → TellsDropped told i → TellsDropped (told ++ more) i
-dropped_left told more i d = (d.0, told_left told more (reading.Dropped i d.0) d.1)
-
-pub dropped_right : (told more : List Told) (i : OpId) → TellsDropped more i → TellsDropped (told ++ more) i
-dropped_right told more i d = (d.0, told_right told more (reading.Dropped i d.0) d.1)
-
-pub op_left : (told more : List Told) (n : ℕ) (i : OpId) → TellsOp told n i → TellsOp (told ++ more) n i
-op_left told more n i (inl c) = inl (told_left told more (reading.Line n cause.Clash) c)
-op_left told more n i (inr d) = inr (dropped_left told more i d)
-
-pub op_right : (told more : List Told) (n : ℕ) (i : OpId) → TellsOp more n i → TellsOp (told ++ more) n i
-op_right told more n i (inl c) = inl (told_right told more (reading.Line n cause.Clash) c)
-op_right told more n i (inr d) = inr (dropped_right told more i d)
+dropped_there : (told : List Told) (u : Told) (i : OpId) → TellsDropped told i → TellsDropped (told ++ u ∷ []) i
+dropped_there told u i d = (d.0, error_there told u (reading.Dropped i d.0) d.1)
 
 -- ---- steps
 
 -- a site that changes nothing leaves all
-pub leaves_same : (x : SiteState) (told : List Told) → Leaves x x told
-leaves_same x told = record { had = λ a i. inl i; one = λ o. o }
+pub leaves_same : (P : Op → Type 0) (true_fault : ReadingError → Type 0) (premise : Type 0) (x : SiteState) (told : List Told) → Leaves P true_fault premise x x told told
+leaves_same P true_fault premise x told = record { had = λ a i. inl i; back = λ a i. inr i; keeps = λ e c. c; only = λ e c. inl c; order = λ p o. o }
 
-pub leaves_applied : (x y z : SiteState) (id : OpId) (told : List Told) → AreHeld y.held → Applies y id z → Leaves x y told → Leaves x z told
-leaves_applied x y z id told held s l = record {
-  had = λ a i. elim (l.had a i) [ inl j ↦ inl ((keeps.same a).0 j) | inr d ↦ inr d ];
-  one = λ o a b i j e. l.one o a b ((keeps.same a).1 i) ((keeps.same b).1 j) e;
-}
-  where
-    keeps : KeepsAll y z
-    keeps = keeps_applied y y z id held (record { same = λ a. (λ i. i, λ i. i); others = λ o. o }) s
+module _ (x y z : SiteState) (told all : List Told) (l : LeavesSteps x y told all) where
+  had_before : (a : Op) → HasOrHolds y a → HasOrHolds x a
+  had_before a i = elim (l.back a i) [ inl none ↦ absurd none | inr j ↦ j ]
 
-pub leaves_dropped : (x y z : SiteState) (id : OpId) (fault : OpFault) (told : List Told) (why : List ℕ) → ForgetsReady y id fault z → Leaves x y told →
-    Leaves x z (told ++ record { error = reading.Dropped id fault; why = why } ∷ [])
-leaves_dropped x y z id fault told why s l = record {
-  had = λ a i. elim (l.had a i) [
-    | inl j ↦ left a j
-    | inr d ↦ inr (dropped_left told (u ∷ []) a.id d)
-  ];
-  one = λ o a b i j e. l.one o a b (back a i) (back b j) e;
-}
-  where
-    u : Told
-    u = record { error = reading.Dropped id fault; why = why }
+  pub leaves_applied : (id : OpId) → AreHeld y.held → Applies y id z → LeavesSteps x z told all
+  leaves_applied id held s = record {
+    had = λ a i. elim (l.had a i) [ inl j ↦ inl ((keeps.same a).0 j) | inr d ↦ inr d ];
+    back = λ a i. l.back a ((keeps.same a).1 i);
+    keeps = l.keeps;
+    only = l.only;
+    order = l.order;
+  }
+    where
+      keeps : KeepsAll y z
+      keeps = keeps_applied y y z id held (record { same = λ a. (λ i. i, λ i. i); others = λ o. o }) s
 
-    left : (a : Op) → HasOrHolds y a → HasOrHolds z a ⊎ TellsDropped (told ++ u ∷ []) a.id
-    left a (inl j) = elim (more_there z.held y.held s.op s.takes.taken a j) [
-      | inl e ↦ inr (subst (TellsDropped (told ++ u ∷ [])) (sym (ap (λ (b : Op). b.id) e ∙ s.id)) (dropped_right told (u ∷ []) id (fault, Contains-cons_head (reading.Dropped id fault) [])))
+  module _ (id : OpId) (fault : OpFault) (s : ForgetsReady y id fault z) where
+    left : (more : List Told) → Contains (errors more) (reading.Dropped id fault) → (a : Op) → HasOrHolds y a → HasOrHolds z a ⊎ TellsDropped more a.id
+    left more c a (inl j) = elim (more_there z.held y.held s.op s.takes.taken a j) [
+      | inl e ↦ inr (subst (TellsDropped more) (sym (ap (λ (b : Op). b.id) e ∙ s.id)) (fault, c))
       | inr k ↦ inl (inl k)
     ]
-    left a (inr j) = inl (inr (subst (λ l. Contains l a) (sym s.ops) j))
+    left more c a (inr j) = inl (inr (subst (λ ops. Contains ops a) (sym s.ops) j))
 
     back : (a : Op) → HasOrHolds z a → HasOrHolds y a
     back a (inl j) = inl (held_more z.held y.held s.op s.takes.taken a j)
-    back a (inr j) = inr (subst (λ l. Contains l a) s.ops j)
+    back a (inr j) = inr (subst (λ ops. Contains ops a) s.ops j)
+
+    -- a drop that is told is not told again
+    pub leaves_again : Contains (errors all) (reading.Dropped id fault) → LeavesSteps x z told all
+    leaves_again c = record {
+      had = λ a i. elim (l.had a i) [ inl j ↦ left all c a j | inr d ↦ inr d ];
+      back = λ a i. l.back a (back a i);
+      keeps = l.keeps;
+      only = l.only;
+      order = l.order;
+    }
+
+    is_drop : IsValid y.ops → IsDropOf x (reading.Dropped id fault)
+    is_drop valid = record {
+      history = y.ops;
+      valid = valid;
+      of_these = λ a c. had_before a (inr c);
+      op = s.op;
+      one = had_before s.op (inl s.takes.first.contained);
+      named = s.id;
+      ready = s.takes.first.ready;
+      refused = s.refused;
+    }
+
+    pub leaves_dropped : (why : List ℕ) → IsValid y.ops → ¬ (Contains (errors all) (reading.Dropped id fault)) → LeavesSteps x z told (all ++ record { error = reading.Dropped id fault; why = why } ∷ [])
+    leaves_dropped why valid fresh = record {
+      had = λ a i. elim (l.had a i) [ inl j ↦ left (all ++ u ∷ []) (error_last all u) a j | inr d ↦ inr (dropped_there all u a.id d) ];
+      back = λ a i. l.back a (back a i);
+      keeps = λ e c. error_there all u e (l.keeps e c);
+      only = λ e c. elim (error_cases all u e c) [ inl j ↦ l.only e j | inr same ↦ inr (subst (IsDropOf x) same (is_drop valid)) ];
+      order = λ p o. order_drop all id fault why fresh (l.order p o);
+    }
+      where
+        u : Told
+        u = record { error = reading.Dropped id fault; why = why }
 
 -- ---- offers
 
@@ -102,34 +131,95 @@ one_offer x y a (new fresh adds ops) o = λ b c i j e. elim (offer_from x y a (n
   ]
 ]
 
-pub leaves_offered : (n : ℕ) (a : Op) (x y z : SiteState) (told : List Told) → Offers x a y → LeavesNone y z told → LeavesOp n a x z told
-leaves_offered n a x y z told offers l = record {
+fault_with : (n : ℕ) (a : Op) (x y : SiteState) → Offers x a y → (e : ReadingError) → IsDropOf y e → IsFaultWith n a x e
+fault_with n a x y offers (reading.Dropped i why) r = among_weaker (HasOrHolds y) (IsOrHas a x) i why (λ b h. offer_from x y a offers b h) r
+fault_with n a x y offers (reading.Line m why) r = absurd r
+fault_with n a x y offers reading.OutOfMemory r = absurd r
+
+pub leaves_offered : (n : ℕ) (a : Op) (x y z : SiteState) (told all : List Told) → Offers x a y → LeavesNone y z told all → LeavesOp n a x z told all
+leaves_offered n a x y z told all offers l = record {
   leaves = record {
     had = λ b i. l.leaves.had b (offer_keeps x y a offers b i);
-    one = λ o. l.leaves.one (one_offer x y a offers o);
+    back = λ b i. offer_from x y a offers b (had_before y z z told all l.leaves b i);
+    keeps = l.leaves.keeps;
+    only = λ e c. elim (l.leaves.only e c) [ inl j ↦ inl j | inr t ↦ inr (fault_with n a x y offers e t) ];
+    order = λ p o. l.leaves.order tt o;
   };
+  one = λ o b c i j e. one_offer x y a offers o b c (had_before y z z told all l.leaves b i) (had_before y z z told all l.leaves c j) e;
   none = λ i. l.none;
   own = elim (l.leaves.had a (offered_there x y a offers)) [ inl i ↦ inl i | inr d ↦ inr (inr d) ];
 }
 
-pub leaves_clash : (n : ℕ) (a : Op) (x y : SiteState) (why : List ℕ) → y ≡ x → LeavesOp n a x y (record { error = reading.Line n cause.Clash; why = why } ∷ [])
-leaves_clash n a x y why same = subst (λ s. LeavesOp n a x s told) (sym same) (record {
-  leaves = leaves_same x told;
+pub leaves_clash : (n : ℕ) (a : Op) (x y : SiteState) (told : List Told) (why : List ℕ) → y ≡ x → IsClash x.held x.ops a →
+    LeavesOp n a x y told (told ++ record { error = reading.Line n cause.Clash; why = why } ∷ [])
+leaves_clash n a x y told why same clash = subst (λ s. LeavesOp n a x s told (told ++ u ∷ [])) (sym same) (record {
+  leaves = record {
+    had = λ b i. inl i;
+    back = λ b i. inr i;
+    keeps = λ e c. error_there told u e c;
+    only = λ e c. elim (error_cases told u e c) [ inl j ↦ inl j | inr k ↦ inr (subst (IsFaultWith n a x) k (refl, clash)) ];
+    order = λ before o. order_line told n cause.Clash why before o;
+  };
+  one = λ o. o;
   none = λ i. i;
-  own = inr (inl (Contains-cons_head (reading.Line n cause.Clash) []));
+  own = inr (inl (error_last told u));
 })
   where
-    told : List Told
-    told = record { error = reading.Line n cause.Clash; why = why } ∷ []
+    u : Told
+    u = record { error = reading.Line n cause.Clash; why = why }
 
 -- ---- lines
 
-pub leaves_line : (n : ℕ) (line : List ℕ) (a : Op) (x y : SiteState) (told : List Told) → denoted line ≡ Ok a → LeavesOp n a x y told → LeavesLine n line x y told
-leaves_line n line a x y told d l = record {
-  leaves = l.leaves;
+fault_at : (editor : Option ℕ) (n : ℕ) (text : List ℕ) (a : Op) (x : SiteState) → IsOfLine editor text a → (e : ReadingError) → IsFaultWith n a x e → IsFaultAt editor n text x e
+fault_at editor n text a x d (reading.Line m cause.Clash) r = (r.0, record { op = a; denotes = d; clash = r.1 })
+fault_at editor n text a x d (reading.Line m cause.Json) r = absurd r
+fault_at editor n text a x d (reading.Line m cause.Field) r = absurd r
+fault_at editor n text a x d (reading.Line m cause.Range) r = absurd r
+fault_at editor n text a x d (reading.Dropped i why) r = among_weaker (IsOrHas a x) (λ b. IsOfLine editor text b ⊎ HasOrHolds x b) i why (λ b h. elim h [
+  | inl e ↦ inl (subst (IsOfLine editor text) (sym e) d)
+  | inr j ↦ inr j
+]) r
+fault_at editor n text a x d reading.OutOfMemory r = absurd r
+
+pub leaves_line : (editor : Option ℕ) (n : ℕ) (text : List ℕ) (a : Op) (x y : SiteState) (told all : List Told) → IsOfLine editor text a → LeavesOp n a x y told all → LeavesLine editor n text x y told all
+leaves_line editor n text a x y told all d l = record {
+  leaves = record {
+    had = l.leaves.had;
+    back = λ b i. elim (l.leaves.back b i) [ inl e ↦ inl (subst (IsOfLine editor text) (sym e) d) | inr j ↦ inr j ];
+    keeps = l.leaves.keeps;
+    only = λ e c. elim (l.leaves.only e c) [ inl j ↦ inl j | inr t ↦ inr (fault_at editor n text a x d e t) ];
+    order = l.leaves.order;
+  };
+  one = l.one;
   none = l.none;
-  own = λ b e. let same : a ≡ b = cc in subst (λ c. HasOrHolds y c ⊎ TellsOp told n c.id) same l.own;
+  own = λ b e. let same : a ≡ b = cc in subst (λ c. HasOrHolds y c ⊎ TellsOp all n c.id) same l.own;
+  each = λ f e. absurd cc;
 }
 
-pub leaves_fault : (n : ℕ) (line : List ℕ) (x : SiteState) (e : LineError) (told : List Told) → denoted line ≡ Err e → LeavesLine n line x x told
-leaves_fault n line x e told d = record { leaves = leaves_same x told; none = λ i. i; own = λ a f. absurd cc }
+pub leaves_command : (editor : Option ℕ) (n : ℕ) (text : List ℕ) (c : Command) (x y : SiteState) (told : List Told) → denoted_by editor text ≡ Ok (entry.Command c) → y ≡ x → LeavesLine editor n text x y told told
+leaves_command editor n text c x y told d same = subst (λ s. LeavesLine editor n text x s told told) (sym same) (record {
+  leaves = leaves_same _ _ _ x told;
+  one = λ o. o;
+  none = λ i. i;
+  own = λ a e. absurd cc;
+  each = λ f e. absurd cc;
+})
+
+pub leaves_fault : (editor : Option ℕ) (n : ℕ) (text : List ℕ) (f : LineError) (why : LineCause) (x : SiteState) (told : List Told) (words : List ℕ) → denoted_by editor text ≡ Err f →
+    of_line n f ≡ reading.Line n why → IsLineFault editor text x why → LeavesLine editor n text x x told (told ++ record { error = reading.Line n why; why = words } ∷ [])
+leaves_fault editor n text f why x told words d is at = record {
+  leaves = record {
+    had = λ b i. inl i;
+    back = λ b i. inr i;
+    keeps = λ e c. error_there told u e c;
+    only = λ e c. elim (error_cases told u e c) [ inl j ↦ inl j | inr k ↦ inr (subst (IsFaultAt editor n text x) k (refl, at)) ];
+    order = λ before o. order_line told n why words before o;
+  };
+  one = λ o. o;
+  none = λ i. i;
+  own = λ a e. absurd cc;
+  each = λ g e. let same : f ≡ g = cc in subst (Contains (errors (told ++ u ∷ []))) (sym is ∙ ap (of_line n) same) (error_last told u);
+}
+  where
+    u : Told
+    u = record { error = reading.Line n why; why = words }

@@ -1,5 +1,5 @@
 -- The lines that tell faults: where one is, which it is, and why (this project's choice).
-use Rattle.std.specs.Prelude.{ℕ, List, ◌++◌, codes, flat_map}
+use Rattle.std.specs.Prelude.{ℕ, List, ◌++◌, Contains, codes, flat_map, map}
 use Rattle.std.specs.Fmt.{decimal}
 use Rattle.gf_ops.specs.declared.op.OpId.{OpId}
 use Rattle.gf_ops.specs.declared.faults.OpFault.{OpFault}
@@ -42,6 +42,14 @@ told_line e why = fault_head e ++ codes ": " ++ why ++ codes "\n"
 pub record Told : Type 0 where
   pub error : ReadingError
   pub why : List ℕ
+
+-- the text has no line end
+abbrev pub IsOnOneLine : List ℕ → Type 0
+IsOnOneLine text = ¬ (Contains text 10)
+
+-- the faults that are told
+abbrev pub errors : List Told → List ReadingError
+errors told = map (λ (t : Told). t.error) told
 
 -- a line for each fault, in their order
 abbrev pub told_text : List Told → List ℕ

@@ -1,4 +1,9 @@
 pub mod CheckRun
 pub mod FaultLines
+pub mod CheckedText
+pub mod TrueFaults
 pub mod AllFaults
+pub mod Telling
+pub mod ToldBehind
 pub mod CheckSteps
+pub mod CheckedLines

@@ -1,6 +1,7 @@
 //! From the bytes of operation lines to all of their faults.
 
-ghost use Rattle.std.specs.Prelude.{◌≢◌, IfSome, IfOk, IfErr, List, ℕ};
+ghost use Rattle.std.specs.Prelude.{◌≢◌, IfSome, IfOk, IfErr, List, ℕ, Option};
+ghost use Rattle.gf_ops.specs.OperationOrder.{IsSite};
 ghost use Rattle.gf_studio.specs.RefusedRuns.{IsOfRun};
 ghost use Rattle.gf_studio.specs.RunAnswers.{LeavesSink, ReadsInput};
 ghost use Rattle.gf_check.specs.AllFaults.{AnswersText};
@@ -21,29 +22,32 @@ pub enum Verdict {
     Faulty,
 }
 
-/// Reads operation lines to their end, and writes a line for each fault. The line says where the
-/// fault is, which one it is, and what is wrong. The check goes on behind each fault, and reads all
-/// before the first write.
+/// Reads operation lines to their end, and writes a line for each fault. Where a site edits, its
+/// commands are no faults. The line says where the fault is, which one it is, and what is wrong.
+/// The check goes on behind each fault, and reads all before the first write.
 pub fn check_run<R: Source, W: Sink>(
     alloc: Global,
     source: &mut R,
     sink: &mut W,
+    editor: Option<u8>,
 ) -> Result<Verdict, StudioError>
+    requires { IfSome editor IsSite }
+
     // Where the answer is that there is no fault, the bytes denote a history, and nothing is
     // written. Where there are faults, the first that is written refuses the bytes. Each line that
-    // denotes no operation then has a line. Each operation that has none is in a valid history, or
-    // waits behind it.
+    // denotes nothing then has a line. Each operation that has none is in a valid history, or waits
+    // behind it. Each fault that is written is true, and none is written twice.
     ensures tells { IfOk result (λ verdict. IfSome (R.left source.old) (λ bytes.
-        WritesCheck bytes verdict (W.taken sink.old) (W.taken sink.new))) }
+        WritesCheck editor bytes verdict (W.taken sink.old) (W.taken sink.new))) }
 
     // No fault of the input refuses the run.
     ensures source { ReadsInput R.Source source.old source.new result }
     ensures refused { IfErr result IsOfRun }
 
     // At most a prefix of the text is written, and that only where the sink failed.
-    ensures sink { LeavesSink W.Sink (R.left source.old) AnswersText sink.old sink.new result }
+    ensures sink { LeavesSink W.Sink (R.left source.old) (AnswersText editor) sink.old sink.new result }
 {
-    let text = told_of_lines(alloc, source)?;
+    let text = told_of_lines(alloc, source, editor)?;
     match write_whole(sink, &text) {
         Ok(()) => Ok(verdict_of(&text)),
         Err(SinkFault) => Err(StudioError::WriteFailed),
@@ -52,7 +56,8 @@ pub fn check_run<R: Source, W: Sink>(
 
 /// Whether a text tells a fault.
 fn verdict_of(text: &[u8]) -> Verdict
-    ensures { (bytes : List ℕ) → AnswersText bytes text.now → Checks bytes result text.now }
+    ensures { (editor : Option ℕ) (bytes : List ℕ) → AnswersText editor bytes text.now
+        → Checks editor bytes result text.now }
 {
     if text.is_empty() {
         Verdict::Clean
@@ -62,15 +67,20 @@ fn verdict_of(text: &[u8]) -> Verdict
 }
 
 /// The text that tells all faults of the lines of a source.
-fn told_of_lines<R: Source>(alloc: Global, source: &mut R) -> Result<Vec<u8>, StudioError>
+fn told_of_lines<R: Source>(
+    alloc: Global,
+    source: &mut R,
+    editor: Option<u8>,
+) -> Result<Vec<u8>, StudioError>
+    requires { IfSome editor IsSite }
     ensures ok { IfOk result (λ text. IfSome (R.left source.old) (λ bytes.
-        AnswersText bytes text.items)) }
+        AnswersText editor bytes text.items)) }
     ensures source { ReadsInput R.Source source.old source.new result }
     ensures refused { IfErr result IsOfRun }
     ensures no_write { IfErr result (λ e. e ≢ StudioError.WriteFailed) }
 {
     let bytes = input(alloc, source)?;
-    match faults_of(alloc, bytes) {
+    match faults_of(alloc, bytes, editor) {
         Ok(text) => Ok(text),
         Err(OutOfMemory) => Err(StudioError::OutOfMemory),
     }

@@ -1,4 +1,4 @@
-//! The forms of the values of operation lines.
+//! The forms of the values of operation lines and command lines.
 
 use crate::keys::Key;
 use gf_digits::rgb_of_hex;
@@ -9,6 +9,7 @@ use serde_json::Value;
 pub(crate) enum Form {
     /// A word that the keys of the line were chosen by.
     Word,
+    Site,
     Attribute,
     Id,
     Clock,
@@ -25,7 +26,8 @@ pub(crate) enum Form {
 /// What has to stand at a key of this line.
 pub(crate) fn form_of(line: &Value, key: Key) -> Form {
     match key {
-        Key::Op | Key::Kind => Form::Word,
+        Key::Op | Key::Do | Key::Kind => Form::Word,
+        Key::Site => Form::Site,
         Key::Id | Key::Object => Form::Id,
         Key::Past => Form::Clock,
         Key::Place => Form::Place,
@@ -71,7 +73,7 @@ impl Form {
             Form::EqualSize => "a list of two equal whole numbers",
             Form::Points => "a list of pairs of whole numbers",
             Form::Colour => "six hexadecimal digits",
-            Form::Layer => "a whole number",
+            Form::Site | Form::Layer => "a whole number",
             Form::Truth => "true or false",
             Form::Aim => "a list of pairs of whole numbers that rise, each once",
         }
@@ -90,7 +92,7 @@ impl Form {
             },
             Form::Points => are_pairs(value),
             Form::Colour => is_colour(value),
-            Form::Layer => value.as_i64().is_some(),
+            Form::Site | Form::Layer => value.as_i64().is_some(),
             Form::Truth => value.as_bool().is_some(),
             Form::Aim => are_rising(value),
         }

@@ -1,12 +1,21 @@
-//! The keys of operation lines, and which of them a line has to have.
+//! The keys of operation lines and command lines, and which of them a line has to have.
 
 use crate::reasons::Reason;
 use serde_json::Value;
 
-/// A key of an operation line.
+/// What a line is explained as.
+#[derive(Clone, Copy, Debug, PartialEq, Eq)]
+pub(crate) enum Sort {
+    Operation,
+    Command,
+}
+
+/// A key of a line.
 #[derive(Clone, Copy, Debug, PartialEq, Eq)]
 pub(crate) enum Key {
     Op,
+    Do,
+    Site,
     Id,
     Past,
     Kind,
@@ -27,6 +36,8 @@ impl Key {
     pub(crate) fn name(self) -> &'static str {
         match self {
             Key::Op => "op",
+            Key::Do => "do",
+            Key::Site => "site",
             Key::Id => "id",
             Key::Past => "past",
             Key::Kind => "kind",
@@ -44,29 +55,19 @@ impl Key {
     }
 }
 
-/// All keys.
-pub(crate) const KEYS: &[Key] = &[
-    Key::Op,
-    Key::Id,
-    Key::Past,
-    Key::Kind,
-    Key::Place,
-    Key::Size,
-    Key::Points,
-    Key::Colour,
-    Key::Layer,
-    Key::Shown,
-    Key::Object,
-    Key::Set,
-    Key::To,
-    Key::Aim,
-];
+/// The keys that a line has beside those of its change.
+fn keys_beside(sort: Sort) -> &'static [Key] {
+    match sort {
+        Sort::Operation => &[Key::Op, Key::Id, Key::Past],
+        Sort::Command => &[Key::Do, Key::Site],
+    }
+}
 
-/// The keys of a line that creates a box, a circle or an ellipse.
+/// The keys of a command that waits for an operation.
+const AWAIT_KEYS: &[Key] = &[Key::Do, Key::Site, Key::Id];
+
+/// The keys of a change that creates a box, a circle or an ellipse.
 const SIZED_KEYS: &[Key] = &[
-    Key::Op,
-    Key::Id,
-    Key::Past,
     Key::Kind,
     Key::Place,
     Key::Size,
@@ -75,11 +76,8 @@ const SIZED_KEYS: &[Key] = &[
     Key::Shown,
 ];
 
-/// The keys of a line that creates a polygon.
+/// The keys of a change that creates a polygon.
 const POLYGON_KEYS: &[Key] = &[
-    Key::Op,
-    Key::Id,
-    Key::Past,
     Key::Kind,
     Key::Place,
     Key::Points,
@@ -88,40 +86,77 @@ const POLYGON_KEYS: &[Key] = &[
     Key::Shown,
 ];
 
-/// The keys of a line that changes an object.
-const SET_KEYS: &[Key] = &[Key::Op, Key::Id, Key::Past, Key::Object, Key::Set, Key::To];
+/// The keys of a change of an object.
+const SET_KEYS: &[Key] = &[Key::Object, Key::Set, Key::To];
 
-/// The keys of a line that changes an object and is aimed at operations.
-const AIMED_KEYS: &[Key] = &[
-    Key::Op,
-    Key::Id,
-    Key::Past,
-    Key::Object,
-    Key::Set,
-    Key::To,
-    Key::Aim,
-];
+/// The keys of a change of an object that is aimed at operations.
+const AIMED_KEYS: &[Key] = &[Key::Object, Key::Set, Key::To, Key::Aim];
 
-/// The keys that a line has to have, or why that can't be told.
-pub(crate) fn keys_of(line: &Value) -> Result<&'static [Key], Reason<'static>> {
-    match line.get("op") {
-        None => Err(Reason::Missing("op")),
-        Some(verb) => match verb.as_str() {
-            Some("create") => created_keys(line),
-            Some("set") => Ok(changed_keys(line)),
-            _ => Err(Reason::OtherForm("op", "\"create\" or \"set\"")),
-        },
+/// The keys that a line has to have: those beside its change, and those of the change.
+#[derive(Clone, Copy, Debug)]
+pub(crate) struct Keys {
+    pub(crate) beside: &'static [Key],
+    pub(crate) change: &'static [Key],
+}
+
+impl Keys {
+    /// Whether a key of this name is among these.
+    pub(crate) fn have_name(self, name: &str) -> bool {
+        has_name(self.beside, name) || has_name(self.change, name)
+    }
+}
+
+/// The keys that a line of this sort has to have, or why that can't be told.
+pub(crate) fn keys_of(line: &Value, sort: Sort) -> Result<Keys, Reason<'static>> {
+    match sort {
+        Sort::Operation => operation_keys(line),
+        Sort::Command => command_keys(line),
+    }
+}
+
+fn operation_keys(line: &Value) -> Result<Keys, Reason<'static>> {
+    let change = match verb(line, "op")? {
+        Some("create") => created_keys(line)?,
+        Some("set") => changed_keys(line),
+        _ => return Err(Reason::OtherForm("op", "\"create\" or \"set\"")),
+    };
+    Ok(Keys {
+        beside: keys_beside(Sort::Operation),
+        change,
+    })
+}
+
+fn command_keys(line: &Value) -> Result<Keys, Reason<'static>> {
+    let change = match verb(line, "do")? {
+        Some("create") => created_keys(line)?,
+        Some("set") => changed_keys(line),
+        Some("await") => {
+            return Ok(Keys {
+                beside: AWAIT_KEYS,
+                change: &[],
+            });
+        }
+        _ => return Err(Reason::OtherForm("do", "\"create\", \"set\" or \"await\"")),
+    };
+    Ok(Keys {
+        beside: keys_beside(Sort::Command),
+        change,
+    })
+}
+
+/// The word that stands at this key, if a word stands there.
+fn verb<'v>(line: &'v Value, key: &'static str) -> Result<Option<&'v str>, Reason<'static>> {
+    match line.get(key) {
+        Some(verb) => Ok(verb.as_str()),
+        None => Err(Reason::Missing(key)),
     }
 }
 
 fn created_keys(line: &Value) -> Result<&'static [Key], Reason<'static>> {
-    match line.get("kind") {
-        None => Err(Reason::Missing("kind")),
-        Some(kind) => match kind.as_str() {
-            Some("box" | "circle" | "ellipse") => Ok(SIZED_KEYS),
-            Some("polygon") => Ok(POLYGON_KEYS),
-            _ => Err(Reason::OtherForm("kind", "\"box\", \"circle\", \"ellipse\" or \"polygon\"")),
-        },
+    match verb(line, "kind")? {
+        Some("box" | "circle" | "ellipse") => Ok(SIZED_KEYS),
+        Some("polygon") => Ok(POLYGON_KEYS),
+        _ => Err(Reason::OtherForm("kind", "\"box\", \"circle\", \"ellipse\" or \"polygon\"")),
     }
 }
 
@@ -132,8 +167,17 @@ fn changed_keys(line: &Value) -> &'static [Key] {
     }
 }
 
+/// Whether some line of this sort has a key of this name.
+pub(crate) fn is_known(sort: Sort, name: &str) -> bool {
+    has_name(keys_beside(sort), name)
+        || has_name(SIZED_KEYS, name)
+        || has_name(AIMED_KEYS, name)
+        || name == Key::Points.name()
+        || name == Key::Id.name()
+}
+
 /// Whether a key of this name is among these.
-pub(crate) fn has_name(keys: &[Key], name: &str) -> bool {
+fn has_name(keys: &[Key], name: &str) -> bool {
     for key in keys {
         if key.name() == name {
             return true;

@@ -1,19 +1,23 @@
-//! What is wrong with operation lines: all that a run over them would refuse, each explained.
+//! What is wrong with operation lines, and with commands of a site that edits: all that a run over
+//! them would refuse, each explained.
 //!
-//! - [`check_run`]: reads operation lines, writes a line for each fault, and answers a [`Verdict`].
+//! - [`check_run`]: reads lines, writes a line for each fault, and answers a [`Verdict`].
 //! - [`faults_of`]: a line for each fault of a text, in the order in which they are met.
 #![tactic(auto)]
 
 mod checks;
 mod faults;
 mod forms;
+mod json_reasons;
 mod keys;
 mod limits;
 mod line_reasons;
 mod lines;
 mod operation_reasons;
+mod plain;
 mod reasons;
 mod seen;
+mod telling;
 
 pub use checks::{Verdict, check_run};
 pub use lines::faults_of;

@@ -1,8 +1,8 @@
-//! The limits of the values of operation lines.
+//! The limits of the values of operation lines and command lines.
 
-use crate::forms::{Form, elements, pair};
+use crate::forms::{Form, elements, form_of, pair};
 use crate::keys::Key;
-use crate::reasons::{Reason, Side};
+use crate::reasons::{Beyond, Side};
 use serde_json::Value;
 
 /// The least and the greatest number of a kind, and the words for the kind.
@@ -25,7 +25,7 @@ fn within(word: &'static str, part: &'static str, low: i64, high: i64) -> Limits
 
 impl Limits {
     /// The fault of a number that is not within the limits.
-    fn fault(self, number: i64) -> Option<Reason<'static>> {
+    fn fault(self, number: i64) -> Option<Beyond> {
         if number < self.low {
             return Some(self.beyond(number, Side::Below, self.low));
         }
@@ -35,8 +35,8 @@ impl Limits {
         None
     }
 
-    fn beyond(self, number: i64, side: Side, limit: i64) -> Reason<'static> {
-        Reason::Beyond {
+    fn beyond(self, number: i64, side: Side, limit: i64) -> Beyond {
+        Beyond {
             word: self.word,
             part: self.part,
             number,
@@ -46,8 +46,21 @@ impl Limits {
     }
 }
 
+/// The fault of the first number at one of these keys that is not within its limits.
+pub(crate) fn limit_fault(line: &Value, keys: &[Key]) -> Option<Beyond> {
+    for key in keys {
+        if let Some(value) = line.get(key.name()) {
+            let fault = value_fault(*key, form_of(line, *key), value);
+            if fault.is_some() {
+                return fault;
+            }
+        }
+    }
+    None
+}
+
 /// The fault of the first number of a value that is not within its limits.
-pub(crate) fn limit_fault(key: Key, form: Form, value: &Value) -> Option<Reason<'static>> {
+fn value_fault(key: Key, form: Form, value: &Value) -> Option<Beyond> {
     match form {
         Form::Id => id_fault(key, value),
         Form::Clock => first_fault(within("past", "", 0, 10_000), elements(value)?),
@@ -57,6 +70,7 @@ pub(crate) fn limit_fault(key: Key, form: Form, value: &Value) -> Option<Reason<
             elements(value)?,
         ),
         Form::Points => points_fault(elements(value)?),
+        Form::Site => within("site", "", 1, 8).fault(value.as_i64()?),
         Form::Layer => within("layer", "", 0, 9_999).fault(value.as_i64()?),
         Form::Aim => aim_fault(elements(value)?),
         Form::Word | Form::Attribute | Form::Colour | Form::Truth => None,
@@ -64,7 +78,7 @@ pub(crate) fn limit_fault(key: Key, form: Form, value: &Value) -> Option<Reason<
 }
 
 /// The fault of the first of these numbers that is not within the limits.
-fn first_fault(limits: Limits, numbers: &[Value]) -> Option<Reason<'static>> {
+fn first_fault(limits: Limits, numbers: &[Value]) -> Option<Beyond> {
     for number in numbers {
         let fault = limits.fault(number.as_i64()?);
         if fault.is_some() {
@@ -74,7 +88,7 @@ fn first_fault(limits: Limits, numbers: &[Value]) -> Option<Reason<'static>> {
     None
 }
 
-fn id_fault(key: Key, value: &Value) -> Option<Reason<'static>> {
+fn id_fault(key: Key, value: &Value) -> Option<Beyond> {
     let (site, number) = pair(value)?;
     let fault = within(key.name(), ": site", 1, 8).fault(site);
     if fault.is_some() {
@@ -83,7 +97,7 @@ fn id_fault(key: Key, value: &Value) -> Option<Reason<'static>> {
     within(key.name(), ": number", 1, 10_000).fault(number)
 }
 
-fn points_fault(points: &[Value]) -> Option<Reason<'static>> {
+fn points_fault(points: &[Value]) -> Option<Beyond> {
     let fault = within("points", ": count", 3, 64).fault(count_of(points));
     if fault.is_some() {
         return fault;
@@ -100,7 +114,7 @@ fn points_fault(points: &[Value]) -> Option<Reason<'static>> {
     None
 }
 
-fn aim_fault(ids: &[Value]) -> Option<Reason<'static>> {
+fn aim_fault(ids: &[Value]) -> Option<Beyond> {
     let fault = within("aim", ": count", 0, 1_000).fault(count_of(ids));
     if fault.is_some() {
         return fault;

@@ -1,9 +1,12 @@
-//! Why a line is no operation.
+//! Why a line is no operation and no command.
+
+ghost use Rattle.std.specs.Prelude.{◌≢◌};
 
 use crate::forms::form_of;
-use crate::keys::{KEYS, Key, has_name, keys_of};
+use crate::json_reasons::json_reason;
+use crate::keys::{Key, Keys, Sort, is_known, keys_of};
 use crate::limits::limit_fault;
-use crate::reasons::{Reason, text_of};
+use crate::reasons::{Reason, text_of, text_of_command};
 use gf_base::OutOfMemory;
 use gf_replay::LineCause;
 use serde_json::{Map, Value};
@@ -12,15 +15,25 @@ use std::alloc::Global;
 /// A key of more bytes is not shown.
 const LONGEST_KEY: usize = 40;
 
-/// What is wrong with a line that has this fault. The call takes time in proportion to the line, as
+/// What is wrong with a line that has this fault. The count is of the commands so far, and rises
+/// where the line has the key of a command. The call takes time in proportion to the line, as
 /// reading the line does.
 pub(crate) fn line_reason(
     alloc: Global,
     line: &[u8],
     cause: LineCause,
+    editor: Option<u8>,
+    commands: &mut u64,
 ) -> Result<String, OutOfMemory> {
     match Value::from_slice(alloc, line) {
-        Ok(value) => text_of(alloc, value_reason(&value, cause)),
+        Ok(value) => {
+            if value.get("do").is_some() {
+                *commands = commands.saturating_add(1);
+                command_reason(alloc, &value, cause, editor, *commands)
+            } else {
+                text_of(alloc, operation_reason(&value, cause))
+            }
+        }
         Err(error) => {
             if error.is_memory() {
                 return Err(OutOfMemory);
@@ -31,108 +44,132 @@ pub(crate) fn line_reason(
     }
 }
 
-/// Why a line is no JSON: it may be cut short, and the fault is met at this column.
-fn json_reason(
-    alloc: Global,
-    line: &[u8],
-    is_short: bool,
-    column: usize,
-) -> Result<Reason<'static>, OutOfMemory> {
-    if line.starts_with(b"\xef\xbb\xbf") {
-        return Ok(Reason::ByteOrderMark);
-    }
-    if std::str::from_utf8(line).is_err() {
-        return Ok(Reason::NoUtf8);
-    }
-    if is_short {
-        return Ok(Reason::DoesNotEnd);
-    }
-    match line.get(..column.saturating_sub(1)) {
-        Some(front) if is_object(alloc, front)? => Ok(Reason::MoreBehind),
-        _ => Ok(Reason::NoValue),
-    }
-}
-
-/// Whether these bytes are one object.
-fn is_object(alloc: Global, bytes: &[u8]) -> Result<bool, OutOfMemory> {
-    match Value::from_slice(alloc, bytes) {
-        Ok(value) => Ok(value.is_object()),
-        Err(error) => {
-            if error.is_memory() {
-                Err(OutOfMemory)
-            } else {
-                Ok(false)
-            }
-        }
-    }
-}
-
-/// What is wrong with the value of a line that has this fault.
-fn value_reason(line: &Value, cause: LineCause) -> Reason<'_> {
+/// What is wrong with the value of an operation line that has this fault.
+fn operation_reason(line: &Value, cause: LineCause) -> Reason<'_> {
     match cause {
-        LineCause::Field => field_reason(line),
-        LineCause::Range => range_reason(line),
+        LineCause::Field => field_reason(line, Sort::Operation),
+        LineCause::Range => range_reason(line, Sort::Operation),
         LineCause::Json | LineCause::Clash => Reason::Unclear,
     }
 }
 
+/// What is wrong with the value of a line that has the key of a command. Where no site edits, that
+/// it is a command.
+fn command_reason(
+    alloc: Global,
+    line: &Value,
+    cause: LineCause,
+    editor: Option<u8>,
+    number: u64,
+) -> Result<String, OutOfMemory> {
+    let Some(site) = editor else {
+        return text_of(alloc, Reason::Command);
+    };
+    let reason = match cause {
+        LineCause::Field => field_reason(line, Sort::Command),
+        LineCause::Range => command_range(line, site),
+        LineCause::Json | LineCause::Clash => Reason::Unclear,
+    };
+    text_of_command(alloc, number, reason)
+}
+
+/// The first number that is not within its limits, or else the other site of the command.
+fn command_range(line: &Value, editor: u8) -> Reason<'static>
+    ensures { result ≢ Reason.Unclear }
+{
+    match range_reason(line, Sort::Command) {
+        Reason::Limits => match other_site(line, editor) {
+            Some(site) => Reason::OtherSite(site, editor),
+            None => Reason::Limits,
+        },
+        reason => reason,
+    }
+}
+
+/// The site of the command, where it is not this one.
+fn other_site(line: &Value, editor: u8) -> Option<i64> {
+    let site = line.get("site")?.as_i64()?;
+    if site == i64::from(editor) {
+        None
+    } else {
+        Some(site)
+    }
+}
+
 /// The first key at fault: unknown, missing, not of this kind of line, or of another form.
-fn field_reason(line: &Value) -> Reason<'_> {
+fn field_reason(line: &Value, sort: Sort) -> Reason<'_> {
     let Some(members) = line.as_object() else {
         return Reason::NoObject;
     };
     for name in members.keys() {
-        if !has_name(KEYS, name) {
+        if !is_known(sort, name) {
             return unknown(name);
         }
     }
-    match keys_of(line) {
+    match keys_of(line, sort) {
         Ok(keys) => wrong_key(line, members, keys),
         Err(reason) => reason,
     }
 }
 
 /// The first of the keys that is at fault, where each key of the line is one of some line.
-fn wrong_key<'a>(line: &'a Value, members: &'a Map<String, Value>, keys: &[Key]) -> Reason<'a> {
-    for key in keys {
-        if line.get(key.name()).is_none() {
-            return Reason::Missing(key.name());
-        }
+fn wrong_key<'a>(line: &'a Value, members: &'a Map<String, Value>, keys: Keys) -> Reason<'a> {
+    if let Some(name) = missing(line, keys.beside) {
+        return Reason::Missing(name);
+    }
+    if let Some(name) = missing(line, keys.change) {
+        return Reason::Missing(name);
     }
     for name in members.keys() {
-        if !has_name(keys, name) {
+        if !keys.have_name(name) {
             return Reason::Misplaced(name);
         }
     }
-    wrong_form(line, keys)
+    if let Some(key) = misshapen(line, keys.beside) {
+        return Reason::OtherForm(key.name(), form_of(line, key).words());
+    }
+    if let Some(key) = misshapen(line, keys.change) {
+        return Reason::OtherForm(key.name(), form_of(line, key).words());
+    }
+    Reason::Unclear
+}
+
+/// The first of the keys that the line has not.
+fn missing(line: &Value, keys: &[Key]) -> Option<&'static str> {
+    for key in keys {
+        if line.get(key.name()).is_none() {
+            return Some(key.name());
+        }
+    }
+    None
 }
 
 /// The first of the keys whose value has another form.
-fn wrong_form(line: &Value, keys: &[Key]) -> Reason<'static> {
+fn misshapen(line: &Value, keys: &[Key]) -> Option<Key> {
     for key in keys {
-        let form = form_of(line, *key);
         if let Some(value) = line.get(key.name()) {
-            if !form.suits(value) {
-                return Reason::OtherForm(key.name(), form.words());
+            if !form_of(line, *key).suits(value) {
+                return Some(*key);
             }
         }
     }
-    Reason::Unclear
+    None
 }
 
 /// The first number that is not within its limits.
-fn range_reason(line: &Value) -> Reason<'static> {
-    let Ok(keys) = keys_of(line) else {
-        return Reason::Unclear;
+fn range_reason(line: &Value, sort: Sort) -> Reason<'static>
+    ensures { result ≢ Reason.Unclear }
+{
+    let Ok(keys) = keys_of(line, sort) else {
+        return Reason::Limits;
     };
-    for key in keys {
-        if let Some(value) = line.get(key.name()) {
-            if let Some(fault) = limit_fault(*key, form_of(line, *key), value) {
-                return fault;
-            }
-        }
+    if let Some(beyond) = limit_fault(line, keys.beside) {
+        return Reason::Beyond(beyond);
     }
-    Reason::Unclear
+    match limit_fault(line, keys.change) {
+        Some(beyond) => Reason::Beyond(beyond),
+        None => Reason::Limits,
+    }
 }
 
 /// The reason that no line has a key of this name.

@@ -1,19 +1,24 @@
 //! From the lines of a text to all of its faults.
 
-ghost use Rattle.std.specs.Prelude.{◌≡◌, IfOk, OnOk};
+ghost use Rattle.std.specs.Prelude.{◌≡◌, ◌⊎◌, Err, List, IfOk, IfSome, OnOk};
 ghost use Rattle.gf_ops.specs.Limits.{IsInRange};
-ghost use Rattle.gf_json.specs.OperationLines.{denoted};
+ghost use Rattle.gf_ops.specs.OperationOrder.{IsSite};
+ghost use Rattle.gf_edit.specs.Entries.{IsEntryInRange};
+ghost use Rattle.gf_check.specs.FaultLines.{Told};
+ghost use Rattle.gf_check.specs.CheckedText.{denoted_by};
 ghost use Rattle.gf_check.specs.AllFaults.{AnswersText};
-ghost use Rattle.gf_check.specs.CheckSteps.{TellsDrop, TellsFault, TellsLine, TellsOffer};
-ghost use Rattle.gf_check.specs.CheckSteps.{TellsSteps};
+ghost use Rattle.gf_check.specs.Telling.{HasTold, TellsOne, TellsOnce};
+ghost use Rattle.gf_check.specs.CheckSteps.{TellsEntry, TellsOffer, TellsSteps};
+ghost use Rattle.gf_check.specs.CheckedLines.{TellsLine};
 
-use crate::faults::push_fault;
 use crate::line_reasons::line_reason;
 use crate::operation_reasons::{clash_reason, operation_reason};
 use crate::reasons::{Reason, text_of};
 use crate::seen::Seen;
+use crate::telling::Telling;
 use gf_base::OutOfMemory;
 use gf_causal::OfferFault;
+use gf_edit::{Entry, read_entry};
 use gf_json::{LineError, read_op};
 use gf_ops::{Op, OpFault, OpId};
 use gf_replay::{LineCause, ReadingError};
@@ -21,42 +26,99 @@ use gf_site::{NoTable, Replica, Step};
 use gf_streams::TextLines;
 use std::alloc::Global;
 
-/// A line for each fault of a text, in the order in which they are met. What is at fault is passed
-/// over, and nothing is told of what only waits.
-pub fn faults_of(alloc: Global, text: Vec<u8>) -> Result<Vec<u8>, OutOfMemory>
-    ensures { IfOk result (λ told. AnswersText text.items told.items) }
+/// A site with the operations so far, what came under each id, what is told, and how many commands
+/// came.
+#[derive(Drop)]
+struct Check {
+    site: Replica<NoTable>,
+    seen: Seen,
+    telling: Telling,
+    commands: u64,
+}
+
+/// A line for each fault of a text, in the order in which they are met. Where a site edits, its
+/// commands are no faults. What is at fault is passed over, and nothing is told of what only waits.
+pub fn faults_of(alloc: Global, text: Vec<u8>, editor: Option<u8>) -> Result<Vec<u8>, OutOfMemory>
+    requires { IfSome editor IsSite }
+    ensures { IfOk result (λ told. AnswersText editor text.items told.items) }
 {
-    let mut site: Replica<NoTable> = Replica::new(alloc, 1);
-    let mut seen = Seen::new(alloc);
-    let mut told = Vec::new(alloc);
+    let mut check = Check {
+        site: Replica::new(alloc, 1),
+        seen: Seen::new(alloc),
+        telling: Telling::new(alloc),
+        commands: 0,
+    };
     let mut lines = TextLines::new(text);
     while let Some((number, line)) = lines.first() {
-        take_line(alloc, &mut site, &mut seen, &mut told, number, line)?;
+        take_line(alloc, &mut check, number, line, editor)?;
         lines.advance();
     }
     // The clause of `history` says that it is valid.
-    let _ = site.history();
-    Ok(told)
+    let _ = check.site.history();
+    Ok(check.telling.into_text())
 }
 
-/// Takes the operation that a line denotes, or tells what is wrong with the line.
+/// Takes what a line denotes, or tells what is wrong with the line.
 fn take_line(
     alloc: Global,
-    site: &mut Replica<NoTable>,
-    seen: &mut Seen,
-    told: &mut Vec<u8>,
+    check: &mut Check,
     number: u64,
     line: &[u8],
+    editor: Option<u8>,
 ) -> Result<(), OutOfMemory>
-    ensures { OnOk result
-        (TellsLine number line.now site.old site.new told.old.items told.new.items) }
+    requires { IfSome editor IsSite }
+    ensures { (told : List Told) → HasTold told check.old.telling → OnOk result
+        (TellsLine editor number line.now check.old.site check.new.site
+        told check.new.telling) }
 {
-    match read_op(alloc, line) {
-        Ok(op) => take_op(alloc, site, seen, told, number, op),
+    match read_line(alloc, line, editor) {
+        Ok(entry) => take_entry(alloc, check, number, entry),
         Err(LineError::OutOfMemory) => Err(OutOfMemory),
-        Err(LineError::Json) => tell_line(alloc, told, number, line, LineCause::Json),
-        Err(LineError::Field) => tell_line(alloc, told, number, line, LineCause::Field),
-        Err(LineError::Range) => tell_line(alloc, told, number, line, LineCause::Range),
+        Err(LineError::Json) => tell_line(alloc, check, number, line, LineCause::Json, editor),
+        Err(LineError::Field) => tell_line(alloc, check, number, line, LineCause::Field, editor),
+        Err(LineError::Range) => tell_line(alloc, check, number, line, LineCause::Range, editor),
+    }
+}
+
+/// What a line denotes, or its first fault. Where no site edits, that is an operation alone.
+fn read_line(alloc: Global, line: &[u8], editor: Option<u8>) -> Result<Entry, LineError>
+    ensures denoted { (result ≡ Err LineError.OutOfMemory)
+        ⊎ (result ≡ denoted_by editor line.now) }
+    ensures in_range { IfOk result IsEntryInRange }
+{
+    let Some(site) = editor else {
+        return match read_op(alloc, line) {
+            Ok(op) => Ok(Entry::Operation(op)),
+            Err(fault) => Err(fault),
+        };
+    };
+    read_entry(alloc, line, site)
+}
+
+/// Takes an operation, or counts a command.
+fn take_entry(
+    alloc: Global,
+    check: &mut Check,
+    number: u64,
+    entry: Entry,
+) -> Result<(), OutOfMemory>
+    requires { IsEntryInRange entry }
+    ensures { (told : List Told) → HasTold told check.old.telling → OnOk result
+        (TellsEntry number entry check.old.site check.new.site told check.new.telling) }
+{
+    match entry {
+        Entry::Operation(op) => take_op(
+            alloc,
+            &mut check.site,
+            &mut check.seen,
+            &mut check.telling,
+            number,
+            op,
+        ),
+        Entry::Command(_) => {
+            check.commands = check.commands.saturating_add(1);
+            Ok(())
+        }
     }
 }
 
@@ -65,21 +127,21 @@ fn take_op(
     alloc: Global,
     site: &mut Replica<NoTable>,
     seen: &mut Seen,
-    told: &mut Vec<u8>,
+    telling: &mut Telling,
     number: u64,
     op: Op,
 ) -> Result<(), OutOfMemory>
     requires { IsInRange op }
-    ensures { OnOk result
-        (TellsOffer number op site.old site.new told.old.items told.new.items) }
+    ensures { (told : List Told) → HasTold told telling.old → OnOk result
+        (TellsOffer number op site.old site.new told telling.new) }
 {
     let copy = op.copy(alloc)?;
     match site.receive(op) {
         Ok(_) => {
             seen.put(number, copy)?;
-            settle(alloc, site, seen, told)
+            settle(alloc, site, seen, telling)
         }
-        Err(OfferFault::Clash) => tell_clash(alloc, seen, told, number, &copy),
+        Err(OfferFault::Clash) => tell_clash(alloc, seen, telling, number, &copy),
         Err(OfferFault::Range) => unreachable!(),
         Err(OfferFault::OutOfMemory) => Err(OutOfMemory),
     }
@@ -90,9 +152,10 @@ fn settle(
     alloc: Global,
     site: &mut Replica<NoTable>,
     seen: &Seen,
-    told: &mut Vec<u8>,
+    telling: &mut Telling,
 ) -> Result<(), OutOfMemory>
-    ensures { OnOk result (TellsSteps site.old site.new told.old.items told.new.items) }
+    ensures { (told : List Told) → HasTold told telling.old → OnOk result
+        (TellsSteps site.old site.new told telling.new) }
 {
     loop {
         // The clauses of both calls say what every site keeps.
@@ -100,7 +163,7 @@ fn settle(
         let _ = site.held();
         match site.step() {
             Ok(Step::Applied(_)) => {}
-            Ok(Step::Dropped(id, fault)) => tell_drop(alloc, site, seen, told, (id, fault))?,
+            Ok(Step::Dropped(id, fault)) => tell_drop(alloc, site, seen, telling, (id, fault))?,
             Ok(Step::Idle) => return Ok(()),
             Err(OutOfMemory) => return Err(OutOfMemory),
         }
@@ -110,60 +173,57 @@ fn settle(
 /// Tells what is wrong with a line.
 fn tell_line(
     alloc: Global,
-    told: &mut Vec<u8>,
+    check: &mut Check,
     number: u64,
     line: &[u8],
     cause: LineCause,
+    editor: Option<u8>,
 ) -> Result<(), OutOfMemory>
-    ensures { OnOk result (TellsFault (ReadingError.Line number cause)
-        told.old.items told.new.items) }
+    ensures tells { (told : List Told) → HasTold told check.old.telling → OnOk result
+        (TellsOne (ReadingError.Line number cause) told check.new.telling) }
+    ensures site { check.new.site ≡ check.old.site }
 {
-    let why = line_reason(alloc, line, cause)?;
-    push_fault(told, ReadingError::Line(number, cause), why.as_bytes())
+    let why = line_reason(alloc, line, cause, editor, &mut check.commands)?;
+    check.telling.tell_line(number, cause, why.as_bytes())
 }
 
 /// Tells that another operation came under an id.
 fn tell_clash(
     alloc: Global,
     seen: &Seen,
-    told: &mut Vec<u8>,
+    telling: &mut Telling,
     number: u64,
     op: &Op,
 ) -> Result<(), OutOfMemory>
-    ensures { OnOk result (TellsFault (ReadingError.Line number LineCause.Clash)
-        told.old.items told.new.items) }
+    ensures { (told : List Told) → HasTold told telling.old → OnOk result
+        (TellsOne (ReadingError.Line number LineCause.Clash) told telling.new) }
 {
     let reason = match seen.get(op.id) {
         Some(first) => clash_reason(first, op),
         None => Reason::Unclear,
     };
     let why = text_of(alloc, reason)?;
-    push_fault(
-        told,
-        ReadingError::Line(number, LineCause::Clash),
-        why.as_bytes(),
-    )
+    telling.tell_line(number, LineCause::Clash, why.as_bytes())
 }
 
-/// Tells that an operation was dropped.
+/// Tells that an operation was dropped, if that is not told with this cause.
 fn tell_drop(
     alloc: Global,
     site: &Replica<NoTable>,
     seen: &Seen,
-    told: &mut Vec<u8>,
+    telling: &mut Telling,
     dropped: (OpId, OpFault),
 ) -> Result<(), OutOfMemory>
-    ensures { OnOk result (TellsFault (ReadingError.Dropped dropped.0 dropped.1)
-        told.old.items told.new.items) }
+    ensures { (told : List Told) → HasTold told telling.old → OnOk result
+        (TellsOnce (ReadingError.Dropped dropped.0 dropped.1) told telling.new) }
 {
+    if telling.has_drop(dropped.0, dropped.1) {
+        return Ok(());
+    }
     let reason = match seen.get(dropped.0) {
         Some(last) => operation_reason(site.history(), &last.op, dropped.1),
         None => Reason::Unclear,
     };
     let why = text_of(alloc, reason)?;
-    push_fault(
-        told,
-        ReadingError::Dropped(dropped.0, dropped.1),
-        why.as_bytes(),
-    )
+    telling.tell_drop(dropped.0, dropped.1, why.as_bytes())
 }

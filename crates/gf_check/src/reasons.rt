@@ -10,12 +10,16 @@ use thiserror::Error;
 pub(crate) enum Reason<'a> {
     #[error("it begins with a byte order mark")]
     ByteOrderMark,
+    #[error("a conflict marker of git: keep the lines of both sides, and delete the markers")]
+    Marker,
     #[error("this is no UTF-8")]
     NoUtf8,
-    #[error("one object a line: this one does not end here")]
-    DoesNotEnd,
     #[error("more behind the first object: an LF is missing between two lines?")]
     MoreBehind,
+    #[error("a second object begins within the first: two files joined, of which the first lacks the end of its last line?")]
+    BeginsWithin,
+    #[error("one object a line: this one does not end here")]
+    DoesNotEnd,
     #[error("this is no JSON value")]
     NoValue,
 
@@ -33,14 +37,17 @@ pub(crate) enum Reason<'a> {
     /// The key, and what has to stand there.
     #[error("\"{0}\" must be {1}")]
     OtherForm(&'static str, &'static str),
-    #[error("{word}{part} {number} is {side} {limit}")]
-    Beyond {
-        word: &'static str,
-        part: &'static str,
-        number: i64,
-        side: Side,
-        limit: i64,
-    },
+    #[error("{0}")]
+    Beyond(Beyond),
+    /// A value is not within its limits, and no number was found that is not.
+    #[error("a number is outside its limits")]
+    Limits,
+
+    /// A command where no site edits.
+    #[error("a command, which edit takes: check --site N explains it")]
+    Command,
+    #[error("site {0}, and this is a check for site {1}")]
+    OtherSite(i64, u8),
 
     #[error("{0} is in line {1} too, with another {2}")]
     Clash(OpId, u64, &'static str),
@@ -66,6 +73,17 @@ pub(crate) enum Reason<'a> {
     Unclear,
 }
 
+/// A number that is not within its limits.
+#[derive(Clone, Copy, Debug, Error)]
+#[error("{word}{part} {number} is {side} {limit}")]
+pub(crate) struct Beyond {
+    pub(crate) word: &'static str,
+    pub(crate) part: &'static str,
+    pub(crate) number: i64,
+    pub(crate) side: Side,
+    pub(crate) limit: i64,
+}
+
 /// On which side of its limits a number is.
 #[derive(Clone, Copy, Debug, Error)]
 pub(crate) enum Side {
@@ -78,4 +96,13 @@ pub(crate) enum Side {
 /// The text of a reason.
 pub(crate) fn text_of(alloc: Global, reason: Reason<'_>) -> Result<String, OutOfMemory> {
     Ok(format!(in alloc; "{reason}")?)
+}
+
+/// The text of a reason, behind the number of the command.
+pub(crate) fn text_of_command(
+    alloc: Global,
+    number: u64,
+    reason: Reason<'_>,
+) -> Result<String, OutOfMemory> {
+    Ok(format!(in alloc; "command {number}: {reason}")?)
 }

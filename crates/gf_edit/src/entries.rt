@@ -18,7 +18,7 @@ pub enum Entry {
 
 /// What a line denotes for this site, or its first fault. A line without the form of an operation
 /// is read as a command. A command of another site has the fault Range.
-pub(crate) fn read_entry(alloc: Global, line: &[u8], site: u8) -> Result<Entry, LineError>
+pub fn read_entry(alloc: Global, line: &[u8], site: u8) -> Result<Entry, LineError>
     ensures denoted { (result ≡ Err LineError.OutOfMemory)
         ⊎ (result ≡ entry_denoted site line.now) }
     ensures in_range { IfOk result IsEntryInRange }

@@ -2,6 +2,7 @@
 //! operations.
 //!
 //! - [`edit_run`]: reads operation lines and command lines, and writes the new operations.
+//! - [`read_entry`], [`Entry`]: what a line denotes where a site edits, or its first fault.
 //! - [`Made`]: the first and the last of the new operations.
 //! - [`EditError`]: why an edit is refused.
 //! - [`what_an_edit_writes_joins_what_it_read`],
@@ -22,7 +23,7 @@ mod run;
 mod waiting;
 
 pub use edit_error::EditError;
-pub use entries::Entry;
+pub use entries::{Entry, read_entry};
 pub use laws::{
     what_an_edit_writes_is_drawn_with_what_it_read, what_an_edit_writes_joins_what_it_read,
 };

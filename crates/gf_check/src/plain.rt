@@ -1,0 +1,15 @@
+//! Texts that stand on one line.
+
+ghost use Rattle.std.specs.Prelude.{};
+ghost use Rattle.gf_check.specs.FaultLines.{IsOnOneLine};
+
+/// A text, or another one where it has a line end.
+pub(crate) fn on_one_line(text: &[u8]) -> &[u8]
+    ensures { IsOnOneLine result.now }
+{
+    if text.contains(&b'\n') {
+        b"see the formats"
+    } else {
+        text
+    }
+}
