@@ -3,8 +3,8 @@
 # each FIG text by bench_fig, which reads it and writes what it read. Where there is a window, whose
 # words stand in the file of that name, the lines are painted in it and expected.fig is repainted.
 # Where there is a script, it is run as a session of as many sites as the file sites says. Where the
-# status of the lines is expected, or their faults are, these are compared; and where there are changes,
-# the operations that site 1 makes of them, and the status with these. Each picture that the file
+# status of the lines is expected, or their faults or those of commands are, these are compared; and where
+# there are changes, the operations that site 1 makes of them, and the status with these. Each picture that the file
 # pictures names, with its lines and its window, is painted anew and compared. What an import makes of
 # house.fig is compared with imported.jsonl. Last README and the tutorial are typed, and the script of by-git
 # is run.
@@ -50,6 +50,13 @@ told() {
 faults() {
     status=0
     "$root/figgroup" check < "$1" || status=$?
+    [ "$status" = 1 ]
+}
+
+# The faults of commands of site 1 that have some.
+command_faults() {
+    status=0
+    "$root/figgroup" check --site 1 < "$1" || status=$?
     [ "$status" = 1 ]
 }
 
@@ -157,6 +164,9 @@ for example in "$examples"/*/; do
     fi
     if [ -e "$example/faults.txt" ]; then
         compare "$(basename "$example"), faults" "$example/faults.txt" faults "$@"
+    fi
+    if [ -e "$example/command-faults.txt" ]; then
+        compare "$(basename "$example"), faults of commands" "$example/command-faults.txt" command_faults "$example/commands.jsonl"
     fi
     if [ -e "$example/pictures" ]; then
         compare_pngs
