@@ -20,6 +20,7 @@ use Rattle.gf_fig_tokens.specs.declared.faults.FigFault.{FigFault}
 use Rattle.gf_fig_read.proofs.GrammarLemmas.{not_both, one_drawing}
 use Rattle.gf_scanline.specs.Picture.{picture}
 use Rattle.gf_scanline.specs.Windows.{View}
+use Rattle.gf_studio.specs.declared.drawings.DrawnLines.{DrawnLines}
 use Rattle.gf_studio.specs.declared.studio_error.StudioError.{StudioError}
 use Rattle.gf_studio.specs.FigRun.{Draws, Writes}
 use Rattle.gf_studio.specs.PaintRun.{IsDenoted, IsMeant, WritesPicture}
@@ -27,9 +28,9 @@ use Rattle.gf_studio.specs.PaintRun.{IsDenoted, IsMeant, WritesPicture}
 drawn_meant : (bytes : List ℕ) (drawing : DrawingState AnyShape) → Draws bytes drawing → IsMeant bytes (drawing_colour any_holds drawing.table drawing.figures)
 drawn_meant bytes drawing drawn = record { drawing = drawing; drawn = drawn; means = drawn.such.colours }
 
-pub left_meant : (left : Option (List ℕ)) (r : Result (DrawingState AnyShape) StudioError) → IfOk r (λ d. IfSome left (λ bytes. Draws bytes d)) → IfOk r (λ d. IfSome left (λ bytes. IsMeant bytes (drawing_colour any_holds d.table d.figures)))
+pub left_meant : (left : Option (List ℕ)) (r : Result DrawnLines StudioError) → IfOk r (λ d. IfSome left (λ bytes. Draws bytes d.drawing)) → IfOk r (λ d. IfSome left (λ bytes. IsMeant bytes (drawing_colour any_holds d.drawing.table d.drawing.figures)))
 left_meant None (Ok d) drawn = tt
-left_meant (Some bytes) (Ok d) drawn = drawn_meant bytes d drawn
+left_meant (Some bytes) (Ok d) drawn = drawn_meant bytes d.drawing drawn
 left_meant left (Err e) drawn = tt
 
 -- colours that are one at every point make one picture

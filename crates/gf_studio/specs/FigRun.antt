@@ -14,6 +14,7 @@ use Rattle.gf_fig_read.specs.FigGrammar.{Reads}
 use Rattle.gf_fig_write.specs.FigText.{fig_text}
 use Rattle.gf_fig_write.specs.ShownHistory.{Shows}
 use Rattle.gf_replay.specs.Denoting.{Denotes}
+use Rattle.gf_replay.specs.Waiting.{DenotesWaiting}
 use Rattle.gf_visible.specs.ShownVersions.{HasMoreVisible}
 use Rattle.gf_studio.specs.RunAnswers.{WritesText}
 
@@ -33,6 +34,13 @@ pub record IsDrawn (h : List Op) (drawing : DrawingState AnyShape) : Type 0 wher
 -- the bytes denote a history of which this is the drawing
 abbrev pub Draws : List ℕ → DrawingState AnyShape → Type 0
 Draws bytes drawing = DenotesSuch bytes (λ h. IsDrawn h drawing)
+
+-- the bytes denote a history, and behind it n operations wait
+pub record HoldsBack (bytes : List ℕ) (n : ℕ) : Type 0 where
+  pub history : List Op
+  pub waiting : List Op
+  pub denoted : DenotesWaiting bytes history waiting
+  pub count : n ≡ length waiting
 
 -- known bytes grow from old to new by a text that shows the history that the bytes denote
 abbrev pub Exports : List ℕ → Option (List ℕ) → Option (List ℕ) → Type 0

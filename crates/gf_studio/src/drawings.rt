@@ -5,7 +5,7 @@ ghost use Rattle.gf_shape.specs.ShapeMeaning.{any_holds};
 ghost use Rattle.gf_drawing.specs.DrawingColour.{drawing_colour};
 ghost use Rattle.gf_fig_read.specs.FigGrammar.{Reads};
 ghost use Rattle.gf_versions.specs.Ranking.{AreRanked};
-ghost use Rattle.gf_studio.specs.FigRun.{Draws, IsDrawn, RefusesHistory};
+ghost use Rattle.gf_studio.specs.FigRun.{Draws, HoldsBack, IsDrawn, RefusesHistory};
 ghost use Rattle.gf_studio.specs.Refusals.{of_ranked};
 ghost use Rattle.gf_studio.specs.RefusedParts.{IsBetween};
 ghost use Rattle.gf_studio.specs.RefusedRuns.{IsOfInput, RefusesFig, RefusesLines};
@@ -24,18 +24,29 @@ use gf_visible::ranked_within;
 use std::alloc::Global;
 use std::thread::Threads;
 
-/// The drawing of the history that the lines of a source denote, read by 1 to 16 workers.
+/// A drawing of lines, and what it leaves out.
+#[derive(Debug, Drop)]
+pub struct DrawnLines {
+    pub drawing: Drawing<AnyShape>,
+    /// How many operations wait, and are not drawn.
+    pub waiting: usize,
+}
+
+/// The drawing of the history that the lines of a source denote, read by 1 to 16 workers, and how
+/// many operations wait behind this history.
 pub fn drawing_of_lines<T: Threads + Sync, R: Source>(
     rt: &T,
     alloc: Global,
     source: &mut R,
     workers: u8,
-) -> Result<Drawing<AnyShape>, StudioError>
+) -> Result<DrawnLines, StudioError>
     requires { (1 ≤ workers) × (workers ≤ 16) }
-    ensures ok { IfOk result (λ drawing. IfSome (R.left source.old) (λ bytes.
-        Draws bytes drawing)) }
-    ensures meant { IfOk result (λ drawing. IfSome (R.left source.old) (λ bytes.
-        IsMeant bytes (drawing_colour any_holds drawing.table drawing.figures))) }
+    ensures ok { IfOk result (λ drawn. IfSome (R.left source.old) (λ bytes.
+        Draws bytes drawn.drawing)) }
+    ensures meant { IfOk result (λ drawn. IfSome (R.left source.old) (λ bytes.
+        IsMeant bytes (drawing_colour any_holds drawn.drawing.table drawn.drawing.figures))) }
+    ensures waiting { IfOk result (λ drawn. IfSome (R.left source.old) (λ bytes.
+        HoldsBack bytes drawn.waiting)) }
     ensures source { ReadsInput R.Source source.old source.new result }
     ensures refused { IfErr result (λ e. IfSome (R.left source.old) (λ bytes.
         RefusesLines bytes e)) }
@@ -69,21 +80,23 @@ pub fn input<R: Source>(alloc: Global, source: &mut R) -> Result<Vec<u8>, Studio
     Ok(bytes)
 }
 
-/// The drawing of the history that these bytes denote.
+/// The drawing of the history that these bytes denote, and how many operations wait behind it.
 fn draw<T: Threads + Sync>(
     rt: &T,
     alloc: Global,
     bytes: Vec<u8>,
     workers: u8,
-) -> Result<Drawing<AnyShape>, StudioError>
+) -> Result<DrawnLines, StudioError>
     requires { (1 ≤ workers) × (workers ≤ 16) }
-    ensures ok { IfOk result (λ drawing. Draws bytes.items drawing) }
+    ensures ok { IfOk result (λ drawn. Draws bytes.items drawn.drawing) }
+    ensures waiting { IfOk result (λ drawn. HoldsBack bytes.items drawn.waiting) }
     ensures refused { IfErr result (RefusesLines bytes.items) }
     ensures between { IfErr result IsBetween }
 {
     let site = read_site(rt, alloc, bytes, workers)?;
     let drawing = draw_site(alloc, &site)?;
-    Ok(drawing)
+    let waiting = site.held();
+    Ok(DrawnLines { drawing, waiting })
 }
 
 /// The drawing of a site's history.

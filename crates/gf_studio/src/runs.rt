@@ -1,7 +1,7 @@
 //! Whole runs: from operation lines to FIG text or a picture, and from FIG text to a picture.
 
-ghost use Rattle.std.specs.Prelude.{◌≤◌, IfSome, IfErr, OnOk};
-ghost use Rattle.gf_studio.specs.FigRun.{Exports, IsFigOf, Writes};
+ghost use Rattle.std.specs.Prelude.{◌≤◌, IfSome, IfOk, IfErr, OnOk};
+ghost use Rattle.gf_studio.specs.FigRun.{Exports, HoldsBack, IsFigOf, Writes};
 ghost use Rattle.gf_studio.specs.PaintRun.{IsDenoted, IsMeant, PaintsWindow, WritesPicture};
 ghost use Rattle.gf_studio.specs.RefusedRuns.{RefusesFig, RefusesLines};
 ghost use Rattle.gf_studio.specs.RunAnswers.{LeavesSink, ReadsInput};
@@ -15,7 +15,8 @@ use std::alloc::Global;
 use std::thread::Threads;
 
 /// Reads operation lines to their end, by 1 to 16 workers, and writes the FIG text of their
-/// history's drawing. All is read before the first write.
+/// history's drawing. The answer is how many operations wait, and are not drawn. All is read before
+/// the first write.
 #[tactic(auto, using(crate::proofs::ExportLemmas::exported, crate::proofs::ExportLemmas::fig_of))]
 pub fn fig_run<T: Threads + Sync, R: Source, W: Sink>(
     rt: &T,
@@ -23,7 +24,7 @@ pub fn fig_run<T: Threads + Sync, R: Source, W: Sink>(
     source: &mut R,
     sink: &mut W,
     workers: u8,
-) -> Result<(), StudioError>
+) -> Result<usize, StudioError>
     requires { (1 ≤ workers) × (workers ≤ 16) }
     // By the FIG grammar, what is written reads as a drawing. At every grid point this has the
     // colour that the denoted history means there. To the byte, the text is the one of that
@@ -32,6 +33,9 @@ pub fn fig_run<T: Threads + Sync, R: Source, W: Sink>(
         Exports bytes (W.taken sink.old) (W.taken sink.new))) }
     ensures text { OnOk result (IfSome (R.left source.old) (λ bytes.
         Writes bytes (W.taken sink.old) (W.taken sink.new))) }
+    // So many operations wait behind that history.
+    ensures waiting { IfOk result (λ waiting. IfSome (R.left source.old) (λ bytes.
+        HoldsBack bytes waiting)) }
 
     // The input was read whole, or the source failed, or had more than an input. The error names
     // the first line at fault, or why the history has no drawing.
@@ -42,14 +46,14 @@ pub fn fig_run<T: Threads + Sync, R: Source, W: Sink>(
     // At most a prefix of the text is written, and that only where the sink failed.
     ensures sink { LeavesSink W.Sink (R.left source.old) IsFigOf sink.old sink.new result }
 {
-    let drawing = drawing_of_lines(rt, alloc, source, workers)?;
-    write_fig(alloc, &drawing, sink)?;
-    Ok(())
+    let drawn = drawing_of_lines(rt, alloc, source, workers)?;
+    write_fig(alloc, &drawn.drawing, sink)?;
+    Ok(drawn.waiting)
 }
 
 /// Reads operation lines to their end, and writes the picture of their history's colours in a
-/// window. The lines are read and the picture is painted by 1 to 16 workers. All is read before the
-/// first write.
+/// window. The lines are read and the picture is painted by 1 to 16 workers. The answer is how many
+/// operations wait, and are not drawn. All is read before the first write.
 pub fn paint_run<T: Threads + Sync, R: Source, W: Sink, G: Gate + Sync>(
     rt: &T,
     alloc: Global,
@@ -58,11 +62,13 @@ pub fn paint_run<T: Threads + Sync, R: Source, W: Sink, G: Gate + Sync>(
     window: Window,
     workers: u8,
     gate: &G,
-) -> Result<(), StudioError>
+) -> Result<usize, StudioError>
     requires { (1 ≤ workers) × (workers ≤ 16) }
     // What is written is the picture of the colours that the denoted history means.
     ensures paints { OnOk result (IfSome (R.left source.old) (λ bytes.
         WritesPicture (IsMeant bytes) window (W.taken sink.old) (W.taken sink.new))) }
+    ensures waiting { IfOk result (λ waiting. IfSome (R.left source.old) (λ bytes.
+        HoldsBack bytes waiting)) }
 
     // The same as `fig_run` promises.
     ensures source { ReadsInput R.Source source.old source.new result }
@@ -75,8 +81,8 @@ pub fn paint_run<T: Threads + Sync, R: Source, W: Sink, G: Gate + Sync>(
         result }
 {
     let meant = drawing_of_lines(rt, alloc, source, workers)?;
-    ppm_to(rt, alloc, &meant, window, workers, gate, sink)?;
-    Ok(())
+    ppm_to(rt, alloc, &meant.drawing, window, workers, gate, sink)?;
+    Ok(meant.waiting)
 }
 
 /// Reads a FIG text to its end, and writes the picture of its drawing in a window. The picture is

@@ -9,6 +9,11 @@ pub returns-clause-ok : goal.returns-clause-ok
 returns-clause-ok g c =
     record { history = c.in_ok-site.site.ops; denoted = c.in_ok-site.ensures.ok; such = c.in_ok-drawing.ensures.ok }
 
+pub returns-clause-waiting : goal.returns-clause-waiting
+returns-clause-waiting g c =
+    let site = c.in_ok-site.site in
+    record { history = site.ops; waiting = site.held; denoted = c.in_ok-site.ensures.held; count = c.held-waiting.ensures.held }
+
 pub returns-in_err-drawing-clause-refused : goal.returns-in_err-drawing-clause-refused
 returns-in_err-drawing-clause-refused g c =
     let p = err_from_is_err_and c.from_residual-in_err-drawing.result c.from_residual-in_err-drawing.ensures.1 in
