@@ -3,7 +3,8 @@
 //! - [`Frame`]: how many columns and rows a picture has.
 //! - [`fitted_window`]: the window of a frame in whose middle a drawing stands.
 //! - [`paint_fitted_run`], [`repaint_fitted_run`]: as `paint_run` and `repaint_run` of `gf_studio`,
-//!   in the window that fits what they paint.
+//!   in the window that fits what they paint. [`Painted`] has this window, and how many operations
+//!   wait.
 //! - [`one_window_fits`], [`the_same_operations_fit_alike`], [`a_text_fits_as_its_history_does`]:
 //!   the laws of fitted windows.
 //!
@@ -22,4 +23,4 @@ pub use frame::Frame;
 pub use gf_shape::Range;
 pub use gf_studio::{Gate, OpenGate, Window};
 pub use laws::{a_text_fits_as_its_history_does, one_window_fits, the_same_operations_fit_alike};
-pub use runs::{paint_fitted_run, repaint_fitted_run};
+pub use runs::{Painted, paint_fitted_run, repaint_fitted_run};

@@ -2,6 +2,7 @@
 //! draw.
 
 ghost use Rattle.std.specs.Prelude.{◌≤◌, IfSome, IfOk, IfErr};
+ghost use Rattle.gf_studio.specs.FigRun.{HoldsBack};
 ghost use Rattle.gf_studio.specs.PaintRun.{IsDenoted, IsMeant, WritesPicture};
 ghost use Rattle.gf_studio.specs.RefusedRuns.{RefusesFig, RefusesLines};
 ghost use Rattle.gf_studio.specs.RunAnswers.{ReadsInput};
@@ -14,9 +15,17 @@ use gf_studio::{Gate, StudioError, Window, drawing_of_fig, drawing_of_lines};
 use std::alloc::Global;
 use std::thread::Threads;
 
+/// The window in which lines were painted, and what is not drawn there.
+#[derive(Clone, Copy, Debug, PartialEq, Eq)]
+pub struct Painted {
+    pub window: Window,
+    /// How many operations wait, and are not drawn.
+    pub waiting: usize,
+}
+
 /// Reads operation lines to their end, and writes the picture of their history's colours in the
 /// window that fits. The lines are read and the picture is painted by 1 to 16 workers. The answer
-/// is this window. All is read before the first write.
+/// is this window, with how many operations wait. All is read before the first write.
 #[tactic(auto, using(crate::proofs::LeavingLemmas::fitted_prefix, crate::proofs::LeavingLemmas::fitted_bands))]
 pub fn paint_fitted_run<T: Threads + Sync, R: Source, W: Sink, G: Gate + Sync>(
     rt: &T,
@@ -26,14 +35,17 @@ pub fn paint_fitted_run<T: Threads + Sync, R: Source, W: Sink, G: Gate + Sync>(
     frame: Frame,
     workers: u8,
     gate: &G,
-) -> Result<Window, StudioError>
+) -> Result<Painted, StudioError>
     requires { (1 ≤ workers) × (workers ≤ 16) }
     // The window fits the drawing of the history that the bytes denote. What is written is the
     // picture of the colours that this history means.
-    ensures fits { IfOk result (λ window. IfSome (R.left source.old) (λ bytes.
-        FitsLines bytes frame window)) }
-    ensures paints { IfOk result (λ window. IfSome (R.left source.old) (λ bytes.
-        WritesPicture (IsMeant bytes) window (W.taken sink.old) (W.taken sink.new))) }
+    ensures fits { IfOk result (λ painted. IfSome (R.left source.old) (λ bytes.
+        FitsLines bytes frame painted.window)) }
+    ensures paints { IfOk result (λ painted. IfSome (R.left source.old) (λ bytes.
+        WritesPicture (IsMeant bytes) painted.window (W.taken sink.old) (W.taken sink.new))) }
+    // So many operations wait behind that history.
+    ensures waiting { IfOk result (λ painted. IfSome (R.left source.old) (λ bytes.
+        HoldsBack bytes painted.waiting)) }
 
     // The same as `paint_run` of `gf_studio` promises.
     ensures source { ReadsInput R.Source source.old source.new result }
@@ -46,9 +58,12 @@ pub fn paint_fitted_run<T: Threads + Sync, R: Source, W: Sink, G: Gate + Sync>(
         result }
 {
     let meant = drawing_of_lines(rt, alloc, source, workers)?;
-    let window = fitted_window(&meant, frame);
-    ppm_to(rt, alloc, &meant, window, workers, gate, sink)?;
-    Ok(window)
+    let window = fitted_window(&meant.drawing, frame);
+    ppm_to(rt, alloc, &meant.drawing, window, workers, gate, sink)?;
+    Ok(Painted {
+        window,
+        waiting: meant.waiting,
+    })
 }
 
 /// Reads a FIG text to its end, and writes the picture of its drawing in the window that fits. The
