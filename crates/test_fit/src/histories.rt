@@ -12,7 +12,8 @@ use test_kit::is_answer;
 use test_kit::notation::operation;
 
 /// Each row: width and height, behind `;` the operations with a `;` between them, and the window's
-/// corner and step. The picture is that which `paint_run` paints in this window.
+/// corner and step. Where operations wait, their number stands behind these. The picture, and this
+/// number, are those of `paint_run` in this window.
 const ROWS: &str = "
 // Nothing is drawn, or nothing is shown.
 64 48 ; | 0 0 1
@@ -51,6 +52,11 @@ const ROWS: &str = "
 20 20 ; 1.1: box 10 10; 1.2 after 1: 1.1 place 100,50 | 95 45 1
 20 20 ; 1.1: box 10 10; 1.2 after 1: 1.1 place 100,50; 2.1 after 1: 1.1 place 200,50 | 88 -12 7
 
+// What waits does not count, and is told.
+20 20 ; 1.2 after 1: 1.1 place 100,50 | 0 0 1, 1 wait
+20 20 ; 1.1: box 10 10; 1.3 after 2: 1.1 place 100,50 | -5 -5 1, 1 wait
+20 20 ; 1.1: box 10 10; 1.3 after 2: 1.1 place 100,50; 2.1 after 2: 1.1 place 200,50 | -5 -5 1, 2 wait
+
 // The step ends at 10,000.
 100 100 ; 1.1: box 889911 1 | -49995 -494950 9999
 100 100 ; 1.1: box 889912 1 | -50044 -495000 10000
@@ -80,15 +86,22 @@ fn lines(alloc: Global, operations: &str) -> Option<Vec<u8>> {
     Some(input)
 }
 
-/// The window, and whether the picture is that which is painted in it.
+/// The window, whether the picture and what waits are as painted in it, and how many operations
+/// wait where some do.
 fn painted<T: Threads + Sync>(rt: &T, alloc: Global, frame: Frame, input: &[u8]) -> Option<String> {
     let mut fitted = Tape::new(alloc, None);
     let mut source = Reel::new(input, None);
-    let window = paint_fitted_run(rt, alloc, &mut source, &mut fitted, frame, 2, &OpenGate).ok()?;
+    let painted = paint_fitted_run(rt, alloc, &mut source, &mut fitted, frame, 2, &OpenGate).ok()?;
+    let window = painted.window;
     let mut plain = Tape::new(alloc, None);
     let mut source = Reel::new(input, None);
-    paint_run(rt, alloc, &mut source, &mut plain, window, 1, &OpenGate).ok()?;
-    told(alloc, window, fitted.bytes() == plain.bytes())
+    let waiting = paint_run(rt, alloc, &mut source, &mut plain, window, 1, &OpenGate).ok()?;
+    let is_same = fitted.bytes() == plain.bytes() && painted.waiting == waiting;
+    let text = told(alloc, window, is_same)?;
+    if waiting == 0 {
+        return Some(text);
+    }
+    format!(in alloc; "{text}, {waiting} wait").ok()
 }
 
 fn answer<T: Threads + Sync>(rt: &T, alloc: Global, question: &str) -> Option<String> {

@@ -10,13 +10,13 @@ use std::thread::Threads;
 use test_kit::{RED_BOX, RED_BOX_FIG};
 use test_kit_drawings::printed;
 
-/// Each row: the answer and how many bytes the sink took, and which side fails after how many. The
-/// pieces of the input stand behind these.
+/// Each row: how many operations wait, or the error, and how many bytes the sink took. Behind these
+/// stand which side fails after how many, and the pieces of the input.
 const RUNS: &str = r"
 // runs_answer_the_first_fault
-ok, 60                             |          |
-ok, 156                            |          | red_box
-ok, 156                            | sink 156 | red_box
+0 wait, 60                         |          |
+0 wait, 156                        |          | red_box
+0 wait, 156                        | sink 156 | red_box
 write failed, 155                  | sink 155 | red_box
 read failed, 0                     | source 5 | red_box
 line 2: Field, 0                   |          | / {} / {
@@ -25,6 +25,13 @@ line 2: Clash, 0                   |          | red_box / green_box
 operation 1.1 dropped: BadClock, 0 |          | box_after_itself
 operation 1.1 dropped: BadClock, 0 |          | box_after_itself / {
 line 1: Json, 0                    |          | { / box_after_itself
+// what_waits_is_counted_once
+1 wait, 60                         |          | made_blue
+1 wait, 156                        |          | red_box / made_lower
+2 wait, 60                         |          | made_lower / made_blue
+2 wait, 60                         |          | made_lower / made_blue / made_lower
+0 wait, 156                        |          | made_lower / made_blue / red_box
+line 2: Json, 0                    |          | made_blue / {
 ";
 
 /// The piece of this name; `{` and `{}` name themselves.
@@ -37,6 +44,12 @@ fn piece(name: &str) -> &str {
         }
         "box_after_itself" => {
             r#"{"colour":"ff0000","id":[1,1],"kind":"box","layer":0,"op":"create","past":[1,0,0,0,0,0,0,0],"place":[100,200],"shown":true,"size":[300,400]}"#
+        }
+        "made_blue" => {
+            r#"{"id":[1,2],"object":[1,1],"op":"set","past":[1,0,0,0,0,0,0,0],"set":"colour","to":"0000ff"}"#
+        }
+        "made_lower" => {
+            r#"{"id":[1,3],"object":[1,1],"op":"set","past":[2,0,0,0,0,0,0,0],"set":"layer","to":3}"#
         }
         _ => name,
     }
@@ -72,7 +85,7 @@ fn answer<T: Threads + Sync>(
     let result = fig_run(rt, alloc, &mut source, &mut sink, 1);
     let taken = sink.bytes().len();
     match result {
-        Ok(()) => Ok(format!(in alloc; "ok, {taken}")?),
+        Ok(waiting) => Ok(format!(in alloc; "{waiting} wait, {taken}")?),
         Err(error) => Ok(format!(in alloc; "{error}, {taken}")?),
     }
 }
@@ -109,7 +122,7 @@ fn taken<T: Threads + Sync>(
     alloc: Global,
     limit: u64,
     want: &[u8],
-) -> (Result<(), StudioError>, bool) {
+) -> (Result<usize, StudioError>, bool) {
     let mut sink = Tape::new(alloc, Some(limit));
     let mut source = Reel::new(RED_BOX.as_bytes(), None);
     let result = fig_run(rt, alloc, &mut source, &mut sink, 1);
@@ -123,7 +136,7 @@ fn a_sink_that_fails_anywhere_has_a_front(rt: HostRuntime) {
         let want = if limit < 156 {
             Err(StudioError::WriteFailed)
         } else {
-            Ok(())
+            Ok(0)
         };
         assert_eq!(rt;
             taken(&rt, rt.alloc(), limit, front),
@@ -147,7 +160,7 @@ fn answer_behind<T: Threads + Sync>(rt: &T, alloc: Global, blank: usize) -> Resu
 #[test]
 fn an_input_may_have_many_lines(rt: HostRuntime) -> Result<(), Fail> {
     let answer = answer_behind(&rt, rt.alloc(), 100_000)?;
-    assert_eq!(rt; answer.as_str(), "Ok(()), 156");
+    assert_eq!(rt; answer.as_str(), "Ok(0), 156");
     Ok(())
 }
 
