@@ -1,7 +1,7 @@
 -- What the words of the command line ask for, by what clap reads of them (this project's choice).
 use Rattle.std.specs.Prelude.{◌≡◌, ◌≢◌, ◌⊎◌, ◌&&◌, ◌||◌, ℕ, ℤ, pos, Bool, false, List, []}
 use Rattle.std.specs.Prelude.{Option, Some, None, Result, Ok, Err, codes, is_some, FitsSigned}
-use Rattle.std.specs.Prelude.{IsTrue, MatchOption, ⊤}
+use Rattle.std.specs.Prelude.{IsTrue, MatchOption}
 use Rattle.std.specs.Str.{bytes_eq}
 use Rattle.std.specs.Int.{w32}
 use Rattle.std.specs.Str.Parse.{digits_value, signed_digits_value, without_leading_plus}
@@ -23,6 +23,7 @@ use Rattle.gf_command.specs.declared.runs.Mistake.TheVariants as mistake
 use Rattle.gf_command.specs.declared.runs.QueryFault.{QueryFault}
 use Rattle.gf_command.specs.declared.runs.QueryFault.TheVariants.{NotOne, Unreadable}
 use Rattle.gf_command.specs.declared.runs.Workers.{Workers}
+use Rattle.gf_command.specs.declared.runs.Editor.{Editor}
 use Rattle.gf_command.specs.declared.runs.Canvas.{Canvas}
 use Rattle.gf_command.specs.declared.runs.Extent.{Extent}
 use Rattle.gf_command.specs.declared.runs.Extent.TheVariants as extent
@@ -103,6 +104,19 @@ pub record IsCanvas (rows : List Row) (canvas : Canvas) : Type 0 where
   pub unplaced : is_placed_fit rows ≡ false
   pub workers : HasWorkers rows canvas.workers
 
+-- the editor is the site of this number
+abbrev pub IsEditorOf : ℕ → Option Editor → Type 0
+IsEditorOf n editor = MatchOption editor ⊥ (λ e. e.site ≡ n)
+
+-- the editor is the site of the text's number, and none where there is no text
+abbrev pub IsEditorOrNone : Option Text → Option Editor → Type 0
+IsEditorOrNone text editor = MatchOption text (editor ≡ None)
+    (λ t. IsEditorOf (digits_value 10 (without_leading_plus t)) editor)
+
+-- the editor is the site that these rows have, and none where they have none
+abbrev pub IsChecked : List Row → Option Editor → Type 0
+IsChecked rows = IsEditorOrNone (first_of (codes "site") rows)
+
 -- a query, or why there is none
 abbrev pub AskedQuery : Type 0
 AskedQuery = Result Query QueryFault
@@ -149,7 +163,7 @@ AsksRun met (Edit editor) =
 AsksRun met (Status check workers) =
     Meets met (codes "status") (λ rows.
     (check ≡ has_flag (codes "check") rows) × HasWorkers rows workers)
-AsksRun met Check = Meets met (codes "check") (λ _. ⊤)
+AsksRun met (Check editor) = Meets met (codes "check") (λ rows. IsChecked rows editor)
 AsksRun met (Session sites) =
     Meets met (codes "session") (λ rows. HasNatural rows (codes "sites") sites)
 

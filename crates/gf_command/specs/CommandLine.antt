@@ -58,6 +58,10 @@ site = record (text (codes "site")) { parser = Some (Unsigned 1 8); required = t
 abbrev pub check : List Rule
 check = flag (codes "check") ∷ reading ∷ []
 
+-- the option of a check, which may be left out
+abbrev pub editor : List Rule
+editor = optional (codes "site") (Unsigned 1 8) ∷ []
+
 -- the option of a session
 abbrev pub sites : List Rule
 sites = number (codes "sites") (codes "2") (Unsigned 2 8) ∷ []
@@ -72,7 +76,7 @@ commands =
     command (codes "fig") readers ∷ command (codes "paint") canvas ∷
     command (codes "repaint") canvas ∷ command (codes "inspect") query ∷
     command (codes "import") site ∷ command (codes "edit") site ∷
-    command (codes "status") check ∷ command (codes "check") [] ∷
+    command (codes "status") check ∷ command (codes "check") editor ∷
     command (codes "session") sites ∷ []
 
 -- the program: one of its commands is wanted, and without a word its help is told

@@ -1,5 +1,5 @@
 -- What the runs of the program leave on their output (this project's choice).
-use Rattle.std.specs.Prelude.{◌≡◌, ◌⊎◌, ℕ, true, List, Option}
+use Rattle.std.specs.Prelude.{◌≡◌, ◌⊎◌, ℕ, true, List, Option, option_map}
 use Rattle.gf_shape.specs.declared.colour.Rgb.{Rgb}
 use Rattle.gf_shape.specs.declared.point.Point.{Point}
 use Rattle.gf_scanline.specs.Windows.{View}
@@ -20,10 +20,15 @@ use Rattle.gf_check.specs.declared.checks.Verdict.TheVariants as verdict
 use Rattle.gf_check.specs.CheckRun.{WritesCheck}
 use Rattle.gf_session_run.specs.SessionRun.{TellsSession, WritesSession}
 use Rattle.gf_command.specs.declared.runs.Run.{Run}
+use Rattle.gf_command.specs.declared.runs.Editor.{Editor}
 use Rattle.gf_command.specs.declared.runs.Extent.{Extent}
 use Rattle.gf_command.specs.declared.runs.Extent.TheVariants.{Window, Fitted}
 use Rattle.gf_command.specs.declared.runs.Run.TheVariants.{Fig, Paint, Repaint, Inspect, Import}
 use Rattle.gf_command.specs.declared.runs.Run.TheVariants.{Edit, Status, Check, Session}
+
+-- the number of the site, where one is given
+abbrev pub site_of : Option Editor → Option ℕ
+site_of editor = option_map (λ e. e.site) editor
 
 -- Fits says which windows of a frame fit, IsShown which colours are to be painted. Known bytes grow
 -- from old to new
@@ -57,7 +62,8 @@ Answers (Edit editor) bytes old new =
     (made : Option Made) × WritesEdit editor.site bytes made old new
 Answers (Status check workers) bytes old new =
     (state : State) × (check ≡ true → state ≡ Clean) × WritesStatus bytes state old new
-Answers Check bytes old new = WritesCheck bytes verdict.Clean old new
+Answers (Check editor) bytes old new =
+    WritesCheck (site_of editor) bytes verdict.Clean old new
 Answers (Session sites) bytes old new = WritesSession sites bytes old new
 
 -- known bytes grow from old to new by a prefix of what the run asks for. The prefix of a picture
@@ -73,7 +79,8 @@ AnswersPrefix (Inspect query workers) bytes old new =
 AnswersPrefix (Import editor) bytes old new = WritesPrefix (Imports editor.site bytes) old new
 AnswersPrefix (Edit editor) bytes old new = WritesPrefix (IsEditOf editor.site bytes) old new
 AnswersPrefix (Status check workers) bytes old new = WritesPrefix (IsStatusOf bytes) old new
-AnswersPrefix Check bytes old new = WritesPrefix (AnswersText bytes) old new
+AnswersPrefix (Check editor) bytes old new =
+    WritesPrefix (AnswersText (site_of editor) bytes) old new
 AnswersPrefix (Session sites) bytes old new = WritesPrefix (TellsSession sites bytes) old new
 
 -- known bytes grow from old to new by what the run asks for, which is to be seen to. Something
@@ -81,5 +88,6 @@ AnswersPrefix (Session sites) bytes old new = WritesPrefix (TellsSession sites b
 abbrev pub AnswersOpen : Run → List ℕ → Option (List ℕ) → Option (List ℕ) → Type 0
 AnswersOpen (Status check workers) bytes old new =
     (check ≡ true) × WritesStatus bytes Open old new
-AnswersOpen Check bytes old new = WritesCheck bytes verdict.Faulty old new
+AnswersOpen (Check editor) bytes old new =
+    WritesCheck (site_of editor) bytes verdict.Faulty old new
 AnswersOpen other bytes old new = ⊥

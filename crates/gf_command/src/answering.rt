@@ -3,7 +3,8 @@
 ghost use Rattle.std.specs.Prelude.{◌≡◌, ◌≤◌, ◌⊎◌, IfSome, IfErr, IfOk, OnErr, OnOk, IsTrue, map};
 ghost use Rattle.std.specs.Prelude.{string_bytes};
 ghost use Rattle.gf_streams.specs.Counts.{Rises};
-ghost use Rattle.gf_command.specs.Outputs.{Answers, AnswersPrefix, AnswersOpen};
+ghost use Rattle.gf_ops.specs.OperationOrder.{IsSite};
+ghost use Rattle.gf_command.specs.Outputs.{Answers, AnswersPrefix, AnswersOpen, site_of};
 ghost use Rattle.gf_command.specs.Outcomes.{AnswersSo};
 ghost use Rattle.gf_command.specs.Asking.{AreMistaken, Asks, AsksHelp};
 ghost use Rattle.gf_command.specs.declared.runs.Run.{Run};
@@ -11,7 +12,8 @@ ghost use Rattle.gf_command.specs.declared.runs.Run.{Run};
 use crate::chosen::Chosen;
 use crate::painting::{paint, repaint};
 use crate::refusal::Refusal;
-use crate::{Asked, Mistake, QueryFault, Run, parse};
+use crate::waiting::Waiting;
+use crate::{Asked, Editor, Mistake, QueryFault, Run, parse};
 use clap::Error;
 use clap::error::ErrorKind;
 use gf_check::{Verdict, check_run};
@@ -30,8 +32,9 @@ use std::thread::Threads;
 /// Status 0 is success, 1 a refusal or something to be seen to, 2 a mistake in the words.
 ///
 /// Faults go to `faults`, as do the usage after a mistake, what an edit made and the chosen window.
-/// Help and version go to `output`. The words are read before any input. A text for `faults` that
-/// can't be written changes no status.
+/// How many operations wait is told there too, where a drawing leaves them out. Help and version go
+/// to `output`. The words are read before any input. A text for `faults` that can't be written
+/// changes no status.
 pub fn command<T: Threads + Wait + Sync, R: Source, W: Sink, E: Sink>(
     rt: &T,
     alloc: Global,
@@ -64,7 +67,10 @@ pub fn command<T: Threads + Wait + Sync, R: Source, W: Sink, E: Sink>(
         Ok(Some(Asked::Run(run))) => match answer(rt, alloc, run, source, output) {
             Ok(Outcome::Written) => 0,
             Ok(Outcome::Made(made)) => tell_made(alloc, made, faults),
-            Ok(Outcome::Painted(chosen)) => tell_chosen(alloc, chosen, faults),
+            Ok(Outcome::Drawn(waiting)) => tell_waiting(alloc, waiting, faults),
+            Ok(Outcome::Painted(chosen, waiting)) => {
+                tell_painted(alloc, chosen, waiting, faults)
+            }
             Ok(Outcome::Open) => 1,
             Err(error) => refuse(alloc, error, faults),
         },
@@ -88,10 +94,12 @@ pub fn command<T: Threads + Wait + Sync, R: Source, W: Sink, E: Sink>(
 pub(crate) enum Outcome {
     /// All that the run asks for is written.
     Written,
-    /// The picture is written, in a window that was chosen.
-    Painted(Chosen),
-    /// An edit is written, which made these operations.
-    Made(Made),
+    /// What is drawn is written, and so many operations wait.
+    Drawn(usize),
+    /// The picture is written, in a window that was chosen, and so many operations wait.
+    Painted(Chosen, usize),
+    /// An edit is written, which made these operations, or none.
+    Made(Option<Made>),
     /// What the run asks for is written, and has something that is to be seen to.
     Open,
 }
@@ -112,7 +120,10 @@ fn answer<T: Threads + Wait + Sync, R: Source, W: Sink>(
         AnswersPrefix run bytes (W.taken output.old) (W.taken output.new))) }
 {
     match run {
-        Run::Fig(workers) => fig_run(rt, alloc, source, output, workers.count)?,
+        Run::Fig(workers) => {
+            let waiting = fig_run(rt, alloc, source, output, workers.count)?;
+            return Ok(Outcome::Drawn(waiting));
+        }
         Run::Paint(canvas) => return paint(rt, alloc, source, output, canvas),
         Run::Repaint(canvas) => return repaint(rt, alloc, source, output, canvas),
         Run::Inspect { query, workers } => {
@@ -120,9 +131,8 @@ fn answer<T: Threads + Wait + Sync, R: Source, W: Sink>(
         }
         Run::Import(editor) => import_run(alloc, source, output, editor.site)?,
         Run::Edit(editor) => {
-            if let Some(made) = edit_run(alloc, source, output, editor.site)? {
-                return Ok(Outcome::Made(made));
-            }
+            let made = edit_run(alloc, source, output, editor.site)?;
+            return Ok(Outcome::Made(made));
         }
         Run::Status { check, workers } => {
             let state = status_run(rt, alloc, source, output, workers.count)?;
@@ -131,13 +141,24 @@ fn answer<T: Threads + Wait + Sync, R: Source, W: Sink>(
                 State::Open | State::Clean => {}
             }
         }
-        Run::Check => match check_run(alloc, source, output)? {
+        Run::Check(editor) => match check_run(alloc, source, output, site_of(editor))? {
             Verdict::Faulty => return Ok(Outcome::Open),
             Verdict::Clean => {}
         },
         Run::Session(sites) => session_run(rt, alloc, source, output, sites, &OpenGate)?,
     }
     Ok(Outcome::Written)
+}
+
+/// The number of a site, where one is given.
+fn site_of(editor: Option<Editor>) -> Option<u8>
+    ensures site { result ≡ site_of editor }
+    ensures in_range { IfSome result IsSite }
+{
+    match editor {
+        Some(editor) => Some(editor.site),
+        None => None,
+    }
 }
 
 /// Tells why the words of the command line could not be read, and answers the status. The status is
@@ -155,22 +176,46 @@ pub fn refuse_words<E: Sink>(fault: &io::Error, faults: &mut E) -> u8
 }
 
 /// Tells what an edit made, and answers its status.
-fn tell_made<E: Sink>(alloc: Global, made: Made, faults: &mut E) -> u8
+fn tell_made<E: Sink>(alloc: Global, made: Option<Made>, faults: &mut E) -> u8
     ensures { result ≡ 0 }
 {
+    let Some(made) = made else {
+        let _ = write_whole(faults, b"figgroup: made nothing\n");
+        return 0;
+    };
     if let Ok(text) = format!(in alloc; "figgroup: {made}\n") {
         let _ = write_whole(faults, text.as_bytes());
     }
     0
 }
 
-/// Tells the window that was chosen, and answers the status.
-fn tell_chosen<E: Sink>(alloc: Global, chosen: Chosen, faults: &mut E) -> u8
+/// Tells the window that was chosen, and behind it how many operations wait. Answers the status.
+fn tell_painted<E: Sink>(alloc: Global, chosen: Chosen, waiting: usize, faults: &mut E) -> u8
     ensures { result ≡ 0 }
 {
     if let Ok(text) = format!(in alloc; "figgroup: painted {chosen}\n") {
         let _ = write_whole(faults, text.as_bytes());
     }
+    tell_waiting(alloc, waiting, faults)
+}
+
+/// Tells how many operations wait, where some do, and answers the status. Where no memory is left
+/// for the number, it is left out.
+fn tell_waiting<E: Sink>(alloc: Global, waiting: usize, faults: &mut E) -> u8
+    ensures status { result ≡ 0 }
+    ensures silent { waiting ≡ 0 → faults.new ≡ faults.old }
+{
+    if waiting == 0 {
+        return 0;
+    }
+    let waiting = Waiting(waiting);
+    let _ = match format!(in alloc; "figgroup: {waiting}\n") {
+        Ok(text) => write_whole(faults, text.as_bytes()),
+        Err(_) => write_whole(
+            faults,
+            b"figgroup: operations wait and are not drawn: figgroup status names them\n",
+        ),
+    };
     0
 }
 

@@ -7,7 +7,8 @@ ghost use Rattle.clap.specs.Words.{subcommand_of, subcommand_rows_of};
 ghost use Rattle.gf_command.specs.CommandLine as line;
 ghost use Rattle.gf_command.specs.Asking.{AreTaken, AsksQuery, HasNatural, HasNaturalOr};
 ghost use Rattle.gf_command.specs.Asking.{HasWholeOr, HasWorkers};
-ghost use Rattle.gf_command.specs.Asking.{IsAsked, IsCanvas, IsExtent, IsFrame, IsInspected};
+ghost use Rattle.gf_command.specs.Asking.{IsAsked, IsCanvas, IsChecked, IsEditorOf};
+ghost use Rattle.gf_command.specs.Asking.{IsEditorOrNone, IsExtent, IsFrame, IsInspected};
 ghost use Rattle.gf_command.specs.Asking.{IsNaturalOr, IsWholeOr, IsWindow, AsksFor, has_flag};
 ghost use Rattle.gf_command.specs.Asking.{is_given, is_placed, is_placed_fit, is_true};
 
@@ -64,7 +65,7 @@ fn read_matches(matches: &ArgMatches<'_>) -> Option<Asked>
             check: has_flag(matches, "check"),
             workers: workers_of(matches)?,
         })),
-        "check" => Some(Asked::Run(Run::Check)),
+        "check" => Some(Asked::Run(Run::Check(checked_of(matches)?))),
         "session" => Some(Asked::Run(Run::Session(byte(matches, "sites")?))),
         _ => None,
     }
@@ -104,6 +105,33 @@ fn editor_of(matches: &ArgMatches<'_>) -> Option<Editor>
         return None;
     }
     Some(Editor { site })
+}
+
+/// The site whose command lines a check reads too, where one is given.
+fn checked_of(matches: &ArgMatches<'_>) -> Option<Option<Editor>>
+    ensures { IfSome result (IsChecked (rows_of (found_of matches.now))) }
+{
+    editor_or_none(matches.get_str("site"))
+}
+
+/// The site of a text; none where there is no text.
+fn editor_or_none(text: Option<&str>) -> Option<Option<Editor>>
+    ensures { IfSome result (IsEditorOrNone (option_map (λ t. t.now) text.entry)) }
+{
+    match text {
+        None => Some(None),
+        Some(text) => editor_or_fault(text.parse().ok()?),
+    }
+}
+
+/// The site of this number, which is in range where there is an answer.
+fn editor_or_fault(site: u8) -> Option<Option<Editor>>
+    ensures { IfSome result (λ editor. IsEditorOf site editor) }
+{
+    if site < 1 || 8 < site {
+        return None;
+    }
+    Some(Some(Editor { site }))
 }
 
 /// Whether a flag is given.

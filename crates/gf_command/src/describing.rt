@@ -22,12 +22,12 @@ struct Usage {
 /// Which options a run takes.
 #[derive(Clone, Copy)]
 enum Takes {
-    None,
     Workers,
     Canvas,
     Query,
     Site,
     Check,
+    Editor,
     Sites,
 }
 
@@ -81,9 +81,10 @@ const RUNS: [Usage; 9] = [
     Usage {
         name: "check",
         about: "Read operation lines and write what is wrong with them: a line for each fault, with an \
-                explanation; the status is 1 if there is one",
+                explanation; the status is 1 if there is one; it does not look at how many versions or \
+                colours a drawing has (status tells the versions)",
         example: "Example: figgroup check < edits.jsonl",
-        takes: Takes::None,
+        takes: Takes::Editor,
     },
     Usage {
         name: "session",
@@ -135,12 +136,12 @@ fn options<'a>(alloc: Global, takes: Takes) -> Result<Vec<Arg<'a>>, AllocError>
     ensures { IfOk result (λ args. map rule_of args.items ≡ options_of takes) }
 {
     match takes {
-        Takes::None => Ok(Vec::new(alloc)),
         Takes::Workers => readers(alloc),
         Takes::Canvas => canvas(alloc),
         Takes::Query => query(alloc),
         Takes::Site => site(alloc),
         Takes::Check => check(alloc),
+        Takes::Editor => editor(alloc),
         Takes::Sites => sites(alloc),
     }
 }
@@ -257,10 +258,25 @@ fn check<'a>(alloc: Global) -> Result<Vec<Arg<'a>>, AllocError>
         flag(
             alloc,
             "check",
-            "End with status 1 where an operation waits or versions differ",
+            "End with status 1 where an operation waits, where shown versions differ or are more than 1,000, \
+             where a change that nothing shows did not know what hides it, or where an object was hidden by \
+             two who did not know of each other",
         ),
         reading(alloc),
     ]?)
+}
+
+/// The option of a check.
+fn editor<'a>(alloc: Global) -> Result<Vec<Arg<'a>>, AllocError>
+    ensures { IfOk result (λ args. map rule_of args.items ≡ line.editor) }
+{
+    let site = optional(
+        alloc,
+        "site",
+        ValueParser::unsigned(1, 8),
+        "Check the command lines of this site too, as edit reads them, 1 to 8",
+    );
+    Ok(vec![in alloc; site]?)
 }
 
 /// The option of a session.

@@ -34,12 +34,12 @@ pub(crate) fn paint<T: Threads + Sync, R: Source, W: Sink>(
     let workers = workers.count;
     match extent {
         Extent::Window(window) => {
-            paint_run(rt, alloc, source, output, window, workers, &OpenGate)?;
-            Ok(Outcome::Written)
+            let waiting = paint_run(rt, alloc, source, output, window, workers, &OpenGate)?;
+            Ok(Outcome::Drawn(waiting))
         }
         Extent::Fitted(frame) => {
-            let window = paint_fitted_run(rt, alloc, source, output, frame, workers, &OpenGate)?;
-            Ok(Outcome::Painted(numbers_of(window)))
+            let painted = paint_fitted_run(rt, alloc, source, output, frame, workers, &OpenGate)?;
+            Ok(Outcome::Painted(numbers_of(painted.window), painted.waiting))
         }
     }
 }
@@ -68,7 +68,7 @@ pub(crate) fn repaint<T: Threads + Sync, R: Source, W: Sink>(
         }
         Extent::Fitted(frame) => {
             let window = repaint_fitted_run(rt, alloc, source, output, frame, workers, &OpenGate)?;
-            Ok(Outcome::Painted(numbers_of(window)))
+            Ok(Outcome::Painted(numbers_of(window), 0))
         }
     }
 }

@@ -24,8 +24,9 @@ pub enum Run {
     /// What has come, what waits, and which versions differ. If `check` is true, what waits or
     /// differs is told by the status too.
     Status { check: bool, workers: Workers },
-    /// What is wrong with operation lines.
-    Check,
+    /// What is wrong with operation lines, and with the command lines of this site where one is
+    /// given.
+    Check(Option<Editor>),
     /// What a session of the scripts of this many sites came to.
     Session(u8),
 }
