@@ -172,10 +172,12 @@ def zigzags(count):
 def commands(program):
     lines, places = input_of("three-sites"), input_of("two-places")
     edited, mistakes = input_of("two-colours", "[sc]*.jsonl"), input_of("mistakes")
+    waiting = input_of("three-sites", "site-[23].jsonl")
     window, figure = words_of("two-places", "window"), input_of("two-places", "expected.fig")
     session, script = ["session", "--sites", *words_of("session", "sites")], input_of("session")
     return [
         Command(program, ["fig"], lines),
+        Command(program, ["fig"], waiting),
         Command(program, ["paint", *window, "--workers", "3"], places),
         Command(program, ["repaint", *window], figure),
         Command(program, ["paint", "--fit"], places),

@@ -232,6 +232,14 @@ fn unread_input_and_a_full_output_are_told(rt: HostRuntime) -> Result<(), Fail> 
         ),
         // Where no fault can be told either, the status stays.
         (FIG, b"{", None, (Some(0), Some(0)), "1\n--\n"),
+        // Nor does it change where what waits can't be told.
+        (
+            FIG,
+            HIDES_THE_FIRST.as_bytes(),
+            None,
+            (None, Some(0)),
+            EMPTY_RUN,
+        ),
     ] {
         let answer = run(&rt, words, &mut Reel::new(input, fail_after), room)?;
         assert_eq!(rt; answer.as_str(), want);
@@ -289,6 +297,9 @@ fn words_are_read_first(rt: HostRuntime) -> Result<(), Fail> {
         ("figgroup fig --workers 17", "2\n--\n", true),
         ("figgroup status --workers 0", "2\n--\n", true),
         ("figgroup check --workers 2", "2\n--\n", true),
+        ("figgroup check --site 0", "2\n--\n", true),
+        ("figgroup check --site 9", "2\n--\n", true),
+        ("figgroup check --site", "2\n--\n", true),
         ("figgroup paint --step 10001", "2\n--\n", true),
         ("figgroup repaint --step 0", "2\n--\n", true),
         ("figgroup paint --width 4097", "2\n--\n", true),
@@ -325,6 +336,7 @@ fn words_are_read_first(rt: HostRuntime) -> Result<(), Fail> {
         ),
         ("figgroup session --sites 8", READ_FAILED, true),
         ("figgroup fig --workers 16", READ_FAILED, true),
+        ("figgroup check --site 8", READ_FAILED, true),
         ("figgroup inspect --at=0,0 --workers 1", READ_FAILED, true),
         ("figgroup status --check --workers 16", READ_FAILED, true),
         ("figgroup --help", "0\nFigures drawn by a group", false),
@@ -391,6 +403,24 @@ fn help_has_limits_defaults_and_an_example(rt: HostRuntime) -> Result<(), Fail> 
                 "1 to 8",
                 "X,Y",
                 "Example: figgroup inspect --object 1.2",
+            ],
+        ),
+        (
+            "figgroup status --help",
+            [
+                "where an operation waits, where shown versions differ or are more than 1,000,",
+                "where a change that nothing shows did not know what hides it,",
+                "or where an object was hidden by two who did not know of each other",
+                "Example: cat site-*.jsonl | figgroup status",
+            ],
+        ),
+        (
+            "figgroup check --help",
+            [
+                "Check the command lines of this site too, as edit reads them, 1 to 8",
+                "it does not look at how many versions or colours a drawing has",
+                "(status tells the versions)",
+                "Example: figgroup check < edits.jsonl",
             ],
         ),
         (

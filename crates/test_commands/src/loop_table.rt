@@ -15,8 +15,9 @@ const RUNS: &str = r#"
 edit --site 2 | box / second_paints_it / | 0 | {"id":[2,1],"object":[1,1],"op":"set","past":[1,0,0,0,0,0,0,0],"set":"colour","to":"0000ff"}\n | figgroup: made 2.1\n
 edit --site 2 | second_paints_it / / box | 0 | {"id":[2,1],"object":[1,1],"op":"set","past":[1,0,0,0,0,0,0,0],"set":"colour","to":"0000ff"}\n | figgroup: made 2.1\n
 edit --site 2 | box / second_paints_it / second_paints_it / | 0 | {"id":[2,1],"object":[1,1],"op":"set","past":[1,0,0,0,0,0,0,0],"set":"colour","to":"0000ff"}\n{"id":[2,2],"object":[1,1],"op":"set","past":[1,1,0,0,0,0,0,0],"set":"colour","to":"0000ff"}\n | figgroup: made 2.1 to 2.2\n
-edit --site 2 | box / await_first /      | 0 | |
-edit --site 2 |                          | 0 | |
+edit --site 2 | box / await_first /      | 0 | | figgroup: made nothing\n
+edit --site 2 | box /                    | 0 | | figgroup: made nothing\n
+edit --site 2 |                          | 0 | | figgroup: made nothing\n
 
 // nothing is written where a line, a command or a missing operation refuses
 edit --site 1 | box / second_paints_it / | 1 | | figgroup: line 2: Range\n
@@ -49,6 +50,9 @@ import --site 1 | red_box_fig late_colour | 1 | | figgroup: line 13: figure obje
 // a line for each fault, and none of what has none
 check | box / blue / green /             | 0 | |
 check |                                  | 0 | |
+check | box / second_paints_it /         | 1 | line 2: Field: a command, which edit takes: check --site N explains it\n |
+check --site 2 | box / second_paints_it / await_first / | 0 | |
+check --site 1 | box / second_paints_it / | 1 | line 2: Range: command 1: site 2, and this is a check for site 1\n |
 check | box / {} / { /                   | 1 | line 2: Field: the key "op" is missing\nline 3: Json: one object a line: this one does not end here\n |
 "#;
 

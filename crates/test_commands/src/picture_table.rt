@@ -38,6 +38,11 @@ repaint --fit --width 1 --height 1 | foreign_triangle | 0 P6\n1 1\n255\n\xff\x00
 paint --fit --x=1 | box / | 2 figgroup: --fit goes without --x, --y and --step\n
 repaint --step 1 --fit | foreign_triangle | 2 figgroup: --fit goes without --x, --y and --step\n
 
+// what waits is not painted, and is told, behind the window where one is chosen
+paint --width 1 --height 1 | blue / | 0 P6\n1 1\n255\n\xff\xff\xfffiggroup: 1 operation waits and is not drawn: figgroup status names it\n
+paint --width 1 --height 1 | moved_again / box / moved / | 0 P6\n1 1\n255\n\xff\x00\x00figgroup: 2 operations wait and are not drawn: figgroup status names them\n
+paint --fit --width 3 --height 2 | box / moved_again / | 0 P6\n3 2\n255\n\xff\xff\xff\xff\x00\x00\xff\xff\xff\xff\xff\xff\xff\x00\x00\xff\xff\xfffiggroup: painted --x=-5 --y=0 --step=10 --width=3 --height=2\nfiggroup: 1 operation waits and is not drawn: figgroup status names it\n
+
 // refusals are told
 paint | { | 1 figgroup: line 1: Json\n
 repaint | | 1 figgroup: figure object 0: Version\n

@@ -142,9 +142,15 @@ pub fn joined(alloc: Global, names: &str) -> Result<String, Fail> {
     Ok(text.replace(alloc, r"\t", "\t")?)
 }
 
-/// The run that a row asks for, as `run` tells it.
+/// The run that a row asks for, as `run` tells it. At status 0, what is told beside the output
+/// stands behind a `;`.
 pub fn wanted(alloc: Global, status: &str, cell: &str) -> Result<String, Fail> {
     if status == "0" {
+        if let Some((names, told)) = cell.split_once(';') {
+            let output = joined(alloc, names)?;
+            let told = told.trim();
+            return Ok(format!(in alloc; "0\n{output}--\nfiggroup: {told}\n")?);
+        }
         let output = joined(alloc, cell)?;
         return Ok(format!(in alloc; "0\n{output}--\n")?);
     }

@@ -10,7 +10,7 @@ use std::thread::Threads;
 use test_kit::{EMPTY_FIG, RED_BOX, RED_BOX_FIG};
 
 /// Each row: the status, the pieces of the input, and those of the output or, at status 1, the
-/// fault.
+/// fault. At status 0, what is told beside the output stands behind a `;`.
 const RUNS: &str = r#"
 // lines_become_fig_text
 0 |                                              | empty_fig
@@ -49,8 +49,14 @@ const RUNS: &str = r#"
 0 | moved_again / moved / green / blue / box /   | empty_fig both_moved_fig
 0 | green / moved / green / box / moved_again / moved / blue / box / green / | empty_fig both_moved_fig
 0 | box / box /                                  | empty_fig one_red_fig
-0 | blue /                                       | empty_fig
-0 | box / moved_again /                          | empty_fig one_red_fig
+
+// what_waits_is_told
+0 | blue /                                       | empty_fig ; 1 operation waits and is not drawn: figgroup status names it
+0 | box / moved_again /                          | empty_fig one_red_fig ; 1 operation waits and is not drawn: figgroup status names it
+0 | moved_again / box / moved_again /            | empty_fig one_red_fig ; 1 operation waits and is not drawn: figgroup status names it
+0 | blue / green /                               | empty_fig ; 2 operations wait and are not drawn: figgroup status names them
+0 | moved_again / moved / box /                  | empty_fig one_red_fig ; 2 operations wait and are not drawn: figgroup status names them
+1 | blue / { /                                   | line 2: Json
 
 // what_does_not_fit_is_told
 1 | box_of_site_2 / box_after_site_2 / box_of_site_3 / | operation 3.1 dropped: BadClock

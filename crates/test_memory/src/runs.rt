@@ -4,7 +4,6 @@ use crate::examples::{BOX, MOVED, TWO_COLOURS, is_text};
 use crate::sessions::SCRIPT;
 use crate::trial::{Came, Marks};
 use gf_check::check_run;
-use gf_drawing::Drawing;
 use gf_edit::{EditError, edit_run};
 use gf_fig_write::fig_bytes;
 use gf_fit::{Frame, paint_fitted_run, repaint_fitted_run};
@@ -13,11 +12,11 @@ use gf_json::op_line;
 use gf_ops::ObjectId;
 use gf_session::SessionError;
 use gf_session_run::{SessionRunError, session_run};
-use gf_shape::{AnyShape, OutOfMemory};
+use gf_shape::OutOfMemory;
 use gf_status::status_run;
 use gf_streams::{Reel, Tape};
 use gf_studio::{
-    OpenGate, Query, StudioError, Window, fig_run, inspect_run, paint_run, repaint_run,
+    DrawnLines, OpenGate, Query, StudioError, Window, fig_run, inspect_run, paint_run, repaint_run,
 };
 use std::alloc::Global;
 use std::sync::Wait;
@@ -125,8 +124,14 @@ impl Example<'_> {
     ) -> Result<(), StudioError> {
         let mut source = Reel::new(self.input, None);
         match self.run {
-            Run::Fig => fig_run(rt, alloc, &mut source, tape, 2),
-            Run::Paint(window) => paint_run(rt, alloc, &mut source, tape, window, 2, &OpenGate),
+            Run::Fig => {
+                fig_run(rt, alloc, &mut source, tape, 2)?;
+                Ok(())
+            }
+            Run::Paint(window) => {
+                paint_run(rt, alloc, &mut source, tape, window, 2, &OpenGate)?;
+                Ok(())
+            }
             Run::Repaint(window) => repaint_run(rt, alloc, &mut source, tape, window, 2, &OpenGate),
             Run::PaintFitted(frame) => {
                 paint_fitted_run(rt, alloc, &mut source, tape, frame, 2, &OpenGate)?;
@@ -154,7 +159,7 @@ impl Example<'_> {
                 Ok(())
             }
             Run::Check => {
-                check_run(alloc, &mut source, tape)?;
+                check_run(alloc, &mut source, tape, None)?;
                 Ok(())
             }
             Run::Session => match session_run(rt, alloc, &mut source, tape, 2, &OpenGate) {
@@ -200,9 +205,9 @@ fn drawing_of_lines<T: Threads + Wait + Sync>(
     })
 }
 
-fn is_red_box(alloc: Global, answer: Result<Drawing<AnyShape>, StudioError>) -> bool {
+fn is_red_box(alloc: Global, answer: Result<DrawnLines, StudioError>) -> bool {
     match answer {
-        Ok(drawing) => is_text(fig_bytes(alloc, &drawing), RED_BOX_FIG),
+        Ok(drawn) => drawn.waiting == 0 && is_text(fig_bytes(alloc, &drawn.drawing), RED_BOX_FIG),
         Err(_) => false,
     }
 }
