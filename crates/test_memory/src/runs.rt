@@ -392,11 +392,11 @@ const MISTAKE: &str = "line 4: Field: the key \"op\" is missing\n";
 fn faults_of(alloc: Global, marks: &mut Marks) -> Option<Came> {
     let (input, same) = (mistaken(alloc)?, mistaken(alloc)?);
     marks.begin();
-    let first = gf_check::faults_of(alloc, input.into_bytes());
+    let first = gf_check::faults_of(alloc, input.into_bytes(), None);
     marks.end();
     Some(match first {
         Err(OutOfMemory) => {
-            let next = gf_check::faults_of(alloc, same.into_bytes());
+            let next = gf_check::faults_of(alloc, same.into_bytes(), None);
             Came::after_memory(true, is_text(next, MISTAKE))
         }
         first => Came::first(is_text(first, MISTAKE)),
