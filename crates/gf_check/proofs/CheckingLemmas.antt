@@ -18,8 +18,8 @@ use Rattle.gf_edit.specs.declared.entries.Entry.TheVariants as entry
 use Rattle.gf_check.specs.declared.telling.Telling.{Telling}
 use Rattle.gf_check.specs.CheckedText.{denoted_by}
 use Rattle.gf_check.specs.FaultLines.{Told, errors, told_text}
-use Rattle.gf_check.specs.TrueFaults.{Clashes, IsDenoted, IsTrueOf}
-use Rattle.gf_check.specs.AllFaults.{AnswersText, AreKept, nothing, faults, KeepsOrTells, Rises, TellsEach, TellsOnLines, TellsOp, TellsTrue}
+use Rattle.gf_check.specs.TrueFaults.{Clashes, IsDenotedBy, IsTrueOf}
+use Rattle.gf_check.specs.AllFaults.{AnswersText, AreKept, nothing, faults, KeepsOrTells, RisesTo, TellsEach, TellsOnLines, TellsOp, TellsTrue}
 use Rattle.gf_check.specs.ToldBehind.{AreBefore, AreInOrder, BeginsBehind}
 use Rattle.gf_check.specs.CheckedLines.{BeginsBefore, ClashesLine, HasChecked, IsFaultAt, IsOfLine, LeavesLine, RefusesLine, TakesLine, TellsLine}
 use Rattle.gf_check.specs.Telling.{HasTold}
@@ -30,7 +30,7 @@ use Rattle.gf_check.proofs.ReadLemmas.{DenotesSome-read, HasRead-line, HasRead-n
 -- ---- one line more
 
 -- an operation that a line denotes is denoted by more lines
-denoted_left : (editor : Option ℕ) (lines more : List (ℕ × List ℕ)) (a : Op) → IsDenoted editor lines a → IsDenoted editor (lines ++ more) a
+denoted_left : (editor : Option ℕ) (lines more : List (ℕ × List ℕ)) (a : Op) → IsDenotedBy editor lines a → IsDenotedBy editor (lines ++ more) a
 denoted_left editor lines more a d = record { number = d.number; text = d.text; there = Contains-append_left lines more (d.number, d.text) d.there; denotes = d.denotes }
 
 module _ (editor : Option ℕ) (bytes : List ℕ) (n : ℕ) (text : List ℕ) (left : List (ℕ × List ℕ)) (x y : SiteState) (t : Telling) (h : HasChecked editor bytes ((n, text) ∷ left) x t) (all : List Told)
@@ -39,9 +39,9 @@ module _ (editor : Option ℕ) (bytes : List ℕ) (n : ℕ) (text : List ℕ) (l
   here = subst (λ ls. Contains ls (n, text)) (sym h.whole) (Contains-append_right h.before ((n, text) ∷ left) (n, text) (Contains-cons_head (n, text) left))
 
   -- the operation of a line so far, in the whole text
-  in_text : (a : Op) → IsOfLine editor text a ⊎ HasOrHolds x a → IsDenoted editor (numbered_lines bytes) a
+  in_text : (a : Op) → IsOfLine editor text a ⊎ HasOrHolds x a → IsDenotedBy editor (numbered_lines bytes) a
   in_text a (inl d) = record { number = n; text = text; there = here; denotes = d }
-  in_text a (inr i) = subst (λ ls. IsDenoted editor ls a) (sym h.whole) (denoted_left editor h.before ((n, text) ∷ left) a (h.denoted a i))
+  in_text a (inr i) = subst (λ ls. IsDenotedBy editor ls a) (sym h.whole) (denoted_left editor h.before ((n, text) ∷ left) a (h.denoted a i))
 
   clash_with : (c : ClashesLine editor text x) (first : Op) → HasOrHolds x first → first.id ≡ c.op.id → ¬ (first ≡ c.op) → Clashes editor (numbered_lines bytes) n
   clash_with c first i id differs = record {
@@ -69,7 +69,7 @@ module _ (editor : Option ℕ) (bytes : List ℕ) (n : ℕ) (text : List ℕ) (l
   true_fault (reading.Line m cause.Field) r = record { text = text; there = subst (λ k. Contains (numbered_lines bytes) (k, text)) (sym r.0) here; fault = r.1 }
   true_fault (reading.Line m cause.Range) r = record { text = text; there = subst (λ k. Contains (numbered_lines bytes) (k, text)) (sym r.0) here; fault = r.1 }
   true_fault (reading.Line m cause.Clash) r = subst (Clashes editor (numbered_lines bytes)) (sym r.0) (clashes r.1)
-  true_fault (reading.Dropped i why) r = among_weaker (λ b. IsOfLine editor text b ⊎ HasOrHolds x b) (IsDenoted editor (numbered_lines bytes)) i why in_text r
+  true_fault (reading.Dropped i why) r = among_weaker (λ b. IsOfLine editor text b ⊎ HasOrHolds x b) (IsDenotedBy editor (numbered_lines bytes)) i why in_text r
   true_fault reading.OutOfMemory r = absurd r
 
   only_more : TellsTrue editor (numbered_lines bytes) all
@@ -94,7 +94,7 @@ module _ (editor : Option ℕ) (bytes : List ℕ) (n : ℕ) (text : List ℕ) (l
     | inr e ↦ subst (λ (k : ℕ × List ℕ). denoted_by editor k.1 ≡ Ok (entry.Operation a) → HasOrHolds y a ⊎ TellsOp all k.0 a.id) e (l.own a) d
   ]
 
-  denoted_more : (a : Op) → HasOrHolds y a → IsDenoted editor (h.before ++ (n, text) ∷ []) a
+  denoted_more : (a : Op) → HasOrHolds y a → IsDenotedBy editor (h.before ++ (n, text) ∷ []) a
   denoted_more a i = elim (l.leaves.back a i) [
     | inl d ↦ record { number = n; text = text; there = Contains-push h.before (n, text); denotes = d }
     | inr j ↦ denoted_left editor h.before ((n, text) ∷ []) a (h.denoted a j)
@@ -157,7 +157,7 @@ checked_none editor bytes s t is = record {
   all = λ n line a i d. absurd (not_Contains-nil (n, line) i);
   denoted = λ a i. absurd (has_none a i);
   only = λ e c. absurd (not_Contains-nil e c);
-  order = record { rises = no_pairs Rises; once = no_pairs (λ (e f : ReadingError). e ≢ f) };
+  order = record { rises = no_pairs RisesTo; once = no_pairs (λ (e f : ReadingError). e ≢ f) };
   below = λ k i m why c. absurd (not_Contains-nil (reading.Line m why) c);
   none = λ a i. absurd (not_Contains-nil a i);
   one = λ a b i j e. absurd (has_none a i);

@@ -13,7 +13,7 @@ use Rattle.gf_replay.specs.declared.reading_error.LineCause.{LineCause}
 use Rattle.gf_replay.specs.declared.reading_error.ReadingError.{ReadingError}
 use Rattle.gf_replay.specs.declared.reading_error.ReadingError.TheVariants as reading
 use Rattle.gf_check.specs.FaultLines.{Told, errors}
-use Rattle.gf_check.specs.AllFaults.{Rises}
+use Rattle.gf_check.specs.AllFaults.{RisesTo}
 use Rattle.gf_check.specs.ToldBehind.{AreBefore, AreInOrder}
 use Rattle.gf_check.proofs.ToldLemmas.{errors_more}
 
@@ -67,18 +67,18 @@ pairs_more R told u behind pairs =
       | inr none ↦ absurd (not_Contains-nil f none)
     ]))
 
-in_order : (told : List Told) (u : Told) → ((e : ReadingError) → Contains (errors told) e → Rises e u.error) → ¬ (Contains (errors told) u.error) → AreInOrder told → AreInOrder (told ++ u ∷ [])
+in_order : (told : List Told) (u : Told) → ((e : ReadingError) → Contains (errors told) e → RisesTo e u.error) → ¬ (Contains (errors told) u.error) → AreInOrder told → AreInOrder (told ++ u ∷ [])
 in_order told u behind fresh o = record {
-  rises = pairs_more Rises told u behind o.rises;
+  rises = pairs_more RisesTo told u behind o.rises;
   once = pairs_more (λ e f. e ≢ f) told u (λ e c same. fresh (subst (Contains (errors told)) same c)) o.once;
 }
 
-rises_drop : (i : OpId) (why : OpFault) (e : ReadingError) → Rises e (reading.Dropped i why)
+rises_drop : (i : OpId) (why : OpFault) (e : ReadingError) → RisesTo e (reading.Dropped i why)
 rises_drop i why (reading.Line m cause) = tt
 rises_drop i why (reading.Dropped j other) = tt
 rises_drop i why reading.OutOfMemory = tt
 
-rises_line : (told : List Told) (n : ℕ) (cause : LineCause) → AreBefore n told → (e : ReadingError) → Contains (errors told) e → Rises e (reading.Line n cause)
+rises_line : (told : List Told) (n : ℕ) (cause : LineCause) → AreBefore n told → (e : ReadingError) → Contains (errors told) e → RisesTo e (reading.Line n cause)
 rises_line told n cause before (reading.Line m other) c = before m other c
 rises_line told n cause before (reading.Dropped j other) c = tt
 rises_line told n cause before reading.OutOfMemory c = tt

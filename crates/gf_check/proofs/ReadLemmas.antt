@@ -29,7 +29,7 @@ use Rattle.gf_edit.specs.declared.entries.Entry.{Entry}
 use Rattle.gf_edit.specs.declared.entries.Entry.TheVariants as entry
 use Rattle.gf_edit.specs.EditedText.{denotes_entry, entry_at, op_in, ops_in}
 use Rattle.gf_edit.specs.EditFaults.{DropsAt, HasLineFault, IsAtLine, IsEntryFault, RefusesEntries}
-use Rattle.gf_check.specs.CheckedText.{DenotesSome, Refuses, denoted_by}
+use Rattle.gf_check.specs.CheckedText.{DenotesSome, RefusesChecked, denoted_by}
 use Rattle.gf_check.specs.CheckedLines.{AreEntriesBy, DropsLine, HasRead, IsLineFault, RefusesLine, TakesEntry, TakesLine, line_entry}
 
 -- ---- operation lines alone
@@ -190,7 +190,7 @@ module _ (s : ℕ) (bytes : List ℕ) (n : ℕ) (text : List ℕ) (left : List (
 
 -- what a line is refused for, the text is
 pub Refuses-line : (editor : Option ℕ) (bytes : List ℕ) (n : ℕ) (text : List ℕ) (left : List (ℕ × List ℕ)) (x : SiteState) → HasRead editor bytes ((n, text) ∷ left) x →
-    (e : ReadingError) → RefusesLine editor n text x e → Refuses editor bytes e
+    (e : ReadingError) → RefusesLine editor n text x e → RefusesChecked editor bytes e
 Refuses-line None bytes n text left x read e r = RefusesText-line bytes n text left x (record {
   before = read.before;
   whole = read.whole;

@@ -15,7 +15,7 @@ use Rattle.gf_replay.specs.Taking.{HasOrHolds, of_line}
 use Rattle.gf_site.specs.SiteState.{SiteState}
 use Rattle.gf_edit.specs.declared.entries.Entry.TheVariants as entry
 use Rattle.gf_check.specs.FaultLines.{Told, IsOnOneLine, errors, told_text}
-use Rattle.gf_check.specs.CheckedText.{DenotesSome, Refuses, denoted_by}
+use Rattle.gf_check.specs.CheckedText.{DenotesSome, RefusesChecked, denoted_by}
 use Rattle.gf_check.specs.TrueFaults.{IsTrueOf}
 
 -- the error is a fault of the input, and no want of memory
@@ -26,7 +26,7 @@ IsInputFault other = ⊤
 -- the bytes denote no history because of this fault
 pub record IsFaultOf (editor : Option ℕ) (bytes : List ℕ) (e : ReadingError) : Type 0 where
   pub fault : IsInputFault e
-  pub refuses : Refuses editor bytes e
+  pub refuses : RefusesChecked editor bytes e
 
 -- each of these lines that denotes nothing is told
 abbrev pub TellsEach : Option ℕ → List (ℕ × List ℕ) → List Told → Type 0
@@ -67,13 +67,13 @@ TellsTrue editor lines told = (e : ReadingError) → Contains (errors told) e
     → IsTrueOf editor lines e
 
 -- where both are faults of lines, the second line comes later
-abbrev pub Rises : ReadingError → ReadingError → Type 0
-Rises (reading.Line m first) (reading.Line n second) = m < n
-Rises e f = ⊤
+abbrev pub RisesTo : ReadingError → ReadingError → Type 0
+RisesTo (reading.Line m first) (reading.Line n second) = m < n
+RisesTo e f = ⊤
 
 -- the numbers of the lines that are told rise
 abbrev pub TellsRising : List Told → Type 0
-TellsRising told = AllPairs Rises (errors told)
+TellsRising told = AllPairs RisesTo (errors told)
 
 -- no fault is told twice
 abbrev pub TellsOnceEach : List Told → Type 0

@@ -22,7 +22,7 @@ use Rattle.gf_edit.specs.EditedText.{denotes_entry, ops_in}
 use Rattle.gf_check.specs.declared.telling.Telling.{Telling}
 use Rattle.gf_check.specs.FaultLines.{Told, errors}
 use Rattle.gf_check.specs.CheckedText.{denoted_by}
-use Rattle.gf_check.specs.TrueFaults.{IsDenoted, RefusesAmong}
+use Rattle.gf_check.specs.TrueFaults.{IsDenotedBy, RefusesAmong}
 use Rattle.gf_check.specs.AllFaults.{HasOneById, IsFaultOf, KeepsOrTells, TellsEach, TellsOp}
 use Rattle.gf_check.specs.AllFaults.{TellsTrue}
 use Rattle.gf_check.specs.Telling.{HasTold}
@@ -130,7 +130,7 @@ pub record HasChecked (editor : Option ℕ) (bytes : List ℕ) (left : List (ℕ
   pub whole : numbered_lines bytes ≡ before ++ left
   pub each : TellsEach editor before told
   pub all : KeepsOrTells editor before told x
-  pub denoted : (a : Op) → HasOrHolds x a → IsDenoted editor before a
+  pub denoted : (a : Op) → HasOrHolds x a → IsDenotedBy editor before a
   pub only : TellsTrue editor (numbered_lines bytes) told
   pub order : AreInOrder told
   pub below : (k : ℕ × List ℕ) → Contains left k → AreBefore k.0 told

@@ -36,6 +36,6 @@ DenotesSome None bytes = DenotesHistory bytes
 DenotesSome (Some s) bytes = DenotesEntries s bytes
 
 -- why the bytes denote no history; want of memory may come with any
-abbrev pub Refuses : Option ℕ → List ℕ → ReadingError → Type 0
-Refuses None bytes e = RefusesText bytes e
-Refuses (Some s) bytes e = RefusesEntries s bytes e
+abbrev pub RefusesChecked : Option ℕ → List ℕ → ReadingError → Type 0
+RefusesChecked None bytes e = RefusesText bytes e
+RefusesChecked (Some s) bytes e = RefusesEntries s bytes e

@@ -15,14 +15,14 @@ use Rattle.gf_edit.specs.declared.entries.Entry.TheVariants as entry
 use Rattle.gf_check.specs.CheckedText.{denoted_by}
 
 -- one of these lines denotes the operation a
-pub record IsDenoted (editor : Option ℕ) (lines : List (ℕ × List ℕ)) (a : Op) : Type 0 where
+pub record IsDenotedBy (editor : Option ℕ) (lines : List (ℕ × List ℕ)) (a : Op) : Type 0 where
   pub number : ℕ
   pub text : List ℕ
   pub there : Contains lines (number, text)
   pub denotes : denoted_by editor text ≡ Ok (entry.Operation a)
 
 -- line n denotes nothing, and this is its first fault
-pub record HasFault (editor : Option ℕ) (lines : List (ℕ × List ℕ)) (n : ℕ) (e : LineError)
+pub record HasLineError (editor : Option ℕ) (lines : List (ℕ × List ℕ)) (n : ℕ) (e : LineError)
     : Type 0 where
   pub text : List ℕ
   pub there : Contains lines (n, text)
@@ -37,7 +37,7 @@ pub record Clashes (editor : Option ℕ) (lines : List (ℕ × List ℕ)) (n : �
   pub op : Op
   pub denotes : denoted_by editor text ≡ Ok (entry.Operation op)
   pub first : Op
-  pub earlier : IsDenoted editor before first
+  pub earlier : IsDenotedBy editor before first
   pub id : first.id ≡ op.id
   pub differs : first ≢ op
 
@@ -55,9 +55,9 @@ pub record RefusesAmong (P : Op → Type 0) (i : OpId) (why : OpFault) : Type 0 
 
 -- the lines have this fault
 abbrev pub IsTrueOf : Option ℕ → List (ℕ × List ℕ) → ReadingError → Type 0
-IsTrueOf editor lines (reading.Line n cause.Json) = HasFault editor lines n line.Json
-IsTrueOf editor lines (reading.Line n cause.Field) = HasFault editor lines n line.Field
-IsTrueOf editor lines (reading.Line n cause.Range) = HasFault editor lines n line.Range
+IsTrueOf editor lines (reading.Line n cause.Json) = HasLineError editor lines n line.Json
+IsTrueOf editor lines (reading.Line n cause.Field) = HasLineError editor lines n line.Field
+IsTrueOf editor lines (reading.Line n cause.Range) = HasLineError editor lines n line.Range
 IsTrueOf editor lines (reading.Line n cause.Clash) = Clashes editor lines n
-IsTrueOf editor lines (reading.Dropped i why) = RefusesAmong (IsDenoted editor lines) i why
+IsTrueOf editor lines (reading.Dropped i why) = RefusesAmong (IsDenotedBy editor lines) i why
 IsTrueOf editor lines reading.OutOfMemory = ⊥

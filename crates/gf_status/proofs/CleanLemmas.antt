@@ -25,7 +25,7 @@ use Rattle.gf_visible.specs.ShownVersions.{HasMoreVisible, IsVisibleGroup}
 use Rattle.gf_status.specs.Counting.{capped}
 use Rattle.gf_status.specs.declared.objects.ObjectStatus.{ObjectStatus}
 use Rattle.gf_status.specs.declared.state.State.TheVariants.{Clean, Open}
-use Rattle.gf_status.specs.ObjectStatuses.{AreStatuses, IsStatusOf}
+use Rattle.gf_status.specs.ObjectStatuses.{AreStatuses, IsObjectStatus}
 use Rattle.gf_status.specs.StatusLines.{are_clean, is_clean, is_none, shown_in}
 use Rattle.gf_status.specs.StatusRun.{TellsStatus}
 
@@ -67,7 +67,7 @@ module _ (h : List Op) where
   HoldsAll ss groups = (s : ObjectStatus) (g : Group) → Contains ss s → g.object ≡ s.object → IsVisibleGroup h g → Contains groups g
 
   -- with the groups gs before those of the objects, n of them
-  gathered : (ss : List ObjectStatus) → ((s : ObjectStatus) → Contains ss s → IsStatusOf h s) → (n : ℕ) (gs : List Group) → n ≡ capped (length gs) →
+  gathered : (ss : List ObjectStatus) → ((s : ObjectStatus) → Contains ss s → IsObjectStatus h s) → (n : ℕ) (gs : List Group) → n ≡ capped (length gs) →
       (all : List Group) × ((g : Group) → Contains gs g → Contains all g) × HoldsAll ss all × (fold (λ k (s : ObjectStatus). capped (k + s.shown)) n ss ≡ capped (length all))
   gathered [] each n gs e = (gs, λ g i. i, λ s g i. absurd (not_Contains-nil s i), e)
   gathered (s ∷ ss) each n gs e =

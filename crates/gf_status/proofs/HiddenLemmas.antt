@@ -32,7 +32,7 @@ use Rattle.gf_status.specs.Hidings.{AreLastHidings, Hides, HidesLast, ShowsOrHid
 use Rattle.gf_status.specs.Members.{IsIdAmong, IsMemberInOne}
 use Rattle.gf_status.specs.ObjectStatuses.{TellsHidings}
 use Rattle.gf_status.specs.SettersAt.{beside, both_unordered, gives, hides, hides_at, hidings, hidings_beside, is_beside, is_left_out, is_unknowing, lasts, op_hides, sets_at, setters, unknowing, unordered_at, where_none}
-use Rattle.gf_status.specs.UnseenChanges.{AreUnseen, ChangesUnseen, HidesBeside, IsUnseen}
+use Rattle.gf_status.specs.UnseenChanges.{AreUnseen, ChangesUnseen, HidesBeside, IsNotShown}
 use Rattle.gf_status.proofs.LastLemmas.{Contains-lasts, before_told, last_from, last_or_later, none_after, not_told}
 use Rattle.gf_status.proofs.SetterLemmas.{gives_from, gives_told}
 
@@ -268,25 +268,25 @@ module _ (h : List Op) (valid : IsValid h) (o : ObjectId) (us : List ℕ) (on : 
   -- ---- what is not shown
 
   module _ (groups : List Group) (visible : AreVisibleOn h o groups) (seen : List ℕ) (members : (k : ℕ) → Contains seen k ↔ IsMemberInOne h groups k) where
-    unseen_told : (k : ℕ) (a : Op) → slice_get h k ≡ Some a → is_in seen k ≡ false → IsUnseen h o a
+    unseen_told : (k : ℕ) (a : Op) → slice_get h k ≡ Some a → is_in seen k ≡ false → IsNotShown h o a
     unseen_told k a at n g on_o shown i =
         let listed = (visible.exactly g).1 (on_o, shown) in
         not_in seen k n ((members k).1 (record { group = g; listed = listed; member = record { op = a; at = at; among = i } }))
 
-    unseen_from : (k : ℕ) (a : Op) → slice_get h k ≡ Some a → IsUnseen h o a → is_in seen k ≡ false
+    unseen_from : (k : ℕ) (a : Op) → slice_get h k ≡ Some a → IsNotShown h o a → is_in seen k ≡ false
     unseen_from k a at u = out_of seen k (λ c.
         let m = (members k).0 c in
         let v = (visible.exactly m.group).0 m.listed in
         let same : m.member.op ≡ a = one_op (slice_get h k) m.member.op a m.member.at at in
         u m.group v.0 v.1 (subst (λ (z : Op). Contains m.group.ops z.id) same m.member.among))
 
-    left_told : (k : ℕ) (a : Op) → slice_get h k ≡ Some a → is_left_out h seen k ≡ true → (value_given a attr.Shown ≡ None) × IsUnseen h o a
+    left_told : (k : ℕ) (a : Op) → slice_get h k ≡ Some a → is_left_out h seen k ≡ true → (value_given a attr.Shown ≡ None) × IsNotShown h o a
     left_told k a at t = elim (cases_Bool (sets_at h attr.Shown k)) [
       | inl y ↦ let z : false ≡ true = rw y at t in absurd cc
       | inr n ↦ let s : not (is_in seen k) ≡ true = rw n at t in (gives_none (slice_get h k) a attr.Shown at n, unseen_told k a at (not_told (is_in seen k) s))
     ]
 
-    left_from : (k : ℕ) (a : Op) → slice_get h k ≡ Some a → value_given a attr.Shown ≡ None → IsUnseen h o a → is_left_out h seen k ≡ true
+    left_from : (k : ℕ) (a : Op) → slice_get h k ≡ Some a → value_given a attr.Shown ≡ None → IsNotShown h o a → is_left_out h seen k ≡ true
     left_from k a at e u = let n = none_gives (slice_get h k) a attr.Shown at e in let s = unseen_from k a at u in rw (n, s) refl
 
     abbrev pub found : List ℕ

@@ -23,7 +23,7 @@ use Rattle.gf_visible.specs.ShownVersions.{AreVisibleOn, HasMoreOn}
 use Rattle.gf_status.specs.Counting.{IsShownCount}
 use Rattle.gf_status.specs.Members.{IsIdAmong, IsMadeAt}
 use Rattle.gf_status.specs.declared.objects.ObjectStatus.{ObjectStatus}
-use Rattle.gf_status.specs.ObjectStatuses.{AreStatuses, IsStatusOf, told_ids}
+use Rattle.gf_status.specs.ObjectStatuses.{AreStatuses, IsObjectStatus, told_ids}
 
 -- ---- how many are visible
 
@@ -74,15 +74,15 @@ made_told h us at ids told o = (
 -- the statuses so far tell of the objects under these ids
 pub record AreOf (h : List Op) (ids : List OpId) (ss : List ObjectStatus) : Type 0 where
   pub named : told_ids ss ≡ ids
-  pub each : (s : ObjectStatus) → Contains ss s → IsStatusOf h s
+  pub each : (s : ObjectStatus) → Contains ss s → IsObjectStatus h s
 
 pub of_none : (h : List Op) → AreOf h [] []
 of_none h = record { named = refl; each = λ s i. absurd (not_Contains-nil s i) }
 
-pub of_more : (h : List Op) (ids : List OpId) (ss : List ObjectStatus) → AreOf h ids ss → (s : ObjectStatus) (i : OpId) → s.object.0 ≡ i → IsStatusOf h s → AreOf h (ids ++ i ∷ []) (ss ++ s ∷ [])
+pub of_more : (h : List Op) (ids : List OpId) (ss : List ObjectStatus) → AreOf h ids ss → (s : ObjectStatus) (i : OpId) → s.object.0 ≡ i → IsObjectStatus h s → AreOf h (ids ++ i ∷ []) (ss ++ s ∷ [])
 of_more h ids ss are s i e is = record {
   named = map-append (λ (z : ObjectStatus). z.object.0) ss (s ∷ []) ∙ (ap (λ is. is ++ s.object.0 ∷ []) are.named ∙ ap (λ j. ids ++ j ∷ []) e);
-  each = λ z c. elim (Contains-push_cases ss s z c) [ inl k ↦ are.each z k | inr same ↦ subst (IsStatusOf h) same is ];
+  each = λ z c. elim (Contains-push_cases ss s z c) [ inl k ↦ are.each z k | inr same ↦ subst (IsObjectStatus h) same is ];
 }
 
 pub all_of : (h : List Op) (ids : List OpId) (ss : List ObjectStatus) → ((o : ObjectId) → Contains ids o.0 ↔ IsMade h o) → IsStrictlySortedBy id_cmp ids → AreOf h ids ss → AreStatuses h ss

@@ -31,7 +31,7 @@ pub record TellsUnseen (h : List Op) (o : ObjectId) (n : ℕ) (ids : List OpId) 
   pub many : 1000 < n → ids ≡ []
 
 -- s is the status of an object of h
-pub record IsStatusOf (h : List Op) (s : ObjectStatus) : Type 0 where
+pub record IsObjectStatus (h : List Op) (s : ObjectStatus) : Type 0 where
   pub made : IsMade h s.object
   pub versions : IsCount h s.object s.versions
   pub shown : IsShownCount h s.object s.shown
@@ -45,6 +45,6 @@ told_ids ss = map (λ (s : ObjectStatus). s.object.0) ss
 
 -- the statuses are those of all objects of h, rising by id
 pub record AreStatuses (h : List Op) (ss : List ObjectStatus) : Type 0 where
-  pub each : (s : ObjectStatus) → Contains ss s → IsStatusOf h s
+  pub each : (s : ObjectStatus) → Contains ss s → IsObjectStatus h s
   pub all : (o : ObjectId) → IsMade h o → Contains (told_ids ss) o.0
   pub rising : IsStrictlySortedBy id_cmp (told_ids ss)

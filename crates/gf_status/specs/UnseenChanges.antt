@@ -22,8 +22,8 @@ pub record HidesBeside (h : List Op) (o : ObjectId) (a b : Op) : Type 0 where
   pub last : (c : Op) → ShowsOrHides h o c → ¬ (Conflict h a c) → ¬ (Precedes b c)
 
 -- no visible version of the object o has a
-abbrev pub IsUnseen : List Op → ObjectId → Op → Type 0
-IsUnseen h o a = (g : Group) → g.object ≡ o → IsVisibleGroup h g → ¬ (Contains g.ops a.id)
+abbrev pub IsNotShown : List Op → ObjectId → Op → Type 0
+IsNotShown h o a = (g : Group) → g.object ≡ o → IsVisibleGroup h g → ¬ (Contains g.ops a.id)
 
 -- a changes the object o, and neither shows nor hides it. No visible version has a. Of a and a last
 -- hiding beside a, neither comes before the other
@@ -31,7 +31,7 @@ pub record ChangesUnseen (h : List Op) (o : ObjectId) (a : Op) : Type 0 where
   pub contained : Contains h a
   pub object : object_of a ≡ o
   pub other : value_given a attr.Shown ≡ None
-  pub unseen : IsUnseen h o a
+  pub unseen : IsNotShown h o a
   pub hiding : Op
   pub beside : HidesBeside h o a hiding
   pub concurrent : IsConcurrent a hiding

@@ -4,7 +4,7 @@ ghost use Rattle.std.specs.Prelude.{◌≡◌, IfOk};
 ghost use Rattle.gf_groups.specs.declared.group.Group.{Group};
 ghost use Rattle.gf_groups.specs.Versions.{IsMade};
 ghost use Rattle.gf_table.specs.Standing.{StandsFor};
-ghost use Rattle.gf_status.specs.ObjectStatuses.{AreStatuses, IsStatusOf};
+ghost use Rattle.gf_status.specs.ObjectStatuses.{AreStatuses, IsObjectStatus};
 
 use crate::counting::{MOST_COUNTED, count_versions};
 use crate::differing::{Difference, differences};
@@ -66,7 +66,7 @@ fn object_status(
     requires stands { StandsFor history.now.ops table.now }
     requires made { IsMade history.now.ops object }
     ensures object { IfOk result (λ status. status.object ≡ object) }
-    ensures status { IfOk result (λ status. IsStatusOf history.now.ops status) }
+    ensures status { IfOk result (λ status. IsObjectStatus history.now.ops status) }
 {
     let components = table.components(alloc, history, object)?;
     let versions = count_versions(history, object, &components);
