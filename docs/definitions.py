@@ -37,7 +37,7 @@ WITHIN = """
 ## Words within
 
 Other definitions that public contracts name, each headed by its sentence. Nobody has to believe them for what a command
-writes.
+writes. For why it is refused and what a refusal leaves, those of refusals and faults have to be believed, too.
 """
 TAIL = """
 ## Sources
