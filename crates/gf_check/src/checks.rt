@@ -45,7 +45,8 @@ pub fn check_run<R: Source, W: Sink>(
     ensures refused { IfErr result IsOfRun }
 
     // At most a prefix of the text is written, and that only where the sink failed.
-    ensures sink { LeavesSink W.Sink (R.left source.old) (AnswersText editor) sink.old sink.new result }
+    ensures sink { LeavesSink W.Sink (R.left source.old) (AnswersText editor) sink.old sink.new
+        result }
 {
     let text = told_of_lines(alloc, source, editor)?;
     match write_whole(sink, &text) {

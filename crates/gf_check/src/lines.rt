@@ -26,8 +26,8 @@ use gf_site::{NoTable, Replica, Step};
 use gf_streams::TextLines;
 use std::alloc::Global;
 
-/// A site with the operations so far, what came under each id, what is told, and how many commands
-/// came.
+/// A site with the operations so far, the lines by id, the faults so far, and the number of commands
+/// so far.
 #[derive(Drop)]
 struct Check {
     site: Replica<NoTable>,
@@ -80,7 +80,7 @@ fn take_line(
     }
 }
 
-/// What a line denotes, or its first fault. Where no site edits, that is an operation alone.
+/// What a line denotes, or its first fault. Where no site edits, a line denotes an operation alone.
 fn read_line(alloc: Global, line: &[u8], editor: Option<u8>) -> Result<Entry, LineError>
     ensures denoted { (result ≡ Err LineError.OutOfMemory)
         ⊎ (result ≡ denoted_by editor line.now) }
@@ -206,7 +206,7 @@ fn tell_clash(
     telling.tell_line(number, LineCause::Clash, why.as_bytes())
 }
 
-/// Tells that an operation was dropped, if that is not told with this cause.
+/// Tells that an operation was dropped, if no line tells that drop with this cause.
 fn tell_drop(
     alloc: Global,
     site: &Replica<NoTable>,

@@ -3,7 +3,7 @@
 ghost use Rattle.std.specs.Prelude.{};
 ghost use Rattle.gf_check.specs.FaultLines.{IsOnOneLine};
 
-/// A text, or another one where it has a line end.
+/// The text, or a fixed one where the text has a line end.
 pub(crate) fn on_one_line(text: &[u8]) -> &[u8]
     ensures { IsOnOneLine result.now }
 {

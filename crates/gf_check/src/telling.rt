@@ -20,7 +20,7 @@ pub(crate) struct Telling {
 }
 
 impl Telling {
-    /// Nothing is told.
+    /// No faults.
     pub(crate) fn new(alloc: Global) -> Telling
         ensures { HasTold [] result }
     {
@@ -30,14 +30,14 @@ impl Telling {
         }
     }
 
-    /// The lines.
+    /// The lines that tell the faults.
     pub(crate) fn into_text(self) -> Vec<u8>
         ensures { result ≡ self.text }
     {
         self.text
     }
 
-    /// Whether it is told that an operation under this id was dropped for this cause.
+    /// Whether a line tells that an operation under this id was dropped for this cause.
     pub(crate) fn has_drop(&self, id: OpId, fault: OpFault) -> bool
         ensures { (told : List Told) → HasTold told self.now
             → IsTrue result ↔ Contains (errors told) (ReadingError.Dropped id fault) }
@@ -45,7 +45,7 @@ impl Telling {
         self.drops.contains(&(id, check_number(fault)))
     }
 
-    /// Tells the fault of a line, and why.
+    /// Adds a line that tells the fault of an input line, and why.
     pub(crate) fn tell_line(
         &mut self,
         number: u64,
@@ -59,7 +59,7 @@ impl Telling {
         push_fault(&mut self.text, ReadingError::Line(number, cause), why)
     }
 
-    /// Tells a drop that was not told, and why.
+    /// Adds a line that tells a drop which no line tells so far, and why.
     pub(crate) fn tell_drop(
         &mut self,
         id: OpId,

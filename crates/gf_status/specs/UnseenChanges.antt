@@ -13,8 +13,8 @@ use Rattle.gf_groups.specs.declared.group.Group.{Group}
 use Rattle.gf_visible.specs.ShownVersions.{IsVisibleGroup}
 use Rattle.gf_status.specs.Hidings.{Hides, ShowsOrHides}
 
--- b hides the object o, and a does not conflict with b. No operation that shows or hides o, and with
--- which a does not conflict either, comes after b
+-- b hides the object o, and a does not conflict with b. Of the operations that show or hide o, and
+-- with which a does not conflict either, none comes after b
 pub record HidesBeside (h : List Op) (o : ObjectId) (a b : Op) : Type 0 where
   pub setter : ShowsOrHides h o b
   pub hides : Hides b

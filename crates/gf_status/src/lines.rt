@@ -253,7 +253,7 @@ fn push_more_ids(out: &mut Vec<u8>, ids: &[OpId]) -> Result<(), AllocError>
     Ok(())
 }
 
-/// Appends that operations changed what is hidden of an object, if they did.
+/// Appends which operations changed what is hidden of an object, if there are such operations.
 fn push_hidden(out: &mut Vec<u8>, object: ObjectId, changed: &[OpId]) -> Result<(), AllocError>
     ensures { OnOk result (out.new.items ≡ out.old.items ++ hidden_line object changed.now) }
 {
@@ -295,7 +295,7 @@ fn push_id(out: &mut Vec<u8>, id: OpId) -> Result<(), AllocError>
     push_number(out, id.seq)
 }
 
-/// Appends that more versions are shown than a drawing has, if they are.
+/// Appends that more versions are shown than a drawing has, if their count is above that.
 fn push_drawing(out: &mut Vec<u8>, shown: usize) -> Result<(), AllocError>
     ensures { OnOk result (out.new.items ≡ out.old.items ++ drawing_line shown) }
 {

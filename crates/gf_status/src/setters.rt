@@ -207,8 +207,8 @@ fn beside(
 }
 
 /// The last hidings among these setters of `Shown` with which the operation at this position does
-/// not conflict. The setters in `last` come before none of the others: where it conflicts with none
-/// of these, no other one is asked.
+/// not conflict. The setters in `last` come before none of the others: where the operation conflicts
+/// with none of these last setters, no other setter is asked.
 fn hidings_beside(
     alloc: Global,
     history: &History,
@@ -242,7 +242,7 @@ fn is_unknowing(
     Ok(some_unordered(history, position, &hidings))
 }
 
-/// Whether the operation at this position neither shows nor hides, and is none of those seen.
+/// Whether the operation at this position neither shows nor hides, and no visible version has it.
 fn is_left_out(history: &History, seen: &Numbers, position: usize) -> bool
     requires { position + 1 < 2 ^ 64 }
     ensures { result ≡ is_left_out history.now.ops seen.now position }
