@@ -7,3 +7,4 @@ pub mod NumberLemmas
 pub mod CanonicalColour
 pub mod OutlinedLemmas
 pub mod TableLemmas
+pub mod SortedLemmas

@@ -18,6 +18,10 @@ module _ {S : Type 0} where
   unfoldable pub from_back : List (Figure S) → List (Figure S)
   from_back figures = flat_map (figures_at figures) (reverse (range_with_len 0 1000))
 
+  -- the figures from the front: those that are painted last come first
+  abbrev pub from_front : List (Figure S) → List (Figure S)
+  from_front figures = reverse (from_back figures)
+
   -- the colour of figure f by its number, white if it has none
   abbrev pub figure_colour : Table → Figure S → Rgb
   figure_colour table f = unwrap_or (rgb_of table f.colour) white

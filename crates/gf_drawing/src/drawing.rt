@@ -6,7 +6,8 @@ ghost use Rattle.std.specs.List.Sorted.{IsNonDecreasingBy};
 ghost use Rattle.gf_shape.specs.declared.point.Point.{Point};
 ghost use Rattle.gf_drawing.specs.Colours.{colour_in, rgb_of, standard_colours};
 ghost use Rattle.gf_drawing.specs.DrawingState.{IsFreeNumber, IsLawfulDrawing, IsLawfulFigure};
-ghost use Rattle.gf_drawing.specs.DrawingColour.{drawing_colour, figures_at, front_colour};
+ghost use Rattle.gf_drawing.specs.DrawingColour.{drawing_colour, figures_at, from_front};
+ghost use Rattle.gf_drawing.specs.DrawingColour.{front_colour};
 ghost use Rattle.gf_drawing.specs.FrontMost.{front_at, is_no_deeper, nearer_at};
 
 use crate::{ColourTable, Figure};
@@ -71,7 +72,9 @@ impl<S: Shape> Drawing<S> {
     /// The figures from the front to the back: by their depths, and of one depth the last one
     /// first.
     pub fn front_to_back(&self, alloc: Global) -> Result<Vec<&Figure<S>>, OutOfMemory>
-        ensures { IfOk result (λ figures. (p : Point)
+        ensures order { IfOk result (λ figures.
+            map (λ f. f.now) figures.items ≡ from_front self.now.figures) }
+        ensures colours { IfOk result (λ figures. (p : Point)
             → front_colour S.holds self.now.table (map (λ f. f.now) figures.items) p
             ≡ drawing_colour S.holds self.now.table self.now.figures p) }
     {

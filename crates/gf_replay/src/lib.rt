@@ -1,6 +1,7 @@
 //! From the bytes of operation lines to a site that has their operations.
 //!
-//! - [`read_site`]: receives the operation of each line, and steps until nothing is ready.
+//! - [`read_replica`]: receives the operation of each line, and steps until nothing is ready;
+//!   [`read_site`]: the same, with the table of the versions.
 //! - [`take_op`]: receives one operation, and steps until nothing is ready.
 //! - [`line_refusal`]: the refusal of a line for its fault.
 //! - [`ReadingError`], [`LineCause`]: why lines are no history.
@@ -11,6 +12,6 @@ mod reading;
 mod reading_error;
 mod taking;
 
-pub use reading::read_site;
+pub use reading::{read_replica, read_site};
 pub use reading_error::{LineCause, ReadingError};
 pub use taking::{line_refusal, take_op};

@@ -163,6 +163,18 @@ impl<T: Table> Replica<T> {
         Ok(copy)
     }
 
+    /// Adds an operation that the history accepts. All memory is there before anything changes.
+    pub fn add(&mut self, op: Op) -> Result<(), OutOfMemory>
+        requires in_range { IsInRange op }
+        requires accepted { IsAccepted self.old.ops op }
+        ensures ok { OnOk result (self.new ≡ record self.old { ops = self.old.ops ++ op ∷ [] }) }
+        ensures err { OnErr result (self.new ≡ self.old) }
+    {
+        grow(&mut self.history, &mut self.table, &op)?;
+        self.history.push(op);
+        Ok(())
+    }
+
     /// Holds an operation that is neither held nor in the history.
     pub fn receive(&mut self, op: Op) -> Result<Offered, OfferFault>
         ensures range { result ≡ Err OfferFault.Range ↔ (¬ (IsInRange op)) }
