@@ -9,4 +9,4 @@ returns g c = λ p.
     let figures = c.in_ok-figures.figures.items in
     let same : map seen c.in_ok-layers.layers.items ≡ map (seen_figure table) (map (λ f. f.now) figures) =
     (rw c.deref.ensures.value at c.in_ok-layers.ensures.seen) ∙ in_two_steps (λ f. f.now) (seen_figure table) figures in
-    alike g.S.Shape.holds table c.in_ok-layers.layers.items (map (λ f. f.now) figures) p same ∙ c.in_ok-figures.ensures p
+    alike g.S.Shape.holds table c.in_ok-layers.layers.items (map (λ f. f.now) figures) p same ∙ c.in_ok-figures.ensures.colours p
