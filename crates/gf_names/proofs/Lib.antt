@@ -1,0 +1,2 @@
+mod OneVersionLemmas
+mod TellingLemmas

@@ -1,0 +1,14 @@
+//! What tells a version of an object from other operations.
+//!
+//! - [`telling`]: of a group, the last operation of each site against each of the others.
+//! - [`rising`]: ids in their order, each once.
+//! - [`what_tells_a_version_is_in_no_other`]: the law.
+#![tactic(auto)]
+
+mod laws;
+mod names;
+mod sorting;
+
+pub use laws::what_tells_a_version_is_in_no_other;
+pub use names::telling;
+pub use sorting::rising;
