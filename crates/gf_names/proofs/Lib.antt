@@ -1,2 +1,2 @@
-mod OneVersionLemmas
+pub mod OneVersionLemmas
 mod TellingLemmas
