@@ -1,0 +1,4 @@
+mod PairedLemmas
+mod MadeLemmas
+mod KeptLemmas
+mod LawLemmas
