@@ -3,7 +3,7 @@
 -- A new operation knows all before it, so a conflict of it comes from its aim, which is of one kept version.
 -- So this version with what hides and what shows it is compatible, and it is largest: another showing aims at
 -- what another version is told by. And a visible version has a showing, whose aim it holds: it is this one.
-use Rattle.std.proofs.Common.{◌≡◌, ◌≢◌, ℕ, true, false, List, [], ◌∷◌, ◌++◌, refl, sym, subst, ap, ◌∙◌, arith, inl, inr}
+use Rattle.std.proofs.Common.{◌≡◌, ◌≢◌, true, false, List, [], ◌∷◌, ◌++◌, refl, sym, subst, ap, ◌∙◌, arith, inl, inr}
 use Rattle.std.specs.Prelude.{◌⊎◌, ◌↔◌, AllPairs, Contains, Some, IsSome}
 use Rattle.std.specs.List.{AllZip}
 use Rattle.std.specs.List.Sorted.{IsStrictlySortedBy}
@@ -28,10 +28,9 @@ use Rattle.gf_ops.proofs.DirectConflictLemmas.{direct-sym}
 use Rattle.gf_ops.proofs.HistoryLemmas.{seq_in_range, site_in_range}
 use Rattle.gf_ops.proofs.ValidityLemmas.{precedes_irreflexive, precedes_transitive, same_op}
 use Rattle.gf_groups.specs.declared.group.Group.{Group}
-use Rattle.gf_names.specs.Telling.{IsLastAgainst}
 use Rattle.gf_names.proofs.OneVersionLemmas.{brought, listed_or_not, one_is_last, one_version}
-use Rattle.gf_keep.specs.Keeping.{IsMark, IsAimOfMark, IsOn, IsShowing, hiding}
-use Rattle.gf_keep.proofs.PairedLemmas.{Paired, paired_left, paired_right, paired_holds, some_left, some_right, one_right}
+use Rattle.gf_keep.specs.Keeping.{IsMark, IsShowing, hiding}
+use Rattle.gf_keep.proofs.PairedLemmas.{Paired, paired_left, paired_right, paired_holds, some_left, one_right}
 
 -- all of the ids are among others, or one is not
 all_or_one : (ids others : List OpId) → ((i : OpId) → Contains ids i → Contains others i) ⊎ ((i : OpId) × Contains ids i × (¬ (Contains others i)))
@@ -201,7 +200,7 @@ module _ (h : List Op) (hide : Op) (shows : List Op) (valid : IsValid h) (whole 
     other_shows k x q = elim (all_or_one (aim_of x) g.ops) [
       | inl f ↦
           let ops = one_version h valid o k.ops g.ops (version k x q) (version g show p)
-              (λ y c m l. f c.id (aims_at_marks k x q c.id (record {
+          (λ y c m l. f c.id (aims_at_marks k x q c.id (record {
             op = c;
             id = refl;
             against = y;
@@ -343,12 +342,13 @@ module _ (h : List Op) (hide : Op) (shows : List Op) (valid : IsValid h) (whole 
           let on : object_of x ≡ g.object = c.direct.one_object ∙ (member_object y y' ∙ sym (versions g (listed g show p)).0) in
           one_is_last h valid g.ops x
           (λ d l.
-              let held = aim_held g show p m d.id (aims_at_marks g show p d.id (record { op = d; id = refl; against = x; other = record { contained = there; object = on }; last = l })) in
-              found.compatible x d n' (record { contained = old d l.member.contained; grouped = held }) (conflict_direct all x d l.conflict))
+          let held = aim_held g show p m d.id (aims_at_marks g show p d.id (record { op = d; id = refl; against = x; other = record { contained = there; object = on }; last = l })) in
+          found.compatible x d n' (record { contained = old d l.member.contained; grouped = held }) (conflict_direct all x d l.conflict))
           10000 y y' c.direct (omega arith)
         where
           brings_in_old : (a x : Op) → Contains h a → Brings h a x → Contains h x
           brings_in_old a x i b = elim b [ inl e ↦ subst (Contains h) (sym e) i | inr t ↦ t.contained ]
+
           member_object : (y : Op) → IsMember h g.ops y → object_of y ≡ o
           member_object y k = let on = (version g show p).members y.id k.grouped in ap object_of (same_op h valid y on.op k.contained on.contained (sym on.id)) ∙ on.object
 

@@ -2,7 +2,6 @@
 use Rattle.std.proofs.Common.{◌≡◌, ◌≢◌, ℕ, true, false, List, [], ◌∷◌, ◌++◌, get_or, refl, sym, subst, ap, ◌∙◌, inl, inr}
 use Rattle.std.specs.Prelude.{◌⊎◌, ◌↔◌, AllPairs, Contains, Some}
 use Rattle.std.specs.BTreeSet.{insert_key}
-use Rattle.std.specs.declared.cmp.Ordering.{Ordering}
 use Rattle.std.specs.declared.cmp.Ordering.TheVariants.{Less, Greater}
 use Rattle.std.specs.Ordering.{ordering_reverse}
 use Rattle.std.proofs.lemmas.Map.Keys.{Less-from_sorted}
@@ -27,7 +26,6 @@ use Rattle.gf_groups.specs.Versions.{IsVersionGroup, group_cmp}
 use Rattle.gf_groups.proofs.GroupLemmas.{group_cmp_total}
 use Rattle.gf_groups.proofs.IdLemmas.{id_cmp_total, id_cmp_exact}
 use Rattle.gf_maximal.proofs.InsertLemmas.{holds, inserted}
-use Rattle.gf_versions.specs.VersionOf.{IsVersionOf}
 use Rattle.gf_versions.proofs.SettlingLemmas.{settled_once}
 use Rattle.gf_versions.proofs.VersionLemmas.{some_version}
 use Rattle.gf_site.specs.SiteState.{authored}
@@ -159,9 +157,11 @@ module _ (s : ℕ) (h : List Op) (k : Keep) (run : AreAccepted h) (valid : IsVal
     becomes_visible f b =
         let object = b.object ∙ (versions g i).0 in
         let hide_id = ap (λ (x : Op). x.id) (one_hide b.hide b.hides) in
-        let show_id = ap (λ (x : Op). x.id) (one_show b.show b.shows) in
-        (object, becomes f object (subst (λ (a : OpId). (j : OpId) → Contains f.ops j ↔ (Contains g.ops j ⊎ ((j ≡ hide.id) ⊎ (j ≡ a)))) show_id
-        (subst (λ (a : OpId). (j : OpId) → Contains f.ops j ↔ (Contains g.ops j ⊎ ((j ≡ a) ⊎ (j ≡ b.show.id)))) hide_id b.exactly)) b.rising)
+        let show_id = ap (λ (x : Op). x.id) (one_show b.show b.shows) in (
+          object,
+          becomes f object (subst (λ (a : OpId). (j : OpId) → Contains f.ops j ↔ (Contains g.ops j ⊎ ((j ≡ hide.id) ⊎ (j ≡ a)))) show_id
+              (subst (λ (a : OpId). (j : OpId) → Contains f.ops j ↔ (Contains g.ops j ⊎ ((j ≡ a) ⊎ (j ≡ b.show.id)))) hide_id b.exactly)) b.rising,
+        )
 
     pub goes_on : GoesOn h k new g
     goes_on =
@@ -199,7 +199,7 @@ record MadeFirst (s : ℕ) (h : List Op) (c : Change) (cs : List Change) (new : 
   pub is : new ≡ authored s h c ∷ others
 
 made_first : (s : ℕ) (h : List Op) (c : Change) (cs : List Change) (new : List Op) → MakesEach s h (c ∷ cs) new → MadeFirst s h c cs new
-made_first s h c cs new (made_next {new = others} d range accepted m) = record { range = range; accepted = accepted; others = others; makes = m; is = refl }
+made_first s h c cs made (made_next {new = others} d range accepted m) = record { range = range; accepted = accepted; others = others; makes = m; is = refl }
 
 module _ (s : ℕ) (h : List Op) (k : Keep) (changes : List Change) (new : List Op) (run : AreAccepted h) (valid : IsValid h) (t : AreKeeping h k changes) (m : MakesEach s h changes new) where
   parts : MadeFirst s h (hiding k.object) t.shows new

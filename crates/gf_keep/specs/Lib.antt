@@ -1,2 +1,4 @@
 pub mod Keeping
+pub mod KeepFaults
+pub mod KeepSteps
 pub mod MadeOf

@@ -1,0 +1,80 @@
+//! What a change aims at that is meant for one version.
+
+ghost use Rattle.std.specs.Prelude.{◌≡◌, ◌↔◌, ◌⊎◌, Contains, IfOk, IsTrue, OnOk};
+ghost use Rattle.gf_ops.specs.Attribute.{object_of};
+ghost use Rattle.gf_ops.specs.declared.op.OpId.{OpId};
+ghost use Rattle.gf_keep.specs.Keeping.{AreAimedAt};
+ghost use Rattle.gf_keep.specs.KeepSteps.{AreIdsOn, IsBrought, IsBroughtFrom};
+
+use gf_base::OutOfMemory;
+use gf_groups::Group;
+use gf_names::{rising, telling};
+use gf_ops::{History, Ids, ObjectId, Op, OpId};
+use std::alloc::Global;
+
+/// The ids of the operations on an object.
+pub(crate) fn ids_on(
+    alloc: Global,
+    history: &History,
+    object: ObjectId,
+) -> Result<Vec<OpId>, OutOfMemory>
+    ensures { IfOk result (λ ids. AreIdsOn history.now.ops object ids.items) }
+{
+    let mut ids = Vec::new(alloc);
+    for op in history.ops() {
+        if is_on(op, object) {
+            ids.push(op.id)?;
+        }
+    }
+    Ok(ids)
+}
+
+/// Whether an operation concerns an object.
+fn is_on(op: &Op, object: ObjectId) -> bool
+    ensures { IsTrue result ↔ (object_of op.now ≡ object) }
+{
+    op.object() == object
+}
+
+/// What tells the group from the operations on its object, with what that aims at.
+pub(crate) fn aim_at(
+    alloc: Global,
+    history: &History,
+    group: &Group,
+    others: &[OpId],
+) -> Result<Ids, OutOfMemory>
+    requires { AreIdsOn history.now.ops group.now.object others.now }
+    ensures { IfOk result (λ ids. AreAimedAt history.now.ops group.now ids) }
+{
+    // The clause of `ops` says that the history is valid.
+    let _ = history.ops();
+    let marks = telling(alloc, history, group.ops.as_slice(), others)?;
+    let mut found = Vec::new(alloc);
+    add_all(history, marks.as_slice(), &mut found)?;
+    rising(alloc, &found)
+}
+
+/// Adds ids with what their operations aim at.
+fn add_all(history: &History, ids: &[OpId], found: &mut Vec<OpId>) -> Result<(), OutOfMemory>
+    ensures { OnOk result ((i : OpId) → Contains found.new.items i ↔ (Contains found.old.items i
+        ⊎ IsBroughtFrom history.now.ops ids.now i)) }
+{
+    for id in ids {
+        add_one(history, *id, found)?;
+    }
+    Ok(())
+}
+
+/// Adds an id with what its operation aims at.
+fn add_one(history: &History, id: OpId, found: &mut Vec<OpId>) -> Result<(), OutOfMemory>
+    ensures { OnOk result ((i : OpId) → Contains found.new.items i ↔ (Contains found.old.items i
+        ⊎ IsBrought history.now.ops id i)) }
+{
+    // The clause of `ops` says that the history is valid.
+    let _ = history.ops();
+    found.push(id)?;
+    if let Some(op) = history.get(id) {
+        found.extend_from_slice(op.aim())?;
+    }
+    Ok(())
+}

@@ -1,0 +1,98 @@
+//! The changes that keep some versions of an object.
+
+ghost use Rattle.std.specs.Prelude.{◌≡◌, ◌≢◌, ◌∷◌, ◌++◌, [], ◌==◌, IfOk, IfErr, length};
+ghost use Rattle.std.specs.List.{AllZip};
+ghost use Rattle.gf_groups.specs.Versions.{IsMade};
+ghost use Rattle.gf_ops.specs.declared.change.Change.TheVariants.{Set};
+ghost use Rattle.gf_ops.specs.declared.change.Value.TheVariants.{Shown};
+ghost use Rattle.gf_keep.specs.Keeping.{AreKeeping, AreKept, IsShowing, hiding};
+ghost use Rattle.gf_keep.specs.KeepFaults.{RefusesKeep};
+ghost use Rattle.gf_keep.specs.KeepSteps.{AreIdsOn, AreOfObject, AreShowings};
+
+use crate::aiming::{aim_at, ids_on};
+use crate::tabled::with_table;
+use crate::visible::kept_groups;
+use crate::{Keep, KeepFault};
+use gf_base::OutOfMemory;
+use gf_groups::{Group, is_made};
+use gf_ops::{Change, History, Ids, ObjectId, OpId, Value};
+use gf_site::{Replica, Table};
+use std::alloc::Global;
+
+/// The changes by which a site keeps versions of an object. The first one hides the object without
+/// an aim. Then one shows each kept version, in the order of their ids. It aims at what tells the
+/// version from all operations on the object, and at what these aim at.
+///
+/// The history is read into a table of versions first. Each member of a kept version is compared
+/// with each operation on the object.
+pub fn keeping<T: Table>(
+    alloc: Global,
+    site: &Replica<T>,
+    keep: &Keep,
+) -> Result<Vec<Change>, KeepFault>
+    ensures changes { IfOk result (λ changes. AreKeeping site.now.ops keep.now changes.items) }
+    ensures refused { IfErr result (RefusesKeep site.now.ops keep.now) }
+{
+    if !is_made(site.history(), keep.object) {
+        return Err(KeepFault::NoObject);
+    }
+    let kept = kept_in(alloc, site, keep)?;
+    match changes_of(alloc, site.history(), keep.object, &kept) {
+        Ok(changes) => Ok(changes),
+        Err(OutOfMemory) => Err(KeepFault::OutOfMemory),
+    }
+}
+
+/// The versions that are kept, at least one.
+fn kept_in<T: Table>(alloc: Global, site: &Replica<T>, keep: &Keep) -> Result<Vec<Group>, KeepFault>
+    requires { IsMade site.now.ops keep.now.object }
+    ensures kept { IfOk result (λ groups. AreKept site.now.ops keep.now groups.items) }
+    ensures some { IfOk result (λ groups. groups.items ≢ []) }
+    ensures refused { IfErr result (RefusesKeep site.now.ops keep.now) }
+{
+    let Some(groups) = kept_groups(alloc, site, keep)? else {
+        return Err(KeepFault::Range);
+    };
+    if is_none(&groups) {
+        return Err(KeepFault::NoVersion);
+    }
+    Ok(groups)
+}
+
+/// Whether there is no group.
+fn is_none(groups: &[Group]) -> bool
+    ensures { result ≡ (length groups.now == 0) }
+{
+    groups.is_empty()
+}
+
+/// The change that hides the object, and behind it one that shows each group.
+fn changes_of(
+    alloc: Global,
+    history: &History,
+    object: ObjectId,
+    groups: &[Group],
+) -> Result<Vec<Change>, OutOfMemory>
+    requires { AreOfObject object groups.now }
+    ensures { IfOk result (λ changes. AreShowings history.now.ops object groups.now changes.items) }
+{
+    let others = ids_on(alloc, history, object)?;
+    let mut changes = Vec::new(alloc);
+    changes.push(set_shown(object, false, Ids::new(Vec::new(alloc))))?;
+    for group in groups {
+        let aim = aim_at(alloc, history, group, &others)?;
+        changes.push(set_shown(object, true, aim))?;
+    }
+    Ok(changes)
+}
+
+/// The change that shows an object or hides it.
+fn set_shown(object: ObjectId, shown: bool, aim: Ids) -> Change
+    ensures { result ≡ Set object (Shown shown) aim }
+{
+    Change::Set {
+        object,
+        value: Value::Shown(shown),
+        aim,
+    }
+}

@@ -1,0 +1,99 @@
+//! The visible versions of an object that hold some operations.
+
+ghost use Rattle.std.specs.Prelude.{◌≡◌, IfOk, IfErr, OnOk, IfNone, IfSome, filter};
+ghost use Rattle.std.specs.List.{list_all, list_any};
+ghost use Rattle.std.specs.List.Sorted.{IsPermutation, IsSorted};
+ghost use Rattle.gf_groups.specs.VersionList.{id_eq};
+ghost use Rattle.gf_groups.specs.Versions.{IsMade, group_cmp};
+ghost use Rattle.gf_visible.specs.ShownVersions.{AreVisibleOn, HasMoreOn};
+ghost use Rattle.gf_keep.specs.Keeping.{AreKept};
+ghost use Rattle.gf_keep.specs.KeepSteps.{has_all};
+
+use crate::Keep;
+use crate::tabled::with_table;
+use gf_base::OutOfMemory;
+use gf_components::MOST_SETS;
+use gf_groups::Group;
+use gf_ops::OpId;
+use gf_site::{Replica, Site, Table};
+use gf_visible::visible_groups;
+use std::alloc::Global;
+
+/// The visible versions that are kept, rising by their ids as a dictionary orders them. None where
+/// more than 1,000 versions of the object are visible.
+pub(crate) fn kept_groups<T: Table>(
+    alloc: Global,
+    site: &Replica<T>,
+    keep: &Keep,
+) -> Result<Option<Vec<Group>>, OutOfMemory>
+    requires { IsMade site.now.ops keep.now.object }
+    ensures kept { IfOk result (λ found.
+        IfSome found (λ groups. AreKept site.now.ops keep.now groups.items)) }
+    ensures more { IfOk result (λ found.
+        IfNone found (HasMoreOn site.now.ops keep.now.object 1000)) }
+{
+    let site = with_table(alloc, site)?;
+    kept_with(alloc, &site, keep)
+}
+
+/// The same, at a site with a table.
+fn kept_with(alloc: Global, site: &Site, keep: &Keep) -> Result<Option<Vec<Group>>, OutOfMemory>
+    requires { IsMade site.now.ops keep.now.object }
+    ensures kept { IfOk result (λ found.
+        IfSome found (λ groups. AreKept site.now.ops keep.now groups.items)) }
+    ensures more { IfOk result (λ found.
+        IfNone found (HasMoreOn site.now.ops keep.now.object 1000)) }
+{
+    let history = site.history();
+    let Some(groups) = visible_groups(alloc, history, site.table(), keep.object, MOST_SETS)? else {
+        return Ok(None);
+    };
+    let mut kept = those_with(alloc, groups, keep.with.as_slice())?;
+    sort(&mut kept)?;
+    Ok(Some(kept))
+}
+
+/// The groups that have all of the ids.
+fn those_with(alloc: Global, groups: Vec<Group>, ids: &[OpId]) -> Result<Vec<Group>, OutOfMemory>
+    ensures { IfOk result (λ kept. kept.items ≡ filter (has_all ids.now) groups.items) }
+{
+    let mut kept = Vec::new(alloc);
+    for group in groups {
+        if has_all(&group, ids) {
+            kept.push(group)?;
+        }
+    }
+    Ok(kept)
+}
+
+/// Whether a group has all of the ids.
+fn has_all(group: &Group, ids: &[OpId]) -> bool
+    ensures { result ≡ has_all ids.now group.now }
+{
+    are_all_in(group.ops.as_slice(), ids)
+}
+
+/// Whether all of the ids are among others.
+fn are_all_in(others: &[OpId], ids: &[OpId]) -> bool
+    ensures { result ≡ list_all (λ i. list_any (id_eq i) others.now) ids.now }
+{
+    ids.iter().all(|id| is_in(others, *id))
+}
+
+/// Whether an id is among others.
+fn is_in(others: &[OpId], id: OpId) -> bool
+    ensures { result ≡ list_any (id_eq id) others.now }
+{
+    others
+        .iter()
+        .any(|other| id.site == other.site && id.seq == other.seq)
+}
+
+/// Puts the groups in the order of their ids.
+fn sort(groups: &mut Vec<Group>) -> Result<(), OutOfMemory>
+    ensures moved { IsPermutation groups.old.items groups.new.items }
+    ensures sorted { OnOk result (IsSorted group_cmp groups.new.items) }
+{
+    groups.sort_by(|a, b| a.ops.as_slice().cmp(b.ops.as_slice()))?;
+    Ok(())
+}
