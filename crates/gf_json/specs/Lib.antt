@@ -8,6 +8,7 @@ pub mod LineChanges
 pub mod OperationLines
 pub mod ReadChanges
 pub mod ScriptLines
+pub mod KeepLines
 pub mod WrittenValues
 pub mod WrittenLines
 pub mod WrittenMembers

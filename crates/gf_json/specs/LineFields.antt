@@ -45,6 +45,10 @@ object d = mapped (λ i. record { 0 = i }) (at (codes "object") name d)
 abbrev pub aim : Data → Got (List OpId)
 aim d = at (codes "aim") ids d
 
+-- the ids that a kept version has to hold, in the form of an aim
+abbrev pub with_ids : Data → Got (List OpId)
+with_ids d = at (codes "with") ids d
+
 -- where the new object is
 abbrev pub place : Data → Got Point
 place d = at (codes "place") point d

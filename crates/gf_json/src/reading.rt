@@ -1,14 +1,15 @@
-//! Operation lines and script lines.
+//! Operation lines, script lines, and lines that keep versions.
 
 ghost use Rattle.std.specs.Prelude.{◌≡◌, ◌⊎◌, Err, IfOk, IsTrue, codes};
 ghost use Rattle.serde_json.specs.View.{view};
-ghost use Rattle.gf_ops.specs.Limits.{IsInRange, is_change};
+ghost use Rattle.gf_ops.specs.Limits.{IsInRange, is_aim, is_change};
 ghost use Rattle.gf_json.specs.LineValues.{mapped};
 ghost use Rattle.gf_json.specs.LineKeys.{author_keys};
 ghost use Rattle.gf_json.specs.LineChanges.{change};
 ghost use Rattle.gf_json.specs.OperationLines.{json, op_with, op_of, denoted};
 ghost use Rattle.gf_json.specs.ScriptLines.{authored, awaited, script_of, script_denoted};
 ghost use Rattle.gf_json.specs.ScriptLines.{IsScriptInRange};
+ghost use Rattle.gf_json.specs.KeepLines.{IsKeepInRange, keep_denoted, keep_of, kept, kept_with};
 
 mod aims;
 mod changes;
@@ -19,11 +20,11 @@ mod points;
 mod values;
 
 use crate::reading::changes::change;
-use crate::reading::fields::{id, past, site};
+use crate::reading::fields::{id, object, past, site, with_ids};
 use crate::reading::keys::tells;
 use crate::reading::values::both;
-use crate::{Command, LineError, ScriptLine};
-use gf_ops::{Change, Op};
+use crate::{Command, KeepLine, LineError, ScriptLine};
+use gf_ops::{Change, Ids, Op};
 use serde_json::Value;
 use std::alloc::Global;
 
@@ -45,6 +46,17 @@ pub fn read_script(alloc: Global, line: &[u8]) -> Result<ScriptLine, LineError>
 {
     match json(alloc, line) {
         Ok(value) => script_of(alloc, &value),
+        Err(fault) => Err(fault),
+    }
+}
+
+/// What a line that keeps versions denotes, or its first fault.
+pub fn read_keep(alloc: Global, line: &[u8]) -> Result<KeepLine, LineError>
+    ensures denoted { (result ≡ Err LineError.OutOfMemory) ⊎ (result ≡ keep_denoted line.now) }
+    ensures in_range { IfOk result (λ k. IsKeepInRange k) }
+{
+    match json(alloc, line) {
+        Ok(value) => keep_of(alloc, &value),
         Err(fault) => Err(fault),
     }
 }
@@ -131,4 +143,36 @@ fn authored(change: Result<Change, LineError>, line: &Value) -> Result<ScriptLin
         site,
         command: Command::Author(change),
     })
+}
+
+fn keep_of(alloc: Global, line: &Value) -> Result<KeepLine, LineError>
+    ensures value { (result ≡ Err LineError.OutOfMemory) ⊎ (result ≡ keep_of (view line.now)) }
+    ensures in_range { IfOk result (λ k. IsKeepInRange k) }
+{
+    if tells(line, 4, "do", "keep") {
+        kept(alloc, line)
+    } else {
+        Err(LineError::Field)
+    }
+}
+
+/// What a line of four keys keeps.
+fn kept(alloc: Global, line: &Value) -> Result<KeepLine, LineError>
+    ensures value { (result ≡ Err LineError.OutOfMemory) ⊎ (result ≡ kept (view line.now)) }
+    ensures in_range { IfOk result (λ k. IsKeepInRange k) }
+{
+    match with_ids(alloc, line) {
+        Err(LineError::OutOfMemory) => Err(LineError::OutOfMemory),
+        with => kept_with(with, line),
+    }
+}
+
+/// What a line keeps that names these ids.
+fn kept_with(with: Result<Ids, LineError>, line: &Value) -> Result<KeepLine, LineError>
+    requires { IfOk with (λ is. IsTrue (is_aim is)) }
+    ensures value { result ≡ kept_with with (view line.now) }
+    ensures in_range { IfOk result (λ k. IsKeepInRange k) }
+{
+    let (site, (object, with)) = both(site(line), both(object(line), with))?;
+    Ok(KeepLine { site, object, with })
 }

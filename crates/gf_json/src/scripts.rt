@@ -1,6 +1,6 @@
-//! The lines of a script.
+//! The lines of a script, and those that keep versions.
 
-use gf_ops::{Change, OpId};
+use gf_ops::{Change, Ids, ObjectId, OpId};
 
 /// What a script asks of a site.
 #[derive(Debug, PartialEq, Eq, Drop)]
@@ -16,4 +16,13 @@ pub enum Command {
 pub struct ScriptLine {
     pub site: u8,
     pub command: Command,
+}
+
+/// A line by which a site keeps those visible versions of an object that hold all of the operations
+/// under these ids.
+#[derive(Debug, PartialEq, Eq, Drop)]
+pub struct KeepLine {
+    pub site: u8,
+    pub object: ObjectId,
+    pub with: Ids,
 }

@@ -7,7 +7,7 @@ ghost use Rattle.gf_ops.specs.Limits.{is_colour};
 ghost use Rattle.gf_json.specs.LineValues.{mapped};
 ghost use Rattle.gf_json.specs.LineFields.{value_at, id, past, site, object, aim, place};
 ghost use Rattle.gf_json.specs.LineFields.{box_size, circle_size, ellipse_size, polygon_points};
-ghost use Rattle.gf_json.specs.LineFields.{colour, layer, shown};
+ghost use Rattle.gf_json.specs.LineFields.{colour, layer, shown, with_ids};
 
 use crate::LineError;
 use crate::reading::aims::ids;
@@ -53,6 +53,13 @@ pub(crate) fn aim(alloc: Global, line: &Value) -> Result<Ids, LineError>
     ensures in_range { IfOk result (λ is. IsTrue (is_aim is)) }
 {
     ids(alloc, value_at(line, "aim")?)
+}
+
+pub(crate) fn with_ids(alloc: Global, line: &Value) -> Result<Ids, LineError>
+    ensures value { (result ≡ Err LineError.OutOfMemory) ⊎ (result ≡ with_ids (view line.now)) }
+    ensures in_range { IfOk result (λ is. IsTrue (is_aim is)) }
+{
+    ids(alloc, value_at(line, "with")?)
 }
 
 pub(crate) fn place(line: &Value) -> Result<Point, LineError>
