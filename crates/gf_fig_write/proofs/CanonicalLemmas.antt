@@ -101,10 +101,10 @@ module _ (h : List Op) (valid : IsValid h) (items : List (Placed AnyShape)) (ran
       let v = w.version in
       subst IsOfBytes (sym w.placed) (bytes_within v.colour (settled_fits h valid v.key.ops Colour (value.Colour v.colour) w.visible.version.colour))
 
-  items_outlined : All (λ (i : Placed AnyShape). IsLawful (any_outline i.shape)) items
+  pub items_outlined : All (λ (i : Placed AnyShape). IsLawful (any_outline i.shape)) items
   items_outlined = λ k d l. item_outlined (get_or items k d) (Contains-get_or items k d l)
 
-  items_bytes : All (λ (i : Placed AnyShape). HasBytes i.colour) items
+  pub items_bytes : All (λ (i : Placed AnyShape). HasBytes i.colour) items
   items_bytes = λ k d l. item_bytes (get_or items k d) (Contains-get_or items k d l)
 
 -- ---- the table
@@ -126,13 +126,13 @@ numbers_apart n (c ∷ cs) = AllPairs-cons (λ (e f : ℕ × Rgb). e.0 ≢ f.0) 
     (λ k d l same. let less = numbers_above n (n + 1) cs (omega arith) k d l in absurd (omega (arith, less, same)))
     (numbers_apart (n + 1) cs)
 
-seen_bytes : (cs : List Rgb) → All HasBytes cs → All HasBytes (first_seen cs)
+pub seen_bytes : (cs : List Rgb) → All HasBytes cs → All HasBytes (first_seen cs)
 seen_bytes [] bytes = bytes
 seen_bytes (c ∷ cs) bytes =
     All-cons HasBytes c (filter (λ d. not (colour_eq c d)) (first_seen cs)) (All-head HasBytes c cs bytes)
     (All-filter (λ d. not (colour_eq c d)) HasBytes (first_seen cs) (seen_bytes cs (All-tail HasBytes c cs bytes)))
 
-table_bytes : (n : ℕ) (cs : List Rgb) → All HasBytes cs → All (λ (e : ℕ × Rgb). HasBytes e.1) (enumerate_from n cs)
+pub table_bytes : (n : ℕ) (cs : List Rgb) → All HasBytes cs → All (λ (e : ℕ × Rgb). HasBytes e.1) (enumerate_from n cs)
 table_bytes n [] bytes = All-nil (λ (e : ℕ × Rgb). HasBytes e.1)
 table_bytes n (c ∷ cs) bytes = All-cons (λ (e : ℕ × Rgb). HasBytes e.1) (n, c) (enumerate_from (n + 1) cs) (All-head HasBytes c cs bytes) (table_bytes (n + 1) cs (All-tail HasBytes c cs bytes))
 
@@ -151,7 +151,7 @@ module _ (cs : List Rgb) where
       (lawful_numbered (enumerate_from 32 cs) cs i.colour i.shape (number_of cs i.colour) n refl refl (All-head IsSeen i items seen) (omega (arith, few)))
       (figures_lawful (n + 1) items (All-tail IsSeen i items seen) (omega (arith, few)))
 
-  figures_outlined : (n : ℕ) (items : List (Placed AnyShape)) → All HasOutline items → All (DrawsLawfully any_outline) (map (canonical_figure cs) (enumerate_from n items))
+  pub figures_outlined : (n : ℕ) (items : List (Placed AnyShape)) → All HasOutline items → All (DrawsLawfully any_outline) (map (canonical_figure cs) (enumerate_from n items))
   figures_outlined n [] lawful = All-nil (DrawsLawfully any_outline)
   figures_outlined n (i ∷ items) lawful = All-cons (DrawsLawfully any_outline) (canonical_figure cs (n, i)) (map (canonical_figure cs) (enumerate_from (n + 1) items))
       (All-head HasOutline i items lawful)
@@ -159,7 +159,7 @@ module _ (cs : List Rgb) where
 
 -- ---- the drawing
 
-lawful_canonical : (items : List (Placed AnyShape)) → length items ≤ 1000 → length (colours_of items) ≤ 512 → IsLawfulDrawing (canonical_drawing items)
+pub lawful_canonical : (items : List (Placed AnyShape)) → length items ≤ 1000 → length (colours_of items) ≤ 512 → IsLawfulDrawing (canonical_drawing items)
 lawful_canonical items few colours = record {
   numbers = numbers_within 32 (colours_of items) (omega arith) (omega (arith, colours));
   distinct = numbers_apart 32 (colours_of items);

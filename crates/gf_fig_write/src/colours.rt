@@ -12,7 +12,7 @@ use std::alloc::AllocError;
 
 /// Appends a line for each colour.
 #[tactic(auto, using(std::proofs::lemmas::Grind::common_steps, crate::proofs::TableLemmas::flat_map_next))]
-pub(crate) fn push_table(out: &mut Vec<u8>, table: &ColourTable) -> Result<(), AllocError>
+pub fn push_table(out: &mut Vec<u8>, table: &ColourTable) -> Result<(), AllocError>
     ensures text { OnOk result (out.new.items ≡ out.old.items ++ flat_map colour_line table.now) }
     ensures bytes { OnOk result (All (λ e. HasBytes e.1) table.now) }
 {
