@@ -1,0 +1,6 @@
+pub mod SilentLemmas
+pub mod CommentLemmas
+pub mod RaisedLemmas
+pub mod NamedLemmas
+pub mod NameLemmas
+pub mod TextLemmas

@@ -1,0 +1,49 @@
+-- The comments by which a FIG text tells what it shows (this project's choice; Xfig, FIG Format 3.2:
+-- a line that begins with '#' is a comment, and stands before its object).
+use Rattle.std.specs.Prelude.{ℕ, ◌%◌, ◌==◌, List, [], ◌++◌, flat_map, codes}
+use Rattle.std.specs.Prelude.{if◌then◌else◌}
+use Rattle.std.specs.Fmt.{decimal}
+use Rattle.std.specs.List.{enumerate_from, range_with_len}
+use Rattle.gf_ops.specs.declared.op.OpId.{OpId}
+use Rattle.gf_fig_named.specs.declared.naming.Name.{Name}
+
+-- the id of an operation or of an object, as `1.2`
+abbrev pub id_text : OpId → List ℕ
+id_text i = decimal i.site ++ codes "." ++ decimal i.seq
+
+-- a blank, and operation n of site s
+abbrev pub spaced_id : ℕ → ℕ → List ℕ
+spaced_id s n = codes " " ++ id_text (record { site = s; seq = n })
+
+-- ---- what is known
+
+-- site s with its n operations, if it has some
+abbrev pub known_site : ℕ → ℕ → List ℕ
+known_site s n = if n == 0 then [] else spaced_id s n
+
+-- the text, or the word `nothing` where it is empty
+abbrev pub or_nothing : List ℕ → List ℕ
+or_nothing [] = codes " nothing"
+or_nothing text = text
+
+-- the comment that of each site s so many operations are known as counts gives
+abbrev pub knows_comment : (ℕ → ℕ) → List ℕ
+knows_comment counts = codes "# figgroup knows"
+    ++ or_nothing (flat_map (λ s. known_site s (counts s)) (range_with_len 1 8))
+
+-- ---- names
+
+-- what stands before the n-th of the ids of a name, counted from 0: the word `with` before the first
+-- one, and the beginning of a further line before each eighth one behind it
+abbrev pub before_id : ℕ → List ℕ
+before_id n = if n % 8 == 0 then (if n == 0 then codes " with" else codes "\n# figgroup with") else []
+
+-- the n-th of the ids of a name
+abbrev pub nth_id : ℕ × OpId → List ℕ
+nth_id (n, i) = before_id n ++ spaced_id i.site i.seq
+
+-- the lines that name a figure at depth d: its object, the depth, and what tells its version from
+-- others, at most eight ids on a line
+abbrev pub name_lines : Name → ℕ → List ℕ
+name_lines name d = codes "# figgroup " ++ id_text name.object.0 ++ codes " at " ++ decimal d
+    ++ flat_map nth_id (enumerate_from 0 name.telling) ++ codes "\n"

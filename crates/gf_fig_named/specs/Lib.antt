@@ -1,0 +1,4 @@
+pub mod Comments
+pub mod Raised
+pub mod NamedText
+pub mod Others

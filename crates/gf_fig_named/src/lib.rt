@@ -1,0 +1,16 @@
+//! FIG text with comments that name its figures (Xfig, FIG Format 3.2).
+//!
+//! - [`named_bytes`]: the text of a history's visible versions, each behind its [`Name`]. The names
+//!   survive in programs that keep comments, and the depths leave room for new figures.
+//!
+//! The law is [`the_named_text_of_a_history_shows_it`].
+#![tactic(auto)]
+
+mod comments;
+mod laws;
+mod naming;
+mod text;
+
+pub use laws::the_named_text_of_a_history_shows_it;
+pub use naming::Name;
+pub use text::named_bytes;

@@ -1,0 +1,118 @@
+//! The named text of a history.
+
+ghost use Rattle.std.specs.Prelude.{◌≡◌, ◌≤◌, ◌<◌, ◌++◌, All, IfOk, OnOk, Err, flat_map, length};
+ghost use Rattle.std.specs.Prelude.{map, zip};
+ghost use Rattle.gf_shape.specs.Outlines.{any_outline};
+ghost use Rattle.gf_ops.specs.OperationOrder.{count_of};
+ghost use Rattle.gf_versions.specs.Ranking.{AreRanked};
+ghost use Rattle.gf_drawing.specs.CanonicalDrawing.{colours_of};
+ghost use Rattle.gf_fig_write.specs.FigText.{figure_lines};
+ghost use Rattle.gf_fig_named.specs.NamedText.{IsNamedText, first_lines, known_lines};
+ghost use Rattle.gf_fig_named.specs.NamedText.{named_lines, named_text};
+ghost use Rattle.gf_fig_named.specs.Raised.{figure_raised, named_depth, raised};
+
+use crate::Name;
+use crate::comments::{counts_of, knows_comment, push_name};
+use crate::naming::names_of;
+use gf_base::OutOfMemory;
+use gf_drawing::{CompileFault, Drawing, Figure, compile};
+use gf_fig_write::{push_outline, push_table};
+use gf_ops::History;
+use gf_shape::{AnyShape, Shape};
+use gf_versions::Ranked;
+use std::alloc::Global;
+
+/// The lines before what is known.
+const FIRST_LINES: &[u8] = b"#FIG 3.2\nLandscape\nCenter\nMetric\nA4\n100.00\nSingle\n-2\n";
+
+/// The named text of a history with these visible versions. Each version is compared with all
+/// operations of visible versions; else the time is linear in the length of the text.
+pub fn named_bytes(
+    alloc: Global,
+    history: &History,
+    ranked: Ranked<AnyShape>,
+) -> Result<Vec<u8>, CompileFault>
+    requires { AreRanked history.now.ops ranked.items.items }
+    ensures text { IfOk result (λ bytes. IsNamedText history.now.ops bytes.items) }
+    ensures versions { result ≡ Err CompileFault.TooManyVersions
+        → 1000 < length ranked.items.items }
+    ensures colours { result ≡ Err CompileFault.TooManyColours
+        → (length ranked.items.items ≤ 1000) × (512 < length (colours_of ranked.items.items)) }
+{
+    let names = names_of(alloc, history, &ranked.items)?;
+    let drawing = compile(alloc, ranked)?;
+    let bytes = text_of(alloc, history, &names, &drawing)?;
+    Ok(bytes)
+}
+
+/// The text of a drawing with names for its figures, at the depths of a named text.
+fn text_of(
+    alloc: Global,
+    history: &History,
+    names: &[Name],
+    drawing: &Drawing<AnyShape>,
+) -> Result<Vec<u8>, OutOfMemory>
+    requires { length names.now ≡ length drawing.now.figures }
+    ensures { IfOk result (λ bytes. bytes.items ≡ named_text any_outline
+        (count_of history.now.ops) names.now
+        (raised (named_depth (length drawing.now.figures)) drawing.now)) }
+{
+    let knows = knows_comment(alloc, &counts_of(history))?;
+    let mut out = Vec::from_slice(alloc, FIRST_LINES)?;
+    out.extend_from_slice(&knows)?;
+    out.extend_from_slice(b"\n1200 2\n")?;
+    push_table(&mut out, drawing.colours())?;
+    push_figures(alloc, &mut out, names, drawing.figures())?;
+    Ok(out)
+}
+
+/// Appends each figure behind its name.
+fn push_figures(
+    alloc: Global,
+    out: &mut Vec<u8>,
+    names: &[Name],
+    figures: &[Figure<AnyShape>],
+) -> Result<(), OutOfMemory>
+    requires long { length names.now ≡ length figures.now }
+    requires lawful { All (λ f. f.depth < 1000) figures.now }
+    ensures { OnOk result (out.new.items ≡ out.old.items ++ flat_map (named_lines any_outline)
+        (zip names.now (map (figure_raised (named_depth (length figures.now))) figures.now))) }
+{
+    for index in 0..figures.len() {
+        push_named(alloc, out, &names[index], &figures[index], figures.len())?;
+    }
+    Ok(())
+}
+
+/// Appends one of so many figures behind its name.
+fn push_named(
+    alloc: Global,
+    out: &mut Vec<u8>,
+    name: &Name,
+    figure: &Figure<AnyShape>,
+    count: usize,
+) -> Result<(), OutOfMemory>
+    requires { figure.now.depth < 1000 }
+    ensures { OnOk result (out.new.items ≡ out.old.items ++ named_lines any_outline
+        (name.now, figure_raised (named_depth count) figure.now)) }
+{
+    let depth = named_depth(count, figure.depth);
+    let outline = figure.shape.outline(alloc)?;
+    push_name(out, name, depth)?;
+    push_outline(out, figure.colour, depth, &outline)?;
+    Ok(())
+}
+
+/// The depth of a figure of a named text, which has so many.
+fn named_depth(count: usize, place: u16) -> u16
+    requires { place < 1000 }
+    ensures { result ≡ named_depth count place }
+{
+    if count <= 94 {
+        60 + 10 * place
+    } else if count <= 940 {
+        60 + place
+    } else {
+        place
+    }
+}
