@@ -3,14 +3,22 @@
 //! - [`named_bytes`]: the text of a history's visible versions, each behind its [`Name`]. The names
 //!   survive in programs that keep comments, and the depths leave room for new figures.
 //!
+//! - [`read_names`]: what the comments of such a text tell, also where a program has changed it:
+//!   [`Names`], a list of [`Named`].
+//!
 //! The law is [`the_named_text_of_a_history_shows_it`].
 #![tactic(auto)]
 
 mod comments;
+mod figures;
+mod known;
 mod laws;
 mod naming;
+mod reading;
+mod spelling;
 mod text;
 
 pub use laws::the_named_text_of_a_history_shows_it;
 pub use naming::Name;
+pub use reading::{Named, Names, read_names};
 pub use text::named_bytes;

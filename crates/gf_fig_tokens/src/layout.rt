@@ -13,7 +13,8 @@ fn is_blank(b: u8) -> bool
     b == b' ' || b == b'\t' || b == b'\r' || b == b'\n'
 }
 
-pub(crate) fn is_comment(line: &[u8]) -> bool
+/// Whether a line is a comment.
+pub fn is_comment(line: &[u8]) -> bool
     ensures { result ≡ is_comment line.now }
 {
     line.starts_with(b"#")
@@ -97,7 +98,7 @@ fn after_blanks(line: &[u8]) -> &[u8]
 
 /// The first line, and what follows the line feed that ends it.
 #[tactic(auto, using(crate::proofs::LayoutLemmas::lines_cut, crate::proofs::LayoutLemmas::shorter))]
-pub(crate) fn cut_line(text: &[u8]) -> Option<(&[u8], &[u8])>
+pub fn cut_line(text: &[u8]) -> Option<(&[u8], &[u8])>
     ensures lines { MatchOption result (lines text.now ≡ [])
         (λ cut. lines text.now ≡ cut.0.now ∷ lines cut.1.now) }
     ensures shorter { IfSome result (λ cut. length cut.1.now < length text.now) }
@@ -127,7 +128,7 @@ pub(crate) fn cut_plain_line(text: &[u8]) -> Option<(&[u8], &[u8])>
 
 /// The first token of a line, and what follows it.
 #[tactic(auto, using(crate::proofs::LayoutLemmas::words_cut, crate::proofs::LayoutLemmas::words_done))]
-pub(crate) fn cut_word(line: &[u8]) -> Option<(&[u8], &[u8])>
+pub fn cut_word(line: &[u8]) -> Option<(&[u8], &[u8])>
     ensures { MatchOption result (words line.now ≡ [])
         (λ cut. words line.now ≡ cut.0.now ∷ words cut.1.now) }
 {
