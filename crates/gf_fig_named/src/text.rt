@@ -1,7 +1,7 @@
 //! The named text of a history.
 
-ghost use Rattle.std.specs.Prelude.{◌≡◌, ◌≤◌, ◌<◌, ◌++◌, All, IfOk, OnOk, Err, flat_map, length};
-ghost use Rattle.std.specs.Prelude.{map, zip};
+ghost use Rattle.std.specs.Prelude.{◌≡◌, ◌⊎◌, ◌↔◌, ◌≤◌, ◌<◌, ◌++◌, All, IfOk, OnOk, Err, length};
+ghost use Rattle.std.specs.Prelude.{flat_map, map, zip};
 ghost use Rattle.gf_shape.specs.Outlines.{any_outline};
 ghost use Rattle.gf_ops.specs.OperationOrder.{count_of};
 ghost use Rattle.gf_versions.specs.Ranking.{AreRanked};
@@ -15,7 +15,7 @@ use crate::Name;
 use crate::comments::{counts_of, knows_comment, push_name};
 use crate::naming::names_of;
 use gf_base::OutOfMemory;
-use gf_drawing::{CompileFault, Drawing, Figure, compile};
+use gf_drawing::{CompileFault, Drawing, Figure, MOST_VERSIONS, compile};
 use gf_fig_write::{push_outline, push_table};
 use gf_ops::History;
 use gf_shape::{AnyShape, Shape};
@@ -35,10 +35,15 @@ pub fn named_bytes(
     requires { AreRanked history.now.ops ranked.items.items }
     ensures text { IfOk result (λ bytes. IsNamedText history.now.ops bytes.items) }
     ensures versions { result ≡ Err CompileFault.TooManyVersions
-        → 1000 < length ranked.items.items }
+        ↔ (1000 < length ranked.items.items) }
     ensures colours { result ≡ Err CompileFault.TooManyColours
         → (length ranked.items.items ≤ 1000) × (512 < length (colours_of ranked.items.items)) }
+    ensures many { length ranked.items.items ≤ 1000 → 512 < length (colours_of ranked.items.items)
+        → (result ≡ Err CompileFault.TooManyColours) ⊎ (result ≡ Err CompileFault.OutOfMemory) }
 {
+    if ranked.len() > MOST_VERSIONS {
+        return Err(CompileFault::TooManyVersions);
+    }
     let names = names_of(alloc, history, &ranked.items)?;
     let drawing = compile(alloc, ranked)?;
     let bytes = text_of(alloc, history, &names, &drawing)?;

@@ -1,5 +1,5 @@
 -- The drawing of a history: what compiling its ranked versions makes, and that histories of the same operations have one.
-use Rattle.std.specs.Prelude.{◌↔◌, ◌<◌, ◌≤◌, IfErr, IfNone, IfOk, IfSome, None, OnOk, Option, Result, Ok, Err, Some}
+use Rattle.std.specs.Prelude.{◌<◌, ◌≤◌, IfErr, IfNone, IfOk, IfSome, None, OnOk, Option, Result, Ok, Err, Some}
 use Rattle.std.proofs.Common.{◌≡◌, ◌∙◌, ℕ, List, length, ap, refl, sym}
 use Rattle.gf_shape.specs.declared.any_shape.AnyShape.{AnyShape}
 use Rattle.gf_ops.specs.declared.op.Op.{Op}
@@ -42,9 +42,9 @@ module _ (h : List Op) (items : List (Placed AnyShape)) (ranked : AreRanked h it
   compiled (Ok d) is fits = drawn h d (record { items = items; ranked = ranked; fits = fits; drawing = is })
   compiled (Err fault) is fits = tt
 
-  pub not_compiled : {D : Type 0} (r : Result D CompileFault) → (r ≡ Err compile.TooManyVersions ↔ (1000 < length items)) → (r ≡ Err compile.TooManyColours → (length items ≤ 1000) × (512 < length (colours_of items))) → IfErr r (RefusesHistory h)
+  pub not_compiled : {D : Type 0} (r : Result D CompileFault) → (r ≡ Err compile.TooManyVersions → 1000 < length items) → (r ≡ Err compile.TooManyColours → (length items ≤ 1000) × (512 < length (colours_of items))) → IfErr r (RefusesHistory h)
   not_compiled (Ok d) versions colours = tt
-  not_compiled (Err compile.TooManyVersions) versions colours = record { items = items; ranked = ranked; many = versions.0 refl }
+  not_compiled (Err compile.TooManyVersions) versions colours = record { items = items; ranked = ranked; many = versions refl }
   not_compiled (Err compile.TooManyColours) versions colours = let c = colours refl in record { items = items; ranked = ranked; few = c.0; many = c.1 }
   not_compiled (Err compile.OutOfMemory) versions colours = tt
 

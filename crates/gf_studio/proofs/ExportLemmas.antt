@@ -9,7 +9,8 @@ use Rattle.gf_drawing.specs.Outlined.{outlined}
 use Rattle.gf_fig_read.specs.FigGrammar.{Reads}
 use Rattle.gf_fig_write.specs.FigText.{fig_text}
 use Rattle.gf_fig_write.proofs.CanonicalLemmas.{canonical_reads, shows}
-use Rattle.gf_studio.specs.FigRun.{Draws, Exports, IsFigOf}
+use Rattle.gf_fig_named.proofs.NamedLemmas.{named_text_shows}
+use Rattle.gf_studio.specs.FigRun.{Draws, Exports, IsFigOf, IsNamedOf}
 
 pub exported : (bytes : List ℕ) (old new : Option (List ℕ)) (drawing : DrawingState AnyShape) → Draws bytes drawing → Appends old new (fig_text any_outline drawing) → Reads (fig_text any_outline drawing) (outlined any_outline drawing) → Exports bytes old new
 exported bytes old new drawing drawn written reads = record {
@@ -24,4 +25,12 @@ fig_of bytes drawing drawn = record {
   drawn = drawn;
   is = refl;
   reads = canonical_reads drawn.history drawing drawn.denoted.delivers.valid drawn.such.canonical;
+}
+
+-- the named text of what the bytes denote shows it
+pub named_exported : (bytes text : List ℕ) (old new : Option (List ℕ)) → IsNamedOf bytes text → Appends old new text → Exports bytes old new
+named_exported bytes text old new named written = record {
+  text = text;
+  is = record { history = named.history; denoted = named.denoted; such = named_text_shows named.history text named.denoted.delivers.valid named.such };
+  written = written;
 }

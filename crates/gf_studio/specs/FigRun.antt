@@ -13,6 +13,7 @@ use Rattle.gf_drawing.specs.Outlined.{PaintsAsFig, outlined}
 use Rattle.gf_fig_read.specs.FigGrammar.{Reads}
 use Rattle.gf_fig_write.specs.FigText.{fig_text}
 use Rattle.gf_fig_write.specs.ShownHistory.{Shows}
+use Rattle.gf_fig_named.specs.NamedText.{IsNamedText}
 use Rattle.gf_replay.specs.Denoting.{Denotes}
 use Rattle.gf_replay.specs.Waiting.{DenotesWaiting}
 use Rattle.gf_visible.specs.ShownVersions.{HasMoreVisible}
@@ -56,6 +57,14 @@ pub record IsFigOf (bytes text : List ℕ) : Type 0 where
 -- known bytes grow from old to new by the one FIG text of what the bytes draw
 abbrev pub Writes : List ℕ → Option (List ℕ) → Option (List ℕ) → Type 0
 Writes bytes old new = WritesText (IsFigOf bytes) old new
+
+-- the text is the named one of the history that the bytes denote
+abbrev pub IsNamedOf : List ℕ → List ℕ → Type 0
+IsNamedOf bytes text = DenotesSuch bytes (λ h. IsNamedText h text)
+
+-- known bytes grow from old to new by the named text of the history that the bytes denote
+abbrev pub WritesNamed : List ℕ → Option (List ℕ) → Option (List ℕ) → Type 0
+WritesNamed bytes old new = WritesText (IsNamedOf bytes) old new
 
 -- h has at most 1,000 visible versions, of more than 512 distinct colours
 pub record HasMoreColours (h : List Op) : Type 0 where

@@ -109,7 +109,7 @@ pub fn draw_site(alloc: Global, site: &Site) -> Result<Drawing<AnyShape>, Compil
 }
 
 /// The visible versions of a site's history, if they are no more than a drawing has.
-fn ranked_site(alloc: Global, site: &Site) -> Result<Ranked<AnyShape>, CompileFault>
+pub(crate) fn ranked_site(alloc: Global, site: &Site) -> Result<Ranked<AnyShape>, CompileFault>
     ensures ranked { IfOk result (λ ranked. AreRanked site.now.ops ranked.items.items) }
     ensures err { IfErr result (RefusesHistory site.now.ops) }
 {

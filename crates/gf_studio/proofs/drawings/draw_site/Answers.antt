@@ -9,4 +9,4 @@ returns-clause-ok c =
 pub returns-clause-err : goal.returns-clause-err
 returns-clause-err c =
     let items = c.in_ok-ranked.ranked.items.items in
-    not_compiled c.args.site.now.ops items c.in_ok-ranked.ensures.ranked c.compile.result c.compile.ensures.versions c.compile.ensures.colours
+    not_compiled c.args.site.now.ops items c.in_ok-ranked.ensures.ranked c.compile.result c.compile.ensures.versions.0 c.compile.ensures.colours

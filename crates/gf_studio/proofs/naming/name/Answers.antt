@@ -1,0 +1,27 @@
+use Rattle.std.proofs.Common.{subst, sym}
+use Rattle.std.proofs.lemmas.Result.{err_from_is_err_and}
+use Rattle.gf_studio.specs.RefusedParts.{IsBetween}
+use Rattle.gf_studio.specs.RefusedRuns.{RefusesLines}
+use Rattle.gf_studio.proofs.DrawnLemmas.{history_refused}
+use Rattle.gf_studio.proofs.naming.name.Goals as goal
+
+pub returns-clause-ok : goal.returns-clause-ok
+returns-clause-ok g c =
+    record { history = c.in_ok-site.site.ops; denoted = c.in_ok-site.ensures.ok; such = c.in_ok-text.ensures.ok }
+
+pub returns-clause-waiting : goal.returns-clause-waiting
+returns-clause-waiting g c =
+    let site = c.in_ok-site.site in
+    record { history = site.ops; waiting = site.held; denoted = c.in_ok-site.ensures.held; count = c.held-waiting.ensures.held }
+
+pub returns-in_err-text-clause-refused : goal.returns-in_err-text-clause-refused
+returns-in_err-text-clause-refused g c =
+    let p = err_from_is_err_and c.from_residual-in_err-text.result c.from_residual-in_err-text.ensures.1 in
+    let bytes = c.args.bytes.items in
+    rw p.1 (subst (RefusesLines bytes) (sym p.2) (history_refused bytes c.in_ok-site.site.ops c.in_ok-site.ensures.ok _ c.in_err-text.ensures.err).0)
+
+pub returns-in_err-text-clause-between : goal.returns-in_err-text-clause-between
+returns-in_err-text-clause-between g c =
+    let p = err_from_is_err_and c.from_residual-in_err-text.result c.from_residual-in_err-text.ensures.1 in
+    let bytes = c.args.bytes.items in
+    rw p.1 (subst IsBetween (sym p.2) (history_refused bytes c.in_ok-site.site.ops c.in_ok-site.ensures.ok _ c.in_err-text.ensures.err).1)

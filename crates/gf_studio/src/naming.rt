@@ -1,0 +1,113 @@
+//! The run from operation lines to a FIG text whose figures are named.
+
+ghost use Rattle.std.specs.Prelude.{◌≢◌, ◌≤◌, IfSome, IfOk, IfErr, OnOk};
+ghost use Rattle.gf_fig_named.specs.NamedText.{IsNamedText};
+ghost use Rattle.gf_studio.specs.FigRun.{Exports, HoldsBack, IsNamedOf, RefusesHistory};
+ghost use Rattle.gf_studio.specs.FigRun.{WritesNamed};
+ghost use Rattle.gf_studio.specs.RefusedParts.{IsBetween};
+ghost use Rattle.gf_studio.specs.RefusedRuns.{RefusesLines};
+ghost use Rattle.gf_studio.specs.RunAnswers.{LeavesSink, ReadsInput};
+
+use crate::StudioError;
+use crate::drawings::{input, ranked_site};
+use gf_drawing::CompileFault;
+use gf_fig_named::named_bytes;
+use gf_replay::read_site;
+use gf_site::Site;
+use gf_streams::{Sink, SinkFault, Source, write_whole};
+use std::alloc::Global;
+use std::thread::Threads;
+
+/// The named text of lines, and what it leaves out.
+#[derive(Drop)]
+struct NamedLines {
+    text: Vec<u8>,
+    waiting: usize,
+}
+
+/// Reads operation lines to their end, by 1 to 16 workers, and writes the FIG text of their
+/// history's drawing, each figure behind a comment that names it. The answer is how many operations
+/// wait, and are not drawn. All is read before the first write.
+#[tactic(auto, using(crate::proofs::ExportLemmas::named_exported))]
+pub fn named_fig_run<T: Threads + Sync, R: Source, W: Sink>(
+    rt: &T,
+    alloc: Global,
+    source: &mut R,
+    sink: &mut W,
+    workers: u8,
+) -> Result<usize, StudioError>
+    requires { (1 ≤ workers) × (workers ≤ 16) }
+    // By the FIG grammar, what is written reads as a drawing. At every grid point this has the
+    // colour that the denoted history means there. To the byte, the text is the named one of that
+    // history.
+    ensures exports { OnOk result (IfSome (R.left source.old) (λ bytes.
+        Exports bytes (W.taken sink.old) (W.taken sink.new))) }
+    ensures text { OnOk result (IfSome (R.left source.old) (λ bytes.
+        WritesNamed bytes (W.taken sink.old) (W.taken sink.new))) }
+    ensures waiting { IfOk result (λ waiting. IfSome (R.left source.old) (λ bytes.
+        HoldsBack bytes waiting)) }
+
+    // The same as `fig_run` promises.
+    ensures source { ReadsInput R.Source source.old source.new result }
+    ensures refused { IfErr result (λ e. IfSome (R.left source.old) (λ bytes.
+        RefusesLines bytes e)) }
+
+    // At most a prefix of the text is written, and that only where the sink failed.
+    ensures sink { LeavesSink W.Sink (R.left source.old) IsNamedOf sink.old sink.new result }
+{
+    let named = named_lines(rt, alloc, source, workers)?;
+    match write_whole(sink, &named.text) {
+        Ok(()) => Ok(named.waiting),
+        Err(SinkFault) => Err(StudioError::WriteFailed),
+    }
+}
+
+/// The named text of the history that the lines of a source denote, and how many operations wait
+/// behind this history.
+fn named_lines<T: Threads + Sync, R: Source>(
+    rt: &T,
+    alloc: Global,
+    source: &mut R,
+    workers: u8,
+) -> Result<NamedLines, StudioError>
+    requires { (1 ≤ workers) × (workers ≤ 16) }
+    ensures ok { IfOk result (λ named. IfSome (R.left source.old) (λ bytes.
+        IsNamedOf bytes named.text.items)) }
+    ensures waiting { IfOk result (λ named. IfSome (R.left source.old) (λ bytes.
+        HoldsBack bytes named.waiting)) }
+    ensures source { ReadsInput R.Source source.old source.new result }
+    ensures refused { IfErr result (λ e. IfSome (R.left source.old) (λ bytes.
+        RefusesLines bytes e)) }
+    ensures no_write { IfErr result (λ e. e ≢ StudioError.WriteFailed) }
+{
+    let bytes = input(alloc, source)?;
+    name(rt, alloc, bytes, workers)
+}
+
+/// The named text of the history that these bytes denote, and how many operations wait behind it.
+fn name<T: Threads + Sync>(
+    rt: &T,
+    alloc: Global,
+    bytes: Vec<u8>,
+    workers: u8,
+) -> Result<NamedLines, StudioError>
+    requires { (1 ≤ workers) × (workers ≤ 16) }
+    ensures ok { IfOk result (λ named. IsNamedOf bytes.items named.text.items) }
+    ensures waiting { IfOk result (λ named. HoldsBack bytes.items named.waiting) }
+    ensures refused { IfErr result (RefusesLines bytes.items) }
+    ensures between { IfErr result IsBetween }
+{
+    let site = read_site(rt, alloc, bytes, workers)?;
+    let text = name_site(alloc, &site)?;
+    let waiting = site.held();
+    Ok(NamedLines { text, waiting })
+}
+
+/// The named text of a site's history.
+fn name_site(alloc: Global, site: &Site) -> Result<Vec<u8>, CompileFault>
+    ensures ok { IfOk result (λ text. IsNamedText site.now.ops text.items) }
+    ensures err { IfErr result (RefusesHistory site.now.ops) }
+{
+    let ranked = ranked_site(alloc, site)?;
+    named_bytes(alloc, site.history(), ranked)
+}
