@@ -1,5 +1,5 @@
--- How the name of a version is found among the operations of all visible ones. No public clause cites
--- this module.
+-- How the name of a version is found among the operations of all visible ones. No public clause
+-- cites this module.
 use Rattle.std.specs.Prelude.{◌≡◌, ◌↔◌, List, Contains, flat_map}
 use Rattle.gf_shape.specs.declared.any_shape.AnyShape.{AnyShape}
 use Rattle.gf_ops.specs.declared.op.Op.{Op}
@@ -25,7 +25,8 @@ AreElsewhere h ids key others =
     (i : OpId) → Contains others i ↔ (Contains ids i × IsElsewhere h key i)
 
 -- the name has the object of the version, and what tells it from those of the ids elsewhere
-pub record IsNameAmong (h : List Op) (ids : List OpId) (key : VersionKey) (name : Name) : Type 0 where
+pub record IsNameAmong (h : List Op) (ids : List OpId) (key : VersionKey)
+    (name : Name) : Type 0 where
   pub object : name.object ≡ key.object
   pub others : List OpId
   pub elsewhere : AreElsewhere h ids key others

@@ -3,8 +3,8 @@
 //! - [`Tokens`]: the tokens of a text's objects, from which fields are read one after another.
 //! - [`whole`]: the number that a token stands for.
 //! - [`token_line`], [`line_count`]: the line on which a token stands, and how many a text has.
-//! - [`cut_line`], [`cut_word`], [`is_comment`]: the lines of a text and the words of a line, cut off
-//!   one by one.
+//! - [`cut_line`], [`cut_word`], [`is_comment`]: the lines of a text and the words of a line, cut
+//!   off one by one.
 //! - [`FigFault`]: why a FIG text reads as no drawing, the faults of objects among them.
 #![tactic(auto)]
 
