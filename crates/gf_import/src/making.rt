@@ -26,7 +26,7 @@ const WHITE: Rgb = Rgb {
 const FRONT: u16 = 999;
 
 /// What the object of a figure begins with.
-pub(crate) fn start_of(
+pub fn start_of(
     alloc: Global,
     drawing: &Drawing<Outline>,
     figure: &Figure<Outline>,
@@ -54,7 +54,7 @@ fn colour_of(drawing: &Drawing<Outline>, figure: &Figure<Outline>) -> Rgb
 }
 
 /// The place of what an outline becomes.
-fn place_of(outline: &Outline) -> Point
+pub fn place_of(outline: &Outline) -> Point
     ensures { result ≡ place_of outline.now }
 {
     match outline {
@@ -77,7 +77,7 @@ fn chain_place(chain: &Chain) -> Point
 }
 
 /// The form of what an outline becomes, seen from its place.
-fn form_of(alloc: Global, outline: &Outline) -> Result<Form, OutOfMemory>
+pub fn form_of(alloc: Global, outline: &Outline) -> Result<Form, OutOfMemory>
     ensures form { IfOk result (λ form. form ≡ form_of outline.now) }
     ensures lawful { OnOk result (IsLawful outline.now) }
 {

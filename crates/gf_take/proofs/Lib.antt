@@ -1,0 +1,14 @@
+pub mod FrontLemmas
+pub mod PartLemmas
+pub mod KeptLemmas
+pub mod ReachLemmas
+pub mod JoinLemmas
+pub mod TakingLemmas
+pub mod AgainLemmas
+pub mod OwnLemmas
+pub mod MatchLemmas
+pub mod ExchangeLemmas
+pub mod ExactLemmas
+pub mod ApartLemmas
+pub mod MovedLemmas
+pub mod AddedLemmas

@@ -1,0 +1,101 @@
+-- How what a site made grows by a change, and what it then shows.
+use Rattle.std.proofs.Common.{◌≡◌, ℕ, List, [], ◌∷◌, ◌++◌, sym, ap, subst, ◌∙◌, append_assoc}
+use Rattle.std.proofs.lemmas.List.{append-nil}
+use Rattle.gf_shape.specs.declared.outline.Outline.{Outline}
+use Rattle.gf_ops.specs.declared.op.Op.{Op}
+use Rattle.gf_ops.specs.declared.change.Change.{Change}
+use Rattle.gf_ops.specs.Accepted.{AreAccepted, IsAccepted}
+use Rattle.gf_ops.specs.Limits.{IsInRange}
+use Rattle.gf_ops.specs.ValidHistory.{IsValid}
+use Rattle.gf_site.specs.SiteState.{SiteState, authored}
+use Rattle.gf_site.specs.Events.{Refuses}
+use Rattle.gf_visible.specs.ShownVersions.{HasMoreVisible}
+use Rattle.gf_drawing.specs.DrawingState.{DrawingState}
+use Rattle.gf_drawing.specs.Outlined.{PaintsAsFig}
+use Rattle.gf_take.specs.MadeChanges.{next, none}
+use Rattle.gf_take.proofs.AddedLemmas.{made_accepted, made_valid}
+use Rattle.gf_take.specs.declared.take_error.TakeError.{TakeError}
+use Rattle.gf_take.specs.declared.take_error.TakeError.TheVariants as take
+use Rattle.gf_take.specs.ShownDrawing.{ShowsDrawing}
+use Rattle.gf_take.specs.Taking.{RefusesTake, Takes}
+use Rattle.gf_take.specs.TakingSteps.{HasMade, MakesOne, RefusesAll, RefusesOne, RefusesShowing}
+
+-- before the first change nothing was made
+pub made_none : (s : ℕ) (h : List Op) (x : SiteState) (ops : List Op) → x.number ≡ s → x.ops ≡ h
+    → ops ≡ [] → HasMade s h [] x ops
+made_none s h x ops number is e =
+    subst (HasMade s h [] x) (sym e)
+    (record { makes = none; ops = is ∙ sym (append-nil h); number = number })
+
+module _ (s : ℕ) (h : List Op) (done : List Change) (x : SiteState) (new : List Op)
+    (has : HasMade s h done x new) where
+  pub made_more : (c : Change) (y : SiteState) (more : List Op) → MakesOne c x y new more
+      → HasMade s h (done ++ c ∷ []) y more
+  made_more c y more w =
+      let o = authored s (h ++ new) c in
+      let a : w.op ≡ o = w.authors.is ∙ (λ i. authored (has.number i) (has.ops i) c) in
+      let accepted = subst (λ l. IsAccepted l w.op) has.ops w.authors.accepted in
+      let makes = next c has.makes (record {
+        in_range = subst IsInRange a w.authors.in_range;
+        accepted = subst (IsAccepted (h ++ new)) a accepted;
+      }) in
+      let all : more ≡ new ++ o ∷ [] = w.is ∙ ap (λ (b : Op). new ++ b ∷ []) a in
+      subst (HasMade s h (done ++ c ∷ []) y) (sym all) (record {
+        makes = makes;
+        ops = ap (λ (z : SiteState). z.ops) w.authors.state
+            ∙ (ap (λ l. l ++ w.op ∷ []) has.ops
+            ∙ (ap (λ (b : Op). (h ++ new) ++ b ∷ []) a ∙ append_assoc h new (o ∷ [])));
+        number = ap (λ (z : SiteState). z.number) w.authors.state ∙ has.number;
+      })
+
+  -- what a change is refused for, they all are
+  pub refused_there : (c : Change) (rest changes : List Change) → changes ≡ done ++ c ∷ rest
+      → (e : TakeError) → RefusesOne c x e → RefusesAll s h changes e
+  refused_there c rest changes whole (take.Refused why) r = record {
+    before = done;
+    change = c;
+    after = rest;
+    whole = whole;
+    new = new;
+    makes = has.makes;
+    refused = subst (λ l. Refuses s l c why) has.ops
+        (subst (λ k. Refuses k x.ops c why) has.number r);
+  }
+  refused_there c rest changes whole take.TooManyFigures r = absurd r
+  refused_there c rest changes whole take.Differs r = absurd r
+  refused_there c rest changes whole take.OutOfMemory r = tt
+
+  -- what was made is taken where the site shows the drawing
+  pub taken : (d : DrawingState Outline) → AreAccepted h → IsValid h → ShowsDrawing x.ops d
+      → PaintsAsFig x.ops d → Takes s h done new d
+  taken d run valid shows paints = record {
+    makes = has.makes;
+    accepted = made_accepted s h run done new has.makes;
+    valid = made_valid s h run valid done new has.makes;
+    shows = subst (λ l. ShowsDrawing l d) has.ops shows;
+    paints = subst (λ l. PaintsAsFig l d) has.ops paints;
+  }
+
+  -- or refused for what it shows
+  pub shows_other : (d : DrawingState Outline) (e : TakeError) → RefusesShowing x.ops d e
+      → RefusesTake s h done d e
+  shows_other d (take.Refused why) r = absurd r
+  shows_other d take.TooManyFigures r = record {
+    new = new;
+    makes = has.makes;
+    more = subst (λ l. HasMoreVisible l 1000) has.ops r;
+  }
+  shows_other d take.Differs r = record {
+    new = new;
+    makes = has.makes;
+    other = λ lawful. subst (λ l. ¬ (ShowsDrawing l d)) has.ops (r lawful);
+  }
+  shows_other d take.OutOfMemory r = tt
+
+-- or for what was not made
+pub not_made : (s : ℕ) (h : List Op) (changes : List Change) (d : DrawingState Outline)
+    (e : TakeError) → RefusesAll s h changes e → RefusesTake s h changes d e
+not_made s h changes d (take.Refused why) r = r
+not_made s h changes d take.TooManyFigures r = absurd r
+not_made s h changes d take.Differs r = absurd r
+not_made s h changes d take.OutOfMemory r = tt

@@ -1,0 +1,51 @@
+-- The base of what a designer saw, and new operations of one site behind it (this project's
+-- choice, over causal delivery).
+use Rattle.std.specs.Prelude.{◌≡◌, ◌≢◌, ◌⊎◌, ◌↔◌, ℕ, ◌≤◌, List, ◌++◌, AllPairs, Contains}
+use Rattle.gf_ops.specs.declared.op.Op.{Op}
+use Rattle.gf_ops.specs.declared.op.Clock.{Clock}
+use Rattle.gf_ops.specs.declared.change.Change.{Change}
+use Rattle.gf_ops.specs.Accepted.{AreAccepted}
+use Rattle.gf_ops.specs.OperationOrder.{Precedes, entry}
+use Rattle.gf_causal.specs.DeliveredPart.{HaveSame}
+use Rattle.gf_replay.specs.Denoting.{Delivers}
+use Rattle.gf_edit.specs.EditedText.{Blocks}
+use Rattle.gf_take.specs.MadeChanges.{MakesChanges}
+
+-- the operations b are some of h, and with each of them all that it knows
+pub record IsClosedPart (h b : List Op) : Type 0 where
+  pub within : (a : Op) → Contains b a → Contains h a
+  pub distinct : AllPairs (λ a c. a.id ≢ c.id) b
+  pub closed : (a x : Op) → Contains b a → Contains h x → Precedes x a → Contains b x
+
+-- the clock c counts a, or a is of site s
+abbrev pub IsSeen : ℕ → Clock → Op → Type 0
+IsSeen s c a = (a.id.seq ≤ entry c a.id.site) ⊎ (a.id.site ≡ s)
+
+-- a is an operation of h that is seen by site s up to c, or that one of these knows
+pub record IsKnownTo (s : ℕ) (c : Clock) (h : List Op) (a : Op) : Type 0 where
+  pub contained : Contains h a
+  pub seen : Op
+  pub there : Contains h seen
+  pub is_seen : IsSeen s c seen
+  pub known : (a ≡ seen) ⊎ Precedes a seen
+
+-- b is the base of h for site s, which saw the operations up to c: these, its own, and all that
+-- they know, each accepted behind those before it
+pub record IsBase (s : ℕ) (c : Clock) (h b : List Op) : Type 0 where
+  pub exactly : (a : Op) → Contains b a ↔ IsKnownTo s c h a
+  pub accepted : AreAccepted b
+
+-- the operations ops deliver h, each accepted in its turn, and none blocks site s
+pub record AreRead (s : ℕ) (ops h : List Op) : Type 0 where
+  pub delivers : Delivers ops h
+  pub accepted : AreAccepted h
+  pub free : (a : Op) → Contains ops a → ¬ (Blocks s h a)
+
+-- all are the operations ops, which deliver h, and new ones that site s makes behind its base of h,
+-- in whatever order and however often
+pub record JoinsTake (s : ℕ) (c : Clock) (ops h b new all : List Op) : Type 0 where
+  pub read : AreRead s ops h
+  pub base : IsBase s c h b
+  pub changes : List Change
+  pub makes : MakesChanges s b changes new
+  pub same : HaveSame all (ops ++ new)

@@ -1,0 +1,7 @@
+pub mod ShownDrawing
+pub mod MadeChanges
+pub mod Bases
+pub mod Taking
+pub mod TakingSteps
+pub mod Matching
+pub mod Reaching

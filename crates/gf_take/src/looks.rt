@@ -1,0 +1,68 @@
+//! Whether a visible version looks like a figure.
+
+ghost use Rattle.std.specs.Prelude.{◌≡◌, ◌↔◌, IfOk, IsTrue};
+ghost use Rattle.gf_take.specs.Matching.{BecomeAlike, IsTraced};
+
+use crate::swapping::{colour_of, same_colour};
+use gf_drawing::{Drawing, Figure};
+use gf_import::{form_of, place_of};
+use gf_ops::{Form, Points};
+use gf_shape::{OutOfMemory, Outline, Point, Rgb};
+use std::alloc::Global;
+
+/// Whether a version of this outline and colour looks like a figure of a drawing.
+pub(crate) fn looks(
+    alloc: Global,
+    outline: &Outline,
+    colour: Rgb,
+    drawing: &Drawing<Outline>,
+    figure: &Figure<Outline>,
+) -> Result<bool, OutOfMemory>
+    ensures { IfOk result (λ same. IsTrue same
+        ↔ IsTraced drawing.now.table outline.now colour figure.now) }
+{
+    if !same_colour(colour, colour_of(drawing, figure)) {
+        return Ok(false);
+    }
+    become_alike(alloc, outline, &figure.shape)
+}
+
+/// Whether an outline becomes the object that another outline becomes.
+fn become_alike(alloc: Global, own: &Outline, other: &Outline) -> Result<bool, OutOfMemory>
+    ensures { IfOk result (λ same. IsTrue same ↔ BecomeAlike own.now other.now) }
+{
+    if !same_place(place_of(own), place_of(other)) {
+        return Ok(false);
+    }
+    let form = form_of(alloc, own)?;
+    let other = form_of(alloc, other)?;
+    Ok(same_form(&form, &other))
+}
+
+fn same_place(a: Point, b: Point) -> bool
+    ensures { IsTrue result ↔ a ≡ b }
+{
+    a == b
+}
+
+fn same_form(a: &Form, b: &Form) -> bool
+    ensures { IsTrue result ↔ a.now ≡ b.now }
+{
+    match (a, b) {
+        (Form::Rect(width, height), Form::Rect(width_b, height_b)) => {
+            *width == *width_b && *height == *height_b
+        }
+        (Form::Polygon(points), Form::Polygon(points_b)) => same_points(points, points_b),
+        (Form::Circle(radius), Form::Circle(radius_b)) => *radius == *radius_b,
+        (Form::Ellipse(rx, ry), Form::Ellipse(rx_b, ry_b)) => *rx == *rx_b && *ry == *ry_b,
+        (Form::Rect(..), _) | (Form::Polygon(_), _) => false,
+        (Form::Circle(_), _) | (Form::Ellipse(..), _) => false,
+    }
+}
+
+#[tactic(auto, using(gf_ops::proofs::SameLemmas::points_decides))]
+fn same_points(a: &Points, b: &Points) -> bool
+    ensures { IsTrue result ↔ a.now ≡ b.now }
+{
+    a == b
+}

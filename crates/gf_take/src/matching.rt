@@ -1,0 +1,79 @@
+//! Whether visible versions show the figures of a drawing.
+
+ghost use Rattle.std.specs.Prelude.{◌≡◌, ◌↔◌, ◌<◌, true, false, IfOk, IfSome, IfNone, IsTrue, All};
+ghost use Rattle.std.specs.Prelude.{length, map};
+ghost use Rattle.gf_drawing.specs.DrawingColour.{from_front};
+ghost use Rattle.gf_take.specs.Matching.{AreShown, IsLikeAt, IsTraced, TakesLike, TakesNone};
+
+use crate::looks::looks;
+use crate::swapping::can_pass;
+use gf_drawing::{Drawing, Figure};
+use gf_shape::{AnyShape, OutOfMemory, Outline, Rgb, Shape};
+use gf_versions::Placed;
+use std::alloc::Global;
+
+/// Whether ranked versions show the figures of a drawing. Each version in turn takes the first
+/// figure from the front that it looks like, of those that are left.
+pub(crate) fn show_figures(
+    alloc: Global,
+    items: &[Placed<AnyShape>],
+    drawing: &Drawing<Outline>,
+) -> Result<bool, OutOfMemory>
+    ensures { IfOk result (λ shown. IsTrue shown
+        ↔ AreShown drawing.now.table (from_front drawing.now.figures) items.now) }
+{
+    let mut left = drawing.front_to_back(alloc)?;
+    for item in items {
+        if !take_out(alloc, item, drawing, &mut left)? {
+            return Ok(false);
+        }
+    }
+    Ok(left.is_empty())
+}
+
+/// Takes out the first figure that a version looks like, where it can be swapped with all before
+/// it.
+fn take_out(
+    alloc: Global,
+    item: &Placed<AnyShape>,
+    drawing: &Drawing<Outline>,
+    left: &mut Vec<&Figure<Outline>>,
+) -> Result<bool, OutOfMemory>
+    ensures some { IfOk result (λ taken. taken ≡ true → TakesLike drawing.now.table item.now
+        (map (λ f. f.now) left.old.items) (map (λ f. f.now) left.new.items)) }
+    ensures none { IfOk result (λ taken. taken ≡ false → TakesNone drawing.now.table item.now
+        (map (λ f. f.now) left.old.items)) }
+{
+    let outline = item.shape.outline(alloc)?;
+    let Some(place) = first_like(alloc, &outline, item.colour, drawing, left)? else {
+        return Ok(false);
+    };
+    if !can_pass(drawing, left[place], &left[..place]) {
+        return Ok(false);
+    }
+    let _ = left.remove(place);
+    Ok(true)
+}
+
+/// The place of the first figure that a version of this outline and colour looks like.
+fn first_like(
+    alloc: Global,
+    outline: &Outline,
+    colour: Rgb,
+    drawing: &Drawing<Outline>,
+    figures: &[&Figure<Outline>],
+) -> Result<Option<usize>, OutOfMemory>
+    ensures some { IfOk result (λ place. IfSome place
+        (IsLikeAt drawing.now.table outline.now colour (map (λ f. f.now) figures.now))) }
+    ensures within { IfOk result (λ place. IfSome place (λ k. k < length figures.now)) }
+    ensures none { IfOk result (λ place. IfNone place
+        (All (λ f. ¬ (IsTraced drawing.now.table outline.now colour f))
+        (map (λ f. f.now) figures.now))) }
+{
+    for place in 0..figures.len() {
+        if looks(alloc, outline, colour, drawing, figures[place])? {
+            return Ok(Some(place));
+        }
+    }
+    Ok(None)
+}

@@ -1,0 +1,87 @@
+//! What a site makes of changes, and the check that it then shows a drawing.
+
+ghost use Rattle.std.specs.Prelude.{◌≡◌, ◌++◌, IfOk, IfErr, OnOk};
+ghost use Rattle.gf_drawing.specs.Outlined.{PaintsAsFig};
+ghost use Rattle.gf_take.specs.ShownDrawing.{ShowsDrawing};
+ghost use Rattle.gf_take.specs.Taking.{RefusesTake, Takes};
+ghost use Rattle.gf_take.specs.TakingSteps.{HasMade, MakesOne, RefusesAll, RefusesOne};
+ghost use Rattle.gf_take.specs.TakingSteps.{RefusesShowing};
+
+use crate::TakeError;
+use crate::matching::show_figures;
+use gf_drawing::Drawing;
+use gf_ops::{Change, Op};
+use gf_shape::Outline;
+use gf_site::Site;
+use gf_visible::ranked_within;
+use std::alloc::Global;
+
+/// The greatest number of visible versions.
+const MOST_FIGURES: usize = 1_000;
+
+/// Makes changes one after the other behind the history of a site, its base, and answers the
+/// operations, where the site then shows the drawing. The site is a copy that the caller can lose:
+/// a refusal leaves it with what was made.
+pub fn take(
+    alloc: Global,
+    site: &mut Site,
+    changes: Vec<Change>,
+    drawing: &Drawing<Outline>,
+) -> Result<Vec<Op>, TakeError>
+    ensures ok { IfOk result (λ ops.
+        Takes site.old.number site.old.ops changes.items ops.items drawing.now) }
+    ensures site { IfOk result (λ ops. site.new.ops ≡ site.old.ops ++ ops.items) }
+    ensures err { IfErr result (RefusesTake site.old.number site.old.ops changes.items
+        drawing.now) }
+{
+    // Its clauses say that the base is accepted and valid.
+    let _ = site.history();
+    let ops = make_all(alloc, site, changes)?;
+    show(alloc, site, drawing)?;
+    Ok(ops)
+}
+
+/// Makes changes one after the other.
+fn make_all(alloc: Global, site: &mut Site, changes: Vec<Change>) -> Result<Vec<Op>, TakeError>
+    ensures ok { IfOk result (λ ops.
+        HasMade site.old.number site.old.ops changes.items site.new ops.items) }
+    ensures err { IfErr result (RefusesAll site.old.number site.old.ops changes.items) }
+{
+    let mut ops = Vec::new(alloc);
+    for change in changes {
+        make(site, &mut ops, change)?;
+    }
+    Ok(ops)
+}
+
+/// Makes a change, and appends its operation.
+fn make(site: &mut Site, ops: &mut Vec<Op>, change: Change) -> Result<(), TakeError>
+    ensures ok { OnOk result (MakesOne change site.old site.new ops.old.items ops.new.items) }
+    ensures err { IfErr result (RefusesOne change site.old) }
+{
+    match site.author(change) {
+        Ok(op) => match ops.push(op) {
+            Ok(()) => Ok(()),
+            Err(_) => Err(TakeError::OutOfMemory),
+        },
+        Err(fault) => Err(TakeError::Refused(fault)),
+    }
+}
+
+/// Checks that a site shows a drawing.
+fn show(alloc: Global, site: &Site, drawing: &Drawing<Outline>) -> Result<(), TakeError>
+    ensures shows { OnOk result (ShowsDrawing site.now.ops drawing.now) }
+    ensures paints { OnOk result (PaintsAsFig site.now.ops drawing.now) }
+    ensures err { IfErr result (RefusesShowing site.now.ops drawing.now) }
+{
+    match ranked_within(alloc, site.history(), site.table(), MOST_FIGURES)? {
+        None => Err(TakeError::TooManyFigures),
+        Some(ranked) => {
+            if show_figures(alloc, &ranked.items, drawing)? {
+                Ok(())
+            } else {
+                Err(TakeError::Differs)
+            }
+        }
+    }
+}
