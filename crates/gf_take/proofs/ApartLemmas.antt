@@ -1,8 +1,8 @@
 -- When the bounds of two outlines have no common point.
-use Rattle.std.proofs.Common.{◌≡◌, Bool, true, false, ◌||◌, refl, inl, inr, arith}
-use Rattle.std.specs.Prelude.{◌⊎◌, ℤ, ◌≤ℤ◌, int_lt}
+use Rattle.std.proofs.Common.{◌≡◌, Bool, true, false, inl, inr, arith}
+use Rattle.std.specs.Prelude.{ℤ, ◌≤ℤ◌, int_lt}
 use Rattle.std.specs.Int.{int_max}
-use Rattle.std.proofs.lemmas.Bool.{cases_Bool}
+use Rattle.std.proofs.lemmas.Bool.{cases_Bool, or_cases, or_parts}
 use Rattle.std.proofs.lemmas.Int.{ints}
 use Rattle.gf_shape.specs.declared.bounds.Bounds.{Bounds}
 use Rattle.gf_shape.specs.declared.outline.Outline.{Outline}
@@ -12,21 +12,13 @@ use Rattle.gf_shape.specs.ShapeLaws.{IsBounds, IsInBounds}
 use Rattle.gf_take.specs.Matching.{are_apart, lie_beside}
 use Rattle.gf_take.specs.ShownDrawing.{AreApart}
 
-either : (a b : Bool) → (a || b) ≡ true → (a ≡ true) ⊎ (b ≡ true)
-either true b e = inl refl
-either false b e = inr e
-
-neither : (a b : Bool) → (a || b) ≡ false → (a ≡ false) × (b ≡ false)
-neither true b e = absurd cc
-neither false b e = (refl, e)
-
 -- spans that lie beside each other have no common number
 beside_none : (low high other_low other_high n : ℤ)
     → lie_beside low high other_low other_high ≡ true → low ≤ℤ n → n ≤ℤ high → other_low ≤ℤ n
     → n ≤ℤ other_high → ⊥
 unfolding lie_beside
 beside_none low high other_low other_high n t l h k m =
-    elim (either (int_lt high other_low) (int_lt other_high low) t) [
+    elim (or_cases (int_lt high other_low) (int_lt other_high low) t) [
       | inl e ↦ grind (arith, ints)
       | inr e ↦ grind (arith, ints)
     ]
@@ -35,7 +27,7 @@ beside_none low high other_low other_high n t l h k m =
 beside_empty : (a b : Bounds) → are_apart a b ≡ true → (p : Point) → IsInBounds a p
     → ¬ (IsInBounds b p)
 beside_empty a b t p i j =
-    elim (either (lie_beside a.low.x a.high.x b.low.x b.high.x)
+    elim (or_cases (lie_beside a.low.x a.high.x b.low.x b.high.x)
     (lie_beside a.low.y a.high.y b.low.y b.high.y) t) [
       | inl e ↦ beside_none a.low.x a.high.x b.low.x b.high.x p.x e i.left i.right j.left j.right
       | inr e ↦ beside_none a.low.y a.high.y b.low.y b.high.y p.y e i.top i.bottom j.top j.bottom
@@ -69,7 +61,7 @@ meet_at : (low high other_low other_high : ℤ) → low ≤ℤ high → other_lo
     → IsInBoth low high other_low other_high (int_max low other_low)
 unfolding lie_beside
 meet_at low high other_low other_high l m f =
-    let parts = neither (int_lt high other_low) (int_lt other_high low) f in
+    let parts = or_parts (int_lt high other_low) (int_lt other_high low) f in
     let e = parts.0 in
     let g = parts.1 in
     record {
@@ -83,7 +75,7 @@ meet_at low high other_low other_high l m f =
 meet : (a b : Bounds) → IsWide a → IsWide b → are_apart a b ≡ false
     → (p : Point) × IsInBounds a p × IsInBounds b p
 meet a b u v f =
-    let parts = neither (lie_beside a.low.x a.high.x b.low.x b.high.x)
+    let parts = or_parts (lie_beside a.low.x a.high.x b.low.x b.high.x)
     (lie_beside a.low.y a.high.y b.low.y b.high.y) f in
     let x = meet_at a.low.x a.high.x b.low.x b.high.x u.wide v.wide parts.0 in
     let y = meet_at a.low.y a.high.y b.low.y b.high.y u.high v.high parts.1 in (

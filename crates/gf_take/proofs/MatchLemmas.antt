@@ -3,7 +3,7 @@ use Rattle.std.proofs.Common.{◌≡◌, ℕ, ◌+◌, ◌≤◌, ◌<◌, List,
 use Rattle.std.proofs.Common.{take, drop}
 use Rattle.std.proofs.Common.{get_or, append_assoc, refl, sym, ap, subst, ◌∙◌, arith}
 use Rattle.std.specs.Prelude.{All, Some, slice_get}
-use Rattle.std.proofs.lemmas.List.{append-nil, map-append, take_all, take_more}
+use Rattle.std.proofs.lemmas.List.{append-nil, map-append, take_all, take_more, drop-map, take-map}
 use Rattle.std.proofs.lemmas.List.Elements.{All-head, All-nil, All-push, All-tail}
 use Rattle.gf_shape.specs.declared.any_shape.AnyShape.{AnyShape}
 use Rattle.gf_shape.specs.declared.colour.Rgb.{Rgb}
@@ -115,16 +115,6 @@ none_viewed view [] e = refl
 none_viewed view (r ∷ refs) e = absurd cc
 
 module _ {R X : Type 0} (view : R → X) where
-  map_take : (refs : List R) (k : ℕ) → map view (take k refs) ≡ take k (map view refs)
-  map_take refs zero = refl
-  map_take [] (suc k) = refl
-  map_take (r ∷ refs) (suc k) = ap (λ l. view r ∷ l) (map_take refs k)
-
-  map_drop : (refs : List R) (k : ℕ) → map view (drop k refs) ≡ drop k (map view refs)
-  map_drop refs zero = refl
-  map_drop [] (suc k) = refl
-  map_drop (r ∷ refs) (suc k) = map_drop refs k
-
   pub map_get : (refs : List R) (k : ℕ) (r : R) → k < length refs → r ≡ get_or refs k r
       → slice_get (map view refs) k ≡ Some (view r)
   map_get [] k r l e = absurd (omega arith)
@@ -136,7 +126,7 @@ module _ {R X : Type 0} (view : R → X) where
       ≡ take k (map view refs) ++ drop (suc k) (map view refs)
   map_without refs k =
       map-append view (take k refs) (drop (suc k) refs)
-      ∙ (λ i. map_take refs k i ++ map_drop refs (suc k) i)
+      ∙ (λ i. sym (take-map view k refs) i ++ sym (drop-map view (suc k) refs) i)
 
   module _ (P : X → Type 0) (refs : List R) where
     pub seen_none : All P (map view (take 0 refs))
@@ -175,7 +165,7 @@ like_found view table o c refs k r l e traced unlike = record {
   figure = view r;
   at = map_get view refs k r l e;
   traced = traced;
-  unlike = subst (All (λ f. ¬ (IsTraced table o c f))) (map_take view refs k) unlike;
+  unlike = subst (All (λ f. ¬ (IsTraced table o c f))) (sym (take-map view k refs)) unlike;
 }
 
 -- ---- one figure taken out
@@ -200,7 +190,7 @@ module _ {R : Type 0} (view : R → Figure Outline) (table : Table) (i : Placed 
     left = ap (map view) e ∙ map_without view refs k;
     traced = subst (λ o. IsTraced table o i.colour like.figure) is like.traced;
     swaps = subst (λ f. All (CanSwap table f) (take k (map view refs))) same_figure
-        (subst (All (CanSwap table (view r))) (map_take view refs k) swaps);
+        (subst (All (CanSwap table (view r))) (sym (take-map view k refs)) swaps);
     unlike = subst (λ o. All (λ f. ¬ (IsTraced table o i.colour f)) (take k (map view refs))) is
         like.unlike;
   }
@@ -213,7 +203,7 @@ module _ {R : Type 0} (view : R → Figure Outline) (table : Table) (i : Placed 
       (subst (λ o. All (λ f. ¬ (IsTraced table o i.colour f)) (take k (map view refs))) is
       like.unlike)
       (subst (λ o. IsTraced table o i.colour like.figure) is like.traced)
-      (λ all. stuck (subst (All (CanSwap table (view r))) (sym (map_take view refs k))
+      (λ all. stuck (subst (All (CanSwap table (view r))) (take-map view k refs)
       (subst (λ f. All (CanSwap table f) (take k (map view refs))) (sym same_figure) all)))
       g rest t
       (subst (λ l. TakesOut table g l rest) (split_at (map view refs) k like.figure like.at) out)

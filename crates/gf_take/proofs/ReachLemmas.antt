@@ -1,9 +1,9 @@
 -- How far the operations reach that a site saw, and that exactly those up to there are known.
-use Rattle.std.proofs.Common.{◌≡◌, ℕ, zero, suc, ◌+◌, ◌≤◌, ◌<◌, Bool, true, false, ◌||◌, List, []}
+use Rattle.std.proofs.Common.{◌≡◌, ℕ, zero, suc, ◌+◌, ◌≤◌, ◌<◌, true, false, List, []}
 use Rattle.std.proofs.Common.{◌∷◌, ◌++◌, filter, length, take, get_or, refl, sym, ap, subst, ◌∙◌}
 use Rattle.std.proofs.Common.{inl, inr, arith}
 use Rattle.std.specs.Prelude.{◌⊎◌, Contains, max, nat_eq, nat_le}
-use Rattle.std.proofs.lemmas.Bool.{cases_Bool, cases_lt, eq-eqb, eqb-true, le-leb, leb-true}
+use Rattle.std.proofs.lemmas.Bool.{cases_Bool, cases_lt, eq-eqb, eqb-true, le-leb, leb-true, or_cases, or_left, or_right}
 use Rattle.std.proofs.lemmas.List.{take_more}
 use Rattle.std.proofs.lemmas.List.Elements.{Contains-append_left, Contains-get_or, Contains-push}
 use Rattle.std.proofs.lemmas.List.Elements.{Contains-push_cases}
@@ -92,17 +92,6 @@ one_of_two a b m e = elim (cases_lt a b) [
 
 -- ---- what is counted is known
 
-either : (a b : Bool) → (a || b) ≡ true → (a ≡ true) ⊎ (b ≡ true)
-either true b e = inl refl
-either false b e = inr e
-
-or_left : (a b : Bool) → a ≡ true → (a || b) ≡ true
-or_left a b e = rw e refl
-
-or_right : (a b : Bool) → b ≡ true → (a || b) ≡ true
-or_right true b e = refl
-or_right false b e = e
-
 reach_own : (t : ℕ) (x : Op) → nat_eq x.id.site t ≡ true → reach_at t x ≡ x.id.seq
 reach_own t x e = rw e refl
 
@@ -111,7 +100,7 @@ reach_other t x e = rw e refl
 
 module _ (s : ℕ) (c : Clock) where
   seen_told : (x : Op) → is_seen s c x ≡ true → IsSeen s c x
-  seen_told x t = elim (either (nat_eq x.id.site s) (nat_le x.id.seq (entry c x.id.site)) t) [
+  seen_told x t = elim (or_cases (nat_eq x.id.site s) (nat_le x.id.seq (entry c x.id.site)) t) [
     | inl e ↦ inr (eqb-true x.id.site s e)
     | inr l ↦ inl (leb-true x.id.seq (entry c x.id.site) l)
   ]
