@@ -3,21 +3,24 @@ use Rattle.std.specs.Prelude.{Some, None, Ok, Err, find, map, Option, IfErr, IfO
 use Rattle.std.proofs.Common.{◌≡◌, ℕ, List, [], sym, ap, subst, ◌∙◌}
 use Rattle.std.proofs.lemmas.List.{append-nil}
 use Rattle.gf_streams.specs.TextLines.{numbered_lines}
+use Rattle.gf_ops.specs.declared.op.Op.{Op}
 use Rattle.gf_ops.specs.declared.op.OpId.{OpId}
 use Rattle.gf_causal.specs.HeldOperations.{AreHeld}
 use Rattle.gf_site.specs.SiteState.{SiteState}
 use Rattle.gf_replay.specs.Denoting.{AreLinesOf}
 use Rattle.gf_replay.proofs.TakingLemmas.{delivers}
 use Rattle.gf_studio.specs.declared.studio_error.StudioError.TheVariants as studio
+use Rattle.gf_edit.specs.declared.edit_command.EditCommand.{EditCommand}
 use Rattle.gf_edit.specs.declared.edit_error.EditError.{EditError}
 use Rattle.gf_edit.specs.declared.edit_error.EditError.TheVariants as edit
 use Rattle.gf_edit.specs.declared.edited.Edited.{Edited}
 use Rattle.gf_edit.specs.declared.numbered.Numbered.{Numbered}
 use Rattle.gf_edit.specs.declared.reading.ReadLines.{ReadLines}
-use Rattle.gf_edit.specs.Making.{HasRefusal, Makes}
+use Rattle.gf_edit.specs.Making.{HasRefused, Makes}
+use Rattle.gf_edit.specs.RefusedCommands.{KeepsNone, RefusesFor}
 use Rattle.gf_edit.specs.MakingSteps.{HasPassed, RefusesMaking}
 use Rattle.gf_edit.specs.EditedText.{AreEntriesOf, AreDelivered, entry_at, ops_in}
-use Rattle.gf_edit.specs.EditRun.{Edits, HasBlocking, RefusesEdit}
+use Rattle.gf_edit.specs.EditRun.{Edits, HasBlocking, RefusesEdit, HasRefusedCommand}
 use Rattle.gf_edit.specs.EntrySteps.{HasReadEntries, HoldsBlocking, IsUnblocked, RefusesWaiting}
 use Rattle.gf_edit.specs.Waiting.{is_blocking}
 use Rattle.gf_edit.proofs.BlockingLemmas.{first_blocks, none_blocks}
@@ -51,15 +54,19 @@ module _ (s : ℕ) (bytes : List ℕ) (r : ReadLines) (read : HasReadEntries s b
     denotes = subst (λ t. AreLinesOf (numbered_lines t) p.new) (sym p.is) (written_from 1 p.new (λ a i. record { whole = op_clean a; shown = op_shown a; denotes = p.reads a i }));
   }
 
-  -- what refuses a command refuses the edit
-  pub refused : IsUnblocked r.site → (e : EditError) → RefusesMaking r.site.number r.site.ops r.commands.items e → RefusesEdit s bytes e
-  refused none (edit.Refused n why) f = record {
+  refused_command : IsUnblocked r.site → (Refused : ℕ → List Op → EditCommand → Type 0) (n : ℕ) → HasRefused (Refused r.site.number) r.site.number r.site.ops r.commands.items n → HasRefusedCommand (Refused s) s bytes n
+  refused_command none Refused n f = record {
     entries = read.entries;
     lines = all_lines;
     history = r.site.ops;
     behind = behind none;
-    refusal = subst (λ (cs : List Numbered). HasRefusal s r.site.ops cs n why) read.commands (subst (λ k. HasRefusal k r.site.ops r.commands.items n why) read.number f);
+    refusal = subst (λ (cs : List Numbered). HasRefused (Refused s) s r.site.ops cs n) read.commands (subst (λ k. HasRefused (Refused k) k r.site.ops r.commands.items n) read.number f);
   }
+
+  -- what refuses a command refuses the edit
+  pub refused : IsUnblocked r.site → (e : EditError) → RefusesMaking r.site.number r.site.ops r.commands.items e → RefusesEdit s bytes e
+  refused none (edit.Refused n why) f = refused_command none (λ k. RefusesFor k why) n f
+  refused none (edit.NoVersion n) f = refused_command none (λ k. KeepsNone) n f
   refused none (edit.Waits i j) f = absurd f
   refused none (edit.Run studio.OutOfMemory) f = tt
   refused none (edit.Run (studio.Line m why)) f = absurd f
@@ -88,6 +95,7 @@ module _ (s : ℕ) (bytes : List ℕ) (r : ReadLines) (read : HasReadEntries s b
   pub refused_waiting : (e : EditError) → RefusesWaiting r.site e → RefusesEdit s bytes e
   refused_waiting (edit.Waits i j) f = blocked i j f
   refused_waiting (edit.Refused n why) f = absurd f
+  refused_waiting (edit.NoVersion n) f = absurd f
   refused_waiting (edit.Run studio.OutOfMemory) f = tt
   refused_waiting (edit.Run (studio.Line m why)) f = absurd f
   refused_waiting (edit.Run (studio.Dropped id fault)) f = absurd f

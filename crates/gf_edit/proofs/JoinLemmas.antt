@@ -21,7 +21,8 @@ use Rattle.gf_site.proofs.CourseLemmas.{all_ready}
 use Rattle.gf_replay.specs.Denoting.{Delivers, Denotes}
 use Rattle.gf_replicas.proofs.GrowingLemmas.{valid_push}
 use Rattle.gf_edit.specs.declared.numbered.Numbered.{Numbered}
-use Rattle.gf_edit.specs.Making.{Makes, none, author, await}
+use Rattle.gf_edit.specs.Making.{Makes, none, author, await, keep}
+use Rattle.gf_edit.proofs.EachLemmas.{each_accepted, each_count, each_more, each_own, each_valid}
 use Rattle.gf_edit.specs.EditedText.{Blocks, JoinsEdit, commands_in, ops_in}
 
 -- a site that makes an operation more has one more in its history
@@ -36,6 +37,8 @@ module _ (s : ℕ) (h : List Op) where
       put_behind h made (authored s (h ++ made) c) (λ l. count_of l t ≡ count_of h t)
       (count_push_other (h ++ made) (authored s (h ++ made) c) t (λ e. d (sym e)) ∙ made_count before made m t d)
   made_count cs new (await {cs = before} {new = made} n i m p) t d = made_count before made m t d
+  made_count cs new (keep {cs = before} {new = made} {more = more} {changes = changes} n k m are p) t d =
+      subst (λ l. count_of l t ≡ count_of h t) (append_assoc h made more) (each_count s (h ++ made) changes more p t d ∙ made_count before made m t d)
 
   -- and of its own no fewer
   pub made_more : (cs : List Numbered) (new : List Op) → Makes s h cs new → count_of h s ≤ count_of (h ++ new) s
@@ -44,6 +47,8 @@ module _ (s : ℕ) (h : List Op) where
       put_behind h made (authored s (h ++ made) c) (λ l. count_of h s ≤ count_of l s)
       (let e = count_push_same (h ++ made) (authored s (h ++ made) c) s refl in let l = made_more before made m in omega arith)
   made_more cs new (await {cs = before} {new = made} n i m p) = made_more before made m
+  made_more cs new (keep {cs = before} {new = made} {more = more} {changes = changes} n k m are p) =
+      subst (λ l. count_of h s ≤ count_of l s) (append_assoc h made more) (let e = each_more s (h ++ made) changes more p in let l = made_more before made m in omega arith)
 
   -- what it makes is its own, and numbered on
   pub made_own : (cs : List Numbered) (new : List Op) → Makes s h cs new → (a : Op) → Contains new a → (a.id.site ≡ s) × (count_of h s < a.id.seq)
@@ -53,12 +58,18 @@ module _ (s : ℕ) (h : List Op) where
     | inr e ↦ subst (λ (x : Op). (x.id.site ≡ s) × (count_of h s < x.id.seq)) e (refl, let l = made_more before made m in omega arith)
   ]
   made_own cs new (await {cs = before} {new = made} n i m p) a j = made_own before made m a j
+  made_own cs new (keep {cs = before} {new = made} {more = more} {changes = changes} n k m are p) a i = elim (Contains-append_cases made more a i) [
+    | inl j ↦ made_own before made m a j
+    | inr j ↦ let e = each_own s (h ++ made) changes more p a j in let l = made_more before made m in let g = e.1 in (e.0, omega arith)
+  ]
 
   -- each is accepted behind those before it
   pub made_accepted : AreAccepted h → (cs : List Numbered) (new : List Op) → Makes s h cs new → AreAccepted (h ++ new)
   made_accepted run cs new none = subst AreAccepted (sym (append-nil h)) run
   made_accepted run cs new (author {cs = before} {new = made} n c m op) = put_behind h made (authored s (h ++ made) c) AreAccepted (next (made_accepted run before made m) op.accepted)
   made_accepted run cs new (await {cs = before} {new = made} n i m p) = made_accepted run before made m
+  made_accepted run cs new (keep {cs = before} {new = made} {more = more} {changes = changes} n k m are p) =
+      subst AreAccepted (append_assoc h made more) (each_accepted s (h ++ made) changes more (made_accepted run before made m) p)
 
   pub made_valid : AreAccepted h → IsValid h → (cs : List Numbered) (new : List Op) → Makes s h cs new → IsValid (h ++ new)
   made_valid run valid cs new none = subst IsValid (sym (append-nil h)) valid
@@ -66,6 +77,8 @@ module _ (s : ℕ) (h : List Op) where
       put_behind h made (authored s (h ++ made) c) IsValid
       (valid_push (h ++ made) (made_accepted run before made m) (made_valid run valid before made m) (authored s (h ++ made) c) op.in_range op.accepted)
   made_valid run valid cs new (await {cs = before} {new = made} n i m p) = made_valid run valid before made m
+  made_valid run valid cs new (keep {cs = before} {new = made} {more = more} {changes = changes} n k m are p) =
+      subst IsValid (append_assoc h made more) (each_valid s (h ++ made) changes more (made_accepted run before made m) (made_valid run valid before made m) p)
 
 module _ (s : ℕ) (site : IsSite s) (ops h : List Op) (d : Delivers ops h) (run : AreAccepted h) (free : (a : Op) → Contains ops a → ¬ (Blocks s h a)) (cs : List Numbered) (new : List Op) (m : Makes s h cs new) where
   within_ops : (a : Op) → Contains h a → Contains ops a

@@ -5,3 +5,5 @@ pub mod BlockingLemmas
 pub mod EditLemmas
 pub mod WrittenLemmas
 pub mod CleanLemmas
+mod EachLemmas
+mod WritingLemmas

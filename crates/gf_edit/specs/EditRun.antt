@@ -12,13 +12,14 @@ use Rattle.gf_studio.specs.declared.studio_error.StudioError.{StudioError}
 use Rattle.gf_studio.specs.declared.studio_error.StudioError.TheVariants as studio
 use Rattle.gf_studio.specs.RefusedRuns.{IsOfRun}
 use Rattle.gf_studio.specs.RunAnswers.{WritesText}
-use Rattle.gf_worker.specs.declared.report.Cause.{Cause}
 use Rattle.gf_edit.specs.declared.entries.Entry.{Entry}
 use Rattle.gf_edit.specs.declared.edit_error.EditError.{EditError}
 use Rattle.gf_edit.specs.declared.edit_error.EditError.TheVariants as edit
 use Rattle.gf_edit.specs.declared.made.Made.{Made}
 use Rattle.gf_edit.specs.MadeOperations.{made_of}
-use Rattle.gf_edit.specs.Making.{HasRefusal, written_lines}
+use Rattle.gf_edit.specs.Making.{HasRefused, written_lines}
+use Rattle.gf_edit.specs.RefusedCommands.{KeepsNone, RefusesFor}
+use Rattle.gf_edit.specs.declared.edit_command.EditCommand.{EditCommand}
 use Rattle.gf_edit.specs.EditedText.{AreEntriesOf, Blocks, DenotesEdit, AreDelivered}
 use Rattle.gf_edit.specs.EditedText.{commands_in, ops_in}
 use Rattle.gf_edit.specs.EditFaults.{DropsAt, HasLineFault}
@@ -58,13 +59,14 @@ pub record HasBlocking (s : ℕ) (bytes : List ℕ) (i j : OpId) : Type 0 where
   pub named : i ≡ op.id
   pub waits : j ≡ waits_for history op
 
--- the command of line n is the first that site s refuses, for this cause
-pub record HasRefusedCommand (s : ℕ) (bytes : List ℕ) (n : ℕ) (why : Cause) : Type 0 where
+-- the command of line n is the first that site s refuses
+pub record HasRefusedCommand (Refused : List Op → EditCommand → Type 0) (s : ℕ)
+    (bytes : List ℕ) (n : ℕ) : Type 0 where
   pub entries : List (ℕ × Entry)
   pub lines : AreEntriesOf s (numbered_lines bytes) entries
   pub history : List Op
   pub behind : AreDelivered s entries history
-  pub refusal : HasRefusal s history (commands_in entries) n why
+  pub refusal : HasRefused Refused s history (commands_in entries) n
 
 -- why an editing run is refused
 abbrev pub RefusesEdit : ℕ → List ℕ → EditError → Type 0
@@ -72,7 +74,8 @@ RefusesEdit s bytes (edit.Run (studio.Line n why)) = HasLineFault s bytes n why
 RefusesEdit s bytes (edit.Run (studio.Dropped id fault)) = DropsAt s bytes id fault
 RefusesEdit s bytes (edit.Run e) = IsOfRun e
 RefusesEdit s bytes (edit.Waits i j) = HasBlocking s bytes i j
-RefusesEdit s bytes (edit.Refused n why) = HasRefusedCommand s bytes n why
+RefusesEdit s bytes (edit.Refused n why) = HasRefusedCommand (RefusesFor s why) s bytes n
+RefusesEdit s bytes (edit.NoVersion n) = HasRefusedCommand KeepsNone s bytes n
 
 -- the error of an edit that other runs may have too
 abbrev pub of_edit : EditError → Option StudioError

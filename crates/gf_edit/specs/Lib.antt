@@ -1,5 +1,6 @@
 pub mod Entries
 pub mod Making
+pub mod RefusedCommands
 pub mod MadeOperations
 pub mod EditedText
 pub mod EditFaults

@@ -23,6 +23,10 @@ pub enum EditError {
     /// The command of the line of this number, counted from 1, was refused.
     #[error("line {}: {}", .0, cause_text(.1))]
     Refused(u64, Cause),
+    /// The line of this number, counted from 1, keeps versions that hold some operations. No
+    /// visible version of the object holds them.
+    #[error("line {0}: NoVersion")]
+    NoVersion(u64),
 }
 
 fn cause_text(cause: &Cause) -> &'static str {

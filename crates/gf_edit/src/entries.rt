@@ -1,9 +1,14 @@
 //! Lines of two sorts: operations, and commands of one site.
 
-ghost use Rattle.std.specs.Prelude.{◌≡◌, ◌⊎◌, Err, IfOk};
-ghost use Rattle.gf_edit.specs.Entries.{entry_denoted, for_site, IsEntryInRange};
+ghost use Rattle.std.specs.Prelude.{◌≡◌, ◌⊎◌, Err, IfOk, IsTrue};
+ghost use Rattle.gf_json.specs.KeepLines.{IsKeepInRange, keep_denoted};
+ghost use Rattle.gf_json.specs.ScriptLines.{IsScriptInRange, script_denoted};
+ghost use Rattle.gf_edit.specs.Entries.{command_of, entry_denoted, for_site, keep_for_site};
+ghost use Rattle.gf_edit.specs.Entries.{IsEntryInRange, of_script};
 
-use gf_json::{Command, LineError, ScriptLine, read_op, read_script};
+use crate::EditCommand;
+use gf_json::{Command, KeepLine, LineError, ScriptLine, read_keep, read_op, read_script};
+use gf_keep::Keep;
 use gf_ops::Op;
 use std::alloc::Global;
 
@@ -13,7 +18,7 @@ pub enum Entry {
     /// An operation of any site.
     Operation(Op),
     /// A command of the site that edits.
-    Command(Command),
+    Command(EditCommand),
 }
 
 /// What a line denotes for this site, or its first fault. A line without the form of an operation
@@ -25,8 +30,22 @@ pub fn read_entry(alloc: Global, line: &[u8], site: u8) -> Result<Entry, LineErr
 {
     match read_op(alloc, line) {
         Ok(op) => Ok(Entry::Operation(op)),
-        Err(LineError::Field) => match read_script(alloc, line) {
-            Ok(script) => for_site(script, site),
+        Err(LineError::Field) => read_command(alloc, line, site),
+        Err(fault) => Err(fault),
+    }
+}
+
+/// The command that a line denotes for this site, or its first fault. A line without the form of a
+/// script line is read as one that keeps versions.
+fn read_command(alloc: Global, line: &[u8], site: u8) -> Result<Entry, LineError>
+    ensures denoted { (result ≡ Err LineError.OutOfMemory)
+        ⊎ (result ≡ command_of site (script_denoted line.now) (keep_denoted line.now)) }
+    ensures in_range { IfOk result IsEntryInRange }
+{
+    match read_script(alloc, line) {
+        Ok(script) => for_site(script, site),
+        Err(LineError::Field) => match read_keep(alloc, line) {
+            Ok(keep) => keep_for_site(keep, site),
             Err(fault) => Err(fault),
         },
         Err(fault) => Err(fault),
@@ -35,10 +54,38 @@ pub fn read_entry(alloc: Global, line: &[u8], site: u8) -> Result<Entry, LineErr
 
 /// The command of a script line, where it is of this site.
 fn for_site(script: ScriptLine, site: u8) -> Result<Entry, LineError>
-    ensures { result ≡ for_site site script }
+    requires { IsScriptInRange script }
+    ensures value { result ≡ for_site site script }
+    ensures in_range { IfOk result IsEntryInRange }
 {
     if script.site == site {
-        Ok(Entry::Command(script.command))
+        Ok(Entry::Command(of_script(script.command)))
+    } else {
+        Err(LineError::Range)
+    }
+}
+
+/// The command of a script, as one of an edit.
+fn of_script(command: Command) -> EditCommand
+    ensures { result ≡ of_script command }
+{
+    match command {
+        Command::Author(change) => EditCommand::Author(change),
+        Command::Await(id) => EditCommand::Await(id),
+    }
+}
+
+/// What a line keeps, where it is of this site.
+fn keep_for_site(line: KeepLine, site: u8) -> Result<Entry, LineError>
+    requires { IsKeepInRange line }
+    ensures value { result ≡ keep_for_site site line }
+    ensures in_range { IfOk result IsEntryInRange }
+{
+    if line.site == site {
+        Ok(Entry::Command(EditCommand::Keep(Keep {
+            object: line.object,
+            with: line.with,
+        })))
     } else {
         Err(LineError::Range)
     }

@@ -3,6 +3,7 @@
 //!
 //! - [`edit_run`]: reads operation lines and command lines, and writes the new operations.
 //! - [`read_entry`], [`Entry`]: what a line denotes where a site edits, or its first fault.
+//! - [`EditCommand`]: what a line tells the site that edits.
 //! - [`Made`]: the first and the last of the new operations.
 //! - [`EditError`]: why an edit is refused.
 //! - [`what_an_edit_writes_joins_what_it_read`],
@@ -10,6 +11,7 @@
 //!   read and wrote.
 #![tactic(auto)]
 
+mod edit_command;
 mod edit_error;
 mod edited;
 mod editing;
@@ -22,6 +24,7 @@ mod reading;
 mod run;
 mod waiting;
 
+pub use edit_command::EditCommand;
 pub use edit_error::EditError;
 pub use entries::{Entry, read_entry};
 pub use laws::{

@@ -3,18 +3,20 @@
 ghost use Rattle.std.specs.Prelude.{◌≡◌, ◌++◌, [], true, false, Ok, Some, IfOk, IfErr, OnOk};
 ghost use Rattle.gf_ops.specs.Limits.{IsInRange, is_id};
 ghost use Rattle.gf_causal.specs.HeldOperations.{IsFree};
-ghost use Rattle.gf_json.specs.declared.scripts.Command.{Command};
+ghost use Rattle.gf_edit.specs.declared.edit_command.EditCommand.{EditCommand};
 ghost use Rattle.gf_json.specs.OperationLines.{denoted};
 ghost use Rattle.gf_json.specs.WrittenLines.{op_text};
 ghost use Rattle.gf_worker.specs.Turns.{AwaitAnswer, HasOp};
 ghost use Rattle.gf_edit.specs.Making.{written_line};
 ghost use Rattle.gf_edit.specs.MakingSteps.{HasPassed, Passes, RefusesCommand, RefusesMaking};
-ghost use Rattle.gf_edit.specs.MakingSteps.{WritesOp, of_author};
+ghost use Rattle.gf_edit.specs.MakingSteps.{RefusesEach, WritesEach, WritesKeep, WritesOp};
+ghost use Rattle.gf_edit.specs.MakingSteps.{of_author, of_keep};
 
 use crate::edited::Edited;
 use crate::made::until;
-use crate::{EditError, Numbered};
-use gf_json::{Command, op_line};
+use crate::{EditCommand, EditError, Numbered};
+use gf_json::op_line;
+use gf_keep::{Keep, KeepFault, keeping};
 use gf_ops::{Change, History, Op, OpId};
 use gf_shape::OutOfMemory;
 use gf_site::{AuthorFault, NoTable, Replica};
@@ -48,18 +50,64 @@ fn pass(
     site: &mut Replica<NoTable>,
     edited: &mut Edited,
     number: u64,
-    command: Command,
+    command: EditCommand,
 ) -> Result<(), EditError>
     ensures ok { OnOk result (Passes command site.old site.new edited.old edited.new) }
     ensures err { IfErr result (RefusesCommand number command site.old) }
 {
     match command {
-        Command::Author(change) => author(alloc, site, edited, number, change),
-        Command::Await(id) => match refusal(site, id) {
+        EditCommand::Author(change) => author(alloc, site, edited, number, change),
+        EditCommand::Await(id) => match refusal(site, id) {
             Some(cause) => Err(EditError::Refused(number, cause)),
             None => Ok(()),
         },
+        EditCommand::Keep(keep) => keep_versions(alloc, site, edited, number, &keep),
     }
+}
+
+/// Makes the operations that keep versions of an object, and appends their lines.
+fn keep_versions(
+    alloc: Global,
+    site: &mut Replica<NoTable>,
+    edited: &mut Edited,
+    number: u64,
+    keep: &Keep,
+) -> Result<(), EditError>
+    ensures ok { OnOk result (WritesKeep keep.now site.old site.new edited.old edited.new) }
+    ensures err { IfErr result (RefusesCommand number (EditCommand.Keep keep.now) site.old) }
+{
+    match keeping(alloc, site, keep) {
+        Ok(changes) => author_each(alloc, site, edited, number, changes),
+        Err(fault) => Err(keep_refusal(number, fault)),
+    }
+}
+
+fn keep_refusal(number: u64, fault: KeepFault) -> EditError
+    ensures { result ≡ of_keep number fault }
+{
+    match fault {
+        KeepFault::NoObject => EditError::Refused(number, Cause::NoObject),
+        KeepFault::Range => EditError::Refused(number, Cause::Range),
+        KeepFault::NoVersion => EditError::NoVersion(number),
+        KeepFault::OutOfMemory => EditError::Run(StudioError::OutOfMemory),
+    }
+}
+
+/// Makes an operation of each of the changes in order, and appends their lines.
+fn author_each(
+    alloc: Global,
+    site: &mut Replica<NoTable>,
+    edited: &mut Edited,
+    number: u64,
+    changes: Vec<Change>,
+) -> Result<(), EditError>
+    ensures ok { OnOk result (WritesEach changes.items site.old site.new edited.old edited.new) }
+    ensures err { IfErr result (RefusesEach number changes.items site.old) }
+{
+    for change in changes {
+        author(alloc, site, edited, number, change)?;
+    }
+    Ok(())
 }
 
 fn author(
@@ -70,7 +118,7 @@ fn author(
     change: Change,
 ) -> Result<(), EditError>
     ensures ok { OnOk result (WritesOp change site.old site.new edited.old edited.new) }
-    ensures err { IfErr result (RefusesCommand number (Command.Author change) site.old) }
+    ensures err { IfErr result (RefusesCommand number (EditCommand.Author change) site.old) }
 {
     match site.author(change) {
         Ok(op) => match push_line(alloc, &mut edited.text, &op) {

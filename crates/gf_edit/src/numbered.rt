@@ -1,10 +1,10 @@
 //! Commands with the numbers of their lines.
 
-use gf_json::Command;
+use crate::EditCommand;
 
 /// A command, with the number of its line.
 #[derive(Drop)]
 pub struct Numbered {
     pub line: u64,
-    pub command: Command,
+    pub command: EditCommand,
 }
