@@ -4,6 +4,7 @@
 //! - [`edit_run`]: reads operation lines and command lines, and writes the new operations.
 //! - [`read_entry`], [`Entry`]: what a line denotes where a site edits, or its first fault.
 //! - [`EditCommand`]: what a line tells the site that edits.
+//! - [`check_waiting`]: whether an operation that waits blocks a site.
 //! - [`Made`]: the first and the last of the new operations.
 //! - [`EditError`]: why an edit is refused.
 //! - [`what_an_edit_writes_joins_what_it_read`],
@@ -33,3 +34,4 @@ pub use laws::{
 pub use made::Made;
 pub use numbered::Numbered;
 pub use run::edit_run;
+pub use waiting::check_waiting;

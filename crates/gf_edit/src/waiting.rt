@@ -14,7 +14,7 @@ use gf_studio::StudioError;
 use std::alloc::Global;
 
 /// Refuses the edit where one of the operations that the site holds blocks it.
-pub(crate) fn check_waiting(alloc: Global, site: &Replica<NoTable>) -> Result<(), EditError>
+pub fn check_waiting(alloc: Global, site: &Replica<NoTable>) -> Result<(), EditError>
     ensures ok { OnOk result (IsUnblocked site.now) }
     ensures err { IfErr result (RefusesWaiting site.now) }
 {
