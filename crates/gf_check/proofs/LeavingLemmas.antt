@@ -9,7 +9,7 @@ use Rattle.gf_causal.specs.HeldOperations.{AreHeld, IsClash, IsNew}
 use Rattle.gf_site.specs.SiteState.{SiteState}
 use Rattle.gf_site.specs.Events.{Applies, ForgetsReady}
 use Rattle.gf_json.specs.declared.line_error.LineError.{LineError}
-use Rattle.gf_json.specs.declared.scripts.Command.{Command}
+use Rattle.gf_edit.specs.declared.edit_command.EditCommand.{EditCommand}
 use Rattle.gf_replay.specs.declared.reading_error.LineCause.{LineCause}
 use Rattle.gf_replay.specs.declared.reading_error.LineCause.TheVariants as cause
 use Rattle.gf_replay.specs.declared.reading_error.ReadingError.{ReadingError}
@@ -196,7 +196,7 @@ leaves_line editor n text a x y told all d l = record {
   each = λ f e. absurd cc;
 }
 
-pub leaves_command : (editor : Option ℕ) (n : ℕ) (text : List ℕ) (c : Command) (x y : SiteState) (told : List Told) → denoted_by editor text ≡ Ok (entry.Command c) → y ≡ x → LeavesLine editor n text x y told told
+pub leaves_command : (editor : Option ℕ) (n : ℕ) (text : List ℕ) (c : EditCommand) (x y : SiteState) (told : List Told) → denoted_by editor text ≡ Ok (entry.Command c) → y ≡ x → LeavesLine editor n text x y told told
 leaves_command editor n text c x y told d same = subst (λ s. LeavesLine editor n text x s told told) (sym same) (record {
   leaves = leaves_same _ _ _ x told;
   one = λ o. o;

@@ -39,7 +39,7 @@ pub(crate) fn form_of(line: &Value, key: Key) -> Form {
         Key::Shown => Form::Truth,
         Key::Set => Form::Attribute,
         Key::To => form_of_attribute(line),
-        Key::Aim => Form::Aim,
+        Key::Aim | Key::With => Form::Aim,
     }
 }
 

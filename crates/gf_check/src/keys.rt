@@ -29,6 +29,7 @@ pub(crate) enum Key {
     Set,
     To,
     Aim,
+    With,
 }
 
 impl Key {
@@ -51,6 +52,7 @@ impl Key {
             Key::Set => "set",
             Key::To => "to",
             Key::Aim => "aim",
+            Key::With => "with",
         }
     }
 }
@@ -65,6 +67,9 @@ fn keys_beside(sort: Sort) -> &'static [Key] {
 
 /// The keys of a command that waits for an operation.
 const AWAIT_KEYS: &[Key] = &[Key::Do, Key::Site, Key::Id];
+
+/// The keys of a command that keeps versions of an object.
+const KEEP_KEYS: &[Key] = &[Key::Do, Key::Site, Key::Object, Key::With];
 
 /// The keys of a change that creates a box, a circle or an ellipse.
 const SIZED_KEYS: &[Key] = &[
@@ -136,7 +141,13 @@ fn command_keys(line: &Value) -> Result<Keys, Reason<'static>> {
                 change: &[],
             });
         }
-        _ => return Err(Reason::OtherForm("do", "\"create\", \"set\" or \"await\"")),
+        Some("keep") => {
+            return Ok(Keys {
+                beside: KEEP_KEYS,
+                change: &[],
+            });
+        }
+        _ => return Err(Reason::OtherForm("do", "\"create\", \"set\", \"await\" or \"keep\"")),
     };
     Ok(Keys {
         beside: keys_beside(Sort::Command),
@@ -174,6 +185,7 @@ pub(crate) fn is_known(sort: Sort, name: &str) -> bool {
         || has_name(AIMED_KEYS, name)
         || name == Key::Points.name()
         || name == Key::Id.name()
+        || sort == Sort::Command && name == Key::With.name()
 }
 
 /// Whether a key of this name is among these.

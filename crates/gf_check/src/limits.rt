@@ -72,7 +72,7 @@ fn value_fault(key: Key, form: Form, value: &Value) -> Option<Beyond> {
         Form::Points => points_fault(elements(value)?),
         Form::Site => within("site", "", 1, 8).fault(value.as_i64()?),
         Form::Layer => within("layer", "", 0, 9_999).fault(value.as_i64()?),
-        Form::Aim => aim_fault(elements(value)?),
+        Form::Aim => aim_fault(key, elements(value)?),
         Form::Word | Form::Attribute | Form::Colour | Form::Truth => None,
     }
 }
@@ -114,13 +114,13 @@ fn points_fault(points: &[Value]) -> Option<Beyond> {
     None
 }
 
-fn aim_fault(ids: &[Value]) -> Option<Beyond> {
-    let fault = within("aim", ": count", 0, 1_000).fault(count_of(ids));
+fn aim_fault(key: Key, ids: &[Value]) -> Option<Beyond> {
+    let fault = within(key.name(), ": count", 0, 1_000).fault(count_of(ids));
     if fault.is_some() {
         return fault;
     }
     for id in ids {
-        let fault = id_fault(Key::Aim, id);
+        let fault = id_fault(key, id);
         if fault.is_some() {
             return fault;
         }

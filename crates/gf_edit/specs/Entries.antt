@@ -25,11 +25,13 @@ of_script (script.Await i) = command.Await i
 abbrev pub for_site : ℕ → ScriptLine → Got Entry
 for_site s l = if l.site == s then Ok (entry.Command (of_script l.command)) else Err fault.Range
 
+-- the command to keep what a line names
+abbrev pub kept : KeepLine → EditCommand
+kept l = command.Keep (record { object = l.object; with = l.with })
+
 -- what site s keeps; a line of another site is out of range
 abbrev pub keep_for_site : ℕ → KeepLine → Got Entry
-keep_for_site s l =
-    if l.site == s then Ok (entry.Command (command.Keep (record { object = l.object; with = l.with })))
-    else Err fault.Range
+keep_for_site s l = if l.site == s then Ok (entry.Command (kept l)) else Err fault.Range
 
 -- a line that has not the form of a script line is read as one that keeps versions
 abbrev pub command_of : ℕ → Got ScriptLine → Got KeepLine → Got Entry

@@ -35,8 +35,8 @@ pub data Makes (s : ℕ) (h : List Op) : List Numbered → List Op → Type 0 wh
       → Makes s h cs new → AreKeeping (h ++ new) k changes → MakesEach s (h ++ new) changes more
       → Makes s h (cs ++ record { line = n; command = command.Keep k } ∷ []) (new ++ more)
 
--- the command of line n is the first that site s refuses behind h: what is refused is a fact on the
--- operations before it and on the command
+-- the command of line n is the first that site s refuses behind h. Refused tells how, of the
+-- operations before the command and of the command
 pub record HasRefused (Refused : List Op → EditCommand → Type 0) (s : ℕ) (h : List Op)
     (commands : List Numbered) (n : ℕ) : Type 0 where
   pub before : List Numbered

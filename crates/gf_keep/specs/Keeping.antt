@@ -37,15 +37,15 @@ pub record IsOn (h : List Op) (o : ObjectId) (x : Op) : Type 0 where
 abbrev pub IsMark : List Op → Group → OpId → Type 0
 IsMark h g i = IsTelling h g.ops (IsOn h g.object) i
 
--- one that tells the group g from the operations on its object aims at i
+-- an operation that tells the group g from those on its object aims at i
 pub record IsAimOfMark (h : List Op) (g : Group) (i : OpId) : Type 0 where
   pub op : Op
   pub contained : Contains h op
   pub mark : IsMark h g op.id
   pub aimed : Contains (aim_of op) i
 
--- the rising ids are those that tell the group g from the operations on its object, and those that
--- they aim at
+-- the rising ids tell the group g from the operations on its object. With them are those that they
+-- aim at
 pub record AreAimedAt (h : List Op) (g : Group) (ids : List OpId) : Type 0 where
   pub exactly : (i : OpId) → Contains ids i ↔ (IsMark h g i ⊎ IsAimOfMark h g i)
   pub rising : IsStrictlySortedBy id_cmp ids
@@ -60,7 +60,7 @@ pub record IsShowing (h : List Op) (g : Group) (c : Change) : Type 0 where
   pub aims : AreAimedAt h g aim
   pub is : c ≡ Set g.object (Shown true) aim
 
--- some versions are kept: the changes hide the object, and then show each of them, in their order
+-- some versions are kept. The changes hide the object, and then show each of them, in their order
 pub record AreKeeping (h : List Op) (k : Keep) (changes : List Change) : Type 0 where
   pub groups : List Group
   pub kept : AreKept h k groups

@@ -31,7 +31,7 @@ pub record IsShow (h : List Op) (new : List Op) (g : Group) (x : Op) : Type 0 wh
   pub contained : Contains new x
   pub change : IsShowing h g x.change
 
--- behind the new operations, the kept version g of h has become the group f: with its operations
+-- behind the new operations, the kept version g of h has become the group f. With its operations
 -- it has the one that hides the object, and the one that shows it
 pub record Becomes (h : List Op) (k : Keep) (new : List Op) (g f : Group) : Type 0 where
   pub hide : Op

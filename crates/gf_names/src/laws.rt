@@ -8,8 +8,8 @@ ghost use Rattle.gf_ops.specs.declared.op.Op.{Op};
 ghost use Rattle.gf_ops.specs.declared.op.OpId.{OpId};
 ghost use Rattle.gf_names.specs.Telling.{AreTelling};
 
-/// Two versions of an object are one where the second has all that tells the first from others, the
-/// members of the second among them.
+/// Let ids tell a version of an object from others, among them the members of a second version.
+/// Where the second has all of these ids, both are one.
 pub fn what_tells_a_version_is_in_no_other()
     ensures { (h : List Op) → IsValid h → (o : ObjectId) (g k : List OpId) → IsVersion h o g
         → IsVersion h o k → (others : List OpId) → ((i : OpId) → Contains k i → Contains others i)

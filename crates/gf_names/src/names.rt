@@ -15,7 +15,7 @@ use gf_base::OutOfMemory;
 use gf_ops::{History, Ids, Op, OpId, direct_conflict};
 use std::alloc::Global;
 
-/// What tells the members of a group from others: against each of the others, the last member of
+/// What tells the members of a group from others. Against each of these it is the last member of
 /// each site that conflicts directly with it. An id that the history lacks counts for nothing.
 ///
 /// Each member is compared with each of the others.

@@ -130,12 +130,14 @@ draw | line 1: Field: a command, which edit takes: check --site N explains it
 box await | line 2: Field: a command, which edit takes: check --site N explains it
 draw~"layer":0~"layer":10000 draw~"colour"~"radius" {"do":7} | line 1: Field: a command, which edit takes: check --site N explains it / line 2: Field: a command, which edit takes: check --site N explains it / line 3: Field: a command, which edit takes: check --site N explains it
 box~"shown":true~"shown":true,"site":1 | line 1: Field: unknown key "site"
+box~"shown":true~"shown":true,"with":[] | line 1: Field: unknown key "with"
 "##;
 
 /// Each row: the site that edits, and then as above.
 const COMMAND_ROWS: &str = r##"
 // A command of the site is no fault, and changes nothing of the others.
-2 box draw hide aim await |
+2 box draw hide aim await keep |
+2 box keep~[[2,1]]~[] |
 2 shape ring |
 2 draw |
 2 hide box move |
@@ -157,8 +159,8 @@ const COMMAND_ROWS: &str = r##"
 2 draw~"kind":"box",~ | line 1: Field: command 1: the key "kind" is missing
 2 shape~"points":[[0,0],[9,0],[0,9]],~ | line 1: Field: command 1: the key "points" is missing
 2 hide~,"to":false~ | line 1: Field: command 1: the key "to" is missing
-2 draw~"do":"create"~"do":"make" | line 1: Field: command 1: "do" must be "create", "set" or "await"
-2 draw~"do":"create"~"do":7 | line 1: Field: command 1: "do" must be "create", "set" or "await"
+2 draw~"do":"create"~"do":"make" | line 1: Field: command 1: "do" must be "create", "set", "await" or "keep"
+2 draw~"do":"create"~"do":7 | line 1: Field: command 1: "do" must be "create", "set", "await" or "keep"
 2 draw~"kind":"box"~"kind":"square" | line 1: Field: command 1: "kind" must be "box", "circle", "ellipse" or "polygon"
 2 hide~"set":"shown"~"set":"color" | line 1: Field: command 1: "set" must be "place", "points", "size", "colour", "layer" or "shown"
 2 hide~false~0 | line 1: Field: command 1: "to" must be true or false
@@ -166,6 +168,11 @@ const COMMAND_ROWS: &str = r##"
 2 draw~"site":2~"site":2.5 | line 1: Field: command 1: "site" must be a whole number
 2 await~[1,1]~1 | line 1: Field: command 1: "id" must be a list of two whole numbers
 2 ring~[5,5]~[5,6] | line 1: Field: command 1: "size" must be a list of two equal whole numbers
+2 keep~"with"~"width" | line 1: Field: command 1: unknown key "width"
+2 keep~"with"~"aim" | line 1: Field: command 1: the key "with" is missing
+2 keep~[[2,1]]~[[2,1]],"to":1 | line 1: Field: command 1: the key "to" does not belong here
+2 hide~"to":false~"to":false,"with":[] | line 1: Field: command 1: the key "with" does not belong here
+2 keep~[[2,1]]~[[2,1],[1,1]] | line 1: Field: command 1: "with" must be a list of pairs of whole numbers that rise, each once
 2 aim~[1,1],[1,2]~[1,2],[1,1] | line 1: Field: command 1: "aim" must be a list of pairs of whole numbers that rise, each once
 
 // Limits, and another site.
@@ -176,13 +183,15 @@ const COMMAND_ROWS: &str = r##"
 2 await~[1,1]~[1,10001] | line 1: Range: command 1: id: number 10001 is above 10000
 2 hide~[1,1]~[9,1] | line 1: Range: command 1: object: site 9 is above 8
 2 draw~"site":2~"site":1 | line 1: Range: command 1: site 1, and this is a check for site 2
+2 keep~[[2,1]]~[[2,0]] | line 1: Range: command 1: with: number 0 is below 1
+2 keep~"site":2~"site":1 | line 1: Range: command 1: site 1, and this is a check for site 2
 1 hide | line 1: Range: command 1: site 2, and this is a check for site 1
 2 await~"site":2~"site":8 | line 1: Range: command 1: site 8, and this is a check for site 2
 2 draw~"site":2~"site":1~"layer":0~"layer":10000 | line 1: Range: command 1: layer 10000 is above 9999
 
 // The numbers of commands count each object with the key, right or wrong.
 2 draw hide~"to"~"too" box draw~"layer"~"level" | line 2: Field: command 2: unknown key "too" / line 4: Field: command 3: unknown key "level"
-2 {"do":1} [1] { {"do":[]} await~"site":2~"site":3 | line 1: Field: command 1: "do" must be "create", "set" or "await" / line 2: Field: this is no object / line 3: Json: one object a line: this one does not end here / line 4: Field: command 2: "do" must be "create", "set" or "await" / line 5: Range: command 3: site 3, and this is a check for site 2
+2 {"do":1} [1] { {"do":[]} await~"site":2~"site":3 | line 1: Field: command 1: "do" must be "create", "set", "await" or "keep" / line 2: Field: this is no object / line 3: Json: one object a line: this one does not end here / line 4: Field: command 2: "do" must be "create", "set", "await" or "keep" / line 5: Range: command 3: site 3, and this is a check for site 2
 "##;
 
 /// The piece of this name, or the name itself.
@@ -228,6 +237,7 @@ fn piece(name: &str) -> &str {
             r#"{"do":"set","site":2,"object":[1,1],"set":"layer","to":5,"aim":[[1,1],[1,2]]}"#
         }
         "await" => r#"{"do":"await","site":2,"id":[1,1]}"#,
+        "keep" => r#"{"do":"keep","site":2,"object":[1,1],"with":[[2,1]]}"#,
         _ => name,
     }
 }

@@ -68,6 +68,26 @@ const ROWS: &str = r#"
 2 box / move~2~9 / | | line 2: Range
 2 box / move~[9,7]~[9,1000001] / | | line 2: Range
 
+// A keep hides the object, and shows each visible version that holds all of the operations. Its
+// aim is what tells the version from all operations on the object.
+2 box / blue / green / keep / | covered / shown / | made 2.2 to 2.3
+2 box / blue / green / green~[2,1]~[3,1]~00ff00~00ffff / keep / | covered~[2,1,0~[2,1,1 / shown~[2,2,0~[2,2,1 / | made 2.2 to 2.3
+2 box / blue / green / keep~[[2,1]]~[] / | covered / shown~[[2,1]]~[[1,2]] / shown~[2,3]~[2,4]~[2,2,0~[2,3,0 / | made 2.2 to 2.4
+2 box / blue / move / keep / | moved~[1,0~[2,0 / covered / shown~"aim":[[2,1]],~ / | made 2.1 to 2.3
+2 box / blue / green / keep / keep / | covered / shown / covered~[2,2]~[2,4]~[2,1,0~[2,3,0 / shown~[2,3]~[2,5]~[2,2,0~[2,4,0 / | made 2.2 to 2.5
+
+// Two keeps of two sites at once show both versions again.
+3 box / blue / green / covered~[2,2]~[1,3] / shown~[[2,1]]~[[1,2]]~[2,3]~[1,4]~[2,2,0~[3,1,0 / covered / shown / keep~"site":2~"site":3~[[2,1]]~[] / | covered~[2,2]~[3,1]~[2,1,0~[4,3,0 / shown~[[2,1]]~[[1,2],[1,3],[1,4]]~[2,3]~[3,2]~[2,2,0~[4,3,1 / shown~[[2,1]]~[[2,1],[2,2],[2,3]]~"id":[2,3]~"id":[3,3]~[2,2,0~[4,3,2 / | made 3.1 to 3.3
+
+// A keep of nothing is refused.
+2 box / blue / green / keep~[[2,1]]~[[1,2],[2,1]] / | | line 4: NoVersion
+2 box / blue / keep / | | line 3: NoVersion
+2 box / keep~[1,1]~[1,2] / | | line 2: NoObject
+2 box / keep~"site":2~"site":3 / | | line 2: Range
+2 box / keep~[1,1]~[1,10001] / | | line 2: Range
+2 box / keep~[[2,1]]~[[2,1],[1,1]] / | | line 2: Field
+2 box / keep~"with"~"aim" / | | line 2: Field
+
 // A line at fault comes before what waits, and that before a command that is refused.
 2 gone / { / | | line 2: Json
 2 gone / {} / | | line 2: Field
@@ -112,6 +132,7 @@ fn piece(name: &str) -> &str {
             r#"{"site":2,"do":"set","object":[1,1],"set":"points","to":[[0,0],[1,0],[0,1]]}"#
         }
         "await" => r#"{"site":2,"do":"await","id":[1,1]}"#,
+        "keep" => r#"{"site":2,"do":"keep","object":[1,1],"with":[[2,1]]}"#,
 
         // What is made of them.
         "drawn" => {
@@ -122,6 +143,12 @@ fn piece(name: &str) -> &str {
         }
         "moved" => {
             r#"{"id":[2,1],"object":[1,1],"op":"set","past":[1,0,0,0,0,0,0,0],"set":"place","to":[9,7]}"#
+        }
+        "covered" => {
+            r#"{"id":[2,2],"object":[1,1],"op":"set","past":[2,1,0,0,0,0,0,0],"set":"shown","to":false}"#
+        }
+        "shown" => {
+            r#"{"aim":[[2,1]],"id":[2,3],"object":[1,1],"op":"set","past":[2,2,0,0,0,0,0,0],"set":"shown","to":true}"#
         }
         "aimed" => {
             r#"{"aim":[[1,1],[1,2]],"id":[2,1],"object":[1,1],"op":"set","past":[2,0,0,0,0,0,0,0],"set":"layer","to":5}"#
@@ -249,6 +276,7 @@ fn refusals_have_their_texts(rt: HostRuntime) -> Result<(), Fail> {
             EditError::Refused(7, Cause::NeverComes),
             "line 7: NeverComes",
         ),
+        (EditError::NoVersion(7), "line 7: NoVersion"),
     ] {
         prints(rt.alloc(), error, text)?;
     }

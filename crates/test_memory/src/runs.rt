@@ -150,9 +150,8 @@ impl Example<'_> {
             Run::Edit => match edit_run(alloc, &mut source, tape, 1) {
                 Ok(_) => Ok(()),
                 Err(EditError::Run(error)) => Err(error),
-                Err(EditError::Waits(_, _) | EditError::Refused(_, _)) => Err(
-                    StudioError::ReadFailed,
-                ),
+                Err(EditError::Waits(_, _) | EditError::Refused(_, _) | EditError::NoVersion(_)) =>
+                    Err(StudioError::ReadFailed),
             },
             Run::Status => {
                 status_run(rt, alloc, &mut source, tape, 2)?;
@@ -345,20 +344,21 @@ fn import<T: Threads + Wait + Sync>(rt: &T, alloc: Global, marks: &mut Marks) ->
     example.tried(rt, alloc, marks)
 }
 
-/// The command by which site 1 hides the version that holds 2.1, and the operation that it makes.
-const HIDE: &str =
-    "{\"site\":1,\"do\":\"set\",\"object\":[1,1],\"set\":\"shown\",\"to\":false,\"aim\":[[2,1]]}\n";
+/// The commands by which site 1 hides the version that holds 2.1, and keeps the other one.
+const COMMANDS: &str =
+    "{\"site\":1,\"do\":\"set\",\"object\":[1,1],\"set\":\"shown\",\"to\":false,\"aim\":[[2,1]]}\n{\"site\":1,\"do\":\"keep\",\"object\":[1,1],\"with\":[[1,2]]}\n";
 
-const HIDDEN: &[u8] =
-    b"{\"aim\":[[2,1]],\"id\":[1,3],\"object\":[1,1],\"op\":\"set\",\"past\":[2,1,0,0,0,0,0,0],\"set\":\"shown\",\"to\":false}\n";
+/// The operations that they make.
+const MADE: &[u8] =
+    b"{\"aim\":[[2,1]],\"id\":[1,3],\"object\":[1,1],\"op\":\"set\",\"past\":[2,1,0,0,0,0,0,0],\"set\":\"shown\",\"to\":false}\n{\"id\":[1,4],\"object\":[1,1],\"op\":\"set\",\"past\":[3,1,0,0,0,0,0,0],\"set\":\"shown\",\"to\":false}\n{\"aim\":[[1,2]],\"id\":[1,5],\"object\":[1,1],\"op\":\"set\",\"past\":[4,1,0,0,0,0,0,0],\"set\":\"shown\",\"to\":true}\n";
 
 fn edit<T: Threads + Wait + Sync>(rt: &T, alloc: Global, marks: &mut Marks) -> Option<Came> {
     let mut input = lines(alloc, TWO_COLOURS)?;
-    input.push_str(HIDE).ok()?;
+    input.push_str(COMMANDS).ok()?;
     let example = Example {
         run: Run::Edit,
         input: input.as_bytes(),
-        whole: HIDDEN,
+        whole: MADE,
         cuts: &[0],
     };
     Some(example.tried(rt, alloc, marks))

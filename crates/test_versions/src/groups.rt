@@ -90,6 +90,22 @@ groups 1.2                           | NoObject
 groups 3.1                           | NoObject
 groups 0.0                           | NoObject
 
+// what_tells_a_version_from_others
+new                                           | ok
+add 1.1: box 10 10                            | ok
+add 1.2 after 1: 1.1 colour 0000ff            | ok
+add 1.3 after 2: 1.1 colour 00ffff            | ok
+add 2.1 after 1: 1.1 colour 00ff00            | ok
+add 2.2 after 1 1: 1.1 layer 3                | ok
+add 3.1 after 1: 1.1 layer 2                  | ok
+telling 1.1 1.2 1.3 against 1.1 2.1           | [ 1.3 ]
+telling 1.1 2.1 against 1.1 1.2 1.3           | [ 2.1 ]
+telling 3.1 1.3 1.2 1.1 against 2.1 2.2       | [ 1.3 3.1 ]
+telling 1.1 2.1 2.2 against 1.1 1.2 1.3 3.1   | [ 2.1 2.2 ]
+telling 1.1 1.2 against 1.1                   | [ ]
+telling 1.1 1.2 against 2.7 9.9               | [ ]
+telling 1.1 9.9 against 2.1                   | [ ]
+
 // each_round_of_two_colours_doubles_the_versions
 new                                   | ok
 add 1.1: box 10 10                    | ok

@@ -59,6 +59,7 @@ fn told_of(alloc: Global, history: &History, verb: &str, text: &str) -> Option<S
         "all" => version_commands::all(alloc, history),
         "total" => version_commands::total(alloc, history),
         "ranked" => version_commands::ranking(alloc, history),
+        "telling" => version_commands::telling(alloc, history, text),
         "looks" => version_commands::looks(alloc, history, text),
         "covers" => version_commands::covers(alloc, history, text),
         "settled" => version_commands::settled(alloc, history),

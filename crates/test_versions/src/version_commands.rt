@@ -44,6 +44,26 @@ pub(crate) fn total(alloc: Global, history: &History) -> Option<String> {
     format!(in alloc; "{}", groups.as_slice().len()).ok()
 }
 
+/// What tells the first ids from those behind `against`.
+pub(crate) fn telling(alloc: Global, history: &History, text: &str) -> Option<String> {
+    let (members, others) = text.split_once(" against ")?;
+    let members = ids(alloc, members)?;
+    let others = ids(alloc, others)?;
+    let found = gf_names::telling(alloc, history, &members, &others).ok()?;
+    let mut text = String::new(alloc);
+    push_ids(alloc, &mut text, found.as_slice())?;
+    Some(text)
+}
+
+/// `1.1 2.1`.
+fn ids(alloc: Global, text: &str) -> Option<Vec<OpId>> {
+    let mut ids = Vec::new(alloc);
+    for word in text.split_whitespace() {
+        ids.push(id(word)?).ok()?;
+    }
+    Some(ids)
+}
+
 /// Each group in brackets, by the ids of its operations.
 pub(crate) fn text_of(alloc: Global, groups: &Groups) -> Option<String> {
     let mut text = String::new(alloc);
