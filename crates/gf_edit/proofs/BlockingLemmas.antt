@@ -15,6 +15,7 @@ use Rattle.gf_causal.specs.HeldOperations.{AreHeld, ids_of}
 use Rattle.gf_causal.proofs.HeldLemmas.{ids_total}
 use Rattle.gf_site.specs.SiteState.{SiteState}
 use Rattle.gf_replay.specs.Taking.{HasTaken}
+use Rattle.gf_replay.specs.Waiting.{AreWaiting}
 use Rattle.gf_edit.specs.EditedText.{Blocks}
 use Rattle.gf_edit.specs.EditRun.{IsFirstBlocking}
 use Rattle.gf_edit.specs.Waiting.{is_blocking}
@@ -88,7 +89,17 @@ one_of : (a b : Bool) → (a || b) ≡ true → (a ≡ true) ⊎ (b ≡ true)
 one_of true b t = inl refl
 one_of false b t = inr t
 
-module _ (s : ℕ) (ops : List Op) (x : SiteState) (t : HasTaken ops x) (held : AreHeld x.held) where
+-- what a site holds is what waits of the operations that it has taken
+pub waiting_taken : (ops : List Op) (x : SiteState) → HasTaken ops x → AreHeld x.held → AreWaiting ops x.ops x.held
+waiting_taken ops x t held = record {
+  exactly = λ a. (
+    λ i. ((t.all a).1 (inl i), t.others a i),
+    λ w. elim ((t.all a).0 w.0) [ inl j ↦ j | inr j ↦ absurd (w.1 j) ],
+  );
+  rising = held.rising;
+}
+
+module _ (s : ℕ) (ops : List Op) (x : SiteState) (w : AreWaiting ops x.ops x.held) where
   blocking_told : (a : Op) → Blocks s x.ops a → is_blocking s x.ops a ≡ true
   blocking_told a b = one_true _ _ (elim b.knows [
     | inl e ↦ inl (eq-eqb a.id.site s e)
@@ -97,7 +108,7 @@ module _ (s : ℕ) (ops : List Op) (x : SiteState) (t : HasTaken ops x) (held : 
 
   told_blocking : (a : Op) → Contains x.held a → is_blocking s x.ops a ≡ true → Blocks s x.ops a
   told_blocking a i e = record {
-    waits = t.others a i;
+    waits = ((w.exactly a).0 i).1;
     knows = elim (one_of (a.id.site == s) (nat_lt (count_of x.ops s) (entry a.past s)) e) [
       | inl q ↦ elim (eqb_tells a.id.site s) [ inl y ↦ inl y.1 | inr n ↦ let z = n.0 in absurd cc ]
       | inr l ↦ inr (ltb-true (count_of x.ops s) (entry a.past s) l)
@@ -105,7 +116,7 @@ module _ (s : ℕ) (ops : List Op) (x : SiteState) (t : HasTaken ops x) (held : 
   }
 
   held_there : (a : Op) → Contains ops a → ¬ (Contains x.ops a) → Contains x.held a
-  held_there a i out = elim ((t.all a).0 i) [ inl j ↦ j | inr j ↦ absurd (out j) ]
+  held_there a i out = (w.exactly a).1 (i, out)
 
   -- where none is found, none blocks
   pub none_blocks : find (is_blocking s x.ops) x.held ≡ None → (a : Op) → Contains ops a → ¬ (Blocks s x.ops a)
@@ -116,7 +127,7 @@ module _ (s : ℕ) (ops : List Op) (x : SiteState) (t : HasTaken ops x) (held : 
   first_blocks a e =
       let f = found_there (is_blocking s x.ops) x.held a e in
       record {
-        contained = (t.all a).1 (inl f.0);
+        contained = ((w.exactly a).0 f.0).0;
         blocks = told_blocking a f.0 f.1;
-        least = λ b i k. least_found (is_blocking s x.ops) x.held a held.rising e b (held_there b i k.waits) (blocking_told b k);
+        least = λ b i k. least_found (is_blocking s x.ops) x.held a w.rising e b (held_there b i k.waits) (blocking_told b k);
       }

@@ -23,7 +23,7 @@ use Rattle.gf_edit.specs.EditedText.{AreEntriesOf, AreDelivered, entry_at, ops_i
 use Rattle.gf_edit.specs.EditRun.{Edits, HasBlocking, RefusesEdit, HasRefusedCommand}
 use Rattle.gf_edit.specs.EntrySteps.{HasReadEntries, HoldsBlocking, IsUnblocked, RefusesWaiting}
 use Rattle.gf_edit.specs.Waiting.{is_blocking}
-use Rattle.gf_edit.proofs.BlockingLemmas.{first_blocks, none_blocks}
+use Rattle.gf_edit.proofs.BlockingLemmas.{first_blocks, none_blocks, waiting_taken}
 use Rattle.gf_edit.proofs.CleanLemmas.{op_clean}
 use Rattle.gf_edit.proofs.WrittenLemmas.{op_shown, written_from}
 
@@ -35,7 +35,7 @@ module _ (s : ℕ) (bytes : List ℕ) (r : ReadLines) (read : HasReadEntries s b
   behind none = record {
     delivers = delivers (ops_in read.entries) r.site read.taken read.none;
     accepted = read.taken.accepted;
-    free = none_blocks s (ops_in read.entries) r.site read.taken held (subst (λ n. find (is_blocking n r.site.ops) r.site.held ≡ None) read.number none);
+    free = none_blocks s (ops_in read.entries) r.site (waiting_taken (ops_in read.entries) r.site read.taken held) (subst (λ n. find (is_blocking n r.site.ops) r.site.held ≡ None) read.number none);
   }
 
   -- the text has the lines of what the commands make
@@ -87,7 +87,7 @@ module _ (s : ℕ) (bytes : List ℕ) (r : ReadLines) (read : HasReadEntries s b
     delivers = delivers (ops_in read.entries) r.site read.taken read.none;
     accepted = read.taken.accepted;
     op = b.op;
-    blocking = first_blocks s (ops_in read.entries) r.site read.taken held b.op (subst (λ n. find (is_blocking n r.site.ops) r.site.held ≡ Some b.op) read.number b.first);
+    blocking = first_blocks s (ops_in read.entries) r.site (waiting_taken (ops_in read.entries) r.site read.taken held) b.op (subst (λ n. find (is_blocking n r.site.ops) r.site.held ≡ Some b.op) read.number b.first);
     named = b.named;
     waits = b.waits;
   }

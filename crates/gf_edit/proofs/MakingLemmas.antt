@@ -34,7 +34,7 @@ last_push : (i : OpId) (ops : List Op) (a : Op) → last_id i (ops ++ a ∷ []) 
 last_push i [] a = refl
 last_push i (x ∷ ops) a = last_push x.id ops a
 
-made_push : (ops : List Op) (a : Op) → Some (made_until (made_of ops) a.id) ≡ made_of (ops ++ a ∷ [])
+pub made_push : (ops : List Op) (a : Op) → Some (made_until (made_of ops) a.id) ≡ made_of (ops ++ a ∷ [])
 made_push [] a = refl
 made_push (x ∷ ops) a = ap (λ i. Some (record { first = x.id; last = i })) (sym (last_push x.id ops a))
 

@@ -6,6 +6,7 @@
 //! - [`EditCommand`]: what a line tells the site that edits.
 //! - [`check_waiting`]: whether an operation that waits blocks a site.
 //! - [`Made`]: the first and the last of the new operations.
+//! - [`push_line`]: appends the line of an operation.
 //! - [`EditError`]: why an edit is refused.
 //! - [`what_an_edit_writes_joins_what_it_read`],
 //!   [`what_an_edit_writes_is_drawn_with_what_it_read`]: the laws of the operations that an edit
@@ -32,6 +33,7 @@ pub use laws::{
     what_an_edit_writes_is_drawn_with_what_it_read, what_an_edit_writes_joins_what_it_read,
 };
 pub use made::Made;
+pub use making::push_line;
 pub use numbered::Numbered;
 pub use run::edit_run;
 pub use waiting::check_waiting;

@@ -145,7 +145,8 @@ fn author_refusal(number: u64, fault: AuthorFault) -> EditError
     }
 }
 
-fn push_line(alloc: Global, text: &mut Vec<u8>, op: &Op) -> Result<(), OutOfMemory>
+/// Appends the line of an operation, with LF.
+pub fn push_line(alloc: Global, text: &mut Vec<u8>, op: &Op) -> Result<(), OutOfMemory>
     requires { IsInRange op.now }
     ensures text { OnOk result (text.new.items ≡ text.old.items ++ written_line op.now) }
     ensures reads { OnOk result (denoted (op_text op.now) ≡ Ok op.now) }

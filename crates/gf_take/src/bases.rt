@@ -38,8 +38,9 @@ pub fn base_site(
     Ok(base)
 }
 
-/// How far the operations reach that a site saw.
-fn reach(site: u8, seen: &Clock, ops: &[Op]) -> Clock
+/// How far the operations reach that a site saw: for each site the greatest number among them and
+/// those that they know.
+pub fn reach(site: u8, seen: &Clock, ops: &[Op]) -> Clock
     requires { IsValid ops.now }
     ensures { AreReached site seen.now ops.now result }
 {

@@ -1,6 +1,7 @@
 //! What a site takes from a drawing that was changed elsewhere: new operations behind a base, and
 //! the check that the history with them shows the drawing.
 //!
+//! - [`reach`]: how far the operations reach that a designer saw.
 //! - [`base_site`]: a site that has what a designer saw, and all of its own.
 //! - [`take`]: makes changes behind the base of a site, and answers their operations only where
 //!   the site then shows the drawing; [`TakeError`] tells why not.
@@ -17,7 +18,7 @@ mod swapping;
 mod take_error;
 mod taking;
 
-pub use bases::base_site;
+pub use bases::{base_site, reach};
 pub use laws::{
     a_history_shows_its_own_drawing, what_a_base_knows_is_a_history,
     what_is_taken_joins_what_was_read, what_shows_a_drawing_paints_it,
