@@ -47,7 +47,7 @@ commands_added (c ∷ rest) old new e (m, step, more) =
 
 -- the options of each command are simple
 pub options_simple : (t : Takes) → list_all (λ r. r.is_simple) (options_of t) ≡ true
-options_simple takes.Workers = refl
+options_simple takes.Fig = refl
 options_simple takes.Canvas = refl
 options_simple takes.Query = refl
 options_simple takes.Site = refl
@@ -57,7 +57,7 @@ options_simple takes.Sites = refl
 
 -- a new command with the options of t
 pub options_whole : (name : List ℕ) (t : Takes) → fold with_rule (new_app name) (options_of t) ≡ leaf (command name (options_of t))
-options_whole name takes.Workers = refl
+options_whole name takes.Fig = refl
 options_whole name takes.Canvas = refl
 options_whole name takes.Query = refl
 options_whole name takes.Site = refl

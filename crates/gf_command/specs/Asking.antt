@@ -28,8 +28,9 @@ use Rattle.gf_command.specs.declared.runs.Canvas.{Canvas}
 use Rattle.gf_command.specs.declared.runs.Extent.{Extent}
 use Rattle.gf_command.specs.declared.runs.Extent.TheVariants as extent
 use Rattle.gf_command.specs.declared.runs.Run.{Run}
-use Rattle.gf_command.specs.declared.runs.Run.TheVariants.{Fig, Paint, Repaint, Inspect, Import}
-use Rattle.gf_command.specs.declared.runs.Run.TheVariants.{Edit, Status, Check, Session}
+use Rattle.gf_command.specs.declared.runs.Run.TheVariants.{Fig, NamedFig, Paint, Repaint}
+use Rattle.gf_command.specs.declared.runs.Run.TheVariants.{Inspect, Import, Edit, Status}
+use Rattle.gf_command.specs.declared.runs.Run.TheVariants.{Check, Session}
 
 -- in these rows the option has a text, given or by default, whose number is n
 pub record HasNatural (rows : List Row) (name : Text) (n : ℕ) : Type 0 where
@@ -104,6 +105,12 @@ pub record IsCanvas (rows : List Row) (canvas : Canvas) : Type 0 where
   pub unplaced : is_placed_fit rows ≡ false
   pub workers : HasWorkers rows canvas.workers
 
+-- the options of these rows ask for this FIG text
+abbrev pub IsFig : List Row → Run → Type 0
+IsFig rows (Fig workers) = (has_flag (codes "named") rows ≡ false) × HasWorkers rows workers
+IsFig rows (NamedFig workers) = IsTrue (has_flag (codes "named") rows) × HasWorkers rows workers
+IsFig rows other = ⊥
+
 -- the editor is the site of this number
 abbrev pub IsEditorOf : ℕ → Option Editor → Type 0
 IsEditorOf n editor = MatchOption editor ⊥ (λ e. e.site ≡ n)
@@ -151,7 +158,8 @@ Meets met name P = (rows : List Row) × (met ≡ Some (name, rows)) × P rows
 
 -- what a command asks for that was met with its rows
 abbrev pub AsksRun : Option (Text × List Row) → Run → Type 0
-AsksRun met (Fig workers) = Meets met (codes "fig") (λ rows. HasWorkers rows workers)
+AsksRun met (Fig workers) = Meets met (codes "fig") (λ rows. IsFig rows (Fig workers))
+AsksRun met (NamedFig workers) = Meets met (codes "fig") (λ rows. IsFig rows (NamedFig workers))
 AsksRun met (Paint canvas) = Meets met (codes "paint") (λ rows. IsCanvas rows canvas)
 AsksRun met (Repaint canvas) = Meets met (codes "repaint") (λ rows. IsCanvas rows canvas)
 AsksRun met (Inspect query workers) =

@@ -42,9 +42,9 @@ canvas =
 abbrev pub reading : Rule
 reading = count (codes "workers") (codes "4") 16
 
--- the option of a run that only reads
-abbrev pub readers : List Rule
-readers = reading ∷ []
+-- the options of a FIG text
+abbrev pub fig : List Rule
+fig = flag (codes "named") ∷ reading ∷ []
 
 -- the options of a query
 abbrev pub query : List Rule
@@ -73,7 +73,7 @@ command name options = record (new_shape name) { rules = options }
 -- the commands of the program
 abbrev pub commands : List Shape
 commands =
-    command (codes "fig") readers ∷ command (codes "paint") canvas ∷
+    command (codes "fig") fig ∷ command (codes "paint") canvas ∷
     command (codes "repaint") canvas ∷ command (codes "inspect") query ∷
     command (codes "import") site ∷ command (codes "edit") site ∷
     command (codes "status") check ∷ command (codes "check") editor ∷

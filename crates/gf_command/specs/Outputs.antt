@@ -3,7 +3,7 @@ use Rattle.std.specs.Prelude.{◌≡◌, ◌⊎◌, ℕ, true, List, Option, opt
 use Rattle.gf_shape.specs.declared.colour.Rgb.{Rgb}
 use Rattle.gf_shape.specs.declared.point.Point.{Point}
 use Rattle.gf_scanline.specs.Windows.{View}
-use Rattle.gf_studio.specs.FigRun.{Exports, IsFigOf, Writes}
+use Rattle.gf_studio.specs.FigRun.{Exports, IsFigOf, IsNamedOf, Writes, WritesNamed}
 use Rattle.gf_studio.specs.InspectRun.{AnswersQuery, WritesAnswer}
 use Rattle.gf_studio.specs.PaintRun.{IsDenoted, IsMeant, IsPicture, WritesBands, WritesPicture}
 use Rattle.gf_studio.specs.RunAnswers.{WritesPrefix}
@@ -23,8 +23,9 @@ use Rattle.gf_command.specs.declared.runs.Run.{Run}
 use Rattle.gf_command.specs.declared.runs.Editor.{Editor}
 use Rattle.gf_command.specs.declared.runs.Extent.{Extent}
 use Rattle.gf_command.specs.declared.runs.Extent.TheVariants.{Window, Fitted}
-use Rattle.gf_command.specs.declared.runs.Run.TheVariants.{Fig, Paint, Repaint, Inspect, Import}
-use Rattle.gf_command.specs.declared.runs.Run.TheVariants.{Edit, Status, Check, Session}
+use Rattle.gf_command.specs.declared.runs.Run.TheVariants.{Fig, NamedFig, Paint, Repaint}
+use Rattle.gf_command.specs.declared.runs.Run.TheVariants.{Inspect, Import, Edit, Status}
+use Rattle.gf_command.specs.declared.runs.Run.TheVariants.{Check, Session}
 
 -- the number of the site, where one is given
 abbrev pub site_of : Option Editor → Option ℕ
@@ -49,9 +50,11 @@ module _ (Fits : Sides → View → Type 0) (IsShown : (Point → Rgb) → Type 
 -- known bytes grow from old to new by what the run asks for. This is the FIG text, the picture, the
 -- status or the answer to a query of what the bytes denote. Or it is the picture of a FIG text's
 -- drawing, the lines of an import or those of an edit. Or it is what a session came to, or nothing
--- where there is no fault. The FIG text shows the history, and is to the byte that of its drawing
+-- where there is no fault. The FIG text shows the history, and is to the byte that of its drawing,
+-- or the named one
 abbrev pub Answers : Run → List ℕ → Option (List ℕ) → Option (List ℕ) → Type 0
 Answers (Fig workers) bytes old new = Exports bytes old new × Writes bytes old new
+Answers (NamedFig workers) bytes old new = Exports bytes old new × WritesNamed bytes old new
 Answers (Paint canvas) bytes old new =
     WritesExtent (FitsLines bytes) (IsMeant bytes) old new canvas.extent
 Answers (Repaint canvas) bytes old new =
@@ -70,6 +73,7 @@ Answers (Session sites) bytes old new = WritesSession sites bytes old new
 -- may be whole bands
 abbrev pub AnswersPrefix : Run → List ℕ → Option (List ℕ) → Option (List ℕ) → Type 0
 AnswersPrefix (Fig workers) bytes old new = WritesPrefix (IsFigOf bytes) old new
+AnswersPrefix (NamedFig workers) bytes old new = WritesPrefix (IsNamedOf bytes) old new
 AnswersPrefix (Paint canvas) bytes old new =
     WritesExtentPrefix (FitsLines bytes) (IsMeant bytes) old new canvas.extent
 AnswersPrefix (Repaint canvas) bytes old new =

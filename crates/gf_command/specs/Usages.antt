@@ -2,7 +2,7 @@
 use Rattle.std.specs.Prelude.{List, []}
 use Rattle.clap.specs.Walk.{Rule}
 use Rattle.clap.specs.Simple.{App, Shape}
-use Rattle.gf_command.specs.CommandLine.{canvas, check, command, editor, query, readers}
+use Rattle.gf_command.specs.CommandLine.{canvas, check, command, editor, fig, query}
 use Rattle.gf_command.specs.CommandLine.{site, sites}
 use Rattle.gf_command.specs.declared.describing.Takes.{Takes}
 use Rattle.gf_command.specs.declared.describing.Takes.TheVariants as takes
@@ -10,7 +10,7 @@ use Rattle.gf_command.specs.declared.describing.Usage.{Usage}
 
 -- the options of a command that takes these
 abbrev pub options_of : Takes → List Rule
-options_of takes.Workers = readers
+options_of takes.Fig = fig
 options_of takes.Canvas = canvas
 options_of takes.Query = query
 options_of takes.Site = site

@@ -22,7 +22,7 @@ use gf_import::import_run;
 use gf_session_run::session_run;
 use gf_status::{State, status_run};
 use gf_streams::{Sink, Source, WriteError, write_whole};
-use gf_studio::{OpenGate, StudioError, fig_run, inspect_run};
+use gf_studio::{OpenGate, StudioError, fig_run, inspect_run, named_fig_run};
 use std::alloc::Global;
 use std::io;
 use std::sync::Wait;
@@ -122,6 +122,10 @@ fn answer<T: Threads + Wait + Sync, R: Source, W: Sink>(
     match run {
         Run::Fig(workers) => {
             let waiting = fig_run(rt, alloc, source, output, workers.count)?;
+            return Ok(Outcome::Drawn(waiting));
+        }
+        Run::NamedFig(workers) => {
+            let waiting = named_fig_run(rt, alloc, source, output, workers.count)?;
             return Ok(Outcome::Drawn(waiting));
         }
         Run::Paint(canvas) => return paint(rt, alloc, source, output, canvas),

@@ -8,7 +8,7 @@ ghost use Rattle.gf_command.specs.CommandLine as line;
 ghost use Rattle.gf_command.specs.Asking.{AreTaken, AsksQuery, HasNatural, HasNaturalOr};
 ghost use Rattle.gf_command.specs.Asking.{HasWholeOr, HasWorkers};
 ghost use Rattle.gf_command.specs.Asking.{IsAsked, IsCanvas, IsChecked, IsEditorOf};
-ghost use Rattle.gf_command.specs.Asking.{IsEditorOrNone, IsExtent, IsFrame, IsInspected};
+ghost use Rattle.gf_command.specs.Asking.{IsEditorOrNone, IsExtent, IsFig, IsFrame, IsInspected};
 ghost use Rattle.gf_command.specs.Asking.{IsNaturalOr, IsWholeOr, IsWindow, AsksFor, has_flag};
 ghost use Rattle.gf_command.specs.Asking.{is_given, is_placed, is_placed_fit, is_true};
 
@@ -49,7 +49,7 @@ fn read_matches(matches: &ArgMatches<'_>) -> Option<Asked>
         return Some(Asked::Mistake(Mistake::PlacedFit));
     }
     match name {
-        "fig" => Some(Asked::Run(Run::Fig(workers_of(matches)?))),
+        "fig" => Some(Asked::Run(fig_of(matches)?)),
         "paint" => Some(Asked::Run(Run::Paint(canvas_of(matches)?))),
         "repaint" => Some(Asked::Run(Run::Repaint(canvas_of(matches)?))),
         "inspect" => match query_of(matches) {
@@ -68,6 +68,18 @@ fn read_matches(matches: &ArgMatches<'_>) -> Option<Asked>
         "check" => Some(Asked::Run(Run::Check(checked_of(matches)?))),
         "session" => Some(Asked::Run(Run::Session(byte(matches, "sites")?))),
         _ => None,
+    }
+}
+
+/// Which FIG text is asked for, and the workers that read its lines.
+fn fig_of(matches: &ArgMatches<'_>) -> Option<Run>
+    ensures { IfSome result (IsFig (rows_of (found_of matches.now))) }
+{
+    let workers = workers_of(matches)?;
+    if has_flag(matches, "named") {
+        Some(Run::NamedFig(workers))
+    } else {
+        Some(Run::Fig(workers))
     }
 }
 

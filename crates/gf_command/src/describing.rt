@@ -22,7 +22,7 @@ struct Usage {
 /// Which options a run takes.
 #[derive(Clone, Copy)]
 enum Takes {
-    Workers,
+    Fig,
     Canvas,
     Query,
     Site,
@@ -36,7 +36,7 @@ const RUNS: [Usage; 9] = [
         name: "fig",
         about: "Read operation lines from standard input and write the FIG text of their drawing",
         example: "Example: cat site-*.jsonl | figgroup fig > drawing.fig",
-        takes: Takes::Workers,
+        takes: Takes::Fig,
     },
     Usage {
         name: "paint",
@@ -136,7 +136,7 @@ fn options<'a>(alloc: Global, takes: Takes) -> Result<Vec<Arg<'a>>, AllocError>
     ensures { IfOk result (λ args. map rule_of args.items ≡ options_of takes) }
 {
     match takes {
-        Takes::Workers => readers(alloc),
+        Takes::Fig => fig(alloc),
         Takes::Canvas => canvas(alloc),
         Takes::Query => query(alloc),
         Takes::Site => site(alloc),
@@ -146,11 +146,18 @@ fn options<'a>(alloc: Global, takes: Takes) -> Result<Vec<Arg<'a>>, AllocError>
     }
 }
 
-/// The option of a run that only reads operation lines.
-fn readers<'a>(alloc: Global) -> Result<Vec<Arg<'a>>, AllocError>
-    ensures { IfOk result (λ args. map rule_of args.items ≡ line.readers) }
+/// The options of a FIG text.
+fn fig<'a>(alloc: Global) -> Result<Vec<Arg<'a>>, AllocError>
+    ensures { IfOk result (λ args. map rule_of args.items ≡ line.fig) }
 {
-    Ok(vec![in alloc; reading(alloc)]?)
+    Ok(vec![in alloc;
+        flag(
+            alloc,
+            "named",
+            "Name each figure in a comment, for xfig and figgroup take",
+        ),
+        reading(alloc),
+    ]?)
 }
 
 /// How many workers read the lines of a run.

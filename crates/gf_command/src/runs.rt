@@ -11,6 +11,8 @@ use gf_studio::{Query, Window};
 pub enum Run {
     /// The FIG text of operation lines, which these workers read.
     Fig(Workers),
+    /// The same with a name for each figure.
+    NamedFig(Workers),
     /// The picture of operation lines.
     Paint(Canvas),
     /// The picture of a FIG text.

@@ -28,6 +28,11 @@ edit --site 2 | green / second_paints_it /               | 1 | | figgroup: opera
 edit --site 2 | box / {} /               | 1 | | figgroup: line 2: Field\n
 edit --site 2 | box / green_box /        | 1 | | figgroup: line 2: Clash\n
 
+// each figure has its name, where that is asked
+fig --named |                            | 0 | #FIG 3.2\nLandscape\nCenter\nMetric\nA4\n100.00\nSingle\n-2\n# figgroup knows nothing\n1200 2\n |
+fig --named | blue /                     | 0 | #FIG 3.2\nLandscape\nCenter\nMetric\nA4\n100.00\nSingle\n-2\n# figgroup knows nothing\n1200 2\n | figgroup: 1 operation waits and is not drawn: figgroup status names it\n
+fig --named | box / { /                  | 1 | | figgroup: line 2: Json\n
+
 // what is there, what waits, and what differs; the status of the program tells it where that is asked
 status         |                         | 0 | |
 status         | box / blue / green /    | 0 | site 1 has 2\nsite 2 has 1\nobject 1.1 has 2 versions, 2 shown\nobject 1.1 colour 1.2 2.1\n |
