@@ -5,5 +5,5 @@ pub mod BlockingLemmas
 pub mod EditLemmas
 pub mod WrittenLemmas
 pub mod CleanLemmas
-mod EachLemmas
+pub mod EachLemmas
 mod WritingLemmas

@@ -1,6 +1,6 @@
 -- What one site adds behind a history: operations of its own, each accepted in its turn.
 use Rattle.std.specs.Prelude.{Contains}
-use Rattle.std.proofs.Common.{◌≡◌, ◌≢◌, ℕ, ◌+◌, ◌<◌, ◌≤◌, List, [], ◌∷◌, ◌++◌, refl, sym, ap}
+use Rattle.std.proofs.Common.{◌≡◌, ◌≢◌, ℕ, ◌+◌, ◌<◌, ◌≤◌, List, [], ◌∷◌, ◌++◌, sym, ap}
 use Rattle.std.proofs.Common.{subst}
 use Rattle.std.proofs.Common.{◌∙◌, inl, inr, append_assoc, arith}
 use Rattle.std.proofs.lemmas.List.{append-nil}
@@ -9,13 +9,10 @@ use Rattle.gf_ops.specs.declared.op.Op.{Op}
 use Rattle.gf_ops.specs.OperationOrder.{count_of}
 use Rattle.gf_ops.specs.Accepted.{AreAccepted, IsAccepted, next as accepted_next}
 use Rattle.gf_ops.specs.Limits.{IsInRange}
-use Rattle.gf_ops.specs.declared.change.Change.{Change}
 use Rattle.gf_ops.specs.ValidHistory.{IsValid}
 use Rattle.gf_base.proofs.ListLemmas.{not_Contains-nil}
 use Rattle.gf_causal.proofs.CourseLemmas.{count_push_same, count_push_other}
-use Rattle.gf_site.specs.SiteState.{authored}
 use Rattle.gf_replicas.proofs.GrowingLemmas.{valid_push}
-use Rattle.gf_take.specs.MadeChanges.{MakesChanges, none as makes_none, next as makes_next}
 
 -- site s adds these operations behind h. Each is accepted behind h and those before it
 pub data AreAdded (s : ℕ) (h : List Op) : List Op → Type 0 where
@@ -74,20 +71,3 @@ module _ (s : ℕ) (h : List Op) where
       put_behind h made a IsValid
       (valid_push (h ++ made) (added_accepted run made m) (added_valid run valid made m) a range
       accepted)
-
--- ---- what is made
-
-module _ (s : ℕ) (h : List Op) where
-  pub made_added : (changes : List Change) (new : List Op) → MakesChanges s h changes new
-      → AreAdded s h new
-  made_added changes new makes_none = none
-  made_added changes new (makes_next {changes = before} {new = made} c m op) =
-      next (authored s (h ++ made) c) (made_added before made m) refl op.in_range op.accepted
-
-  pub made_accepted : AreAccepted h → (changes : List Change) (new : List Op)
-      → MakesChanges s h changes new → AreAccepted (h ++ new)
-  made_accepted run changes new m = added_accepted s h run new (made_added changes new m)
-
-  pub made_valid : AreAccepted h → IsValid h → (changes : List Change) (new : List Op)
-      → MakesChanges s h changes new → IsValid (h ++ new)
-  made_valid run valid changes new m = added_valid s h run valid new (made_added changes new m)

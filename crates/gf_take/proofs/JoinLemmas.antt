@@ -2,16 +2,17 @@
 -- whatever order they come.
 use Rattle.std.specs.Prelude.{Contains, ◌⊎◌}
 use Rattle.std.proofs.Common.{◌≡◌, ◌≢◌, ℕ, ◌+◌, ◌≤◌, List, [], ◌∷◌, ◌++◌, refl, sym, ap}
-use Rattle.std.proofs.Common.{subst}
+use Rattle.std.proofs.Common.{append_assoc, subst}
 use Rattle.std.proofs.Common.{◌∙◌, inl, inr, arith}
 use Rattle.std.proofs.lemmas.Bool.{cases_lt, cases_eq}
+use Rattle.std.proofs.lemmas.List.{append-nil}
 use Rattle.std.proofs.lemmas.List.Elements.{Contains-append_cases, Contains-append_left}
 use Rattle.std.proofs.lemmas.List.Elements.{Contains-append_right, Contains-push}
 use Rattle.gf_ops.specs.declared.op.Op.{Op}
 use Rattle.gf_ops.specs.declared.op.OpId.{OpId}
 use Rattle.gf_ops.specs.declared.op.Clock.{Clock}
 use Rattle.gf_ops.specs.OperationOrder.{entry, count_of}
-use Rattle.gf_ops.specs.Accepted.{AreAccepted}
+use Rattle.gf_ops.specs.Accepted.{AreAccepted, IsAccepted, next as accepted_next}
 use Rattle.gf_ops.specs.declared.change.Change.{Change}
 use Rattle.gf_ops.specs.ValidHistory.{IsValid}
 use Rattle.gf_ops.proofs.HistoryLemmas.{seq_in_range}
@@ -21,40 +22,54 @@ use Rattle.gf_causal.specs.DeliveredPart.{AreOneById, HaveSame, IsDelivery, IsLa
 use Rattle.gf_causal.proofs.CourseLemmas.{delivered_part}
 use Rattle.gf_causal.proofs.CourseLemmas.{has_counted, number_counted, same_id}
 use Rattle.gf_causal.proofs.FinishLemmas.{delivery-push}
-use Rattle.gf_site.specs.SiteState.{authored}
+use Rattle.gf_site.specs.SiteState.{authored, clock_of}
 use Rattle.gf_site.proofs.CourseLemmas.{all_ready}
 use Rattle.gf_replay.specs.Denoting.{Delivers}
+use Rattle.gf_keep.specs.MadeOf.{MakesEach, none as each_none, next as each_next}
 use Rattle.gf_take.specs.Bases.{AreRead, JoinsTake}
-use Rattle.gf_take.specs.MadeChanges.{MakesChanges, none as makes_none, next as makes_next}
 use Rattle.gf_take.proofs.PartLemmas.{accepted_beyond, base_own, base_within}
 use Rattle.gf_take.proofs.AddedLemmas.{AreAdded, added_accepted, added_count, added_own}
 use Rattle.gf_take.proofs.AddedLemmas.{added_valid}
-use Rattle.gf_take.proofs.AddedLemmas.{made_accepted, next, none}
+use Rattle.gf_take.proofs.AddedLemmas.{next, none}
 
 -- ---- what is made behind a base is added behind the whole history
 
 module _ (s : ℕ) (h b : List Op) (valid : IsValid h) (run : AreAccepted h)
     (base_run : AreAccepted b) (within : (a : Op) → Contains b a → Contains h a)
     (own : (a : Op) → Contains h a → a.id.site ≡ s → Contains b a) where
-  made_beyond : (changes : List Change) (new : List Op) → MakesChanges s b changes new
-      → AreAdded s h new
-  made_beyond changes new makes_none = none
-  made_beyond changes new (makes_next {changes = before} {new = made} c m op) =
-      let a = authored s (b ++ made) c in
-      let added = made_beyond before made m in
-      next a added refl op.in_range
+  -- behind what was made so far
+  more_beyond : (made : List Op) → AreAdded s h made → AreAccepted (b ++ made) → (l : List Op)
+      → l ≡ b ++ made → (changes : List Change) (new : List Op) → MakesEach s l changes new
+      → AreAdded s h (made ++ new)
+  more_beyond made added base_made l e changes new each_none =
+      subst (AreAdded s h) (sym (append-nil made)) added
+  more_beyond made added base_made l e changes new
+      (each_next {cs = rest} {new = more} c range ok m) =
+      let a = authored s l c in
+      let fits = subst (λ k. IsAccepted k a) e ok in
+      let one = next a added refl range
       (accepted_beyond (h ++ made) (b ++ made) (added_valid s h run valid made added)
-      (added_accepted s h run made added) (made_accepted s b base_run before made m)
+      (added_accepted s h run made added) base_made
       (λ x i. elim (Contains-append_cases b made x i) [
         | inl j ↦ Contains-append_left h made x (within x j)
         | inr j ↦ Contains-append_right h made x j
       ])
       s
-      (λ x i e. elim (Contains-append_cases h made x i) [
-        | inl j ↦ Contains-append_left b made x (own x j e)
+      (λ x i q. elim (Contains-append_cases h made x i) [
+        | inl j ↦ Contains-append_left b made x (own x j q)
         | inr j ↦ Contains-append_right b made x j
       ])
-      a refl op.accepted refl)
+      a refl fits (ap clock_of e)) in
+      let same = append_assoc b made (a ∷ []) in
+      subst (AreAdded s h) (append_assoc made (a ∷ []) more)
+      (more_beyond (made ++ a ∷ []) one (subst AreAccepted same (accepted_next base_made fits))
+      (l ++ a ∷ []) (ap (λ k. k ++ a ∷ []) e ∙ same) rest more m)
+
+  made_beyond : (changes : List Change) (new : List Op) → MakesEach s b changes new
+      → AreAdded s h new
+  made_beyond changes new m =
+      let same = sym (append-nil b) in
+      more_beyond [] none (subst AreAccepted same base_run) b same changes new m
 
 -- ---- all together deliver the history with what is new
 

@@ -1,6 +1,6 @@
 -- A history shows its own drawing.
 use Rattle.std.proofs.Common.{◌≡◌, ℕ, ◌+◌, ◌≤◌, ◌<◌, List, [], ◌∷◌, map, reverse, eqb, refl, sym}
-use Rattle.std.proofs.Common.{true}
+use Rattle.std.proofs.Common.{length, true}
 use Rattle.std.proofs.Common.{ap, subst, ◌∙◌, inl, inr, arith}
 use Rattle.std.specs.Prelude.{All, ⊤, unwrap_or}
 use Rattle.std.specs.List.{enumerate_from, list_any, range_with_len}
@@ -15,8 +15,10 @@ use Rattle.gf_ops.specs.ConflictTests.{colour_eq}
 use Rattle.gf_ops.specs.ValidHistory.{IsValid}
 use Rattle.gf_versions.specs.declared.placed.Placed.{Placed}
 use Rattle.gf_versions.specs.HistoryColour.{white}
+use Rattle.gf_versions.specs.Ranking.{AreRanked}
 use Rattle.gf_drawing.specs.declared.figure.Figure.{Figure}
 use Rattle.gf_drawing.specs.CanonicalDrawing.{IsCanonical, canonical_figure}
+use Rattle.gf_drawing.specs.CanonicalDrawing.{canonical_drawing, canonical_figures}
 use Rattle.gf_drawing.specs.CanonicalDrawing.{canonical_table, colours_of}
 use Rattle.gf_drawing.specs.Colours.{Table}
 use Rattle.gf_drawing.specs.DrawingColour.{figures_at, from_back}
@@ -24,6 +26,9 @@ use Rattle.gf_drawing.specs.DrawingState.{DrawingState}
 use Rattle.gf_drawing.specs.Outlined.{figure_outlined, outlined}
 use Rattle.gf_drawing.proofs.CompilingLemmas.{own_colour}
 use Rattle.gf_drawing.proofs.NumberLemmas.{number_gives}
+use Rattle.gf_fig_named.specs.NamedText.{IsNamedText}
+use Rattle.gf_fig_named.specs.Raised.{figure_raised, named_depth, raised}
+use Rattle.gf_fig_named.proofs.RaisedLemmas.{IsRising, named_fits, named_rises}
 use Rattle.gf_take.specs.ShownDrawing.{IsReordered, ShowsDrawing, first, look_at, look_of, next}
 use Rattle.gf_take.specs.ShownDrawing.{none, shape_become}
 use Rattle.gf_take.proofs.AgainLemmas.{items_again}
@@ -81,16 +86,26 @@ rising_front figures m r w =
     (one_each (λ (f : Figure Outline). f.depth) m figures r) (range_with_len 0 1000)
     ∙ rising_in_turn (λ (f : Figure Outline). f.depth) m figures 1000 r w)
 
-module _ (cs : List Rgb) where
-  -- the figures of the items from the n-th on
+module _ (g : ℕ → ℕ) (rising : IsRising g) (cs : List Rgb) where
+  -- the figures of the items from the n-th on, each at the depth that g gives for its number
   abbrev own_figures : ℕ → List (Placed AnyShape) → List (Figure Outline)
   own_figures n items =
-      map (figure_outlined any_outline) (map (canonical_figure cs) (enumerate_from n items))
+      map (figure_outlined any_outline)
+      (map (figure_raised g) (map (canonical_figure cs) (enumerate_from n items)))
 
-  own_rises : (m n : ℕ) (items : List (Placed AnyShape)) → m ≤ n
+  own_rises : (m n : ℕ) (items : List (Placed AnyShape)) → m ≤ g n
       → Rises (λ (f : Figure Outline). f.depth) m (own_figures n items)
   own_rises m n [] l = tt
-  own_rises m n (i ∷ items) l = (l, own_rises (n + 1) (n + 1) items (omega arith))
+  own_rises m n (i ∷ items) l =
+      (l, own_rises (g n + 1) (n + 1) items (let k = rising n (n + 1) (omega arith) in omega arith))
+
+  own_within : (count : ℕ) → ((k : ℕ) → k < count → g k < 1000) → (n : ℕ)
+      (items : List (Placed AnyShape)) → n + length items ≤ count
+      → All (λ (f : Figure Outline). f.depth < 1000) (own_figures n items)
+  own_within count least n [] l = All-nil (λ (f : Figure Outline). f.depth < 1000)
+  own_within count least n (i ∷ items) l =
+      All-cons (λ (f : Figure Outline). f.depth < 1000) _ (own_figures (n + 1) items)
+      (least n (omega arith)) (own_within count least (n + 1) items (omega arith))
 
   own_looks : (n : ℕ) (items : List (Placed AnyShape))
       → All (λ (i : Placed AnyShape). list_any (colour_eq i.colour) cs ≡ true) items
@@ -112,23 +127,43 @@ reordered_same : (table : Table) (fs : List (Figure Outline)) → IsReordered ta
 reordered_same table [] = none
 reordered_same table (f ∷ fs) = next f first (reordered_same table fs)
 
--- a history shows its own drawing
-pub own_drawing_shown : (h : List Op) (d : DrawingState AnyShape) → IsValid h → IsCanonical h d
-    → All (λ (f : Figure Outline). f.depth < 1000) (outlined any_outline d).figures
-    → ShowsDrawing h (outlined any_outline d)
-own_drawing_shown h d valid c within =
-    let items = c.items in
+-- a history shows its own drawing, at depths that rise
+raised_shown : (h : List Op) (items : List (Placed AnyShape)) (g : ℕ → ℕ) → IsValid h
+    → AreRanked h items → IsRising g → ((k : ℕ) → k < length items → g k < 1000)
+    → ShowsDrawing h (outlined any_outline (raised g (canonical_drawing items)))
+raised_shown h items g valid ranked rising within =
     let cs = colours_of items in
-    let e = c.drawing in
-    subst (λ (k : DrawingState AnyShape). ShowsDrawing h (outlined any_outline k)) (sym e)
-    (record {
+    let figures = own_figures g rising cs 0 items in
+    record {
       items = items;
-      ranked = c.ranked;
-      order = own_figures cs 0 items;
-      reordered = subst (λ l. IsReordered (canonical_table items) l (own_figures cs 0 items))
-          (sym (rising_front (own_figures cs 0 items) 0 (own_rises cs 0 0 items (omega arith))
-          (subst (λ (k : DrawingState AnyShape). All (λ (f : Figure Outline). f.depth < 1000)
-          (outlined any_outline k).figures) e within)))
-          (reordered_same (canonical_table items) (own_figures cs 0 items));
-      same = own_looks cs 0 items (own_colour items) (items_again h valid items c.ranked);
-    })
+      ranked = ranked;
+      order = figures;
+      reordered = subst (λ l. IsReordered (canonical_table items) l figures)
+          (sym (rising_front figures 0 (own_rises g rising cs 0 0 items (omega arith))
+          (own_within g rising cs (length items) within 0 items (omega arith))))
+          (reordered_same (canonical_table items) figures);
+      same = own_looks g rising cs 0 items (own_colour items) (items_again h valid items ranked);
+    }
+
+-- also where it is its named text's
+pub named_drawing_shown : (h : List Op) (text : List ℕ) → IsValid h → (named : IsNamedText h text)
+    → ShowsDrawing h (outlined any_outline
+    (raised (named_depth (length named.items)) (canonical_drawing named.items)))
+named_drawing_shown h text valid named =
+    let count = length named.items in
+    raised_shown h named.items (named_depth count) valid named.ranked (named_rises count)
+    (λ k l. let most = named_fits count k named.fits.versions l in omega arith)
+
+raised_own : (fs : List (Figure AnyShape)) → map (figure_raised (λ n. n)) fs ≡ fs
+raised_own [] = refl
+raised_own (f ∷ fs) = ap (λ l. f ∷ l) (raised_own fs)
+
+pub own_drawing_shown : (h : List Op) (d : DrawingState AnyShape) → IsValid h → IsCanonical h d
+    → ShowsDrawing h (outlined any_outline d)
+own_drawing_shown h d valid c =
+    let most = c.fits.versions in
+    subst (λ (k : DrawingState AnyShape). ShowsDrawing h (outlined any_outline k)) (sym c.drawing)
+    (subst (λ (l : List (Figure AnyShape)). ShowsDrawing h
+    (outlined any_outline (record { table = canonical_table c.items; figures = l })))
+    (raised_own (canonical_figures c.items))
+    (raised_shown h c.items (λ n. n) valid c.ranked (λ m n l. l) (λ k l. omega arith)))

@@ -12,8 +12,8 @@ use Rattle.gf_site.specs.Events.{Refuses}
 use Rattle.gf_visible.specs.ShownVersions.{HasMoreVisible}
 use Rattle.gf_drawing.specs.DrawingState.{DrawingState}
 use Rattle.gf_drawing.specs.Outlined.{PaintsAsFig}
-use Rattle.gf_take.specs.MadeChanges.{next, none}
-use Rattle.gf_take.proofs.AddedLemmas.{made_accepted, made_valid}
+use Rattle.gf_keep.specs.MadeOf.{none}
+use Rattle.gf_edit.proofs.EachLemmas.{each_accepted, each_push, each_valid}
 use Rattle.gf_take.specs.declared.take_error.TakeError.{TakeError}
 use Rattle.gf_take.specs.declared.take_error.TakeError.TheVariants as take
 use Rattle.gf_take.specs.ShownDrawing.{ShowsDrawing}
@@ -35,10 +35,8 @@ module _ (s : ℕ) (h : List Op) (done : List Change) (x : SiteState) (new : Lis
       let o = authored s (h ++ new) c in
       let a : w.op ≡ o = w.authors.is ∙ (λ i. authored (has.number i) (has.ops i) c) in
       let accepted = subst (λ l. IsAccepted l w.op) has.ops w.authors.accepted in
-      let makes = next c has.makes (record {
-        in_range = subst IsInRange a w.authors.in_range;
-        accepted = subst (IsAccepted (h ++ new)) a accepted;
-      }) in
+      let makes = each_push s h done new has.makes c (subst IsInRange a w.authors.in_range)
+      (subst (IsAccepted (h ++ new)) a accepted) in
       let all : more ≡ new ++ o ∷ [] = w.is ∙ ap (λ (b : Op). new ++ b ∷ []) a in
       subst (HasMade s h (done ++ c ∷ []) y) (sym all) (record {
         makes = makes;
@@ -70,8 +68,8 @@ module _ (s : ℕ) (h : List Op) (done : List Change) (x : SiteState) (new : Lis
       → PaintsAsFig x.ops d → Takes s h done new d
   taken d run valid shows paints = record {
     makes = has.makes;
-    accepted = made_accepted s h run done new has.makes;
-    valid = made_valid s h run valid done new has.makes;
+    accepted = each_accepted s h done new run has.makes;
+    valid = each_valid s h done new run valid has.makes;
     shows = subst (λ l. ShowsDrawing l d) has.ops shows;
     paints = subst (λ l. PaintsAsFig l d) has.ops paints;
   }

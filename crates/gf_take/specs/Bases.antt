@@ -9,7 +9,7 @@ use Rattle.gf_ops.specs.OperationOrder.{Precedes, entry}
 use Rattle.gf_causal.specs.DeliveredPart.{HaveSame}
 use Rattle.gf_replay.specs.Denoting.{Delivers}
 use Rattle.gf_edit.specs.EditedText.{Blocks}
-use Rattle.gf_take.specs.MadeChanges.{MakesChanges}
+use Rattle.gf_keep.specs.MadeOf.{MakesEach}
 
 -- the operations b are some of h, and with each of them all that it knows
 pub record IsClosedPart (h b : List Op) : Type 0 where
@@ -47,5 +47,5 @@ pub record JoinsTake (s : ℕ) (c : Clock) (ops h b new all : List Op) : Type 0 
   pub read : AreRead s ops h
   pub base : IsBase s c h b
   pub changes : List Change
-  pub makes : MakesChanges s b changes new
+  pub makes : MakesEach s b changes new
   pub same : HaveSame all (ops ++ new)

@@ -1,5 +1,4 @@
 pub mod ShownDrawing
-pub mod MadeChanges
 pub mod Bases
 pub mod Taking
 pub mod TakingSteps

@@ -12,7 +12,7 @@ use Rattle.gf_site.specs.declared.faults.AuthorFault.{AuthorFault}
 use Rattle.gf_visible.specs.ShownVersions.{HasMoreVisible}
 use Rattle.gf_drawing.specs.DrawingState.{DrawingState}
 use Rattle.gf_drawing.specs.Outlined.{PaintsAsFig}
-use Rattle.gf_take.specs.MadeChanges.{MakesChanges}
+use Rattle.gf_keep.specs.MadeOf.{MakesEach}
 use Rattle.gf_take.specs.ShownDrawing.{ShowsDrawing}
 use Rattle.gf_take.specs.declared.take_error.TakeError.{TakeError}
 use Rattle.gf_take.specs.declared.take_error.TakeError.TheVariants as take
@@ -21,7 +21,7 @@ use Rattle.gf_take.specs.declared.take_error.TakeError.TheVariants as take
 -- and has at every point the colour of d
 pub record Takes (s : ℕ) (b : List Op) (changes : List Change) (new : List Op)
     (d : DrawingState Outline) : Type 0 where
-  pub makes : MakesChanges s b changes new
+  pub makes : MakesEach s b changes new
   pub accepted : AreAccepted (b ++ new)
   pub valid : IsValid (b ++ new)
   pub shows : ShowsDrawing (b ++ new) d
@@ -35,13 +35,13 @@ pub record HasRefusal (s : ℕ) (b : List Op) (changes : List Change) (why : Aut
   pub after : List Change
   pub whole : changes ≡ before ++ change ∷ after
   pub new : List Op
-  pub makes : MakesChanges s b before new
+  pub makes : MakesEach s b before new
   pub refused : Refuses s (b ++ new) change why
 
 -- site s makes the changes behind its base, and then more than 1,000 versions are visible
 pub record ShowsTooMany (s : ℕ) (b : List Op) (changes : List Change) : Type 0 where
   pub new : List Op
-  pub makes : MakesChanges s b changes new
+  pub makes : MakesEach s b changes new
   pub more : HasMoreVisible (b ++ new) 1000
 
 -- site s makes the changes behind its base, and then does not show the drawing d, if its figures
@@ -49,7 +49,7 @@ pub record ShowsTooMany (s : ℕ) (b : List Op) (changes : List Change) : Type 0
 pub record ShowsOther (s : ℕ) (b : List Op) (changes : List Change) (d : DrawingState Outline)
     : Type 0 where
   pub new : List Op
-  pub makes : MakesChanges s b changes new
+  pub makes : MakesEach s b changes new
   pub other : All (λ f. IsLawful f.shape) d.figures → ¬ (ShowsDrawing (b ++ new) d)
 
 -- why site s takes nothing, which has the base b, is to make these changes and then to show d

@@ -10,7 +10,7 @@ use Rattle.gf_site.specs.Events.{Authors, Refuses}
 use Rattle.gf_visible.specs.ShownVersions.{HasMoreVisible}
 use Rattle.gf_take.specs.declared.take_error.TakeError.{TakeError}
 use Rattle.gf_take.specs.declared.take_error.TakeError.TheVariants as take
-use Rattle.gf_take.specs.MadeChanges.{MakesChanges}
+use Rattle.gf_keep.specs.MadeOf.{MakesEach}
 use Rattle.gf_drawing.specs.DrawingState.{DrawingState}
 use Rattle.gf_take.specs.ShownDrawing.{ShowsDrawing}
 use Rattle.gf_take.specs.Taking.{HasRefusal}
@@ -31,7 +31,7 @@ RefusesOne c x take.OutOfMemory = ⊤
 -- the site, which had h, made these changes by these operations
 pub record HasMade (s : ℕ) (h : List Op) (changes : List Change) (x : SiteState) (new : List Op)
     : Type 0 where
-  pub makes : MakesChanges s h changes new
+  pub makes : MakesEach s h changes new
   pub ops : x.ops ≡ h ++ new
   pub number : x.number ≡ s
 

@@ -1,6 +1,6 @@
 //! The laws of what is taken, each the contract of a function that does nothing.
 
-ghost use Rattle.std.specs.Prelude.{◌++◌, ◌<◌, ℕ, All, List};
+ghost use Rattle.std.specs.Prelude.{◌++◌, ℕ, All, List, length};
 ghost use Rattle.gf_shape.specs.declared.any_shape.AnyShape.{AnyShape};
 ghost use Rattle.gf_shape.specs.declared.outline.Outline.{Outline};
 ghost use Rattle.gf_shape.specs.Outlines.{any_outline};
@@ -10,9 +10,11 @@ ghost use Rattle.gf_ops.specs.declared.op.Clock.{Clock};
 ghost use Rattle.gf_ops.specs.ValidHistory.{IsValid};
 ghost use Rattle.gf_streams.specs.TextLines.{numbered_lines};
 ghost use Rattle.gf_replay.specs.Denoting.{AreLinesOf, Delivers, Denotes};
-ghost use Rattle.gf_drawing.specs.CanonicalDrawing.{IsCanonical};
+ghost use Rattle.gf_drawing.specs.CanonicalDrawing.{IsCanonical, canonical_drawing};
 ghost use Rattle.gf_drawing.specs.DrawingState.{DrawingState};
 ghost use Rattle.gf_drawing.specs.Outlined.{PaintsAsFig, outlined};
+ghost use Rattle.gf_fig_named.specs.NamedText.{IsNamedText};
+ghost use Rattle.gf_fig_named.specs.Raised.{named_depth, raised};
 ghost use Rattle.gf_take.specs.Bases.{IsBase, IsClosedPart, JoinsTake};
 ghost use Rattle.gf_take.specs.ShownDrawing.{ShowsDrawing};
 
@@ -22,11 +24,13 @@ pub fn what_shows_a_drawing_paints_it()
         → All (λ f. IsLawful f.shape) d.figures → ShowsDrawing h d → PaintsAsFig h d }
 {}
 
-/// A valid history shows its own drawing.
+/// A valid history shows its own drawing, and what its named text reads as.
 pub fn a_history_shows_its_own_drawing()
-    ensures { (h : List Op) (d : DrawingState AnyShape) → IsValid h → IsCanonical h d
-        → All (λ f. f.depth < 1000) (outlined any_outline d).figures
+    ensures own { (h : List Op) (d : DrawingState AnyShape) → IsValid h → IsCanonical h d
         → ShowsDrawing h (outlined any_outline d) }
+    ensures named { (h : List Op) (text : List ℕ) → IsValid h → (named : IsNamedText h text)
+        → ShowsDrawing h (outlined any_outline
+        (raised (named_depth (length named.items)) (canonical_drawing named.items))) }
 {}
 
 /// Operations of a valid history that have with each of them all that it knows are a valid
