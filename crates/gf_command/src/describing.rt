@@ -154,7 +154,7 @@ fn fig<'a>(alloc: Global) -> Result<Vec<Arg<'a>>, AllocError>
         flag(
             alloc,
             "named",
-            "Name each figure in a comment, for xfig and figgroup take",
+            "Name in a comment which version each figure is",
         ),
         reading(alloc),
     ]?)
