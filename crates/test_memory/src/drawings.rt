@@ -4,10 +4,11 @@
 use crate::examples::{MOVED, RED_BOX_MADE, is_text, red_box, site};
 use crate::trial::{Came, Marks};
 use gf_drawing::{CompileFault, Drawing, Figure};
+use gf_fig_named::Names;
 use gf_fig_read::{FigError, FigFault};
 use gf_fig_write::fig_bytes as text_of;
 use gf_import::CreationError;
-use gf_ops::{Change, Form};
+use gf_ops::{Change, Clock, Form, ObjectId, OpId};
 use gf_shape::{AnyShape, OutOfMemory, Outline, Rect, Shape};
 use gf_streams::{Reel, Tape, WriteError};
 use gf_studio::StudioError;
@@ -30,6 +31,7 @@ read_fig
 read_fig_box
 object_line
 fault_line
+read_names
 creations
 ";
 
@@ -49,6 +51,7 @@ pub(crate) fn tried(alloc: Global, name: &str, marks: &mut Marks) -> Option<Came
         "read_fig_box" => read_fig(alloc, marks, RED_BOX_FIG),
         "object_line" => Some(object_line(alloc, marks)),
         "fault_line" => Some(fault_line(alloc, marks)),
+        "read_names" => Some(read_names(alloc, marks)),
         "creations" => creations(alloc, marks),
         _ => return None,
     };
@@ -278,6 +281,37 @@ fn object_line(alloc: Global, marks: &mut Marks) -> Came {
         }
         first => Came::first(first == BOX_LINE),
     }
+}
+
+/// A text that names a figure, and tells what was known.
+const NAMED: &str =
+    "#FIG 3.2\nLandscape\nCenter\nMetric\nA4\n100.00\nSingle\n-2\n# figgroup knows 1.2 2.1\n1200 2\n# figgroup 1.1 at 60 with 2.1\n1 3 0 0 0 0 60 -1 20 0.000 1 0.0000 40 60 3 3 40 60 43 60\n";
+
+fn read_names(alloc: Global, marks: &mut Marks) -> Came {
+    marks.begin();
+    let first = gf_fig_named::read_names(alloc, NAMED.as_bytes());
+    marks.end();
+    match first {
+        Err(OutOfMemory) => {
+            let next = gf_fig_named::read_names(alloc, NAMED.as_bytes());
+            Came::after_memory(true, are_told(next))
+        }
+        first => Came::first(are_told(first)),
+    }
+}
+
+/// Whether these are the names of the text.
+fn are_told(names: Result<Names, OutOfMemory>) -> bool {
+    let Ok(names) = names else {
+        return false;
+    };
+    let [Some(named)] = names.figures.as_slice() else {
+        return false;
+    };
+    names.known == Some(Clock([2, 1, 0, 0, 0, 0, 0, 0]))
+        && named.name.object == ObjectId(OpId { site: 1, seq: 1 })
+        && named.name.telling.as_slice().len() == 1
+        && named.depth == 60
 }
 
 /// The line of a fault of the box.

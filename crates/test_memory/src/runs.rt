@@ -16,7 +16,8 @@ use gf_shape::OutOfMemory;
 use gf_status::status_run;
 use gf_streams::{Reel, Tape};
 use gf_studio::{
-    DrawnLines, OpenGate, Query, StudioError, Window, fig_run, inspect_run, paint_run, repaint_run,
+    DrawnLines, OpenGate, Query, StudioError, Window, fig_run, inspect_run, named_fig_run,
+    paint_run, repaint_run,
 };
 use std::alloc::Global;
 use std::sync::Wait;
@@ -28,6 +29,7 @@ pub(crate) const NAMES: &str = "
 drawing_of_lines may do without
 faults_of may do without
 fig_run may do without
+named_fig_run may do without
 paint_run may do without
 repaint_run may do without
 paint_fitted_run may do without
@@ -52,6 +54,7 @@ pub(crate) fn tried<T: Threads + Wait + Sync>(
         "drawing_of_lines" => drawing_of_lines(rt, alloc, marks),
         "faults_of" => faults_of(alloc, marks),
         "fig_run" => Some(fig(rt, alloc, marks)),
+        "named_fig_run" => Some(named_fig(rt, alloc, marks)),
         "paint_run" => paint(rt, alloc, marks),
         "repaint_run" => repaint(rt, alloc, marks),
         "paint_fitted_run" => paint_fitted(rt, alloc, marks),
@@ -71,6 +74,7 @@ pub(crate) fn tried<T: Threads + Wait + Sync>(
 #[derive(Clone, Copy)]
 enum Run {
     Fig,
+    NamedFig,
     Paint(Window),
     Repaint(Window),
     PaintFitted(Frame),
@@ -126,6 +130,10 @@ impl Example<'_> {
         match self.run {
             Run::Fig => {
                 fig_run(rt, alloc, &mut source, tape, 2)?;
+                Ok(())
+            }
+            Run::NamedFig => {
+                named_fig_run(rt, alloc, &mut source, tape, 2)?;
                 Ok(())
             }
             Run::Paint(window) => {
@@ -216,6 +224,20 @@ fn fig<T: Threads + Wait + Sync>(rt: &T, alloc: Global, marks: &mut Marks) -> Ca
         run: Run::Fig,
         input: RED_BOX.as_bytes(),
         whole: RED_BOX_FIG.as_bytes(),
+        cuts: &[0],
+    };
+    example.tried(rt, alloc, marks)
+}
+
+/// The named FIG text of the drawing of the red box.
+const RED_BOX_NAMED: &[u8] =
+    b"#FIG 3.2\nLandscape\nCenter\nMetric\nA4\n100.00\nSingle\n-2\n# figgroup knows 1.1\n1200 2\n0 32 #ff0000\n# figgroup 1.1 at 60\n2 2 0 0 32 32 60 -1 20 0.000 0 0 -1 0 0 5\n\t 100 200 400 200 400 600 100 600 100 200\n";
+
+fn named_fig<T: Threads + Wait + Sync>(rt: &T, alloc: Global, marks: &mut Marks) -> Came {
+    let example = Example {
+        run: Run::NamedFig,
+        input: RED_BOX.as_bytes(),
+        whole: RED_BOX_NAMED,
         cuts: &[0],
     };
     example.tried(rt, alloc, marks)
