@@ -1,0 +1,86 @@
+//! At which operations a change is aimed, so that it is meant for some versions alone.
+
+use gf_names::{rising, telling};
+use gf_ops::{History, Ids, OpId};
+use gf_shape::OutOfMemory;
+use gf_versions::Version;
+use std::alloc::Global;
+
+/// What tells a version from the other versions of its object in a list: operations of the version,
+/// rising by id.
+pub(crate) fn told_from(
+    alloc: Global,
+    history: &History,
+    versions: &[Version],
+    version: &Version,
+) -> Result<Ids, OutOfMemory> {
+    let mut others = Vec::new(alloc);
+    for other in versions {
+        if other.key.object == version.key.object && other.key.ops != version.key.ops {
+            others.extend_from_slice(other.key.ops.as_slice())?;
+        }
+    }
+    telling(alloc, history, version.key.ops.as_slice(), &others)
+}
+
+/// The aim that no version of an object has but this one: what tells it from all operations on the
+/// object, and what these are aimed at.
+pub(crate) fn aim_to_keep(
+    alloc: Global,
+    history: &History,
+    version: &Version,
+) -> Result<Ids, OutOfMemory> {
+    let mut others = Vec::new(alloc);
+    for op in history.ops() {
+        if op.object() == version.key.object {
+            others.push(op.id)?;
+        }
+    }
+    let told = telling(alloc, history, version.key.ops.as_slice(), &others)?;
+    aim_at(alloc, history, told.as_slice())
+}
+
+/// What is left of ids when each is left out, in order, without which the rest is still in none of
+/// these lists.
+pub(crate) fn fewest(
+    alloc: Global,
+    ids: &Ids,
+    others: &[&[OpId]],
+) -> Result<Vec<OpId>, OutOfMemory> {
+    let mut kept = Vec::new(alloc);
+    kept.extend_from_slice(ids.as_slice())?;
+    for id in ids.as_slice() {
+        let rest = without(alloc, &kept, *id)?;
+        if !others.iter().any(|other| has_all(other, &rest)) {
+            kept = rest;
+        }
+    }
+    Ok(kept)
+}
+
+/// The ids without one of them.
+fn without(alloc: Global, ids: &[OpId], left_out: OpId) -> Result<Vec<OpId>, OutOfMemory> {
+    Ok(
+        ids.iter()
+            .copied()
+            .filter(|id| *id != left_out)
+            .collect(alloc)?,
+    )
+}
+
+/// Whether a list has all of these ids.
+pub(crate) fn has_all(list: &[OpId], ids: &[OpId]) -> bool {
+    ids.iter().all(|id| list.contains(id))
+}
+
+/// The aim at these operations: they, and what they are aimed at, rising.
+pub(crate) fn aim_at(alloc: Global, history: &History, ids: &[OpId]) -> Result<Ids, OutOfMemory> {
+    let mut aim = Vec::new(alloc);
+    for id in ids {
+        aim.push(*id)?;
+        if let Some(op) = history.get(*id) {
+            aim.extend_from_slice(op.aim())?;
+        }
+    }
+    rising(alloc, &aim)
+}

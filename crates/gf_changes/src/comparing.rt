@@ -1,0 +1,133 @@
+//! How a figure differs from a version.
+
+use gf_ops::{Form, Points, Start, Value};
+use gf_shape::{OutOfMemory, Point};
+use gf_versions::Version;
+use std::alloc::Global;
+
+/// In which attributes a figure differs from a version of its kind.
+#[derive(Clone, Copy, PartialEq, Eq)]
+pub(crate) struct Difference {
+    pub(crate) place: bool,
+    pub(crate) form: bool,
+    pub(crate) colour: bool,
+}
+
+impl Difference {
+    /// How many attributes differ.
+    pub(crate) fn count(self) -> usize {
+        usize::from(self.place) + usize::from(self.form) + usize::from(self.colour)
+    }
+}
+
+/// In which attributes a figure differs from a version; None where the figure is of another kind.
+/// A polygon that was moved whole differs in its place alone, wherever its first point lies.
+pub(crate) fn compared(version: &Version, start: &Start) -> Option<Difference> {
+    let colour = version.colour != start.colour;
+    let place = version.place != start.place;
+    let form = match (&version.form, &start.form) {
+        (Form::Polygon(old), Form::Polygon(new)) => {
+            return match moved(old, version.place, new, start.place) {
+                Some(at) => Some(Difference {
+                    place: at != version.place,
+                    form: false,
+                    colour,
+                }),
+                None if are_near_from(version.place, new, start.place) => Some(Difference {
+                    place: false,
+                    form: true,
+                    colour,
+                }),
+                None => None,
+            };
+        }
+        (Form::Rect(..), Form::Rect(..)) => version.form != start.form,
+        (Form::Circle(_), Form::Circle(_)) => version.form != start.form,
+        (Form::Ellipse(..), Form::Ellipse(..)) => version.form != start.form,
+        _ => return None,
+    };
+    Some(Difference {
+        place,
+        form,
+        colour,
+    })
+}
+
+/// Where a polygon stands that was moved whole, so that it has the new points: its new place. None
+/// where no step leads from its points to the new ones, or the place is beyond its limit.
+pub(crate) fn moved(old: &Points, place: Point, new: &Points, start: Point) -> Option<Point> {
+    let (old, new) = (old.as_slice(), new.as_slice());
+    let at = minus(plus(*new.first()?, start)?, *old.first()?)?;
+    let is_step = |(p, q): (&Point, &Point)| match (plus(*p, at), plus(*q, start)) {
+        (Some(p), Some(q)) => p == q,
+        _ => false,
+    };
+    let is_moved = old.len() == new.len() && old.iter().zip(new.iter()).all(is_step);
+    if is_moved && is_near(at) {
+        Some(at)
+    } else {
+        None
+    }
+}
+
+/// Whether the new points of a polygon keep their limits, seen from another place.
+fn are_near_from(place: Point, points: &Points, start: Point) -> bool {
+    points
+        .as_slice()
+        .iter()
+        .all(|p| seen_from(place, *p, start).is_some_and(is_near))
+}
+
+/// The new points of a polygon, seen from the place where it stands. None where one lies too far
+/// off.
+pub(crate) fn points_from(
+    alloc: Global,
+    place: Point,
+    start: &Start,
+) -> Result<Option<Points>, OutOfMemory> {
+    let Form::Polygon(points) = &start.form else {
+        return Ok(None);
+    };
+    let mut seen = Vec::with_capacity(alloc, points.as_slice().len())?;
+    for p in points.as_slice() {
+        match seen_from(place, *p, start.place) {
+            Some(p) => seen.push(p)?,
+            None => return Ok(None),
+        }
+    }
+    Ok(Some(Points::new(seen)))
+}
+
+/// A point that is seen from `start`, seen from `place`.
+fn seen_from(place: Point, p: Point, start: Point) -> Option<Point> {
+    minus(plus(p, start)?, place)
+}
+
+/// Whether a place keeps its limit.
+fn is_near(p: Point) -> bool {
+    -1_000_000 <= p.x && p.x <= 1_000_000 && -1_000_000 <= p.y && p.y <= 1_000_000
+}
+
+/// The value by which a form that has a size gets the size of another one.
+pub(crate) fn size_of(form: &Form) -> Option<Value> {
+    match form {
+        Form::Rect(width, height) => Some(Value::Size(*width, *height)),
+        Form::Circle(radius) => Some(Value::Size(*radius, *radius)),
+        Form::Ellipse(rx, ry) => Some(Value::Size(*rx, *ry)),
+        Form::Polygon(_) => None,
+    }
+}
+
+fn plus(p: Point, q: Point) -> Option<Point> {
+    Some(Point {
+        x: p.x.checked_add(q.x)?,
+        y: p.y.checked_add(q.y)?,
+    })
+}
+
+fn minus(p: Point, q: Point) -> Option<Point> {
+    Some(Point {
+        x: p.x.checked_sub(q.x)?,
+        y: p.y.checked_sub(q.y)?,
+    })
+}

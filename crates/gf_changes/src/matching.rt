@@ -1,0 +1,127 @@
+//! Which version each figure is.
+
+use crate::Target;
+use crate::comparing::compared;
+use gf_fig_named::Named;
+use gf_ops::{Clock, OpId};
+use gf_shape::OutOfMemory;
+use gf_versions::Version;
+use std::alloc::Global;
+
+/// Which version each figure is, and which figure each version is, by their places in both lists.
+#[derive(Debug, Drop)]
+pub(crate) struct Matching {
+    pub(crate) versions: Vec<Option<usize>>,
+    pub(crate) figures: Vec<Option<usize>>,
+}
+
+/// How the figures of a drawing and versions may be one.
+#[derive(Clone, Copy, PartialEq, Eq)]
+enum Way {
+    /// The figure has the name of the version.
+    Named,
+    /// Nothing differs, or little, and the object was made since the drawing was written.
+    Alike,
+}
+
+/// Finds for each figure the version that it is, if it is one. First come the versions whose name
+/// the figure has, then those that look like it. The pair that differs in fewest attributes goes
+/// first, then the figure in front, then the version above.
+///
+/// `seen` counts the operations that the drawing knew.
+pub(crate) fn matched(
+    alloc: Global,
+    versions: &[Version],
+    targets: &[Target],
+    seen: &Clock,
+) -> Result<Matching, OutOfMemory> {
+    let mut matching = Matching {
+        versions: unmatched(alloc, targets.len())?,
+        figures: unmatched(alloc, versions.len())?,
+    };
+    for way in [Way::Named, Way::Alike] {
+        for count in 0..=3 {
+            match_all(&mut matching, versions, targets, seen, way, count);
+        }
+    }
+    Ok(matching)
+}
+
+/// A list of so many places, none of which is matched.
+fn unmatched(alloc: Global, count: usize) -> Result<Vec<Option<usize>>, OutOfMemory> {
+    let mut places = Vec::with_capacity(alloc, count)?;
+    for _ in 0..count {
+        places.push(None)?;
+    }
+    Ok(places)
+}
+
+/// Matches what may be one in this way and differs in so many attributes.
+fn match_all(
+    matching: &mut Matching,
+    versions: &[Version],
+    targets: &[Target],
+    seen: &Clock,
+    way: Way,
+    count: usize,
+) {
+    for (f, figure) in targets.iter().enumerate() {
+        for (v, version) in versions.iter().enumerate() {
+            if matching.is_free(f, v) && may_match(version, figure, seen, way, count) {
+                matching.pair(f, v);
+            }
+        }
+    }
+}
+
+impl Matching {
+    /// Whether neither the figure nor the version is matched.
+    fn is_free(&self, figure: usize, version: usize) -> bool {
+        self.versions.get(figure) == Some(&None) && self.figures.get(version) == Some(&None)
+    }
+
+    /// Matches a figure and a version.
+    fn pair(&mut self, figure: usize, version: usize) {
+        if let Some(place) = self.versions.get_mut(figure) {
+            *place = Some(version);
+        }
+        if let Some(place) = self.figures.get_mut(version) {
+            *place = Some(figure);
+        }
+    }
+}
+
+/// Whether a figure may be a version in this way, and differs in so many attributes.
+fn may_match(version: &Version, figure: &Target, seen: &Clock, way: Way, count: usize) -> bool {
+    let Some(difference) = compared(version, &figure.start) else {
+        return false;
+    };
+    if difference.count() != count {
+        return false;
+    }
+    match way {
+        Way::Named => match &figure.name {
+            Some(name) => is_named(version, name),
+            None => false,
+        },
+        Way::Alike => count == 0 || count <= 2 && is_newer(version.key.object.0, seen),
+    }
+}
+
+/// Whether a name may be that of a version.
+fn is_named(version: &Version, name: &Named) -> bool {
+    let ops = version.key.ops.as_slice();
+    version.key.object == name.name.object
+        && name
+            .name
+            .telling
+            .as_slice()
+            .iter()
+            .all(|id| ops.contains(id))
+}
+
+/// Whether a clock does not count the operation of this id.
+fn is_newer(id: OpId, seen: &Clock) -> bool {
+    let place = usize::from(id.site).saturating_sub(1);
+    seen.0.get(place).copied().unwrap_or(0) < id.seq
+}

@@ -1,0 +1,259 @@
+//! Which layers give figures their order, with few changes. Order counts only between figures of
+//! different colours whose bounds meet.
+
+use gf_shape::{Bounds, OutOfMemory, Rgb};
+use std::alloc::Global;
+
+/// The highest layer.
+const TOP: u16 = 9_999;
+
+/// How far a new layer lies from the next one where there is room.
+const GAP: u16 = 10;
+
+/// The layer of the first figure of an empty drawing.
+const FIRST: u16 = 1_000;
+
+/// How far layers lie apart where all are given anew.
+const STEP: u16 = 9;
+
+/// Whether a figure may stay where it stands.
+#[derive(Clone, Copy, PartialEq, Eq)]
+pub(crate) enum Standing {
+    /// The figure has the depth with which it was written.
+    Kept,
+    /// The figure has another depth than it was written with.
+    Moved,
+    /// The figure was not written.
+    Unwritten,
+}
+
+/// Where a version stands: its layer, and its rank from the top. A version whose layer changes is
+/// of no rank yet.
+#[derive(Clone, Copy)]
+pub(crate) struct Spot {
+    pub(crate) layer: u16,
+    pub(crate) rank: Option<usize>,
+}
+
+/// Where a figure may be seen, and its colour.
+#[derive(Clone, Copy)]
+pub(crate) struct Look {
+    pub(crate) bounds: Bounds,
+    pub(crate) colour: Rgb,
+}
+
+/// What the layer of a figure depends on. A figure that is no version has no spot.
+#[derive(Clone, Copy)]
+pub(crate) struct Row {
+    pub(crate) look: Look,
+    pub(crate) standing: Standing,
+    pub(crate) spot: Option<Spot>,
+}
+
+/// The layers of figures that are listed from the front to the back. They are raised from the back,
+/// or lowered from the front, whichever changes fewer. Where neither keeps the limits, all layers
+/// are given anew.
+pub(crate) fn layers_of(alloc: Global, rows: &[Row]) -> Result<Vec<u16>, OutOfMemory> {
+    let mut from_back = copied(alloc, rows)?;
+    from_back.reverse();
+    let raised = raise_all(alloc, &from_back)?;
+    let lowered = raise_all(alloc, &mirrored(alloc, rows)?)?;
+    let raised = raised.map(|mut layers| {
+        layers.reverse();
+        layers
+    });
+    let lowered = lowered.map(|mut layers| {
+        mirror_all(&mut layers);
+        layers
+    });
+    match (raised, lowered) {
+        (Some(raised), Some(lowered)) => {
+            if changed(rows, &lowered) < changed(rows, &raised) {
+                Ok(lowered)
+            } else {
+                Ok(raised)
+            }
+        }
+        (Some(layers), None) | (None, Some(layers)) => Ok(layers),
+        (None, None) => given_anew(alloc, rows.len()),
+    }
+}
+
+/// A copy of rows.
+fn copied(alloc: Global, rows: &[Row]) -> Result<Vec<Row>, OutOfMemory> {
+    let mut copies = Vec::with_capacity(alloc, rows.len())?;
+    for row in rows {
+        copies.push(*row)?;
+    }
+    Ok(copies)
+}
+
+/// The rows with what is above beneath, and what is beneath above.
+fn mirrored(alloc: Global, rows: &[Row]) -> Result<Vec<Row>, OutOfMemory> {
+    let mut copies = Vec::with_capacity(alloc, rows.len())?;
+    for row in rows {
+        copies.push(Row {
+            spot: row.spot.map(|spot| Spot {
+                layer: TOP.saturating_sub(spot.layer),
+                rank: spot.rank.map(|rank| usize::MAX - rank),
+            }),
+            ..*row
+        })?;
+    }
+    Ok(copies)
+}
+
+/// Turns layers round the middle of all.
+fn mirror_all(layers: &mut Vec<u16>) {
+    for layer in layers.iter_mut() {
+        *layer = TOP.saturating_sub(*layer);
+    }
+}
+
+/// How many versions get another layer.
+fn changed(rows: &[Row], layers: &[u16]) -> usize {
+    rows.iter()
+        .zip(layers.iter())
+        .filter(|(row, layer)| row.spot.is_some_and(|spot| spot.layer != **layer))
+        .count()
+}
+
+/// Layers for so many figures that are listed from the front to the back, all given anew.
+fn given_anew(alloc: Global, count: usize) -> Result<Vec<u16>, OutOfMemory> {
+    let mut layers = Vec::with_capacity(alloc, count)?;
+    let mut layer: u16 = 0;
+    for _ in 0..count {
+        layers.push(layer)?;
+        layer = layer.saturating_add(STEP).min(TOP);
+    }
+    layers.reverse();
+    Ok(layers)
+}
+
+/// The layers of figures that are listed from the back to the front, each above those behind it
+/// that matter. None where one would be above the highest layer.
+fn raise_all(alloc: Global, rows: &[Row]) -> Result<Option<Vec<u16>>, OutOfMemory> {
+    let mut done = Vec::with_capacity(alloc, rows.len())?;
+    let mut layers = Vec::with_capacity(alloc, rows.len())?;
+    for (i, row) in rows.iter().enumerate() {
+        let Some(spot) = spot_of(row, &done, &rows[i + 1..]) else {
+            return Ok(None);
+        };
+        done.push((row.look, spot))?;
+        layers.push(spot.layer)?;
+    }
+    Ok(Some(layers))
+}
+
+/// Where a figure goes, between those behind it, which are done, and those in front of it.
+fn spot_of(row: &Row, done: &[(Look, Spot)], front: &[Row]) -> Option<Spot> {
+    let any = between(row, done, front, false);
+    let seen = between(row, done, front, true);
+    if let Some(spot) = row.spot {
+        let stays = match row.standing {
+            Standing::Kept => is_over(spot, row, done, true),
+            Standing::Unwritten => {
+                is_over(spot, row, done, true) && is_under(spot, row, front, true)
+            }
+            Standing::Moved => {
+                is_over(spot, row, done, false) && is_under(spot, row, front, false)
+                    || any.is_none()
+                        && is_over(spot, row, done, true)
+                        && is_under(spot, row, front, true)
+            }
+        };
+        if stays {
+            return Some(spot);
+        }
+    }
+    let layer = match any.or(seen) {
+        Some(layer) => layer,
+        None => next_above(lowest_over(row, done))?,
+    };
+    Some(Spot { layer, rank: None })
+}
+
+/// The least layer above the given one, which is None beneath all.
+fn next_above(layer: Option<u16>) -> Option<u16> {
+    match layer {
+        None => Some(0),
+        Some(layer) if layer < TOP => Some(layer + 1),
+        Some(_) => None,
+    }
+}
+
+/// The highest layer of the figures behind that matter.
+fn lowest_over(row: &Row, done: &[(Look, Spot)]) -> Option<u16> {
+    let mut highest = None;
+    for (look, spot) in done {
+        if matter(row.look, *look) {
+            highest = highest.max(Some(spot.layer));
+        }
+    }
+    highest
+}
+
+/// A layer above the figures behind and beneath the kept ones in front, if there is one: of those
+/// that matter, or of all.
+fn between(row: &Row, done: &[(Look, Spot)], front: &[Row], matters: bool) -> Option<u16> {
+    let mut low: Option<u16> = None;
+    for (look, spot) in done {
+        if !matters || matter(row.look, *look) {
+            low = low.max(Some(spot.layer));
+        }
+    }
+    let mut high: Option<u16> = None;
+    for other in front {
+        if let (Standing::Kept, Some(spot)) = (other.standing, other.spot) {
+            if !matters || matter(row.look, other.look) {
+                high = Some(high.unwrap_or(TOP).min(spot.layer));
+            }
+        }
+    }
+    room(low, high)
+}
+
+/// A layer between two others, if there is one: in the middle, or ten away from the one that is
+/// there.
+fn room(low: Option<u16>, high: Option<u16>) -> Option<u16> {
+    match (low, high) {
+        (None, None) => Some(FIRST),
+        (Some(low), None) if low < TOP => Some(low.saturating_add(GAP).min(TOP)),
+        (None, Some(high)) if 0 < high => Some(if GAP <= high { high - GAP } else { 0 }),
+        (Some(low), Some(high)) if low.saturating_add(1) < high => Some(low + (high - low) / 2),
+        _ => None,
+    }
+}
+
+/// Whether a spot is above each of the figures behind, or of those that matter.
+fn is_over(spot: Spot, row: &Row, done: &[(Look, Spot)], matters: bool) -> bool {
+    done.iter().all(|(look, other)| matters && !matter(row.look, *look) || is_above(spot, *other))
+}
+
+/// Whether a spot is beneath each of the kept figures in front, or of those that matter.
+fn is_under(spot: Spot, row: &Row, front: &[Row], matters: bool) -> bool {
+    front.iter().all(|other| {
+        other.standing != Standing::Kept
+            || matters && !matter(row.look, other.look)
+            || other.spot.is_none_or(|o| is_above(o, spot))
+    })
+}
+
+/// Whether a spot is surely above another one.
+fn is_above(a: Spot, b: Spot) -> bool {
+    match (a.rank, b.rank) {
+        (Some(a), Some(b)) => a < b,
+        _ => a.layer > b.layer,
+    }
+}
+
+/// Whether it may be seen which of two figures is in front: they differ in colour, and their bounds
+/// meet.
+fn matter(a: Look, b: Look) -> bool {
+    a.colour != b.colour && meet(a.bounds, b.bounds)
+}
+
+/// Whether two bounds have a point in common.
+fn meet(a: Bounds, b: Bounds) -> bool {
+    a.low.x <= b.high.x && b.low.x <= a.high.x && a.low.y <= b.high.y && b.low.y <= a.high.y
+}

@@ -1,0 +1,3 @@
+pub mod PartingLemmas
+pub mod SeenLemmas
+pub mod TakeLemmas

@@ -1,0 +1,131 @@
+-- What the run of a take writes, and why it is refused (this project's choice).
+use Rattle.std.specs.Prelude.{◌≡◌, ◌⊎◌, ◌<◌, ℕ, List, Option, None, Some, length, ⊤}
+use Rattle.gf_streams.specs.TextLines.{numbered_lines}
+use Rattle.gf_ops.specs.declared.op.Op.{Op}
+use Rattle.gf_ops.specs.declared.op.OpId.{OpId}
+use Rattle.gf_ops.specs.declared.op.Clock.{Clock}
+use Rattle.gf_ops.specs.declared.change.Change.{Change}
+use Rattle.gf_causal.specs.Waiting.{waits_for}
+use Rattle.gf_replay.specs.Denoting.{AreLinesOf}
+use Rattle.gf_replay.specs.Waiting.{DenotesWaiting}
+use Rattle.gf_fig_read.specs.FaultLines.{BeginsOn, IsFaultLine}
+use Rattle.gf_fig_read.specs.FigGrammar.{Fails, Reads}
+use Rattle.gf_fig_read.specs.Objects.{Drawn}
+use Rattle.gf_import.specs.declared.faults.CreationError.TheVariants as creation
+use Rattle.gf_import.specs.ImportRun.{HasNoCreations}
+use Rattle.gf_studio.specs.declared.studio_error.StudioError.{StudioError}
+use Rattle.gf_studio.specs.RefusedRuns.{IsOfRun, RefusesReading}
+use Rattle.gf_studio.specs.RunAnswers.{WritesText}
+use Rattle.gf_edit.specs.EditRun.{IsFirstBlocking}
+use Rattle.gf_edit.specs.MadeOperations.{made_of}
+use Rattle.gf_edit.specs.Making.{written_lines}
+use Rattle.gf_take.specs.Bases.{IsBase}
+use Rattle.gf_take.specs.Taking.{RefusesTake}
+use Rattle.gf_take.specs.declared.take_error.TakeError.{TakeError}
+use Rattle.gf_take.specs.declared.take_error.TakeError.TheVariants as take
+use Rattle.gf_take_run.specs.declared.take_run_error.TakeRunError.{TakeRunError}
+use Rattle.gf_take_run.specs.declared.take_run_error.TakeRunError.TheVariants as refused
+use Rattle.gf_take_run.specs.declared.taken.Taken.{Taken}
+use Rattle.gf_take_run.specs.Parting.{BeginsFig, IsParted}
+use Rattle.gf_take_run.specs.SeenDrawing.{IsAbsent, IsNewer, since_drawing}
+use Rattle.gf_take_run.specs.TakenText.{DenotesDrawing, DenotesLines, DenotesTake}
+
+-- the text has the lines of the new operations that site s takes of the bytes, and denotes these.
+-- Their first and last are told, and those that the site made since the drawing was written
+pub record TakesText (s : ℕ) (bytes text : List ℕ) (taken : Taken) : Type 0 where
+  pub new : List Op
+  pub denoted : DenotesTake s bytes new
+  pub is : text ≡ written_lines new
+  pub denotes : AreLinesOf (numbered_lines text) new
+  pub made : taken.made ≡ made_of new
+  pub since : taken.since ≡ since_drawing s denoted.seen denoted.history
+
+-- known bytes grow from old to new by the lines of what is taken, which is told
+abbrev pub WritesTake : ℕ → List ℕ → Taken → Option (List ℕ) → Option (List ℕ) → Type 0
+WritesTake s bytes taken old new = WritesText (λ text. TakesText s bytes text taken) old new
+
+-- the text has the lines of what is taken
+abbrev pub IsTakeOf : ℕ → List ℕ → List ℕ → Type 0
+IsTakeOf s bytes text = (taken : Taken) × TakesText s bytes text taken
+
+-- of the operations that block site s, i has the least id, and waits for j
+pub record HasBlockingLine (s : ℕ) (lines : List ℕ) (i j : OpId) : Type 0 where
+  pub history : List Op
+  pub waiting : List Op
+  pub denoted : DenotesWaiting lines history waiting
+  pub op : Op
+  pub blocking : IsFirstBlocking s history denoted.ops op
+  pub named : i ≡ op.id
+  pub waits : j ≡ waits_for history op
+
+-- the FIG text reads as a drawing of more than 1,000 figures
+pub record HasManyFigures (fig : List ℕ) : Type 0 where
+  pub drawing : Drawn
+  pub reads : Reads fig drawing
+  pub many : 1000 < length drawing.figures
+
+-- both parts were read, and this holds of the history and what the drawing knew
+pub record ReadsBoth (s : ℕ) (lines fig : List ℕ)
+    (Such : List Op → Drawn → Clock → Type 0) : Type 0 where
+  pub history : List Op
+  pub read : DenotesLines s lines history
+  pub drawing : Drawn
+  pub seen : Clock
+  pub drawn : DenotesDrawing fig drawing seen
+  pub such : Such history drawing seen
+
+-- site s, with the base of what the drawing knew, is to make some changes, and this is why not
+pub record RefusesChanges (s : ℕ) (e : TakeError) (h : List Op) (drawing : Drawn) (seen : Clock)
+    : Type 0 where
+  pub base : List Op
+  pub is_base : IsBase s seen h base
+  pub changes : List Change
+  pub refused : RefusesTake s base changes drawing e
+
+-- an operation of the site under the id i knows one of another site under j, and the drawing did
+-- not
+pub record HasNewer (s : ℕ) (i j : OpId) (h : List Op) (drawing : Drawn) (seen : Clock)
+    : Type 0 where
+  pub op : Op
+  pub known : Op
+  pub newer : IsNewer s seen h op known
+  pub named : i ≡ op.id
+  pub names : j ≡ known.id
+
+-- why nothing is taken of these operation lines and this FIG text; want of memory may come with any
+abbrev pub RefusesParts : ℕ → List ℕ → List ℕ → TakeRunError → Type 0
+RefusesParts s lines fig (refused.Run e) = RefusesReading lines e
+RefusesParts s lines fig (refused.Waits i j) = HasBlockingLine s lines i j
+RefusesParts s lines fig (refused.Fig line e) =
+    Fails fig e.fault e.object × IsFaultLine fig e line
+RefusesParts s lines fig (refused.Figure line object fault) =
+    HasNoCreations fig (creation.Figure object fault) × BeginsOn fig object line
+RefusesParts s lines fig refused.TooManyFigures = HasManyFigures fig
+    ⊎ ReadsBoth s lines fig (RefusesChanges s take.TooManyFigures)
+RefusesParts s lines fig refused.Unnamed = ⊤
+RefusesParts s lines fig (refused.Absent i) =
+    ReadsBoth s lines fig (λ h drawing seen. IsAbsent seen h i)
+RefusesParts s lines fig (refused.Older i j) = ReadsBoth s lines fig (HasNewer s i j)
+RefusesParts s lines fig (refused.Refused why) =
+    ReadsBoth s lines fig (RefusesChanges s (take.Refused why))
+RefusesParts s lines fig refused.Differs =
+    ReadsBoth s lines fig (RefusesChanges s take.Differs)
+RefusesParts s lines fig refused.NoDrawing = ⊥
+
+-- the bytes are these two parts, and nothing is taken of them
+pub record RefusesParted (s : ℕ) (bytes : List ℕ) (e : TakeRunError) : Type 0 where
+  pub lines : List ℕ
+  pub fig : List ℕ
+  pub parted : IsParted bytes lines fig
+  pub refused : RefusesParts s lines fig e
+
+-- why nothing is taken of the bytes
+pub data RefusesTaking (s : ℕ) (bytes : List ℕ) (e : TakeRunError) : Type 0 where
+  no_drawing : e ≡ refused.NoDrawing → ((n : ℕ) → ¬ (BeginsFig bytes n)) → RefusesTaking s bytes e
+  parts : RefusesParted s bytes e → RefusesTaking s bytes e
+  input : (fault : StudioError) → e ≡ refused.Run fault → IsOfRun fault → RefusesTaking s bytes e
+
+-- the error of a take that other runs may have too
+abbrev pub of_take : TakeRunError → Option StudioError
+of_take (refused.Run e) = Some e
+of_take other = None

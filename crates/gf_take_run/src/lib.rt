@@ -1,0 +1,21 @@
+//! The run of a take: from operation lines and a FIG text that was changed elsewhere to the lines
+//! of one site's new operations, which show what the text shows.
+//!
+//! - [`take_run`]: reads both, and writes the new operations.
+//! - [`Taken`]: what is told of them.
+//! - [`TakeRunError`]: why nothing is taken.
+//! - [`what_a_take_writes_joins_what_it_read`]: the law of the operations that a take read and wrote.
+#![tactic(auto)]
+
+mod laws;
+mod parting;
+mod run;
+mod seeing;
+mod take_run_error;
+mod taken;
+mod taking;
+
+pub use laws::what_a_take_writes_joins_what_it_read;
+pub use run::take_run;
+pub use take_run_error::TakeRunError;
+pub use taken::Taken;

@@ -1,0 +1,104 @@
+//! What a drawing saw of a history.
+
+ghost use Rattle.std.specs.Prelude.{◌≡◌, ◌≢◌, ◌≤◌, ℕ, Contains, IfErr, IfSome, IfNone, OnOk};
+ghost use Rattle.gf_ops.specs.declared.op.Op.{Op};
+ghost use Rattle.gf_ops.specs.ValidHistory.{IsValid};
+ghost use Rattle.gf_ops.specs.OperationOrder.{IsSite, entry};
+ghost use Rattle.gf_take_run.specs.SeenDrawing.{AreThere, IsNewer, since_drawing};
+ghost use Rattle.gf_take.specs.Reaching.{AreReached};
+ghost use Rattle.gf_take_run.specs.TakeSteps.{IsBeyond, IsNewerThan, RefusesSeen};
+
+use crate::TakeRunError;
+use gf_edit::Made;
+use gf_ops::{Clock, History, Op, OpId};
+use gf_take::reach;
+
+/// Refuses a drawing that knew an operation which the history lacks.
+pub(crate) fn check_known(history: &History, site: u8, seen: &Clock) -> Result<(), TakeRunError>
+    ensures ok { OnOk result (AreThere seen.now history.now.ops) }
+    ensures err { IfErr result (RefusesSeen site history.now.ops seen.now) }
+{
+    for other in 1..9 {
+        let last = entry(seen, other);
+        if history.count(other) < last {
+            return Err(TakeRunError::Absent(OpId {
+                site: other,
+                seq: last,
+            }));
+        }
+    }
+    Ok(())
+}
+
+/// Refuses a drawing that is older than an operation of the site, where this knows what others made
+/// and the drawing did not know.
+pub(crate) fn check_age(history: &History, site: u8, seen: &Clock) -> Result<(), TakeRunError>
+    ensures ok { OnOk result ((a x : Op) → ¬ (IsNewer site seen.now history.now.ops a x)) }
+    ensures err { IfErr result (RefusesSeen site history.now.ops seen.now) }
+{
+    // Of site 0 there is no operation: these are the ones that the drawing knew.
+    let known = reach(0, seen, history.ops());
+    for op in history.ops() {
+        if let Some(id) = newer(history, site, seen, op, &known) {
+            return Err(TakeRunError::Older(op.id, id));
+        }
+    }
+    Ok(())
+}
+
+/// An operation of another site that this one of the site knows, if it came after the drawing, which
+/// did not know that one.
+fn newer(history: &History, site: u8, seen: &Clock, op: &Op, known: &Clock) -> Option<OpId>
+    requires contained { Contains history.now.ops op.now }
+    requires valid { IsValid history.now.ops }
+    requires reached { AreReached 0 seen.now history.now.ops known.now }
+    ensures some { IfSome result (IsNewerThan site seen.now history.now.ops op.now) }
+    ensures none { IfNone result ((x : Op) → ¬ (IsNewer site seen.now history.now.ops op.now x)) }
+{
+    if op.id.site != site || op.id.seq <= entry(seen, site) {
+        return None;
+    }
+    first_beyond(site, &op.past, known)
+}
+
+/// The last operation of the first other site of which a clock counts more than another one.
+fn first_beyond(site: u8, past: &Clock, known: &Clock) -> Option<OpId>
+    ensures some { IfSome result (IsBeyond site past.now known.now) }
+    ensures none { IfNone result ((t : ℕ) → IsSite t → t ≢ site
+        → entry past.now t ≤ entry known.now t) }
+{
+    for other in 1..9 {
+        let seq = entry(past, other);
+        if other != site && entry(known, other) < seq {
+            return Some(OpId { site: other, seq });
+        }
+    }
+    None
+}
+
+/// The first and the last operation of the site behind what the drawing knew, if there are any.
+pub(crate) fn made_since(history: &History, site: u8, seen: &Clock) -> Option<Made>
+    requires { IsSite site }
+    ensures { result ≡ since_drawing site seen.now history.now.ops }
+{
+    let known = entry(seen, site);
+    let last = history.count(site);
+    if last <= known {
+        return None;
+    }
+    Some(Made {
+        first: OpId {
+            site,
+            seq: known + 1,
+        },
+        last: OpId { site, seq: last },
+    })
+}
+
+/// How many operations of a site a clock counts.
+fn entry(clock: &Clock, site: u8) -> u32
+    ensures { result ≡ entry clock.now site }
+{
+    let place = usize::from(site).saturating_sub(1);
+    clock.0.get(place).copied().unwrap_or(0)
+}

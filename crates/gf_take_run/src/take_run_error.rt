@@ -1,0 +1,73 @@
+//! Why nothing is taken.
+
+ghost use Rattle.std.specs.Prelude.{◌≡◌};
+ghost use Rattle.gf_studio.specs.declared.studio_error.StudioError.TheVariants as studio;
+ghost use Rattle.gf_take_run.specs.declared.take_run_error.TakeRunError.TheVariants as refused;
+
+use gf_fig_read::FigError;
+use gf_import::FigureFault;
+use gf_ops::OpId;
+use gf_shape::OutOfMemory;
+use gf_site::AuthorFault;
+use gf_studio::StudioError;
+use thiserror::Error;
+
+/// Why nothing is taken.
+#[derive(Clone, Copy, Debug, PartialEq, Eq, Error)]
+pub enum TakeRunError {
+    /// The run over the operation lines was refused.
+    #[error("{0}")]
+    Run(StudioError),
+    /// The first operation waits for the second one, as an edit tells it.
+    #[error("operation {0} waits for {1}")]
+    Waits(OpId, OpId),
+    /// No line begins a FIG text.
+    #[error("no drawing behind the operation lines")]
+    NoDrawing,
+    /// The FIG text reads as no drawing, by a fault at its line of this number, counted from 1.
+    #[error("drawing line {0}: {1}")]
+    Fig(u64, FigError),
+    /// The figure of an object, counted from 1 with the colours, breaks a limit. The object begins
+    /// on the FIG text's line of this number, counted from 1.
+    #[error("drawing line {line}: figure object {object}: {fault}")]
+    Figure {
+        line: u64,
+        object: u64,
+        fault: FigureFault,
+    },
+    /// The drawing has more than 1,000 figures, or more would be visible.
+    #[error("TooManyFigures")]
+    TooManyFigures,
+    /// The FIG text doesn't tell which operations it knew.
+    #[error("drawing without names: write it by fig --named, or import it")]
+    Unnamed,
+    /// The drawing knew an operation that was not read.
+    #[error("operation {0} is in the drawing and was not read")]
+    Absent(OpId),
+    /// The first operation, of the site itself, is newer than the drawing and knows the second one,
+    /// of another site, which the drawing did not know.
+    #[error("drawing older than operation {0}, which knows {1}: open the drawing anew")]
+    Older(OpId, OpId),
+    /// The site refuses one of the operations.
+    #[error("{0}")]
+    Refused(AuthorFault),
+    /// No operations were found by which the site shows the drawing.
+    #[error("no operations found that show the drawing: change less at once")]
+    Differs,
+}
+
+impl From<StudioError> for TakeRunError {
+    ghost from_gives = { λ fault e. e ≡ refused.Run fault };
+
+    fn from(fault: StudioError) -> TakeRunError {
+        TakeRunError::Run(fault)
+    }
+}
+
+impl From<OutOfMemory> for TakeRunError {
+    ghost from_gives = { λ _ e. e ≡ refused.Run studio.OutOfMemory };
+
+    fn from(_: OutOfMemory) -> TakeRunError {
+        TakeRunError::Run(StudioError::OutOfMemory)
+    }
+}

@@ -1,0 +1,40 @@
+//! What is told of a take.
+
+use gf_edit::Made;
+use std::fmt;
+
+/// What a take made, and how many figures it was about.
+#[derive(Clone, Copy, Debug, PartialEq, Eq)]
+pub struct Taken {
+    /// The first and the last of the operations that were made.
+    pub made: Option<Made>,
+    /// The first and the last operation that the site made since the drawing was written.
+    pub since: Option<Made>,
+    /// How many figures came to look otherwise.
+    pub changed: usize,
+    /// How many figures were deleted.
+    pub hidden: usize,
+    /// How many figures are new.
+    pub drawn: usize,
+}
+
+impl fmt::Display for Taken {
+    fn fmt<W: fmt::Write>(&self, f: &mut fmt::Formatter<W>) -> fmt::Result {
+        let Some(made) = self.made else {
+            return write!(f, "the drawing is as it was");
+        };
+        write!(f, "{made}")?;
+        let mut mark = ":";
+        for (count, word) in [
+            (self.changed, "changed"),
+            (self.hidden, "hidden"),
+            (self.drawn, "drawn"),
+        ] {
+            if count != 0 {
+                write!(f, "{mark} {count} {word}")?;
+                mark = ",";
+            }
+        }
+        Ok(())
+    }
+}

@@ -1,0 +1,271 @@
+//! From the bytes of a text to the lines of what is taken.
+
+ghost use Rattle.std.specs.Prelude.{◌≡◌, ◌⊎◌, ◌≤◌, ℕ, Contains, List, IfErr, IfOk, IfSome};
+ghost use Rattle.gf_ops.specs.Limits.{IsInRange};
+ghost use Rattle.gf_ops.specs.OperationOrder.{IsSite};
+ghost use Rattle.gf_fig_read.specs.FigGrammar.{Fails, Reads};
+ghost use Rattle.gf_fig_tokens.specs.declared.faults.FigFault.TheVariants as fault;
+ghost use Rattle.gf_studio.specs.RefusedParts.{IsBetween};
+ghost use Rattle.gf_edit.specs.MadeOperations.{made_of, made_until};
+ghost use Rattle.gf_ops.specs.declared.op.Op.{Op};
+ghost use Rattle.gf_take.specs.Taking.{Takes};
+ghost use Rattle.gf_take_run.specs.TakenText.{DenotesDrawing, DenotesLines};
+ghost use Rattle.gf_take_run.specs.TakeRun.{RefusesParts, RefusesTaking, TakesText, of_take};
+ghost use Rattle.gf_take_run.specs.TakeSteps.{AreWritten, RefusesDrawing, RefusesMaking, TakesParts};
+ghost use Rattle.gf_take_run.specs.TakeSteps.{TakesSo};
+
+use crate::parting::{Parts, part};
+use crate::seeing::{check_age, check_known, made_since};
+use crate::{TakeRunError, Taken};
+use gf_changes::{Target, planned, targets};
+use gf_drawing::Drawing;
+use gf_edit::{EditError, Made, check_waiting, push_line};
+use gf_fig_named::read_names;
+use gf_fig_read::{FigError, fault_line, object_line, read_fig};
+use gf_import::{CreationError, creations};
+use gf_ops::{Change, Clock, Op, OpId};
+use gf_replay::read_replica;
+use gf_shape::{OutOfMemory, Outline};
+use gf_site::{NoTable, Replica, Site};
+use gf_studio::StudioError;
+use gf_take::{TakeError, base_site, take};
+use std::alloc::Global;
+use std::thread::Threads;
+
+/// The greatest number of figures.
+const MOST_FIGURES: usize = 1_000;
+
+/// The lines of the operations that were made, and what is told of them.
+#[derive(Drop)]
+pub(crate) struct TakenText {
+    pub(crate) text: Vec<u8>,
+    pub(crate) taken: Taken,
+}
+
+/// What a site takes of these bytes: operation lines, and a FIG text behind them.
+pub(crate) fn take_text<T: Threads + Sync>(
+    rt: &T,
+    alloc: Global,
+    bytes: Vec<u8>,
+    site: u8,
+    workers: u8,
+) -> Result<TakenText, TakeRunError>
+    requires site { IsSite site }
+    requires workers { (1 ≤ workers) × (workers ≤ 16) }
+    ensures ok { IfOk result (λ t. TakesText site bytes.items t.text.items t.taken) }
+    ensures refused { IfErr result (RefusesTaking site bytes.items) }
+    ensures between { IfErr result (λ e. IfSome (of_take e) IsBetween) }
+{
+    let parts = part(alloc, bytes)?;
+    let Some(parts) = parts else {
+        return Err(TakeRunError::NoDrawing);
+    };
+    take_parts(rt, alloc, parts, site, workers)
+}
+
+/// What a site takes of operation lines and the FIG text behind them.
+fn take_parts<T: Threads + Sync>(
+    rt: &T,
+    alloc: Global,
+    parts: Parts,
+    site: u8,
+    workers: u8,
+) -> Result<TakenText, TakeRunError>
+    requires site { IsSite site }
+    requires workers { (1 ≤ workers) × (workers ≤ 16) }
+    ensures ok { IfOk result (TakesParts site parts.lines.items parts.fig.items) }
+    ensures refused { IfErr result (RefusesParts site parts.lines.items parts.fig.items) }
+    ensures between { IfErr result (λ e. IfSome (of_take e) IsBetween) }
+{
+    let replica = read_lines(rt, alloc, parts.lines, site, workers)?;
+    let drawn = read_drawing(alloc, &parts.fig)?;
+    take_drawing(alloc, &replica, drawn)
+}
+
+/// The site that has the operations of these lines, where nothing that waits blocks it.
+fn read_lines<T: Threads + Sync>(
+    rt: &T,
+    alloc: Global,
+    lines: Vec<u8>,
+    site: u8,
+    workers: u8,
+) -> Result<Replica<NoTable>, TakeRunError>
+    requires site { IsSite site }
+    requires workers { (1 ≤ workers) × (workers ≤ 16) }
+    ensures ok { IfOk result (λ x. DenotesLines site lines.items x.ops) }
+    ensures number { IfOk result (λ x. x.number ≡ site) }
+    ensures refused { (fig : List ℕ) → IfErr result (RefusesParts site lines.items fig) }
+    ensures between { IfErr result (λ e. IfSome (of_take e) IsBetween) }
+{
+    let replica = match read_replica(rt, alloc, site, lines, workers) {
+        Ok(replica) => replica,
+        Err(fault) => return Err(TakeRunError::Run(StudioError::from(fault))),
+    };
+    // The clause of `history` says that each operation was accepted.
+    let _ = replica.history();
+    match check_waiting(alloc, &replica) {
+        Ok(()) => Ok(replica),
+        Err(EditError::Waits(id, other)) => Err(TakeRunError::Waits(id, other)),
+        Err(EditError::Run(fault)) => Err(TakeRunError::Run(fault)),
+        Err(EditError::Refused(..)) => unreachable!(),
+        Err(EditError::NoVersion(_)) => unreachable!(),
+    }
+}
+
+/// A drawing, its figures from the front to the back, and what it knew.
+#[derive(Drop)]
+struct ReadDrawing {
+    drawing: Drawing<Outline>,
+    targets: Vec<Target>,
+    seen: Clock,
+}
+
+/// The drawing that a FIG text reads as, with the names of its figures.
+fn read_drawing(alloc: Global, fig: &[u8]) -> Result<ReadDrawing, TakeRunError>
+    ensures ok { IfOk result (λ read. DenotesDrawing fig.now read.drawing read.seen) }
+    ensures refused { (s : ℕ) (lines : List ℕ) → IfErr result (RefusesParts s lines fig.now) }
+    ensures between { IfErr result (λ e. IfSome (of_take e) IsBetween) }
+{
+    let drawing = match read_fig(alloc, fig) {
+        Ok(drawing) => drawing,
+        Err(error) => return Err(fig_refusal(alloc, fig, error)),
+    };
+    if MOST_FIGURES < drawing.figures().len() {
+        return Err(TakeRunError::TooManyFigures);
+    }
+    let starts = creations_of(alloc, fig, &drawing)?;
+    let names = read_names(alloc, fig)?;
+    let Some(seen) = names.known else {
+        return Err(TakeRunError::Unnamed);
+    };
+    let targets = targets(alloc, &drawing, starts, names.figures)?;
+    Ok(ReadDrawing {
+        drawing,
+        targets,
+        seen,
+    })
+}
+
+/// The creations of the figures of a drawing, in file order.
+fn creations_of(
+    alloc: Global,
+    fig: &[u8],
+    drawing: &Drawing<Outline>,
+) -> Result<Vec<Change>, TakeRunError>
+    requires { Reads fig.now drawing.now }
+    ensures refused { (s : ℕ) (lines : List ℕ) → IfErr result (RefusesParts s lines fig.now) }
+    ensures between { IfErr result (λ e. IfSome (of_take e) IsBetween) }
+{
+    match creations(alloc, drawing) {
+        Ok(changes) => Ok(changes),
+        Err(CreationError::TooManyFigures) => Err(TakeRunError::TooManyFigures),
+        Err(CreationError::Figure(object, fault)) => match object_line(alloc, fig, object)? {
+            Some(line) => Err(TakeRunError::Figure {
+                line,
+                object,
+                fault,
+            }),
+            None => Err(TakeRunError::from(OutOfMemory)),
+        },
+        Err(CreationError::OutOfMemory) => Err(TakeRunError::from(OutOfMemory)),
+    }
+}
+
+/// Why a FIG text with this fault is not taken.
+fn fig_refusal(alloc: Global, fig: &[u8], error: FigError) -> TakeRunError
+    requires { ((error.fault ≡ fault.OutOfMemory) × (error.object ≡ 0))
+        ⊎ Fails fig.now error.fault error.object }
+    ensures refused { (s : ℕ) (lines : List ℕ) → RefusesParts s lines fig.now result }
+    ensures between { IfSome (of_take result) IsBetween }
+{
+    match fault_line(alloc, fig, error) {
+        Ok(Some(line)) => TakeRunError::Fig(line, error),
+        // Each fault that a text has is reported at a line, so memory was refused.
+        Ok(None) => TakeRunError::from(OutOfMemory),
+        Err(OutOfMemory) => TakeRunError::from(OutOfMemory),
+    }
+}
+
+/// What a site takes of a drawing.
+fn take_drawing(
+    alloc: Global,
+    replica: &Replica<NoTable>,
+    drawn: ReadDrawing,
+) -> Result<TakenText, TakeRunError>
+    ensures ok { IfOk result (TakesSo replica.now.number replica.now.ops drawn.drawing drawn.seen) }
+    ensures refused { IfErr result
+        (RefusesDrawing replica.now.number replica.now.ops drawn.drawing drawn.seen) }
+{
+    let (history, site) = (replica.history(), replica.number());
+    check_known(history, site, &drawn.seen)?;
+    check_age(history, site, &drawn.seen)?;
+    let mut base = base_site(alloc, site, history, &drawn.seen)?;
+    let plan = planned(alloc, &base, drawn.targets, &drawn.seen)?;
+    let since = made_since(history, site, &drawn.seen);
+    let (changed, hidden, drawn_anew) = (plan.changed, plan.hidden, plan.drawn);
+    let ops = take_changes(alloc, &mut base, plan.changes, &drawn.drawing)?;
+    Ok(TakenText {
+        text: lines_of(alloc, &ops)?,
+        taken: Taken {
+            made: made_of(&ops),
+            since,
+            changed,
+            hidden,
+            drawn: drawn_anew,
+        },
+    })
+}
+
+/// The operations that a site makes of these changes, where it then shows the drawing.
+fn take_changes(
+    alloc: Global,
+    base: &mut Site,
+    changes: Vec<Change>,
+    drawing: &Drawing<Outline>,
+) -> Result<Vec<Op>, TakeRunError>
+    ensures ok { IfOk result (λ ops.
+        Takes base.old.number base.old.ops changes.items ops.items drawing.now) }
+    ensures refused { IfErr result
+        (RefusesMaking base.old.number base.old.ops changes.items drawing.now) }
+{
+    match take(alloc, base, changes, drawing) {
+        Ok(ops) => Ok(ops),
+        Err(TakeError::Refused(fault)) => Err(TakeRunError::Refused(fault)),
+        Err(TakeError::TooManyFigures) => Err(TakeRunError::TooManyFigures),
+        Err(TakeError::Differs) => Err(TakeRunError::Differs),
+        Err(TakeError::OutOfMemory) => Err(TakeRunError::from(OutOfMemory)),
+    }
+}
+
+/// The first and the last of these operations, if there are any.
+fn made_of(ops: &[Op]) -> Option<Made>
+    ensures { result ≡ made_of ops.now }
+{
+    let mut made = None;
+    for op in ops {
+        made = Some(until(made, op.id));
+    }
+    made
+}
+
+/// What is told of operations, with one more behind them.
+fn until(made: Option<Made>, last: OpId) -> Made
+    ensures { result ≡ made_until made last }
+{
+    Made {
+        first: made.map_or(last, |made| made.first),
+        last,
+    }
+}
+
+/// The lines of operations.
+fn lines_of(alloc: Global, ops: &[Op]) -> Result<Vec<u8>, OutOfMemory>
+    requires { (a : Op) → Contains ops.now a → IsInRange a }
+    ensures { IfOk result (λ text. AreWritten ops.now text.items) }
+{
+    let mut text = Vec::new(alloc);
+    for op in ops {
+        push_line(alloc, &mut text, op)?;
+    }
+    Ok(text)
+}
