@@ -27,8 +27,8 @@ pub record DenotesDrawing (fig : List ℕ) (drawing : Drawn) (seen : Clock) : Ty
 
 -- site s makes the new operations behind the base of what the drawing knew of the history. All that
 -- the drawing knew is there, and no operation of the site knows more of others
-pub record TakesDrawing (s : ℕ) (history : List Op) (drawing : Drawn) (seen : Clock) (new : List Op)
-    : Type 0 where
+pub record TakesDrawing (s : ℕ) (history : List Op) (drawing : Drawn) (seen : Clock)
+    (new : List Op) : Type 0 where
   pub there : AreThere seen history
   pub young : (a x : Op) → ¬ (IsNewer s seen history a x)
   pub base : List Op
@@ -36,7 +36,7 @@ pub record TakesDrawing (s : ℕ) (history : List Op) (drawing : Drawn) (seen : 
   pub changes : List Change
   pub takes : Takes s base changes new drawing
 
--- the bytes are operation lines and a FIG text behind them, of which site s takes the new operations
+-- the bytes are operation lines and a FIG text behind them, of which site s takes new operations
 pub record DenotesTake (s : ℕ) (bytes : List ℕ) (new : List Op) : Type 0 where
   pub lines : List ℕ
   pub fig : List ℕ
@@ -48,8 +48,8 @@ pub record DenotesTake (s : ℕ) (bytes : List ℕ) (new : List Op) : Type 0 whe
   pub drawn : DenotesDrawing fig drawing seen
   pub taken : TakesDrawing s history drawing seen new
 
--- the lines of these bytes denote what the take read and what it made, in whatever order and however
--- often
+-- the lines of these bytes denote what the take read and what it made, in whatever order and
+-- however often
 pub record JoinsTakenText (s : ℕ) (bytes : List ℕ) (new : List Op) (others : List ℕ) : Type 0 where
   pub take : DenotesTake s bytes new
   pub ops : List Op

@@ -4,7 +4,7 @@
 //! - [`take_run`]: reads both, and writes the new operations.
 //! - [`Taken`]: what is told of them.
 //! - [`TakeRunError`]: why nothing is taken.
-//! - [`what_a_take_writes_joins_what_it_read`]: the law of the operations that a take read and wrote.
+//! - [`what_a_take_writes_joins_what_it_read`]: the law of what a take read and wrote.
 #![tactic(auto)]
 
 mod laws;

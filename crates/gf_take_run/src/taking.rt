@@ -11,8 +11,8 @@ ghost use Rattle.gf_ops.specs.declared.op.Op.{Op};
 ghost use Rattle.gf_take.specs.Taking.{Takes};
 ghost use Rattle.gf_take_run.specs.TakenText.{DenotesDrawing, DenotesLines};
 ghost use Rattle.gf_take_run.specs.TakeRun.{RefusesParts, RefusesTaking, TakesText, of_take};
-ghost use Rattle.gf_take_run.specs.TakeSteps.{AreWritten, RefusesDrawing, RefusesMaking, TakesParts};
-ghost use Rattle.gf_take_run.specs.TakeSteps.{TakesSo};
+ghost use Rattle.gf_take_run.specs.TakeSteps.{AreWritten, RefusesDrawing, RefusesMaking};
+ghost use Rattle.gf_take_run.specs.TakeSteps.{TakesParts, TakesSo};
 
 use crate::parting::{Parts, part};
 use crate::seeing::{check_age, check_known, made_since};

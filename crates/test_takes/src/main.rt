@@ -1,6 +1,6 @@
-//! What sites take of drawings that xfig saved. Each case of the input begins with a line `=== 2 NAME`,
-//! with the number of the site, and has operation lines and a FIG text. Of each comes this line, what
-//! is told, and the new operations.
+//! What sites take of drawings that xfig saved. Each case of the input begins with a line
+//! `=== 2 NAME`, with the number of the site, and has operation lines and a FIG text. Of each comes
+//! this line, what is told, and the new operations.
 #![tactic(auto)]
 
 use gf_streams::{In, Out, Reel, Sink, Tape, WriteError, read_input, write_whole};
