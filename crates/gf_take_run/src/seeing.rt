@@ -46,8 +46,8 @@ pub(crate) fn check_age(history: &History, site: u8, seen: &Clock) -> Result<(),
     Ok(())
 }
 
-/// An operation of another site that this one knows and the drawing did not. None, where this one is
-/// of another site, or is no newer than the drawing.
+/// Another site's operation that this one knows and the drawing did not. None, where this one is of
+/// another site, or no newer than the drawing.
 fn newer(history: &History, site: u8, seen: &Clock, op: &Op, known: &Clock) -> Option<OpId>
     requires contained { Contains history.now.ops op.now }
     requires valid { IsValid history.now.ops }
