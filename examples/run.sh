@@ -3,7 +3,7 @@
 # each FIG text by bench_fig, which reads it and writes what it read. Where there is a window, whose
 # words stand in the file of that name, the lines are painted in it and expected.fig is repainted.
 # Where there is a script, it is run as a session of as many sites as the file sites says. Where the
-# status of the lines is expected, or their faults or those of commands are, these are compared; and where
+# named text or the status of the lines is expected, or their faults or those of commands are, these are compared; and where
 # there are changes, the operations that site 1 makes of them, and the status with these. Each picture that the file
 # pictures names, with its lines and its window, is painted anew and compared. What an import makes of
 # house.fig is compared with imported.jsonl. Last README and the tutorial are typed, and the script of by-git
@@ -21,6 +21,10 @@ failed=0
 
 drawn() {
     cat "$@" | "$root/figgroup" fig
+}
+
+named() {
+    cat "$@" | "$root/figgroup" fig --named
 }
 
 # The words are split at blanks.
@@ -155,6 +159,9 @@ for example in "$examples"/*/; do
     fi
     if [ -e "$example/window" ]; then
         compare_pictures "$@"
+    fi
+    if [ -e "$example/named.txt" ]; then
+        compare "$(basename "$example"), named" "$example/named.txt" named "$@"
     fi
     if [ -e "$example/status.txt" ]; then
         compare "$(basename "$example"), status" "$example/status.txt" told "$@"
