@@ -12,6 +12,7 @@ mod runs;
 mod sessions;
 mod shapes;
 mod sites;
+mod taking;
 mod trial;
 mod versions;
 
@@ -67,6 +68,9 @@ fn tried<T: Threads + Wait + Sync>(
     if let Some(came) = drawings::tried(alloc, name, marks) {
         return Some(came);
     }
+    if let Some(came) = taking::tried(alloc, name, marks) {
+        return Some(came);
+    }
     if let Some(came) = pictures::tried(rt, alloc, name, marks) {
         return Some(came);
     }
@@ -85,6 +89,7 @@ fn all<T: Threads + Wait + Sync, W: Sink>(rt: &T, alloc: Global, output: &mut W)
         sites::NAMES,
         versions::NAMES,
         drawings::NAMES,
+        taking::NAMES,
         pictures::NAMES,
         runs::NAMES,
         sessions::NAMES,
