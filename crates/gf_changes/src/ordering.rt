@@ -168,7 +168,7 @@ fn spot_of(row: &Row, done: &[(Look, Spot)], front: &[Row]) -> Option<Spot> {
     }
     let layer = match any.or(seen) {
         Some(layer) => layer,
-        None => next_above(lowest_over(row, done))?,
+        None => next_above(highest_behind(row, done, true))?,
     };
     Some(Spot { layer, rank: None })
 }
@@ -182,11 +182,11 @@ fn next_above(layer: Option<u16>) -> Option<u16> {
     }
 }
 
-/// The highest layer of the figures behind that matter.
-fn lowest_over(row: &Row, done: &[(Look, Spot)]) -> Option<u16> {
+/// The highest layer of the figures behind, or of those that matter.
+fn highest_behind(row: &Row, done: &[(Look, Spot)], matters: bool) -> Option<u16> {
     let mut highest = None;
     for (look, spot) in done {
-        if matter(row.look, *look) {
+        if !matters || matter(row.look, *look) {
             highest = highest.max(Some(spot.layer));
         }
     }
@@ -196,12 +196,7 @@ fn lowest_over(row: &Row, done: &[(Look, Spot)]) -> Option<u16> {
 /// A layer above the figures behind and beneath the kept ones in front, if there is one: of those
 /// that matter, or of all.
 fn between(row: &Row, done: &[(Look, Spot)], front: &[Row], matters: bool) -> Option<u16> {
-    let mut low: Option<u16> = None;
-    for (look, spot) in done {
-        if !matters || matter(row.look, *look) {
-            low = low.max(Some(spot.layer));
-        }
-    }
+    let low = highest_behind(row, done, matters);
     let mut high: Option<u16> = None;
     for other in front {
         if let (Standing::Kept, Some(spot)) = (other.standing, other.spot) {
