@@ -3,6 +3,8 @@
 //! this line, what is told, and the new operations.
 #![tactic(auto)]
 
+ghost use Rattle.std.specs.Prelude.{◌≤◌};
+
 use gf_streams::{In, Out, Reel, Sink, Tape, WriteError, read_input, write_whole};
 use gf_take_run::take_run;
 use std::alloc::Global;
@@ -52,7 +54,9 @@ fn tell_case<T: Threads + Sync, W: Sink>(
 }
 
 /// The site whose number the name of a case begins with.
-fn site_of(name: &str) -> u8 {
+fn site_of(name: &str) -> u8
+    ensures { (1 ≤ result) × (result ≤ 8) }
+{
     let number = name
         .split_once(" ")
         .and_then(|(number, _)| number.parse().ok());
