@@ -8,16 +8,16 @@ use gf_fig_read::read_fig;
 use gf_keep::{Keep, KeepFault};
 use gf_ops::{Change, Clock, Ids, ObjectId, Op, OpId, Value};
 use gf_shape::OutOfMemory;
-use gf_site::Site;
+use gf_site::{AuthorFault, Site};
 use gf_take::TakeError;
 use gf_versions::ranked;
 use std::alloc::Global;
 use test_kit::notation::change;
 
 pub(crate) const NAMES: &str = "
-telling
-rising
-named_bytes
+telling may do without
+rising may do without
+named_bytes may do without
 keeping may do without
 base_site may do without
 take may do without
@@ -224,7 +224,7 @@ fn take(alloc: Global, marks: &mut Marks) -> Option<Came> {
     let first = gf_take::take(alloc, &mut base, changes, &drawing);
     marks.end();
     Some(match first {
-        Err(TakeError::OutOfMemory) => {
+        Err(TakeError::OutOfMemory) | Err(TakeError::Refused(AuthorFault::OutOfMemory)) => {
             let is_kept = has_red_first(&base);
             let next = gf_take::take(alloc, &mut same, same_changes, &drawing);
             Came::after_memory(is_kept, is_taken(next, &same))
