@@ -242,8 +242,7 @@ fn is_above(a: Spot, b: Spot) -> bool {
     }
 }
 
-/// Whether it may be seen which of two figures is in front: they differ in colour, and their bounds
-/// meet.
+/// Whether the order of two figures may be seen: their colours differ, and their bounds meet.
 fn matter(a: Look, b: Look) -> bool {
     a.colour != b.colour && meet(a.bounds, b.bounds)
 }

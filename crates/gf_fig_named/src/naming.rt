@@ -95,7 +95,7 @@ fn name_of(
     })
 }
 
-/// Those of the ids that are on the object of the version, and not its own.
+/// The ids of operations on the object of a version that this version lacks.
 fn elsewhere(
     alloc: Global,
     history: &History,

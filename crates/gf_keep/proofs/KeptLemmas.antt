@@ -1,8 +1,9 @@
 -- Behind what keeps some versions, the visible ones are these.
 --
--- A new operation knows all before it, so its conflicts come from its aim, which is of one kept version.
--- So this version is compatible with what hides and what shows it. It is largest, as another showing aims at
--- what tells another version. A visible version has a showing, and holds its aim, so it is this one.
+-- A new operation knows all before it, so its conflicts come from its aim, which is of one kept
+-- version. So a kept version is compatible with the operation that hides it and the one that shows it.
+-- With these two the version is largest, as another showing aims at what tells another version.
+-- A visible version has a showing and holds its aim, so it is a kept version.
 use Rattle.std.proofs.Common.{◌≡◌, ◌≢◌, true, false, List, [], ◌∷◌, ◌++◌, refl, sym, subst, ap, ◌∙◌, arith, inl, inr}
 use Rattle.std.specs.Prelude.{◌⊎◌, ◌↔◌, AllPairs, Contains, Some, IsSome}
 use Rattle.std.specs.List.{AllZip}

@@ -1,4 +1,4 @@
-//! Whether it is not seen which of two figures lies in front.
+//! Whether two figures may change places in the order without being seen to.
 
 ghost use Rattle.std.specs.Prelude.{◌≡◌, ◌↔◌, IsTrue, All, map};
 ghost use Rattle.gf_drawing.specs.DrawingColour.{figure_colour};
