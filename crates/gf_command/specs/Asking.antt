@@ -29,7 +29,7 @@ use Rattle.gf_command.specs.declared.runs.Extent.{Extent}
 use Rattle.gf_command.specs.declared.runs.Extent.TheVariants as extent
 use Rattle.gf_command.specs.declared.runs.Run.{Run}
 use Rattle.gf_command.specs.declared.runs.Run.TheVariants.{Fig, NamedFig, Paint, Repaint}
-use Rattle.gf_command.specs.declared.runs.Run.TheVariants.{Inspect, Import, Edit, Status}
+use Rattle.gf_command.specs.declared.runs.Run.TheVariants.{Inspect, Import, Edit, Take, Status}
 use Rattle.gf_command.specs.declared.runs.Run.TheVariants.{Check, Session}
 
 -- in these rows the option has a text, given or by default, whose number is n
@@ -168,6 +168,9 @@ AsksRun met (Import editor) =
     Meets met (codes "import") (λ rows. HasNatural rows (codes "site") editor.site)
 AsksRun met (Edit editor) =
     Meets met (codes "edit") (λ rows. HasNatural rows (codes "site") editor.site)
+AsksRun met (Take editor workers) =
+    Meets met (codes "take") (λ rows.
+    HasNatural rows (codes "site") editor.site × HasWorkers rows workers)
 AsksRun met (Status check workers) =
     Meets met (codes "status") (λ rows.
     (check ≡ has_flag (codes "check") rows) × HasWorkers rows workers)

@@ -50,9 +50,17 @@ fig = flag (codes "named") ∷ reading ∷ []
 abbrev pub query : List Rule
 query = text (codes "object") ∷ text (codes "at") ∷ reading ∷ []
 
--- the option of an edit and of an import, which has to be given
+-- which site makes the operations of a run, which has to be given
+abbrev pub author : Rule
+author = record (text (codes "site")) { parser = Some (Unsigned 1 8); required = true }
+
+-- the option of an edit and of an import
 abbrev pub site : List Rule
-site = record (text (codes "site")) { parser = Some (Unsigned 1 8); required = true } ∷ []
+site = author ∷ []
+
+-- the options of a take
+abbrev pub drawing : List Rule
+drawing = author ∷ reading ∷ []
 
 -- the options of a status
 abbrev pub check : List Rule
@@ -76,6 +84,7 @@ commands =
     command (codes "fig") fig ∷ command (codes "paint") canvas ∷
     command (codes "repaint") canvas ∷ command (codes "inspect") query ∷
     command (codes "import") site ∷ command (codes "edit") site ∷
+    command (codes "take") drawing ∷
     command (codes "status") check ∷ command (codes "check") editor ∷
     command (codes "session") sites ∷ []
 

@@ -12,6 +12,8 @@ use Rattle.gf_fit.specs.FittedRun.{FitsLines, FitsText, IsFittedPicture, WritesF
 use Rattle.gf_import.specs.ImportRun.{Imports, WritesImport}
 use Rattle.gf_edit.specs.declared.made.Made.{Made}
 use Rattle.gf_edit.specs.EditRun.{IsEditOf, WritesEdit}
+use Rattle.gf_take_run.specs.declared.taken.Taken.{Taken}
+use Rattle.gf_take_run.specs.TakeRun.{IsTakeOf, WritesTake}
 use Rattle.gf_status.specs.declared.state.State.{State}
 use Rattle.gf_status.specs.declared.state.State.TheVariants.{Clean, Open}
 use Rattle.gf_status.specs.StatusRun.{IsStatusOf, WritesStatus}
@@ -24,7 +26,7 @@ use Rattle.gf_command.specs.declared.runs.Editor.{Editor}
 use Rattle.gf_command.specs.declared.runs.Extent.{Extent}
 use Rattle.gf_command.specs.declared.runs.Extent.TheVariants.{Window, Fitted}
 use Rattle.gf_command.specs.declared.runs.Run.TheVariants.{Fig, NamedFig, Paint, Repaint}
-use Rattle.gf_command.specs.declared.runs.Run.TheVariants.{Inspect, Import, Edit, Status}
+use Rattle.gf_command.specs.declared.runs.Run.TheVariants.{Inspect, Import, Edit, Take, Status}
 use Rattle.gf_command.specs.declared.runs.Run.TheVariants.{Check, Session}
 
 -- the number of the site, where one is given
@@ -49,8 +51,8 @@ module _ (Fits : Sides → View → Type 0) (IsShown : (Point → Rgb) → Type 
 
 -- known bytes grow from old to new by what the run asks for. This is the FIG text, the picture, the
 -- status or the answer to a query of what the bytes denote. Or it is the picture of a FIG text's
--- drawing, the lines of an import or those of an edit. Or it is what a session came to, or nothing
--- where there is no fault. The FIG text shows the history, and is to the byte that of its drawing,
+-- drawing, the lines of an import, of an edit or of a take. Or it is what a session came to, or
+-- nothing where there is no fault. The FIG text shows the history, and is to the byte that of its drawing,
 -- or the named one
 abbrev pub Answers : Run → List ℕ → Option (List ℕ) → Option (List ℕ) → Type 0
 Answers (Fig workers) bytes old new = Exports bytes old new × Writes bytes old new
@@ -63,6 +65,8 @@ Answers (Inspect query workers) bytes old new = WritesAnswer query bytes old new
 Answers (Import editor) bytes old new = WritesImport editor.site bytes old new
 Answers (Edit editor) bytes old new =
     (made : Option Made) × WritesEdit editor.site bytes made old new
+Answers (Take editor workers) bytes old new =
+    (taken : Taken) × WritesTake editor.site bytes taken old new
 Answers (Status check workers) bytes old new =
     (state : State) × (check ≡ true → state ≡ Clean) × WritesStatus bytes state old new
 Answers (Check editor) bytes old new =
@@ -82,6 +86,8 @@ AnswersPrefix (Inspect query workers) bytes old new =
     WritesPrefix (AnswersQuery query bytes) old new
 AnswersPrefix (Import editor) bytes old new = WritesPrefix (Imports editor.site bytes) old new
 AnswersPrefix (Edit editor) bytes old new = WritesPrefix (IsEditOf editor.site bytes) old new
+AnswersPrefix (Take editor workers) bytes old new =
+    WritesPrefix (IsTakeOf editor.site bytes) old new
 AnswersPrefix (Status check workers) bytes old new = WritesPrefix (IsStatusOf bytes) old new
 AnswersPrefix (Check editor) bytes old new =
     WritesPrefix (AnswersText (site_of editor) bytes) old new

@@ -2,7 +2,7 @@
 use Rattle.std.specs.Prelude.{List, []}
 use Rattle.clap.specs.Walk.{Rule}
 use Rattle.clap.specs.Simple.{App, Shape}
-use Rattle.gf_command.specs.CommandLine.{canvas, check, command, editor, fig, query}
+use Rattle.gf_command.specs.CommandLine.{canvas, check, command, drawing, editor, fig, query}
 use Rattle.gf_command.specs.CommandLine.{site, sites}
 use Rattle.gf_command.specs.declared.describing.Takes.{Takes}
 use Rattle.gf_command.specs.declared.describing.Takes.TheVariants as takes
@@ -14,6 +14,7 @@ options_of takes.Fig = fig
 options_of takes.Canvas = canvas
 options_of takes.Query = query
 options_of takes.Site = site
+options_of takes.Drawing = drawing
 options_of takes.Check = check
 options_of takes.Editor = editor
 options_of takes.Sites = sites

@@ -12,6 +12,7 @@ ghost use Rattle.gf_command.specs.declared.runs.Run.{Run};
 use crate::chosen::Chosen;
 use crate::painting::{paint, repaint};
 use crate::refusal::Refusal;
+use crate::since::Since;
 use crate::waiting::Waiting;
 use crate::{Asked, Editor, Mistake, QueryFault, Run, parse};
 use clap::Error;
@@ -23,6 +24,7 @@ use gf_session_run::session_run;
 use gf_status::{State, status_run};
 use gf_streams::{Sink, Source, WriteError, write_whole};
 use gf_studio::{OpenGate, StudioError, fig_run, inspect_run, named_fig_run};
+use gf_take_run::{Taken, take_run};
 use std::alloc::Global;
 use std::io;
 use std::sync::Wait;
@@ -31,7 +33,8 @@ use std::thread::Threads;
 /// Runs what `words` ask for, the first of which is the program's name, and answers the status.
 /// Status 0 is success, 1 a refusal or something to be seen to, 2 a mistake in the words.
 ///
-/// Faults go to `faults`, as do the usage after a mistake, what an edit made and the chosen window.
+/// Faults go to `faults`, as do the usage after a mistake, what an edit or a take made and the
+/// chosen window.
 /// How many operations wait is told there too, where a drawing leaves them out. Help and version go
 /// to `output`. The words are read before any input. A text for `faults` that can't be written
 /// changes no status.
@@ -67,6 +70,7 @@ pub fn command<T: Threads + Wait + Sync, R: Source, W: Sink, E: Sink>(
         Ok(Some(Asked::Run(run))) => match answer(rt, alloc, run, source, output) {
             Ok(Outcome::Written) => 0,
             Ok(Outcome::Made(made)) => tell_made(alloc, made, faults),
+            Ok(Outcome::Taken(taken)) => tell_taken(alloc, taken, faults),
             Ok(Outcome::Drawn(waiting)) => tell_waiting(alloc, waiting, faults),
             Ok(Outcome::Painted(chosen, waiting)) => {
                 tell_painted(alloc, chosen, waiting, faults)
@@ -100,6 +104,8 @@ pub(crate) enum Outcome {
     Painted(Chosen, usize),
     /// An edit is written, which made these operations, or none.
     Made(Option<Made>),
+    /// A take is written, of which this is told.
+    Taken(Taken),
     /// What the run asks for is written, and has something that is to be seen to.
     Open,
 }
@@ -137,6 +143,10 @@ fn answer<T: Threads + Wait + Sync, R: Source, W: Sink>(
         Run::Edit(editor) => {
             let made = edit_run(alloc, source, output, editor.site)?;
             return Ok(Outcome::Made(made));
+        }
+        Run::Take { editor, workers } => {
+            let taken = take_run(rt, alloc, source, output, editor.site, workers.count)?;
+            return Ok(Outcome::Taken(taken));
         }
         Run::Status { check, workers } => {
             let state = status_run(rt, alloc, source, output, workers.count)?;
@@ -188,6 +198,24 @@ fn tell_made<E: Sink>(alloc: Global, made: Option<Made>, faults: &mut E) -> u8
         return 0;
     };
     if let Ok(text) = format!(in alloc; "figgroup: {made}\n") {
+        let _ = write_whole(faults, text.as_bytes());
+    }
+    0
+}
+
+/// Tells what a take made, behind what its site made since the drawing was written. Answers the
+/// status.
+fn tell_taken<E: Sink>(alloc: Global, taken: Taken, faults: &mut E) -> u8
+    ensures { result ≡ 0 }
+{
+    let text = match taken.since {
+        Some(made) => {
+            let since = Since(made);
+            format!(in alloc; "figgroup: {since}\nfiggroup: {taken}\n")
+        }
+        None => format!(in alloc; "figgroup: {taken}\n"),
+    };
+    if let Ok(text) = text {
         let _ = write_whole(faults, text.as_bytes());
     }
     0

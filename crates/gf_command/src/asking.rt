@@ -61,6 +61,10 @@ fn read_matches(matches: &ArgMatches<'_>) -> Option<Asked>
         },
         "import" => Some(Asked::Run(Run::Import(editor_of(matches)?))),
         "edit" => Some(Asked::Run(Run::Edit(editor_of(matches)?))),
+        "take" => Some(Asked::Run(Run::Take {
+            editor: editor_of(matches)?,
+            workers: workers_of(matches)?,
+        })),
         "status" => Some(Asked::Run(Run::Status {
             check: has_flag(matches, "check"),
             workers: workers_of(matches)?,

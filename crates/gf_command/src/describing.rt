@@ -26,12 +26,13 @@ enum Takes {
     Canvas,
     Query,
     Site,
+    Drawing,
     Check,
     Editor,
     Sites,
 }
 
-const RUNS: [Usage; 9] = [
+const RUNS: [Usage; 10] = [
     Usage {
         name: "fig",
         about: "Read operation lines from standard input and write the FIG text of their drawing",
@@ -70,6 +71,15 @@ const RUNS: [Usage; 9] = [
                 the commands make, to be added to the site's own file",
         example: "Example: cat site-*.jsonl changes.jsonl | figgroup edit --site 2 >> site-2.jsonl",
         takes: Takes::Site,
+    },
+    Usage {
+        name: "take",
+        about: "Read operation lines and behind them a FIG text of fig --named that was changed since, \
+                and write the operations by which one site changes its drawing so, to be added to the \
+                site's own file; what is drawn anew in xfig -startlinewidth 0 -startfillstyle 20 can be \
+                taken",
+        example: "Example: cat site-*.jsonl drawing.fig | figgroup take --site 2 > changes.jsonl",
+        takes: Takes::Drawing,
     },
     Usage {
         name: "status",
@@ -140,6 +150,7 @@ fn options<'a>(alloc: Global, takes: Takes) -> Result<Vec<Arg<'a>>, AllocError>
         Takes::Canvas => canvas(alloc),
         Takes::Query => query(alloc),
         Takes::Site => site(alloc),
+        Takes::Drawing => drawing(alloc),
         Takes::Check => check(alloc),
         Takes::Editor => editor(alloc),
         Takes::Sites => sites(alloc),
@@ -251,10 +262,23 @@ fn query<'a>(alloc: Global) -> Result<Vec<Arg<'a>>, AllocError>
 fn site<'a>(alloc: Global) -> Result<Vec<Arg<'a>>, AllocError>
     ensures { IfOk result (λ args. map rule_of args.items ≡ line.site) }
 {
-    let site = text(alloc, "site", "N", "Whose operations they are, 1 to 8")
+    Ok(vec![in alloc; author(alloc)]?)
+}
+
+/// The options of a take.
+fn drawing<'a>(alloc: Global) -> Result<Vec<Arg<'a>>, AllocError>
+    ensures { IfOk result (λ args. map rule_of args.items ≡ line.drawing) }
+{
+    Ok(vec![in alloc; author(alloc), reading(alloc)]?)
+}
+
+/// Which site makes the operations of a run.
+fn author<'a>(alloc: Global) -> Arg<'a>
+    ensures { rule_of result ≡ line.author }
+{
+    text(alloc, "site", "N", "Whose operations they are, 1 to 8")
         .required(true)
-        .value_parser(ValueParser::unsigned(1, 8));
-    Ok(vec![in alloc; site]?)
+        .value_parser(ValueParser::unsigned(1, 8))
 }
 
 /// The options of a status.

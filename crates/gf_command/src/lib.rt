@@ -16,6 +16,7 @@ mod painting;
 mod querying;
 mod refusal;
 mod runs;
+mod since;
 mod waiting;
 
 pub use answering::{command, refuse_words};

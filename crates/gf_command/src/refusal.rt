@@ -4,6 +4,7 @@ use gf_edit::EditError;
 use gf_import::ImportError;
 use gf_session_run::SessionRunError;
 use gf_studio::StudioError;
+use gf_take_run::TakeRunError;
 use thiserror::Error;
 
 /// Why a run was refused, as the run says it.
@@ -13,6 +14,8 @@ pub(crate) enum Refusal {
     Run(#[from] StudioError),
     #[error(transparent)]
     Edit(#[from] EditError),
+    #[error(transparent)]
+    Take(#[from] TakeRunError),
     #[error(transparent)]
     Import(#[from] ImportError),
     #[error(transparent)]

@@ -23,6 +23,9 @@ pub enum Run {
     Import(Editor),
     /// The operations that the commands of this site make behind the others.
     Edit(Editor),
+    /// The operations by which this site shows the FIG text behind operation lines, which these
+    /// workers read.
+    Take { editor: Editor, workers: Workers },
     /// What has come, what waits, and which versions differ. If `check` is true, what waits or
     /// differs is told by the status too.
     Status { check: bool, workers: Workers },
