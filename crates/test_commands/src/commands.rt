@@ -284,162 +284,140 @@ fn run_of_words<T: AllocGlobal + Threads + Wait + Sync>(
     )
 }
 
-const READ_FAILED: &str = "1\n--\nfiggroup: read failed\n";
+/// Each row: words, and how the answer begins. After a mistake or a refusal the output is empty, and
+/// only then there are faults.
+const WORDS: &str = "\
+figgroup | 2
+figgroup draw | 2
+figgroup paint --workers 17 | 2
+figgroup repaint --workers 0 | 2
+figgroup fig --workers 17 | 2
+figgroup status --workers 0 | 2
+figgroup check --workers 2 | 2
+figgroup check --site 0 | 2
+figgroup check --site 9 | 2
+figgroup check --site | 2
+figgroup take | 2
+figgroup take --site 0 | 2
+figgroup take --site 9 | 2
+figgroup take --site 2 --workers 17 | 2
+figgroup paint --step 10001 | 2
+figgroup repaint --step 0 | 2
+figgroup paint --width 4097 | 2
+figgroup repaint --height 0 | 2
+figgroup paint --x=2000001 | 2
+figgroup repaint --y=-2000001 | 2
+figgroup paint --x -5 | 2
+figgroup paint --step 2 --step 3 | 2
+figgroup inspect | 2
+figgroup inspect --at -5,7 | 2
+figgroup session --sites 1 | 2
+figgroup session --sites 9 | 2
+figgroup session --sites x | 2
+figgroup fig --step 2 | 2
+figgroup paint --named | 2
+figgroup fig input | 2
+figgroup --colour | 2
+ | 2
+figgroup paint --width 4096 --height 4096 | read failed
+figgroup repaint --x=2000000 --y=-2000000 | read failed
+figgroup paint --x=-2000000 --y=2000000 | read failed
+figgroup repaint --step 10000 --workers 16 | read failed
+figgroup session --sites 8 | read failed
+figgroup fig --workers 16 | read failed
+figgroup fig --named | read failed
+figgroup check --site 8 | read failed
+figgroup take --site 8 --workers 16 | read failed
+figgroup inspect --at=0,0 --workers 1 | read failed
+figgroup status --check --workers 16 | read failed
+figgroup --help | Figures drawn by a group
+figgroup help | Figures drawn by a group
+figgroup fig --help | Read operation lines
+figgroup paint --help | Read operation lines
+figgroup repaint --help | Read a FIG text
+figgroup inspect --help | Read operation lines
+figgroup import --help | Read a FIG text
+figgroup take --help | Read operation lines and behind them a FIG text
+figgroup session --help | Read script lines
+figgroup --version | figgroup 0.1.0
+";
+
+/// That an answer is a mistake in the words, an input that could not be read, or a help that begins
+/// so. What is at its limit is taken, so that the input is read.
+fn is_as_wanted(alloc: Global, answer: &str, want: &str) -> Result<bool, AllocError> {
+    Ok(match want {
+        "2" => answer.starts_with("2\n--\n") && !answer.ends_with("--\n"),
+        "read failed" => answer == "1\n--\nfiggroup: read failed\n",
+        help => {
+            let start = format!(in alloc; "0\n{help}")?;
+            answer.starts_with(start.as_str()) && answer.ends_with("--\n")
+        }
+    })
+}
 
 #[test]
 fn words_are_read_first(rt: HostRuntime) -> Result<(), Fail> {
-    // After a mistake or a refusal the output is empty, and only then there are faults.
-    for (words, start, is_refused) in [
-        ("figgroup", "2\n--\n", true),
-        ("figgroup draw", "2\n--\n", true),
-        ("figgroup paint --workers 17", "2\n--\n", true),
-        ("figgroup repaint --workers 0", "2\n--\n", true),
-        ("figgroup fig --workers 17", "2\n--\n", true),
-        ("figgroup status --workers 0", "2\n--\n", true),
-        ("figgroup check --workers 2", "2\n--\n", true),
-        ("figgroup check --site 0", "2\n--\n", true),
-        ("figgroup check --site 9", "2\n--\n", true),
-        ("figgroup check --site", "2\n--\n", true),
-        ("figgroup paint --step 10001", "2\n--\n", true),
-        ("figgroup repaint --step 0", "2\n--\n", true),
-        ("figgroup paint --width 4097", "2\n--\n", true),
-        ("figgroup repaint --height 0", "2\n--\n", true),
-        ("figgroup paint --x=2000001", "2\n--\n", true),
-        ("figgroup repaint --y=-2000001", "2\n--\n", true),
-        ("figgroup paint --x -5", "2\n--\n", true),
-        ("figgroup paint --step 2 --step 3", "2\n--\n", true),
-        ("figgroup inspect", "2\n--\n", true),
-        ("figgroup inspect --at -5,7", "2\n--\n", true),
-        ("figgroup session --sites 1", "2\n--\n", true),
-        ("figgroup session --sites 9", "2\n--\n", true),
-        ("figgroup session --sites x", "2\n--\n", true),
-        ("figgroup fig --step 2", "2\n--\n", true),
-        ("figgroup paint --named", "2\n--\n", true),
-        ("figgroup fig input", "2\n--\n", true),
-        ("figgroup --colour", "2\n--\n", true),
-        ("", "2\n--\n", true),
-        // What is at its limit is taken, so that the input is read.
-        (
-            "figgroup paint --width 4096 --height 4096",
-            READ_FAILED,
-            true,
-        ),
-        (
-            "figgroup repaint --x=2000000 --y=-2000000",
-            READ_FAILED,
-            true,
-        ),
-        ("figgroup paint --x=-2000000 --y=2000000", READ_FAILED, true),
-        (
-            "figgroup repaint --step 10000 --workers 16",
-            READ_FAILED,
-            true,
-        ),
-        ("figgroup session --sites 8", READ_FAILED, true),
-        ("figgroup fig --workers 16", READ_FAILED, true),
-        ("figgroup fig --named", READ_FAILED, true),
-        ("figgroup check --site 8", READ_FAILED, true),
-        ("figgroup inspect --at=0,0 --workers 1", READ_FAILED, true),
-        ("figgroup status --check --workers 16", READ_FAILED, true),
-        ("figgroup --help", "0\nFigures drawn by a group", false),
-        ("figgroup help", "0\nFigures drawn by a group", false),
-        ("figgroup fig --help", "0\nRead operation lines", false),
-        ("figgroup paint --help", "0\nRead operation lines", false),
-        ("figgroup repaint --help", "0\nRead a FIG text", false),
-        ("figgroup inspect --help", "0\nRead operation lines", false),
-        ("figgroup import --help", "0\nRead a FIG text", false),
-        ("figgroup session --help", "0\nRead script lines", false),
-        ("figgroup --version", "0\nfiggroup 0.1.0\n", false),
-    ] {
+    for row in WORDS.lines() {
+        let Some((words, want)) = row.split_once(" | ") else {
+            return Err(Fail::new("a row lacks a cell"));
+        };
         let answer = run_of_words(&rt, words)?;
-        let answer = answer.as_str();
-        let is_told = answer.starts_with(start) && answer.ends_with("--\n") != is_refused;
-        assert!(rt; is_told, "of {words}");
+        assert!(rt;
+            is_as_wanted(rt.alloc(), answer.as_str(), want)?,
+            "of {words}"
+        );
     }
     Ok(())
 }
 
+/// Each row: words, and a text that their help has.
+const HELP: &str = "\
+figgroup repaint --help | -2,000,000 to 2,000,000 [default: 0]
+figgroup repaint --help | 1 to 10,000 [default: 1]
+figgroup repaint --help | 1 to 4,096 [default: 64]
+figgroup repaint --help | 1 to 16 [default: 1]
+figgroup --help | fig 
+figgroup --help | paint 
+figgroup --help | inspect 
+figgroup --help | take 
+figgroup --help | Example: figgroup fig < edits.jsonl
+figgroup fig --help | standard input
+figgroup fig --help | FIG text
+figgroup fig --help | 1 to 16; a short input is read by one [default: 4]
+figgroup fig --help | Example: cat site-*.jsonl | figgroup fig
+figgroup paint --help | standard input
+figgroup paint --help | raw PPM
+figgroup paint --help | Usage
+figgroup paint --help | Example: figgroup paint --step 15
+figgroup inspect --help | SITE.SEQ
+figgroup inspect --help | 1 to 8
+figgroup inspect --help | X,Y
+figgroup inspect --help | Example: figgroup inspect --object 1.2
+figgroup take --help | xfig -startlinewidth 0 -startfillstyle 20
+figgroup take --help | 1 to 16; a short input is read by one [default: 4]
+figgroup take --help | Example: cat site-*.jsonl drawing.fig | figgroup take --site 2
+figgroup status --help | where an operation waits, where shown versions differ or are more than 1,000,
+figgroup status --help | where a change that nothing shows did not know what hides it,
+figgroup status --help | or where an object was hidden by two who did not know of each other
+figgroup status --help | Example: cat site-*.jsonl | figgroup status
+figgroup check --help | Check the command lines of this site too, as edit reads them, 1 to 8
+figgroup check --help | it does not look at how many versions or colours a drawing has
+figgroup check --help | (status tells the versions)
+figgroup check --help | Example: figgroup check < edits.jsonl
+figgroup session --help | script lines
+figgroup session --help | 2 to 8 [default: 2]
+figgroup session --help | FIG text
+figgroup session --help | Example: figgroup session --sites 3
+";
+
 #[test]
 fn help_has_limits_defaults_and_an_example(rt: HostRuntime) -> Result<(), Fail> {
-    for (words, told) in [
-        (
-            "figgroup repaint --help",
-            [
-                "-2,000,000 to 2,000,000 [default: 0]",
-                "1 to 10,000 [default: 1]",
-                "1 to 4,096 [default: 64]",
-                "1 to 16 [default: 1]",
-            ],
-        ),
-        (
-            "figgroup --help",
-            [
-                "fig ",
-                "paint ",
-                "inspect ",
-                "Example: figgroup fig < edits.jsonl",
-            ],
-        ),
-        (
-            "figgroup fig --help",
-            [
-                "standard input",
-                "FIG text",
-                "1 to 16; a short input is read by one [default: 4]",
-                "Example: cat site-*.jsonl | figgroup fig",
-            ],
-        ),
-        (
-            "figgroup paint --help",
-            [
-                "standard input",
-                "raw PPM",
-                "Usage",
-                "Example: figgroup paint --step 15",
-            ],
-        ),
-        (
-            "figgroup inspect --help",
-            [
-                "SITE.SEQ",
-                "1 to 8",
-                "X,Y",
-                "Example: figgroup inspect --object 1.2",
-            ],
-        ),
-        (
-            "figgroup status --help",
-            [
-                "where an operation waits, where shown versions differ or are more than 1,000,",
-                "where a change that nothing shows did not know what hides it,",
-                "or where an object was hidden by two who did not know of each other",
-                "Example: cat site-*.jsonl | figgroup status",
-            ],
-        ),
-        (
-            "figgroup check --help",
-            [
-                "Check the command lines of this site too, as edit reads them, 1 to 8",
-                "it does not look at how many versions or colours a drawing has",
-                "(status tells the versions)",
-                "Example: figgroup check < edits.jsonl",
-            ],
-        ),
-        (
-            "figgroup session --help",
-            [
-                "script lines",
-                "2 to 8 [default: 2]",
-                "FIG text",
-                "Example: figgroup session --sites 3",
-            ],
-        ),
-    ] {
+    for row in HELP.lines() {
+        let Some((words, text)) = row.split_once(" | ") else {
+            return Err(Fail::new("a row lacks a cell"));
+        };
         let answer = run_of_words(&rt, words)?;
-        let answer = answer.as_str();
-        for text in told {
-            assert!(rt; answer.contains(text), "{text} of {words}");
-        }
+        assert!(rt; answer.as_str().contains(text), "{text} of {words}");
     }
     Ok(())
 }

@@ -9,7 +9,7 @@ use std::test::Fail;
 use std::thread::Threads;
 
 /// Each row: the words behind the program's name, the pieces of the input, the status, the output,
-/// and the faults. The ends of lines of the last two are spelt `\n`.
+/// and the faults. The ends of lines of the last two are spelt `\n`, and tabs `\t`.
 const RUNS: &str = r#"
 // a command becomes an operation of the site, which knows what was read; what was made is told
 edit --site 2 | box / second_paints_it / | 0 | {"id":[2,1],"object":[1,1],"op":"set","past":[1,0,0,0,0,0,0,0],"set":"colour","to":"0000ff"}\n | figgroup: made 2.1\n
@@ -32,6 +32,24 @@ edit --site 2 | box / green_box /        | 1 | | figgroup: line 2: Clash\n
 fig --named |                            | 0 | #FIG 3.2\nLandscape\nCenter\nMetric\nA4\n100.00\nSingle\n-2\n# figgroup knows nothing\n1200 2\n |
 fig --named | blue /                     | 0 | #FIG 3.2\nLandscape\nCenter\nMetric\nA4\n100.00\nSingle\n-2\n# figgroup knows nothing\n1200 2\n | figgroup: 1 operation waits and is not drawn: figgroup status names it\n
 fig --named | box / { /                  | 1 | | figgroup: line 2: Json\n
+
+// what was changed in xfig becomes operations of the site, which know what the drawing knew
+fig --named | box /                      | 0 | #FIG 3.2\nLandscape\nCenter\nMetric\nA4\n100.00\nSingle\n-2\n# figgroup knows 1.1\n1200 2\n0 32 #ff0000\n# figgroup 1.1 at 60\n2 2 0 0 32 32 60 -1 20 0.000 0 0 -1 0 0 5\n\t 0 0 10 0 10 10 0 10 0 0\n |
+take --site 2 | box / box_named_fig      | 0 | | figgroup: the drawing is as it was\n
+take --site 2 | box / moved_by_xfig      | 0 | {"id":[2,1],"object":[1,1],"op":"set","past":[1,0,0,0,0,0,0,0],"set":"place","to":[30,40]}\n | figgroup: made 2.1: 1 changed\n
+take --site 1 | box / moved_by_xfig      | 0 | {"id":[1,2],"object":[1,1],"op":"set","past":[1,0,0,0,0,0,0,0],"set":"place","to":[30,40]}\n | figgroup: made 1.2: 1 changed\n
+take --site 2 | box / deleted_by_xfig    | 0 | {"id":[2,1],"object":[1,1],"op":"set","past":[1,0,0,0,0,0,0,0],"set":"shown","to":false}\n | figgroup: made 2.1: 1 hidden\n
+// site 1 painted it meanwhile: where another site takes the drawing the box keeps the new colour
+take --site 2 | box / blue / moved_by_xfig | 0 | {"id":[2,1],"object":[1,1],"op":"set","past":[1,0,0,0,0,0,0,0],"set":"place","to":[30,40]}\n | figgroup: made 2.1: 1 changed\n
+take --site 1 | box / blue / box_named_fig | 0 | {"id":[1,3],"object":[1,1],"op":"set","past":[2,0,0,0,0,0,0,0],"set":"colour","to":"ff0000"}\n | figgroup: 1.2 was made since the drawing was written\nfiggroup: made 1.3: 1 changed\n
+take --site 2 --workers 16 | box / moved_by_xfig | 0 | {"id":[2,1],"object":[1,1],"op":"set","past":[1,0,0,0,0,0,0,0],"set":"place","to":[30,40]}\n | figgroup: made 2.1: 1 changed\n
+// nothing is taken where the lines, the drawing or what it knew refuse
+take --site 2 | box /                    | 1 | | figgroup: no drawing behind the operation lines\n
+take --site 2 | box / red_box_fig        | 1 | | figgroup: drawing without names: write it by fig --named, or import it\n
+take --site 2 | box_named_fig            | 1 | | figgroup: operation 1.1 is in the drawing and was not read\n
+take --site 2 | { / box_named_fig        | 1 | | figgroup: line 1: Json\n
+take --site 2 | box / second_paints_it / box_named_fig | 1 | | figgroup: line 2: Field\n
+take --site 1 | blue / box_named_fig     | 1 | | figgroup: operation 1.2 waits for 1.1\n
 
 // what is there, what waits, and what differs; the status of the program tells it where that is asked
 status         |                         | 0 | |
@@ -71,7 +89,8 @@ fn wanted(alloc: Global, cells: &str) -> Result<String, Fail> {
     };
     let (status, output, told) = (status.trim(), output.trim(), told.trim());
     let text = format!(in alloc; "{status}\n{output}--\n{told}")?;
-    Ok(text.as_str().replace(alloc, r"\n", "\n")?)
+    let text = text.replace(alloc, r"\n", "\n")?;
+    Ok(text.replace(alloc, r"\t", "\t")?)
 }
 
 /// That the run of a row answers what the row says; a line without cells is no row.

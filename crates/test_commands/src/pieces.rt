@@ -73,6 +73,12 @@ both_moved_fig 0 32 #00ff00\n0 33 #0000ff\n2 2 0 0 32 32 0 -1 20 0.000 0 0 -1 0 
 one_blue_fig 0 32 #0000ff\n2 2 0 0 32 32 0 -1 20 0.000 0 0 -1 0 0 5\n\t 0 0 10 0 10 10 0 10 0 0\n
 one_red_fig 0 32 #ff0000\n2 2 0 0 32 32 0 -1 20 0.000 0 0 -1 0 0 5\n\t 0 0 10 0 10 10 0 10 0 0\n
 
+// The box with its name, and what xfig made of it.
+box_named_fig #FIG 3.2\nLandscape\nCenter\nMetric\nA4\n100.00\nSingle\n-2\n# figgroup knows 1.1\n1200 2\n0 32 #ff0000\n# figgroup 1.1 at 60\n2 2 0 0 32 32 60 -1 20 0.000 0 0 -1 0 0 5\n\t 0 0 10 0 10 10 0 10 0 0\n
+moved_by_xfig #FIG 3.2  Produced by xfig version 3.2.8b\nLandscape\nCenter\nMetric\nA4\n100.00\nSingle\n-2\n# figgroup knows 1.1\n1200 2\n0 32 #ff0000\n# figgroup 1.1 at 60\n2 2 0 0 32 32 60 -1 20 0.000 0 0 -1 0 0 5\n\t 30 40 40 40 40 50 30 50 30 40\n
+deleted_by_xfig #FIG 3.2  Produced by xfig version 3.2.8b\nLandscape\nCenter\nMetric\nA4\n100.00\nSingle\n-2\n# figgroup knows 1.1\n1200 2\n0 32 #ff0000\n
+outlined_by_xfig #FIG 3.2  Produced by xfig version 3.2.8b\nLandscape\nCenter\nMetric\nA4\n100.00\nSingle\n-2\n# figgroup knows 1.1\n1200 2\n0 32 #ff0000\n# figgroup 1.1 at 60\n2 2 0 1 32 32 60 -1 20 0.000 0 0 -1 0 0 5\n\t 0 0 10 0 10 10 0 10 0 0\n
+
 // A text of another program, and what makes a text fail.
 foreign_triangle #FIG 3.2  Produced by xfig version 3.2.5\nLandscape\nCenter\nInches\nLetter  \n100.00\nSingle\n-2\n1200 2\n# a triangle\n2 3 0 0 4 4 50 -1 20 0.000 0 0 -1 0 0 4\n\t 0 0 1200 0\n\t 600 900 0 0\n
 open_polyline 2 1 0 0 4 4 50 -1 20 0.000 0 0 -1 0 0 4\n\t 0 0 1200 0 600 900 0 0\n
