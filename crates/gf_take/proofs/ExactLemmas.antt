@@ -31,8 +31,9 @@ use Rattle.gf_drawing.specs.DrawingState.{DrawingState}
 use Rattle.gf_import.specs.Boxes.{are_corners, are_opposite, is_box, least_corner}
 use Rattle.gf_import.specs.Boxes.{point_at}
 use Rattle.gf_import.specs.Importing.{form_of, place_of}
-use Rattle.gf_take.specs.Matching.{AreShown, trace}
-use Rattle.gf_take.specs.ShownDrawing.{Look, ShowsDrawing, look_at, look_of, shape_become}
+use Rattle.gf_take.specs.Matching.{AreShown, AreTraced, trace}
+use Rattle.gf_take.specs.ShownDrawing.{Look, LooksLike, ShowsDrawing, look_at, look_of}
+use Rattle.gf_take.specs.ShownDrawing.{shape_become}
 use Rattle.gf_take.proofs.FrontLemmas.{All-front, All-reordered}
 use Rattle.gf_take.proofs.AgainLemmas.{corners_box, least, plus-origin, points_back, size_back}
 
@@ -169,6 +170,21 @@ module _ (table : Table) where
       ∙ (λ k. (form_back f.shape own k, place_back f.shape own k, figure_colour table f)) in
       let others = looks_to_traces items fs (All-tail Lawful f fs lawful) rest in
       λ k. first k ∷ others k
+
+-- the ranked versions of a history that looks like a drawing of lawful figures are the same
+pub look_is_traced : (h : List Op) (d : DrawingState Outline) (items : List (Placed AnyShape))
+    → AreRanked h items → All (λ (f : Figure Outline). IsLawful f.shape) d.figures
+    → LooksLike h d → AreTraced d.table items (from_front d.figures)
+look_is_traced h d items ranked lawful s =
+    let Lawful : Figure Outline → Type 0 = λ f. IsLawful f.shape in
+    let same : s.items ≡ items =
+    ranked_alike h h (λ a. (λ i. i, λ i. i)) s.items items s.ranked ranked in
+    let all = All-front Lawful d lawful in
+    record {
+      same = looks_to_traces d.table items (from_front d.figures) all
+          (ap (map look_at) (sym same) ∙ s.same);
+      lawful = all;
+    }
 
 -- a drawing of lawful figures that a history shows is matched with its ranked versions
 pub drawing_is_shown : (h : List Op) (d : DrawingState Outline) (items : List (Placed AnyShape))

@@ -7,6 +7,7 @@ pub mod TakingLemmas
 pub mod AgainLemmas
 pub mod OwnLemmas
 pub mod MatchLemmas
+pub mod TracedLemmas
 pub mod ExchangeLemmas
 pub mod ExactLemmas
 pub mod ApartLemmas

@@ -23,8 +23,8 @@ use Rattle.gf_drawing.specs.DrawingState.{DrawingState}
 use Rattle.gf_drawing.specs.Outlined.{PaintsAsFig}
 use Rattle.gf_take.specs.Matching.{AreMatched, AreShown, AreTraced, IsLikeAt, IsTraced}
 use Rattle.gf_take.specs.Matching.{TakesLike, TakesNone, trace}
-use Rattle.gf_take.specs.ShownDrawing.{CanSwap, IsReordered, ShowsDrawing, TakesOut, behind, first}
-use Rattle.gf_take.specs.ShownDrawing.{next, none}
+use Rattle.gf_take.specs.ShownDrawing.{CanSwap, IsReordered, LooksLike, ShowsDrawing, TakesOut}
+use Rattle.gf_take.specs.ShownDrawing.{behind, first, next, none}
 use Rattle.gf_take.proofs.AgainLemmas.{looks_traced_items}
 use Rattle.gf_take.proofs.ExchangeLemmas.{none_passes}
 use Rattle.gf_take.proofs.FrontLemmas.{order_paints}
@@ -226,3 +226,13 @@ module _ (h : List Op) (d : DrawingState Outline) (items : List (Placed AnyShape
   shown_colours =
       order_paints h d items shown.order ranked shown.traced.lawful shown.reordered
       (looks_traced_items h d.table items shown.order valid ranked shown.traced)
+
+-- ranked versions of a valid history that become what a drawing's figures become look like it
+pub traced_look : (h : List Op) (d : DrawingState Outline) (items : List (Placed AnyShape))
+    → IsValid h → AreRanked h items → AreTraced d.table items (from_front d.figures)
+    → LooksLike h d
+traced_look h d items valid ranked t = record {
+  items = items;
+  ranked = ranked;
+  same = looks_traced_items h d.table items (from_front d.figures) valid ranked t;
+}

@@ -17,7 +17,7 @@ use Rattle.gf_edit.proofs.EachLemmas.{each_accepted, each_push, each_valid}
 use Rattle.gf_take.specs.declared.take_error.TakeError.{TakeError}
 use Rattle.gf_take.specs.declared.take_error.TakeError.TheVariants as take
 use Rattle.gf_take.specs.ShownDrawing.{ShowsDrawing}
-use Rattle.gf_take.specs.Taking.{RefusesTake, Takes}
+use Rattle.gf_take.specs.Taking.{RefusesTake, ShowsTooMany, Takes}
 use Rattle.gf_take.specs.TakingSteps.{HasMade, MakesOne, RefusesAll, RefusesOne, RefusesShowing}
 
 -- before the first change nothing was made
@@ -57,7 +57,8 @@ module _ (s : ℕ) (h : List Op) (done : List Change) (x : SiteState) (new : Lis
     new = new;
     makes = has.makes;
     refused = subst (λ l. Refuses s l c why) has.ops
-        (subst (λ k. Refuses k x.ops c why) has.number r);
+        (subst (λ k. Refuses k x.ops c why) has.number r.0);
+    other = r.1;
   }
   refused_there c rest changes whole take.TooManyFigures r = absurd r
   refused_there c rest changes whole take.Differs r = absurd r
@@ -97,3 +98,11 @@ not_made s h changes d (take.Refused why) r = r
 not_made s h changes d take.TooManyFigures r = absurd r
 not_made s h changes d take.Differs r = absurd r
 not_made s h changes d take.OutOfMemory r = tt
+
+-- a site without a change to make shows too many
+pub shows_too_many : (s : ℕ) (h : List Op) → HasMoreVisible h 1000 → ShowsTooMany s h []
+shows_too_many s h more = record {
+  new = [];
+  makes = none;
+  more = subst (λ l. HasMoreVisible l 1000) (sym (append-nil h)) more;
+}

@@ -63,7 +63,13 @@ pub data IsReordered (table : Table) : List (Figure Outline) → List (Figure Ou
       → IsReordered table figures (f ∷ order)
 
 -- from the front to the back, the visible versions of h look like the figures of d, one like the
--- other, in an order that paints the same
+-- other
+pub record LooksLike (h : List Op) (d : DrawingState Outline) : Type 0 where
+  pub items : List (Placed AnyShape)
+  pub ranked : AreRanked h items
+  pub same : map look_at items ≡ map (look_of d.table) (from_front d.figures)
+
+-- the same in an order that paints the same
 pub record ShowsDrawing (h : List Op) (d : DrawingState Outline) : Type 0 where
   pub items : List (Placed AnyShape)
   pub ranked : AreRanked h items

@@ -1,6 +1,6 @@
 -- What a site takes: it makes changes behind its base, and then shows a drawing (this project's
 -- choice).
-use Rattle.std.specs.Prelude.{◌≡◌, ℕ, List, ◌∷◌, ◌++◌, ⊤, All}
+use Rattle.std.specs.Prelude.{◌≡◌, ◌≢◌, ℕ, List, ◌∷◌, ◌++◌, ⊤, All}
 use Rattle.gf_shape.specs.declared.outline.Outline.{Outline}
 use Rattle.gf_shape.specs.ShapeLaws.{IsLawful}
 use Rattle.gf_ops.specs.declared.op.Op.{Op}
@@ -9,6 +9,7 @@ use Rattle.gf_ops.specs.Accepted.{AreAccepted}
 use Rattle.gf_ops.specs.ValidHistory.{IsValid}
 use Rattle.gf_site.specs.Events.{Refuses}
 use Rattle.gf_site.specs.declared.faults.AuthorFault.{AuthorFault}
+use Rattle.gf_site.specs.declared.faults.AuthorFault.TheVariants as fault
 use Rattle.gf_visible.specs.ShownVersions.{HasMoreVisible}
 use Rattle.gf_drawing.specs.DrawingState.{DrawingState}
 use Rattle.gf_drawing.specs.Outlined.{PaintsAsFig}
@@ -27,7 +28,8 @@ pub record Takes (s : ℕ) (b : List Op) (changes : List Change) (new : List Op)
   pub shows : ShowsDrawing (b ++ new) d
   pub paints : PaintsAsFig (b ++ new) d
 
--- the change c of these is the first that site s refuses behind its base, for this fault
+-- the change c of these is the first that site s refuses behind its base, for this fault, which is
+-- no want of memory
 pub record HasRefusal (s : ℕ) (b : List Op) (changes : List Change) (why : AuthorFault)
     : Type 0 where
   pub before : List Change
@@ -37,6 +39,7 @@ pub record HasRefusal (s : ℕ) (b : List Op) (changes : List Change) (why : Aut
   pub new : List Op
   pub makes : MakesEach s b before new
   pub refused : Refuses s (b ++ new) change why
+  pub other : why ≢ fault.OutOfMemory
 
 -- site s makes the changes behind its base, and then more than 1,000 versions are visible
 pub record ShowsTooMany (s : ℕ) (b : List Op) (changes : List Change) : Type 0 where

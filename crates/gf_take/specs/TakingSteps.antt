@@ -1,12 +1,13 @@
 -- What one change does to a site and to the list of what it made. No public clause cites this
 -- module.
-use Rattle.std.specs.Prelude.{◌≡◌, ℕ, List, [], ◌∷◌, ◌++◌, ⊤, All}
+use Rattle.std.specs.Prelude.{◌≡◌, ◌≢◌, ℕ, List, [], ◌∷◌, ◌++◌, ⊤, All}
 use Rattle.gf_shape.specs.declared.outline.Outline.{Outline}
 use Rattle.gf_shape.specs.ShapeLaws.{IsLawful}
 use Rattle.gf_ops.specs.declared.op.Op.{Op}
 use Rattle.gf_ops.specs.declared.change.Change.{Change}
 use Rattle.gf_site.specs.SiteState.{SiteState}
 use Rattle.gf_site.specs.Events.{Authors, Refuses}
+use Rattle.gf_site.specs.declared.faults.AuthorFault.TheVariants as fault
 use Rattle.gf_visible.specs.ShownVersions.{HasMoreVisible}
 use Rattle.gf_take.specs.declared.take_error.TakeError.{TakeError}
 use Rattle.gf_take.specs.declared.take_error.TakeError.TheVariants as take
@@ -23,7 +24,7 @@ pub record MakesOne (c : Change) (old new : SiteState) (before after : List Op) 
 
 -- why the change is not made
 abbrev pub RefusesOne : Change → SiteState → TakeError → Type 0
-RefusesOne c x (take.Refused why) = Refuses x.number x.ops c why
+RefusesOne c x (take.Refused why) = Refuses x.number x.ops c why × (why ≢ fault.OutOfMemory)
 RefusesOne c x take.TooManyFigures = ⊥
 RefusesOne c x take.Differs = ⊥
 RefusesOne c x take.OutOfMemory = ⊤

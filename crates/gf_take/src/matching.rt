@@ -3,7 +3,9 @@
 ghost use Rattle.std.specs.Prelude.{◌≡◌, ◌↔◌, ◌<◌, true, false, IfOk, IfSome, IfNone, IsTrue, All};
 ghost use Rattle.std.specs.Prelude.{length, map};
 ghost use Rattle.gf_drawing.specs.DrawingColour.{from_front};
-ghost use Rattle.gf_take.specs.Matching.{AreShown, IsLikeAt, IsTraced, TakesLike, TakesNone};
+ghost use Rattle.gf_shape.specs.Outlines.{any_outline};
+ghost use Rattle.gf_take.specs.Matching.{AreShown, AreTraced, IsLikeAt, IsTraced};
+ghost use Rattle.gf_take.specs.Matching.{TakesLike, TakesNone};
 
 use crate::looks::looks;
 use crate::swapping::can_pass;
@@ -29,6 +31,41 @@ pub(crate) fn show_figures(
         }
     }
     Ok(left.is_empty())
+}
+
+/// Whether ranked versions look like the figures of a drawing from the front, one like the other.
+pub(crate) fn look_alike(
+    alloc: Global,
+    items: &[Placed<AnyShape>],
+    drawing: &Drawing<Outline>,
+) -> Result<bool, OutOfMemory>
+    ensures { IfOk result (λ alike. IsTrue alike
+        ↔ AreTraced drawing.now.table items.now (from_front drawing.now.figures)) }
+{
+    let figures = drawing.front_to_back(alloc)?;
+    if figures.len() != items.len() {
+        return Ok(false);
+    }
+    for place in 0..items.len() {
+        if !is_like(alloc, &items[place], drawing, figures[place])? {
+            return Ok(false);
+        }
+    }
+    Ok(true)
+}
+
+/// Whether a version looks like a figure of a drawing.
+fn is_like(
+    alloc: Global,
+    item: &Placed<AnyShape>,
+    drawing: &Drawing<Outline>,
+    figure: &Figure<Outline>,
+) -> Result<bool, OutOfMemory>
+    ensures { IfOk result (λ same. IsTrue same ↔ IsTraced drawing.now.table
+        (any_outline item.now.shape) item.now.colour figure.now) }
+{
+    let outline = item.shape.outline(alloc)?;
+    looks(alloc, &outline, item.colour, drawing, figure)
 }
 
 /// Takes out the first figure that a version looks like, where it can be swapped with all before

@@ -1,18 +1,19 @@
 //! What a site makes of changes, and the check that it then shows a drawing.
 
-ghost use Rattle.std.specs.Prelude.{◌≡◌, ◌++◌, IfOk, IfErr, OnOk};
+ghost use Rattle.std.specs.Prelude.{◌≡◌, ◌++◌, true, false, [], All, IfOk, IfErr, OnOk};
+ghost use Rattle.gf_shape.specs.ShapeLaws.{IsLawful};
 ghost use Rattle.gf_drawing.specs.Outlined.{PaintsAsFig};
-ghost use Rattle.gf_take.specs.ShownDrawing.{ShowsDrawing};
+ghost use Rattle.gf_take.specs.ShownDrawing.{LooksLike, ShowsDrawing};
 ghost use Rattle.gf_take.specs.Taking.{RefusesTake, Takes};
 ghost use Rattle.gf_take.specs.TakingSteps.{HasMade, MakesOne, RefusesAll, RefusesOne};
 ghost use Rattle.gf_take.specs.TakingSteps.{RefusesShowing};
 
 use crate::TakeError;
-use crate::matching::show_figures;
+use crate::matching::{look_alike, show_figures};
 use gf_drawing::Drawing;
 use gf_ops::{Change, Op};
 use gf_shape::Outline;
-use gf_site::Site;
+use gf_site::{AuthorFault, Site};
 use gf_visible::ranked_within;
 use std::alloc::Global;
 
@@ -64,7 +65,22 @@ fn make(site: &mut Site, ops: &mut Vec<Op>, change: Change) -> Result<(), TakeEr
             Ok(()) => Ok(()),
             Err(_) => Err(TakeError::OutOfMemory),
         },
+        Err(AuthorFault::OutOfMemory) => Err(TakeError::OutOfMemory),
         Err(fault) => Err(TakeError::Refused(fault)),
+    }
+}
+
+/// Whether the visible versions of a site look like the figures of a drawing, one like the other.
+pub fn looks_like(alloc: Global, site: &Site, drawing: &Drawing<Outline>) -> Result<bool, TakeError>
+    ensures alike { IfOk result (λ alike. alike ≡ true → LooksLike site.now.ops drawing.now) }
+    ensures other { IfOk result (λ alike. alike ≡ false
+        → All (λ f. IsLawful f.shape) drawing.now.figures → ¬ (LooksLike site.now.ops drawing.now)) }
+    ensures err { IfErr result
+        (RefusesTake site.now.number site.now.ops [] drawing.now) }
+{
+    match ranked_within(alloc, site.history(), site.table(), MOST_FIGURES)? {
+        None => Err(TakeError::TooManyFigures),
+        Some(ranked) => Ok(look_alike(alloc, &ranked.items, drawing)?),
     }
 }
 

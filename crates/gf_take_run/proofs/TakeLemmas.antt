@@ -1,6 +1,6 @@
 -- What was read of operation lines, and what is written of operations.
 use Rattle.std.proofs.Common.{◌≡◌, ℕ, ◌+◌, ◌<◌, List, [], ◌∷◌, ◌++◌, length, get_or, take, refl, sym, ap, subst, ◌∙◌, inl, inr}
-use Rattle.std.specs.Prelude.{Err, IfErr, IfOk, IfSome, None, Ok, Option, Result, Some, find}
+use Rattle.std.specs.Prelude.{All, Err, IfErr, IfOk, IfSome, None, Ok, Option, Result, Some, find}
 use Rattle.std.proofs.lemmas.Grind.{flat_map-append}
 use Rattle.std.proofs.lemmas.List.{append-nil, take_more}
 use Rattle.std.proofs.lemmas.List.Elements.{Contains-push_cases}
@@ -29,7 +29,10 @@ use Rattle.gf_studio.specs.declared.studio_error.StudioError.{StudioError}
 use Rattle.gf_studio.specs.declared.studio_error.StudioError.TheVariants as studio
 use Rattle.gf_studio.specs.RefusedParts.{IsBetween}
 use Rattle.gf_studio.specs.RefusedRuns.{IsOfInput, IsOfRun}
+use Rattle.gf_shape.specs.ShapeLaws.{IsLawful}
+use Rattle.gf_keep.specs.MadeOf.{MakesEach, next as each_next, none as each_none}
 use Rattle.gf_take.specs.Bases.{IsBase}
+use Rattle.gf_take.specs.ShownDrawing.{LooksLike}
 use Rattle.gf_take.specs.Taking.{Takes}
 use Rattle.gf_take.specs.declared.take_error.TakeError.TheVariants as taking
 use Rattle.gf_take_run.specs.declared.take_run_error.TakeRunError.{TakeRunError}
@@ -40,7 +43,8 @@ use Rattle.gf_take_run.specs.SeenDrawing.{AreThere, IsAbsent, IsNewer, since_dra
 use Rattle.gf_take_run.specs.TakenText.{DenotesDrawing, DenotesLines}
 use Rattle.gf_take_run.specs.TakeRun.{HasBlockingLine, HasNewer, ReadsBoth, RefusesChanges}
 use Rattle.gf_take_run.specs.TakeRun.{RefusesParts, RefusesTaking, TakesText, of_take, input, parts}
-use Rattle.gf_take_run.specs.TakeSteps.{AreWritten, RefusesDrawing, TakesParts, TakesSo}
+use Rattle.gf_take_run.specs.TakeSteps.{AreWritten, RefusesDrawing, RefusesMaking, TakesParts}
+use Rattle.gf_take_run.specs.TakeSteps.{TakesSo}
 
 -- ---- what was read
 
@@ -117,14 +121,22 @@ written_denotes new text w =
 
 -- ---- what is taken
 
+-- of no changes no operations are made
+makes_none : {m : ℕ} {base : List Op} {changes : List Change} {new : List Op}
+    → MakesEach m base changes new → changes ≡ [] → new ≡ []
+makes_none each_none e = refl
+makes_none (each_next c in_range accepted more) e = absurd cc
+
 -- what is told with equal numbers and histories is told of the site
 pub takes_so : (s n m : ℕ) (h k : List Op) (drawing : Drawn) (seen : Clock) (t : TakenText)
     (base : List Op) (changes : List Change) (new : List Op) → n ≡ s → m ≡ n → k ≡ h
     → AreThere seen k → ((a x : Op) → ¬ (IsNewer n seen k a x)) → IsBase n seen k base
-    → Takes m base changes new drawing → AreWritten new t.text.items
-    → t.taken.made ≡ made_of new → t.taken.since ≡ since_drawing n seen k
+    → Takes m base changes new drawing
+    → (All (λ f. IsLawful f.shape) drawing.figures → LooksLike base drawing → changes ≡ [])
+    → AreWritten new t.text.items → t.taken.made ≡ made_of new → t.taken.since ≡ since_drawing n seen k
     → TakesSo s h drawing seen t
-takes_so s n m h k drawing seen t base changes new ns mn kh there young is_base takes written made since =
+takes_so s n m h k drawing seen t base changes new ns mn kh there young is_base takes none_planned written made
+    since =
     subst (λ (l : List Op). TakesSo s l drawing seen t) kh
     (subst (λ i. TakesSo i k drawing seen t) ns (record {
       new = new;
@@ -135,11 +147,49 @@ takes_so s n m h k drawing seen t base changes new ns mn kh there young is_base 
         is_base = is_base;
         changes = changes;
         takes = subst (λ i. Takes i base changes new drawing) mn takes;
+        same = λ lawful like. makes_none takes.makes (none_planned lawful like);
       };
       written = written;
       made = made;
       since = since;
     }))
+
+-- why a site makes nothing is why it takes nothing
+making_refuses : (s : ℕ) (h base : List Op) (changes : List Change) (drawing : Drawn) (seen : Clock)
+    (e : TakeRunError) → IsBase s seen h base → RefusesMaking s base changes drawing e
+    → RefusesDrawing s h drawing seen e
+making_refuses s h base changes drawing seen (refused.Refused why) b f =
+    record { base = base; is_base = b; changes = changes; refused = f }
+making_refuses s h base changes drawing seen refused.TooManyFigures b f =
+    record { base = base; is_base = b; changes = changes; refused = f }
+making_refuses s h base changes drawing seen refused.Differs b f =
+    record { base = base; is_base = b; changes = changes; refused = f }
+making_refuses s h base changes drawing seen refused.Unnamed b f = absurd f
+making_refuses s h base changes drawing seen refused.NoDrawing b f = absurd f
+making_refuses s h base changes drawing seen (refused.Absent i) b f = absurd f
+making_refuses s h base changes drawing seen (refused.Older i j) b f = absurd f
+making_refuses s h base changes drawing seen (refused.Waits i j) b f = absurd f
+making_refuses s h base changes drawing seen (refused.Fig line e) b f = absurd f
+making_refuses s h base changes drawing seen (refused.Figure line object fault) b f = absurd f
+making_refuses s h base changes drawing seen (refused.Run studio.OutOfMemory) b f = tt
+making_refuses s h base changes drawing seen (refused.Run (studio.Line m why)) b f = absurd f
+making_refuses s h base changes drawing seen (refused.Run (studio.Dropped id fault)) b f = absurd f
+making_refuses s h base changes drawing seen (refused.Run (studio.Fig x)) b f = absurd f
+making_refuses s h base changes drawing seen (refused.Run (studio.Compile x)) b f = absurd f
+making_refuses s h base changes drawing seen (refused.Run (studio.NoObject o)) b f = absurd f
+making_refuses s h base changes drawing seen (refused.Run studio.ReadFailed) b f = absurd f
+making_refuses s h base changes drawing seen (refused.Run studio.TooLong) b f = absurd f
+making_refuses s h base changes drawing seen (refused.Run studio.WriteFailed) b f = absurd f
+
+-- the same with equal numbers and histories
+pub making_refused : (s n m : ℕ) (h k base : List Op) (changes : List Change) (drawing : Drawn)
+    (seen : Clock) (e : TakeRunError) → n ≡ s → m ≡ n → k ≡ h → IsBase n seen k base
+    → RefusesMaking m base changes drawing e → RefusesDrawing s h drawing seen e
+making_refused s n m h k base changes drawing seen e ns mn kh b f =
+    subst (λ (l : List Op). RefusesDrawing s l drawing seen e) kh
+    (subst (λ i. RefusesDrawing i k drawing seen e) ns
+    (making_refuses n k base changes drawing seen e b
+    (subst (λ i. RefusesMaking i base changes drawing e) mn f)))
 
 module _ (s n : ℕ) (number : n ≡ s) (lines fig : List ℕ) (h : List Op) (read : DenotesLines s lines h)
     (drawing : Drawn) (seen : Clock) (drawn : DenotesDrawing fig drawing seen) where

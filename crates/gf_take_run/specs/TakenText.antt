@@ -1,6 +1,7 @@
 -- What is taken of a text: new operations of one site, which show the drawing that the text ends
 -- with (this project's choice, over causal delivery).
-use Rattle.std.specs.Prelude.{ℕ, List, ◌++◌}
+use Rattle.std.specs.Prelude.{◌≡◌, ℕ, List, [], ◌++◌, All}
+use Rattle.gf_shape.specs.ShapeLaws.{IsLawful}
 use Rattle.gf_streams.specs.TextLines.{numbered_lines}
 use Rattle.gf_ops.specs.declared.op.Op.{Op}
 use Rattle.gf_ops.specs.declared.op.Clock.{Clock}
@@ -10,6 +11,7 @@ use Rattle.gf_replay.specs.Denoting.{AreLinesOf}
 use Rattle.gf_fig_read.specs.FigGrammar.{Reads}
 use Rattle.gf_fig_read.specs.Objects.{Drawn}
 use Rattle.gf_take.specs.Bases.{AreRead, IsBase}
+use Rattle.gf_take.specs.ShownDrawing.{LooksLike}
 use Rattle.gf_take.specs.Taking.{Takes}
 use Rattle.gf_take_run.specs.Parting.{IsParted}
 use Rattle.gf_take_run.specs.SeenDrawing.{AreThere, IsNewer, Knows}
@@ -26,7 +28,8 @@ pub record DenotesDrawing (fig : List ℕ) (drawing : Drawn) (seen : Clock) : Ty
   pub knows : Knows fig seen
 
 -- site s makes the new operations behind the base of what the drawing knew of the history. All that
--- the drawing knew is there, and no operation of the site knows more of others
+-- the drawing knew is there, and no operation of the site knows more of others. Where the base looks
+-- like the drawing, whose figures are lawful, none is made
 pub record TakesDrawing (s : ℕ) (history : List Op) (drawing : Drawn) (seen : Clock)
     (new : List Op) : Type 0 where
   pub there : AreThere seen history
@@ -35,6 +38,7 @@ pub record TakesDrawing (s : ℕ) (history : List Op) (drawing : Drawn) (seen : 
   pub is_base : IsBase s seen history base
   pub changes : List Change
   pub takes : Takes s base changes new drawing
+  pub same : All (λ f. IsLawful f.shape) drawing.figures → LooksLike base drawing → new ≡ []
 
 -- the bytes are operation lines and a FIG text behind them, of which site s takes new operations
 pub record DenotesTake (s : ℕ) (bytes : List ℕ) (new : List Op) : Type 0 where

@@ -1,6 +1,6 @@
 //! From the bytes of a text to the lines of what is taken.
 
-ghost use Rattle.std.specs.Prelude.{◌≡◌, ◌⊎◌, ◌≤◌, ℕ, Contains, List, IfErr, IfOk, IfSome};
+ghost use Rattle.std.specs.Prelude.{◌≡◌, ◌⊎◌, ◌≤◌, ℕ, All, Contains, List, [], IfErr, IfOk, IfSome};
 ghost use Rattle.gf_ops.specs.Limits.{IsInRange};
 ghost use Rattle.gf_ops.specs.OperationOrder.{IsSite};
 ghost use Rattle.gf_fig_read.specs.FigGrammar.{Fails, Reads};
@@ -8,7 +8,11 @@ ghost use Rattle.gf_fig_tokens.specs.declared.faults.FigFault.TheVariants as fau
 ghost use Rattle.gf_studio.specs.RefusedParts.{IsBetween};
 ghost use Rattle.gf_edit.specs.MadeOperations.{made_of, made_until};
 ghost use Rattle.gf_ops.specs.declared.op.Op.{Op};
-ghost use Rattle.gf_take.specs.Taking.{Takes};
+ghost use Rattle.gf_ops.specs.declared.change.Change.{Change};
+ghost use Rattle.gf_fig_read.specs.Objects.{Drawn};
+ghost use Rattle.gf_shape.specs.ShapeLaws.{IsLawful};
+ghost use Rattle.gf_take.specs.ShownDrawing.{LooksLike};
+ghost use Rattle.gf_take.specs.Taking.{RefusesTake, Takes};
 ghost use Rattle.gf_take_run.specs.TakenText.{DenotesDrawing, DenotesLines};
 ghost use Rattle.gf_take_run.specs.TakeRun.{RefusesParts, RefusesTaking, TakesText, of_take};
 ghost use Rattle.gf_take_run.specs.TakeSteps.{AreWritten, RefusesDrawing, RefusesMaking};
@@ -17,7 +21,7 @@ ghost use Rattle.gf_take_run.specs.TakeSteps.{TakesParts, TakesSo};
 use crate::parting::{Parts, part};
 use crate::seeing::{check_age, check_known, made_since};
 use crate::{TakeRunError, Taken};
-use gf_changes::{Target, planned, targets};
+use gf_changes::{Plan, Target, planned, targets};
 use gf_drawing::Drawing;
 use gf_edit::{EditError, Made, check_waiting, push_line};
 use gf_fig_named::read_names;
@@ -28,7 +32,7 @@ use gf_replay::read_replica;
 use gf_shape::{OutOfMemory, Outline};
 use gf_site::{NoTable, Replica, Site};
 use gf_studio::StudioError;
-use gf_take::{TakeError, base_site, take};
+use gf_take::{TakeError, base_site, looks_like, take};
 use std::alloc::Global;
 use std::thread::Threads;
 
@@ -200,7 +204,7 @@ fn take_drawing(
     check_known(history, site, &drawn.seen)?;
     check_age(history, site, &drawn.seen)?;
     let mut base = base_site(alloc, site, history, &drawn.seen)?;
-    let plan = planned(alloc, &base, drawn.targets, &drawn.seen)?;
+    let plan = plan_of(alloc, &base, drawn.targets, &drawn.seen, &drawn.drawing)?;
     let since = made_since(history, site, &drawn.seen);
     let (changed, hidden, drawn_anew) = (plan.changed, plan.hidden, plan.drawn);
     let ops = take_changes(alloc, &mut base, plan.changes, &drawn.drawing)?;
@@ -214,6 +218,30 @@ fn take_drawing(
             drawn: drawn_anew,
         },
     })
+}
+
+/// The changes by which a site comes to show a drawing: none where it looks like it.
+fn plan_of(
+    alloc: Global,
+    base: &Site,
+    targets: Vec<Target>,
+    seen: &Clock,
+    drawing: &Drawing<Outline>,
+) -> Result<Plan, TakeRunError>
+    ensures same { IfOk result (λ plan. All (λ f. IsLawful f.shape) drawing.now.figures
+        → LooksLike base.now.ops drawing.now → plan.changes.items ≡ []) }
+    ensures refused { IfErr result (RefusesMaking base.now.number base.now.ops [] drawing.now) }
+{
+    match looks_like(alloc, base, drawing) {
+        Ok(true) => Ok(Plan {
+            changes: Vec::new(alloc),
+            changed: 0,
+            hidden: 0,
+            drawn: 0,
+        }),
+        Ok(false) => Ok(planned(alloc, base, targets, seen)?),
+        Err(error) => Err(refusal(error)),
+    }
 }
 
 /// The operations that a site makes of these changes, where it then shows the drawing.
@@ -230,10 +258,20 @@ fn take_changes(
 {
     match take(alloc, base, changes, drawing) {
         Ok(ops) => Ok(ops),
-        Err(TakeError::Refused(fault)) => Err(TakeRunError::Refused(fault)),
-        Err(TakeError::TooManyFigures) => Err(TakeRunError::TooManyFigures),
-        Err(TakeError::Differs) => Err(TakeRunError::Differs),
-        Err(TakeError::OutOfMemory) => Err(TakeRunError::from(OutOfMemory)),
+        Err(error) => Err(refusal(error)),
+    }
+}
+
+/// Why nothing is taken, where this is why a site takes nothing.
+fn refusal(error: TakeError) -> TakeRunError
+    ensures { (s : ℕ) (b : List Op) (changes : List Change) (d : Drawn)
+        → RefusesTake s b changes d error → RefusesMaking s b changes d result }
+{
+    match error {
+        TakeError::Refused(fault) => TakeRunError::Refused(fault),
+        TakeError::TooManyFigures => TakeRunError::TooManyFigures,
+        TakeError::Differs => TakeRunError::Differs,
+        TakeError::OutOfMemory => TakeRunError::from(OutOfMemory),
     }
 }
 

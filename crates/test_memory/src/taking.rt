@@ -8,7 +8,7 @@ use gf_fig_read::read_fig;
 use gf_keep::{Keep, KeepFault};
 use gf_ops::{Change, Clock, Ids, ObjectId, Op, OpId, Value};
 use gf_shape::OutOfMemory;
-use gf_site::{AuthorFault, Site};
+use gf_site::Site;
 use gf_take::TakeError;
 use gf_versions::ranked;
 use std::alloc::Global;
@@ -224,7 +224,7 @@ fn take(alloc: Global, marks: &mut Marks) -> Option<Came> {
     let first = gf_take::take(alloc, &mut base, changes, &drawing);
     marks.end();
     Some(match first {
-        Err(TakeError::OutOfMemory) | Err(TakeError::Refused(AuthorFault::OutOfMemory)) => {
+        Err(TakeError::OutOfMemory) => {
             let is_kept = has_red_first(&base);
             let next = gf_take::take(alloc, &mut same, same_changes, &drawing);
             Came::after_memory(is_kept, is_taken(next, &same))
