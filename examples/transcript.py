@@ -25,10 +25,11 @@ def steps(page):
 def run(commands, root, folder):
     """What each command puts out, all run by one shell at the folder."""
     os.symlink(os.path.join(root, "examples"), os.path.join(folder, "examples"))
-    program = os.path.join(folder, "figgroup")
-    with open(program, "w") as file:
-        file.write(f'#!/bin/sh\nexec "{root}/figgroup" "$@"\n')
-    os.chmod(program, 0o755)
+    for name in ("figgroup", "draw"):
+        program = os.path.join(folder, name)
+        with open(program, "w") as file:
+            file.write(f'#!/bin/sh\nexec "{root}/{name}" "$@"\n')
+        os.chmod(program, 0o755)
     script = "".join(f"{command}\necho '{MARK}'\n" for command in commands)
     said = subprocess.run(
         ["sh"], input=script, text=True, cwd=folder, stdout=subprocess.PIPE, stderr=subprocess.STDOUT, timeout=600
