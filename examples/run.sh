@@ -6,8 +6,8 @@
 # named text or the status of the lines is expected, or their faults or those of commands are, these are compared; and where
 # there are changes, the operations that site 1 makes of them, and the status with these. Each picture that the file
 # pictures names, with its lines and its window, is painted anew and compared. What an import makes of
-# house.fig is compared with imported.jsonl. Last README and the tutorial are typed, and the script of by-git
-# is run.
+# house.fig is compared with imported.jsonl. Last README and the tutorial are typed, and the scripts of by-git and draw
+# are run.
 set -eu
 examples=$(cd "$(dirname "$0")" && pwd)
 root=$(dirname "$examples")
@@ -194,6 +194,15 @@ if command -v git > /dev/null; then
     compare "by-git" "$examples/by-git/expected.txt" "$examples/by-git/run.sh"
 else
     echo "by-git: skipped, as there is no git"
+fi
+missing=
+for tool in git jq pngtopnm flock; do
+    command -v "$tool" > /dev/null || missing="$missing $tool"
+done
+if [ -z "$missing" ]; then
+    compare "draw" "$examples/draw/expected.txt" env PATH="$root:$PATH" "$examples/draw/run.sh"
+else
+    echo "draw: skipped, as there is no$missing"
 fi
 echo "$passed passed, $failed failed"
 [ "$failed" = 0 ]

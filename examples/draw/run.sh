@@ -12,11 +12,11 @@ unset FIG_EDITOR
 export GIT_CONFIG_GLOBAL=/dev/null GIT_CONFIG_NOSYSTEM=1 GIT_DEFAULT_HASH=sha1 TZ=UTC
 export GIT_AUTHOR_DATE='2026-05-01 10:00 +0000' GIT_COMMITTER_DATE='2026-05-01 10:00 +0000'
 
-# What is shown behind a prompt is what was typed; of a refused drawing only the line is shown, as its words may change.
+# Types a line. Of a refused drawing only the line is shown, as `figgroup take` has tests of its own.
 say() {
     local status=0
-    echo "\$ $1"
-    bash -c "$1" 2>&1 | sed "s/\(drawing line [0-9]*\):.*/\1/; s|$saved/||; s|$root/||" || status=$?
+    echo "\$ $1" | sed "s|$saved/||; s|$root/||"
+    bash -o pipefail -c "$1" 2>&1 | sed "s/\(drawing line [0-9]*\):.*/\1/" || status=$?
     [ "$status" = 0 ] || echo "-- status $status"
 }
 
@@ -28,8 +28,11 @@ heading() {
 draw() {
     "$root/draw" "$@"
 }
-export -f draw
-export root saved
+figgroup() {
+    PATH=$PATH:$root command figgroup "$@"
+}
+export -f draw figgroup
+export root
 
 # A folder with a house and a fir that stands at two places.
 begin() {
@@ -116,7 +119,9 @@ say "draw list 1.6 | grep -c shown"
 say "draw log 1.6"
 say "draw picture"
 say "draw picture firs.png"
-say "head -c 4 firs.png | tail -c 3"
+say "cmp drawing.png firs.png"
+say "pngtopnm firs.png > firs.ppm"
+say "cat site-*.jsonl | figgroup paint --fit --width 800 --height 600 | cmp - firs.ppm"
 
 heading "what is refused"
 begin refused
@@ -168,12 +173,9 @@ cd ann
 say "draw push"
 say "draw site 1"
 cp "$root/examples/tutorial/house.fig" ..
-figgroup() {
-    PATH=$PATH:$root command figgroup "$@"
-}
 figgroup import --site 1 < ../house.fig | figgroup edit --site 1 > site-1.jsonl 2> /dev/null
-say "draw status"
 say "draw push"
+say "draw status"
 say "git status --short"
 cd ../ben
 say "draw site 2"
@@ -198,5 +200,5 @@ git checkout -q site-2.jsonl
 echo 1 > site
 say "draw set 1.5 colour ffffff"
 (cd ../ann && draw set 1.5 colour 000000 2> /dev/null && draw push > /dev/null)
-say "draw pull"
+say "draw pull 2>&1 | grep ^draw"
 say "git status --short"
