@@ -6,8 +6,7 @@
 # named text or the status of the lines is expected, or their faults or those of commands are, these are compared; and where
 # there are changes, the operations that site 1 makes of them, and the status with these. Each picture that the file
 # pictures names, with its lines and its window, is painted anew and compared. What an import makes of
-# house.fig is compared with imported.jsonl. Last README and the tutorial are typed, and the scripts of by-git and draw
-# are run.
+# house.fig is compared with imported.jsonl. Last README, the tutorial and by-git are typed, and the script of draw is run.
 set -eu
 examples=$(cd "$(dirname "$0")" && pwd)
 root=$(dirname "$examples")
@@ -191,7 +190,9 @@ done
 compare "README" /dev/null python3 "$examples/transcript.py" "$root/README.md" "$root"
 compare "tutorial" /dev/null python3 "$examples/transcript.py" "$root/docs/TUTORIAL.md" "$root"
 if command -v git > /dev/null; then
-    compare "by-git" "$examples/by-git/expected.txt" "$examples/by-git/run.sh"
+    compare "by-git" /dev/null env GIT_CONFIG_GLOBAL=/dev/null GIT_CONFIG_NOSYSTEM=1 \
+        FIG_EDITOR="cp $examples/by-git/saved/site-\$(cat site).fig" \
+        python3 "$examples/transcript.py" "$examples/by-git/README.md" "$root"
 else
     echo "by-git: skipped, as there is no git"
 fi
