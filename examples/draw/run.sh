@@ -197,8 +197,21 @@ say "draw list | sed -n 1p"
 echo '{}' > site-2.jsonl
 say "draw push"
 git checkout -q site-2.jsonl
-echo 1 > site
+
+heading "one number used twice"
+cd ..
+git clone -q -c user.name=eva -c user.email=eva@example.org drawing.git eva
+cd eva
+say "draw site 1"
 say "draw set 1.5 colour ffffff"
+say "draw copy 600 0 1.1"
+say "draw set 1.10 colour ff0000"
 (cd ../ann && draw set 1.5 colour 000000 2> /dev/null && draw push > /dev/null)
 say "draw pull 2>&1 | grep ^draw"
 say "git status --short"
+# The way out as docs/ACCIDENTS.md has it, to a number that is free here.
+awk '/^```/ { inside = !inside; next } inside' "$root/docs/ACCIDENTS.md" | sed 's/new=2/new=3/' > ../way
+say "sh ../way"
+say "cat site-3.jsonl"
+say "draw status"
+say "draw push"
