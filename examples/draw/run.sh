@@ -65,6 +65,8 @@ say "FIG_EDITOR='cp $saved/move-version.fig' draw"
 say "tail -n 1 site-2.jsonl"
 say "draw undo"
 say "FIG_EDITOR=false draw"
+say "FIG_EDITOR='sed -i \"s/4050 660/4000 660/g\" drawing.fig; false' draw"
+say "FIG_EDITOR=true draw"
 say "FIG_EDITOR=no-editor draw 2>&1 | grep -v 'not found'"
 say "FIG_EDITOR='$root/draw undo; true' draw"
 say "ls"
@@ -92,6 +94,22 @@ say "FIG_EDITOR='cp $saved/refused-outline.fig' draw > /dev/null 2>&1"
 say "rm drawing.fig"
 say "FIG_EDITOR='cp $saved/draw-kinds.fig' draw"
 say "draw list"
+
+heading "an old drawing"
+begin old
+draw site 2 > /dev/null
+say "FIG_EDITOR='cp $saved/refused-outline.fig' draw > /dev/null 2>&1"
+echo '{"site":1,"do":"set","object":[1,1],"set":"place","to":[1000,600]}' > commands
+cat site-*.jsonl commands | figgroup edit --site 1 >> site-1.jsonl 2> /dev/null
+say "FIG_EDITOR='cp $saved/move-version.fig' draw"
+say "tail -n 1 site-2.jsonl"
+say "FIG_EDITOR='cp $saved/refused-outline.fig' draw > /dev/null 2>&1"
+echo '{"site":2,"do":"set","object":[1,1],"set":"place","to":[2000,600]}' > commands
+cat site-*.jsonl commands | figgroup edit --site 2 >> site-2.jsonl 2> /dev/null
+say "FIG_EDITOR='cp $saved/move-version.fig' draw 2>&1 | grep -v versions"
+say "draw undo"
+say "rm drawing.fig"
+say "draw undo"
 
 heading "words for objects"
 begin objects
