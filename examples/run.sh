@@ -191,7 +191,7 @@ compare "README" /dev/null python3 "$examples/transcript.py" "$root/README.md" "
 compare "tutorial" /dev/null python3 "$examples/transcript.py" "$root/docs/TUTORIAL.md" "$root"
 if command -v git > /dev/null; then
     compare "by-git" /dev/null env GIT_CONFIG_GLOBAL=/dev/null GIT_CONFIG_NOSYSTEM=1 \
-        FIG_EDITOR="cp $examples/by-git/saved/site-\$(cat site).fig" \
+        FIG_EDITOR="cp '$examples/by-git/saved/site-'\$(cat site).fig" \
         python3 "$examples/transcript.py" "$examples/by-git/README.md" "$root"
 else
     echo "by-git: skipped, as there is no git"
