@@ -6,7 +6,9 @@
 # named text or the status of the lines is expected, or their faults or those of commands are, these are compared; and where
 # there are changes, the operations that site 1 makes of them, and the status with these. Each picture that the file
 # pictures names, with its lines and its window, is painted anew and compared. What an import makes of
-# house.fig is compared with imported.jsonl. Last README, the tutorial and by-git are typed, and the script of draw is run.
+# house.fig is compared with imported.jsonl; what plain.awk makes and tells of a drawing with NAME.plain.fig and NAME.txt, and what
+# site 2 takes of it, beside the lines of the example named, with NAME.jsonl. Last README, the guide to imports, the tutorial and
+# by-git are typed, and the script of draw is run.
 set -eu
 examples=$(cd "$(dirname "$0")" && pwd)
 root=$(dirname "$examples")
@@ -65,6 +67,23 @@ command_faults() {
 
 imported() {
     "$root/figgroup" import --site 1 < "$1"
+}
+
+plain() {
+    awk -f "$examples/plain.awk" < "$1" 2> /dev/null || :
+}
+
+plain_told() {
+    awk -f "$examples/plain.awk" < "$1" 2>&1 > /dev/null || :
+}
+
+# What an import tells of a drawing made plain.
+plain_faults() {
+    "$root/figgroup" import --site 1 < "$1" 2>&1 > /dev/null
+}
+
+plain_taken() {
+    cat "$examples"/named/site-*.jsonl "$1" | "$root/figgroup" take --site 2
 }
 
 again() {
@@ -129,6 +148,19 @@ compare_pngs() {
     done < "$example/pictures"
 }
 
+# The plain form of the drawing of this name.
+compare_plain() {
+    drawing=$example/$1
+    compare "plain, $1" "$drawing.plain.fig" plain "$drawing.fig"
+    compare "plain, told of $1" "$drawing.txt" plain_told "$drawing.fig"
+    if [ -s "$drawing.plain.fig" ]; then
+        compare "plain, $1 imported" /dev/null plain_faults "$drawing.plain.fig"
+    fi
+    if [ -e "$drawing.jsonl" ]; then
+        compare "plain, $1 taken" "$drawing.jsonl" plain_taken "$drawing.plain.fig"
+    fi
+}
+
 is_current() {
     [ -x "$reader" ] || return 1
     newer=$(find "$root/crates.txt" "$root/crates" -name out -prune -o -type f -newer "$reader" -print | head -n 1)
@@ -179,15 +211,18 @@ for example in "$examples"/*/; do
     fi
     if [ -e "$example/imported.jsonl" ]; then
         compare "$(basename "$example"), imported" "$example/imported.jsonl" imported "$example/house.fig"
-        continue
     fi
+    for drawing in "$example"/*.plain.fig; do
+        [ ! -e "$drawing" ] || compare_plain "$(basename "$drawing" .plain.fig)"
+    done
+    [ -e "$example/expected.fig" ] || continue
     for text in "$example"/*.fig; do
-        [ -e "$text" ] || continue
         compare "$(basename "$example"), $(basename "$text") again" "$example/expected.fig" again "$text"
     done
 done
 
 compare "README" /dev/null python3 "$examples/transcript.py" "$root/README.md" "$root"
+compare "importing" /dev/null python3 "$examples/transcript.py" "$root/docs/IMPORTING.md" "$root"
 compare "tutorial" /dev/null python3 "$examples/transcript.py" "$root/docs/TUTORIAL.md" "$root"
 if command -v git > /dev/null; then
     compare "by-git" /dev/null env GIT_CONFIG_GLOBAL=/dev/null GIT_CONFIG_NOSYSTEM=1 \
