@@ -221,6 +221,8 @@ for example in "$examples"/*/; do
     done
 done
 
+# In place of each window stands what xfig saved of it, named by the site and how many operations it had.
+export FIG_EDITOR="cp $examples/tutorial/saved/site-\$(cat site)-\$(wc -l < site-\$(cat site).jsonl).fig"
 compare "README" /dev/null python3 "$examples/transcript.py" "$root/README.md" "$root"
 compare "importing" /dev/null python3 "$examples/transcript.py" "$root/docs/IMPORTING.md" "$root"
 compare "tutorial" /dev/null python3 "$examples/transcript.py" "$root/docs/TUTORIAL.md" "$root"

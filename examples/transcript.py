@@ -2,7 +2,8 @@
 """Runs each command of a page in a new folder, and compares what it puts out with what stands behind it.
 
 A command is a line that begins with `$ ` in a block for the shell; what follows it in the block is its output, faults
-among it. Each picture NAME.png that the page shows is compared with the NAME.ppm that the commands painted, if they did.
+among it. Each picture NAME.png that the page shows is compared with the NAME.ppm or NAME.png that the commands painted,
+if they did. A stand-in for pnmtopng leaves a picture as PPM.
 
 Words: the page, and the root of the repository."""
 import os
@@ -25,10 +26,12 @@ def steps(page):
 def run(commands, root, folder):
     """What each command puts out, all run by one shell at the folder."""
     os.symlink(os.path.join(root, "examples"), os.path.join(folder, "examples"))
-    for name in ("figgroup", "draw"):
+    programs = {name: f'exec "{root}/{name}" "$@"' for name in ("figgroup", "draw")}
+    programs["pnmtopng"] = 'for file; do :; done; cat "$file"'
+    for name, words in programs.items():
         program = os.path.join(folder, name)
         with open(program, "w") as file:
-            file.write(f'#!/bin/sh\nexec "{root}/{name}" "$@"\n')
+            file.write(f"#!/bin/sh\n{words}\n")
         os.chmod(program, 0o755)
     script = "".join(f"{command}\necho '{MARK}'\n" for command in commands)
     said = subprocess.run(
@@ -40,9 +43,10 @@ def run(commands, root, folder):
 def painted(folder, name):
     """The bytes of the picture of this name that a command painted."""
     for place, _, files in os.walk(folder):
-        if name + ".ppm" in files:
-            with open(os.path.join(place, name + ".ppm"), "rb") as file:
-                return file.read()
+        for picture in (name + ".ppm", name + ".png"):
+            if picture in files:
+                with open(os.path.join(place, picture), "rb") as file:
+                    return file.read()
     return b""
 
 
