@@ -71,7 +71,7 @@ END {
     printf "%s", head
     for (i = 32; i < 544; i++) if (i in value) print "0 " i " #" value[i]
     for (i = 1; i <= kept; i++) printf "%s", figure[i]
-    told("plain: " kept + 0 " figures are kept, " left + 0 " left out")
+    told("plain: kept " kept + 0 ", left out " left + 0)
 }
 
 function told(words) { print words > "/dev/stderr" }
