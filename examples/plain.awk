@@ -56,7 +56,7 @@ NF {
     if (count == 0) line = NR
     for (i = 1; i <= NF; i++) field[++count] = $i
     wanted = fields_wanted()
-    if (count > wanted) refuse(line, "an object with more fields than it has")
+    if (count > wanted) refuse(line, "an object of too many fields")
     if (count == wanted) {
         add_object()
         count = named = 0
@@ -132,7 +132,8 @@ function add_ellipse(    kind, x, y, a, b, turn, points, i, t) {
                 field[2] = 1
                 change("it becomes an ellipse")
             }
-            keep("1 " field[2], kind, x, y, "1 0.0000 " x " " y " " a " " b " " field[17] " " field[18] " " field[19] " " field[20] "\n")
+            for (i = 17; i <= 20; i++) points = points " " field[i]
+            keep("1 " field[2], kind, x, y, "1 0.0000 " x " " y " " a " " b points "\n")
         } else if (cos(turn) * cos(turn) < 0.00000001) {
             change("its turn by a right angle becomes other radii")
             keep("1 1", kind, x, y, "1 0.0000 " x " " y " " b " " a " " x " " y " " x + b " " y + a "\n")
@@ -187,7 +188,7 @@ function keep(first, kind, x, y, last,    n) {
 # The number of the colour that this one has where an area is filled with this style.
 function colour_written(n, style,    rgb) {
     if (!(n in value)) {
-        change("its colour " n " is not defined")
+        change("its colour " n " is not defined, and becomes black")
         n = 0
     }
     if (style > 40) change("its pattern is left out")
