@@ -95,6 +95,17 @@ say "rm drawing.fig"
 say "FIG_EDITOR='cp $saved/draw-kinds.fig' draw"
 say "draw list"
 
+heading "a drawing refused, then made plain"
+begin plain
+draw site 2 > /dev/null
+say "FIG_EDITOR='cp $root/examples/plain/gold.fig' draw"
+say "draw plain"
+say "tail -n 1 site-2.jsonl"
+say "ls"
+say "draw plain"
+say "FIG_EDITOR='cp $root/examples/plain/old.fig' draw > /dev/null 2>&1"
+say "draw plain"
+
 heading "an old drawing"
 begin old
 draw site 2 > /dev/null
