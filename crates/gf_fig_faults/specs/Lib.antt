@@ -1,0 +1,2 @@
+pub mod Commenting
+pub mod DrawingFaults

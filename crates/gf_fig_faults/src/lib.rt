@@ -1,0 +1,19 @@
+//! What is wrong with a FIG text: its faults at once, each with the object that has it, and what to
+//! do.
+//!
+//! - [`drawing_faults`]: the faults of a text, in the order of their lines.
+//! - [`DrawingFaults`], [`DrawingFault`]: the faults, and one of them, as they are told.
+//! - [`seen_at`], [`Seen`]: the object that begins on a line, by its kind and place.
+#![tactic(auto)]
+
+mod commenting;
+mod faults;
+mod fields;
+mod kinds;
+mod searching;
+mod slips;
+
+pub use faults::{DrawingFault, DrawingFaults};
+pub use kinds::{Kind, Seen, seen_at};
+pub use searching::drawing_faults;
+pub use slips::{Explanation, Slip};
