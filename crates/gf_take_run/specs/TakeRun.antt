@@ -8,8 +8,9 @@ use Rattle.gf_ops.specs.declared.change.Change.{Change}
 use Rattle.gf_causal.specs.Waiting.{waits_for}
 use Rattle.gf_replay.specs.Denoting.{AreLinesOf}
 use Rattle.gf_replay.specs.Waiting.{DenotesWaiting}
-use Rattle.gf_fig_read.specs.FaultLines.{BeginsOn, IsFaultLine}
-use Rattle.gf_fig_read.specs.FigGrammar.{Fails, Reads}
+use Rattle.gf_fig_faults.specs.DrawingFaults.{AreFaults, HasFirst, most_told}
+use Rattle.gf_fig_read.specs.FaultLines.{BeginsOn}
+use Rattle.gf_fig_read.specs.FigGrammar.{Reads}
 use Rattle.gf_fig_read.specs.Objects.{Drawn}
 use Rattle.gf_import.specs.declared.faults.CreationError.TheVariants as creation
 use Rattle.gf_import.specs.ImportRun.{HasNoCreations}
@@ -96,10 +97,11 @@ pub record HasNewer (s : ℕ) (i j : OpId) (h : List Op) (drawing : Drawn) (seen
 abbrev pub RefusesParts : ℕ → List ℕ → List ℕ → TakeRunError → Type 0
 RefusesParts s lines fig (refused.Run e) = RefusesReading lines e
 RefusesParts s lines fig (refused.Waits i j) = HasBlockingLine s lines i j
-RefusesParts s lines fig (refused.Fig line e) =
-    Fails fig e.fault e.object × IsFaultLine fig e line
-RefusesParts s lines fig (refused.Figure line object fault) =
-    HasNoCreations fig (creation.Figure object fault) × BeginsOn fig object line
+RefusesParts s lines fig (refused.Fig faults) =
+    HasFirst fig faults × AreFaults most_told None fig faults
+RefusesParts s lines fig (refused.Figure broken) =
+    HasNoCreations fig (creation.Figure broken.object broken.fault)
+    × BeginsOn fig broken.object broken.line
 RefusesParts s lines fig refused.TooManyFigures = HasManyFigures fig
     ⊎ ReadsBoth s lines fig (RefusesChanges s take.TooManyFigures)
 RefusesParts s lines fig refused.Unnamed = ⊤

@@ -3,10 +3,11 @@
 //!
 //! - [`take_run`]: reads both, and writes the new operations.
 //! - [`Taken`]: what is told of them.
-//! - [`TakeRunError`]: why nothing is taken.
+//! - [`TakeRunError`]: why nothing is taken; [`BrokenLimit`]: the figure that no operation can make.
 //! - [`what_a_take_writes_joins_what_it_read`]: the law of what a take read and wrote.
 #![tactic(auto)]
 
+mod broken_limit;
 mod laws;
 mod parting;
 mod run;
@@ -15,6 +16,7 @@ mod take_run_error;
 mod taken;
 mod taking;
 
+pub use broken_limit::BrokenLimit;
 pub use laws::what_a_take_writes_joins_what_it_read;
 pub use run::take_run;
 pub use take_run_error::TakeRunError;

@@ -4,8 +4,8 @@ ghost use Rattle.std.specs.Prelude.{◌≡◌};
 ghost use Rattle.gf_studio.specs.declared.studio_error.StudioError.TheVariants as studio;
 ghost use Rattle.gf_take_run.specs.declared.take_run_error.TakeRunError.TheVariants as refused;
 
-use gf_fig_read::FigError;
-use gf_import::FigureFault;
+use crate::BrokenLimit;
+use gf_fig_faults::DrawingFaults;
 use gf_ops::OpId;
 use gf_shape::OutOfMemory;
 use gf_site::AuthorFault;
@@ -13,7 +13,7 @@ use gf_studio::StudioError;
 use thiserror::Error;
 
 /// Why nothing is taken.
-#[derive(Clone, Copy, Debug, PartialEq, Eq, Error)]
+#[derive(Debug, Drop, Error)]
 pub enum TakeRunError {
     /// The run over the operation lines was refused.
     #[error("{0}")]
@@ -24,17 +24,12 @@ pub enum TakeRunError {
     /// No line begins a FIG text.
     #[error("no drawing behind the operation lines")]
     NoDrawing,
-    /// The FIG text reads as no drawing, by a fault at its line of this number, counted from 1.
-    #[error("drawing line {0}: {1}")]
-    Fig(u64, FigError),
-    /// The figure of an object, counted from 1 with the colours, breaks a limit. The object begins
-    /// on the FIG text's line of this number, counted from 1.
-    #[error("drawing line {line}: figure object {object}: {fault}")]
-    Figure {
-        line: u64,
-        object: u64,
-        fault: FigureFault,
-    },
+    /// The FIG text reads as no drawing, and has these faults.
+    #[error("{0}")]
+    Fig(DrawingFaults),
+    /// A figure breaks a limit.
+    #[error("{0}")]
+    Figure(BrokenLimit),
     /// The drawing has more than 1,000 figures, or more would be visible.
     #[error("TooManyFigures")]
     TooManyFigures,

@@ -1,10 +1,9 @@
 //! From the bytes of a text to the lines of what is taken.
 
-ghost use Rattle.std.specs.Prelude.{◌≡◌, ◌⊎◌, ◌≤◌, ℕ, All, Contains, List, [], IfErr, IfOk, IfSome};
+ghost use Rattle.std.specs.Prelude.{◌≡◌, ◌≤◌, ℕ, All, Contains, List, [], IfErr, IfOk, IfSome};
 ghost use Rattle.gf_ops.specs.Limits.{IsInRange};
 ghost use Rattle.gf_ops.specs.OperationOrder.{IsSite};
-ghost use Rattle.gf_fig_read.specs.FigGrammar.{Fails, Reads};
-ghost use Rattle.gf_fig_tokens.specs.declared.faults.FigFault.TheVariants as fault;
+ghost use Rattle.gf_fig_read.specs.FigGrammar.{Reads};
 ghost use Rattle.gf_studio.specs.RefusedParts.{IsBetween};
 ghost use Rattle.gf_edit.specs.MadeOperations.{made_of, made_until};
 ghost use Rattle.gf_ops.specs.declared.op.Op.{Op};
@@ -20,12 +19,13 @@ ghost use Rattle.gf_take_run.specs.TakeSteps.{TakesParts, TakesSo};
 
 use crate::parting::{Parts, part};
 use crate::seeing::{check_age, check_known, made_since};
-use crate::{TakeRunError, Taken};
+use crate::{BrokenLimit, TakeRunError, Taken};
 use gf_changes::{Plan, Target, planned, targets};
 use gf_drawing::Drawing;
 use gf_edit::{EditError, Made, check_waiting, push_line};
+use gf_fig_faults::{drawing_faults, seen_at};
 use gf_fig_named::read_names;
-use gf_fig_read::{FigError, fault_line, object_line, read_fig};
+use gf_fig_read::{object_line, read_fig};
 use gf_import::{CreationError, creations};
 use gf_ops::{Change, Clock, Op, OpId};
 use gf_replay::read_replica;
@@ -132,7 +132,7 @@ fn read_drawing(alloc: Global, fig: &[u8]) -> Result<ReadDrawing, TakeRunError>
 {
     let drawing = match read_fig(alloc, fig) {
         Ok(drawing) => drawing,
-        Err(error) => return Err(fig_refusal(alloc, fig, error)),
+        Err(_) => return Err(fig_refusal(alloc, fig)),
     };
     if MOST_FIGURES < drawing.figures().len() {
         return Err(TakeRunError::TooManyFigures);
@@ -164,28 +164,27 @@ fn creations_of(
         Ok(changes) => Ok(changes),
         Err(CreationError::TooManyFigures) => Err(TakeRunError::TooManyFigures),
         Err(CreationError::Figure(object, fault)) => match object_line(alloc, fig, object)? {
-            Some(line) => Err(TakeRunError::Figure {
+            Some(line) => Err(TakeRunError::Figure(BrokenLimit {
                 line,
                 object,
                 fault,
-            }),
+                seen: seen_at(fig, line),
+            })),
             None => Err(TakeRunError::from(OutOfMemory)),
         },
         Err(CreationError::OutOfMemory) => Err(TakeRunError::from(OutOfMemory)),
     }
 }
 
-/// Why a FIG text with this fault is not taken.
-fn fig_refusal(alloc: Global, fig: &[u8], error: FigError) -> TakeRunError
-    requires { ((error.fault ≡ fault.OutOfMemory) × (error.object ≡ 0))
-        ⊎ Fails fig.now error.fault error.object }
+/// Why a FIG text that can't be read is not taken.
+fn fig_refusal(alloc: Global, fig: &[u8]) -> TakeRunError
     ensures refused { (s : ℕ) (lines : List ℕ) → RefusesParts s lines fig.now result }
     ensures between { IfSome (of_take result) IsBetween }
 {
-    match fault_line(alloc, fig, error) {
-        Ok(Some(line)) => TakeRunError::Fig(line, error),
-        // Each fault that a text has is reported at a line, so memory was refused.
-        Ok(None) => TakeRunError::from(OutOfMemory),
+    match drawing_faults(alloc, fig) {
+        // A text without faults can be read, so memory was refused.
+        Ok(faults) if faults.as_slice().is_empty() => TakeRunError::from(OutOfMemory),
+        Ok(faults) => TakeRunError::Fig(faults),
         Err(OutOfMemory) => TakeRunError::from(OutOfMemory),
     }
 }
