@@ -25,7 +25,7 @@ use gf_status::{State, status_run};
 use gf_streams::{Sink, Source, WriteError, write_whole};
 use gf_studio::{OpenGate, StudioError, fig_run, inspect_run, named_fig_run};
 use gf_take_run::{Taken, take_run};
-use std::alloc::Global;
+use std::alloc::{AllocError, Global};
 use std::io;
 use std::sync::Wait;
 use std::thread::Threads;
@@ -255,11 +255,17 @@ fn tell_waiting<E: Sink>(alloc: Global, waiting: usize, faults: &mut E) -> u8
 fn refuse<E: Sink>(alloc: Global, error: Refusal, faults: &mut E) -> u8
     ensures { result ≡ 1 }
 {
-    let _ = match format!(in alloc; "figgroup: {error}\n") {
+    let _ = match refusal_text(alloc, error) {
         Ok(text) => write_whole(faults, text.as_bytes()),
         Err(_) => write_whole(faults, b"figgroup: out of memory\n"),
     };
     1
+}
+
+/// The text of a refusal, each line of which begins with the program's name.
+fn refusal_text(alloc: Global, error: Refusal) -> Result<String, AllocError> {
+    let lines = format!(in alloc; "{error}")?.replace(alloc, "\n", "\nfiggroup: ")?;
+    format!(in alloc; "figgroup: {lines}\n")
 }
 
 /// Tells why the options ask for nothing, and answers the status.
