@@ -13,7 +13,10 @@ impl fmt::Display for Since {
         if first == last {
             write!(f, "{first} was made since the drawing was written")
         } else {
-            write!(f, "{first} to {last} were made since the drawing was written")
+            write!(
+                f,
+                "{first} to {last} were made since the drawing was written"
+            )
         }
     }
 }
