@@ -90,6 +90,16 @@ again() {
     "$reader" again < "$1"
 }
 
+# What the site of a folder takes of a drawing: the operations, and what is told of them.
+taken() {
+    cat "$1"/site-*.jsonl "$2" | "$root/figgroup" take --site "$(cat "$1/site")" 2>&1 || [ $? = 1 ]
+}
+
+# The picture with the operations that are taken of a drawing.
+taken_picture() {
+    { cat "$1"/site-*.jsonl; grep '^{' "$2"; } | "$root/figgroup" paint --fit 2> /dev/null
+}
+
 # The picture of what a session comes to: its text without the report.
 edited_picture() {
     edited "$1" "$3" | grep -v '^site ' | "$root/figgroup" repaint $2
@@ -161,6 +171,18 @@ compare_plain() {
     fi
 }
 
+# What is taken of each drawing of a folder, and that it is painted as the drawing is.
+compare_taken() {
+    for text in "$1"/*.fig; do
+        name="xfig, $(basename "$text")"
+        compare "$name taken" "${text%.fig}.txt" taken "$1" "$text"
+        if grep -q '^{' "${text%.fig}.txt"; then
+            "$root/figgroup" repaint --fit < "$text" > "$pixels" 2> /dev/null
+            compare "$name painted" "$pixels" taken_picture "$1" "${text%.fig}.txt"
+        fi
+    done
+}
+
 is_current() {
     [ -x "$reader" ] || return 1
     newer=$(find "$root/crates.txt" "$root/crates" -name out -prune -o -type f -newer "$reader" -print | head -n 1)
@@ -223,6 +245,9 @@ done
 
 # In place of each window stands what xfig saved of it, named by the site and how many operations it had.
 export FIG_EDITOR="cp $examples/tutorial/saved/site-\$(cat site)-\$(wc -l < site-\$(cat site).jsonl).fig"
+for folder in "$examples"/xfig/*/; do
+    compare_taken "${folder%/}"
+done
 compare "README" /dev/null python3 "$examples/transcript.py" "$root/README.md" "$root"
 compare "importing" /dev/null python3 "$examples/transcript.py" "$root/docs/IMPORTING.md" "$root"
 compare "tutorial" /dev/null python3 "$examples/transcript.py" "$root/docs/TUTORIAL.md" "$root"
