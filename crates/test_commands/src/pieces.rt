@@ -39,6 +39,8 @@ raised {"op":"set","id":[2,1],"past":[1,0,0,0,0,0,0,0],"object":[1,1],"set":"lay
 hidden {"op":"set","id":[2,1],"past":[1,0,0,0,0,0,0,0],"object":[1,1],"set":"shown","to":false}
 // Site 1 moves both versions, twice.
 moved {"op":"set","id":[1,3],"past":[2,1,0,0,0,0,0,0],"object":[1,1],"set":"place","to":[100,0]}
+// Site 2 moves what site 1 made blue.
+moved_blue {"op":"set","id":[2,1],"past":[2,0,0,0,0,0,0,0],"object":[1,1],"set":"place","to":[5,5]}
 moved_again {"op":"set","id":[1,4],"past":[3,1,0,0,0,0,0,0],"object":[1,1],"set":"place","to":[200,0]}
 box_of_site_2 {"op":"create","id":[2,1],"past":[0,0,0,0,0,0,0,0],"kind":"box","place":[0,0],"size":[10,10],"colour":"ff0000","layer":0,"shown":true}
 box_after_site_2 {"op":"create","id":[1,1],"past":[0,1,0,0,0,0,0,0],"kind":"box","place":[0,0],"size":[10,10],"colour":"ff0000","layer":0,"shown":true}
