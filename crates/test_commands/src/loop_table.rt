@@ -49,10 +49,11 @@ take --site 2 | box / red_box_fig        | 1 | | figgroup: drawing without names
 take --site 2 | box_named_fig            | 1 | | figgroup: operation 1.1 is in the drawing and was not read\n
 take --site 2 | { / box_named_fig        | 1 | | figgroup: line 1: Json\n
 take --site 2 | box / second_paints_it / box_named_fig | 1 | | figgroup: line 2: Field\n
+take --site 2 | box / outlined_by_xfig   | 1 | | figgroup: drawing line 13: Outline: box at 0,0 has line width 1: set it to 0\n
 take --site 2 | box / empty_fig open_polyline turned_ellipse | 1 | | figgroup: drawing line 10: SubType: polyline at 0,0: delete it\nfiggroup: drawing line 12: Angle: ellipse at 0,0 is turned: set its angle to 0\n
 take --site 2 | box / blue / moved_blue / box_named_fig | 1 | | figgroup: drawing older than operation 2.1, which knows 1.2: open the drawing anew\n
 // a line without its end, and the drawing behind it
-take --site 2 | box box_named_fig        | 1 | | figgroup: line 1: Json\n
+take --site 2 | box box_named_fig        | 1 | | figgroup: no drawing behind the operation lines\n
 take --site 1 | blue / box_named_fig     | 1 | | figgroup: operation 1.2 waits for 1.1\n
 
 // what is there, what waits, and what differs; the status of the program tells it where that is asked
