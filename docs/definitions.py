@@ -21,7 +21,7 @@ HEADLINES = {
     "e": ("edit", "gf_edit.EditRun.WritesEdit"),
     "t": ("status", "gf_status.StatusRun.WritesStatus"),
     "c": ("check", "gf_check.CheckRun.WritesCheck"),
-    "k": ("what is taken of a drawing", "gf_take_run.TakeRun.WritesTake"),
+    "k": ("take", "gf_take_run.TakeRun.WritesTake"),
     "s": ("session", "gf_session_run.SessionRun.WritesSession"),
     "w": ("the words of a command line", "gf_command.Asking.AsksFor gf_command.Outputs.WritesExtent"),
 }
