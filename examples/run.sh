@@ -174,11 +174,11 @@ compare_plain() {
 # What is taken of each drawing of a folder, and that it is painted as the drawing is.
 compare_taken() {
     for text in "$1"/*.fig; do
-        name="xfig, $(basename "$text")"
-        compare "$name taken" "${text%.fig}.txt" taken "$1" "$text"
+        drawing="xfig, $(basename "$text")"
+        compare "$drawing taken" "${text%.fig}.txt" taken "$1" "$text"
         if grep -q '^{' "${text%.fig}.txt"; then
             "$root/figgroup" repaint --fit < "$text" > "$pixels" 2> /dev/null
-            compare "$name painted" "$pixels" taken_picture "$1" "${text%.fig}.txt"
+            compare "$drawing painted" "$pixels" taken_picture "$1" "${text%.fig}.txt"
         fi
     done
 }
