@@ -66,20 +66,20 @@ fn match_all(
     count: usize,
 ) {
     for (f, figure) in targets.iter().enumerate() {
+        if matching.versions.get(f) != Some(&None) {
+            continue;
+        }
         for (v, version) in versions.iter().enumerate() {
-            if matching.is_free(f, v) && may_match(version, figure, seen, way, count) {
+            let is_free = matching.figures.get(v) == Some(&None);
+            if is_free && may_match(version, figure, seen, way, count) {
                 matching.pair(f, v);
+                break;
             }
         }
     }
 }
 
 impl Matching {
-    /// Whether neither the figure nor the version is matched.
-    fn is_free(&self, figure: usize, version: usize) -> bool {
-        self.versions.get(figure) == Some(&None) && self.figures.get(version) == Some(&None)
-    }
-
     /// Matches a figure and a version.
     fn pair(&mut self, figure: usize, version: usize) {
         if let Some(place) = self.versions.get_mut(figure) {
@@ -93,19 +93,14 @@ impl Matching {
 
 /// Whether a figure may be a version in this way, and differs in so many attributes.
 fn may_match(version: &Version, figure: &Target, seen: &Clock, way: Way, count: usize) -> bool {
-    let Some(difference) = compared(version, &figure.start) else {
-        return false;
-    };
-    if difference.count() != count {
-        return false;
-    }
-    match way {
+    let may = match way {
         Way::Named => match &figure.name {
             Some(name) => is_named(version, name),
             None => false,
         },
         Way::Alike => count == 0 || count <= 2 && is_newer(version.key.object.0, seen),
-    }
+    };
+    may && compared(version, &figure.start).is_some_and(|difference| difference.count() == count)
 }
 
 /// Whether a name may be that of a version.

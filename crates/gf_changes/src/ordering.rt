@@ -147,30 +147,32 @@ fn raise_all(alloc: Global, rows: &[Row]) -> Result<Option<Vec<u16>>, OutOfMemor
 
 /// Where a figure goes, between those behind it, which are done, and those in front of it.
 fn spot_of(row: &Row, done: &[(Look, Spot)], front: &[Row]) -> Option<Spot> {
-    let any = between(row, done, front, false);
-    let seen = between(row, done, front, true);
     if let Some(spot) = row.spot {
-        let stays = match row.standing {
-            Standing::Kept => is_over(spot, row, done, true),
-            Standing::Unwritten => {
-                is_over(spot, row, done, true) && is_under(spot, row, front, true)
-            }
-            Standing::Moved => {
-                is_over(spot, row, done, false) && is_under(spot, row, front, false)
-                    || any.is_none()
-                        && is_over(spot, row, done, true)
-                        && is_under(spot, row, front, true)
-            }
-        };
-        if stays {
+        if stays(spot, row, done, front) {
             return Some(spot);
         }
     }
-    let layer = match any.or(seen) {
+    let seen = || between(row, done, front, true);
+    let layer = match between(row, done, front, false).or_else(seen) {
         Some(layer) => layer,
         None => next_above(highest_behind(row, done, true))?,
     };
     Some(Spot { layer, rank: None })
+}
+
+/// Whether a figure stays where it stands.
+fn stays(spot: Spot, row: &Row, done: &[(Look, Spot)], front: &[Row]) -> bool {
+    if !is_over(spot, row, done, true) {
+        return false;
+    }
+    match row.standing {
+        Standing::Kept => true,
+        Standing::Unwritten => is_under(spot, row, front, true),
+        Standing::Moved => {
+            is_over(spot, row, done, false) && is_under(spot, row, front, false)
+                || is_under(spot, row, front, true) && between(row, done, front, false).is_none()
+        }
+    }
 }
 
 /// The least layer above the given one, which is None beneath all.
@@ -222,15 +224,15 @@ fn room(low: Option<u16>, high: Option<u16>) -> Option<u16> {
 
 /// Whether a spot is above each of the figures behind, or of those that matter.
 fn is_over(spot: Spot, row: &Row, done: &[(Look, Spot)], matters: bool) -> bool {
-    done.iter().all(|(look, other)| matters && !matter(row.look, *look) || is_above(spot, *other))
+    done.iter().all(|(look, other)| is_above(spot, *other) || matters && !matter(row.look, *look))
 }
 
 /// Whether a spot is beneath each of the kept figures in front, or of those that matter.
 fn is_under(spot: Spot, row: &Row, front: &[Row], matters: bool) -> bool {
     front.iter().all(|other| {
         other.standing != Standing::Kept
-            || matters && !matter(row.look, other.look)
             || other.spot.is_none_or(|o| is_above(o, spot))
+            || matters && !matter(row.look, other.look)
     })
 }
 

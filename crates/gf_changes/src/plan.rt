@@ -11,7 +11,7 @@ use crate::matching::{Matching, matched};
 use gf_groups::Group;
 use gf_ops::{Change, Clock, History};
 use gf_shape::{AnyShape, OutOfMemory};
-use gf_site::Site;
+use gf_site::{AuthorFault, Site};
 use gf_versions::{Placed, Version, settle};
 use gf_visible::ranked_within;
 use std::alloc::Global;
@@ -56,9 +56,11 @@ pub fn planned(
     let copies = alterations(alloc, base.history(), &before, &targets, &matching)?;
     let mut changed = base.copy(alloc)?;
     for change in copies {
-        let Ok(_) = changed.author(change) else {
-            return Ok(plan);
-        };
+        match changed.author(change) {
+            Ok(_) => {}
+            Err(AuthorFault::OutOfMemory) => return Err(OutOfMemory),
+            Err(_) => return Ok(plan),
+        }
     }
     let Some(versions) = visible(alloc, &changed)? else {
         return Ok(plan);
