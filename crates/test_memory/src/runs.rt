@@ -2,6 +2,7 @@
 
 use crate::examples::{BOX, MOVED, TWO_COLOURS, is_text};
 use crate::sessions::SCRIPT;
+use crate::taking::SETTLED;
 use crate::trial::{Came, Marks};
 use gf_check::check_run;
 use gf_edit::{EditError, edit_run};
@@ -19,6 +20,7 @@ use gf_studio::{
     DrawnLines, OpenGate, Query, StudioError, Window, fig_run, inspect_run, named_fig_run,
     paint_run, repaint_run,
 };
+use gf_take_run::{TakeRunError, take_run};
 use std::alloc::Global;
 use std::sync::Wait;
 use std::thread::Threads;
@@ -38,6 +40,7 @@ inspect_run may do without
 inspect_run_at may do without
 import_run
 edit_run may do without
+take_run may do without
 status_run may do without
 check_run may do without
 session_run may do without
@@ -63,6 +66,7 @@ pub(crate) fn tried<T: Threads + Wait + Sync>(
         "inspect_run_at" => inspect(rt, alloc, marks, Query::At(at(10, 10)), TOP),
         "import_run" => Some(import(rt, alloc, marks)),
         "edit_run" => edit(rt, alloc, marks),
+        "take_run" => take(rt, alloc, marks),
         "status_run" => status(rt, alloc, marks),
         "check_run" => check(rt, alloc, marks),
         "session_run" => Some(session(rt, alloc, marks)),
@@ -82,6 +86,7 @@ enum Run {
     Inspect(Query),
     Import,
     Edit,
+    Take,
     Status,
     Check,
     Session,
@@ -160,6 +165,11 @@ impl Example<'_> {
                 Err(EditError::Run(error)) => Err(error),
                 Err(EditError::Waits(_, _) | EditError::Refused(_, _) | EditError::NoVersion(_)) =>
                     Err(StudioError::ReadFailed),
+            },
+            Run::Take => match take_run(rt, alloc, &mut source, tape, 1, 2) {
+                Ok(_) => Ok(()),
+                Err(TakeRunError::Run(error)) => Err(error),
+                Err(_) => Err(StudioError::ReadFailed),
             },
             Run::Status => {
                 status_run(rt, alloc, &mut source, tape, 2)?;
@@ -381,6 +391,22 @@ fn edit<T: Threads + Wait + Sync>(rt: &T, alloc: Global, marks: &mut Marks) -> O
         run: Run::Edit,
         input: input.as_bytes(),
         whole: MADE,
+        cuts: &[0],
+    };
+    Some(example.tried(rt, alloc, marks))
+}
+
+/// The operations by which site 1 keeps the green version, and draws a figure in front of it.
+const TAKEN: &[u8] =
+    b"{\"id\":[1,3],\"object\":[1,1],\"op\":\"set\",\"past\":[2,1,0,0,0,0,0,0],\"set\":\"shown\",\"to\":false}\n{\"aim\":[[2,1]],\"id\":[1,4],\"object\":[1,1],\"op\":\"set\",\"past\":[3,1,0,0,0,0,0,0],\"set\":\"shown\",\"to\":true}\n{\"colour\":\"ff0000\",\"id\":[1,5],\"kind\":\"box\",\"layer\":10,\"op\":\"create\",\"past\":[4,1,0,0,0,0,0,0],\"place\":[0,0],\"shown\":true,\"size\":[20,20]}\n";
+
+fn take<T: Threads + Wait + Sync>(rt: &T, alloc: Global, marks: &mut Marks) -> Option<Came> {
+    let mut input = lines(alloc, TWO_COLOURS)?;
+    input.push_str(SETTLED).ok()?;
+    let example = Example {
+        run: Run::Take,
+        input: input.as_bytes(),
+        whole: TAKEN,
         cuts: &[0],
     };
     Some(example.tried(rt, alloc, marks))

@@ -3,8 +3,12 @@
 
 use crate::examples::{BOX, RED_BOX_MADE, TWO_COLOURS, is_text, site};
 use crate::trial::{Came, Marks};
+use gf_changes::{Plan, Target};
 use gf_drawing::CompileFault;
-use gf_fig_read::read_fig;
+use gf_fig_faults::DrawingFaults;
+use gf_fig_named::read_names;
+use gf_fig_read::{FigFault, read_fig};
+use gf_import::creations;
 use gf_keep::{Keep, KeepFault};
 use gf_ops::{Change, Clock, Ids, ObjectId, Op, OpId, Value};
 use gf_shape::OutOfMemory;
@@ -20,7 +24,11 @@ rising may do without
 named_bytes may do without
 keeping may do without
 base_site may do without
+targets may do without
+planned may do without
+looks_like may do without
 take may do without
+drawing_faults may do without
 ";
 
 /// What comes of the trial of this name, if there is one.
@@ -31,7 +39,11 @@ pub(crate) fn tried(alloc: Global, name: &str, marks: &mut Marks) -> Option<Came
         "named_bytes" => named_bytes(alloc, marks),
         "keeping" => keeping(alloc, marks),
         "base_site" => base_site(alloc, marks),
+        "targets" => targets(alloc, marks),
+        "planned" => planned(alloc, marks),
+        "looks_like" => looks_like(alloc, marks),
         "take" => take(alloc, marks),
+        "drawing_faults" => Some(drawing_faults(alloc, marks)),
         _ => return None,
     };
     Some(came.unwrap_or(Came::TooEarly))
@@ -79,6 +91,26 @@ fn are_ids(answer: Result<Ids, OutOfMemory>, want: &[OpId]) -> bool {
         Err(OutOfMemory) => false,
     }
 }
+
+/// The named FIG text of the box from which the blue version was deleted, and to which a red
+/// figure was added.
+pub(crate) const SETTLED: &str = "\
+    #FIG 3.2\n\
+    Landscape\n\
+    Center\n\
+    Metric\n\
+    A4\n\
+    100.00\n\
+    Single\n\
+    -2\n\
+    # figgroup knows 1.2 2.1\n\
+    1200 2\n\
+    0 32 #00ff00\n\
+    # figgroup 1.1 at 60 with 2.1\n\
+    2 2 0 0 32 32 60 -1 20 0.000 0 0 -1 0 0 5\n\
+    \t 0 0 10 0 10 10 0 10 0 0\n\
+    2 2 0 0 4 4 50 -1 20 0.000 0 0 -1 0 0 5\n\
+    \t 0 0 20 0 20 20 0 20 0 0\n";
 
 /// The named FIG text of the box, the green version in front.
 const TWO_NAMED: &str = "\
@@ -196,6 +228,95 @@ fn are_both(ops: &[Op]) -> bool {
     }
 }
 
+/// The drawing of a text, and its figures from the front to the back.
+fn targets_of(alloc: Global, fig: &str) -> Option<Vec<Target>> {
+    let drawing = read_fig(alloc, fig.as_bytes()).ok()?;
+    let starts = creations(alloc, &drawing).ok()?;
+    let names = read_names(alloc, fig.as_bytes()).ok()?;
+    gf_changes::targets(alloc, &drawing, starts, names.figures).ok()
+}
+
+fn targets(alloc: Global, marks: &mut Marks) -> Option<Came> {
+    let drawing = read_fig(alloc, SETTLED.as_bytes()).ok()?;
+    let (starts, same) = (
+        creations(alloc, &drawing).ok()?,
+        creations(alloc, &drawing).ok()?,
+    );
+    let names = read_names(alloc, SETTLED.as_bytes()).ok()?.figures;
+    let same_names = read_names(alloc, SETTLED.as_bytes()).ok()?.figures;
+    marks.begin();
+    let first = gf_changes::targets(alloc, &drawing, starts, names);
+    marks.end();
+    Some(match first {
+        Err(OutOfMemory) => {
+            let next = gf_changes::targets(alloc, &drawing, same, same_names);
+            Came::after_memory(true, are_settled(next))
+        }
+        first => Came::first(are_settled(first)),
+    })
+}
+
+/// Whether the figures are the new one, and behind it the green version.
+fn are_settled(answer: Result<Vec<Target>, OutOfMemory>) -> bool {
+    match answer {
+        Ok(targets) => match targets.as_slice() {
+            [new, green] => new.name.is_none() && green.name.is_some() && green.depth == 60,
+            _ => false,
+        },
+        Err(OutOfMemory) => false,
+    }
+}
+
+/// What the second site knew of the box.
+const KNOWN: Clock = Clock([2, 1, 0, 0, 0, 0, 0, 0]);
+
+/// The changes that keep the green version of the box, and draw a figure in front of it.
+fn planned(alloc: Global, marks: &mut Marks) -> Option<Came> {
+    let site = site(alloc, TWO_COLOURS)?;
+    let (used, same) = (targets_of(alloc, SETTLED)?, targets_of(alloc, SETTLED)?);
+    marks.begin();
+    let first = gf_changes::planned(alloc, &site, used, &KNOWN);
+    marks.end();
+    Some(match first {
+        Err(OutOfMemory) => {
+            let next = gf_changes::planned(alloc, &site, same, &KNOWN);
+            Came::after_memory(true, is_plan(next))
+        }
+        first => Came::first(is_plan(first)),
+    })
+}
+
+/// Whether the changes hide the box, show its green version, and create the new figure above it.
+fn is_plan(answer: Result<Plan, OutOfMemory>) -> bool {
+    match answer {
+        Ok(plan) => match plan.changes.as_slice() {
+            [hides, shows, Change::Create(start)] => {
+                is_showing(hides, false, &[])
+                    && is_showing(shows, true, &[GREEN])
+                    && start.layer == 10
+                    && (plan.changed, plan.hidden, plan.drawn) == (0, 1, 1)
+            }
+            _ => false,
+        },
+        Err(OutOfMemory) => false,
+    }
+}
+
+fn looks_like(alloc: Global, marks: &mut Marks) -> Option<Came> {
+    let site = site(alloc, TWO_COLOURS)?;
+    let drawing = read_fig(alloc, TWO_NAMED.as_bytes()).ok()?;
+    marks.begin();
+    let first = gf_take::looks_like(alloc, &site, &drawing);
+    marks.end();
+    Some(match first {
+        Err(TakeError::OutOfMemory) => {
+            let next = gf_take::looks_like(alloc, &site, &drawing);
+            Came::after_memory(true, next == Ok(true))
+        }
+        first => Came::first(first == Ok(true)),
+    })
+}
+
 /// The change that makes a blue box in front of the red one.
 const BLUE_BOX: &str = "box 10 20, place 100,200, colour 0000ff, layer 1";
 
@@ -256,5 +377,42 @@ fn is_taken(answer: Result<Vec<Op>, TakeError>, site: &Site) -> bool {
                 && site.history().ops().len() == 2
         }
         Err(_) => false,
+    }
+}
+
+/// A box with an outline.
+const OUTLINED: &str = "\
+    #FIG 3.2\n\
+    Landscape\n\
+    Center\n\
+    Metric\n\
+    A4\n\
+    100.00\n\
+    Single\n\
+    -2\n\
+    1200 2\n\
+    2 2 0 1 4 4 50 -1 20 0.000 0 0 -1 0 0 5\n\
+    \t 0 0 20 0 20 20 0 20 0 0\n";
+
+fn drawing_faults(alloc: Global, marks: &mut Marks) -> Came {
+    marks.begin();
+    let first = gf_fig_faults::drawing_faults(alloc, OUTLINED.as_bytes());
+    marks.end();
+    match first {
+        Err(OutOfMemory) => {
+            let next = gf_fig_faults::drawing_faults(alloc, OUTLINED.as_bytes());
+            Came::after_memory(true, is_outline(next))
+        }
+        first => Came::first(is_outline(first)),
+    }
+}
+
+/// Whether the only fault is the outline of the box on line 10.
+fn is_outline(answer: Result<DrawingFaults, OutOfMemory>) -> bool {
+    match answer {
+        Ok(faults) => {
+            matches!(faults.as_slice(), [fault] if fault.line == 10 && fault.fault == FigFault::Outline)
+        }
+        Err(OutOfMemory) => false,
     }
 }
