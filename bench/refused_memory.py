@@ -174,10 +174,13 @@ def commands(program):
     edited, mistakes = input_of("two-colours", "[sc]*.jsonl"), input_of("mistakes")
     waiting = input_of("three-sites", "site-[23].jsonl")
     window, figure = words_of("two-places", "window"), input_of("two-places", "expected.fig")
+    box = input_of("xfig/box", "site-*.jsonl")
+    changed = box + (EXAMPLES / "xfig" / "box" / "name-deleted-and-moved.fig").read_bytes()
     session, script = ["session", "--sites", *words_of("session", "sites")], input_of("session")
     return [
         Command(program, ["fig"], lines),
         Command(program, ["fig"], waiting),
+        Command(program, ["fig", "--named"], box),
         Command(program, ["paint", *window, "--workers", "3"], places),
         Command(program, ["repaint", *window], figure),
         Command(program, ["paint", "--fit"], places),
@@ -186,6 +189,7 @@ def commands(program):
         Command(program, ["inspect", "--object", "1.1"], lines),
         Command(program, ["inspect", "--at", "0,0"], lines),
         Command(program, ["edit", "--site", "1"], edited),
+        Command(program, ["take", "--site", "3"], changed),
         Command(program, ["status"], lines),
         Command(program, ["check"], mistakes),
         Command(program, session, script),

@@ -24,11 +24,11 @@ rising may do without
 named_bytes may do without
 keeping may do without
 base_site may do without
-targets may do without
+targets
 planned may do without
 looks_like may do without
 take may do without
-drawing_faults may do without
+drawing_faults
 ";
 
 /// What comes of the trial of this name, if there is one.
