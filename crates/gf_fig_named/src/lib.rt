@@ -6,6 +6,8 @@
 //! - [`read_names`]: what the comments of such a text tell, also where a program has changed it:
 //!   [`Names`], a list of [`Named`].
 //!
+//! - [`thin_polygons`]: the objects of polygons that xfig does not keep.
+//!
 //! The law is [`the_named_text_of_a_history_shows_it`].
 #![tactic(auto)]
 
@@ -14,11 +16,13 @@ mod figures;
 mod known;
 mod laws;
 mod naming;
+mod polygons;
 mod reading;
 mod spelling;
 mod text;
 
 pub use laws::the_named_text_of_a_history_shows_it;
 pub use naming::Name;
+pub use polygons::thin_polygons;
 pub use reading::{Named, Names, read_names};
 pub use text::named_bytes;
