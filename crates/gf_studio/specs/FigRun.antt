@@ -2,6 +2,7 @@
 use Rattle.std.specs.Prelude.{◌≡◌, ◌<◌, ◌≤◌, ℕ, List, length, Option, ⊤}
 use Rattle.gf_shape.specs.declared.any_shape.AnyShape.{AnyShape}
 use Rattle.gf_shape.specs.Outlines.{any_outline}
+use Rattle.gf_ops.specs.declared.op.ObjectId.{ObjectId}
 use Rattle.gf_ops.specs.declared.op.Op.{Op}
 use Rattle.gf_versions.specs.declared.placed.Placed.{Placed}
 use Rattle.gf_versions.specs.Ranking.{AreRanked}
@@ -14,6 +15,7 @@ use Rattle.gf_fig_read.specs.FigGrammar.{Reads}
 use Rattle.gf_fig_write.specs.FigText.{fig_text}
 use Rattle.gf_fig_write.specs.ShownHistory.{Shows}
 use Rattle.gf_fig_named.specs.NamedText.{IsNamedText}
+use Rattle.gf_fig_named.specs.ThinPolygons.{AreThinOf}
 use Rattle.gf_replay.specs.Denoting.{Denotes}
 use Rattle.gf_replay.specs.Waiting.{DenotesWaiting}
 use Rattle.gf_visible.specs.ShownVersions.{HasMoreVisible}
@@ -65,6 +67,10 @@ IsNamedOf bytes text = DenotesSuch bytes (λ h. IsNamedText h text)
 -- known bytes grow from old to new by the named text of the history that the bytes denote
 abbrev pub WritesNamed : List ℕ → Option (List ℕ) → Option (List ℕ) → Type 0
 WritesNamed bytes old new = WritesText (IsNamedOf bytes) old new
+
+-- the bytes denote a history whose polygons that xfig does not keep have these objects
+abbrev pub HasThin : List ℕ → List ObjectId → Type 0
+HasThin bytes objects = DenotesSuch bytes (λ h. AreThinOf h objects)
 
 -- h has at most 1,000 visible versions, of more than 512 distinct colours
 pub record HasMoreColours (h : List Op) : Type 0 where

@@ -3,7 +3,8 @@
 //!
 //! - [`fig_run`]: reads operation lines and writes the FIG text of their drawing; [`StudioError`]
 //!   with [`LineCause`] tells why not. It answers how many operations wait, as [`paint_run`] does.
-//! - [`named_fig_run`]: the same, with a comment before each figure that names it.
+//! - [`named_fig_run`]: the same, with a comment before each figure that names it; [`NamedRun`]
+//!   tells also of polygons that xfig does not keep.
 //! - [`paint_run`]: reads operation lines and writes the picture of their drawing in a [`Window`].
 //! - [`repaint_run`]: reads a FIG text and writes the picture of the drawing that it reads as.
 //! - [`inspect_run`]: reads operation lines and writes what their history answers to a [`Query`].
@@ -41,6 +42,6 @@ pub use laws::{
     the_same_operations_draw_alike, the_text_of_what_lines_denote_shows_it,
     what_denotes_a_history_is_not_refused,
 };
-pub use naming::named_fig_run;
+pub use naming::{NamedRun, named_fig_run};
 pub use runs::{fig_run, paint_run, repaint_run};
 pub use studio_error::StudioError;

@@ -1,9 +1,10 @@
 //! The run from operation lines to a FIG text whose figures are named.
 
-ghost use Rattle.std.specs.Prelude.{◌≢◌, ◌≤◌, IfSome, IfOk, IfErr, OnOk};
+ghost use Rattle.std.specs.Prelude.{◌≡◌, ◌≢◌, ◌≤◌, IfSome, IfOk, IfErr, OnOk, length};
 ghost use Rattle.gf_fig_named.specs.NamedText.{IsNamedText};
-ghost use Rattle.gf_studio.specs.FigRun.{Exports, HoldsBack, IsNamedOf, RefusesHistory};
-ghost use Rattle.gf_studio.specs.FigRun.{WritesNamed};
+ghost use Rattle.gf_fig_named.specs.ThinPolygons.{AreThinOf};
+ghost use Rattle.gf_studio.specs.FigRun.{Exports, HasThin, HoldsBack, IsNamedOf};
+ghost use Rattle.gf_studio.specs.FigRun.{RefusesHistory, WritesNamed};
 ghost use Rattle.gf_studio.specs.RefusedParts.{IsBetween};
 ghost use Rattle.gf_studio.specs.RefusedRuns.{RefusesLines};
 ghost use Rattle.gf_studio.specs.RunAnswers.{LeavesSink, ReadsInput};
@@ -11,23 +12,33 @@ ghost use Rattle.gf_studio.specs.RunAnswers.{LeavesSink, ReadsInput};
 use crate::StudioError;
 use crate::drawings::{input, ranked_site};
 use gf_drawing::CompileFault;
-use gf_fig_named::named_bytes;
+use gf_fig_named::{named_bytes, thin_polygons};
+use gf_ops::ObjectId;
 use gf_replay::read_site;
 use gf_site::Site;
 use gf_streams::{Sink, SinkFault, Source, write_whole};
 use std::alloc::Global;
 use std::thread::Threads;
 
-/// The named text of lines, and what it leaves out.
+/// What is told of a named text.
+#[derive(Debug, Drop)]
+pub struct NamedRun {
+    /// How many operations wait, and are not drawn.
+    pub waiting: usize,
+    /// The objects of polygons that xfig does not keep, one for each visible version.
+    pub thin: Vec<ObjectId>,
+}
+
+/// The named text of lines, and what is told of it.
 #[derive(Drop)]
 struct NamedLines {
     text: Vec<u8>,
-    waiting: usize,
+    run: NamedRun,
 }
 
 /// Reads operation lines to their end, by 1 to 16 workers, and writes the FIG text of their
-/// history's drawing, each figure behind a comment that names it. The answer is how many operations
-/// wait, and are not drawn. All is read before the first write.
+/// history's drawing, each figure behind a comment that names it. The answer tells what the text
+/// leaves out, and what xfig will. All is read before the first write.
 #[tactic(auto, using(crate::proofs::ExportLemmas::named_exported))]
 pub fn named_fig_run<T: Threads + Sync, R: Source, W: Sink>(
     rt: &T,
@@ -35,7 +46,7 @@ pub fn named_fig_run<T: Threads + Sync, R: Source, W: Sink>(
     source: &mut R,
     sink: &mut W,
     workers: u8,
-) -> Result<usize, StudioError>
+) -> Result<NamedRun, StudioError>
     requires { (1 ≤ workers) × (workers ≤ 16) }
     // By the FIG grammar, what is written reads as a drawing. At every grid point this has the
     // colour that the denoted history means there. To the byte, the text is the named one of that
@@ -44,8 +55,12 @@ pub fn named_fig_run<T: Threads + Sync, R: Source, W: Sink>(
         Exports bytes (W.taken sink.old) (W.taken sink.new))) }
     ensures text { OnOk result (IfSome (R.left source.old) (λ bytes.
         WritesNamed bytes (W.taken sink.old) (W.taken sink.new))) }
-    ensures waiting { IfOk result (λ waiting. IfSome (R.left source.old) (λ bytes.
-        HoldsBack bytes waiting)) }
+    // So many operations wait behind that history, and its polygons that xfig does not keep are
+    // told.
+    ensures waiting { IfOk result (λ run. IfSome (R.left source.old) (λ bytes.
+        HoldsBack bytes run.waiting)) }
+    ensures thin { IfOk result (λ run. IfSome (R.left source.old) (λ bytes.
+        HasThin bytes run.thin.items)) }
 
     // The same as `fig_run` promises.
     ensures source { ReadsInput R.Source source.old source.new result }
@@ -57,13 +72,12 @@ pub fn named_fig_run<T: Threads + Sync, R: Source, W: Sink>(
 {
     let named = named_lines(rt, alloc, source, workers)?;
     match write_whole(sink, &named.text) {
-        Ok(()) => Ok(named.waiting),
+        Ok(()) => Ok(named.run),
         Err(SinkFault) => Err(StudioError::WriteFailed),
     }
 }
 
-/// The named text of the history that the lines of a source denote, and how many operations wait
-/// behind this history.
+/// The named text of the history that the lines of a source denote, and what is told of it.
 fn named_lines<T: Threads + Sync, R: Source>(
     rt: &T,
     alloc: Global,
@@ -74,7 +88,9 @@ fn named_lines<T: Threads + Sync, R: Source>(
     ensures ok { IfOk result (λ named. IfSome (R.left source.old) (λ bytes.
         IsNamedOf bytes named.text.items)) }
     ensures waiting { IfOk result (λ named. IfSome (R.left source.old) (λ bytes.
-        HoldsBack bytes named.waiting)) }
+        HoldsBack bytes named.run.waiting)) }
+    ensures thin { IfOk result (λ named. IfSome (R.left source.old) (λ bytes.
+        HasThin bytes named.run.thin.items)) }
     ensures source { ReadsInput R.Source source.old source.new result }
     ensures refused { IfErr result (λ e. IfSome (R.left source.old) (λ bytes.
         RefusesLines bytes e)) }
@@ -84,7 +100,7 @@ fn named_lines<T: Threads + Sync, R: Source>(
     name(rt, alloc, bytes, workers)
 }
 
-/// The named text of the history that these bytes denote, and how many operations wait behind it.
+/// The named text of the history that these bytes denote, and what is told of it.
 fn name<T: Threads + Sync>(
     rt: &T,
     alloc: Global,
@@ -93,21 +109,29 @@ fn name<T: Threads + Sync>(
 ) -> Result<NamedLines, StudioError>
     requires { (1 ≤ workers) × (workers ≤ 16) }
     ensures ok { IfOk result (λ named. IsNamedOf bytes.items named.text.items) }
-    ensures waiting { IfOk result (λ named. HoldsBack bytes.items named.waiting) }
+    ensures waiting { IfOk result (λ named. HoldsBack bytes.items named.run.waiting) }
+    ensures thin { IfOk result (λ named. HasThin bytes.items named.run.thin.items) }
     ensures refused { IfErr result (RefusesLines bytes.items) }
     ensures between { IfErr result IsBetween }
 {
     let site = read_site(rt, alloc, bytes, workers)?;
-    let text = name_site(alloc, &site)?;
-    let waiting = site.held();
-    Ok(NamedLines { text, waiting })
+    let named = name_site(alloc, &site)?;
+    Ok(named)
 }
 
-/// The named text of a site's history.
-fn name_site(alloc: Global, site: &Site) -> Result<Vec<u8>, CompileFault>
-    ensures ok { IfOk result (λ text. IsNamedText site.now.ops text.items) }
+/// The named text of a site's history, and what is told of it.
+fn name_site(alloc: Global, site: &Site) -> Result<NamedLines, CompileFault>
+    ensures ok { IfOk result (λ named. IsNamedText site.now.ops named.text.items) }
+    ensures waiting { IfOk result (λ named. named.run.waiting ≡ length site.now.held) }
+    ensures thin { IfOk result (λ named. AreThinOf site.now.ops named.run.thin.items) }
     ensures err { IfErr result (RefusesHistory site.now.ops) }
 {
     let ranked = ranked_site(alloc, site)?;
-    named_bytes(alloc, site.history(), ranked)
+    let thin = thin_polygons(alloc, &ranked.items)?;
+    let text = named_bytes(alloc, site.history(), ranked)?;
+    let waiting = site.held();
+    Ok(NamedLines {
+        text,
+        run: NamedRun { waiting, thin },
+    })
 }
