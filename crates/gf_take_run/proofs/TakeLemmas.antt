@@ -13,6 +13,7 @@ use Rattle.gf_json.specs.WrittenLines.{op_text}
 use Rattle.gf_site.specs.SiteState.{SiteState}
 use Rattle.gf_replay.specs.Denoting.{AreLinesOf}
 use Rattle.gf_replay.specs.Waiting.{DenotesWaiting}
+use Rattle.gf_streams.specs.Taken.{AppendsPrefix}
 use Rattle.gf_streams.specs.TextLines.{numbered_lines}
 use Rattle.gf_edit.specs.EntrySteps.{HoldsBlocking, IsUnblocked}
 use Rattle.gf_edit.specs.MadeOperations.{made_of, made_until}
@@ -24,11 +25,13 @@ use Rattle.gf_edit.proofs.MakingLemmas.{made_push}
 use Rattle.gf_edit.proofs.WrittenLemmas.{op_shown, written_from}
 use Rattle.gf_ops.specs.declared.op.Clock.{Clock}
 use Rattle.gf_ops.specs.declared.change.Change.{Change}
+use Rattle.gf_fig_named.specs.ThinPolygons.{AreThinOf}
 use Rattle.gf_fig_read.specs.Objects.{Drawn}
 use Rattle.gf_studio.specs.declared.studio_error.StudioError.{StudioError}
 use Rattle.gf_studio.specs.declared.studio_error.StudioError.TheVariants as studio
 use Rattle.gf_studio.specs.RefusedParts.{IsBetween}
 use Rattle.gf_studio.specs.RefusedRuns.{IsOfInput, IsOfRun}
+use Rattle.gf_studio.specs.RunAnswers.{WritesPrefix}
 use Rattle.gf_shape.specs.ShapeLaws.{IsLawful}
 use Rattle.gf_keep.specs.MadeOf.{MakesEach, next as each_next, none as each_none}
 use Rattle.gf_take.specs.Bases.{IsBase}
@@ -37,11 +40,12 @@ use Rattle.gf_take.specs.Taking.{Takes}
 use Rattle.gf_take.specs.declared.take_error.TakeError.TheVariants as taking
 use Rattle.gf_take_run.specs.declared.take_run_error.TakeRunError.{TakeRunError}
 use Rattle.gf_take_run.specs.declared.take_run_error.TakeRunError.TheVariants as refused
+use Rattle.gf_take_run.specs.declared.taken.Taken.{Taken}
 use Rattle.gf_take_run.specs.declared.taking.TakenText.{TakenText}
 use Rattle.gf_take_run.specs.Parting.{IsParted}
 use Rattle.gf_take_run.specs.SeenDrawing.{AreThere, IsAbsent, IsNewer, since_drawing}
 use Rattle.gf_take_run.specs.TakenText.{DenotesDrawing, DenotesLines}
-use Rattle.gf_take_run.specs.TakeRun.{HasBlockingLine, HasNewer, ReadsBoth, RefusesChanges}
+use Rattle.gf_take_run.specs.TakeRun.{HasBlockingLine, HasNewer, IsTakeOf, ReadsBoth, RefusesChanges}
 use Rattle.gf_take_run.specs.TakeRun.{RefusesParts, RefusesTaking, TakesText, of_take, input, parts}
 use Rattle.gf_take_run.specs.TakeSteps.{AreWritten, RefusesDrawing, RefusesMaking, TakesParts}
 use Rattle.gf_take_run.specs.TakeSteps.{TakesSo}
@@ -134,9 +138,9 @@ pub takes_so : (s n m : ℕ) (h k : List Op) (drawing : Drawn) (seen : Clock) (t
     → Takes m base changes new drawing
     → (All (λ f. IsLawful f.shape) drawing.figures → LooksLike base drawing → changes ≡ [])
     → AreWritten new t.text.items → t.taken.made ≡ made_of new → t.taken.since ≡ since_drawing n seen k
-    → TakesSo s h drawing seen t
+    → AreThinOf base t.taken.thin.items → TakesSo s h drawing seen t
 takes_so s n m h k drawing seen t base changes new ns mn kh there young is_base takes none_planned written made
-    since =
+    since thin =
     subst (λ (l : List Op). TakesSo s l drawing seen t) kh
     (subst (λ i. TakesSo i k drawing seen t) ns (record {
       new = new;
@@ -152,6 +156,7 @@ takes_so s n m h k drawing seen t base changes new ns mn kh there young is_base 
       written = written;
       made = made;
       since = since;
+      thin = thin;
     }))
 
 -- why a site makes nothing is why it takes nothing
@@ -295,6 +300,7 @@ module _ (s : ℕ) (bytes lines fig : List ℕ) (parted : IsParted bytes lines f
     denotes = written_denotes p.takes.new t.text.items p.takes.written;
     made = p.takes.made;
     since = p.takes.since;
+    thin = p.takes.thin;
   }
 
   pub text_refused : (r : Result TakenText TakeRunError) → IfErr r (RefusesParts s lines fig)
@@ -328,3 +334,11 @@ input_refuses s (Some bytes) fault f = input fault refl (of_run fault f)
     of_run (studio.Fig x) f = absurd f
     of_run (studio.Compile x) f = absurd f
     of_run (studio.NoObject o) f = absurd f
+
+-- what was written before the sink failed is a prefix of what is taken
+pub cut_take : (s : ℕ) (left old new : Option (List ℕ)) (text : List ℕ) (taken : Taken)
+    → IfSome left (λ bytes. TakesText s bytes text taken) → AppendsPrefix old new text
+    → IfSome left (λ bytes. WritesPrefix (IsTakeOf s bytes) old new)
+cut_take s None old new text taken t p = tt
+cut_take s (Some bytes) old new text taken t p =
+    record { text = text; is = (taken, t); written = p }

@@ -8,6 +8,7 @@ use Rattle.gf_ops.specs.declared.change.Change.{Change}
 use Rattle.gf_causal.specs.Waiting.{waits_for}
 use Rattle.gf_replay.specs.Denoting.{AreLinesOf}
 use Rattle.gf_replay.specs.Waiting.{DenotesWaiting}
+use Rattle.gf_fig_named.specs.ThinPolygons.{AreThinOf}
 use Rattle.gf_fig_faults.specs.DrawingFaults.{AreFaults, HasFirst, most_told}
 use Rattle.gf_fig_read.specs.FaultLines.{BeginsOn}
 use Rattle.gf_fig_read.specs.FigGrammar.{Reads}
@@ -32,7 +33,8 @@ use Rattle.gf_take_run.specs.SeenDrawing.{IsAbsent, IsNewer, since_drawing}
 use Rattle.gf_take_run.specs.TakenText.{DenotesDrawing, DenotesLines, DenotesTake}
 
 -- the text has the lines of the new operations that site s takes of the bytes, and denotes these.
--- Their first and last are told, and those that the site made since the drawing was written
+-- Their first and last are told, and those that the site made since the drawing was written. So are
+-- the polygons of its base that xfig does not keep
 pub record TakesText (s : ℕ) (bytes text : List ℕ) (taken : Taken) : Type 0 where
   pub new : List Op
   pub denoted : DenotesTake s bytes new
@@ -40,6 +42,7 @@ pub record TakesText (s : ℕ) (bytes text : List ℕ) (taken : Taken) : Type 0 
   pub denotes : AreLinesOf (numbered_lines text) new
   pub made : taken.made ≡ made_of new
   pub since : taken.since ≡ since_drawing s denoted.seen denoted.history
+  pub thin : AreThinOf denoted.taken.base taken.thin.items
 
 -- known bytes grow from old to new by the lines of what is taken, which is told
 abbrev pub WritesTake : ℕ → List ℕ → Taken → Option (List ℕ) → Option (List ℕ) → Type 0

@@ -7,6 +7,7 @@ use Rattle.gf_ops.specs.declared.change.Change.{Change}
 use Rattle.gf_ops.specs.OperationOrder.{IsSite, entry}
 use Rattle.gf_json.specs.OperationLines.{denoted}
 use Rattle.gf_json.specs.WrittenLines.{op_text}
+use Rattle.gf_fig_named.specs.ThinPolygons.{AreThinOf}
 use Rattle.gf_fig_read.specs.Objects.{Drawn}
 use Rattle.gf_studio.specs.declared.studio_error.StudioError.TheVariants as studio
 use Rattle.gf_edit.specs.MadeOperations.{made_of}
@@ -33,6 +34,7 @@ pub record TakesSo (s : ℕ) (h : List Op) (drawing : Drawn) (seen : Clock) (t :
   pub written : AreWritten new t.text.items
   pub made : t.taken.made ≡ made_of new
   pub since : t.taken.since ≡ since_drawing s seen h
+  pub thin : AreThinOf taken.base t.taken.thin.items
 
 -- why site s takes nothing of the drawing
 abbrev pub RefusesDrawing : ℕ → List Op → Drawn → Clock → TakeRunError → Type 0

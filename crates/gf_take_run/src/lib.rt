@@ -9,6 +9,7 @@
 
 mod broken_limit;
 mod laws;
+mod losing;
 mod parting;
 mod run;
 mod seeing;

@@ -1,15 +1,18 @@
 //! What is told of a take.
 
 use gf_edit::Made;
+use gf_ops::ObjectId;
 use std::fmt;
 
-/// What a take made, and how many figures it was about.
-#[derive(Clone, Copy, Debug, PartialEq, Eq)]
+/// What a take made, how many figures it was about, and what xfig does not keep.
+#[derive(Debug, Drop)]
 pub struct Taken {
     /// The first and the last of the operations that were made.
     pub made: Option<Made>,
     /// The first and the last operation that the site made since the drawing was written.
     pub since: Option<Made>,
+    /// The objects of the drawing's polygons that xfig does not keep, as it was written.
+    pub thin: Vec<ObjectId>,
     /// How many figures came to look otherwise.
     pub changed: usize,
     /// How many figures were deleted.

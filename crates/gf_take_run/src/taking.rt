@@ -17,6 +17,7 @@ ghost use Rattle.gf_take_run.specs.TakeRun.{RefusesParts, RefusesTaking, TakesTe
 ghost use Rattle.gf_take_run.specs.TakeSteps.{AreWritten, RefusesDrawing, RefusesMaking};
 ghost use Rattle.gf_take_run.specs.TakeSteps.{TakesParts, TakesSo};
 
+use crate::losing::thin_of;
 use crate::parting::{Parts, part};
 use crate::seeing::{check_age, check_known, made_since};
 use crate::{BrokenLimit, TakeRunError, Taken};
@@ -203,6 +204,7 @@ fn take_drawing(
     check_known(history, site, &drawn.seen)?;
     check_age(history, site, &drawn.seen)?;
     let mut base = base_site(alloc, site, history, &drawn.seen)?;
+    let thin = thin_of(alloc, &base)?;
     let plan = plan_of(alloc, &base, drawn.targets, &drawn.seen, &drawn.drawing)?;
     let since = made_since(history, site, &drawn.seen);
     let (changed, hidden, drawn_anew) = (plan.changed, plan.hidden, plan.drawn);
@@ -212,6 +214,7 @@ fn take_drawing(
         taken: Taken {
             made: made_of(&ops),
             since,
+            thin,
             changed,
             hidden,
             drawn: drawn_anew,

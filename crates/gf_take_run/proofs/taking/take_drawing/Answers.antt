@@ -1,4 +1,4 @@
-use Rattle.std.proofs.Common.{◌∙◌, List, ap, subst, sym}
+use Rattle.std.proofs.Common.{◌∙◌, List, [], ap, subst, sym}
 use Rattle.std.specs.Prelude.{Contains}
 use Rattle.std.proofs.lemmas.Result.{err_from_is_err_and}
 use Rattle.std.proofs.lemmas.List.Elements.{Contains-append_right}
@@ -25,7 +25,7 @@ returns-clause-ok c =
     c.in_ok-plan.plan.changes.items new c.number-site.ensures.number c.in_ok-base.ensures.number
     c.history-history.ensures.ops c.in_ok-check_known.ensures.ok c.in_ok-check_age.ensures.ok
     c.in_ok-base.ensures.base c.in_ok-ops.ensures.ok c.in_ok-plan.ensures.same written
-    (c.made_of.ensures ∙ ap made_of c.deref-2.ensures.value) c.made_since-since.ensures
+    (c.made_of.ensures ∙ ap made_of c.deref-2.ensures.value) c.made_since-since.ensures c.in_ok-thin.ensures.ok
 
 pub returns-in_err-ops-clause-refused : goal.returns-in_err-ops-clause-refused
 returns-in_err-ops-clause-refused c =
@@ -39,3 +39,15 @@ returns-in_err-ops-clause-refused c =
     c.number-site.ensures.number c.in_ok-base.ensures.number c.history-history.ensures.ops
     c.in_ok-base.ensures.base
     (subst (RefusesMaking base.number base.ops changes d) (sym p.2) c.in_err-ops.ensures.refused))
+
+pub returns-in_err-thin-clause-refused : goal.returns-in_err-thin-clause-refused
+returns-in_err-thin-clause-refused c =
+    let p = err_from_is_err_and c.from_residual-in_err-thin.result
+    c.from_residual-in_err-thin.ensures.1 in
+    let base = c.in_ok-base.base in
+    let d = c.args.drawn.drawing in
+    rw p.1 (making_refused c.args.replica.now.number c.number-site.result base.number
+    c.args.replica.now.ops c.history-history.result.now.ops base.ops [] d c.args.drawn.seen p.0
+    c.number-site.ensures.number c.in_ok-base.ensures.number c.history-history.ensures.ops
+    c.in_ok-base.ensures.base
+    (subst (RefusesMaking base.number base.ops [] d) (sym p.2) (c.in_err-thin.ensures.refused d)))
