@@ -7,8 +7,8 @@
 # there are changes, the operations that site 1 makes of them, and the status with these. Each picture that the file
 # pictures names, with its lines and its window, is painted anew and compared. What an import makes of
 # house.fig is compared with imported.jsonl; what plain.awk makes and tells of a drawing with NAME.plain.fig and NAME.txt, and what
-# site 2 takes of it, beside the lines of the example named, with NAME.jsonl. Last README, the guide to imports, the tutorial and
-# by-git are typed, and the script of draw is run.
+# site 2 takes of it, beside the lines of the example named, with NAME.jsonl. Random drawings are changed and taken. Last README,
+# the guide to imports, the tutorial and by-git are typed, and the script of draw is run.
 set -eu
 examples=$(cd "$(dirname "$0")" && pwd)
 root=$(dirname "$examples")
@@ -242,6 +242,8 @@ for example in "$examples"/*/; do
         compare "$(basename "$example"), $(basename "$text") again" "$example/expected.fig" again "$text"
     done
 done
+
+compare "random takes" /dev/null env PATH="$root/crates/figgroup/out:$PATH" python3 "$examples/random_takes.py" 1 400 30
 
 # In place of each window stands what xfig saved of it, named by the site and how many operations it had.
 export FIG_EDITOR="cp $examples/tutorial/saved/site-\$(cat site)-\$(wc -l < site-\$(cat site).jsonl).fig"
