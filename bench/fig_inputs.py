@@ -41,6 +41,15 @@ def paired():
     return lines.lines
 
 
+def figures(count):
+    """So many objects."""
+    rng = random.Random(3)
+    lines = Lines()
+    for number in range(count):
+        Object(lines, rng, number)
+    return lines.lines
+
+
 def commands(count):
     """So many commands of site 1, each of which creates a box."""
     keys = {"site": 1, "do": "create", "kind": "box", "size": [10, 10], "colour": "ff0000", "layer": 0, "shown": True}
@@ -54,6 +63,7 @@ write(folder, "backwards", reversed(many))
 write(folder, "shuffled", random.Random(4).sample(many, len(many)))
 write(folder, "few", edited(8_000))
 write(folder, "pairs", paired())
+write(folder, "figures", figures(1_000))
 # Each site has made less than 10,000 operations, and so has room for some more.
 roomy = edited(79_900)
 write(folder, "roomy", roomy)

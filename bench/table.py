@@ -95,6 +95,24 @@ def line_rows(folder):
     yield Row("`edit` of ten commands on 79,900 lines beside `fig` of these with one worker", edit, fig(folder, "roomy"), 1.1)
 
 
+def take_rows(folder):
+    """A drawing of 1,000 figures, as it was written, and with another colour of a figure in the middle."""
+    lines, plain = f"{folder}/figures.jsonl", fig(folder, "figures")
+    named = Run([FIGGROUP, "fig", "--named", "--workers", "1"], lines)
+    named.measure(folder)
+    text = named.output.decode().splitlines(keepends=True)
+    middle = next(k for k in range(len(text) // 2, len(text)) if text[k].startswith("2 2"))
+    box = text[middle].split(" ")
+    changed = [*text[:middle], " ".join([*box[:4], "4", "4", *box[6:]]), *text[middle + 1 :]]
+    for name, saved in (("same", text), ("changed", changed)):
+        with open(lines) as before, open(f"{folder}/{name}.jsonl", "w") as after:
+            after.write(before.read() + "".join(saved))
+    same, changed = (Run([FIGGROUP, "take", "--site", "1", "--workers", "1"], f"{folder}/{name}.jsonl") for name in ("same", "changed"))
+    yield Row("`fig --named` of 1,000 figures beside `fig`, one worker", named, plain, 2)
+    yield Row("`take` of their text, unchanged, beside `fig`", same, plain, 2)
+    yield Row("the same, one figure of another colour", changed, plain, 2)
+
+
 def conflict_rows(folder):
     for name, text, goal in (
         ("equal", "eight sites give a box one colour 9,875 times each, apart", 3),
@@ -235,7 +253,7 @@ def main():
         lines = measured(folder, line_rows(folder))
         same(lines[:4])
         rows = lines
-        for part in (conflict_rows, aim_rows, text_rows, picture_rows, session_rows):
+        for part in (take_rows, conflict_rows, aim_rows, text_rows, picture_rows, session_rows):
             rows += measured(folder, part(folder))
         rows += measured(folder, strange_rows(folder), 1)
         busy = [subprocess.Popen([sys.executable, "-c", "while True: pass"]) for _ in range(BUSY)]
