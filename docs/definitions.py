@@ -13,7 +13,7 @@ PAGE = ROOT / "docs" / "DEFINITIONS.md"
 # The letter of each command, with the definition that its output has to meet.
 HEADLINES = {
     "f": ("fig", "gf_studio.FigRun.Exports"),
-    "n": ("fig --named", "gf_studio.FigRun.WritesNamed"),
+    "n": ("fig --named", "gf_studio.FigRun.WritesNamed gf_studio.FigRun.HasThin"),
     "p": ("paint", "gf_studio.PaintRun.IsMeant gf_studio.PaintRun.WritesPicture gf_fit.FittedRun.FitsLines"),
     "r": ("repaint", "gf_studio.PaintRun.IsDenoted gf_studio.PaintRun.WritesPicture gf_fit.FittedRun.FitsText"),
     "i": ("inspect", "gf_studio.InspectRun.WritesAnswer"),
