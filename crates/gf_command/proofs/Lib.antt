@@ -2,3 +2,4 @@ pub mod OpenLemmas
 mod AddingLemmas
 mod ReadingLemmas
 mod SpellingLemmas
+pub mod TakenLemmas

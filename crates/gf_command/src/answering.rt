@@ -1,7 +1,7 @@
 //! The command line.
 
 ghost use Rattle.std.specs.Prelude.{◌≡◌, ◌≤◌, ◌⊎◌, IfSome, IfErr, IfOk, OnErr, OnOk, IsTrue, map};
-ghost use Rattle.std.specs.Prelude.{string_bytes};
+ghost use Rattle.std.specs.Prelude.{[], string_bytes};
 ghost use Rattle.gf_streams.specs.Counts.{Rises};
 ghost use Rattle.gf_ops.specs.OperationOrder.{IsSite};
 ghost use Rattle.gf_command.specs.Outputs.{Answers, AnswersPrefix, AnswersOpen, site_of};
@@ -13,6 +13,7 @@ use crate::chosen::Chosen;
 use crate::painting::{paint, repaint};
 use crate::refusal::Refusal;
 use crate::since::Since;
+use crate::thin::Thin;
 use crate::waiting::Waiting;
 use crate::{Asked, Editor, Mistake, QueryFault, Run, parse};
 use clap::Error;
@@ -20,10 +21,11 @@ use clap::error::ErrorKind;
 use gf_check::{Verdict, check_run};
 use gf_edit::{Made, edit_run};
 use gf_import::import_run;
+use gf_ops::ObjectId;
 use gf_session_run::session_run;
 use gf_status::{State, status_run};
 use gf_streams::{Sink, Source, WriteError, write_whole};
-use gf_studio::{OpenGate, StudioError, fig_run, inspect_run, named_fig_run};
+use gf_studio::{NamedRun, OpenGate, StudioError, fig_run, inspect_run, named_fig_run};
 use gf_take_run::{Taken, take_run};
 use std::alloc::{AllocError, Global};
 use std::io;
@@ -34,10 +36,9 @@ use std::thread::Threads;
 /// Status 0 is success, 1 a refusal or something to be seen to, 2 a mistake in the words.
 ///
 /// Faults go to `faults`, as do the usage after a mistake, what an edit or a take made and the
-/// chosen window.
-/// How many operations wait is told there too, where a drawing leaves them out. Help and version go
-/// to `output`. The words are read before any input. A text for `faults` that can't be written
-/// changes no status.
+/// chosen window. How many operations wait, where a drawing leaves them out, and which polygons xfig
+/// does not keep are told there too. Help and version go to `output`. The words are read before any
+/// input. A text for `faults` that can't be written changes no status.
 pub fn command<T: Threads + Wait + Sync, R: Source, W: Sink, E: Sink>(
     rt: &T,
     alloc: Global,
@@ -72,6 +73,7 @@ pub fn command<T: Threads + Wait + Sync, R: Source, W: Sink, E: Sink>(
             Ok(Outcome::Made(made)) => tell_made(alloc, made, faults),
             Ok(Outcome::Taken(taken)) => tell_taken(alloc, taken, faults),
             Ok(Outcome::Drawn(waiting)) => tell_waiting(alloc, waiting, faults),
+            Ok(Outcome::Named(run)) => tell_named(alloc, run, faults),
             Ok(Outcome::Painted(chosen, waiting)) => {
                 tell_painted(alloc, chosen, waiting, faults)
             }
@@ -100,6 +102,8 @@ pub(crate) enum Outcome {
     Written,
     /// What is drawn is written, and so many operations wait.
     Drawn(usize),
+    /// A text with names is written, of which this is told.
+    Named(NamedRun),
     /// The picture is written, in a window that was chosen, and so many operations wait.
     Painted(Chosen, usize),
     /// An edit is written, which made these operations, or none.
@@ -131,8 +135,8 @@ fn answer<T: Threads + Wait + Sync, R: Source, W: Sink>(
             return Ok(Outcome::Drawn(waiting));
         }
         Run::NamedFig(workers) => {
-            let waiting = named_fig_run(rt, alloc, source, output, workers.count)?;
-            return Ok(Outcome::Drawn(waiting));
+            let named = named_fig_run(rt, alloc, source, output, workers.count)?;
+            return Ok(Outcome::Named(named));
         }
         Run::Paint(canvas) => return paint(rt, alloc, source, output, canvas),
         Run::Repaint(canvas) => return repaint(rt, alloc, source, output, canvas),
@@ -203,11 +207,12 @@ fn tell_made<E: Sink>(alloc: Global, made: Option<Made>, faults: &mut E) -> u8
     0
 }
 
-/// Tells what a take made, behind what its site made since the drawing was written. Answers the
-/// status.
+/// Tells what a take made, behind what xfig does not keep, and what its site made since the drawing
+/// was written. Answers the status.
 fn tell_taken<E: Sink>(alloc: Global, taken: Taken, faults: &mut E) -> u8
     ensures { result ≡ 0 }
 {
+    tell_thin(alloc, &taken.thin, faults);
     let text = match taken.since {
         Some(made) => {
             let since = Since(made);
@@ -249,6 +254,33 @@ fn tell_waiting<E: Sink>(alloc: Global, waiting: usize, faults: &mut E) -> u8
         ),
     };
     0
+}
+
+/// Tells how many operations wait, and which polygons xfig does not keep. Answers the status.
+fn tell_named<E: Sink>(alloc: Global, run: NamedRun, faults: &mut E) -> u8
+    ensures { result ≡ 0 }
+{
+    let status = tell_waiting(alloc, run.waiting, faults);
+    tell_thin(alloc, &run.thin, faults);
+    status
+}
+
+/// Tells which polygons xfig does not keep, where there are some. Where no memory is left for their
+/// names, these are left out.
+fn tell_thin<E: Sink>(alloc: Global, thin: &[ObjectId], faults: &mut E)
+    ensures { thin.now ≡ [] → faults.new ≡ faults.old }
+{
+    if thin.is_empty() {
+        return;
+    }
+    let thin = Thin(thin);
+    let _ = match format!(in alloc; "{thin}") {
+        Ok(text) => write_whole(faults, text.as_bytes()),
+        Err(_) => write_whole(
+            faults,
+            b"figgroup: polygons have fewer than three different points, which xfig does not keep\n",
+        ),
+    };
 }
 
 /// Writes a refusal, and answers its status.

@@ -17,6 +17,7 @@ mod querying;
 mod refusal;
 mod runs;
 mod since;
+mod thin;
 mod waiting;
 
 pub use answering::{command, refuse_words};
