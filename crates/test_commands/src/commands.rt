@@ -177,6 +177,41 @@ fn lines_of_the_box(answer: &str) -> usize {
         .count()
 }
 
+/// Lines of `count` polygons, all points of the n-th at (n, 0).
+fn points(alloc: Global, count: u32) -> Result<String, AllocError> {
+    let mut text = String::new(alloc);
+    for n in 1..=count {
+        let before = n - 1;
+        let line = format!(in alloc;
+            "{{\"op\":\"create\",\"id\":[1,{n}],\"past\":[{before},0,0,0,0,0,0,0],\"kind\":\"polygon\",\"place\":[{n},0],\"points\":[[0,0],[0,0],[0,0]],\"colour\":\"ff0000\",\"layer\":0,\"shown\":true}}\n"
+        )?;
+        text.push_str(line.as_str())?;
+    }
+    Ok(text)
+}
+
+// The topmost ten of twelve.
+const TEN_OF_TWELVE: &str = "\n--\n\
+    figgroup: polygon 1.12 has fewer than three different points, which xfig does not keep\n\
+    figgroup: polygon 1.11 has fewer than three different points, which xfig does not keep\n\
+    figgroup: polygon 1.10 has fewer than three different points, which xfig does not keep\n\
+    figgroup: polygon 1.9 has fewer than three different points, which xfig does not keep\n\
+    figgroup: polygon 1.8 has fewer than three different points, which xfig does not keep\n\
+    figgroup: polygon 1.7 has fewer than three different points, which xfig does not keep\n\
+    figgroup: polygon 1.6 has fewer than three different points, which xfig does not keep\n\
+    figgroup: polygon 1.5 has fewer than three different points, which xfig does not keep\n\
+    figgroup: polygon 1.4 has fewer than three different points, which xfig does not keep\n\
+    figgroup: polygon 1.3 has fewer than three different points, which xfig does not keep\n\
+    figgroup: and 2 more\n";
+
+#[test]
+fn ten_polygons_that_xfig_does_not_keep_are_named(rt: HostRuntime) -> Result<(), Fail> {
+    let input = points(rt.alloc(), 12)?;
+    let answer = run_over(&rt, "figgroup fig --named", input.as_str())?;
+    assert!(rt; answer.as_str().ends_with(TEN_OF_TWELVE), "{answer}");
+    Ok(())
+}
+
 const EMPTY_RUN: &str =
     "0\n#FIG 3.2\nLandscape\nCenter\nMetric\nA4\n100.00\nSingle\n-2\n1200 2\n--\n";
 

@@ -43,6 +43,12 @@ take --site 2 | box / deleted_by_xfig    | 0 | {"id":[2,1],"object":[1,1],"op":"
 take --site 2 | box / blue / moved_by_xfig | 0 | {"id":[2,1],"object":[1,1],"op":"set","past":[1,0,0,0,0,0,0,0],"set":"place","to":[30,40]}\n | figgroup: made 2.1: 1 changed\n
 take --site 1 | box / blue / box_named_fig | 0 | {"id":[1,3],"object":[1,1],"op":"set","past":[2,0,0,0,0,0,0,0],"set":"colour","to":"ff0000"}\n | figgroup: 1.2 was made since the drawing was written\nfiggroup: made 1.3: 1 changed\n
 take --site 2 --workers 16 | box / moved_by_xfig | 0 | {"id":[2,1],"object":[1,1],"op":"set","past":[1,0,0,0,0,0,0,0],"set":"place","to":[30,40]}\n | figgroup: made 2.1: 1 changed\n
+// xfig drops a point that equals the one before it, and loses a polygon of fewer than three: it is named
+fig --named | there_and_back /           | 0 | #FIG 3.2\nLandscape\nCenter\nMetric\nA4\n100.00\nSingle\n-2\n# figgroup knows 1.1\n1200 2\n0 32 #ff0000\n# figgroup 1.1 at 60\n2 3 0 0 32 32 60 -1 20 0.000 0 0 -1 0 0 4\n\t 0 0 10 0 0 0 0 0\n | figgroup: polygon 1.1 has fewer than three different points, which xfig does not keep\n
+fig --named | all_in_one_place / moved /     | 0 | #FIG 3.2\nLandscape\nCenter\nMetric\nA4\n100.00\nSingle\n-2\n# figgroup knows 1.1\n1200 2\n0 32 #ff0000\n# figgroup 1.1 at 60\n2 3 0 0 32 32 60 -1 20 0.000 0 0 -1 0 0 4\n\t 0 0 0 0 0 0 0 0\n | figgroup: 1 operation waits and is not drawn: figgroup status names it\nfiggroup: polygon 1.1 has fewer than three different points, which xfig does not keep\n
+fig --named | to_and_fro /               | 0 | #FIG 3.2\nLandscape\nCenter\nMetric\nA4\n100.00\nSingle\n-2\n# figgroup knows 1.1\n1200 2\n0 32 #ff0000\n# figgroup 1.1 at 60\n2 3 0 0 32 32 60 -1 20 0.000 0 0 -1 0 0 5\n\t 0 0 10 0 0 0 10 0 0 0\n |
+take --site 2 | there_and_back / deleted_by_xfig | 0 | {"id":[2,1],"object":[1,1],"op":"set","past":[1,0,0,0,0,0,0,0],"set":"shown","to":false}\n | figgroup: polygon 1.1 has fewer than three different points, which xfig does not keep\nfiggroup: made 2.1: 1 hidden\n
+take --site 2 | to_and_fro / deleted_by_xfig | 0 | {"id":[2,1],"object":[1,1],"op":"set","past":[1,0,0,0,0,0,0,0],"set":"shown","to":false}\n | figgroup: made 2.1: 1 hidden\n
 // nothing is taken where the lines, the drawing or what it knew refuse
 take --site 2 | box /                    | 1 | | figgroup: no drawing behind the operation lines\n
 take --site 2 | box / red_box_fig        | 1 | | figgroup: drawing without names: write it by fig --named, or import it\n

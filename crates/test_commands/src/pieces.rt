@@ -61,6 +61,11 @@ aims_in_falling_order {"aim":[[1,2],[1,1]],"id":[1,3],"object":[1,1],"op":"set",
 box_with_an_aim {"aim":[[1,1]],"op":"create","id":[1,2],"past":[1,0,0,0,0,0,0,0],"kind":"box","place":[0,0],"size":[10,10],"colour":"ff0000","layer":0,"shown":true}
 points_of_a_box {"op":"set","id":[2,1],"past":[1,0,0,0,0,0,0,0],"object":[1,1],"set":"points","to":[[0,0],[1,0],[0,1]]}
 
+// Polygons along one edge, or none.
+there_and_back {"op":"create","id":[1,1],"past":[0,0,0,0,0,0,0,0],"kind":"polygon","place":[0,0],"points":[[0,0],[10,0],[0,0]],"colour":"ff0000","layer":0,"shown":true}
+to_and_fro {"op":"create","id":[1,1],"past":[0,0,0,0,0,0,0,0],"kind":"polygon","place":[0,0],"points":[[0,0],[10,0],[0,0],[10,0]],"colour":"ff0000","layer":0,"shown":true}
+all_in_one_place {"op":"create","id":[1,1],"past":[0,0,0,0,0,0,0,0],"kind":"polygon","place":[0,0],"points":[[0,0],[0,0],[0,0]],"colour":"ff0000","layer":0,"shown":true}
+
 // What stands behind the text of the drawing of nothing.
 red_over_blue_fig 0 32 #ff0000\n0 33 #0000ff\n2 2 0 0 32 32 0 -1 20 0.000 0 0 -1 0 0 5\n\t 0 0 10 0 10 10 0 10 0 0\n2 2 0 0 33 33 1 -1 20 0.000 0 0 -1 0 0 5\n\t 0 0 10 0 10 10 0 10 0 0\n
 unit_circle_fig 0 32 #00ff00\n1 3 0 0 32 32 0 -1 20 0.000 1 0.0000 0 0 1 1 0 0 1 0\n
