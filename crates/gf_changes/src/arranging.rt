@@ -65,15 +65,23 @@ pub(crate) fn followed(
 ) -> Result<Vec<Option<usize>>, OutOfMemory> {
     let mut places = Vec::with_capacity(alloc, matching.versions.len())?;
     for place in matching.versions.iter() {
-        let found = place.and_then(|v| before.get(v)).and_then(|old| {
-            versions.iter().position(|new| {
-                new.key.object == old.key.object
-                    && has_all(new.key.ops.as_slice(), old.key.ops.as_slice())
-            })
-        });
+        let found = place.and_then(|v| before.get(v).and_then(|old| follower(old, v, versions)));
         places.push(found)?;
     }
     Ok(places)
+}
+
+/// The version of the new list that has all operations of an old one. Most keep their places.
+fn follower(old: &Version, place: usize, versions: &[Version]) -> Option<usize> {
+    if versions.get(place).is_some_and(|new| follows(new, old)) {
+        return Some(place);
+    }
+    versions.iter().position(|new| follows(new, old))
+}
+
+/// Whether a version has all operations of another one of its object.
+fn follows(new: &Version, old: &Version) -> bool {
+    new.key.object == old.key.object && has_all(new.key.ops.as_slice(), old.key.ops.as_slice())
 }
 
 /// What the order of each figure depends on.
@@ -120,12 +128,16 @@ fn layer_wishes(
     layers: &[u16],
 ) -> Result<Vec<Option<Value>>, OutOfMemory> {
     let mut wishes = Vec::with_capacity(alloc, versions.len())?;
-    for (v, version) in versions.iter().enumerate() {
-        let layer = places
-            .iter()
-            .position(|place| *place == Some(v))
-            .and_then(|f| layers.get(f).copied());
-        wishes.push(layer.filter(|l| *l != version.key.layer).map(Value::Layer))?;
+    for _ in versions {
+        wishes.push(None)?;
+    }
+    for (place, layer) in places.iter().zip(layers.iter()) {
+        let wish = place.and_then(|v| wishes.get_mut(v).zip(versions.get(v)));
+        if let Some((wish, version)) = wish {
+            if version.key.layer != *layer {
+                *wish = Some(Value::Layer(*layer));
+            }
+        }
     }
     Ok(wishes)
 }

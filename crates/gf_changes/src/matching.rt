@@ -65,18 +65,27 @@ fn match_all(
     way: Way,
     count: usize,
 ) {
+    // Each version before this place is matched.
+    let mut first = 0;
     for (f, figure) in targets.iter().enumerate() {
-        if matching.versions.get(f) != Some(&None) {
+        if !is_free(&matching.versions, f) {
             continue;
         }
-        for (v, version) in versions.iter().enumerate() {
-            let is_free = matching.figures.get(v) == Some(&None);
-            if is_free && may_match(version, figure, seen, way, count) {
+        for (v, version) in versions.iter().enumerate().skip(first) {
+            if is_free(&matching.figures, v) && may_match(version, figure, seen, way, count) {
                 matching.pair(f, v);
+                if v == first {
+                    first = v.saturating_add(1);
+                }
                 break;
             }
         }
     }
+}
+
+/// Whether the place of a list is there and matched with nothing.
+fn is_free(places: &[Option<usize>], place: usize) -> bool {
+    places.get(place).is_some_and(|other| other.is_none())
 }
 
 impl Matching {

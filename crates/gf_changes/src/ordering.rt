@@ -54,29 +54,38 @@ pub(crate) struct Row {
 /// or lowered from the front, whichever changes fewer. Where neither keeps the limits, all layers
 /// are given anew.
 pub(crate) fn layers_of(alloc: Global, rows: &[Row]) -> Result<Vec<u16>, OutOfMemory> {
+    let Some(raised) = raised(alloc, rows)? else {
+        return match lowered(alloc, rows)? {
+            Some(lowered) => Ok(lowered),
+            None => given_anew(alloc, rows.len()),
+        };
+    };
+    let count = changed(rows, &raised);
+    if count == 0 {
+        return Ok(raised);
+    }
+    match lowered(alloc, rows)? {
+        Some(lowered) if changed(rows, &lowered) < count => Ok(lowered),
+        _ => Ok(raised),
+    }
+}
+
+/// The layers of figures that are raised from the back, if these keep the limits.
+fn raised(alloc: Global, rows: &[Row]) -> Result<Option<Vec<u16>>, OutOfMemory> {
     let mut from_back = copied(alloc, rows)?;
     from_back.reverse();
-    let raised = raise_all(alloc, &from_back)?;
-    let lowered = raise_all(alloc, &mirrored(alloc, rows)?)?;
-    let raised = raised.map(|mut layers| {
+    Ok(raise_all(alloc, &from_back)?.map(|mut layers| {
         layers.reverse();
         layers
-    });
-    let lowered = lowered.map(|mut layers| {
+    }))
+}
+
+/// The layers of figures that are lowered from the front, if these keep the limits.
+fn lowered(alloc: Global, rows: &[Row]) -> Result<Option<Vec<u16>>, OutOfMemory> {
+    Ok(raise_all(alloc, &mirrored(alloc, rows)?)?.map(|mut layers| {
         mirror_all(&mut layers);
         layers
-    });
-    match (raised, lowered) {
-        (Some(raised), Some(lowered)) => {
-            if changed(rows, &lowered) < changed(rows, &raised) {
-                Ok(lowered)
-            } else {
-                Ok(raised)
-            }
-        }
-        (Some(layers), None) | (None, Some(layers)) => Ok(layers),
-        (None, None) => given_anew(alloc, rows.len()),
-    }
+    }))
 }
 
 /// A copy of rows.
