@@ -144,10 +144,12 @@ fn given_anew(alloc: Global, count: usize) -> Result<Vec<u16>, OutOfMemory> {
 fn raise_all(alloc: Global, rows: &[Row]) -> Result<Option<Vec<u16>>, OutOfMemory> {
     let mut done = Vec::with_capacity(alloc, rows.len())?;
     let mut layers = Vec::with_capacity(alloc, rows.len())?;
+    let mut top: Option<Spot> = None;
     for (i, row) in rows.iter().enumerate() {
-        let Some(spot) = spot_of(row, &done, &rows[i + 1..]) else {
+        let Some(spot) = spot_of(row, top, &done, &rows[i + 1..]) else {
             return Ok(None);
         };
+        top = Some(over_both(top, spot));
         done.push((row.look, spot))?;
         layers.push(spot.layer)?;
     }
@@ -155,9 +157,11 @@ fn raise_all(alloc: Global, rows: &[Row]) -> Result<Option<Vec<u16>>, OutOfMemor
 }
 
 /// Where a figure goes, between those behind it, which are done, and those in front of it.
-fn spot_of(row: &Row, done: &[(Look, Spot)], front: &[Row]) -> Option<Spot> {
+/// What is above `top` is above all that is done.
+fn spot_of(row: &Row, top: Option<Spot>, done: &[(Look, Spot)], front: &[Row]) -> Option<Spot> {
     if let Some(spot) = row.spot {
-        if stays(spot, row, done, front) {
+        let is_on_top = top.is_none_or(|top| is_above(spot, top));
+        if (is_on_top || is_over(spot, row, done, true)) && stays(spot, row, done, front) {
             return Some(spot);
         }
     }
@@ -169,11 +173,8 @@ fn spot_of(row: &Row, done: &[(Look, Spot)], front: &[Row]) -> Option<Spot> {
     Some(Spot { layer, rank: None })
 }
 
-/// Whether a figure stays where it stands.
+/// Whether a figure that is above those behind it that matter stays where it stands.
 fn stays(spot: Spot, row: &Row, done: &[(Look, Spot)], front: &[Row]) -> bool {
-    if !is_over(spot, row, done, true) {
-        return false;
-    }
     match row.standing {
         Standing::Kept => true,
         Standing::Unwritten => is_under(spot, row, front, true),
@@ -181,6 +182,21 @@ fn stays(spot: Spot, row: &Row, done: &[(Look, Spot)], front: &[Row]) -> bool {
             is_over(spot, row, done, false) && is_under(spot, row, front, false)
                 || is_under(spot, row, front, true) && between(row, done, front, false).is_none()
         }
+    }
+}
+
+/// A spot such that what is above it is above both.
+fn over_both(top: Option<Spot>, spot: Spot) -> Spot {
+    let Some(top) = top else {
+        return spot;
+    };
+    let rank = match (top.rank, spot.rank) {
+        (Some(one), Some(other)) => Some(one.min(other)),
+        _ => None,
+    };
+    Spot {
+        layer: top.layer.max(spot.layer),
+        rank,
     }
 }
 
