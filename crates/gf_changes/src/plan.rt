@@ -8,6 +8,7 @@ use crate::altering::alterations;
 use crate::arranging::{creations_of, followed, layer_changes, layers_for};
 use crate::comparing::compared;
 use crate::matching::{Matching, matched};
+use gf_drawing::MOST_VERSIONS;
 use gf_groups::Group;
 use gf_ops::{Change, Clock, History};
 use gf_shape::{AnyShape, OutOfMemory};
@@ -15,9 +16,6 @@ use gf_site::{AuthorFault, Site};
 use gf_versions::{Placed, Version, settle};
 use gf_visible::ranked_within;
 use std::alloc::Global;
-
-/// The greatest number of visible versions.
-const MOST_VERSIONS: usize = 1_000;
 
 /// Changes in the order in which they are to be made, and how many figures they are about.
 #[derive(Debug, Drop)]

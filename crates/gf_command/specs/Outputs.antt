@@ -52,8 +52,8 @@ module _ (Fits : Sides → View → Type 0) (IsShown : (Point → Rgb) → Type 
 -- known bytes grow from old to new by what the run asks for. This is the FIG text, the picture, the
 -- status or the answer to a query of what the bytes denote. Or it is the picture of a FIG text's
 -- drawing, the lines of an import, of an edit or of a take. Or it is what a session came to, or
--- nothing where there is no fault. The FIG text shows the history, and is to the byte that of its drawing,
--- or the named one
+-- nothing where there is no fault. The FIG text shows the history, and is to the byte that of its
+-- drawing, or the named one
 abbrev pub Answers : Run → List ℕ → Option (List ℕ) → Option (List ℕ) → Type 0
 Answers (Fig workers) bytes old new = Exports bytes old new × Writes bytes old new
 Answers (NamedFig workers) bytes old new = Exports bytes old new × WritesNamed bytes old new

@@ -12,13 +12,13 @@ use std::alloc::{AllocError, Global};
 /// Where a line stands to the object that becomes comments.
 #[derive(Clone, Copy, Debug, PartialEq, Eq)]
 pub(crate) enum Stage {
-    /// So many lines stand before the first one of the object.
+    /// The first line of the object comes this many lines later.
     Before(u64),
-    /// Behind the first line of an object that is no compound.
+    /// The line stands behind the first one of an object that is no compound.
     Within,
-    /// Behind the first line of a compound.
+    /// The line stands behind the first one of a compound.
     Compound,
-    /// Behind the object.
+    /// The line stands behind the object.
     Behind,
 }
 

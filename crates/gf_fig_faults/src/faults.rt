@@ -2,7 +2,7 @@
 
 ghost use Rattle.std.specs.Prelude.{◌≡◌};
 
-use crate::slips::Explanation;
+use crate::problems::Explanation;
 use gf_fig_tokens::FigFault;
 use std::fmt;
 use std::marker::Model;

@@ -10,10 +10,10 @@ mod commenting;
 mod faults;
 mod fields;
 mod kinds;
+mod problems;
 mod searching;
-mod slips;
 
 pub use faults::{DrawingFault, DrawingFaults};
 pub use kinds::{Kind, Seen, seen_at};
+pub use problems::{Explanation, Problem};
 pub use searching::drawing_faults;
-pub use slips::{Explanation, Slip};

@@ -9,7 +9,7 @@ ghost use Rattle.gf_fig_faults.specs.DrawingFaults.{begins_figure, goes_on, is_b
 
 use crate::commenting::{begins_object, comment_out, is_colour};
 use crate::fields::from_line;
-use crate::slips::explained;
+use crate::problems::explained;
 use crate::{DrawingFault, DrawingFaults};
 use gf_fig_read::{fault_line, read_fig};
 use gf_fig_tokens::{FigFault, cut_line};

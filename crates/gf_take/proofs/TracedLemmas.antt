@@ -49,7 +49,7 @@ module _ (table : Table) where
       sym (length-map items of_item) ∙ (ap length t.same ∙ length-map fs of_figure)
 
   module _ {R : Type 0} (view : R → Figure Outline) where
-    -- one more of each
+    -- one more item is like one more figure
     pub traced_more : (items : List (Placed AnyShape)) (refs : List R) (k : ℕ) (i : Placed AnyShape)
         (r : R) → k < length items → k < length refs → i ≡ get_or items k i → r ≡ get_or refs k r
         → AreTraced table (take k items) (map view (take k refs))
@@ -66,7 +66,7 @@ module _ (table : Table) where
         (subst (AreTraced table (take k items ++ i ∷ [])) (sym viewed)
         (traced_push (take k items) (map view (take k refs)) i (view r) t one))
 
-    -- of all that are the same, each one is
+    -- each item of a list is like its figure
     pub traced_at : (items : List (Placed AnyShape)) (refs : List R) (k : ℕ) (i : Placed AnyShape)
         (r : R) → k < length items → k < length refs → i ≡ get_or items k i → r ≡ get_or refs k r
         → AreTraced table items (map view refs)

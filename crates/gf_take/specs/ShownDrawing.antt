@@ -69,7 +69,8 @@ pub record LooksLike (h : List Op) (d : DrawingState Outline) : Type 0 where
   pub ranked : AreRanked h items
   pub same : map look_at items ≡ map (look_of d.table) (from_front d.figures)
 
--- the same in an order that paints the same
+-- from the front to the back, the visible versions of h look like the figures of d, one like the
+-- other, in an order that paints the same
 pub record ShowsDrawing (h : List Op) (d : DrawingState Outline) : Type 0 where
   pub items : List (Placed AnyShape)
   pub ranked : AreRanked h items

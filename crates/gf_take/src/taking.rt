@@ -10,15 +10,12 @@ ghost use Rattle.gf_take.specs.TakingSteps.{RefusesShowing};
 
 use crate::TakeError;
 use crate::matching::{look_alike, show_figures};
-use gf_drawing::Drawing;
+use gf_drawing::{Drawing, MOST_VERSIONS};
 use gf_ops::{Change, Op};
 use gf_shape::Outline;
 use gf_site::{AuthorFault, Site};
 use gf_visible::ranked_within;
 use std::alloc::Global;
-
-/// The greatest number of visible versions.
-const MOST_FIGURES: usize = 1_000;
 
 /// Makes changes one after the other behind the history of a site, its base, and answers the
 /// operations, where the site then shows the drawing. The site is a copy that the caller can lose:
@@ -78,7 +75,7 @@ pub fn looks_like(alloc: Global, site: &Site, drawing: &Drawing<Outline>) -> Res
     ensures err { IfErr result
         (RefusesTake site.now.number site.now.ops [] drawing.now) }
 {
-    match ranked_within(alloc, site.history(), site.table(), MOST_FIGURES)? {
+    match ranked_within(alloc, site.history(), site.table(), MOST_VERSIONS)? {
         None => Err(TakeError::TooManyFigures),
         Some(ranked) => Ok(look_alike(alloc, &ranked.items, drawing)?),
     }
@@ -90,7 +87,7 @@ fn show(alloc: Global, site: &Site, drawing: &Drawing<Outline>) -> Result<(), Ta
     ensures paints { OnOk result (PaintsAsFig site.now.ops drawing.now) }
     ensures err { IfErr result (RefusesShowing site.now.ops drawing.now) }
 {
-    match ranked_within(alloc, site.history(), site.table(), MOST_FIGURES)? {
+    match ranked_within(alloc, site.history(), site.table(), MOST_VERSIONS)? {
         None => Err(TakeError::TooManyFigures),
         Some(ranked) => {
             if show_figures(alloc, &ranked.items, drawing)? {

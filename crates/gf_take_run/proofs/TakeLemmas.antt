@@ -186,7 +186,7 @@ making_refuses s h base changes drawing seen (refused.Run studio.ReadFailed) b f
 making_refuses s h base changes drawing seen (refused.Run studio.TooLong) b f = absurd f
 making_refuses s h base changes drawing seen (refused.Run studio.WriteFailed) b f = absurd f
 
--- the same with equal numbers and histories
+-- why a site makes nothing is why another of its number and history takes nothing
 pub making_refused : (s n m : ℕ) (h k base : List Op) (changes : List Change) (drawing : Drawn)
     (seen : Clock) (e : TakeRunError) → n ≡ s → m ≡ n → k ≡ h → IsBase n seen k base
     → RefusesMaking m base changes drawing e → RefusesDrawing s h drawing seen e

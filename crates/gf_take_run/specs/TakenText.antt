@@ -28,8 +28,8 @@ pub record DenotesDrawing (fig : List ℕ) (drawing : Drawn) (seen : Clock) : Ty
   pub knows : Knows fig seen
 
 -- site s makes the new operations behind the base of what the drawing knew of the history. All that
--- the drawing knew is there, and no operation of the site knows more of others. Where the base looks
--- like the drawing, whose figures are lawful, none is made
+-- the drawing knew is there, and no operation of the site knows more of others. None is made where
+-- the base looks like the drawing, whose figures are lawful
 pub record TakesDrawing (s : ℕ) (history : List Op) (drawing : Drawn) (seen : Clock)
     (new : List Op) : Type 0 where
   pub there : AreThere seen history

@@ -6,14 +6,12 @@ ghost use Rattle.gf_fig_read.specs.Objects.{Drawn};
 ghost use Rattle.gf_take_run.specs.TakeSteps.{RefusesMaking};
 
 use crate::TakeRunError;
+use gf_drawing::MOST_VERSIONS;
 use gf_fig_named::thin_polygons;
 use gf_ops::ObjectId;
 use gf_site::Site;
 use gf_visible::ranked_within;
 use std::alloc::Global;
-
-/// The greatest number of visible versions.
-const MOST_VERSIONS: usize = 1_000;
 
 /// The objects of polygons that xfig does not keep, one for each visible version of a site.
 pub(crate) fn thin_of(alloc: Global, base: &Site) -> Result<Vec<ObjectId>, TakeRunError>

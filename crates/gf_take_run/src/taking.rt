@@ -22,7 +22,7 @@ use crate::parting::{Parts, part};
 use crate::seeing::{check_age, check_known, made_since};
 use crate::{BrokenLimit, TakeRunError, Taken};
 use gf_changes::{Plan, Target, planned, targets};
-use gf_drawing::Drawing;
+use gf_drawing::{Drawing, MOST_VERSIONS};
 use gf_edit::{EditError, Made, check_waiting, push_line};
 use gf_fig_faults::{drawing_faults, seen_at};
 use gf_fig_named::read_names;
@@ -36,9 +36,6 @@ use gf_studio::StudioError;
 use gf_take::{TakeError, base_site, looks_like, take};
 use std::alloc::Global;
 use std::thread::Threads;
-
-/// The greatest number of figures.
-const MOST_FIGURES: usize = 1_000;
 
 /// The lines of the operations that were made, and what is told of them.
 #[derive(Drop)]
@@ -135,7 +132,7 @@ fn read_drawing(alloc: Global, fig: &[u8]) -> Result<ReadDrawing, TakeRunError>
         Ok(drawing) => drawing,
         Err(_) => return Err(fig_refusal(alloc, fig)),
     };
-    if MOST_FIGURES < drawing.figures().len() {
+    if MOST_VERSIONS < drawing.figures().len() {
         return Err(TakeRunError::TooManyFigures);
     }
     let starts = creations_of(alloc, fig, &drawing)?;

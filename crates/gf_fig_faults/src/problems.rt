@@ -8,7 +8,7 @@ use thiserror::Error;
 
 /// What is wrong with an object, and what to do.
 #[derive(Clone, Copy, Debug, PartialEq, Eq, Error)]
-pub enum Slip {
+pub enum Problem {
     /// The object is of a kind that can't be taken.
     #[error(": delete it")]
     Kind,
@@ -42,16 +42,16 @@ pub enum Slip {
 #[derive(Clone, Copy, Debug, PartialEq, Eq)]
 pub struct Explanation {
     pub seen: Seen,
-    pub slips: [Option<Slip>; 4],
+    pub problems: [Option<Problem>; 4],
 }
 
 impl fmt::Display for Explanation {
     fn fmt<W: fmt::Write>(&self, f: &mut fmt::Formatter<W>) -> fmt::Result {
         write!(f, "{}", self.seen)?;
         let mut behind = "";
-        for slip in self.slips {
-            if let Some(slip) = slip {
-                write!(f, "{behind}{slip}")?;
+        for problem in self.problems {
+            if let Some(problem) = problem {
+                write!(f, "{behind}{problem}")?;
                 behind = "; it";
             }
         }
@@ -62,59 +62,59 @@ impl fmt::Display for Explanation {
 /// What explains this fault of the object that a text begins with, where its fields bear it out.
 pub(crate) fn explained(object: &[u8], fault: FigFault) -> Option<Explanation> {
     let seen = object_seen(object)?;
-    let slips = slips_of(object, seen.kind, fault);
-    if slips == [None; 4] {
+    let problems = problems_of(object, seen.kind, fault);
+    if problems == [None; 4] {
         return None;
     }
-    Some(Explanation { seen, slips })
+    Some(Explanation { seen, problems })
 }
 
 /// What is wrong with an object of this kind. With a fault of its style comes what is wrong with the
 /// rest of the style.
-fn slips_of(object: &[u8], kind: Kind, fault: FigFault) -> [Option<Slip>; 4] {
+fn problems_of(object: &[u8], kind: Kind, fault: FigFault) -> [Option<Problem>; 4] {
     match fault {
         FigFault::Outline | FigFault::NoColour | FigFault::Depth | FigFault::Fill => [
-            number_outside(object, 3, 0, 0).map(Slip::LineWidth),
-            colour_slip(object, fault),
-            number_outside(object, 6, 0, 999).map(Slip::Depth),
-            number_outside(object, 8, 20, 20).map(Slip::FillStyle),
+            number_outside(object, 3, 0, 0).map(Problem::LineWidth),
+            colour_problem(object, fault),
+            number_outside(object, 6, 0, 999).map(Problem::Depth),
+            number_outside(object, 8, 20, 20).map(Problem::FillStyle),
         ],
-        _ => [other_slip(object, kind, fault), None, None, None],
+        _ => [other_problem(object, kind, fault), None, None, None],
     }
 }
 
 /// What is wrong with the colour of an object. Unless this is the fault, a user colour is one that
 /// the drawing has.
-fn colour_slip(object: &[u8], fault: FigFault) -> Option<Slip> {
+fn colour_problem(object: &[u8], fault: FigFault) -> Option<Problem> {
     let number = number_outside(object, 5, 0, 7)?;
     if fault == FigFault::NoColour || number < 32 {
-        Some(Slip::Colour(number))
+        Some(Problem::Colour(number))
     } else {
         None
     }
 }
 
 /// What is wrong with an object of this kind whose style is not at fault.
-fn other_slip(object: &[u8], kind: Kind, fault: FigFault) -> Option<Slip> {
+fn other_problem(object: &[u8], kind: Kind, fault: FigFault) -> Option<Problem> {
     match fault {
-        FigFault::Object | FigFault::SubType => kind_slip(kind),
-        FigFault::Arrow => Some(Slip::Arrow),
-        FigFault::Count => Some(Slip::Points(number_at(object, 15)?)),
-        FigFault::Open => Some(Slip::Open),
-        FigFault::Radius => Some(Slip::Radii(number_at(object, 14)?, number_at(object, 15)?)),
-        FigFault::Angle => Some(Slip::Turned),
-        FigFault::Range => Some(Slip::Beyond),
-        FigFault::Token | FigFault::Cut => Some(Slip::Unreadable),
+        FigFault::Object | FigFault::SubType => kind_problem(kind),
+        FigFault::Arrow => Some(Problem::Arrow),
+        FigFault::Count => Some(Problem::Points(number_at(object, 15)?)),
+        FigFault::Open => Some(Problem::Open),
+        FigFault::Radius => Some(Problem::Radii(number_at(object, 14)?, number_at(object, 15)?)),
+        FigFault::Angle => Some(Problem::Turned),
+        FigFault::Range => Some(Problem::Beyond),
+        FigFault::Token | FigFault::Cut => Some(Problem::Unreadable),
         _ => None,
     }
 }
 
 /// What is wrong with an object whose kind can't be taken.
-fn kind_slip(kind: Kind) -> Option<Slip> {
+fn kind_problem(kind: Kind) -> Option<Problem> {
     match kind {
-        Kind::Compound => Some(Slip::Compound),
-        Kind::Polyline | Kind::ArcBox | Kind::Picture => Some(Slip::Kind),
-        Kind::Spline | Kind::Text | Kind::Arc => Some(Slip::Kind),
+        Kind::Compound => Some(Problem::Compound),
+        Kind::Polyline | Kind::ArcBox | Kind::Picture => Some(Problem::Kind),
+        Kind::Spline | Kind::Text | Kind::Arc => Some(Problem::Kind),
         Kind::Ellipse | Kind::Circle | Kind::Box | Kind::Polygon => None,
     }
 }
