@@ -1,11 +1,12 @@
 """Measures the rows of one table: each run beside another one, in turn, so that a load meets both alike.
 
 A row tells the seconds of a run and of the one beside it, each the best of its rounds, how often the
-second goes into the first, and the goal. Memory is the greatest of a run. What the runs answer is
-checked too.
+second goes into the first, and the goal. Then come the seconds of all its processors, in the same
+way. Memory is the greatest of a run. What the runs answer is checked too.
 """
 
 import os
+import resource
 import shutil
 import subprocess
 import sys
@@ -23,6 +24,12 @@ BUSY = 8
 SESSIONS = 50
 
 
+def processor_seconds():
+    """What all ended children took of the processors."""
+    used = resource.getrusage(resource.RUSAGE_CHILDREN)
+    return used.ru_utime + used.ru_stime
+
+
 @dataclass
 class Run:
     """A command with its input; what it took, once it was measured."""
@@ -32,19 +39,21 @@ class Run:
     # None where a refusal is an answer too.
     status: int | None = 0
     seconds: float = 1e9
+    processor: float = 1e9
     kib: int = 0
     output: bytes = field(default=b"", repr=False)
 
     def measure(self, folder):
         told = f"{folder}/told"
         with open(self.source, "rb") as source, open(f"{folder}/output", "wb") as output:
-            began = time.perf_counter()
+            before, began = processor_seconds(), time.perf_counter()
             timed = ["/usr/bin/time", "-q", "-o", told, "-f", "%M", *self.words]
             ended = subprocess.run(timed, stdin=source, stdout=output, stderr=subprocess.PIPE)
             seconds = time.perf_counter() - began
         if ended.returncode not in ((0, 1) if self.status is None else (self.status,)):
             sys.exit(f"{self.words} < {self.source}: status {ended.returncode}: {ended.stderr.decode()}")
         self.seconds = min(self.seconds, seconds)
+        self.processor = min(self.processor, processor_seconds() - before)
         with open(told) as kib:
             self.kib = max(self.kib, int(kib.read()))
         with open(f"{folder}/output", "rb") as output:
@@ -66,12 +75,13 @@ class Row:
         run, beside, goal = self.run, self.beside, "" if self.goal is None else f"{self.goal:g}"
         times = f"{run.seconds / beside.seconds:.2f}" if beside else ""
         second = f"{beside.seconds:.3f}" if beside else ""
+        more = f"{run.processor / beside.processor:.2f}" if beside else ""
         memory = f"{run.kib / 1024:.0f} MiB"
         if self.memory:
             memory += f", {run.kib * 1024 / os.stat(run.source).st_size:.1f} times (goal {self.memory:g})"
         value = run.seconds / beside.seconds if beside else run.seconds
         missed = " **missed**" if self.goal is not None and value > self.goal else ""
-        return f"| {self.name} | {run.seconds:.3f} | {second} | {times} | {goal}{missed} | {memory} |"
+        return f"| {self.name} | {run.seconds:.3f} | {second} | {times} | {goal}{missed} | {run.processor:.3f} | {more} | {memory} |"
 
 
 def fig(folder, name, workers=1, status=0):
@@ -248,8 +258,8 @@ def main():
     with tempfile.TemporaryDirectory() as folder:
         for inputs in ("fig", "conflict", "aim", "fig_read", "paint", "session"):
             subprocess.run(["python3", f"{ROOT}/bench/{inputs}_inputs.py", folder], check=True)
-        print("| run | seconds | beside | times | goal | memory |")
-        print("|---|---|---|---|---|---|")
+        print("| run | seconds | beside | times | goal | processor seconds | times | memory |")
+        print("|---|---|---|---|---|---|---|---|")
         lines = measured(folder, line_rows(folder))
         same(lines[:4])
         rows = lines
