@@ -1,47 +1,54 @@
 #!/usr/bin/env python3
-"""Makes docs/DEFINITIONS.md from the specs: what the headline of each command rests on, and the other words.
+"""Makes docs/DEFINITIONS.md from the contracts and the specs: what the whole contract of each command rests on.
 
-A file of definitions is headed by one sentence, with its source in brackets. A definition rests on the words that its text
-names. With --check nothing is written, and the status is 1 where the page is not the one that would be made."""
+A contract rests on the names in its clauses, and a definition on those in its text, but for the names that these bind
+themselves and for fields. A file of definitions is headed by one sentence, with its source in brackets. With --check
+nothing is written, and the status is 1 where the page is not the one that would be made."""
 
 import re
 import sys
+from dataclasses import dataclass, field
 from pathlib import Path
 
 ROOT = Path(__file__).resolve().parent.parent
+CRATES = ROOT / "crates"
 PAGE = ROOT / "docs" / "DEFINITIONS.md"
-# The letter of each command, with the definition that its output has to meet.
-HEADLINES = {
-    "f": ("fig", "gf_studio.FigRun.Exports"),
-    "n": ("fig --named", "gf_studio.FigRun.WritesNamed gf_studio.FigRun.HasThin"),
-    "p": ("paint", "gf_studio.PaintRun.IsMeant gf_studio.PaintRun.WritesPicture gf_fit.FittedRun.FitsLines"),
-    "r": ("repaint", "gf_studio.PaintRun.IsDenoted gf_studio.PaintRun.WritesPicture gf_fit.FittedRun.FitsText"),
-    "i": ("inspect", "gf_studio.InspectRun.WritesAnswer"),
-    "m": ("import", "gf_import.ImportRun.WritesImport"),
-    "e": ("edit", "gf_edit.EditRun.WritesEdit"),
-    "t": ("status", "gf_status.StatusRun.WritesStatus"),
-    "c": ("check", "gf_check.CheckRun.WritesCheck"),
-    "k": ("take", "gf_take_run.TakeRun.WritesTake"),
-    "s": ("session", "gf_session_run.SessionRun.WritesSession"),
-    "w": ("the words of a command line", "gf_command.Asking.AsksFor gf_command.Outputs.WritesExtent"),
+# The letter of each command, its name, and the functions that run it.
+COMMANDS = {
+    "f": ("fig", "gf_studio.fig_run"),
+    "n": ("fig --named", "gf_studio.named_fig_run"),
+    "p": ("paint", "gf_studio.paint_run gf_fit.paint_fitted_run"),
+    "r": ("repaint", "gf_studio.repaint_run gf_fit.repaint_fitted_run"),
+    "i": ("inspect", "gf_studio.inspect_run"),
+    "m": ("import", "gf_import.import_run"),
+    "e": ("edit", "gf_edit.edit_run"),
+    "t": ("status", "gf_status.status_run"),
+    "c": ("check", "gf_check.check_run"),
+    "k": ("take", "gf_take_run.take_run"),
+    "s": ("session", "gf_session_run.session_run"),
+    "w": ("the words of a command line", "gf_command.command"),
 }
 HEAD = """# Definitions
 
-Made by `docs/definitions.py` from the specs. A claim is as good as the definitions that it names: all else is proved.
-
-## What a reader has to believe
-
-Each file that the headline of some command rests on, with the commands:
-{letters}.
+Made by `docs/definitions.py` from the contracts and the specs. A claim is as good as the definitions that it names: all
+else is proved. Each definition that the whole contract of a command rests on, refusals too, stands here, file by file,
+with the commands: {letters}.
 Where no source is named, the choice is this project's.
-"""
-WITHIN = """
-## Words within
 
-Other definitions that public contracts name, each headed by its sentence. Nobody has to believe them for what a command
-writes. For why it is refused and what a refusal leaves, those of refusals and faults have to be believed, too.
-"""
-TAIL = """
+| command | definitions | their lines |
+|---|---|---|
+{counts}
+
+| file | what it defines | its definitions that count | for |
+|---|---|---|---|
+{rows}
+
+The types of the code that these speak of, each declared with a comment for each part, by crate:
+
+{types}
+
+They also speak of definitions of the language's own libraries: {kit}.
+
 ## Sources
 
 - C. Sun, D. Chen: Consistency maintenance in real-time collaborative graphics editing systems. ACM Transactions on
@@ -52,79 +59,177 @@ TAIL = """
 
 Worked examples that the logic computes stand in `crates/test_definitions/specs/`.
 """
-DEFINED = re.compile(r"\s*(?:abbrev pub|unfoldable pub|abbrev|unfoldable|pub record|pub data|record|data) (\S+)")
-IMPORTED = re.compile(r"^\s*use Rattle\.(\w+)\.specs\.([\w.]+)\.\{([^}]*)\}", re.M)
-WORD = re.compile(r"[A-Za-z_◌&×][A-Za-z_0-9'◌&-]*")
+IMPORT = re.compile(r"^\s*(?:ghost )?use Rattle\.(\w+)\.specs\.([\w.]+?)(?:\.\{([^}]*)\}| as (\w+))", re.M)
+DEFINED = re.compile(r"(?:(?:abbrev|unfoldable|opaque|pub) )*(?:(?:record|data) (\S+)|(\S+) : )")
+NAME = re.compile(r"(?<![\w.'-])[A-Za-z_][\w'-]*")
+# What a text binds: in a lambda, in a binder with a type, in a let or a do, as a field.
+BINDERS = (
+    r"λ ([\w' ]+)\.", r"λ \(([\w' ]+) :", r"[({]([\w' ]+) : ", r"\blet (\w+) ", r"(\w+) ←",
+    r"(?m)^\s+(?:pub )?(\w+) : ", r"[{;]\s*(\w+) = ", r"(?m)^\s+(\w+) = [^\n]*;$",
+)
 
 
+def bound_in(text):
+    return {name for binder in BINDERS for names in re.findall(binder, text) for name in names.split()}
+
+
+@dataclass
+class Definition:
+    """A definition: its text, and the parameters of the blocks that it stands in."""
+
+    name: str
+    text: str = ""
+    parameters: str = ""
+
+    def names(self):
+        """The names that it rests on."""
+        bound = bound_in(self.parameters + self.text)
+        for patterns in re.findall(rf"(?m)^\s*{re.escape(self.name)} (.*?) =(?:\s|$)", self.text):
+            bound |= {name for name in NAME.findall(patterns) if name[0].islower()}
+        return set(NAME.findall(self.parameters + self.text)) - bound - {self.name}
+
+
+def imports_of(text):
+    """Where each imported name stands: the module, with its crate, and the name there."""
+    found = {}
+    for crate, module, names, alias in IMPORT.findall(text):
+        if alias:
+            found[alias] = (f"{crate}.{module}", alias)
+        for name in filter(None, (part.strip() for part in names.split(","))):
+            there, _, here = name.partition(" as ")
+            found[here or there] = (f"{crate}.{module}", there)
+    return found
+
+
+@dataclass
 class File:
-    """A file of definitions: its first sentence, the text of each definition, and where imported words stand."""
+    """A file of definitions: its first sentence, its definitions, and where imported names stand."""
 
-    def __init__(self, path):
-        self.crate = path.relative_to(ROOT / "crates").parts[0]
-        self.module = ".".join(path.with_suffix("").relative_to(ROOT / "crates" / self.crate / "specs").parts)
-        text = path.read_text()
-        lines = text.split("\n")
-        head = [line[2:].strip() for line in lines[: next(i for i, line in enumerate(lines) if not line.startswith("--"))]]
-        self.head = " ".join(head)
-        self.imports = {
-            name.strip(): f"{crate}.{module}"
-            for crate, module, names in IMPORTED.findall(text)
-            for name in names.split(",")
-        }
-        self.texts = {}
-        name = None
-        for line in lines:
-            if found := DEFINED.match(line):
-                name = found.group(1)
-            elif line.startswith("use") or line.lstrip().startswith("--"):
-                continue
-            if name:
-                self.texts[name] = self.texts.get(name, "") + line + "\n"
+    crate: str
+    module: str
+    head: str
+    imports: dict
+    definitions: dict = field(default_factory=dict)
 
-    def row(self, letters):
+    def row(self, counted, letters):
         found = re.fullmatch(r"(.*?)\s*\(([^()]*(?:\([^()]*\)[^()]*)*)\)\.(.*)", self.head)
         meaning, source, more = found.groups() if found else (self.head.rstrip("."), "", "")
         source = re.sub(r", ACM TOC(HI|S) [^,]*, \d+", "", source)
         source = "; ".join(part for part in re.split(r"; |, over ", source) if "this project's" not in part)
+        names = " ".join(f"`{name}`" for name in self.definitions if name in counted)
         path = f"`{self.crate}/specs/{self.module.replace('.', '/')}`"
-        return f"| {path} | {meaning}{f' ({source})' if source else ''}{more} | {letters} |"
+        return f"| {path} | {meaning}{f' ({source})' if source else ''}{more} | {names} | {letters} |"
 
 
-def rests_on(files, names):
-    """The definitions that these rest on, themselves too."""
-    seen, left = set(), [tuple(name.rsplit(".", 1)) for name in names.split()]
-    for at, name in left:
-        if name not in files[at].texts:
-            sys.exit(f"{at} has no {name}")
-    while left:
-        at, name = left.pop()
-        if (at, name) in seen or at not in files or name not in files[at].texts:
+def read(path):
+    crate = path.relative_to(CRATES).parts[0]
+    module = ".".join(path.with_suffix("").relative_to(CRATES / crate / "specs").parts)
+    text = path.read_text()
+    head = re.match(r"(?:--[^\n]*\n)*", text).group(0)
+    file = File(crate, module, " ".join(line[2:].strip() for line in head.splitlines()), imports_of(text))
+    code = re.sub(r"(?m)^\s*(?:--|use ).*\n", "", text)
+    # The blocks with parameters around a line, and the definition that it goes on: each with its indentation.
+    blocks, now, depth, heading = [], None, 0, None
+    for line in code.splitlines():
+        if not line.strip():
             continue
-        seen.add((at, name))
-        for word in set(WORD.findall(files[at].texts[name])) - {name}:
-            left.append((at if word in files[at].texts else files[at].imports.get(word, ""), word))
-    return seen
+        indent = len(line) - len(line.lstrip())
+        if line.lstrip().startswith("module _"):
+            blocks, now, heading = [it for it in blocks if it[0] < indent], None, (indent, "")
+        if heading:
+            heading = (heading[0], f"{heading[1]}{line}\n")
+            if line.endswith(" where"):
+                blocks, heading = [*blocks, heading], None
+            continue
+        found = DEFINED.match(line.lstrip())
+        if found and (now is None or indent <= depth):
+            blocks = [it for it in blocks if it[0] < indent]
+            name, depth = found.group(1) or found.group(2), indent
+            now = file.definitions.setdefault(name, Definition(name, "", "".join(it[1] for it in blocks)))
+        if now:
+            now.text += f"{line}\n"
+    return file
+
+
+# Where each trait of the code stands.
+TRAITS = {
+    name: (f"{path.relative_to(CRATES).parts[0]}.declared", name)
+    for path in CRATES.glob("gf_*/src/**/*.rt")
+    for name in re.findall(r"(?m)^pub trait (\w+)", path.read_text())
+}
+
+
+def contract(place):
+    """The contract of a public function, as a definition, where its imported names stand, and the traits it asks for."""
+    crate, function = place.split(".")
+    for path in sorted((CRATES / crate / "src").glob("**/*.rt")):
+        text = path.read_text()
+        if found := re.search(rf"(?ms)^pub fn {function}\b.*?^\{{", text):
+            whole = re.sub(r"//.*", "", found.group(0))
+            bounds = NAME.findall(re.search(r"(?s)<(.*?)>\(", whole).group(1))
+            return Definition(function, whole), imports_of(text), {TRAITS[it] for it in bounds if it in TRAITS}
+    sys.exit(f"{crate} has no function {function}")
+
+
+def rests_on(files, places):
+    """The definitions that these contracts rest on: each with its module."""
+    found, left = set(), []
+
+    def follow(names, imports, here):
+        for name in names:
+            local = here and name in files[here].definitions
+            if local or name in imports:
+                left.append((here, name) if local else imports[name])
+
+    for place in places.split():
+        whole, imports, traits = contract(place)
+        found |= traits
+        follow(whole.names(), imports, None)
+    while left:
+        module, name = left.pop()
+        if (module, name) not in found:
+            found.add((module, name))
+            if module in files and name in files[module].definitions:
+                file = files[module]
+                follow(file.definitions[name].names(), file.imports, module)
+    return found
+
+
+def type_of(module, name):
+    """The type of the code that a name of a module that is made from declarations belongs to."""
+    parts = module.split(".")
+    return next((it for it in parts[2:] if it[0].isupper() and not it.startswith("The")), name)
 
 
 def page():
-    paths = sorted((ROOT / "crates").glob("*/specs/**/*.antt"))
-    files = {f"{file.crate}.{file.module}": file for file in map(File, (path for path in paths if path.name != "Lib.antt"))}
-    order = [line.split(":")[0] for line in (ROOT / "crates.txt").read_text().split("\n") if ":" in line]
-    used = {letter: {at for at, _ in rests_on(files, names)} for letter, (_, names) in HEADLINES.items()}
-    letters = {at: "".join(letter for letter in HEADLINES if at in used[letter]) for at in files}
-    ranked = sorted(files, key=lambda at: (order.index(files[at].crate), at))
-    legend = ", ".join(f"{letter} {name}" for letter, (name, _) in HEADLINES.items())
-    believed = [files[at].row(letters[at]) for at in ranked if letters[at]]
-    inner = {}
-    for file in (files[at] for at in ranked if not letters[at]):
-        if "No public clause" not in file.head and file.crate.startswith("gf_"):
-            inner.setdefault(file.crate, []).append(file.module.replace(".", "/"))
-    within = [f"| `{crate}` | {', '.join(modules)} |" for crate, modules in inner.items()]
-    return "\n".join([
-        HEAD.format(letters=legend), "| file | what it defines | for |", "|---|---|---|", *believed,
-        WITHIN, "| crate | files of its `specs/` |", "|---|---|", *within, TAIL,
-    ])
+    paths = sorted(path for path in CRATES.glob("*/specs/**/*.antt") if path.name != "Lib.antt")
+    files = {f"{file.crate}.{file.module}": file for file in map(read, paths)}
+    order = [line.split(":")[0] for line in (ROOT / "crates.txt").read_text().splitlines() if ":" in line]
+    found = {letter: rests_on(files, places) for letter, (_, places) in COMMANDS.items()}
+    every = set().union(*found.values())
+
+    def count(believed):
+        own = [files[module].definitions[name] for module, name in believed if module in files]
+        return f"{len(own):,} | {sum(it.text.count(chr(10)) for it in own):,}"
+
+    counts = [f"| {name} | {count(found[letter])} |" for letter, (name, _) in COMMANDS.items()]
+    rows, types, kit = [], {}, set()
+    for at in sorted(files, key=lambda at: (order.index(files[at].crate), at)):
+        letters = "".join(it for it in COMMANDS if any(module == at for module, _ in found[it]))
+        if letters:
+            rows.append(files[at].row({name for module, name in every if module == at}, letters))
+    for module, name in every - {it for it in every if it[0] in files}:
+        crate = module.split(".")[0]
+        if crate in order:
+            types.setdefault(crate, set()).add(type_of(module, name))
+        else:
+            kit.add(f"{crate} {name}")
+    listed = [f"- `{crate}`: {', '.join(f'`{it}`' for it in sorted(types[crate]))}" for crate in order if crate in types]
+    return HEAD.format(
+        letters=", ".join(f"{letter} {name}" for letter, (name, _) in COMMANDS.items()),
+        counts="\n".join([*counts, f"| all | {count(every)} |"]), rows="\n".join(rows), types="\n".join(listed),
+        kit=", ".join(f"`{it}`" for it in sorted(kit)),
+    )
 
 
 def main():
@@ -132,7 +237,7 @@ def main():
     if "--check" not in sys.argv:
         PAGE.write_text(made)
     elif PAGE.read_text() != made:
-        sys.exit("docs/DEFINITIONS.md is not what docs/definitions.py makes of the specs: run it")
+        sys.exit("docs/DEFINITIONS.md is not what docs/definitions.py makes of the contracts and the specs: run it")
 
 
 main()

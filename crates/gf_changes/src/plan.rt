@@ -105,7 +105,7 @@ fn count_free(places: &[Option<usize>]) -> usize {
 
 /// The visible versions of a site from the top, if they are no more than a drawing has.
 fn visible(alloc: Global, site: &Site) -> Result<Option<Vec<Version>>, OutOfMemory> {
-    match ranked_within(alloc, site.history(), site.table(), MOST_VERSIONS)? {
+    match ranked_within(alloc, &site.versions(), MOST_VERSIONS)? {
         Some(ranked) => Ok(Some(versions_of(alloc, site.history(), &ranked.items)?)),
         None => Ok(None),
     }

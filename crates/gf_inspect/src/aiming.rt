@@ -2,12 +2,10 @@
 
 ghost use Rattle.std.specs.Prelude.{◌≡◌, IfOk, option_map};
 ghost use Rattle.gf_inspect.specs.AimedChange.{AimsAtTop, aimed_change};
-ghost use Rattle.gf_table.specs.Standing.{StandsFor};
 
-use crate::{VersionName, top_at, top_at_with};
+use crate::{VersionName, top_at};
 use gf_ops::{Change, History, Value};
 use gf_shape::{OutOfMemory, Point};
-use gf_table::GroupTable;
 use std::alloc::Global;
 
 /// The change that sets this value on the object on top at a point, aimed at the version seen
@@ -22,22 +20,6 @@ pub fn aimed_at(
     ensures { IfOk result (λ change. AimsAtTop history.now.ops point value change) }
 {
     let name = top_at(alloc, history, point)?;
-    Ok(aimed_change(name, value))
-}
-
-/// The change that [`aimed_at`] gives, by the visible versions in the table, which stands for the
-/// history. A hidden object costs a pass over its operations, however many versions it has.
-pub fn aimed_at_with(
-    alloc: Global,
-    history: &History,
-    table: &GroupTable,
-    point: Point,
-    value: Value,
-) -> Result<Option<Change>, OutOfMemory>
-    requires { StandsFor history.now.ops table.now }
-    ensures { IfOk result (λ change. AimsAtTop history.now.ops point value change) }
-{
-    let name = top_at_with(alloc, history, table, point)?;
     Ok(aimed_change(name, value))
 }
 

@@ -1,11 +1,10 @@
 //! Queries about versions: all of one object, the one on top at a point, and their texts.
 //!
 //! - [`versions`]: the versions of an object, hidden ones too, topmost first; [`versions_with`]:
-//!   these from a table; [`lines`]: their text.
+//!   these of a history with its versions; [`lines`]: their text.
 //! - [`top_at`]: the [`VersionName`] of what a history shows at a point; [`top_at_with`]: this name
-//!   with a table, which spares what is hidden; [`top_line`]: its text.
-//! - [`aimed_at`]: the change that aims at that version; [`aimed_at_with`]: this change with a
-//!   table; [`an_aim_at_the_top_is_one`]: the law.
+//!   of a history with its versions, which spares what is hidden; [`top_line`]: its text.
+//! - [`aimed_at`]: the change that aims at that version; [`an_aim_at_the_top_is_one`]: the law.
 #![tactic(auto)]
 
 mod aiming;
@@ -14,7 +13,7 @@ mod listing;
 mod texts;
 mod top;
 
-pub use aiming::{aimed_at, aimed_at_with};
+pub use aiming::aimed_at;
 pub use laws::an_aim_at_the_top_is_one;
 pub use listing::{versions, versions_with};
 pub use texts::{lines, top_line};

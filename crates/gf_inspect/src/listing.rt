@@ -8,12 +8,11 @@ ghost use Rattle.gf_groups.specs.Versions.{IsMade, IsVersionGroup};
 ghost use Rattle.gf_versions.specs.ListedVersions.{AreSettled};
 ghost use Rattle.gf_inspect.specs.ObjectVersions.{AreVersionsOf};
 ghost use Rattle.gf_inspect.specs.Falling.{falling_cmp, IsSettledFalling};
-ghost use Rattle.gf_table.specs.Standing.{StandsFor};
 
 use gf_groups::{Group, GroupFault, groups_of};
 use gf_ops::{History, ObjectId};
 use gf_shape::OutOfMemory;
-use gf_table::GroupTable;
+use gf_table::VersionedHistory;
 use gf_versions::{Version, settle};
 use std::alloc::Global;
 
@@ -36,22 +35,17 @@ pub fn versions(
     }
 }
 
-/// All versions of an object, listed from the table, which stands for the history.
+/// The versions that [`versions`] gives, of a history with its versions.
 pub fn versions_with(
     alloc: Global,
-    history: &History,
-    table: &GroupTable,
+    versions: &VersionedHistory<'_>,
     object: ObjectId,
 ) -> Result<Vec<Version>, GroupFault>
-    requires { StandsFor history.now.ops table.now }
-    ensures versions { IfOk result (λ versions.
-        AreVersionsOf history.now.ops object versions.items) }
-    ensures no_object { result ≡ Err GroupFault.NoObject ↔ (¬ IsMade history.now.ops object) }
+    ensures versions { IfOk result (λ found. AreVersionsOf versions.now object found.items) }
+    ensures no_object { result ≡ Err GroupFault.NoObject ↔ (¬ IsMade versions.now object) }
 {
-    // The clause of `ops` says that the history is valid.
-    let _ = history.ops();
-    let groups = table.groups(alloc, history, object)?;
-    match settled(alloc, history, groups.as_slice()) {
+    let groups = versions.groups(alloc, object)?;
+    match settled(alloc, versions.history(), groups.as_slice()) {
         Ok(versions) => Ok(versions),
         Err(OutOfMemory) => Err(GroupFault::OutOfMemory),
     }

@@ -5,13 +5,12 @@ ghost use Rattle.gf_shape.specs.declared.any_shape.AnyShape.{AnyShape};
 ghost use Rattle.gf_shape.specs.ShapeMeaning.{any_holds};
 ghost use Rattle.gf_versions.specs.declared.placed.Placed.{Placed};
 ghost use Rattle.gf_inspect.specs.TopVersion.{NamesTop, name_of};
-ghost use Rattle.gf_table.specs.Standing.{StandsFor};
 
 use gf_ops::{History, Ids, ObjectId};
 use gf_shape::{AnyShape, OutOfMemory, Point, Shape};
-use gf_table::GroupTable;
+use gf_table::VersionedHistory;
 use gf_versions::{Ranked, ranked};
-use gf_visible::ranked_with;
+use gf_visible::ranked_all;
 use std::alloc::Global;
 
 /// The name of a version: its object, and the ids of its operations, rising.
@@ -34,18 +33,16 @@ pub fn top_at(
     Ok(first_name(ranked, point))
 }
 
-/// The name that [`top_at`] gives, by the visible versions in the table, which stands for the
-/// history. A hidden object costs a pass over its operations, however many versions it has.
+/// The name that [`top_at`] gives, of a history with its versions. A hidden object costs a pass over
+/// its operations, however many versions it has.
 pub fn top_at_with(
     alloc: Global,
-    history: &History,
-    table: &GroupTable,
+    versions: &VersionedHistory<'_>,
     point: Point,
 ) -> Result<Option<VersionName>, OutOfMemory>
-    requires { StandsFor history.now.ops table.now }
-    ensures { IfOk result (λ name. NamesTop history.now.ops point name) }
+    ensures { IfOk result (λ name. NamesTop versions.now point name) }
 {
-    let ranked = ranked_with(alloc, history, table)?;
+    let ranked = ranked_all(alloc, versions)?;
     Ok(first_name(ranked, point))
 }
 

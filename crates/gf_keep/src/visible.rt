@@ -44,8 +44,7 @@ fn kept_with(alloc: Global, site: &Site, keep: &Keep) -> Result<Option<Vec<Group
     ensures more { IfOk result (λ found.
         IfNone found (HasMoreOn site.now.ops keep.now.object 1000)) }
 {
-    let history = site.history();
-    let Some(groups) = visible_groups(alloc, history, site.table(), keep.object, MOST_SETS)? else {
+    let Some(groups) = visible_groups(alloc, &site.versions(), keep.object, MOST_SETS)? else {
         return Ok(None);
     };
     let mut kept = those_with(alloc, groups, keep.with.as_slice())?;

@@ -19,7 +19,7 @@ use crate::{AuthorFault, Table};
 use gf_base::OutOfMemory;
 use gf_causal::{Buffer, OfferFault, Offered};
 use gf_ops::{Change, Clock, History, Op, OpFault, OpId};
-use gf_table::GroupTable;
+use gf_table::{GroupTable, VersionedHistory};
 use std::alloc::Global;
 use std::marker::Model;
 
@@ -67,6 +67,15 @@ impl Replica<GroupTable> {
         ensures { StandsFor self.now.ops result.now }
     {
         &self.table
+    }
+
+    /// The history with the versions of its objects.
+    pub fn versions(&self) -> VersionedHistory<'_>
+        ensures ops { result ≡ self.now.ops }
+        ensures valid { IsValid self.now.ops }
+    {
+        let _ = self.history.ops();
+        VersionedHistory::new(&self.history, &self.table)
     }
 }
 

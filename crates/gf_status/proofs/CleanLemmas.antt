@@ -2,7 +2,7 @@
 use Rattle.std.proofs.Common.{◌≡◌, ◌≢◌, ℕ, ◌+◌, ◌<◌, ◌≤◌, Bool, true, false, ◌&&◌, cond, get_or, List, [], ◌∷◌, ◌++◌, length, map, refl, sym, ap, subst, ◌∙◌, inl, inr, arith}
 use Rattle.std.specs.Prelude.{AllPairs, Contains, nat_le}
 use Rattle.std.specs.List.{fold, list_all}
-use Rattle.std.proofs.lemmas.Bool.{cases_lt, cond-false, cond-true, le-leb, leb-true, lt-leb}
+use Rattle.std.proofs.lemmas.Bool.{cases_lt, leb-true}
 use Rattle.std.proofs.lemmas.List.{length-append, length-map}
 use Rattle.std.proofs.lemmas.List.Elements.{Contains-append_left, Contains-append_right}
 use Rattle.gf_shape.specs.declared.any_shape.AnyShape.{AnyShape}
@@ -22,7 +22,8 @@ use Rattle.gf_versions.proofs.KeyLemmas.{above_one_way}
 use Rattle.gf_versions.proofs.MakerLemmas.{version_kind}
 use Rattle.gf_versions.proofs.VersionLemmas.{one_of_group}
 use Rattle.gf_visible.specs.ShownVersions.{HasMoreVisible, IsVisibleGroup}
-use Rattle.gf_status.specs.Counting.{capped}
+use Rattle.gf_table.specs.Counting.{capped}
+use Rattle.gf_table.proofs.CountingLemmas.{capped_few, capped_many}
 use Rattle.gf_status.specs.declared.objects.ObjectStatus.{ObjectStatus}
 use Rattle.gf_status.specs.declared.state.State.TheVariants.{Clean, Open}
 use Rattle.gf_status.specs.ObjectStatuses.{AreStatuses, IsObjectStatus}
@@ -31,29 +32,23 @@ use Rattle.gf_status.specs.StatusRun.{TellsStatus}
 
 -- ---- counts
 
-few : (n : ℕ) → n ≤ 1000 → capped n ≡ n
-few n l = cond-true (nat_le n 1000) n 1001 (le-leb n 1000 l)
-
-many : (n : ℕ) → 1000 < n → capped n ≡ 1001
-many n l = cond-false (nat_le n 1000) n 1001 (lt-leb n 1000 l)
-
 -- two counts are counted as their sum
 capped_sum : (a b m n : ℕ) → m ≡ capped a → n ≡ capped b → capped (m + n) ≡ capped (a + b)
 capped_sum a b m n e f = elim (cases_lt a 1001) [
   | inl l ↦ elim (cases_lt b 1001) [
     | inl k ↦
-        let x : m ≡ a = e ∙ few a (omega (arith, l)) in
-        let y : n ≡ b = f ∙ few b (omega (arith, k)) in
+        let x : m ≡ a = e ∙ capped_few a (omega (arith, l)) in
+        let y : n ≡ b = f ∙ capped_few b (omega (arith, k)) in
         rw (x, y) refl
-    | inr k ↦ let y : n ≡ 1001 = f ∙ many b (omega (arith, k)) in many (m + n) (omega (arith, y)) ∙ sym (many (a + b) (omega (arith, k)))
+    | inr k ↦ let y : n ≡ 1001 = f ∙ capped_many b (omega (arith, k)) in capped_many (m + n) (omega (arith, y)) ∙ sym (capped_many (a + b) (omega (arith, k)))
   ]
-  | inr l ↦ let x : m ≡ 1001 = e ∙ many a (omega (arith, l)) in many (m + n) (omega (arith, x)) ∙ sym (many (a + b) (omega (arith, l)))
+  | inr l ↦ let x : m ≡ 1001 = e ∙ capped_many a (omega (arith, l)) in capped_many (m + n) (omega (arith, x)) ∙ sym (capped_many (a + b) (omega (arith, l)))
 ]
 
 within : (n : ℕ) → capped n ≤ 1000 → n ≤ 1000
 within n l = elim (cases_lt n 1001) [
   | inl k ↦ omega (arith, k)
-  | inr k ↦ let e = many n (omega (arith, k)) in absurd (omega (arith, e, l))
+  | inr k ↦ let e = capped_many n (omega (arith, k)) in absurd (omega (arith, e, l))
 ]
 
 same_object : (o p : ObjectId) → o.0 ≡ p.0 → o ≡ p

@@ -1,4 +1,3 @@
-pub mod CountingLemmas
 pub mod PositionLemmas
 pub mod LastLemmas
 pub mod MemberLemmas

@@ -1,13 +1,13 @@
 -- Positions of operations and their ids.
-use Rattle.std.proofs.Common.{◌≡◌, ◌≢◌, ℕ, ◌+◌, ◌<◌, true, List, [], ◌∷◌, ◌++◌, length, sym, subst, ◌∙◌, inl, inr, arith}
+use Rattle.std.proofs.Common.{◌≡◌, ◌≢◌, ℕ, ◌+◌, ◌<◌, List, [], ◌∷◌, ◌++◌, length, sym, subst, ◌∙◌, inl, inr, arith}
 use Rattle.std.specs.Prelude.{◌↔◌, All, Contains, Some, slice_get}
 use Rattle.std.specs.BTreeSet.{insert_key}
 use Rattle.std.specs.FinMap.{nat_cmp-IsAntisymmetric}
-use Rattle.std.specs.List.{flat_map, fold}
+use Rattle.std.specs.List.{fold}
 use Rattle.std.specs.List.Sorted.{IsStrictlySortedBy}
 use Rattle.std.specs.Ordering.{nat_cmp}
 use Rattle.std.proofs.lemmas.Cmp.{nat_cmp_total}
-use Rattle.std.proofs.lemmas.List.Elements.{All-contains_itself, All-weaker, Contains-append_cases, Contains-append_left, Contains-append_right, Contains-push, Contains-push_cases}
+use Rattle.std.proofs.lemmas.List.Elements.{All-contains_itself, All-weaker, Contains-append_left, Contains-push, Contains-push_cases}
 use Rattle.std.proofs.lemmas.Option.{slice_get_within}
 use Rattle.gf_ops.specs.declared.op.Op.{Op}
 use Rattle.gf_ops.specs.declared.op.ObjectId.{ObjectId}
@@ -15,17 +15,13 @@ use Rattle.gf_ops.specs.declared.op.OpId.{OpId}
 use Rattle.gf_ops.specs.OperationOrder.{id_cmp}
 use Rattle.gf_ops.specs.Standing.{StandsAt}
 use Rattle.gf_ops.specs.ValidHistory.{IsValid}
-use Rattle.gf_base.proofs.ListLemmas.{Contains-cons_cases, Contains-cons_head, Contains-cons_tail, not_Contains-nil}
-use Rattle.gf_components.specs.Components.{ComponentState, ComponentsState, alone}
-use Rattle.gf_components.proofs.ComponentLemmas.{all_of_fold}
-use Rattle.gf_groups.specs.Growing.{conflict_at}
-use Rattle.gf_groups.specs.GroupedPositions.{is_on, rising_ids}
+use Rattle.gf_base.proofs.ListLemmas.{not_Contains-nil}
+use Rattle.gf_groups.specs.GroupedPositions.{rising_ids}
 use Rattle.gf_groups.proofs.IdPositionLemmas.{Contains-rising_ids, rising_ids-rising, same_position}
-use Rattle.gf_groups.proofs.OnPositionLemmas.{all_positions, contained_at, on_op}
+use Rattle.gf_groups.proofs.OnPositionLemmas.{contained_at, on_op}
 use Rattle.gf_maximal.proofs.InsertLemmas.{holds_all}
-use Rattle.gf_table.specs.Standing.{AreComponentsOn}
+use Rattle.gf_table.specs.Standing.{ArePositionsOn}
 use Rattle.gf_status.specs.Members.{IsIdAmong, IsMemberAt}
-use Rattle.gf_status.specs.SettersAt.{numbers_in}
 
 -- positions of a history whose length fits do so too
 pub fit : (h : List Op) (m : ℕ) → length h < m → (us : List ℕ) → ((k : ℕ) → Contains us k → k < length h) → All (λ n. n + 1 < m) us
@@ -90,37 +86,6 @@ module _ (h : List Op) where
     ],
   )
 
--- ---- the numbers of components
-
-in_flat : (ps : List ComponentState) (k : ℕ) → Contains (flat_map (λ (p : ComponentState). p.all) ps) k → (p : ComponentState) × Contains ps p × Contains p.all k
-in_flat [] k c = absurd (not_Contains-nil k c)
-in_flat (p ∷ ps) k c = elim (Contains-append_cases p.all (flat_map (λ (q : ComponentState). q.all) ps) k c) [
-  | inl i ↦ (p, Contains-cons_head p ps, i)
-  | inr i ↦ let w = in_flat ps k i in (w.0, Contains-cons_tail p ps w.0 w.1, w.2)
-]
-
-to_flat : (ps : List ComponentState) (k : ℕ) (p : ComponentState) → Contains ps p → Contains p.all k → Contains (flat_map (λ (q : ComponentState). q.all) ps) k
-to_flat [] k p i c = absurd (not_Contains-nil p i)
-to_flat (q ∷ ps) k p i c = elim (Contains-cons_cases q ps p i) [
-  | inl e ↦ Contains-append_left q.all (flat_map (λ (r : ComponentState). r.all) ps) k (subst (λ (r : ComponentState). Contains r.all k) e c)
-  | inr j ↦ Contains-append_right q.all (flat_map (λ (r : ComponentState). r.all) ps) k (to_flat ps k p j c)
-]
-
--- the numbers of an object's components are the positions of the operations on it
-pub numbers_on : (h : List Op) (o : ObjectId) (t : ComponentsState) → AreComponentsOn h o t → (k : ℕ) → Contains (numbers_in t) k ↔ (is_on o (slice_get h k) ≡ true)
-numbers_on h o t on k =
-    let w = all_of_fold (conflict_at h) (alone t.free) t.components k in
-    let flat = flat_map (λ (p : ComponentState). p.all) t.components in (
-      λ c. (all_positions h o k).0 ((on.all k).0 (w.1 (elim (Contains-append_cases t.free flat k c) [
-        | inl i ↦ inl i
-        | inr i ↦ inr (in_flat t.components k i)
-      ]))),
-      λ y. elim (w.0 ((on.all k).1 ((all_positions h o k).1 y))) [
-        | inl i ↦ Contains-append_left t.free flat k i
-        | inr p ↦ Contains-append_right t.free flat k (to_flat t.components k p.0 p.1 p.2)
-      ],
-    )
-
--- and so they stand within the history
-pub numbers_within : (h : List Op) (o : ObjectId) (t : ComponentsState) → AreComponentsOn h o t → (k : ℕ) → Contains (numbers_in t) k → k < length h
-numbers_within h o t on k c = let w = on_op o (slice_get h k) ((numbers_on h o t on k).0 c) in slice_get_within h k w.0 w.1
+-- the positions of the operations on an object stand within the history
+pub on_within : (h : List Op) (o : ObjectId) (us : List ℕ) → ArePositionsOn h o us → (k : ℕ) → Contains us k → k < length h
+on_within h o us on k c = let w = on_op o (slice_get h k) ((on k).0 c) in slice_get_within h k w.0 w.1

@@ -1,5 +1,4 @@
 pub mod Counting
-pub mod Multiplying
 pub mod Differing
 pub mod Hidings
 pub mod UnseenChanges

@@ -1,7 +1,7 @@
 -- What the operations at positions set, and in which order. No public clause cites this module.
 use Rattle.std.specs.Prelude.{ℕ, Bool, true, false, not, cond, ◌&&◌, ◌++◌, List, [], ◌∷◌}
 use Rattle.std.specs.Prelude.{filter, Option, Some, None, is_some, slice_get}
-use Rattle.std.specs.List.{list_all, list_any, flat_map, fold}
+use Rattle.std.specs.List.{list_all, list_any, fold}
 use Rattle.gf_ops.specs.declared.op.Op.{Op}
 use Rattle.gf_ops.specs.declared.change.Attr.{Attr}
 use Rattle.gf_ops.specs.declared.change.Attr.TheVariants as attr
@@ -12,7 +12,6 @@ use Rattle.gf_ops.specs.ConflictTests.{value_eq}
 use Rattle.gf_maximal.specs.Growing.{is_in}
 use Rattle.gf_groups.specs.Growing.{conflict_at}
 use Rattle.gf_groups.specs.VersionList.{are_unordered}
-use Rattle.gf_components.specs.Components.{ComponentState, ComponentsState}
 use Rattle.gf_versions.specs.declared.key.Version.{Version}
 use Rattle.gf_visible.specs.ShownAt.{before_at}
 use Rattle.gf_status.specs.Differing.{version_value}
@@ -116,10 +115,6 @@ module _ (h : List Op) where
 abbrev pub where_none : {X Y : Type 0} → List X → List Y → List Y
 where_none [] ys = ys
 where_none (x ∷ xs) ys = []
-
--- all numbers of the components, in no order
-abbrev pub numbers_in : ComponentsState → List ℕ
-numbers_in s = s.free ++ flat_map (λ (p : ComponentState). p.all) s.components
 
 -- two values, or none, are not the same
 abbrev pub are_others : Option Value → Option Value → Bool

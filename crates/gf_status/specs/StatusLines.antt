@@ -10,7 +10,7 @@ use Rattle.gf_ops.specs.declared.change.Attr.{Attr}
 use Rattle.gf_ops.specs.declared.change.Attr.TheVariants.{Place, Points, Size, Colour, Layer, Shown}
 use Rattle.gf_ops.specs.OperationOrder.{count_of}
 use Rattle.gf_causal.specs.Waiting.{waits_for}
-use Rattle.gf_status.specs.Counting.{capped}
+use Rattle.gf_table.specs.Counting.{capped}
 use Rattle.gf_status.specs.declared.state.State.{State}
 use Rattle.gf_status.specs.declared.state.State.TheVariants.{Clean, Open}
 use Rattle.gf_status.specs.declared.differing.Difference.{Difference}

@@ -1,17 +1,16 @@
 //! What hides an object, and who changed what is hidden without knowing it.
 
 ghost use Rattle.std.specs.Prelude.{◌≡◌, ◌↔◌, length, Contains, IfOk};
-ghost use Rattle.gf_table.specs.Standing.{AreComponentsOn};
+ghost use Rattle.gf_table.specs.Standing.{ArePositionsOn};
 ghost use Rattle.gf_visible.specs.ShownVersions.{AreVisibleOn};
 ghost use Rattle.gf_status.specs.Members.{IsMemberInOne};
 ghost use Rattle.gf_status.specs.ObjectStatuses.{TellsHidings};
 ghost use Rattle.gf_status.specs.SettersAt.{where_none};
 ghost use Rattle.gf_status.specs.UnseenChanges.{AreUnseen};
 
-use crate::positions::{numbers_in, positions_of, rising};
+use crate::positions::{positions_of, rising};
 use crate::setters::{hidings, lasts, setters, unknowing};
 use gf_base::OutOfMemory;
-use gf_components::Components;
 use gf_groups::Group;
 use gf_maximal::Numbers;
 use gf_ops::{Attr, History, Ids, ObjectId};
@@ -24,15 +23,16 @@ pub(crate) struct Hidden {
     pub(crate) changed: Ids,
 }
 
-/// What is told of the hidings of an object with these visible versions and components.
+/// What is told of the hidings of an object with these visible versions. The operations on it stand
+/// at these positions.
 pub(crate) fn hidden_of(
     alloc: Global,
     history: &History,
     object: ObjectId,
-    components: &Components,
+    all: &[usize],
     groups: &[Group],
 ) -> Result<Hidden, OutOfMemory>
-    requires components { AreComponentsOn history.now.ops object components.now }
+    requires all { ArePositionsOn history.now.ops object all.now }
     requires groups { AreVisibleOn history.now.ops object groups.now }
     ensures hidings { IfOk result (λ found.
         TellsHidings history.now.ops object (length groups.now) found.hidings) }
@@ -40,11 +40,10 @@ pub(crate) fn hidden_of(
 {
     // The clauses of `ops` and `len` say that the history is valid, and that a position fits.
     let _ = history.ops().len();
-    let all = numbers_in(alloc, components)?;
-    let found = setters(alloc, history, Attr::Shown, &all)?;
+    let found = setters(alloc, history, Attr::Shown, all)?;
     let last = lasts(alloc, history, &found)?;
     let seen = members_of(alloc, history, groups)?;
-    let changed = unknowing(alloc, history, &seen, &found, &last, &all)?;
+    let changed = unknowing(alloc, history, &seen, &found, &last, all)?;
     let changed = rising(alloc, history, &changed)?;
     let hiding = hidings(alloc, history, &last)?;
     let hidings = rising(alloc, history, &hiding)?;

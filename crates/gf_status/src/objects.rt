@@ -3,16 +3,15 @@
 ghost use Rattle.std.specs.Prelude.{◌≡◌, IfOk};
 ghost use Rattle.gf_groups.specs.declared.group.Group.{Group};
 ghost use Rattle.gf_groups.specs.Versions.{IsMade};
-ghost use Rattle.gf_table.specs.Standing.{StandsFor};
 ghost use Rattle.gf_status.specs.ObjectStatuses.{AreStatuses, IsObjectStatus};
 
-use crate::counting::{MOST_COUNTED, count_versions};
+use crate::counting::MOST_COUNTED;
 use crate::differing::{Difference, differences};
 use crate::hidden::hidden_of;
 use crate::positions::{creations, rising};
 use gf_base::OutOfMemory;
-use gf_ops::{History, Ids, ObjectId};
-use gf_table::GroupTable;
+use gf_ops::{Ids, ObjectId};
+use gf_table::VersionedHistory;
 use gf_visible::visible_groups;
 use std::alloc::Global;
 
@@ -34,24 +33,21 @@ pub struct ObjectStatus {
     pub changed: Ids,
 }
 
-/// The status of each object of a history, rising by id. The table stands for the history.
+/// The status of each object of a history, rising by id.
 ///
 /// The visible versions of an object are listed, at most 1,000, and no others are multiplied out.
 pub fn object_statuses(
     alloc: Global,
-    history: &History,
-    table: &GroupTable,
+    versions: &VersionedHistory<'_>,
 ) -> Result<Vec<ObjectStatus>, OutOfMemory>
-    requires { StandsFor history.now.ops table.now }
-    ensures { IfOk result (λ found. AreStatuses history.now.ops found.items) }
+    ensures { IfOk result (λ found. AreStatuses versions.now found.items) }
 {
-    // The clause of `ops` says that the history is valid.
-    let _ = history.ops();
+    let history = versions.history();
     let made = creations(alloc, history)?;
     let ids = rising(alloc, history, &made)?;
     let mut found = Vec::new(alloc);
     for id in ids.as_slice() {
-        found.push(object_status(alloc, history, table, ObjectId(*id))?)?;
+        found.push(object_status(alloc, versions, ObjectId(*id))?)?;
     }
     Ok(found)
 }
@@ -59,23 +55,22 @@ pub fn object_statuses(
 /// The status of an object that the history made.
 fn object_status(
     alloc: Global,
-    history: &History,
-    table: &GroupTable,
+    versions: &VersionedHistory<'_>,
     object: ObjectId,
 ) -> Result<ObjectStatus, OutOfMemory>
-    requires stands { StandsFor history.now.ops table.now }
-    requires made { IsMade history.now.ops object }
+    requires { IsMade versions.now object }
     ensures object { IfOk result (λ status. status.object ≡ object) }
-    ensures status { IfOk result (λ status. IsObjectStatus history.now.ops status) }
+    ensures status { IfOk result (λ status. IsObjectStatus versions.now status) }
 {
-    let components = table.components(alloc, history, object)?;
-    let versions = count_versions(history, object, &components);
-    match visible_groups(alloc, history, table, object, MOST_COUNTED)? {
+    let history = versions.history();
+    let count = versions.count(object);
+    match visible_groups(alloc, versions, object, MOST_COUNTED)? {
         Some(groups) => {
-            let hidden = hidden_of(alloc, history, object, &components, &groups)?;
+            let all = versions.positions(alloc, object)?;
+            let hidden = hidden_of(alloc, history, object, &all, &groups)?;
             Ok(ObjectStatus {
                 object,
-                versions,
+                versions: count,
                 shown: groups.len(),
                 differences: differences(alloc, history, &groups)?,
                 hidings: hidden.hidings,
@@ -84,7 +79,7 @@ fn object_status(
         }
         None => Ok(ObjectStatus {
             object,
-            versions,
+            versions: count,
             shown: MOST_COUNTED + 1,
             differences: Vec::new(alloc),
             hidings: Ids::new(Vec::new(alloc)),

@@ -4,10 +4,8 @@ ghost use Rattle.std.specs.Prelude.{◌≡◌, ◌<◌, ◌↔◌, length, Conta
 ghost use Rattle.std.specs.List.Sorted.{IsStrictlySortedBy};
 ghost use Rattle.gf_ops.specs.OperationOrder.{id_cmp};
 ghost use Rattle.gf_status.specs.Members.{IsIdAmong, IsMemberAt, IsMadeAt};
-ghost use Rattle.gf_status.specs.SettersAt.{numbers_in};
 
 use gf_base::OutOfMemory;
-use gf_components::Components;
 use gf_groups::rising_ids;
 use gf_maximal::Numbers;
 use gf_ops::{Change, History, Ids, OpId};
@@ -44,18 +42,6 @@ pub(crate) fn creations(alloc: Global, history: &History) -> Result<Vec<usize>, 
             Change::Create(_) => found.push(position)?,
             Change::Set { .. } => {}
         }
-    }
-    Ok(found)
-}
-
-/// All numbers of the components.
-pub(crate) fn numbers_in(alloc: Global, components: &Components) -> Result<Vec<usize>, OutOfMemory>
-    ensures { IfOk result (λ found. found.items ≡ numbers_in components.now) }
-{
-    let mut found = components.free().to_vec(alloc)?;
-    for component in components.components() {
-        let mut more = component.all().to_vec(alloc)?;
-        found.append(&mut more)?;
     }
     Ok(found)
 }

@@ -105,7 +105,7 @@ fn tell(alloc: Global, site: &Site) -> Result<Status, OutOfMemory>
 {
     let history = site.history();
     let waiting = site.held_ops(alloc)?;
-    let objects = object_statuses(alloc, history, site.table())?;
+    let objects = object_statuses(alloc, &site.versions())?;
     let text = status_text(alloc, history, &waiting, &objects)?;
     let state = state_of(&waiting, &objects);
     Ok(Status { text, state })

@@ -113,7 +113,7 @@ pub(crate) fn ranked_site(alloc: Global, site: &Site) -> Result<Ranked<AnyShape>
     ensures ranked { IfOk result (λ ranked. AreRanked site.now.ops ranked.items.items) }
     ensures err { IfErr result (RefusesHistory site.now.ops) }
 {
-    listed(ranked_within(alloc, site.history(), site.table(), MOST_VERSIONS))
+    listed(ranked_within(alloc, &site.versions(), MOST_VERSIONS))
 }
 
 /// The list that was made, or why there is none.

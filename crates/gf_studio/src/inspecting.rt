@@ -115,7 +115,7 @@ fn tell_versions(alloc: Global, site: &Site, object: ObjectId) -> Result<Vec<u8>
     ensures ok { IfOk result (λ text. TellsVersions site.now.ops object text.items) }
     ensures err { IfErr result (RefusesQuery site.now.ops (Query.Object object)) }
 {
-    match versions_with(alloc, site.history(), site.table(), object) {
+    match versions_with(alloc, &site.versions(), object) {
         Ok(versions) => match lines(alloc, versions.as_slice()) {
             Ok(text) => Ok(text),
             Err(OutOfMemory) => Err(StudioError::OutOfMemory),
@@ -129,6 +129,6 @@ fn tell_versions(alloc: Global, site: &Site, object: ObjectId) -> Result<Vec<u8>
 fn tell_top(alloc: Global, site: &Site, point: Point) -> Result<Vec<u8>, OutOfMemory>
     ensures { IfOk result (λ text. TellsTop site.now.ops point text.items) }
 {
-    let name = top_at_with(alloc, site.history(), site.table(), point)?;
+    let name = top_at_with(alloc, &site.versions(), point)?;
     top_line(alloc, point, name.as_ref())
 }

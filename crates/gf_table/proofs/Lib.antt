@@ -5,3 +5,5 @@ pub mod StandsLemmas
 pub mod FittingLemmas
 pub mod ListedLemmas
 pub mod MetLemmas
+pub mod CountingLemmas
+pub mod PositionLemmas

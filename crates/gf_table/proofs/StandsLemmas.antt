@@ -25,6 +25,7 @@ use Rattle.gf_ops.specs.Attribute.{changed_object, object_of}
 use Rattle.gf_groups.specs.Growing.{conflict_at}
 use Rattle.gf_groups.specs.GroupedPositions.{is_on}
 use Rattle.gf_groups.specs.Parting.{object_cmp}
+use Rattle.gf_groups.specs.Versions.{IsMade}
 use Rattle.gf_groups.proofs.OnPositionLemmas.{all_positions, contained_at, made_object, on_op, on_to}
 use Rattle.gf_groups.proofs.PositionLemmas.{Contains-positions_below}
 use Rattle.gf_groups.proofs.PartingLemmas.{object_cmp_total, object_cmp_exact}
@@ -155,6 +156,15 @@ module _ (h : List Op) (o : ObjectId) where
 -- the object that the table has no state of
 pub absent : (h : List Op) (o : ObjectId) (r : Option ObjectState) → IsObjectState h o r → r ≡ None → (a : Op) → Contains h a → object_of a ≢ o
 absent h o r s e = subst (IsObjectState h o) e s
+
+object_same : (o q : ObjectId) → o.0 ≡ q.0 → o ≡ q
+object_same o q e = λ i. record { 0 = e i }
+
+-- an object that was made has an operation on it
+pub made_on : (h : List Op) (o : ObjectId) → IsMade h o → ¬ ((a : Op) → Contains h a → object_of a ≢ o)
+made_on h o made none =
+    let w = made.made in
+    none w.maker w.contained (object_same (object_of w.maker) o (made_object w.maker.id w.maker.change made.kind w.kind ∙ w.id))
 
 pub there : (h : List Op) (o : ObjectId) (r : Option ObjectState) (t : ObjectState) → IsObjectState h o r → r ≡ Some t → IsStateOf h o t
 there h o r t s e = subst (IsObjectState h o) e s

@@ -1,7 +1,7 @@
 -- When a table stands for a history: it has the setters and the components of each object.
 use Rattle.std.specs.Prelude.{◌≡◌, ◌≢◌, ◌↔◌, ◌⊎◌, ℕ, Bool, List, []}
 use Rattle.std.specs.Prelude.{◌∷◌, ◌++◌, AllPairs, Contains, length, Option, Some, None}
-use Rattle.std.specs.Prelude.{IfSome, slice_get, unwrap_or}
+use Rattle.std.specs.Prelude.{IfSome, slice_get, true, unwrap_or}
 use Rattle.std.specs.BTreeMap.{is_at}
 use Rattle.std.specs.List.{fold}
 use Rattle.std.specs.Map.{lookup}
@@ -16,7 +16,7 @@ use Rattle.gf_ops.specs.Limits.{IsInRange}
 use Rattle.gf_ops.specs.ValidHistory.{IsValid}
 use Rattle.gf_groups.specs.declared.group.Group.{Group}
 use Rattle.gf_groups.specs.Growing.{conflict_at, groups_at}
-use Rattle.gf_groups.specs.GroupedPositions.{positions_below}
+use Rattle.gf_groups.specs.GroupedPositions.{is_on, positions_below}
 use Rattle.gf_groups.specs.Parting.{object_cmp}
 use Rattle.gf_groups.specs.Versions.{IsVersionGroup}
 use Rattle.gf_components.specs.Components.{ComponentState, ComponentsState, IsReached, products}
@@ -85,6 +85,10 @@ StandsFor h t = (o : ObjectId) → IsObjectState h o (state_of t o)
 pub record AreComponentsOn (h : List Op) (o : ObjectId) (s : ComponentsState) : Type 0 where
   pub components : AreComponents (conflict_at h) s
   pub all : (i : ℕ) → Contains (whole s).all i ↔ Contains (positions_below h o (length h)) i
+
+-- us are the positions of the operations of h on the object o
+abbrev pub ArePositionsOn : List Op → ObjectId → List ℕ → Type 0
+ArePositionsOn h o us = (k : ℕ) → Contains us k ↔ (is_on o (slice_get h k) ≡ true)
 
 -- `c` says whether the operations at two positions conflict
 module _ (c : ℕ → ℕ → Bool) where

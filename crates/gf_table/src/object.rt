@@ -14,9 +14,11 @@ ghost use Rattle.gf_rivals.specs.Indexes.{IsIndex, PutsNumber};
 ghost use Rattle.gf_rivals.specs.Fingerprints.{fingerprint_of};
 ghost use Rattle.gf_ops.specs.declared.change.Change.TheVariants.{Set};
 ghost use Rattle.gf_table.specs.ByPosition.{sets_at, component_at, components_at};
+ghost use Rattle.gf_table.specs.Multiplying.{counted};
 ghost use Rattle.gf_table.specs.ObjectState.{made, maker_number, position_in, with_grown};
 ghost use Rattle.gf_table.specs.Standing.{IsMetByAim, IsNextOf, IsStateOf, with_aim};
 
+use crate::counting::counted;
 use gf_base::OutOfMemory;
 use gf_components::{Component, Components};
 use gf_maximal::Numbers;
@@ -353,6 +355,13 @@ impl ObjectTable {
             }
             None => Ok(Component::new(all, None)),
         }
+    }
+
+    /// How many ways there are to take one set of each component; capped.
+    pub(crate) fn count(&self) -> usize
+        ensures { result ≡ counted self.now.components.components }
+    {
+        counted(self.components.components())
     }
 
     /// The components, by positions.

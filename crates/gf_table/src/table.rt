@@ -7,6 +7,7 @@ ghost use Rattle.gf_ops.specs.Limits.{IsInRange};
 ghost use Rattle.gf_groups.specs.declared.faults.GroupFault.{GroupFault};
 ghost use Rattle.gf_groups.specs.Parting.{object_cmp};
 ghost use Rattle.gf_groups.specs.Versions.{IsMade, AreVersions};
+ghost use Rattle.gf_table.specs.Counting.{IsCount};
 ghost use Rattle.gf_table.specs.Standing.{StandsFor, AreComponentsOn, state_of};
 
 use crate::listing::listed;
@@ -88,6 +89,20 @@ impl GroupTable {
         match self.objects.get(&object) {
             Some(state) => state.by_position(alloc),
             None => Ok(Components::new(alloc)),
+        }
+    }
+
+    /// How many versions an object has that the history made; 1,001 where there are more than 1,000.
+    pub(crate) fn count(&self, history: &History, object: ObjectId) -> usize
+        requires stands { StandsFor history.now.ops self.now }
+        requires made { IsMade history.now.ops object }
+        ensures { IsCount history.now.ops object result }
+    {
+        // The clause of `ops` says that the history is valid.
+        let _ = history.ops();
+        match self.objects.get(&object) {
+            Some(state) => state.count(),
+            None => unreachable!(),
         }
     }
 

@@ -75,7 +75,7 @@ pub fn looks_like(alloc: Global, site: &Site, drawing: &Drawing<Outline>) -> Res
     ensures err { IfErr result
         (RefusesTake site.now.number site.now.ops [] drawing.now) }
 {
-    match ranked_within(alloc, site.history(), site.table(), MOST_VERSIONS)? {
+    match ranked_within(alloc, &site.versions(), MOST_VERSIONS)? {
         None => Err(TakeError::TooManyFigures),
         Some(ranked) => Ok(look_alike(alloc, &ranked.items, drawing)?),
     }
@@ -87,7 +87,7 @@ fn show(alloc: Global, site: &Site, drawing: &Drawing<Outline>) -> Result<(), Ta
     ensures paints { OnOk result (PaintsAsFig site.now.ops drawing.now) }
     ensures err { IfErr result (RefusesShowing site.now.ops drawing.now) }
 {
-    match ranked_within(alloc, site.history(), site.table(), MOST_VERSIONS)? {
+    match ranked_within(alloc, &site.versions(), MOST_VERSIONS)? {
         None => Err(TakeError::TooManyFigures),
         Some(ranked) => {
             if show_figures(alloc, &ranked.items, drawing)? {

@@ -19,7 +19,7 @@ pub(crate) fn thin_of(alloc: Global, base: &Site) -> Result<Vec<ObjectId>, TakeR
     ensures refused { (d : Drawn) → IfErr result
         (RefusesMaking base.now.number base.now.ops [] d) }
 {
-    match ranked_within(alloc, base.history(), base.table(), MOST_VERSIONS)? {
+    match ranked_within(alloc, &base.versions(), MOST_VERSIONS)? {
         None => Err(TakeRunError::TooManyFigures),
         Some(ranked) => Ok(thin_polygons(alloc, &ranked.items)?),
     }

@@ -4,8 +4,8 @@
 //! out.
 //!
 //! - [`visible_groups`]: the groups of the visible versions of one object.
-//! - [`ranked_within`]: the ranked list of the visible versions of a history; [`ranked_with`]: the
-//!   same with no bound, as `ranked` gives it.
+//! - [`ranked_within`]: the ranked list of the visible versions of a history; [`ranked_all`]: the
+//!   same with no bound, as `ranked` gives it; [`ranked_with`]: the same from a history and a table.
 //! - [`showing_within`]: the largest compatible sets of positions that show, but no more than so
 //!   many. [`Setters`] say what positions do to each other. Each position is chosen or left out,
 //!   and a partial choice is dropped as soon as it can't hold.
@@ -30,5 +30,5 @@ pub use laws::{
     one_pass_finds_the_largest_sets_that_show, the_choices_are_the_largest_sets_that_show,
 };
 pub use objects::visible_groups;
-pub use ranking::{ranked_with, ranked_within};
+pub use ranking::{ranked_all, ranked_with, ranked_within};
 pub use setters::{Setters, showing_within};

@@ -8,7 +8,7 @@ ghost use Rattle.gf_ops.specs.declared.op.ObjectId.{ObjectId};
 ghost use Rattle.gf_components.specs.Components.{merged, most_sets, whole};
 ghost use Rattle.gf_groups.specs.GroupedPositions.{positions_below};
 ghost use Rattle.gf_groups.specs.Versions.{IsMade};
-ghost use Rattle.gf_table.specs.Standing.{StandsFor};
+ghost use Rattle.gf_table.specs.Standing.{AreComponentsOn};
 ghost use Rattle.gf_visible.specs.Deciding.{at_most, decides, deciding, idle};
 ghost use Rattle.gf_visible.specs.Deciding.{with_deciding, with_idle};
 ghost use Rattle.gf_visible.specs.Cuts.{has_some};
@@ -25,7 +25,6 @@ use gf_components::{Component, Components, alone, merged, products};
 use gf_maximal::Numbers;
 use gf_ops::{History, ObjectId};
 use gf_shape::OutOfMemory;
-use gf_table::GroupTable;
 use std::alloc::Global;
 
 /// Whether a setter of the component may be the last one.
@@ -226,16 +225,16 @@ fn shown_of(
 }
 
 /// The largest compatible sets of an object's positions that show, each once, if they are at most
-/// `most`. The sets of what decides are found first. The rest is multiplied out only where some
+/// `most`. The positions come in components. The sets of what decides are found first. The rest is multiplied out only where some
 /// set shows.
 pub(crate) fn shown_sets(
     alloc: Global,
     history: &History,
-    table: &GroupTable,
     object: ObjectId,
+    components: &Components,
     most: usize,
 ) -> Result<Option<Vec<Numbers>>, OutOfMemory>
-    requires stands { StandsFor history.now.ops table.now }
+    requires on { AreComponentsOn history.now.ops object components.now }
     requires made { IsMade history.now.ops object }
     requires most { most ≤ most_sets }
     ensures { IfOk result (λ found. IsSetListing history.now.ops
@@ -244,11 +243,10 @@ pub(crate) fn shown_sets(
 {
     // The clause of `ops` says that the history is valid.
     let _ = history.ops();
-    let components = table.components(alloc, history, object)?;
     let lasts = lasts(alloc, history, components.free())?;
-    let positions = deciding(alloc, history, &components, &lasts)?.to_vec(alloc)?;
+    let positions = deciding(alloc, history, components, &lasts)?.to_vec(alloc)?;
     let Some(shown) = shown_of(alloc, history, &positions, most)? else {
         return Ok(None);
     };
-    with_idle(alloc, history, &components, &lasts, &shown, most)
+    with_idle(alloc, history, components, &lasts, &shown, most)
 }

@@ -6,14 +6,13 @@ ghost use Rattle.gf_groups.specs.Versions.{IsMade};
 ghost use Rattle.gf_components.specs.Components.{most_sets};
 ghost use Rattle.gf_visible.specs.ShownVersions.{AreVisibleOn, HasMoreOn};
 ghost use Rattle.gf_visible.specs.VisibleSoFar.{HaveVisibleOf, IsGroupListing};
-ghost use Rattle.gf_table.specs.Standing.{StandsFor};
 
 use crate::listing::shown_sets;
 use gf_components::MOST_SETS;
 use gf_groups::{Group, GroupFault, add_groups};
-use gf_ops::{Change, History, ObjectId, Op};
+use gf_ops::{Change, ObjectId, Op};
 use gf_shape::OutOfMemory;
-use gf_table::GroupTable;
+use gf_table::VersionedHistory;
 use std::alloc::Global;
 
 /// The groups of the visible versions of an object that the history made, each once. None where
@@ -25,22 +24,20 @@ use std::alloc::Global;
 /// in one pass where there is no aim among them, and else by a search. Either stops beyond `most`.
 pub fn visible_groups(
     alloc: Global,
-    history: &History,
-    table: &GroupTable,
+    versions: &VersionedHistory<'_>,
     object: ObjectId,
     most: usize,
 ) -> Result<Option<Vec<Group>>, OutOfMemory>
-    requires stands { StandsFor history.now.ops table.now }
-    requires made { IsMade history.now.ops object }
+    requires made { IsMade versions.now object }
     requires most { most ≤ most_sets }
     ensures groups { IfOk result (λ found.
-        IfSome found (λ groups. AreVisibleOn history.now.ops object groups.items)) }
+        IfSome found (λ groups. AreVisibleOn versions.now object groups.items)) }
     ensures few { IfOk result (λ found. IfSome found (λ groups. length groups.items ≤ most)) }
-    ensures more { IfOk result (λ found. IfNone found (HasMoreOn history.now.ops object most)) }
+    ensures more { IfOk result (λ found. IfNone found (HasMoreOn versions.now object most)) }
 {
-    // The clause of `ops` says that the history is valid.
-    let _ = history.ops();
-    let Some(sets) = shown_sets(alloc, history, table, object, most)? else {
+    let history = versions.history();
+    let components = versions.components(alloc, object)?;
+    let Some(sets) = shown_sets(alloc, history, object, &components, most)? else {
         return Ok(None);
     };
     let mut groups = Vec::new(alloc);
@@ -52,19 +49,17 @@ pub fn visible_groups(
 /// made one.
 pub(crate) fn visible_made(
     alloc: Global,
-    history: &History,
-    table: &GroupTable,
+    versions: &VersionedHistory<'_>,
     op: &Op,
     most: usize,
 ) -> Result<Option<Vec<Group>>, OutOfMemory>
-    requires stands { StandsFor history.now.ops table.now }
-    requires contained { Contains history.now.ops op.now }
+    requires contained { Contains versions.now op.now }
     requires most { most ≤ most_sets }
     ensures { IfOk result (λ found.
-        IsGroupListing history.now.ops (op.now ∷ []) most (option_map (λ v. v.items) found)) }
+        IsGroupListing versions.now (op.now ∷ []) most (option_map (λ v. v.items) found)) }
 {
     match &op.change {
-        Change::Create(_) => visible_groups(alloc, history, table, ObjectId(op.id), most),
+        Change::Create(_) => visible_groups(alloc, versions, ObjectId(op.id), most),
         Change::Set { .. } => Ok(Some(Vec::new(alloc))),
     }
 }
@@ -73,17 +68,15 @@ pub(crate) fn visible_made(
 /// one.
 fn versions_made(
     alloc: Global,
-    history: &History,
-    table: &GroupTable,
+    versions: &VersionedHistory<'_>,
     op: &Op,
 ) -> Result<Vec<Group>, OutOfMemory>
-    requires stands { StandsFor history.now.ops table.now }
-    requires contained { Contains history.now.ops op.now }
+    requires contained { Contains versions.now op.now }
     ensures { IfOk result (λ groups.
-        HaveVisibleOf history.now.ops (op.now ∷ []) groups.items) }
+        HaveVisibleOf versions.now (op.now ∷ []) groups.items) }
 {
     match &op.change {
-        Change::Create(_) => match table.groups(alloc, history, ObjectId(op.id)) {
+        Change::Create(_) => match versions.groups(alloc, ObjectId(op.id)) {
             Ok(groups) => Ok(groups.into_vec()),
             Err(GroupFault::NoObject) => unreachable!(),
             Err(GroupFault::OutOfMemory) => Err(OutOfMemory),
@@ -96,16 +89,14 @@ fn versions_made(
 /// visible ones where these are at most [`MOST_SETS`], and else all.
 pub(crate) fn visible_or_all(
     alloc: Global,
-    history: &History,
-    table: &GroupTable,
+    versions: &VersionedHistory<'_>,
     op: &Op,
 ) -> Result<Vec<Group>, OutOfMemory>
-    requires stands { StandsFor history.now.ops table.now }
-    requires contained { Contains history.now.ops op.now }
-    ensures { IfOk result (λ groups. HaveVisibleOf history.now.ops (op.now ∷ []) groups.items) }
+    requires contained { Contains versions.now op.now }
+    ensures { IfOk result (λ groups. HaveVisibleOf versions.now (op.now ∷ []) groups.items) }
 {
-    match visible_made(alloc, history, table, op, MOST_SETS)? {
+    match visible_made(alloc, versions, op, MOST_SETS)? {
         Some(groups) => Ok(groups),
-        None => versions_made(alloc, history, table, op),
+        None => versions_made(alloc, versions, op),
     }
 }

@@ -11,14 +11,11 @@ use crate::objects::{visible_made, visible_or_all};
 use gf_groups::Group;
 use gf_ops::History;
 use gf_shape::{AnyShape, OutOfMemory};
-use gf_table::GroupTable;
+use gf_table::{GroupTable, VersionedHistory};
 use gf_versions::{Ranked, ranked_of};
 use std::alloc::Global;
 
-/// The visible versions of a history, topmost first, as `ranked` gives them. The table stands for
-/// the history.
-///
-/// Of an object with at most 1,000 visible versions no others are listed.
+/// The versions that [`ranked_all`] gives, of a history and a table that stands for it.
 pub fn ranked_with(
     alloc: Global,
     history: &History,
@@ -27,51 +24,54 @@ pub fn ranked_with(
     requires { StandsFor history.now.ops table.now }
     ensures { IfOk result (λ ranked. AreRanked history.now.ops ranked.items.items) }
 {
-    // The clause of `ops` says that the history is valid.
-    let _ = history.ops();
-    let groups = groups_to_rank(alloc, history, table)?;
+    ranked_all(alloc, &VersionedHistory::new(history, table))
+}
+
+/// The visible versions of a history, topmost first, as `ranked` gives them.
+///
+/// Of an object with at most 1,000 visible versions no others are listed.
+pub fn ranked_all(
+    alloc: Global,
+    versions: &VersionedHistory<'_>,
+) -> Result<Ranked<AnyShape>, OutOfMemory>
+    ensures { IfOk result (λ ranked. AreRanked versions.now ranked.items.items) }
+{
+    let history = versions.history();
+    let groups = groups_to_rank(alloc, versions)?;
     ranked_of(alloc, history, &groups)
 }
 
 /// The groups of versions among which are all visible ones.
-fn groups_to_rank(
-    alloc: Global,
-    history: &History,
-    table: &GroupTable,
-) -> Result<Vec<Group>, OutOfMemory>
-    requires { StandsFor history.now.ops table.now }
+fn groups_to_rank(alloc: Global, versions: &VersionedHistory<'_>) -> Result<Vec<Group>, OutOfMemory>
     ensures { IfOk result (λ groups.
-        HaveVisibleOf history.now.ops history.now.ops groups.items) }
+        HaveVisibleOf versions.now versions.now groups.items) }
 {
     let mut groups = Vec::new(alloc);
-    for op in history.ops() {
-        let mut more = visible_or_all(alloc, history, table, op)?;
+    for op in versions.ops() {
+        let mut more = visible_or_all(alloc, versions, op)?;
         groups.append(&mut more)?;
     }
     Ok(groups)
 }
 
 /// The visible versions of a history, topmost first, if they are at most `most`; None where they
-/// are more. The table stands for the history.
+/// are more.
 ///
 /// The call stops as soon as it has seen more. Choices that are not listed are not multiplied out,
 /// as in [`visible_groups`](crate::visible_groups).
 pub fn ranked_within(
     alloc: Global,
-    history: &History,
-    table: &GroupTable,
+    versions: &VersionedHistory<'_>,
     most: usize,
 ) -> Result<Option<Ranked<AnyShape>>, OutOfMemory>
-    requires stands { StandsFor history.now.ops table.now }
-    requires most { most ≤ most_sets }
+    requires { most ≤ most_sets }
     ensures ranked { IfOk result (λ found.
-        IfSome found (λ ranked. AreRanked history.now.ops ranked.items.items)) }
+        IfSome found (λ ranked. AreRanked versions.now ranked.items.items)) }
     ensures few { IfOk result (λ found. IfSome found (λ ranked. length ranked.items.items ≤ most)) }
-    ensures more { IfOk result (λ found. IfNone found (HasMoreVisible history.now.ops most)) }
+    ensures more { IfOk result (λ found. IfNone found (HasMoreVisible versions.now most)) }
 {
-    // The clause of `ops` says that the history is valid.
-    let _ = history.ops();
-    let Some(groups) = all_visible(alloc, history, table, most)? else {
+    let history = versions.history();
+    let Some(groups) = all_visible(alloc, versions, most)? else {
         return Ok(None);
     };
     let ranked = ranked_of(alloc, history, &groups)?;
@@ -81,18 +81,16 @@ pub fn ranked_within(
 /// The groups of all visible versions, if they are at most `most`.
 fn all_visible(
     alloc: Global,
-    history: &History,
-    table: &GroupTable,
+    versions: &VersionedHistory<'_>,
     most: usize,
 ) -> Result<Option<Vec<Group>>, OutOfMemory>
-    requires stands { StandsFor history.now.ops table.now }
-    requires most { most ≤ most_sets }
+    requires { most ≤ most_sets }
     ensures { IfOk result (λ found.
-        IsGroupListing history.now.ops history.now.ops most (option_map (λ v. v.items) found)) }
+        IsGroupListing versions.now versions.now most (option_map (λ v. v.items) found)) }
 {
     let mut groups = Vec::new(alloc);
-    for op in history.ops() {
-        match visible_made(alloc, history, table, op, most - groups.len())? {
+    for op in versions.ops() {
+        match visible_made(alloc, versions, op, most - groups.len())? {
             Some(mut more) => groups.append(&mut more)?,
             None => return Ok(None),
         }

@@ -27,7 +27,6 @@ versions_with may do without
 top_at may do without
 top_at_with may do without
 aimed_at may do without
-aimed_at_with may do without
 object_statuses may do without
 lines
 top_line
@@ -49,7 +48,6 @@ pub(crate) fn tried(alloc: Global, name: &str, marks: &mut Marks) -> Option<Came
         "top_at" => top_at(alloc, marks),
         "top_at_with" => top_at_with(alloc, marks),
         "aimed_at" => aimed_at(alloc, marks),
-        "aimed_at_with" => aimed_at_with(alloc, marks),
         "object_statuses" => object_statuses(alloc, marks),
         "lines" => lines(alloc, marks),
         "top_line" => top_line(alloc, marks),
@@ -118,16 +116,16 @@ fn table_groups(alloc: Global, marks: &mut Marks) -> Option<Came> {
 
 fn visible_groups(alloc: Global, marks: &mut Marks) -> Option<Came> {
     let site = site(alloc, THREE_SETTERS)?;
-    let (history, table, object) = (site.history(), site.table(), ObjectId(BOX));
-    if !is_made(history, object) {
+    let object = ObjectId(BOX);
+    if !is_made(site.history(), object) {
         return None;
     }
     marks.begin();
-    let first = gf_visible::visible_groups(alloc, history, table, object, 2);
+    let first = gf_visible::visible_groups(alloc, &site.versions(), object, 2);
     marks.end();
     Some(match first {
         Err(OutOfMemory) => {
-            let next = gf_visible::visible_groups(alloc, history, table, object, 2);
+            let next = gf_visible::visible_groups(alloc, &site.versions(), object, 2);
             Came::after_memory(true, are_visible(alloc, next))
         }
         first => Came::first(are_visible(alloc, first)),
@@ -222,11 +220,11 @@ fn ranked_with(alloc: Global, marks: &mut Marks) -> Option<Came> {
 fn ranked_within(alloc: Global, marks: &mut Marks) -> Option<Came> {
     let site = site(alloc, RED_BOX_MADE)?;
     marks.begin();
-    let first = gf_visible::ranked_within(alloc, site.history(), site.table(), 1);
+    let first = gf_visible::ranked_within(alloc, &site.versions(), 1);
     marks.end();
     Some(match first {
         Err(OutOfMemory) => {
-            let next = gf_visible::ranked_within(alloc, site.history(), site.table(), 1);
+            let next = gf_visible::ranked_within(alloc, &site.versions(), 1);
             Came::after_memory(true, is_red_box(next.ok().flatten()))
         }
         first => Came::first(is_red_box(first.ok().flatten())),
@@ -282,13 +280,12 @@ fn versions(alloc: Global, marks: &mut Marks) -> Option<Came> {
 
 fn versions_with(alloc: Global, marks: &mut Marks) -> Option<Came> {
     let site = site(alloc, TWO_COLOURS)?;
-    let (history, table) = (site.history(), site.table());
     marks.begin();
-    let first = gf_inspect::versions_with(alloc, history, table, ObjectId(BOX));
+    let first = gf_inspect::versions_with(alloc, &site.versions(), ObjectId(BOX));
     marks.end();
     Some(match first {
         Err(GroupFault::OutOfMemory) => {
-            let next = gf_inspect::versions_with(alloc, history, table, ObjectId(BOX));
+            let next = gf_inspect::versions_with(alloc, &site.versions(), ObjectId(BOX));
             Came::after_memory(true, are_versions(alloc, next))
         }
         first => Came::first(are_versions(alloc, first)),
@@ -311,13 +308,12 @@ fn top_at(alloc: Global, marks: &mut Marks) -> Option<Came> {
 
 fn top_at_with(alloc: Global, marks: &mut Marks) -> Option<Came> {
     let site = site(alloc, TWO_COLOURS)?;
-    let (history, table) = (site.history(), site.table());
     marks.begin();
-    let first = gf_inspect::top_at_with(alloc, history, table, at(10, 10));
+    let first = gf_inspect::top_at_with(alloc, &site.versions(), at(10, 10));
     marks.end();
     Some(match first {
         Err(OutOfMemory) => {
-            let next = gf_inspect::top_at_with(alloc, history, table, at(10, 10));
+            let next = gf_inspect::top_at_with(alloc, &site.versions(), at(10, 10));
             Came::after_memory(true, is_green(alloc, next))
         }
         first => Came::first(is_green(alloc, first)),
@@ -351,22 +347,6 @@ fn aimed_at(alloc: Global, marks: &mut Marks) -> Option<Came> {
     })
 }
 
-fn aimed_at_with(alloc: Global, marks: &mut Marks) -> Option<Came> {
-    let site = site(alloc, TWO_COLOURS)?;
-    let (history, table) = (site.history(), site.table());
-    let (value, same) = (Value::Shown(false), Value::Shown(false));
-    marks.begin();
-    let first = gf_inspect::aimed_at_with(alloc, history, table, at(10, 10), value);
-    marks.end();
-    Some(match first {
-        Err(OutOfMemory) => {
-            let next = gf_inspect::aimed_at_with(alloc, history, table, at(10, 10), same);
-            Came::after_memory(true, is_aimed(&next))
-        }
-        first => Came::first(is_aimed(&first)),
-    })
-}
-
 /// The operations of the version that is on top.
 const TOP: [OpId; 2] = [BOX, OpId { site: 2, seq: 1 }];
 
@@ -384,13 +364,12 @@ fn is_aimed(answer: &Result<Option<Change>, OutOfMemory>) -> bool {
 
 fn object_statuses(alloc: Global, marks: &mut Marks) -> Option<Came> {
     let site = site(alloc, TWO_COLOURS)?;
-    let (history, table) = (site.history(), site.table());
     marks.begin();
-    let first = gf_status::object_statuses(alloc, history, table);
+    let first = gf_status::object_statuses(alloc, &site.versions());
     marks.end();
     Some(match first {
         Err(OutOfMemory) => {
-            let next = gf_status::object_statuses(alloc, history, table);
+            let next = gf_status::object_statuses(alloc, &site.versions());
             Came::after_memory(true, is_open(next))
         }
         first => Came::first(is_open(first)),

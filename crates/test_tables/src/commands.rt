@@ -15,7 +15,7 @@ use test_kit::notation::{id, push_ids};
 /// The groups of an object, by the table.
 pub(crate) fn groups(alloc: Global, site: &Site, text: &str) -> Option<String> {
     let object = ObjectId(id(text)?);
-    told(alloc, site.table().groups(alloc, site.history(), object))
+    told(alloc, site.versions().groups(alloc, object))
 }
 
 /// The groups of an object, by the plain call.
@@ -61,7 +61,7 @@ pub(crate) fn visible(alloc: Global, site: &Site, text: &str) -> Option<String> 
         return None;
     }
     let most = bound(most)?;
-    let found = visible_groups(alloc, site.history(), site.table(), object, most).ok()?;
+    let found = visible_groups(alloc, &site.versions(), object, most).ok()?;
     counted(alloc, found.map(|groups| groups.len()))
 }
 
@@ -88,13 +88,13 @@ pub(crate) fn total(alloc: Global, site: &Site) -> Option<String> {
 
 /// How many versions of all objects are visible, or that they are more than this.
 pub(crate) fn ranking(alloc: Global, site: &Site, text: &str) -> Option<String> {
-    let found = ranked_within(alloc, site.history(), site.table(), bound(text)?).ok()?;
+    let found = ranked_within(alloc, &site.versions(), bound(text)?).ok()?;
     counted(alloc, found.map(|ranked| ranked.len()))
 }
 
 /// The figures of the drawing of at most this many versions, the last one's depth, and the colours.
 pub(crate) fn drawn(alloc: Global, site: &Site, text: &str) -> Option<String> {
-    match ranked_within(alloc, site.history(), site.table(), bound(text)?).ok()? {
+    match ranked_within(alloc, &site.versions(), bound(text)?).ok()? {
         Some(ranked) => drawing(alloc, ranked),
         None => String::from_str(alloc, "more").ok(),
     }

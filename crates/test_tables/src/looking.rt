@@ -2,7 +2,7 @@
 
 use gf_groups::GroupFault;
 use gf_inspect::{
-    VersionName, aimed_at_with, lines, top_at, top_at_with, top_line, versions, versions_with,
+    VersionName, aimed_at, lines, top_at, top_at_with, top_line, versions, versions_with,
 };
 use gf_ops::{Change, ObjectId};
 use gf_shape::Point;
@@ -14,10 +14,7 @@ use test_kit::notation::{change, id, point, yes};
 /// The versions of an object, by the table.
 pub(crate) fn all(alloc: Global, site: &Site, text: &str) -> Option<String> {
     let object = ObjectId(id(text)?);
-    told(
-        alloc,
-        versions_with(alloc, site.history(), site.table(), object),
-    )
+    told(alloc, versions_with(alloc, &site.versions(), object))
 }
 
 /// The versions of an object, by the plain call.
@@ -45,7 +42,7 @@ fn lines_of(alloc: Global, versions: &[Version]) -> Option<String> {
 /// What is on top at a point, by the table.
 pub(crate) fn top(alloc: Global, site: &Site, text: &str) -> Option<String> {
     let point = point(text)?;
-    let name = top_at_with(alloc, site.history(), site.table(), point).ok()?;
+    let name = top_at_with(alloc, &site.versions(), point).ok()?;
     line_of(alloc, point, name)
 }
 
@@ -67,7 +64,7 @@ pub(crate) fn aimed(alloc: Global, site: &Site, text: &str) -> Option<String> {
     let Change::Set { value, .. } = change(alloc, what)? else {
         return None;
     };
-    let found = aimed_at_with(alloc, site.history(), site.table(), point(place)?, value).ok()?;
+    let found = aimed_at(alloc, site.history(), point(place)?, value).ok()?;
     match found {
         Some(found) => String::from_str(alloc, yes(found == change(alloc, what)?)).ok(),
         None => String::from_str(alloc, "none").ok(),

@@ -11,27 +11,27 @@ returns-then-branch-clause-shows c =
     let d = c.args.drawing.now in
     let items = c.in-Some.ranked.items.items in
     let listed = rw c.in-Some.is at c.in_ok-ranked_within.ensures.ranked in
-    let ranked = subst (λ h. AreRanked h items) c.history.ensures.ops listed in
+    let ranked = subst (λ h. AreRanked h items) c.versions.ensures.ops listed in
     let shown = subst (AreShown d.table (from_front d.figures)) c.deref.ensures.value
     (c.in_ok-show_figures-in-Some.ensures.0 c.if-branch.true) in
-    shown_drawing c.args.site.now.ops d items c.history.ensures.valid ranked shown
+    shown_drawing c.args.site.now.ops d items c.versions.ensures.valid ranked shown
 
 pub returns-then-branch-clause-paints : goal.returns-then-branch-clause-paints
 returns-then-branch-clause-paints c =
     let d = c.args.drawing.now in
     let items = c.in-Some.ranked.items.items in
     let listed = rw c.in-Some.is at c.in_ok-ranked_within.ensures.ranked in
-    let ranked = subst (λ h. AreRanked h items) c.history.ensures.ops listed in
+    let ranked = subst (λ h. AreRanked h items) c.versions.ensures.ops listed in
     let shown = subst (AreShown d.table (from_front d.figures)) c.deref.ensures.value
     (c.in_ok-show_figures-in-Some.ensures.0 c.if-branch.true) in
-    shown_colours c.args.site.now.ops d items c.history.ensures.valid ranked shown
+    shown_colours c.args.site.now.ops d items c.versions.ensures.valid ranked shown
 
 pub returns-clause-err : goal.returns-clause-err
 returns-clause-err c = λ lawful s.
     let d = c.args.drawing.now in
     let items = c.in-Some.ranked.items.items in
     let listed = rw c.in-Some.is at c.in_ok-ranked_within.ensures.ranked in
-    let ranked = subst (λ h. AreRanked h items) c.history.ensures.ops listed in
+    let ranked = subst (λ h. AreRanked h items) c.versions.ensures.ops listed in
     let shown = subst (AreShown d.table (from_front d.figures)) (sym c.deref.ensures.value)
     (drawing_is_shown c.args.site.now.ops d items ranked lawful s) in
     let none : false ≡ true =

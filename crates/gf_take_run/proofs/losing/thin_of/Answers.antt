@@ -7,4 +7,4 @@ pub returns-in-None-clause-refused : goal.returns-in-None-clause-refused
 returns-in-None-clause-refused c = λ d.
     let more = rw c.in-None.is at c.in_ok-ranked_within.ensures.more in
     shows_too_many c.args.base.now.number c.args.base.now.ops
-    (subst (λ h. HasMoreVisible h 1000) c.history.ensures.ops more)
+    (subst (λ h. HasMoreVisible h 1000) c.versions.ensures.ops more)

@@ -7,11 +7,11 @@ use Rattle.gf_visible.proofs.VisibleLemmas.{fresh_next, have_more, have_none_yet
 use Rattle.gf_visible.proofs.ranking.all_visible.Goals as goal
 
 pub loop-op-init : goal.loop-op-init
-loop-op-init c = let h = c.args.history.now.ops in rw c.new-groups.ensures.items (record { visible = have_none_yet h (IsVisibleGroup h); few = omega arith })
+loop-op-init c = let h = c.args.versions.now in rw c.new-groups.ensures.items (record { visible = have_none_yet h (IsVisibleGroup h); few = omega arith })
 
 pub returns-in-None : goal.returns-in-None
 returns-in-None c =
-    let h = c.args.history.now.ops in
+    let h = c.args.versions.now in
     let i = c.loop-op.op-index in
     let a = c.op-item.result in
     let same = c.ops-op-items.ensures.ops in
@@ -24,7 +24,7 @@ returns-in-None c =
 
 pub loop-op-preserved : goal.loop-op-preserved
 loop-op-preserved c =
-    let h = c.args.history.now.ops in
+    let h = c.args.versions.now in
     let i = c.loop-op.op-index in
     let a = c.op-item.result in
     let same = c.ops-op-items.ensures.ops in

@@ -4,6 +4,6 @@ use Rattle.gf_visible.proofs.ranking.all_visible.Given as goal
 
 abbrev pub invariant-loop-op : goal.invariant-loop-op
 invariant-loop-op l = record {
-  visible : AreVisibleOf l.history.ops (take l.op-index l.history.ops) l.groups.items;
+  visible : AreVisibleOf l.versions (take l.op-index l.versions) l.groups.items;
   few : length l.groups.items ≤ l.most;
 }

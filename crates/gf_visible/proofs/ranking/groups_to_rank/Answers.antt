@@ -6,11 +6,11 @@ use Rattle.gf_visible.proofs.VisibleLemmas.{fresh_next, have_more, have_none_yet
 use Rattle.gf_visible.proofs.ranking.groups_to_rank.Goals as goal
 
 pub loop-op-init : goal.loop-op-init
-loop-op-init c = let h = c.args.history.now.ops in rw c.new-groups.ensures.items (have_none_yet h (IsVersionGroup h))
+loop-op-init c = let h = c.args.versions.now in rw c.new-groups.ensures.items (have_none_yet h (IsVersionGroup h))
 
 pub loop-op-preserved : goal.loop-op-preserved
 loop-op-preserved c =
-    let h = c.args.history.now.ops in
+    let h = c.args.versions.now in
     let i = c.loop-op.op-index in
     let a = c.op-item.result in
     let same = c.ops-op-items.ensures.ops in

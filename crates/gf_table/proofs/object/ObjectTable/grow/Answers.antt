@@ -1,4 +1,4 @@
-use Rattle.std.proofs.Common.{◌≡◌, ◌-◌, ℕ, length, subst, sym, arith, ◌∙◌}
+use Rattle.std.proofs.Common.{◌≡◌, ◌-◌, length, subst, sym, arith, ◌∙◌}
 use Rattle.gf_rivals.proofs.ChainLemmas.{taken_back}
 use Rattle.gf_table.specs.ObjectState.{ObjectState}
 use Rattle.gf_table.proofs.object.ObjectTable.grow.Goals as goal

@@ -18,17 +18,21 @@ use Rattle.gf_maximal.proofs.LargestLemmas.{IsConflict}
 use Rattle.gf_components.specs.Components.{ComponentState, ComponentsState, products}
 use Rattle.gf_components.specs.Separate.{IsComponent, AreSetsKept}
 use Rattle.gf_components.proofs.CountLemmas.{a_table, length-products, tables_long}
-use Rattle.gf_table.specs.Standing.{AreComponentsOn, full, listed}
+use Rattle.gf_maximal.specs.Growing.{image}
+use Rattle.gf_table.specs.ByPosition.{component_at, components_at, sets_at}
+use Rattle.gf_table.specs.ObjectState.{ObjectState, position_in}
+use Rattle.gf_table.specs.Standing.{AreComponentsOn, IsStateOf, full, listed}
 use Rattle.gf_table.proofs.ListedLemmas.{versions_listed}
-use Rattle.gf_status.specs.Counting.{IsCount, capped}
-use Rattle.gf_status.specs.Multiplying.{count_with, counted, sets_times}
+use Rattle.gf_table.proofs.StandsLemmas.{found}
+use Rattle.gf_table.specs.Counting.{IsCount, capped}
+use Rattle.gf_table.specs.Multiplying.{count_with, counted, sets_times}
 
 -- ---- capped numbers
 
-capped_few : (n : ℕ) → n ≤ 1000 → capped n ≡ n
+pub capped_few : (n : ℕ) → n ≤ 1000 → capped n ≡ n
 capped_few n l = cond-true (nat_le n 1000) n 1001 (le-leb n 1000 l)
 
-capped_many : (n : ℕ) → 1000 < n → capped n ≡ 1001
+pub capped_many : (n : ℕ) → 1000 < n → capped n ≡ 1001
 capped_many n l = cond-false (nat_le n 1000) n 1001 (lt-leb n 1000 l)
 
 times_some : (n k : ℕ) → 1 ≤ k → n ≤ n * k
@@ -70,8 +74,19 @@ module _ (c : ℕ → ℕ → Bool) (s : IsConflict c) where
       let e : count_with (capped (length gs)) p ≡ capped (length (products gs (full c p))) = step.1 ∙ ap capped (sym long) in
       ap (λ n. fold count_with n ps) e ∙ counts_all ps (λ q i. are q (Contains-cons_tail p ps q i)) (products gs (full c p)) (omega (arith, long, more, o))
 
+-- ---- a map of the numbers leaves how many sets there are
+
+sets_image : (f : ℕ → ℕ) (n : ℕ) (r : Option (List (List ℕ))) → sets_times n (sets_at f r) ≡ sets_times n r
+sets_image f n (Some gs) = ap (λ k. capped (n * k)) (length-map gs (image f))
+sets_image f n None = refl
+
+counts_image : (f : ℕ → ℕ) (n : ℕ) (ps : List ComponentState) → fold count_with n (map (component_at f) ps) ≡ fold count_with n ps
+counts_image f n [] = refl
+counts_image f n (p ∷ ps) =
+    ap (λ k. fold count_with k (map (component_at f) ps)) (sets_image f n p.sets) ∙ counts_image f (count_with n p) ps
+
 -- THE COUNT: the product of the components' sets is how many versions the object has
-pub count_told : (h : List Op) → IsValid h → (o : ObjectId) → (t : ComponentsState) → AreComponentsOn h o t → IsMade h o → (n : ℕ) → n ≡ counted t.components → IsCount h o n
+count_told : (h : List Op) → IsValid h → (o : ObjectId) → (t : ComponentsState) → AreComponentsOn h o t → IsMade h o → (n : ℕ) → n ≡ counted t.components → IsCount h o n
 count_told h valid o t on made n e =
     let c = conflict_at h in
     record {
@@ -79,3 +94,9 @@ count_told h valid o t on made n e =
       all = versions_listed h o t on valid made;
       is = e ∙ (counts_all c (conflict_at_test h) t.components on.components.components (t.free ∷ []) (omega arith) ∙ ap capped (sym (length-map (listed c t) (group_at h o))));
     }
+
+-- and so it is where the components have other numbers than positions
+pub count_of_state : (h : List Op) → IsValid h → (o : ObjectId) → (t : ObjectState) → IsStateOf h o t → IsMade h o → (n : ℕ) → n ≡ counted t.components.components → IsCount h o n
+count_of_state h valid o t is made n e =
+    let f = position_in t in
+    count_told h valid o (components_at f t.components) (found h o valid t is) made n (e ∙ sym (counts_image f 1 t.components.components))

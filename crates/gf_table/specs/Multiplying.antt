@@ -2,7 +2,7 @@
 use Rattle.std.specs.Prelude.{ℕ, ◌*◌, List, length, Option, Some, None}
 use Rattle.std.specs.List.{fold}
 use Rattle.gf_components.specs.Components.{ComponentState}
-use Rattle.gf_status.specs.Counting.{capped}
+use Rattle.gf_table.specs.Counting.{capped}
 
 -- n times the number of sets, or 1,001 where these are too many
 abbrev pub sets_times : ℕ → Option (List (List ℕ)) → ℕ

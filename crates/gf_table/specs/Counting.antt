@@ -1,0 +1,16 @@
+-- How many versions an object has (this project's choice).
+use Rattle.std.specs.Prelude.{◌≡◌, ℕ, cond, nat_le, List, length}
+use Rattle.gf_ops.specs.declared.op.Op.{Op}
+use Rattle.gf_ops.specs.declared.op.ObjectId.{ObjectId}
+use Rattle.gf_groups.specs.declared.group.Group.{Group}
+use Rattle.gf_table.specs.Standing.{AreAllOf}
+
+-- n, or 1,001 where it is more than 1,000
+abbrev pub capped : ℕ → ℕ
+capped n = cond (nat_le n 1000) n 1001
+
+-- the object o of h has n versions, hidden ones too, or more than 1,000 where n is 1,001
+pub record IsCount (h : List Op) (o : ObjectId) (n : ℕ) : Type 0 where
+  pub groups : List Group
+  pub all : AreAllOf h o groups
+  pub is : n ≡ capped (length groups)
