@@ -9,19 +9,22 @@ abbrev no_id : OpId
 no_id = record { site = 0; seq = 0 }
 
 pub rising-requires : goal.rising-requires
-rising-requires c = rw c.deref.ensures.value (made_within c.args.history.now.ops c.in_ok-made.made.items c.in_ok-made.ensures)
+rising-requires c =
+    let h = c.history-history.result.now.ops in
+    rw c.deref.ensures.value (made_within h c.in_ok-made.made.items c.in_ok-made.ensures)
 
-pub object_status-requires-clause-made : goal.object_status-requires-clause-made
-object_status-requires-clause-made c =
-    let h = c.args.history.now.ops in
-    let told = rw c.deref.ensures.value at c.in_ok-ids.ensures.exactly in
+pub object_status-requires : goal.object_status-requires
+object_status-requires c =
+    let h = c.args.versions.now in
+    let made = rw c.history-history.ensures.ops at c.in_ok-made.ensures in
+    let told = rw (c.history-history.ensures.ops, c.deref.ensures.value) at c.in_ok-ids.ensures.exactly in
     let same = c.as_slice-id-items.ensures in
     let within : c.loop-id.id-index < length c.in_ok-ids.ids = rw same at c.loop-id-test.true in
-    rw same (made_at h c.in_ok-ids.ids c.loop-id.id-index no_id (made_told h c.in_ok-made.made.items c.in_ok-made.ensures c.in_ok-ids.ids told) within)
+    rw same (made_at h c.in_ok-ids.ids c.loop-id.id-index no_id (made_told h c.in_ok-made.made.items made c.in_ok-ids.ids told) within)
 
 pub loop-id-preserved : goal.loop-id-preserved
 loop-id-preserved c =
-    let h = c.args.history.now.ops in
+    let h = c.args.versions.now in
     let ids = c.as_slice-id-items.result.now in
     let n = c.loop-id.id-index in
     let s = c.in_ok-object_status.field-0 in
@@ -31,11 +34,12 @@ loop-id-preserved c =
 
 pub returns : goal.returns
 returns c =
-    let h = c.args.history.now.ops in
+    let h = c.args.versions.now in
     let ids = c.in_ok-ids.ids in
-    let told = rw c.deref.ensures.value at c.in_ok-ids.ensures.exactly in
+    let made = rw c.history-history.ensures.ops at c.in_ok-made.ensures in
+    let told = rw (c.history-history.ensures.ops, c.deref.ensures.value) at c.in_ok-ids.ensures.exactly in
     let same = c.as_slice-id-items.ensures in
     let past : length ids ≤ c.loop-id.id-index = rw same at c.loop-id-test.false in
     let so_far = rw same at c.loop-id.invariant in
-    all_of h ids c.loop-id.found.items (made_told h c.in_ok-made.made.items c.in_ok-made.ensures ids told) c.in_ok-ids.ensures.rising
+    all_of h ids c.loop-id.found.items (made_told h c.in_ok-made.made.items made ids told) c.in_ok-ids.ensures.rising
     (subst (λ is. AreOf h is c.loop-id.found.items) (take_all c.loop-id.id-index ids past) so_far)

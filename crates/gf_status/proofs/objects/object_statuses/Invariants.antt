@@ -3,4 +3,4 @@ use Rattle.gf_status.proofs.StatusLemmas.{AreOf}
 use Rattle.gf_status.proofs.objects.object_statuses.Given as goal
 
 abbrev pub invariant-loop-id : goal.invariant-loop-id
-invariant-loop-id l = AreOf l.history.ops (take l.id-index l.id-items) l.found.items
+invariant-loop-id l = AreOf l.versions (take l.id-index l.id-items) l.found.items
