@@ -1,5 +1,5 @@
 -- How the operations of the lines grow, and what a refused line says of the text.
-use Rattle.std.proofs.Common.{ℕ, List, [], ◌∷◌, ◌++◌, map, sym, ap, subst, ◌∙◌, append_assoc}
+use Rattle.std.proofs.Common.{◌≡◌, ℕ, List, [], ◌∷◌, ◌++◌, drop, length, map, refl, sym, ap, subst, ◌∙◌, append_assoc}
 use Rattle.std.proofs.lemmas.List.{map-append, append-nil}
 use Rattle.gf_ops.specs.declared.op.OpId.{OpId}
 use Rattle.gf_ops.specs.declared.faults.OpFault.{OpFault}
@@ -14,6 +14,8 @@ use Rattle.gf_replay.specs.Denoting.{Denotes, denotes_op}
 use Rattle.gf_replay.specs.Refusing.{Drops, HasFault, IsAt, IsFault, RefusesText}
 use Rattle.gf_replay.specs.LineSteps.{DropsLine, HasRead, IsLineFault, TakesLine, RefusesLine}
 use Rattle.gf_replay.specs.Waiting.{DenotesWaiting}
+use Rattle.gf_replay.specs.declared.blocks.Reading.{Reading}
+use Rattle.gf_replay.specs.Blocks.{AreFirstReadings, AreOfLines, IsBefore, IsReading}
 use Rattle.gf_replay.proofs.TakingLemmas.{HasTaken-moves, HasTaken-offer, delivers, other_taken, taken_delivery, waiting}
 
 -- one line more is taken
@@ -91,3 +93,44 @@ module _ (bytes : List ℕ) (n : ℕ) (line : List ℕ) (left : List (ℕ × Lis
   RefusesText-line (reading.Line m why) refused = subst (λ k. HasFault bytes k why) (sym refused.0) (record { line = line; at = at_line; fault = at_fault why refused.1 })
   RefusesText-line (reading.Dropped id fault) refused = dropped id fault refused
   RefusesText-line reading.OutOfMemory refused = tt
+
+-- ---- the lines of a block
+
+-- the first line of a block with a reading, and those behind it
+record IsParted (lines : List (ℕ × List ℕ)) (r : Reading) (rs : List Reading) : Type 0 where
+  pub line : ℕ × List ℕ
+  pub others : List (ℕ × List ℕ)
+  pub is : lines ≡ line ∷ others
+  pub reading : IsReading line r
+  pub rest : AreFirstReadings others rs
+
+parted : (lines : List (ℕ × List ℕ)) (r : Reading) (rs : List Reading) → AreFirstReadings lines (r ∷ rs) → IsParted lines r rs
+parted [] r rs first = absurd first
+parted (l ∷ ls) r rs first = record { line = l; others = ls; is = refl; reading = first.0; rest = first.1 }
+
+pub AreOfLines-rest : (r : Reading) (rs : List Reading) → AreOfLines (r ∷ rs) → AreOfLines rs
+AreOfLines-rest r rs block = let p = parted block.lines r rs block.first in record { lines = p.others; first = p.rest }
+
+module _ (text : List ℕ) (r : Reading) (rs : List Reading) (others : List (ℕ × List ℕ)) (x : SiteState) (before : IsBefore text (r ∷ rs) others x) where
+  first_line : IsParted before.lines r rs
+  first_line = parted before.lines r rs before.first
+
+  read_so_far : HasRead text (first_line.line ∷ first_line.others) x
+  read_so_far = subst (λ z. HasRead text z x) first_line.is before.read
+
+  -- what was read first is taken
+  pub IsBefore-line : (y : SiteState) → ((line : ℕ × List ℕ) → IsReading line r → TakesLine line.1 x y) → IsBefore text rs others y
+  IsBefore-line y takes = record {
+    lines = first_line.others;
+    read = HasRead-line text first_line.line.0 first_line.line.1 first_line.others x y read_so_far (takes first_line.line first_line.reading);
+    first = first_line.rest;
+    behind = before.behind ∙ ap (drop (length (r ∷ rs))) first_line.is;
+  }
+
+  -- what was read first is refused
+  pub RefusesText-first : (e : ReadingError) → ((line : ℕ × List ℕ) → IsReading line r → RefusesLine line.0 line.1 x e) → RefusesText text e
+  RefusesText-first e refuses = RefusesText-line text first_line.line.0 first_line.line.1 first_line.others x read_so_far e (refuses first_line.line first_line.reading)
+
+-- with nothing left of a block, the lines behind it are left
+pub HasRead-block : (text : List ℕ) (readings : List Reading) (others : List (ℕ × List ℕ)) (x : SiteState) → length readings ≡ 0 → IsBefore text readings others x → HasRead text others x
+HasRead-block text readings others x none before = subst (λ z. HasRead text z x) (sym (before.behind ∙ ap (λ n. drop n before.lines) none)) before.read

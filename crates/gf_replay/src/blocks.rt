@@ -1,7 +1,7 @@
 //! What the lines of a block read as, found by several threads.
 
 ghost use Rattle.std.specs.Prelude.{◌≡◌, ◌<◌, ◌≤◌, [], IfOk, length, map, slice_index_or, vec_len};
-ghost use Rattle.gf_replay.specs.Blocks.{AreReadings, IsReading, AreFirstReadings};
+ghost use Rattle.gf_replay.specs.Blocks.{AreFirstReadings, AreReadings, IsBlock, IsReading};
 
 use gf_json::{LineError, read_op};
 use gf_ops::Op;
@@ -11,17 +11,44 @@ use std::thread;
 use std::thread::Threads;
 
 /// How many lines a block has at most.
-const BLOCK_LINES: usize = 16_384;
+const BLOCK_LINES: usize = 4_096;
 
 /// How many lines are worth a thread.
 const SHARE_LINES: usize = 256;
 
-/// What a line reads as: the operation that it denotes, or its fault.
-pub(crate) type Reading = Result<Op, LineError>;
+/// What the line of this number reads as: the operation that it denotes, or its fault.
+#[derive(Debug, Drop)]
+pub(crate) struct Reading {
+    pub number: u64,
+    pub op: Result<Op, LineError>,
+}
 
-/// What the first lines read as, in order: a block of them, or all where they are fewer. At most
-/// `workers` threads read them, and one thread reads a few lines.
+/// What some lines read as, in order, and the lines behind them.
+#[derive(Drop)]
+pub(crate) struct Block {
+    pub readings: Vec<Reading>,
+    pub behind: TextLines,
+}
+
+/// Reads a block of lines, or all where they are fewer. At most `workers` threads read them, and one
+/// thread reads a few lines.
 pub(crate) fn read_block<R: Threads + Sync>(
+    rt: &R,
+    alloc: Global,
+    lines: TextLines,
+    workers: u8,
+) -> Result<Block, AllocError>
+    requires { 1 ≤ workers }
+    ensures { IfOk result (λ block. IsBlock lines block.readings.items block.behind) }
+{
+    let mut behind = lines;
+    let readings = read_first(rt, alloc, &behind, workers)?;
+    behind.advance_by(readings.len());
+    Ok(Block { readings, behind })
+}
+
+/// What the lines of the first block read as.
+fn read_first<R: Threads + Sync>(
     rt: &R,
     alloc: Global,
     lines: &TextLines,
@@ -52,7 +79,10 @@ fn unread(alloc: Global, count: usize) -> Result<Vec<Reading>, AllocError>
 {
     let mut readings = Vec::with_capacity(alloc, count)?;
     for _ in 0..count {
-        readings.push(Err(LineError::OutOfMemory))?;
+        readings.push(Reading {
+            number: 0,
+            op: Err(LineError::OutOfMemory),
+        })?;
     }
     Ok(readings)
 }
@@ -61,13 +91,13 @@ fn unread(alloc: Global, count: usize) -> Result<Vec<Reading>, AllocError>
 fn read_each<R: Threads + Sync>(
     rt: &R,
     alloc: Global,
-    lines: &[&[u8]],
+    lines: &[(u64, &[u8])],
     readings: &mut [Reading],
     threads: usize,
 )
     requires threads { 1 ≤ threads }
     requires places { length readings.old ≡ length lines.now }
-    ensures { AreReadings (map (λ line. line.now) lines.now) readings.new }
+    ensures { AreReadings (map (λ line. (line.0, line.1.now)) lines.now) readings.new }
 {
     thread::for_each_mut(
         rt,
@@ -75,9 +105,14 @@ fn read_each<R: Threads + Sync>(
         threads,
         &|i: usize, reading: &mut Reading|
             requires { i < length lines.now }
-            ensures { (d : _) → IsReading (slice_index_or lines.entry.now i d).now reading.new }
+            ensures { (d : _) → let line = slice_index_or lines.entry.now i d in
+                IsReading (line.0, line.1.now) reading.new }
         {
-            *reading = read_op(alloc, lines[i]);
+            let (number, line) = lines[i];
+            *reading = Reading {
+                number,
+                op: read_op(alloc, line),
+            };
         },
     );
 }

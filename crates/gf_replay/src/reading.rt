@@ -1,19 +1,21 @@
 //! From the lines of a text to a site.
 
-ghost use Rattle.std.specs.Prelude.{◌≡◌, ◌+◌, ◌≤◌, List, ℕ, IfOk, IfErr, OnOk, length, vec_len};
+ghost use Rattle.std.specs.Prelude.{◌≡◌, ◌≤◌, List, ℕ, IfOk, IfErr, OnOk};
+ghost use denote.Param.Send.{IsSync};
 ghost use Rattle.gf_ops.specs.Limits.{IsInRange};
 ghost use Rattle.gf_ops.specs.OperationOrder.{IsSite};
-ghost use Rattle.gf_replay.specs.Blocks.{AreFirstReadings, IsReading};
+ghost use Rattle.gf_replay.specs.Blocks.{AreOfLines, IsBefore, IsBlock, IsReading, TakesBlock};
 ghost use Rattle.gf_replay.specs.Denoting.{Denotes};
 ghost use Rattle.gf_replay.specs.Refusing.{RefusesText};
 ghost use Rattle.gf_replay.specs.Waiting.{DenotesWaiting};
 ghost use Rattle.gf_replay.specs.LineSteps.{HasRead, RefusesLine, TakesLine};
 
-use crate::blocks::{Reading, read_block};
+use crate::blocks::{Block, Reading, read_block};
 use crate::{ReadingError, line_refusal, take_op};
 use gf_site::{Replica, Site, Table};
 use gf_streams::TextLines;
-use std::alloc::Global;
+use std::alloc::{AllocError, Global};
+use std::thread;
 use std::thread::Threads;
 
 /// A site whose history is that of the operations that the lines of a text denote, with the table
@@ -51,59 +53,91 @@ pub fn read_replica<R: Threads + Sync, T: Table>(
     ensures err { IfErr result (RefusesText text.items) }
 {
     let mut site = Replica::new(alloc, number);
-    let mut lines = TextLines::new(text);
-    loop {
-        let Ok(readings) = read_block(rt, alloc, &lines, workers) else {
-            return Err(ReadingError::OutOfMemory);
-        };
-        if readings.is_empty() {
-            break;
-        }
-        take_block(&mut site, &mut lines, readings)?;
+    let Ok(mut block) = read_block(rt, alloc, TextLines::new(text), workers) else {
+        return Err(ReadingError::OutOfMemory);
+    };
+    while !block.readings.is_empty() {
+        let next = take_and_read(rt, alloc, site, block, workers)?;
+        site = next.0;
+        block = next.1;
     }
     // The clause of `held` says that the held ids rise.
     let _ = site.held();
     Ok(site)
 }
 
-/// Takes what the first lines read as, in order, and goes on to the lines behind them.
-fn take_block<T: Table>(
-    site: &mut Replica<T>,
-    lines: &mut TextLines,
-    readings: Vec<Reading>,
-) -> Result<(), ReadingError>
-    requires { AreFirstReadings lines.old readings.items }
-    ensures ok { (text : List ℕ) → HasRead text lines.old site.old →
-        OnOk result (HasRead text lines.new site.new) }
-    ensures number { OnOk result (site.new.number ≡ site.old.number) }
-    ensures left { OnOk result (length lines.new + vec_len readings ≤ length lines.old) }
-    ensures err { (text : List ℕ) → HasRead text lines.old site.old →
-        IfErr result (RefusesText text) }
+/// Takes what the lines of a block read as, and reads the next block. With several workers one
+/// takes, while the others read.
+fn take_and_read<R: Threads + Sync, T: Table>(
+    rt: &R,
+    alloc: Global,
+    site: Replica<T>,
+    block: Block,
+    workers: u8,
+) -> Result<(Replica<T>, Block), ReadingError>
+    requires workers { 1 ≤ workers }
+    requires block { AreOfLines block.readings.items }
+    ensures ok { (text : List ℕ) → IsBefore text block.readings.items block.behind site
+        → IfOk result (λ next. HasRead text block.behind next.0) }
+    ensures number { IfOk result (λ next. next.0.number ≡ site.number) }
+    ensures block { IfOk result (λ next.
+        IsBlock block.behind next.1.readings.items next.1.behind) }
+    ensures err { (text : List ℕ) → IsBefore text block.readings.items block.behind site
+        → IfErr result (RefusesText text) }
 {
-    for reading in readings {
-        let Some((number, _)) = lines.first() else {
-            unreachable!()
+    let Block { readings, behind } = block;
+    if workers == 1 {
+        let site = take_block(site, readings)?;
+        return match read_block(rt, alloc, behind, 1) {
+            Ok(block) => Ok((site, block)),
+            Err(_) => Err(ReadingError::OutOfMemory),
         };
-        take_reading(site, number, reading)?;
-        lines.advance();
     }
-    Ok(())
+    let readers = workers - 1;
+    let (next, taken) = thread::join(
+        rt,
+        move || -> Result<Block, AllocError>
+            requires { IsSync R.row × (1 ≤ readers) }
+            ensures { IfOk result (λ block. IsBlock behind block.readings.items block.behind) }
+        { read_block(rt, alloc, behind, readers) },
+        move || -> Result<Replica<T>, ReadingError>
+            requires { AreOfLines readings.items }
+            ensures { TakesBlock readings.items site result }
+        { take_block(site, readings) },
+    );
+    let site = taken?;
+    match next {
+        Ok(block) => Ok((site, block)),
+        Err(_) => Err(ReadingError::OutOfMemory),
+    }
 }
 
-/// Takes what the line of this number reads as.
-fn take_reading<T: Table>(
-    site: &mut Replica<T>,
-    number: u64,
-    reading: Reading,
-) -> Result<(), ReadingError>
-    requires { IfOk reading (λ op. IsInRange op) }
-    ensures ok { (line : List ℕ) → IsReading line reading →
-        OnOk result (TakesLine line site.old site.new) }
-    ensures number { OnOk result (site.new.number ≡ site.old.number) }
-    ensures err { (line : List ℕ) → IsReading line reading →
-        IfErr result (RefusesLine number line site.old) }
+/// Takes what the lines of a block read as, in order.
+fn take_block<T: Table>(
+    site: Replica<T>,
+    readings: Vec<Reading>,
+) -> Result<Replica<T>, ReadingError>
+    requires { AreOfLines readings.items }
+    ensures { TakesBlock readings.items site result }
 {
-    match reading {
+    let mut site = site;
+    for reading in readings {
+        take_reading(&mut site, reading)?;
+    }
+    Ok(site)
+}
+
+/// Takes what a line reads as.
+fn take_reading<T: Table>(site: &mut Replica<T>, reading: Reading) -> Result<(), ReadingError>
+    requires { IfOk reading.op (λ op. IsInRange op) }
+    ensures ok { (line : ℕ × List ℕ) → IsReading line reading →
+        OnOk result (TakesLine line.1 site.old site.new) }
+    ensures number { OnOk result (site.new.number ≡ site.old.number) }
+    ensures err { (line : ℕ × List ℕ) → IsReading line reading →
+        IfErr result (RefusesLine line.0 line.1 site.old) }
+{
+    let Reading { number, op } = reading;
+    match op {
         Ok(op) => take_op(site, number, op),
         Err(fault) => Err(line_refusal(number, fault)),
     }

@@ -18,7 +18,7 @@ use Rattle.gf_rivals.specs.Chains.{no_chains, chain_of, setters, with_setter, wi
 at_itself : (k : ℕ) → is_at (nat_cmp k) k ≡ true
 at_itself k = ap is_eq (tied_itself nat_cmp_total k)
 
-at_other : (k j : ℕ) → k ≢ j → is_at (nat_cmp k) j ≡ false
+pub at_other : (k j : ℕ) → k ≢ j → is_at (nat_cmp k) j ≡ false
 at_other k j n = elim (cases_Bool (is_at (nat_cmp k) j)) [
   | inl y ↦ absurd (n (exact_unsigned k j ((Equal-is (nat_cmp k j)).0 y)))
   | inr f ↦ f

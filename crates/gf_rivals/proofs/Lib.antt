@@ -5,6 +5,7 @@ pub mod RivalLemmas
 pub mod LongerLemmas
 pub mod ChainLemmas
 pub mod KeptLemmas
+pub mod CountedLemmas
 pub mod FingerprintLemmas
 pub mod IndexLemmas
 pub mod GivingLemmas

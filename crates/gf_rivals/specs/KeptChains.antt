@@ -1,12 +1,16 @@
 -- The chains that are kept, and the list of all chains that they are seen as. No public clause
 -- cites this module.
-use Rattle.std.specs.Prelude.{◌≡◌, ℕ, zero, suc, ◌≤◌, List, [], ◌∷◌, cond, None}
+use Rattle.std.specs.Prelude.{◌≡◌, ℕ, zero, suc, ◌+◌, ◌<◌, ◌≤◌, List, [], ◌∷◌, cond, None, slice_get}
 use Rattle.std.specs.Prelude.{Some, unwrap_or}
 use Rattle.std.specs.BTreeMap.{is_at}
 use Rattle.std.specs.Map.{lookup}
 use Rattle.std.specs.Ordering.{nat_cmp}
+use Rattle.gf_ops.specs.declared.change.Attr.{Attr}
+use Rattle.gf_ops.specs.declared.op.Clock.{Clock}
+use Rattle.gf_ops.specs.OperationOrder.{entry}
 use Rattle.gf_rivals.specs.declared.chain.Setter.{Setter}
 use Rattle.gf_rivals.specs.declared.chains.TheConstants.{CHAINS}
+use Rattle.gf_rivals.specs.Chains.{setters}
 
 -- chains by their indices, in their order
 abbrev pub Kept : Type 0
@@ -38,3 +42,13 @@ PutsChain old k ss new = (j : ℕ) → lookup (is_at (nat_cmp j)) new
 abbrev pub KeepsChains : Kept → Kept → Type 0
 KeepsChains old new = (j : ℕ) → lookup (is_at (nat_cmp j)) new
     ≡ lookup (is_at (nat_cmp j)) old
+
+-- each setter of new is one of old, at its place
+abbrev pub KeepsNoOthers : Kept → Kept → Type 0
+KeepsNoOthers old new = (k p : ℕ) (e : Setter) → slice_get (chain_at new k) p ≡ Some e
+    → slice_get (chain_at old k) p ≡ Some e
+
+-- no setter of a site has a greater number than the clock's entry
+abbrev pub AreCounted : Clock → List (List Setter) → Type 0
+AreCounted latest cs = (t : Attr) (s p : ℕ) (e : Setter) → s < 8
+    → slice_get (setters cs t s) p ≡ Some e → e.seq ≤ entry latest (s + 1)

@@ -115,7 +115,9 @@ impl Chain {
 
     /// Takes the last setter away, if there is one.
     pub fn pop(&mut self)
-        ensures { (us : _) (e : _) → self.old ≡ us ++ e ∷ [] → self.new ≡ us }
+        ensures last { (us : _) (e : _) → self.old ≡ us ++ e ∷ [] → self.new ≡ us }
+        ensures rest { (p : _) (e : _) → slice_get self.new p ≡ Some e
+            → slice_get self.old p ≡ Some e }
     {
         self.setters.pop();
     }

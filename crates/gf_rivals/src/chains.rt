@@ -1,11 +1,13 @@
 //! The setters of an object, by attribute and site.
 
-ghost use Rattle.std.specs.Prelude.{◌≡◌, ◌↔◌, ◌⊎◌, ◌+◌, ◌-◌, ◌*◌, ◌^◌, ◌<◌, ◌++◌, ◌∷◌, []};
+ghost use Rattle.std.specs.Prelude.{◌≡◌, ◌↔◌, ◌⊎◌, ◌+◌, ◌-◌, ◌*◌, ◌^◌, ◌<◌, ◌≤◌, ◌++◌};
+ghost use Rattle.std.specs.Prelude.{◌∷◌, []};
 ghost use Rattle.std.specs.Prelude.{Contains, IfOk, IfSome, OnOk, OnErr, length, slice_index_or};
 ghost use Rattle.std.specs.Prelude.{Some, option_copied, unwrap_or};
 ghost use Rattle.gf_rivals.specs.Members.{IsFirstUnknown};
 ghost use Rattle.gf_rivals.specs.Naming.{IsSetterNumber};
-ghost use Rattle.gf_ops.specs.OperationOrder.{IsSite};
+ghost use Rattle.gf_ops.specs.OperationOrder.{IsSite, entry};
+ghost use Rattle.gf_ops.specs.ValidHistory.{IsWithin};
 ghost use Rattle.gf_rivals.specs.Setters.{block, IsNumberAbove};
 ghost use Rattle.gf_rivals.specs.Chains.{rank, chain_of, setters, no_chains, position_of};
 ghost use Rattle.gf_rivals.specs.Chains.{with_setter, with_chain, IsUnknown};
@@ -34,19 +36,22 @@ pub const FIRST_ABOVE: usize = CHAINS * BLOCK;
 #[derive(Debug, Drop)]
 pub struct Chains {
     chains: KeptChains,
+    // No setter of a site has a greater number than its entry here.
+    latest: Clock,
 }
 
 impl Model for Chains {
     ghost use Rattle.std.specs.Prelude.{List};
     ghost use Rattle.gf_rivals.specs.declared.chain.Setter.{Setter as SetterState};
-    ghost use Rattle.gf_rivals.specs.KeptChains.{all_chains, AreBelow};
+    ghost use Rattle.gf_rivals.specs.KeptChains.{all_chains, AreBelow, AreCounted};
     ghost use Rattle.gf_rivals.specs.declared.chains.TheConstants.{CHAINS};
 
     ghost Value = { List (List SetterState) };
 
     ghost view = { λ c. all_chains c.chains.entries };
 
-    ghost invariant = { λ c. AreBelow CHAINS c.chains.entries };
+    ghost invariant = { λ c. AreBelow CHAINS c.chains.entries
+        × AreCounted c.latest (all_chains c.chains.entries) };
 }
 
 /// The index of an attribute.
@@ -73,6 +78,20 @@ fn index_of(attribute: Attr, site: u8) -> usize
     rank(attribute) * 8 + (usize::from(site) - 1)
 }
 
+/// The clock, which counts the operation under this id too.
+fn counting(clock: Clock, id: OpId) -> Clock
+    requires { IsSite id.site }
+    ensures within { IsWithin clock result }
+    ensures own { id.seq ≤ entry result id.site }
+{
+    let mut clock = clock;
+    let site = usize::from(id.site) - 1;
+    if clock.0[site] < id.seq {
+        clock.0[site] = id.seq;
+    }
+    clock
+}
+
 impl Chains {
     /// The chains of no setter.
     pub fn new(alloc: Global) -> Chains
@@ -80,6 +99,7 @@ impl Chains {
     {
         Chains {
             chains: BTreeMap::new(alloc),
+            latest: Clock([0; 8]),
         }
     }
 
@@ -89,6 +109,7 @@ impl Chains {
     {
         Ok(Chains {
             chains: copied(alloc, &self.chains)?,
+            latest: self.latest,
         })
     }
 
@@ -123,7 +144,8 @@ impl Chains {
         found.united(alloc, &more)
     }
 
-    /// The numbers of the setters of the attribute that the clock does not count.
+    /// The numbers of the setters of the attribute that the clock does not count. A clock that
+    /// counts all setters is compared once.
     pub fn unknown(
         &self,
         alloc: Global,
@@ -133,6 +155,9 @@ impl Chains {
         ensures { IfOk result (λ found. (n : _)
             → Contains found n ↔ IsUnknown self.now attribute past.now 8 n) }
     {
+        if self.latest.is_within(past) {
+            return Ok(Numbers::new(alloc));
+        }
         let first = rank(attribute) * 8;
         let mut found = Numbers::new(alloc);
         for site in 0..8 {
@@ -209,6 +234,7 @@ impl Chains {
         ensures err { OnErr result (self.new ≡ self.old) }
     {
         let index = index_of(attribute, id.site);
+        self.latest = counting(self.latest, id);
         push_to(alloc, &mut self.chains, index, id.seq, position)
     }
 

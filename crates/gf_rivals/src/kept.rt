@@ -5,6 +5,7 @@ ghost use Rattle.std.specs.Prelude.{length, slice_index_or};
 ghost use Rattle.std.specs.BTreeMap.{insert_entry};
 ghost use Rattle.std.specs.Ordering.{nat_cmp};
 ghost use Rattle.gf_rivals.specs.KeptChains.{chain_at, AreBelow, PutsChain, KeepsChains};
+ghost use Rattle.gf_rivals.specs.KeptChains.{KeepsNoOthers};
 
 use crate::chain::Chain;
 use gf_shape::OutOfMemory;
@@ -55,6 +56,7 @@ pub(crate) fn pop_from(chains: &mut KeptChains, index: usize)
     ensures popped { (us : _) (e : _) → chain_at chains.old.entries index ≡ us ++ e ∷ []
         → PutsChain chains.old.entries index us chains.new.entries }
     ensures below { (n : _) → AreBelow n chains.old.entries → AreBelow n chains.new.entries }
+    ensures rest { KeepsNoOthers chains.old.entries chains.new.entries }
 {
     if let Some(chain) = chains.get_mut(&index) {
         chain.pop();

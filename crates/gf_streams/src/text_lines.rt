@@ -67,10 +67,10 @@ impl TextLines {
         Some((self.next.number, &left[..self.next.size]))
     }
 
-    /// The first `most` lines, or all where they are fewer, without their numbers.
-    pub fn block(&self, alloc: Global, most: usize) -> Result<Vec<&[u8]>, AllocError>
+    /// The first `most` lines, or all where they are fewer, each with its number.
+    pub fn block(&self, alloc: Global, most: usize) -> Result<Vec<(u64, &[u8])>, AllocError>
         ensures { IfOk result (λ block.
-            map (λ line. line.now) block.items ≡ map (λ line. line.1) (take most self.now)) }
+            map (λ line. (line.0, line.1.now)) block.items ≡ take most self.now) }
     {
         first_lines(alloc, &self.text[self.next.start..], self.next.number, most)
     }
@@ -92,6 +92,15 @@ impl TextLines {
         self.forget_given();
     }
 
+    /// Goes on to the line behind the first `count`.
+    pub fn advance_by(&mut self, count: usize)
+        ensures { self.new ≡ drop count self.old }
+    {
+        for _ in 0..count {
+            self.advance();
+        }
+    }
+
     /// Gives back the memory of what was given, once that is as much as what is left. No more bytes
     /// are moved in all than the text has.
     fn forget_given(&mut self)
@@ -102,7 +111,9 @@ impl TextLines {
         if given < FORGOTTEN_BYTES || given < left {
             return;
         }
-        drop(self.text.drain(..given));
+        let (front, back) = self.text.split_at_mut(given);
+        front[..left].copy_from_slice(back);
+        self.text.truncate(left);
         self.text.shrink_to_fit();
         self.next.start = 0;
     }
@@ -174,10 +185,10 @@ fn first_lines(
     text: &[u8],
     number: u64,
     most: usize,
-) -> Result<Vec<&[u8]>, AllocError>
+) -> Result<Vec<(u64, &[u8])>, AllocError>
     requires { number + length text.now < 2 ^ 64 }
-    ensures { IfOk result (λ block. map (λ line. line.now) block.items
-        ≡ map (λ line. line.1) (take most (numbered_from number text.now))) }
+    ensures { IfOk result (λ block. map (λ line. (line.0, line.1.now)) block.items
+        ≡ take most (numbered_from number text.now)) }
 {
     let mut block = Vec::new(alloc);
     let mut left = text;
@@ -186,7 +197,7 @@ fn first_lines(
         let Some(next) = next_line(left, number) else {
             break;
         };
-        block.push(next.line)?;
+        block.push((next.number, next.line))?;
         left = behind(next.from, next.line.len());
         number = next.number + 1;
     }

@@ -164,7 +164,8 @@ fn an_input_may_have_many_lines(rt: HostRuntime) -> Result<(), Fail> {
     Ok(())
 }
 
-/// What a run by this many workers answers to this many red boxes, a blank line and a brace.
+/// What a run by this many workers answers to this many red boxes, a blank line and a brace, and to
+/// all of these lines once more.
 fn answer_of_boxes<T: Threads + Sync>(
     rt: &T,
     alloc: Global,
@@ -172,11 +173,13 @@ fn answer_of_boxes<T: Threads + Sync>(
     workers: u8,
 ) -> Result<String, Fail> {
     let mut input = Vec::new(alloc);
-    for _ in 0..boxes {
-        input.extend_from_slice(RED_BOX.as_bytes())?;
-        input.push(b'\n')?;
+    for _ in 0..2 {
+        for _ in 0..boxes {
+            input.extend_from_slice(RED_BOX.as_bytes())?;
+            input.push(b'\n')?;
+        }
+        input.extend_from_slice(b"\n{\n")?;
     }
-    input.extend_from_slice(b"\n{\n")?;
     let mut sink = Tape::new(alloc, None);
     let workers = workers.clamp(1, 16);
     let result = fig_run(rt, alloc, &mut Reel::new(&input, None), &mut sink, workers);
@@ -185,13 +188,16 @@ fn answer_of_boxes<T: Threads + Sync>(
 
 #[test]
 fn lines_between_blocks_keep_their_numbers(rt: HostRuntime) -> Result<(), Fail> {
-    // A block has 16,384 lines, and 256 are worth a thread.
+    // A block has 4,096 lines, and 256 are worth a thread. The next block is read meanwhile.
     for (boxes, workers, want) in [
         (255, 1, "Err(Line(257, Json))"),
         (255, 16, "Err(Line(257, Json))"),
         (256, 16, "Err(Line(258, Json))"),
         (700, 3, "Err(Line(702, Json))"),
-        (16_384, 4, "Err(Line(16386, Json))"),
+        (4_095, 4, "Err(Line(4097, Json))"),
+        (4_096, 4, "Err(Line(4098, Json))"),
+        (9_000, 1, "Err(Line(9002, Json))"),
+        (9_000, 2, "Err(Line(9002, Json))"),
     ] {
         let answer = answer_of_boxes(&rt, rt.alloc(), boxes, workers)?;
         assert_eq!(rt; answer.as_str(), want, "of {boxes} by {workers}");

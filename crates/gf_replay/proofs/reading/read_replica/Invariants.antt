@@ -1,9 +1,13 @@
-use Rattle.std.proofs.Common.{◌≡◌, length}
-use Rattle.gf_replay.specs.LineSteps.{HasRead}
+use Rattle.std.proofs.Common.{◌≡◌, ◌+◌, [], length}
+use Rattle.gf_replay.specs.Blocks.{IsBefore}
 use Rattle.gf_replay.proofs.reading.read_replica.Given as goal
 
-abbrev pub invariant-loop-readings : goal.invariant-loop-readings
-invariant-loop-readings g l = HasRead l.fn.text.items l.lines l.site × (l.site.number ≡ l.fn.number)
+abbrev pub invariant-loop-alloc : goal.invariant-loop-alloc
+invariant-loop-alloc g l = record {
+  before : IsBefore l.fn.text.items l.block.readings.items l.block.behind l.site;
+  none : length l.block.readings.items ≡ 0 → l.block.behind ≡ [];
+  number : l.site.number ≡ l.fn.number;
+}
 
-abbrev pub decreases-loop-readings : goal.decreases-loop-readings
-decreases-loop-readings g l = length l.lines
+abbrev pub decreases-loop-alloc : goal.decreases-loop-alloc
+decreases-loop-alloc g l = length l.block.behind + length l.block.readings.items

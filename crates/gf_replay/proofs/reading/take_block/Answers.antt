@@ -1,31 +1,38 @@
-use Rattle.std.proofs.Common.{◌∙◌, ap, arith, length, subst, sym}
+use Rattle.std.proofs.Common.{◌≡◌, ◌∙◌, length, rules, subst, sym}
+use Rattle.std.specs.Vec.Iter.{into_iter_items}
 use Rattle.std.proofs.lemmas.Result.{err_from_is_err_and}
 use Rattle.gf_replay.specs.LineSteps.{RefusesLine}
-use Rattle.gf_replay.proofs.ReadingLemmas.{HasRead-line, RefusesText-line}
+use Rattle.gf_replay.proofs.ReadingLemmas.{AreOfLines-rest, HasRead-block, IsBefore-line, RefusesText-first}
 use Rattle.gf_replay.proofs.reading.take_block.Goals as goal
-
-pub returns-in_err-take_reading-clause-err : goal.returns-in_err-take_reading-clause-err
-returns-in_err-take_reading-clause-err g c = λ text read.
-    let p = err_from_is_err_and c.from_residual.result c.from_residual.ensures.1 in
-    let lines = c.in-Some-first.ensures.some in
-    let reads = rw (lines, c.in-Some.ensures.steps.0) at c.loop-reading.invariant.readings in
-    rw p.1 (RefusesText-line text _ _ _ _ (rw lines at c.loop-reading.invariant.read text read) _
-    (subst (λ e. RefusesLine c.in-Some-first.number c.in-Some-first.field-0-1.now c.loop-reading.site e) (sym p.2)
-    (c.in_err-take_reading.ensures.err c.in-Some-first.field-0-1.now reads.0)))
 
 pub loop-reading-preserved : goal.loop-reading-preserved
 loop-reading-preserved g c =
-    let lines = c.in-Some-first.ensures.some in
     let steps = c.in-Some.ensures.steps.0 in
-    let reads = rw (lines, steps) at c.loop-reading.invariant.readings in
     record {
-      readings = rw c.advance.ensures reads.1;
-      read = λ text read.
-          rw c.advance.ensures (HasRead-line text _ _ _ _ _ (rw lines at c.loop-reading.invariant.read text read)
-          (c.in_ok-take_reading.ensures.ok c.in-Some-first.field-0-1.now reads.0));
+      block = AreOfLines-rest c.in-Some.reading _ (rw steps at c.loop-reading.invariant.block);
+      before = λ text others whole.
+          IsBefore-line text c.in-Some.reading _ others c.loop-reading.site (rw steps at c.loop-reading.invariant.before text others whole)
+          c.take_reading.new.site c.in_ok-take_reading.ensures.ok;
       number = c.in_ok-take_reading.ensures.number ∙ c.loop-reading.invariant.number;
-      left =
-          let shorter = ap length lines in
-          let fewer = ap length steps in
-          rw c.advance.ensures (omega (arith, shorter, fewer, c.loop-reading.invariant.left));
     }
+
+pub returns-in_err-take_reading : goal.returns-in_err-take_reading
+returns-in_err-take_reading g c =
+    let steps = c.in-Some.ensures.steps.0 in
+    let p = err_from_is_err_and c.from_residual.result c.from_residual.ensures.1 in
+    rw p.1 (record {
+      ok = λ text others whole. tt;
+      number = tt;
+      err = λ text others whole.
+          RefusesText-first text c.in-Some.reading _ others c.loop-reading.site (rw steps at c.loop-reading.invariant.before text others whole) _
+          (λ line reads. subst (λ e. RefusesLine line.0 line.1 c.loop-reading.site e) (sym p.2) (c.in_err-take_reading.ensures.err line reads));
+    })
+
+pub returns : goal.returns
+returns g c = record {
+  ok = λ text others whole.
+      let none : length (into_iter_items c.loop-reading.reading-iterator) ≡ 0 = search rules in
+      HasRead-block text _ others c.loop-reading.site none (c.loop-reading.invariant.before text others whole);
+  number = c.loop-reading.invariant.number;
+  err = λ text others whole. tt;
+}

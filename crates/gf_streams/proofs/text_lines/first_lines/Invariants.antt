@@ -5,9 +5,9 @@ use Rattle.gf_streams.proofs.text_lines.first_lines.Given as goal
 -- the lines so far, with the first of what is left, are the first of all
 abbrev pub invariant-loop-left : goal.invariant-loop-left
 invariant-loop-left l = record {
-  lines : map (λ line. line.now) l.block.items
-      ++ map (λ line. line.1) (take (l.most - vec_len l.block) (numbered_from l.number l.left))
-      ≡ map (λ line. line.1) (take l.most (numbered_from l.fn.number l.fn.text));
+  lines : map (λ line. (line.0, line.1.now)) l.block.items
+      ++ take (l.most - vec_len l.block) (numbered_from l.number l.left)
+      ≡ take l.most (numbered_from l.fn.number l.fn.text);
   within : vec_len l.block ≤ l.most;
   few : l.number + length l.left < 2 ^ 64;
 }
