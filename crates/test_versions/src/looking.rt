@@ -1,15 +1,13 @@
-//! Commands that query versions: all of an object, the one on top at a point, and aims at it.
+//! Commands that query versions: all of an object, and the one on top at a point.
 
 use gf_groups::GroupFault;
-use gf_inspect::{
-    VersionName, aimed_at, lines, top_at, top_at_with, top_line, versions, versions_with,
-};
-use gf_ops::{Change, ObjectId};
+use gf_inspect::{VersionName, lines, top_at, top_at_with, top_line, versions, versions_with};
+use gf_ops::ObjectId;
 use gf_shape::Point;
 use gf_site::Site;
 use gf_versions::Version;
 use std::alloc::Global;
-use test_kit::notation::{change, id, point, yes};
+use test_kit::notation::{id, point};
 
 /// The versions of an object, by the table.
 pub(crate) fn all(alloc: Global, site: &Site, text: &str) -> Option<String> {
@@ -56,17 +54,4 @@ pub(crate) fn plain_top(alloc: Global, site: &Site, text: &str) -> Option<String
 fn line_of(alloc: Global, point: Point, name: Option<VersionName>) -> Option<String> {
     let text = String::from_utf8(top_line(alloc, point, name.as_ref()).ok()?).ok()?;
     String::from_str(alloc, text.trim()).ok()
-}
-
-/// Of `10,10: 1.1 layer 7 aim 1.1 1.2`, whether a value aimed at the point makes this change.
-pub(crate) fn aimed(alloc: Global, site: &Site, text: &str) -> Option<String> {
-    let (place, what) = text.split_once(": ")?;
-    let Change::Set { value, .. } = change(alloc, what)? else {
-        return None;
-    };
-    let found = aimed_at(alloc, site.history(), point(place)?, value).ok()?;
-    match found {
-        Some(found) => String::from_str(alloc, yes(found == change(alloc, what)?)).ok(),
-        None => String::from_str(alloc, "none").ok(),
-    }
 }

@@ -2,15 +2,17 @@
 
 ghost use Rattle.std.specs.Prelude.{◌≤◌, IfSome};
 
-use gf_drawing::{CompileFault, Drawing, compile};
-use gf_groups::{Group, GroupFault, Groups, groups_of, is_made};
+use crate::version_commands::text_of;
+use gf_drawing::compile;
+use gf_figures::Drawing;
+use gf_groups::{GroupFault, Groups, groups_of, is_made};
 use gf_ops::ObjectId;
 use gf_shape::AnyShape;
 use gf_site::Site;
 use gf_versions::Ranked;
 use gf_visible::{ranked_with, ranked_within, visible_groups};
 use std::alloc::Global;
-use test_kit::notation::{id, push_ids};
+use test_kit::notation::id;
 
 /// The groups of an object, by the table.
 pub(crate) fn groups(alloc: Global, site: &Site, text: &str) -> Option<String> {
@@ -39,18 +41,9 @@ pub(crate) fn copied(alloc: Global, site: &Site, text: &str) -> Option<String> {
 
 fn told(alloc: Global, groups: Result<Groups, GroupFault>) -> Option<String> {
     match groups {
-        Ok(groups) => text_of(alloc, groups.as_slice()),
+        Ok(groups) => text_of(alloc, &groups),
         Err(fault) => format!(in alloc; "{fault}").ok(),
     }
-}
-
-/// Each group in brackets, by the ids of its operations.
-fn text_of(alloc: Global, groups: &[Group]) -> Option<String> {
-    let mut text = String::new(alloc);
-    for group in groups {
-        push_ids(alloc, &mut text, group.ops.as_slice())?;
-    }
-    Some(text)
 }
 
 /// How many visible versions an object has, as `1.1 within 4`, or that they are more.

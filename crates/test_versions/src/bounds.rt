@@ -1,6 +1,6 @@
 //! Visible versions within a bound, of objects that have far more versions.
 
-use crate::script::answers;
+use crate::table_script::answers;
 use std::test::Fail;
 
 const ROWS: &str = "

@@ -1,6 +1,6 @@
 //! The groups that a table lists after each operation, by hand from the rules of conflicts.
 
-use crate::script::answers;
+use crate::table_script::answers;
 use std::test::Fail;
 
 const ROWS: &str = "

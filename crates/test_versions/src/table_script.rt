@@ -1,6 +1,6 @@
-//! The commands of the tables, each with what it acts on.
+//! The commands of tables that act on a site, which has a table of versions.
 
-use crate::{commands, looking, rounds};
+use crate::{looking, rounds, table_commands, version_commands};
 use gf_site::Site;
 use std::alloc::Global;
 use std::test::Fail;
@@ -59,18 +59,18 @@ fn said(alloc: Global, done: Option<()>) -> Option<String> {
 /// The answer to a command that changes nothing.
 fn told_of(alloc: Global, site: &Site, verb: &str, text: &str) -> Option<String> {
     match verb {
-        "groups" => commands::groups(alloc, site, text),
-        "plain" => commands::plain_groups(alloc, site, text),
-        "plain_count" => commands::plain_count(alloc, site, text),
-        "copied" => commands::copied(alloc, site, text),
-        "visible" => commands::visible(alloc, site, text),
-        "ranked" => commands::ranking(alloc, site, text),
-        "total" => commands::total(alloc, site),
-        "drawn" => commands::drawn(alloc, site, text),
+        "groups" => table_commands::groups(alloc, site, text),
+        "plain" => table_commands::plain_groups(alloc, site, text),
+        "plain_count" => table_commands::plain_count(alloc, site, text),
+        "copied" => table_commands::copied(alloc, site, text),
+        "visible" => table_commands::visible(alloc, site, text),
+        "ranked" => table_commands::ranking(alloc, site, text),
+        "total" => table_commands::total(alloc, site),
+        "drawn" => table_commands::drawn(alloc, site, text),
         "versions" => looking::all(alloc, site, text),
         "plain_versions" => looking::plain_all(alloc, site, text),
         "top" => looking::top(alloc, site, text),
-        "aimed" => looking::aimed(alloc, site, text),
+        "aimed" => version_commands::aimed(alloc, site.history(), text),
         "plain_top" => looking::plain_top(alloc, site, text),
         _ => None,
     }

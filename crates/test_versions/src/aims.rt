@@ -1,7 +1,7 @@
 //! The groups that a table lists where operations aim at others, and which versions are visible.
 //! The answers are worked out by hand from the rules of conflicts.
 
-use crate::script::answers;
+use crate::table_script::answers;
 use std::test::Fail;
 
 const ROWS: &str = "

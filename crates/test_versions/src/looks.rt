@@ -1,6 +1,6 @@
 //! Queries of versions, by the table and by the plain calls.
 
-use crate::script::answers;
+use crate::table_script::answers;
 use std::test::Fail;
 
 const ROWS: &str = "

@@ -1,15 +1,14 @@
 //! All histories of at most four changes of a box by two sites, in each order that they may have.
 //! The groups that a table lists are compared with the plain ones.
 
-use crate::commands::{groups, plain_groups};
 use crate::rounds::add;
+use crate::small_histories::BOX;
+use crate::table_commands::{groups, plain_groups};
 use gf_ops::{Form, History, Op, OpId, Value};
 use gf_site::Site;
 use std::alloc::Global;
 use std::test::Fail;
 use test_kit::{BLUE, GREEN, changed, create};
-
-pub(crate) const BOX: OpId = OpId { site: 1, seq: 1 };
 
 /// A colour or a layer.
 pub(crate) fn value(code: u32) -> Value {

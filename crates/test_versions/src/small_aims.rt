@@ -2,7 +2,8 @@
 //! groups that a table lists are compared with the plain ones.
 
 use crate::rounds::add;
-use crate::small_histories::{BOX, agrees, value};
+use crate::small_histories::{BOX, holds};
+use crate::small_tables::{agrees, value};
 use gf_ops::{Change, Clock, Form, History, Ids, ObjectId, Op, OpId};
 use gf_site::Site;
 use std::alloc::Global;
@@ -14,11 +15,6 @@ const CODES: u32 = 384;
 
 /// The codes of a blue by site 1 and a green by site 2, neither of which knows the other.
 const TWO_COLOURS: [u32; 2] = [0, 11];
-
-/// Whether the set has the operation with this index.
-fn holds(set: u32, index: usize) -> bool {
-    (set >> (index % 32)) & 1 == 1
-}
 
 /// The ids of the operations of a set, rising; none where the history has fewer operations.
 fn aim(alloc: Global, history: &History, set: u32) -> Option<Ids> {

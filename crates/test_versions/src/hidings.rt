@@ -1,6 +1,6 @@
 //! Visible versions of objects that many rounds of hiding and showing leave in doubt.
 
-use crate::script::answers;
+use crate::table_script::answers;
 use std::test::Fail;
 
 const ROWS: &str = "
