@@ -3,11 +3,12 @@ use Rattle.std.specs.Prelude.{◌≡◌, ℕ, ◌*◌, Bool, true, Contains, con
 use Rattle.std.specs.Prelude.{List, [], ◌∷◌, ◌++◌}
 use Rattle.std.specs.Prelude.{filter, map, length, Option, Some, None}
 use Rattle.std.specs.List.{fold, flat_map}
+use Rattle.gf_components.specs.declared.sets.TheConstants.{MOST_SETS}
 use Rattle.gf_maximal.specs.Growing.{is_in, meets, misses, without, common, joined, united, next}
 
 -- a component keeps at most this many sets
 abbrev pub most_sets : ℕ
-most_sets = 1000
+most_sets = MOST_SETS
 
 -- numbers, and their largest compatible sets unless these are too many
 pub record ComponentState : Type 0 where

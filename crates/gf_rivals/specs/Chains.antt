@@ -8,6 +8,7 @@ use Rattle.gf_ops.specs.declared.op.Clock.{Clock}
 use Rattle.gf_ops.specs.OperationOrder.{entry}
 use Rattle.gf_rivals.specs.declared.chain.Setter.{Setter}
 use Rattle.gf_rivals.specs.Setters.{block, IsNumberAbove}
+use Rattle.gf_rivals.specs.declared.chains.TheConstants.{CHAINS}
 
 -- the index of the attribute
 abbrev pub rank : Attr → ℕ
@@ -39,7 +40,7 @@ position_of cs n = option_map (λ (e : Setter). e.position)
 
 -- the chains without a setter
 abbrev pub no_chains : List (List Setter)
-no_chains = repeat 48 ([] ∷ [])
+no_chains = repeat CHAINS ([] ∷ [])
 
 -- the chains where the setters of t by the site s + 1 are ss
 abbrev pub with_chain : List (List Setter) → Attr → ℕ → List Setter → List (List Setter)

@@ -6,6 +6,7 @@ use Rattle.std.specs.BTreeMap.{is_at}
 use Rattle.std.specs.Map.{lookup}
 use Rattle.std.specs.Ordering.{nat_cmp}
 use Rattle.gf_rivals.specs.declared.chain.Setter.{Setter}
+use Rattle.gf_rivals.specs.declared.chains.TheConstants.{CHAINS}
 
 -- chains by their indices, in their order
 abbrev pub Kept : Type 0
@@ -22,7 +23,7 @@ chains_from es k (suc n) = chain_at es k ∷ chains_from es (suc k) n
 
 -- the chains of all attributes and sites
 unfoldable pub all_chains : Kept → List (List Setter)
-all_chains es = chains_from es 0 48
+all_chains es = chains_from es 0 CHAINS
 
 -- no chain is kept under an index from n on
 abbrev pub AreBelow : ℕ → Kept → Type 0

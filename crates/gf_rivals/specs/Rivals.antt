@@ -13,6 +13,7 @@ use Rattle.gf_ops.specs.DirectConflict.{DirectConflict}
 use Rattle.gf_rivals.specs.declared.chain.Setter.{Setter}
 use Rattle.gf_rivals.specs.Setters.{block, AreSetters}
 use Rattle.gf_rivals.specs.Chains.{chain_of, setters, IsUnknown}
+use Rattle.gf_rivals.specs.declared.chains.TheConstants.{CHAINS}
 
 -- e stands for an operation of h by the site s + 1 that sets the attribute t of o
 pub record IsSetter (h : List Op) (o : ObjectId) (t : Attr) (s : ℕ) (e : Setter) : Type 0 where
@@ -43,7 +44,7 @@ pub record AreChainsOf (h : List Op) (o : ObjectId) (cs : List (List Setter)) : 
   pub all : (q : ℕ) (b : Op) (v : Value) (aim : List OpId) → slice_get h q ≡ Some b
       → b.change ≡ Set o v aim → (n : ℕ) × IsNumber cs n q
   pub ordered : (t : Attr) (s : ℕ) → s < 8 → AreSetters (setters cs t s)
-  pub count : length cs ≡ 48
+  pub count : length cs ≡ CHAINS
 
 -- the operation at the position q gives the value v
 pub record GivesAt (h : List Op) (o : ObjectId) (q : ℕ) (v : Value) : Type 0 where

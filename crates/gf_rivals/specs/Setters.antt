@@ -2,10 +2,11 @@
 use Rattle.std.specs.Prelude.{◌≡◌, ℕ, ◌+◌, ◌<◌, ◌≤◌, List, Some, slice_get}
 use Rattle.std.specs.Prelude.{slice_index_or, length}
 use Rattle.gf_rivals.specs.declared.chain.Setter.{Setter}
+use Rattle.gf_rivals.specs.declared.chains.TheConstants.{BLOCK}
 
 -- how many numbers are kept for one chain
 abbrev pub block : ℕ
-block = 4294967296
+block = BLOCK
 
 -- the numbers of the setters at their site rise, from 1 on
 pub record AreSetters (ss : List Setter) : Type 0 where

@@ -9,6 +9,7 @@ ghost use Rattle.gf_ops.specs.OperationOrder.{IsSite};
 ghost use Rattle.gf_rivals.specs.Setters.{block, IsNumberAbove};
 ghost use Rattle.gf_rivals.specs.Chains.{rank, chain_of, setters, no_chains, position_of};
 ghost use Rattle.gf_rivals.specs.Chains.{with_setter, with_chain, IsUnknown};
+ghost use Rattle.gf_rivals.specs.declared.chains.TheConstants.{CHAINS, FIRST_ABOVE};
 
 use crate::chain::Chain;
 use crate::kept::{KeptChains, copied, pop_from, push_to};
@@ -20,10 +21,13 @@ use std::collections::BTreeMap;
 use std::marker::Model;
 
 /// The numbers that are kept for one chain.
-pub(crate) const BLOCK: usize = 4_294_967_296;
+pub const BLOCK: usize = 4_294_967_296;
 
 /// How many chains there are: one for each attribute and site.
-pub(crate) const CHAINS: usize = 48;
+pub const CHAINS: usize = 48;
+
+/// The first number above those of all setters.
+pub const FIRST_ABOVE: usize = CHAINS * BLOCK;
 
 /// The chains of all attributes and sites. A chain is kept from its first setter on, so few setters
 /// take little memory.
@@ -36,12 +40,13 @@ impl Model for Chains {
     ghost use Rattle.std.specs.Prelude.{List};
     ghost use Rattle.gf_rivals.specs.declared.chain.Setter.{Setter as SetterState};
     ghost use Rattle.gf_rivals.specs.KeptChains.{all_chains, AreBelow};
+    ghost use Rattle.gf_rivals.specs.declared.chains.TheConstants.{CHAINS};
 
     ghost Value = { List (List SetterState) };
 
     ghost view = { λ c. all_chains c.chains.entries };
 
-    ghost invariant = { λ c. AreBelow 48 c.chains.entries };
+    ghost invariant = { λ c. AreBelow CHAINS c.chains.entries };
 }
 
 /// The index of an attribute.
@@ -63,7 +68,7 @@ fn rank(attribute: Attr) -> usize
 fn index_of(attribute: Attr, site: u8) -> usize
     requires { IsSite site }
     ensures value { result ≡ chain_of attribute (site - 1) }
-    ensures bound { result < 48 }
+    ensures bound { result < CHAINS }
 {
     rank(attribute) * 8 + (usize::from(site) - 1)
 }
@@ -90,7 +95,7 @@ impl Chains {
     /// The chain with this index, unless none is kept.
     pub(crate) fn chain(&self, index: usize) -> Option<&Chain>
         ensures value { unwrap_or (option_copied result) [] ≡ slice_index_or self.now index [] }
-        ensures bound { IfSome result (λ _. index < 48) }
+        ensures bound { IfSome result (λ _. index < CHAINS) }
     {
         self.chains.get(&index)
     }
@@ -104,7 +109,7 @@ impl Chains {
         index: usize,
         count: u32,
     ) -> Result<Numbers, OutOfMemory>
-        requires { index < 48 }
+        requires { index < CHAINS }
         ensures { let ss = slice_index_or self.now index [] in IfOk result (λ all. (n : _)
             → Contains all n ↔ (Contains found n ⊎ IsNumberAbove ss (index * block) count n)) }
     {
@@ -152,7 +157,7 @@ impl Chains {
     /// The position of the setter that has this number.
     pub fn position(&self, number: usize) -> Option<usize>
         ensures value { result ≡ position_of self.now number }
-        ensures bound { IfSome result (λ _. number < 48 * block) }
+        ensures bound { IfSome result (λ _. number < FIRST_ABOVE) }
     {
         let chain = self.chain(number / BLOCK)?;
         let setter = chain.get(number % BLOCK)?;

@@ -5,6 +5,7 @@ ghost use Rattle.gf_ops.specs.ConflictTests.{value_eq};
 ghost use Rattle.gf_rivals.specs.Comparing.{is_value, number_gives};
 ghost use Rattle.gf_rivals.specs.Giving.{op_value};
 ghost use Rattle.gf_rivals.specs.Setters.{block};
+ghost use Rattle.gf_rivals.specs.declared.chains.TheConstants.{FIRST_ABOVE};
 
 use crate::chains::Chains;
 use gf_ops::{Change, Op, Value};
@@ -50,7 +51,7 @@ fn is_value(value: Option<&Value>, other: &Value) -> bool
 /// Whether the setter with this number gives the value.
 pub(crate) fn number_gives(ops: &[Op], chains: &Chains, value: &Value, number: usize) -> bool
     ensures value { result ≡ number_gives ops.now chains.now value.now number }
-    ensures bound { IsTrue result → number < 48 * block }
+    ensures bound { IsTrue result → number < FIRST_ABOVE }
 {
     match chains.position(number) {
         Some(position) => is_value(op_value(ops.get(position)), value),

@@ -8,6 +8,7 @@ ghost use Rattle.gf_rivals.specs.Fingerprints.{fingerprint_cmp, fingerprint_of};
 ghost use Rattle.gf_rivals.specs.Giving.{op_value, fingerprint_given};
 ghost use Rattle.gf_rivals.specs.Indexes.{IsIndex, PutsNumber, PutsNumbers};
 ghost use Rattle.gf_rivals.specs.Indexing.{PutsGiven, Lists, ListsChain};
+ghost use Rattle.gf_rivals.specs.declared.chains.TheConstants.{CHAINS};
 
 use crate::chain::Setter;
 use crate::chains::{BLOCK, CHAINS, Chains};
@@ -124,7 +125,7 @@ fn add_chain(
     index: usize,
     numbers: &mut NumbersByFingerprint,
 ) -> Result<(), OutOfMemory>
-    requires { index < 48 }
+    requires { index < CHAINS }
     ensures { OnOk result
         (ListsChain ops.now chains.now index numbers.old.entries numbers.new.entries) }
 {

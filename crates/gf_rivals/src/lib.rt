@@ -16,7 +16,7 @@ mod kept;
 mod members;
 
 pub use aims::{Aimed, numbers_of, with_aimed};
-pub use chains::Chains;
+pub use chains::{Chains, FIRST_ABOVE};
 pub use conflicting::rivals;
 pub use index::Index;
 pub use members::clashing;

@@ -10,6 +10,7 @@ ghost use Rattle.gf_rivals.specs.Members.{AreFalling, AreMembers, AreMembersOf, 
 ghost use Rattle.gf_rivals.specs.Members.{IsOfChain, IsOther, ListsSetters, value_of};
 ghost use Rattle.gf_rivals.specs.Rivals.{AreChainsOf};
 ghost use Rattle.gf_rivals.specs.Setters.{block};
+ghost use Rattle.gf_rivals.specs.declared.chains.TheConstants.{FIRST_ABOVE};
 
 use crate::chains::{BLOCK, Chains};
 use crate::giving::{number_gives, op_value};
@@ -29,7 +30,7 @@ struct Member {
 fn op_of<'a>(history: &'a History, chains: &Chains, number: usize) -> Option<&'a Op>
     ensures value { option_copied result ≡ op_of history.now.ops chains.now number }
     ensures in_range { IfSome result (λ op. IsInRange op.now) }
-    ensures bound { IfSome result (λ _. number < 48 * block) }
+    ensures bound { IfSome result (λ _. number < FIRST_ABOVE) }
 {
     let position = chains.position(number)?;
     history.ops().get(position)
@@ -38,7 +39,7 @@ fn op_of<'a>(history: &'a History, chains: &Chains, number: usize) -> Option<&'a
 /// Whether the setters with these numbers conflict directly.
 fn clash(history: &History, chains: &Chains, number: usize, other: usize) -> bool
     ensures value { IsTrue result ↔ Clash history.now.ops chains.now number other }
-    ensures bound { IsTrue result → other < 48 * block }
+    ensures bound { IsTrue result → other < FIRST_ABOVE }
 {
     match (
         op_of(history, chains, number),
@@ -140,7 +141,7 @@ fn clashes_from(
         → IsTrue result → ClashesWithOne history.now.ops chains.now us number }
     ensures complete { (o : _) (us : _) (y : _)
         → CanClash history.now.ops o chains.now us members.now start number y → IsTrue result }
-    ensures bound { IsTrue result → number < 48 * block }
+    ensures bound { IsTrue result → number < FIRST_ABOVE }
 {
     let Some(first) = first_from(members, start) else {
         return false;
@@ -159,7 +160,7 @@ fn clashes_with_one(history: &History, chains: &Chains, members: &[Member], numb
     requires { AreFalling members.now }
     ensures value { (o : _) (us : _) → AreMembersOf history.now.ops o chains.now us members.now
         → (IsTrue result ↔ ClashesWithOne history.now.ops chains.now us number) }
-    ensures bound { IsTrue result → number < 48 * block }
+    ensures bound { IsTrue result → number < FIRST_ABOVE }
 {
     // The clause of `ops` says that the history is valid.
     let _ = history.ops();

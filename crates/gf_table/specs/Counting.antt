@@ -1,13 +1,14 @@
 -- How many versions an object has (this project's choice).
-use Rattle.std.specs.Prelude.{◌≡◌, ℕ, cond, nat_le, List, length}
+use Rattle.std.specs.Prelude.{◌≡◌, ℕ, ◌+◌, cond, nat_le, List, length}
 use Rattle.gf_ops.specs.declared.op.Op.{Op}
 use Rattle.gf_ops.specs.declared.op.ObjectId.{ObjectId}
+use Rattle.gf_components.specs.Components.{most_sets}
 use Rattle.gf_groups.specs.declared.group.Group.{Group}
 use Rattle.gf_table.specs.Standing.{AreAllOf}
 
--- n, or 1,001 where it is more than 1,000
+-- n, or one more than the most sets that are kept where it is more than these
 abbrev pub capped : ℕ → ℕ
-capped n = cond (nat_le n 1000) n 1001
+capped n = cond (nat_le n most_sets) n (most_sets + 1)
 
 -- the object o of h has n versions, hidden ones too, or more than 1,000 where n is 1,001
 pub record IsCount (h : List Op) (o : ObjectId) (n : ℕ) : Type 0 where

@@ -9,7 +9,7 @@ use Rattle.gf_groups.specs.Growing.{conflict_at}
 use Rattle.gf_rivals.specs.declared.chain.Setter.{Setter}
 use Rattle.gf_rivals.specs.declared.fingerprint.Fingerprint.{Fingerprint}
 use Rattle.gf_rivals.specs.Aimed.{AimedState}
-use Rattle.gf_rivals.specs.Setters.{block}
+use Rattle.gf_rivals.specs.declared.chains.TheConstants.{FIRST_ABOVE}
 use Rattle.gf_rivals.specs.Chains.{no_chains, position_of, with_setter}
 
 pub record ObjectState : Type 0 where
@@ -21,7 +21,7 @@ pub record ObjectState : Type 0 where
 
 -- the number of the creation, above those of all setters
 abbrev pub maker_number : ℕ
-maker_number = 48 * block
+maker_number = FIRST_ABOVE
 
 -- the state of an object whose creation stands at the position m
 abbrev pub made : ℕ → ObjectState

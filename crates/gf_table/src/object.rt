@@ -23,12 +23,12 @@ use gf_base::OutOfMemory;
 use gf_components::{Component, Components};
 use gf_maximal::Numbers;
 use gf_ops::{Attr, Clock, History, Op, OpId, Value};
-use gf_rivals::{Aimed, Chains, Index, clashing, numbers_of, rivals, with_aimed};
+use gf_rivals::{Aimed, Chains, FIRST_ABOVE, Index, clashing, numbers_of, rivals, with_aimed};
 use std::alloc::Global;
 use std::marker::Model;
 
 /// The number of the creation, above those of all setters.
-const MAKER: usize = 206_158_430_208;
+const MAKER: usize = FIRST_ABOVE;
 
 /// A copy of the index, if there is one.
 fn copied(alloc: Global, index: &Option<Index>) -> Result<Option<Index>, OutOfMemory>
