@@ -1,6 +1,6 @@
 -- A drawing as FIG draws it, each shape by its outline (Xfig, FIG Format 3.2: polyline and ellipse
 -- objects).
-use Rattle.std.specs.Prelude.{List, map}
+use Rattle.std.specs.Prelude.{map}
 use Rattle.gf_shape.specs.declared.outline.Outline.{Outline}
 use Rattle.gf_figures.specs.declared.figure.Figure.{Figure}
 use Rattle.gf_figures.specs.DrawingState.{DrawingState}
