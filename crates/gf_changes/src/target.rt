@@ -1,7 +1,7 @@
 //! What is to be shown: the figures of a drawing, with the names that they have.
 
-use gf_drawing::Drawing;
 use gf_fig_named::Named;
+use gf_figures::Drawing;
 use gf_ops::{Change, Start};
 use gf_shape::{Bounds, OutOfMemory, Outline, Shape};
 use std::alloc::Global;

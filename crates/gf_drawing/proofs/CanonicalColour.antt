@@ -10,21 +10,22 @@ use Rattle.gf_shape.specs.declared.any_shape.AnyShape.{AnyShape}
 use Rattle.gf_shape.specs.Outlines.{any_outline}
 use Rattle.gf_shape.specs.ShapeMeaning.{any_holds}
 use Rattle.gf_shape.specs.Laws.Shapes.{any_outlines}
+use Rattle.gf_shape.specs.White.{white}
 use Rattle.gf_ops.specs.declared.op.Op.{Op}
 use Rattle.gf_versions.specs.declared.placed.Placed.{Placed}
-use Rattle.gf_versions.specs.HistoryColour.{HistoryColour, white}
+use Rattle.gf_versions.specs.HistoryColour.{HistoryColour}
 use Rattle.gf_versions.specs.Ranking.{first_colour}
 use Rattle.gf_versions.proofs.TopLemmas.{first_gives}
-use Rattle.gf_drawing.specs.declared.figure.Figure.{Figure}
+use Rattle.gf_figures.specs.declared.figure.Figure.{Figure}
 use Rattle.gf_ops.specs.ConflictTests.{colour_eq}
-use Rattle.gf_drawing.specs.CanonicalDrawing.{IsCanonical, Paints, colours_of, canonical_figure, canonical_figures, canonical_table, canonical_drawing}
-use Rattle.gf_drawing.specs.DrawingColour.{drawing_colour, figure_colour}
-use Rattle.gf_drawing.specs.DrawingState.{DrawingState}
-use Rattle.gf_drawing.specs.Outlined.{PaintsAsFig, outlined}
+use Rattle.gf_figures.specs.DrawingColour.{drawing_colour, figure_colour}
+use Rattle.gf_figures.specs.DrawingState.{DrawingState}
+use Rattle.gf_figures.specs.Outlined.{outlined}
+use Rattle.gf_figures.proofs.DrawingLaw.{first_figure_colours}
+use Rattle.gf_figures.proofs.OutlinedLemmas.{drawing_colour-outlined}
+use Rattle.gf_drawing.specs.CanonicalDrawing.{IsCanonical, Paints, PaintsAsFig, colours_of, canonical_figure, canonical_figures, canonical_table, canonical_drawing}
 use Rattle.gf_drawing.proofs.CompilingLemmas.{length-figures, own_colour}
-use Rattle.gf_drawing.proofs.DrawingLaw.{first_figure_colours}
 use Rattle.gf_drawing.proofs.NumberLemmas.{number_gives}
-use Rattle.gf_drawing.proofs.OutlinedLemmas.{drawing_colour-outlined}
 
 -- the depths are the places
 counted : {S : Type 0} → (cs : List Rgb) (n : ℕ) (items : List (Placed S)) → map (λ (f : Figure S). f.depth) (map (canonical_figure cs) (enumerate_from n items)) ≡ range_with_len n (length items)

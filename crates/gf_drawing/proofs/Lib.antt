@@ -1,10 +1,3 @@
-pub mod Painting
-pub mod DrawingLaw
-pub mod FrontLemmas
-pub mod LawfulLemmas
 pub mod CompilingLemmas
 pub mod NumberLemmas
 pub mod CanonicalColour
-pub mod OutlinedLemmas
-pub mod TableLemmas
-pub mod SortedLemmas

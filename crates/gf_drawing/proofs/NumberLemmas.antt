@@ -11,9 +11,9 @@ use Rattle.std.proofs.lemmas.List.FromFn.{length-enumerate_from}
 use Rattle.gf_shape.specs.declared.colour.Rgb.{Rgb}
 use Rattle.gf_ops.specs.ConflictTests.{colour_eq}
 use Rattle.gf_ops.proofs.SameLemmas.{colours_told}
+use Rattle.gf_figures.specs.Colours.{Table, colour_in, rgb_of, standard_colours}
+use Rattle.gf_figures.specs.DrawingState.{IsFreeNumber, IsLawfulFigure, is_table_number}
 use Rattle.gf_drawing.specs.CanonicalDrawing.{number_of}
-use Rattle.gf_drawing.specs.Colours.{Table, colour_in, rgb_of, standard_colours}
-use Rattle.gf_drawing.specs.DrawingState.{IsFreeNumber, IsLawfulFigure, is_table_number}
 
 abbrev is_number : ℕ → ℕ × Rgb → Bool
 is_number n e = eqb e.0 n

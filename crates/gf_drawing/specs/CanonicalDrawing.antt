@@ -6,16 +6,18 @@ use Rattle.std.specs.List.{enumerate_from, position_or_len}
 use Rattle.gf_shape.specs.declared.colour.Rgb.{Rgb}
 use Rattle.gf_shape.specs.declared.point.Point.{Point}
 use Rattle.gf_shape.specs.declared.any_shape.AnyShape.{AnyShape}
+use Rattle.gf_shape.specs.declared.outline.Outline.{Outline}
+use Rattle.gf_shape.specs.FigureMeaning.{outline_holds}
 use Rattle.gf_shape.specs.ShapeMeaning.{any_holds}
 use Rattle.gf_ops.specs.declared.op.Op.{Op}
 use Rattle.gf_ops.specs.ConflictTests.{colour_eq}
 use Rattle.gf_versions.specs.declared.placed.Placed.{Placed}
 use Rattle.gf_versions.specs.HistoryColour.{HistoryColour}
 use Rattle.gf_versions.specs.Ranking.{AreRanked}
-use Rattle.gf_drawing.specs.declared.figure.Figure.{Figure}
-use Rattle.gf_drawing.specs.Colours.{Table}
-use Rattle.gf_drawing.specs.DrawingColour.{drawing_colour}
-use Rattle.gf_drawing.specs.DrawingState.{DrawingState}
+use Rattle.gf_figures.specs.declared.figure.Figure.{Figure}
+use Rattle.gf_figures.specs.Colours.{Table}
+use Rattle.gf_figures.specs.DrawingColour.{drawing_colour}
+use Rattle.gf_figures.specs.DrawingState.{DrawingState}
 
 -- each colour once, as it is first seen
 abbrev pub first_seen : List Rgb → List Rgb
@@ -67,3 +69,8 @@ pub record IsCanonical (h : List Op) (d : DrawingState AnyShape) : Type 0 where
 -- d has at every point the colour that h means there
 abbrev pub Paints : List Op → DrawingState AnyShape → Type 0
 Paints h d = (p : Point) → HistoryColour h p (drawing_colour any_holds d.table d.figures p)
+
+-- painted by the figure meaning, d has at every point the colour that h means there
+abbrev pub PaintsAsFig : List Op → DrawingState Outline → Type 0
+PaintsAsFig h d =
+    (p : Point) → HistoryColour h p (drawing_colour outline_holds d.table d.figures p)

@@ -1,6 +1,1 @@
-pub mod Colours
-pub mod DrawingState
-pub mod DrawingColour
-pub mod FrontMost
 pub mod CanonicalDrawing
-pub mod Outlined

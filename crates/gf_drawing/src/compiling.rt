@@ -6,7 +6,7 @@ ghost use Rattle.gf_ops.specs.ConflictTests.{colour_eq};
 ghost use Rattle.gf_drawing.specs.CanonicalDrawing.{Fits, canonical_drawing, canonical_table};
 ghost use Rattle.gf_drawing.specs.CanonicalDrawing.{colours_of, number_of};
 
-use crate::{Drawing, Figure};
+use gf_figures::{Drawing, Figure};
 use gf_shape::{OutOfMemory, Rgb, Shape};
 use gf_versions::{Placed, Ranked};
 use indexmap::IndexSet;

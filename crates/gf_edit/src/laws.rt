@@ -4,7 +4,7 @@ ghost use Rattle.std.specs.Prelude.{◌≡◌, ℕ, List, ◌++◌, Some};
 ghost use Rattle.gf_shape.specs.declared.any_shape.AnyShape.{AnyShape};
 ghost use Rattle.gf_ops.specs.declared.op.Op.{Op};
 ghost use Rattle.gf_ops.specs.OperationOrder.{IsSite};
-ghost use Rattle.gf_drawing.specs.DrawingState.{DrawingState};
+ghost use Rattle.gf_figures.specs.DrawingState.{DrawingState};
 ghost use Rattle.gf_scanline.specs.Windows.{View};
 ghost use Rattle.gf_replay.specs.Denoting.{Denotes};
 ghost use Rattle.gf_studio.specs.FigRun.{Draws, Writes};

@@ -5,8 +5,8 @@ ghost use Rattle.gf_fig_faults.specs.Commenting.{begins_object, commented_out, h
 ghost use Rattle.gf_fig_faults.specs.Commenting.{is_compound, is_compound_end, is_out, line_text};
 ghost use Rattle.gf_fig_faults.specs.Commenting.{stage_behind};
 
+use gf_base::OutOfMemory;
 use gf_fig_tokens::cut_line;
-use gf_shape::OutOfMemory;
 use std::alloc::{AllocError, Global};
 
 /// Where a line stands to the object that becomes comments.

@@ -11,9 +11,9 @@ use crate::commenting::{begins_object, comment_out, is_colour};
 use crate::fields::from_line;
 use crate::problems::explained;
 use crate::{DrawingFault, DrawingFaults};
+use gf_base::OutOfMemory;
 use gf_fig_read::{fault_line, read_fig};
 use gf_fig_tokens::{FigFault, cut_line};
-use gf_shape::OutOfMemory;
 use std::alloc::Global;
 
 /// The greatest number of faults that are told.

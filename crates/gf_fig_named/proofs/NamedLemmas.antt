@@ -23,12 +23,12 @@ use Rattle.gf_versions.specs.declared.placed.Placed.{Placed}
 use Rattle.gf_versions.specs.Ranking.{AreRanked}
 use Rattle.gf_versions.specs.HistoryColour.{HistoryColour}
 use Rattle.gf_digits.specs.HexDigits.{hex_rgb}
-use Rattle.gf_drawing.specs.declared.figure.Figure.{Figure}
+use Rattle.gf_figures.specs.declared.figure.Figure.{Figure}
+use Rattle.gf_figures.specs.Colours.{Table, rgb_of}
+use Rattle.gf_figures.specs.DrawingState.{DrawingState, IsLawfulDrawing, IsLawfulFigure}
+use Rattle.gf_figures.specs.Outlined.{figure_outlined, outlined}
 use Rattle.gf_drawing.specs.CanonicalDrawing.{Fits, IsCanonical, canonical_drawing, canonical_figure}
-use Rattle.gf_drawing.specs.CanonicalDrawing.{canonical_figures, colours_of}
-use Rattle.gf_drawing.specs.Colours.{Table, rgb_of}
-use Rattle.gf_drawing.specs.DrawingState.{DrawingState, IsLawfulDrawing, IsLawfulFigure}
-use Rattle.gf_drawing.specs.Outlined.{PaintsAsFig, figure_outlined, outlined}
+use Rattle.gf_drawing.specs.CanonicalDrawing.{PaintsAsFig, canonical_figures, colours_of}
 use Rattle.gf_drawing.proofs.CanonicalColour.{canonical_colour-outlined}
 use Rattle.gf_fig_tokens.specs.Layout.{lines, object_tokens, plain}
 use Rattle.gf_fig_read.specs.FigGrammar.{Reads}

@@ -5,13 +5,13 @@ use Rattle.std.specs.Prelude.{All, fold, Option, Some, None, option_map, unwrap_
 use Rattle.std.proofs.lemmas.Bool.{cases_Bool, cases_lt, cases_eq, leb-true}
 use Rattle.std.proofs.lemmas.Bool.Decides.{nat_tests}
 use Rattle.gf_shape.specs.declared.point.Point.{Point}
-use Rattle.gf_versions.specs.HistoryColour.{white}
-use Rattle.gf_drawing.specs.declared.figure.Figure.{Figure}
-use Rattle.gf_drawing.specs.Colours.{Table}
-use Rattle.gf_drawing.specs.DrawingColour.{drawing_colour, figure_colour}
-use Rattle.gf_drawing.specs.DrawingState.{DrawingState, IsLawfulFigure}
-use Rattle.gf_drawing.specs.FrontMost.{front_at, is_no_deeper, nearer_at}
-use Rattle.gf_drawing.proofs.DrawingLaw.{front_figure_colours}
+use Rattle.gf_shape.specs.White.{white}
+use Rattle.gf_figures.specs.declared.figure.Figure.{Figure}
+use Rattle.gf_figures.specs.Colours.{Table}
+use Rattle.gf_figures.specs.DrawingColour.{drawing_colour, figure_colour}
+use Rattle.gf_figures.specs.DrawingState.{DrawingState, IsLawfulFigure}
+use Rattle.gf_figures.specs.FrontMost.{front_at, is_no_deeper, nearer_at}
+use Rattle.gf_figures.proofs.DrawingLaw.{front_figure_colours}
 use Rattle.gf_fig_named.specs.Raised.{figure_raised, named_depth, raised}
 
 -- g keeps the order of numbers

@@ -11,9 +11,9 @@ use Rattle.gf_ops.specs.Version.{IsMember}
 use Rattle.gf_versions.specs.declared.placed.Placed.{Placed}
 use Rattle.gf_versions.specs.Ranking.{AreRanked}
 use Rattle.gf_names.specs.Telling.{AreTelling}
-use Rattle.gf_drawing.specs.declared.figure.Figure.{Figure}
+use Rattle.gf_figures.specs.declared.figure.Figure.{Figure}
+use Rattle.gf_figures.specs.DrawingState.{DrawingState}
 use Rattle.gf_drawing.specs.CanonicalDrawing.{Fits, canonical_drawing}
-use Rattle.gf_drawing.specs.DrawingState.{DrawingState}
 use Rattle.gf_fig_write.specs.FigText.{colour_line, figure_lines}
 use Rattle.gf_fig_named.specs.declared.naming.Name.{Name}
 use Rattle.gf_fig_named.specs.Comments.{knows_comment, name_lines}

@@ -1,7 +1,7 @@
 -- Drawings whose figures stand at other depths, in the same order (this project's choice).
 use Rattle.std.specs.Prelude.{ℕ, ◌+◌, ◌*◌, nat_le, if◌then◌else◌, map}
-use Rattle.gf_drawing.specs.declared.figure.Figure.{Figure}
-use Rattle.gf_drawing.specs.DrawingState.{DrawingState}
+use Rattle.gf_figures.specs.declared.figure.Figure.{Figure}
+use Rattle.gf_figures.specs.DrawingState.{DrawingState}
 
 -- the figure f at the depth that g gives for its own
 abbrev pub figure_raised : {S : Type 0} → (ℕ → ℕ) → Figure S → Figure S

@@ -3,7 +3,7 @@ use Rattle.std.proofs.Common.{◌≡◌, ◌≢◌, ℕ, zero, suc, Bool, true, 
 use Rattle.std.specs.Prelude.{not, ◌&&◌, ◌==◌, nat_lt, IsTrue, ◌↔◌, pos, nat_abs}
 use Rattle.std.proofs.lemmas.Bool.{and_parts}
 use Rattle.gf_shape.specs.Reach.{is_reached}
-use Rattle.gf_drawing.specs.Colours.{Table}
+use Rattle.gf_figures.specs.Colours.{Table}
 use Rattle.gf_fig_tokens.specs.declared.faults.FigFault.{FigFault}
 use Rattle.gf_fig_tokens.specs.declared.faults.FigFault.TheVariants as fault
 use Rattle.gf_fig_tokens.specs.Layout.{Token, object_tokens, is_version, plain_lines, tokens, after_resolution}

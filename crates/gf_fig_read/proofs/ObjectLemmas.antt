@@ -4,7 +4,7 @@ use Rattle.std.specs.Prelude.{⊤, pos, nat_abs, ◌==◌}
 use Rattle.gf_shape.specs.declared.point.Point.{Point}
 use Rattle.gf_shape.specs.Reach.{is_reached}
 use Rattle.gf_shape.specs.declared.outline.Outline.{Outline}
-use Rattle.gf_drawing.specs.Colours.{Table}
+use Rattle.gf_figures.specs.Colours.{Table}
 use Rattle.gf_fig_tokens.specs.declared.faults.FigFault.{FigFault}
 use Rattle.gf_fig_tokens.specs.declared.faults.FigFault.TheVariants as fault
 use Rattle.gf_fig_read.specs.declared.styles.Style.{Style}

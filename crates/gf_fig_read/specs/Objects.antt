@@ -3,8 +3,8 @@
 use Rattle.std.specs.Prelude.{◌==◌, nat_eq, [], ◌∷◌, ◌++◌, length, is_none}
 use Rattle.std.specs.Prelude.{if◌then◌else◌}
 use Rattle.gf_shape.specs.declared.outline.Outline.{Outline}
-use Rattle.gf_drawing.specs.Colours.{colour_in}
-use Rattle.gf_drawing.specs.DrawingState.{DrawingState}
+use Rattle.gf_figures.specs.Colours.{colour_in}
+use Rattle.gf_figures.specs.DrawingState.{DrawingState}
 use Rattle.gf_fig_tokens.specs.Forms.{colour}
 use Rattle.gf_fig_tokens.specs.Fields.{Reader, ◌>>=◌, any, check, give, natural}
 use Rattle.gf_fig_read.specs.Styles.{style}

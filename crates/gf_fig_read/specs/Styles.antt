@@ -1,7 +1,7 @@
 -- What a polyline and an ellipse begin with, field by field (Xfig, FIG Format 3.2: sub_type to
 -- style_val); the limits and the faults are this project's profile.
 use Rattle.std.specs.Prelude.{ℕ, Bool, ◌&&◌, is_some, ℤ, pos, nat_abs}
-use Rattle.gf_drawing.specs.Colours.{Table, rgb_of}
+use Rattle.gf_figures.specs.Colours.{Table, rgb_of}
 use Rattle.gf_fig_tokens.specs.Forms.{whole, decimal}
 use Rattle.gf_fig_tokens.specs.Fields.{Reader, ◌>>=◌, field, any, give, is_in, natural}
 use Rattle.gf_fig_read.specs.declared.styles.Style.{Style}

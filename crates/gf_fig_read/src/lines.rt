@@ -10,8 +10,8 @@ ghost use Rattle.gf_fig_read.specs.Stepping.{Finds};
 
 use crate::FigError;
 use crate::objects::add_object;
-use gf_drawing::Drawing;
 use gf_fig_tokens::{FigFault, Tokens, line_count, token_line};
+use gf_figures::Drawing;
 use gf_shape::{OutOfMemory, Outline};
 use std::alloc::Global;
 

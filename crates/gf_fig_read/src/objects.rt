@@ -1,7 +1,7 @@
 //! The objects of a FIG text.
 
 ghost use Rattle.std.specs.Prelude.{◌≡◌, ◌≤◌, ◌∷◌, OnOk, IfErr, IsTrue, is_some, is_none};
-ghost use Rattle.gf_drawing.specs.Colours.{colour_in, rgb_of};
+ghost use Rattle.gf_figures.specs.Colours.{colour_in, rgb_of};
 ghost use Rattle.gf_fig_read.specs.Objects.{with_figure, colour_object, ellipse_object};
 ghost use Rattle.gf_fig_read.specs.Objects.{polyline_object, object};
 ghost use Rattle.gf_fig_tokens.specs.declared.faults.FigFault.TheVariants as fault;
@@ -9,8 +9,8 @@ ghost use Rattle.gf_fig_read.specs.Stepping.{AddsObject};
 
 use crate::outlines::{chain, ellipse};
 use crate::styles::{Style, style_of};
-use gf_drawing::{Drawing, Figure};
 use gf_fig_tokens::{FigFault, Tokens, whole};
+use gf_figures::{Drawing, Figure};
 use gf_shape::Outline;
 use std::alloc::Global;
 

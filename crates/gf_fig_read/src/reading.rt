@@ -7,8 +7,8 @@ ghost use Rattle.gf_fig_tokens.specs.declared.faults.FigFault.TheVariants as fau
 
 use crate::FigError;
 use crate::objects::add_object;
-use gf_drawing::Drawing;
 use gf_fig_tokens::{FigFault, Tokens};
+use gf_figures::Drawing;
 use gf_shape::Outline;
 use std::alloc::Global;
 

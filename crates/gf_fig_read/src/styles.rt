@@ -1,12 +1,12 @@
 //! What a polyline and an ellipse begin with.
 
 ghost use Rattle.std.specs.Prelude.{◌≡◌, ◌≤◌, IfOk, IsTrue, is_some};
-ghost use Rattle.gf_drawing.specs.Colours.{rgb_of};
+ghost use Rattle.gf_figures.specs.Colours.{rgb_of};
 ghost use Rattle.gf_fig_read.specs.Styles.{is_known, known_colour, filling, style};
 ghost use Rattle.gf_fig_tokens.specs.Fields.{StepsAs};
 
-use gf_drawing::Drawing;
 use gf_fig_tokens::{FigFault, Tokens};
+use gf_figures::Drawing;
 use gf_shape::Outline;
 
 /// What a polyline and an ellipse begin with.

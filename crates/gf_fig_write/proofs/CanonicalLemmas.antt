@@ -33,9 +33,9 @@ use Rattle.gf_versions.specs.declared.placed.Placed.{Placed}
 use Rattle.gf_versions.specs.Ranking.{AreRanked, form_at, origin}
 use Rattle.gf_versions.proofs.LimitLemmas.{settled_fits, version_fits}
 use Rattle.gf_versions.proofs.ShapeLemmas.{is_area-sizes, is_polygon-lawful, shape_movable}
-use Rattle.gf_drawing.specs.CanonicalDrawing.{IsCanonical, canonical_drawing, canonical_figure, colours_of, first_seen, number_of}
-use Rattle.gf_drawing.specs.DrawingState.{DrawingState, IsLawfulDrawing, IsLawfulFigure, is_table_number}
-use Rattle.gf_drawing.specs.Outlined.{PaintsAsFig, outlined}
+use Rattle.gf_figures.specs.DrawingState.{DrawingState, IsLawfulDrawing, IsLawfulFigure, is_table_number}
+use Rattle.gf_figures.specs.Outlined.{outlined}
+use Rattle.gf_drawing.specs.CanonicalDrawing.{IsCanonical, PaintsAsFig, canonical_drawing, canonical_figure, colours_of, first_seen, number_of}
 use Rattle.gf_drawing.proofs.CanonicalColour.{canonical_colour-outlined}
 use Rattle.gf_drawing.proofs.CompilingLemmas.{own_colour}
 use Rattle.gf_drawing.proofs.NumberLemmas.{lawful_numbered}

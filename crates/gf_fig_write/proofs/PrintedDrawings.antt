@@ -10,9 +10,9 @@ use Rattle.gf_shape.specs.declared.outline.Outline.{Outline}
 use Rattle.gf_shape.specs.declared.colour.Rgb.{Rgb}
 use Rattle.gf_shape.specs.ShapeLaws.{IsLawful}
 use Rattle.gf_shape.specs.ColourBytes.{HasBytes}
-use Rattle.gf_drawing.specs.declared.figure.Figure.{Figure}
-use Rattle.gf_drawing.specs.Colours.{Table, colour_in, rgb_of}
-use Rattle.gf_drawing.specs.DrawingState.{IsFreeNumber, IsLawfulDrawing, IsLawfulFigure, is_table_number}
+use Rattle.gf_figures.specs.declared.figure.Figure.{Figure}
+use Rattle.gf_figures.specs.Colours.{Table, colour_in, rgb_of}
+use Rattle.gf_figures.specs.DrawingState.{IsFreeNumber, IsLawfulDrawing, IsLawfulFigure, is_table_number}
 use Rattle.gf_fig_tokens.specs.Layout.{Token}
 use Rattle.gf_fig_read.specs.Objects.{Drawn}
 use Rattle.gf_fig_read.specs.FigGrammar.{Leads, none, more, nothing}

@@ -8,8 +8,8 @@ use Rattle.gf_shape.specs.Ring.{Ring, IsRing}
 use Rattle.gf_shape.specs.Round.{Round, is_round}
 use Rattle.gf_shape.specs.Oblong.{Oblong, is_oblong}
 use Rattle.gf_shape.specs.ShapeLaws.{IsLawful}
-use Rattle.gf_drawing.specs.declared.figure.Figure.{Figure}
-use Rattle.gf_drawing.specs.Colours.{rgb_of}
+use Rattle.gf_figures.specs.declared.figure.Figure.{Figure}
+use Rattle.gf_figures.specs.Colours.{rgb_of}
 use Rattle.gf_fig_tokens.specs.declared.faults.FigFault.TheVariants as fault
 use Rattle.gf_fig_tokens.specs.Layout.{Token}
 use Rattle.gf_fig_read.specs.Outlines.{ellipse}

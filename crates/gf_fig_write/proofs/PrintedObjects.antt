@@ -14,8 +14,8 @@ use Rattle.gf_shape.specs.Ring.{Ring, IsRing}
 use Rattle.gf_shape.specs.Round.{Round, is_round}
 use Rattle.gf_shape.specs.Oblong.{Oblong, is_oblong, is_radius}
 use Rattle.gf_shape.specs.ColourBytes.{HasBytes}
-use Rattle.gf_drawing.specs.Colours.{Table, colour_in, rgb_of}
-use Rattle.gf_drawing.specs.DrawingState.{IsFreeNumber, is_table_number}
+use Rattle.gf_figures.specs.Colours.{Table, colour_in, rgb_of}
+use Rattle.gf_figures.specs.DrawingState.{IsFreeNumber, is_table_number}
 use Rattle.gf_fig_tokens.specs.declared.faults.FigFault.{FigFault}
 use Rattle.gf_fig_tokens.specs.declared.faults.FigFault.TheVariants as fault
 use Rattle.gf_fig_tokens.specs.Layout.{Token}

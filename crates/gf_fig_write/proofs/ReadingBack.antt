@@ -16,10 +16,10 @@ use Rattle.gf_shape.specs.Oblong.{Oblong, is_oblong}
 use Rattle.gf_shape.specs.ShapeLaws.{IsLawful}
 use Rattle.gf_shape.specs.ColourBytes.{HasBytes}
 use Rattle.gf_digits.specs.HexDigits.{hex_rgb}
-use Rattle.gf_drawing.specs.declared.figure.Figure.{Figure}
-use Rattle.gf_drawing.specs.DrawingState.{DrawingState, IsLawfulDrawing, IsLawfulFigure}
-use Rattle.gf_drawing.specs.Colours.{Table, rgb_of}
-use Rattle.gf_drawing.specs.Outlined.{figure_outlined, outlined}
+use Rattle.gf_figures.specs.declared.figure.Figure.{Figure}
+use Rattle.gf_figures.specs.DrawingState.{DrawingState, IsLawfulDrawing, IsLawfulFigure}
+use Rattle.gf_figures.specs.Colours.{Table, rgb_of}
+use Rattle.gf_figures.specs.Outlined.{figure_outlined, outlined}
 use Rattle.gf_fig_tokens.specs.Layout.{Token, lines, plain, tokens, object_tokens, is_version, plain_lines, after_resolution}
 use Rattle.gf_fig_read.specs.FigGrammar.{Reads}
 use Rattle.gf_fig_write.proofs.PrintedLines.{is_word, led, led_in_line, line_of_words, tokens_printed, words_all_led}

@@ -2,7 +2,7 @@
 -- choice).
 use Rattle.std.specs.Prelude.{ℕ, List}
 use Rattle.gf_ops.specs.declared.op.Op.{Op}
-use Rattle.gf_drawing.specs.Outlined.{PaintsAsFig}
+use Rattle.gf_drawing.specs.CanonicalDrawing.{PaintsAsFig}
 use Rattle.gf_fig_read.specs.FigGrammar.{Reads}
 use Rattle.gf_fig_read.specs.Objects.{Drawn}
 

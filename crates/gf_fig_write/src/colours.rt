@@ -6,7 +6,7 @@ ghost use Rattle.gf_shape.specs.ColourBytes.{HasBytes};
 ghost use Rattle.gf_fig_write.specs.FigText.{colour_line};
 
 use gf_digits::{push_hex_rgb, push_number};
-use gf_drawing::ColourTable;
+use gf_figures::ColourTable;
 use gf_shape::Rgb;
 use std::alloc::AllocError;
 

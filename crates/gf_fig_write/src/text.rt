@@ -2,13 +2,13 @@
 
 ghost use Rattle.std.specs.Prelude.{◌≡◌, ◌++◌, All, IfOk, OnOk, flat_map};
 ghost use Rattle.gf_shape.specs.ShapeLaws.{IsLawful};
-ghost use Rattle.gf_drawing.specs.Outlined.{outlined};
+ghost use Rattle.gf_figures.specs.Outlined.{outlined};
 ghost use Rattle.gf_fig_read.specs.FigGrammar.{Reads};
 ghost use Rattle.gf_fig_write.specs.FigText.{fig_text, figure_lines};
 
 use crate::colours::push_table;
 use crate::outlines::push_outline;
-use gf_drawing::{Drawing, Figure};
+use gf_figures::{Drawing, Figure};
 use gf_shape::{OutOfMemory, Shape};
 use std::alloc::Global;
 

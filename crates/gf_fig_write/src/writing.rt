@@ -4,12 +4,12 @@ ghost use Rattle.std.specs.Prelude.{◌≡◌, IsTrue, OnOk, Err};
 ghost use Rattle.std.specs.Io.KnownBytes.{Appends};
 ghost use Rattle.gf_streams.specs.Counts.{Rises};
 ghost use Rattle.gf_streams.specs.Taken.{AppendsPrefix};
-ghost use Rattle.gf_drawing.specs.Outlined.{outlined};
+ghost use Rattle.gf_figures.specs.Outlined.{outlined};
 ghost use Rattle.gf_fig_read.specs.FigGrammar.{Reads};
 ghost use Rattle.gf_fig_write.specs.FigText.{fig_text};
 
 use crate::fig_bytes;
-use gf_drawing::Drawing;
+use gf_figures::Drawing;
 use gf_shape::Shape;
 use gf_streams::{Sink, WriteError, write_whole};
 use std::alloc::Global;

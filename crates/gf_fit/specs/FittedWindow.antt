@@ -7,7 +7,7 @@ use Rattle.std.specs.List.{list_any}
 use Rattle.gf_shape.specs.declared.bounds.Bounds.{Bounds}
 use Rattle.gf_shape.specs.declared.point.Point.{Point}
 use Rattle.gf_shape.specs.ShapeLaws.{IsBounds}
-use Rattle.gf_drawing.specs.declared.figure.Figure.{Figure}
+use Rattle.gf_figures.specs.declared.figure.Figure.{Figure}
 use Rattle.gf_scanline.specs.Windows.{View, column, is_corner, is_step, line}
 use Rattle.gf_fit.specs.Frames.{Sides, inner, margin}
 

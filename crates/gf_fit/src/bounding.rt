@@ -5,7 +5,7 @@ ghost use Rattle.gf_fit.specs.FittedWindow.{AreBounds, held};
 ghost use Rattle.gf_shape.specs.BoundsOf.{least, most};
 ghost use Rattle.gf_fit.specs.JoinedBounds.{joined, widened};
 
-use gf_drawing::Figure;
+use gf_figures::Figure;
 use gf_shape::{Bounds, Point, Shape};
 
 /// The least bounds of all points that figures hold, in one pass over the figures.

@@ -12,7 +12,7 @@ ghost use Rattle.gf_fit.specs.Frames.{Sides, inner};
 
 use crate::Frame;
 use crate::bounding::bounds_of;
-use gf_drawing::Drawing;
+use gf_figures::Drawing;
 use gf_scanline::Window;
 use gf_shape::{Bounds, Range, Shape};
 

@@ -16,10 +16,10 @@ use Rattle.gf_shape.specs.Moving.{minus}
 use Rattle.gf_shape.specs.ShapeLaws.{IsLawful}
 use Rattle.gf_ops.specs.declared.change.Change.{Change}
 use Rattle.gf_ops.specs.Limits.{is_change, is_colour, is_form, is_near, is_polygon, is_size}
-use Rattle.gf_drawing.specs.declared.figure.Figure.{Figure}
-use Rattle.gf_drawing.specs.Colours.{Table}
-use Rattle.gf_drawing.specs.DrawingColour.{figure_colour}
-use Rattle.gf_drawing.specs.DrawingState.{DrawingState, IsLawfulDrawing}
+use Rattle.gf_figures.specs.declared.figure.Figure.{Figure}
+use Rattle.gf_figures.specs.Colours.{Table}
+use Rattle.gf_figures.specs.DrawingColour.{figure_colour}
+use Rattle.gf_figures.specs.DrawingState.{DrawingState, IsLawfulDrawing}
 use Rattle.gf_import.specs.declared.faults.FigureFault.{FigureFault}
 use Rattle.gf_import.specs.declared.faults.FigureFault.TheVariants as fault
 use Rattle.gf_import.specs.CreationFaults.{IsFirstFault, figure_fault, form_fault, made, or_fault}

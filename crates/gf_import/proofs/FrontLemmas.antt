@@ -16,9 +16,9 @@ use Rattle.gf_ops.specs.declared.change.Change.TheVariants.{Create}
 use Rattle.gf_ops.specs.declared.change.Start.{Start}
 use Rattle.gf_base.proofs.ListLemmas.{Contains-cons_head}
 use Rattle.gf_versions.specs.Visible.{form_holds}
-use Rattle.gf_drawing.specs.declared.figure.Figure.{Figure}
-use Rattle.gf_drawing.specs.Colours.{Table}
-use Rattle.gf_drawing.specs.FrontMost.{nearer_at}
+use Rattle.gf_figures.specs.declared.figure.Figure.{Figure}
+use Rattle.gf_figures.specs.Colours.{Table}
+use Rattle.gf_figures.specs.FrontMost.{nearer_at}
 use Rattle.gf_import.specs.Importing.{creation_of, start_of}
 use Rattle.gf_import.proofs.OrderLemmas.{IsNoHigher}
 

@@ -10,9 +10,9 @@ use Rattle.gf_shape.proofs.PolygonBounds.{All-from_map}
 use Rattle.gf_ops.specs.declared.change.Form.{Form}
 use Rattle.gf_ops.specs.declared.change.Form.TheVariants.{Rect, Circle, Ellipse, Polygon}
 use Rattle.gf_ops.specs.Limits.{is_change, is_form, is_layer, is_near}
-use Rattle.gf_drawing.specs.declared.figure.Figure.{Figure}
-use Rattle.gf_drawing.specs.Colours.{Table}
-use Rattle.gf_drawing.specs.DrawingState.{DrawingState}
+use Rattle.gf_figures.specs.declared.figure.Figure.{Figure}
+use Rattle.gf_figures.specs.Colours.{Table}
+use Rattle.gf_figures.specs.DrawingState.{DrawingState}
 use Rattle.gf_fig_read.specs.FigGrammar.{Reads}
 use Rattle.gf_fig_read.proofs.GrammarLemmas.{not_both, one_drawing}
 use Rattle.gf_studio.specs.declared.studio_error.StudioError.TheVariants as studio

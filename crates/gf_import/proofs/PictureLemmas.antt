@@ -7,6 +7,7 @@ use Rattle.gf_shape.specs.declared.outline.Outline.{Outline}
 use Rattle.gf_shape.specs.declared.point.Point.{Point}
 use Rattle.gf_shape.specs.FigureMeaning.{outline_holds}
 use Rattle.gf_shape.specs.ShapeLaws.{IsLawful}
+use Rattle.gf_shape.specs.White.{white}
 use Rattle.gf_ops.specs.declared.op.Op.{Op}
 use Rattle.gf_ops.specs.OperationOrder.{IsSite, count_of}
 use Rattle.gf_ops.specs.ValidHistory.{IsValid}
@@ -15,15 +16,15 @@ use Rattle.gf_causal.proofs.CourseLemmas.{count_push_same}
 use Rattle.gf_site.specs.SiteState.{authored}
 use Rattle.gf_versions.specs.declared.key.Version.{Version}
 use Rattle.gf_versions.specs.Above.{IsAbove}
-use Rattle.gf_versions.specs.HistoryColour.{HistoryColour, top, blank, white}
+use Rattle.gf_versions.specs.HistoryColour.{HistoryColour, top, blank}
 use Rattle.gf_versions.specs.Visible.{version_holds}
-use Rattle.gf_drawing.specs.declared.figure.Figure.{Figure}
-use Rattle.gf_drawing.specs.Colours.{Table}
-use Rattle.gf_drawing.specs.DrawingColour.{figure_colour}
-use Rattle.gf_drawing.specs.DrawingState.{DrawingState, IsLawfulFigure}
-use Rattle.gf_drawing.specs.FrontMost.{front_at, nearer_at}
-use Rattle.gf_drawing.specs.Outlined.{PaintsAsFig}
-use Rattle.gf_drawing.proofs.DrawingLaw.{front_figure_colours, lawful_depth}
+use Rattle.gf_figures.specs.declared.figure.Figure.{Figure}
+use Rattle.gf_figures.specs.Colours.{Table}
+use Rattle.gf_figures.specs.DrawingColour.{figure_colour}
+use Rattle.gf_figures.specs.DrawingState.{DrawingState, IsLawfulFigure}
+use Rattle.gf_figures.specs.FrontMost.{front_at, nearer_at}
+use Rattle.gf_figures.proofs.DrawingLaw.{front_figure_colours, lawful_depth}
+use Rattle.gf_drawing.specs.CanonicalDrawing.{PaintsAsFig}
 use Rattle.gf_import.specs.Importing.{creation_of, creations_of, start_of}
 use Rattle.gf_import.specs.Imported.{IsImportable, history_of, with_change}
 use Rattle.gf_import.proofs.AloneLemmas.{first_is_version, first_version, version_is_first}

@@ -3,8 +3,8 @@ use Rattle.std.proofs.Common.{◌≡◌, ℕ, ◌≤◌, ◌<◌, List, ◌∷�
 use Rattle.std.proofs.Common.{subst, inl, inr, arith}
 use Rattle.std.specs.Prelude.{◌⊎◌, Option, None, Some, MatchOption}
 use Rattle.gf_shape.specs.declared.outline.Outline.{Outline}
-use Rattle.gf_drawing.specs.declared.figure.Figure.{Figure}
-use Rattle.gf_drawing.specs.DrawingState.{DrawingState}
+use Rattle.gf_figures.specs.declared.figure.Figure.{Figure}
+use Rattle.gf_figures.specs.DrawingState.{DrawingState}
 use Rattle.gf_fig_tokens.specs.declared.faults.FigFault.{FigFault}
 use Rattle.gf_fig_tokens.specs.declared.faults.FigFault.TheVariants as fault
 use Rattle.gf_fig_read.specs.declared.faults.FigError.{FigError}

@@ -10,9 +10,9 @@ use Rattle.gf_ops.specs.declared.change.Form.{Form}
 use Rattle.gf_ops.specs.declared.change.Form.TheVariants.{Rect, Circle, Ellipse, Polygon}
 use Rattle.gf_ops.specs.declared.change.Start.{Start}
 use Rattle.gf_ops.specs.Limits.{is_near, is_size}
-use Rattle.gf_drawing.specs.declared.figure.Figure.{Figure}
-use Rattle.gf_drawing.specs.Colours.{Table}
-use Rattle.gf_drawing.specs.DrawingState.{DrawingState}
+use Rattle.gf_figures.specs.declared.figure.Figure.{Figure}
+use Rattle.gf_figures.specs.Colours.{Table}
+use Rattle.gf_figures.specs.DrawingState.{DrawingState}
 use Rattle.gf_import.specs.Importing.{creation_of, start_of}
 use Rattle.gf_import.specs.declared.faults.CreationError.{CreationError}
 use Rattle.gf_import.specs.declared.faults.CreationError.TheVariants as error

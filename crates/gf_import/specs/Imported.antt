@@ -8,8 +8,8 @@ use Rattle.gf_ops.specs.declared.change.Change.{Change}
 use Rattle.gf_ops.specs.Limits.{is_change}
 use Rattle.gf_site.specs.SiteState.{SiteState, authored}
 use Rattle.gf_site.specs.Events.{Authors}
-use Rattle.gf_drawing.specs.declared.figure.Figure.{Figure}
-use Rattle.gf_drawing.specs.DrawingState.{DrawingState, IsLawfulDrawing}
+use Rattle.gf_figures.specs.declared.figure.Figure.{Figure}
+use Rattle.gf_figures.specs.DrawingState.{DrawingState, IsLawfulDrawing}
 use Rattle.gf_import.specs.Importing.{creations_of}
 
 -- the history h with the change c made by site s behind it

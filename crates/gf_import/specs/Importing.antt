@@ -11,10 +11,10 @@ use Rattle.gf_ops.specs.declared.change.Change.TheVariants.{Create}
 use Rattle.gf_ops.specs.declared.change.Form.{Form}
 use Rattle.gf_ops.specs.declared.change.Form.TheVariants.{Circle, Ellipse, Polygon}
 use Rattle.gf_ops.specs.declared.change.Start.{Start}
-use Rattle.gf_drawing.specs.declared.figure.Figure.{Figure}
-use Rattle.gf_drawing.specs.Colours.{Table}
-use Rattle.gf_drawing.specs.DrawingColour.{figure_colour}
-use Rattle.gf_drawing.specs.DrawingState.{DrawingState}
+use Rattle.gf_figures.specs.declared.figure.Figure.{Figure}
+use Rattle.gf_figures.specs.Colours.{Table}
+use Rattle.gf_figures.specs.DrawingColour.{figure_colour}
+use Rattle.gf_figures.specs.DrawingState.{DrawingState}
 use Rattle.gf_import.specs.Boxes.{box_form, is_box, least_corner, point_at}
 
 -- the points of the chain ps without the last one, each seen from o

@@ -6,11 +6,11 @@ ghost use Rattle.gf_shape.specs.Moving.{minus};
 ghost use Rattle.gf_shape.specs.Reach.{is_reached, is_within_reach};
 ghost use Rattle.gf_shape.specs.ShapeLaws.{IsLawful};
 ghost use Rattle.gf_ops.specs.Limits.{is_colour};
-ghost use Rattle.gf_drawing.specs.DrawingColour.{figure_colour};
+ghost use Rattle.gf_figures.specs.DrawingColour.{figure_colour};
 ghost use Rattle.gf_import.specs.Importing.{form_of, place_of, seen_from, start_of};
 
 use crate::boxes::{box_form, is_box, least_corner, point_at};
-use gf_drawing::{Drawing, Figure};
+use gf_figures::{Drawing, Figure};
 use gf_ops::{Form, Points, Start};
 use gf_shape::{Chain, OutOfMemory, Outline, Point, Rgb};
 use std::alloc::Global;

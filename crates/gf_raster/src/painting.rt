@@ -1,7 +1,7 @@
 //! The pixels of a window.
 
 ghost use Rattle.std.specs.Prelude.{◌≡◌, ◌≤◌, IfOk};
-ghost use Rattle.gf_drawing.specs.DrawingColour.{drawing_colour};
+ghost use Rattle.gf_figures.specs.DrawingColour.{drawing_colour};
 ghost use Rattle.gf_scanline.specs.Layers.{layered};
 ghost use Rattle.gf_scanline.specs.Picture.{raster};
 
@@ -9,7 +9,7 @@ use crate::Gate;
 use crate::bands::{band, first_band};
 use crate::crew::Crew;
 use crate::tiles::TILE;
-use gf_drawing::Drawing;
+use gf_figures::Drawing;
 use gf_scanline::{Layers, Window};
 use gf_shape::{OutOfMemory, Shape};
 use std::alloc::Global;

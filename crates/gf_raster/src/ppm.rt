@@ -4,7 +4,7 @@ ghost use Rattle.std.specs.Prelude.{◌≡◌, ℕ, ◌+◌, ◌<◌, ◌≤◌,
 ghost use Rattle.std.specs.Io.KnownBytes.{Appends};
 ghost use Rattle.gf_streams.specs.Counts.{Rises};
 ghost use Rattle.gf_streams.specs.Taken.{AppendsPrefix};
-ghost use Rattle.gf_drawing.specs.DrawingColour.{drawing_colour};
+ghost use Rattle.gf_figures.specs.DrawingColour.{drawing_colour};
 ghost use Rattle.gf_scanline.specs.Layers.{layered};
 ghost use Rattle.gf_scanline.specs.Picture.{header, picture, raster};
 ghost use Rattle.gf_raster.specs.Bands.{HasBands};
@@ -16,7 +16,7 @@ use crate::crew::Crew;
 use crate::shown_rows::ShownRows;
 use crate::tiles::TILE;
 use gf_digits::push_number;
-use gf_drawing::Drawing;
+use gf_figures::Drawing;
 use gf_scanline::{Layers, Window};
 use gf_shape::Shape;
 use gf_streams::{Sink, WriteError, write_all};

@@ -6,10 +6,10 @@ ghost use Rattle.gf_replay.specs.LineSteps.{RefusesSettling};
 ghost use Rattle.gf_replay.specs.Taking.{RefusesOp, Settles, TakesOp, of_line};
 
 use crate::{LineCause, ReadingError};
+use gf_base::OutOfMemory;
 use gf_causal::OfferFault;
 use gf_json::LineError;
 use gf_ops::Op;
-use gf_shape::OutOfMemory;
 use gf_site::{Replica, Step, Table};
 
 /// Receives the operation of the line of this number, and steps until nothing is ready. After an

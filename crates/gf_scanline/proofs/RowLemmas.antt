@@ -13,8 +13,8 @@ use Rattle.gf_shape.specs.declared.colour.Rgb.{Rgb}
 use Rattle.gf_shape.specs.declared.point.Point.{Point}
 use Rattle.gf_shape.specs.Rows.{IsRow}
 use Rattle.gf_shape.specs.ShapeLaws.{IsBounds}
+use Rattle.gf_shape.specs.White.{white}
 use Rattle.gf_scanline.specs.Strips.{Shown, over, IsPainted}
-use Rattle.gf_versions.specs.HistoryColour.{white}
 use Rattle.gf_scanline.specs.Windows.{View, column, line, sample}
 use Rattle.gf_scanline.specs.declared.layer.Layer.{Layer}
 use Rattle.gf_scanline.specs.declared.piece.Piece.{Piece}

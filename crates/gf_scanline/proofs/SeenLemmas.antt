@@ -5,9 +5,9 @@ use Rattle.std.proofs.lemmas.List.{map-append, map_more}
 use Rattle.std.proofs.lemmas.Bool.{cases_Bool}
 use Rattle.gf_shape.specs.declared.colour.Rgb.{Rgb}
 use Rattle.gf_shape.specs.declared.point.Point.{Point}
-use Rattle.gf_drawing.specs.declared.figure.Figure.{Figure}
-use Rattle.gf_drawing.specs.Colours.{Table}
-use Rattle.gf_drawing.specs.DrawingColour.{figure_colour, front_colour}
+use Rattle.gf_figures.specs.declared.figure.Figure.{Figure}
+use Rattle.gf_figures.specs.Colours.{Table}
+use Rattle.gf_figures.specs.DrawingColour.{figure_colour, front_colour}
 use Rattle.gf_scanline.specs.declared.layer.Layer.{Layer}
 use Rattle.gf_scanline.specs.Layers.{layered}
 use Rattle.gf_scanline.specs.Seen.{seen, seen_figure}

@@ -6,7 +6,7 @@ use Rattle.gf_shape.specs.declared.point.Point.{Point}
 use Rattle.gf_shape.specs.declared.outline.Outline.TheVariants.{Chain}
 use Rattle.gf_shape.specs.Ring.{Ring}
 use Rattle.gf_shape.specs.ShapeLaws.{IsBounds, IsOutlineOf}
-use Rattle.gf_versions.specs.HistoryColour.{white}
+use Rattle.gf_shape.specs.White.{white}
 use Rattle.gf_scanline.specs.Windows.{View, sample}
 use Rattle.gf_scanline.specs.declared.layer.Layer.{Layer}
 

@@ -2,12 +2,12 @@
 
 ghost use Rattle.std.specs.Prelude.{◌≡◌, All, IfOk, IfSome, map};
 ghost use Rattle.gf_shape.specs.declared.point.Point.{Point};
-ghost use Rattle.gf_drawing.specs.DrawingColour.{drawing_colour, figure_colour};
+ghost use Rattle.gf_figures.specs.DrawingColour.{drawing_colour, figure_colour};
 ghost use Rattle.gf_scanline.specs.Layers.{IsChainOf, IsLayer, layered};
 ghost use Rattle.gf_scanline.specs.Seen.{seen, seen_figure};
 
 use crate::{Brush, Layer};
-use gf_drawing::{Drawing, Figure};
+use gf_figures::{Drawing, Figure};
 use gf_shape::{Chain, OutOfMemory, Outline, Rgb, Shape};
 use std::alloc::Global;
 use std::marker::Model;

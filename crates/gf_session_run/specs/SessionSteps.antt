@@ -6,8 +6,8 @@ use Rattle.gf_shape.specs.declared.any_shape.AnyShape.{AnyShape}
 use Rattle.gf_shape.specs.Outlines.{any_outline}
 use Rattle.gf_ops.specs.declared.op.Op.{Op}
 use Rattle.gf_streams.specs.TextLines.{numbered_lines}
+use Rattle.gf_figures.specs.DrawingState.{DrawingState}
 use Rattle.gf_drawing.specs.declared.compiling.CompileFault.TheVariants as compile
-use Rattle.gf_drawing.specs.DrawingState.{DrawingState}
 use Rattle.gf_fig_write.specs.FigText.{fig_text}
 use Rattle.gf_fig_write.specs.ShownHistory.{Shows}
 use Rattle.gf_session.specs.declared.session.Done.{Done}

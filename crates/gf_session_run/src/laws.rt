@@ -3,7 +3,7 @@
 ghost use Rattle.std.specs.Prelude.{◌≡◌, ℕ, List, Contains};
 ghost use Rattle.gf_shape.specs.declared.any_shape.AnyShape.{AnyShape};
 ghost use Rattle.gf_shape.specs.Outlines.{any_outline};
-ghost use Rattle.gf_drawing.specs.DrawingState.{DrawingState};
+ghost use Rattle.gf_figures.specs.DrawingState.{DrawingState};
 ghost use Rattle.gf_fig_write.specs.FigText.{fig_text};
 ghost use Rattle.gf_fig_write.specs.ShownHistory.{Shows};
 ghost use Rattle.gf_worker.specs.declared.script.Script.{Script};

@@ -18,3 +18,4 @@ pub mod BoundsOf
 pub mod Opened
 pub mod Laws
 pub mod ColourBytes
+pub mod White

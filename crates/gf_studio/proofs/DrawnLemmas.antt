@@ -7,10 +7,10 @@ use Rattle.gf_versions.specs.declared.placed.Placed.{Placed}
 use Rattle.gf_versions.specs.Ranking.{AreRanked}
 use Rattle.gf_versions.proofs.SameHistoryLemmas.{ranked_alike, ranks_both}
 use Rattle.gf_causal.specs.DeliveredPart.{HaveSame}
+use Rattle.gf_figures.specs.DrawingState.{DrawingState}
 use Rattle.gf_drawing.specs.declared.compiling.CompileFault.{CompileFault}
 use Rattle.gf_drawing.specs.declared.compiling.CompileFault.TheVariants as compile
 use Rattle.gf_drawing.specs.CanonicalDrawing.{Fits, IsCanonical, canonical_drawing, colours_of}
-use Rattle.gf_drawing.specs.DrawingState.{DrawingState}
 use Rattle.gf_drawing.proofs.CanonicalColour.{canonical_colour, canonical_colour-outlined}
 use Rattle.gf_replay.specs.Denoting.{Denotes}
 use Rattle.gf_base.specs.declared.memory.OutOfMemory.{OutOfMemory}

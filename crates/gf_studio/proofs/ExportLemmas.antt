@@ -4,8 +4,8 @@ use Rattle.std.specs.Io.KnownBytes.{Appends}
 use Rattle.std.proofs.Common.{ℕ, List, refl}
 use Rattle.gf_shape.specs.declared.any_shape.AnyShape.{AnyShape}
 use Rattle.gf_shape.specs.Outlines.{any_outline}
-use Rattle.gf_drawing.specs.DrawingState.{DrawingState}
-use Rattle.gf_drawing.specs.Outlined.{outlined}
+use Rattle.gf_figures.specs.DrawingState.{DrawingState}
+use Rattle.gf_figures.specs.Outlined.{outlined}
 use Rattle.gf_fig_read.specs.FigGrammar.{Reads}
 use Rattle.gf_fig_write.specs.FigText.{fig_text}
 use Rattle.gf_fig_write.proofs.CanonicalLemmas.{canonical_reads, shows}

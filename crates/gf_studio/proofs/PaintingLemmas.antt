@@ -10,10 +10,10 @@ use Rattle.gf_shape.specs.Laws.Shapes.{any_outlines}
 use Rattle.gf_shape.specs.Outlines.{any_outline}
 use Rattle.gf_shape.specs.ShapeMeaning.{any_holds}
 use Rattle.gf_versions.proofs.TopLemmas.{one_colour}
-use Rattle.gf_drawing.specs.DrawingColour.{drawing_colour}
-use Rattle.gf_drawing.specs.DrawingState.{DrawingState}
-use Rattle.gf_drawing.specs.Outlined.{outlined}
-use Rattle.gf_drawing.proofs.OutlinedLemmas.{drawing_colour-outlined}
+use Rattle.gf_figures.specs.DrawingColour.{drawing_colour}
+use Rattle.gf_figures.specs.DrawingState.{DrawingState}
+use Rattle.gf_figures.specs.Outlined.{outlined}
+use Rattle.gf_figures.proofs.OutlinedLemmas.{drawing_colour-outlined}
 use Rattle.gf_fig_read.specs.FigGrammar.{Fails, Reads}
 use Rattle.gf_fig_read.specs.Objects.{Drawn}
 use Rattle.gf_fig_tokens.specs.declared.faults.FigFault.{FigFault}

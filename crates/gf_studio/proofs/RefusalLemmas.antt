@@ -2,10 +2,10 @@
 use Rattle.std.proofs.Common.{ℕ, List, length, arith, ap}
 use Rattle.gf_shape.specs.declared.any_shape.AnyShape.{AnyShape}
 use Rattle.gf_versions.proofs.SameHistoryLemmas.{ranked_alike}
+use Rattle.gf_figures.specs.DrawingState.{DrawingState}
 use Rattle.gf_drawing.specs.declared.compiling.CompileFault.{CompileFault}
 use Rattle.gf_drawing.specs.declared.compiling.CompileFault.TheVariants as compile
 use Rattle.gf_drawing.specs.CanonicalDrawing.{colours_of}
-use Rattle.gf_drawing.specs.DrawingState.{DrawingState}
 use Rattle.gf_replay.proofs.SameLemmas.{one_history}
 use Rattle.gf_studio.specs.FigRun.{Draws, RefusesCompiling}
 

@@ -5,7 +5,7 @@ use Rattle.gf_shape.specs.declared.any_shape.AnyShape.{AnyShape}
 use Rattle.gf_shape.specs.Outlines.{any_outline}
 use Rattle.gf_ops.specs.declared.op.Op.{Op}
 use Rattle.gf_causal.specs.DeliveredPart.{HaveSame}
-use Rattle.gf_drawing.specs.DrawingState.{DrawingState}
+use Rattle.gf_figures.specs.DrawingState.{DrawingState}
 use Rattle.gf_fig_write.specs.FigText.{fig_text}
 use Rattle.gf_scanline.specs.Windows.{View}
 use Rattle.gf_replay.specs.Denoting.{Denotes, HaveSameOperations}

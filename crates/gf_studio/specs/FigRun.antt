@@ -6,11 +6,11 @@ use Rattle.gf_ops.specs.declared.op.ObjectId.{ObjectId}
 use Rattle.gf_ops.specs.declared.op.Op.{Op}
 use Rattle.gf_versions.specs.declared.placed.Placed.{Placed}
 use Rattle.gf_versions.specs.Ranking.{AreRanked}
+use Rattle.gf_figures.specs.DrawingState.{DrawingState}
+use Rattle.gf_figures.specs.Outlined.{outlined}
 use Rattle.gf_drawing.specs.declared.compiling.CompileFault.{CompileFault}
 use Rattle.gf_drawing.specs.declared.compiling.CompileFault.TheVariants as compile
-use Rattle.gf_drawing.specs.CanonicalDrawing.{IsCanonical, Paints, colours_of}
-use Rattle.gf_drawing.specs.DrawingState.{DrawingState}
-use Rattle.gf_drawing.specs.Outlined.{PaintsAsFig, outlined}
+use Rattle.gf_drawing.specs.CanonicalDrawing.{IsCanonical, Paints, PaintsAsFig, colours_of}
 use Rattle.gf_fig_read.specs.FigGrammar.{Reads}
 use Rattle.gf_fig_write.specs.FigText.{fig_text}
 use Rattle.gf_fig_write.specs.ShownHistory.{Shows}

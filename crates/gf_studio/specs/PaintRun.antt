@@ -6,8 +6,8 @@ use Rattle.gf_shape.specs.declared.colour.Rgb.{Rgb}
 use Rattle.gf_shape.specs.declared.point.Point.{Point}
 use Rattle.gf_shape.specs.FigureMeaning.{outline_holds}
 use Rattle.gf_versions.specs.HistoryColour.{HistoryColour}
-use Rattle.gf_drawing.specs.DrawingColour.{drawing_colour}
-use Rattle.gf_drawing.specs.DrawingState.{DrawingState}
+use Rattle.gf_figures.specs.DrawingColour.{drawing_colour}
+use Rattle.gf_figures.specs.DrawingState.{DrawingState}
 use Rattle.gf_streams.specs.declared.sink.Sink.{Ghosts as Sink}
 use Rattle.gf_fig_read.specs.FigGrammar.{Reads}
 use Rattle.gf_fig_read.specs.Objects.{Drawn}

@@ -2,7 +2,7 @@
 
 ghost use Rattle.std.specs.Prelude.{◌≡◌, ◌≢◌, ◌≤◌, IfSome, IfOk, IfErr};
 ghost use Rattle.gf_shape.specs.ShapeMeaning.{any_holds};
-ghost use Rattle.gf_drawing.specs.DrawingColour.{drawing_colour};
+ghost use Rattle.gf_figures.specs.DrawingColour.{drawing_colour};
 ghost use Rattle.gf_fig_read.specs.FigGrammar.{Reads};
 ghost use Rattle.gf_versions.specs.Ranking.{AreRanked};
 ghost use Rattle.gf_studio.specs.FigRun.{Draws, HoldsBack, IsDrawn, RefusesHistory};
@@ -13,8 +13,9 @@ ghost use Rattle.gf_studio.specs.PaintRun.{IsMeant};
 ghost use Rattle.gf_studio.specs.RunAnswers.{ReadsInput};
 
 use crate::StudioError;
-use gf_drawing::{CompileFault, Drawing, MOST_VERSIONS, compile};
+use gf_drawing::{CompileFault, MOST_VERSIONS, compile};
 use gf_fig_read::read_fig;
+use gf_figures::Drawing;
 use gf_replay::read_site;
 use gf_shape::{AnyShape, OutOfMemory, Outline};
 use gf_site::Site;

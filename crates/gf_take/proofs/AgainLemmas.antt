@@ -31,9 +31,9 @@ use Rattle.gf_ops.specs.ValidHistory.{IsValid}
 use Rattle.gf_versions.specs.declared.placed.Placed.{Placed}
 use Rattle.gf_versions.specs.Ranking.{AreRanked, form_at, origin}
 use Rattle.gf_versions.proofs.LimitLemmas.{version_fits}
-use Rattle.gf_drawing.specs.declared.figure.Figure.{Figure}
-use Rattle.gf_drawing.specs.Colours.{Table}
-use Rattle.gf_drawing.specs.DrawingColour.{figure_colour}
+use Rattle.gf_figures.specs.declared.figure.Figure.{Figure}
+use Rattle.gf_figures.specs.Colours.{Table}
+use Rattle.gf_figures.specs.DrawingColour.{figure_colour}
 use Rattle.gf_import.specs.Boxes.{are_opposite, is_at, is_box, point_at}
 use Rattle.gf_take.specs.ShownDrawing.{look_at, look_of, shape_become}
 use Rattle.gf_take.specs.Matching.{AreTraced, trace}

@@ -24,10 +24,10 @@ use Rattle.gf_ops.specs.declared.change.Form.TheVariants.{Rect}
 use Rattle.gf_versions.specs.declared.placed.Placed.{Placed}
 use Rattle.gf_versions.specs.Ranking.{AreRanked, origin}
 use Rattle.gf_versions.proofs.SameHistoryLemmas.{ranked_alike}
-use Rattle.gf_drawing.specs.declared.figure.Figure.{Figure}
-use Rattle.gf_drawing.specs.Colours.{Table}
-use Rattle.gf_drawing.specs.DrawingColour.{figure_colour, from_front}
-use Rattle.gf_drawing.specs.DrawingState.{DrawingState}
+use Rattle.gf_figures.specs.declared.figure.Figure.{Figure}
+use Rattle.gf_figures.specs.Colours.{Table}
+use Rattle.gf_figures.specs.DrawingColour.{figure_colour, from_front}
+use Rattle.gf_figures.specs.DrawingState.{DrawingState}
 use Rattle.gf_import.specs.Boxes.{are_corners, are_opposite, is_box, least_corner}
 use Rattle.gf_import.specs.Boxes.{point_at}
 use Rattle.gf_import.specs.Importing.{form_of, place_of}

@@ -18,18 +18,19 @@ use Rattle.gf_shape.specs.declared.point.Point.{Point}
 use Rattle.gf_shape.specs.FigureMeaning.{outline_holds}
 use Rattle.gf_shape.specs.ShapeLaws.{IsLawful}
 use Rattle.gf_shape.specs.ShapeMeaning.{any_holds}
+use Rattle.gf_shape.specs.White.{white}
 use Rattle.gf_ops.specs.declared.op.Op.{Op}
 use Rattle.gf_versions.specs.declared.placed.Placed.{Placed}
-use Rattle.gf_versions.specs.HistoryColour.{HistoryColour, white}
+use Rattle.gf_versions.specs.HistoryColour.{HistoryColour}
 use Rattle.gf_versions.specs.Ranking.{AreRanked, first_colour}
 use Rattle.gf_versions.proofs.ShapeLemmas.{shape_holds}
 use Rattle.gf_versions.proofs.TopLemmas.{first_gives}
-use Rattle.gf_drawing.specs.declared.figure.Figure.{Figure}
-use Rattle.gf_drawing.specs.Colours.{Table}
-use Rattle.gf_drawing.specs.DrawingColour.{drawing_colour, figure_colour, figures_at, from_back}
-use Rattle.gf_drawing.specs.DrawingColour.{from_front, front_colour}
-use Rattle.gf_drawing.specs.DrawingState.{DrawingState}
-use Rattle.gf_drawing.specs.Outlined.{PaintsAsFig}
+use Rattle.gf_figures.specs.declared.figure.Figure.{Figure}
+use Rattle.gf_figures.specs.Colours.{Table}
+use Rattle.gf_figures.specs.DrawingColour.{drawing_colour, figure_colour, figures_at, from_back}
+use Rattle.gf_figures.specs.DrawingColour.{from_front, front_colour}
+use Rattle.gf_figures.specs.DrawingState.{DrawingState}
+use Rattle.gf_drawing.specs.CanonicalDrawing.{PaintsAsFig}
 use Rattle.gf_import.specs.Importing.{form_of, place_of}
 use Rattle.gf_import.proofs.OutlineLemmas.{form_holds-outline}
 use Rattle.gf_take.specs.ShownDrawing.{CanSwap, IsReordered, Look, ShowsDrawing, look_at, look_of}

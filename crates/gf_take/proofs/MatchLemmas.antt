@@ -16,11 +16,11 @@ use Rattle.gf_ops.specs.declared.change.Form.{Form}
 use Rattle.gf_ops.specs.ValidHistory.{IsValid}
 use Rattle.gf_versions.specs.declared.placed.Placed.{Placed}
 use Rattle.gf_versions.specs.Ranking.{AreRanked}
-use Rattle.gf_drawing.specs.declared.figure.Figure.{Figure}
-use Rattle.gf_drawing.specs.Colours.{Table}
-use Rattle.gf_drawing.specs.DrawingColour.{figure_colour, from_front}
-use Rattle.gf_drawing.specs.DrawingState.{DrawingState}
-use Rattle.gf_drawing.specs.Outlined.{PaintsAsFig}
+use Rattle.gf_figures.specs.declared.figure.Figure.{Figure}
+use Rattle.gf_figures.specs.Colours.{Table}
+use Rattle.gf_figures.specs.DrawingColour.{figure_colour, from_front}
+use Rattle.gf_figures.specs.DrawingState.{DrawingState}
+use Rattle.gf_drawing.specs.CanonicalDrawing.{PaintsAsFig}
 use Rattle.gf_take.specs.Matching.{AreMatched, AreShown, AreTraced, IsLikeAt, IsTraced}
 use Rattle.gf_take.specs.Matching.{TakesLike, TakesNone, trace}
 use Rattle.gf_take.specs.ShownDrawing.{CanSwap, IsReordered, LooksLike, ShowsDrawing, TakesOut}

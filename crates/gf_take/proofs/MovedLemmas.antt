@@ -13,9 +13,9 @@ use Rattle.gf_shape.specs.FigureMeaning.{outline_holds}
 use Rattle.gf_shape.specs.ShapeLaws.{IsBounds, IsLawful}
 use Rattle.gf_shape.specs.ShapeMeaning.{any_holds}
 use Rattle.gf_versions.specs.Ranking.{form_at}
-use Rattle.gf_drawing.specs.declared.figure.Figure.{Figure}
-use Rattle.gf_drawing.specs.Colours.{Table}
-use Rattle.gf_drawing.specs.DrawingColour.{figure_colour}
+use Rattle.gf_figures.specs.declared.figure.Figure.{Figure}
+use Rattle.gf_figures.specs.Colours.{Table}
+use Rattle.gf_figures.specs.DrawingColour.{figure_colour}
 use Rattle.gf_import.specs.Importing.{form_of, place_of}
 use Rattle.gf_take.specs.Matching.{IsTraced}
 use Rattle.gf_take.specs.ShownDrawing.{CanSwap, IsReordered, TakesOut, behind, first, next}

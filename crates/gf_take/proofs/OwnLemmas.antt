@@ -10,20 +10,23 @@ use Rattle.gf_shape.specs.declared.any_shape.AnyShape.{AnyShape}
 use Rattle.gf_shape.specs.declared.colour.Rgb.{Rgb}
 use Rattle.gf_shape.specs.declared.outline.Outline.{Outline}
 use Rattle.gf_shape.specs.Outlines.{any_outline}
+use Rattle.gf_shape.specs.White.{white}
 use Rattle.gf_ops.specs.declared.op.Op.{Op}
 use Rattle.gf_ops.specs.ConflictTests.{colour_eq}
 use Rattle.gf_ops.specs.ValidHistory.{IsValid}
 use Rattle.gf_versions.specs.declared.placed.Placed.{Placed}
-use Rattle.gf_versions.specs.HistoryColour.{white}
 use Rattle.gf_versions.specs.Ranking.{AreRanked}
-use Rattle.gf_drawing.specs.declared.figure.Figure.{Figure}
+use Rattle.gf_figures.specs.declared.figure.Figure.{Figure}
+use Rattle.gf_figures.specs.Colours.{Table}
+use Rattle.gf_figures.specs.DrawingColour.{figures_at, from_back}
+use Rattle.gf_figures.specs.DrawingState.{DrawingState}
+use Rattle.gf_figures.specs.Outlined.{figure_outlined, outlined}
+use Rattle.gf_figures.proofs.SortedLemmas.{at, comes_first, flat_map-reverse, flat_map-same}
+use Rattle.gf_figures.proofs.SortedLemmas.{in_turn}
+use Rattle.gf_figures.proofs.SortedLemmas.{empty_turn, none_at}
 use Rattle.gf_drawing.specs.CanonicalDrawing.{IsCanonical, canonical_figure}
 use Rattle.gf_drawing.specs.CanonicalDrawing.{canonical_drawing, canonical_figures}
 use Rattle.gf_drawing.specs.CanonicalDrawing.{canonical_table, colours_of}
-use Rattle.gf_drawing.specs.Colours.{Table}
-use Rattle.gf_drawing.specs.DrawingColour.{figures_at, from_back}
-use Rattle.gf_drawing.specs.DrawingState.{DrawingState}
-use Rattle.gf_drawing.specs.Outlined.{figure_outlined, outlined}
 use Rattle.gf_drawing.proofs.CompilingLemmas.{own_colour}
 use Rattle.gf_drawing.proofs.NumberLemmas.{number_gives}
 use Rattle.gf_fig_named.specs.NamedText.{IsNamedText}
@@ -32,9 +35,6 @@ use Rattle.gf_fig_named.proofs.RaisedLemmas.{IsRising, named_fits, named_rises}
 use Rattle.gf_take.specs.ShownDrawing.{IsReordered, ShowsDrawing, first, look_at, look_of, next}
 use Rattle.gf_take.specs.ShownDrawing.{none, shape_become}
 use Rattle.gf_take.proofs.AgainLemmas.{items_again}
-use Rattle.gf_drawing.proofs.SortedLemmas.{at, comes_first, flat_map-reverse, flat_map-same}
-use Rattle.gf_drawing.proofs.SortedLemmas.{in_turn}
-use Rattle.gf_drawing.proofs.SortedLemmas.{empty_turn, none_at}
 
 module _ {F : Type 0} (depth : F → ℕ) where
   -- each depth is above those before it, from m on

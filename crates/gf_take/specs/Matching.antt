@@ -11,9 +11,9 @@ use Rattle.gf_shape.specs.Outlines.{any_outline}
 use Rattle.gf_shape.specs.ShapeLaws.{IsLawful}
 use Rattle.gf_ops.specs.declared.change.Form.{Form}
 use Rattle.gf_versions.specs.declared.placed.Placed.{Placed}
-use Rattle.gf_drawing.specs.declared.figure.Figure.{Figure}
-use Rattle.gf_drawing.specs.Colours.{Table}
-use Rattle.gf_drawing.specs.DrawingColour.{figure_colour}
+use Rattle.gf_figures.specs.declared.figure.Figure.{Figure}
+use Rattle.gf_figures.specs.Colours.{Table}
+use Rattle.gf_figures.specs.DrawingColour.{figure_colour}
 use Rattle.gf_import.specs.Importing.{form_of, place_of}
 use Rattle.gf_take.specs.ShownDrawing.{CanSwap, IsReordered, TakesOut}
 

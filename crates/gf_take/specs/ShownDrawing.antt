@@ -12,10 +12,10 @@ use Rattle.gf_shape.specs.ShapeLaws.{IsBounds, IsInBounds}
 use Rattle.gf_ops.specs.declared.op.Op.{Op}
 use Rattle.gf_versions.specs.declared.placed.Placed.{Placed}
 use Rattle.gf_versions.specs.Ranking.{AreRanked, form_at}
-use Rattle.gf_drawing.specs.declared.figure.Figure.{Figure}
-use Rattle.gf_drawing.specs.Colours.{Table}
-use Rattle.gf_drawing.specs.DrawingColour.{figure_colour, from_front}
-use Rattle.gf_drawing.specs.DrawingState.{DrawingState}
+use Rattle.gf_figures.specs.declared.figure.Figure.{Figure}
+use Rattle.gf_figures.specs.Colours.{Table}
+use Rattle.gf_figures.specs.DrawingColour.{figure_colour, from_front}
+use Rattle.gf_figures.specs.DrawingState.{DrawingState}
 use Rattle.gf_import.specs.Importing.{form_of, place_of}
 
 -- what is seen of an object: its shape at its place, and its colour

@@ -11,8 +11,8 @@ use Rattle.gf_site.specs.Events.{Refuses}
 use Rattle.gf_site.specs.declared.faults.AuthorFault.{AuthorFault}
 use Rattle.gf_site.specs.declared.faults.AuthorFault.TheVariants as fault
 use Rattle.gf_visible.specs.ShownVersions.{HasMoreVisible}
-use Rattle.gf_drawing.specs.DrawingState.{DrawingState}
-use Rattle.gf_drawing.specs.Outlined.{PaintsAsFig}
+use Rattle.gf_figures.specs.DrawingState.{DrawingState}
+use Rattle.gf_drawing.specs.CanonicalDrawing.{PaintsAsFig}
 use Rattle.gf_keep.specs.MadeOf.{MakesEach}
 use Rattle.gf_take.specs.ShownDrawing.{ShowsDrawing}
 use Rattle.gf_take.specs.declared.take_error.TakeError.{TakeError}

@@ -4,7 +4,7 @@ ghost use Rattle.std.specs.Prelude.{◌≡◌, ◌↔◌, IfOk, IsTrue};
 ghost use Rattle.gf_take.specs.Matching.{BecomeAlike, IsTraced};
 
 use crate::swapping::{colour_of, same_colour};
-use gf_drawing::{Drawing, Figure};
+use gf_figures::{Drawing, Figure};
 use gf_import::{form_of, place_of};
 use gf_ops::{Form, Points};
 use gf_shape::{OutOfMemory, Outline, Point, Rgb};

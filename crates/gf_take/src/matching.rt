@@ -2,14 +2,14 @@
 
 ghost use Rattle.std.specs.Prelude.{◌≡◌, ◌↔◌, ◌<◌, true, false, IfOk, IfSome, IfNone, IsTrue, All};
 ghost use Rattle.std.specs.Prelude.{length, map};
-ghost use Rattle.gf_drawing.specs.DrawingColour.{from_front};
+ghost use Rattle.gf_figures.specs.DrawingColour.{from_front};
 ghost use Rattle.gf_shape.specs.Outlines.{any_outline};
 ghost use Rattle.gf_take.specs.Matching.{AreShown, AreTraced, IsLikeAt, IsTraced};
 ghost use Rattle.gf_take.specs.Matching.{TakesLike, TakesNone};
 
 use crate::looks::looks;
 use crate::swapping::can_pass;
-use gf_drawing::{Drawing, Figure};
+use gf_figures::{Drawing, Figure};
 use gf_shape::{AnyShape, OutOfMemory, Outline, Rgb, Shape};
 use gf_versions::Placed;
 use std::alloc::Global;

@@ -1,11 +1,11 @@
 //! Whether two figures may change places in the order without being seen to.
 
 ghost use Rattle.std.specs.Prelude.{◌≡◌, ◌↔◌, IsTrue, All, map};
-ghost use Rattle.gf_drawing.specs.DrawingColour.{figure_colour};
+ghost use Rattle.gf_figures.specs.DrawingColour.{figure_colour};
 ghost use Rattle.gf_take.specs.Matching.{are_apart, lie_beside};
 ghost use Rattle.gf_take.specs.ShownDrawing.{AreApart, CanSwap};
 
-use gf_drawing::{Drawing, Figure};
+use gf_figures::{Drawing, Figure};
 use gf_shape::{Bounds, Outline, Rgb, Shape};
 
 /// The colour of a figure whose number has none.

@@ -2,7 +2,7 @@
 
 ghost use Rattle.std.specs.Prelude.{◌≡◌, ◌++◌, true, false, [], All, IfOk, IfErr, OnOk};
 ghost use Rattle.gf_shape.specs.ShapeLaws.{IsLawful};
-ghost use Rattle.gf_drawing.specs.Outlined.{PaintsAsFig};
+ghost use Rattle.gf_drawing.specs.CanonicalDrawing.{PaintsAsFig};
 ghost use Rattle.gf_take.specs.ShownDrawing.{LooksLike, ShowsDrawing};
 ghost use Rattle.gf_take.specs.Taking.{RefusesTake, Takes};
 ghost use Rattle.gf_take.specs.TakingSteps.{HasMade, MakesOne, RefusesAll, RefusesOne};
@@ -10,7 +10,8 @@ ghost use Rattle.gf_take.specs.TakingSteps.{RefusesShowing};
 
 use crate::TakeError;
 use crate::matching::{look_alike, show_figures};
-use gf_drawing::{Drawing, MOST_VERSIONS};
+use gf_drawing::MOST_VERSIONS;
+use gf_figures::Drawing;
 use gf_ops::{Change, Op};
 use gf_shape::Outline;
 use gf_site::{AuthorFault, Site};

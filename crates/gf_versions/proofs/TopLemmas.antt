@@ -14,9 +14,10 @@ use Rattle.gf_versions.specs.declared.key.VersionKey.{VersionKey}
 use Rattle.gf_shape.specs.declared.any_shape.AnyShape.{AnyShape}
 use Rattle.gf_versions.specs.declared.placed.Placed.{Placed}
 use Rattle.gf_shape.specs.ShapeMeaning.{any_holds}
+use Rattle.gf_shape.specs.White.{white}
 use Rattle.gf_versions.specs.Above.{IsAbove, AreOrdered, same, first_above, second_above, key_cmp}
 use Rattle.gf_versions.specs.ListedVersions.{shown_of}
-use Rattle.gf_versions.specs.HistoryColour.{HistoryColour, HasOneColour, IsSeenAt, IsTopAt, top, blank, white}
+use Rattle.gf_versions.specs.HistoryColour.{HistoryColour, HasOneColour, IsSeenAt, IsTopAt, top, blank}
 use Rattle.gf_versions.specs.Ranking.{AreRanked, first_colour, placed_version}
 use Rattle.gf_versions.specs.VersionOf.{IsVersionOf}
 use Rattle.gf_versions.specs.Visible.{IsVisible, version_holds}

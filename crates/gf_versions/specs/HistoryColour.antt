@@ -2,14 +2,11 @@
 use Rattle.std.specs.Prelude.{◌≡◌, List, IsTrue}
 use Rattle.gf_shape.specs.declared.point.Point.{Point}
 use Rattle.gf_shape.specs.declared.colour.Rgb.{Rgb}
+use Rattle.gf_shape.specs.White.{white}
 use Rattle.gf_ops.specs.declared.op.Op.{Op}
 use Rattle.gf_versions.specs.declared.key.Version.{Version}
 use Rattle.gf_versions.specs.Above.{IsAbove}
 use Rattle.gf_versions.specs.Visible.{IsVisible, version_holds}
-
--- the colour of the ground
-abbrev pub white : Rgb
-white = record { r = 255; g = 255; b = 255 }
 
 -- v is visible and holds p
 pub record IsSeenAt (h : List Op) (p : Point) (v : Version) : Type 0 where

@@ -6,6 +6,7 @@ use Rattle.gf_shape.specs.declared.colour.Rgb.{Rgb}
 use Rattle.gf_shape.specs.declared.any_shape.AnyShape.{AnyShape}
 use Rattle.gf_shape.specs.declared.any_shape.AnyShape.TheVariants as any
 use Rattle.gf_shape.specs.ShapeMoves.{any_moved}
+use Rattle.gf_shape.specs.White.{white}
 use Rattle.gf_ops.specs.declared.op.Op.{Op}
 use Rattle.gf_ops.specs.declared.change.Form.{Form}
 use Rattle.gf_ops.specs.declared.change.Form.TheVariants.{Rect, Circle, Ellipse, Polygon}
@@ -13,7 +14,6 @@ use Rattle.gf_groups.specs.declared.group.Group.{Group}
 use Rattle.gf_versions.specs.declared.key.Version.{Version}
 use Rattle.gf_versions.specs.declared.placed.Placed.{Placed}
 use Rattle.gf_versions.specs.Above.{IsAbove}
-use Rattle.gf_versions.specs.HistoryColour.{white}
 use Rattle.gf_versions.specs.Visible.{IsVisible}
 
 -- the origin, from which no form is moved

@@ -3,9 +3,9 @@ use Rattle.std.specs.Prelude.{◌≡◌, refl, ℕ, pos, [], ◌∷◌}
 use Rattle.gf_shape.specs.declared.point.Point.{Point}
 use Rattle.gf_shape.specs.Area.{Area}
 use Rattle.gf_shape.specs.ShapeMeaning.{rect_holds}
-use Rattle.gf_drawing.specs.declared.figure.Figure.{Figure}
-use Rattle.gf_drawing.specs.Colours.{rgb}
-use Rattle.gf_drawing.specs.DrawingColour.{drawing_colour, from_back}
+use Rattle.gf_figures.specs.declared.figure.Figure.{Figure}
+use Rattle.gf_figures.specs.Colours.{rgb}
+use Rattle.gf_figures.specs.DrawingColour.{drawing_colour, from_back}
 
 -- the point of which both coordinates are n
 abbrev pub at : ℕ → Point

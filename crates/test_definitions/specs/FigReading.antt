@@ -4,7 +4,7 @@ use Rattle.std.specs.Prelude.{refl, ℕ, ℤ, pos, false, List, [], ◌∷◌, �
 use Rattle.gf_shape.specs.declared.point.Point.{Point}
 use Rattle.gf_shape.specs.declared.outline.Outline.TheVariants.{Chain, Disc, Oval}
 use Rattle.gf_shape.specs.Reach.{is_reached}
-use Rattle.gf_drawing.specs.Colours.{rgb}
+use Rattle.gf_figures.specs.Colours.{rgb}
 use Rattle.gf_fig_tokens.specs.declared.faults.FigFault.TheVariants as fault
 use Rattle.gf_fig_tokens.specs.Layout.{object_tokens}
 use Rattle.gf_fig_tokens.specs.Forms.{whole, decimal, colour, angle}

@@ -7,8 +7,8 @@ use Rattle.gf_shape.specs.declared.outline.Outline.{Outline}
 use Rattle.gf_shape.specs.declared.outline.Outline.TheVariants.{Chain, Disc, Oval}
 use Rattle.gf_shape.specs.Area.{Area}
 use Rattle.gf_shape.specs.Outlines.{rect_outline}
-use Rattle.gf_drawing.specs.Colours.{rgb}
-use Rattle.gf_drawing.specs.DrawingState.{DrawingState}
+use Rattle.gf_figures.specs.Colours.{rgb}
+use Rattle.gf_figures.specs.DrawingState.{DrawingState}
 use Rattle.gf_fig_write.specs.FigText.{fig_header, fig_text, outline_lines}
 
 -- the point of these coordinates

@@ -1,6 +1,7 @@
 //! Worked examples: from histories to drawings.
 
-use gf_drawing::{CompileFault, Drawing, compile};
+use gf_drawing::{CompileFault, compile};
+use gf_figures::Drawing;
 use gf_ops::{Form, History, Ids, ObjectId, Op, OpId, Start};
 use gf_shape::{AnyShape, Circle, Outline, Point, Rgb, Shape};
 use gf_versions::{Placed, Ranked, VersionKey, ranked};

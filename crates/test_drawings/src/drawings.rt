@@ -2,7 +2,7 @@
 
 ghost use Rattle.std.specs.Prelude.{◌≤◌};
 
-use gf_drawing::{Drawing, Figure, outlines_paint_as_their_shapes};
+use gf_figures::{Drawing, Figure, outlines_paint_as_their_shapes};
 use gf_shape::{AnyShape, Circle, Outline, Point, Polygon, Rect, Rgb, Shape};
 use std::alloc::Global;
 use std::test::Fail;

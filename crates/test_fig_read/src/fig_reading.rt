@@ -1,8 +1,8 @@
 //! Worked examples of reading FIG texts.
 
 use crate::readings::{fault_at, fault_of, text};
-use gf_drawing::Drawing;
 use gf_fig_read::{FigFault, every_text_reads_as_one_drawing_or_fails_once, read_fig};
+use gf_figures::Drawing;
 use gf_shape::Outline;
 use std::alloc::Global;
 use std::test::Fail;

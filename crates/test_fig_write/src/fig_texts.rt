@@ -1,7 +1,7 @@
 //! Worked examples of the FIG text and of its writing.
 
-use gf_drawing::Drawing;
 use gf_fig_write::{fig_bytes, write_fig};
+use gf_figures::Drawing;
 use gf_shape::{AnyShape, Chain, Circle, Disc, Outline, Oval, Polygon, Rect, Shape};
 use gf_streams::{Tape, WriteError};
 use std::alloc::Global;

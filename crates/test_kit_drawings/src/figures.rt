@@ -2,7 +2,7 @@
 
 ghost use Rattle.std.specs.Prelude.{◌≡◌};
 
-use gf_drawing::{Drawing, Figure};
+use gf_figures::{Drawing, Figure};
 use gf_shape::{Bounds, Point, Rgb, Shape};
 use std::alloc::{AllocError, Global};
 use std::test::Fail;

@@ -3,10 +3,11 @@
 
 use crate::examples::{MOVED, RED_BOX_MADE, is_text, red_box, site};
 use crate::trial::{Came, Marks};
-use gf_drawing::{CompileFault, Drawing, Figure};
+use gf_drawing::CompileFault;
 use gf_fig_named::Names;
 use gf_fig_read::{FigError, FigFault};
 use gf_fig_write::fig_bytes as text_of;
+use gf_figures::{Drawing, Figure};
 use gf_import::CreationError;
 use gf_ops::{Change, Clock, Form, ObjectId, OpId};
 use gf_shape::{AnyShape, OutOfMemory, Outline, Rect, Shape};

@@ -1,8 +1,8 @@
 //! Trials of pictures: boxes as pixels and as PPM.
 
 use crate::trial::{Came, Marks};
-use gf_drawing::Drawing;
 use gf_fig_read::read_fig;
+use gf_figures::Drawing;
 use gf_raster::{OpenGate, Raster, Window};
 use gf_shape::{OutOfMemory, Outline};
 use gf_streams::{Tape, WriteError};

@@ -6,7 +6,7 @@ ghost use Rattle.gf_shape.specs.ShapeMeaning.{rect_holds};
 ghost use Rattle.gf_shape.specs.ShapeMoves.{rect_movable, rect_moved};
 ghost use Rattle.gf_shape.specs.Laws.Shapes.{rect_moves, rect_outlines};
 
-use gf_drawing::{Drawing, Figure};
+use gf_figures::{Drawing, Figure};
 use gf_raster::{Gate, Window, paint};
 use gf_shape::{Bounds, OutOfMemory, Outline, Point, Rect, Row, Shape};
 use std::alloc::Global;

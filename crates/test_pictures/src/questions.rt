@@ -1,7 +1,7 @@
 //! The questions of the tables: a drawing, `;`, a window, and how many workers paint it.
 
-use gf_drawing::Drawing;
 use gf_fig_read::read_fig;
+use gf_figures::Drawing;
 use gf_raster::{Gate, Window, paint, ppm_to};
 use gf_shape::{Outline, Point, Range, Rgb};
 use gf_streams::{Tape, WriteError};

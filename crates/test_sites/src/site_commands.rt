@@ -1,9 +1,9 @@
 //! Commands about a site.
 
+use gf_base::OutOfMemory;
 use gf_causal::{OfferFault, Offered};
 use gf_groups::GroupFault;
 use gf_ops::{History, ObjectId, Op};
-use gf_shape::OutOfMemory;
 use gf_site::{AuthorFault, Site, Step};
 use std::alloc::Global;
 use test_kit::notation::{change, id, operation};

@@ -1,7 +1,7 @@
 //! What a site takes of small drawings.
 
-use gf_drawing::Drawing;
 use gf_fig_read::read_fig;
+use gf_figures::Drawing;
 use gf_import::creations;
 use gf_ops::{Change, Form, Points, Start};
 use gf_shape::{Outline, Point, Rgb};

@@ -1,11 +1,10 @@
-//! The commands of the tables, which act on a history.
+//! The commands of tables that act on a history.
 
 use crate::version_commands;
-use gf_inspect::aimed_at;
-use gf_ops::{Change, History, conflicts, direct_conflict};
+use gf_ops::{History, conflicts, direct_conflict};
 use std::alloc::Global;
 use std::test::Fail;
-use test_kit::notation::{change, id, operation, point, yes};
+use test_kit::notation::{id, operation};
 use test_kit::{Answers, ask};
 
 /// What commands act on.
@@ -65,7 +64,7 @@ fn told_of(alloc: Global, history: &History, verb: &str, text: &str) -> Option<S
         "settled" => version_commands::settled(alloc, history),
         "check" => checked(alloc, history, text),
         "conflict" => standing(alloc, history, text),
-        "aimed" => aimed(alloc, history, text),
+        "aimed" => version_commands::aimed(alloc, history, text),
         _ => None,
     }
 }
@@ -102,18 +101,4 @@ fn told_standing(alloc: Global, conflict: bool, direct: bool) -> Option<String> 
         (false, true) => "directly alone",
     };
     String::from_str(alloc, word).ok()
-}
-
-/// Of `10,10: 1.1 layer 7 aim 1.1 1.2`, whether a value that is aimed at the point makes this
-/// change.
-fn aimed(alloc: Global, history: &History, text: &str) -> Option<String> {
-    let (place, what) = text.split_once(": ")?;
-    let Change::Set { value, .. } = change(alloc, what)? else {
-        return None;
-    };
-    let found = aimed_at(alloc, history, point(place)?, value).ok()?;
-    match found {
-        Some(found) => String::from_str(alloc, yes(found == change(alloc, what)?)).ok(),
-        None => String::from_str(alloc, "none").ok(),
-    }
 }

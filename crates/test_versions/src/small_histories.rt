@@ -8,7 +8,7 @@ use std::test::Fail;
 use test_kit::notation::push_ids;
 use test_kit::{BLUE, GREEN, changed, create};
 
-const BOX: OpId = OpId { site: 1, seq: 1 };
+pub(crate) const BOX: OpId = OpId { site: 1, seq: 1 };
 
 /// The change of the box 1.1 with a code below 20: either site gives it one of two colours. The
 /// change knows a number of operations of the other site.
@@ -56,7 +56,7 @@ fn clash(a: &Op, b: &Op) -> bool {
 }
 
 /// Whether the set has the operation with this index.
-fn holds(set: u32, index: usize) -> bool {
+pub(crate) fn holds(set: u32, index: usize) -> bool {
     (set >> (index % 32)) & 1 == 1
 }
 

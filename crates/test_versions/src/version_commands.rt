@@ -1,12 +1,13 @@
-//! Commands about the versions of a history: its groups, how they are ranked, and what they look
-//! like.
+//! Commands about the versions of a history: its groups, how they are ranked, what they look like,
+//! and aims at them.
 
 use gf_groups::{GroupFault, Groups, all_groups, groups_of};
-use gf_ops::{Form, History, ObjectId, OpId};
+use gf_inspect::aimed_at;
+use gf_ops::{Change, Form, History, ObjectId, OpId};
 use gf_shape::{AnyShape, Bounds, OutOfMemory, Point, Rgb, Shape};
 use gf_versions::{Placed, Ranked, Version, VersionKey, ranked, settle};
 use std::alloc::Global;
-use test_kit::notation::{id, point, push_ids, yes};
+use test_kit::notation::{change, id, point, push_ids, yes};
 
 /// The groups of an object.
 pub(crate) fn groups(alloc: Global, history: &History, text: &str) -> Option<String> {
@@ -132,6 +133,20 @@ pub(crate) fn covers(alloc: Global, history: &History, text: &str) -> Option<Str
     let ranked = ranked(alloc, history).ok()?;
     let held = ranked.items.first()?.shape.holds(point(text)?);
     String::from_str(alloc, yes(held)).ok()
+}
+
+/// Of `10,10: 1.1 layer 7 aim 1.1 1.2`, whether a value that is aimed at the point makes this
+/// change.
+pub(crate) fn aimed(alloc: Global, history: &History, text: &str) -> Option<String> {
+    let (place, what) = text.split_once(": ")?;
+    let Change::Set { value, .. } = change(alloc, what)? else {
+        return None;
+    };
+    let found = aimed_at(alloc, history, point(place)?, value).ok()?;
+    match found {
+        Some(found) => String::from_str(alloc, yes(found == change(alloc, what)?)).ok(),
+        None => String::from_str(alloc, "none").ok(),
+    }
 }
 
 /// The settled values of the first group.

@@ -1,6 +1,6 @@
 use Rattle.std.proofs.Common.{◌+◌, ◌∙◌, [], arith, length, length-append, take, sym, ap}
-use Rattle.gf_drawing.specs.Colours.{rgb}
-use Rattle.gf_drawing.specs.DrawingState.{DrawingState}
+use Rattle.gf_figures.specs.Colours.{rgb}
+use Rattle.gf_figures.specs.DrawingState.{DrawingState}
 use Rattle.gf_drawing.proofs.NumberLemmas.{free_next}
 use Rattle.gf_drawing.proofs.CompilingLemmas.{numbered-next}
 use Rattle.gf_drawing.proofs.compiling.add_colours.Goals as goal

@@ -1,7 +1,7 @@
 use Rattle.std.proofs.Common.{◌+◌, ◌++◌, ◌∷◌, arith, length, length-append, append_assoc, sym, ap, ◌∙◌}
 use Rattle.std.specs.Vec.Iter.{into_iter_items}
+use Rattle.gf_figures.specs.DrawingState.{DrawingState}
 use Rattle.gf_drawing.specs.CanonicalDrawing.{colours_of}
-use Rattle.gf_drawing.specs.DrawingState.{DrawingState}
 use Rattle.gf_drawing.proofs.NumberLemmas.{lawful_numbered}
 use Rattle.gf_drawing.proofs.CompilingLemmas.{figures-push, item_colour}
 use Rattle.gf_drawing.proofs.compiling.add_figures.Goals as goal

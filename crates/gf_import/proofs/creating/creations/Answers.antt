@@ -3,10 +3,10 @@ use Rattle.std.proofs.Common.{get_or}
 use Rattle.std.specs.Prelude.{IsTrue, Ok, Err}
 use Rattle.gf_shape.specs.declared.outline.Outline.{Outline}
 use Rattle.gf_shape.specs.ShapeLaws.{IsLawful}
-use Rattle.gf_drawing.specs.declared.figure.Figure.{Figure}
+use Rattle.gf_figures.specs.declared.figure.Figure.{Figure}
 use Rattle.gf_ops.specs.Limits.{is_colour}
-use Rattle.gf_drawing.specs.DrawingColour.{figure_colour}
-use Rattle.gf_drawing.specs.Outlined.{PaintsAsFig}
+use Rattle.gf_figures.specs.DrawingColour.{figure_colour}
+use Rattle.gf_drawing.specs.CanonicalDrawing.{PaintsAsFig}
 use Rattle.gf_import.specs.Imported.{history_of}
 use Rattle.gf_import.proofs.PictureLemmas.{creations_paint}
 use Rattle.gf_import.specs.CreationFaults.{IsFirstFault, made}

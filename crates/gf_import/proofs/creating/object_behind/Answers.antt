@@ -1,5 +1,5 @@
 use Rattle.std.proofs.Common.{arith, ◌≡◌, ◌≤◌, length, ap, ◌∙◌}
-use Rattle.gf_drawing.specs.Colours.{Table}
+use Rattle.gf_figures.specs.Colours.{Table}
 use Rattle.gf_import.proofs.TableLemmas.{few_colours}
 use Rattle.gf_import.proofs.creating.object_behind.Goals as goal
 

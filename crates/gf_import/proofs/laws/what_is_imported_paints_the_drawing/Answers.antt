@@ -1,5 +1,5 @@
 use Rattle.std.proofs.Common.{sym, subst}
-use Rattle.gf_drawing.specs.Outlined.{PaintsAsFig}
+use Rattle.gf_drawing.specs.CanonicalDrawing.{PaintsAsFig}
 use Rattle.gf_ops.specs.ValidHistory.{IsValid}
 use Rattle.gf_fig_read.proofs.GrammarLemmas.{one_drawing}
 use Rattle.gf_import.specs.Imported.{history_of}

@@ -3,7 +3,7 @@ use Rattle.std.proofs.KnownBytes.{Appends-trans, Appends-kept}
 use Rattle.std.proofs.lemmas.Result.{err_from_is_err_and}
 use Rattle.gf_streams.proofs.TakenLemmas.{appends_prefix}
 use Rattle.gf_streams.specs.declared.write_error.WriteError.{WriteError}
-use Rattle.gf_drawing.specs.DrawingColour.{drawing_colour}
+use Rattle.gf_figures.specs.DrawingColour.{drawing_colour}
 use Rattle.gf_scanline.specs.Layers.{layered}
 use Rattle.gf_scanline.specs.Picture.{header, picture, raster, rows}
 use Rattle.gf_raster.proofs.PictureLemmas.{front_first, front_more, rows_same}

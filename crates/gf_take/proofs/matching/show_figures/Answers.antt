@@ -1,7 +1,7 @@
 use Rattle.std.proofs.Common.{rules, arith, ◌≡◌, ◌<◌, ◌≤◌, ◌+◌, [], ◌∷◌, ◌++◌, length, drop}
 use Rattle.std.proofs.Common.{take, false, true, map, sym, ap, subst, ◌∙◌}
 use Rattle.std.proofs.lemmas.List.{drop_all, drop_more, take_all, take_more}
-use Rattle.gf_drawing.specs.DrawingColour.{from_front}
+use Rattle.gf_figures.specs.DrawingColour.{from_front}
 use Rattle.gf_take.specs.Matching.{AreMatched, AreShown}
 use Rattle.gf_take.proofs.ExchangeLemmas.{all_shown, not_shown, shown_rest}
 use Rattle.gf_take.proofs.MatchLemmas.{matched_all, matched_more, no_items, none_viewed}

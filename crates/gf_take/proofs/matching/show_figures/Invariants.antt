@@ -1,5 +1,5 @@
 use Rattle.std.proofs.Common.{drop, map, take}
-use Rattle.gf_drawing.specs.DrawingColour.{from_front}
+use Rattle.gf_figures.specs.DrawingColour.{from_front}
 use Rattle.gf_take.specs.Matching.{AreMatched, AreShown}
 use Rattle.gf_take.proofs.matching.show_figures.Given as goal
 

@@ -1,7 +1,7 @@
 use Rattle.std.proofs.Common.{◌≡◌, true, false, subst, sym, ◌∙◌}
 use Rattle.gf_versions.specs.Ranking.{AreRanked}
 use Rattle.gf_visible.specs.ShownVersions.{HasMoreVisible}
-use Rattle.gf_drawing.specs.DrawingColour.{from_front}
+use Rattle.gf_figures.specs.DrawingColour.{from_front}
 use Rattle.gf_take.specs.Matching.{AreTraced}
 use Rattle.gf_take.proofs.ExactLemmas.{look_is_traced}
 use Rattle.gf_take.proofs.MatchLemmas.{traced_look}

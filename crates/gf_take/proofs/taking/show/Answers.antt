@@ -1,6 +1,6 @@
 use Rattle.std.proofs.Common.{◌≡◌, true, false, subst, sym, ◌∙◌}
 use Rattle.gf_versions.specs.Ranking.{AreRanked}
-use Rattle.gf_drawing.specs.DrawingColour.{from_front}
+use Rattle.gf_figures.specs.DrawingColour.{from_front}
 use Rattle.gf_take.specs.Matching.{AreShown}
 use Rattle.gf_take.proofs.ExactLemmas.{drawing_is_shown}
 use Rattle.gf_take.proofs.MatchLemmas.{shown_colours, shown_drawing}

@@ -1,5 +1,0 @@
-use Rattle.gf_drawing.proofs.OutlinedLemmas.{drawing_colour-outlined}
-use Rattle.gf_drawing.proofs.laws.outlines_paint_as_their_shapes.Goals as goal
-
-pub returns : goal.returns
-returns g c = drawing_colour-outlined g.S.Shape.holds g.S.Shape.outline g.met.S.Shape.outlines

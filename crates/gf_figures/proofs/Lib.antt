@@ -1,0 +1,7 @@
+pub mod Painting
+pub mod DrawingLaw
+pub mod FrontLemmas
+pub mod LawfulLemmas
+pub mod OutlinedLemmas
+pub mod TableLemmas
+pub mod SortedLemmas

@@ -1,0 +1,111 @@
+//! Commands about a table: the groups that it lists, and the visible versions within a bound.
+
+ghost use Rattle.std.specs.Prelude.{◌≤◌, IfSome};
+
+use crate::version_commands::text_of;
+use gf_drawing::compile;
+use gf_figures::Drawing;
+use gf_groups::{GroupFault, Groups, groups_of, is_made};
+use gf_ops::ObjectId;
+use gf_shape::AnyShape;
+use gf_site::Site;
+use gf_versions::Ranked;
+use gf_visible::{ranked_with, ranked_within, visible_groups};
+use std::alloc::Global;
+use test_kit::notation::id;
+
+/// The groups of an object, by the table.
+pub(crate) fn groups(alloc: Global, site: &Site, text: &str) -> Option<String> {
+    let object = ObjectId(id(text)?);
+    told(alloc, site.versions().groups(alloc, object))
+}
+
+/// The groups of an object, by the plain call.
+pub(crate) fn plain_groups(alloc: Global, site: &Site, text: &str) -> Option<String> {
+    let object = ObjectId(id(text)?);
+    told(alloc, groups_of(alloc, site.history(), object))
+}
+
+/// How many groups an object has, by the plain call.
+pub(crate) fn plain_count(alloc: Global, site: &Site, text: &str) -> Option<String> {
+    let groups = groups_of(alloc, site.history(), ObjectId(id(text)?)).ok()?;
+    counted(alloc, Some(groups.as_slice().len()))
+}
+
+/// The groups of an object, by a copy of the table.
+pub(crate) fn copied(alloc: Global, site: &Site, text: &str) -> Option<String> {
+    let object = ObjectId(id(text)?);
+    let copy = site.table().copy(alloc).ok()?;
+    told(alloc, copy.groups(alloc, site.history(), object))
+}
+
+fn told(alloc: Global, groups: Result<Groups, GroupFault>) -> Option<String> {
+    match groups {
+        Ok(groups) => text_of(alloc, &groups),
+        Err(fault) => format!(in alloc; "{fault}").ok(),
+    }
+}
+
+/// How many visible versions an object has, as `1.1 within 4`, or that they are more.
+pub(crate) fn visible(alloc: Global, site: &Site, text: &str) -> Option<String> {
+    let (object, most) = text.split_once(" within ")?;
+    let object = ObjectId(id(object)?);
+    if !is_made(site.history(), object) {
+        return None;
+    }
+    let most = bound(most)?;
+    let found = visible_groups(alloc, &site.versions(), object, most).ok()?;
+    counted(alloc, found.map(|groups| groups.len()))
+}
+
+/// A bound that a listing may have.
+fn bound(text: &str) -> Option<usize>
+    ensures { IfSome result (λ most. most ≤ 1000) }
+{
+    let most: usize = text.parse().ok()?;
+    if most <= 1_000 { Some(most) } else { None }
+}
+
+fn counted(alloc: Global, count: Option<usize>) -> Option<String> {
+    match count {
+        Some(count) => format!(in alloc; "{count}").ok(),
+        None => String::from_str(alloc, "more").ok(),
+    }
+}
+
+/// How many versions of all objects are visible.
+pub(crate) fn total(alloc: Global, site: &Site) -> Option<String> {
+    let ranked = ranked_with(alloc, site.history(), site.table()).ok()?;
+    counted(alloc, Some(ranked.len()))
+}
+
+/// How many versions of all objects are visible, or that they are more than this.
+pub(crate) fn ranking(alloc: Global, site: &Site, text: &str) -> Option<String> {
+    let found = ranked_within(alloc, &site.versions(), bound(text)?).ok()?;
+    counted(alloc, found.map(|ranked| ranked.len()))
+}
+
+/// The figures of the drawing of at most this many versions, the last one's depth, and the colours.
+pub(crate) fn drawn(alloc: Global, site: &Site, text: &str) -> Option<String> {
+    match ranked_within(alloc, &site.versions(), bound(text)?).ok()? {
+        Some(ranked) => drawing(alloc, ranked),
+        None => String::from_str(alloc, "more").ok(),
+    }
+}
+
+fn drawing(alloc: Global, ranked: Ranked<AnyShape>) -> Option<String> {
+    match compile(alloc, ranked) {
+        Ok(drawing) => drawing_text(alloc, &drawing),
+        Err(fault) => format!(in alloc; "{fault}").ok(),
+    }
+}
+
+fn drawing_text(alloc: Global, drawing: &Drawing<AnyShape>) -> Option<String> {
+    let mut last = 0;
+    for figure in drawing.figures() {
+        last = figure.depth.max(last);
+    }
+    let figures = drawing.figures().len();
+    let colours = drawing.colours().len();
+    format!(in alloc; "{figures} figures to depth {last}, {colours} colours").ok()
+}
