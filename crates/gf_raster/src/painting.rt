@@ -1,16 +1,16 @@
 //! The pixels of a window.
 
-ghost use Rattle.std.specs.Prelude.{◌≡◌, ◌≤◌, IfOk};
+ghost use Rattle.std.specs.Prelude.{◌≡◌, ◌≤◌, ◌++◌, IfOk, OnOk};
 ghost use Rattle.gf_drawing.specs.DrawingColour.{drawing_colour};
 ghost use Rattle.gf_scanline.specs.Layers.{layered};
 ghost use Rattle.gf_scanline.specs.Picture.{raster};
+ghost use Rattle.gf_raster.specs.Rows.{bytes_in};
 
 use crate::Gate;
-use crate::bands::{band, first_band};
 use crate::crew::Crew;
-use crate::tiles::TILE;
+use crate::rounds::{round, rows_of_round};
 use gf_drawing::Drawing;
-use gf_scanline::{Layers, Window};
+use gf_scanline::{Band, Layers, Window};
 use gf_shape::{OutOfMemory, Shape};
 use std::alloc::Global;
 use std::marker::Model;
@@ -60,17 +60,12 @@ pub fn paint<S: Shape + Sync, G: Gate + Sync, R: Threads + Sync>(
         ≡ raster (drawing_colour S.holds drawing.now.table drawing.now.figures) window) }
 {
     let layers = Layers::new(alloc, drawing)?;
-    let crew = Crew {
-        rt,
-        alloc,
-        workers: usize::from(workers),
-        gate,
-    };
+    let crew = Crew::new(rt, alloc, workers, gate);
     let bytes = paint_all(&crew, &layers, window)?;
     Ok(Raster { bytes })
 }
 
-/// Paints all bands.
+/// Paints all rounds.
 fn paint_all<S: Shape + Sync, G: Gate + Sync, R: Threads + Sync>(
     crew: &Crew<'_, R, G>,
     layers: &Layers<'_, S>,
@@ -79,10 +74,23 @@ fn paint_all<S: Shape + Sync, G: Gate + Sync, R: Threads + Sync>(
     ensures { IfOk result (λ bytes. bytes.items ≡ raster (layered S.holds layers.now) window) }
 {
     let height = window.height() as usize;
+    let rows = rows_of_round(crew);
     let mut bytes = Vec::with_capacity(crew.alloc, 3 * window.width() as usize * height)?;
-    let mut shown = first_band(crew, layers, window)?;
-    for index in 0..height.div_ceil(TILE) {
-        shown = band(crew, layers, &shown, &mut bytes)?;
+    let mut top = 0;
+    while top < height {
+        let count = rows.min(height - top);
+        let pieces = round(crew, layers, Band::new(window, top, count))?;
+        add_pieces(&pieces, &mut bytes)?;
+        top += count;
     }
     Ok(bytes)
+}
+
+fn add_pieces(pieces: &[Vec<u8>], bytes: &mut Vec<u8>) -> Result<(), OutOfMemory>
+    ensures { OnOk result (bytes.new.items ≡ bytes.old.items ++ bytes_in pieces.now) }
+{
+    for piece in pieces {
+        bytes.extend_from_slice(piece)?;
+    }
+    Ok(())
 }
