@@ -13,9 +13,8 @@ use Rattle.gf_scanline.specs.Pixels.{pixel}
 use Rattle.gf_scanline.specs.Picture.{cells, rows}
 use Rattle.gf_scanline.specs.Windows.{View, sample}
 use Rattle.gf_scanline.specs.Bands.{BandView}
-use Rattle.gf_raster.specs.Bands.{AreWholeBands}
 use Rattle.gf_raster.specs.Rows.{bytes_in, bytes_of}
-use Rattle.gf_raster.specs.Shares.{cut, run}
+use Rattle.gf_raster.specs.Shares.{AreWholeBands, cut, run}
 use Rattle.gf_raster.proofs.ShareLemmas.{cut_more}
 
 -- the rows of a window, cut in two

@@ -1,5 +1,5 @@
 -- What want of memory leaves of a picture: whole bands of 64 rows (this project's choice).
-use Rattle.std.specs.Prelude.{ℕ, ◌≡◌, ◌*◌, ◌<◌, List, ◌++◌, Option}
+use Rattle.std.specs.Prelude.{ℕ, ◌*◌, ◌<◌, List, ◌++◌, Option}
 use Rattle.std.specs.Io.KnownBytes.{Appends}
 use Rattle.gf_shape.specs.declared.colour.Rgb.{Rgb}
 use Rattle.gf_shape.specs.declared.point.Point.{Point}
@@ -12,8 +12,3 @@ pub record HasBands (header : List ℕ) (colour : Point → Rgb) (w : View)
   pub bands : ℕ
   pub fewer : 64 * bands < w.height
   pub grows : Appends old new (header ++ rows colour w 0 (64 * bands))
-
--- so many rows are whole bands of 64 rows
-pub record AreWholeBands (rows : ℕ) : Type 0 where
-  pub bands : ℕ
-  pub are : rows ≡ 64 * bands

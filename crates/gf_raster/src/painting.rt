@@ -40,13 +40,14 @@ impl Raster {
     }
 }
 
-/// Paints a window of a drawing by 1 to 16 workers, one band of 64 rows after another. The pixel
-/// (i, j) has the drawing's colour at the point (x + i * step, y + j * step).
+/// Paints a window of a drawing by 1 to 16 workers. The pixel (i, j) has the drawing's colour at
+/// the point (x + i * step, y + j * step).
 ///
-/// What a band shows is found before, while the band above is painted. Each worker has a run of the
-/// band's tiles. The worker passes `gate` for a tile, paints it, and goes on to the next one. Where
-/// the gate lets nobody wait, and there is little to find, the caller's thread does all as worker
-/// 1. Where a thread can't be started, the caller's does its part.
+/// In a round each worker has a run of bands of 64 rows. The worker passes `gate` for the tiles of
+/// a band, paints the band, and goes on to the next one. Where the gate may let workers wait for
+/// each other, a round is one band, and each has a run of its tiles. The worker passes the gate for
+/// a tile, paints it, and goes on to the next one. Where a thread can't be started, the caller's
+/// does its part.
 pub fn paint<S: Shape + Sync, G: Gate + Sync, R: Threads + Sync>(
     rt: &R,
     alloc: Global,

@@ -23,8 +23,9 @@ use std::alloc::{AllocError, Global};
 use std::thread::Threads;
 
 /// Writes the picture of a window of a drawing as raw PPM, and flushes. The header comes first, and
-/// then one band of 64 rows after another, each painted as [`paint`](crate::paint) does. At most a
-/// band is in memory, where threads paint it twice, and what the next one shows.
+/// then one round after another, each painted as [`paint`](crate::paint) does. At most a round is in
+/// memory: two bands of 64 rows for each worker. Of a band that all workers share, its bytes are
+/// there twice, and what it shows.
 pub fn ppm_to<S: Shape + Sync, G: Gate + Sync, R: Threads + Sync, W: Sink>(
     rt: &R,
     alloc: Global,

@@ -2,7 +2,7 @@
 
 ghost use Rattle.std.specs.Prelude.{◌≡◌, ◌≤◌, IfOk};
 ghost use Rattle.gf_scanline.specs.Layers.{layered};
-ghost use Rattle.gf_raster.specs.Bands.{AreWholeBands};
+ghost use Rattle.gf_raster.specs.Shares.{AreWholeBands};
 ghost use Rattle.gf_raster.specs.Rows.{bytes_in, bytes_of};
 
 use crate::Gate;

@@ -2,7 +2,7 @@ use Rattle.std.proofs.Common.{◌≡◌, ◌-◌, ◌≤◌, ◌<◌}
 use Rattle.std.specs.Io.KnownBytes.{Appends}
 use Rattle.gf_scanline.specs.Layers.{layered}
 use Rattle.gf_scanline.specs.Picture.{rows}
-use Rattle.gf_raster.specs.Bands.{AreWholeBands}
+use Rattle.gf_raster.specs.Shares.{AreWholeBands}
 use Rattle.gf_raster.proofs.ppm.write_rows.Given as goal
 
 abbrev pub invariant-loop-top : goal.invariant-loop-top
