@@ -1,4 +1,5 @@
 pub mod PictureLemmas
 pub mod RowLemmas
+pub mod RunLemmas
 pub mod ShareLemmas
-pub mod TurnLemmas
+pub mod SharingLemmas

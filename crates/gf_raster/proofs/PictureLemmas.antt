@@ -1,6 +1,6 @@
 -- A picture, band by band, and what is written of it.
-use Rattle.std.specs.Prelude.{ℕ, ◌≡◌, ◌≤◌, ◌<◌, ◌+◌, ◌-◌, ◌*◌, ◌/◌, ◌%◌, min, List, ◌++◌, length, take, Option}
-use Rattle.std.proofs.Common.{arith, ap, append-nil, append_assoc, sym, refl, ◌∙◌}
+use Rattle.std.specs.Prelude.{ℕ, zero, suc, [], ◌∷◌, drop, Vec, slice_index_or, ◌≡◌, ◌≤◌, ◌<◌, ◌+◌, ◌-◌, ◌*◌, ◌/◌, ◌%◌, min, List, ◌++◌, length, take, Option}
+use Rattle.std.proofs.Common.{arith, ap, append-nil, append_assoc, sym, refl, subst, Global, ◌∙◌}
 use Rattle.std.specs.Io.KnownBytes.{Appends}
 use Rattle.std.proofs.KnownBytes.{Appends-trans}
 use Rattle.std.proofs.lemmas.List.{length-append, take-append-le}
@@ -12,10 +12,49 @@ use Rattle.gf_scanline.proofs.RangeLemmas.{ranged_more}
 use Rattle.gf_scanline.specs.Pixels.{pixel}
 use Rattle.gf_scanline.specs.Picture.{cells, rows}
 use Rattle.gf_scanline.specs.Windows.{View, sample}
-use Rattle.gf_raster.specs.declared.shown_rows.ShownRows.{ShownRows}
-use Rattle.gf_raster.specs.Rows.{AreBand, bytes_of}
-use Rattle.gf_raster.specs.Shares.{cut, run}
+use Rattle.gf_scanline.specs.Bands.{BandView}
+use Rattle.gf_raster.specs.Rows.{bytes_in, bytes_of}
+use Rattle.gf_raster.specs.Shares.{AreWholeBands, cut, run}
 use Rattle.gf_raster.proofs.ShareLemmas.{cut_more}
+
+-- the rows of a window, cut in two
+pub rows_more : (colour : Point → Rgb) (w : View) (top m n : ℕ) → rows colour w top (m + n) ≡ rows colour w top m ++ rows colour w (top + m) n
+rows_more colour w top m n = ranged_more (λ j. cells colour w j 0 w.width) top m n
+
+-- a band more
+pub band_added : (colour : Point → Rgb) (w : View) (b : BandView) (top done : ℕ) (old new : List ℕ) → b.window ≡ w → b.top ≡ top + done → old ≡ rows colour w top done → new ≡ old ++ bytes_of colour b → new ≡ rows colour w top (done + b.count)
+band_added colour w b top done old new e f a g =
+    g ∙ (ap (λ v. old ++ rows colour v b.top b.count) e
+    ∙ (ap (λ xs. xs ++ rows colour w b.top b.count) a
+    ∙ (ap (λ j. rows colour w top done ++ rows colour w j b.count) f ∙ sym (rows_more colour w top done b.count))))
+
+-- the rows from the top, with those of a band more
+rows_below : (colour : Point → Rgb) (w : View) (done n : ℕ) → rows colour w 0 done ++ rows colour w done n ≡ rows colour w 0 (done + n)
+rows_below colour w done n = sym (rows_more colour w 0 done n ∙ ap (λ j. rows colour w 0 done ++ rows colour w j n) (zero_plus done))
+  where
+    zero_plus : (n : ℕ) → 0 + n ≡ n
+    zero_plus n = omega arith
+
+-- a band written behind rows
+pub rows_written : (colour : Point → Rgb) (w : View) (done n : ℕ) (a b c : Option (List ℕ)) → Appends a b (rows colour w 0 done) → Appends b c (rows colour w done n) → Appends a c (rows colour w 0 (done + n))
+rows_written colour w done n a b c f g = subst (λ bytes. Appends a c bytes) (rows_below colour w done n) (Appends-trans a b c (rows colour w 0 done) (rows colour w done n) f g)
+
+-- what was written, a band, and what is to come are all rows
+pub rows_parted : (colour : Point → Rgb) (w : View) (height done n : ℕ) → done + n ≤ height → rows colour w 0 height ≡ rows colour w 0 done ++ (rows colour w done n ++ rows colour w (done + n) (height - (done + n)))
+rows_parted colour w height done n l =
+    let all : height ≡ done + n + (height - (done + n)) = omega (arith, l) in
+    ap (rows colour w 0) all
+    ∙ (sym (rows_below colour w (done + n) (height - (done + n)))
+    ∙ (ap (λ xs. xs ++ rows colour w (done + n) (height - (done + n))) (sym (rows_below colour w done n))
+    ∙ append_assoc (rows colour w 0 done) (rows colour w done n) (rows colour w (done + n) (height - (done + n)))))
+
+-- pieces up to one, this one, and those behind it
+pub pieces_parted : (ps : List (Vec ℕ Global)) (i : ℕ) (d : Vec ℕ Global) → i < length ps → bytes_in ps ≡ bytes_in (take i ps) ++ ((slice_index_or ps i d).items ++ bytes_in (drop (suc i) ps))
+pieces_parted [] i d l = absurd (omega (arith, l))
+pieces_parted (p ∷ ps) zero d l = refl
+pieces_parted (p ∷ ps) (suc i) d l =
+    ap (λ xs. p.items ++ xs) (pieces_parted ps i d (omega (arith, l)))
+    ∙ sym (append_assoc p.items (bytes_in (take i ps)) ((slice_index_or ps i d).items ++ bytes_in (drop (suc i) ps)))
 
 -- a function that gives the same colours gives the same rows
 pub rows_same : (f g : Point → Rgb) → ((p : Point) → f p ≡ g p) → (w : View) (j n : ℕ) → rows f w j n ≡ rows g w j n
@@ -46,53 +85,17 @@ cells_pushed colour w j size k old now piece new a b c =
     zero_plus : (n : ℕ) → 0 + n ≡ n
     zero_plus n = omega arith
 
--- one band more
-pub rows_next : (colour : Point → Rgb) (w : View) (height i : ℕ) → 64 * i ≤ height → rows colour w 0 (min (64 * i) height) ++ rows colour w (64 * i) (min 64 (height - 64 * i)) ≡ rows colour w 0 (min (64 * (i + 1)) height)
-rows_next colour w height i l =
-    let top : min (64 * i) height ≡ 64 * i = omega arith in
-    let sum : min (64 * (i + 1)) height ≡ 64 * i + min 64 (height - 64 * i) = omega arith in
-    rw (top, sum) (sym (ranged_more (λ k. cells colour w k 0 w.width) 0 (64 * i) (min 64 (height - 64 * i)) ∙ ap (λ j. rows colour w 0 (64 * i) ++ rows colour w j (min 64 (height - 64 * i))) (zero_plus (64 * i))))
-  where
-    zero_plus : (n : ℕ) → 0 + n ≡ n
-    zero_plus n = omega arith
-
--- what came, a band, and what is to come are all rows
-pub rows_parted : (colour : Point → Rgb) (w : View) (height i : ℕ) → 64 * i ≤ height →
-    rows colour w 0 height ≡ rows colour w 0 (min (64 * i) height) ++ (rows colour w (64 * i) (min 64 (height - 64 * i)) ++ rows colour w (64 * i + min 64 (height - 64 * i)) (height - 64 * i - min 64 (height - 64 * i)))
-rows_parted colour w height i l =
-    let top : min (64 * i) height ≡ 64 * i = omega arith in
-    let left : height - 64 * i ≡ min 64 (height - 64 * i) + (height - 64 * i - min 64 (height - 64 * i)) = omega arith in
-    let all : height ≡ 64 * i + (height - 64 * i) = omega arith in
-    rw top (ap (rows colour w 0) all
-    ∙ (ranged_more (λ k. cells colour w k 0 w.width) 0 (64 * i) (height - 64 * i)
-    ∙ (ap (λ j. rows colour w 0 (64 * i) ++ rows colour w j (height - 64 * i)) (zero_plus (64 * i))
-    ∙ (ap (λ n. rows colour w 0 (64 * i) ++ rows colour w (64 * i) n) left
-    ∙ ap (λ xs. rows colour w 0 (64 * i) ++ xs) (ranged_more (λ k. cells colour w k 0 w.width) (64 * i) (min 64 (height - 64 * i)) (height - 64 * i - min 64 (height - 64 * i)))))))
-  where
-    zero_plus : (n : ℕ) → 0 + n ≡ n
-    zero_plus n = omega arith
-
--- a band that is counted begins before the end
+-- a tile that is counted begins before the end
 pub begins : (height i : ℕ) → i < height / 64 + min 1 (height % 64) → 64 * i < height
 begins height i l = omega arith
 
--- this many bands are all rows
+-- this many tiles are all
 pub ends : (height i : ℕ) → height / 64 + min 1 (height % 64) ≤ i → min (64 * i) height ≡ height
 ends height i l = omega arith
 
--- the bytes of a band
-pub band_bytes : (colour : Point → Rgb) (w : View) (n : ℕ) (shown : ShownRows) → AreBand colour w n shown → bytes_of colour shown ≡ rows colour w n (min 64 (w.height - n))
-band_bytes colour w n shown a = rw (a.window, a.top, a.count) refl
-
--- a band that was found begins before the end
-pub band_begins : (colour : Point → Rgb) (w : View) (i : ℕ) (shown : ShownRows) → AreBand colour w (64 * i) shown → i < w.height / 64 + min 1 (w.height % 64) → shown.top < shown.window.height
-band_begins colour w i shown a l = rw (a.window, a.top) (begins w.height i l)
-
--- the band behind one
-pub band_behind : (colour : Point → Rgb) (w : View) (i : ℕ) (shown next : ShownRows) → AreBand colour w (64 * i) shown → AreBand colour shown.window (shown.top + 64) next → AreBand colour w (64 * (i + 1)) next
-band_behind colour w i shown next a b =
-    let more : 64 * i + 64 ≡ 64 * (i + 1) = omega arith in
-    rw (a.window, a.top, more) at b
+-- whole bands below whole bands
+pub whole_more : (m n : ℕ) → AreWholeBands m → AreWholeBands n → AreWholeBands (m + n)
+whole_more m n a b = record { bands = a.bands + b.bands; are = omega (arith, a.are, b.are) }
 
 -- a front of what comes next, behind what came, is a front of all
 pub front_more : (a b c : Option (List ℕ)) (xs ys whole rest : List ℕ) → whole ≡ xs ++ (ys ++ rest) → Appends a b xs → AppendsPrefix b c ys → AppendsPrefix a c whole

@@ -9,7 +9,7 @@ use Rattle.gf_scanline.proofs.RangeLemmas.{ranged_more}
 use Rattle.gf_scanline.specs.Windows.{View, sample}
 use Rattle.gf_scanline.specs.Picture.{ShowsRow, cells}
 use Rattle.gf_raster.specs.Rows.{AreRows}
-use Rattle.gf_raster.specs.Turns.{ArePieces, ArePiecesWith}
+use Rattle.gf_raster.specs.Columns.{ArePieces, ArePiecesWith}
 
 -- one of the rows
 pub row_at : (colour : Point → Rgb) (w : View) (top i : ℕ) (rows : List (Vec Stroke Global)) (r : Vec Stroke Global) (strokes : List Stroke) → AreRows colour w top rows → i < length rows → r ≡ slice_index_or rows i r → strokes ≡ r.items → ShowsRow colour w (top + i) strokes

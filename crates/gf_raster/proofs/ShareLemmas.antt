@@ -19,6 +19,13 @@ cut_more count size k = let e = product_more k size in rw e (sums (k * size) siz
 pub parts_hold : (count size : ℕ) → 1 ≤ size → count ≤ parts count size * size
 parts_hold count size l = (div_ceil_times count size (omega arith)).0
 
+-- this many runs of this size are all
+pub runs_are_all : (count size : ℕ) → 1 ≤ size → cut count size (parts count size) ≡ count
+runs_are_all count size l = let h = parts_hold count size l in least (parts count size * size) count h
+  where
+    least : (p w : ℕ) → w ≤ p → min p w ≡ w
+    least p w h = omega arith
+
 -- the workers' shares are all
 pub shared : (count workers : ℕ) → 1 ≤ workers → cut count (parts count workers) workers ≡ count
 shared count workers l =

@@ -1,17 +1,16 @@
--- What rows of a window show, as strokes. No public clause cites this module.
-use Rattle.std.specs.Prelude.{ℕ, ◌≡◌, ◌<◌, ◌+◌, ◌-◌, min, Bool, List, [], Vec, length}
-use Rattle.std.specs.Prelude.{Option, None, Some, slice_index_or}
-use denote.Ref.{Bor}
+-- What rows of a window show, as strokes and as bytes. No public clause cites this module.
+use Rattle.std.specs.Prelude.{ℕ, ◌≡◌, ◌<◌, ◌+◌, Bool, List, Vec, flat_map, length, slice_index_or}
 use Rattle.std.proofs.Common.{Global}
 use Rattle.gf_shape.specs.declared.colour.Rgb.{Rgb}
 use Rattle.gf_shape.specs.declared.point.Point.{Point}
 use Rattle.gf_scanline.specs.declared.stroke.Stroke.{Stroke}
+use Rattle.gf_scanline.specs.Bands.{BandView}
 use Rattle.gf_scanline.specs.Windows.{View}
 use Rattle.gf_scanline.specs.Layers.{layered}
 use Rattle.gf_scanline.specs.Parts.{PartView}
 use Rattle.gf_scanline.specs.Picture.{ShowsRow, rows}
 use Rattle.gf_raster.specs.declared.shown_rows.ShownRows.{ShownRows}
-use Rattle.gf_raster.specs.Shares.{cut, parts, run}
+use Rattle.gf_raster.specs.Shares.{cut, run}
 
 -- each list has the strokes of a row of the window, from row top on
 abbrev pub AreRows : (Point → Rgb) → View → ℕ → List (Vec Stroke Global) → Type 0
@@ -20,30 +19,30 @@ AreRows colour w top rows = (i : ℕ) (d : Vec Stroke Global) → i < length row
 
 -- the strokes have the colours of their rows
 abbrev pub ShowsRows : (Point → Rgb) → ShownRows → Type 0
-ShowsRows colour shown = AreRows colour shown.window shown.top shown.strokes.items
+ShowsRows colour shown = AreRows colour shown.band.window shown.band.top shown.strokes.items
 
--- the bytes of the rows that are shown
-abbrev pub bytes_of : (Point → Rgb) → ShownRows → List ℕ
-bytes_of colour shown = rows colour shown.window shown.top (length shown.strokes.items)
+-- the bytes of a band's rows
+abbrev pub bytes_of : (Point → Rgb) → BandView → List ℕ
+bytes_of colour b = rows colour b.window b.top b.count
 
-module _ {S : Type 0} (holds : S → Point → Bool) where
-  -- the strokes show all rows of the part; there are none without a part
-  abbrev pub AreFound : Option (Bor (PartView S)) → List (Vec Stroke Global) → Type 0
-  AreFound None rows = rows ≡ []
-  AreFound (Some p) rows = (length rows ≡ p.now.band.count)
-      × AreRows (layered holds p.now.layers) p.now.band.window p.now.band.top rows
+-- the bytes of pieces, one behind the other
+abbrev pub bytes_in : List (Vec ℕ Global) → List ℕ
+bytes_in pieces = flat_map (λ p. p.items) pieces
 
-  -- the strokes show the rows of the part that worker k has
-  abbrev pub AreShareOf : Option (Bor (PartView S)) → ℕ → ℕ → List (Vec Stroke Global) → Type 0
-  AreShareOf None workers k rows = rows ≡ []
-  AreShareOf (Some p) workers k rows =
-      (length rows ≡ run p.now.band.count (parts p.now.band.count workers) k)
-      × AreRows (layered holds p.now.layers) p.now.band.window
-      (p.now.band.top + cut p.now.band.count (parts p.now.band.count workers) k) rows
+-- each piece has the bytes of a run of a band's rows, cut in runs of size rows
+abbrev pub AreRunsOf : (Point → Rgb) → BandView → ℕ → List (Vec ℕ Global) → Type 0
+AreRunsOf colour b size pieces = (k : ℕ) (d : Vec ℕ Global) → k < length pieces
+    → (slice_index_or pieces k d).items
+    ≡ rows colour b.window (b.top + cut b.count size k) (run b.count size k)
 
--- the strokes show the rows of the window from row n on: 64, or what is left
-pub record AreBand (colour : Point → Rgb) (w : View) (n : ℕ) (shown : ShownRows) : Type 0 where
-  pub window : shown.window ≡ w
-  pub top : shown.top ≡ n
-  pub count : length shown.strokes.items ≡ min 64 (w.height - n)
-  pub strokes : ShowsRows colour shown
+module _ {S : Type 0} (holds : S → Point → Bool) (p : PartView S) (size : ℕ) where
+  -- the strokes show the rows of the part that worker k has, where each has size rows
+  pub record IsShareOf (k : ℕ) (rows : Vec (Vec Stroke Global) Global) : Type 0 where
+    pub count : length rows.items ≡ run p.band.count size k
+    pub strokes : AreRows (layered holds p.layers) p.band.window
+        (p.band.top + cut p.band.count size k) rows.items
+
+  -- each share shows the rows of its worker
+  abbrev pub AreSharesOf : List (Vec (Vec Stroke Global) Global) → Type 0
+  AreSharesOf shares = (k : ℕ) (d : Vec (Vec Stroke Global) Global) → k < length shares
+      → IsShareOf k (slice_index_or shares k d)

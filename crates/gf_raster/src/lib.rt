@@ -6,7 +6,6 @@
 //! - [`Gate`], [`OpenGate`]: what workers pass for each tile of a band before they paint it.
 #![tactic(auto)]
 
-mod bands;
 mod crew;
 mod gathering;
 mod painting;
@@ -14,6 +13,8 @@ mod pass;
 mod ppm;
 mod rounds;
 mod rows;
+mod runs;
+mod sharing;
 mod shown_rows;
 mod tiles;
 

@@ -1,16 +1,16 @@
 //! The pixels of a window.
 
-ghost use Rattle.std.specs.Prelude.{◌≡◌, ◌≤◌, IfOk};
+ghost use Rattle.std.specs.Prelude.{◌≡◌, ◌≤◌, ◌++◌, IfOk, OnOk};
 ghost use Rattle.gf_figures.specs.DrawingColour.{drawing_colour};
 ghost use Rattle.gf_scanline.specs.Layers.{layered};
 ghost use Rattle.gf_scanline.specs.Picture.{raster};
+ghost use Rattle.gf_raster.specs.Rows.{bytes_in};
 
 use crate::Gate;
-use crate::bands::{band, first_band};
 use crate::crew::Crew;
-use crate::tiles::TILE;
+use crate::rounds::{round, rows_of_round};
 use gf_figures::Drawing;
-use gf_scanline::{Layers, Window};
+use gf_scanline::{Band, Layers, Window};
 use gf_shape::{OutOfMemory, Shape};
 use std::alloc::Global;
 use std::marker::Model;
@@ -40,13 +40,14 @@ impl Raster {
     }
 }
 
-/// Paints a window of a drawing by 1 to 16 workers, one band of 64 rows after another. The pixel
-/// (i, j) has the drawing's colour at the point (x + i * step, y + j * step).
+/// Paints a window of a drawing by 1 to 16 workers. The pixel (i, j) has the drawing's colour at
+/// the point (x + i * step, y + j * step).
 ///
-/// What a band shows is found before, while the band above is painted. Each worker has a run of the
-/// band's tiles. The worker passes `gate` for a tile, paints it, and goes on to the next one. Where
-/// the gate lets nobody wait, and there is little to find, the caller's thread does all as worker
-/// 1. Where a thread can't be started, the caller's does its part.
+/// In a round each worker has a run of bands of 64 rows. The worker passes `gate` for the tiles of
+/// a band, paints the band, and goes on to the next one. Where the gate may let workers wait for
+/// each other, a round is one band, and each has a run of its tiles. The worker passes the gate for
+/// a tile, paints it, and goes on to the next one. Where a thread can't be started, the caller's
+/// does its part.
 pub fn paint<S: Shape + Sync, G: Gate + Sync, R: Threads + Sync>(
     rt: &R,
     alloc: Global,
@@ -60,17 +61,12 @@ pub fn paint<S: Shape + Sync, G: Gate + Sync, R: Threads + Sync>(
         ≡ raster (drawing_colour S.holds drawing.now.table drawing.now.figures) window) }
 {
     let layers = Layers::new(alloc, drawing)?;
-    let crew = Crew {
-        rt,
-        alloc,
-        workers: usize::from(workers),
-        gate,
-    };
+    let crew = Crew::new(rt, alloc, workers, gate);
     let bytes = paint_all(&crew, &layers, window)?;
     Ok(Raster { bytes })
 }
 
-/// Paints all bands.
+/// Paints all rounds.
 fn paint_all<S: Shape + Sync, G: Gate + Sync, R: Threads + Sync>(
     crew: &Crew<'_, R, G>,
     layers: &Layers<'_, S>,
@@ -79,10 +75,23 @@ fn paint_all<S: Shape + Sync, G: Gate + Sync, R: Threads + Sync>(
     ensures { IfOk result (λ bytes. bytes.items ≡ raster (layered S.holds layers.now) window) }
 {
     let height = window.height() as usize;
+    let rows = rows_of_round(crew);
     let mut bytes = Vec::with_capacity(crew.alloc, 3 * window.width() as usize * height)?;
-    let mut shown = first_band(crew, layers, window)?;
-    for index in 0..height.div_ceil(TILE) {
-        shown = band(crew, layers, &shown, &mut bytes)?;
+    let mut top = 0;
+    while top < height {
+        let count = rows.min(height - top);
+        let pieces = round(crew, layers, Band::new(window, top, count))?;
+        add_pieces(&pieces, &mut bytes)?;
+        top += count;
     }
     Ok(bytes)
+}
+
+fn add_pieces(pieces: &[Vec<u8>], bytes: &mut Vec<u8>) -> Result<(), OutOfMemory>
+    ensures { OnOk result (bytes.new.items ≡ bytes.old.items ++ bytes_in pieces.now) }
+{
+    for piece in pieces {
+        bytes.extend_from_slice(piece)?;
+    }
+    Ok(())
 }

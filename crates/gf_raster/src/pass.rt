@@ -4,8 +4,8 @@ ghost use Rattle.std.specs.Prelude.{◌≡◌, ◌+◌, ◌≤◌, ◌<◌};
 
 use crate::Gate;
 use crate::crew::Crew;
-use crate::shown_rows::ShownRows;
 use crate::tiles::TILE;
+use gf_scanline::Band;
 use std::marker::Model;
 use std::thread::Threads;
 
@@ -30,19 +30,18 @@ impl Pass {
     /// from `from` on.
     pub fn through<R: Threads, G: Gate>(
         crew: &Crew<'_, R, G>,
-        shown: &ShownRows<'_>,
+        band: Band,
         who: u8,
         from: usize,
         len: usize,
     ) -> Pass
-        requires top { shown.now.top < shown.now.window.height }
-        requires columns { from + len ≤ shown.now.window.width }
+        requires { from + len ≤ band.window.width }
         ensures { result ≡ record { from = from; len = len } }
     {
         // The clause of `width` says that the columns are few.
-        let _ = shown.window.width();
+        let _ = band.window().width();
         for i in 0..len.div_ceil(TILE) {
-            crew.gate.enter(who, number(shown, from + TILE * i));
+            crew.gate.enter(who, number(band, from + TILE * i));
         }
         Pass { from, len }
     }
@@ -63,12 +62,12 @@ impl Pass {
 }
 
 /// The number of a band's tile at a column.
-fn number(shown: &ShownRows<'_>, column: usize) -> u32
-    requires top { shown.now.top < shown.now.window.height }
-    requires column { column < shown.now.window.width }
+fn number(band: Band, column: usize) -> u32
+    requires { column < band.window.width }
 {
+    let window = band.window();
     // The clause of `height` says that the rows are few.
-    let _ = shown.window.height();
-    let tiles = (shown.window.width() as usize).div_ceil(TILE);
-    (shown.top / TILE * tiles + column / TILE) as u32
+    let _ = window.height();
+    let tiles = (window.width() as usize).div_ceil(TILE);
+    (band.top() / TILE * tiles + column / TILE) as u32
 }

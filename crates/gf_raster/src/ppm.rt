@@ -1,6 +1,7 @@
 //! The whole picture, written.
 
-ghost use Rattle.std.specs.Prelude.{◌≡◌, ℕ, ◌+◌, ◌<◌, ◌≤◌, ◌⊎◌, [], IsTrue, IfOk, OnOk, Err};
+ghost use Rattle.std.specs.Prelude.{◌≡◌, ℕ, ◌+◌, ◌<◌, ◌≤◌, ◌⊎◌, [], IsTrue, IfOk, OnErr, OnOk};
+ghost use Rattle.std.specs.Prelude.{Err};
 ghost use Rattle.std.specs.Io.KnownBytes.{Appends};
 ghost use Rattle.gf_streams.specs.Counts.{Rises};
 ghost use Rattle.gf_streams.specs.Taken.{AppendsPrefix};
@@ -8,24 +9,23 @@ ghost use Rattle.gf_figures.specs.DrawingColour.{drawing_colour};
 ghost use Rattle.gf_scanline.specs.Layers.{layered};
 ghost use Rattle.gf_scanline.specs.Picture.{header, picture, raster};
 ghost use Rattle.gf_raster.specs.Bands.{HasBands};
-ghost use Rattle.gf_raster.specs.Rows.{AreBand, ShowsRows, bytes_of};
+ghost use Rattle.gf_raster.specs.Rows.{bytes_in, bytes_of};
 
 use crate::Gate;
-use crate::bands::{band, first_band};
 use crate::crew::Crew;
-use crate::shown_rows::ShownRows;
-use crate::tiles::TILE;
+use crate::rounds::{round, rows_of_round};
 use gf_digits::push_number;
 use gf_figures::Drawing;
-use gf_scanline::{Layers, Window};
+use gf_scanline::{Band, Layers, Window};
 use gf_shape::Shape;
-use gf_streams::{Sink, WriteError, write_all};
+use gf_streams::{Sink, SinkFault, WriteError, write_all};
 use std::alloc::{AllocError, Global};
 use std::thread::Threads;
 
 /// Writes the picture of a window of a drawing as raw PPM, and flushes. The header comes first, and
-/// then one band of 64 rows after another, each painted as [`paint`](crate::paint) does. At most a
-/// band is in memory, where threads paint it twice, and what the next one shows.
+/// then one round after another, each painted as [`paint`](crate::paint) does. At most a round is in
+/// memory: two bands of 64 rows for each worker. Of a band that all workers share, its bytes are
+/// there twice, and what it shows.
 pub fn ppm_to<S: Shape + Sync, G: Gate + Sync, R: Threads + Sync, W: Sink>(
     rt: &R,
     alloc: Global,
@@ -56,13 +56,8 @@ pub fn ppm_to<S: Shape + Sync, G: Gate + Sync, R: Threads + Sync, W: Sink>(
     };
     let header = header(alloc, window)?;
     write_all(sink, &header)?;
-    let crew = Crew {
-        rt,
-        alloc,
-        workers: usize::from(workers),
-        gate,
-    };
-    write_bands(&crew, &layers, window, sink)?;
+    let crew = Crew::new(rt, alloc, workers, gate);
+    write_rows(&crew, &layers, window, sink)?;
     sink.flush()?;
     Ok(())
 }
@@ -80,8 +75,8 @@ fn header(alloc: Global, window: Window) -> Result<Vec<u8>, AllocError>
     Ok(bytes)
 }
 
-/// Writes all rows of a window, a band at a time.
-fn write_bands<S: Shape + Sync, G: Gate + Sync, R: Threads + Sync, W: Sink>(
+/// Writes all rows of a window, a round at a time.
+fn write_rows<S: Shape + Sync, G: Gate + Sync, R: Threads + Sync, W: Sink>(
     crew: &Crew<'_, R, G>,
     layers: &Layers<'_, S>,
     window: Window,
@@ -99,43 +94,51 @@ fn write_bands<S: Shape + Sync, G: Gate + Sync, R: Threads + Sync, W: Sink>(
         → Rises (W.failures sink.old) (W.failures sink.new) }
 {
     let height = window.height() as usize;
-    let Ok(mut shown) = first_band(crew, layers, window) else {
-        return Err(WriteError::OutOfMemory);
-    };
-    let mut bytes = Vec::new(crew.alloc);
-    for index in 0..height.div_ceil(TILE) {
-        bytes.clear();
-        shown = write_band(crew, layers, &shown, &mut bytes, sink)?;
+    let rows = rows_of_round(crew);
+    let mut top = 0;
+    while top < height {
+        let count = rows.min(height - top);
+        write_round(crew, layers, Band::new(window, top, count), sink)?;
+        top += count;
     }
     Ok(())
 }
 
-/// Writes a band, of which `shown` has the strokes. The answer is what the next band shows.
-fn write_band<'l, S: Shape + Sync, G: Gate + Sync, R: Threads + Sync, W: Sink>(
+/// Writes the rows of a round.
+fn write_round<S: Shape + Sync, G: Gate + Sync, R: Threads + Sync, W: Sink>(
     crew: &Crew<'_, R, G>,
-    layers: &'l Layers<'_, S>,
-    shown: &ShownRows<'_>,
-    bytes: &mut Vec<u8>,
+    layers: &Layers<'_, S>,
+    rows: Band,
     sink: &mut W,
-) -> Result<ShownRows<'l>, WriteError>
-    requires top { shown.now.top < shown.now.window.height }
-    requires shown { ShowsRows (layered S.holds layers.now) shown.now }
-    requires empty { bytes.old.items ≡ [] }
-    ensures next { IfOk result
-        (AreBand (layered S.holds layers.now) shown.now.window (shown.now.top + 64)) }
+) -> Result<(), WriteError>
     ensures whole { OnOk result (Appends (W.taken sink.old) (W.taken sink.new)
-        (bytes_of (layered S.holds layers.now) shown.now)) }
+        (bytes_of (layered S.holds layers.now) rows)) }
     ensures unfailed { OnOk result (W.failures sink.new ≡ W.failures sink.old) }
     ensures memory { result ≡ Err WriteError.OutOfMemory → sink.new ≡ sink.old }
     ensures prefix { result ≡ Err WriteError.WriteFailed
         → AppendsPrefix (W.taken sink.old) (W.taken sink.new)
-        (bytes_of (layered S.holds layers.now) shown.now) }
+        (bytes_of (layered S.holds layers.now) rows) }
     ensures failed { result ≡ Err WriteError.WriteFailed
         → Rises (W.failures sink.old) (W.failures sink.new) }
 {
-    let Ok(next) = band(crew, layers, shown, bytes) else {
+    let Ok(pieces) = round(crew, layers, rows) else {
         return Err(WriteError::OutOfMemory);
     };
-    write_all(sink, bytes)?;
-    Ok(next)
+    write_pieces(&pieces, sink)?;
+    Ok(())
+}
+
+/// Writes pieces, one behind the other.
+fn write_pieces<W: Sink>(pieces: &[Vec<u8>], sink: &mut W) -> Result<(), SinkFault>
+    ensures whole { OnOk result (Appends (W.taken sink.old) (W.taken sink.new)
+        (bytes_in pieces.now)) }
+    ensures unfailed { OnOk result (W.failures sink.new ≡ W.failures sink.old) }
+    ensures prefix { OnErr result (AppendsPrefix (W.taken sink.old) (W.taken sink.new)
+        (bytes_in pieces.now)) }
+    ensures failed { OnErr result (Rises (W.failures sink.old) (W.failures sink.new)) }
+{
+    for piece in pieces {
+        write_all(sink, piece)?;
+    }
+    Ok(())
 }

@@ -2,40 +2,47 @@
 
 ghost use Rattle.std.specs.Prelude.{◌≡◌, ◌+◌, ◌≤◌, IfOk, vec_len};
 ghost use Rattle.gf_scanline.specs.Layers.{layered};
-ghost use Rattle.gf_raster.specs.Rows.{AreFound, AreRows, AreShareOf};
-ghost use Rattle.gf_raster.specs.Shares.{cut, run};
+ghost use Rattle.gf_raster.specs.Rows.{AreRows, AreSharesOf, IsShareOf};
 
+use crate::Gate;
+use crate::crew::Crew;
+use crate::gathering::{all_of, joined};
 use gf_scanline::{Part, Strip, Stroke, Workspace};
 use gf_shape::{OutOfMemory, Shape};
 use std::alloc::Global;
+use std::thread::Threads;
 
-/// What the rows of a part show, where there is one.
-pub(crate) fn all_found<'l, S: Shape>(
-    alloc: Global,
-    part: Option<&Part<'l, '_, S>>,
+/// What the rows of a part show, of which each worker finds a share.
+pub(crate) fn found<'l, S: Shape + Sync, R: Threads + Sync, G: Gate + Sync>(
+    crew: &Crew<'_, R, G>,
+    part: &Part<'l, '_, S>,
 ) -> Result<Vec<Vec<Stroke<'l>>>, OutOfMemory>
-    ensures { IfOk result (λ rows. AreFound S.holds part.entry rows.items) }
+    ensures len { IfOk result (λ rows. vec_len rows ≡ part.now.band.count) }
+    ensures rows { IfOk result (λ rows. AreRows (layered S.holds part.now.layers)
+        part.now.band.window part.now.band.top rows.items) }
 {
-    match part {
-        Some(part) => found(alloc, part, part.top(), part.count()),
-        None => Ok(Vec::new(alloc)),
-    }
+    let size = part.count().div_ceil(crew.workers);
+    let shares = shares(crew, part, size)?;
+    let rows = joined(crew.alloc, shares)?;
+    Ok(rows)
 }
 
-/// What worker `k`'s share of the rows of a part shows, where there is one.
-pub(crate) fn share_found<'l, S: Shape>(
-    alloc: Global,
-    part: Option<&Part<'l, '_, S>>,
-    workers: usize,
-    k: usize,
-) -> Result<Vec<Vec<Stroke<'l>>>, OutOfMemory>
-    requires { 1 ≤ workers }
-    ensures { IfOk result (λ rows. AreShareOf S.holds part.entry workers k rows.items) }
+/// What all workers find, where each has `size` rows of a part.
+fn shares<'l, S: Shape + Sync, R: Threads + Sync, G: Gate + Sync>(
+    crew: &Crew<'_, R, G>,
+    part: &Part<'l, '_, S>,
+    size: usize,
+) -> Result<Vec<Vec<Vec<Stroke<'l>>>>, OutOfMemory>
+    ensures len { IfOk result (λ shares. vec_len shares ≡ crew.now.workers) }
+    ensures each { IfOk result (λ shares. AreSharesOf S.holds part.now size shares.items) }
 {
-    match part {
-        Some(part) => share(alloc, part, part.count().div_ceil(workers), k),
-        None => Ok(Vec::new(alloc)),
-    }
+    let shares = all_of(
+        crew.rt,
+        crew.alloc,
+        crew.workers,
+        &|k| { share(crew.alloc, part, size, k) },
+    )?;
+    Ok(shares)
 }
 
 /// What the rows of worker `k` show, where each worker has `size` rows of a part.
@@ -45,17 +52,15 @@ fn share<'l, S: Shape>(
     size: usize,
     k: usize,
 ) -> Result<Vec<Vec<Stroke<'l>>>, OutOfMemory>
-    ensures len { IfOk result (λ rows. vec_len rows ≡ run part.now.band.count size k) }
-    ensures rows { IfOk result (λ rows. AreRows (layered S.holds part.now.layers)
-        part.now.band.window (part.now.band.top + cut part.now.band.count size k) rows.items) }
+    ensures { IfOk result (λ rows. IsShareOf S.holds part.now size k rows) }
 {
     let count = part.count();
     let from = k.saturating_mul(size).min(count);
-    found(alloc, part, part.top() + from, size.min(count - from))
+    rows_from(alloc, part, part.top() + from, size.min(count - from))
 }
 
 /// What the rows from `top` on show, `count` of them.
-fn found<'l, S: Shape>(
+fn rows_from<'l, S: Shape>(
     alloc: Global,
     part: &Part<'l, '_, S>,
     top: usize,

@@ -1,14 +1,13 @@
 //! Rows that were found.
 
-ghost use Rattle.std.specs.Prelude.{◌≤◌, ◌-◌, length};
+ghost use Rattle.std.specs.Prelude.{◌≡◌, length};
 
-use gf_scanline::{Stroke, Window};
+use gf_scanline::{Band, Stroke};
 
-/// What rows of a window show, from row `top` on: the strokes of each row. There may be no rows.
+/// What the rows of a band show: the strokes of each row.
 #[derive(Drop)]
 pub(crate) struct ShownRows<'l> {
-    pub window: Window,
-    pub top: usize,
+    pub band: Band,
     pub strokes: Vec<Vec<Stroke<'l>>>,
-    ghost within: { length strokes.items ≤ window.height - top },
+    ghost count: { length strokes.items ≡ band.count },
 }

@@ -1,15 +1,15 @@
 //! The tiles of a band, filled behind their gates.
 
-ghost use Rattle.std.specs.Prelude.{◌≡◌, ℕ, ◌+◌, ◌≤◌, ◌<◌, ◌++◌, [], All, IfOk, OnOk, length};
-ghost use Rattle.std.specs.Prelude.{vec_len};
+ghost use Rattle.std.specs.Prelude.{◌≡◌, ℕ, ◌+◌, ◌≤◌, [], All, IfOk, OnOk, length, vec_len};
 ghost use Rattle.gf_shape.specs.declared.colour.Rgb.{Rgb};
 ghost use Rattle.gf_shape.specs.declared.point.Point.{Point};
 ghost use Rattle.gf_scanline.specs.Windows.{View};
-ghost use Rattle.gf_raster.specs.Rows.{AreRows, ShowsRows, bytes_of};
-ghost use Rattle.gf_raster.specs.Turns.{ArePiecesOf, ArePiecesWith};
+ghost use Rattle.gf_raster.specs.Rows.{AreRows};
+ghost use Rattle.gf_raster.specs.Columns.{ArePiecesWith, HasPieces, HaveAllPieces};
 
 use crate::Gate;
 use crate::crew::Crew;
+use crate::gathering::all_of;
 use crate::pass::Pass;
 use crate::shown_rows::ShownRows;
 use gf_scanline::{Stroke, fill};
@@ -20,41 +20,34 @@ use std::thread::Threads;
 /// How wide and how high a tile is, in pixels; a band has as many rows.
 pub(crate) const TILE: usize = 64;
 
-/// Passes the gate for each tile of a band, and adds the bytes of the band's rows. For no rows no
-/// gate is passed.
-pub(crate) fn fill_all<R: Threads, G: Gate>(
+/// The bytes of all workers' columns, for each row of a band.
+pub(crate) fn columns<R: Threads + Sync, G: Gate + Sync>(
     crew: &Crew<'_, R, G>,
     shown: &ShownRows<'_>,
-    bytes: &mut Vec<u8>,
-) -> Result<(), OutOfMemory>
-    ensures { OnOk result ((colour : Point → Rgb) → ShowsRows colour shown.now
-        → bytes.new.items ≡ bytes.old.items ++ bytes_of colour shown.now) }
+) -> Result<Vec<Vec<Vec<u8>>>, OutOfMemory>
+    ensures len { IfOk result (λ columns. vec_len columns ≡ crew.now.workers) }
+    ensures each { IfOk result (λ columns.
+        HaveAllPieces shown.now crew.now.workers columns.items) }
 {
-    if shown.strokes.is_empty() {
-        return Ok(());
-    }
-    let pass = Pass::through(crew, shown, 1, 0, shown.window.width() as usize);
-    for row in &shown.strokes {
-        fill(row, pass.from(), pass.len(), bytes)?;
-    }
-    Ok(())
+    let columns = all_of(
+        crew.rt,
+        crew.alloc,
+        crew.workers,
+        &|k| { pieces(crew, shown, k) },
+    )?;
+    Ok(columns)
 }
 
 /// The bytes of worker `k`'s columns, for each row of a band. The worker fills a run of tiles, each
 /// behind its gate.
-pub(crate) fn pieces<R: Threads, G: Gate>(
+fn pieces<R: Threads, G: Gate>(
     crew: &Crew<'_, R, G>,
     shown: &ShownRows<'_>,
     k: usize,
 ) -> Result<Vec<Vec<u8>>, OutOfMemory>
-    ensures len { IfOk result (λ ps. vec_len ps ≡ vec_len shown.now.strokes) }
-    ensures pieces { IfOk result (λ ps. (colour : Point → Rgb) → ShowsRows colour shown.now
-        → ArePiecesOf colour shown.now crew.now.workers k ps.items) }
+    ensures { IfOk result (λ ps. HasPieces shown.now crew.now.workers k ps) }
 {
-    if shown.strokes.is_empty() {
-        return Ok(Vec::new(crew.alloc));
-    }
-    let width = shown.window.width() as usize;
+    let width = shown.band.window().width() as usize;
     let size = TILE * width.div_ceil(TILE).div_ceil(crew.workers);
     let start = k.saturating_mul(size).min(width);
     let len = size.min(width - start);
@@ -62,7 +55,7 @@ pub(crate) fn pieces<R: Threads, G: Gate>(
     let who = (k % 255 + 1) as u8;
     for i in 0..len.div_ceil(TILE) {
         let from = start + TILE * i;
-        let pass = Pass::through(crew, shown, who, from, TILE.min(len - TILE * i));
+        let pass = Pass::through(crew, shown.band, who, from, TILE.min(len - TILE * i));
         fill_tile(&shown.strokes, pass, &mut pieces)?;
     }
     Ok(pieces)

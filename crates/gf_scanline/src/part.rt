@@ -84,23 +84,6 @@ impl<'l, 'a, S: Shape> Part<'l, 'a, S> {
     {
         self.band.count()
     }
-
-    /// How many layers and edges there are, among which each row is found. This measures the work
-    /// for a row; nothing is proved of it.
-    pub fn size(&self) -> usize {
-        size_of(&self.pieces)
-    }
-}
-
-/// How many layers and edges the pieces have.
-fn size_of<S: Shape>(pieces: &[Piece<'_, '_, S>]) -> usize {
-    let mut count = pieces.len();
-    for piece in pieces {
-        if let Some(edges) = &piece.edges {
-            count = count.saturating_add(edges.len());
-        }
-    }
-    count
 }
 
 /// The pieces of layers in a band.

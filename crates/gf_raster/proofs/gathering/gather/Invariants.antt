@@ -1,14 +1,14 @@
-use Rattle.std.proofs.Common.{ℕ, ◌≡◌, ◌+◌, ◌<◌, ◌++◌, length}
+use Rattle.std.proofs.Common.{ℕ, ◌≡◌, ◌+◌, ◌<◌, length}
 use Rattle.gf_shape.specs.declared.colour.Rgb.{Rgb}
 use Rattle.gf_shape.specs.declared.point.Point.{Point}
 use Rattle.gf_scanline.specs.Windows.{View}
 use Rattle.gf_scanline.specs.Picture.{rows}
 use Rattle.gf_raster.specs.Shares.{cut}
-use Rattle.gf_raster.specs.Turns.{AreColumns}
+use Rattle.gf_raster.specs.Columns.{AreColumns}
 use Rattle.gf_raster.proofs.gathering.gather.Given as goal
 
 abbrev pub invariant-loop-i : goal.invariant-loop-i
 invariant-loop-i l = (colour : Point → Rgb) (w : View) (top size : ℕ)
-    → ((i : ℕ) → i < l.count → AreColumns colour w (top + i) i size l.turns)
-    → cut w.width size (length l.turns) ≡ w.width
-    → l.bytes.items ≡ l.initial.bytes.items ++ rows colour w top l.i
+    → ((i : ℕ) → i < l.count → AreColumns colour w (top + i) i size l.columns)
+    → cut w.width size (length l.columns) ≡ w.width
+    → l.bytes.items ≡ rows colour w top l.i

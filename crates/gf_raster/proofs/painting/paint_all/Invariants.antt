@@ -1,11 +1,13 @@
-use Rattle.std.proofs.Common.{◌≡◌, ◌*◌, min}
+use Rattle.std.proofs.Common.{◌≡◌, ◌-◌, ◌≤◌}
 use Rattle.gf_scanline.specs.Layers.{layered}
 use Rattle.gf_scanline.specs.Picture.{rows}
-use Rattle.gf_raster.specs.Rows.{AreBand}
 use Rattle.gf_raster.proofs.painting.paint_all.Given as goal
 
-abbrev pub invariant-loop-index : goal.invariant-loop-index
-invariant-loop-index g l = record {
-  bytes : l.bytes.items ≡ rows (layered g.S.Shape.holds l.layers) l.fn.window 0 (min (64 * l.index) l.fn.window.height);
-  shown : AreBand (layered g.S.Shape.holds l.layers) l.fn.window (64 * l.index) l.shown;
+abbrev pub invariant-loop-top : goal.invariant-loop-top
+invariant-loop-top g l = record {
+  within : l.top ≤ l.fn.window.height;
+  bytes : l.bytes.items ≡ rows (layered g.S.Shape.holds l.layers) l.fn.window 0 l.top;
 }
+
+abbrev pub decreases-loop-top : goal.decreases-loop-top
+decreases-loop-top g l = l.fn.window.height - l.top

@@ -6,7 +6,7 @@ use Rattle.gf_raster.proofs.tiles.pieces.Goals as goal
 
 pub loop-i-preserved : goal.loop-i-preserved
 loop-i-preserved g c =
-    let w = c.args.shown.now.window in
+    let w = c.args.shown.now.band.window in
     let i = c.loop-i.i in
     let start = c.min-start.result in
     let len = c.min-len.result in
@@ -19,17 +19,20 @@ loop-i-preserved g c =
     record {
       count = same ∙ c.loop-i.invariant.count;
       filled = λ colour h.
-          pieces_more colour w c.args.shown.now.top start len i c.loop-i.pieces.items c.fill_tile.new.pieces.items (omega (arith, first)) same
-          (c.loop-i.invariant.filled colour h) (rw count at (filled colour w c.args.shown.now.top fits (rw c.deref.ensures.value h)));
+          pieces_more colour w c.args.shown.now.band.top start len i c.loop-i.pieces.items c.fill_tile.new.pieces.items (omega (arith, first)) same
+          (c.loop-i.invariant.filled colour h) (rw count at (filled colour w c.args.shown.now.band.top fits (rw c.deref.ensures.value h)));
     }
 
-pub returns-clause-pieces : goal.returns-clause-pieces
-returns-clause-pieces g c = λ colour h.
-    let w = c.args.shown.now.window in
+pub returns : goal.returns
+returns g c =
+    let w = c.args.shown.now.band.window in
     let size = stride w c.args.crew.now.workers in
     let len = c.min-len.result in
     let l : len / 64 + min 1 (len % 64) ≤ c.loop-i.i = search (rules, arith) in
     let whole = ends len c.loop-i.i l in
     let from : c.min-start.result ≡ cut w.width size c.args.k = search (rules, arith) in
     let many : len ≡ run w.width size c.args.k = search (rules, arith) in
-    rw (whole, from, many) at (c.loop-i.invariant.filled colour h)
+    record {
+      lines = c.loop-i.invariant.count;
+      filled = λ colour h. rw (whole, from, many) at (c.loop-i.invariant.filled colour h);
+    }

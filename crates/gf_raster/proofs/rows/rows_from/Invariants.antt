@@ -1,7 +1,7 @@
 use Rattle.std.proofs.Common.{◌≡◌, length}
 use Rattle.gf_scanline.specs.Layers.{layered}
 use Rattle.gf_raster.specs.Rows.{AreRows}
-use Rattle.gf_raster.proofs.rows.found.Given as goal
+use Rattle.gf_raster.proofs.rows.rows_from.Given as goal
 
 abbrev pub invariant-loop-i : goal.invariant-loop-i
 invariant-loop-i g l = record {
