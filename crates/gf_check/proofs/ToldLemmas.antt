@@ -10,7 +10,6 @@ use Rattle.std.specs.BTreeMap.{is_at}
 use Rattle.std.specs.BTreeSet.{contains}
 use Rattle.std.specs.Cmp.{IsTotalOrder, Equal-is, nat_cmp_total}
 use Rattle.std.specs.Ordering.{is_eq, nat_cmp}
-use Rattle.gf_base.proofs.ListLemmas.{not_Contains-nil}
 use Rattle.gf_ops.specs.declared.op.OpId.{OpId}
 use Rattle.gf_ops.specs.declared.faults.OpFault.{OpFault}
 use Rattle.gf_ops.specs.declared.faults.OpFault.TheVariants as fault
@@ -87,16 +86,6 @@ pub drop_kept : (told : List Told) (t : Telling) (i : OpId) (why : OpFault) (n :
 drop_kept told t i why n b number is h = rw (is, number) (h.drops i why)
 
 -- ---- one fault more
-
-pub told_none : (t : Telling) → t.text.items ≡ [] → t.drops.keys ≡ [] → HasTold [] t
-told_none t text drops = record {
-  text = text;
-  plain = λ u c. absurd (not_Contains-nil u c);
-  drops = λ i why. (λ d. absurd (no_drop i why d), λ c. absurd (not_Contains-nil (reading.Dropped i why) c));
-}
-  where
-    no_drop : (i : OpId) (why : OpFault) → ¬ (HasDrop t i why)
-    no_drop i why = subst (λ ks. ¬ (IsTrue (contains drop_cmp (record { keys = ks }) (i, check_number why)))) (sym drops) (λ d. absurd cc)
 
 line_more : (told : List Told) (old new : Telling) (n : ℕ) (cause : LineCause) (why : List ℕ) → new.text.items ≡ old.text.items ++ told_line (reading.Line n cause) why → new.drops ≡ old.drops →
     IsOnOneLine why → HasTold told old → TellsOne (reading.Line n cause) told new

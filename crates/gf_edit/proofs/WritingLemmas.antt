@@ -1,33 +1,26 @@
 -- How what was made of changes grows by one, and what a refused change says of them all.
 use Rattle.std.specs.Prelude.{Some, Ok, Option}
-use Rattle.std.proofs.Common.{◌≡◌, ℕ, List, [], ◌∷◌, ◌++◌, refl, sym, ap, subst, ◌∙◌, append_assoc, inl, inr}
+use Rattle.std.proofs.Common.{◌≡◌, List, [], ◌∷◌, ◌++◌, refl, sym, ap, subst, ◌∙◌, append_assoc, inl, inr}
 use Rattle.std.proofs.lemmas.List.{append-nil}
 use Rattle.std.proofs.lemmas.List.Concat.{flat_map-append}
 use Rattle.std.proofs.lemmas.List.Elements.{Contains-push_cases}
 use Rattle.gf_base.proofs.ListLemmas.{not_Contains-nil}
 use Rattle.gf_json.specs.OperationLines.{denoted}
 use Rattle.gf_json.specs.WrittenLines.{op_text}
-use Rattle.gf_keep.specs.Keeping.{AreKeeping}
 use Rattle.gf_keep.specs.MadeOf.{none as each_none}
-use Rattle.gf_keep.specs.declared.faults.KeepFault.{KeepFault}
 use Rattle.gf_keep.specs.declared.faults.KeepFault.TheVariants as keep_fault
-use Rattle.gf_keep.specs.declared.keep.Keep.{Keep}
-use Rattle.gf_keep.specs.KeepFaults.{RefusesKeep}
 use Rattle.gf_ops.specs.declared.op.Op.{Op}
 use Rattle.gf_ops.specs.declared.change.Change.{Change}
 use Rattle.gf_ops.specs.Accepted.{IsAccepted}
 use Rattle.gf_ops.specs.Limits.{IsInRange}
 use Rattle.gf_site.specs.SiteState.{SiteState, authored}
 use Rattle.gf_studio.specs.declared.studio_error.StudioError.TheVariants as studio
-use Rattle.gf_worker.specs.Turns.{AuthorAnswer}
-use Rattle.gf_edit.specs.declared.edit_command.EditCommand.TheVariants.{Author, Keep as KeepOf}
-use Rattle.gf_edit.specs.declared.edit_error.EditError.{EditError}
 use Rattle.gf_edit.specs.declared.edit_error.EditError.TheVariants as edit
 use Rattle.gf_edit.specs.declared.edited.Edited.{Edited}
 use Rattle.gf_edit.specs.declared.made.Made.{Made}
 use Rattle.gf_edit.specs.MadeOperations.{made_until}
 use Rattle.gf_edit.specs.Making.{written_line, written_lines}
-use Rattle.gf_edit.specs.MakingSteps.{RefusesCommand, RefusesEach, WritesEach, WritesOp, of_keep, told_after}
+use Rattle.gf_edit.specs.MakingSteps.{WritesEach, WritesOp, told_after}
 use Rattle.gf_edit.proofs.EachLemmas.{each_push}
 
 told_push : (m : Option Made) (ops : List Op) (a : Op) → told_after m (ops ++ a ∷ []) ≡ Some (made_until (told_after m ops) a.id)
@@ -65,50 +58,3 @@ module _ (cs : List Change) (x y : SiteState) (d e : Edited) (w : WritesEach cs 
         ];
       }
 
-  pub refused_one : (n : ℕ) (c : Change) (rest changes : List Change) → changes ≡ cs ++ c ∷ rest → (r : EditError) → RefusesCommand n (Author c) y r → RefusesEach n changes x r
-  refused_one n c rest changes whole (edit.Refused m why) r = (
-    r.0,
-    record {
-      before = cs;
-      change = c;
-      after = rest;
-      whole = whole;
-      made = w.ops;
-      makes = w.makes;
-      refused = subst (λ l. AuthorAnswer x.number l [] c (Some why)) w.had (subst (λ k. AuthorAnswer k y.ops [] c (Some why)) w.number r.1);
-    },
-  )
-  refused_one n c rest changes whole (edit.NoVersion m) r = absurd r.1
-  refused_one n c rest changes whole (edit.Run studio.OutOfMemory) r = tt
-  refused_one n c rest changes whole (edit.Run (studio.Line m why)) r = absurd r
-  refused_one n c rest changes whole (edit.Run (studio.Dropped id fault)) r = absurd r
-  refused_one n c rest changes whole (edit.Run (studio.Fig f)) r = absurd r
-  refused_one n c rest changes whole (edit.Run (studio.Compile f)) r = absurd r
-  refused_one n c rest changes whole (edit.Run (studio.NoObject o)) r = absurd r
-  refused_one n c rest changes whole (edit.Run studio.ReadFailed) r = absurd r
-  refused_one n c rest changes whole (edit.Run studio.TooLong) r = absurd r
-  refused_one n c rest changes whole (edit.Run studio.WriteFailed) r = absurd r
-  refused_one n c rest changes whole (edit.Waits i j) r = absurd r
-
-pub keep_refused : (n : ℕ) (k : Keep) (x : SiteState) (f : KeepFault) → RefusesKeep x.ops k f → (e : EditError) → e ≡ of_keep n f → RefusesCommand n (KeepOf k) x e
-keep_refused n k x f r e same = subst (RefusesCommand n (KeepOf k) x) (sym same) (by f r)
-  where
-    by : (f : KeepFault) → RefusesKeep x.ops k f → RefusesCommand n (KeepOf k) x (of_keep n f)
-    by keep_fault.NoObject r = (refl, inl r)
-    by keep_fault.Range r = (refl, inl r)
-    by keep_fault.NoVersion r = (refl, r)
-    by keep_fault.OutOfMemory r = tt
-
-pub each_refused : (n : ℕ) (k : Keep) (x : SiteState) (changes : List Change) → AreKeeping x.ops k changes → (e : EditError) → RefusesEach n changes x e → RefusesCommand n (KeepOf k) x e
-each_refused n k x changes are (edit.Refused m why) r = (r.0, inr (record { changes = changes; keeping = are; refused = r.1 }))
-each_refused n k x changes are (edit.NoVersion m) r = absurd r
-each_refused n k x changes are (edit.Run studio.OutOfMemory) r = tt
-each_refused n k x changes are (edit.Run (studio.Line m why)) r = absurd r
-each_refused n k x changes are (edit.Run (studio.Dropped id fault)) r = absurd r
-each_refused n k x changes are (edit.Run (studio.Fig f)) r = absurd r
-each_refused n k x changes are (edit.Run (studio.Compile f)) r = absurd r
-each_refused n k x changes are (edit.Run (studio.NoObject o)) r = absurd r
-each_refused n k x changes are (edit.Run studio.ReadFailed) r = absurd r
-each_refused n k x changes are (edit.Run studio.TooLong) r = absurd r
-each_refused n k x changes are (edit.Run studio.WriteFailed) r = absurd r
-each_refused n k x changes are (edit.Waits i j) r = absurd r

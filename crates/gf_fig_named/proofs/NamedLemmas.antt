@@ -81,12 +81,6 @@ resolution_ends = record { line = codes "1200 2"; is = refl }
 abbrev header_line : List ℕ
 header_line = codes "#FIG 3.2\nLandscape\nCenter\nMetric\nA4\n100.00\nSingle\n-2"
 
-first_ends : (rest : List ℕ) → first_lines ++ rest ≡ header_line ++ 10 ∷ rest
-first_ends rest = refl
-
-header_ends : (rest : List ℕ) → fig_header ++ rest ≡ header_line ++ 10 ∷ (codes "1200 2\n" ++ rest)
-header_ends rest = refl
-
 -- ---- the text
 
 module _ {S : Type 0} (outline : S → Outline) where
@@ -237,8 +231,6 @@ module _ (h : List Op) (items : List (Placed AnyShape)) where
       }
 
 module _ (h : List Op) (text : List ℕ) (valid : IsValid h) (named : IsNamedText h text) where
-  abbrev its_items : List (Placed AnyShape)
-  its_items = named.items
 
   abbrev its_drawing : DrawingState AnyShape
   its_drawing = canonical_drawing named.items

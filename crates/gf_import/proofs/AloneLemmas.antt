@@ -62,9 +62,6 @@ in_one : {X : Type 0} (i j : X) → Contains (i ∷ []) j → j ≡ i
 in_one i j c = elim (Contains-cons_cases i [] j c)
     [ inl e ↦ e | inr d ↦ absurd (not_Contains-nil j d) ]
 
-one_rises : (i : OpId) → (x : List OpId) × (x ≡ i ∷ [])
-one_rises i = (i ∷ [], refl)
-
 own_object : (a : Op) (s : Start) → a.change ≡ Create s → object_of a ≡ record { 0 = a.id }
 own_object a s e = ap (changed_object a.id) e
 

@@ -50,8 +50,6 @@ err_told None c f e = absurd cc
 err_told (Some g) c f e = cc
 
 module _ (table : Table) (fs : List (Figure Outline)) where
-  pub created_none : (changes : List Change) → changes ≡ [] → AreCreated table fs 0 changes
-  created_none changes e = record { created = e; sound = All-nil (IsSound table) }
 
   pub created_more : (old new : List Change) (c : Change) (i : ℕ) (d : Figure Outline)
       → i < length fs → AreCreated table fs i old → IsLawful (get_or fs i d).shape

@@ -53,9 +53,6 @@ module _ (h : List Op) (o : ObjectId) (n : ℕ) (d : Op) (within : n < length h)
     λ t. elim (cases i t) [ inl u ↦ (was i).1 u | inr p ↦ absurd (off p.1) ],
   )
 
-pub on_none : (h : List Op) (o : ObjectId) (ids : List OpId) → ids ≡ [] → (i : OpId) → Contains ids i ↔ HasOn (take 0 h) o i
-on_none h o ids e i = (λ c. absurd (not_Contains-nil i (subst (λ (s : List OpId). Contains s i) e c)), λ t. absurd (not_Contains-nil t.op t.contained))
-
 pub on_all : (h : List Op) (o : ObjectId) (n : ℕ) (ids : List OpId) → length h ≤ n → ((i : OpId) → Contains ids i ↔ HasOn (take n h) o i) → (i : OpId) → Contains ids i ↔ HasOn h o i
 on_all h o n ids l was = subst (λ (s : List Op). (i : OpId) → Contains ids i ↔ HasOn s o i) (take_all n h l) was
 

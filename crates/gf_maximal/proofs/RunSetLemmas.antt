@@ -590,10 +590,6 @@ list_any_same : (p q : Run → Bool) → ((r : Run) → p r ≡ q r) → (rs : L
 list_any_same p q f [] = refl
 list_any_same p q f (r ∷ rs) = rw (f r, list_any_same p q f rs) refl
 
-pub list_all_same : (p q : Run → Bool) → ((r : Run) → p r ≡ q r) → (rs : List Run) → list_all p rs ≡ list_all q rs
-list_all_same p q f [] = refl
-list_all_same p q f (r ∷ rs) = rw (f r, list_all_same p q f rs) refl
-
 -- ---- what calls leave
 
 pub put_kept : {A B : Type 0} (r : Result A B) (x : ℕ) (rs ss : List Run) → OnOk r (ss ≡ put x rs) → OnErr r (ss ≡ rs) → AreRuns rs → AreRuns ss

@@ -9,8 +9,8 @@ use Rattle.gf_ops.specs.declared.op.Op.{Op}
 use Rattle.gf_ops.specs.declared.op.OpId.{OpId}
 use Rattle.gf_ops.specs.declared.change.Change.{Change}
 use Rattle.gf_ops.specs.declared.change.Change.TheVariants.{Create, Set}
-use Rattle.gf_ops.specs.Aims.{IsAimed, MayAimAt}
-use Rattle.gf_ops.specs.AimTests.{after_id, IsWithinAim, FitsAim, MayAim, MeetsAt, MeetsOne, AreDirectlyCompatible, MemberMeets, AimMeets}
+use Rattle.gf_ops.specs.Aims.{MayAimAt}
+use Rattle.gf_ops.specs.AimTests.{after_id, IsWithinAim, FitsAim, MeetsAt, MemberMeets, AimMeets}
 use Rattle.gf_ops.specs.Attribute.{change_aim, aim_of}
 use Rattle.gf_ops.specs.Limits.{is_id, is_clock, is_value, is_change, is_aim, id_less, rise_behind, ids_rise, IsInRange}
 use Rattle.gf_ops.specs.Conflict.{Conflict, MeetsBrought}
@@ -202,21 +202,6 @@ all_before_more P ids n e l f p k d m b = elim (cases_lt k n) [
   | inr more ↦ let s : k ≡ n = omega arith in subst P (sym (ap (λ j. slice_index_or ids j d) s ∙ get_or_default ids n d e l)) p
 ]
 
-pub all_before_all : (P : OpId → Type 0) (ids : List OpId) (n : ℕ) → length ids ≤ n → AllBefore P ids n → (i : OpId) → Contains ids i → P i
-all_before_all P ids n l f i c = let b = c.1 in subst P c.2 (f c.0 i (omega arith) b)
-
-pub met_at : (h : List Op) (a : Op) (ids : List OpId) (i : OpId) → Contains ids i → MeetsAt h a i → MeetsOne h a ids
-met_at h a ids i c t = record { op = t.op; contained = t.contained; among = subst (Contains ids) (sym t.id) c; direct = t.direct }
-
-pub not_met : (h : List Op) (a : Op) (ids : List OpId) → ((i : OpId) → Contains ids i → ¬ (MeetsAt h a i)) → ¬ (MeetsOne h a ids)
-not_met h a ids f t = f t.op.id t.among (record { op = t.op; contained = t.contained; id = refl; direct = t.direct })
-
-pub aim_met_at : (h : List Op) (b : Op) (ids : List OpId) (i : OpId) → Contains ids i → MemberMeets h i b → AimMeets h ids b
-aim_met_at h b ids i c t = record { op = t.op; contained = t.contained; among = subst (Contains ids) (sym t.id) c; meets = t.meets }
-
-pub aim_not_met : (h : List Op) (b : Op) (ids : List OpId) → ((i : OpId) → Contains ids i → ¬ (MemberMeets h i b)) → ¬ (AimMeets h ids b)
-aim_not_met h b ids f t = f t.op.id t.among (record { op = t.op; contained = t.contained; id = refl; meets = t.meets })
-
 pub aim_conflict : (h : List Op) (a b : Op) → AimMeets h (aim_of a) b → Conflict h a b
 aim_conflict h a b t = record {
   first = t.op;
@@ -241,8 +226,3 @@ fits_told h valid m there i id a = (
       subst (FitsAim a) same (record { object = t.object; before = t.before; within = t.within }),
 )
 
-pub aimed_told : (h : List Op) (a : Op) → (MayAim h a (aim_of a) × AreDirectlyCompatible h (aim_of a)) ↔ IsAimed h a
-aimed_told h a = (
-  λ p. record { each = p.0; compatible = λ x y m n. p.1 x y m.contained n.contained m.aimed n.aimed },
-  λ t. (t.each, λ x y c d k l. t.compatible x y (record { contained = c; aimed = k }) (record { contained = d; aimed = l })),
-)

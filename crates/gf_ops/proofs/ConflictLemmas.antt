@@ -14,8 +14,7 @@ use Rattle.gf_ops.specs.ValidHistory.{IsValid}
 use Rattle.gf_ops.specs.Version.{IsVersion, IsMember, IsLargestGroup}
 use Rattle.gf_ops.proofs.DirectConflictLemmas.{direct-sym}
 use Rattle.gf_base.proofs.ListLemmas.{Contains-cons_cases, Contains-cons_head, Contains-cons_tail, not_Contains-nil}
-use Rattle.gf_ops.proofs.HistoryLemmas.{site_in_range, seq_in_range}
-use Rattle.gf_ops.proofs.ValidityLemmas.{same_op, precedes_transitive}
+use Rattle.gf_ops.proofs.ValidityLemmas.{same_op}
 
 pub conflict-sym : (h : List Op) (a b : Op) → Conflict h a b → Conflict h b a
 conflict-sym h a b c = record {
@@ -51,12 +50,6 @@ module _ (h : List Op) (valid : IsValid h) where
   aimed_before a x i m =
       let t = (valid.aimed a i).each x.id m.aimed in
       subst (λ y. Precedes y a) (same_op h valid t.op x t.contained m.contained t.id) t.before
-
-  -- concerns the same object
-  pub aimed_object : (a x : Op) → Contains h a → AimsAt h a x → object_of x ≡ object_of a
-  aimed_object a x i m =
-      let t = (valid.aimed a i).each x.id m.aimed in
-      subst (λ y. object_of y ≡ object_of a) (same_op h valid t.op x t.contained m.contained t.id) t.object
 
   -- and brings no more
   pub brings_more : (a x y : Op) → Contains h a → AimsAt h a x → Brings h x y → AimsAt h a y
@@ -162,15 +155,3 @@ module _ (h : List Op) (none : HasNoAims h) where
 
 -- ---- what is known
 
--- one that aims at none and knows another one does not conflict with it
-pub unaimed_knows : (h : List Op) → IsValid h → (a b : Op) → Contains h a → Contains h b → aim_of a ≡ [] → Precedes b a → ¬ (Conflict h a b)
-unaimed_knows h valid a b i j none known c =
-    let first : c.first ≡ a = elim c.brings_first [ inl e ↦ e | inr m ↦ absurd (not_Contains-nil c.first.id (subst (λ xs. Contains xs c.first.id) none m.aimed)) ] in
-    let d : DirectConflict a c.second = subst (λ x. DirectConflict x c.second) first c.direct in
-    elim c.brings_second [
-      | inl e ↦ d.concurrent.not_after (subst (λ y. Precedes y a) (sym e) known)
-      | inr m ↦
-          let range = valid.in_range c.second m.contained in
-          let other = valid.in_range b j in
-          d.concurrent.not_after (precedes_transitive h valid c.second b a j i (site_in_range c.second range) (site_in_range b other) (seq_in_range b other).0 (aimed_before h valid b c.second j m) known)
-    ]

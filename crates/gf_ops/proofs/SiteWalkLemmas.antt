@@ -187,9 +187,6 @@ module _ (h : List Op) (valid : IsValid h) (ids : List OpId) where
         ]
       ]
 
-  pub calm_parted : AreDirectlyCompatible h ids → (s n : ℕ) → ArePartedBelow h ids s n
-  calm_parted calm s n t b l x y of others = calm x y of.contained others.contained of.among others.among
-
 -- what an operation may aim at is on one object
 pub aimed_on_one : (h : List Op) → IsValid h → (a : Op) → MayAim h a (aim_of a) → AreOnOne h (aim_of a)
 aimed_on_one h valid a may x y i j c d = on x i c ∙ sym (on y j d)

@@ -90,5 +90,3 @@ module _ (h : List Op) (cs : List (List Setter)) where
       let b = w.1 in
       f w.0 c.one (omega arith) b (subst (λ z. Clash h cs z n) (sym w.2) c.clash)
 
-  pub clash_found : (ms : List ℕ) (n m : ℕ) → Contains ms m → Clash h cs m n → ClashesWithOne h cs ms n
-  clash_found ms n m i c = record { one = m; among = i; clash = c }

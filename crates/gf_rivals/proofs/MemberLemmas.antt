@@ -337,10 +337,6 @@ module _ (h : List Op) (cs : List (List Setter)) (ms : List Member) (n : ℕ) wh
       let q = members.setters w.one w.among in
       none o us members w.one q.0 w.among q.1 q.1.within w.clash
 
-  -- what is no setter clashes with none
-  pub none_there : (o : ObjectId) (us : List ℕ) → AreMembersOf h o cs us ms → op_of h cs n ≡ None → ¬ (ClashesWithOne h cs us n)
-  none_there o us members e w = let f = w.clash.at_second in let g : Some w.clash.second ≡ None = sym f ∙ e in absurd cc
-
   pub none_given : (o : ObjectId) (us : List ℕ) → AreMembersOf h o cs us ms → (op : Op) → op_of h cs n ≡ Some op → op_value (Some op) ≡ None → ¬ (ClashesWithOne h cs us n)
   none_given o us members op found e w =
       let z = clash_numbers h o cs members.chains w.one n w.clash in

@@ -194,27 +194,6 @@ summed_still words summary q word low high s l fits some w = record {
   ];
 }
 
--- the summary, where the word keeps no bit
-pub summed_less : (words : List ℕ) (summary q word less : ℕ) → IsSummary words summary → q < 64 → word ≡ 0 → ((i : ℕ) → i < 64 → is_set less i ≡ (is_set summary i && not (is_from q (q + 1) i))) → IsSummary (slice_set words q word) less
-summed_less words summary q word less s l none w = record {
-  count = length-set words q word ∙ s.count;
-  fits = λ i. elim (cases_eq i q) [
-    | inl e ↦ rw (get_or-set_at words q i word 0 e (omega (arith, l, s.count)), none) (omega arith)
-    | inr e ↦ rw (get_or-set_other words q i word 0 e) (s.fits i)
-  ];
-  bits = λ i m. elim (cases_eq i q) [
-    | inl e ↦
-        let t : is_from q (q + 1) i ≡ true = grind (arith, nat_tests) in
-        w i m ∙ (rw (t, get_or-set_at words q i word 0 e (omega (arith, l, s.count)), none) (and_false (is_set summary i)))
-    | inr e ↦
-        let t : is_from q (q + 1) i ≡ false = elim (cases_Bool (is_from q (q + 1) i)) [
-          | inl y ↦ absurd (e (let b = from_is q (q + 1) i y in omega (arith, b.0, b.1)))
-          | inr y ↦ y
-        ] in
-        w i m ∙ (rw (t, get_or-set_other words q i word 0 e) (and_true (is_set summary i) ∙ s.bits i m))
-  ];
-}
-
 -- what stands from the first free column on to the first one that is not, in its word
 module _ (words : List ℕ) (c : Columns) (i e to : ℕ) (first : IsFirst (is_free words) 4096 c.from i) (some : i < min c.to 4096)
     (end : IsFirst (λ k. not (is_set (slice_index_or words (i / 64) 0) k)) 64 (i % 64) e) (least : to ≡ min (64 * (i / 64) + e) c.to) where
@@ -269,31 +248,6 @@ beside a b u v k x e l m = elim (cases_Bool (is_from a b k)) [
     | inr t ↦ let h : is_from a v k ≡ false = grind (arith, nat_tests) in rw (s, t, h) (and_true (x && true))
   ]
 ]
-
--- a run that goes on where another one ends
-pub taken_more : (c : Columns) (old mid new : List ℕ) (run more : Columns) → IsTaken c old mid run → is_free mid run.to ≡ true → IsTaken (record { from = run.to; to = c.to }) mid new more → IsTaken c old new (record { from = run.from; to = more.to })
-taken_more c old mid new run more r free m =
-    let joined : more.from ≡ run.to = elim (cases_lt run.to more.from) [
-      | inl l ↦ absurd (let z : true ≡ false = sym free ∙ m.passed run.to (omega arith) l in absurd cc)
-      | inr l ↦ let f = m.from in omega (arith, l, f)
-    ] in
-    let some = r.some in
-    let longer = m.some in
-    record {
-      from = r.from;
-      some = omega (arith, some, longer, joined);
-      to = m.to;
-      passed = r.passed;
-      free = λ k a. let w = from_is run.from more.to k a in elim (cases_lt k run.to) [
-        | inl l ↦ r.free k (let h : is_among run k ≡ true = let v = w.0 in grind (arith, nat_tests) in h)
-        | inr l ↦ and_left (is_free old k) (not (is_among run k)) (sym (r.left k) ∙ m.free k (let h : is_among more k ≡ true = let u = w.1 in grind (arith, nat_tests) in h))
-      ];
-      left = λ k. m.left k ∙ (ap (λ x. x && not (is_among more k)) (r.left k) ∙ beside run.from run.to more.from more.to k (is_free old k) joined some longer);
-    }
-  where
-    and_left : (x y : Bool) → (x && y) ≡ true → x ≡ true
-    and_left true y e = refl
-    and_left false y e = e
 
 -- ---- the first columns
 

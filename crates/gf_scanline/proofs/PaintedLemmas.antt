@@ -1,18 +1,18 @@
 -- Strips, painted segment by segment.
-use Rattle.std.specs.Prelude.{ℕ, zero, suc, ◌≡◌, ◌⊎◌, ◌<◌, ◌≤◌, Bool, true, false, ◌&&◌, ◌||◌, not, nat_lt, if◌then◌else◌, List, [], ◌∷◌, ◌++◌, Contains, refl}
+use Rattle.std.specs.Prelude.{ℕ, zero, suc, ◌≡◌, ◌⊎◌, ◌<◌, ◌≤◌, Bool, true, false, ◌&&◌, ◌||◌, not, if◌then◌else◌, List, [], ◌∷◌, ◌++◌, Contains, refl}
 use Rattle.std.specs.List.Sorted.{IsPermutation}
 use Rattle.std.proofs.Common.{arith, ap, sym, subst, inl, inr, ◌∙◌}
-use Rattle.std.proofs.lemmas.Bool.{cases_Bool, cases_lt}
+use Rattle.std.proofs.lemmas.Bool.{cases_lt}
 use Rattle.std.proofs.lemmas.Bool.Decides.{nat_tests}
 use Rattle.std.proofs.lemmas.List.Elements.{Contains-append_cases}
-use Rattle.std.proofs.lemmas.List.Folds.{list_any-append, list_any_at}
+use Rattle.std.proofs.lemmas.List.Folds.{list_any-append}
 use Rattle.std.proofs.lemmas.List.Sorted.{Contains-permutation, IsPermutation-sym, list_any-IsPermutation}
 use Rattle.gf_shape.specs.declared.colour.Rgb.{Rgb}
 use Rattle.gf_scanline.specs.declared.columns.Columns.{Columns}
 use Rattle.gf_scanline.specs.Columns.{is_among, is_from}
 use Rattle.gf_scanline.specs.Free.{IsTaken, is_free}
 use Rattle.gf_scanline.specs.Segments.{AreSegmentsOf}
-use Rattle.gf_scanline.specs.Strips.{AreSameOutside, IsPainted, SegmentView, Shown, is_painted, over}
+use Rattle.gf_scanline.specs.Strips.{IsPainted, SegmentView, Shown, is_painted, over}
 use Rattle.gf_scanline.proofs.FreeLemmas.{among_is}
 use Rattle.gf_scanline.proofs.WordLemmas.{and_false, and_true}
 
@@ -29,10 +29,6 @@ not_false true e = sym e
 not_false false e = refl
 
 -- ---- what segments paint
-
--- the columns of a segment in a list are painted
-pub painted_in : (ss : List SegmentView) (s : SegmentView) (k : ℕ) → Contains ss s → is_among s.columns k ≡ true → is_painted ss k ≡ true
-painted_in ss s k (i, l, e) a = list_any_at (λ (s : SegmentView). is_among s.columns k) ss i s l (subst (λ (z : SegmentView). is_among z.columns k ≡ true) (sym e) a)
 
 pub painted_both : (ss ts : List SegmentView) (k : ℕ) → is_painted (ss ++ ts) k ≡ (is_painted ss k || is_painted ts k)
 painted_both ss ts k = list_any-append (λ (s : SegmentView). is_among s.columns k) ss ts
@@ -140,71 +136,6 @@ module _ (old mid : List ℕ) (c rest : Columns) (from : c.from ≤ rest.from) (
         ] in
         t.left k ∙ (rw (kept_out k x, same) refl)
   ]
-
-  pub free_end : (rest.from ≡ c.from) ⊎ (rest.from ≤ c.to) → rest.to ≡ c.to → ((k : ℕ) → (is_free mid k && is_among rest k) ≡ false) → (k : ℕ) → is_free mid k ≡ (is_free old k && not (is_among c k))
-  free_end b e none k = elim (cases_lt k rest.from) [
-    | inl l ↦ elim (cases_lt k c.from) [
-      | inl o ↦
-          let x : is_from c.from rest.from k ≡ false = grind (arith, nat_tests) in
-          let z : is_among c k ≡ false = grind (arith, nat_tests) in
-          rw z (kept_out k x ∙ sym (and_true (is_free old k)))
-      | inr o ↦
-          let x : is_from c.from rest.from k ≡ true = grind (arith, nat_tests) in
-          let z : is_among c k ≡ true = elim b [
-            | inl f ↦ absurd (omega (arith, f, l, o))
-            | inr f ↦ grind (arith, nat_tests)
-          ] in
-          rw z (painted_out k x ∙ sym (and_false (is_free old k)))
-    ]
-    | inr l ↦
-        let x : is_from c.from rest.from k ≡ false = grind (arith, nat_tests) in
-        elim (cases_lt k c.to) [
-          | inl m ↦
-              let y : is_among rest k ≡ true = grind (arith, nat_tests) in
-              let z : is_among c k ≡ true = grind (arith, nat_tests) in
-              let gone : is_free mid k ≡ false = sym (and_true (is_free mid k)) ∙ (rw y at (none k)) in
-              rw z (gone ∙ sym (and_false (is_free old k)))
-          | inr m ↦
-              let z : is_among c k ≡ false = grind (arith, nat_tests) in
-              rw z (kept_out k x ∙ sym (and_true (is_free old k)))
-        ]
-  ]
-
--- no column is left to be painted
-pub painted_end : (target behind : ℕ → Rgb) (n : ℕ) (strip : Shown) (rest : Columns) (colour : Rgb) → ((k : ℕ) → (is_free strip.free k && is_among rest k) ≡ false) → IsPainted target (over (is_among rest) colour behind) n strip → IsPainted target behind n strip
-painted_end target behind n strip rest colour none h = record {
-  free = λ k l e.
-      let out : is_among rest k ≡ false = elim (cases_Bool (is_among rest k)) [
-        | inl a ↦ absurd (let f : true ≡ false = rw (e, a) at (none k) in absurd cc)
-        | inr a ↦ a
-      ] in rw out at (h.free k l e);
-  whole = h.whole;
-  colours = h.colours;
-}
-
--- where nothing is free, nothing behind is seen
-pub painted_behind : (target behind other : ℕ → Rgb) (n : ℕ) (strip : Shown) → ((k : ℕ) → is_free strip.free k ≡ false) → IsPainted target behind n strip → IsPainted target other n strip
-painted_behind target behind other n strip none h = record {
-  free = λ k l e. let f : false ≡ true = sym (none k) ∙ e in absurd cc;
-  whole = h.whole;
-  colours = h.colours;
-}
-
--- what lies behind columns of which none is free is not seen
-pub painted_unseen : (target behind other : ℕ → Rgb) (c : Columns) (n : ℕ) (strip : Shown) → ((k : ℕ) → (is_free strip.free k && is_among c k) ≡ false) → AreSameOutside c n behind other → IsPainted target behind n strip → IsPainted target other n strip
-painted_unseen target behind other c n strip none same h = record {
-  free = λ k l e. sym (same k l (rw e at (none k))) ∙ h.free k l e;
-  whole = h.whole;
-  colours = h.colours;
-}
-
--- nothing is painted yet
-pub painted_none : (target : ℕ → Rgb) (n : ℕ) (strip : Shown) → ((k : ℕ) → is_free strip.free k ≡ nat_lt k n) → strip.segments ≡ [] → IsPainted target target n strip
-painted_none target n strip free none = record {
-  free = λ k l e. refl;
-  whole = λ k l. let e : nat_lt k n ≡ true = grind (arith, nat_tests) in rw (free k, e) refl;
-  colours = λ s k i l a. absurd (none_in s (rw none at i));
-}
 
 -- the ground over the ground
 pub ground_over : (target : ℕ → Rgb) (test : ℕ → Bool) (ground : Rgb) (n : ℕ) (strip : Shown) → IsPainted target (λ _. ground) n strip → IsPainted target (over test ground (λ _. ground)) n strip

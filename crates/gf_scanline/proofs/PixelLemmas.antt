@@ -1,7 +1,6 @@
 -- Bytes of columns, cut and put together.
 use Rattle.std.specs.Prelude.{ℕ, zero, suc, ◌≡◌, ◌≤◌, ◌<◌, ◌+◌, ◌-◌, ◌*◌, List, ◌++◌, length, take, refl}
 use Rattle.std.proofs.Common.{append_assoc, arith, ap, sym, ◌∙◌}
-use Rattle.std.proofs.lemmas.List.{append-nil}
 use Rattle.std.proofs.Math.Seq.{take-append_seam}
 use Rattle.gf_shape.specs.declared.colour.Rgb.{Rgb}
 use Rattle.gf_scanline.specs.Pixels.{pixel, pixels}
@@ -55,7 +54,3 @@ pattern_more c left some pattern old new all l m p n h =
     parts : (m n : ℕ) → m ≤ n → n ≡ m + (n - m)
     parts m n l = omega arith
 
--- no column is left
-pub pattern_done : (c : Rgb) (left : ℕ) (bytes all : List ℕ) → left ≤ 0 → bytes ++ pixels (λ _. c) 0 left ≡ all → bytes ≡ all
-pattern_done c zero bytes all l h = sym (append-nil bytes) ∙ h
-pattern_done c (suc left) bytes all l h = absurd (omega arith)

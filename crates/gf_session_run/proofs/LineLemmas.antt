@@ -1,8 +1,7 @@
 -- How the commands of the lines grow, and what a refused line says of the text.
 use Rattle.std.specs.Prelude.{◌⊎◌, Ok, Err}
 use Rattle.std.proofs.Common.{◌≡◌, ℕ, List, [], ◌∷◌, ◌++◌, map, refl, sym, ap, subst, ◌∙◌, append_assoc, inl, inr}
-use Rattle.std.proofs.lemmas.List.{map-append, append-nil}
-use Rattle.gf_streams.specs.TextLines.{numbered_lines}
+use Rattle.std.proofs.lemmas.List.{map-append}
 use Rattle.gf_json.specs.declared.line_error.LineError.TheVariants as line
 use Rattle.gf_json.specs.declared.scripts.ScriptLine.{ScriptLine}
 use Rattle.gf_json.specs.LineValues.{Got}
@@ -12,13 +11,9 @@ use Rattle.gf_replay.specs.declared.reading_error.LineCause.{LineCause}
 use Rattle.gf_replay.specs.declared.reading_error.LineCause.TheVariants as cause
 use Rattle.gf_studio.specs.declared.studio_error.StudioError.{StudioError}
 use Rattle.gf_studio.specs.declared.studio_error.StudioError.TheVariants as studio
-use Rattle.gf_session_run.specs.DenotedScripts.{AreScriptsOf, DenotesScripts, HasScriptFault, IsLineBehind, IsScriptFault, denotes_command}
+use Rattle.gf_session_run.specs.DenotedScripts.{HasScriptFault, IsLineBehind, IsScriptFault, denotes_command}
 use Rattle.gf_session_run.specs.SessionSteps.{HasScripts, IsCommandFault, RefusesScriptLine, RefusesScripts, TakesCommand}
-use Rattle.gf_session_run.proofs.ScriptLemmas.{fit_more, fit_none, full_beyond, scripts_more}
-
--- before the first line no site has a command
-pub HasScripts-none : (n : ℕ) (bytes : List ℕ) (left : List (ℕ × List ℕ)) (scripts : List Script) → left ≡ numbered_lines bytes → AreScriptsOf n [] scripts → HasScripts n bytes left scripts
-HasScripts-none n bytes left scripts all are = record { before = []; whole = sym all; commands = []; lines = refl; fit = fit_none n; by_site = are }
+use Rattle.gf_session_run.proofs.ScriptLemmas.{fit_more, full_beyond, scripts_more}
 
 -- one line more is taken
 pub HasScripts-line : (n : ℕ) (bytes : List ℕ) (m : ℕ) (line : List ℕ) (left : List (ℕ × List ℕ)) (old new : List Script) → HasScripts n bytes ((m, line) ∷ left) old → TakesCommand line old new → HasScripts n bytes left new
@@ -33,15 +28,6 @@ HasScripts-line n bytes m line left old new has takes = record {
       ∙ sym (map-append denotes_command has.commands (takes.command ∷ []))));
   fit = fit_more n has.commands old has.fit has.by_site takes.command takes.place takes.site takes.room;
   by_site = scripts_more n has.commands old has.fit has.by_site takes.command takes.place takes.site takes.room new takes.gains;
-}
-
--- with no line left, all are taken
-pub DenotesScripts-all : (n : ℕ) (bytes : List ℕ) (scripts : List Script) → HasScripts n bytes [] scripts → DenotesScripts n bytes scripts
-DenotesScripts-all n bytes scripts has = record {
-  commands = has.commands;
-  lines = ap (map (λ (l : ℕ × List ℕ). script_denoted l.1)) (has.whole ∙ append-nil has.before) ∙ has.lines;
-  fit = has.fit;
-  by_site = has.by_site;
 }
 
 module _ (n : ℕ) (bytes : List ℕ) (m : ℕ) (line : List ℕ) (left : List (ℕ × List ℕ)) (scripts : List Script) (has : HasScripts n bytes ((m, line) ∷ left) scripts) where

@@ -1,12 +1,12 @@
 -- How scripts grow by a command, and what a full one tells.
-use Rattle.std.specs.Prelude.{◌==◌, ◌&&◌, nat_le, All, Contains, IsTrue, Some, slice_get, ◌⊎◌, ◌↔◌, vec_len}
+use Rattle.std.specs.Prelude.{◌==◌, ◌&&◌, nat_le, Contains, IsTrue, Some, slice_get, ◌⊎◌, ◌↔◌, vec_len}
 use Rattle.std.proofs.Common.{◌≡◌, ◌≢◌, ℕ, zero, suc, ◌+◌, ◌-◌, ◌<◌, ◌≤◌, Bool, List, [], ◌∷◌, ◌++◌, length, map, take, refl, sym, ap, subst, ◌∙◌, inl, inr, arith}
 use Rattle.std.specs.List.{filter}
 use Rattle.std.proofs.Math.Seq.{take-append_seam}
 use Rattle.std.proofs.lemmas.Bool.{cases_lt, le-leb, leb-true}
 use Rattle.std.proofs.lemmas.Bool.Decides.{eqb_tells}
 use Rattle.std.proofs.lemmas.List.{length-append, map-append, append-nil}
-use Rattle.std.proofs.lemmas.List.Elements.{All-cons, All-from_recursion, Contains-push_cases, filter-append}
+use Rattle.std.proofs.lemmas.List.Elements.{Contains-push_cases, filter-append}
 use Rattle.std.proofs.lemmas.Option.{slice_get_cases, slice_get_within}
 use Rattle.gf_base.proofs.ListLemmas.{not_Contains-nil}
 use Rattle.gf_ops.specs.Limits.{is_site}
@@ -109,14 +109,6 @@ module _ (n : ℕ) (ls : List ScriptLine) (scripts : List Script) (fit : Fit n l
 pub full_beyond : (n : ℕ) (ls : List ScriptLine) (scripts : List Script) → AreScriptsOf n ls scripts → (l : ScriptLine) (k : ℕ) → l.site ≡ k + 1 → HasNoRoomAt scripts k → (n < l.site) ⊎ (1000 ≤ length (commands_of l.site ls))
 full_beyond n ls scripts are l k place (past m) = inl (let q = are.long in rw place (omega arith))
 full_beyond n ls scripts are l k place (long s e m) = inr (subst (λ c. 1000 ≤ length c) (are.each k s e ∙ ap (λ j. commands_of j ls) (sym place)) m)
-
--- no script has more than 1,000 commands
-all_at : {X : Type 0} (P : X → Type 0) (xs : List X) → ((k : ℕ) (x : X) → slice_get xs k ≡ Some x → P x) → All P xs
-all_at P [] f = All-from_recursion P [] tt
-all_at P (x ∷ xs) f = All-cons P x xs (f 0 x refl) (all_at P xs (λ k y e. f (suc k) y e))
-
-pub scripts_few : (n : ℕ) (ls : List ScriptLine) (scripts : List Script) → Fit n ls → AreScriptsOf n ls scripts → All (λ (s : Script). vec_len s.0 ≤ 1000) scripts
-scripts_few n ls scripts fit are = all_at (λ (s : Script). vec_len s.0 ≤ 1000) scripts (λ k s e. subst (λ m. m ≤ 1000) (ap length (sym (are.each k s e)) ∙ sym s.0.ok.0) (fit.few (k + 1)))
 
 -- ---- what the code asks
 

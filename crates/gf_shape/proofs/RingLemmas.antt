@@ -3,9 +3,9 @@ use Rattle.std.specs.Prelude.{◌≡◌, ℕ, ◌+◌, ◌-◌, ◌≤◌, ◌<�
 use Rattle.std.specs.List.{list_all}
 use Rattle.std.proofs.Common.{arith, get_or, option_map, sym, ◌∙◌, ap, subst}
 use Rattle.std.proofs.lemmas.Bool.{and_parts, and_from, leb-true}
-use Rattle.std.proofs.lemmas.List.{length-append, length-map, map-append, take_all, take_more, take-map}
+use Rattle.std.proofs.lemmas.List.{length-append, length-map, map-append, take_all, take_more}
 use Rattle.std.proofs.lemmas.List.Elements.{All-append, All-cons, All-get_or, All-map, All-nil, All-take}
-use Rattle.std.proofs.lemmas.List.Folds.{list_all-append, list_all-map}
+use Rattle.std.proofs.lemmas.List.Folds.{list_all-map}
 use Rattle.std.proofs.lemmas.Option.{slice_get-map}
 use Rattle.gf_shape.specs.declared.point.Point.{Point}
 use Rattle.gf_shape.specs.FigureMeaning.{chain_holds}
@@ -109,14 +109,6 @@ ring_moved-ring_of : (ps : List Point) (d : Point) → ring_moved (ring_of ps) d
 ring_moved-ring_of [] d = refl
 ring_moved-ring_of (a ∷ ps) d = ap (λ points. record { boxed = false; points = points }) (map-append (λ p. plus p d) (a ∷ ps) (a ∷ []))
 
--- a chain round points can be moved where the points can
-pub points_movable-again : (ps : List Point) (d : Point) → points_movable (ps ++ take 1 ps) d ≡ points_movable ps d
-points_movable-again [] d = refl
-points_movable-again (a ∷ ps) d = list_all-append (λ p. is_within_reach (plus p d)) (a ∷ ps) (a ∷ []) ∙ twice (is_within_reach (plus a d)) _
-
-pub points_movable-closed : (r : Ring) (d : Point) → IsClosed r → points_movable r.points d ≡ points_movable (opened r.points) d
-points_movable-closed r d h = ap (λ (s : Ring). points_movable s.points d) h.closed ∙ points_movable-again (opened r.points) d
-
 is_polygon-moved : (ps : List Point) (d : Point) → IsTrue (is_polygon ps) → IsTrue (points_movable ps d) → IsTrue (is_polygon (points_moved ps d))
 is_polygon-moved ps d h m =
     and_from _ _
@@ -129,11 +121,6 @@ IsClosed-moved r d h m =
     subst IsClosed
     (sym (ap (λ s. ring_moved s d) h.closed ∙ ring_moved-ring_of (opened r.points) d))
     (IsClosed-ring_of (points_moved (opened r.points) d) (is_polygon-moved (opened r.points) d h.polygon m))
-
-pub opened-moved : (r : Ring) (d : Point) → opened (ring_moved r d).points ≡ points_moved (opened r.points) d
-opened-moved r d =
-    ap (λ n. take (n - 1) (points_moved r.points d)) (length-map r.points (λ p. plus p d))
-    ∙ take-map (λ p. plus p d) (length r.points - 1) r.points
 
 -- a polygon's chain holds what the polygon holds
 pub chain_holds-closed : (r : Ring) → IsClosed r → (p : Point) → chain_holds r.points p ≡ polygon_holds (opened r.points) p

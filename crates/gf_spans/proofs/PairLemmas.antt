@@ -34,11 +34,6 @@ count_before x ks = count_by (is_before x) ks
 pub count_before-cons : (x : ℤ) (k : Crossing) (ks : List Crossing) → count_before x (k ∷ ks) ≡ cond (int_lt k.floor x) 1 0 + count_before x ks
 count_before-cons x k ks = sum_by-cons (λ l. cond (is_before x l) 1 0) k ks
 
--- a place and its start, over its number and whether it lies past that
-start_low : (f : ℤ) (b : Bool) → f ≤ℤ cond b (f +ℤ pos 1) f
-start_low f true = omega (arith, ints)
-start_low f false = omega (arith, ints)
-
 start_high : (f : ℤ) (b : Bool) → cond b (f +ℤ pos 1) f ≤ℤ (f +ℤ pos 1)
 start_high f true = omega (arith, ints)
 start_high f false = omega (arith, ints)

@@ -20,9 +20,6 @@ module _ (h : List Op) where
   abbrev pub AreMembers : List Group → List ℕ → Type 0
   AreMembers groups us = (k : ℕ) → Contains us k ↔ IsMemberInOne h groups k
 
-  pub members_of_none : AreMembers [] []
-  members_of_none k = (λ i. absurd (not_Contains-nil k i), λ m. absurd (not_Contains-nil m.group m.listed))
-
   pub members_of_more : (groups : List Group) (us more : List ℕ) (g : Group) → AreMembers groups us → ((k : ℕ) → Contains more k ↔ IsMemberAt h g.ops k) → AreMembers (groups ++ g ∷ []) (us ++ more)
   members_of_more groups us more g are own k = (
     λ c. elim (Contains-append_cases us more k c) [

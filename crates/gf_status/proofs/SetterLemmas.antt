@@ -8,7 +8,6 @@ use Rattle.gf_ops.specs.declared.change.Attr.{Attr}
 use Rattle.gf_ops.specs.Attribute.{value_given}
 use Rattle.gf_ops.specs.ValidHistory.{IsValid}
 use Rattle.gf_ops.specs.Version.{IsMember}
-use Rattle.gf_base.proofs.ListLemmas.{not_Contains-nil}
 use Rattle.gf_groups.specs.declared.group.Group.{Group}
 use Rattle.gf_groups.proofs.OnPositionLemmas.{contained_at, position_of_op}
 use Rattle.gf_base.proofs.FilterLemmas.{Contains-filter}
@@ -74,9 +73,6 @@ module _ (h : List Op) (t : Attr) where
 
   abbrev pub AreLasts : List Group → List ℕ → Type 0
   AreLasts groups us = (k : ℕ) → Contains us k ↔ IsLastInOne h t groups k
-
-  pub lasts_none : AreLasts [] []
-  lasts_none k = (λ i. absurd (not_Contains-nil k i), λ l. absurd (not_Contains-nil l.group l.listed))
 
   pub lasts_more : (groups : List Group) (us more : List ℕ) (g : Group) → AreLasts groups us → ((k : ℕ) → Contains more k ↔ IsLastAt h t g.ops k) → AreLasts (groups ++ g ∷ []) (us ++ more)
   lasts_more groups us more g are own k = (

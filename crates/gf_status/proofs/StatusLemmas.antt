@@ -1,8 +1,8 @@
 -- The statuses of the objects of a history.
 use Rattle.std.proofs.Common.{◌≡◌, ℕ, ◌+◌, ◌<◌, ◌≤◌, get_or, List, [], ◌∷◌, ◌++◌, length, refl, sym, ap, subst, ◌∙◌, inl, inr, arith}
-use Rattle.std.specs.Prelude.{◌↔◌, Contains, IsSome, Option, Some, None, nat_le, slice_get}
+use Rattle.std.specs.Prelude.{◌↔◌, Contains, IsSome, Option, Some, None, slice_get}
 use Rattle.std.specs.List.Sorted.{IsStrictlySortedBy}
-use Rattle.std.proofs.lemmas.Bool.{cases_lt, cond-true, cond-false, le-leb, lt-leb}
+use Rattle.std.proofs.lemmas.Bool.{cases_lt}
 use Rattle.std.proofs.lemmas.Option.{slice_get_within}
 use Rattle.std.proofs.lemmas.List.{map-append}
 use Rattle.std.proofs.lemmas.List.Elements.{Contains-append_left, Contains-get_or, Contains-push, Contains-push_cases}
@@ -18,20 +18,12 @@ use Rattle.gf_ops.specs.OperationOrder.{id_cmp}
 use Rattle.gf_groups.specs.declared.group.Group.{Group}
 use Rattle.gf_groups.specs.Versions.{IsMade, IsVersionGroup}
 use Rattle.gf_groups.proofs.OnPositionLemmas.{contained_at, position_of_op}
-use Rattle.gf_base.proofs.ListLemmas.{not_Contains-nil}
-use Rattle.gf_visible.specs.ShownVersions.{AreVisibleOn, HasMoreOn}
-use Rattle.gf_status.specs.Counting.{IsShownCount}
+use Rattle.gf_visible.specs.ShownVersions.{AreVisibleOn}
 use Rattle.gf_status.specs.Members.{IsIdAmong, IsMadeAt}
 use Rattle.gf_status.specs.declared.objects.ObjectStatus.{ObjectStatus}
 use Rattle.gf_status.specs.ObjectStatuses.{AreStatuses, IsObjectStatus, told_ids}
 
 -- ---- how many are visible
-
-pub few_shown : (h : List Op) (o : ObjectId) (groups : List Group) → AreVisibleOn h o groups → length groups ≤ 1000 → (n : ℕ) → n ≡ length groups → IsShownCount h o n
-few_shown h o groups all few n e = record { groups = groups; all = all; is = e ∙ sym (cond-true (nat_le (length groups) 1000) (length groups) 1001 (le-leb (length groups) 1000 few)) }
-
-pub many_shown : (h : List Op) (o : ObjectId) → HasMoreOn h o 1000 → IsShownCount h o 1001
-many_shown h o more = record { groups = more.groups; all = more.all; is = sym (cond-false (nat_le (length more.groups) 1000) (length more.groups) 1001 (lt-leb (length more.groups) 1000 more.many)) }
 
 -- visible versions are versions
 pub visible_versions : (h : List Op) (o : ObjectId) (groups : List Group) → AreVisibleOn h o groups → (g : Group) → Contains groups g → IsVersionGroup h g
@@ -76,9 +68,6 @@ pub record AreOf (h : List Op) (ids : List OpId) (ss : List ObjectStatus) : Type
   pub named : told_ids ss ≡ ids
   pub each : (s : ObjectStatus) → Contains ss s → IsObjectStatus h s
 
-pub of_none : (h : List Op) → AreOf h [] []
-of_none h = record { named = refl; each = λ s i. absurd (not_Contains-nil s i) }
-
 pub of_more : (h : List Op) (ids : List OpId) (ss : List ObjectStatus) → AreOf h ids ss → (s : ObjectStatus) (i : OpId) → s.object.0 ≡ i → IsObjectStatus h s → AreOf h (ids ++ i ∷ []) (ss ++ s ∷ [])
 of_more h ids ss are s i e is = record {
   named = map-append (λ (z : ObjectStatus). z.object.0) ss (s ∷ []) ∙ (ap (λ is. is ++ s.object.0 ∷ []) are.named ∙ ap (λ j. ids ++ j ∷ []) e);
@@ -97,9 +86,6 @@ all_of h ids ss made rising are = record {
 -- the positions below n at which an object is made
 abbrev pub AreMadeBelow : List Op → ℕ → List ℕ → Type 0
 AreMadeBelow h n us = (k : ℕ) → Contains us k ↔ ((k < n) × IsMadeAt h k)
-
-pub below_none : (h : List Op) → AreMadeBelow h 0 []
-below_none h k = (λ i. absurd (not_Contains-nil k i), λ m. let l = m.0 in absurd (omega (arith, l)))
 
 pub below_more : (h : List Op) (n : ℕ) (us : List ℕ) → AreMadeBelow h n us → (a : Op) → slice_get h n ≡ Some a → IsSome (made_kind a.change) → AreMadeBelow h (n + 1) (us ++ n ∷ [])
 below_more h n us are a at made k = (

@@ -8,7 +8,6 @@ use Rattle.std.proofs.lemmas.List.{take_more}
 use Rattle.std.proofs.lemmas.List.Elements.{Contains-append_left, Contains-get_or, Contains-push}
 use Rattle.std.proofs.lemmas.List.Elements.{Contains-push_cases}
 use Rattle.gf_base.proofs.FilterLemmas.{Contains-filter}
-use Rattle.gf_base.proofs.ListLemmas.{not_Contains-nil}
 use Rattle.gf_ops.specs.declared.op.Op.{Op}
 use Rattle.gf_ops.specs.declared.op.Clock.{Clock}
 use Rattle.gf_ops.specs.Accepted.{AreAccepted, IsAccepted}
@@ -25,8 +24,6 @@ use Rattle.gf_take.proofs.PartLemmas.{known_before}
 -- ---- the reach of one more operation
 
 module _ (s : ℕ) (c : Clock) (t : ℕ) where
-  pub reach_none : IsReach s c t [] 0
-  reach_none = record { most = λ x m. absurd (not_Contains-nil x m); least = inl refl }
 
   reached_more : (h : List Op) (a : Op) (n : ℕ) → ReachesTo s c t h n → ReachesTo s c t (h ++ a ∷ []) n
   reached_more h a n r = record {

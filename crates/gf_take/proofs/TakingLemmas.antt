@@ -18,7 +18,7 @@ use Rattle.gf_take.specs.declared.take_error.TakeError.{TakeError}
 use Rattle.gf_take.specs.declared.take_error.TakeError.TheVariants as take
 use Rattle.gf_take.specs.ShownDrawing.{ShowsDrawing}
 use Rattle.gf_take.specs.Taking.{RefusesTake, ShowsTooMany, Takes}
-use Rattle.gf_take.specs.TakingSteps.{HasMade, MakesOne, RefusesAll, RefusesOne, RefusesShowing}
+use Rattle.gf_take.specs.TakingSteps.{HasMade, MakesOne, RefusesAll, RefusesOne}
 
 -- before the first change nothing was made
 pub made_none : (s : ℕ) (h : List Op) (x : SiteState) (ops : List Op) → x.number ≡ s → x.ops ≡ h
@@ -74,22 +74,6 @@ module _ (s : ℕ) (h : List Op) (done : List Change) (x : SiteState) (new : Lis
     shows = subst (λ l. ShowsDrawing l d) has.ops shows;
     paints = subst (λ l. PaintsAsFig l d) has.ops paints;
   }
-
-  -- or refused for what it shows
-  pub shows_other : (d : DrawingState Outline) (e : TakeError) → RefusesShowing x.ops d e
-      → RefusesTake s h done d e
-  shows_other d (take.Refused why) r = absurd r
-  shows_other d take.TooManyFigures r = record {
-    new = new;
-    makes = has.makes;
-    more = subst (λ l. HasMoreVisible l 1000) has.ops r;
-  }
-  shows_other d take.Differs r = record {
-    new = new;
-    makes = has.makes;
-    other = λ lawful. subst (λ l. ¬ (ShowsDrawing l d)) has.ops (r lawful);
-  }
-  shows_other d take.OutOfMemory r = tt
 
 -- or for what was not made
 pub not_made : (s : ℕ) (h : List Op) (changes : List Change) (d : DrawingState Outline)

@@ -1,8 +1,8 @@
 -- Items and figures that are compared one with the other.
 use Rattle.std.proofs.Common.{◌≡◌, ℕ, ◌+◌, ◌<◌, List, [], ◌∷◌, ◌++◌, zero, suc, map, length, take}
 use Rattle.std.proofs.Common.{get_or, refl, sym, ap, subst, ◌∙◌, arith}
-use Rattle.std.proofs.lemmas.List.{length-map, map-append, take_more}
-use Rattle.std.proofs.lemmas.List.Elements.{All-head, All-nil, All-push, All-tail}
+use Rattle.std.proofs.lemmas.List.{map-append, take_more}
+use Rattle.std.proofs.lemmas.List.Elements.{All-head, All-push, All-tail}
 use Rattle.gf_shape.specs.declared.any_shape.AnyShape.{AnyShape}
 use Rattle.gf_shape.specs.declared.colour.Rgb.{Rgb}
 use Rattle.gf_shape.specs.declared.outline.Outline.{Outline}
@@ -29,9 +29,6 @@ module _ (table : Table) where
   abbrev of_figure : Figure Outline → Trace
   of_figure f = trace f.shape (figure_colour table f)
 
-  pub traced_none : AreTraced table [] []
-  traced_none = record { same = refl; lawful = All-nil Lawful }
-
   traced_push : (items : List (Placed AnyShape)) (fs : List (Figure Outline)) (i : Placed AnyShape)
       (f : Figure Outline) → AreTraced table items fs → IsTraced table (any_outline i.shape) i.colour f
       → AreTraced table (items ++ i ∷ []) (fs ++ f ∷ [])
@@ -42,11 +39,6 @@ module _ (table : Table) where
             ∙ ((λ k. t.same k ++ last k ∷ []) ∙ sym (map-append of_figure fs (f ∷ [])));
         lawful = All-push Lawful fs f t.lawful one.alike.lawful;
       }
-
-  pub traced_length : (items : List (Placed AnyShape)) (fs : List (Figure Outline))
-      → AreTraced table items fs → length items ≡ length fs
-  traced_length items fs t =
-      sym (length-map items of_item) ∙ (ap length t.same ∙ length-map fs of_figure)
 
   module _ {R : Type 0} (view : R → Figure Outline) where
     -- one more item is like one more figure

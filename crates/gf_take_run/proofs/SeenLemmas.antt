@@ -80,15 +80,6 @@ module _ (s : ℕ) (seen : Clock) (h : List Op) (valid : IsValid h) (known : Clo
       below : entry a.past x.id.site ≤ entry known x.id.site → x.id.seq ≤ entry known x.id.site
       below w = let k = n.knows in omega (arith, k, w)
 
--- an operation of another site, or one that the drawing knew, is not newer
-pub other_not_newer : (s : ℕ) (seen : Clock) (h : List Op) (a : Op)
-    → (a.id.site ≢ s) → (x : Op) → ¬ (IsNewer s seen h a x)
-other_not_newer s seen h a other x n = other n.own
-
-pub known_not_newer : (s : ℕ) (seen : Clock) (h : List Op) (a : Op)
-    → a.id.seq ≤ entry seen s → (x : Op) → ¬ (IsNewer s seen h a x)
-known_not_newer s seen h a l x n = let m = n.after in absurd (omega (arith, l, m))
-
 -- one more operation that is not bad
 pub none_more : (Bad : Op → Type 0) (ops : List Op) (k : ℕ) (a : Op) → k < length ops
     → a ≡ get_or ops k a → ((b : Op) → Contains (take k ops) b → ¬ (Bad b)) → ¬ (Bad a)

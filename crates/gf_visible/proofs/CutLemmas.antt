@@ -93,9 +93,6 @@ module _ {S H : Type 0} (knows : H → S → Bool) (follows : S → H → Bool) 
     covered = λ f j. let w = seen_misses knows F t h f (m.hidings f j) in (w.0, w.1, no_rival_follows (knows f w.0) (follows w.0 f) (m.compatible f w.0 j w.1) w.2);
   }
 
-  pub visible_seen : (T : List S) (F : List H) (t : List S) (g : List H) → AreApart knows follows T F → IsLargestPair knows follows T F t g → IsVisiblePair knows follows t g ↔ (seen knows F t ≡ true)
-  visible_seen T F t g apart m = (to_seen T F t g apart m, from_seen T F t g m)
-
   -- ---- what is cut
 
   pub in_cut : (f : H) (t : List S) (x : S) → Contains (cut knows follows t f) x → Contains t x × (rival f x ≡ false)

@@ -15,10 +15,9 @@ use Rattle.gf_base.proofs.RisingLemmas.{below_tail}
 use Rattle.gf_shape.specs.declared.any_shape.AnyShape.{AnyShape}
 use Rattle.gf_ops.specs.declared.op.Op.{Op}
 use Rattle.gf_ops.specs.declared.op.ObjectId.{ObjectId}
-use Rattle.gf_ops.specs.declared.change.Change.{Change}
-use Rattle.gf_ops.specs.declared.change.Change.TheVariants.{Create, Set}
+use Rattle.gf_ops.specs.declared.change.Change.TheVariants.{Create}
 use Rattle.gf_ops.specs.declared.change.Start.{Start}
-use Rattle.gf_ops.specs.Attribute.{Kind, kind_of, made_kind}
+use Rattle.gf_ops.specs.Attribute.{kind_of, made_kind}
 use Rattle.gf_ops.specs.ValidHistory.{IsValid}
 use Rattle.gf_base.proofs.ListLemmas.{Contains-cons_cases, Contains-cons_head, Contains-map, not_Contains-nil}
 use Rattle.gf_groups.specs.declared.group.Group.{Group}
@@ -59,9 +58,6 @@ one_maker a o w = elim (Contains-cons_cases a [] w.made.maker w.made.contained) 
 
 pub made_in : (h : List Op) (a : Op) → Contains h a → IsMade (a ∷ []) (own a) → IsMade h (own a)
 made_in h a there w = made_weaker (a ∷ []) h (own a) (λ b i. elim (Contains-cons_cases a [] b i) [ inl e ↦ subst (Contains h) (sym e) there | inr j ↦ absurd (not_Contains-nil b j) ]) w
-
-no_maker : (c : Change) (o : ObjectId) (v : _) (aim : _) (k : Kind) → c ≡ Set o v aim → made_kind c ≡ Some k → ⊥
-no_maker c o v aim k e f = let g : made_kind (Set o v aim) ≡ Some k = subst (λ d. made_kind d ≡ Some k) e f in cc
 
 -- the object of a version was made
 version_made : (h : List Op) → IsValid h → (g : Group) → IsVersionGroup h g → IsMade h g.object
@@ -106,10 +102,6 @@ module _ (h : List Op) (P : Group → Type 0) where
 
   pub have_none_yet : HaveVisible P h [] []
   have_none_yet = have_none [] (λ o w. not_Contains-nil w.made.maker w.made.contained)
-
-  -- of an operation that makes no object
-  pub have_none_of : (a : Op) (o : ObjectId) (v : _) {aim : _} → a.change ≡ Set o v aim → HaveVisible P h (a ∷ []) []
-  have_none_of a o v {aim} e = have_none (a ∷ []) (λ p w. no_maker w.made.maker.change o v aim w.kind (ap (λ (b : Op). b.change) (one_maker a p w) ∙ e) w.made.kind)
 
   -- and of one that makes one
   pub have_of_one : (a : Op) → IsMade (a ∷ []) (own a) → (groups : List Group) → ((g : Group) → Contains groups g → (g.object ≡ own a) × P g) → ((g : Group) → g.object ≡ own a → IsVisibleGroup h g → Contains groups g) →

@@ -111,14 +111,6 @@ or_second false b e = e
 only_one : (a x : Op) → Contains (a ∷ []) x → x ≡ a
 only_one a x c = elim (Contains-cons_cases a [] x c) [ inl e ↦ e | inr k ↦ absurd (not_Contains-nil x k) ]
 
--- an operation under the site's own number is passed over
-pub hears_own : (s : ℕ) (ops held : List Op) (a : Op) (short : Bool) → a.id.site ≡ s → Hears s ops held (a ∷ []) short held
-hears_own s ops held a short e = record {
-  from = λ x c. inl c;
-  stays = λ x c. c;
-  keeps = λ l x c o. absurd (o (ap (λ (y : Op). y.id.site) (only_one a x c) ∙ e));
-}
-
 -- what an offer made of what is held
 pub hears_offer : (s : ℕ) (ops held : List Op) (a : Op) (r : Result Offered OfferFault) (short : Bool) (new : List Op) → a.id.site ≢ s → (short ≡ false → ran_out r ≡ false) →
     (r ≡ Err Range → ¬ (IsInRange a)) → (r ≡ Err Clash → IsClash held ops a) → (r ≡ Ok Already → IsKnown held ops a) → (r ≡ Ok Held → Adds held a new) → (r ≢ Ok Held → new ≡ held) →

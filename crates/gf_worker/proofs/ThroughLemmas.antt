@@ -6,9 +6,6 @@ use Rattle.gf_worker.specs.declared.work.Work.{Work}
 use Rattle.gf_worker.specs.Working.{Gathers, IsUnderway, Plays}
 use Rattle.gf_worker.specs.Playing.{PlaysOn, Through}
 
-pub through_none : (w : Work) → Through [] w w
-through_none w = record { placed = λ links p. p; seats = refl; number = refl; gathers = λ g. g; sent = λ g t. t; plays = λ g u. record { done = []; rest = []; whole = refl; full = λ e. refl; underway = u } }
-
 plays_more : (done : List Command) (c : Command) (n : ℕ) (mid new : Work) (b : Bool) → new.short ≡ b → n ≡ 1 + length done → Gathers mid → Plays done mid → PlaysOn n c mid new → Plays (done ++ c ∷ []) new
 plays_more done c n mid new true e k g p on = elim (on.stays e p.done g p.underway) [
   | inl u ↦ record {
@@ -45,15 +42,3 @@ through_more done c n old mid new k t on = record {
   plays = λ g u. plays_more done c n mid new new.short refl k (t.gathers g) (t.plays g u) on;
 }
 
--- a worker that is short plays no more
-pub plays_not : (w : Work) (n : ℕ) (c : Command) → w.short ≡ true → PlaysOn n c w w
-plays_not w n c e = record {
-  placed = λ links p. p;
-  seats = refl;
-  number = refl;
-  short = λ q. q;
-  gathers = λ g. g;
-  sent = λ g t. t;
-  played = λ q. absurd (true≢false (sym e ∙ q));
-  stays = λ q commands g u. inl u;
-}
