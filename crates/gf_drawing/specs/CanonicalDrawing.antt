@@ -3,6 +3,7 @@
 use Rattle.std.specs.Prelude.{◌≡◌, ℕ, ◌+◌, ◌≤◌, not, List, [], ◌∷◌, length}
 use Rattle.std.specs.Prelude.{map, filter}
 use Rattle.std.specs.List.{enumerate_from, position_or_len}
+use Rattle.gf_drawing.specs.declared.compiling.TheConstants.{MOST_VERSIONS}
 use Rattle.gf_shape.specs.declared.colour.Rgb.{Rgb}
 use Rattle.gf_shape.specs.declared.point.Point.{Point}
 use Rattle.gf_shape.specs.declared.any_shape.AnyShape.{AnyShape}
@@ -56,7 +57,7 @@ module _ {S : Type 0} where
 
   -- the items are at most 1,000, and have at most 512 distinct colours
   pub record Fits (items : List (Placed S)) : Type 0 where
-    pub versions : length items ≤ 1000
+    pub versions : length items ≤ MOST_VERSIONS
     pub colours : length (colours_of items) ≤ 512
 
 -- d is the canonical drawing of h: that of its visible versions, which fit

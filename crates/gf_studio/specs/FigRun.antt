@@ -1,5 +1,6 @@
 -- What a run makes of the history that its bytes denote (this project's choice).
 use Rattle.std.specs.Prelude.{◌≡◌, ◌<◌, ◌≤◌, ℕ, List, length, Option, ⊤}
+use Rattle.gf_drawing.specs.declared.compiling.TheConstants.{MOST_VERSIONS}
 use Rattle.gf_shape.specs.declared.any_shape.AnyShape.{AnyShape}
 use Rattle.gf_shape.specs.Outlines.{any_outline}
 use Rattle.gf_ops.specs.declared.op.ObjectId.{ObjectId}
@@ -76,12 +77,12 @@ HasThin bytes objects = DenotesSuch bytes (λ h. AreThinOf h objects)
 pub record HasMoreColours (h : List Op) : Type 0 where
   pub items : List (Placed AnyShape)
   pub ranked : AreRanked h items
-  pub few : length items ≤ 1000
+  pub few : length items ≤ MOST_VERSIONS
   pub many : 512 < length (colours_of items)
 
 -- why h has no drawing; want of memory may come with any h
 abbrev pub RefusesHistory : List Op → CompileFault → Type 0
-RefusesHistory h compile.TooManyVersions = HasMoreVisible h 1000
+RefusesHistory h compile.TooManyVersions = HasMoreVisible h MOST_VERSIONS
 RefusesHistory h compile.TooManyColours = HasMoreColours h
 RefusesHistory h compile.OutOfMemory = ⊤
 

@@ -2,6 +2,7 @@
 use Rattle.std.specs.Prelude.{◌≡◌, ℕ, ◌+◌, ◌<◌, ◌≤◌, ◌⊎◌, List, length, Option, Some, IsTrue}
 use Rattle.std.specs.Prelude.{IfSome, IfErr, OnOk, Err, Result, MatchOption, MatchResult}
 use Rattle.std.specs.Io.KnownBytes.{Appends, IsAtEnd}
+use Rattle.gf_streams.specs.declared.source.TheConstants.{MOST_INPUT_BYTES}
 use Rattle.gf_streams.specs.Counts.{Rises, raised}
 use Rattle.gf_streams.specs.Reads.{CamePast, ConsumesAtMost, ConsumesExactly}
 use Rattle.gf_streams.specs.Taken.{AppendsPrefix}
@@ -12,7 +13,7 @@ use Rattle.gf_studio.specs.declared.studio_error.StudioError.TheVariants as stud
 
 -- the most bytes of an input
 abbrev pub most_input : ℕ
-most_input = 16777216
+most_input = MOST_INPUT_BYTES
 
 -- a run brings its source from old to new
 module _ {R : Type 0} (source : Source R) (old new : R) where

@@ -1,6 +1,7 @@
 -- What a site takes: it makes changes behind its base, and then shows a drawing (this project's
 -- choice).
 use Rattle.std.specs.Prelude.{◌≡◌, ◌≢◌, ℕ, List, ◌∷◌, ◌++◌, ⊤, All}
+use Rattle.gf_drawing.specs.declared.compiling.TheConstants.{MOST_VERSIONS}
 use Rattle.gf_shape.specs.declared.outline.Outline.{Outline}
 use Rattle.gf_shape.specs.ShapeLaws.{IsLawful}
 use Rattle.gf_ops.specs.declared.op.Op.{Op}
@@ -45,7 +46,7 @@ pub record HasRefusal (s : ℕ) (b : List Op) (changes : List Change) (why : Aut
 pub record ShowsTooMany (s : ℕ) (b : List Op) (changes : List Change) : Type 0 where
   pub new : List Op
   pub makes : MakesEach s b changes new
-  pub more : HasMoreVisible (b ++ new) 1000
+  pub more : HasMoreVisible (b ++ new) MOST_VERSIONS
 
 -- site s makes the changes behind its base, and then does not show the drawing d, if its figures
 -- are lawful

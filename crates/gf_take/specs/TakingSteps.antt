@@ -1,6 +1,7 @@
 -- What one change does to a site and to the list of what it made. No public clause cites this
 -- module.
 use Rattle.std.specs.Prelude.{◌≡◌, ◌≢◌, ℕ, List, [], ◌∷◌, ◌++◌, ⊤, All}
+use Rattle.gf_drawing.specs.declared.compiling.TheConstants.{MOST_VERSIONS}
 use Rattle.gf_shape.specs.declared.outline.Outline.{Outline}
 use Rattle.gf_shape.specs.ShapeLaws.{IsLawful}
 use Rattle.gf_ops.specs.declared.op.Op.{Op}
@@ -45,7 +46,7 @@ RefusesAll s h changes take.OutOfMemory = ⊤
 
 -- why a history does not show a drawing
 abbrev pub RefusesShowing : List Op → DrawingState Outline → TakeError → Type 0
-RefusesShowing h d take.TooManyFigures = HasMoreVisible h 1000
+RefusesShowing h d take.TooManyFigures = HasMoreVisible h MOST_VERSIONS
 RefusesShowing h d take.Differs = All (λ f. IsLawful f.shape) d.figures → ¬ (ShowsDrawing h d)
 RefusesShowing h d take.OutOfMemory = ⊤
 RefusesShowing h d (take.Refused why) = ⊥

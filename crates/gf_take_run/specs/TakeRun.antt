@@ -1,5 +1,6 @@
 -- What the run of a take writes, and why it is refused (this project's choice).
 use Rattle.std.specs.Prelude.{◌≡◌, ◌⊎◌, ◌<◌, ℕ, List, Option, None, Some, length, ⊤}
+use Rattle.gf_drawing.specs.declared.compiling.TheConstants.{MOST_VERSIONS}
 use Rattle.gf_streams.specs.TextLines.{numbered_lines}
 use Rattle.gf_ops.specs.declared.op.Op.{Op}
 use Rattle.gf_ops.specs.declared.op.OpId.{OpId}
@@ -66,7 +67,7 @@ pub record HasBlockingLine (s : ℕ) (lines : List ℕ) (i j : OpId) : Type 0 wh
 pub record HasManyFigures (fig : List ℕ) : Type 0 where
   pub drawing : Drawn
   pub reads : Reads fig drawing
-  pub many : 1000 < length drawing.figures
+  pub many : MOST_VERSIONS < length drawing.figures
 
 -- both parts were read, and this holds of the history and what the drawing knew
 pub record ReadsBoth (s : ℕ) (lines fig : List ℕ)
