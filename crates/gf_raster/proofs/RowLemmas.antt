@@ -1,21 +1,13 @@
--- Rows that strokes show, and the pieces of them that workers fill.
-use Rattle.std.specs.Prelude.{ℕ, ◌≡◌, ◌≤◌, ◌<◌, ◌+◌, ◌-◌, ◌*◌, min, List, ◌++◌, Vec, length, slice_index_or}
-use Rattle.std.proofs.Common.{arith, ap, sym, subst, Global, ◌∙◌}
+-- The pieces of rows that workers fill.
+use Rattle.std.specs.Prelude.{ℕ, ◌≡◌, ◌≤◌, ◌+◌, ◌-◌, ◌*◌, min, List, ◌++◌, Vec, length, slice_index_or}
+use Rattle.std.proofs.Common.{arith, ap, sym, Global, ◌∙◌}
 use Rattle.gf_shape.specs.declared.colour.Rgb.{Rgb}
 use Rattle.gf_shape.specs.declared.point.Point.{Point}
-use Rattle.gf_scanline.specs.declared.stroke.Stroke.{Stroke}
 use Rattle.gf_scanline.specs.Pixels.{pixel}
 use Rattle.gf_scanline.proofs.RangeLemmas.{ranged_more}
 use Rattle.gf_scanline.specs.Windows.{View, sample}
-use Rattle.gf_scanline.specs.Picture.{ShowsRow, cells}
-use Rattle.gf_raster.specs.Rows.{AreRows}
+use Rattle.gf_scanline.specs.Picture.{cells}
 use Rattle.gf_raster.specs.Columns.{ArePieces, ArePiecesWith}
-
--- one of the rows
-pub row_at : (colour : Point → Rgb) (w : View) (top i : ℕ) (rows : List (Vec Stroke Global)) (r : Vec Stroke Global) (strokes : List Stroke) → AreRows colour w top rows → i < length rows → r ≡ slice_index_or rows i r → strokes ≡ r.items → ShowsRow colour w (top + i) strokes
-row_at colour w top i rows r strokes h l e f =
-    subst (ShowsRow colour w (top + i)) (sym f)
-    (subst (λ (v : Vec Stroke Global). ShowsRow colour w (top + i) v.items) (sym e) (h i r l))
 
 -- pieces with a tile more
 pub pieces_more : (colour : Point → Rgb) (w : View) (top start len i : ℕ) (old new : List (Vec ℕ Global)) → 64 * i ≤ len → length new ≡ length old → ArePieces colour w top start (min (64 * i) len) old → ArePiecesWith colour w top (start + 64 * i) (min 64 (len - 64 * i)) old new → ArePieces colour w top start (min (64 * (i + 1)) len) new

@@ -1,7 +1,7 @@
 -- What workers did of a band that they share: their columns side by side, and their shares one below the other.
 use Rattle.std.specs.Prelude.{ℕ, zero, suc, ◌≡◌, ◌≤◌, ◌<◌, ◌+◌, ◌*◌, min, Bool, List, [], ◌∷◌, ◌++◌, Vec, flat_map}
 use Rattle.std.specs.Prelude.{length, slice_index_or}
-use Rattle.std.proofs.Common.{arith, ap, subst, refl, Global, length-append, ◌∙◌}
+use Rattle.std.proofs.Common.{arith, ap, subst, Global, length-append, ◌∙◌}
 use Rattle.gf_shape.specs.declared.colour.Rgb.{Rgb}
 use Rattle.gf_shape.specs.declared.point.Point.{Point}
 use Rattle.gf_scanline.specs.declared.stroke.Stroke.{Stroke}
@@ -12,7 +12,7 @@ use Rattle.gf_scanline.specs.Picture.{ShowsRow, cells}
 use Rattle.gf_raster.specs.declared.shown_rows.ShownRows.{ShownRows}
 use Rattle.gf_raster.specs.Rows.{AreRows, AreSharesOf, ShowsRows}
 use Rattle.gf_raster.specs.Shares.{cut, parts, run, stride}
-use Rattle.gf_raster.specs.Columns.{AreColumns, HaveAllPieces, HaveLines}
+use Rattle.gf_raster.specs.Columns.{AreColumns, HaveAllPieces}
 use Rattle.gf_raster.proofs.ShareLemmas.{cut_more, shared}
 
 -- a row above others
@@ -76,10 +76,6 @@ found_of holds p workers shares l n a =
 
     still : (t c : ℕ) → c ≡ 0 → t + c ≡ t
     still t c e = omega arith
-
--- each worker has a piece of each row
-pub lines_of : (shown : ShownRows) (workers : ℕ) (columns : List (Vec (Vec ℕ Global) Global)) → HaveAllPieces shown workers columns → HaveLines (length shown.strokes.items) columns
-lines_of shown workers columns a = λ k d l. (a k d l).lines
 
 -- the workers' columns of a row
 pub columns_of : (shown : ShownRows) (workers : ℕ) (colour : Point → Rgb) (columns : List (Vec (Vec ℕ Global) Global)) (i : ℕ) → HaveAllPieces shown workers columns → ShowsRows colour shown → i < length shown.strokes.items → AreColumns colour shown.band.window (shown.band.top + i) i (stride shown.band.window workers) columns

@@ -69,24 +69,24 @@ const CORNER: Picture = Picture {
 
 const BOX: &str = "2 2 0 0 4 4 0 -1 20 0.000 0 0 -1 0 0 5\n\t 0 0 10 0 10 10 0 10 0 0\n";
 
-/// Three bands, of 576, 576 and 18 bytes, for one worker.
+/// Three bands, of 576, 576 and 18 bytes, for one worker, who paints two of them in a round.
 const BANDS: Picture = Picture {
     figures: BOX,
     size: (3, 130),
     workers: 1,
     header: "P6\n3 130\n255\n",
     runs: &[(33, 357)],
-    bands: &[0, 13, 589, 1165],
+    bands: &[0, 13, 1165],
 };
 
-/// The three bands for three workers.
+/// The three bands for three workers, in one round.
 const ROWS: Picture = Picture {
     figures: BOX,
     size: (3, 130),
     workers: 3,
     header: "P6\n3 130\n255\n",
     runs: &[(33, 357)],
-    bands: &[0, 13, 589, 1165],
+    bands: &[0, 13],
 };
 
 impl Picture {

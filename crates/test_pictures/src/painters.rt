@@ -1,5 +1,4 @@
-//! Worked examples of who paints: workers meet in a shape, and rows are found no more than one band
-//! ahead.
+//! Worked examples of who paints: workers meet in a shape, and rows are found no band ahead.
 
 ghost use Rattle.gf_shape.specs.Outlines.{rect_outline};
 ghost use Rattle.gf_shape.specs.ShapeMeaning.{rect_holds};
@@ -22,7 +21,7 @@ struct Painters {
     passed: [AtomicUsize; 3],
     /// How often a row was asked for.
     asked: AtomicUsize,
-    /// How often a row was asked for before the gate of the second band above was passed.
+    /// How often a row was asked for before the gate of the band above was passed.
     early: AtomicUsize,
     /// How many painters saw `wanted` of them ask.
     met: AtomicUsize,
@@ -43,7 +42,7 @@ impl Painters {
 
     fn ask(&self, y: i32) {
         let band = y.max(0) as usize / 64;
-        if let Some(above) = band.checked_sub(2)
+        if let Some(above) = band.checked_sub(1)
             && let Some(tile) = self.passed.get(above)
             && tile.load(SeqCst) == 0
         {
@@ -125,6 +124,7 @@ impl Shape for Watched {
 #[derive(Drop)]
 struct Entrance<'a> {
     drawing: &'a Drawing<Watched>,
+    may_wait: bool,
 }
 
 impl Gate for Entrance<'_> {
@@ -134,6 +134,10 @@ impl Gate for Entrance<'_> {
                 tile.fetch_add(1, SeqCst);
             }
         }
+    }
+
+    fn may_wait(&self) -> bool {
+        self.may_wait
     }
 }
 
@@ -156,18 +160,22 @@ fn drawing_of_box(alloc: Global, wanted: usize) -> Option<Drawing<Watched>> {
     Some(drawing)
 }
 
-/// How often a row of the box was asked for, and how often more than a band ahead. Behind these
-/// stands how many painters met.
+/// How often a row of the box was asked for, and how often a band ahead. Behind these stands how
+/// often painters met.
 fn told<R: Threads + Sync>(
     rt: &R,
     alloc: Global,
     height: u32,
     workers: u8,
     wanted: usize,
+    may_wait: bool,
 ) -> Option<[usize; 3]> {
     let window = Window::new(0, 0, 1, 3, height).ok()?;
     let drawing = drawing_of_box(alloc, wanted)?;
-    let gate = Entrance { drawing: &drawing };
+    let gate = Entrance {
+        drawing: &drawing,
+        may_wait,
+    };
     paint(rt, alloc, &drawing, window, workers.clamp(1, 16), &gate).ok()?;
     let painters = &drawing.figures().first()?.shape.painters;
     Some([&painters.asked, &painters.early, &painters.met].map(|count| count.load(SeqCst)))
@@ -175,13 +183,22 @@ fn told<R: Threads + Sync>(
 
 #[test]
 fn two_workers_paint_rows_at_the_same_time(rt: HostRuntime) {
-    assert_eq!(rt; told(&rt, rt.alloc(), 2, 2, 2), Some([2, 0, 2]));
+    assert_eq!(rt; told(&rt, rt.alloc(), 2, 2, 2, true), Some([2, 0, 2]));
 }
 
 #[test]
-fn rows_are_found_no_more_than_one_band_ahead(rt: HostRuntime) {
+fn two_workers_paint_bands_at_the_same_time(rt: HostRuntime) {
+    let counts = told(&rt, rt.alloc(), 128, 2, 2, false);
+    assert_eq!(rt;
+        counts.map(|counts| [counts[0], counts[2]]),
+        Some([128, 128])
+    );
+}
+
+#[test]
+fn rows_are_found_no_band_ahead(rt: HostRuntime) {
     for workers in [1, 3, 16] {
-        let counts = told(&rt, rt.alloc(), 130, workers, 0);
+        let counts = told(&rt, rt.alloc(), 130, workers, 0, true);
         assert_eq!(rt; counts, Some([130, 0, 130]), "{workers}");
     }
 }

@@ -6,7 +6,6 @@ use Rattle.gf_streams.specs.declared.write_error.WriteError.{WriteError}
 use Rattle.gf_scanline.specs.Bands.{BandView}
 use Rattle.gf_scanline.specs.Layers.{layered}
 use Rattle.gf_scanline.specs.Picture.{raster}
-use Rattle.gf_raster.specs.Shares.{AreWholeBands}
 use Rattle.gf_raster.specs.Rows.{bytes_of}
 use Rattle.gf_raster.proofs.PictureLemmas.{front_more, rows_parted, rows_written, whole_more}
 use Rattle.gf_raster.proofs.ppm.write_rows.Goals as goal

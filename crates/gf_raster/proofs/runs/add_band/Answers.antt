@@ -1,4 +1,4 @@
-use Rattle.std.proofs.Common.{◌≡◌, ◌+◌, ◌≤◌, ◌∙◌, ap, subst, sym, arith, rules}
+use Rattle.std.proofs.Common.{◌≡◌, ◌+◌, ◌≤◌, ◌∙◌, ap, subst, sym, arith}
 use Rattle.gf_scanline.specs.Layers.{layered}
 use Rattle.gf_scanline.specs.Picture.{ShowsRow}
 use Rattle.gf_scanline.specs.Windows.{sample}
