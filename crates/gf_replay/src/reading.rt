@@ -1,6 +1,6 @@
 //! From the lines of a text to a site.
 
-ghost use Rattle.std.specs.Prelude.{◌≡◌, ◌≤◌, List, ℕ, IfOk, IfErr, OnOk};
+ghost use Rattle.std.specs.Prelude.{◌≡◌, ◌≤◌, List, ℕ, IfOk, IfErr, IsTrue, OnOk};
 ghost use denote.Param.Send.{IsSync};
 ghost use Rattle.gf_ops.specs.Limits.{IsInRange};
 ghost use Rattle.gf_ops.specs.OperationOrder.{IsSite};
@@ -66,8 +66,8 @@ pub fn read_replica<R: Threads + Sync, T: Table>(
     Ok(site)
 }
 
-/// Takes what the lines of a block read as, and reads the next block. With several workers one
-/// takes, while the others read.
+/// Takes what the lines of a block read as, and reads the next block. With several workers, one of
+/// them takes while the others read.
 fn take_and_read<R: Threads + Sync, T: Table>(
     rt: &R,
     alloc: Global,
@@ -86,7 +86,7 @@ fn take_and_read<R: Threads + Sync, T: Table>(
         → IfErr result (RefusesText text) }
 {
     let Block { readings, behind } = block;
-    if workers == 1 {
+    if !is_read_meanwhile(&behind, workers) {
         let site = take_block(site, readings)?;
         return match read_block(rt, alloc, behind, 1) {
             Ok(block) => Ok((site, block)),
@@ -110,6 +110,13 @@ fn take_and_read<R: Threads + Sync, T: Table>(
         Ok(block) => Ok((site, block)),
         Err(_) => Err(ReadingError::OutOfMemory),
     }
+}
+
+/// Whether the next block is read while one is taken: there are lines left, and several workers.
+fn is_read_meanwhile(lines: &TextLines, workers: u8) -> bool
+    ensures { IsTrue result → 2 ≤ workers }
+{
+    1 < workers && lines.first().is_some()
 }
 
 /// Takes what the lines of a block read as, in order.
