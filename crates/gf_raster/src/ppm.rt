@@ -56,7 +56,7 @@ pub fn ppm_to<S: Shape + Sync, G: Gate + Sync, R: Threads + Sync, W: Sink>(
     };
     let header = header(alloc, window)?;
     write_all(sink, &header)?;
-    let crew = Crew::new(rt, alloc, workers, gate);
+    let crew = Crew::new(rt, alloc, window, workers, gate);
     write_rows(&crew, &layers, window, sink)?;
     sink.flush()?;
     Ok(())
