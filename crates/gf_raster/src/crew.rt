@@ -1,6 +1,6 @@
 //! Who paints a picture.
 
-ghost use Rattle.std.specs.Prelude.{◌≡◌, ◌≤◌};
+ghost use Rattle.std.specs.Prelude.{◌≤◌};
 
 use crate::Gate;
 use crate::tiles::TILE;
