@@ -153,7 +153,7 @@ def built(name):
 
 
 def combs(count):
-    """A FIG text of so many combs over 1,000 by 128 points, whose rows are work enough for threads."""
+    """A FIG text of so many combs over 1,000 by 128 points."""
     header = "#FIG 3.2\nLandscape\nCenter\nMetric\nA4\n100.00\nSingle\n-2\n1200 2\n"
     points = [point for k in range(100) for point in ((10 * k, 0), (10 * k + 5, 128))]
     points = " ".join(f"{x} {y}" for x, y in points + points[:1])
@@ -162,7 +162,7 @@ def combs(count):
 
 
 def zigzags(count):
-    """The lines that create so many polygons of 64 points over 1,000 by 128, whose rows are work enough for threads."""
+    """The lines that create so many polygons of 64 points over 1,000 by 128."""
     zigzag = {"kind": "polygon", "place": [0, 0], "points": [[15 * k, 128 * (k % 2)] for k in range(64)]}
     zigzag.update(op="create", colour="ff0000", layer=0, shown=True)
     lines = [json.dumps({**zigzag, "id": [1, n + 1], "past": [n] + [0] * 7}) + "\n" for n in range(count)]
@@ -199,18 +199,20 @@ def commands(program):
 
 
 def threaded(program):
-    """Commands of several workers, one of which is the first thread. All of them read so many lines, and paint two bands."""
+    """Commands of several workers, one of which is the first thread. All of them read so many lines. They share two bands,
+    for each of which threads start twice, or paint three bands of their own."""
     read = input_of("red-box") * 1_000
-    size = ["--width", "1000", "--height", "128", "--workers", "3"]
+    low = ["--width", "1000", "--height", "128", "--workers", "3"]
+    high = ["--width", "1000", "--height", "192", "--workers", "3"]
     return [
         Command(program, ["fig", "--workers", "4"], read, threads=3),
         Command(program, ["inspect", "--object", "1.1", "--workers", "4"], read, threads=3),
         Command(program, ["inspect", "--at", "0,0", "--workers", "4"], read, threads=3),
         Command(program, ["status", "--workers", "4"], read, threads=3),
-        Command(program, ["paint", *size], zigzags(100) * 8, threads=2 + 2 * 2),
-        Command(program, ["paint", "--fit", *size], zigzags(100) * 8, threads=2 + 2 * 2),
-        Command(program, ["repaint", *size], combs(20), threads=2 * 2),
-        Command(program, ["repaint", "--fit", *size], combs(20), threads=2 * 2),
+        Command(program, ["paint", *low], zigzags(100) * 8, threads=2 + 2 * 2 * 2),
+        Command(program, ["paint", "--fit", *high], zigzags(100) * 8, threads=2 + 2),
+        Command(program, ["repaint", *high], combs(20), threads=2),
+        Command(program, ["repaint", "--fit", *low], combs(20), threads=2 * 2 * 2),
     ]
 
 

@@ -45,9 +45,9 @@ impl Raster {
 ///
 /// In a round each worker has a run of bands of 64 rows. The worker passes `gate` for the tiles of
 /// a band, paints the band, and goes on to the next one. Where the gate may let workers wait for
-/// each other, a round is one band, and each has a run of its tiles. The worker passes the gate for
-/// a tile, paints it, and goes on to the next one. Where a thread can't be started, the caller's
-/// does its part.
+/// each other, or a wide window has fewer bands than workers, a round is one band. Then each has a
+/// run of its tiles, passes the gate for a tile, paints it, and goes on to the next one. Where a
+/// thread can't be started, the caller's does its part.
 pub fn paint<S: Shape + Sync, G: Gate + Sync, R: Threads + Sync>(
     rt: &R,
     alloc: Global,
@@ -61,7 +61,7 @@ pub fn paint<S: Shape + Sync, G: Gate + Sync, R: Threads + Sync>(
         ≡ raster (drawing_colour S.holds drawing.now.table drawing.now.figures) window) }
 {
     let layers = Layers::new(alloc, drawing)?;
-    let crew = Crew::new(rt, alloc, workers, gate);
+    let crew = Crew::new(rt, alloc, window, workers, gate);
     let bytes = paint_all(&crew, &layers, window)?;
     Ok(Raster { bytes })
 }

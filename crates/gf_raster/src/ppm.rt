@@ -1,6 +1,6 @@
 //! The whole picture, written.
 
-ghost use Rattle.std.specs.Prelude.{◌≡◌, ℕ, ◌+◌, ◌<◌, ◌≤◌, ◌⊎◌, [], IsTrue, IfOk, OnErr, OnOk};
+ghost use Rattle.std.specs.Prelude.{◌≡◌, ◌+◌, ◌<◌, ◌≤◌, ◌⊎◌, [], IsTrue, IfOk, OnErr, OnOk};
 ghost use Rattle.std.specs.Prelude.{Err};
 ghost use Rattle.std.specs.Io.KnownBytes.{Appends};
 ghost use Rattle.gf_streams.specs.Counts.{Rises};
@@ -56,7 +56,7 @@ pub fn ppm_to<S: Shape + Sync, G: Gate + Sync, R: Threads + Sync, W: Sink>(
     };
     let header = header(alloc, window)?;
     write_all(sink, &header)?;
-    let crew = Crew::new(rt, alloc, workers, gate);
+    let crew = Crew::new(rt, alloc, window, workers, gate);
     write_rows(&crew, &layers, window, sink)?;
     sink.flush()?;
     Ok(())

@@ -71,9 +71,10 @@ fn each_tile_is_passed_once(rt: HostRuntime) -> Result<(), Fail> {
 }
 
 #[test]
-fn a_worker_passes_for_whole_bands_where_nobody_may_wait(rt: HostRuntime) -> Result<(), Fail> {
+fn workers_have_bands_of_their_own_where_these_are_enough(rt: HostRuntime) -> Result<(), Fail> {
     for (row, want) in [
         ("nothing ; 0 0 1 129 65 1 | 8385 ffffff", [1, 1, 1, 1, 1, 1]),
+        ("nothing ; 0 0 1 129 64 2 | 8256 ffffff", [1, 1, 2, 0, 0, 0]),
         ("nothing ; 0 0 1 129 65 2 | 8385 ffffff", [1, 1, 1, 2, 2, 2]),
         ("nothing ; 0 0 1 3 321 3 | 963 ffffff", [1, 1, 2, 2, 3, 3]),
         ("nothing ; 0 0 1 3 321 2 | 963 ffffff", [1, 1, 2, 2, 1, 2]),
