@@ -57,4 +57,3 @@ module _ (cs : List Change) (x y : SiteState) (d e : Edited) (w : WritesEach cs 
           | inr q ↦ subst (λ (k : Op). denoted (op_text k) ≡ Ok k) (a ∙ q) t.reads
         ];
       }
-

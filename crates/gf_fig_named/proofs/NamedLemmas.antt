@@ -231,7 +231,6 @@ module _ (h : List Op) (items : List (Placed AnyShape)) where
       }
 
 module _ (h : List Op) (text : List ℕ) (valid : IsValid h) (named : IsNamedText h text) where
-
   abbrev its_drawing : DrawingState AnyShape
   its_drawing = canonical_drawing named.items
 

@@ -50,7 +50,6 @@ err_told None c f e = absurd cc
 err_told (Some g) c f e = cc
 
 module _ (table : Table) (fs : List (Figure Outline)) where
-
   pub created_more : (old new : List Change) (c : Change) (i : ℕ) (d : Figure Outline)
       → i < length fs → AreCreated table fs i old → IsLawful (get_or fs i d).shape
       → IsTrue (is_colour (figure_colour table (get_or fs i d)))

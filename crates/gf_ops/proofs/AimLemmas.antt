@@ -225,4 +225,3 @@ fits_told h valid m there i id a = (
       let same = same_op h valid t.op m t.contained there (t.id ∙ sym id) in
       subst (FitsAim a) same (record { object = t.object; before = t.before; within = t.within }),
 )
-

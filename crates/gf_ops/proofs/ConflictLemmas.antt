@@ -154,4 +154,3 @@ module _ (h : List Op) (none : HasNoAims h) where
   )
 
 -- ---- what is known
-

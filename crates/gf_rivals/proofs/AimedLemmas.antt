@@ -89,4 +89,3 @@ module _ (h : List Op) (cs : List (List Setter)) where
       let w = c.among in
       let b = w.1 in
       f w.0 c.one (omega arith) b (subst (λ z. Clash h cs z n) (sym w.2) c.clash)
-

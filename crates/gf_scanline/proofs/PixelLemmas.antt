@@ -53,4 +53,3 @@ pattern_more c left some pattern old new all l m p n h =
   where
     parts : (m n : ℕ) → m ≤ n → n ≡ m + (n - m)
     parts m n l = omega arith
-

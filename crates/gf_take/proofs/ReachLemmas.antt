@@ -24,7 +24,6 @@ use Rattle.gf_take.proofs.PartLemmas.{known_before}
 -- ---- the reach of one more operation
 
 module _ (s : ℕ) (c : Clock) (t : ℕ) where
-
   reached_more : (h : List Op) (a : Op) (n : ℕ) → ReachesTo s c t h n → ReachesTo s c t (h ++ a ∷ []) n
   reached_more h a n r = record {
     op = r.op;

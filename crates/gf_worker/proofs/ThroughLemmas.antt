@@ -41,4 +41,3 @@ through_more done c n old mid new k t on = record {
   sent = λ g k. on.sent (t.gathers g) (t.sent g k);
   plays = λ g u. plays_more done c n mid new new.short refl k (t.gathers g) (t.plays g u) on;
 }
-
