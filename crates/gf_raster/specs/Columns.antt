@@ -22,7 +22,8 @@ ArePiecesWith colour w top from len old new = (i : ℕ) (d : Vec ℕ Global) →
     ≡ (slice_index_or old i d).items ++ cells colour w (top + i) from len
 
 -- worker k has a piece for each row, with the bytes of the row in the worker's columns
-pub record HasPieces (shown : ShownRows) (workers k : ℕ) (pieces : Vec (Vec ℕ Global) Global) : Type 0 where
+pub record HasPieces (shown : ShownRows) (workers k : ℕ) (pieces : Vec (Vec ℕ Global) Global)
+    : Type 0 where
   pub lines : length pieces.items ≡ length shown.strokes.items
   pub filled : (colour : Point → Rgb) → ShowsRows colour shown
       → ArePieces colour shown.band.window shown.band.top

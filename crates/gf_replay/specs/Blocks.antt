@@ -33,20 +33,23 @@ pub record AreOfLines (readings : List Reading) : Type 0 where
 
 -- the readings are those of the first of the lines, and of some unless there are none; behind these
 -- come the others
-pub record IsBlock (lines : List (ℕ × List ℕ)) (readings : List Reading) (others : List (ℕ × List ℕ)) : Type 0 where
+pub record IsBlock (lines : List (ℕ × List ℕ)) (readings : List Reading)
+    (others : List (ℕ × List ℕ)) : Type 0 where
   pub first : AreFirstReadings lines readings
   pub behind : others ≡ drop (length readings) lines
   pub none : length readings ≡ 0 → lines ≡ []
 
 -- all lines before those of the readings were taken, and behind these come the others
-pub record IsBefore (text : List ℕ) (readings : List Reading) (others : List (ℕ × List ℕ)) (x : SiteState) : Type 0 where
+pub record IsBefore (text : List ℕ) (readings : List Reading) (others : List (ℕ × List ℕ))
+    (x : SiteState) : Type 0 where
   pub lines : List (ℕ × List ℕ)
   pub read : HasRead text lines x
   pub first : AreFirstReadings lines readings
   pub behind : others ≡ drop (length readings) lines
 
 -- the site takes what was read, or refuses it
-pub record TakesBlock (readings : List Reading) (x : SiteState) (result : Result SiteState ReadingError) : Type 0 where
+pub record TakesBlock (readings : List Reading) (x : SiteState)
+    (result : Result SiteState ReadingError) : Type 0 where
   pub ok : (text : List ℕ) (others : List (ℕ × List ℕ)) → IsBefore text readings others x
       → IfOk result (HasRead text others)
   pub number : IfOk result (λ y. y.number ≡ x.number)

@@ -225,8 +225,8 @@ fn shown_of(
 }
 
 /// The largest compatible sets of an object's positions that show, each once, if they are at most
-/// `most`. The positions come in components. The sets of what decides are found first. The rest is multiplied out only where some
-/// set shows.
+/// `most`. The positions come in components. The sets of what decides are found first. The rest is
+/// multiplied out only where some set shows.
 pub(crate) fn shown_sets(
     alloc: Global,
     history: &History,
