@@ -22,7 +22,7 @@ pub(crate) struct Crew<'c, R: Threads, G: Gate> {
 }
 
 impl<'c, R: Threads, G: Gate> Crew<'c, R, G> {
-    /// So many workers, who paint a window behind a gate.
+    /// A crew of this many workers, who paint a window behind a gate.
     pub fn new(rt: &'c R, alloc: Global, window: Window, workers: u8, gate: &'c G) -> Crew<'c, R, G>
         requires { (1 ≤ workers) × (workers ≤ 16) }
     {
