@@ -17,7 +17,8 @@ use Rattle.gf_causal.specs.Ready.{IsReady}
 use Rattle.gf_causal.specs.DeliveredPart.{AreReady}
 use Rattle.gf_causal.proofs.CourseLemmas.{has_counted, same_id}
 
-module _ (h part : List Op) (valid : IsValid h) (within : (a : Op) → Contains part a → Contains h a) (in_turn : AreReady part) (a : Op) (there : Contains h a) (ready : IsReady part a) where
+module _ (h part : List Op) (valid : IsValid h) (within : (a : Op) → Contains part a → Contains h a)
+    (in_turn : AreReady part) (a : Op) (there : Contains h a) (ready : IsReady part a) where
   -- of its own site it knows all before it, as in h
   counts_known : CountsAtMost a.past part
   counts_known s i = elim (cases_eq s a.id.site) [
@@ -29,8 +30,10 @@ module _ (h part : List Op) (valid : IsValid h) (within : (a : Op) → Contains 
   knew_within : IsCausallyClosed part a
   knew_within b c known s i =
       let r = valid.in_range b (within b c) in
-      let t = valid.closed a there b.id (record { site = site_in_range b r; first = (seq_in_range b r).0; last = known }) in
-      subst (λ (x : Op). entry x.past s ≤ entry a.past s) (same_op h valid t.op b t.contained (within b c) t.id) (t.past s i)
+      let t = valid.closed a there b.id
+      (record { site = site_in_range b r; first = (seq_in_range b r).0; last = known }) in
+      subst (λ (x : Op). entry x.past s ≤ entry a.past s)
+      (same_op h valid t.op b t.contained (within b c) t.id) (t.past s i)
 
   -- the creation that it knows in h is in the part, which has each number up to its count
   suited_within : (c : Change) → IsSuited h a c → IsSuited part a c
@@ -42,10 +45,17 @@ module _ (h part : List Op) (valid : IsValid h) (within : (a : Op) → Contains 
       let first = (seq_in_range k.maker r).0 in
       let most = counts_known k.maker.id.site (site_in_range k.maker r) in
       let t = has_counted in_turn k.maker.id first (omega arith) in
-      let same = same_op h valid t.op k.maker (within t.op t.contained) k.contained (same_id t.op k.maker t.site t.seq) in
+      let same = same_op h valid t.op k.maker (within t.op t.contained) k.contained
+      (same_id t.op k.maker t.site t.seq) in
       record {
         kind = s.kind;
-        known = record { maker = k.maker; contained = subst (Contains part) same t.contained; id = k.id; kind = k.kind; before = k.before };
+        known = record {
+          maker = k.maker;
+          contained = subst (Contains part) same t.contained;
+          id = k.id;
+          kind = k.kind;
+          before = k.before;
+        };
         suited = s.suited;
       }
 
@@ -55,7 +65,11 @@ module _ (h part : List Op) (valid : IsValid h) (within : (a : Op) → Contains 
       let most = counts_known i.site c.site in
       let last = c.last in
       let t = has_counted in_turn i c.first (omega arith) in
-      record { op = t.op; contained = t.contained; id = λ j. record { site = t.site j; seq = t.seq j } }
+      record {
+        op = t.op;
+        contained = t.contained;
+        id = λ j. record { site = t.site j; seq = t.seq j };
+      }
 
   pub part_accepts : IsAccepted part a
   part_accepts = record {

@@ -1,5 +1,6 @@
 -- What a command has after options or commands were added in turn.
-use Rattle.std.proofs.Common.{◌≡◌, ◌∙◌, ℕ, ◌+◌, ◌<◌, true, false, not, is_some, refl, sym, ap, ap₂, get_or, length, take, List, [], ◌∷◌, ◌++◌, map}
+use Rattle.std.proofs.Common.{◌≡◌, ◌∙◌, ℕ, ◌+◌, ◌<◌, true, false, not, is_some, refl, sym, ap, ap₂}
+use Rattle.std.proofs.Common.{get_or, length, take, List, [], ◌∷◌, ◌++◌, map}
 use Rattle.std.proofs.lemmas.List.{map-append, take_more}
 use Rattle.std.specs.List.{list_all, fold}
 use Rattle.clap.specs.Walk.{is_empty, is_simple_arg, rule_of}
@@ -30,7 +31,8 @@ local a e =
     is_false a.global (both (not a.last) _ w).1
 
 -- a command has the rules of the options that were added
-pub options_added : (args : List Arg) (old new : Command) → list_all (λ r. r.is_simple) (map rule_of args) ≡ true
+pub options_added : (args : List Arg) (old new : Command)
+    → list_all (λ r. r.is_simple) (map rule_of args) ≡ true
     → AddsInTurn AddsArg old args new → app_of new ≡ fold with_rule (app_of old) (map rule_of args)
 options_added [] old new e same = ap app_of (sym same)
 options_added (a ∷ rest) old new e (m, step, more) =
@@ -38,12 +40,15 @@ options_added (a ∷ rest) old new e (m, step, more) =
     ∙ ap (λ app. fold with_rule app (map rule_of rest)) (step.shape (local a (both _ _ e).0))
 
 -- a command has the commands that were added
-pub commands_added : (cs : List Command) (old new : Command) → list_all (λ s. s.is_plain) (map shape_of cs) ≡ true
-    → AddsInTurn AddsSubcommand old cs new → app_of new ≡ fold with_subcommand (app_of old) (map shape_of cs)
+pub commands_added : (cs : List Command) (old new : Command)
+    → list_all (λ s. s.is_plain) (map shape_of cs) ≡ true
+    → AddsInTurn AddsSubcommand old cs new → app_of new ≡ fold with_subcommand (app_of old)
+    (map shape_of cs)
 commands_added [] old new e same = ap app_of (sym same)
 commands_added (c ∷ rest) old new e (m, step, more) =
     commands_added rest m new (both _ _ e).1 more
-    ∙ ap (λ app. fold with_subcommand app (map shape_of rest)) (step.shape (plain_fields c (both _ _ e).0).globals)
+    ∙ ap (λ app. fold with_subcommand app (map shape_of rest))
+    (step.shape (plain_fields c (both _ _ e).0).globals)
 
 -- the options of each command are simple
 pub options_simple : (t : Takes) → list_all (λ r. r.is_simple) (options_of t) ≡ true
@@ -57,7 +62,8 @@ options_simple takes.Editor = refl
 options_simple takes.Sites = refl
 
 -- a new command with the options of t
-pub options_whole : (name : List ℕ) (t : Takes) → fold with_rule (new_app name) (options_of t) ≡ leaf (command name (options_of t))
+pub options_whole : (name : List ℕ) (t : Takes)
+    → fold with_rule (new_app name) (options_of t) ≡ leaf (command name (options_of t))
 options_whole name takes.Fig = refl
 options_whole name takes.Canvas = refl
 options_whole name takes.Query = refl
@@ -68,9 +74,12 @@ options_whole name takes.Editor = refl
 options_whole name takes.Sites = refl
 
 -- one command more is that of one row more
-pub commands_more : (cs : List Command) (c : Command) (runs : List Usage) (i : ℕ) (d : Usage) → i < length runs → map shape_of cs ≡ map usage_shape (take i runs)
-    → app_of c ≡ leaf (usage_shape (get_or runs i d)) → map shape_of (cs ++ c ∷ []) ≡ map usage_shape (take (i + 1) runs)
+pub commands_more : (cs : List Command) (c : Command) (runs : List Usage) (i : ℕ) (d : Usage)
+    → i < length runs → map shape_of cs ≡ map usage_shape (take i runs)
+    → app_of c ≡ leaf (usage_shape (get_or runs i d))
+    → map shape_of (cs ++ c ∷ []) ≡ map usage_shape (take (i + 1) runs)
 commands_more cs c runs i d within made is =
     map-append shape_of cs (c ∷ [])
     ∙ (ap₂ (λ x y. x ++ y ∷ []) made (ap (λ (a : App). a.top) is)
-    ∙ (sym (map-append usage_shape (take i runs) (get_or runs i d ∷ [])) ∙ ap (map usage_shape) (sym (take_more runs i d within))))
+    ∙ (sym (map-append usage_shape (take i runs) (get_or runs i d ∷ []))
+    ∙ ap (map usage_shape) (sym (take_more runs i d within))))

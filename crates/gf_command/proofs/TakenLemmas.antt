@@ -9,7 +9,8 @@ use Rattle.gf_command.specs.declared.runs.Workers.{Workers}
 use Rattle.gf_command.specs.declared.runs.Run.TheVariants.{Take}
 use Rattle.gf_command.specs.Outcomes.{AnswersSo}
 
-pub take_answers : (left old new : Option (List ℕ)) (editor : Editor) (workers : Workers) (taken : Taken)
+pub take_answers : (left old new : Option (List ℕ)) (editor : Editor) (workers : Workers)
+    (taken : Taken)
     → IfSome left (λ bytes. WritesTake editor.site bytes taken old new)
     → IfSome left (λ bytes. AnswersSo (outcome.Taken taken) (Take editor workers) bytes old new)
 take_answers None old new editor workers taken w = tt

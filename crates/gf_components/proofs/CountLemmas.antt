@@ -1,13 +1,17 @@
 -- How many largest sets numbers have, and what is kept of them.
-use Rattle.std.proofs.Common.{◌≡◌, ◌≢◌, ℕ, zero, suc, ◌+◌, ◌*◌, ◌≤◌, ◌<◌, Bool, List, [], ◌∷◌, ◌++◌, map, length, inl, inr, refl, subst, sym, ◌∙◌, arith, append_assoc}
-use Rattle.std.specs.Prelude.{◌⊎◌, ◌↔◌, All, AllPairs, Contains, Option, Some, None, nat_le, filter, not}
+use Rattle.std.proofs.Common.{◌≡◌, ◌≢◌, ℕ, zero, suc, ◌+◌, ◌*◌, ◌≤◌, ◌<◌, Bool, List, [], ◌∷◌, ◌++◌}
+use Rattle.std.proofs.Common.{map, length, inl, inr, refl, subst, sym, ◌∙◌, arith, append_assoc}
+use Rattle.std.specs.Prelude.{◌⊎◌, ◌↔◌, All, AllPairs, Contains, Option, Some, None, nat_le, filter}
+use Rattle.std.specs.Prelude.{not}
 use Rattle.std.specs.Ordering.{nat_cmp}
 use Rattle.std.proofs.Math.Nat.{mul-one, mul_comm, mul-le-mul_left, suc-mul, zero-mul}
 use Rattle.std.proofs.lemmas.Bool.{cases_Bool, cond-true, cond-false, leb-true, leb-false}
 use Rattle.std.proofs.lemmas.Cmp.{nat_cmp_total}
 use Rattle.std.proofs.lemmas.List.{length-append, length-map, append-nil}
-use Rattle.std.proofs.lemmas.List.Elements.{All-contains, Contains-append_left, Contains-push, Contains-push_cases}
-use Rattle.gf_base.proofs.ListLemmas.{Contains-cons_cases, Contains-cons_head, Contains-cons_tail, not_Contains-nil}
+use Rattle.std.proofs.lemmas.List.Elements.{All-contains, Contains-append_left, Contains-push}
+use Rattle.std.proofs.lemmas.List.Elements.{Contains-push_cases}
+use Rattle.gf_base.proofs.ListLemmas.{Contains-cons_cases, Contains-cons_head, Contains-cons_tail}
+use Rattle.gf_base.proofs.ListLemmas.{not_Contains-nil}
 use Rattle.gf_base.proofs.FilterLemmas.{Contains-filter}
 use Rattle.gf_base.proofs.RisingLemmas.{rising_front, rising_below, never_both}
 use Rattle.gf_maximal.specs.Growing.{meets, misses, without, joined, maximal, united, next}
@@ -15,7 +19,8 @@ use Rattle.gf_maximal.specs.Tables.{IsRising, IsTable}
 use Rattle.gf_maximal.proofs.GrowingLemmas.{Comes, table_first, table_next}
 use Rattle.gf_maximal.proofs.LargestLemmas.{IsConflict}
 use Rattle.gf_components.specs.Separate.{Apart, AreSetsKept}
-use Rattle.gf_components.specs.Components.{most_sets, kept, products, kept_products, times, grown_sets}
+use Rattle.gf_components.specs.Components.{most_sets, kept, products, kept_products, times}
+use Rattle.gf_components.specs.Components.{grown_sets}
 use Rattle.gf_components.proofs.ProductLemmas.{table_product}
 
 -- ---- lists of the same different elements are equally long
@@ -33,19 +38,24 @@ module _ {X : Type 0} where
     | inl e ↦ record {
       rest = ks;
       shorter = omega arith;
-      keeps = λ y i. elim (Contains-cons_cases k ks y i) [ inl d ↦ inl (d ∙ sym e) | inr j ↦ inr j ];
+      keeps = λ y i. elim (Contains-cons_cases k ks y i)
+          [ inl d ↦ inl (d ∙ sym e) | inr j ↦ inr j ];
     }
     | inr i ↦ let w = taken_out x ks i in record {
       rest = k ∷ w.rest;
       shorter = let s = w.shorter in omega arith;
       keeps = λ y j. elim (Contains-cons_cases k ks y j) [
         | inl d ↦ inr (subst (Contains (k ∷ w.rest)) (sym d) (Contains-cons_head k w.rest))
-        | inr l ↦ elim (w.keeps y l) [ inl d ↦ inl d | inr r ↦ inr (Contains-cons_tail k w.rest y r) ]
+        | inr l ↦ elim (w.keeps y l) [
+          | inl d ↦ inl d
+          | inr r ↦ inr (Contains-cons_tail k w.rest y r)
+        ]
       ];
     }
   ]
 
-  pub no_longer : (gs ks : List X) → AllPairs (λ a b. a ≢ b) gs → ((x : X) → Contains gs x → Contains ks x) → length gs ≤ length ks
+  pub no_longer : (gs ks : List X) → AllPairs (λ a b. a ≢ b) gs
+      → ((x : X) → Contains gs x → Contains ks x) → length gs ≤ length ks
   no_longer [] ks p f = omega arith
   no_longer (g ∷ gs) ks p f =
       let w = taken_out g ks (f g (Contains-cons_head g gs)) in
@@ -58,7 +68,8 @@ module _ {X : Type 0} where
       let s = w.shorter in
       omega arith
 
-  pub equally_long : (gs ks : List X) → AllPairs (λ a b. a ≢ b) gs → AllPairs (λ a b. a ≢ b) ks → ((x : X) → Contains gs x ↔ Contains ks x) → length gs ≡ length ks
+  pub equally_long : (gs ks : List X) → AllPairs (λ a b. a ≢ b) gs → AllPairs (λ a b. a ≢ b) ks
+      → ((x : X) → Contains gs x ↔ Contains ks x) → length gs ≡ length ks
   equally_long gs ks p q f =
       let a = no_longer gs ks p (λ x. (f x).0) in
       let b = no_longer ks gs q (λ x. (f x).1) in
@@ -76,7 +87,8 @@ length-products (g ∷ gs) ks =
     omega (arith, a, b, r, d)
 
 module _ (c : ℕ → ℕ → Bool) (s : IsConflict c) where
-  two_lists : (p : List ℕ → Bool) (gs : List (List ℕ)) → length (filter p gs) + length (filter (λ g. not (p g)) gs) ≡ length gs
+  two_lists : (p : List ℕ → Bool) (gs : List (List ℕ))
+      → length (filter p gs) + length (filter (λ g. not (p g)) gs) ≡ length gs
   two_lists p [] = refl
   two_lists p (g ∷ gs) = let r = two_lists p gs in elim (cases_Bool (p g)) [
     | inl t ↦ rw t (omega (arith, r))
@@ -90,7 +102,8 @@ module _ (c : ℕ → ℕ → Bool) (s : IsConflict c) where
       let hits = filter (meets d) gs in
       let news = maximal calms (map (without d) hits) in
       let a = length-append hits (map (joined x) (calms ++ news)) in
-      let b : length (map (joined x) (calms ++ news)) ≡ length (calms ++ news) = rw length-map refl in
+      let b : length (map (joined x) (calms ++ news)) ≡ length (calms ++ news) = rw length-map refl
+      in
       let e = length-append calms news in
       let f = two_lists (meets d) gs in
       omega (arith, a, b, e, f)
@@ -100,14 +113,19 @@ module _ (c : ℕ → ℕ → Bool) (s : IsConflict c) where
     pub table : IsTable c us sets
     pub some : 1 ≤ length sets
 
-  last_comes : (us : List ℕ) (x : ℕ) → IsRising (us ++ x ∷ []) → Comes c us x (filter (c x) us) (us ++ x ∷ [])
+  last_comes : (us : List ℕ) (x : ℕ) → IsRising (us ++ x ∷ [])
+      → Comes c us x (filter (c x) us) (us ++ x ∷ [])
   last_comes us x r = record {
     rising = rising_front nat_cmp nat_cmp_total us (x ∷ []) r;
-    fresh = λ h. let l = rising_below nat_cmp nat_cmp_total us x [] r x h in never_both nat_cmp nat_cmp_total x x l l;
+    fresh = λ h. let l = rising_below nat_cmp nat_cmp_total us x [] r x h in
+        never_both nat_cmp nat_cmp_total x x l l;
     rivals = λ a. Contains-filter (c x) us a;
     exactly = λ a. (
       λ h. elim (Contains-push_cases us x a h) [ inl i ↦ inl i | inr e ↦ inr (sym e) ],
-      λ h. elim h [ inl i ↦ Contains-append_left us (x ∷ []) a i | inr e ↦ subst (Contains (us ++ x ∷ [])) (sym e) (Contains-push us x) ],
+      λ h. elim h [
+        | inl i ↦ Contains-append_left us (x ∷ []) a i
+        | inr e ↦ subst (Contains (us ++ x ∷ [])) (sym e) (Contains-push us x)
+      ],
     );
   }
 
@@ -118,66 +136,90 @@ module _ (c : ℕ → ℕ → Bool) (s : IsConflict c) where
       let q : IsRising ((us ++ x ∷ []) ++ xs) = rw all r in
       let one : HasTable (us ++ x ∷ []) = record {
         sets = next (filter (c x) us) x t.sets;
-        table = table_next c s us x (filter (c x) us) (us ++ x ∷ []) (last_comes us x (rising_front nat_cmp nat_cmp_total (us ++ x ∷ []) xs q)) t.sets t.table;
+        table = table_next c s us x (filter (c x) us) (us ++ x ∷ [])
+            (last_comes us x (rising_front nat_cmp nat_cmp_total (us ++ x ∷ []) xs q)) t.sets
+            t.table;
         some = let k = t.some in let l = no_fewer (filter (c x) us) x t.sets in omega (arith, k, l);
       } in
       subst HasTable all (more_tables (us ++ x ∷ []) xs one q)
 
   -- rising numbers have a table
   pub a_table : (us : List ℕ) → IsRising us → HasTable us
-  a_table us r = more_tables [] us (record { sets = [] ∷ []; table = table_first c; some = omega arith }) r
+  a_table us r = more_tables [] us
+      (record { sets = [] ∷ []; table = table_first c; some = omega arith }) r
 
   -- and all of their tables are equally long
-  pub tables_long : (us : List ℕ) (gs ks : List (List ℕ)) → IsTable c us gs → IsTable c us ks → length gs ≡ length ks
-  tables_long us gs ks t v = equally_long gs ks t.once v.once (λ g. (λ i. (v.each g).1 ((t.each g).0 i), λ i. (t.each g).1 ((v.each g).0 i)))
+  pub tables_long : (us : List ℕ) (gs ks : List (List ℕ)) → IsTable c us gs → IsTable c us ks
+      → length gs ≡ length ks
+  tables_long us gs ks t v = equally_long gs ks t.once v.once
+      (λ g. (λ i. (v.each g).1 ((t.each g).0 i), λ i. (t.each g).1 ((v.each g).0 i)))
 
   -- ---- what is kept
 
   pub kept_is : (us : List ℕ) (gs : List (List ℕ)) → IsTable c us gs → AreSetsKept c us (kept gs)
   kept_is us gs t = elim (cases_Bool (nat_le (length gs) most_sets)) [
-    | inl y ↦ rw (cond-true (nat_le (length gs) most_sets) (Some gs) None y) (t, leb-true (length gs) most_sets y)
-    | inr n ↦ rw (cond-false (nat_le (length gs) most_sets) (Some gs) None n) (λ ks v. let e = tables_long us gs ks t v in let l = leb-false (length gs) most_sets n in omega (arith, e, l))
+    | inl y ↦ rw (cond-true (nat_le (length gs) most_sets) (Some gs) None y)
+        (t, leb-true (length gs) most_sets y)
+    | inr n ↦ rw (cond-false (nat_le (length gs) most_sets) (Some gs) None n)
+        (λ ks v. let e = tables_long us gs ks t v in let l = leb-false (length gs) most_sets n in
+        omega (arith, e, l))
   ]
 
   more_times : (m n k : ℕ) → m < n → 1 ≤ k → m < n * k
-  more_times m n k l o = let e : n * 1 ≤ n * k = mul-le-mul_left n o in let d = mul-one n in omega (arith, e, d, l)
+  more_times m n k l o = let e : n * 1 ≤ n * k = mul-le-mul_left n o in let d = mul-one n in
+      omega (arith, e, d, l)
 
-  kept_products_is : (us vs : List ℕ) (gs ks : List (List ℕ)) → Apart c us vs → IsTable c us gs → IsTable c vs ks → AreSetsKept c (united us vs) (kept_products gs ks)
+  kept_products_is : (us vs : List ℕ) (gs ks : List (List ℕ)) → Apart c us vs → IsTable c us gs
+      → IsTable c vs ks → AreSetsKept c (united us vs) (kept_products gs ks)
   kept_products_is us vs gs ks w t v =
       let table = table_product c s us vs w gs ks t v in
       let len = length-products gs ks in
       elim (cases_Bool (nat_le (length gs * length ks) most_sets)) [
-        | inl y ↦ rw (cond-true (nat_le (length gs * length ks) most_sets) (Some (products gs ks)) None y) (table, let l = leb-true (length gs * length ks) most_sets y in omega (arith, len, l))
-        | inr n ↦ rw (cond-false (nat_le (length gs * length ks) most_sets) (Some (products gs ks)) None n)
-            (λ hs o. let e = tables_long (united us vs) (products gs ks) hs table o in let l = leb-false (length gs * length ks) most_sets n in omega (arith, e, len, l))
+        | inl y ↦ rw (cond-true (nat_le (length gs * length ks) most_sets) (Some (products gs ks))
+            None y) (
+              table,
+              let l = leb-true (length gs * length ks) most_sets y in omega (arith, len, l),
+            )
+        | inr n ↦ rw (cond-false (nat_le (length gs * length ks) most_sets) (Some (products gs ks))
+            None n)
+            (λ hs o. let e = tables_long (united us vs) (products gs ks) hs table o in
+            let l = leb-false (length gs * length ks) most_sets n in omega (arith, e, len, l))
       ]
 
   -- if one has too many, so have both
-  many_first : (us vs : List ℕ) → IsRising us → IsRising vs → Apart c us vs → AreSetsKept c us None → AreSetsKept c (united us vs) None
+  many_first : (us vs : List ℕ) → IsRising us → IsRising vs → Apart c us vs → AreSetsKept c us None
+      → AreSetsKept c (united us vs) None
   many_first us vs r q w x gs t =
       let a = a_table us r in let b = a_table vs q in
-      let e = tables_long (united us vs) (products a.sets b.sets) gs (table_product c s us vs w a.sets b.sets a.table b.table) t in
+      let e = tables_long (united us vs) (products a.sets b.sets) gs
+      (table_product c s us vs w a.sets b.sets a.table b.table) t in
       let len = length-products a.sets b.sets in
       let k = more_times most_sets (length a.sets) (length b.sets) (x a.sets a.table) b.some in
       omega (arith, e, len, k)
 
-  many_second : (us vs : List ℕ) → IsRising us → IsRising vs → Apart c us vs → AreSetsKept c vs None → AreSetsKept c (united us vs) None
+  many_second : (us vs : List ℕ) → IsRising us → IsRising vs → Apart c us vs → AreSetsKept c vs None
+      → AreSetsKept c (united us vs) None
   many_second us vs r q w x gs t =
       let a = a_table us r in let b = a_table vs q in
-      let e = tables_long (united us vs) (products a.sets b.sets) gs (table_product c s us vs w a.sets b.sets a.table b.table) t in
+      let e = tables_long (united us vs) (products a.sets b.sets) gs
+      (table_product c s us vs w a.sets b.sets a.table b.table) t in
       let len = length-products a.sets b.sets in
       let k = more_times most_sets (length b.sets) (length a.sets) (x b.sets b.table) a.some in
       let f = mul_comm (length a.sets) (length b.sets) in
       omega (arith, e, len, k, f)
 
-  pub kept_merged : (us vs : List ℕ) → IsRising us → IsRising vs → Apart c us vs → (p q : Option (List (List ℕ))) → AreSetsKept c us p → AreSetsKept c vs q → AreSetsKept c (united us vs) (times p q)
+  pub kept_merged : (us vs : List ℕ) → IsRising us → IsRising vs → Apart c us vs
+      → (p q : Option (List (List ℕ))) → AreSetsKept c us p → AreSetsKept c vs q
+      → AreSetsKept c (united us vs) (times p q)
   kept_merged us vs r q w (Some gs) (Some ks) x y = kept_products_is us vs gs ks w x.0 y.0
   kept_merged us vs r q w None (Some ks) x y = many_first us vs r q w x
   kept_merged us vs r q w None None x y = many_first us vs r q w x
   kept_merged us vs r q w (Some gs) None x y = many_second us vs r q w y
 
-  pub kept_grown : (us : List ℕ) (x : ℕ) (d all : List ℕ) → Comes c us x d all → (p : Option (List (List ℕ))) → AreSetsKept c us p → AreSetsKept c all (grown_sets d x p)
-  kept_grown us x d all m (Some gs) y = kept_is all (next d x gs) (table_next c s us x d all m gs y.0)
+  pub kept_grown : (us : List ℕ) (x : ℕ) (d all : List ℕ) → Comes c us x d all
+      → (p : Option (List (List ℕ))) → AreSetsKept c us p → AreSetsKept c all (grown_sets d x p)
+  kept_grown us x d all m (Some gs) y = kept_is all (next d x gs)
+      (table_next c s us x d all m gs y.0)
   kept_grown us x d all m None y = λ gs t.
       let a = a_table us m.rising in
       let e = tables_long all (next d x a.sets) gs (table_next c s us x d all m a.sets a.table) t in

@@ -1,12 +1,15 @@
 -- The largest groups of two sets of positions that no conflict connects are the unions of theirs.
-use Rattle.std.proofs.Common.{◌≡◌, ◌≢◌, ℕ, zero, suc, Bool, false, List, [], ◌∷◌, map, inl, inr, refl, subst, sym, ◌∙◌, arith, ◌++◌, append_assoc, ap}
+use Rattle.std.proofs.Common.{◌≡◌, ◌≢◌, ℕ, zero, suc, Bool, false, List, [], ◌∷◌, map, inl, inr}
+use Rattle.std.proofs.Common.{refl, subst, sym, ◌∙◌, arith, ◌++◌, append_assoc, ap}
 use Rattle.std.specs.Prelude.{◌⊎◌, ◌↔◌, All, AllPairs, Contains, filter}
 use Rattle.std.specs.Ordering.{nat_cmp}
 use Rattle.std.proofs.lemmas.Cmp.{nat_cmp_total}
 use Rattle.std.proofs.lemmas.List.{append-nil}
-use Rattle.std.proofs.lemmas.List.Elements.{All-contains, Contains-append_cases, Contains-append_left, Contains-append_right}
+use Rattle.std.proofs.lemmas.List.Elements.{All-contains, Contains-append_cases}
+use Rattle.std.proofs.lemmas.List.Elements.{Contains-append_left, Contains-append_right}
 use Rattle.std.proofs.lemmas.List.Kept.{IsStrictlySortedBy-filter}
-use Rattle.gf_base.proofs.ListLemmas.{Contains-cons_cases, Contains-cons_head, Contains-cons_tail, not_Contains-nil, Contains-map, Contains-map_from}
+use Rattle.gf_base.proofs.ListLemmas.{Contains-cons_cases, Contains-cons_head, Contains-cons_tail}
+use Rattle.gf_base.proofs.ListLemmas.{not_Contains-nil, Contains-map, Contains-map_from}
 use Rattle.gf_components.specs.Components.{products}
 use Rattle.gf_maximal.specs.Growing.{is_in, united}
 use Rattle.gf_maximal.proofs.MaximalLemmas.{in_list, from_list}
@@ -26,7 +29,8 @@ module _ {X : Type 0} (c : X → X → Bool) (s : IsConflict c) where
   Both p q a = p a ⊎ q a
 
   module _ (U V : X → Type 0) (none : (a b : X) → U a → V b → c a b ≡ false) where
-    pub largest_both : (p q : X → Type 0) → IsLargest c U p → IsLargest c V q → IsLargest c (Both U V) (Both p q)
+    pub largest_both : (p q : X → Type 0) → IsLargest c U p → IsLargest c V q
+        → IsLargest c (Both U V) (Both p q)
     largest_both p q m n = record {
       within = λ a h. elim h [ inl i ↦ inl (m.within a i) | inr i ↦ inr (n.within a i) ];
       compatible = both;
@@ -57,14 +61,16 @@ module _ {X : Type 0} (c : X → X → Bool) (s : IsConflict c) where
     }
 
     -- and of the second
-    pub largest_second : (r : X → Type 0) → IsLargest c (Both U V) r → IsLargest c V (λ a. r a × V a)
+    pub largest_second : (r : X → Type 0) → IsLargest c (Both U V) r
+        → IsLargest c V (λ a. r a × V a)
     largest_second r m = record {
       within = λ a h. h.1;
       compatible = λ a b h k. m.compatible a b h.0 k.0;
       largest = λ a u. elim (m.largest a (inr u)) [
         | inl i ↦ inl (i, u)
         | inr w ↦ elim (m.within w.0 w.1) [
-          | inl v ↦ let no = none w.0 a v u in let same = s.symmetric a w.0 in let yes = w.2 in absurd cc
+          | inl v ↦ let no = none w.0 a v u in let same = s.symmetric a w.0 in let yes = w.2 in
+              absurd cc
           | inr v ↦ inr (w.0, (w.1, v), w.2)
         ]
       ];
@@ -76,24 +82,34 @@ module _ {X : Type 0} (c : X → X → Bool) (s : IsConflict c) where
 abbrev pub IsProduct : List (List ℕ) → List (List ℕ) → List ℕ → Type 0
 IsProduct gs ks q = (g : List ℕ) × (k : List ℕ) × Contains gs g × Contains ks k × (q ≡ united g k)
 
-pub Contains-products_from : (gs ks : List (List ℕ)) (q : List ℕ) → Contains (products gs ks) q → IsProduct gs ks q
+pub Contains-products_from : (gs ks : List (List ℕ)) (q : List ℕ) → Contains (products gs ks) q
+    → IsProduct gs ks q
 Contains-products_from [] ks q h = absurd (not_Contains-nil q h)
-Contains-products_from (g ∷ gs) ks q h = elim (Contains-append_cases (map (united g) ks) (products gs ks) q h) [
-  | inl i ↦ let w = Contains-map_from (united g) ks q i in (g, w.0, Contains-cons_head g gs, w.1, w.2)
-  | inr i ↦ let w = Contains-products_from gs ks q i in (w.0, w.1, Contains-cons_tail g gs w.0 w.2, w.3, w.4)
-]
+Contains-products_from (g ∷ gs) ks q h = elim (Contains-append_cases (map (united g) ks)
+    (products gs ks) q h) [
+      | inl i ↦ let w = Contains-map_from (united g) ks q i in
+          (g, w.0, Contains-cons_head g gs, w.1, w.2)
+      | inr i ↦ let w = Contains-products_from gs ks q i in
+          (w.0, w.1, Contains-cons_tail g gs w.0 w.2, w.3, w.4)
+    ]
 
-pub Contains-products : (gs ks : List (List ℕ)) (g k : List ℕ) → Contains gs g → Contains ks k → Contains (products gs ks) (united g k)
+pub Contains-products : (gs ks : List (List ℕ)) (g k : List ℕ) → Contains gs g → Contains ks k
+    → Contains (products gs ks) (united g k)
 Contains-products [] ks g k h i = absurd (not_Contains-nil g h)
 Contains-products (f ∷ gs) ks g k h i = elim (Contains-cons_cases f gs g h) [
-  | inl e ↦ subst (λ z. Contains (products (f ∷ gs) ks) (united z k)) (sym e) (Contains-append_left (map (united f) ks) (products gs ks) (united f k) (Contains-map (united f) ks k i))
-  | inr j ↦ Contains-append_right (map (united f) ks) (products gs ks) (united g k) (Contains-products gs ks g k j i)
+  | inl e ↦ subst (λ z. Contains (products (f ∷ gs) ks) (united z k)) (sym e)
+      (Contains-append_left (map (united f) ks) (products gs ks) (united f k)
+      (Contains-map (united f) ks k i))
+  | inr j ↦ Contains-append_right (map (united f) ks) (products gs ks) (united g k)
+      (Contains-products gs ks g k j i)
 ]
 
 -- one more set gives its products behind the others
-pub products-push : (gs : List (List ℕ)) (g : List ℕ) (ks : List (List ℕ)) → products (gs ++ g ∷ []) ks ≡ products gs ks ++ map (united g) ks
+pub products-push : (gs : List (List ℕ)) (g : List ℕ) (ks : List (List ℕ))
+    → products (gs ++ g ∷ []) ks ≡ products gs ks ++ map (united g) ks
 products-push [] g ks = append-nil (map (united g) ks)
-products-push (f ∷ gs) g ks = ap (λ zs. map (united f) ks ++ zs) (products-push gs g ks) ∙ sym (append_assoc (map (united f) ks) (products gs ks) (map (united g) ks))
+products-push (f ∷ gs) g ks = ap (λ zs. map (united f) ks ++ zs) (products-push gs g ks)
+    ∙ sym (append_assoc (map (united f) ks) (products gs ks) (map (united g) ks))
 
 module _ (c : ℕ → ℕ → Bool) (s : IsConflict c) (us vs : List ℕ) (apart : Apart c us vs) where
   -- a rising group of these positions
@@ -101,38 +117,52 @@ module _ (c : ℕ → ℕ → Bool) (s : IsConflict c) (us vs : List ℕ) (apart
   IsOf ws g = IsRising g × ((a : ℕ) → Contains g a → Contains ws a)
 
   -- a union determines its two groups
-  first_determined : (g k f l : List ℕ) → IsOf us g → IsOf vs k → IsOf us f → IsOf vs l → united g k ≡ united f l → (a : ℕ) → Contains g a → Contains f a
-  first_determined g k f l x y z w e a h = elim ((Contains-united f l a).0 (subst (λ q. Contains q a) e ((Contains-united g k a).1 (inl h)))) [
-    | inl i ↦ i
-    | inr i ↦ absurd ((apart a a (x.1 a h) (w.1 a i)).0 refl)
-  ]
+  first_determined : (g k f l : List ℕ) → IsOf us g → IsOf vs k → IsOf us f → IsOf vs l
+      → united g k ≡ united f l → (a : ℕ) → Contains g a → Contains f a
+  first_determined g k f l x y z w e a h =
+      elim ((Contains-united f l a).0
+      (subst (λ q. Contains q a) e ((Contains-united g k a).1 (inl h)))) [
+        | inl i ↦ i
+        | inr i ↦ absurd ((apart a a (x.1 a h) (w.1 a i)).0 refl)
+      ]
 
-  second_determined : (g k f l : List ℕ) → IsOf us g → IsOf vs k → IsOf us f → IsOf vs l → united g k ≡ united f l → (a : ℕ) → Contains k a → Contains l a
-  second_determined g k f l x y z w e a h = elim ((Contains-united f l a).0 (subst (λ q. Contains q a) e ((Contains-united g k a).1 (inr h)))) [
-    | inl i ↦ absurd ((apart a a (z.1 a i) (y.1 a h)).0 refl)
-    | inr i ↦ i
-  ]
+  second_determined : (g k f l : List ℕ) → IsOf us g → IsOf vs k → IsOf us f → IsOf vs l
+      → united g k ≡ united f l → (a : ℕ) → Contains k a → Contains l a
+  second_determined g k f l x y z w e a h =
+      elim ((Contains-united f l a).0
+      (subst (λ q. Contains q a) e ((Contains-united g k a).1 (inr h)))) [
+        | inl i ↦ absurd ((apart a a (z.1 a i) (y.1 a h)).0 refl)
+        | inr i ↦ i
+      ]
 
-  first_same : (g k f l : List ℕ) → IsOf us g → IsOf vs k → IsOf us f → IsOf vs l → united g k ≡ united f l → g ≡ f
-  first_same g k f l x y z w e = one_rising nat_cmp nat_cmp_total g f x.0 z.0 (λ a. (first_determined g k f l x y z w e a, first_determined f l g k z w x y (sym e) a))
+  first_same : (g k f l : List ℕ) → IsOf us g → IsOf vs k → IsOf us f → IsOf vs l
+      → united g k ≡ united f l → g ≡ f
+  first_same g k f l x y z w e = one_rising nat_cmp nat_cmp_total g f x.0 z.0
+      (λ a. (first_determined g k f l x y z w e a, first_determined f l g k z w x y (sym e) a))
 
-  second_same : (g k f l : List ℕ) → IsOf us g → IsOf vs k → IsOf us f → IsOf vs l → united g k ≡ united f l → k ≡ l
-  second_same g k f l x y z w e = one_rising nat_cmp nat_cmp_total k l y.0 w.0 (λ a. (second_determined g k f l x y z w e a, second_determined f l g k z w x y (sym e) a))
+  second_same : (g k f l : List ℕ) → IsOf us g → IsOf vs k → IsOf us f → IsOf vs l
+      → united g k ≡ united f l → k ≡ l
+  second_same g k f l x y z w e = one_rising nat_cmp nat_cmp_total k l y.0 w.0
+      (λ a. (second_determined g k f l x y z w e a, second_determined f l g k z w x y (sym e) a))
 
-  pub products_once : (gs ks : List (List ℕ)) → ((g : List ℕ) → Contains gs g → IsOf us g) → ((k : List ℕ) → Contains ks k → IsOf vs k) →
-      AllPairs (λ g h. g ≢ h) gs → AllPairs (λ g h. g ≢ h) ks → AllPairs (λ g h. g ≢ h) (products gs ks)
+  pub products_once : (gs ks : List (List ℕ)) → ((g : List ℕ) → Contains gs g → IsOf us g)
+      → ((k : List ℕ) → Contains ks k → IsOf vs k) →
+      AllPairs (λ g h. g ≢ h) gs → AllPairs (λ g h. g ≢ h) ks
+      → AllPairs (λ g h. g ≢ h) (products gs ks)
   products_once [] ks x y p q = λ i j d l m. absurd (omega arith)
   products_once (g ∷ gs) ks x y p q =
       let here = x g (Contains-cons_head g gs) in
       let head : All (λ h. g ≢ h) gs = λ k d l. p zero (suc k) d (omega arith) (omega arith) in
       AllPairs-append (λ f h. f ≢ h) (map (united g) ks) (products gs ks)
       (AllPairs-map (united g) ks (λ k l i j e. second_same g k g l here (y k i) here (y l j) e) q)
-      (products_once gs ks (λ h i. x h (Contains-cons_tail g gs h i)) y (λ i j d l m. p (suc i) (suc j) d (omega arith) (omega arith)) q)
+      (products_once gs ks (λ h i. x h (Contains-cons_tail g gs h i)) y
+      (λ i j d l m. p (suc i) (suc j) d (omega arith) (omega arith)) q)
       (λ a b i j e.
       let v = Contains-map_from (united g) ks a i in
       let w = Contains-products_from gs ks b j in
       All-contains (λ h. g ≢ h) gs w.0 head w.2
-      (first_same g v.0 w.0 w.1 here (y v.0 v.1) (x w.0 (Contains-cons_tail g gs w.0 w.2)) (y w.1 w.3) (sym v.2 ∙ (e ∙ w.4))))
+      (first_same g v.0 w.0 w.1 here (y v.0 v.1) (x w.0 (Contains-cons_tail g gs w.0 w.2))
+      (y w.1 w.3) (sym v.2 ∙ (e ∙ w.4))))
 
   module _ (gs ks : List (List ℕ)) (first : IsTable c us gs) (second : IsTable c vs ks) where
     none : (a b : ℕ) → Contains us a → Contains vs b → c a b ≡ false
@@ -142,16 +172,19 @@ module _ (c : ℕ → ℕ → Bool) (s : IsConflict c) (us vs : List ℕ) (apart
     back e = (e.1, e.0)
 
     -- each union is largest
-    sound : (q : List ℕ) → Contains (products gs ks) q → IsRising q × IsLargest c (Contains (united us vs)) (Contains q)
+    sound : (q : List ℕ) → Contains (products gs ks) q
+        → IsRising q × IsLargest c (Contains (united us vs)) (Contains q)
     sound q h =
         let w = Contains-products_from gs ks q h in
         let m = (first.each w.0).0 w.2 in
         let n = (second.each w.1).0 w.3 in
         subst (λ z. IsRising z × IsLargest c (Contains (united us vs)) (Contains z)) (sym w.4) (
           united_rises w.0 w.1,
-          largest_alike c (Both c s (Contains us) (Contains vs)) (Contains (united us vs)) (Both c s (Contains w.0) (Contains w.1)) (Contains (united w.0 w.1))
+          largest_alike c (Both c s (Contains us) (Contains vs)) (Contains (united us vs))
+              (Both c s (Contains w.0) (Contains w.1)) (Contains (united w.0 w.1))
               (λ a. back (Contains-united us vs a)) (λ a. back (Contains-united w.0 w.1 a))
-              (largest_both c s (Contains us) (Contains vs) none (Contains w.0) (Contains w.1) m.1 n.1),
+              (largest_both c s (Contains us) (Contains vs) none (Contains w.0) (Contains w.1) m.1
+              n.1),
         )
 
     -- what q has of ws
@@ -165,19 +198,37 @@ module _ (c : ℕ → ℕ → Bool) (s : IsConflict c) (us vs : List ℕ) (apart
     )
 
     -- each largest group is a union
-    complete : (q : List ℕ) → IsRising q → IsLargest c (Contains (united us vs)) (Contains q) → Contains (products gs ks) q
+    complete : (q : List ℕ) → IsRising q → IsLargest c (Contains (united us vs)) (Contains q)
+        → Contains (products gs ks) q
     complete q r m =
-        let n : IsLargest c (Both c s (Contains us) (Contains vs)) (Contains q) = largest_alike c (Contains (united us vs)) (Both c s (Contains us) (Contains vs)) (Contains q) (Contains q) (λ a. Contains-united us vs a) (λ a. (λ h. h, λ h. h)) m in
+        let n : IsLargest c (Both c s (Contains us) (Contains vs)) (Contains q) = largest_alike c
+        (Contains (united us vs)) (Both c s (Contains us) (Contains vs)) (Contains q) (Contains q)
+        (λ a. Contains-united us vs a) (λ a. (λ h. h, λ h. h)) m in
         let g = of us q in let k = of vs q in
         let rg : IsRising g = IsStrictlySortedBy-filter nat_cmp (is_in us) q r in
         let rk : IsRising k = IsStrictlySortedBy-filter nat_cmp (is_in vs) q r in
-        let mg : IsLargest c (Contains us) (Contains g) = largest_alike c (Contains us) (Contains us) (λ a. Contains q a × Contains us a) (Contains g) (λ a. (λ h. h, λ h. h)) (λ a. of_holds us q a) (largest_first c s (Contains us) (Contains vs) none (Contains q) n) in
-        let mk : IsLargest c (Contains vs) (Contains k) = largest_alike c (Contains vs) (Contains vs) (λ a. Contains q a × Contains vs a) (Contains k) (λ a. (λ h. h, λ h. h)) (λ a. of_holds vs q a) (largest_second c s (Contains us) (Contains vs) none (Contains q) n) in
-        let e : united g k ≡ q = one_rising nat_cmp nat_cmp_total (united g k) q (united_rises g k) r (λ a. (
-          λ h. elim ((Contains-united g k a).0 h) [ inl i ↦ ((of_holds us q a).1 i).0 | inr i ↦ ((of_holds vs q a).1 i).0 ],
-          λ h. (Contains-united g k a).1 (elim (n.within a h) [ inl u ↦ inl ((of_holds us q a).0 (h, u)) | inr v ↦ inr ((of_holds vs q a).0 (h, v)) ]),
+        let mg : IsLargest c (Contains us) (Contains g) = largest_alike c (Contains us)
+        (Contains us) (λ a. Contains q a × Contains us a) (Contains g) (λ a. (λ h. h, λ h. h))
+        (λ a. of_holds us q a) (largest_first c s (Contains us) (Contains vs) none (Contains q) n)
+        in
+        let mk : IsLargest c (Contains vs) (Contains k) = largest_alike c (Contains vs)
+        (Contains vs) (λ a. Contains q a × Contains vs a) (Contains k) (λ a. (λ h. h, λ h. h))
+        (λ a. of_holds vs q a) (largest_second c s (Contains us) (Contains vs) none (Contains q) n)
+        in
+        let e : united g k ≡ q = one_rising nat_cmp nat_cmp_total (united g k) q (united_rises g k)
+        r (λ a. (
+          λ h. elim ((Contains-united g k a).0 h) [
+            | inl i ↦ ((of_holds us q a).1 i).0
+            | inr i ↦ ((of_holds vs q a).1 i).0
+          ],
+          λ h. (Contains-united g k a).1
+              (elim (n.within a h) [
+                | inl u ↦ inl ((of_holds us q a).0 (h, u))
+                | inr v ↦ inr ((of_holds vs q a).0 (h, v))
+              ]),
         )) in
-        subst (Contains (products gs ks)) e (Contains-products gs ks g k ((first.each g).1 (rg, mg)) ((second.each k).1 (rk, mk)))
+        subst (Contains (products gs ks)) e (Contains-products gs ks g k ((first.each g).1 (rg, mg))
+        ((second.each k).1 (rk, mk)))
 
     -- THE PRODUCT: the table of a disjoint union without a conflict across
     pub table_product : IsTable c (united us vs) (products gs ks)
@@ -190,15 +241,22 @@ module _ (c : ℕ → ℕ → Bool) (s : IsConflict c) (us vs : List ℕ) (apart
     }
 
 -- positions without a conflict have one largest group
-pub table_alone : (c : ℕ → ℕ → Bool) (us : List ℕ) → IsRising us → ((a b : ℕ) → Contains us a → Contains us b → c a b ≡ false) → IsTable c us (us ∷ [])
+pub table_alone : (c : ℕ → ℕ → Bool) (us : List ℕ) → IsRising us
+    → ((a b : ℕ) → Contains us a → Contains us b → c a b ≡ false) → IsTable c us (us ∷ [])
 table_alone c us form calm = record {
   each = λ g. (
     λ h. elim (Contains-cons_cases us [] g h) [
-      | inl e ↦ subst (λ z. IsRising z × IsLargest c (Contains us) (Contains z)) (sym e) (form, record { within = λ a i. i; compatible = calm; largest = λ a i. inl i })
+      | inl e ↦ subst (λ z. IsRising z × IsLargest c (Contains us) (Contains z)) (sym e) (
+        form,
+        record { within = λ a i. i; compatible = calm; largest = λ a i. inl i },
+      )
       | inr r ↦ absurd (not_Contains-nil g r)
     ],
     λ m. subst (Contains (us ∷ [])) (one_rising nat_cmp nat_cmp_total us g form m.0 (λ a. (
-      λ i. elim (m.1.largest a i) [ inl j ↦ j | inr w ↦ let no = calm a w.0 i (m.1.within w.0 w.1) in let yes = w.2 in absurd cc ],
+      λ i. elim (m.1.largest a i) [
+        | inl j ↦ j
+        | inr w ↦ let no = calm a w.0 i (m.1.within w.0 w.1) in let yes = w.2 in absurd cc
+      ],
       λ i. m.1.within a i,
     ))) (Contains-cons_head us []),
   );
@@ -206,11 +264,20 @@ table_alone c us form calm = record {
 }
 
 -- a table is one of whatever list has the same positions
-pub table_alike : (c : ℕ → ℕ → Bool) (us vs : List ℕ) (gs : List (List ℕ)) → ((a : ℕ) → Contains us a ↔ Contains vs a) → IsTable c us gs → IsTable c vs gs
+pub table_alike : (c : ℕ → ℕ → Bool) (us vs : List ℕ) (gs : List (List ℕ))
+    → ((a : ℕ) → Contains us a ↔ Contains vs a) → IsTable c us gs → IsTable c vs gs
 table_alike c us vs gs same t = record {
   each = λ g. (
-    λ h. let m = (t.each g).0 h in (m.0, largest_alike c (Contains us) (Contains vs) (Contains g) (Contains g) same (λ a. (λ i. i, λ i. i)) m.1),
-    λ m. (t.each g).1 (m.0, largest_alike c (Contains vs) (Contains us) (Contains g) (Contains g) (λ a. ((same a).1, (same a).0)) (λ a. (λ i. i, λ i. i)) m.1),
+    λ h. let m = (t.each g).0 h in (
+      m.0,
+      largest_alike c (Contains us) (Contains vs) (Contains g) (Contains g) same
+          (λ a. (λ i. i, λ i. i)) m.1,
+    ),
+    λ m. (t.each g).1 (
+      m.0,
+      largest_alike c (Contains vs) (Contains us) (Contains g) (Contains g)
+          (λ a. ((same a).1, (same a).0)) (λ a. (λ i. i, λ i. i)) m.1,
+    ),
   );
   once = t.once;
 }

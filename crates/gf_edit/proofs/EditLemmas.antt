@@ -27,7 +27,8 @@ use Rattle.gf_edit.proofs.BlockingLemmas.{first_blocks, none_blocks, waiting_tak
 use Rattle.gf_edit.proofs.CleanLemmas.{op_clean}
 use Rattle.gf_edit.proofs.WrittenLemmas.{op_shown, written_from}
 
-module _ (s : ℕ) (bytes : List ℕ) (r : ReadLines) (read : HasReadEntries s bytes [] r) (held : AreHeld r.site.held) where
+module _ (s : ℕ) (bytes : List ℕ) (r : ReadLines) (read : HasReadEntries s bytes [] r)
+    (held : AreHeld r.site.held) where
   all_lines : AreEntriesOf s (numbered_lines bytes) read.entries
   all_lines = ap (map (entry_at s)) (read.whole ∙ append-nil read.before) ∙ read.lines
 
@@ -35,11 +36,14 @@ module _ (s : ℕ) (bytes : List ℕ) (r : ReadLines) (read : HasReadEntries s b
   behind none = record {
     delivers = delivers (ops_in read.entries) r.site read.taken read.none;
     accepted = read.taken.accepted;
-    free = none_blocks s (ops_in read.entries) r.site (waiting_taken (ops_in read.entries) r.site read.taken held) (subst (λ n. find (is_blocking n r.site.ops) r.site.held ≡ None) read.number none);
+    free = none_blocks s (ops_in read.entries) r.site
+        (waiting_taken (ops_in read.entries) r.site read.taken held)
+        (subst (λ n. find (is_blocking n r.site.ops) r.site.held ≡ None) read.number none);
   }
 
   -- the text has the lines of what the commands make
-  pub edited : IsUnblocked r.site → (y : SiteState) (e : Edited) → HasPassed r.site.number r.site.ops r.commands.items y e → Edits s bytes e.text.items e.made
+  pub edited : IsUnblocked r.site → (y : SiteState) (e : Edited)
+      → HasPassed r.site.number r.site.ops r.commands.items y e → Edits s bytes e.text.items e.made
   edited none y e p = record {
     new = p.new;
     denoted = record {
@@ -47,24 +51,31 @@ module _ (s : ℕ) (bytes : List ℕ) (r : ReadLines) (read : HasReadEntries s b
       lines = all_lines;
       history = r.site.ops;
       behind = behind none;
-      makes = subst (λ (cs : List Numbered). Makes s r.site.ops cs p.new) read.commands (subst (λ n. Makes n r.site.ops r.commands.items p.new) read.number p.makes);
+      makes = subst (λ (cs : List Numbered). Makes s r.site.ops cs p.new) read.commands
+          (subst (λ n. Makes n r.site.ops r.commands.items p.new) read.number p.makes);
     };
     is = p.is;
     told = p.told;
-    denotes = subst (λ t. AreLinesOf (numbered_lines t) p.new) (sym p.is) (written_from 1 p.new (λ a i. record { whole = op_clean a; shown = op_shown a; denotes = p.reads a i }));
+    denotes = subst (λ t. AreLinesOf (numbered_lines t) p.new) (sym p.is)
+        (written_from 1 p.new (λ a i.
+        record { whole = op_clean a; shown = op_shown a; denotes = p.reads a i }));
   }
 
-  refused_command : IsUnblocked r.site → (Refused : ℕ → List Op → EditCommand → Type 0) (n : ℕ) → HasRefused (Refused r.site.number) r.site.number r.site.ops r.commands.items n → HasRefusedCommand (Refused s) s bytes n
+  refused_command : IsUnblocked r.site → (Refused : ℕ → List Op → EditCommand → Type 0) (n : ℕ)
+      → HasRefused (Refused r.site.number) r.site.number r.site.ops r.commands.items n
+      → HasRefusedCommand (Refused s) s bytes n
   refused_command none Refused n f = record {
     entries = read.entries;
     lines = all_lines;
     history = r.site.ops;
     behind = behind none;
-    refusal = subst (λ (cs : List Numbered). HasRefused (Refused s) s r.site.ops cs n) read.commands (subst (λ k. HasRefused (Refused k) k r.site.ops r.commands.items n) read.number f);
+    refusal = subst (λ (cs : List Numbered). HasRefused (Refused s) s r.site.ops cs n) read.commands
+        (subst (λ k. HasRefused (Refused k) k r.site.ops r.commands.items n) read.number f);
   }
 
   -- what refuses a command refuses the edit
-  pub refused : IsUnblocked r.site → (e : EditError) → RefusesMaking r.site.number r.site.ops r.commands.items e → RefusesEdit s bytes e
+  pub refused : IsUnblocked r.site → (e : EditError)
+      → RefusesMaking r.site.number r.site.ops r.commands.items e → RefusesEdit s bytes e
   refused none (edit.Refused n why) f = refused_command none (λ k. RefusesFor k why) n f
   refused none (edit.NoVersion n) f = refused_command none (λ k. KeepsNone) n f
   refused none (edit.Waits i j) f = absurd f
@@ -87,7 +98,9 @@ module _ (s : ℕ) (bytes : List ℕ) (r : ReadLines) (read : HasReadEntries s b
     delivers = delivers (ops_in read.entries) r.site read.taken read.none;
     accepted = read.taken.accepted;
     op = b.op;
-    blocking = first_blocks s (ops_in read.entries) r.site (waiting_taken (ops_in read.entries) r.site read.taken held) b.op (subst (λ n. find (is_blocking n r.site.ops) r.site.held ≡ Some b.op) read.number b.first);
+    blocking = first_blocks s (ops_in read.entries) r.site
+        (waiting_taken (ops_in read.entries) r.site read.taken held) b.op
+        (subst (λ n. find (is_blocking n r.site.ops) r.site.held ≡ Some b.op) read.number b.first);
     named = b.named;
     waits = b.waits;
   }
@@ -108,19 +121,26 @@ module _ (s : ℕ) (bytes : List ℕ) (r : ReadLines) (read : HasReadEntries s b
 
 -- ---- the run
 
-pub run_refuses : {X : Type 0} (s : ℕ) (left : Option (List ℕ)) (items : List ℕ) (r : Result X EditError) → IfSome left (λ all. items ≡ all) → IfErr r (RefusesEdit s items) → IfErr r (λ e. IfSome left (λ bytes. RefusesEdit s bytes e))
+pub run_refuses : {X : Type 0} (s : ℕ) (left : Option (List ℕ)) (items : List ℕ)
+    (r : Result X EditError) → IfSome left (λ all. items ≡ all) → IfErr r (RefusesEdit s items)
+    → IfErr r (λ e. IfSome left (λ bytes. RefusesEdit s bytes e))
 run_refuses s (Some bytes) items (Err e) is f = subst (λ b. RefusesEdit s b e) is f
 run_refuses s None items (Err e) is f = tt
 run_refuses s left items (Ok x) is f = tt
 
 -- ---- both answers of making
 
-pub edited_ok : (r : ReadLines) → AreHeld r.site.held → IsUnblocked r.site → (y : SiteState) (m : Result Edited EditError) →
-    IfOk m (HasPassed r.site.number r.site.ops r.commands.items y) → IfOk m (λ e. (s : ℕ) (bytes : List ℕ) → HasReadEntries s bytes [] r → Edits s bytes e.text.items e.made)
+pub edited_ok : (r : ReadLines) → AreHeld r.site.held → IsUnblocked r.site
+    → (y : SiteState) (m : Result Edited EditError) →
+    IfOk m (HasPassed r.site.number r.site.ops r.commands.items y)
+    → IfOk m (λ e. (s : ℕ) (bytes : List ℕ) → HasReadEntries s bytes [] r
+    → Edits s bytes e.text.items e.made)
 edited_ok r held none y (Ok e) p = λ s bytes read. edited s bytes r read held none y e p
 edited_ok r held none y (Err e) p = tt
 
-pub refused_err : {X : Type 0} (r : ReadLines) → AreHeld r.site.held → IsUnblocked r.site → (m : Result X EditError) →
-    IfErr m (RefusesMaking r.site.number r.site.ops r.commands.items) → IfErr m (λ e. (s : ℕ) (bytes : List ℕ) → HasReadEntries s bytes [] r → RefusesEdit s bytes e)
+pub refused_err : {X : Type 0} (r : ReadLines) → AreHeld r.site.held → IsUnblocked r.site
+    → (m : Result X EditError) →
+    IfErr m (RefusesMaking r.site.number r.site.ops r.commands.items)
+    → IfErr m (λ e. (s : ℕ) (bytes : List ℕ) → HasReadEntries s bytes [] r → RefusesEdit s bytes e)
 refused_err r held none (Ok x) f = tt
 refused_err r held none (Err e) f = λ s bytes read. refused s bytes r read held none e f

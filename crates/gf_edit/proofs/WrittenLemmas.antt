@@ -19,7 +19,8 @@ use Rattle.gf_replay.specs.Denoting.{denotes_op}
 use Rattle.gf_edit.specs.Making.{written_lines}
 
 -- a written line begins with a bracket
-shown_creation : (i k : Data) (s : Start) (f : Form) → is_blank (compact_text (creation_data i k s f)) ≡ false
+shown_creation : (i k : Data) (s : Start) (f : Form)
+    → is_blank (compact_text (creation_data i k s f)) ≡ false
 shown_creation i k s (Rect width height) = refl
 shown_creation i k s (Polygon ps) = refl
 shown_creation i k s (Circle radius) = refl
@@ -39,9 +40,13 @@ pub record IsWritable (a : Op) : Type 0 where
   pub shown : is_blank (op_text a) ≡ false
   pub denotes : denoted (op_text a) ≡ Ok a
 
-pub written_from : (n : ℕ) (ops : List Op) → ((a : Op) → Contains ops a → IsWritable a) → map (λ (line : ℕ × List ℕ). denoted line.1) (numbered_from n (written_lines ops)) ≡ map denotes_op ops
+pub written_from : (n : ℕ) (ops : List Op) → ((a : Op) → Contains ops a → IsWritable a)
+    → map (λ (line : ℕ × List ℕ). denoted line.1) (numbered_from n (written_lines ops)) ≡ map
+    denotes_op ops
 written_from n [] w = refl
 written_from n (a ∷ ops) w =
     let x = w a (Contains-cons_head a ops) in
     let later = written_from (n + 1) ops (λ b i. w b (Contains-cons_tail a ops b i)) in
-    rw (append_assoc (op_text a) (10 ∷ []) (written_lines ops)) (rw (slice_split_at is_line_end (op_text a) 10 (written_lines ops) x.whole refl) (rw x.shown (rw x.denotes (ap (λ l. Ok a ∷ l) later))))
+    rw (append_assoc (op_text a) (10 ∷ []) (written_lines ops))
+    (rw (slice_split_at is_line_end (op_text a) 10 (written_lines ops) x.whole refl)
+    (rw x.shown (rw x.denotes (ap (λ l. Ok a ∷ l) later))))

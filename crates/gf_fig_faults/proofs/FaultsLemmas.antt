@@ -1,5 +1,7 @@
 -- The faults that are told of a text.
-use Rattle.std.proofs.Common.{◌≡◌, ◌<◌, ◌≤◌, ◌⊎◌, ◌↔◌, ℕ, zero, suc, ◌+◌, ◌-◌, Bool, true, false, List, [], ◌∷◌, ◌++◌, refl, sym, ap, subst, ◌∙◌, arith, inl, inr, Some, None, append_assoc}
+use Rattle.std.proofs.Common.{◌≡◌, ◌<◌, ◌≤◌, ◌⊎◌, ◌↔◌, ℕ, zero, suc, ◌+◌, ◌-◌, Bool, true, false}
+use Rattle.std.proofs.Common.{List, [], ◌∷◌, ◌++◌, refl, sym, ap, subst, ◌∙◌, arith, inl, inr, Some}
+use Rattle.std.proofs.Common.{None, append_assoc}
 use Rattle.std.specs.Prelude.{Option}
 use Rattle.std.proofs.lemmas.List.{append-nil}
 use Rattle.gf_fig_read.specs.FigGrammar.{Reads}
@@ -23,7 +25,8 @@ module _ (m k : ℕ) (last : Option ℕ) (text : List ℕ) where
   at_most l = subst (λ n. AreFaults n last text []) (no_more m k l) (full last text)
 
   pub at_none : k < m → HasNoneBehind last text → AreFaults (m - k) last text []
-  at_none l h = subst (λ n. AreFaults n last text []) (one_more m k l) (none (m - (k + 1)) last text h)
+  at_none l h = subst (λ n. AreFaults n last text []) (one_more m k l)
+      (none (m - (k + 1)) last text h)
 
   pub at_end : (f : DrawingFault) → k < m → IsFirstBehind last text f → goes_on text f ≡ false
       → AreFaults (m - k) last text (f ∷ [])
@@ -81,7 +84,8 @@ module _ (text : List ℕ) (told : List DrawingFault) (m k : ℕ) (last : Option
     (on : (rest : List DrawingFault) → AreFaults (m - k) last left rest
     → AreFaults m None text (told ++ rest)) where
   told_all : AreFaults (m - k) last left [] → AreFaults m None text told
-  told_all a = subst (λ (fs : List DrawingFault). AreFaults m None text fs) (append-nil told) (on [] a)
+  told_all a = subst (λ (fs : List DrawingFault). AreFaults m None text fs) (append-nil told)
+      (on [] a)
 
   pub all_told : m ≤ k → AreFaults m None text told
   all_told l = told_all (at_most m k last left l)

@@ -1,5 +1,6 @@
 -- The comments of a named text are whole comment lines.
-use Rattle.std.proofs.Common.{◌≡◌, ℕ, zero, suc, ◌+◌, ◌/◌, ◌%◌, Bool, true, false, List, [], ◌∷◌, ◌++◌, refl, sym}
+use Rattle.std.proofs.Common.{◌≡◌, ℕ, zero, suc, ◌+◌, ◌/◌, ◌%◌, Bool, true, false, List, [], ◌∷◌}
+use Rattle.std.proofs.Common.{◌++◌, refl, sym}
 use Rattle.std.proofs.Common.{ap, ◌∙◌, inl, inr, arith, append_assoc, nat_lt}
 use Rattle.std.specs.Prelude.{flat_map, not, codes, ◌==◌}
 use Rattle.std.specs.Fmt.{decimal, digit_glyph, digits, digits_onto}

@@ -1,5 +1,6 @@
 -- The names that are found among the operations of all visible versions tell each from the others.
-use Rattle.std.proofs.Common.{◌≡◌, Bool, false, ℕ, zero, suc, ◌+◌, ◌<◌, ◌≤◌, List, [], ◌∷◌, ◌++◌, get_or, length, refl, sym, ap}
+use Rattle.std.proofs.Common.{◌≡◌, Bool, false, ℕ, zero, suc, ◌+◌, ◌<◌, ◌≤◌, List, [], ◌∷◌, ◌++◌}
+use Rattle.std.proofs.Common.{get_or, length, refl, sym, ap}
 use Rattle.std.proofs.Common.{subst, ◌∙◌, inl, inr, add-one, append-nil, arith, take}
 use Rattle.std.specs.Prelude.{◌↔◌, ◌⊎◌, Contains, IfOk, IsTrue, Result, Ok, Err, flat_map}
 use Rattle.std.specs.List.{AllZip}
@@ -28,7 +29,8 @@ use Rattle.gf_fig_named.specs.Others.{AreElsewhere, IsNameAmong, ids_of}
 -- ---- one more of a list
 
 -- x stands in xs at place k
-module _ {X : Type 0} (xs : List X) (k : ℕ) (x : X) (l : k < length xs) (is : x ≡ get_or xs k x) where
+module _ {X : Type 0} (xs : List X) (k : ℕ) (x : X) (l : k < length xs)
+    (is : x ≡ get_or xs k x) where
   pub taken : take (k + 1) xs ≡ take k xs ++ x ∷ []
   taken = rw add-one (take-suc xs k x l ∙ ap (λ y. take k xs ++ y ∷ []) (sym is))
 
@@ -57,7 +59,10 @@ module _ {X : Type 0} (P : X → Type 0) (xs : List X) (k : ℕ) (x : X) (l : k 
       let one = taken xs k x l is in
       rw (e, one) (
         (λ c. elim (snoc_cases old x y c) [
-          | inl s ↦ (subst (Contains (take k xs ++ x ∷ [])) (sym s) (Contains-push (take k xs) x), subst P (sym s) p)
+          | inl s ↦ (
+            subst (Contains (take k xs ++ x ∷ [])) (sym s) (Contains-push (take k xs) x),
+            subst P (sym s) p,
+          )
           | inr o ↦ let b = (so y).0 o in (Contains-append_left (take k xs) (x ∷ []) y b.0, b.1)
         ]),
         (λ b. elim (snoc_cases (take k xs) x y b.0) [
@@ -267,8 +272,10 @@ module _ (h : List Op) (valid : IsValid h) where
       object = n.object;
       telling = record {
         exactly = λ i. (
-          (λ c. tells_other ids shown item listed n.others n.elsewhere i ((n.telling.exactly i).0 c)),
-          (λ t. (n.telling.exactly i).1 (tells_back ids shown item listed n.others n.elsewhere i t)),
+          (λ c. tells_other ids shown item listed n.others n.elsewhere i
+              ((n.telling.exactly i).0 c)),
+          (λ t. (n.telling.exactly i).1 (tells_back ids shown item listed n.others n.elsewhere i
+              t)),
         );
         rising = n.telling.rising;
       };

@@ -27,7 +27,8 @@ use Rattle.gf_figures.specs.declared.figure.Figure.{Figure}
 use Rattle.gf_figures.specs.Colours.{Table, rgb_of}
 use Rattle.gf_figures.specs.DrawingState.{DrawingState, IsLawfulDrawing, IsLawfulFigure}
 use Rattle.gf_figures.specs.Outlined.{figure_outlined, outlined}
-use Rattle.gf_drawing.specs.CanonicalDrawing.{Fits, IsCanonical, canonical_drawing, canonical_figure}
+use Rattle.gf_drawing.specs.CanonicalDrawing.{Fits, IsCanonical, canonical_drawing}
+use Rattle.gf_drawing.specs.CanonicalDrawing.{canonical_figure}
 use Rattle.gf_drawing.specs.CanonicalDrawing.{PaintsAsFig, canonical_figures, colours_of}
 use Rattle.gf_drawing.proofs.CanonicalColour.{canonical_colour-outlined}
 use Rattle.gf_fig_tokens.specs.Layout.{lines, object_tokens, plain}
@@ -43,7 +44,8 @@ use Rattle.gf_fig_write.proofs.CanonicalLemmas.{lawful_canonical, seen_bytes, ta
 use Rattle.gf_fig_write.proofs.ReadingBack.{DrawsLawfully, text_reads}
 use Rattle.gf_fig_named.specs.declared.naming.Name.{Name}
 use Rattle.gf_fig_named.specs.Comments.{name_lines}
-use Rattle.gf_fig_named.specs.NamedText.{IsNameOf, IsNamedText, first_lines, known_lines, named_lines}
+use Rattle.gf_fig_named.specs.NamedText.{IsNameOf, IsNamedText, first_lines, known_lines}
+use Rattle.gf_fig_named.specs.NamedText.{named_lines}
 use Rattle.gf_fig_named.specs.NamedText.{named_text}
 use Rattle.gf_fig_named.specs.Raised.{figure_raised, named_depth, raised}
 use Rattle.gf_fig_named.proofs.CommentLemmas.{known_silent, name_silent}
@@ -160,7 +162,8 @@ module _ {S : Type 0} (outline : S → Outline) where
       let flat : All (IsLawfulFigure d.table) e.figures =
       All-map (IsLawfulFigure d.table) (figure_outlined outline) d.figures lawful.figures in
       let low : All (IsLawfulFigure d.table) (outlined outline (raised g d)).figures =
-      All-map (IsLawfulFigure d.table) (figure_outlined outline) (raised g d).figures deep.figures in
+      All-map (IsLawfulFigure d.table) (figure_outlined outline) (raised g d).figures deep.figures
+      in
       let under : All (IsLawfulFigure d.table) (raised g e).figures =
       subst (λ (k : DrawingState Outline). All (IsLawfulFigure d.table) k.figures)
       (outlined-raised g d) low in

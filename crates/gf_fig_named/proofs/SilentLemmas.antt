@@ -6,7 +6,8 @@ use Rattle.std.specs.List.{list_all, onto_first}
 use Rattle.std.specs.Cmp.Lexicographic.{pointwise}
 use Rattle.std.proofs.lemmas.Bool.{cases_Bool, and_parts}
 use Rattle.std.proofs.lemmas.List.Elements.{filter-append}
-use Rattle.gf_fig_tokens.specs.Layout.{Token, after_resolution, is_comment, is_line_feed, is_version}
+use Rattle.gf_fig_tokens.specs.Layout.{Token, after_resolution, is_comment, is_line_feed}
+use Rattle.gf_fig_tokens.specs.Layout.{is_version}
 use Rattle.gf_fig_tokens.specs.Layout.{lines, object_tokens, plain, plain_lines, tokens}
 use Rattle.gf_fig_tokens.specs.declared.faults.FigFault.{FigFault}
 use Rattle.gf_fig_tokens.specs.declared.faults.FigFault.TheVariants as fault

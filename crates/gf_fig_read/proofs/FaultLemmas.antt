@@ -1,14 +1,19 @@
--- Which faults there are: three before the objects, those of objects, and want of memory, which is none of a text.
-use Rattle.std.proofs.Common.{◌≡◌, ◌≢◌, ℕ, zero, suc, Bool, true, false, List, [], ◌∷◌, length, drop, Option, Some, None, Result, Ok, Err, refl, ap, subst, cond, arith, inl, inr}
+-- Which faults there are: three before the objects, those of objects, and want of memory, which is
+-- none of a text.
+use Rattle.std.proofs.Common.{◌≡◌, ◌≢◌, ℕ, zero, suc, Bool, true, false, List, [], ◌∷◌, length}
+use Rattle.std.proofs.Common.{drop, Option, Some, None, Result, Ok, Err, refl, ap, subst, cond}
+use Rattle.std.proofs.Common.{arith, inl, inr}
 use Rattle.std.specs.Prelude.{not, ◌&&◌, ◌==◌, nat_lt, IsTrue, ◌↔◌, pos, nat_abs}
 use Rattle.std.proofs.lemmas.Bool.{and_parts}
 use Rattle.gf_shape.specs.Reach.{is_reached}
 use Rattle.gf_figures.specs.Colours.{Table}
 use Rattle.gf_fig_tokens.specs.declared.faults.FigFault.{FigFault}
 use Rattle.gf_fig_tokens.specs.declared.faults.FigFault.TheVariants as fault
-use Rattle.gf_fig_tokens.specs.Layout.{Token, object_tokens, is_version, plain_lines, tokens, after_resolution}
+use Rattle.gf_fig_tokens.specs.Layout.{Token, object_tokens, is_version, plain_lines, tokens}
+use Rattle.gf_fig_tokens.specs.Layout.{after_resolution}
 use Rattle.gf_fig_tokens.specs.Forms.{whole, decimal, angle, colour}
-use Rattle.gf_fig_tokens.specs.Fields.{Read, Reader, ◌>>=◌, read_on, field, any, check, checked, give, is_in, natural, no_angle, coordinate, point, points}
+use Rattle.gf_fig_tokens.specs.Fields.{Read, Reader, ◌>>=◌, read_on, field, any, check, checked}
+use Rattle.gf_fig_tokens.specs.Fields.{give, is_in, natural, no_angle, coordinate, point, points}
 use Rattle.gf_fig_read.specs.Styles.{known_colour, is_known, filling, style}
 use Rattle.gf_fig_read.specs.Outlines.{count, chain, disc, ellipse, oval}
 use Rattle.gf_fig_read.specs.Objects.{Drawn, colour_object, ellipse_object, polyline_object, object}
@@ -38,19 +43,23 @@ fault_or f (Err g) = g
 
 -- ---- fields
 
-passed : {A : Type 0} (p : Bool) (x : A × List Token) (wrong f : FigFault) → IsOfObject wrong → cond {A = Read A} p (Ok x) (Err wrong) ≡ Err f → IsOfObject f
+passed : {A : Type 0} (p : Bool) (x : A × List Token) (wrong f : FigFault) → IsOfObject wrong
+    → cond {A = Read A} p (Ok x) (Err wrong) ≡ Err f → IsOfObject f
 passed true x wrong f h e = absurd (cc)
 passed false x wrong f h e = subst IsOfObject (ap (fault_or wrong) e) h
 
-of_checked : {A : Type 0} (o : Option A) (passes : A → Bool) (wrong f : FigFault) (ts : List Token) → IsOfObject wrong → checked o passes wrong ts ≡ Err f → IsOfObject f
+of_checked : {A : Type 0} (o : Option A) (passes : A → Bool) (wrong f : FigFault) (ts : List Token)
+    → IsOfObject wrong → checked o passes wrong ts ≡ Err f → IsOfObject f
 of_checked None passes wrong f ts h e = subst IsOfObject (ap (fault_or wrong) e) refl
 of_checked (Some a) passes wrong f ts h e = passed (passes a) (a, ts) wrong f h e
 
-of_field : {A : Type 0} (form : Token → Option A) (passes : A → Bool) (wrong f : FigFault) (ts : List Token) → IsOfObject wrong → field form passes wrong ts ≡ Err f → IsOfObject f
+of_field : {A : Type 0} (form : Token → Option A) (passes : A → Bool) (wrong f : FigFault)
+    (ts : List Token) → IsOfObject wrong → field form passes wrong ts ≡ Err f → IsOfObject f
 of_field form passes wrong f [] h e = subst IsOfObject (ap (fault_or wrong) e) refl
 of_field form passes wrong f (t ∷ ts) h e = of_checked (form t) passes wrong f ts h e
 
-blames_field : {A : Type 0} (form : Token → Option A) (passes : A → Bool) (wrong : FigFault) → IsOfObject wrong → Blames (field form passes wrong)
+blames_field : {A : Type 0} (form : Token → Option A) (passes : A → Bool) (wrong : FigFault)
+    → IsOfObject wrong → Blames (field form passes wrong)
 blames_field form passes wrong h = record { of = λ ts f e. of_field form passes wrong f ts h e }
 
 blames_check : (p : Bool) (wrong : FigFault) → IsOfObject wrong → Blames (check p wrong)
@@ -61,18 +70,25 @@ blames_give a = record { of = λ ts f e. absurd (cc) }
 
 -- ---- one after the other
 
-of_either : {A B : Type 0} (first : Reader A) (next : A → Reader B) (ts : List Token) (f : FigFault) → Blames first → ((a : A) → Blames (next a)) → (r : Read A) → first ts ≡ r → read_on r next ≡ Err f → IsOfObject f
+of_either : {A B : Type 0} (first : Reader A) (next : A → Reader B) (ts : List Token) (f : FigFault)
+    → Blames first → ((a : A) → Blames (next a)) → (r : Read A) → first ts ≡ r
+    → read_on r next ≡ Err f → IsOfObject f
 of_either first next ts f h k (Ok x) is e = (k x.0).of x.1 f e
 of_either first next ts f h k (Err g) is e = subst IsOfObject (ap (fault_or g) e) (h.of ts g is)
 
-blames_bind : {A B : Type 0} (first : Reader A) (next : A → Reader B) → Blames first → ((a : A) → Blames (next a)) → Blames (first >>= next)
-blames_bind first next h k = record { of = λ ts f e. of_either first next ts f h k (first ts) refl e }
+blames_bind : {A B : Type 0} (first : Reader A) (next : A → Reader B) → Blames first
+    → ((a : A) → Blames (next a)) → Blames (first >>= next)
+blames_bind first next h k = record {
+  of = λ ts f e. of_either first next ts f h k (first ts) refl e;
+}
 
 -- ---- the readers
 
-blames_natural : (low high : ℕ) (wrong : FigFault) → IsOfObject wrong → Blames (natural low high wrong)
+blames_natural : (low high : ℕ) (wrong : FigFault) → IsOfObject wrong
+    → Blames (natural low high wrong)
 unfolding natural
-blames_natural low high wrong h = blames_bind _ _ (blames_field whole (is_in (pos low) (pos high)) wrong h) (λ n. blames_give (nat_abs n))
+blames_natural low high wrong h = blames_bind _ _ (blames_field whole (is_in (pos low) (pos high))
+    wrong h) (λ n. blames_give (nat_abs n))
 
 any_whole : Blames (any whole)
 any_whole = blames_field whole (λ _. true) fault.Token refl
@@ -88,53 +104,78 @@ blames_coordinate = blames_field whole is_reached fault.Range refl
 
 blames_point : Blames point
 unfolding point
-blames_point = blames_bind _ _ blames_coordinate (λ x. blames_bind _ _ blames_coordinate (λ y. blames_give _))
+blames_point = blames_bind _ _ blames_coordinate
+    (λ x. blames_bind _ _ blames_coordinate (λ y. blames_give _))
 
 blames_points : (n : ℕ) → Blames (points n)
 unfolding points
 blames_points zero = blames_give []
-blames_points (suc n) = blames_bind _ _ blames_point (λ p. blames_bind _ _ (blames_points n) (λ ps. blames_give (p ∷ ps)))
+blames_points (suc n) = blames_bind _ _ blames_point
+    (λ p. blames_bind _ _ (blames_points n) (λ ps. blames_give (p ∷ ps)))
 
 blames_known : (table : Table) → Blames (known_colour table)
 unfolding known_colour
-blames_known table = blames_bind _ _ (blames_field whole (is_known table) fault.NoColour refl) (λ n. blames_give (nat_abs n))
+blames_known table = blames_bind _ _ (blames_field whole (is_known table) fault.NoColour refl)
+    (λ n. blames_give (nat_abs n))
 
 blames_filling : (table : Table) → Blames (filling table)
 unfolding filling
-blames_filling table = blames_bind _ _ any_whole (λ _. blames_bind _ _ (blames_natural 0 0 fault.Outline refl) (λ _. blames_bind _ _ any_whole (λ _. blames_known table)))
+blames_filling table = blames_bind _ _ any_whole
+    (λ _. blames_bind _ _ (blames_natural 0 0 fault.Outline refl)
+    (λ _. blames_bind _ _ any_whole (λ _. blames_known table)))
 
 blames_style : (least most : ℕ) (table : Table) → Blames (style least most table)
 unfolding style
 blames_style least most table =
-    blames_bind _ _ (blames_natural least most fault.SubType refl) (λ _. blames_bind _ _ (blames_filling table) (λ _. blames_bind _ _ (blames_natural 0 999 fault.Depth refl) (λ _.
-    blames_bind _ _ any_whole (λ _. blames_bind _ _ (blames_natural 20 20 fault.Fill refl) (λ _. blames_bind _ _ any_decimal (λ _. blames_give _))))))
+    blames_bind _ _ (blames_natural least most fault.SubType refl)
+    (λ _. blames_bind _ _ (blames_filling table)
+    (λ _. blames_bind _ _ (blames_natural 0 999 fault.Depth refl) (λ _.
+    blames_bind _ _ any_whole (λ _. blames_bind _ _ (blames_natural 20 20 fault.Fill refl)
+    (λ _. blames_bind _ _ any_decimal (λ _. blames_give _))))))
 
 blames_count : (boxed : Bool) → Blames (count boxed)
 unfolding count
 blames_count boxed =
-    blames_bind _ _ any_whole (λ _. blames_bind _ _ any_whole (λ _. blames_bind _ _ any_whole (λ _. blames_bind _ _ (blames_natural 0 0 fault.Arrow refl) (λ _.
-    blames_bind _ _ (blames_natural 0 0 fault.Arrow refl) (λ _. blames_natural _ _ fault.Count refl)))))
+    blames_bind _ _ any_whole
+    (λ _. blames_bind _ _ any_whole
+    (λ _. blames_bind _ _ any_whole (λ _. blames_bind _ _ (blames_natural 0 0 fault.Arrow refl)
+    (λ _.
+    blames_bind _ _ (blames_natural 0 0 fault.Arrow refl)
+    (λ _. blames_natural _ _ fault.Count refl)))))
 
 blames_chain : (boxed : Bool) → Blames (chain boxed)
 unfolding chain
-blames_chain boxed = blames_bind _ _ (blames_count boxed) (λ n. blames_bind _ _ (blames_points n) (λ ps. blames_bind _ _ (blames_check _ fault.Open refl) (λ _. blames_give _)))
+blames_chain boxed = blames_bind _ _ (blames_count boxed)
+    (λ n. blames_bind _ _ (blames_points n) (λ ps. blames_bind _ _ (blames_check _ fault.Open refl)
+    (λ _. blames_give _)))
 
 blames_disc : Blames disc
 unfolding disc
 blames_disc =
-    blames_bind _ _ any_whole (λ _. blames_bind _ _ any_decimal (λ _. blames_bind _ _ blames_point (λ c. blames_bind _ _ (blames_natural 1 10000000 fault.Radius refl) (λ r.
-    blames_bind _ _ (blames_natural r r fault.Radius refl) (λ _. blames_bind _ _ any_whole (λ _. blames_bind _ _ any_whole (λ _. blames_bind _ _ any_whole (λ _.
+    blames_bind _ _ any_whole
+    (λ _. blames_bind _ _ any_decimal
+    (λ _. blames_bind _ _ blames_point
+    (λ c. blames_bind _ _ (blames_natural 1 10000000 fault.Radius refl) (λ r.
+    blames_bind _ _ (blames_natural r r fault.Radius refl)
+    (λ _. blames_bind _ _ any_whole
+    (λ _. blames_bind _ _ any_whole (λ _. blames_bind _ _ any_whole (λ _.
     blames_bind _ _ any_whole (λ _. blames_give _)))))))))
 
 blames_no_angle : Blames no_angle
 unfolding no_angle
-blames_no_angle = blames_bind _ _ (blames_field angle (λ _. true) fault.Token refl) (λ level. blames_check level fault.Angle refl)
+blames_no_angle = blames_bind _ _ (blames_field angle (λ _. true) fault.Token refl)
+    (λ level. blames_check level fault.Angle refl)
 
 blames_oval : Blames oval
 unfolding oval
 blames_oval =
-    blames_bind _ _ any_whole (λ _. blames_bind _ _ blames_no_angle (λ _. blames_bind _ _ blames_point (λ c. blames_bind _ _ (blames_natural 1 10000000 fault.Radius refl) (λ r.
-    blames_bind _ _ (blames_natural 1 10000000 fault.Radius refl) (λ _. blames_bind _ _ any_whole (λ _. blames_bind _ _ any_whole (λ _. blames_bind _ _ any_whole (λ _.
+    blames_bind _ _ any_whole
+    (λ _. blames_bind _ _ blames_no_angle
+    (λ _. blames_bind _ _ blames_point
+    (λ c. blames_bind _ _ (blames_natural 1 10000000 fault.Radius refl) (λ r.
+    blames_bind _ _ (blames_natural 1 10000000 fault.Radius refl)
+    (λ _. blames_bind _ _ any_whole
+    (λ _. blames_bind _ _ any_whole (λ _. blames_bind _ _ any_whole (λ _.
     blames_bind _ _ any_whole (λ _. blames_give _)))))))))
 
 blames_either : (two_radii : Bool) → Blames (cond two_radii oval disc)
@@ -148,29 +189,36 @@ blames_ellipse sub_type = blames_either _
 blames_colour_object : (d : Drawn) → Blames (colour_object d)
 unfolding colour_object
 blames_colour_object d =
-    blames_bind _ _ (blames_check _ fault.LateColour refl) (λ _. blames_bind _ _ (blames_natural 32 543 fault.Range refl) (λ n. blames_bind _ _ (blames_check _ fault.ColourTwice refl) (λ _.
+    blames_bind _ _ (blames_check _ fault.LateColour refl)
+    (λ _. blames_bind _ _ (blames_natural 32 543 fault.Range refl)
+    (λ n. blames_bind _ _ (blames_check _ fault.ColourTwice refl) (λ _.
     blames_bind _ _ any_colour (λ c. blames_give _))))
 
 blames_ellipse_object : (d : Drawn) → Blames (ellipse_object d)
 unfolding ellipse_object
-blames_ellipse_object d = blames_bind _ _ (blames_style 1 4 d.table) (λ s. blames_bind _ _ (blames_ellipse s.sub_type) (λ o. blames_give _))
+blames_ellipse_object d = blames_bind _ _ (blames_style 1 4 d.table)
+    (λ s. blames_bind _ _ (blames_ellipse s.sub_type) (λ o. blames_give _))
 
 blames_polyline_object : (d : Drawn) → Blames (polyline_object d)
 unfolding polyline_object
-blames_polyline_object d = blames_bind _ _ (blames_style 2 3 d.table) (λ s. blames_bind _ _ (blames_chain (s.sub_type == 2)) (λ o. blames_give _))
+blames_polyline_object d = blames_bind _ _ (blames_style 2 3 d.table)
+    (λ s. blames_bind _ _ (blames_chain (s.sub_type == 2)) (λ o. blames_give _))
 
-blames_of_code : (d : Drawn) (zero_is one_is : Bool) → Blames (cond zero_is (colour_object d) (cond one_is (ellipse_object d) (polyline_object d)))
+blames_of_code : (d : Drawn) (zero_is one_is : Bool)
+    → Blames (cond zero_is (colour_object d) (cond one_is (ellipse_object d) (polyline_object d)))
 blames_of_code d true one_is = blames_colour_object d
 blames_of_code d false true = blames_ellipse_object d
 blames_of_code d false false = blames_polyline_object d
 
 blames_object : (d : Drawn) → Blames (object d)
 unfolding object
-blames_object d = blames_bind _ _ (blames_natural 0 2 fault.Object refl) (λ code. blames_of_code d (code == 0) (code == 1))
+blames_object d = blames_bind _ _ (blames_natural 0 2 fault.Object refl)
+    (λ code. blames_of_code d (code == 0) (code == 1))
 
 -- ---- before the objects
 
-of_resolution : (p : Bool) (ts : List Token) (f : FigFault) → cond {A = Result (List Token) FigFault} p (Ok ts) (Err fault.Resolution) ≡ Err f → IsOfFront f
+of_resolution : (p : Bool) (ts : List Token) (f : FigFault)
+    → cond {A = Result (List Token) FigFault} p (Ok ts) (Err fault.Resolution) ≡ Err f → IsOfFront f
 of_resolution true ts f e = absurd (cc)
 of_resolution false ts f e = subst IsOfFront (ap (fault_or f) e) refl
 
@@ -179,14 +227,17 @@ of_first_two [] f e = subst IsOfFront (ap (fault_or f) e) refl
 of_first_two (t ∷ []) f e = subst IsOfFront (ap (fault_or f) e) refl
 of_first_two (t ∷ u ∷ ts) f e = of_resolution _ ts f e
 
-of_lines : (p q : Bool) (ts : List Token) (f : FigFault) → cond {A = Result (List Token) FigFault} p (Err fault.Version) (cond q (Err fault.Header) (after_resolution ts)) ≡ Err f → IsOfFront f
+of_lines : (p q : Bool) (ts : List Token) (f : FigFault)
+    → cond {A = Result (List Token) FigFault} p (Err fault.Version)
+    (cond q (Err fault.Header) (after_resolution ts)) ≡ Err f → IsOfFront f
 of_lines true q ts f e = subst IsOfFront (ap (fault_or f) e) refl
 of_lines false true ts f e = subst IsOfFront (ap (fault_or f) e) refl
 of_lines false false ts f e = of_first_two ts f e
 
 of_front : (text : List ℕ) (f : FigFault) → object_tokens text ≡ Err f → IsOfFront f
 unfolding object_tokens
-of_front text f e = of_lines (not (is_version text)) (nat_lt (length (plain_lines text)) 7) (tokens (drop 7 (plain_lines text))) f e
+of_front text f e = of_lines (not (is_version text)) (nat_lt (length (plain_lines text)) 7)
+    (tokens (drop 7 (plain_lines text))) f e
 
 -- ---- of a text
 
@@ -194,23 +245,30 @@ not_both : (b : Bool) → not b ≡ true → b ≡ true → {X : Type 0} → X
 not_both true h k = absurd (cc)
 not_both false h k = absurd (cc)
 
-pub front_has_no_object : (text : List ℕ) (f : FigFault) (n : ℕ) → Fails text f n → n ≡ 0 ↔ IsTrue (is_of_header f)
+pub front_has_no_object : (text : List ℕ) (f : FigFault) (n : ℕ) → Fails text f n
+    → n ≡ 0 ↔ IsTrue (is_of_header f)
 front_has_no_object text f n (inl p) = (λ e. of_front text f p.0, λ h. p.1)
 front_has_no_object text f n (inr p) =
     let s = p.2 in
-    let q = and_parts (not (is_of_header f)) (not (is_memory f)) ((blames_object s.before).of s.left f s.wrong) in
+    let q = and_parts (not (is_of_header f)) (not (is_memory f))
+    ((blames_object s.before).of s.left f s.wrong) in
     let m = s.number in
     (λ e. absurd (omega (arith, e, m)), λ h. not_both (is_of_header f) q.0 h)
 
 no_memory_in_front : (f : FigFault) → f ≡ fault.OutOfMemory → IsOfFront f → {X : Type 0} → X
-no_memory_in_front f e h = let k : is_of_header fault.OutOfMemory ≡ true = subst IsOfFront e h in absurd (cc)
+no_memory_in_front f e h = let k : is_of_header fault.OutOfMemory ≡ true = subst IsOfFront e h in
+    absurd (cc)
 
-no_memory_in_object : (f : FigFault) → f ≡ fault.OutOfMemory → not (is_memory f) ≡ true → {X : Type 0} → X
-no_memory_in_object f e h = let k : not (is_memory fault.OutOfMemory) ≡ true = subst (λ g. not (is_memory g) ≡ true) e h in absurd (cc)
+no_memory_in_object : (f : FigFault) → f ≡ fault.OutOfMemory → not (is_memory f) ≡ true
+    → {X : Type 0} → X
+no_memory_in_object f e h = let k : not (is_memory fault.OutOfMemory) ≡ true = subst
+    (λ g. not (is_memory g) ≡ true) e h in absurd (cc)
 
-pub memory_is_no_fault : (text : List ℕ) (f : FigFault) (n : ℕ) → Fails text f n → f ≢ fault.OutOfMemory
+pub memory_is_no_fault : (text : List ℕ) (f : FigFault) (n : ℕ) → Fails text f n
+    → f ≢ fault.OutOfMemory
 memory_is_no_fault text f n (inl p) e = no_memory_in_front f e (of_front text f p.0)
 memory_is_no_fault text f n (inr p) e =
     let s = p.2 in
-    let q = and_parts (not (is_of_header f)) (not (is_memory f)) ((blames_object s.before).of s.left f s.wrong) in
+    let q = and_parts (not (is_of_header f)) (not (is_memory f))
+    ((blames_object s.before).of s.left f s.wrong) in
     no_memory_in_object f e q.1

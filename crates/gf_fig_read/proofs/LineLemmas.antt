@@ -70,7 +70,8 @@ pub behind_fault : (all left : List Token) (d : Drawn) (n : ℕ) (f : FigFault)
     → Leads nothing all d left → object d left ≡ Err f → made_of d + 1 < n → Finds None all n
 behind_fault all left d n f led wrong far behind b =
     let m = b.number in
-    let s = stopped nothing d b.before all left behind f led wrong b.objects (omega (arith, far, m)) in
+    let s = stopped nothing d b.before all left behind f led wrong b.objects (omega (arith, far, m))
+    in
     let same = s.0 in
     absurd (omega (arith, same, far, m))
 

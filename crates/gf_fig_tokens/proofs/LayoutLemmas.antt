@@ -1,12 +1,15 @@
 -- Lines and tokens, cut off one by one.
-use Rattle.std.proofs.Common.{◌≡◌, ◌≢◌, ◌≤◌, ℕ, zero, suc, add-one, ◌+◌, ◌<◌, Bool, true, false, List, [], ◌∷◌, length, length-append, take, drop, Some, None, refl, sym, ap, ◌∙◌, cond, ltb, arith, inl, inr}
+use Rattle.std.proofs.Common.{◌≡◌, ◌≢◌, ◌≤◌, ℕ, zero, suc, add-one, ◌+◌, ◌<◌, Bool, true, false}
+use Rattle.std.proofs.Common.{List, [], ◌∷◌, length, length-append, take, drop, Some, None, refl}
+use Rattle.std.proofs.Common.{sym, ap, ◌∙◌, cond, ltb, arith, inl, inr}
 use Rattle.std.specs.Prelude.{not, filter}
 use Rattle.std.proofs.lemmas.Bool.{cases_Bool, ltb-false}
 use Rattle.std.proofs.lemmas.List.{nil_from_length, length-drop}
 use Rattle.std.proofs.lemmas.List.Sums.{prefix_len-le-length}
 use Rattle.std.proofs.lemmas.Iterator.Adapters.{position_from-zero}
 use Rattle.std.specs.List.{slice_split, onto_first, position_from, position_or_len}
-use Rattle.gf_fig_tokens.specs.Layout.{is_line_feed, is_blank, is_filled, is_comment, lines, plain, words, tokens}
+use Rattle.gf_fig_tokens.specs.Layout.{is_line_feed, is_blank, is_filled, is_comment, lines, plain}
+use Rattle.gf_fig_tokens.specs.Layout.{words, tokens}
 use Rattle.gf_fig_tokens.specs.Stepping.{after_blanks}
 
 -- ---- places
@@ -19,15 +22,20 @@ none_is : (b : Bool) (n : ℕ) → cond b (Some n) None ≡ None → b ≡ false
 none_is true n e = absurd (cc)
 none_is false n e = refl
 
-pub found_at : (p : ℕ → Bool) (bs : List ℕ) (k : ℕ) → position_from p 0 bs ≡ Some k → (k ≡ position_or_len p bs) × (k ≤ length bs)
+pub found_at : (p : ℕ → Bool) (bs : List ℕ) (k : ℕ) → position_from p 0 bs ≡ Some k
+    → (k ≡ position_or_len p bs) × (k ≤ length bs)
 found_at p bs k e =
-    let n : position_or_len p bs ≡ k = some_is (ltb (position_or_len p bs) (length bs)) (position_or_len p bs) k (position_from-zero p bs ∙ e) in
+    let n : position_or_len p bs ≡ k = some_is (ltb (position_or_len p bs) (length bs))
+    (position_or_len p bs) k (position_from-zero p bs ∙ e) in
     let le : position_or_len p bs ≤ length bs = prefix_len-le-length (λ b. not (p b)) bs in
     (sym n, omega (arith, n, le))
 
-pub found_nowhere : (p : ℕ → Bool) (bs : List ℕ) → position_from p 0 bs ≡ None → length bs ≡ position_or_len p bs
+pub found_nowhere : (p : ℕ → Bool) (bs : List ℕ) → position_from p 0 bs ≡ None
+    → length bs ≡ position_or_len p bs
 found_nowhere p bs e =
-    let out = ltb-false (position_or_len p bs) (length bs) (none_is (ltb (position_or_len p bs) (length bs)) (position_or_len p bs) (position_from-zero p bs ∙ e)) in
+    let out = ltb-false (position_or_len p bs) (length bs)
+    (none_is (ltb (position_or_len p bs) (length bs)) (position_or_len p bs)
+    (position_from-zero p bs ∙ e)) in
     let le : position_or_len p bs ≤ length bs = prefix_len-le-length (λ b. not (p b)) bs in
     omega (arith, out, le)
 
@@ -35,12 +43,14 @@ found_nowhere p bs e =
 
 pub shorter : (text : List ℕ) (k : ℕ) → text ≢ [] → length (drop 1 (drop k text)) < length text
 shorter [] k n = absurd (n refl)
-shorter (b ∷ bs) k n = let e = length-drop 1 (drop k (b ∷ bs)) in let f = length-drop k (b ∷ bs) in omega (arith, e, f)
+shorter (b ∷ bs) k n = let e = length-drop 1 (drop k (b ∷ bs)) in let f = length-drop k (b ∷ bs) in
+    omega (arith, e, f)
 
 one_more : (n : ℕ) → 1 + n ≡ suc n
 one_more n = omega arith
 
-pub lines_cut : (text : List ℕ) → text ≢ [] → lines text ≡ take (position_or_len is_line_feed text) text ∷ lines (drop 1 (drop (position_or_len is_line_feed text) text))
+pub lines_cut : (text : List ℕ) → text ≢ [] → lines text ≡ take (position_or_len is_line_feed text)
+    text ∷ lines (drop 1 (drop (position_or_len is_line_feed text) text))
 lines_cut [] n = absurd (n refl)
 lines_cut (b ∷ []) n = elim (cases_Bool (is_line_feed b)) [
   | inl t ↦ rw t refl
@@ -63,27 +73,38 @@ parts : (line : List ℕ) → Parts line
 parts [] = record { others = []; split = refl; behind = refl }
 parts (b ∷ bs) = elim (cases_Bool (is_blank b)) [
   | inl t ↦ record { others = slice_split is_blank bs; split = rw t refl; behind = rw (t, t) refl }
-  | inr t ↦ let p = parts bs in record { others = p.others; split = rw (t, one_more) (ap (onto_first b) p.split); behind = rw (t, one_more) p.behind }
+  | inr t ↦ let p = parts bs in record {
+    others = p.others;
+    split = rw (t, one_more) (ap (onto_first b) p.split);
+    behind = rw (t, one_more) p.behind;
+  }
 ]
 
-first_word : (b : ℕ) (bs : List ℕ) → is_blank b ≡ false → words (b ∷ bs) ≡ take (position_or_len is_blank (b ∷ bs)) (b ∷ bs) ∷ words (drop (position_or_len is_blank (b ∷ bs)) (b ∷ bs))
+first_word : (b : ℕ) (bs : List ℕ) → is_blank b ≡ false
+    → words (b ∷ bs) ≡ take (position_or_len is_blank (b ∷ bs)) (b ∷ bs) ∷ words
+    (drop (position_or_len is_blank (b ∷ bs)) (b ∷ bs))
 first_word b bs t = let p = parts bs in rw (t, one_more, p.split, p.behind) refl
 
 blank_first : (b : ℕ) (bs : List ℕ) → is_blank b ≡ true → words (b ∷ bs) ≡ words bs
 blank_first b bs t = rw t refl
 
-pub words_cut : (line : List ℕ) → after_blanks line ≢ [] → words line ≡ take (position_or_len is_blank (after_blanks line)) (after_blanks line) ∷ words (drop (position_or_len is_blank (after_blanks line)) (after_blanks line))
+pub words_cut : (line : List ℕ) → after_blanks line ≢ []
+    → words line ≡ take (position_or_len is_blank (after_blanks line)) (after_blanks line) ∷ words
+    (drop (position_or_len is_blank (after_blanks line)) (after_blanks line))
 words_cut [] n = absurd (n refl)
 words_cut (b ∷ bs) n = elim (cases_Bool (is_blank b)) [
-  | inl t ↦ let after : after_blanks (b ∷ bs) ≡ after_blanks bs = rw (t, one_more) refl in rw after (blank_first b bs t ∙ words_cut bs (λ e. n (after ∙ e)))
+  | inl t ↦ let after : after_blanks (b ∷ bs) ≡ after_blanks bs = rw (t, one_more) refl in
+      rw after (blank_first b bs t ∙ words_cut bs (λ e. n (after ∙ e)))
   | inr t ↦ let after : after_blanks (b ∷ bs) ≡ b ∷ bs = rw t refl in rw after (first_word b bs t)
 ]
 
 done : (line : List ℕ) → after_blanks line ≡ [] → words line ≡ []
 done [] e = refl
 done (b ∷ bs) e = elim (cases_Bool (is_blank b)) [
-  | inl t ↦ let after : after_blanks (b ∷ bs) ≡ after_blanks bs = rw (t, one_more) refl in blank_first b bs t ∙ done bs (sym after ∙ e)
-  | inr t ↦ let after : after_blanks (b ∷ bs) ≡ b ∷ bs = rw t refl in let none : b ∷ bs ≡ [] = sym after ∙ e in absurd (cc)
+  | inl t ↦ let after : after_blanks (b ∷ bs) ≡ after_blanks bs = rw (t, one_more) refl in
+      blank_first b bs t ∙ done bs (sym after ∙ e)
+  | inr t ↦ let after : after_blanks (b ∷ bs) ≡ b ∷ bs = rw t refl in
+      let none : b ∷ bs ≡ [] = sym after ∙ e in absurd (cc)
 ]
 
 pub words_done : (line : List ℕ) → length (after_blanks line) ≡ 0 → words line ≡ []
@@ -91,13 +112,15 @@ words_done line e = done line (nil_from_length (after_blanks line) e)
 
 -- ---- lines that are left
 
-tail_is : {X : Type 0} (i : ℕ) (xs : List X) (y : X) (ys : List X) → drop i xs ≡ y ∷ ys → drop (suc i) xs ≡ ys
+tail_is : {X : Type 0} (i : ℕ) (xs : List X) (y : X) (ys : List X) → drop i xs ≡ y ∷ ys
+    → drop (suc i) xs ≡ ys
 tail_is zero [] y ys e = absurd (cc)
 tail_is zero (x ∷ xs) y ys e = ap (λ zs. drop 1 zs) e
 tail_is (suc i) [] y ys e = absurd (cc)
 tail_is (suc i) (x ∷ xs) y ys e = tail_is i xs y ys e
 
-pub drop_more : {X : Type 0} (i : ℕ) (xs : List X) (y : X) (ys : List X) → drop i xs ≡ y ∷ ys → (drop (i + 1) xs ≡ ys) × (i + 1 ≤ length xs)
+pub drop_more : {X : Type 0} (i : ℕ) (xs : List X) (y : X) (ys : List X) → drop i xs ≡ y ∷ ys
+    → (drop (i + 1) xs ≡ ys) × (i + 1 ≤ length xs)
 drop_more i xs y ys e =
     let n : length (drop i xs) ≡ suc (length ys) = ap (λ zs. length zs) e in
     let m = length-drop i xs in
@@ -148,7 +171,8 @@ bytes-split (b ∷ bs) = elim (cases_Bool (is_blank b)) [
 ]
 
 pub few_words : (line : List ℕ) → length (words line) ≤ length line
-few_words line = let h = filled_have (slice_split is_blank line) in let m = bytes-split line in omega (arith, h, m)
+few_words line = let h = filled_have (slice_split is_blank line) in let m = bytes-split line in
+    omega (arith, h, m)
 
 few_in : (ls : List (List ℕ)) → length (tokens ls) ≤ bytes ls
 few_in [] = omega arith

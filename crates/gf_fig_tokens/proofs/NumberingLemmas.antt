@@ -6,7 +6,8 @@ use Rattle.std.specs.Prelude.{filter, flat_map, slice_get, not, nat_lt}
 use Rattle.std.specs.List.{enumerate_from}
 use Rattle.std.proofs.lemmas.Bool.{cases_Bool}
 use Rattle.std.proofs.lemmas.List.{length-drop, length-map, drop-map}
-use Rattle.gf_fig_tokens.specs.Layout.{Token, is_comment, is_version, lines, words, plain, plain_lines}
+use Rattle.gf_fig_tokens.specs.Layout.{Token, is_comment, is_version, lines, words, plain}
+use Rattle.gf_fig_tokens.specs.Layout.{plain_lines}
 use Rattle.gf_fig_tokens.specs.Layout.{tokens, after_resolution, object_tokens}
 use Rattle.gf_fig_tokens.specs.TokenLines.{numbered_plain_lines, repeated_number, token_lines}
 use Rattle.gf_fig_tokens.specs.declared.faults.FigFault.{FigFault}

@@ -22,5 +22,7 @@ none_from_is_none None h = refl
 none_from_is_none (Some c) h = absurd cc
 
 -- a colour under a free number goes last
-pub insert_entry-free : {S : Type 0} → (m : IndexMap ℕ Rgb S) (n : ℕ) (c : Rgb) → IsFreeNumber m.entries n → insert_entry nat_eq m.entries n c ≡ m.entries ++ (n, c) ∷ []
-insert_entry-free m n c free = insert_entry-new nat_eq m n c (lookup_by_number m.entries n ∙ none_from_is_none (colour_in m.entries n) (and_parts _ _ free).1)
+pub insert_entry-free : {S : Type 0} → (m : IndexMap ℕ Rgb S) (n : ℕ) (c : Rgb)
+    → IsFreeNumber m.entries n → insert_entry nat_eq m.entries n c ≡ m.entries ++ (n, c) ∷ []
+insert_entry-free m n c free = insert_entry-new nat_eq m n c (lookup_by_number m.entries n
+    ∙ none_from_is_none (colour_in m.entries n) (and_parts _ _ free).1)

@@ -67,7 +67,8 @@ module _ (bytes before text : List ℕ) (x : Writes bytes (Some before) (Some (b
   -- the text reads as the outlines of what the bytes draw
   text_drawing : outlined any_outline x.is.drawing ≡ z.drawing
   text_drawing =
-      one_drawing text (outlined any_outline x.is.drawing) z.drawing (text_reads bytes before text x)
+      one_drawing text (outlined any_outline x.is.drawing) z.drawing
+      (text_reads bytes before text x)
       z.reads
 
   drawing_same : (other : DrawingState AnyShape) → Draws bytes other → x.is.drawing ≡ other

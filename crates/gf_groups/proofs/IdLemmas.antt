@@ -10,7 +10,8 @@ use Rattle.gf_ops.specs.declared.op.OpId.{OpId}
 use Rattle.gf_ops.specs.OperationOrder.{id_cmp}
 
 pub id_cmp_total : IsTotalOrder id_cmp
-id_cmp_total = then_total (on_total (λ (i : OpId). i.site) nat_cmp_total) (on_total (λ (i : OpId). i.seq) nat_cmp_total)
+id_cmp_total = then_total (on_total (λ (i : OpId). i.site) nat_cmp_total)
+    (on_total (λ (i : OpId). i.seq) nat_cmp_total)
 
 -- what two orders in turn leave equal, each leaves equal
 pub both_tied : (o p : Ordering) → ordering_then o p ≡ Equal → (o ≡ Equal) × (p ≡ Equal)
@@ -21,4 +22,7 @@ both_tied Greater p e = absurd cc
 pub id_cmp_exact : IsAntisymmetric id_cmp
 id_cmp_exact i j e =
     let t = both_tied (nat_cmp i.site j.site) (nat_cmp i.seq j.seq) e in
-    λ k. record { site = nat_cmp-IsAntisymmetric i.site j.site t.0 k; seq = nat_cmp-IsAntisymmetric i.seq j.seq t.1 k }
+    λ k. record {
+      site = nat_cmp-IsAntisymmetric i.site j.site t.0 k;
+      seq = nat_cmp-IsAntisymmetric i.seq j.seq t.1 k;
+    }

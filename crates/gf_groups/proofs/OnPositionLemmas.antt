@@ -19,7 +19,8 @@ use Rattle.gf_groups.proofs.ConflictTestLemmas.{id_decided, conflict_decided}
 use Rattle.gf_groups.proofs.PositionLemmas.{Contains-positions_below}
 
 -- an operation that makes an object is on it
-pub made_object : (i : OpId) (c : Change) (k : Kind) → made_kind c ≡ Some k → (changed_object i c).0 ≡ i
+pub made_object : (i : OpId) (c : Change) (k : Kind) → made_kind c ≡ Some k
+    → (changed_object i c).0 ≡ i
 made_object i (Create start) k e = refl
 made_object i (Set o v aim) k e = absurd cc
 
@@ -35,11 +36,17 @@ module _ (o : ObjectId) where
   on_op (Some a) t = (a, refl, on_from a t)
   on_op None t = absurd cc
 
-both_from : (h : List Op) (r s : Option Op) (a b : Op) → r ≡ Some a → s ≡ Some b → Conflict h a b → both_conflict h r s ≡ true
+both_from : (h : List Op) (r s : Option Op) (a b : Op) → r ≡ Some a → s ≡ Some b → Conflict h a b
+    → both_conflict h r s ≡ true
 both_from h r s a b e f k = rw (e, f) ((conflict_decided h a b).1 k)
 
-both_with : (h : List Op) (r s : Option Op) (a : Op) → r ≡ Some a → both_conflict h r s ≡ true → (b : Op) × (s ≡ Some b) × Conflict h a b
-both_with h (Some x) (Some b) a e t = (b, refl, let q : x ≡ a = cc in let k = (conflict_decided h x b).0 t in rw q at k)
+both_with : (h : List Op) (r s : Option Op) (a : Op) → r ≡ Some a → both_conflict h r s ≡ true
+    → (b : Op) × (s ≡ Some b) × Conflict h a b
+both_with h (Some x) (Some b) a e t = (
+  b,
+  refl,
+  let q : x ≡ a = cc in let k = (conflict_decided h x b).0 t in rw q at k,
+)
 both_with h (Some x) None a e t = absurd cc
 both_with h None s a e t = absurd cc
 
@@ -52,19 +59,27 @@ module _ (h : List Op) where
   contained_at i a e = (i, slice_get_within h i a e, get_or_from_slice_get h i a a e)
 
   -- two positions conflict where their operations do
-  pub conflict_from : IsValid h → (i j : ℕ) (a b : Op) → slice_get h i ≡ Some a → slice_get h j ≡ Some b → Conflict h a b → conflict_at h i j ≡ true
+  pub conflict_from : IsValid h → (i j : ℕ) (a b : Op) → slice_get h i ≡ Some a
+      → slice_get h j ≡ Some b → Conflict h a b → conflict_at h i j ≡ true
   conflict_from valid i j a b e f k =
       let other : i ≢ j = λ q.
-      let one : a ≡ b = let g : slice_get h j ≡ Some a = subst (λ n. slice_get h n ≡ Some a) q e in cc in
+      let one : a ≡ b = let g : slice_get h j ≡ Some a = subst (λ n. slice_get h n ≡ Some a) q e in
+      cc in
       conflict_irreflexive h valid a (contained_at i a e) (subst (Conflict h a) (sym one) k) in
-      and_from (not (i == j)) (both_conflict h (slice_get h i) (slice_get h j)) ((Decides-not (i == j) (Decides-eqb i j)).1 other) (both_from h (slice_get h i) (slice_get h j) a b e f k)
+      and_from (not (i == j)) (both_conflict h (slice_get h i) (slice_get h j))
+      ((Decides-not (i == j) (Decides-eqb i j)).1 other)
+      (both_from h (slice_get h i) (slice_get h j) a b e f k)
 
-  pub conflict_with : (i j : ℕ) (a : Op) → slice_get h i ≡ Some a → conflict_at h i j ≡ true → (b : Op) × (slice_get h j ≡ Some b) × Conflict h a b
-  conflict_with i j a e t = both_with h (slice_get h i) (slice_get h j) a e (and_parts (not (i == j)) (both_conflict h (slice_get h i) (slice_get h j)) t).1
+  pub conflict_with : (i j : ℕ) (a : Op) → slice_get h i ≡ Some a → conflict_at h i j ≡ true
+      → (b : Op) × (slice_get h j ≡ Some b) × Conflict h a b
+  conflict_with i j a e t = both_with h (slice_get h i) (slice_get h j) a e
+      (and_parts (not (i == j)) (both_conflict h (slice_get h i) (slice_get h j)) t).1
 
   -- the positions below the length are all positions of operations on the object
-  pub all_positions : (o : ObjectId) (i : ℕ) → Contains (positions_below h o (length h)) i ↔ (is_on o (slice_get h i) ≡ true)
+  pub all_positions : (o : ObjectId) (i : ℕ) → Contains (positions_below h o (length h)) i
+      ↔ (is_on o (slice_get h i) ≡ true)
   all_positions o i = (
     λ c. ((Contains-positions_below h o (length h) i).0 c).1,
-    λ t. let w = on_op o (slice_get h i) t in (Contains-positions_below h o (length h) i).1 (slice_get_within h i w.0 w.1, t),
+    λ t. let w = on_op o (slice_get h i) t in (Contains-positions_below h o (length h) i).1
+        (slice_get_within h i w.0 w.1, t),
   )

@@ -1,5 +1,6 @@
 -- The sets of rising positions are all largest compatible sets of them, each once.
-use Rattle.std.proofs.Common.{◌≡◌, ℕ, ◌<◌, Bool, true, false, List, [], ◌∷◌, ◌++◌, append_assoc, refl, subst, sym, ap, ◌∙◌, inl, inr, arith}
+use Rattle.std.proofs.Common.{◌≡◌, ℕ, ◌<◌, Bool, true, false, List, [], ◌∷◌, ◌++◌, append_assoc}
+use Rattle.std.proofs.Common.{refl, subst, sym, ap, ◌∙◌, inl, inr, arith}
 use Rattle.std.specs.Prelude.{All, Contains, Option, Some, None, slice_get, ◌==◌}
 use Rattle.std.specs.FinMap.{nat_cmp-IsAntisymmetric}
 use Rattle.std.specs.Ordering.{nat_cmp, MatchOrdering}
@@ -9,7 +10,8 @@ use Rattle.std.proofs.lemmas.Bool.{cond-false}
 use Rattle.std.proofs.lemmas.Bool.Decides.{Decides-eqb, Decides-like, same_from_decides}
 use Rattle.std.proofs.lemmas.Cmp.{nat_cmp_total, ranked}
 use Rattle.std.proofs.lemmas.List.{append-nil}
-use Rattle.std.proofs.lemmas.List.Elements.{All-weaker, All-contains_itself, Contains-append_left, Contains-push, Contains-push_cases, filter-append}
+use Rattle.std.proofs.lemmas.List.Elements.{All-weaker, All-contains_itself, Contains-append_left}
+use Rattle.std.proofs.lemmas.List.Elements.{Contains-push, Contains-push_cases, filter-append}
 use Rattle.std.proofs.lemmas.List.Kept.{IsStrictlySortedBy-filter}
 use Rattle.gf_ops.specs.declared.op.Op.{Op}
 use Rattle.gf_maximal.specs.Growing.{joined, next}
@@ -29,7 +31,8 @@ both_conflict-sym h None (Some b) = refl
 both_conflict-sym h None None = refl
 
 turned : (i j : ℕ) → (i == j) ≡ (j == i)
-turned i j = same_from_decides (i == j) (j == i) (Decides-eqb i j) (Decides-like (j == i) (λ e. sym e) (λ e. sym e) (Decides-eqb j i))
+turned i j = same_from_decides (i == j) (j == i) (Decides-eqb i j)
+    (Decides-like (j == i) (λ e. sym e) (λ e. sym e) (Decides-eqb j i))
 
 pub conflict_at_test : (h : List Op) → IsConflict (conflict_at h)
 conflict_at_test h = record {
@@ -38,56 +41,74 @@ conflict_at_test h = record {
 }
 
 pub below_from_less : (a b : ℕ) → nat_cmp a b ≡ Less → a < b
-below_from_less a b e = subst (λ (o : Ordering). MatchOrdering o (a < b) (a ≡ b) (b < a)) e (ranked a b (nat_cmp a b) refl)
+below_from_less a b e = subst (λ (o : Ordering). MatchOrdering o (a < b) (a ≡ b) (b < a)) e
+    (ranked a b (nat_cmp a b) refl)
 
 module _ (c : ℕ → ℕ → Bool) where
   -- one more that conflicts with y, above all before it
-  pub rivals_more : (us : List ℕ) (y x : ℕ) → IsRising (us ++ x ∷ []) → c y x ≡ true → joined x (rivals c us y) ≡ rivals c (us ++ x ∷ []) y
+  pub rivals_more : (us : List ℕ) (y x : ℕ) → IsRising (us ++ x ∷ []) → c y x ≡ true
+      → joined x (rivals c us y) ≡ rivals c (us ++ x ∷ []) y
   rivals_more us y x form t =
-      let front = IsStrictlySortedBy-filter nat_cmp (c y) us (rising_front nat_cmp nat_cmp_total us (x ∷ []) form) in
+      let front = IsStrictlySortedBy-filter nat_cmp (c y) us
+      (rising_front nat_cmp nat_cmp_total us (x ∷ []) form) in
       one_rising nat_cmp nat_cmp_total (joined x (rivals c us y)) (rivals c (us ++ x ∷ []) y)
       (inserted nat_cmp nat_cmp_total nat_cmp-IsAntisymmetric x (rivals c us y) front)
       (IsStrictlySortedBy-filter nat_cmp (c y) (us ++ x ∷ []) form)
       (λ a. let has = holds nat_cmp nat_cmp_total nat_cmp-IsAntisymmetric x (rivals c us y) a in (
         λ h. (Contains-filter (c y) (us ++ x ∷ []) a).1 (elim (has.0 h) [
-          | inl i ↦ let w = (Contains-filter (c y) us a).0 i in (Contains-append_left us (x ∷ []) a w.0, w.1)
-          | inr e ↦ subst (λ z. Contains (us ++ x ∷ []) z × (c y z ≡ true)) (sym e) (Contains-push us x, t)
+          | inl i ↦ let w = (Contains-filter (c y) us a).0 i in
+              (Contains-append_left us (x ∷ []) a w.0, w.1)
+          | inr e ↦ subst (λ z. Contains (us ++ x ∷ []) z × (c y z ≡ true)) (sym e)
+              (Contains-push us x, t)
         ]),
-        λ h. let w = (Contains-filter (c y) (us ++ x ∷ []) a).0 h in has.1 (elim (Contains-push_cases us x a w.0) [
-          | inl i ↦ inl ((Contains-filter (c y) us a).1 (i, w.1))
-          | inr e ↦ inr (sym e)
-        ]),
+        λ h. let w = (Contains-filter (c y) (us ++ x ∷ []) a).0 h in
+            has.1 (elim (Contains-push_cases us x a w.0) [
+              | inl i ↦ inl ((Contains-filter (c y) us a).1 (i, w.1))
+              | inr e ↦ inr (sym e)
+            ]),
       ))
 
   -- and one that does not
-  pub rivals_same : (us : List ℕ) (y x : ℕ) → c y x ≡ false → rivals c us y ≡ rivals c (us ++ x ∷ []) y
-  rivals_same us y x n = sym (filter-append (c y) us (x ∷ []) ∙ (ap (λ zs. rivals c us y ++ zs) (cond-false (c y x) (x ∷ []) [] n) ∙ append-nil (rivals c us y)))
+  pub rivals_same : (us : List ℕ) (y x : ℕ) → c y x ≡ false
+      → rivals c us y ≡ rivals c (us ++ x ∷ []) y
+  rivals_same us y x n = sym (filter-append (c y) us (x ∷ [])
+      ∙ (ap (λ zs. rivals c us y ++ zs) (cond-false (c y x) (x ∷ []) [] n)
+      ∙ append-nil (rivals c us y)))
 
-  grown-push : (us xs : List ℕ) (x : ℕ) (gs : List (List ℕ)) → grown c us (xs ++ x ∷ []) gs ≡ next (rivals c (us ++ xs) x) x (grown c us xs gs)
+  grown-push : (us xs : List ℕ) (x : ℕ) (gs : List (List ℕ))
+      → grown c us (xs ++ x ∷ []) gs ≡ next (rivals c (us ++ xs) x) x (grown c us xs gs)
   grown-push us [] x gs = ap (λ vs. next (rivals c vs x) x gs) (sym (append-nil us))
   grown-push us (y ∷ xs) x gs =
       let more = next (rivals c us y) y gs in
       grown-push (us ++ y ∷ []) xs x more
-      ∙ ap (λ vs. next (rivals c vs x) x (grown c (us ++ y ∷ []) xs more)) (append_assoc us (y ∷ []) xs)
+      ∙ ap (λ vs. next (rivals c vs x) x (grown c (us ++ y ∷ []) xs more))
+      (append_assoc us (y ∷ []) xs)
 
   -- the sets of one position more
-  pub groups_at-push : (us : List ℕ) (x : ℕ) → groups_at c (us ++ x ∷ []) ≡ next (rivals c us x) x (groups_at c us)
+  pub groups_at-push : (us : List ℕ) (x : ℕ) → groups_at c (us ++ x ∷ []) ≡ next (rivals c us x) x
+      (groups_at c us)
   groups_at-push us x = grown-push [] us x ([] ∷ [])
 
   -- x comes to us, below which they all are
-  comes : (us : List ℕ) (x : ℕ) (xs : List ℕ) → IsRising (us ++ x ∷ xs) → Comes c us x (rivals c us x) (us ++ x ∷ [])
+  comes : (us : List ℕ) (x : ℕ) (xs : List ℕ) → IsRising (us ++ x ∷ xs)
+      → Comes c us x (rivals c us x) (us ++ x ∷ [])
   comes us x xs form = record {
     rising = rising_front nat_cmp nat_cmp_total us (x ∷ xs) form;
-    fresh = λ h. let l = below_from_less x x (rising_below nat_cmp nat_cmp_total us x xs form x h) in absurd (omega arith);
+    fresh = λ h. let l = below_from_less x x (rising_below nat_cmp nat_cmp_total us x xs form x
+        h) in absurd (omega arith);
     rivals = Contains-filter (c x) us;
     exactly = λ a. (
       λ h. elim (Contains-push_cases us x a h) [ inl i ↦ inl i | inr e ↦ inr (sym e) ],
-      λ h. elim h [ inl i ↦ Contains-append_left us (x ∷ []) a i | inr e ↦ subst (Contains (us ++ x ∷ [])) (sym e) (Contains-push us x) ],
+      λ h. elim h [
+        | inl i ↦ Contains-append_left us (x ∷ []) a i
+        | inr e ↦ subst (Contains (us ++ x ∷ [])) (sym e) (Contains-push us x)
+      ],
     );
   }
 
   module _ (s : IsConflict c) where
-    table_grown : (us xs : List ℕ) (gs : List (List ℕ)) → IsTable c us gs → IsRising (us ++ xs) → IsTable c (us ++ xs) (grown c us xs gs)
+    table_grown : (us xs : List ℕ) (gs : List (List ℕ)) → IsTable c us gs → IsRising (us ++ xs)
+        → IsTable c (us ++ xs) (grown c us xs gs)
     table_grown us [] gs table form = rw append-nil table
     table_grown us (x ∷ xs) gs table form =
         let d = rivals c us x in
@@ -100,8 +121,12 @@ module _ (c : ℕ → ℕ → Bool) where
     pub table_groups : (xs : List ℕ) → IsRising xs → IsTable c xs (groups_at c xs)
     table_groups xs form = table_grown [] xs ([] ∷ []) (table_first c) form
 
-pub table_rises : (c : ℕ → ℕ → Bool) (us : List ℕ) (gs : List (List ℕ)) → IsTable c us gs → All IsRising gs
-table_rises c us gs table = All-weaker (Contains gs) IsRising (λ g i. ((table.each g).0 i).0) gs (All-contains_itself gs)
+pub table_rises : (c : ℕ → ℕ → Bool) (us : List ℕ) (gs : List (List ℕ)) → IsTable c us gs
+    → All IsRising gs
+table_rises c us gs table = All-weaker (Contains gs) IsRising (λ g i. ((table.each g).0 i).0) gs
+    (All-contains_itself gs)
 
-pub groups_rise : (h : List Op) (xs : List ℕ) → IsRising xs → All IsRising (groups_at (conflict_at h) xs)
-groups_rise h xs form = table_rises (conflict_at h) xs (groups_at (conflict_at h) xs) (table_groups (conflict_at h) (conflict_at_test h) xs form)
+pub groups_rise : (h : List Op) (xs : List ℕ) → IsRising xs
+    → All IsRising (groups_at (conflict_at h) xs)
+groups_rise h xs form = table_rises (conflict_at h) xs (groups_at (conflict_at h) xs)
+    (table_groups (conflict_at h) (conflict_at_test h) xs form)

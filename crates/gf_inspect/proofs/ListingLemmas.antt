@@ -1,4 +1,5 @@
--- The versions of the groups of an object, sorted, are the versions of the object, each above those after it.
+-- The versions of the groups of an object, sorted, are the versions of the object, each above those
+-- after it.
 use Rattle.std.proofs.Common.{◌≡◌, ◌≢◌, false, List, get_or, sym, subst, ap, ◌∙◌, inl, inr}
 use Rattle.std.specs.Prelude.{◌↔◌, AllPairs, Contains}
 use Rattle.std.specs.declared.cmp.Ordering.TheVariants.{Less, Greater}
@@ -44,7 +45,8 @@ no_tie v w different = elim (cases_Bool (ties falling_cmp falling_total v w)) [
 ]
 
 -- rising groups are different
-groups_once : (groups : List Group) → IsStrictlySortedBy group_cmp groups → AllPairs (λ g k. g ≢ k) groups
+groups_once : (groups : List Group) → IsStrictlySortedBy group_cmp groups
+    → AllPairs (λ g k. g ≢ k) groups
 groups_once groups rising i j d before inside same =
     let less = Less-from_sorted group_cmp groups i j d rising before inside in
     let g = get_or groups i d in
@@ -52,12 +54,15 @@ groups_once groups rising i j d before inside same =
     let turned = group_total.antisymm g g in
     absurd (let e : Less ≡ Greater = sym self ∙ (turned ∙ ap ordering_reverse self) in cc)
 
-module _ (h : List Op) (o : ObjectId) (groups : List Group) (vs : List Version) (valid : IsValid h) (all : AreVersions h o groups) (made : IsSettledFalling h groups vs) where
+module _ (h : List Op) (o : ObjectId) (groups : List Group) (vs : List Version) (valid : IsValid h)
+    (all : AreVersions h o groups) (made : IsSettledFalling h groups vs) where
   abbrev us : List Version
   us = made.versions
 
   apart : AllPairs (λ v w. ties falling_cmp falling_total v w ≡ false) us
-  apart i j d before inside = no_tie (get_or us i d) (get_or us j d) (groups_apart groups us made.settled.grouped (groups_once groups all.rising) i j d before inside)
+  apart i j d before inside = no_tie (get_or us i d) (get_or us j d)
+      (groups_apart groups us made.settled.grouped (groups_once groups all.rising) i j d before
+      inside)
 
   falls : AllPairs (λ v w. IsAbove v.key w.key) vs
   falls i j d before inside =
@@ -67,11 +72,17 @@ module _ (h : List Op) (o : ObjectId) (groups : List Group) (vs : List Version) 
 
   known : (v : Version) → Contains us v ↔ ((v.key.object ≡ o) × IsVersionOf h v)
   known v = (
-    λ c. (((all.exactly (group_of v)).0 (subst (λ ks. Contains ks (group_of v)) made.settled.grouped (Contains-map group_of us v c))).0, made.settled.versions v c),
+    λ c. (
+      ((all.exactly (group_of v)).0 (subst (λ ks. Contains ks (group_of v)) made.settled.grouped
+          (Contains-map group_of us v c))).0,
+      made.settled.versions v c,
+    ),
     λ is.
-        let inside = subst (λ ks. Contains ks (group_of v)) (sym made.settled.grouped) ((all.exactly (group_of v)).1 (is.0, is.1.version)) in
+        let inside = subst (λ ks. Contains ks (group_of v)) (sym made.settled.grouped)
+        ((all.exactly (group_of v)).1 (is.0, is.1.version)) in
         let from = Contains-map_from group_of us (group_of v) inside in
-        let one = one_of_group h valid v from.0 is.1 (made.settled.versions from.0 from.1) (ap (λ (g : Group). g.object) from.2) (ap (λ (g : Group). g.ops) from.2) in
+        let one = one_of_group h valid v from.0 is.1 (made.settled.versions from.0 from.1)
+        (ap (λ (g : Group). g.object) from.2) (ap (λ (g : Group). g.ops) from.2) in
         subst (Contains us) (sym one) from.1,
   )
 

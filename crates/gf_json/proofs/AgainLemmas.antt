@@ -1,5 +1,6 @@
 -- What is written for a value is read as that value.
-use Rattle.std.proofs.Common.{◌≡◌, ℕ, ◌≤◌, ◌<◌, ◌^◌, ℤ, pos, negsuc, List, [], ◌∷◌, length, map, refl, arith, Ok, Bool, true, false, ◌&&◌, nat_le, int_eq, int_le, ap}
+use Rattle.std.proofs.Common.{◌≡◌, ℕ, ◌≤◌, ◌<◌, ◌^◌, ℤ, pos, negsuc, List, [], ◌∷◌, length, map}
+use Rattle.std.proofs.Common.{refl, arith, Ok, Bool, true, false, ◌&&◌, nat_le, int_eq, int_le, ap}
 use Rattle.std.specs.List.{list_all}
 use Rattle.std.proofs.lemmas.List.{length-map}
 use Rattle.gf_shape.specs.declared.point.Point.{Point}
@@ -9,13 +10,16 @@ use Rattle.gf_digits.proofs.HexLemmas.{rgb_of_hex-hex_rgb}
 use Rattle.gf_ops.specs.declared.op.OpId.{OpId}
 use Rattle.gf_ops.specs.declared.op.Clock.{Clock}
 use Rattle.gf_shape.specs.Polygons.{is_polygon_count}
-use Rattle.gf_ops.specs.Limits.{is_site, is_id, is_clock, is_near, is_size, is_polygon, is_layer, is_colour}
+use Rattle.gf_ops.specs.Limits.{is_site, is_id, is_clock, is_near, is_size, is_polygon, is_layer}
+use Rattle.gf_ops.specs.Limits.{is_colour}
 use Rattle.serde_json.specs.Data.{Data}
 use Rattle.serde_json.specs.View.{items_of}
 use Rattle.gf_json.specs.LineValues.{Got, and_then, whole, elements, array, each}
-use Rattle.gf_json.specs.LineLimits.{natural, coordinate, entry, name, size, radius, level, clock, point, points}
+use Rattle.gf_json.specs.LineLimits.{natural, coordinate, entry, name, size, radius, level, clock}
+use Rattle.gf_json.specs.LineLimits.{point, points}
 use Rattle.gf_json.specs.LineColours.{hex_colour}
-use Rattle.gf_json.specs.WrittenValues.{natural_data, integer_data, name_data, clock_data, point_data, points_data, size_data, colour_data}
+use Rattle.gf_json.specs.WrittenValues.{natural_data, integer_data, name_data, clock_data}
+use Rattle.gf_json.specs.WrittenValues.{point_data, points_data, size_data, colour_data}
 
 -- ---- numbers
 
@@ -31,14 +35,16 @@ whole_again n h =
     grind (arith, fits)
 
 -- a number within limits
-natural_again : (low high n : ℕ) → (nat_le low n && nat_le n high) ≡ true → nat_le high 1000000 ≡ true → natural low high (natural_data n) ≡ Ok n
+natural_again : (low high n : ℕ) → (nat_le low n && nat_le n high) ≡ true
+    → nat_le high 1000000 ≡ true → natural low high (natural_data n) ≡ Ok n
 natural_again low high n h k =
     let parts = both_true (nat_le low n) (nat_le n high) h in
     let most = parts.1 in
     let small : nat_le n 1000000 ≡ true = grind (arith, most, k) in
     rw (whole_again n small, h) refl
 
-coordinate_again : (z : ℤ) → (int_le (negsuc 999999) z && int_le z (pos 1000000)) ≡ true → coordinate (integer_data z) ≡ Ok z
+coordinate_again : (z : ℤ) → (int_le (negsuc 999999) z && int_le z (pos 1000000)) ≡ true
+    → coordinate (integer_data z) ≡ Ok z
 coordinate_again (pos n) h = rw (whole_again n h) (rw h refl)
 coordinate_again (negsuc n) h = rw h refl
 
@@ -59,10 +65,12 @@ name_again i h =
     rw (natural_again 1 8 i.site site refl, natural_again 1 10000 i.seq seq refl) refl
 
 -- a width and a height
-pub size_again : (width height : ℕ) → (is_size width && is_size height) ≡ true → size (size_data width height) ≡ Ok (width, height)
+pub size_again : (width height : ℕ) → (is_size width && is_size height) ≡ true
+    → size (size_data width height) ≡ Ok (width, height)
 size_again width height h =
     let parts = both_true (is_size width) (is_size height) h in
-    rw (natural_again 1 1000000 width parts.0 refl, natural_again 1 1000000 height parts.1 refl) refl
+    rw (natural_again 1 1000000 width parts.0 refl, natural_again 1 1000000 height parts.1 refl)
+    refl
 
 same_number : (n : ℕ) → int_eq (pos n) (pos n) ≡ true
 same_number n = grind arith
@@ -73,11 +81,13 @@ radius_again n h =
     let parts = both_true (nat_le 1 n) (nat_le n 1000000) h in
     rw (whole_again n parts.1, same_number n, h) refl
 
-near_x : (p : Point) → is_near p ≡ true → (int_le (negsuc 999999) p.x && int_le p.x (pos 1000000)) ≡ true
+near_x : (p : Point) → is_near p ≡ true
+    → (int_le (negsuc 999999) p.x && int_le p.x (pos 1000000)) ≡ true
 unfolding is_near
 near_x p h = grind (arith, h)
 
-near_y : (p : Point) → is_near p ≡ true → (int_le (negsuc 999999) p.y && int_le p.y (pos 1000000)) ≡ true
+near_y : (p : Point) → is_near p ≡ true
+    → (int_le (negsuc 999999) p.y && int_le p.y (pos 1000000)) ≡ true
 unfolding is_near
 near_y p h = grind (arith, h)
 
@@ -91,7 +101,9 @@ pub elements-items_of : (ds : List Data) → elements (items_of ds) ≡ ds
 elements-items_of [] = refl
 elements-items_of (d ∷ ds) = ap (λ (es : List Data). d ∷ es) (elements-items_of ds)
 
-pub each_again : {A : Type 0} (form : Data → Got A) (f : A → Data) (p : A → Bool) → ((a : A) → p a ≡ true → form (f a) ≡ Ok a) → (xs : List A) → list_all p xs ≡ true → each form (map f xs) ≡ Ok xs
+pub each_again : {A : Type 0} (form : Data → Got A) (f : A → Data) (p : A → Bool)
+    → ((a : A) → p a ≡ true → form (f a) ≡ Ok a) → (xs : List A) → list_all p xs ≡ true
+    → each form (map f xs) ≡ Ok xs
 each_again form f p t [] h = refl
 each_again form f p t (x ∷ xs) h =
     let parts = both_true (p x) (list_all p xs) h in
@@ -101,15 +113,26 @@ entry_again : (n : ℕ) → nat_le n 10000 ≡ true → entry (natural_data n) �
 entry_again n h = natural_again 0 10000 n (grind (arith, h)) refl
 
 -- a clock of eight entries
-pub clock_again : (c : Clock) → length c.0 ≡ 8 → is_clock c ≡ true → and_then clock (array (clock_data c)) ≡ Ok c
+pub clock_again : (c : Clock) → length c.0 ≡ 8 → is_clock c ≡ true
+    → and_then clock (array (clock_data c)) ≡ Ok c
 clock_again c e h =
-    rw (elements-items_of (map natural_data c.0), length-map, e, each_again entry natural_data (λ n. nat_le n 10000) entry_again c.0 h) refl
+    rw (
+      elements-items_of (map natural_data c.0),
+      length-map,
+      e,
+      each_again entry natural_data (λ n. nat_le n 10000) entry_again c.0 h,
+    ) refl
 
 -- the points of a polygon
 pub points_again : (ps : List Point) → is_polygon ps ≡ true → points (points_data ps) ≡ Ok ps
 points_again ps h =
     let parts = both_true (is_polygon_count (length ps)) (list_all is_near ps) h in
-    rw (elements-items_of (map point_data ps), length-map, parts.0, each_again point point_data is_near point_again ps parts.1) refl
+    rw (
+      elements-items_of (map point_data ps),
+      length-map,
+      parts.0,
+      each_again point point_data is_near point_again ps parts.1,
+    ) refl
 
 -- ---- colours
 

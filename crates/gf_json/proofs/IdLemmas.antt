@@ -1,5 +1,7 @@
 -- The ids of an aim: what is read of them, and their order.
-use Rattle.std.proofs.Common.{◌≡◌, ℕ, ◌<◌, ◌+◌, ℤ, pos, negsuc, int_le, nat_abs, nat_le, List, [], ◌∷◌, length, map, drop, get_or, refl, sym, ap, ◌∙◌, arith, Ok, Err, inl, inr, ◌⊎◌, if◌then◌else◌, true, false, ◌&&◌, ◌==◌, ◌≤◌, zero, suc}
+use Rattle.std.proofs.Common.{◌≡◌, ℕ, ◌<◌, ◌+◌, ℤ, pos, negsuc, int_le, nat_abs, nat_le, List, []}
+use Rattle.std.proofs.Common.{◌∷◌, length, map, drop, get_or, refl, sym, ap, ◌∙◌, arith, Ok, Err}
+use Rattle.std.proofs.Common.{inl, inr, ◌⊎◌, if◌then◌else◌, true, false, ◌&&◌, ◌==◌, ◌≤◌, zero, suc}
 use Rattle.std.specs.Prelude.{Some, None}
 use Rattle.std.specs.List.{list_all}
 use Rattle.std.specs.Ordering.{int_eq}
@@ -14,7 +16,8 @@ use Rattle.gf_json.specs.declared.line_error.LineError.{LineError}
 use Rattle.gf_json.specs.declared.line_error.LineError.TheVariants as fault
 use Rattle.gf_json.specs.LineValues.{Got, mapped, and_then, ◌&◌, whole, two, each, elements}
 use Rattle.gf_json.specs.LineLimits.{natural, name}
-use Rattle.gf_json.specs.LineAims.{numbers, pair_less, pairs_rise_behind, rising_behind, rising, ids_of, ids}
+use Rattle.gf_json.specs.LineAims.{numbers, pair_less, pairs_rise_behind, rising_behind, rising}
+use Rattle.gf_json.specs.LineAims.{ids_of, ids}
 use Rattle.gf_json.specs.CheckedIds.{next_behind, read_name}
 use Rattle.gf_json.specs.WrittenValues.{name_data, ids_data}
 use Rattle.gf_json.proofs.ArrayLemmas.{mapped-parts, beside-parts, each-all, length-elements}
@@ -28,7 +31,9 @@ abbrev numbers_of : OpId → ℤ × ℤ
 numbers_of i = (pos i.site, pos i.seq)
 
 -- what a natural number within limits is read from
-within : (w : Got ℤ) (low high n : ℕ) → mapped nat_abs (and_then (λ z. if int_le (pos low) z && int_le z (pos high) then Ok z else Err fault.Range) w) ≡ Ok n
+within : (w : Got ℤ) (low high n : ℕ)
+    → mapped nat_abs (and_then (λ z. if int_le (pos low) z && int_le z (pos high) then Ok z else
+    Err fault.Range) w) ≡ Ok n
     → (w ≡ Ok (pos n)) × ((nat_le low n && nat_le n high) ≡ true)
 within (Err e) low high n h = absurd cc
 within (Ok (negsuc k)) low high n h = absurd cc
@@ -40,24 +45,33 @@ within (Ok (pos k)) low high n h = elim (cases_Bool (nat_le low k && nat_le k hi
 read_numbers : (x y : Got ℤ) (a b : ℤ) → x ≡ Ok a → y ≡ Ok b → (x & y) ≡ Ok (a, b)
 read_numbers x y a b h k = rw (h, k) refl
 
-id_parts : (s n : ℕ) → (nat_le 1 s && nat_le s 8) ≡ true → (nat_le 1 n && nat_le n 10000) ≡ true → is_id (record { site = s; seq = n }) ≡ true
-id_parts s n h k = let parts = both_true (nat_le 1 n) (nat_le n 10000) k in rw (h, parts.0, parts.1) refl
+id_parts : (s n : ℕ) → (nat_le 1 s && nat_le s 8) ≡ true → (nat_le 1 n && nat_le n 10000) ≡ true
+    → is_id (record { site = s; seq = n }) ≡ true
+id_parts s n h k = let parts = both_true (nat_le 1 n) (nat_le n 10000) k in
+    rw (h, parts.0, parts.1) refl
 
-named_parts : (t : Got (Data × Data)) (i : OpId) → mapped (λ p. record { site = p.0; seq = p.1 }) (and_then (λ q. natural 1 8 q.0 & natural 1 10000 q.1) t) ≡ Ok i
+named_parts : (t : Got (Data × Data)) (i : OpId) → mapped (λ p. record { site = p.0; seq = p.1 })
+    (and_then (λ q. natural 1 8 q.0 & natural 1 10000 q.1) t) ≡ Ok i
     → (and_then (λ q. whole q.0 & whole q.1) t ≡ Ok (numbers_of i)) × (is_id i ≡ true)
 named_parts (Err e) i h = absurd cc
 named_parts (Ok q) i h =
-    let (p, b, e) = mapped-parts {A = ℕ × ℕ} {B = OpId} (λ p. record { site = p.0; seq = p.1 }) (natural 1 8 q.0 & natural 1 10000 q.1) i h in
+    let (p, b, e) = mapped-parts {A = ℕ × ℕ} {B = OpId} (λ p. record { site = p.0; seq = p.1 })
+    (natural 1 8 q.0 & natural 1 10000 q.1) i h in
     let parts = beside-parts (natural 1 8 q.0) (natural 1 10000 q.1) p b in
     let site = within (whole q.0) 1 8 p.0 parts.0 in
     let seq = within (whole q.1) 1 10000 p.1 parts.1 in
-    rw (← e) (read_numbers (whole q.0) (whole q.1) (pos p.0) (pos p.1) site.0 seq.0, id_parts p.0 p.1 site.1 seq.1)
+    rw (← e) (
+      read_numbers (whole q.0) (whole q.1) (pos p.0) (pos p.1) site.0 seq.0,
+      id_parts p.0 p.1 site.1 seq.1,
+    )
 
 -- a name that is read is of two whole numbers, and keeps the limits
-name_read : (d : Data) (i : OpId) → name d ≡ Ok i → (numbers d ≡ Ok (numbers_of i)) × (is_id i ≡ true)
+name_read : (d : Data) (i : OpId) → name d ≡ Ok i
+    → (numbers d ≡ Ok (numbers_of i)) × (is_id i ≡ true)
 name_read d i h = named_parts (two d) i h
 
-each_numbers : (ds : List Data) (is : List OpId) → each name ds ≡ Ok is → each numbers ds ≡ Ok (map numbers_of is)
+each_numbers : (ds : List Data) (is : List OpId) → each name ds ≡ Ok is
+    → each numbers ds ≡ Ok (map numbers_of is)
 each_numbers [] is h = let e : [] ≡ is = cc in rw (← e) refl
 each_numbers (d ∷ ds) is h =
     let (q, b, e) = mapped-parts (λ r. r.0 ∷ r.1) (name d & each name ds) is h in
@@ -73,7 +87,8 @@ same_numbers a b = grind arith
 pair_less-numbers : (i j : OpId) → pair_less (numbers_of i) (numbers_of j) ≡ id_less i j
 pair_less-numbers i j = rw (same_numbers i.site j.site) refl
 
-rise_behind-numbers : (i : OpId) (is : List OpId) → pairs_rise_behind (numbers_of i) (map numbers_of is) ≡ rise_behind i is
+rise_behind-numbers : (i : OpId) (is : List OpId)
+    → pairs_rise_behind (numbers_of i) (map numbers_of is) ≡ rise_behind i is
 rise_behind-numbers i [] = refl
 rise_behind-numbers i (j ∷ js) = rw (pair_less-numbers i j, rise_behind-numbers j js) refl
 
@@ -82,14 +97,17 @@ rise-numbers [] = refl
 rise-numbers (i ∷ is) = rise_behind-numbers i is
 
 -- names rise as their numbers do
-rising-names : (ds : List Data) (is : List OpId) → each name ds ≡ Ok is → rising (each numbers ds) ≡ ids_rise is
+rising-names : (ds : List Data) (is : List OpId) → each name ds ≡ Ok is
+    → rising (each numbers ds) ≡ ids_rise is
 rising-names ds is h = rw (each_numbers ds is h) (rise-numbers is)
 
 -- ids that are read keep the limits of an aim
-pub names-within : (ds : List Data) (is : List OpId) → rising (each numbers ds) ≡ true → nat_le (length ds) 1000 ≡ true → each name ds ≡ Ok is → is_aim is ≡ true
+pub names-within : (ds : List Data) (is : List OpId) → rising (each numbers ds) ≡ true
+    → nat_le (length ds) 1000 ≡ true → each name ds ≡ Ok is → is_aim is ≡ true
 names-within ds is rises few h =
     let rise : ids_rise is ≡ true = sym (rising-names ds is h) ∙ rises in
-    let each_id : list_all is_id is ≡ true = each-all is_id name (λ d i k. (name_read d i k).1) ds is h in
+    let each_id : list_all is_id is ≡ true = each-all is_id name (λ d i k. (name_read d i k).1) ds
+    is h in
     rw (length-each name ds is h, few, each_id) rise
 
 -- the ids that are written for an aim are read as it
@@ -97,8 +115,10 @@ pub ids_again : (is : List OpId) → is_aim is ≡ true → ids (ids_data is) �
 ids_again is h =
     let parts = both_true (nat_le (length is) 1000 && list_all is_id is) (ids_rise is) h in
     let first = both_true (nat_le (length is) 1000) (list_all is_id is) parts.0 in
-    let names : each name (map name_data is) ≡ Ok is = each_again name name_data is_id name_again is first.1 in
-    let rises : rising (each numbers (map name_data is)) ≡ true = rising-names (map name_data is) is names ∙ parts.1 in
+    let names : each name (map name_data is) ≡ Ok is = each_again name name_data is_id name_again is
+    first.1 in
+    let rises : rising (each numbers (map name_data is)) ≡ true = rising-names (map name_data is) is
+    names ∙ parts.1 in
     rw (elements-items_of (map name_data is), rises, length-map, first.0) names
 
 -- ---- a fault beside the form
@@ -117,38 +137,51 @@ formed_mapped : {A B : Type 0} (f : A → B) (x : Got A) → IsFormed x → IsFo
 formed_mapped f x (inl h) = inl (rw h refl)
 formed_mapped f x (inr (a, h)) = inr (f a, rw h refl)
 
-formed_natural : (w : Got ℤ) (z : ℤ) (low high : ℕ) → w ≡ Ok z → IsFormed (mapped nat_abs (and_then (λ z. if int_le (pos low) z && int_le z (pos high) then Ok z else Err fault.Range) w))
+formed_natural : (w : Got ℤ) (z : ℤ) (low high : ℕ) → w ≡ Ok z
+    → IsFormed (mapped nat_abs (and_then (λ z. if int_le (pos low) z && int_le z (pos high) then
+    Ok z else Err fault.Range) w))
 formed_natural w z low high h = elim (cases_Bool (int_le (pos low) z && int_le z (pos high))) [
   | inl t ↦ inr (nat_abs z, rw (h, t) refl)
   | inr f ↦ inl (rw (h, f) refl)
 ]
 
 formed_parts : (t : Got (Data × Data)) (p : ℤ × ℤ) → and_then (λ q. whole q.0 & whole q.1) t ≡ Ok p
-    → IsFormed {A = OpId} (mapped (λ p. record { site = p.0; seq = p.1 }) (and_then (λ q. natural 1 8 q.0 & natural 1 10000 q.1) t))
+    → IsFormed {A = OpId} (mapped (λ p. record { site = p.0; seq = p.1 })
+    (and_then (λ q. natural 1 8 q.0 & natural 1 10000 q.1) t))
 formed_parts (Err e) p h = absurd cc
 formed_parts (Ok q) p h =
     let parts = beside-parts (whole q.0) (whole q.1) p h in
-    formed_mapped {A = ℕ × ℕ} {B = OpId} (λ p. record { site = p.0; seq = p.1 }) (natural 1 8 q.0 & natural 1 10000 q.1)
-    (formed_beside (natural 1 8 q.0) (natural 1 10000 q.1) (formed_natural (whole q.0) p.0 1 8 parts.0) (formed_natural (whole q.1) p.1 1 10000 parts.1))
+    formed_mapped {A = ℕ × ℕ} {B = OpId} (λ p. record { site = p.0; seq = p.1 })
+    (natural 1 8 q.0 & natural 1 10000 q.1)
+    (formed_beside (natural 1 8 q.0) (natural 1 10000 q.1)
+    (formed_natural (whole q.0) p.0 1 8 parts.0) (formed_natural (whole q.1) p.1 1 10000 parts.1))
 
 formed_name : (d : Data) (p : ℤ × ℤ) → numbers d ≡ Ok p → IsFormed (name d)
 formed_name d p h = formed_parts (two d) p h
 
-formed_names : (ds : List Data) (ps : List (ℤ × ℤ)) → each numbers ds ≡ Ok ps → IsFormed (each name ds)
+formed_names : (ds : List Data) (ps : List (ℤ × ℤ)) → each numbers ds ≡ Ok ps
+    → IsFormed (each name ds)
 formed_names [] ps h = inr ([], refl)
 formed_names (d ∷ ds) ps h =
     let (q, b, e) = mapped-parts (λ r. r.0 ∷ r.1) (numbers d & each numbers ds) ps h in
     let parts = beside-parts (numbers d) (each numbers ds) q b in
-    formed_mapped (λ r. r.0 ∷ r.1) (name d & each name ds) (formed_beside (name d) (each name ds) (formed_name d q.0 parts.0) (formed_names ds q.1 parts.1))
+    formed_mapped (λ r. r.0 ∷ r.1) (name d & each name ds)
+    (formed_beside (name d) (each name ds) (formed_name d q.0 parts.0)
+    (formed_names ds q.1 parts.1))
 
 -- each element is read where all are
-each_at : {A : Type 0} (form : Data → Got A) (vs : List Value) (k : ℕ) (o : Value) (found : List A) → k < length vs → each form (elements (items_view vs)) ≡ Ok found → (a : A) × (form (view (get_or vs k o)) ≡ Ok a)
+each_at : {A : Type 0} (form : Data → Got A) (vs : List Value) (k : ℕ) (o : Value) (found : List A)
+    → k < length vs → each form (elements (items_view vs)) ≡ Ok found
+    → (a : A) × (form (view (get_or vs k o)) ≡ Ok a)
 each_at form [] k o found l h = absurd (omega (arith, l))
 each_at form (v ∷ vs) zero o found l h =
-    let (q, b, e) = mapped-parts (λ r. r.0 ∷ r.1) (form (view v) & each form (elements (items_view vs))) found h in
-    let parts = beside-parts (form (view v)) (each form (elements (items_view vs))) q b in (q.0, parts.0)
+    let (q, b, e) = mapped-parts (λ r. r.0 ∷ r.1)
+    (form (view v) & each form (elements (items_view vs))) found h in
+    let parts = beside-parts (form (view v)) (each form (elements (items_view vs))) q b in
+    (q.0, parts.0)
 each_at form (v ∷ vs) (suc k) o found l h =
-    let (q, b, e) = mapped-parts (λ r. r.0 ∷ r.1) (form (view v) & each form (elements (items_view vs))) found h in
+    let (q, b, e) = mapped-parts (λ r. r.0 ∷ r.1)
+    (form (view v) & each form (elements (items_view vs))) found h in
     let parts = beside-parts (form (view v)) (each form (elements (items_view vs))) q b in
     each_at form vs k o q.1 (omega (arith, l)) parts.1
 
@@ -157,10 +190,13 @@ rising_read (Ok ps) h = (ps, refl)
 rising_read (Err e) h = absurd cc
 
 -- the fault of one of the elements that rise is the fault of all
-pub names_fault : (vs : List Value) (k : ℕ) (o : Value) (e : LineError) → rising (each numbers (elements (items_view vs))) ≡ true → k < length vs → o ≡ get_or vs k o → Err e ≡ name (view o)
+pub names_fault : (vs : List Value) (k : ℕ) (o : Value) (e : LineError)
+    → rising (each numbers (elements (items_view vs))) ≡ true → k < length vs → o ≡ get_or vs k o
+    → Err e ≡ name (view o)
     → Err e ≡ each name (elements (items_view vs))
 names_fault vs k o e rises l is fault_of =
-    let h : name (view (get_or vs k o)) ≡ Err e = ap (λ (v : Value). name (view v)) (sym is) ∙ sym fault_of in
+    let h : name (view (get_or vs k o)) ≡ Err e = ap (λ (v : Value). name (view v)) (sym is)
+    ∙ sym fault_of in
     let (ps, read) = rising_read (each numbers (elements (items_view vs))) rises in
     let (p, first) = each_at numbers vs k o ps l read in
     elim (formed_name (view (get_or vs k o)) p first) [
@@ -172,7 +208,8 @@ names_fault vs k o e rises l is fault_of =
     ]
 
 -- names that are read one after the other
-pub names_read : (vs : List Value) (is : List OpId) → map (λ v. name (view v)) vs ≡ map read_name is → each name (elements (items_view vs)) ≡ Ok is
+pub names_read : (vs : List Value) (is : List OpId) → map (λ v. name (view v)) vs ≡ map read_name is
+    → each name (elements (items_view vs)) ≡ Ok is
 names_read [] [] h = refl
 names_read [] (i ∷ is) h = absurd cc
 names_read (v ∷ vs) [] h = absurd cc
@@ -183,7 +220,8 @@ names_read (v ∷ vs) (i ∷ is) h =
 
 -- ---- one pair after the other
 
-more : (p q : ℤ × ℤ) (x : Got (ℤ × ℤ)) (y : Got (List (ℤ × ℤ))) → next_behind p x ≡ Some q → rising_behind p (mapped (λ r. r.0 ∷ r.1) (x & y)) ≡ rising_behind q y
+more : (p q : ℤ × ℤ) (x : Got (ℤ × ℤ)) (y : Got (List (ℤ × ℤ))) → next_behind p x ≡ Some q
+    → rising_behind p (mapped (λ r. r.0 ∷ r.1) (x & y)) ≡ rising_behind q y
 more p q (Err e) y h = absurd cc
 more p q (Ok r) (Err e) h = refl
 more p q (Ok r) (Ok rs) h = elim (cases_Bool (pair_less p r)) [
@@ -191,7 +229,8 @@ more p q (Ok r) (Ok rs) h = elim (cases_Bool (pair_less p r)) [
   | inr f ↦ absurd (let g = rw f at h in cc)
 ]
 
-stops : (p : ℤ × ℤ) (x : Got (ℤ × ℤ)) (y : Got (List (ℤ × ℤ))) → next_behind p x ≡ None → rising_behind p (mapped (λ r. r.0 ∷ r.1) (x & y)) ≡ false
+stops : (p : ℤ × ℤ) (x : Got (ℤ × ℤ)) (y : Got (List (ℤ × ℤ))) → next_behind p x ≡ None
+    → rising_behind p (mapped (λ r. r.0 ∷ r.1) (x & y)) ≡ false
 stops p (Err e) (Ok rs) h = refl
 stops p (Err e) (Err fault.Json) h = refl
 stops p (Err e) (Err fault.Field) h = refl
@@ -204,44 +243,67 @@ stops p (Ok r) (Ok rs) h = elim (cases_Bool (pair_less p r)) [
 ]
 
 -- a value that is behind the last pair, and those behind it
-pub rise_more : (first last next : ℤ × ℤ) (vs : List Value) (k : ℕ) (o : Value) → k < length vs → o ≡ get_or vs k o → Some next ≡ next_behind last (numbers (view o))
-    → rising_behind last (each numbers (elements (items_view (drop k vs)))) ≡ rising_behind first (each numbers (elements (items_view vs)))
-    → rising_behind next (each numbers (elements (items_view (drop (k + 1) vs)))) ≡ rising_behind first (each numbers (elements (items_view vs)))
+pub rise_more : (first last next : ℤ × ℤ) (vs : List Value) (k : ℕ) (o : Value) → k < length vs
+    → o ≡ get_or vs k o → Some next ≡ next_behind last (numbers (view o))
+    → rising_behind last (each numbers (elements (items_view (drop k vs)))) ≡ rising_behind first
+    (each numbers (elements (items_view vs)))
+    → rising_behind next (each numbers (elements (items_view (drop (k + 1) vs)))) ≡ rising_behind
+    first (each numbers (elements (items_view vs)))
 rise_more first last next vs k o l is read same =
-    let found : next_behind last (numbers (view (get_or vs k o))) ≡ Some next = ap (λ (v : Value). next_behind last (numbers (view v))) (sym is) ∙ sym read in
-    sym (more last next (numbers (view (get_or vs k o))) (each numbers (elements (items_view (drop (k + 1) vs)))) found)
-    ∙ (ap (λ (ws : List Value). rising_behind last (each numbers (elements (items_view ws)))) (sym (drop_more vs k o l)) ∙ same)
+    let found : next_behind last (numbers (view (get_or vs k o))) ≡ Some next = ap
+    (λ (v : Value). next_behind last (numbers (view v))) (sym is) ∙ sym read in
+    sym (more last next (numbers (view (get_or vs k o)))
+    (each numbers (elements (items_view (drop (k + 1) vs)))) found)
+    ∙ (ap (λ (ws : List Value). rising_behind last (each numbers (elements (items_view ws))))
+    (sym (drop_more vs k o l)) ∙ same)
 
 -- a value that is not
-pub rise_stops : (first last : ℤ × ℤ) (vs : List Value) (k : ℕ) (o : Value) → k < length vs → o ≡ get_or vs k o → None ≡ next_behind last (numbers (view o))
-    → rising_behind last (each numbers (elements (items_view (drop k vs)))) ≡ rising_behind first (each numbers (elements (items_view vs)))
+pub rise_stops : (first last : ℤ × ℤ) (vs : List Value) (k : ℕ) (o : Value) → k < length vs
+    → o ≡ get_or vs k o → None ≡ next_behind last (numbers (view o))
+    → rising_behind last (each numbers (elements (items_view (drop k vs)))) ≡ rising_behind first
+    (each numbers (elements (items_view vs)))
     → false ≡ rising_behind first (each numbers (elements (items_view vs)))
 rise_stops first last vs k o l is read same =
-    let found : next_behind last (numbers (view (get_or vs k o))) ≡ None = ap (λ (v : Value). next_behind last (numbers (view v))) (sym is) ∙ sym read in
-    sym (stops last (numbers (view (get_or vs k o))) (each numbers (elements (items_view (drop (k + 1) vs)))) found)
-    ∙ (ap (λ (ws : List Value). rising_behind last (each numbers (elements (items_view ws)))) (sym (drop_more vs k o l)) ∙ same)
+    let found : next_behind last (numbers (view (get_or vs k o))) ≡ None = ap
+    (λ (v : Value). next_behind last (numbers (view v))) (sym is) ∙ sym read in
+    sym (stops last (numbers (view (get_or vs k o)))
+    (each numbers (elements (items_view (drop (k + 1) vs)))) found)
+    ∙ (ap (λ (ws : List Value). rising_behind last (each numbers (elements (items_view ws))))
+    (sym (drop_more vs k o l)) ∙ same)
 
 -- ---- all of an aim
 
-few_elements : (vs : List Value) → length vs ≤ 1000 → nat_le (length (elements (items_view vs))) 1000 ≡ true
+few_elements : (vs : List Value) → length vs ≤ 1000
+    → nat_le (length (elements (items_view vs))) 1000 ≡ true
 few_elements vs l = rw (length-elements vs) (grind (arith, l))
 
-many_elements : (vs : List Value) → 1000 < length vs → nat_le (length (elements (items_view vs))) 1000 ≡ false
+many_elements : (vs : List Value) → 1000 < length vs
+    → nat_le (length (elements (items_view vs))) 1000 ≡ false
 many_elements vs l = rw (length-elements vs) (grind (arith, l))
 
 -- more than 1,000
-pub many_ids : (vs : List Value) → rising (each numbers (elements (items_view vs))) ≡ true → 1000 < length vs → Err fault.Range ≡ ids_of (elements (items_view vs))
+pub many_ids : (vs : List Value) → rising (each numbers (elements (items_view vs))) ≡ true
+    → 1000 < length vs → Err fault.Range ≡ ids_of (elements (items_view vs))
 many_ids vs rises l = rw (rises, many_elements vs l) refl
 
 -- no more, which are read
-pub read_ids : {B : Type 0} (b : B) (vs : List Value) (is : List OpId) → rising (each numbers (elements (items_view vs))) ≡ true → length vs ≤ 1000
-    → (◌≡◌ {A = Got B} (Ok b) (Err fault.OutOfMemory)) ⊎ (Ok is ≡ each name (elements (items_view vs))) → (Ok is ≡ ids_of (elements (items_view vs))) × (is_aim is ≡ true)
+pub read_ids : {B : Type 0} (b : B) (vs : List Value) (is : List OpId)
+    → rising (each numbers (elements (items_view vs))) ≡ true → length vs ≤ 1000
+    → (◌≡◌ {A = Got B} (Ok b) (Err fault.OutOfMemory))
+    ⊎ (Ok is ≡ each name (elements (items_view vs))) → (Ok is ≡ ids_of (elements (items_view vs)))
+    × (is_aim is ≡ true)
 read_ids b vs is rises l (inl m) = absurd cc
-read_ids b vs is rises l (inr e) = (rw (rises, few_elements vs l) e, names-within (elements (items_view vs)) is rises (few_elements vs l) (sym e))
+read_ids b vs is rises l (inr e) = (
+  rw (rises, few_elements vs l) e,
+  names-within (elements (items_view vs)) is rises (few_elements vs l) (sym e),
+)
 
 -- or have a fault
-pub fault_of_ids : {B C : Type 0} (e : LineError) (vs : List Value) → rising (each numbers (elements (items_view vs))) ≡ true → length vs ≤ 1000
-    → (◌≡◌ {A = Got B} (Err e) (Err fault.OutOfMemory)) ⊎ (Err e ≡ each name (elements (items_view vs)))
-    → (◌≡◌ {A = Got C} (Err e) (Err fault.OutOfMemory)) ⊎ (Err e ≡ ids_of (elements (items_view vs)))
+pub fault_of_ids : {B C : Type 0} (e : LineError) (vs : List Value)
+    → rising (each numbers (elements (items_view vs))) ≡ true → length vs ≤ 1000
+    → (◌≡◌ {A = Got B} (Err e) (Err fault.OutOfMemory))
+    ⊎ (Err e ≡ each name (elements (items_view vs)))
+    → (◌≡◌ {A = Got C} (Err e) (Err fault.OutOfMemory))
+    ⊎ (Err e ≡ ids_of (elements (items_view vs)))
 fault_of_ids e vs rises l (inl m) = let q : e ≡ fault.OutOfMemory = cc in inl (rw q refl)
 fault_of_ids e vs rises l (inr f) = inr (rw (rises, few_elements vs l) f)

@@ -1,5 +1,7 @@
 -- The points of a polygon, and what is read of them.
-use Rattle.std.proofs.Common.{◌≡◌, ℕ, ◌≤◌, ◌+◌, ◌-◌, ℤ, List, [], ◌∷◌, length, map, drop, get_or, refl, sym, subst, ◌∙◌, arith, Ok, Err, inl, inr, if◌then◌else◌, true, ◌&&◌, int_le, pos, negsuc}
+use Rattle.std.proofs.Common.{◌≡◌, ℕ, ◌≤◌, ◌+◌, ◌-◌, ℤ, List, [], ◌∷◌, length, map, drop, get_or}
+use Rattle.std.proofs.Common.{refl, sym, subst, ◌∙◌, arith, Ok, Err, inl, inr, if◌then◌else◌, true}
+use Rattle.std.proofs.Common.{◌&&◌, int_le, pos, negsuc}
 use Rattle.std.specs.Prelude.{All, IsOk, ⊤}
 use Rattle.std.specs.List.{list_all}
 use Rattle.std.proofs.lemmas.Bool.{cases_Bool}
@@ -16,12 +18,14 @@ use Rattle.gf_json.specs.declared.line_error.LineError.TheVariants as fault
 use Rattle.gf_json.specs.LineValues.{Got, mapped, and_then, ◌&◌, each, elements, two, whole}
 use Rattle.gf_json.specs.LineLimits.{coordinate, point, counted, points_of}
 use Rattle.gf_json.specs.CheckedPoints.{checked, read_point}
-use Rattle.gf_json.proofs.ArrayLemmas.{mapped-parts, beside-parts, beside-mapped, each-all, length-elements}
+use Rattle.gf_json.proofs.ArrayLemmas.{mapped-parts, beside-parts, beside-mapped, each-all}
+use Rattle.gf_json.proofs.ArrayLemmas.{length-elements}
 
 -- ---- one value after the other, from the last to the first
 
 -- the fault of a part beside a list
-checked-beside : {A : Type 0} (x : Got A) (y : Got (List A)) → checked (mapped (λ p. p.0 ∷ p.1) (x & y)) ≡ checked (x & checked y)
+checked-beside : {A : Type 0} (x : Got A) (y : Got (List A))
+    → checked (mapped (λ p. p.0 ∷ p.1) (x & y)) ≡ checked (x & checked y)
 checked-beside (Ok a) (Ok b) = refl
 checked-beside (Ok a) (Err e) = refl
 checked-beside (Err e) (Ok b) = refl
@@ -31,25 +35,33 @@ checked-beside (Err e) (Err fault.Range) = refl
 checked-beside (Err e) (Err fault.OutOfMemory) = refl
 
 -- the fault of a value and of those behind it
-pub checked_before : (vs : List Value) (v : Value) (n : ℕ) → 1 ≤ n → n ≤ length vs → v ≡ get_or vs (n - 1) v
-    → checked (each point (elements (items_view (drop (n - 1) vs)))) ≡ checked (point (view v) & checked (each point (elements (items_view (drop n vs)))))
+pub checked_before : (vs : List Value) (v : Value) (n : ℕ) → 1 ≤ n → n ≤ length vs
+    → v ≡ get_or vs (n - 1) v
+    → checked (each point (elements (items_view (drop (n - 1) vs)))) ≡ checked
+    (point (view v) & checked (each point (elements (items_view (drop n vs)))))
 checked_before vs v n l m e =
     let next : n - 1 + 1 ≡ n = omega (arith, l) in
-    rw (drop_more vs (n - 1) v (omega (arith, l, m)), ← e, next) (checked-beside (point (view v)) (each point (elements (items_view (drop n vs)))))
+    rw (drop_more vs (n - 1) v (omega (arith, l, m)), ← e, next)
+    (checked-beside (point (view v)) (each point (elements (items_view (drop n vs)))))
 
 -- ---- what is read of all of them
 
 -- values that were checked are points
-all_points : (vs : List Value) (t : ⊤) → checked (each point (elements (items_view vs))) ≡ Ok t → All (λ v. IsOk (point (view v))) vs
+all_points : (vs : List Value) (t : ⊤) → checked (each point (elements (items_view vs))) ≡ Ok t
+    → All (λ v. IsOk (point (view v))) vs
 all_points [] t h = All-nil _
 all_points (v ∷ vs) t h =
-    let e : checked (point (view v) & checked (each point (elements (items_view vs)))) ≡ Ok t = sym (checked-beside (point (view v)) (each point (elements (items_view vs)))) ∙ h in
-    let (q, b, u) = mapped-parts {B = ⊤} (λ a. tt) (point (view v) & checked (each point (elements (items_view vs)))) t e in
-    let parts = beside-parts (point (view v)) (checked (each point (elements (items_view vs)))) q b in
+    let e : checked (point (view v) & checked (each point (elements (items_view vs)))) ≡ Ok t = sym
+    (checked-beside (point (view v)) (each point (elements (items_view vs)))) ∙ h in
+    let (q, b, u) = mapped-parts {B = ⊤} (λ a. tt)
+    (point (view v) & checked (each point (elements (items_view vs)))) t e in
+    let parts = beside-parts (point (view v)) (checked (each point (elements (items_view vs)))) q b
+    in
     All-cons (λ w. IsOk (point (view w))) v vs (rw parts.0 refl) (all_points vs q.1 parts.1)
 
 -- elements that are points are read as these
-each-points : (vs : List Value) (ps : List Point) → map (λ v. point (view v)) vs ≡ map read_point ps → each point (elements (items_view vs)) ≡ Ok ps
+each-points : (vs : List Value) (ps : List Point) → map (λ v. point (view v)) vs ≡ map read_point ps
+    → each point (elements (items_view vs)) ≡ Ok ps
 each-points [] [] h = refl
 each-points [] (p ∷ ps) h = absurd cc
 each-points (v ∷ vs) [] h = absurd cc
@@ -59,32 +71,44 @@ each-points (v ∷ vs) (p ∷ ps) h =
     rw (first, each-points vs ps rest) refl
 
 -- a fault that a map leaves
-mapped-fault : {A B C : Type 0} (f : A → B) (g : A → C) (x : Got A) (e : LineError) → mapped f x ≡ Err e → mapped g x ≡ Err e
+mapped-fault : {A B C : Type 0} (f : A → B) (g : A → C) (x : Got A) (e : LineError)
+    → mapped f x ≡ Err e → mapped g x ≡ Err e
 mapped-fault f g (Ok a) e h = absurd cc
 mapped-fault f g (Err d) e h = cc
 
 -- where the count and the values are checked, each value is a point
-pub points_checked : (vs : List Value) (p : ℕ × ⊤) → (counted (length vs) & checked (each point (elements (items_view vs)))) ≡ Ok p → All (λ v. IsOk (point (view v))) vs
-points_checked vs p h = all_points vs p.1 (beside-parts (counted (length vs)) (checked (each point (elements (items_view vs)))) p h).1
+pub points_checked : (vs : List Value) (p : ℕ × ⊤)
+    → (counted (length vs) & checked (each point (elements (items_view vs)))) ≡ Ok p
+    → All (λ v. IsOk (point (view v))) vs
+points_checked vs p h = all_points vs p.1
+    (beside-parts (counted (length vs)) (checked (each point (elements (items_view vs)))) p h).1
 
 -- and these points are read
-pub points_of-read : (vs : List Value) (ps : List Point) (p : ℕ × ⊤) → (counted (length vs) & checked (each point (elements (items_view vs)))) ≡ Ok p
-    → map (λ v. point (view v)) vs ≡ map read_point ps → points_of (elements (items_view vs)) ≡ Ok ps
+pub points_of-read : (vs : List Value) (ps : List Point) (p : ℕ × ⊤)
+    → (counted (length vs) & checked (each point (elements (items_view vs)))) ≡ Ok p
+    → map (λ v. point (view v)) vs ≡ map read_point ps
+    → points_of (elements (items_view vs)) ≡ Ok ps
 points_of-read vs ps p h read =
-    let parts = beside-parts (counted (length vs)) (checked (each point (elements (items_view vs)))) p h in
+    let parts = beside-parts (counted (length vs)) (checked (each point (elements (items_view vs))))
+    p h in
     rw (length-elements vs, parts.0, each-points vs ps read) refl
 
 -- and where they are not, the fault is theirs
-pub points_of-refused : (vs : List Value) (e : LineError) → (counted (length vs) & checked (each point (elements (items_view vs)))) ≡ Err e
+pub points_of-refused : (vs : List Value) (e : LineError)
+    → (counted (length vs) & checked (each point (elements (items_view vs)))) ≡ Err e
     → points_of (elements (items_view vs)) ≡ Err e
 points_of-refused vs e h =
-    let both = rw (beside-mapped {C = ⊤} (λ ps. tt) (counted (length vs)) (each point (elements (items_view vs)))) at h in
-    rw (length-elements vs) (mapped-fault _ (λ p. p.1) (counted (length vs) & each point (elements (items_view vs))) e both)
+    let both = rw (beside-mapped {C = ⊤} (λ ps. tt) (counted (length vs))
+    (each point (elements (items_view vs)))) at h in
+    rw (length-elements vs) (mapped-fault _ (λ p. p.1)
+    (counted (length vs) & each point (elements (items_view vs))) e both)
 
 -- ---- limits
 
 -- a coordinate that is read is near
-near : (w : Got ℤ) (n : ℤ) → and_then (λ z. if int_le (negsuc 999999) z && int_le z (pos 1000000) then Ok z else Err fault.Range) w ≡ Ok n
+near : (w : Got ℤ) (n : ℤ)
+    → and_then (λ z. if int_le (negsuc 999999) z && int_le z (pos 1000000) then Ok z else
+    Err fault.Range) w ≡ Ok n
     → (int_le (negsuc 999999) n && int_le n (pos 1000000)) ≡ true
 near (Err e) n h = absurd cc
 near (Ok z) n h = elim (cases_Bool (int_le (negsuc 999999) z && int_le z (pos 1000000))) [
@@ -93,22 +117,26 @@ near (Ok z) n h = elim (cases_Bool (int_le (negsuc 999999) z && int_le z (pos 10
 ]
 
 -- a point whose coordinates are near is near
-is_near-parts : (p : Point) → (int_le (negsuc 999999) p.x && int_le p.x (pos 1000000)) ≡ true → (int_le (negsuc 999999) p.y && int_le p.y (pos 1000000)) ≡ true → is_near p ≡ true
+is_near-parts : (p : Point) → (int_le (negsuc 999999) p.x && int_le p.x (pos 1000000)) ≡ true
+    → (int_le (negsuc 999999) p.y && int_le p.y (pos 1000000)) ≡ true → is_near p ≡ true
 unfolding is_near
 is_near-parts p h k = grind (arith, h, k)
 
 -- what was read first
-and_then-parts : {A B : Type 0} (f : A → Got B) (x : Got A) (b : B) → and_then f x ≡ Ok b → (a : A) × (f a ≡ Ok b)
+and_then-parts : {A B : Type 0} (f : A → Got B) (x : Got A) (b : B) → and_then f x ≡ Ok b
+    → (a : A) × (f a ≡ Ok b)
 and_then-parts f (Ok a) b h = (a, h)
 and_then-parts f (Err e) b h = absurd cc
 
 -- a point that is read is near
 point-near : (d : Data) (p : Point) → point d ≡ Ok p → is_near p ≡ true
 point-near d p h =
-    let (q, b, e) = mapped-parts {A = ℤ × ℤ} {B = Point} (λ q. record { x = q.0; y = q.1 }) (and_then (λ r. coordinate r.0 & coordinate r.1) (two d)) p h in
+    let (q, b, e) = mapped-parts {A = ℤ × ℤ} {B = Point} (λ q. record { x = q.0; y = q.1 })
+    (and_then (λ r. coordinate r.0 & coordinate r.1) (two d)) p h in
     let (r, c) = and_then-parts (λ r. coordinate r.0 & coordinate r.1) (two d) q b in
     let parts = beside-parts (coordinate r.0) (coordinate r.1) q c in
-    rw (← e) (is_near-parts (record { x = q.0; y = q.1 }) (near (whole r.0) q.0 parts.0) (near (whole r.1) q.1 parts.1))
+    rw (← e) (is_near-parts (record { x = q.0; y = q.1 }) (near (whole r.0) q.0 parts.0)
+    (near (whole r.1) q.1 parts.1))
 
 -- a count that is read is one of a polygon
 counted-within : (n m : ℕ) → counted n ≡ Ok m → is_polygon_count n ≡ true
@@ -118,7 +146,8 @@ counted-within n m h = elim (cases_Bool (is_polygon_count n)) [
 ]
 
 -- as many are read as there are
-pub length-each : {A : Type 0} (form : Data → Got A) (ds : List Data) (found : List A) → each form ds ≡ Ok found → length found ≡ length ds
+pub length-each : {A : Type 0} (form : Data → Got A) (ds : List Data) (found : List A)
+    → each form ds ≡ Ok found → length found ≡ length ds
 length-each form [] found h = let e : [] ≡ found = cc in rw (← e) refl
 length-each form (d ∷ ds) found h =
     let (q, b, e) = mapped-parts (λ r. r.0 ∷ r.1) (form d & each form ds) found h in
@@ -127,16 +156,20 @@ length-each form (d ∷ ds) found h =
     rw (← e) (omega (arith, i))
 
 -- as many points as a polygon has, all of them near
-is_polygon-parts : (ps : List Point) (n : ℕ) → length ps ≡ n → is_polygon_count n ≡ true → list_all is_near ps ≡ true → is_polygon ps ≡ true
+is_polygon-parts : (ps : List Point) (n : ℕ) → length ps ≡ n → is_polygon_count n ≡ true
+    → list_all is_near ps ≡ true → is_polygon ps ≡ true
 is_polygon-parts ps n e t h = rw (e, t) h
 
 -- points that are read keep the limits
-pub points_of-within : (ds : List Data) (ps : List Point) → points_of ds ≡ Ok ps → is_polygon ps ≡ true
+pub points_of-within : (ds : List Data) (ps : List Point) → points_of ds ≡ Ok ps
+    → is_polygon ps ≡ true
 points_of-within ds ps h =
-    let (q, b, e) = mapped-parts {A = ℕ × List Point} {B = List Point} (λ p. p.1) (counted (length ds) & each point ds) ps h in
+    let (q, b, e) = mapped-parts {A = ℕ × List Point} {B = List Point} (λ p. p.1)
+    (counted (length ds) & each point ds) ps h in
     let parts = beside-parts (counted (length ds)) (each point ds) q b in
     let all = each-all is_near point point-near ds q.1 parts.1 in
     subst (λ (rs : List Point). is_polygon rs ≡ true) e
-    (is_polygon-parts q.1 (length ds) (length-each point ds q.1 parts.1) (counted-within (length ds) q.0 parts.0) all)
+    (is_polygon-parts q.1 (length ds) (length-each point ds q.1 parts.1)
+    (counted-within (length ds) q.0 parts.0) all)
 
 pub ruleset refusals = (points_of-refused)

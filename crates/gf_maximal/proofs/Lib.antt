@@ -6,6 +6,7 @@ pub mod MaximalLemmas
 pub mod GrowingLemmas
 pub mod RunLemmas
 pub mod RunSetLemmas
+pub mod PutLemmas
 mod SameRunLemmas
 pub mod RunTestLemmas
 pub mod RunEditLemmas

@@ -1,28 +1,30 @@
 -- Runs as sets of numbers.
-use Rattle.std.proofs.Common.{◌≡◌, length, get_or, take, drop, append_assoc, ℕ, zero, suc, ◌<◌, ◌≤◌, ◌+◌, ◌-◌, Bool, true, false, List, [], ◌∷◌, ◌++◌, inl, inr, refl, subst, sym, ap, ◌∙◌, arith, nat_le, nat_lt}
-use Rattle.std.specs.Prelude.{◌⊎◌, ◌↔◌, Contains, ◌==◌}
-use Rattle.std.specs.Prelude.{Result, Ok, Err, OnOk, OnErr}
+use Rattle.std.proofs.Common.{◌≡◌, ℕ, zero, suc, ◌<◌, ◌≤◌}
+use Rattle.std.proofs.Common.{◌+◌, ◌-◌, Bool, true, false, List, [], ◌∷◌, ◌++◌, inl, inr, refl}
+use Rattle.std.proofs.Common.{subst, sym, arith, nat_le, nat_lt}
+use Rattle.std.specs.Prelude.{◌⊎◌, ◌↔◌, Contains}
 use Rattle.std.specs.Cmp.{nat_cmp_is}
-use Rattle.std.specs.FinMap.{nat_cmp-IsAntisymmetric}
 use Rattle.std.specs.Ordering.{nat_cmp}
 use Rattle.std.specs.declared.cmp.Ordering.TheVariants.{Less}
 use Rattle.std.specs.List.{range_with_len, list_any, list_all}
-use Rattle.std.proofs.lemmas.Bool.{cases_Bool, cond-true, cond-false, and_parts, and_from, or_cases, or_left, or_right}
-use Rattle.std.proofs.lemmas.Bool.Decides.{Decides-eqb}
+use Rattle.std.proofs.lemmas.Bool.{cases_Bool, cond-true, cond-false, and_parts, and_from, or_cases}
+use Rattle.std.proofs.lemmas.Bool.{or_left, or_right}
 use Rattle.std.proofs.lemmas.Cmp.{nat_cmp_total}
-use Rattle.std.proofs.lemmas.List.{append-nil}
-use Rattle.std.proofs.lemmas.List.Elements.{All-weaker, All-contains_itself, Contains-append_cases, Contains-append_left, Contains-append_right}
+use Rattle.std.proofs.lemmas.List.Elements.{All-weaker, All-contains_itself, Contains-append_cases}
+use Rattle.std.proofs.lemmas.List.Elements.{Contains-append_left, Contains-append_right}
 use Rattle.std.proofs.lemmas.List.Kept.{IsStrictlySortedBy-filter}
 use Rattle.gf_maximal.specs.declared.run.Run.{Run}
-use Rattle.gf_maximal.specs.Growing.{is_in, meets, without, is_within, joined}
-use Rattle.gf_maximal.specs.Runs.{numbers_of, members, AreRuns, Serves, after, is_inside, first_touches, first_covers, touches, covers, piece, cut, all_cut, absorb, settle, put, single}
+use Rattle.gf_maximal.specs.Growing.{is_in, meets, without, is_within}
+use Rattle.gf_maximal.specs.Runs.{numbers_of, members, AreRuns, after, is_inside}
+use Rattle.gf_maximal.specs.Runs.{first_touches, first_covers, touches, covers, piece, cut, all_cut}
 use Rattle.gf_maximal.specs.Tables.{IsRising}
-use Rattle.gf_base.proofs.ListLemmas.{Contains-cons_cases, Contains-cons_head, Contains-cons_tail, not_Contains-nil}
+use Rattle.gf_base.proofs.ListLemmas.{Contains-cons_cases, Contains-cons_head, Contains-cons_tail}
+use Rattle.gf_base.proofs.ListLemmas.{not_Contains-nil}
 use Rattle.gf_base.proofs.FilterLemmas.{list_any_true, list_any_from, list_all_true, list_all_from}
-use Rattle.gf_maximal.proofs.InsertLemmas.{inserted, holds}
 use Rattle.gf_maximal.proofs.MaximalLemmas.{in_list, from_list, Contains-without}
 use Rattle.gf_base.proofs.RisingLemmas.{one_rising, rising_cons}
-use Rattle.gf_maximal.proofs.RunLemmas.{nat_le_true, nat_le_from, nat_le_false, nat_lt_true, nat_lt_from, nat_lt_false}
+use Rattle.gf_maximal.proofs.RunLemmas.{nat_le_true, nat_le_from, nat_le_false, nat_lt_true}
+use Rattle.gf_maximal.proofs.RunLemmas.{nat_lt_from, nat_lt_false}
 
 -- a is in the run
 abbrev pub In : Run → ℕ → Type 0
@@ -33,22 +35,30 @@ abbrev pub Has : List Run → ℕ → Type 0
 Has [] a = ⊥
 Has (r ∷ rs) a = In r a ⊎ Has rs a
 
-in_range : (n b a : ℕ) → Contains (range_with_len b n) a ↔ ((b ≤ a) × (a < b + n))
-in_range zero b a = (λ h. absurd (not_Contains-nil a h), λ h. let l = h.0 in let m = h.1 in absurd (omega arith))
+pub in_range : (n b a : ℕ) → Contains (range_with_len b n) a ↔ ((b ≤ a) × (a < b + n))
+in_range zero b a = (
+  λ h. absurd (not_Contains-nil a h),
+  λ h. let l = h.0 in let m = h.1 in absurd (omega arith),
+)
 in_range (suc n) b a = (
   λ h. elim (Contains-cons_cases b (range_with_len (b + 1) n) a h) [
     | inl e ↦ (omega arith, omega arith)
-    | inr i ↦ let w = (in_range n (b + 1) a).0 i in let l = w.0 in let m = w.1 in (omega arith, omega arith)
+    | inr i ↦ let w = (in_range n (b + 1) a).0 i in let l = w.0 in let m = w.1 in
+        (omega arith, omega arith)
   ],
   λ h. let l = h.0 in let m = h.1 in elim (cases_Bool (nat_lt b a)) [
-    | inl t ↦ let k = nat_lt_true b a t in Contains-cons_tail b (range_with_len (b + 1) n) a ((in_range n (b + 1) a).1 (omega arith, omega arith))
-    | inr f ↦ let k = nat_lt_false b a f in let e : b ≡ a = omega arith in subst (Contains (b ∷ range_with_len (b + 1) n)) e (Contains-cons_head b (range_with_len (b + 1) n))
+    | inl t ↦ let k = nat_lt_true b a t in Contains-cons_tail b (range_with_len (b + 1) n) a
+        ((in_range n (b + 1) a).1 (omega arith, omega arith))
+    | inr f ↦ let k = nat_lt_false b a f in let e : b ≡ a = omega arith in
+        subst (Contains (b ∷ range_with_len (b + 1) n)) e
+        (Contains-cons_head b (range_with_len (b + 1) n))
   ],
 )
 
 pub in_numbers : (r : Run) (a : ℕ) → Contains (numbers_of r) a ↔ In r a
 in_numbers r a = (
-  λ h. let w = (in_range (r.end - r.start) r.start a).0 h in let l = w.0 in let m = w.1 in (l, omega arith),
+  λ h. let w = (in_range (r.end - r.start) r.start a).0 h in let l = w.0 in let m = w.1 in
+      (l, omega arith),
   λ h. let l = h.0 in let m = h.1 in (in_range (r.end - r.start) r.start a).1 (l, omega arith),
 )
 
@@ -88,17 +98,22 @@ has_one (r ∷ rs) q a h i = elim (Contains-cons_cases r rs q h) [
 
 -- what later runs hold is above the end of the first
 pub above_first : (r : Run) (rs : List Run) → AreRuns (r ∷ rs) → (a : ℕ) → Has rs a → r.end < a
-above_first r rs w a h = let o = of_one rs a h in let l = w.1 o.0 o.1 in let m = o.2.0 in omega arith
+above_first r rs w a h = let o = of_one rs a h in let l = w.1 o.0 o.1 in let m = o.2.0 in
+    omega arith
 
-range_rises : (n b : ℕ) (ys : List ℕ) → IsRising ys → ((y : ℕ) → Contains ys y → b + n ≤ y) → IsRising (range_with_len b n ++ ys)
+pub range_rises : (n b : ℕ) (ys : List ℕ) → IsRising ys → ((y : ℕ) → Contains ys y → b + n ≤ y)
+    → IsRising (range_with_len b n ++ ys)
 range_rises zero b ys r f = r
 range_rises (suc n) b ys r f =
     let rest = range_with_len (b + 1) n ++ ys in
-    let up : (y : ℕ) → Contains rest y → nat_cmp b y ≡ Less = λ y h. sym (nat_cmp_is b y Less (elim (Contains-append_cases (range_with_len (b + 1) n) ys y h) [
+    let up : (y : ℕ) → Contains rest y
+    → nat_cmp b y ≡ Less = λ y h.
+    sym (nat_cmp_is b y Less (elim (Contains-append_cases (range_with_len (b + 1) n) ys y h) [
       | inl i ↦ let w = (in_range n (b + 1) y).0 i in let l = w.0 in omega arith
       | inr i ↦ let l = f y i in omega arith
     ])) in
-    rising_cons nat_cmp nat_cmp_total b rest (All-weaker (Contains rest) (λ y. nat_cmp b y ≡ Less) up rest (All-contains_itself rest))
+    rising_cons nat_cmp nat_cmp_total b rest (All-weaker (Contains rest) (λ y. nat_cmp b y ≡ Less)
+    up rest (All-contains_itself rest))
     (range_rises n (b + 1) ys r (λ y h. let l = f y h in omega arith))
 
 pub members_rise : (rs : List Run) → AreRuns rs → IsRising (members rs)
@@ -108,21 +123,30 @@ members_rise (r ∷ rs) w = range_rises (r.end - r.start) r.start (members rs) (
     (λ y h. let l = above_first r rs w y ((in_members rs y).0 h) in let m = w.0 in omega arith)
 
 -- runs with the elements of a rising list have it as their numbers
-pub members_are : (rs : List Run) (g : List ℕ) → AreRuns rs → IsRising g → ((a : ℕ) → Has rs a ↔ Contains g a) → members rs ≡ g
-members_are rs g w r f = one_rising nat_cmp nat_cmp_total (members rs) g (members_rise rs w) r (λ a. (λ h. (f a).0 ((in_members rs a).0 h), λ h. (in_members rs a).1 ((f a).1 h)))
+pub members_are : (rs : List Run) (g : List ℕ) → AreRuns rs → IsRising g
+    → ((a : ℕ) → Has rs a ↔ Contains g a) → members rs ≡ g
+members_are rs g w r f = one_rising nat_cmp nat_cmp_total (members rs) g (members_rise rs w) r
+    (λ a. (λ h. (f a).0 ((in_members rs a).0 h), λ h. (in_members rs a).1 ((f a).1 h)))
 
-AreRuns-append : (ps qs : List Run) → AreRuns ps → AreRuns qs → ((p q : Run) → Contains ps p → Contains qs q → p.end < q.start) → AreRuns (ps ++ qs)
+AreRuns-append : (ps qs : List Run) → AreRuns ps → AreRuns qs
+    → ((p q : Run) → Contains ps p → Contains qs q → p.end < q.start) → AreRuns (ps ++ qs)
 AreRuns-append [] qs v w f = w
 AreRuns-append (p ∷ ps) qs v w f = (
   v.0,
-  λ q h. elim (Contains-append_cases ps qs q h) [ inl i ↦ v.1 q i | inr i ↦ f p q (Contains-cons_head p ps) i ],
+  λ q h. elim (Contains-append_cases ps qs q h) [
+    | inl i ↦ v.1 q i
+    | inr i ↦ f p q (Contains-cons_head p ps) i
+  ],
   AreRuns-append ps qs v.2 w (λ a b i j. f a b (Contains-cons_tail p ps a i) j),
 )
 
 Has-append : (ps qs : List Run) (a : ℕ) → Has (ps ++ qs) a ↔ (Has ps a ⊎ Has qs a)
 Has-append [] qs a = (λ h. inr h, λ h. elim h [ inl i ↦ absurd i | inr i ↦ i ])
 Has-append (p ∷ ps) qs a = (
-  λ h. elim h [ inl i ↦ inl (inl i) | inr i ↦ elim ((Has-append ps qs a).0 i) [ inl j ↦ inl (inr j) | inr j ↦ inr j ] ],
+  λ h. elim h [
+    | inl i ↦ inl (inl i)
+    | inr i ↦ elim ((Has-append ps qs a).0 i) [ inl j ↦ inl (inr j) | inr j ↦ inr j ]
+  ],
   λ h. elim h [
     | inl i ↦ elim i [ inl j ↦ inl j | inr j ↦ inr ((Has-append ps qs a).1 (inl j)) ]
     | inr i ↦ inr ((Has-append ps qs a).1 (inr i))
@@ -148,33 +172,48 @@ after_runs n (r ∷ rs) w = elim (cases_Bool (nat_le r.end n)) [
   | inr f ↦ rw (cond-false (nat_le r.end n) (after n rs) (r ∷ rs) f) w
 ]
 
-pub after_ends : (n : ℕ) (rs : List Run) → AreRuns rs → (q : Run) → Contains (after n rs) q → n < q.end
+pub after_ends : (n : ℕ) (rs : List Run) → AreRuns rs → (q : Run) → Contains (after n rs) q
+    → n < q.end
 after_ends n [] w q h = absurd (not_Contains-nil q h)
 after_ends n (r ∷ rs) w q h = elim (cases_Bool (nat_le r.end n)) [
   | inl t ↦ after_ends n rs w.2 q (rw (cond-true (nat_le r.end n) (after n rs) (r ∷ rs) t) at h)
-  | inr f ↦ let l = nat_le_false r.end n f in elim (Contains-cons_cases r rs q (rw (cond-false (nat_le r.end n) (after n rs) (r ∷ rs) f) at h)) [
-    | inl e ↦ subst (λ (z : Run). n < z.end) (sym e) l
-    | inr i ↦ let m = w.1 q i in let k = not_empty rs w.2 q i in omega arith
-  ]
+  | inr f ↦ let l = nat_le_false r.end n f in
+      elim (Contains-cons_cases r rs q (rw (cond-false (nat_le r.end n) (after n rs) (r ∷ rs) f)
+      at h)) [
+        | inl e ↦ subst (λ (z : Run). n < z.end) (sym e) l
+        | inr i ↦ let m = w.1 q i in let k = not_empty rs w.2 q i in omega arith
+      ]
 ]
 
 -- ---- what is left of a run
 
-piece_has : (r : Run) (a : ℕ) → Has (piece r) a ↔ In r a
+pub piece_has : (r : Run) (a : ℕ) → Has (piece r) a ↔ In r a
 piece_has r a = elim (cases_Bool (nat_lt r.start r.end)) [
-  | inl t ↦ rw (cond-true (nat_lt r.start r.end) (r ∷ []) [] t) (λ h. elim h [ inl i ↦ i | inr i ↦ absurd i ], λ h. inl h)
-  | inr f ↦ let l = nat_lt_false r.start r.end f in rw (cond-false (nat_lt r.start r.end) (r ∷ []) [] f) (λ h. absurd h, λ h. let m = h.0 in let k = h.1 in omega arith)
+  | inl t ↦ rw (cond-true (nat_lt r.start r.end) (r ∷ []) [] t) (
+    λ h. elim h [ inl i ↦ i | inr i ↦ absurd i ],
+    λ h. inl h,
+  )
+  | inr f ↦ let l = nat_lt_false r.start r.end f in
+      rw (cond-false (nat_lt r.start r.end) (r ∷ []) [] f) (
+        λ h. absurd h,
+        λ h. let m = h.0 in let k = h.1 in omega arith,
+      )
 ]
 
-piece_runs : (r : Run) → AreRuns (piece r)
+pub piece_runs : (r : Run) → AreRuns (piece r)
 piece_runs r = elim (cases_Bool (nat_lt r.start r.end)) [
-  | inl t ↦ rw (cond-true (nat_lt r.start r.end) (r ∷ []) [] t) (nat_lt_true r.start r.end t, λ q h. absurd (not_Contains-nil q h), tt)
+  | inl t ↦ rw (cond-true (nat_lt r.start r.end) (r ∷ []) [] t) (
+    nat_lt_true r.start r.end t,
+    λ q h. absurd (not_Contains-nil q h),
+    tt,
+  )
   | inr f ↦ rw (cond-false (nat_lt r.start r.end) (r ∷ []) [] f) tt
 ]
 
 piece_one : (r p : Run) → Contains (piece r) p → p ≡ r
 piece_one r p h = elim (cases_Bool (nat_lt r.start r.end)) [
-  | inl t ↦ elim (Contains-cons_cases r [] p (rw (cond-true (nat_lt r.start r.end) (r ∷ []) [] t) at h)) [ inl e ↦ e | inr i ↦ absurd (not_Contains-nil p i) ]
+  | inl t ↦ elim (Contains-cons_cases r [] p (rw (cond-true (nat_lt r.start r.end) (r ∷ []) [] t)
+      at h)) [ inl e ↦ e | inr i ↦ absurd (not_Contains-nil p i) ]
   | inr f ↦ absurd (not_Contains-nil p (rw (cond-false (nat_lt r.start r.end) (r ∷ []) [] f) at h))
 ]
 
@@ -188,22 +227,24 @@ later q qs w p h = let l = w.1 p h in let m = not_empty qs w.2 p h in omega arit
 abbrev front : Run → Run → Run
 front r q = record { start = r.start; end = q.start }
 
-abbrev rest : Run → Run → Run
+abbrev pub rest : Run → Run → Run
 rest r q = record { start = q.end; end = r.end }
 
-pub cut_has : (qs : List Run) (r : Run) → AreRuns qs → EndAfter r.start qs → (a : ℕ) → Has (cut r qs) a ↔ (In r a × (¬ (Has qs a)))
+pub cut_has : (qs : List Run) (r : Run) → AreRuns qs → EndAfter r.start qs → (a : ℕ)
+    → Has (cut r qs) a ↔ (In r a × (¬ (Has qs a)))
 cut_has [] r w f a = (λ h. ((piece_has r a).0 h, λ i. i), λ h. (piece_has r a).1 h.0)
 cut_has (q ∷ qs) r w f a = elim (cases_Bool (nat_le r.end q.start)) [
-  | inl t ↦ let l = nat_le_true r.end q.start t in rw (cond-true (nat_le r.end q.start) (piece r) (piece (front r q) ++ cut (rest r q) qs) t) (
-    λ h. let i = (piece_has r a).0 h in let m = i.1 in let v = w.0 in (
-      i,
-      λ k. elim k [
-        | inl j ↦ let n = j.0 in omega arith
-        | inr j ↦ let n = above_first q qs w a j in omega arith
-      ],
-    ),
-    λ h. (piece_has r a).1 h.0,
-  )
+  | inl t ↦ let l = nat_le_true r.end q.start t in
+      rw (cond-true (nat_le r.end q.start) (piece r) (piece (front r q) ++ cut (rest r q) qs) t) (
+        λ h. let i = (piece_has r a).0 h in let m = i.1 in let v = w.0 in (
+          i,
+          λ k. elim k [
+            | inl j ↦ let n = j.0 in omega arith
+            | inr j ↦ let n = above_first q qs w a j in omega arith
+          ],
+        ),
+        λ h. (piece_has r a).1 h.0,
+      )
   | inr e ↦
       let l = nat_le_false r.end q.start e in
       let v = w.0 in
@@ -226,37 +267,49 @@ cut_has (q ∷ qs) r w f a = elim (cases_Bool (nat_le r.end q.start)) [
             ],
           )
         ],
-        λ h. let m = h.0.0 in let n = h.0.1 in (Has-append (piece (front r q)) (cut (rest r q) qs) a).1 (elim (cases_Bool (nat_lt a q.start)) [
-          | inl t ↦ inl ((piece_has (front r q) a).1 (m, nat_lt_true a q.start t))
-          | inr t ↦ let x = nat_lt_false a q.start t in elim (cases_Bool (nat_lt a q.end)) [
-            | inl y ↦ absurd (h.1 (inl (x, nat_lt_true a q.end y)))
-            | inr y ↦ inr (deeper.1 ((nat_lt_false a q.end y, n), λ k. h.1 (inr k)))
-          ]
-        ]),
+        λ h. let m = h.0.0 in let n = h.0.1 in
+            (Has-append (piece (front r q)) (cut (rest r q) qs) a).1
+            (elim (cases_Bool (nat_lt a q.start)) [
+              | inl t ↦ inl ((piece_has (front r q) a).1 (m, nat_lt_true a q.start t))
+              | inr t ↦ let x = nat_lt_false a q.start t in elim (cases_Bool (nat_lt a q.end)) [
+                | inl y ↦ absurd (h.1 (inl (x, nat_lt_true a q.end y)))
+                | inr y ↦ inr (deeper.1 ((nat_lt_false a q.end y, n), λ k. h.1 (inr k)))
+              ]
+            ]),
       )
 ]
 
-pub cut_within : (qs : List Run) (r : Run) → AreRuns qs → EndAfter r.start qs → (p : Run) → Contains (cut r qs) p → (r.start ≤ p.start) × (p.end ≤ r.end)
-cut_within [] r w f p h = let e = piece_one r p h in subst (λ (z : Run). (r.start ≤ z.start) × (z.end ≤ r.end)) (sym e) (omega arith, omega arith)
+pub cut_within : (qs : List Run) (r : Run) → AreRuns qs → EndAfter r.start qs → (p : Run)
+    → Contains (cut r qs) p → (r.start ≤ p.start) × (p.end ≤ r.end)
+cut_within [] r w f p h = let e = piece_one r p h in
+    subst (λ (z : Run). (r.start ≤ z.start) × (z.end ≤ r.end)) (sym e) (omega arith, omega arith)
 cut_within (q ∷ qs) r w f p h = elim (cases_Bool (nat_le r.end q.start)) [
   | inl t ↦
-      let e = piece_one r p (rw (cond-true (nat_le r.end q.start) (piece r) (piece (front r q) ++ cut (rest r q) qs) t) at h) in
+      let e = piece_one r p (rw (cond-true (nat_le r.end q.start) (piece r)
+      (piece (front r q) ++ cut (rest r q) qs) t) at h) in
       subst (λ (z : Run). (r.start ≤ z.start) × (z.end ≤ r.end)) (sym e) (omega arith, omega arith)
   | inr e ↦
       let l = nat_le_false r.end q.start e in
       let u = f q (Contains-cons_head q qs) in
-      elim (Contains-append_cases (piece (front r q)) (cut (rest r q) qs) p (rw (cond-false (nat_le r.end q.start) (piece r) (piece (front r q) ++ cut (rest r q) qs) e) at h)) [
-        | inl i ↦ subst (λ (z : Run). (r.start ≤ z.start) × (z.end ≤ r.end)) (sym (piece_one (front r q) p i)) (omega arith, omega arith)
-        | inr i ↦ let d = cut_within qs (rest r q) w.2 (later q qs w) p i in let m = d.0 in (omega arith, d.1)
+      elim (Contains-append_cases (piece (front r q)) (cut (rest r q) qs) p
+      (rw (cond-false (nat_le r.end q.start) (piece r) (piece (front r q) ++ cut (rest r q) qs) e)
+      at h)) [
+        | inl i ↦ subst (λ (z : Run). (r.start ≤ z.start) × (z.end ≤ r.end))
+            (sym (piece_one (front r q) p i)) (omega arith, omega arith)
+        | inr i ↦ let d = cut_within qs (rest r q) w.2 (later q qs w) p i in let m = d.0 in
+            (omega arith, d.1)
       ]
 ]
 
 pub cut_runs : (qs : List Run) (r : Run) → AreRuns qs → EndAfter r.start qs → AreRuns (cut r qs)
 cut_runs [] r w f = piece_runs r
 cut_runs (q ∷ qs) r w f = elim (cases_Bool (nat_le r.end q.start)) [
-  | inl t ↦ rw (cond-true (nat_le r.end q.start) (piece r) (piece (front r q) ++ cut (rest r q) qs) t) (piece_runs r)
-  | inr e ↦ rw (cond-false (nat_le r.end q.start) (piece r) (piece (front r q) ++ cut (rest r q) qs) e) (
-      AreRuns-append (piece (front r q)) (cut (rest r q) qs) (piece_runs (front r q)) (cut_runs qs (rest r q) w.2 (later q qs w))
+  | inl t ↦ rw (cond-true (nat_le r.end q.start) (piece r) (piece (front r q) ++ cut (rest r q) qs)
+      t) (piece_runs r)
+  | inr e ↦ rw (cond-false (nat_le r.end q.start) (piece r) (piece (front r q) ++ cut (rest r q) qs)
+      e) (
+      AreRuns-append (piece (front r q)) (cut (rest r q) qs) (piece_runs (front r q))
+      (cut_runs qs (rest r q) w.2 (later q qs w))
       (λ a b i j.
       let d = cut_within qs (rest r q) w.2 (later q qs w) b j in
       let m = d.0 in let v = w.0 in
@@ -265,12 +318,18 @@ cut_runs (q ∷ qs) r w f = elim (cases_Bool (nat_le r.end q.start)) [
 
 -- ---- of all runs
 
-all_within : (qs rs : List Run) → AreRuns qs → (p : Run) → Contains (all_cut qs rs) p → (r : Run) × Contains rs r × (r.start ≤ p.start)
+all_within : (qs rs : List Run) → AreRuns qs → (p : Run) → Contains (all_cut qs rs) p
+    → (r : Run) × Contains rs r × (r.start ≤ p.start)
 all_within qs [] w p h = absurd (not_Contains-nil p h)
-all_within qs (r ∷ rs) w p h = elim (Contains-append_cases (cut r (after r.start qs)) (all_cut qs rs) p h) [
-  | inl i ↦ (r, Contains-cons_head r rs, (cut_within (after r.start qs) r (after_runs r.start qs w) (after_ends r.start qs w) p i).0)
-  | inr i ↦ let v = all_within qs rs w p i in (v.0, Contains-cons_tail r rs v.0 v.1, v.2)
-]
+all_within qs (r ∷ rs) w p h = elim (Contains-append_cases (cut r (after r.start qs))
+    (all_cut qs rs) p h) [
+      | inl i ↦ (
+        r,
+        Contains-cons_head r rs,
+        (cut_within (after r.start qs) r (after_runs r.start qs w) (after_ends r.start qs w) p i).0,
+      )
+      | inr i ↦ let v = all_within qs rs w p i in (v.0, Contains-cons_tail r rs v.0 v.1, v.2)
+    ]
 
 all_cut_runs : (qs rs : List Run) → AreRuns qs → AreRuns rs → AreRuns (all_cut qs rs)
 all_cut_runs qs [] w v = tt
@@ -278,10 +337,12 @@ all_cut_runs qs (r ∷ rs) w v = AreRuns-append (cut r (after r.start qs)) (all_
     (cut_runs (after r.start qs) r (after_runs r.start qs w) (after_ends r.start qs w))
     (all_cut_runs qs rs w v.2)
     (λ p q i j.
-    let d = (cut_within (after r.start qs) r (after_runs r.start qs w) (after_ends r.start qs w) p i).1 in
+    let d = (cut_within (after r.start qs) r (after_runs r.start qs w) (after_ends r.start qs w) p
+    i).1 in
     let o = all_within qs rs w q j in let l = v.1 o.0 o.1 in let m = o.2 in omega arith)
 
-all_cut_has : (qs rs : List Run) → AreRuns qs → (a : ℕ) → Has (all_cut qs rs) a ↔ (Has rs a × (¬ (Has qs a)))
+all_cut_has : (qs rs : List Run) → AreRuns qs → (a : ℕ)
+    → Has (all_cut qs rs) a ↔ (Has rs a × (¬ (Has qs a)))
 all_cut_has qs [] w a = (λ h. absurd h, λ h. h.0)
 all_cut_has qs (r ∷ rs) w a =
     let one = cut_has (after r.start qs) r (after_runs r.start qs w) (after_ends r.start qs w) a in
@@ -296,246 +357,73 @@ all_cut_has qs (r ∷ rs) w a =
       ]),
     )
 
-pub cut_is : (qs rs : List Run) → AreRuns qs → AreRuns rs → AreRuns (all_cut qs rs) × (members (all_cut qs rs) ≡ without (members qs) (members rs))
+pub cut_is : (qs rs : List Run) → AreRuns qs → AreRuns rs
+    → AreRuns (all_cut qs rs) × (members (all_cut qs rs) ≡ without (members qs) (members rs))
 cut_is qs rs w v =
     let k = all_cut_runs qs rs w v in (
       k,
-      members_are (all_cut qs rs) (without (members qs) (members rs)) k (IsStrictlySortedBy-filter nat_cmp _ (members rs) (members_rise rs v)) (λ a. (
-        λ h. let o = (all_cut_has qs rs w a).0 h in (Contains-without (members qs) (members rs) a).1 ((in_members rs a).1 o.0, λ i. o.1 ((in_members qs a).0 i)),
-        λ h. let o = (Contains-without (members qs) (members rs) a).0 h in (all_cut_has qs rs w a).1 ((in_members rs a).0 o.0, λ i. o.1 ((in_members qs a).1 i)),
-      )),
-    )
-
--- ---- one more number
-
-abbrev pub longer : ℕ → Run → Run
-longer x q = record { start = q.start; end = x + 1 }
-
-single_in : (x a : ℕ) → In (single x) a ↔ (a ≡ x)
-single_in x a = (λ h. let l = h.0 in let m = h.1 in omega arith, λ e. (omega arith, omega arith))
-
-unequal : (a b : ℕ) → (a == b) ≡ false → a ≡ b → ⊥
-unequal a b f e = let y = (Decides-eqb a b).1 e in cc
-
--- what begins above n
-abbrev pub StartAbove : ℕ → List Run → Type 0
-StartAbove n qs = (q : Run) → Contains qs q → n < q.start
-
-absorb_above : (n : ℕ) (r : Run) (qs : List Run) → n < r.start → StartAbove n qs → StartAbove n (absorb r qs)
-absorb_above n r [] l f p h = elim (Contains-cons_cases r [] p h) [ inl e ↦ subst (λ (z : Run). n < z.start) (sym e) l | inr i ↦ absurd (not_Contains-nil p i) ]
-absorb_above n r (q ∷ qs) l f p h = elim (cases_Bool (r.end == q.start)) [
-  | inl t ↦ elim (Contains-cons_cases (record { start = r.start; end = q.end }) qs p (rw t at h)) [
-    | inl e ↦ subst (λ (z : Run). n < z.start) (sym e) l
-    | inr i ↦ f p (Contains-cons_tail q qs p i)
-  ]
-  | inr t ↦ elim (Contains-cons_cases r (q ∷ qs) p (rw t at h)) [
-    | inl e ↦ subst (λ (z : Run). n < z.start) (sym e) l
-    | inr i ↦ f p i
-  ]
-]
-
-settle_above : (n x : ℕ) (q : Run) (qs : List Run) → n < x → StartAbove n (q ∷ qs) → StartAbove n (settle x q qs)
-settle_above n x q qs l f = elim (cases_Bool (q.end == x)) [
-  | inl t ↦ rw t (absorb_above n (longer x q) qs (f q (Contains-cons_head q qs)) (λ p h. f p (Contains-cons_tail q qs p h)))
-  | inr t ↦ elim (cases_Bool (nat_le q.start x)) [
-    | inl u ↦ rw (t, u) f
-    | inr u ↦ elim (cases_Bool (q.start == x + 1)) [
-      | inl v ↦ rw (t, u, v) (λ p h. elim (Contains-cons_cases (record { start = x; end = q.end }) qs p h) [
-        | inl e ↦ subst (λ (z : Run). n < z.start) (sym e) l
-        | inr i ↦ f p (Contains-cons_tail q qs p i)
-      ])
-      | inr v ↦ rw (t, u, v) (λ p h. elim (Contains-cons_cases (single x) (q ∷ qs) p h) [
-        | inl e ↦ subst (λ (z : Run). n < z.start) (sym e) l
-        | inr i ↦ f p i
-      ])
-    ]
-  ]
-]
-
-put_above : (n x : ℕ) (rs : List Run) → n < x → StartAbove n rs → StartAbove n (put x rs)
-put_above n x [] l f p h = elim (Contains-cons_cases (single x) [] p h) [ inl e ↦ subst (λ (z : Run). n < z.start) (sym e) l | inr i ↦ absurd (not_Contains-nil p i) ]
-put_above n x (q ∷ qs) l f p h = elim (cases_Bool (nat_lt q.end x)) [
-  | inl t ↦ elim (Contains-cons_cases q (put x qs) p (rw t at h)) [
-    | inl e ↦ subst (λ (z : Run). n < z.start) (sym e) (f q (Contains-cons_head q qs))
-    | inr i ↦ put_above n x qs l (λ o j. f o (Contains-cons_tail q qs o j)) p i
-  ]
-  | inr t ↦ settle_above n x q qs l f p (rw t at h)
-]
-
--- what ends at x + 1, before runs that begin above x
-absorb_runs : (x : ℕ) (r : Run) (qs : List Run) → r.start < r.end → r.end ≡ x + 1 → StartAbove x qs → AreRuns qs → AreRuns (absorb r qs)
-absorb_runs x r [] l e f w = (l, λ p h. absurd (not_Contains-nil p h), tt)
-absorb_runs x r (q ∷ qs) l e f w = let o = f q (Contains-cons_head q qs) in let v = w.0 in elim (cases_Bool (r.end == q.start)) [
-  | inl t ↦ let d = (Decides-eqb r.end q.start).0 t in rw t (omega arith, w.1, w.2)
-  | inr t ↦ let n = unequal r.end q.start t in
-      let gap : r.end < q.start = strictly r.end q.start n (omega arith) in
-      rw t (
-        l,
-        λ p h. elim (Contains-cons_cases q qs p h) [
-          | inl d ↦ subst (λ (z : Run). r.end < z.start) (sym d) gap
-          | inr i ↦ let m = w.1 p i in omega arith
-        ],
-        w,
-      )
-]
-  where
-    strictly : (a b : ℕ) → (a ≡ b → ⊥) → a ≤ b → a < b
-    strictly a b n l = elim (cases_Bool (nat_lt a b)) [ inl y ↦ nat_lt_true a b y | inr y ↦ let z = nat_lt_false a b y in absurd (n (omega arith)) ]
-
-absorb_has : (r : Run) (qs : List Run) → AreRuns qs → r.start < r.end → (a : ℕ) → Has (absorb r qs) a ↔ (In r a ⊎ Has qs a)
-absorb_has r [] w l a = (λ h. h, λ h. h)
-absorb_has r (q ∷ qs) w l a = elim (cases_Bool (r.end == q.start)) [
-  | inl t ↦ let d = (Decides-eqb r.end q.start).0 t in let v = w.0 in rw t (
-    λ h. elim h [
-      | inl i ↦ let m = i.0 in let n = i.1 in elim (cases_Bool (nat_lt a r.end)) [
-        | inl y ↦ inl (m, nat_lt_true a r.end y)
-        | inr y ↦ let z = nat_lt_false a r.end y in inr (inl (omega arith, n))
-      ]
-      | inr i ↦ inr (inr i)
-    ],
-    λ h. elim h [
-      | inl i ↦ let m = i.0 in let n = i.1 in inl (m, omega arith)
-      | inr i ↦ elim i [ inl j ↦ let m = j.0 in let n = j.1 in inl (omega arith, n) | inr j ↦ inr j ]
-    ],
-  )
-  | inr t ↦ rw t (λ h. h, λ h. h)
-]
-
-settle_runs : (x : ℕ) (q : Run) (qs : List Run) → x ≤ q.end → AreRuns (q ∷ qs) → AreRuns (settle x q qs)
-settle_runs x q qs l w = let v = w.0 in elim (cases_Bool (q.end == x)) [
-  | inl t ↦ let e = (Decides-eqb q.end x).0 t in rw t (absorb_runs x (longer x q) qs (omega arith) refl (λ p h. let m = w.1 p h in omega arith) w.2)
-  | inr t ↦ let n = unequal q.end x t in elim (cases_Bool (nat_le q.start x)) [
-    | inl u ↦ rw (t, u) w
-    | inr u ↦ let m = nat_le_false q.start x u in elim (cases_Bool (q.start == x + 1)) [
-      | inl y ↦ let e = (Decides-eqb q.start (x + 1)).0 y in rw (t, u, y) (omega arith, w.1, w.2)
-      | inr y ↦ let o = unequal q.start (x + 1) y in
-          let gap : x + 1 < q.start = elim (cases_Bool (nat_lt (x + 1) q.start)) [ inl z ↦ nat_lt_true (x + 1) q.start z | inr z ↦ let k = nat_lt_false (x + 1) q.start z in absurd (o (omega arith)) ] in
-          rw (t, u, y) (
-            omega arith,
-            λ p h. elim (Contains-cons_cases q qs p h) [
-              | inl e ↦ subst (λ (z : Run). x + 1 < z.start) (sym e) gap
-              | inr i ↦ let k = w.1 p i in omega arith
-            ],
-            w,
-          )
-    ]
-  ]
-]
-
-settle_has : (x : ℕ) (q : Run) (qs : List Run) → x ≤ q.end → AreRuns (q ∷ qs) → (a : ℕ) → Has (settle x q qs) a ↔ (Has (q ∷ qs) a ⊎ (a ≡ x))
-settle_has x q qs l w a = let v = w.0 in elim (cases_Bool (q.end == x)) [
-  | inl t ↦ let e = (Decides-eqb q.end x).0 t in let k = absorb_has (longer x q) qs w.2 (omega arith) a in rw t (
-    λ h. elim (k.0 h) [
-      | inl i ↦ let m = i.0 in let n = i.1 in elim (cases_Bool (nat_lt a q.end)) [
-        | inl y ↦ inl (inl (m, nat_lt_true a q.end y))
-        | inr y ↦ let z = nat_lt_false a q.end y in inr (omega arith)
-      ]
-      | inr i ↦ inl (inr i)
-    ],
-    λ h. k.1 (elim h [
-      | inl i ↦ elim i [ inl j ↦ let m = j.0 in let n = j.1 in inl (m, omega arith) | inr j ↦ inr j ]
-      | inr d ↦ inl (omega arith, omega arith)
-    ]),
-  )
-  | inr t ↦ let n = unequal q.end x t in
-      let strict : x < q.end = elim (cases_Bool (nat_lt x q.end)) [ inl y ↦ nat_lt_true x q.end y | inr y ↦ let z = nat_lt_false x q.end y in absurd (n (omega arith)) ] in
-      elim (cases_Bool (nat_le q.start x)) [
-        | inl u ↦ let m = nat_le_true q.start x u in rw (t, u) (λ h. inl h, λ h. elim h [ inl i ↦ i | inr d ↦ inl (omega arith, omega arith) ])
-        | inr u ↦ let m = nat_le_false q.start x u in elim (cases_Bool (q.start == x + 1)) [
-          | inl y ↦ let e = (Decides-eqb q.start (x + 1)).0 y in rw (t, u, y) (
-            λ h. elim h [
-              | inl i ↦ let o = i.0 in let p = i.1 in elim (cases_Bool (nat_lt x a)) [
-                | inl z ↦ let b = nat_lt_true x a z in inl (inl (omega arith, p))
-                | inr z ↦ let b = nat_lt_false x a z in inr (omega arith)
-              ]
-              | inr i ↦ inl (inr i)
-            ],
-            λ h. elim h [
-              | inl i ↦ elim i [ inl j ↦ let o = j.0 in let p = j.1 in inl (omega arith, p) | inr j ↦ inr j ]
-              | inr d ↦ inl (omega arith, omega arith)
-            ],
-          )
-          | inr y ↦ rw (t, u, y) (
-            λ h. elim h [ inl i ↦ inr ((single_in x a).0 i) | inr i ↦ inl i ],
-            λ h. elim h [ inl i ↦ inr i | inr e ↦ inl ((single_in x a).1 e) ],
-          )
-        ]
-      ]
-]
-
-put_runs : (x : ℕ) (rs : List Run) → AreRuns rs → AreRuns (put x rs)
-put_runs x [] w = (omega arith, λ q h. absurd (not_Contains-nil q h), tt)
-put_runs x (q ∷ qs) w = elim (cases_Bool (nat_lt q.end x)) [
-  | inl t ↦ rw t (w.0, put_above q.end x qs (nat_lt_true q.end x t) w.1, put_runs x qs w.2)
-  | inr t ↦ rw t (settle_runs x q qs (nat_lt_false q.end x t) w)
-]
-
-put_has : (x : ℕ) (rs : List Run) → AreRuns rs → (a : ℕ) → Has (put x rs) a ↔ (Has rs a ⊎ (a ≡ x))
-put_has x [] w a = (
-  λ h. elim h [ inl i ↦ inr ((single_in x a).0 i) | inr i ↦ absurd i ],
-  λ h. elim h [ inl i ↦ absurd i | inr e ↦ inl ((single_in x a).1 e) ],
-)
-put_has x (q ∷ qs) w a = elim (cases_Bool (nat_lt q.end x)) [
-  | inl t ↦ rw t (
-    λ h. elim h [ inl i ↦ inl (inl i) | inr i ↦ elim ((put_has x qs w.2 a).0 i) [ inl j ↦ inl (inr j) | inr e ↦ inr e ] ],
-    λ h. elim h [
-      | inl i ↦ elim i [ inl j ↦ inl j | inr j ↦ inr ((put_has x qs w.2 a).1 (inl j)) ]
-      | inr e ↦ inr ((put_has x qs w.2 a).1 (inr e))
-    ],
-  )
-  | inr t ↦ rw t (settle_has x q qs (nat_lt_false q.end x t) w a)
-]
-
-pub put_is : (x : ℕ) (rs : List Run) → AreRuns rs → AreRuns (put x rs) × (members (put x rs) ≡ joined x (members rs))
-put_is x rs w =
-    let k = put_runs x rs w in
-    let has : (a : ℕ) → Contains (joined x (members rs)) a ↔ (Contains (members rs) a ⊎ (a ≡ x)) = λ a. holds nat_cmp nat_cmp_total nat_cmp-IsAntisymmetric x (members rs) a in (
-      k,
-      members_are (put x rs) (joined x (members rs)) k (inserted nat_cmp nat_cmp_total nat_cmp-IsAntisymmetric x (members rs) (members_rise rs w)) (λ a. (
-        λ h. (has a).1 (elim ((put_has x rs w a).0 h) [ inl i ↦ inl ((in_members rs a).1 i) | inr e ↦ inr e ]),
-        λ h. (put_has x rs w a).1 (elim ((has a).0 h) [ inl i ↦ inl ((in_members rs a).0 i) | inr e ↦ inr e ]),
-      )),
+      members_are (all_cut qs rs) (without (members qs) (members rs)) k
+          (IsStrictlySortedBy-filter nat_cmp _ (members rs) (members_rise rs v)) (λ a. (
+            λ h. let o = (all_cut_has qs rs w a).0 h in
+                (Contains-without (members qs) (members rs) a).1
+                ((in_members rs a).1 o.0, λ i. o.1 ((in_members qs a).0 i)),
+            λ h. let o = (Contains-without (members qs) (members rs) a).0 h in
+                (all_cut_has qs rs w a).1 (
+                  (in_members rs a).0 o.0,
+                  λ i. o.1 ((in_members qs a).1 i),
+                ),
+          )),
     )
 
 -- ---- the tests
 
-bool_same : (a b : Bool) → (a ≡ true → b ≡ true) → (b ≡ true → a ≡ true) → a ≡ b
+pub bool_same : (a b : Bool) → (a ≡ true → b ≡ true) → (b ≡ true → a ≡ true) → a ≡ b
 bool_same true b f g = sym (f refl)
 bool_same false true f g = g refl
 bool_same false false f g = refl
 
-inside_true : (r : Run) (a : ℕ) → is_inside r a ≡ true → In r a
-inside_true r a t = let p = and_parts (nat_le r.start a) (nat_lt a r.end) t in (nat_le_true r.start a p.0, nat_lt_true a r.end p.1)
+pub inside_true : (r : Run) (a : ℕ) → is_inside r a ≡ true → In r a
+inside_true r a t = let p = and_parts (nat_le r.start a) (nat_lt a r.end) t in
+    (nat_le_true r.start a p.0, nat_lt_true a r.end p.1)
 
-inside_from : (r : Run) (a : ℕ) → In r a → is_inside r a ≡ true
-inside_from r a h = and_from (nat_le r.start a) (nat_lt a r.end) (nat_le_from r.start a h.0) (nat_lt_from a r.end h.1)
+pub inside_from : (r : Run) (a : ℕ) → In r a → is_inside r a ≡ true
+inside_from r a h = and_from (nat_le r.start a) (nat_lt a r.end) (nat_le_from r.start a h.0)
+    (nat_lt_from a r.end h.1)
 
 -- where the first of some runs ends after r begins, it tells whether one has a number of r
-touch_one : (r : Run) (qs : List Run) → r.start < r.end → AreRuns qs → EndAfter r.start qs → first_touches r qs ≡ true → (a : ℕ) × In r a × Has qs a
+touch_one : (r : Run) (qs : List Run) → r.start < r.end → AreRuns qs → EndAfter r.start qs
+    → first_touches r qs ≡ true → (a : ℕ) × In r a × Has qs a
 touch_one r [] l w f t = absurd cc
 touch_one r (q ∷ qs) l w f t =
     let m = nat_lt_true q.start r.end t in let u = f q (Contains-cons_head q qs) in let v = w.0 in
     elim (cases_Bool (nat_le q.start r.start)) [
       | inl y ↦ (r.start, (omega arith, l), inl (nat_le_true q.start r.start y, u))
-      | inr y ↦ let z = nat_le_false q.start r.start y in (q.start, (omega arith, m), inl (omega arith, v))
+      | inr y ↦ let z = nat_le_false q.start r.start y in
+          (q.start, (omega arith, m), inl (omega arith, v))
     ]
 
-touch_from : (r : Run) (qs : List Run) → AreRuns qs → (a : ℕ) → In r a → Has qs a → first_touches r qs ≡ true
+touch_from : (r : Run) (qs : List Run) → AreRuns qs → (a : ℕ) → In r a → Has qs a
+    → first_touches r qs ≡ true
 touch_from r [] w a i h = absurd h
 touch_from r (q ∷ qs) w a i h = let v = w.0 in let m = i.1 in nat_lt_from q.start r.end (elim h [
   | inl j ↦ let o = j.0 in omega arith
   | inr j ↦ let o = above_first q qs w a j in omega arith
 ])
 
-pub touches_is : (qs : List Run) (r : Run) → AreRuns qs → touches qs r ≡ list_any (is_inside r) (members qs)
+pub touches_is : (qs : List Run) (r : Run) → AreRuns qs
+    → touches qs r ≡ list_any (is_inside r) (members qs)
 touches_is qs r w = bool_same (touches qs r) (list_any (is_inside r) (members qs))
     (λ t. let p = and_parts (nat_lt r.start r.end) (first_touches r (after r.start qs)) t in
-    let o = touch_one r (after r.start qs) (nat_lt_true r.start r.end p.0) (after_runs r.start qs w) (after_ends r.start qs w) p.1 in
-    list_any_from (is_inside r) (members qs) o.0 ((in_members qs o.0).1 ((after_has r.start qs o.0 o.1.0).0 o.2)) (inside_from r o.0 o.1))
+    let o = touch_one r (after r.start qs) (nat_lt_true r.start r.end p.0) (after_runs r.start qs w)
+    (after_ends r.start qs w) p.1 in
+    list_any_from (is_inside r) (members qs) o.0
+    ((in_members qs o.0).1 ((after_has r.start qs o.0 o.1.0).0 o.2)) (inside_from r o.0 o.1))
     (λ t. let o = list_any_true (is_inside r) (members qs) t in
     let i = inside_true r o.0 o.2 in let l = i.0 in let m = i.1 in
-    and_from (nat_lt r.start r.end) (first_touches r (after r.start qs)) (nat_lt_from r.start r.end (omega arith))
-    (touch_from r (after r.start qs) (after_runs r.start qs w) o.0 i ((after_has r.start qs o.0 l).1 ((in_members qs o.0).0 o.1))))
+    and_from (nat_lt r.start r.end) (first_touches r (after r.start qs))
+    (nat_lt_from r.start r.end (omega arith))
+    (touch_from r (after r.start qs) (after_runs r.start qs w) o.0 i
+    ((after_has r.start qs o.0 l).1 ((in_members qs o.0).0 o.1))))
 
 cover_all : (r : Run) (qs : List Run) → first_covers r qs ≡ true → (a : ℕ) → In r a → Has qs a
 cover_all r [] t a i = absurd cc
@@ -544,12 +432,17 @@ cover_all r (q ∷ qs) t a i =
     let l = nat_le_true q.start r.start p.0 in let m = nat_le_true r.end q.end p.1 in
     let n = i.0 in let o = i.1 in inl (omega arith, omega arith)
 
-cover_from : (r : Run) (qs : List Run) → r.start < r.end → AreRuns qs → EndAfter r.start qs → ((a : ℕ) → In r a → Has qs a) → first_covers r qs ≡ true
+cover_from : (r : Run) (qs : List Run) → r.start < r.end → AreRuns qs → EndAfter r.start qs
+    → ((a : ℕ) → In r a → Has qs a) → first_covers r qs ≡ true
 cover_from r [] l w f h = absurd (h r.start (omega arith, l))
 cover_from r (q ∷ qs) l w f h =
     let u = f q (Contains-cons_head q qs) in
     and_from (nat_le q.start r.start) (nat_le r.end q.end)
-    (nat_le_from q.start r.start (elim (h r.start (omega arith, l)) [ inl i ↦ i.0 | inr i ↦ let o = above_first q qs w r.start i in absurd (omega arith) ]))
+    (nat_le_from q.start r.start
+    (elim (h r.start (omega arith, l)) [
+      | inl i ↦ i.0
+      | inr i ↦ let o = above_first q qs w r.start i in absurd (omega arith)
+    ]))
     (elim (cases_Bool (nat_le r.end q.end)) [
       | inl y ↦ y
       | inr y ↦ let z = nat_le_false r.end q.end y in elim (h q.end (omega arith, z)) [
@@ -558,134 +451,55 @@ cover_from r (q ∷ qs) l w f h =
       ]
     ])
 
-pub covers_is : (qs : List Run) (r : Run) → AreRuns qs → covers qs r ≡ list_all (is_in (members qs)) (numbers_of r)
+pub covers_is : (qs : List Run) (r : Run) → AreRuns qs → covers qs r ≡ list_all (is_in (members qs))
+    (numbers_of r)
 covers_is qs r w = bool_same (covers qs r) (list_all (is_in (members qs)) (numbers_of r))
-    (λ t. list_all_from (is_in (members qs)) (numbers_of r) (λ a h. let i = (in_numbers r a).0 h in let l = i.0 in let m = i.1 in
+    (λ t. list_all_from (is_in (members qs)) (numbers_of r) (λ a h. let i = (in_numbers r a).0 h in
+    let l = i.0 in let m = i.1 in
     elim (or_cases (nat_le r.end r.start) (first_covers r (after r.start qs)) t) [
       | inl y ↦ let z = nat_le_true r.end r.start y in absurd (omega arith)
-      | inr y ↦ in_list (members qs) a ((in_members qs a).1 ((after_has r.start qs a l).0 (cover_all r (after r.start qs) y a i)))
+      | inr y ↦ in_list (members qs) a
+          ((in_members qs a).1 ((after_has r.start qs a l).0
+          (cover_all r (after r.start qs) y a i)))
     ]))
     (λ t. elim (cases_Bool (nat_le r.end r.start)) [
       | inl y ↦ or_left (nat_le r.end r.start) (first_covers r (after r.start qs)) y
-      | inr y ↦ or_right (nat_le r.end r.start) (first_covers r (after r.start qs)) (cover_from r (after r.start qs) (nat_le_false r.end r.start y) (after_runs r.start qs w) (after_ends r.start qs w)
-          (λ a i. (after_has r.start qs a i.0).1 ((in_members qs a).0 (from_list (members qs) a (list_all_true (is_in (members qs)) (numbers_of r) t a ((in_numbers r a).1 i))))))
+      | inr y ↦ or_right (nat_le r.end r.start) (first_covers r (after r.start qs))
+          (cover_from r (after r.start qs) (nat_le_false r.end r.start y) (after_runs r.start qs w)
+          (after_ends r.start qs w)
+          (λ a i. (after_has r.start qs a i.0).1
+          ((in_members qs a).0 (from_list (members qs) a
+          (list_all_true (is_in (members qs)) (numbers_of r) t a ((in_numbers r a).1 i))))))
     ])
 
 -- some run of d holds one of g
-pub meets_is : (rs : List Run) (g : List ℕ) → list_any (λ r. list_any (is_inside r) g) rs ≡ meets (members rs) g
+pub meets_is : (rs : List Run) (g : List ℕ) → list_any (λ r. list_any (is_inside r) g) rs ≡ meets
+    (members rs) g
 meets_is rs g = bool_same (list_any (λ r. list_any (is_inside r) g) rs) (meets (members rs) g)
-    (λ t. let o = list_any_true (λ r. list_any (is_inside r) g) rs t in let p = list_any_true (is_inside o.0) g o.2 in
-    list_any_from (is_in (members rs)) g p.0 p.1 (in_list (members rs) p.0 ((in_members rs p.0).1 (has_one rs o.0 p.0 o.1 (inside_true o.0 p.0 p.2)))))
-    (λ t. let o = list_any_true (is_in (members rs)) g t in let p = of_one rs o.0 ((in_members rs o.0).0 (from_list (members rs) o.0 o.2)) in
-    list_any_from (λ r. list_any (is_inside r) g) rs p.0 p.1 (list_any_from (is_inside p.0) g o.0 o.1 (inside_from p.0 o.0 p.2)))
+    (λ t. let o = list_any_true (λ r. list_any (is_inside r) g) rs t in
+    let p = list_any_true (is_inside o.0) g o.2 in
+    list_any_from (is_in (members rs)) g p.0 p.1
+    (in_list (members rs) p.0
+    ((in_members rs p.0).1 (has_one rs o.0 p.0 o.1 (inside_true o.0 p.0 p.2)))))
+    (λ t. let o = list_any_true (is_in (members rs)) g t in
+    let p = of_one rs o.0 ((in_members rs o.0).0 (from_list (members rs) o.0 o.2)) in
+    list_any_from (λ r. list_any (is_inside r) g) rs p.0 p.1
+    (list_any_from (is_inside p.0) g o.0 o.1 (inside_from p.0 o.0 p.2)))
 
-pub within_is : (rs : List Run) (g : List ℕ) → list_all (λ r. list_all (is_in g) (numbers_of r)) rs ≡ is_within (members rs) g
-within_is rs g = bool_same (list_all (λ r. list_all (is_in g) (numbers_of r)) rs) (is_within (members rs) g)
-    (λ t. list_all_from (is_in g) (members rs) (λ a h. let p = of_one rs a ((in_members rs a).0 h) in
-    list_all_true (is_in g) (numbers_of p.0) (list_all_true (λ r. list_all (is_in g) (numbers_of r)) rs t p.0 p.1) a ((in_numbers p.0 a).1 p.2)))
-    (λ t. list_all_from (λ r. list_all (is_in g) (numbers_of r)) rs (λ r h. list_all_from (is_in g) (numbers_of r) (λ a i.
-    list_all_true (is_in g) (members rs) t a ((in_members rs a).1 (has_one rs r a h ((in_numbers r a).0 i))))))
+pub within_is : (rs : List Run) (g : List ℕ) → list_all (λ r. list_all (is_in g) (numbers_of r))
+    rs ≡ is_within (members rs) g
+within_is rs g = bool_same (list_all (λ r. list_all (is_in g) (numbers_of r)) rs)
+    (is_within (members rs) g)
+    (λ t. list_all_from (is_in g) (members rs) (λ a h. let p = of_one rs a ((in_members rs a).0 h)
+    in
+    list_all_true (is_in g) (numbers_of p.0) (list_all_true (λ r. list_all (is_in g) (numbers_of r))
+    rs t p.0 p.1) a ((in_numbers p.0 a).1 p.2)))
+    (λ t. list_all_from (λ r. list_all (is_in g) (numbers_of r)) rs
+    (λ r h. list_all_from (is_in g) (numbers_of r) (λ a i.
+    list_all_true (is_in g) (members rs) t a
+    ((in_members rs a).1 (has_one rs r a h ((in_numbers r a).0 i))))))
 
-list_any_same : (p q : Run → Bool) → ((r : Run) → p r ≡ q r) → (rs : List Run) → list_any p rs ≡ list_any q rs
+pub list_any_same : (p q : Run → Bool) → ((r : Run) → p r ≡ q r) → (rs : List Run)
+    → list_any p rs ≡ list_any q rs
 list_any_same p q f [] = refl
 list_any_same p q f (r ∷ rs) = rw (f r, list_any_same p q f rs) refl
-
--- ---- what calls leave
-
-pub put_kept : {A B : Type 0} (r : Result A B) (x : ℕ) (rs ss : List Run) → OnOk r (ss ≡ put x rs) → OnErr r (ss ≡ rs) → AreRuns rs → AreRuns ss
-put_kept (Ok a) x rs ss f g w = subst AreRuns (sym f) (put_is x rs w).0
-put_kept (Err b) x rs ss f g w = subst AreRuns (sym g) w
-
-pub put_gives : {A B : Type 0} (r : Result A B) (x : ℕ) (rs ss : List Run) (g : List ℕ) → OnOk r (ss ≡ put x rs) → AreRuns rs → members rs ≡ g → OnOk r (members ss ≡ joined x g)
-put_gives (Ok a) x rs ss g f w e = rw (f, sym e) (put_is x rs w).1
-put_gives (Err b) x rs ss g f w e = tt
-
-pub touches_told : (r : Run) (qs ss : List Run) (g : List ℕ) (t : Bool) → ss ≡ qs → AreRuns qs → members qs ≡ g → t ≡ touches ss r → t ≡ list_any (is_inside r) g
-touches_told r qs ss g t e w v k = rw (← v) (subst (λ z. t ≡ touches z r) e k ∙ touches_is qs r w)
-
-pub covers_told : (r : Run) (qs ss : List Run) (g : List ℕ) (t : Bool) → ss ≡ qs → AreRuns qs → members qs ≡ g → t ≡ covers ss r → t ≡ list_all (is_in g) (numbers_of r)
-covers_told r qs ss g t e w v k = rw (← v) (subst (λ z. t ≡ covers z r) e k ∙ covers_is qs r w)
-
-pub meets_told : (rs qs rs2 qs2 : List Run) (k g : List ℕ) (t : Bool) → rs2 ≡ rs → qs2 ≡ qs → AreRuns qs → members rs ≡ k → members qs ≡ g → t ≡ list_any (touches qs2) rs2 → t ≡ meets k g
-meets_told rs qs rs2 qs2 k g t e f w v u h = rw (← v, ← u) (h ∙ (ap (λ z. list_any (touches z) rs2) f ∙ (ap (list_any (touches qs)) e
-    ∙ (list_any_same (touches qs) (λ r. list_any (is_inside r) (members qs)) (λ r. touches_is qs r w) rs ∙ meets_is rs (members qs)))))
-
-pub within_told : (rs ss : List Run) (g k : List ℕ) (t : Bool) → ss ≡ rs → members rs ≡ k → t ≡ list_all (λ r. list_all (is_in g) (numbers_of r)) ss → t ≡ is_within k g
-within_told rs ss g k t e v h = rw (← v) (subst (λ z. t ≡ list_all (λ r. list_all (is_in g) (numbers_of r)) z) e h ∙ within_is rs g)
-
-pub cut_kept : (qs rs qs2 rs2 ps : List Run) → qs2 ≡ qs → rs2 ≡ rs → AreRuns qs → AreRuns rs → ps ≡ all_cut qs2 rs2 → AreRuns ps
-cut_kept qs rs qs2 rs2 ps e f w v h = subst AreRuns (sym (h ∙ (ap (λ z. all_cut z rs2) e ∙ ap (all_cut qs) f))) (cut_is qs rs w v).0
-
-pub cut_told : (qs rs qs2 rs2 ps : List Run) (d g : List ℕ) → qs2 ≡ qs → rs2 ≡ rs → AreRuns qs → AreRuns rs → members qs ≡ d → members rs ≡ g → ps ≡ all_cut qs2 rs2 → members ps ≡ without d g
-cut_told qs rs qs2 rs2 ps d g e f w v i j h = rw (← i, ← j) (ap members (h ∙ (ap (λ z. all_cut z rs2) e ∙ ap (all_cut qs) f)) ∙ (cut_is qs rs w v).1)
-
-pub has_is : (x : ℕ) (g : List ℕ) → list_any (is_inside (single x)) g ≡ is_in g x
-has_is x g = bool_same (list_any (is_inside (single x)) g) (is_in g x)
-    (λ t. let o = list_any_true (is_inside (single x)) g t in in_list g x (subst (Contains g) ((single_in x o.0).0 (inside_true (single x) o.0 o.2)) o.1))
-    (λ t. list_any_from (is_inside (single x)) g x (from_list g x t) (inside_from (single x) x ((single_in x x).1 refl)))
-
-range_alone : (n b : ℕ) → IsRising (range_with_len b n)
-unfolding Rattle.std.specs.List.Sorted.IsStrictlySortedBy
-range_alone n b = subst IsRising (append-nil (range_with_len b n)) (range_rises n b [] tt (λ y h. absurd (not_Contains-nil y h)))
-
-pub piece_kept : (r : Run) (ps : List Run) → ps ≡ piece r → AreRuns ps
-piece_kept r ps e = subst AreRuns (sym e) (piece_runs r)
-
-pub piece_told : (r : Run) (ps : List Run) → ps ≡ piece r → members ps ≡ range_with_len r.start (r.end - r.start)
-piece_told r ps e = ap members e ∙ members_are (piece r) (numbers_of r) (piece_runs r) (range_alone (r.end - r.start) r.start) (λ a. (
-  λ h. (in_numbers r a).1 ((piece_has r a).0 h),
-  λ h. (piece_has r a).1 ((in_numbers r a).0 h),
-))
-
-pub Contains-range : (n b a : ℕ) → Contains (range_with_len b n) a ↔ ((b ≤ a) × (a < b + n))
-Contains-range = in_range
-
--- ---- runs that are passed over, one after the other
-
-after_after : (n m : ℕ) (rs : List Run) → n ≤ m → after m (after n rs) ≡ after m rs
-after_after n m [] l = refl
-after_after n m (r ∷ rs) l = elim (cases_Bool (nat_le r.end n)) [
-  | inl t ↦ let k = nat_le_true r.end n t in let u = nat_le_from r.end m (omega arith) in rw (t, u) (after_after n m rs l)
-  | inr t ↦ rw t refl
-]
-
-pub serves_more : (rest new others : List Run) (r : Run) (left : List Run) → AreRuns (r ∷ left) → Serves rest others (r ∷ left) → new ≡ after r.start rest → Serves new others left
-serves_more rest new others r left w s e = subst (λ z. Serves z others left) (sym e) (record {
-  runs = after_runs r.start rest s.runs;
-  same = λ q h. let l = w.1 q h in let k = w.0 in after_after r.start q.start rest (omega arith) ∙ s.same q (Contains-cons_tail r left q h);
-})
-
-pub drop_runs : (i : ℕ) (rs : List Run) → AreRuns rs → AreRuns (drop i rs)
-drop_runs zero rs w = w
-drop_runs (suc i) [] w = tt
-drop_runs (suc i) (r ∷ rs) w = drop_runs i rs w.2
-
-pub drop_at : (rs : List Run) (i : ℕ) (d : Run) → i < length rs → drop i rs ≡ get_or rs i d ∷ drop (suc i) rs
-drop_at [] i d l = absurd (omega arith)
-drop_at (r ∷ rs) zero d l = refl
-drop_at (r ∷ rs) (suc i) d l = drop_at rs i d (omega arith)
-
-take_at : (rs : List Run) (i : ℕ) (d : Run) → i < length rs → take (suc i) rs ≡ take i rs ++ get_or rs i d ∷ []
-take_at [] i d l = absurd (omega arith)
-take_at (r ∷ rs) zero d l = refl
-take_at (r ∷ rs) (suc i) d l = ap (λ z. r ∷ z) (take_at rs i d (omega arith))
-
-cut_more : (qs rs : List Run) (r : Run) → all_cut qs (rs ++ r ∷ []) ≡ all_cut qs rs ++ cut r (after r.start qs)
-cut_more qs [] r = append-nil (cut r (after r.start qs))
-cut_more qs (p ∷ ps) r = ap (λ z. cut p (after p.start qs) ++ z) (cut_more qs ps r) ∙ sym (append_assoc (cut p (after p.start qs)) (all_cut qs ps) (cut r (after r.start qs)))
-
--- the step of the loop over the runs
-pub cut_step : (others runs rest new : List Run) (i j : ℕ) (r z : Run) (done next : List Run) → j ≡ i + 1 → i < length runs → r ≡ get_or runs i z → AreRuns runs →
-    (done ≡ all_cut others (take i runs)) × Serves rest others (drop i runs) → new ≡ after r.start rest → next ≡ done ++ cut r new →
-    (next ≡ all_cut others (take j runs)) × Serves new others (drop j runs)
-cut_step others runs rest new i j r o done next e l f w s g h =
-    let k : j ≡ suc i = omega arith in
-    let d : drop i runs ≡ r ∷ drop (suc i) runs = drop_at runs i o l ∙ ap (λ z. z ∷ drop (suc i) runs) (sym f) in
-    let t : take (suc i) runs ≡ take i runs ++ r ∷ [] = take_at runs i o l ∙ ap (λ z. take i runs ++ z ∷ []) (sym f) in
-    let serves : Serves rest others (r ∷ drop (suc i) runs) = subst (λ z. Serves rest others z) d s.1 in
-    let good : AreRuns (r ∷ drop (suc i) runs) = subst AreRuns d (drop_runs i runs w) in
-    let same : new ≡ after r.start others = g ∙ serves.same r (Contains-cons_head r (drop (suc i) runs)) in
-    subst (λ z. (next ≡ all_cut others (take z runs)) × Serves new others (drop z runs)) (sym k) (
-      h ∙ (ap (λ z. z ++ cut r new) s.0 ∙ (ap (λ z. all_cut others (take i runs) ++ cut r z) same ∙ (sym (cut_more others (take i runs) r) ∙ ap (all_cut others) (sym t)))),
-      serves_more rest new others r (drop (suc i) runs) good serves g,
-    )

@@ -1,8 +1,12 @@
--- Aims: one walk tells whether one lies within another, and what an operation in range aims at rises.
-use Rattle.std.proofs.Common.{◌≡◌, ◌≢◌, ℕ, ◌<◌, ◌≤◌, Bool, true, false, ◌&&◌, ◌==◌, List, [], ◌∷◌, refl, sym, ap, subst, ◌∙◌, inl, inr, arith, true≢false}
-use Rattle.std.specs.Prelude.{◌⊎◌, ◌↔◌, ◌+◌, drop, Contains, IsTrue, nat_lt, nat_le, length, slice_index_or}
+-- Aims: one walk tells whether one lies within another, and what an operation in range aims at
+-- rises.
+use Rattle.std.proofs.Common.{◌≡◌, ◌≢◌, ℕ, ◌<◌, ◌≤◌, Bool, true, false, ◌&&◌, ◌==◌, List, [], ◌∷◌}
+use Rattle.std.proofs.Common.{refl, sym, ap, subst, ◌∙◌, inl, inr, arith, true≢false}
+use Rattle.std.specs.Prelude.{◌⊎◌, ◌↔◌, ◌+◌, drop, Contains, IsTrue, nat_lt, nat_le, length}
+use Rattle.std.specs.Prelude.{slice_index_or}
 use Rattle.std.specs.List.{fold, list_all}
-use Rattle.std.proofs.lemmas.Bool.{cases_Bool, cases_lt, cond-true, cond-false, and_parts, and_from, or_cases, or_left, or_right, ltb-true, lt-ltb}
+use Rattle.std.proofs.lemmas.Bool.{cases_Bool, cases_lt, cond-true, cond-false, and_parts, and_from}
+use Rattle.std.proofs.lemmas.Bool.{or_cases, or_left, or_right, ltb-true, lt-ltb}
 use Rattle.std.proofs.lemmas.Bool.Decides.{Decides-eqb}
 use Rattle.std.proofs.lemmas.List.{at_drop_more, at_drop_all, get_or_default}
 use Rattle.gf_ops.specs.declared.op.Op.{Op}
@@ -12,42 +16,62 @@ use Rattle.gf_ops.specs.declared.change.Change.TheVariants.{Create, Set}
 use Rattle.gf_ops.specs.Aims.{MayAimAt}
 use Rattle.gf_ops.specs.AimTests.{after_id, IsWithinAim, FitsAim, MeetsAt, MemberMeets, AimMeets}
 use Rattle.gf_ops.specs.Attribute.{change_aim, aim_of}
-use Rattle.gf_ops.specs.Limits.{is_id, is_clock, is_value, is_change, is_aim, id_less, rise_behind, ids_rise, IsInRange}
+use Rattle.gf_ops.specs.Limits.{is_id, is_clock, is_value, is_change, is_aim, id_less, rise_behind}
+use Rattle.gf_ops.specs.Limits.{ids_rise, IsInRange}
 use Rattle.gf_ops.specs.Conflict.{Conflict, MeetsBrought}
 use Rattle.gf_ops.specs.DirectConflict.{DirectConflict}
 use Rattle.gf_ops.specs.ValidHistory.{IsValid}
-use Rattle.gf_base.proofs.ListLemmas.{Contains-cons_cases, Contains-cons_head, Contains-cons_tail, not_Contains-nil}
+use Rattle.gf_base.proofs.ListLemmas.{Contains-cons_cases, Contains-cons_head, Contains-cons_tail}
+use Rattle.gf_base.proofs.ListLemmas.{not_Contains-nil}
 use Rattle.gf_ops.proofs.ValidityLemmas.{same_op}
 
 -- ---- the order of ids
 
-pub less_told : (i j : OpId) → id_less i j ≡ true → (i.site < j.site) ⊎ ((i.site ≡ j.site) × (i.seq < j.seq))
+pub less_told : (i j : OpId) → id_less i j ≡ true
+    → (i.site < j.site) ⊎ ((i.site ≡ j.site) × (i.seq < j.seq))
 less_told i j t = elim (or_cases (nat_lt i.site j.site) (i.site == j.site && nat_lt i.seq j.seq) t) [
   | inl l ↦ inl (ltb-true i.site j.site l)
-  | inr r ↦ let p = and_parts (i.site == j.site) (nat_lt i.seq j.seq) r in inr ((Decides-eqb i.site j.site).0 p.0, ltb-true i.seq j.seq p.1)
+  | inr r ↦ let p = and_parts (i.site == j.site) (nat_lt i.seq j.seq) r in inr (
+    (Decides-eqb i.site j.site).0 p.0,
+    ltb-true i.seq j.seq p.1,
+  )
 ]
 
-less_from : (i j : OpId) → (i.site < j.site) ⊎ ((i.site ≡ j.site) × (i.seq < j.seq)) → id_less i j ≡ true
+less_from : (i j : OpId) → (i.site < j.site) ⊎ ((i.site ≡ j.site) × (i.seq < j.seq))
+    → id_less i j ≡ true
 less_from i j w = elim w [
-  | inl l ↦ or_left (nat_lt i.site j.site) (i.site == j.site && nat_lt i.seq j.seq) (lt-ltb i.site j.site l)
-  | inr p ↦ or_right (nat_lt i.site j.site) (i.site == j.site && nat_lt i.seq j.seq) (and_from (i.site == j.site) (nat_lt i.seq j.seq) ((Decides-eqb i.site j.site).1 p.0) (lt-ltb i.seq j.seq p.1))
+  | inl l ↦ or_left (nat_lt i.site j.site) (i.site == j.site && nat_lt i.seq j.seq)
+      (lt-ltb i.site j.site l)
+  | inr p ↦ or_right (nat_lt i.site j.site) (i.site == j.site && nat_lt i.seq j.seq)
+      (and_from (i.site == j.site) (nat_lt i.seq j.seq) ((Decides-eqb i.site j.site).1 p.0)
+      (lt-ltb i.seq j.seq p.1))
 ]
 
 less_trans : (i j k : OpId) → id_less i j ≡ true → id_less j k ≡ true → id_less i k ≡ true
 less_trans i j k l m = less_from i k (elim (less_told i j l) [
-  | inl a ↦ elim (less_told j k m) [ inl b ↦ inl (omega arith) | inr b ↦ let e = b.0 in inl (omega arith) ]
-  | inr a ↦ let e = a.0 in let f = a.1 in elim (less_told j k m) [ inl b ↦ inl (omega arith) | inr b ↦ let g = b.0 in let n = b.1 in inr (omega arith, omega arith) ]
+  | inl a ↦ elim (less_told j k m) [
+    | inl b ↦ inl (omega arith)
+    | inr b ↦ let e = b.0 in inl (omega arith)
+  ]
+  | inr a ↦ let e = a.0 in let f = a.1 in elim (less_told j k m) [
+    | inl b ↦ inl (omega arith)
+    | inr b ↦ let g = b.0 in let n = b.1 in inr (omega arith, omega arith)
+  ]
 ])
 
 less_not : (i j : OpId) → id_less i j ≡ true → i ≢ j
 less_not i j l e =
     let s : i.site ≡ j.site = ap (λ (k : OpId). k.site) e in
     let n : i.seq ≡ j.seq = ap (λ (k : OpId). k.seq) e in
-    elim (less_told i j l) [ inl a ↦ absurd (omega arith) | inr a ↦ let b = a.1 in absurd (omega arith) ]
+    elim (less_told i j l) [
+      | inl a ↦ absurd (omega arith)
+      | inr a ↦ let b = a.1 in absurd (omega arith)
+    ]
 
 -- ---- rising ids
 
-pub behind : (i : OpId) (is : List OpId) → rise_behind i is ≡ true → (j : OpId) → Contains is j → id_less i j ≡ true
+pub behind : (i : OpId) (is : List OpId) → rise_behind i is ≡ true → (j : OpId) → Contains is j
+    → id_less i j ≡ true
 behind i [] t j c = absurd (not_Contains-nil j c)
 behind i (k ∷ ks) t j c =
     let p = and_parts (id_less i k) (rise_behind k ks) t in
@@ -86,12 +110,14 @@ module _ (i k : OpId) (is : List OpId) where
   other_step f = cond-false met is (i ∷ is) f
 
 -- what is not left was met
-left_or_met : (is js : List OpId) (j : OpId) → Contains is j → Contains (fold after_id is js) j ⊎ Contains js j
+left_or_met : (is js : List OpId) (j : OpId) → Contains is j → Contains (fold after_id is js) j
+    ⊎ Contains js j
 left_or_met is [] j c = inl c
 left_or_met [] (k ∷ ks) j c = absurd (not_Contains-nil j c)
 left_or_met (i ∷ is) (k ∷ ks) j c = elim (cases_Bool (met i k is)) [
   | inl t ↦ elim (Contains-cons_cases i is j c) [
-    | inl e ↦ inr (subst (Contains (k ∷ ks)) (sym (e ∙ met_same i k is t)) (Contains-cons_head k ks))
+    | inl e ↦ inr (subst (Contains (k ∷ ks)) (sym (e ∙ met_same i k is t))
+        (Contains-cons_head k ks))
     | inr d ↦ elim (left_or_met is ks j d) [
       | inl l ↦ inl (subst (λ xs. Contains (fold after_id xs ks) j) (sym (met_step i k is t)) l)
       | inr m ↦ inr (Contains-cons_tail k ks j m)
@@ -110,38 +136,49 @@ none_left is js e j c = elim (left_or_met is js j c) [
 ]
 
 -- and where all rise, what lies within is met
-all_met : (js is : List OpId) → ids_rise is ≡ true → ids_rise js ≡ true → IsWithinAim is js → fold after_id is js ≡ []
+all_met : (js is : List OpId) → ids_rise is ≡ true → ids_rise js ≡ true → IsWithinAim is js
+    → fold after_id is js ≡ []
 all_met [] [] r s w = refl
 all_met [] (i ∷ is) r s w = absurd (not_Contains-nil i (w i (Contains-cons_head i is)))
-all_met (k ∷ ks) [] r s w = all_met ks [] r (rises_tail k ks s) (λ j c. absurd (not_Contains-nil j c))
+all_met (k ∷ ks) [] r s w = all_met ks [] r (rises_tail k ks s)
+    (λ j c. absurd (not_Contains-nil j c))
 all_met (k ∷ ks) (i ∷ is) r s w = elim (cases_Bool (met i k is)) [
   | inl t ↦
-      let within : IsWithinAim is ks = λ j c. elim (Contains-cons_cases k ks j (w j (Contains-cons_tail i is j c))) [
+      let within : IsWithinAim is ks = λ j c.
+      elim (Contains-cons_cases k ks j (w j (Contains-cons_tail i is j c))) [
         | inl e ↦ absurd (less_not i j (behind i is r j c) (met_same i k is t ∙ sym e))
         | inr d ↦ d
       ] in
-      subst (λ xs. fold after_id xs ks ≡ []) (sym (met_step i k is t)) (all_met ks is (rises_tail i is r) (rises_tail k ks s) within)
+      subst (λ xs. fold after_id xs ks ≡ []) (sym (met_step i k is t))
+      (all_met ks is (rises_tail i is r) (rises_tail k ks s) within)
   | inr f ↦
       let other = met_other i k is f in
-      let first : Contains ks i = elim (Contains-cons_cases k ks i (w i (Contains-cons_head i is))) [ inl e ↦ absurd (other e) | inr d ↦ d ] in
+      let first : Contains ks i = elim (Contains-cons_cases k ks i (w i (Contains-cons_head i is)))
+      [ inl e ↦ absurd (other e) | inr d ↦ d ] in
       let above = behind k ks s i first in
       let within : IsWithinAim (i ∷ is) ks = λ j c. elim (Contains-cons_cases k ks j (w j c)) [
         | inl e ↦ elim (Contains-cons_cases i is j c) [
           | inl g ↦ absurd (other (sym g ∙ e))
-          | inr d ↦ absurd (less_not i i (less_trans i k i (subst (λ l. id_less i l ≡ true) e (behind i is r j d)) above) refl)
+          | inr d ↦ absurd (less_not i i
+              (less_trans i k i (subst (λ l. id_less i l ≡ true) e (behind i is r j d)) above) refl)
         ]
         | inr d ↦ d
       ] in
-      subst (λ xs. fold after_id xs ks ≡ []) (sym (other_step i k is f)) (all_met ks (i ∷ is) r (rises_tail k ks s) within)
+      subst (λ xs. fold after_id xs ks ≡ []) (sym (other_step i k is f))
+      (all_met ks (i ∷ is) r (rises_tail k ks s) within)
 ]
 
-pub within_told : (is js : List OpId) → ids_rise is ≡ true → ids_rise js ≡ true → (fold after_id is js ≡ []) ↔ IsWithinAim is js
+pub within_told : (is js : List OpId) → ids_rise is ≡ true → ids_rise js ≡ true
+    → (fold after_id is js ≡ []) ↔ IsWithinAim is js
 within_told is js r s = (none_left is js, all_met js is r s)
 
 -- a list is empty where it has no element
 pub empty_told : (t : Bool) (is : List OpId) → t ≡ (length is == 0) → (IsTrue t) ↔ (is ≡ [])
 empty_told t [] e = (λ p. refl, λ p. e)
-empty_told t (i ∷ is) e = (λ p. let z = (Decides-eqb (length (i ∷ is)) 0).0 (sym e ∙ p) in absurd (omega arith), λ p. absurd (not_Contains-nil i (subst (λ xs. Contains xs i) p (Contains-cons_head i is))))
+empty_told t (i ∷ is) e = (
+  λ p. let z = (Decides-eqb (length (i ∷ is)) 0).0 (sym e ∙ p) in absurd (omega arith),
+  λ p. absurd (not_Contains-nil i (subst (λ xs. Contains xs i) p (Contains-cons_head i is))),
+)
 
 -- ---- what is in range
 
@@ -152,16 +189,22 @@ change_rises (Set o v aim) t =
     (and_parts (nat_le (length aim) 1000 && list_all is_id aim) (ids_rise aim) p.1).1
 
 pub aim_rises : (a : Op) → IsInRange a → ids_rise (aim_of a) ≡ true
-aim_rises a t = change_rises a.change (and_parts (is_id a.id && is_clock a.past) (is_change a.change) t).1
+aim_rises a t = change_rises a.change
+    (and_parts (is_id a.id && is_clock a.past) (is_change a.change) t).1
 
 -- ---- the loop that looks whether ids rise
 
-module _ (first last : OpId) (is : List OpId) (k : ℕ) (d : OpId) (same : rise_behind last (drop k is) ≡ rise_behind first is) where
-  pub rise_stops : k < length is → id_less last (slice_index_or is k d) ≡ false → false ≡ rise_behind first is
-  rise_stops l off = sym (at_drop_more (rise_behind last) is k d l ∙ ap (λ b. b && rise_behind (slice_index_or is k d) (drop (k + 1) is)) off) ∙ same
+module _ (first last : OpId) (is : List OpId) (k : ℕ) (d : OpId)
+    (same : rise_behind last (drop k is) ≡ rise_behind first is) where
+  pub rise_stops : k < length is → id_less last (slice_index_or is k d) ≡ false
+      → false ≡ rise_behind first is
+  rise_stops l off = sym (at_drop_more (rise_behind last) is k d l
+      ∙ ap (λ b. b && rise_behind (slice_index_or is k d) (drop (k + 1) is)) off) ∙ same
 
-  pub rise_more : k < length is → id_less last (slice_index_or is k d) ≡ true → rise_behind (slice_index_or is k d) (drop (k + 1) is) ≡ rise_behind first is
-  rise_more l on = sym (at_drop_more (rise_behind last) is k d l ∙ ap (λ b. b && rise_behind (slice_index_or is k d) (drop (k + 1) is)) on) ∙ same
+  pub rise_more : k < length is → id_less last (slice_index_or is k d) ≡ true
+      → rise_behind (slice_index_or is k d) (drop (k + 1) is) ≡ rise_behind first is
+  rise_more l on = sym (at_drop_more (rise_behind last) is k d l
+      ∙ ap (λ b. b && rise_behind (slice_index_or is k d) (drop (k + 1) is)) on) ∙ same
 
   pub rise_ends : length is ≤ k → true ≡ rise_behind first is
   rise_ends l = sym (at_drop_all (rise_behind last) is k l) ∙ same
@@ -174,7 +217,8 @@ same_fact e f = (λ p. f.0 (e.0 p), λ r. e.1 (f.1 r))
 pub never : {P : Type 0} → ¬ P → IsTrue false ↔ P
 never n = (λ t. absurd (true≢false (sym t)), λ p. absurd (n p))
 
-module _ (h : List Op) (valid : IsValid h) (m : Op) (there : Contains h m) (i : OpId) (id : m.id ≡ i) where
+module _ (h : List Op) (valid : IsValid h) (m : Op) (there : Contains h m) (i : OpId)
+    (id : m.id ≡ i) where
   only : (x : Op) → Contains h x → x.id ≡ i → x ≡ m
   only x c e = same_op h valid x m c there (e ∙ sym id)
 
@@ -196,10 +240,12 @@ module _ (h : List Op) (valid : IsValid h) (m : Op) (there : Contains h m) (i : 
 abbrev pub AllBefore : (OpId → Type 0) → List OpId → ℕ → Type 0
 AllBefore P ids n = (k : ℕ) (d : OpId) → k < n → k < length ids → P (slice_index_or ids k d)
 
-pub all_before_more : (P : OpId → Type 0) (ids : List OpId) (n : ℕ) (e : OpId) → n < length ids → AllBefore P ids n → P (slice_index_or ids n e) → AllBefore P ids (n + 1)
+pub all_before_more : (P : OpId → Type 0) (ids : List OpId) (n : ℕ) (e : OpId) → n < length ids
+    → AllBefore P ids n → P (slice_index_or ids n e) → AllBefore P ids (n + 1)
 all_before_more P ids n e l f p k d m b = elim (cases_lt k n) [
   | inl less ↦ f k d less b
-  | inr more ↦ let s : k ≡ n = omega arith in subst P (sym (ap (λ j. slice_index_or ids j d) s ∙ get_or_default ids n d e l)) p
+  | inr more ↦ let s : k ≡ n = omega arith in
+      subst P (sym (ap (λ j. slice_index_or ids j d) s ∙ get_or_default ids n d e l)) p
 ]
 
 pub aim_conflict : (h : List Op) (a b : Op) → AimMeets h (aim_of a) b → Conflict h a b
@@ -211,16 +257,35 @@ aim_conflict h a b t = record {
   direct = t.meets.direct;
 }
 
-pub conflict_aim : (h : List Op) (a b : Op) → ¬ (MeetsBrought h a b) → Conflict h a b → AimMeets h (aim_of a) b
+pub conflict_aim : (h : List Op) (a b : Op) → ¬ (MeetsBrought h a b) → Conflict h a b
+    → AimMeets h (aim_of a) b
 conflict_aim h a b off c = elim c.brings_first [
-  | inl e ↦ absurd (off (record { second = c.second; brings = c.brings_second; direct = subst (λ x. DirectConflict x c.second) e c.direct }))
-  | inr m ↦ record { op = c.first; contained = m.contained; among = m.aimed; meets = record { second = c.second; brings = c.brings_second; direct = c.direct } }
+  | inl e ↦
+      absurd (off (record {
+        second = c.second;
+        brings = c.brings_second;
+        direct = subst (λ x. DirectConflict x c.second) e c.direct;
+      }))
+  | inr m ↦ record {
+    op = c.first;
+    contained = m.contained;
+    among = m.aimed;
+    meets = record { second = c.second; brings = c.brings_second; direct = c.direct };
+  }
 ]
 
 -- a part of the tests of one that a may aim at
-pub fits_told : (h : List Op) → IsValid h → (m : Op) → Contains h m → (i : OpId) → m.id ≡ i → (a : Op) → FitsAim a m ↔ MayAimAt h a i
+pub fits_told : (h : List Op) → IsValid h → (m : Op) → Contains h m → (i : OpId) → m.id ≡ i
+    → (a : Op) → FitsAim a m ↔ MayAimAt h a i
 fits_told h valid m there i id a = (
-  λ f. record { op = m; contained = there; id = id; object = f.object; before = f.before; within = f.within },
+  λ f. record {
+    op = m;
+    contained = there;
+    id = id;
+    object = f.object;
+    before = f.before;
+    within = f.within;
+  },
   λ t.
       let same = same_op h valid t.op m t.contained there (t.id ∙ sym id) in
       subst (FitsAim a) same (record { object = t.object; before = t.before; within = t.within }),

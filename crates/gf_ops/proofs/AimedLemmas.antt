@@ -14,14 +14,27 @@ use Rattle.gf_ops.proofs.HistoryLemmas.{site_in_range, seq_in_range}
 use Rattle.gf_ops.proofs.ValidityLemmas.{Holds, same_op}
 
 -- in a part of a history that has all that a knows, the aim of a is one
-pub aimed_within : (h part : List Op) → IsValid h → ((x : Op) → Contains part x → Contains h x) → (a : Op) → ((i : OpId) → Counts a.past i → Holds part i) → IsAimed h a → IsAimed part a
+pub aimed_within : (h part : List Op) → IsValid h → ((x : Op) → Contains part x → Contains h x)
+    → (a : Op) → ((i : OpId) → Counts a.past i → Holds part i) → IsAimed h a → IsAimed part a
 aimed_within h part valid inside a known t = record {
   each = λ i c.
       let m = t.each i c in
       let range = valid.in_range m.op m.contained in
-      let w = known m.op.id (record { site = site_in_range m.op range; first = (seq_in_range m.op range).0; last = m.before }) in
-      let same : w.op ≡ m.op = same_op h valid w.op m.op (inside w.op w.contained) m.contained w.id in
-      record { op = m.op; contained = subst (Contains part) same w.contained; id = m.id; object = m.object; before = m.before; within = m.within };
+      let w = known m.op.id (record {
+        site = site_in_range m.op range;
+        first = (seq_in_range m.op range).0;
+        last = m.before;
+      }) in
+      let same : w.op ≡ m.op = same_op h valid w.op m.op (inside w.op w.contained) m.contained w.id
+      in
+      record {
+        op = m.op;
+        contained = subst (Contains part) same w.contained;
+        id = m.id;
+        object = m.object;
+        before = m.before;
+        within = m.within;
+      };
   compatible = λ x y m n. t.compatible x y (lifted x m) (lifted y n);
 }
   where
@@ -29,30 +42,47 @@ aimed_within h part valid inside a known t = record {
     lifted x m = record { contained = inside x m.contained; aimed = m.aimed }
 
 -- the ids of a version are an aim of an operation on its object that knows all operations on it
-pub version_aimed : (h : List Op) → IsValid h → (o : ObjectId) (g : List OpId) → IsVersion h o g → (a : Op) → aim_of a ≡ g → object_of a ≡ o → ((x : Op) → Contains h x → Precedes x a) → IsAimed h a
+pub version_aimed : (h : List Op) → IsValid h → (o : ObjectId) (g : List OpId) → IsVersion h o g
+    → (a : Op) → aim_of a ≡ g → object_of a ≡ o → ((x : Op) → Contains h x → Precedes x a)
+    → IsAimed h a
 version_aimed h valid o g v a aim object knows = record {
   each = λ i c.
       let held = subst (λ is. Contains is i) aim c in
       let on = v.members i held in
-      let member : IsMember h g on.op = record { contained = on.contained; grouped = subst (Contains g) (sym on.id) held } in
+      let member : IsMember h g on.op = record {
+        contained = on.contained;
+        grouped = subst (Contains g) (sym on.id) held;
+      } in
       record {
         op = on.op;
         contained = on.contained;
         id = on.id;
         object = on.object ∙ sym object;
         before = knows on.op on.contained;
-        within = λ j k. subst (λ is. Contains is j) (sym aim) (version_holds_aims h valid o g v on.op member j k);
+        within = λ j k. subst (λ is. Contains is j) (sym aim)
+            (version_holds_aims h valid o g v on.op member j k);
       };
   compatible = λ x y m n d. v.compatible x y (grouped x m) (grouped y n) (conflict_direct h x y d);
 }
   where
     grouped : (x : Op) → AimsAt h a x → IsMember h g x
-    grouped x m = record { contained = m.contained; grouped = subst (λ is. Contains is x.id) aim m.aimed }
+    grouped x m = record {
+      contained = m.contained;
+      grouped = subst (λ is. Contains is x.id) aim m.aimed;
+    }
 
 -- an aim in a part of operations, of which each has its own id, is one among all of them
-pub aimed_beyond : (h part : List Op) → ((x y : Op) → Contains h x → Contains h y → x.id ≡ y.id → x ≡ y) → ((x : Op) → Contains part x → Contains h x) → (a : Op) → IsAimed part a → IsAimed h a
+pub aimed_beyond : (h part : List Op) → ((x y : Op) → Contains h x → Contains h y → x.id ≡ y.id
+    → x ≡ y) → ((x : Op) → Contains part x → Contains h x) → (a : Op) → IsAimed part a → IsAimed h a
 aimed_beyond h part one inside a t = record {
-  each = λ i c. let m = t.each i c in record { op = m.op; contained = inside m.op m.contained; id = m.id; object = m.object; before = m.before; within = m.within };
+  each = λ i c. let m = t.each i c in record {
+    op = m.op;
+    contained = inside m.op m.contained;
+    id = m.id;
+    object = m.object;
+    before = m.before;
+    within = m.within;
+  };
   compatible = λ x y m n. t.compatible x y (lowered x m) (lowered y n);
 }
   where

@@ -1,5 +1,7 @@
--- A valid history has as many operations of a site as the number of each says. The crates above cite it.
-use Rattle.std.proofs.Common.{◌≡◌, ℕ, ◌+◌, ◌≤◌, List, [], ◌∷◌, Bool, true, false, cond, zero, suc, refl, sym, subst, ap, ◌∙◌, arith, inl, inr, ◌&&◌, nat_le, nat_eq}
+-- A valid history has as many operations of a site as the number of each says. The crates above
+-- cite it.
+use Rattle.std.proofs.Common.{◌≡◌, ℕ, ◌+◌, ◌≤◌, List, [], ◌∷◌, Bool, true, false, cond, zero, suc}
+use Rattle.std.proofs.Common.{refl, sym, subst, ap, ◌∙◌, arith, inl, inr, ◌&&◌, nat_le, nat_eq}
 use Rattle.std.specs.Prelude.{Contains, count_by}
 use Rattle.std.proofs.lemmas.Bool.{cases_eq}
 use Rattle.std.proofs.lemmas.List.Sums.{sum_by-cons}
@@ -29,7 +31,8 @@ module _ (p q : Op → Bool) (more : (x : Op) → p x ≡ true → q x ≡ true)
       let i = count_le h in
       let c = cond_le (p x) (q x) (more x) in omega (arith, a, b, i, c)
 
-  count_less : (h : List Op) (y : Op) → Contains h y → p y ≡ false → q y ≡ true → count_by p h + 1 ≤ count_by q h
+  count_less : (h : List Op) (y : Op) → Contains h y → p y ≡ false → q y ≡ true
+      → count_by p h + 1 ≤ count_by q h
   count_less [] y m off on = absurd (not_Contains-nil y m)
   count_less (x ∷ h) y m off on =
       let a = sum_by-cons (λ (z : Op). cond (p z) 1 0) x h in
@@ -55,7 +58,8 @@ record HasNumber (h : List Op) (s k : ℕ) : Type 0 where
   site : op.id.site ≡ s
   seq : op.id.seq ≡ k
 
-more_number : (t k s n : ℕ) → (nat_eq t s && nat_le k n) ≡ true → (nat_eq t s && nat_le k (n + 1)) ≡ true
+more_number : (t k s n : ℕ) → (nat_eq t s && nat_le k n) ≡ true
+    → (nat_eq t s && nat_le k (n + 1)) ≡ true
 more_number t k s n h = grind (arith, h)
 
 same_site : (t k s n : ℕ) → (nat_eq t s && nat_le k n) ≡ true → nat_eq t s ≡ true
@@ -73,7 +77,8 @@ upto_more s n x h = more_number x.id.site x.id.seq s n h
 upto_site : (s n : ℕ) (x : Op) → upto s n x ≡ true → nat_eq x.id.site s ≡ true
 upto_site s n x h = same_site x.id.site x.id.seq s n h
 
-numbered : (h : List Op) (s n : ℕ) → ((k : ℕ) → 1 ≤ k → k ≤ n → HasNumber h s k) → n ≤ count_by (upto s n) h
+numbered : (h : List Op) (s n : ℕ) → ((k : ℕ) → 1 ≤ k → k ≤ n → HasNumber h s k)
+    → n ≤ count_by (upto s n) h
 numbered h s zero each = omega arith
 numbered h s (suc n) each =
     let i = numbered h s n (λ k l m. each k l (omega (arith, m))) in
@@ -85,14 +90,23 @@ numbered h s (suc n) each =
     subst (λ m. m ≤ count_by (upto s m) h) next (omega (arith, i, c))
 
 -- THE NUMBER of an operation is at most the count of its site
-pub number_counted : (h : List Op) → IsValid h → (a : Op) → Contains h a → a.id.seq ≤ count_of h a.id.site
+pub number_counted : (h : List Op) → IsValid h → (a : Op) → Contains h a
+    → a.id.seq ≤ count_of h a.id.site
 number_counted h valid a m =
     let range = valid.in_range a m in
-    let all : a.id.seq ≤ count_by (upto a.id.site a.id.seq) h = numbered h a.id.site a.id.seq (λ k l n. elim (cases_eq k a.id.seq) [
+    let all : a.id.seq ≤ count_by (upto a.id.site a.id.seq) h = numbered h a.id.site a.id.seq
+    (λ k l n. elim (cases_eq k a.id.seq) [
       | inl e ↦ record { op = a; contained = m; site = refl; seq = sym e }
       | inr d ↦
-          let held = valid.closed a m (record { site = a.id.site; seq = k }) (record { site = site_in_range a range; first = l; last = omega arith }) in
-          record { op = held.op; contained = held.contained; site = ap (λ (i : OpId). i.site) held.id; seq = ap (λ (i : OpId). i.seq) held.id }
+          let held = valid.closed a m (record { site = a.id.site; seq = k })
+          (record { site = site_in_range a range; first = l; last = omega arith }) in
+          record {
+            op = held.op;
+            contained = held.contained;
+            site = ap (λ (i : OpId). i.site) held.id;
+            seq = ap (λ (i : OpId). i.seq) held.id;
+          }
     ]) in
-    let most = count_le (upto a.id.site a.id.seq) (λ (b : Op). nat_eq b.id.site a.id.site) (upto_site a.id.site a.id.seq) h in
+    let most = count_le (upto a.id.site a.id.seq) (λ (b : Op). nat_eq b.id.site a.id.site)
+    (upto_site a.id.site a.id.seq) h in
     omega (arith, all, most)

@@ -10,7 +10,8 @@ use Rattle.gf_shape.specs.declared.point.Point.{Point}
 use Rattle.gf_shape.specs.declared.colour.Rgb.{Rgb}
 use Rattle.gf_ops.specs.declared.op.OpId.{OpId}
 use Rattle.gf_ops.specs.declared.change.Value.{Value}
-use Rattle.gf_ops.specs.declared.change.Value.TheVariants.{Place, Points, Size, Colour, Layer, Shown}
+use Rattle.gf_ops.specs.declared.change.Value.TheVariants.{Place, Points, Size, Colour, Layer}
+use Rattle.gf_ops.specs.declared.change.Value.TheVariants.{Shown}
 use Rattle.gf_ops.specs.ConflictTests.{colour_eq, value_eq}
 use Rattle.gf_ops.specs.SamePoints.{point_eq, points_eq}
 use Rattle.gf_ops.specs.SameIds.{same_id, ids_eq}
@@ -22,7 +23,8 @@ points_told p q = (
       let x = (Decides-int_eq p.x q.x).0 b.0 in
       let y = (Decides-int_eq p.y q.y).0 b.1 in
       λ j. record { x = x j; y = y j },
-  λ e. subst (λ r. point_eq p r ≡ true) e (rw ((Decides-int_eq p.x p.x).1 refl, (Decides-int_eq p.y p.y).1 refl) refl),
+  λ e. subst (λ r. point_eq p r ≡ true) e
+      (rw ((Decides-int_eq p.x p.x).1 refl, (Decides-int_eq p.y p.y).1 refl) refl),
 )
 
 pub colours_told : (c d : Rgb) → Decides (colour_eq c d) (c ≡ d)
@@ -34,7 +36,9 @@ colours_told c d = (
       let g = (Decides-eqb c.g d.g).0 n.1 in
       let u = (Decides-eqb c.b d.b).0 b.1 in
       λ j. record { r = r j; g = g j; b = u j },
-  λ e. subst (λ f. colour_eq c f ≡ true) e (rw ((Decides-eqb c.r c.r).1 refl, (Decides-eqb c.g c.g).1 refl, (Decides-eqb c.b c.b).1 refl) refl),
+  λ e. subst (λ f. colour_eq c f ≡ true) e
+      (rw ((Decides-eqb c.r c.r).1 refl, (Decides-eqb c.g c.g).1 refl, (Decides-eqb c.b c.b).1 refl)
+      refl),
 )
 
 -- `==` of two lists of points says whether they are one
@@ -49,7 +53,8 @@ ids_told i j = (
       let x = (Decides-eqb i.site j.site).0 b.0 in
       let y = (Decides-eqb i.seq j.seq).0 b.1 in
       λ k. record { site = x k; seq = y k },
-  λ e. subst (λ r. same_id i r ≡ true) e (rw ((Decides-eqb i.site i.site).1 refl, (Decides-eqb i.seq i.seq).1 refl) refl),
+  λ e. subst (λ r. same_id i r ≡ true) e
+      (rw ((Decides-eqb i.site i.site).1 refl, (Decides-eqb i.seq i.seq).1 refl) refl),
 )
 
 pub ids_decides : (is js : List OpId) → Decides (ids_eq is js) (is ≡ js)

@@ -1,5 +1,7 @@
--- What operations set: operations that conflict directly both set one attribute, and a creation conflicts directly with none.
-use Rattle.std.proofs.Common.{◌≡◌, ◌≢◌, ℕ, ◌<◌, zero, suc, true, List, Some, refl, sym, ap, subst, ◌∙◌, inl, inr, arith}
+-- What operations set: operations that conflict directly both set one attribute, and a creation
+-- conflicts directly with none.
+use Rattle.std.proofs.Common.{◌≡◌, ◌≢◌, ℕ, ◌<◌, zero, suc, true, List, Some, refl, sym, ap, subst}
+use Rattle.std.proofs.Common.{◌∙◌, inl, inr, arith}
 use Rattle.std.specs.Prelude.{◌⊎◌, Contains}
 use Rattle.std.proofs.lemmas.Bool.{cases_Bool}
 use Rattle.gf_ops.specs.declared.op.Op.{Op}
@@ -10,7 +12,8 @@ use Rattle.gf_ops.specs.declared.change.Start.{Start}
 use Rattle.gf_ops.specs.declared.change.Change.{Change}
 use Rattle.gf_ops.specs.declared.change.Change.TheVariants.{Create, Set}
 use Rattle.gf_ops.specs.declared.change.Value.{Value}
-use Rattle.gf_ops.specs.declared.change.Value.TheVariants.{Place, Points, Size, Colour, Layer, Shown}
+use Rattle.gf_ops.specs.declared.change.Value.TheVariants.{Place, Points, Size, Colour, Layer}
+use Rattle.gf_ops.specs.declared.change.Value.TheVariants.{Shown}
 use Rattle.gf_ops.specs.AimWalk.{place_of, Sets}
 use Rattle.gf_ops.specs.Attribute.{attribute_of, change_value, set_value, changed_object, object_of}
 use Rattle.gf_ops.specs.ConflictTests.{value_eq, sets_another}
@@ -18,7 +21,8 @@ use Rattle.gf_ops.specs.DirectConflict.{SetApart, DirectConflict}
 use Rattle.gf_ops.specs.KnownObject.{IsSuited}
 use Rattle.gf_ops.specs.OperationOrder.{Precedes}
 use Rattle.gf_ops.specs.ValidHistory.{IsValid}
-use Rattle.gf_ops.proofs.DirectConflictLemmas.{set_value-given, set_value-own, another_told, another_from, direct-sym}
+use Rattle.gf_ops.proofs.DirectConflictLemmas.{set_value-given, set_value-own, another_told}
+use Rattle.gf_ops.proofs.DirectConflictLemmas.{another_from, direct-sym}
 use Rattle.gf_ops.proofs.SameLemmas.{value_eq-true, value_eq-same}
 use Rattle.gf_ops.proofs.ValidityLemmas.{same_op}
 
@@ -40,7 +44,8 @@ place attr.Colour = 3
 place attr.Layer = 4
 place attr.Shown = 5
 
-pub placed : (v : Value) → (place_of v < 6) × (attribute_at (place_of v) ≡ attribute_of v) × (place (attribute_of v) ≡ place_of v)
+pub placed : (v : Value) → (place_of v < 6) × (attribute_at (place_of v) ≡ attribute_of v)
+    × (place (attribute_of v) ≡ place_of v)
 placed (Place p) = (omega arith, refl, refl)
 placed (Points ps) = (omega arith, refl, refl)
 placed (Size m n) = (omega arith, refl, refl)
@@ -57,7 +62,8 @@ one_place v w e = sym (placed v).2 ∙ (ap place e ∙ (placed w).2)
 pub value_cases : (v w : Value) → (v ≡ w) ⊎ (v ≢ w)
 value_cases v w = elim (cases_Bool (value_eq v w)) [
   | inl t ↦ inl (value_eq-true v w t)
-  | inr f ↦ inr (λ e. let s : value_eq v w ≡ true = subst (λ u. value_eq v u ≡ true) e (value_eq-same v) in absurd cc)
+  | inr f ↦ inr (λ e. let s : value_eq v w ≡ true = subst (λ u. value_eq v u ≡ true) e
+      (value_eq-same v) in absurd cc)
 ]
 
 -- ---- what operations set
@@ -65,12 +71,14 @@ value_cases v w = elim (cases_Bool (value_eq v w)) [
 pub sets_one : (x : Op) (v w : Value) → Sets x v → Sets x w → v ≡ w
 sets_one x v w s r = let e : Set s.object v s.aim ≡ Set r.object w r.aim = sym s.is ∙ r.is in cc
 
-pub sets_apart : (x y : Op) (v w : Value) → Sets x v → Sets y w → place_of v ≡ place_of w → v ≢ w → SetApart x.change y.change
+pub sets_apart : (x y : Op) (v w : Value) → Sets x v → Sets y w → place_of v ≡ place_of w → v ≢ w
+    → SetApart x.change y.change
 sets_apart x y v w s r e n = record {
   attribute = attribute_of w;
   first = v;
   second = w;
-  first_given = ap (λ c. change_value c (attribute_of w)) s.is ∙ (ap (set_value v) (sym (one_attribute v w e)) ∙ set_value-own v);
+  first_given = ap (λ c. change_value c (attribute_of w)) s.is
+      ∙ (ap (set_value v) (sym (one_attribute v w e)) ∙ set_value-own v);
   second_given = ap (λ c. change_value c (attribute_of w)) r.is ∙ set_value-own w;
   differ = n;
 }
@@ -78,14 +86,17 @@ sets_apart x y v w s r e n = record {
 -- an operation that sets v gives the attribute of w another value, where it does
 pub other_told : (x : Op) (v w : Value) → Sets x v → sets_another x.change w ≡ true → v ≢ w
 other_told x v w s t e =
-    let u : sets_another (Set s.object v s.aim) w ≡ true = subst (λ c. sets_another c w ≡ true) s.is t in
+    let u : sets_another (Set s.object v s.aim) w ≡ true = subst (λ c. sets_another c w ≡ true) s.is
+    t in
     let told = another_told (set_value v (attribute_of w)) w u in
     let given = set_value-given v told.0 (attribute_of w) told.1 in
     told.2 (sym given.0 ∙ e)
 
-pub other_from : (x : Op) (v w : Value) → Sets x v → place_of v ≡ place_of w → v ≢ w → sets_another x.change w ≡ true
+pub other_from : (x : Op) (v w : Value) → Sets x v → place_of v ≡ place_of w → v ≢ w
+    → sets_another x.change w ≡ true
 other_from x v w s e n =
-    let given : set_value v (attribute_of w) ≡ Some v = ap (set_value v) (sym (one_attribute v w e)) ∙ set_value-own v in
+    let given : set_value v (attribute_of w) ≡ Some v = ap (set_value v) (sym (one_attribute v w e))
+    ∙ set_value-own v in
     subst (λ c. sets_another c w ≡ true) (sym s.is) (rw given (another_from v w n))
 
 -- x and y set one attribute to different values
@@ -99,7 +110,8 @@ pub record SetBoth (x y : Op) : Type 0 where
 
 module _ (h : List Op) (valid : IsValid h) where
   -- a creation conflicts directly with none
-  made_alone : (x y : Op) → Contains h x → Contains h y → (s : Start) → x.change ≡ Create s → (c : Change) → y.change ≡ c → ¬ (DirectConflict x y)
+  made_alone : (x y : Op) → Contains h x → Contains h y → (s : Start) → x.change ≡ Create s
+      → (c : Change) → y.change ≡ c → ¬ (DirectConflict x y)
   made_alone x y i j s e (Create r) f d =
       let own : object_of x ≡ changed_object x.id (Create s) = ap (changed_object x.id) e in
       let other : object_of y ≡ changed_object y.id (Create r) = ap (changed_object y.id) f in
@@ -114,13 +126,17 @@ module _ (h : List Op) (valid : IsValid h) where
       let same = same_op h valid known.maker x known.contained i (known.id ∙ id) in
       d.concurrent.not_before (subst (λ z. Precedes z y) same known.before)
 
-  pub both_set : (x y : Op) → Contains h x → Contains h y → (b c : Change) → x.change ≡ b → y.change ≡ c → DirectConflict x y → SetBoth x y
+  pub both_set : (x y : Op) → Contains h x → Contains h y → (b c : Change) → x.change ≡ b
+      → y.change ≡ c → DirectConflict x y → SetBoth x y
   both_set x y i j (Create s) c e f d = absurd (made_alone x y i j s e c f d)
-  both_set x y i j (Set o v aim) (Create s) e f d = absurd (made_alone y x j i s f (Set o v aim) e (direct-sym x y d))
+  both_set x y i j (Set o v aim) (Create s) e f d = absurd (made_alone y x j i s f (Set o v aim) e
+      (direct-sym x y d))
   both_set x y i j (Set o v aim) (Set p w others) e f d =
       let a = d.apart in
-      let first = set_value-given v a.first a.attribute (ap (λ c. change_value c a.attribute) (sym e) ∙ a.first_given) in
-      let second = set_value-given w a.second a.attribute (ap (λ c. change_value c a.attribute) (sym f) ∙ a.second_given) in
+      let first = set_value-given v a.first a.attribute
+      (ap (λ c. change_value c a.attribute) (sym e) ∙ a.first_given) in
+      let second = set_value-given w a.second a.attribute
+      (ap (λ c. change_value c a.attribute) (sym f) ∙ a.second_given) in
       record {
         first = v;
         second = w;

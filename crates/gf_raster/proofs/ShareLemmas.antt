@@ -21,7 +21,8 @@ parts_hold count size l = (div_ceil_times count size (omega arith)).0
 
 -- this many runs of this size are all
 pub runs_are_all : (count size : ℕ) → 1 ≤ size → cut count size (parts count size) ≡ count
-runs_are_all count size l = let h = parts_hold count size l in least (parts count size * size) count h
+runs_are_all count size l = let h = parts_hold count size l in
+    least (parts count size * size) count h
   where
     least : (p w : ℕ) → w ≤ p → min p w ≡ w
     least p w h = omega arith
@@ -40,7 +41,8 @@ shared count workers l =
     least p r w e h = omega arith
 
 -- the workers' columns are all
-pub columns_shared : (w : View) (workers : ℕ) → 1 ≤ workers → cut w.width (stride w workers) workers ≡ w.width
+pub columns_shared : (w : View) (workers : ℕ) → 1 ≤ workers
+    → cut w.width (stride w workers) workers ≡ w.width
 columns_shared w workers l =
     let tiles = parts w.width 64 in
     let q = parts tiles workers in

@@ -1,5 +1,6 @@
 -- How the operations of the lines grow, and what a refused line says of the text.
-use Rattle.std.proofs.Common.{◌≡◌, ℕ, List, [], ◌∷◌, ◌++◌, drop, length, map, refl, sym, ap, subst, ◌∙◌, append_assoc}
+use Rattle.std.proofs.Common.{◌≡◌, ℕ, List, [], ◌∷◌, ◌++◌, drop, length, map, refl, sym, ap, subst}
+use Rattle.std.proofs.Common.{◌∙◌, append_assoc}
 use Rattle.std.proofs.lemmas.List.{map-append, append-nil}
 use Rattle.gf_ops.specs.declared.op.OpId.{OpId}
 use Rattle.gf_ops.specs.declared.faults.OpFault.{OpFault}
@@ -16,10 +17,13 @@ use Rattle.gf_replay.specs.LineSteps.{DropsLine, HasRead, IsLineFault, TakesLine
 use Rattle.gf_replay.specs.Waiting.{DenotesWaiting}
 use Rattle.gf_replay.specs.declared.blocks.Reading.{Reading}
 use Rattle.gf_replay.specs.Blocks.{AreFirstReadings, AreOfLines, IsBefore, IsReading}
-use Rattle.gf_replay.proofs.TakingLemmas.{HasTaken-moves, HasTaken-offer, delivers, other_taken, taken_delivery, waiting}
+use Rattle.gf_replay.proofs.TakingLemmas.{HasTaken-moves, HasTaken-offer, delivers, other_taken}
+use Rattle.gf_replay.proofs.TakingLemmas.{taken_delivery, waiting}
 
 -- one line more is taken
-pub HasRead-line : (bytes : List ℕ) (n : ℕ) (line : List ℕ) (left : List (ℕ × List ℕ)) (x y : SiteState) → HasRead bytes ((n, line) ∷ left) x → TakesLine line x y → HasRead bytes left y
+pub HasRead-line : (bytes : List ℕ) (n : ℕ) (line : List ℕ) (left : List (ℕ × List ℕ))
+    (x y : SiteState) → HasRead bytes ((n, line) ∷ left) x → TakesLine line x y
+    → HasRead bytes left y
 HasRead-line bytes n line left x y read takes = record {
   before = read.before ++ (n, line) ∷ [];
   whole = read.whole ∙ sym (append_assoc read.before ((n, line) ∷ []) left);
@@ -29,7 +33,9 @@ HasRead-line bytes n line left x y read takes = record {
       ∙ (ap (λ r. r ++ denoted line ∷ []) read.lines
       ∙ (ap (λ r. map denotes_op read.ops ++ r ∷ []) takes.denotes
       ∙ sym (map-append denotes_op read.ops (takes.op ∷ []))));
-  taken = HasTaken-moves (read.ops ++ takes.op ∷ []) takes.takes.offered y (HasTaken-offer read.ops x read.taken takes.op takes.takes.offered takes.takes.offers) takes.takes.settles.moves;
+  taken = HasTaken-moves (read.ops ++ takes.op ∷ []) takes.takes.offered y
+      (HasTaken-offer read.ops x read.taken takes.op takes.takes.offered takes.takes.offers)
+      takes.takes.settles.moves;
   none = takes.takes.settles.none;
 }
 
@@ -37,18 +43,26 @@ HasRead-line bytes n line left x y read takes = record {
 pub Denotes-read : (bytes : List ℕ) (x : SiteState) → HasRead bytes [] x → Denotes bytes x.ops
 Denotes-read bytes x read = record {
   ops = read.ops;
-  lines = ap (map (λ (l : ℕ × List ℕ). denoted l.1)) (read.whole ∙ append-nil read.before) ∙ read.lines;
+  lines = ap (map (λ (l : ℕ × List ℕ). denoted l.1)) (read.whole ∙ append-nil read.before)
+      ∙ read.lines;
   delivers = delivers read.ops x read.taken read.none;
 }
 
 -- and what is held waits
-pub DenotesWaiting-read : (bytes : List ℕ) (x : SiteState) → HasRead bytes [] x → AreHeld x.held → DenotesWaiting bytes x.ops x.held
+pub DenotesWaiting-read : (bytes : List ℕ) (x : SiteState) → HasRead bytes [] x → AreHeld x.held
+    → DenotesWaiting bytes x.ops x.held
 unfolding Denotes-read
 DenotesWaiting-read bytes x read held =
     let d = Denotes-read bytes x read in
-    record { ops = d.ops; lines = d.lines; delivers = d.delivers; others = waiting read.ops x read.taken held }
+    record {
+      ops = d.ops;
+      lines = d.lines;
+      delivers = d.delivers;
+      others = waiting read.ops x read.taken held;
+    }
 
-module _ (bytes : List ℕ) (n : ℕ) (line : List ℕ) (left : List (ℕ × List ℕ)) (x : SiteState) (read : HasRead bytes ((n, line) ∷ left) x) where
+module _ (bytes : List ℕ) (n : ℕ) (line : List ℕ) (left : List (ℕ × List ℕ)) (x : SiteState)
+    (read : HasRead bytes ((n, line) ∷ left) x) where
   abbrev at_line : IsAt bytes n line
   at_line = record {
     before = read.before;
@@ -64,13 +78,18 @@ module _ (bytes : List ℕ) (n : ℕ) (line : List ℕ) (left : List (ℕ × Lis
   at_fault cause.Json f = f
   at_fault cause.Field f = f
   at_fault cause.Range f = f
-  at_fault cause.Clash f = record { op = f.op; denotes = f.denotes; other = other_taken read.ops x read.taken f.op f.clash }
+  at_fault cause.Clash f = record {
+    op = f.op;
+    denotes = f.denotes;
+    other = other_taken read.ops x read.taken f.op f.clash;
+  }
 
   dropped : (id : OpId) (fault : OpFault) → DropsLine line x id fault → Drops bytes id fault
   dropped id fault d =
       let ops = read.ops ++ d.op ∷ [] in
       let offered = HasTaken-offer read.ops x read.taken d.op d.behind.offered d.behind.offers in
-      let moved = HasTaken-moves ops d.behind.offered d.behind.drops.state offered d.behind.drops.moves in
+      let moved = HasTaken-moves ops d.behind.offered d.behind.drops.state offered
+      d.behind.drops.moves in
       record {
         number = n;
         line = line;
@@ -90,7 +109,8 @@ module _ (bytes : List ℕ) (n : ℕ) (line : List ℕ) (left : List (ℕ × Lis
 
   -- what a line is refused for, the text is
   pub RefusesText-line : (e : ReadingError) → RefusesLine n line x e → RefusesText bytes e
-  RefusesText-line (reading.Line m why) refused = subst (λ k. HasFault bytes k why) (sym refused.0) (record { line = line; at = at_line; fault = at_fault why refused.1 })
+  RefusesText-line (reading.Line m why) refused = subst (λ k. HasFault bytes k why) (sym refused.0)
+      (record { line = line; at = at_line; fault = at_fault why refused.1 })
   RefusesText-line (reading.Dropped id fault) refused = dropped id fault refused
   RefusesText-line reading.OutOfMemory refused = tt
 
@@ -104,14 +124,23 @@ record IsParted (lines : List (ℕ × List ℕ)) (r : Reading) (rs : List Readin
   pub reading : IsReading line r
   pub rest : AreFirstReadings others rs
 
-parted : (lines : List (ℕ × List ℕ)) (r : Reading) (rs : List Reading) → AreFirstReadings lines (r ∷ rs) → IsParted lines r rs
+parted : (lines : List (ℕ × List ℕ)) (r : Reading) (rs : List Reading)
+    → AreFirstReadings lines (r ∷ rs) → IsParted lines r rs
 parted [] r rs first = absurd first
-parted (l ∷ ls) r rs first = record { line = l; others = ls; is = refl; reading = first.0; rest = first.1 }
+parted (l ∷ ls) r rs first = record {
+  line = l;
+  others = ls;
+  is = refl;
+  reading = first.0;
+  rest = first.1;
+}
 
 pub AreOfLines-rest : (r : Reading) (rs : List Reading) → AreOfLines (r ∷ rs) → AreOfLines rs
-AreOfLines-rest r rs block = let p = parted block.lines r rs block.first in record { lines = p.others; first = p.rest }
+AreOfLines-rest r rs block = let p = parted block.lines r rs block.first in
+    record { lines = p.others; first = p.rest }
 
-module _ (text : List ℕ) (r : Reading) (rs : List Reading) (others : List (ℕ × List ℕ)) (x : SiteState) (before : IsBefore text (r ∷ rs) others x) where
+module _ (text : List ℕ) (r : Reading) (rs : List Reading) (others : List (ℕ × List ℕ))
+    (x : SiteState) (before : IsBefore text (r ∷ rs) others x) where
   first_line : IsParted before.lines r rs
   first_line = parted before.lines r rs before.first
 
@@ -119,18 +148,25 @@ module _ (text : List ℕ) (r : Reading) (rs : List Reading) (others : List (ℕ
   read_so_far = subst (λ z. HasRead text z x) first_line.is before.read
 
   -- what was read first is taken
-  pub IsBefore-line : (y : SiteState) → ((line : ℕ × List ℕ) → IsReading line r → TakesLine line.1 x y) → IsBefore text rs others y
+  pub IsBefore-line : (y : SiteState)
+      → ((line : ℕ × List ℕ) → IsReading line r → TakesLine line.1 x y) → IsBefore text rs others y
   IsBefore-line y takes = record {
     lines = first_line.others;
-    read = HasRead-line text first_line.line.0 first_line.line.1 first_line.others x y read_so_far (takes first_line.line first_line.reading);
+    read = HasRead-line text first_line.line.0 first_line.line.1 first_line.others x y read_so_far
+        (takes first_line.line first_line.reading);
     first = first_line.rest;
     behind = before.behind ∙ ap (drop (length (r ∷ rs))) first_line.is;
   }
 
   -- what was read first is refused
-  pub RefusesText-first : (e : ReadingError) → ((line : ℕ × List ℕ) → IsReading line r → RefusesLine line.0 line.1 x e) → RefusesText text e
-  RefusesText-first e refuses = RefusesText-line text first_line.line.0 first_line.line.1 first_line.others x read_so_far e (refuses first_line.line first_line.reading)
+  pub RefusesText-first : (e : ReadingError)
+      → ((line : ℕ × List ℕ) → IsReading line r → RefusesLine line.0 line.1 x e)
+      → RefusesText text e
+  RefusesText-first e refuses = RefusesText-line text first_line.line.0 first_line.line.1
+      first_line.others x read_so_far e (refuses first_line.line first_line.reading)
 
 -- with nothing left of a block, the lines behind it are left
-pub HasRead-block : (text : List ℕ) (readings : List Reading) (others : List (ℕ × List ℕ)) (x : SiteState) → length readings ≡ 0 → IsBefore text readings others x → HasRead text others x
-HasRead-block text readings others x none before = subst (λ z. HasRead text z x) (sym (before.behind ∙ ap (λ n. drop n before.lines) none)) before.read
+pub HasRead-block : (text : List ℕ) (readings : List Reading) (others : List (ℕ × List ℕ))
+    (x : SiteState) → length readings ≡ 0 → IsBefore text readings others x → HasRead text others x
+HasRead-block text readings others x none before = subst (λ z. HasRead text z x)
+    (sym (before.behind ∙ ap (λ n. drop n before.lines) none)) before.read

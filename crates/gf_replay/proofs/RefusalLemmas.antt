@@ -1,6 +1,7 @@
 -- An input that denotes a history has no line at fault and drops nothing.
 use Rattle.std.specs.Prelude.{Contains, Ok}
-use Rattle.std.proofs.Common.{◌≡◌, ℕ, List, [], ◌∷◌, ◌++◌, map, refl, sym, ap, subst, ◌∙◌, append_assoc}
+use Rattle.std.proofs.Common.{◌≡◌, ℕ, List, [], ◌∷◌, ◌++◌, map, refl, sym, ap, subst, ◌∙◌}
+use Rattle.std.proofs.Common.{append_assoc}
 use Rattle.std.proofs.lemmas.List.{map-append}
 use Rattle.std.proofs.lemmas.List.Elements.{Contains-append_left, Contains-push}
 use Rattle.gf_ops.specs.declared.op.Op.{Op}
@@ -24,30 +25,47 @@ record Continues (ops all : List Op) (r : Got Op) : Type 0 where
   pub is : r ≡ Ok last
   pub whole : all ≡ ops ++ last ∷ rest
 
-continued : (ops all : List Op) (r : Got Op) (behind : List (Got Op)) → map denotes_op ops ++ r ∷ behind ≡ map denotes_op all → Continues ops all r
-continued [] (a ∷ all) r behind e = let first : r ≡ denotes_op a = cc in record { last = a; rest = all; is = first; whole = refl }
+continued : (ops all : List Op) (r : Got Op) (behind : List (Got Op))
+    → map denotes_op ops ++ r ∷ behind ≡ map denotes_op all → Continues ops all r
+continued [] (a ∷ all) r behind e = let first : r ≡ denotes_op a = cc in record {
+  last = a;
+  rest = all;
+  is = first;
+  whole = refl;
+}
 continued [] [] r behind e = absurd cc
 continued (o ∷ ops) (a ∷ all) r behind e =
     let first : denotes_op o ≡ denotes_op a = cc in
     let same : o ≡ a = cc in
     let tail : map denotes_op ops ++ r ∷ behind ≡ map denotes_op all = cc in
     let k = continued ops all r behind tail in
-    record { last = k.last; rest = k.rest; is = k.is; whole = ap (λ x. a ∷ x) k.whole ∙ ap (λ x. x ∷ (ops ++ k.last ∷ k.rest)) (sym same) }
+    record {
+      last = k.last;
+      rest = k.rest;
+      is = k.is;
+      whole = ap (λ x. a ∷ x) k.whole ∙ ap (λ x. x ∷ (ops ++ k.last ∷ k.rest)) (sym same);
+    }
 continued (o ∷ ops) [] r behind e = absurd cc
 
 module _ (bytes : List ℕ) (h : List Op) (d : Denotes bytes h) where
   at_line : (n : ℕ) (line : List ℕ) (at : IsAt bytes n line) → Continues at.ops d.ops (denoted line)
   at_line n line at =
       let read = λ (l : ℕ × List ℕ). denoted l.1 in
-      let parts : map read (at.before ++ (n, line) ∷ at.behind) ≡ map denotes_op at.ops ++ denoted line ∷ map read at.behind =
-      map-append read at.before ((n, line) ∷ at.behind) ∙ ap (λ x. x ++ denoted line ∷ map read at.behind) at.lines in
-      continued at.ops d.ops (denoted line) (map read at.behind) (sym parts ∙ (ap (map read) (sym at.whole) ∙ d.lines))
+      let parts : map read (at.before ++ (n, line) ∷ at.behind) ≡ map denotes_op at.ops ++ denoted
+      line ∷ map read at.behind =
+      map-append read at.before ((n, line) ∷ at.behind)
+      ∙ ap (λ x. x ++ denoted line ∷ map read at.behind) at.lines in
+      continued at.ops d.ops (denoted line) (map read at.behind)
+      (sym parts ∙ (ap (map read) (sym at.whole) ∙ d.lines))
 
   -- the operations of the first lines are among all
-  among : (ops rest : List Op) (last : Op) → d.ops ≡ ops ++ last ∷ rest → (a : Op) → Contains (ops ++ last ∷ []) a → Contains d.ops a
-  among ops rest last whole a i = subst (λ l. Contains l a) (append_assoc ops (last ∷ []) rest ∙ sym whole) (Contains-append_left (ops ++ last ∷ []) rest a i)
+  among : (ops rest : List Op) (last : Op) → d.ops ≡ ops ++ last ∷ rest → (a : Op)
+      → Contains (ops ++ last ∷ []) a → Contains d.ops a
+  among ops rest last whole a i = subst (λ l. Contains l a) (append_assoc ops (last ∷ []) rest
+      ∙ sym whole) (Contains-append_left (ops ++ last ∷ []) rest a i)
 
-  no_fault : (n : ℕ) (line : List ℕ) (at : IsAt bytes n line) (why : LineCause) → ¬ (IsFault at.ops line why)
+  no_fault : (n : ℕ) (line : List ℕ) (at : IsAt bytes n line) (why : LineCause)
+      → ¬ (IsFault at.ops line why)
   no_fault n line at cause.Json f = let is = (at_line n line at).is in absurd cc
   no_fault n line at cause.Field f = let is = (at_line n line at).is in absurd cc
   no_fault n line at cause.Range f = let is = (at_line n line at).is in absurd cc
@@ -58,7 +76,8 @@ module _ (bytes : List ℕ) (h : List Op) (d : Denotes bytes h) where
       let same : k.last ≡ f.op = cc in
       let all = among at.ops k.rest k.last k.whole in
       let last = subst (Contains d.ops) same (all k.last (Contains-push at.ops k.last)) in
-      let other = all f.other.other (Contains-append_left at.ops (k.last ∷ []) f.other.other f.other.contained) in
+      let other = all f.other.other (Contains-append_left at.ops (k.last ∷ []) f.other.other
+      f.other.contained) in
       f.other.differs (d.delivers.one f.other.other f.op other last f.other.id)
 
   pub denotes_no_fault : (n : ℕ) (why : LineCause) → ¬ (HasFault bytes n why)
@@ -70,9 +89,21 @@ module _ (bytes : List ℕ) (h : List Op) (d : Denotes bytes h) where
       let is = k.is in
       let denotes = x.denotes in
       let same : k.last ≡ x.last = cc in
-      let all = subst (λ last. (a : Op) → Contains (x.at.ops ++ last ∷ []) a → Contains d.ops a) same (among x.at.ops k.rest k.last k.whole) in
-      let delivery : IsDelivery d.ops x.history = record { from_offered = λ a i. all a (x.delivery.from_offered a i); once = x.delivery.once; in_turn = x.delivery.in_turn } in
+      let all = subst (λ last. (a : Op) → Contains (x.at.ops ++ last ∷ []) a → Contains d.ops a)
+      same (among x.at.ops k.rest k.last k.whole) in
+      let delivery : IsDelivery d.ops x.history = record {
+        from_offered = λ a i. all a (x.delivery.from_offered a i);
+        once = x.delivery.once;
+        in_turn = x.delivery.in_turn;
+      } in
       let longer = delivery-push d.ops x.history x.op delivery (all x.op x.there) x.ready in
-      let within = λ (a : Op) (i : Contains x.history a). (d.delivers.delivered a).1 (record { added = x.history; delivery = delivery; contained = i }) in
-      let there = (d.delivers.delivered x.op).1 (record { added = x.history ++ x.op ∷ []; delivery = longer; contained = Contains-push x.history x.op }) in
-      not_refused x.history x.op fault (part_accepts h x.history d.delivers.valid within x.delivery.in_turn x.op there x.ready) x.refused
+      let within = λ (a : Op) (i : Contains x.history a). (d.delivers.delivered a).1
+      (record { added = x.history; delivery = delivery; contained = i }) in
+      let there = (d.delivers.delivered x.op).1
+      (record {
+        added = x.history ++ x.op ∷ [];
+        delivery = longer;
+        contained = Contains-push x.history x.op;
+      }) in
+      not_refused x.history x.op fault (part_accepts h x.history d.delivers.valid within
+      x.delivery.in_turn x.op there x.ready) x.refused

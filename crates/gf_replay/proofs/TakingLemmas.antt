@@ -4,7 +4,8 @@ use Rattle.std.proofs.Common.{◌≡◌, ◌≢◌, List, [], ◌∷◌, ◌++�
 use Rattle.std.specs.declared.cmp.Ordering.TheVariants.{Less}
 use Rattle.std.specs.List.Sorted.{IsStrictlySortedBy}
 use Rattle.std.proofs.lemmas.Cmp.{tied_itself}
-use Rattle.std.proofs.lemmas.List.Elements.{All-contains, All-from_recursion, Contains-append_left, Contains-push, Contains-push_cases}
+use Rattle.std.proofs.lemmas.List.Elements.{All-contains, All-from_recursion, Contains-append_left}
+use Rattle.std.proofs.lemmas.List.Elements.{Contains-push, Contains-push_cases}
 use Rattle.std.proofs.lemmas.Map.Keys.{sorted_head, sorted_tail}
 use Rattle.gf_base.proofs.ListLemmas.{Contains-cons_cases, Contains-map}
 use Rattle.gf_ops.specs.OperationOrder.{id_cmp}
@@ -22,7 +23,8 @@ use Rattle.gf_causal.specs.DeliveredPart.{AreOneById, IsDelivery, IsLastDelivery
 use Rattle.gf_causal.specs.HeldOperations.{Adds, AreHeld, HasOther, IsClash, IsKnown, IsNew, ids_of}
 use Rattle.gf_causal.specs.Ready.{NoneIsReady}
 use Rattle.gf_causal.proofs.HeldLemmas.{ids_total}
-use Rattle.gf_causal.proofs.ListLemmas.{Contains-between, Contains-between_cases, Contains-between_itself}
+use Rattle.gf_causal.proofs.ListLemmas.{Contains-between, Contains-between_cases}
+use Rattle.gf_causal.proofs.ListLemmas.{Contains-between_itself}
 use Rattle.gf_causal.proofs.CourseLemmas.{number_counted, delivered_part}
 use Rattle.gf_site.specs.SiteState.{SiteState}
 use Rattle.gf_site.specs.Events.{Applies, ForgetsReady}
@@ -35,22 +37,28 @@ use Rattle.gf_replay.specs.declared.reading_error.ReadingError.{ReadingError}
 use Rattle.gf_replay.specs.declared.reading_error.ReadingError.TheVariants as reading
 use Rattle.gf_replay.specs.Denoting.{Delivers}
 use Rattle.gf_replay.specs.Waiting.{AreWaiting}
-use Rattle.gf_replay.specs.Taking.{HasOrHolds, HoldsOthers, KeepsAll, Offers, again, new, Moves, Settles, DropsReady, HasTaken, TakesOp, RefusesOp}
+use Rattle.gf_replay.specs.Taking.{HasOrHolds, HoldsOthers, KeepsAll, Offers, again, new, Moves}
+use Rattle.gf_replay.specs.Taking.{Settles, DropsReady, HasTaken, TakesOp, RefusesOp}
 use Rattle.gf_replay.specs.LineSteps.{TakesLine, RefusesLine, RefusesSettling}
 
 -- ---- one operation more
 
-pub more_there : (held more : List Op) (a : Op) → Adds held a more → (b : Op) → Contains more b → (b ≡ a) ⊎ Contains held b
-more_there held more a adds b i = elim (Contains-between_cases adds.before a adds.after b (subst (λ l. Contains l b) adds.with_it i)) [
-  | inl e ↦ inl e
-  | inr j ↦ inr (subst (λ l. Contains l b) (sym adds.without) j)
-]
+pub more_there : (held more : List Op) (a : Op) → Adds held a more → (b : Op) → Contains more b
+    → (b ≡ a) ⊎ Contains held b
+more_there held more a adds b i = elim (Contains-between_cases adds.before a adds.after b
+    (subst (λ l. Contains l b) adds.with_it i)) [
+      | inl e ↦ inl e
+      | inr j ↦ inr (subst (λ l. Contains l b) (sym adds.without) j)
+    ]
 
-pub held_more : (held more : List Op) (a : Op) → Adds held a more → (b : Op) → Contains held b → Contains more b
-held_more held more a adds b i = subst (λ l. Contains l b) (sym adds.with_it) (Contains-between adds.before a adds.after b (subst (λ l. Contains l b) adds.without i))
+pub held_more : (held more : List Op) (a : Op) → Adds held a more → (b : Op) → Contains held b
+    → Contains more b
+held_more held more a adds b i = subst (λ l. Contains l b) (sym adds.with_it)
+    (Contains-between adds.before a adds.after b (subst (λ l. Contains l b) adds.without i))
 
 itself_more : (held more : List Op) (a : Op) → Adds held a more → Contains more a
-itself_more held more a adds = subst (λ l. Contains l a) (sym adds.with_it) (Contains-between_itself adds.before a adds.after)
+itself_more held more a adds = subst (λ l. Contains l a) (sym adds.with_it)
+    (Contains-between_itself adds.before a adds.after)
 
 -- ---- an offer
 
@@ -60,15 +68,18 @@ offered_there x y a (again known same) = subst (λ s. HasOrHolds s a) (sym same)
 offered_there x y a (new fresh adds ops) = inl (itself_more x.held y.held a adds)
 
 -- what was there stays
-pub offer_keeps : (x y : SiteState) (a : Op) → Offers x a y → (b : Op) → HasOrHolds x b → HasOrHolds y b
+pub offer_keeps : (x y : SiteState) (a : Op) → Offers x a y → (b : Op) → HasOrHolds x b
+    → HasOrHolds y b
 offer_keeps x y a (again known same) b i = subst (λ s. HasOrHolds s b) (sym same) i
 offer_keeps x y a (new fresh adds ops) b (inl i) = inl (held_more x.held y.held a adds b i)
 offer_keeps x y a (new fresh adds ops) b (inr i) = inr (subst (λ l. Contains l b) (sym ops) i)
 
 -- and nothing else is there
-pub offer_from : (x y : SiteState) (a : Op) → Offers x a y → (b : Op) → HasOrHolds y b → (b ≡ a) ⊎ HasOrHolds x b
+pub offer_from : (x y : SiteState) (a : Op) → Offers x a y → (b : Op) → HasOrHolds y b
+    → (b ≡ a) ⊎ HasOrHolds x b
 offer_from x y a (again known same) b i = inr (subst (λ s. HasOrHolds s b) same i)
-offer_from x y a (new fresh adds ops) b (inl i) = elim (more_there x.held y.held a adds b i) [ inl e ↦ inl e | inr j ↦ inr (inl j) ]
+offer_from x y a (new fresh adds ops) b (inl i) = elim (more_there x.held y.held a adds b i)
+    [ inl e ↦ inl e | inr j ↦ inr (inl j) ]
 offer_from x y a (new fresh adds ops) b (inr i) = inr (inr (subst (λ l. Contains l b) ops i))
 
 offer_ops : (x y : SiteState) (a : Op) → Offers x a y → y.ops ≡ x.ops
@@ -101,7 +112,11 @@ module _ (ops : List Op) (x : SiteState) (t : HasTaken ops x) (a : Op) where
 
   offered_one : (y : SiteState) → Offers x a y → AreOneById (ops ++ a ∷ [])
   offered_one y (again known same) = one_more (λ b i e. t.one b a i ((t.all a).1 known.known) e)
-  offered_one y (new fresh adds is) = one_more (λ b i e. elim ((t.all b).0 i) [ inl j ↦ absurd (fresh.not_held b j e) | inr j ↦ absurd (fresh.not_added b j e) ])
+  offered_one y (new fresh adds is) = one_more
+      (λ b i e. elim ((t.all b).0 i) [
+        | inl j ↦ absurd (fresh.not_held b j e)
+        | inr j ↦ absurd (fresh.not_added b j e)
+      ])
 
   -- an offered operation is taken
   pub HasTaken-offer : (y : SiteState) → Offers x a y → HasTaken (ops ++ a ∷ []) y
@@ -124,8 +139,18 @@ module _ (ops : List Op) (x : SiteState) (t : HasTaken ops x) (a : Op) where
 
   -- what clashes with an operation that is there clashes with one that was taken
   pub other_taken : IsClash x.held x.ops a → HasOther ops a
-  other_taken (inl o) = record { other = o.other; contained = (t.all o.other).1 (inl o.contained); id = o.id; differs = o.differs }
-  other_taken (inr o) = record { other = o.other; contained = (t.all o.other).1 (inr o.contained); id = o.id; differs = o.differs }
+  other_taken (inl o) = record {
+    other = o.other;
+    contained = (t.all o.other).1 (inl o.contained);
+    id = o.id;
+    differs = o.differs;
+  }
+  other_taken (inr o) = record {
+    other = o.other;
+    contained = (t.all o.other).1 (inr o.contained);
+    id = o.id;
+    differs = o.differs;
+  }
 
 -- ---- steps
 
@@ -133,33 +158,46 @@ module _ (ops : List Op) (x : SiteState) (t : HasTaken ops x) (a : Op) where
 pub HasTaken-moves : (ops : List Op) (x y : SiteState) → HasTaken ops x → Moves x y → HasTaken ops y
 HasTaken-moves ops x y t moves = record {
   one = t.one;
-  all = λ a. (λ i. (moves.keeps.same a).0 ((t.all a).0 i), λ i. (t.all a).1 ((moves.keeps.same a).1 i));
+  all = λ a. (
+    λ i. (moves.keeps.same a).0 ((t.all a).0 i),
+    λ i. (t.all a).1 ((moves.keeps.same a).1 i),
+  );
   others = moves.keeps.others t.others;
   accepted = moves.accepted;
   valid = moves.valid;
 }
 
-has_applied : (x y : SiteState) (id : OpId) → Applies x id y → (a : Op) → HasOrHolds x a → HasOrHolds y a
+has_applied : (x y : SiteState) (id : OpId) → Applies x id y → (a : Op) → HasOrHolds x a
+    → HasOrHolds y a
 has_applied x y id s a (inl i) = elim (more_there y.held x.held s.op s.takes.taken a i) [
-  | inl e ↦ inr (subst (λ l. Contains l a) (sym s.ops) (subst (Contains (x.ops ++ s.op ∷ [])) (sym e) (Contains-push x.ops s.op)))
+  | inl e ↦ inr (subst (λ l. Contains l a) (sym s.ops)
+      (subst (Contains (x.ops ++ s.op ∷ [])) (sym e) (Contains-push x.ops s.op)))
   | inr j ↦ inl j
 ]
-has_applied x y id s a (inr i) = inr (subst (λ l. Contains l a) (sym s.ops) (Contains-append_left x.ops (s.op ∷ []) a i))
+has_applied x y id s a (inr i) = inr
+    (subst (λ l. Contains l a) (sym s.ops) (Contains-append_left x.ops (s.op ∷ []) a i))
 
-applied_had : (x y : SiteState) (id : OpId) → Applies x id y → (a : Op) → HasOrHolds y a → HasOrHolds x a
+applied_had : (x y : SiteState) (id : OpId) → Applies x id y → (a : Op) → HasOrHolds y a
+    → HasOrHolds x a
 applied_had x y id s a (inl i) = inl (held_more y.held x.held s.op s.takes.taken a i)
-applied_had x y id s a (inr i) = elim (Contains-push_cases x.ops s.op a (subst (λ l. Contains l a) s.ops i)) [
-  | inl j ↦ inr j
-  | inr e ↦ inl (subst (Contains x.held) e (itself_more y.held x.held s.op s.takes.taken))
-]
+applied_had x y id s a (inr i) =
+    elim (Contains-push_cases x.ops s.op a (subst (λ l. Contains l a) s.ops i)) [
+      | inl j ↦ inr j
+      | inr e ↦ inl (subst (Contains x.held) e (itself_more y.held x.held s.op s.takes.taken))
+    ]
 
 -- the first of operations whose ids rise is below the others
-below_all : (a : Op) (ops : List Op) → IsStrictlySortedBy id_cmp (ids_of (a ∷ ops)) → (b : Op) → Contains ops b → id_cmp a.id b.id ≡ Less
-below_all a ops s b i = All-contains (λ y. id_cmp a.id y ≡ Less) (ids_of ops) b.id (All-from_recursion (λ y. id_cmp a.id y ≡ Less) (ids_of ops) (sorted_head id_cmp a.id (ids_of ops) s)) (Contains-map (λ (z : Op). z.id) ops b i)
+below_all : (a : Op) (ops : List Op) → IsStrictlySortedBy id_cmp (ids_of (a ∷ ops)) → (b : Op)
+    → Contains ops b → id_cmp a.id b.id ≡ Less
+below_all a ops s b i = All-contains (λ y. id_cmp a.id y ≡ Less) (ids_of ops) b.id
+    (All-from_recursion (λ y. id_cmp a.id y ≡ Less) (ids_of ops)
+    (sorted_head id_cmp a.id (ids_of ops) s)) (Contains-map (λ (z : Op). z.id) ops b i)
 
 -- of operations whose ids rise, the others than a are not a
-not_another : (before after : List Op) (a : Op) → IsStrictlySortedBy id_cmp (ids_of (before ++ a ∷ after)) → ¬ (Contains (before ++ after) a)
-not_another [] after a s i = let l = below_all a after s a i in let t = tied_itself ids_total a.id in absurd cc
+not_another : (before after : List Op) (a : Op)
+    → IsStrictlySortedBy id_cmp (ids_of (before ++ a ∷ after)) → ¬ (Contains (before ++ after) a)
+not_another [] after a s i = let l = below_all a after s a i in
+    let t = tied_itself ids_total a.id in absurd cc
 not_another (b ∷ before) after a s i = elim (Contains-cons_cases b (before ++ after) a i) [
   | inl e ↦
       let l = below_all b (before ++ a ∷ after) s a (Contains-between_itself before a after) in
@@ -170,20 +208,26 @@ not_another (b ∷ before) after a s i = elim (Contains-cons_cases b (before ++ 
 ]
 
 -- what is taken into the history is held no more
-applied_others : (x y : SiteState) (id : OpId) → AreHeld x.held → HoldsOthers x → Applies x id y → HoldsOthers y
+applied_others : (x y : SiteState) (id : OpId) → AreHeld x.held → HoldsOthers x → Applies x id y
+    → HoldsOthers y
 applied_others x y id held others s b i j =
     let adds = s.takes.taken in
     elim (Contains-push_cases x.ops s.op b (subst (λ l. Contains l b) s.ops j)) [
       | inl k ↦ others b (held_more y.held x.held s.op adds b i) k
       | inr e ↦
           let rises = subst (λ l. IsStrictlySortedBy id_cmp (ids_of l)) adds.with_it held.rising in
-          not_another adds.before adds.after s.op rises (subst (λ l. Contains l s.op) adds.without (subst (Contains y.held) (sym e) i))
+          not_another adds.before adds.after s.op rises
+          (subst (λ l. Contains l s.op) adds.without (subst (Contains y.held) (sym e) i))
     ]
 
 -- a step that adds an operation takes nothing away and brings nothing
-pub keeps_applied : (x y z : SiteState) (id : OpId) → AreHeld y.held → KeepsAll x y → Applies y id z → KeepsAll x z
+pub keeps_applied : (x y z : SiteState) (id : OpId) → AreHeld y.held → KeepsAll x y → Applies y id z
+    → KeepsAll x z
 keeps_applied x y z id held keeps s = record {
-  same = λ a. (λ i. has_applied y z id s a ((keeps.same a).0 i), λ i. (keeps.same a).1 (applied_had y z id s a i));
+  same = λ a. (
+    λ i. has_applied y z id s a ((keeps.same a).0 i),
+    λ i. (keeps.same a).1 (applied_had y z id s a i),
+  );
   others = λ others. applied_others y z id held (keeps.others others) s;
 }
 
@@ -191,10 +235,13 @@ keeps_applied x y z id held keeps s = record {
 pub applied_shorter : (x y : SiteState) (id : OpId) → Applies x id y → length y.held < length x.held
 applied_shorter x y id s =
     let adds = s.takes.taken in
-    subst (λ l. length y.held < length l) (sym adds.with_it) (subst (λ l. length l < length (adds.before ++ s.op ∷ adds.after)) (sym adds.without) (rw length-append (rw length-append (omega arith))))
+    subst (λ l. length y.held < length l) (sym adds.with_it)
+    (subst (λ l. length l < length (adds.before ++ s.op ∷ adds.after)) (sym adds.without)
+    (rw length-append (rw length-append (omega arith))))
 
 -- a step that drops an operation shows one that doesn't fit
-pub dropped_ready : (x y z : SiteState) (id : OpId) (fault : OpFault) → KeepsAll x y → AreAccepted y.ops → IsValid y.ops → ForgetsReady y id fault z → DropsReady x id fault
+pub dropped_ready : (x y z : SiteState) (id : OpId) (fault : OpFault) → KeepsAll x y
+    → AreAccepted y.ops → IsValid y.ops → ForgetsReady y id fault z → DropsReady x id fault
 dropped_ready x y z id fault keeps accepted valid d = record {
   state = y;
   moves = record { keeps = keeps; accepted = accepted; valid = valid };
@@ -206,30 +253,43 @@ dropped_ready x y z id fault keeps accepted valid d = record {
 }
 
 -- a step that finds none ready settles the site
-pub idle_settles : (x y z : SiteState) → KeepsAll x y → AreAccepted y.ops → IsValid y.ops → NoneIsReady y.ops y.held × (z ≡ y) → Settles x z
-idle_settles x y z keeps accepted valid idle = subst (Settles x) (sym idle.1) (record { moves = record { keeps = keeps; accepted = accepted; valid = valid }; none = idle.0 })
+pub idle_settles : (x y z : SiteState) → KeepsAll x y → AreAccepted y.ops → IsValid y.ops
+    → NoneIsReady y.ops y.held × (z ≡ y) → Settles x z
+idle_settles x y z keeps accepted valid idle = subst (Settles x) (sym idle.1)
+    (record { moves = record { keeps = keeps; accepted = accepted; valid = valid }; none = idle.0 })
 
 -- ---- delivering
 
 -- a history of what was taken is a delivery of it
 pub taken_delivery : (ops : List Op) (x : SiteState) → HasTaken ops x → IsDelivery ops x.ops
-taken_delivery ops x t = record { from_offered = λ a i. (t.all a).1 (inr i); once = t.valid.distinct; in_turn = all_ready t.accepted }
+taken_delivery ops x t = record {
+  from_offered = λ a i. (t.all a).1 (inr i);
+  once = t.valid.distinct;
+  in_turn = all_ready t.accepted;
+}
 
 -- where no held operation is ready, the history is the delivered part of what was taken
-pub delivers : (ops : List Op) (x : SiteState) → HasTaken ops x → NoneIsReady x.ops x.held → Delivers ops x.ops
-delivers ops x t none = record { one = t.one; delivered = delivered_part ops x.ops t.one last; valid = t.valid }
+pub delivers : (ops : List Op) (x : SiteState) → HasTaken ops x → NoneIsReady x.ops x.held
+    → Delivers ops x.ops
+delivers ops x t none = record {
+  one = t.one;
+  delivered = delivered_part ops x.ops t.one last;
+  valid = t.valid;
+}
   where
     last : IsLastDelivery ops x.ops
     last = record {
       delivery = taken_delivery ops x t;
       last = λ a i ready. elim ((t.all a).0 i) [
         | inl j ↦ none a j ready
-        | inr j ↦ let known = number_counted (all_ready t.accepted) a j in let seq = ready.seq in absurd (omega arith)
+        | inr j ↦ let known = number_counted (all_ready t.accepted) a j in let seq = ready.seq in
+            absurd (omega arith)
       ];
     }
 
 -- where held operations are no part of the history, they are the others of what was taken
-pub waiting : (ops : List Op) (x : SiteState) → HasTaken ops x → AreHeld x.held → AreWaiting ops x.ops x.held
+pub waiting : (ops : List Op) (x : SiteState) → HasTaken ops x → AreHeld x.held
+    → AreWaiting ops x.ops x.held
 waiting ops x t held = record {
   exactly = λ a. (
     λ i. ((t.all a).1 (inl i), t.others a i),
@@ -241,37 +301,63 @@ waiting ops x t held = record {
 -- ---- one operation, and the line that denotes it
 
 -- an offer that was not refused holds the operation, or finds it there
-pub offered : (x y : SiteState) (a : Op) (r : Result Offered OfferFault) (o : Offered) → (r ≡ Ok offer.Already ↔ (IsInRange a × IsKnown x.held x.ops a)) →
-    (r ≡ Ok offer.Held → IsInRange a × IsNew x.held x.ops a × Adds x.held a y.held) → (r ≢ Ok offer.Held → y ≡ x) → y ≡ record x { held = y.held } → r ≡ Ok o → Offers x a y
-offered x y a r offer.Already known fresh same kept e = again (known.0 e).1 (same (λ f. let g = sym e ∙ f in absurd cc))
-offered x y a r offer.Held known fresh same kept e = let f = fresh e in new f.1 f.2 (ap (λ (s : SiteState). s.ops) kept)
+pub offered : (x y : SiteState) (a : Op) (r : Result Offered OfferFault) (o : Offered)
+    → (r ≡ Ok offer.Already ↔ (IsInRange a × IsKnown x.held x.ops a)) →
+    (r ≡ Ok offer.Held → IsInRange a × IsNew x.held x.ops a × Adds x.held a y.held)
+    → (r ≢ Ok offer.Held → y ≡ x) → y ≡ record x { held = y.held } → r ≡ Ok o → Offers x a y
+offered x y a r offer.Already known fresh same kept e = again (known.0 e).1
+    (same (λ f. let g = sym e ∙ f in absurd cc))
+offered x y a r offer.Held known fresh same kept e = let f = fresh e in
+    new f.1 f.2 (ap (λ (s : SiteState). s.ops) kept)
 
-pub op_taken : (a : Op) (x y z : SiteState) (r : Result ⊤ ReadingError) → Offers x a y → y.number ≡ x.number → OnOk r (Settles y z) → OnOk r (z.number ≡ y.number) → OnOk r (TakesOp a x z)
-op_taken a x y z (Ok u) offers same settles kept = record { offered = y; offers = offers; settles = settles; number = kept ∙ same }
+pub op_taken : (a : Op) (x y z : SiteState) (r : Result ⊤ ReadingError) → Offers x a y
+    → y.number ≡ x.number → OnOk r (Settles y z) → OnOk r (z.number ≡ y.number)
+    → OnOk r (TakesOp a x z)
+op_taken a x y z (Ok u) offers same settles kept = record {
+  offered = y;
+  offers = offers;
+  settles = settles;
+  number = kept ∙ same;
+}
 op_taken a x y z (Err e) offers same settles kept = tt
 
 -- an operation behind which the site does not settle is refused for that
-pub op_refused : (n : ℕ) (a : Op) (x y : SiteState) (r : Result ⊤ ReadingError) → Offers x a y → IfErr r (RefusesSettling y) → IfErr r (RefusesOp n a x)
+pub op_refused : (n : ℕ) (a : Op) (x y : SiteState) (r : Result ⊤ ReadingError) → Offers x a y
+    → IfErr r (RefusesSettling y) → IfErr r (RefusesOp n a x)
 op_refused n a x y (Ok u) offers refused = tt
-op_refused n a x y (Err (reading.Dropped id fault)) offers refused = record { offered = y; offers = offers; drops = refused }
+op_refused n a x y (Err (reading.Dropped id fault)) offers refused = record {
+  offered = y;
+  offers = offers;
+  drops = refused;
+}
 op_refused n a x y (Err reading.OutOfMemory) offers refused = tt
 op_refused n a x y (Err (reading.Line m why)) offers refused = absurd refused
 
 -- an operation that was read is the one that the line denotes
-pub denotes_read : (bytes : List ℕ) (r : Got Op) (a : Op) → (r ≡ Err line.OutOfMemory) ⊎ (r ≡ denoted bytes) → r ≡ Ok a → denoted bytes ≡ Ok a
+pub denotes_read : (bytes : List ℕ) (r : Got Op) (a : Op)
+    → (r ≡ Err line.OutOfMemory) ⊎ (r ≡ denoted bytes) → r ≡ Ok a → denoted bytes ≡ Ok a
 denotes_read bytes r a (inl e) f = let g = sym e ∙ f in absurd cc
 denotes_read bytes r a (inr e) f = sym e ∙ f
 
-pub line_taken : (bytes : List ℕ) (x z : SiteState) (a : Op) (r : Result ⊤ ReadingError) → denoted bytes ≡ Ok a → OnOk r (TakesOp a x z) → OnOk r (TakesLine bytes x z)
+pub line_taken : (bytes : List ℕ) (x z : SiteState) (a : Op) (r : Result ⊤ ReadingError)
+    → denoted bytes ≡ Ok a → OnOk r (TakesOp a x z) → OnOk r (TakesLine bytes x z)
 line_taken bytes x z a (Ok u) denotes takes = record { op = a; denotes = denotes; takes = takes }
 line_taken bytes x z a (Err e) denotes takes = tt
 
 -- a line whose operation is refused is refused for that
-pub line_refused : (n : ℕ) (bytes : List ℕ) (x : SiteState) (a : Op) (r : Result ⊤ ReadingError) → denoted bytes ≡ Ok a → IfErr r (RefusesOp n a x) → IfErr r (RefusesLine n bytes x)
+pub line_refused : (n : ℕ) (bytes : List ℕ) (x : SiteState) (a : Op) (r : Result ⊤ ReadingError)
+    → denoted bytes ≡ Ok a → IfErr r (RefusesOp n a x) → IfErr r (RefusesLine n bytes x)
 line_refused n bytes x a (Ok u) denotes refused = tt
-line_refused n bytes x a (Err (reading.Line m cause.Clash)) denotes refused = (refused.0, record { op = a; denotes = denotes; clash = refused.1 })
+line_refused n bytes x a (Err (reading.Line m cause.Clash)) denotes refused = (
+  refused.0,
+  record { op = a; denotes = denotes; clash = refused.1 },
+)
 line_refused n bytes x a (Err (reading.Line m cause.Json)) denotes refused = absurd refused
 line_refused n bytes x a (Err (reading.Line m cause.Field)) denotes refused = absurd refused
 line_refused n bytes x a (Err (reading.Line m cause.Range)) denotes refused = absurd refused
-line_refused n bytes x a (Err (reading.Dropped id fault)) denotes refused = record { op = a; denotes = denotes; behind = refused }
+line_refused n bytes x a (Err (reading.Dropped id fault)) denotes refused = record {
+  op = a;
+  denotes = denotes;
+  behind = refused;
+}
 line_refused n bytes x a (Err reading.OutOfMemory) denotes refused = tt

@@ -25,18 +25,25 @@ valid_nil = record {
 }
 
 -- an accepted operation has a new id
-pub fresh_id : (h : List Op) → AreReady h → (a : Op) → IsAccepted h a → (b : Op) → Contains h b → b.id ≢ a.id
+pub fresh_id : (h : List Op) → AreReady h → (a : Op) → IsAccepted h a → (b : Op) → Contains h b
+    → b.id ≢ a.id
 fresh_id h ready a accepted b m e =
     let l = number_counted ready b m in
     let w = subst (λ (i : OpId). i.seq ≤ count_of h i.site) e l in
     let s = accepted.next.numbered.seq in absurd (omega arith)
 
 -- an accepted operation keeps a history valid
-pub valid_push : (h : List Op) → AreAccepted h → IsValid h → (a : Op) → IsInRange a → IsAccepted h a → IsValid (h ++ a ∷ [])
+pub valid_push : (h : List Op) → AreAccepted h → IsValid h → (a : Op) → IsInRange a → IsAccepted h a
+    → IsValid (h ++ a ∷ [])
 valid_push h run valid a in_range accepted =
     let ready = all_ready run in
-    IsValid-push h a valid in_range accepted.next accepted.suited accepted.aimed (fresh_id h ready a accepted)
-    (λ i site first last. let t = has_counted ready i first last in record { op = t.op; contained = t.contained; id = λ j. record { site = t.site j; seq = t.seq j } })
+    IsValid-push h a valid in_range accepted.next accepted.suited accepted.aimed
+    (fresh_id h ready a accepted)
+    (λ i site first last. let t = has_counted ready i first last in record {
+      op = t.op;
+      contained = t.contained;
+      id = λ j. record { site = t.site j; seq = t.seq j };
+    })
 
 pub course_valid : {s : ℕ} {h : List Op} → IsCourse s h → IsValid h
 course_valid course_none = valid_nil

@@ -1,4 +1,5 @@
--- The rivals of an operation with an aim: what it or its aim meets, and what aims at one of these, are its conflicts.
+-- The rivals of an operation with an aim: what it or its aim meets, and what aims at one of these,
+-- are its conflicts.
 use Rattle.std.proofs.Common.{◌≡◌, ◌≢◌, ℕ, List, [], length, inl, inr, refl, subst, sym, ap, ◌∙◌}
 use Rattle.std.specs.Prelude.{◌⊎◌, ◌↔◌, Contains, Option, Some, None, slice_get}
 use Rattle.std.proofs.lemmas.Option.{slice_get_read}
@@ -22,65 +23,94 @@ use Rattle.gf_ops.proofs.DirectConflictLemmas.{direct-sym}
 use Rattle.gf_base.proofs.ListLemmas.{not_Contains-nil}
 use Rattle.gf_ops.proofs.ValidityLemmas.{same_op}
 use Rattle.gf_rivals.specs.declared.chain.Setter.{Setter}
-use Rattle.gf_rivals.specs.Aimed.{AimedState, AimsAtOne, AreAimed, AreNumbersOf, Clash, ClashesWithOne, IsConflict, IsMet, op_at}
+use Rattle.gf_rivals.specs.Aimed.{AimedState, AimsAtOne, AreAimed, AreNumbersOf, Clash}
+use Rattle.gf_rivals.specs.Aimed.{ClashesWithOne, IsConflict, IsMet, op_at}
 use Rattle.gf_rivals.specs.Chains.{position_of}
 use Rattle.gf_rivals.specs.Rivals.{IsDirect, IsNumber, AreChainsOf}
-use Rattle.gf_rivals.proofs.NumberLemmas.{some_one, contained_at, number_from, one_position, position_is}
+use Rattle.gf_rivals.proofs.NumberLemmas.{some_one, contained_at, number_from, one_position}
+use Rattle.gf_rivals.proofs.NumberLemmas.{position_is}
 
 -- ---- what makes an object conflicts with nothing
 
-module _ (h : List Op) (valid : IsValid h) (x y : Op) (there : Contains h y) (suited : IsSuited h x x.change) (inside : (s : Start) → x.change ≡ Create s → Contains h x) (d : DirectConflict x y) where
+module _ (h : List Op) (valid : IsValid h) (x y : Op) (there : Contains h y)
+    (suited : IsSuited h x x.change) (inside : (s : Start) → x.change ≡ Create s → Contains h x)
+    (d : DirectConflict x y) where
   unmade_by : (c : Change) → x.change ≡ c → (s : Start) → y.change ≡ Create s → ⊥
   unmade_by (Create r) e s f =
-      let one : y.id ≡ x.id = ap (λ (z : ObjectId). z.0) (sym (ap (changed_object y.id) f) ∙ (sym d.one_object ∙ ap (changed_object x.id) e)) in
+      let one : y.id ≡ x.id = ap (λ (z : ObjectId). z.0) (sym (ap (changed_object y.id) f)
+      ∙ (sym d.one_object ∙ ap (changed_object x.id) e)) in
       d.concurrent.different (sym (same_op h valid y x there (inside r e) one))
   unmade_by (Set o v aim) e s f =
       let knows = (subst (IsSuited h x) e suited).known in
-      let own : y.id ≡ o.0 = ap (λ (z : ObjectId). z.0) (sym (ap (changed_object y.id) f) ∙ (sym d.one_object ∙ ap (changed_object x.id) e)) in
-      d.concurrent.not_after (subst (λ (z : Op). Precedes z x) (same_op h valid knows.maker y knows.contained there (knows.id ∙ sym own)) knows.before)
+      let own : y.id ≡ o.0 = ap (λ (z : ObjectId). z.0) (sym (ap (changed_object y.id) f)
+      ∙ (sym d.one_object ∙ ap (changed_object x.id) e)) in
+      d.concurrent.not_after (subst (λ (z : Op). Precedes z x)
+      (same_op h valid knows.maker y knows.contained there (knows.id ∙ sym own)) knows.before)
 
   -- what an operation conflicts directly with sets a value
-  pub setter_met : (o : ObjectId) → object_of y ≡ o → (v : Value) × (aim : List OpId) × (y.change ≡ Set o v aim)
+  pub setter_met : (o : ObjectId) → object_of y ≡ o
+      → (v : Value) × (aim : List OpId) × (y.change ≡ Set o v aim)
   setter_met o on = by y.change refl
     where
       by : (c : Change) → y.change ≡ c → (v : Value) × (aim : List OpId) × (y.change ≡ Set o v aim)
       by (Create s) e = absurd (unmade_by x.change refl s e)
-      by (Set p v aim) e = (v, aim, e ∙ ap (λ z. Set z v aim) (sym (ap (changed_object y.id) e) ∙ on))
+      by (Set p v aim) e = (
+        v,
+        aim,
+        e ∙ ap (λ z. Set z v aim) (sym (ap (changed_object y.id) e) ∙ on),
+      )
 
 position_in_history : (h : List Op) (x : Op) → Contains h x → (q : ℕ) × (slice_get h q ≡ Some x)
 position_in_history h x (q, l, e) = (q, slice_get_read h (length h) q x refl l (sym e))
 
-there_at : (h : List Op) (r : Option ℕ) (x : Op) → op_at h r ≡ Some x → (q : ℕ) × (r ≡ Some q) × (slice_get h q ≡ Some x)
+there_at : (h : List Op) (r : Option ℕ) (x : Op) → op_at h r ≡ Some x
+    → (q : ℕ) × (r ≡ Some q) × (slice_get h q ≡ Some x)
 there_at h (Some q) x e = (q, refl, e)
 there_at h None x e = absurd cc
 
-module _ (h : List Op) (o : ObjectId) (cs : List (List Setter)) (chains : AreChainsOf h o cs) (valid : IsValid h) (a : Op) (accepted : IsAccepted h a) (v : Value) {aim : List OpId} (change : a.change ≡ Set o v aim) where
+module _ (h : List Op) (o : ObjectId) (cs : List (List Setter)) (chains : AreChainsOf h o cs)
+    (valid : IsValid h) (a : Op) (accepted : IsAccepted h a) (v : Value) {aim : List OpId}
+    (change : a.change ≡ Set o v aim) where
   -- what the operation brings is on the object, and suited
   brought_on : (x : Op) → Brings h a x → object_of x ≡ o
   brought_on x b = elim b [
     | inl e ↦ ap object_of e ∙ ap (changed_object a.id) change
     | inr m ↦
         let w = accepted.aimed.each x.id m.aimed in
-        ap object_of (sym (same_op h valid w.op x w.contained m.contained w.id)) ∙ (w.object ∙ ap (changed_object a.id) change)
+        ap object_of (sym (same_op h valid w.op x w.contained m.contained w.id))
+        ∙ (w.object ∙ ap (changed_object a.id) change)
   ]
 
   brought_suited : (x : Op) → Brings h a x → IsSuited h x x.change
-  brought_suited x b = elim b [ inl e ↦ subst (λ (z : Op). IsSuited h z z.change) (sym e) accepted.suited | inr m ↦ valid.suited x m.contained ]
+  brought_suited x b = elim b [
+    | inl e ↦ subst (λ (z : Op). IsSuited h z z.change) (sym e) accepted.suited
+    | inr m ↦ valid.suited x m.contained
+  ]
 
   brought_inside : (x : Op) → Brings h a x → (s : Start) → x.change ≡ Create s → Contains h x
-  brought_inside x b s f = elim b [ inl e ↦ absurd (let g : Set o v aim ≡ Create s = sym change ∙ (ap (λ (z : Op). z.change) (sym e) ∙ f) in cc) | inr m ↦ m.contained ]
+  brought_inside x b s f = elim b [
+    | inl e ↦ absurd (let g : Set o v aim ≡ Create s = sym change
+        ∙ (ap (λ (z : Op). z.change) (sym e) ∙ f) in cc)
+    | inr m ↦ m.contained
+  ]
 
   -- the number of a setter of the object
-  number_at : (x : Op) → Contains h x → (w : Value) (t : List OpId) → x.change ≡ Set o w t → (n : ℕ) × (q : ℕ) × IsNumber cs n q × (slice_get h q ≡ Some x)
-  number_at x c w t e = let p = position_in_history h x c in let k = chains.all p.0 x w t p.1 e in (k.0, p.0, k.1, p.1)
+  number_at : (x : Op) → Contains h x → (w : Value) (t : List OpId) → x.change ≡ Set o w t
+      → (n : ℕ) × (q : ℕ) × IsNumber cs n q × (slice_get h q ≡ Some x)
+  number_at x c w t e = let p = position_in_history h x c in let k = chains.all p.0 x w t p.1 e in
+      (k.0, p.0, k.1, p.1)
 
   -- what stands at a number's position is one operation
-  one_op : (n q r : ℕ) (x y : Op) → IsNumber cs n q → IsNumber cs n r → slice_get h q ≡ Some x → slice_get h r ≡ Some y → x ≡ y
-  one_op n q r x y k m e f = some_one x y (sym e ∙ (ap (slice_get h) (one_position h o cs chains n q r k m) ∙ f))
+  one_op : (n q r : ℕ) (x y : Op) → IsNumber cs n q → IsNumber cs n r → slice_get h q ≡ Some x
+      → slice_get h r ≡ Some y → x ≡ y
+  one_op n q r x y k m e f = some_one x y
+      (sym e ∙ (ap (slice_get h) (one_position h o cs chains n q r k m) ∙ f))
 
   -- WHAT IT AND ITS AIM MEET, where by_aim is what its aim meets
-  module _ (own us r : List ℕ) (by_aim : ℕ → Type 0) (own_are : (n : ℕ) → Contains own n ↔ IsDirect h cs a n) (us_are : AreNumbersOf h cs (aim_of a) us)
-      (from : (n : ℕ) → by_aim n → ClashesWithOne h cs us n) (to : (m n : ℕ) → Contains us m → Clash h cs m n → by_aim n)
+  module _ (own us r : List ℕ) (by_aim : ℕ → Type 0) (own_are : (n : ℕ)
+      → Contains own n ↔ IsDirect h cs a n) (us_are : AreNumbersOf h cs (aim_of a) us)
+      (from : (n : ℕ) → by_aim n → ClashesWithOne h cs us n) (to : (m n : ℕ) → Contains us m
+      → Clash h cs m n → by_aim n)
       (r_are : (n : ℕ) → Contains r n ↔ (Contains own n ⊎ by_aim n)) where
     pub aim_met : (n : ℕ) → Contains r n ↔ IsMet h cs a n
     aim_met n = (
@@ -92,22 +122,41 @@ module _ (h : List Op) (o : ObjectId) (cs : List (List Setter)) (chains : AreCha
             let m = (us_are w.one).0 w.among in
             let x = there_at h (position_of cs w.one) c.first c.at_first in
             let y = there_at h (position_of cs n) c.second c.at_second in
-            let same : m.op ≡ c.first = one_op w.one m.position x.0 m.op c.first m.number (number_from h o cs chains w.one x.0 x.1) m.at x.2 in
+            let same : m.op ≡ c.first = one_op w.one m.position x.0 m.op c.first m.number
+            (number_from h o cs chains w.one x.0 x.1) m.at x.2 in
             record {
               first = c.first;
-              brings = inr (record { contained = contained_at h x.0 c.first x.2; aimed = subst (λ (z : Op). Contains (aim_of a) z.id) same m.among });
-              direct = record { position = y.0; op = c.second; number = number_from h o cs chains n y.0 y.1; at = y.2; direct = c.direct };
+              brings = inr (record {
+                contained = contained_at h x.0 c.first x.2;
+                aimed = subst (λ (z : Op). Contains (aim_of a) z.id) same m.among;
+              });
+              direct = record {
+                position = y.0;
+                op = c.second;
+                number = number_from h o cs chains n y.0 y.1;
+                at = y.2;
+                direct = c.direct;
+              };
             }
       ],
       λ w. (r_are n).1 (elim w.brings [
-        | inl e ↦ inl ((own_are n).1 (record { position = w.direct.position; op = w.direct.op; number = w.direct.number; at = w.direct.at; direct = subst (λ z. DirectConflict z w.direct.op) e w.direct.direct }))
+        | inl e ↦ inl ((own_are n).1
+            (record {
+              position = w.direct.position;
+              op = w.direct.op;
+              number = w.direct.number;
+              at = w.direct.at;
+              direct = subst (λ z. DirectConflict z w.direct.op) e w.direct.direct;
+            }))
         | inr m ↦
             let d = w.direct in
             let c = contained_at h d.position d.op d.at in
             let back = direct-sym w.first d.op d.direct in
-            let sets = setter_met h valid d.op w.first m.contained (valid.suited d.op c) (λ s f. c) back o (brought_on w.first (inr m)) in
+            let sets = setter_met h valid d.op w.first m.contained (valid.suited d.op c) (λ s f. c)
+            back o (brought_on w.first (inr m)) in
             let p = number_at w.first m.contained sets.0 sets.1 sets.2 in
-            let among = (us_are p.0).1 (record { position = p.1; op = w.first; number = p.2; at = p.3; among = m.aimed }) in
+            let among = (us_are p.0).1
+            (record { position = p.1; op = w.first; number = p.2; at = p.3; among = m.aimed }) in
             inr (to p.0 n among (record {
               first = w.first;
               second = d.op;
@@ -119,23 +168,35 @@ module _ (h : List Op) (o : ObjectId) (cs : List (List Setter)) (chains : AreCha
     )
 
   -- the creation of an object does not conflict with it
-  pub maker_calm : (b : Op) → Contains h b → (start : Start) → b.change ≡ Create start → ¬ (Conflict h a b)
+  pub maker_calm : (b : Op) → Contains h b → (start : Start) → b.change ≡ Create start
+      → ¬ (Conflict h a b)
   maker_calm b there start f c =
       let second : c.second ≡ b = elim c.brings_second [
         | inl e ↦ e
-        | inr m ↦ absurd (not_Contains-nil c.second.id (subst (λ z. Contains z c.second.id) (ap change_aim f) m.aimed))
+        | inr m ↦ absurd (not_Contains-nil c.second.id
+            (subst (λ z. Contains z c.second.id) (ap change_aim f) m.aimed))
       ] in
-      unmade_by h valid c.first b there (brought_suited c.first c.brings_first) (brought_inside c.first c.brings_first) (subst (DirectConflict c.first) second c.direct) c.first.change refl start f
+      unmade_by h valid c.first b there (brought_suited c.first c.brings_first)
+      (brought_inside c.first c.brings_first) (subst (DirectConflict c.first) second c.direct)
+      c.first.change refl start f
 
   -- THE CONFLICTS OF THE OPERATION
-  module _ (es : List AimedState) (aimed : AreAimed h cs es) (r d : List ℕ) (met : (n : ℕ) → Contains r n ↔ IsMet h cs a n) (found : (n : ℕ) → Contains d n ↔ (Contains r n ⊎ AimsAtOne es r n)) where
+  module _ (es : List AimedState) (aimed : AreAimed h cs es) (r d : List ℕ) (met : (n : ℕ)
+      → Contains r n ↔ IsMet h cs a n) (found : (n : ℕ)
+      → Contains d n ↔ (Contains r n ⊎ AimsAtOne es r n)) where
     met_conflicts : (n : ℕ) → IsMet h cs a n → IsConflict h cs a n
     met_conflicts n w = record {
       position = w.direct.position;
       op = w.direct.op;
       number = w.direct.number;
       at = w.direct.at;
-      conflict = record { first = w.first; second = w.direct.op; brings_first = w.brings; brings_second = inl refl; direct = w.direct.direct };
+      conflict = record {
+        first = w.first;
+        second = w.direct.op;
+        brings_first = w.brings;
+        brings_second = inl refl;
+        direct = w.direct.direct;
+      };
     }
 
     aiming_conflicts : (n : ℕ) → AimsAtOne es r n → IsConflict h cs a n
@@ -144,7 +205,8 @@ module _ (h : List Op) (o : ObjectId) (cs : List (List Setter)) (chains : AreCha
         let m = meets_one w.state.aim r w.met in
         let k = (s.aim m.0).0 m.1 in
         let t = (met m.0).0 m.2 in
-        let same : t.direct.op ≡ k.op = one_op m.0 t.direct.position k.position t.direct.op k.op t.direct.number k.number t.direct.at k.at in
+        let same : t.direct.op ≡ k.op = one_op m.0 t.direct.position k.position t.direct.op k.op
+        t.direct.number k.number t.direct.at k.at in
         record {
           position = s.position;
           op = s.op;
@@ -154,7 +216,10 @@ module _ (h : List Op) (o : ObjectId) (cs : List (List Setter)) (chains : AreCha
             first = t.first;
             second = k.op;
             brings_first = t.brings;
-            brings_second = inr (record { contained = contained_at h k.position k.op k.at; aimed = k.among });
+            brings_second = inr (record {
+              contained = contained_at h k.position k.op k.at;
+              aimed = k.among;
+            });
             direct = subst (DirectConflict t.first) same t.direct.direct;
           };
         }
@@ -164,32 +229,69 @@ module _ (h : List Op) (o : ObjectId) (cs : List (List Setter)) (chains : AreCha
       | inl e ↦ inl ((met n).1 (record {
         first = c.conflict.first;
         brings = c.conflict.brings_first;
-        direct = record { position = c.position; op = c.op; number = c.number; at = c.at; direct = subst (DirectConflict c.conflict.first) e c.conflict.direct };
+        direct = record {
+          position = c.position;
+          op = c.op;
+          number = c.number;
+          at = c.at;
+          direct = subst (DirectConflict c.conflict.first) e c.conflict.direct;
+        };
       }))
       | inr m ↦
           let x = c.conflict.first in
           let y = c.conflict.second in
           let there = contained_at h c.position c.op c.at in
-          let on : object_of y ≡ o = sym c.conflict.direct.one_object ∙ brought_on x c.conflict.brings_first in
-          let sets = setter_met h valid x y m.contained (brought_suited x c.conflict.brings_first) (brought_inside x c.conflict.brings_first) c.conflict.direct o on in
+          let on : object_of y ≡ o = sym c.conflict.direct.one_object
+          ∙ brought_on x c.conflict.brings_first in
+          let sets = setter_met h valid x y m.contained (brought_suited x c.conflict.brings_first)
+          (brought_inside x c.conflict.brings_first) c.conflict.direct o on in
           let p = number_at y m.contained sets.0 sets.1 sets.2 in
-          let state = aimed.all n c.position c.op c.number c.at (λ e. not_Contains-nil y.id (subst (λ z. Contains z y.id) e m.aimed)) in
+          let state = aimed.all n c.position c.op c.number c.at
+          (λ e. not_Contains-nil y.id (subst (λ z. Contains z y.id) e m.aimed)) in
           let s = aimed.each state.state state.listed in
-          let same : c.op ≡ s.op = one_op n c.position s.position c.op s.op c.number (subst (λ z. IsNumber cs z s.position) state.number s.number) c.at s.at in
-          let aims = (s.aim p.0).1 (record { position = p.1; op = y; number = p.2; at = p.3; among = subst (λ (z : Op). Contains (aim_of z) y.id) same m.aimed }) in
-          let hit = (met p.0).1 (record { first = x; brings = c.conflict.brings_first; direct = record { position = p.1; op = y; number = p.2; at = p.3; direct = c.conflict.direct } }) in
-          inr (record { state = state.state; listed = state.listed; number = state.number; met = meets_from state.state.aim r p.0 aims hit })
+          let same : c.op ≡ s.op = one_op n c.position s.position c.op s.op c.number
+          (subst (λ z. IsNumber cs z s.position) state.number s.number) c.at s.at in
+          let aims = (s.aim p.0).1
+          (record {
+            position = p.1;
+            op = y;
+            number = p.2;
+            at = p.3;
+            among = subst (λ (z : Op). Contains (aim_of z) y.id) same m.aimed;
+          }) in
+          let hit = (met p.0).1 (record {
+            first = x;
+            brings = c.conflict.brings_first;
+            direct = record {
+              position = p.1;
+              op = y;
+              number = p.2;
+              at = p.3;
+              direct = c.conflict.direct;
+            };
+          }) in
+          inr (record {
+            state = state.state;
+            listed = state.listed;
+            number = state.number;
+            met = meets_from state.state.aim r p.0 aims hit;
+          })
     ]
 
     pub aims_conflict : (n : ℕ) → Contains d n ↔ IsConflict h cs a n
     aims_conflict n = (
-      λ i. elim ((found n).0 i) [ inl j ↦ met_conflicts n ((met n).0 j) | inr w ↦ aiming_conflicts n w ],
+      λ i. elim ((found n).0 i) [
+        | inl j ↦ met_conflicts n ((met n).0 j)
+        | inr w ↦ aiming_conflicts n w
+      ],
       λ c. (found n).1 (conflict_found n c),
     )
 
 -- what clashes are two setters
-pub clash_numbers : (h : List Op) (o : ObjectId) (cs : List (List Setter)) → AreChainsOf h o cs → (m n : ℕ) → (c : Clash h cs m n) →
-    (p : ℕ) × (q : ℕ) × IsNumber cs m p × IsNumber cs n q × (slice_get h p ≡ Some c.first) × (slice_get h q ≡ Some c.second)
+pub clash_numbers : (h : List Op) (o : ObjectId) (cs : List (List Setter)) → AreChainsOf h o cs
+    → (m n : ℕ) → (c : Clash h cs m n) →
+    (p : ℕ) × (q : ℕ) × IsNumber cs m p × IsNumber cs n q × (slice_get h p ≡ Some c.first)
+    × (slice_get h q ≡ Some c.second)
 clash_numbers h o cs chains m n c =
     let x = there_at h (position_of cs m) c.first c.at_first in
     let y = there_at h (position_of cs n) c.second c.at_second in

@@ -1,7 +1,9 @@
 -- The states of the operations that aim at others, as the history becomes longer.
-use Rattle.std.proofs.Common.{◌≡◌, ◌≢◌, ℕ, ◌+◌, ◌-◌, ◌*◌, List, [], ◌∷◌, ◌++◌, length, inl, inr, refl, subst, sym, ap, ◌∙◌}
+use Rattle.std.proofs.Common.{◌≡◌, ◌≢◌, ℕ, ◌+◌, ◌-◌, ◌*◌, List, [], ◌∷◌, ◌++◌, length, inl, inr}
+use Rattle.std.proofs.Common.{refl, subst, sym, ap, ◌∙◌}
 use Rattle.std.specs.Prelude.{◌⊎◌, ◌↔◌, Contains, Some, slice_get}
-use Rattle.std.proofs.lemmas.List.Elements.{Contains-append_left, Contains-push, Contains-push_cases}
+use Rattle.std.proofs.lemmas.List.Elements.{Contains-append_left, Contains-push}
+use Rattle.std.proofs.lemmas.List.Elements.{Contains-push_cases}
 use Rattle.gf_ops.specs.declared.op.Op.{Op}
 use Rattle.gf_ops.specs.declared.op.OpId.{OpId}
 use Rattle.gf_ops.specs.declared.op.ObjectId.{ObjectId}
@@ -23,22 +25,40 @@ use Rattle.gf_rivals.proofs.NumberLemmas.{some_one, contained_at, number_within}
 use Rattle.gf_rivals.proofs.ChainLemmas.{last_number, number_cases, numbered}
 
 -- no operation aims at any
-pub none_aimed : (h : List Op) (cs : List (List Setter)) → ((n q : ℕ) → ¬ (IsNumber cs n q)) → AreAimed h cs []
-none_aimed h cs f = record { each = λ e i. absurd (not_Contains-nil e i); all = λ n q b k at m. absurd (f n q k) }
+pub none_aimed : (h : List Op) (cs : List (List Setter)) → ((n q : ℕ) → ¬ (IsNumber cs n q))
+    → AreAimed h cs []
+none_aimed h cs f = record {
+  each = λ e i. absurd (not_Contains-nil e i);
+  all = λ n q b k at m. absurd (f n q k);
+}
 
-module _ (h : List Op) (o : ObjectId) (cs : List (List Setter)) (chains : AreChainsOf h o cs) (a : Op) where
+module _ (h : List Op) (o : ObjectId) (cs : List (List Setter)) (chains : AreChainsOf h o cs)
+    (a : Op) where
   abbrev longer : List Op
   longer = h ++ a ∷ []
 
   -- what stands at a number's position stood there
-  stood : (n q : ℕ) (b : Op) → IsNumber cs n q → slice_get longer q ≡ Some b → slice_get h q ≡ Some b
+  stood : (n q : ℕ) (b : Op) → IsNumber cs n q → slice_get longer q ≡ Some b
+      → slice_get h q ≡ Some b
   stood n q b k at = sym (get_within h a q (number_within h o cs chains n q k)) ∙ at
 
   still_among : (ids : List OpId) (m : ℕ) → IsAmong h cs ids m → IsAmong longer cs ids m
-  still_among ids m k = record { position = k.position; op = k.op; number = k.number; at = get_front h a k.position k.op k.at; among = k.among }
+  still_among ids m k = record {
+    position = k.position;
+    op = k.op;
+    number = k.number;
+    at = get_front h a k.position k.op k.at;
+    among = k.among;
+  }
 
   was_among : (ids : List OpId) (m : ℕ) → IsAmong longer cs ids m → IsAmong h cs ids m
-  was_among ids m k = record { position = k.position; op = k.op; number = k.number; at = stood m k.position k.op k.number k.at; among = k.among }
+  was_among ids m k = record {
+    position = k.position;
+    op = k.op;
+    number = k.number;
+    at = stood m k.position k.op k.number k.at;
+    among = k.among;
+  }
 
   -- ANOTHER OPERATION
   pub aimed_other : (es : List AimedState) → AreAimed h cs es → AreAimed longer cs es
@@ -48,23 +68,31 @@ module _ (h : List Op) (o : ObjectId) (cs : List (List Setter)) (chains : AreCha
       op = s.op;
       number = s.number;
       at = get_front h a s.position s.op s.at;
-      aim = λ m. (λ c. still_among (aim_of s.op) m ((s.aim m).0 c), λ k. (s.aim m).1 (was_among (aim_of s.op) m k));
+      aim = λ m. (
+        λ c. still_among (aim_of s.op) m ((s.aim m).0 c),
+        λ k. (s.aim m).1 (was_among (aim_of s.op) m k),
+      );
     };
     all = λ n q b k at some. aimed.all n q b k (stood n q b k at) some;
   }
 
-  module _ (valid : IsValid h) (in_range : IsInRange a) (accepted : IsAccepted h a) (v : Value) {aim : List OpId} (change : a.change ≡ Set o v aim) where
+  module _ (valid : IsValid h) (in_range : IsInRange a) (accepted : IsAccepted h a) (v : Value)
+      {aim : List OpId} (change : a.change ≡ Set o v aim) where
     abbrev new : List (List Setter)
-    new = with_setter cs (attribute_of v) (a.id.site - 1) (record { seq = a.id.seq; position = length h })
+    new = with_setter cs (attribute_of v) (a.id.site - 1)
+        (record { seq = a.id.seq; position = length h })
 
     abbrev x : ℕ
-    x = chain_of (attribute_of v) (a.id.site - 1) * block + length (setters cs (attribute_of v) (a.id.site - 1))
+    x = chain_of (attribute_of v) (a.id.site - 1) * block + length
+        (setters cs (attribute_of v) (a.id.site - 1))
 
     -- nobody that the history has, and a itself, aims at a
     none_at : (b : Op) → Contains h b ⊎ (b ≡ a) → ¬ (Contains (aim_of b) a.id)
     none_at b w i = elim w [
-      | inl c ↦ let t = (valid.aimed b c).each a.id i in fresh h valid a in_range accepted t.op t.contained t.id
-      | inr e ↦ let t = accepted.aimed.each a.id (subst (λ (z : Op). Contains (aim_of z) a.id) e i) in fresh h valid a in_range accepted t.op t.contained t.id
+      | inl c ↦ let t = (valid.aimed b c).each a.id i in
+          fresh h valid a in_range accepted t.op t.contained t.id
+      | inr e ↦ let t = accepted.aimed.each a.id (subst (λ (z : Op). Contains (aim_of z) a.id) e
+          i) in fresh h valid a in_range accepted t.op t.contained t.id
     ]
 
     more_among : (ids : List OpId) (m : ℕ) → IsAmong h cs ids m → IsAmong longer new ids m
@@ -76,40 +104,59 @@ module _ (h : List Op) (o : ObjectId) (cs : List (List Setter)) (chains : AreCha
       among = k.among;
     }
 
-    less_among : (b : Op) → Contains h b ⊎ (b ≡ a) → (m : ℕ) → IsAmong longer new (aim_of b) m → IsAmong h cs (aim_of b) m
-    less_among b w m k = elim (number_cases h o cs chains a valid in_range accepted v change m k.position k.number) [
-      | inl old ↦ record { position = k.position; op = k.op; number = old; at = stood m k.position k.op old k.at; among = k.among }
-      | inr e ↦
-          let one : k.op ≡ a = some_one k.op a (sym k.at ∙ (ap (slice_get longer) e.1 ∙ get_last h a)) in
-          absurd (none_at b w (subst (λ (z : Op). Contains (aim_of b) z.id) one k.among))
-    ]
+    less_among : (b : Op) → Contains h b ⊎ (b ≡ a) → (m : ℕ) → IsAmong longer new (aim_of b) m
+        → IsAmong h cs (aim_of b) m
+    less_among b w m k = elim (number_cases h o cs chains a valid in_range accepted v change m
+        k.position k.number) [
+          | inl old ↦ record {
+            position = k.position;
+            op = k.op;
+            number = old;
+            at = stood m k.position k.op old k.at;
+            among = k.among;
+          }
+          | inr e ↦
+              let one : k.op ≡ a = some_one k.op a
+              (sym k.at ∙ (ap (slice_get longer) e.1 ∙ get_last h a)) in
+              absurd (none_at b w (subst (λ (z : Op). Contains (aim_of b) z.id) one k.among))
+        ]
 
-    numbers_longer : (b : Op) → Contains h b ⊎ (b ≡ a) → (us : List ℕ) → AreNumbersOf h cs (aim_of b) us → AreNumbersOf longer new (aim_of b) us
-    numbers_longer b w us f m = (λ c. more_among (aim_of b) m ((f m).0 c), λ k. (f m).1 (less_among b w m k))
+    numbers_longer : (b : Op) → Contains h b ⊎ (b ≡ a) → (us : List ℕ)
+        → AreNumbersOf h cs (aim_of b) us → AreNumbersOf longer new (aim_of b) us
+    numbers_longer b w us f m = (
+      λ c. more_among (aim_of b) m ((f m).0 c),
+      λ k. (f m).1 (less_among b w m k),
+    )
 
     state_longer : (e : AimedState) → IsAimedState h cs e → IsAimedState longer new e
     state_longer e s = record {
       position = s.position;
       op = s.op;
-      number = numbered h o cs chains a valid in_range accepted v change e.number s.position s.number;
+      number = numbered h o cs chains a valid in_range accepted v change e.number s.position
+          s.number;
       at = get_front h a s.position s.op s.at;
       aim = numbers_longer s.op (inl (contained_at h s.position s.op s.at)) e.aim s.aim;
     }
 
     -- one more setter that aims at none
-    pub aimed_none : (es : List AimedState) → AreAimed h cs es → aim_of a ≡ [] → AreAimed longer new es
+    pub aimed_none : (es : List AimedState) → AreAimed h cs es → aim_of a ≡ []
+        → AreAimed longer new es
     aimed_none es aimed none = record {
       each = λ e i. state_longer e (aimed.each e i);
-      all = λ n q b k at some. elim (number_cases h o cs chains a valid in_range accepted v change n q k) [
-        | inl old ↦ aimed.all n q b old (stood n q b old at) some
-        | inr e ↦
-            let one : b ≡ a = some_one b a (sym at ∙ (ap (slice_get longer) e.1 ∙ get_last h a)) in
-            absurd (some (ap aim_of one ∙ none))
-      ];
+      all = λ n q b k at some. elim (number_cases h o cs chains a valid in_range accepted v change n
+          q k) [
+            | inl old ↦ aimed.all n q b old (stood n q b old at) some
+            | inr e ↦
+                let one : b ≡ a = some_one b a (sym at ∙ (ap (slice_get longer) e.1 ∙ get_last h a))
+                in
+                absurd (some (ap aim_of one ∙ none))
+          ];
     }
 
     -- ONE MORE SETTER that aims at the numbers us
-    pub aimed_more : (es : List AimedState) (us : List ℕ) → AreAimed h cs es → AreNumbersOf h cs (aim_of a) us → AreAimed longer new (es ++ record { number = x; aim = us } ∷ [])
+    pub aimed_more : (es : List AimedState) (us : List ℕ) → AreAimed h cs es
+        → AreNumbersOf h cs (aim_of a) us
+        → AreAimed longer new (es ++ record { number = x; aim = us } ∷ [])
     aimed_more es us aimed are = record {
       each = λ e i. elim (Contains-push_cases es last e i) [
         | inl j ↦ state_longer e (aimed.each e j)
@@ -121,12 +168,17 @@ module _ (h : List Op) (o : ObjectId) (cs : List (List Setter)) (chains : AreCha
           aim = numbers_longer a (inr refl) us are;
         })
       ];
-      all = λ n q b k at some. elim (number_cases h o cs chains a valid in_range accepted v change n q k) [
-        | inl old ↦
-            let s = aimed.all n q b old (stood n q b old at) some in
-            record { state = s.state; listed = Contains-append_left es (last ∷ []) s.state s.listed; number = s.number }
-        | inr e ↦ record { state = last; listed = Contains-push es last; number = sym e.0 }
-      ];
+      all = λ n q b k at some. elim (number_cases h o cs chains a valid in_range accepted v change n
+          q k) [
+            | inl old ↦
+                let s = aimed.all n q b old (stood n q b old at) some in
+                record {
+                  state = s.state;
+                  listed = Contains-append_left es (last ∷ []) s.state s.listed;
+                  number = s.number;
+                }
+            | inr e ↦ record { state = last; listed = Contains-push es last; number = sym e.0 }
+          ];
     }
       where
         last : AimedState

@@ -1,5 +1,6 @@
 -- Chains have the setters of an object, as the history becomes longer.
-use Rattle.std.proofs.Common.{◌≡◌, ◌≢◌, ℕ, zero, suc, ◌<◌, ◌+◌, ◌-◌, ◌*◌, List, [], ◌∷◌, ◌++◌, length, get_or, set, inl, inr, refl, subst, sym, ap, ◌∙◌, arith}
+use Rattle.std.proofs.Common.{◌≡◌, ◌≢◌, ℕ, zero, suc, ◌<◌, ◌+◌, ◌-◌, ◌*◌, List, [], ◌∷◌, ◌++◌}
+use Rattle.std.proofs.Common.{length, get_or, set, inl, inr, refl, subst, sym, ap, ◌∙◌, arith}
 use Rattle.std.specs.Prelude.{◌⊎◌, Some, slice_get}
 use Rattle.std.specs.List.{repeat}
 use Rattle.std.proofs.lemmas.Bool.{cases_lt}
@@ -25,19 +26,25 @@ use Rattle.gf_rivals.specs.Fingerprints.{fingerprint_of}
 use Rattle.gf_rivals.specs.Giving.{op_value, value_set, fingerprint_given}
 use Rattle.gf_rivals.specs.Indexes.{HasFingerprint, IsIndex, PutsNumber}
 use Rattle.gf_rivals.proofs.IndexLemmas.{Contains-numbers_at}
-use Rattle.gf_rivals.proofs.LongerLemmas.{get_front, get_within, get_last, get_cases, set_here, set_else, set_back}
+use Rattle.gf_rivals.proofs.LongerLemmas.{get_front, get_within, get_last, get_cases, set_here}
+use Rattle.gf_rivals.proofs.LongerLemmas.{set_else, set_back}
 use Rattle.gf_rivals.proofs.NextLemmas.{earlier}
-use Rattle.gf_rivals.proofs.NumberLemmas.{some_one, rank_one, rank_below, contained_at, number_within}
+use Rattle.gf_rivals.proofs.NumberLemmas.{some_one, rank_one, rank_below, contained_at}
+use Rattle.gf_rivals.proofs.NumberLemmas.{number_within}
 use Rattle.gf_rivals.proofs.SetterLemmas.{setters_push, at_index}
 
 -- a setter that was put behind the others and taken away again leaves the chains as they were
-pub taken_back : (cs now new : List (List Setter)) (t : Attr) (s : ℕ) (e : Setter) → length cs ≡ 48 → s < 8 → now ≡ with_setter cs t s e →
-    ((us : List Setter) (d : Setter) → setters now t s ≡ us ++ d ∷ [] → new ≡ with_chain now t s us) → new ≡ cs
+pub taken_back : (cs now new : List (List Setter)) (t : Attr) (s : ℕ) (e : Setter) → length cs ≡ 48
+    → s < 8 → now ≡ with_setter cs t s e →
+    ((us : List Setter) (d : Setter) → setters now t s ≡ us ++ d ∷ [] → new ≡ with_chain now t s us)
+    → new ≡ cs
 taken_back cs now new t s e all l m f =
     let r = rank_below t in
     let there : chain_of t s < length cs = omega (arith, r, l, all) in
-    let own : setters now t s ≡ setters cs t s ++ e ∷ [] = ap (λ z. setters z t s) m ∙ set_here cs (chain_of t s) (setters cs t s ++ e ∷ []) [] there in
-    f (setters cs t s) e own ∙ (ap (λ z. set z (chain_of t s) (setters cs t s)) m ∙ set_back cs (chain_of t s) (setters cs t s ++ e ∷ []))
+    let own : setters now t s ≡ setters cs t s ++ e ∷ [] = ap (λ z. setters z t s) m
+    ∙ set_here cs (chain_of t s) (setters cs t s ++ e ∷ []) [] there in
+    f (setters cs t s) e own ∙ (ap (λ z. set z (chain_of t s) (setters cs t s)) m
+    ∙ set_back cs (chain_of t s) (setters cs t s ++ e ∷ []))
 
 abbrev no_setter : List Setter
 no_setter = []
@@ -54,7 +61,8 @@ as_many (suc n) = let r = as_many n in omega arith
 -- no operation has set anything
 pub empty_chains : (o : ObjectId) → AreChainsOf [] o no_chains
 empty_chains o = record {
-  each = λ t s p e l i. absurd (let n : slice_get [] p ≡ Some e = ap (λ z. slice_get z p) (sym (empty (chain_of t s) 48)) ∙ i in cc);
+  each = λ t s p e l i. absurd (let n : slice_get [] p ≡ Some e = ap (λ z. slice_get z p)
+      (sym (empty (chain_of t s) 48)) ∙ i in cc);
   all = λ q b v m g c. absurd cc;
   ordered = λ t s l. subst AreSetters (sym (empty (chain_of t s) 48)) (record {
     rise = λ i j d k m. absurd (omega (arith, m));
@@ -64,15 +72,26 @@ empty_chains o = record {
   count = as_many 48;
 }
 
-module _ (h : List Op) (o : ObjectId) (cs : List (List Setter)) (chains : AreChainsOf h o cs) (a : Op) where
+module _ (h : List Op) (o : ObjectId) (cs : List (List Setter)) (chains : AreChainsOf h o cs)
+    (a : Op) where
   abbrev longer : List Op
   longer = h ++ a ∷ []
 
   still : (t : Attr) (s : ℕ) (e : Setter) → IsSetter h o t s e → IsSetter longer o t s e
-  still t s e i = record { op = i.op; at = get_front h a e.position i.op i.at; site = i.site; seq = i.seq; value = i.value; aim = i.aim; change = i.change; attribute = i.attribute }
+  still t s e i = record {
+    op = i.op;
+    at = get_front h a e.position i.op i.at;
+    site = i.site;
+    seq = i.seq;
+    value = i.value;
+    aim = i.aim;
+    change = i.change;
+    attribute = i.attribute;
+  }
 
   -- an operation that does not set anything of the object
-  pub chains_other : ((v : Value) (aim : List OpId) → a.change ≢ Set o v aim) → AreChainsOf longer o cs
+  pub chains_other : ((v : Value) (aim : List OpId) → a.change ≢ Set o v aim)
+      → AreChainsOf longer o cs
   chains_other n = record {
     each = λ t s p e l i. still t s e (chains.each t s p e l i);
     all = λ q b v m g c. elim (get_cases h a q b g) [
@@ -88,14 +107,17 @@ module _ (h : List Op) (o : ObjectId) (cs : List (List Setter)) (chains : AreCha
   given_still p n f = record {
     position = f.position;
     number = f.number;
-    given = ap (λ r. fingerprint_given (op_value r)) (get_within h a f.position (number_within h o cs chains n f.position f.number)) ∙ f.given;
+    given = ap (λ r. fingerprint_given (op_value r))
+        (get_within h a f.position (number_within h o cs chains n f.position f.number)) ∙ f.given;
   }
 
-  given_back : (p : Fingerprint) (n q : ℕ) → IsNumber cs n q → fingerprint_given (op_value (slice_get longer q)) ≡ Some p → HasFingerprint h cs p n
+  given_back : (p : Fingerprint) (n q : ℕ) → IsNumber cs n q
+      → fingerprint_given (op_value (slice_get longer q)) ≡ Some p → HasFingerprint h cs p n
   given_back p n q k g = record {
     position = q;
     number = k;
-    given = ap (λ r. fingerprint_given (op_value r)) (sym (get_within h a q (number_within h o cs chains n q k))) ∙ g;
+    given = ap (λ r. fingerprint_given (op_value r))
+        (sym (get_within h a q (number_within h o cs chains n q k))) ∙ g;
   }
 
   -- the index stays one, whatever comes
@@ -105,7 +127,8 @@ module _ (h : List Op) (o : ObjectId) (cs : List (List Setter)) (chains : AreCha
     λ f. (index p n).1 (given_back p n f.position f.number f.given),
   )
 
-  module _ (valid : IsValid h) (in_range : IsInRange a) (accepted : IsAccepted h a) (v : Value) {aim : List OpId} (change : a.change ≡ Set o v aim) where
+  module _ (valid : IsValid h) (in_range : IsInRange a) (accepted : IsAccepted h a) (v : Value)
+      {aim : List OpId} (change : a.change ≡ Set o v aim) where
     abbrev t : Attr
     t = attribute_of v
 
@@ -125,11 +148,13 @@ module _ (h : List Op) (o : ObjectId) (cs : List (List Setter)) (chains : AreCha
     first_number = let l = (seq_in_range a in_range).0 in omega (arith, l)
 
     -- the setters of its site have smaller numbers
-    pub behind_all : (i : ℕ) (d : Setter) → i < length (setters cs t s) → (get_or (setters cs t s) i d).seq < a.id.seq
+    pub behind_all : (i : ℕ) (d : Setter) → i < length (setters cs t s)
+        → (get_or (setters cs t s) i d).seq < a.id.seq
     behind_all i d l =
         let e = get_or (setters cs t s) i d in
         let is = chains.each t s i e within (at_index (setters cs t s) i d l) in
-        let k = earlier h valid a in_range accepted is.op (contained_at h e.position is.op is.at) (is.site ∙ sym site) in
+        let k = earlier h valid a in_range accepted is.op (contained_at h e.position is.op is.at)
+        (is.site ∙ sym site) in
         let q = is.seq in
         omega (arith, k, q)
 
@@ -145,39 +170,62 @@ module _ (h : List Op) (o : ObjectId) (cs : List (List Setter)) (chains : AreCha
     own : setters new t s ≡ setters cs t s ++ last ∷ []
     own = set_here cs (chain_of t s) (setters cs t s ++ last ∷ []) [] there
 
-    same_chain : (u : Attr) (r : ℕ) → r < 8 → (((u ≡ t) × (r ≡ s)) ⊎ (setters new u r ≡ setters cs u r))
+    same_chain : (u : Attr) (r : ℕ) → r < 8
+        → (((u ≡ t) × (r ≡ s)) ⊎ (setters new u r ≡ setters cs u r))
     same_chain u r l = elim (cases_lt (chain_of u r) (chain_of t s)) [
-      | inl k ↦ inr (set_else cs (chain_of t s) (chain_of u r) (setters cs t s ++ last ∷ []) [] (λ e. omega (arith, k, e)))
+      | inl k ↦ inr (set_else cs (chain_of t s) (chain_of u r) (setters cs t s ++ last ∷ []) []
+          (λ e. omega (arith, k, e)))
       | inr k ↦ elim (cases_lt (chain_of t s) (chain_of u r)) [
-        | inl m ↦ inr (set_else cs (chain_of t s) (chain_of u r) (setters cs t s ++ last ∷ []) [] (λ e. omega (arith, m, e)))
+        | inl m ↦ inr (set_else cs (chain_of t s) (chain_of u r) (setters cs t s ++ last ∷ []) []
+            (λ e. omega (arith, m, e)))
         | inr m ↦
             let x : r ≡ s = let w = within in omega (arith, k, m, l, w) in
-            let y : rank u ≡ rank t = let w = within in omega (arith, k, m, l, w) in inl (rank_one u t y, x)
+            let y : rank u ≡ rank t = let w = within in omega (arith, k, m, l, w) in
+            inl (rank_one u t y, x)
       ]
     ]
 
     -- what stood stands
-    kept : (u : Attr) (r p : ℕ) (e : Setter) → r < 8 → slice_get (setters cs u r) p ≡ Some e → slice_get (setters new u r) p ≡ Some e
+    kept : (u : Attr) (r p : ℕ) (e : Setter) → r < 8 → slice_get (setters cs u r) p ≡ Some e
+        → slice_get (setters new u r) p ≡ Some e
     kept u r p e l i = elim (same_chain u r l) [
       | inl w ↦
-          let old : slice_get (setters cs t s) p ≡ Some e = subst (λ z. slice_get (setters cs z s) p ≡ Some e) w.0 (subst (λ z. slice_get (setters cs u z) p ≡ Some e) w.1 i) in
-          let here : slice_get (setters new t s) p ≡ Some e = ap (λ z. slice_get z p) own ∙ get_front (setters cs t s) last p e old in
-          subst (λ z. slice_get (setters new z r) p ≡ Some e) (sym w.0) (subst (λ z. slice_get (setters new t z) p ≡ Some e) (sym w.1) here)
+          let old : slice_get (setters cs t s) p ≡ Some e = subst
+          (λ z. slice_get (setters cs z s) p ≡ Some e) w.0
+          (subst (λ z. slice_get (setters cs u z) p ≡ Some e) w.1 i) in
+          let here : slice_get (setters new t s) p ≡ Some e = ap (λ z. slice_get z p) own
+          ∙ get_front (setters cs t s) last p e old in
+          subst (λ z. slice_get (setters new z r) p ≡ Some e) (sym w.0)
+          (subst (λ z. slice_get (setters new t z) p ≡ Some e) (sym w.1) here)
       | inr w ↦ ap (λ z. slice_get z p) w ∙ i
     ]
 
     is_last : IsSetter longer o t s last
-    is_last = record { op = a; at = get_last h a; site = site; seq = refl; value = v; aim = aim; change = change; attribute = refl }
+    is_last = record {
+      op = a;
+      at = get_last h a;
+      site = site;
+      seq = refl;
+      value = v;
+      aim = aim;
+      change = change;
+      attribute = refl;
+    }
 
-    each_new : (u : Attr) (r p : ℕ) (e : Setter) → r < 8 → slice_get (setters new u r) p ≡ Some e → IsSetter longer o u r e
+    each_new : (u : Attr) (r p : ℕ) (e : Setter) → r < 8 → slice_get (setters new u r) p ≡ Some e
+        → IsSetter longer o u r e
     each_new u r p e l i = elim (same_chain u r l) [
       | inl w ↦
-          let here : slice_get (setters new t s) p ≡ Some e = subst (λ z. slice_get (setters new z s) p ≡ Some e) w.0 (subst (λ z. slice_get (setters new u z) p ≡ Some e) w.1 i) in
-          let found : IsSetter longer o t s e = elim (get_cases (setters cs t s) last p e (ap (λ z. slice_get z p) (sym own) ∙ here)) [
+          let here : slice_get (setters new t s) p ≡ Some e = subst
+          (λ z. slice_get (setters new z s) p ≡ Some e) w.0
+          (subst (λ z. slice_get (setters new u z) p ≡ Some e) w.1 i) in
+          let found : IsSetter longer o t s e = elim (get_cases (setters cs t s) last p e
+          (ap (λ z. slice_get z p) (sym own) ∙ here)) [
             | inl k ↦ still t s e (chains.each t s p e within k)
             | inr k ↦ subst (IsSetter longer o t s) k.1 is_last
           ] in
-          subst (λ z. IsSetter longer o z r e) (sym w.0) (subst (λ z. IsSetter longer o t z e) (sym w.1) found)
+          subst (λ z. IsSetter longer o z r e) (sym w.0)
+          (subst (λ z. IsSetter longer o t z e) (sym w.1) found)
       | inr w ↦ still u r e (chains.each u r p e l (ap (λ z. slice_get z p) (sym w) ∙ i))
     ]
 
@@ -210,8 +258,10 @@ module _ (h : List Op) (o : ObjectId) (cs : List (List Setter)) (chains : AreCha
     ordered_new u r l = elim (same_chain u r l) [
       | inl w ↦
           let k = (seq_in_range a in_range).1 in
-          let here : AreSetters (setters new t s) = setters_push (setters cs t s) (setters new t s) last own (chains.ordered t s within) behind_all first_number (omega (arith, k)) in
-          subst (λ z. AreSetters (setters new z r)) (sym w.0) (subst (λ z. AreSetters (setters new t z)) (sym w.1) here)
+          let here : AreSetters (setters new t s) = setters_push (setters cs t s) (setters new t s)
+          last own (chains.ordered t s within) behind_all first_number (omega (arith, k)) in
+          subst (λ z. AreSetters (setters new z r)) (sym w.0)
+          (subst (λ z. AreSetters (setters new t z)) (sym w.1) here)
       | inr w ↦ subst AreSetters (sym w) (chains.ordered u r l)
     ]
 
@@ -221,7 +271,11 @@ module _ (h : List Op) (o : ObjectId) (cs : List (List Setter)) (chains : AreCha
       each = each_new;
       all = λ q b w m g c. elim (get_cases h a q b g) [
         | inl i ↦ let k = chains.all q b w m i c in (k.0, numbered k.0 q k.1)
-        | inr z ↦ (chain_of t s * block + length (setters cs t s), subst (IsNumber new (chain_of t s * block + length (setters cs t s))) (sym z.0) last_number)
+        | inr z ↦ (
+          chain_of t s * block + length (setters cs t s),
+          subst (IsNumber new (chain_of t s * block + length (setters cs t s))) (sym z.0)
+              last_number,
+        )
       ];
       ordered = ordered_new;
       count = length-set cs (chain_of t s) (setters cs t s ++ last ∷ []) ∙ chains.count;
@@ -234,11 +288,28 @@ module _ (h : List Op) (o : ObjectId) (cs : List (List Setter)) (chains : AreCha
     pub number_cases : (n q : ℕ) → IsNumber new n q → IsNumber cs n q ⊎ ((n ≡ x) × (q ≡ length h))
     number_cases n q k = elim (same_chain k.attribute k.site k.within) [
       | inl w ↦
-          let here : slice_get (setters new t s) k.index ≡ Some k.setter = subst (λ z. slice_get (setters new z s) k.index ≡ Some k.setter) w.0 (subst (λ z. slice_get (setters new k.attribute z) k.index ≡ Some k.setter) w.1 k.at) in
-          let number : n ≡ chain_of t s * block + k.index = subst (λ z. n ≡ chain_of z s * block + k.index) w.0 (subst (λ z. n ≡ chain_of k.attribute z * block + k.index) w.1 k.number) in
-          elim (get_cases (setters cs t s) last k.index k.setter (ap (λ z. slice_get z k.index) (sym own) ∙ here)) [
-            | inl old ↦ inl (record { attribute = t; site = s; within = within; index = k.index; setter = k.setter; at = old; number = number; position = k.position })
-            | inr z ↦ inr (number ∙ ap (λ y. chain_of t s * block + y) z.0, sym k.position ∙ ap (λ (y : Setter). y.position) (sym z.1))
+          let here : slice_get (setters new t s) k.index ≡ Some k.setter = subst
+          (λ z. slice_get (setters new z s) k.index ≡ Some k.setter) w.0
+          (subst (λ z. slice_get (setters new k.attribute z) k.index ≡ Some k.setter) w.1 k.at) in
+          let number : n ≡ chain_of t s * block + k.index = subst
+          (λ z. n ≡ chain_of z s * block + k.index) w.0
+          (subst (λ z. n ≡ chain_of k.attribute z * block + k.index) w.1 k.number) in
+          elim (get_cases (setters cs t s) last k.index k.setter
+          (ap (λ z. slice_get z k.index) (sym own) ∙ here)) [
+            | inl old ↦ inl (record {
+              attribute = t;
+              site = s;
+              within = within;
+              index = k.index;
+              setter = k.setter;
+              at = old;
+              number = number;
+              position = k.position;
+            })
+            | inr z ↦ inr (
+              number ∙ ap (λ y. chain_of t s * block + y) z.0,
+              sym k.position ∙ ap (λ (y : Setter). y.position) (sym z.1),
+            )
           ]
       | inr w ↦ inl (record {
         attribute = k.attribute;
@@ -253,16 +324,32 @@ module _ (h : List Op) (o : ObjectId) (cs : List (List Setter)) (chains : AreCha
     ]
 
     -- the index with the new setter
-    pub index_setter : (ix new_ix : List (Fingerprint × List ℕ)) → IsIndex h cs ix → PutsNumber ix (fingerprint_of v) x new_ix → IsIndex longer new new_ix
+    pub index_setter : (ix new_ix : List (Fingerprint × List ℕ)) → IsIndex h cs ix
+        → PutsNumber ix (fingerprint_of v) x new_ix → IsIndex longer new new_ix
     index_setter ix new_ix index puts p n =
         let w = Contains-numbers_at ix new_ix (fingerprint_of v) x puts p n in
-        let own : fingerprint_given (op_value (slice_get longer (length h))) ≡ Some (fingerprint_of v) = ap (λ r. fingerprint_given (op_value r)) (get_last h a) ∙ ap (λ c. fingerprint_given (value_set c)) change in (
+        let own : fingerprint_given (op_value (slice_get longer (length h))) ≡ Some
+        (fingerprint_of v) = ap (λ r. fingerprint_given (op_value r)) (get_last h a)
+        ∙ ap (λ c. fingerprint_given (value_set c)) change in (
           λ i. elim (w.0 i) [
-            | inl j ↦ let f = given_still p n ((index p n).0 j) in record { position = f.position; number = numbered n f.position f.number; given = f.given }
-            | inr j ↦ record { position = length h; number = subst (λ z. IsNumber new z (length h)) (sym j.1) last_number; given = own ∙ ap Some j.0 }
+            | inl j ↦ let f = given_still p n ((index p n).0 j) in record {
+              position = f.position;
+              number = numbered n f.position f.number;
+              given = f.given;
+            }
+            | inr j ↦ record {
+              position = length h;
+              number = subst (λ z. IsNumber new z (length h)) (sym j.1) last_number;
+              given = own ∙ ap Some j.0;
+            }
           ],
           λ f. w.1 (elim (number_cases n f.position f.number) [
             | inl old ↦ inl ((index p n).1 (given_back p n f.position old f.given))
-            | inr z ↦ inr (some_one (fingerprint_of v) p (sym own ∙ (ap (λ q. fingerprint_given (op_value (slice_get longer q))) (sym z.1) ∙ f.given)), z.0)
+            | inr z ↦ inr (
+              some_one (fingerprint_of v) p
+                  (sym own ∙ (ap (λ q. fingerprint_given (op_value (slice_get longer q))) (sym z.1)
+                  ∙ f.given)),
+              z.0,
+            )
           ]),
         )

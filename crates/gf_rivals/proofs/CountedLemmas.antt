@@ -1,5 +1,6 @@
 -- The clock that counts all setters of the chains, site by site.
-use Rattle.std.proofs.Common.{◌≡◌, ℕ, zero, suc, ◌<◌, ◌≤◌, ◌+◌, List, [], ◌∷◌, ◌++◌, get_or, set, inl, inr, refl, subst, sym, ap, ◌∙◌, arith}
+use Rattle.std.proofs.Common.{◌≡◌, ℕ, zero, suc, ◌<◌, ◌≤◌, ◌+◌, List, [], ◌∷◌, ◌++◌, get_or, set}
+use Rattle.std.proofs.Common.{inl, inr, refl, subst, sym, ap, ◌∙◌, arith}
 use Rattle.std.specs.Prelude.{◌⊎◌, Some, None, Result, Ok, Err, OnOk, OnErr, slice_get, ⊤}
 use Rattle.std.specs.BTreeMap.{is_at}
 use Rattle.std.specs.Map.{lookup}
@@ -11,16 +12,20 @@ use Rattle.gf_ops.specs.OperationOrder.{entry}
 use Rattle.gf_ops.specs.ValidHistory.{IsWithin}
 use Rattle.gf_rivals.specs.declared.chain.Setter.{Setter}
 use Rattle.gf_rivals.specs.Chains.{chain_of, setters, with_setter}
-use Rattle.gf_rivals.specs.KeptChains.{Kept, chain_at, all_chains, AreBelow, AreCounted, KeepsNoOthers, PutsChain, KeepsChains}
+use Rattle.gf_rivals.specs.KeptChains.{Kept, chain_at, all_chains, AreBelow, AreCounted}
+use Rattle.gf_rivals.specs.KeptChains.{KeepsNoOthers, PutsChain, KeepsChains}
 use Rattle.gf_rivals.proofs.KeptLemmas.{at_other, chain_seen}
 use Rattle.gf_rivals.proofs.LongerLemmas.{get_cases}
 
 -- no chain is kept under an index from n on, where one is put under an index below
-AreBelow-puts : (es fs : Kept) (x n : ℕ) (ss : List Setter) → x < n → AreBelow n es → PutsChain es x ss fs → AreBelow n fs
+AreBelow-puts : (es fs : Kept) (x n : ℕ) (ss : List Setter) → x < n → AreBelow n es
+    → PutsChain es x ss fs → AreBelow n fs
 AreBelow-puts es fs x n ss l below puts k m =
-    puts k ∙ (cond-false (is_at (nat_cmp x) k) (Some ss) (lookup (is_at (nat_cmp k)) es) (at_other x k (λ e. omega (arith, l, m, e))) ∙ below k m)
+    puts k ∙ (cond-false (is_at (nat_cmp x) k) (Some ss) (lookup (is_at (nat_cmp k)) es)
+    (at_other x k (λ e. omega (arith, l, m, e))) ∙ below k m)
 
-pub AreBelow-pushed : {E : Type 0} (r : Result ⊤ E) (es fs : Kept) (x n : ℕ) (ss : List Setter) → x < n → AreBelow n es
+pub AreBelow-pushed : {E : Type 0} (r : Result ⊤ E) (es fs : Kept) (x n : ℕ) (ss : List Setter)
+    → x < n → AreBelow n es
     → OnOk r (PutsChain es x ss fs) → OnErr r (KeepsChains es fs) → AreBelow n fs
 AreBelow-pushed (Ok u) es fs x n ss l below puts keeps = AreBelow-puts es fs x n ss l below puts
 AreBelow-pushed (Err e) es fs x n ss l below puts keeps = λ k m. keeps k ∙ below k m
@@ -32,48 +37,63 @@ set_cases [] k j x = inl refl
 set_cases (c ∷ cs) zero zero x = inr (refl, refl)
 set_cases (c ∷ cs) zero (suc j) x = inl refl
 set_cases (c ∷ cs) (suc k) zero x = inl refl
-set_cases (c ∷ cs) (suc k) (suc j) x = elim (set_cases cs k j x) [ inl e ↦ inl e | inr w ↦ inr (let e = w.0 in omega (arith, e), w.1) ]
+set_cases (c ∷ cs) (suc k) (suc j) x = elim (set_cases cs k j x) [
+  | inl e ↦ inl e
+  | inr w ↦ inr (let e = w.0 in omega (arith, e), w.1)
+]
 
 -- chains without a setter are counted by any clock
 pub AreCounted-none : (latest : Clock) (es : Kept) → es ≡ [] → AreCounted latest (all_chains es)
 AreCounted-none latest es none t s p e l at =
     let below : AreBelow 48 es = subst (AreBelow 48) (sym none) (λ k m. refl) in
-    let empty : setters (all_chains es) t s ≡ [] = sym (chain_seen es (chain_of t s) below) ∙ ap (λ z. chain_at z (chain_of t s)) none in
+    let empty : setters (all_chains es) t s ≡ [] = sym (chain_seen es (chain_of t s) below)
+    ∙ ap (λ z. chain_at z (chain_of t s)) none in
     let nothing : None ≡ Some e = ap (λ z. slice_get z p) (sym empty) ∙ at in
     absurd cc
 
 -- one setter more is counted by a clock that counts it
-pub AreCounted-push : (latest new : Clock) (cs : List (List Setter)) (t : Attr) (s : ℕ) (a : Setter) → s < 8
-    → AreCounted latest cs → IsWithin latest new → a.seq ≤ entry new (s + 1) → AreCounted new (with_setter cs t s a)
-AreCounted-push latest new cs t s a k counted within own u r p e l at = elim (set_cases cs (chain_of t s) (chain_of u r) (setters cs t s ++ a ∷ [])) [
-  | inl same ↦ old u r p l (ap (λ z. slice_get z p) (sym same) ∙ at)
-  | inr here ↦
-      let index = here.0 in
-      let site : r ≡ s = omega (arith, index, l, k) in
-      elim (get_cases (setters cs t s) a p e (ap (λ z. slice_get z p) (sym here.1) ∙ at)) [
-        | inl stood ↦ subst (λ z. e.seq ≤ entry new (z + 1)) (sym site) (old t s p k stood)
-        | inr last ↦ subst (λ z. e.seq ≤ entry new (z + 1)) (sym site) (subst (λ (z : Setter). z.seq ≤ entry new (s + 1)) last.1 own)
-      ]
-]
+pub AreCounted-push : (latest new : Clock) (cs : List (List Setter)) (t : Attr) (s : ℕ) (a : Setter)
+    → s < 8
+    → AreCounted latest cs → IsWithin latest new → a.seq ≤ entry new (s + 1)
+    → AreCounted new (with_setter cs t s a)
+AreCounted-push latest new cs t s a k counted within own u r p e l at =
+    elim (set_cases cs (chain_of t s) (chain_of u r) (setters cs t s ++ a ∷ [])) [
+      | inl same ↦ old u r p l (ap (λ z. slice_get z p) (sym same) ∙ at)
+      | inr here ↦
+          let index = here.0 in
+          let site : r ≡ s = omega (arith, index, l, k) in
+          elim (get_cases (setters cs t s) a p e (ap (λ z. slice_get z p) (sym here.1) ∙ at)) [
+            | inl stood ↦ subst (λ z. e.seq ≤ entry new (z + 1)) (sym site) (old t s p k stood)
+            | inr last ↦ subst (λ z. e.seq ≤ entry new (z + 1)) (sym site)
+                (subst (λ (z : Setter). z.seq ≤ entry new (s + 1)) last.1 own)
+          ]
+    ]
   where
-    old : (v : Attr) (q i : ℕ) → q < 8 → slice_get (setters cs v q) i ≡ Some e → e.seq ≤ entry new (q + 1)
+    old : (v : Attr) (q i : ℕ) → q < 8 → slice_get (setters cs v q) i ≡ Some e
+        → e.seq ≤ entry new (q + 1)
     old v q i m g =
         let known = counted v q i e m g in
         let more = within (q + 1) (omega (arith, m), omega (arith, m)) in
         omega (arith, known, more)
 
 -- where a setter is put behind the others, or none is, the clock counts all
-pub AreCounted-pushed : {E : Type 0} (r : Result ⊤ E) (latest new : Clock) (cs ds : List (List Setter)) (t : Attr) (s : ℕ) (a : Setter) → s < 8
-    → AreCounted latest cs → IsWithin latest new → a.seq ≤ entry new (s + 1) → OnOk r (ds ≡ with_setter cs t s a) → OnErr r (ds ≡ cs) → AreCounted new ds
-AreCounted-pushed (Ok u) latest new cs ds t s a k counted within own ok err = subst (AreCounted new) (sym ok) (AreCounted-push latest new cs t s a k counted within own)
-AreCounted-pushed (Err x) latest new cs ds t s a k counted within own ok err = subst (AreCounted new) (sym err) (λ v q i e m g.
+pub AreCounted-pushed : {E : Type 0} (r : Result ⊤ E) (latest new : Clock)
+    (cs ds : List (List Setter)) (t : Attr) (s : ℕ) (a : Setter) → s < 8
+    → AreCounted latest cs → IsWithin latest new → a.seq ≤ entry new (s + 1)
+    → OnOk r (ds ≡ with_setter cs t s a) → OnErr r (ds ≡ cs) → AreCounted new ds
+AreCounted-pushed (Ok u) latest new cs ds t s a k counted within own ok err = subst (AreCounted new)
+    (sym ok) (AreCounted-push latest new cs t s a k counted within own)
+AreCounted-pushed (Err x) latest new cs ds t s a k counted within own ok err = subst
+    (AreCounted new) (sym err) (λ v q i e m g.
     let known = counted v q i e m g in
     let more = within (q + 1) (omega (arith, m), omega (arith, m)) in
     omega (arith, known, more))
 
 -- what counts all setters counts some of them
-pub AreCounted-fewer : (latest : Clock) (es fs : Kept) → AreBelow 48 es → AreBelow 48 fs → KeepsNoOthers es fs
+pub AreCounted-fewer : (latest : Clock) (es fs : Kept) → AreBelow 48 es → AreBelow 48 fs
+    → KeepsNoOthers es fs
     → AreCounted latest (all_chains es) → AreCounted latest (all_chains fs)
 AreCounted-fewer latest es fs below below' rest counted t s p e l at =
     let x = chain_of t s in
-    counted t s p e l (ap (λ z. slice_get z p) (sym (chain_seen es x below)) ∙ rest x p e (ap (λ z. slice_get z p) (chain_seen fs x below') ∙ at))
+    counted t s p e l (ap (λ z. slice_get z p) (sym (chain_seen es x below))
+    ∙ rest x p e (ap (λ z. slice_get z p) (chain_seen fs x below') ∙ at))

@@ -1,4 +1,5 @@
--- The order of fingerprints is total, and only one fingerprint ties with another: itself. What one determines of a value.
+-- The order of fingerprints is total, and only one fingerprint ties with another: itself. What one
+-- determines of a value.
 use Rattle.std.proofs.Common.{◌≡◌, ◌≢◌, ℕ, true, false, inl, inr, refl, sym, ap, ◌∙◌, pos}
 use Rattle.std.specs.Prelude.{Option, Some, None, slice_get}
 use Rattle.std.specs.BTreeMap.{is_at}
@@ -14,11 +15,13 @@ use Rattle.gf_shape.specs.declared.point.Point.{Point}
 use Rattle.gf_ops.specs.declared.change.Attr.{Attr}
 use Rattle.gf_ops.specs.declared.change.Attr.TheVariants as attr
 use Rattle.gf_ops.specs.declared.change.Value.{Value}
-use Rattle.gf_ops.specs.declared.change.Value.TheVariants.{Place, Points, Size, Colour, Layer, Shown}
+use Rattle.gf_ops.specs.declared.change.Value.TheVariants.{Place, Points, Size, Colour, Layer}
+use Rattle.gf_ops.specs.declared.change.Value.TheVariants.{Shown}
 use Rattle.gf_ops.specs.contracts.change.AttrOrd.TheImpl.Laws.{total-law}
 use Rattle.gf_ops.specs.Attribute.{attribute_of}
 use Rattle.gf_rivals.specs.declared.fingerprint.Fingerprint.{Fingerprint}
-use Rattle.gf_rivals.specs.Fingerprints.{point_fingerprint, fingerprint_of, fingerprint_cmp, attribute_cmp, has_own_fingerprint}
+use Rattle.gf_rivals.specs.Fingerprints.{point_fingerprint, fingerprint_of, fingerprint_cmp}
+use Rattle.gf_rivals.specs.Fingerprints.{attribute_cmp, has_own_fingerprint}
 
 -- ---- the order
 
@@ -41,13 +44,18 @@ both_tied Greater p e = absurd cc
 
 pub fingerprint_cmp_total : IsTotalOrder fingerprint_cmp
 fingerprint_cmp_total = then_total (on_total (λ (p : Fingerprint). p.attribute) attribute_cmp_total)
-    (then_total (on_total (λ (p : Fingerprint). p.first) int_cmp_total) (then_total (on_total (λ (p : Fingerprint). p.second) int_cmp_total) (on_total (λ (p : Fingerprint). p.third) int_cmp_total)))
+    (then_total (on_total (λ (p : Fingerprint). p.first) int_cmp_total)
+    (then_total (on_total (λ (p : Fingerprint). p.second) int_cmp_total)
+    (on_total (λ (p : Fingerprint). p.third) int_cmp_total)))
 
 fingerprint_cmp_exact : IsAntisymmetric fingerprint_cmp
 fingerprint_cmp_exact p q e =
     let s = both_tied (int_cmp p.second q.second) (int_cmp p.third q.third) in
-    let r = both_tied (int_cmp p.first q.first) (ordering_then (int_cmp p.second q.second) (int_cmp p.third q.third)) in
-    let t = both_tied (attribute_cmp p.attribute q.attribute) (ordering_then (int_cmp p.first q.first) (ordering_then (int_cmp p.second q.second) (int_cmp p.third q.third))) e in
+    let r = both_tied (int_cmp p.first q.first)
+    (ordering_then (int_cmp p.second q.second) (int_cmp p.third q.third)) in
+    let t = both_tied (attribute_cmp p.attribute q.attribute)
+    (ordering_then (int_cmp p.first q.first)
+    (ordering_then (int_cmp p.second q.second) (int_cmp p.third q.third))) e in
     let u = r t.1 in
     let v = s u.1 in
     let attribute = attribute_cmp_exact p.attribute q.attribute t.0 in
@@ -63,7 +71,10 @@ pub at_same : (p q : Fingerprint) → is_at (fingerprint_cmp p) q ≡ true → p
 at_same p q t = fingerprint_cmp_exact p q ((Equal-is (fingerprint_cmp p q)).0 t)
 
 pub at_other : (p q : Fingerprint) → p ≢ q → is_at (fingerprint_cmp p) q ≡ false
-at_other p q n = elim (cases_Bool (is_at (fingerprint_cmp p) q)) [ inl y ↦ absurd (n (at_same p q y)) | inr f ↦ f ]
+at_other p q n = elim (cases_Bool (is_at (fingerprint_cmp p) q)) [
+  | inl y ↦ absurd (n (at_same p q y))
+  | inr f ↦ f
+]
 
 -- ---- what it determines
 
@@ -79,7 +90,8 @@ own_attribute (Points ps) = point_attribute attr.Points (slice_get ps 0)
 own_attribute v = refl
 
 -- a value with a fingerprint of its own is determined by it
-pub determined_value : (v w : Value) → has_own_fingerprint v ≡ true → fingerprint_of w ≡ fingerprint_of v → w ≡ v
+pub determined_value : (v w : Value) → has_own_fingerprint v ≡ true
+    → fingerprint_of w ≡ fingerprint_of v → w ≡ v
 determined_value (Place p) (Place q) y e = λ i. Place (record { x = (e i).first; y = (e i).second })
 determined_value (Size w h) (Size x k) y e =
     let a = pos_one x w (ap (λ (p : Fingerprint). p.first) e) in
@@ -90,7 +102,10 @@ determined_value (Colour c) (Colour d) y e =
     let g = pos_one d.g c.g (ap (λ (p : Fingerprint). p.second) e) in
     let b = pos_one d.b c.b (ap (λ (p : Fingerprint). p.third) e) in
     λ i. Colour (record { r = r i; g = g i; b = b i })
-determined_value (Layer m) (Layer n) y e = ap Layer (pos_one n m (ap (λ (p : Fingerprint). p.first) e))
+determined_value (Layer m) (Layer n) y e = ap Layer
+    (pos_one n m (ap (λ (p : Fingerprint). p.first) e))
 determined_value (Shown true) (Shown true) y e = refl
 determined_value (Shown false) (Shown false) y e = refl
-determined_value v w y e = let t = sym (own_attribute w) ∙ (ap (λ (p : Fingerprint). p.attribute) e ∙ own_attribute v) in let n = ap (λ (p : Fingerprint). p.first) e in absurd cc
+determined_value v w y e = let t = sym (own_attribute w)
+    ∙ (ap (λ (p : Fingerprint). p.attribute) e ∙ own_attribute v) in
+    let n = ap (λ (p : Fingerprint). p.first) e in absurd cc

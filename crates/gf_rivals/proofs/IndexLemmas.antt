@@ -1,5 +1,6 @@
 -- An index has exactly the setters of the chains, as it is made and as the history becomes longer.
-use Rattle.std.proofs.Common.{◌≡◌, ℕ, ◌<◌, ◌+◌, ◌*◌, true, List, [], length, get_or, inl, inr, refl, subst, sym, ap, ◌∙◌, arith}
+use Rattle.std.proofs.Common.{◌≡◌, ℕ, ◌<◌, ◌+◌, ◌*◌, true, List, [], length, get_or, inl, inr, refl}
+use Rattle.std.proofs.Common.{subst, sym, ap, ◌∙◌, arith}
 use Rattle.std.specs.Prelude.{◌⊎◌, ◌↔◌, Contains, Option, Some, None, slice_get, unwrap_or}
 use Rattle.std.specs.BTreeMap.{is_at}
 use Rattle.std.specs.FinMap.{nat_cmp-IsAntisymmetric}
@@ -25,93 +26,176 @@ use Rattle.gf_rivals.proofs.NumberLemmas.{some_one, got_at, rank_below, number_i
 
 -- ---- one more number
 
-pub Contains-joined : (x : ℕ) (g : List ℕ) (n : ℕ) → Contains (joined x g) n ↔ (Contains g n ⊎ (n ≡ x))
+pub Contains-joined : (x : ℕ) (g : List ℕ) (n : ℕ)
+    → Contains (joined x g) n ↔ (Contains g n ⊎ (n ≡ x))
 Contains-joined x g n = holds nat_cmp nat_cmp_total nat_cmp-IsAntisymmetric x g n
 
 -- under a fingerprint is what was there, and the number where that is its own
-pub Contains-numbers_at : (old new : Entries) (p : Fingerprint) (x : ℕ) → PutsNumber old p x new → (q : Fingerprint) (n : ℕ) → Contains (numbers_at new q) n ↔ (Contains (numbers_at old q) n ⊎ ((p ≡ q) × (n ≡ x)))
+pub Contains-numbers_at : (old new : Entries) (p : Fingerprint) (x : ℕ) → PutsNumber old p x new
+    → (q : Fingerprint) (n : ℕ)
+    → Contains (numbers_at new q) n ↔ (Contains (numbers_at old q) n ⊎ ((p ≡ q) × (n ≡ x)))
 Contains-numbers_at old new p x f q n = elim (cases_Bool (is_at (fingerprint_cmp p) q)) [
   | inl y ↦
       let same = at_same p q y in
       let e : numbers_at new q ≡ joined x (numbers_at old q) =
-      ap (λ (o : Option (List ℕ)). unwrap_or o []) (f q ∙ cond-true (is_at (fingerprint_cmp p) q) (Some (joined x (numbers_at old p))) (lookup (is_at (fingerprint_cmp q)) old) y)
+      ap (λ (o : Option (List ℕ)). unwrap_or o []) (f q ∙ cond-true (is_at (fingerprint_cmp p) q)
+      (Some (joined x (numbers_at old p))) (lookup (is_at (fingerprint_cmp q)) old) y)
       ∙ ap (λ z. joined x (numbers_at old z)) same in (
-        λ i. elim ((Contains-joined x (numbers_at old q) n).0 (subst (λ z. Contains z n) e i)) [ inl j ↦ inl j | inr d ↦ inr (same, d) ],
-        λ i. subst (λ z. Contains z n) (sym e) ((Contains-joined x (numbers_at old q) n).1 (elim i [ inl j ↦ inl j | inr d ↦ inr d.1 ])),
+        λ i. elim ((Contains-joined x (numbers_at old q) n).0 (subst (λ z. Contains z n) e i))
+            [ inl j ↦ inl j | inr d ↦ inr (same, d) ],
+        λ i. subst (λ z. Contains z n) (sym e)
+            ((Contains-joined x (numbers_at old q) n).1
+            (elim i [ inl j ↦ inl j | inr d ↦ inr d.1 ])),
       )
   | inr g ↦
       let e : numbers_at new q ≡ numbers_at old q =
-      ap (λ (o : Option (List ℕ)). unwrap_or o []) (f q ∙ cond-false (is_at (fingerprint_cmp p) q) (Some (joined x (numbers_at old p))) (lookup (is_at (fingerprint_cmp q)) old) g) in (
+      ap (λ (o : Option (List ℕ)). unwrap_or o []) (f q ∙ cond-false (is_at (fingerprint_cmp p) q)
+      (Some (joined x (numbers_at old p))) (lookup (is_at (fingerprint_cmp q)) old) g) in (
         λ i. inl (subst (λ z. Contains z n) e i),
         λ i. subst (λ z. Contains z n) (sym e) (elim i [
           | inl j ↦ j
-          | inr d ↦ absurd (let y : is_at (fingerprint_cmp p) q ≡ true = subst (λ z. is_at (fingerprint_cmp p) z ≡ true) d.0 (at_itself p) in cc)
+          | inr d ↦ absurd (let y : is_at (fingerprint_cmp p) q ≡ true = subst
+              (λ z. is_at (fingerprint_cmp p) z ≡ true) d.0 (at_itself p) in cc)
         ]),
       )
 ]
 
 -- ---- chain by chain
 
-listed_more : (h : List Op) (ss : List Setter) (b m : ℕ) (e : Setter) (old mid new : Entries) → slice_get ss m ≡ Some e →
-    Lists h ss b m old mid → PutsGiven mid (fingerprint_given (op_value (slice_get h e.position))) (b + m) new → Lists h ss b (m + 1) old new
-listed_more h ss b m e old mid new there f g p n = by_given (fingerprint_given (op_value (slice_get h e.position))) refl g
+listed_more : (h : List Op) (ss : List Setter) (b m : ℕ) (e : Setter) (old mid new : Entries)
+    → slice_get ss m ≡ Some e →
+    Lists h ss b m old mid → PutsGiven mid (fingerprint_given (op_value (slice_get h e.position)))
+    (b + m) new → Lists h ss b (m + 1) old new
+listed_more h ss b m e old mid new there f g p n = by_given
+    (fingerprint_given (op_value (slice_get h e.position))) refl g
   where
     one_up : IsListed h ss b m p n → IsListed h ss b (m + 1) p n
-    one_up i = record { index = i.index; within = let w = i.within in omega (arith, w); setter = i.setter; at = i.at; given = i.given; number = i.number }
+    one_up i = record {
+      index = i.index;
+      within = let w = i.within in omega (arith, w);
+      setter = i.setter;
+      at = i.at;
+      given = i.given;
+      number = i.number;
+    }
 
     -- of the setter at the new index m
-    last : (i : IsListed h ss b (m + 1) p n) → IsListed h ss b m p n ⊎ ((fingerprint_given (op_value (slice_get h e.position)) ≡ Some p) × (n ≡ b + m))
+    last : (i : IsListed h ss b (m + 1) p n)
+        → IsListed h ss b m p n ⊎ ((fingerprint_given (op_value (slice_get h e.position)) ≡ Some p)
+        × (n ≡ b + m))
     last i = elim (cases_lt i.index m) [
-      | inl w ↦ inl (record { index = i.index; within = w; setter = i.setter; at = i.at; given = i.given; number = i.number })
+      | inl w ↦ inl (record {
+        index = i.index;
+        within = w;
+        setter = i.setter;
+        at = i.at;
+        given = i.given;
+        number = i.number;
+      })
       | inr w ↦
           let v = i.within in
           let same : i.index ≡ m = omega (arith, v, w) in
-          let one : i.setter ≡ e = some_one i.setter e (sym i.at ∙ (ap (slice_get ss) same ∙ there)) in
-          inr (ap (λ (z : Setter). fingerprint_given (op_value (slice_get h z.position))) (sym one) ∙ i.given, i.number ∙ ap (λ z. b + z) same)
+          let one : i.setter ≡ e = some_one i.setter e (sym i.at ∙ (ap (slice_get ss) same ∙ there))
+          in
+          inr (
+            ap (λ (z : Setter). fingerprint_given (op_value (slice_get h z.position))) (sym one)
+                ∙ i.given,
+            i.number ∙ ap (λ z. b + z) same,
+          )
     ]
 
-    by_given : (r : Option Fingerprint) → fingerprint_given (op_value (slice_get h e.position)) ≡ r → PutsGiven mid r (b + m) new → Contains (numbers_at new p) n ↔ (Contains (numbers_at old p) n ⊎ IsListed h ss b (m + 1) p n)
+    by_given : (r : Option Fingerprint) → fingerprint_given (op_value (slice_get h e.position)) ≡ r
+        → PutsGiven mid r (b + m) new
+        → Contains (numbers_at new p) n ↔ (Contains (numbers_at old p) n ⊎ IsListed h ss b (m + 1) p
+        n)
     by_given None none put = (
-      λ i. elim ((f p n).0 (subst (λ z. Contains (numbers_at z p) n) put i)) [ inl j ↦ inl j | inr j ↦ inr (one_up j) ],
+      λ i. elim ((f p n).0 (subst (λ z. Contains (numbers_at z p) n) put i))
+          [ inl j ↦ inl j | inr j ↦ inr (one_up j) ],
       λ i. subst (λ z. Contains (numbers_at z p) n) (sym put) (elim i [
         | inl j ↦ (f p n).1 (inl j)
-        | inr j ↦ elim (last j) [ inl k ↦ (f p n).1 (inr k) | inr k ↦ absurd (let c : None ≡ Some p = sym none ∙ k.0 in cc) ]
+        | inr j ↦ elim (last j) [
+          | inl k ↦ (f p n).1 (inr k)
+          | inr k ↦ absurd (let c : None ≡ Some p = sym none ∙ k.0 in cc)
+        ]
       ]),
     )
     by_given (Some q) some put =
         let w = Contains-numbers_at mid new q (b + m) put p n in (
           λ i. elim (w.0 i) [
             | inl j ↦ elim ((f p n).0 j) [ inl k ↦ inl k | inr k ↦ inr (one_up k) ]
-            | inr j ↦ inr (record { index = m; within = omega arith; setter = e; at = there; given = some ∙ ap Some j.0; number = j.1 })
+            | inr j ↦ inr (record {
+              index = m;
+              within = omega arith;
+              setter = e;
+              at = there;
+              given = some ∙ ap Some j.0;
+              number = j.1;
+            })
           ],
           λ i. w.1 (elim i [
             | inl j ↦ inl ((f p n).1 (inl j))
-            | inr j ↦ elim (last j) [ inl k ↦ inl ((f p n).1 (inr k)) | inr k ↦ inr (some_one q p (sym some ∙ k.0), k.1) ]
+            | inr j ↦ elim (last j) [
+              | inl k ↦ inl ((f p n).1 (inr k))
+              | inr k ↦ inr (some_one q p (sym some ∙ k.0), k.1)
+            ]
           ]),
         )
 
-pub lists_more : (h : List Op) (ss : List Setter) (b m : ℕ) (d : Setter) (old mid new : Entries) → m < length ss →
-    Lists h ss b m old mid → PutsGiven mid (fingerprint_given (op_value (slice_get h (get_or ss m d).position))) (b + m) new → Lists h ss b (m + 1) old new
-lists_more h ss b m d old mid new l f g = listed_more h ss b m (get_or ss m d) old mid new (at_index ss m d l) f g
+pub lists_more : (h : List Op) (ss : List Setter) (b m : ℕ) (d : Setter) (old mid new : Entries)
+    → m < length ss →
+    Lists h ss b m old mid → PutsGiven mid
+    (fingerprint_given (op_value (slice_get h (get_or ss m d).position))) (b + m) new
+    → Lists h ss b (m + 1) old new
+lists_more h ss b m d old mid new l f g = listed_more h ss b m (get_or ss m d) old mid new
+    (at_index ss m d l) f g
 
-pub lists_all : (h : List Op) (ss : List Setter) (b m : ℕ) (old new : Entries) → m ≡ length ss → Lists h ss b m old new → Lists h ss b (length ss) old new
+pub lists_all : (h : List Op) (ss : List Setter) (b m : ℕ) (old new : Entries) → m ≡ length ss
+    → Lists h ss b m old new → Lists h ss b (length ss) old new
 lists_all h ss b m old new e f = subst (λ z. Lists h ss b z old new) e f
 
 -- ---- all chains
 
-pub below_more : (h : List Op) (cs : List (List Setter)) (k : ℕ) (old new : Entries) → ((p : Fingerprint) (n : ℕ) → Contains (numbers_at old p) n ↔ IsListedBelow h cs k p n) → ListsChain h cs k old new →
+pub below_more : (h : List Op) (cs : List (List Setter)) (k : ℕ) (old new : Entries)
+    → ((p : Fingerprint) (n : ℕ) → Contains (numbers_at old p) n ↔ IsListedBelow h cs k p n)
+    → ListsChain h cs k old new →
     (p : Fingerprint) (n : ℕ) → Contains (numbers_at new p) n ↔ IsListedBelow h cs (k + 1) p n
 below_more h cs k old new f g p n = (
   λ i. elim ((g p n).0 i) [
-    | inl j ↦ let w = (f p n).0 j in record { chain = w.chain; below = let l = w.below in omega (arith, l); index = w.index; setter = w.setter; at = w.at; given = w.given; number = w.number }
-    | inr j ↦ record { chain = k; below = omega arith; index = j.index; setter = j.setter; at = j.at; given = j.given; number = j.number }
+    | inl j ↦ let w = (f p n).0 j in record {
+      chain = w.chain;
+      below = let l = w.below in omega (arith, l);
+      index = w.index;
+      setter = w.setter;
+      at = w.at;
+      given = w.given;
+      number = w.number;
+    }
+    | inr j ↦ record {
+      chain = k;
+      below = omega arith;
+      index = j.index;
+      setter = j.setter;
+      at = j.at;
+      given = j.given;
+      number = j.number;
+    }
   ],
   λ i. (g p n).1 (elim (cases_lt i.chain k) [
-    | inl l ↦ inl ((f p n).1 (record { chain = i.chain; below = l; index = i.index; setter = i.setter; at = i.at; given = i.given; number = i.number }))
+    | inl l ↦ inl ((f p n).1
+        (record {
+          chain = i.chain;
+          below = l;
+          index = i.index;
+          setter = i.setter;
+          at = i.at;
+          given = i.given;
+          number = i.number;
+        }))
     | inr l ↦
         let m = i.below in
         let same : i.chain ≡ k = omega (arith, l, m) in
-        let at : slice_get (get_or cs k []) i.index ≡ Some i.setter = subst (λ z. slice_get (get_or cs z []) i.index ≡ Some i.setter) same i.at in
+        let at : slice_get (get_or cs k []) i.index ≡ Some i.setter = subst
+        (λ z. slice_get (get_or cs z []) i.index ≡ Some i.setter) same i.at in
         inr (record {
           index = i.index;
           within = (got_at (get_or cs k []) i.index i.setter at).0;
@@ -123,12 +207,19 @@ below_more h cs k old new f g p n = (
   ]),
 )
 
-pub index_made : (h : List Op) (cs : List (List Setter)) (k : ℕ) (ix : Entries) → k ≡ 48 → ((p : Fingerprint) (n : ℕ) → Contains (numbers_at ix p) n ↔ IsListedBelow h cs k p n) → IsIndex h cs ix
+pub index_made : (h : List Op) (cs : List (List Setter)) (k : ℕ) (ix : Entries) → k ≡ 48
+    → ((p : Fingerprint) (n : ℕ) → Contains (numbers_at ix p) n ↔ IsListedBelow h cs k p n)
+    → IsIndex h cs ix
 index_made h cs k ix e f p n = (
   λ i.
       let w = (f p n).0 i in
       let l = w.below in
-      record { position = w.setter.position; number = subst (λ z. IsNumber cs z w.setter.position) (sym w.number) (number_in cs w.chain w.index w.setter (omega (arith, l, e)) w.at); given = w.given },
+      record {
+        position = w.setter.position;
+        number = subst (λ z. IsNumber cs z w.setter.position) (sym w.number)
+            (number_in cs w.chain w.index w.setter (omega (arith, l, e)) w.at);
+        given = w.given;
+      },
   λ i.
       let k = i.number in
       let r = rank_below k.attribute in

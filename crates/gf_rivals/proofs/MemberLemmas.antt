@@ -1,12 +1,16 @@
 -- The members of an aim by their chains, and which of them conflict with a setter.
-use Rattle.std.proofs.Common.{◌≡◌, ◌≢◌, ℕ, zero, suc, ◌-◌, Bool, true, false, not, ◌<◌, ◌≤◌, ◌+◌, ◌*◌, ◌/◌, List, [], ◌∷◌, ◌++◌, length, inl, inr, refl, subst, sym, ap, ◌∙◌, arith}
-use Rattle.std.specs.Prelude.{◌⊎◌, ◌↔◌, Contains, IsTrue, drop, nat_le, Option, Some, None, slice_get, slice_index_or}
+use Rattle.std.proofs.Common.{◌≡◌, ◌≢◌, ℕ, zero, suc, ◌-◌, Bool, true, false, not, ◌<◌, ◌≤◌, ◌+◌}
+use Rattle.std.proofs.Common.{◌*◌, ◌/◌, List, [], ◌∷◌, ◌++◌, length, inl, inr, refl, subst, sym, ap}
+use Rattle.std.proofs.Common.{◌∙◌, arith}
+use Rattle.std.specs.Prelude.{◌⊎◌, ◌↔◌, Contains, IsTrue, drop, nat_le, Option, Some, None}
+use Rattle.std.specs.Prelude.{slice_get, slice_index_or}
 use Rattle.std.specs.Ordering.{nat_cmp, MatchOrdering}
 use Rattle.std.specs.declared.cmp.Ordering.{Ordering}
 use Rattle.std.specs.declared.cmp.Ordering.TheVariants.{Less}
 use Rattle.std.proofs.lemmas.Bool.{cases_Bool, cases_eq, cases_lt, leb-true, le-leb}
 use Rattle.std.proofs.lemmas.Cmp.{nat_cmp_total, ranked}
-use Rattle.std.proofs.lemmas.List.Elements.{Contains-append_left, Contains-push, Contains-push_cases}
+use Rattle.std.proofs.lemmas.List.Elements.{Contains-append_left, Contains-push}
+use Rattle.std.proofs.lemmas.List.Elements.{Contains-push_cases}
 use Rattle.std.proofs.lemmas.Map.Keys.{sorted_tail}
 use Rattle.gf_maximal.specs.Tables.{IsRising}
 use Rattle.gf_base.proofs.RisingLemmas.{below_tail}
@@ -24,7 +28,8 @@ use Rattle.gf_ops.specs.OperationOrder.{Precedes, entry}
 use Rattle.gf_ops.specs.ValidHistory.{IsValid}
 use Rattle.gf_ops.proofs.HistoryLemmas.{site_in_range, seq_in_range}
 use Rattle.gf_ops.proofs.SameLemmas.{value_eq-same, value_eq-true}
-use Rattle.gf_base.proofs.ListLemmas.{Contains-cons_cases, Contains-cons_head, Contains-cons_tail, not_Contains-nil}
+use Rattle.gf_base.proofs.ListLemmas.{Contains-cons_cases, Contains-cons_head, Contains-cons_tail}
+use Rattle.gf_base.proofs.ListLemmas.{not_Contains-nil}
 use Rattle.gf_ops.proofs.ValidityLemmas.{pasts_grow}
 use Rattle.gf_rivals.specs.declared.chain.Setter.{Setter}
 use Rattle.gf_rivals.specs.declared.members.Member.{Member}
@@ -32,15 +37,18 @@ use Rattle.gf_rivals.specs.Aimed.{Clash, ClashesWithOne, op_at, op_of}
 use Rattle.gf_rivals.specs.Chains.{chain_of, position_of, setters}
 use Rattle.gf_rivals.specs.Comparing.{is_value, number_gives, value_at}
 use Rattle.gf_rivals.specs.Giving.{op_value, value_set}
-use Rattle.gf_rivals.specs.Members.{AreFalling, AreMembers, AreMembersOf, CanClash, IsFirstUnknown, PointsToOther, IsOfChain, IsOther, OneChain, value_of}
+use Rattle.gf_rivals.specs.Members.{AreFalling, AreMembers, AreMembersOf, CanClash, IsFirstUnknown}
+use Rattle.gf_rivals.specs.Members.{PointsToOther, IsOfChain, IsOther, OneChain, value_of}
 use Rattle.gf_rivals.specs.Rivals.{IsNumber, AreChainsOf}
 use Rattle.gf_rivals.specs.Setters.{block, IsCountUpTo}
 use Rattle.gf_rivals.proofs.AimRivalLemmas.{clash_numbers}
-use Rattle.gf_rivals.proofs.NumberLemmas.{some_one, contained_at, got_at, index_short, position_is, rank_one}
+use Rattle.gf_rivals.proofs.NumberLemmas.{some_one, contained_at, got_at, index_short, position_is}
+use Rattle.gf_rivals.proofs.NumberLemmas.{rank_one}
 use Rattle.gf_rivals.proofs.RivalLemmas.{given_is, own_value}
 
 -- a number of the chain of t and the site s + 1
-pub record Stands (h : List Op) (o : ObjectId) (cs : List (List Setter)) (t : Attr) (s n : ℕ) : Type 0 where
+pub record Stands (h : List Op) (o : ObjectId) (cs : List (List Setter)) (t : Attr) (s n : ℕ) : Type
+    0 where
   pub index : ℕ
   pub setter : Setter
   pub at : slice_get (setters cs t s) index ≡ Some setter
@@ -61,8 +69,10 @@ module _ (h : List Op) (o : ObjectId) (cs : List (List Setter)) (chains : AreCha
   pub stands : (n q : ℕ) → (k : IsNumber cs n q) → Stands h o cs k.attribute k.site n
   stands n q k =
       let is = chains.each k.attribute k.site k.index k.setter k.within k.at in
-      let here : slice_get h q ≡ Some is.op = subst (λ z. slice_get h z ≡ Some is.op) k.position is.at in
-      let found : op_of h cs n ≡ Some is.op = ap (op_at h) (position_is h o cs chains n q k) ∙ here in
+      let here : slice_get h q ≡ Some is.op = subst (λ z. slice_get h z ≡ Some is.op) k.position
+      is.at in
+      let found : op_of h cs n ≡ Some is.op = ap (op_at h) (position_is h o cs chains n q k)
+      ∙ here in
       record {
         index = k.index;
         setter = k.setter;
@@ -81,7 +91,8 @@ module _ (h : List Op) (o : ObjectId) (cs : List (List Setter)) (chains : AreCha
       }
 
   -- and the number determines that chain
-  pub in_chain : (n q : ℕ) → (k : IsNumber cs n q) → (t : Attr) (s : ℕ) → s < 8 → n / block ≡ chain_of t s → Stands h o cs t s n
+  pub in_chain : (n q : ℕ) → (k : IsNumber cs n q) → (t : Attr) (s : ℕ) → s < 8
+      → n / block ≡ chain_of t s → Stands h o cs t s n
   in_chain n q k t s l e =
       let p = index_short h o cs chains k.attribute k.site k.index k.setter k.within k.at in
       let m = k.number in
@@ -89,10 +100,12 @@ module _ (h : List Op) (o : ObjectId) (cs : List (List Setter)) (chains : AreCha
       let one : chain_of k.attribute k.site ≡ chain_of t s = omega (arith, p, m, e) in
       let site : k.site ≡ s = omega (arith, one, l, w) in
       let same : k.attribute ≡ t = rank_one k.attribute t (omega (arith, one, l, w)) in
-      subst (λ z. Stands h o cs t z n) site (subst (λ z. Stands h o cs z k.site n) same (stands n q k))
+      subst (λ z. Stands h o cs t z n) site
+      (subst (λ z. Stands h o cs z k.site n) same (stands n q k))
 
   -- what stands earlier in a chain has a smaller number at its site
-  in_order : (t : Attr) (s m n : ℕ) → s < 8 → (a : Stands h o cs t s m) → (b : Stands h o cs t s n) → m ≤ n → a.op.id.seq ≤ b.op.id.seq
+  in_order : (t : Attr) (s m n : ℕ) → s < 8 → (a : Stands h o cs t s m) → (b : Stands h o cs t s n)
+      → m ≤ n → a.op.id.seq ≤ b.op.id.seq
   in_order t s m n l a b u =
       let x = a.number in let y = b.number in
       let v = got_at (setters cs t s) a.index a.setter a.at in
@@ -101,56 +114,79 @@ module _ (h : List Op) (o : ObjectId) (cs : List (List Setter)) (chains : AreCha
       elim (cases_lt a.index b.index) [
         | inl k ↦
             let r = (chains.ordered t s l).rise a.index b.index a.setter k w.0 in
-            let f = subst (λ (z : Setter). z.seq < (slice_index_or (setters cs t s) b.index a.setter).seq) v.1 r in
-            let g = subst (λ (z : Setter). a.setter.seq < z.seq) (get_or_default (setters cs t s) b.index a.setter b.setter w.0 ∙ w.1) f in
+            let f = subst (λ (z : Setter). z.seq < (slice_index_or (setters cs t s) b.index
+            a.setter).seq) v.1 r in
+            let g = subst (λ (z : Setter). a.setter.seq < z.seq)
+            (get_or_default (setters cs t s) b.index a.setter b.setter w.0 ∙ w.1) f in
             omega (arith, p, q, g)
         | inr k ↦
             let same : a.index ≡ b.index = omega (arith, x, y, u, k) in
-            let e : a.setter ≡ b.setter = some_one a.setter b.setter (sym a.at ∙ (ap (slice_get (setters cs t s)) same ∙ b.at)) in
+            let e : a.setter ≡ b.setter = some_one a.setter b.setter
+            (sym a.at ∙ (ap (slice_get (setters cs t s)) same ∙ b.at)) in
             let f : a.setter.seq ≡ b.setter.seq = ap (λ (z : Setter). z.seq) e in
             omega (arith, p, q, f)
       ]
 
   module _ (valid : IsValid h) where
-    same_second : (n q : ℕ) (c : Op) → op_of h cs n ≡ Some c → (b : Op) → op_of h cs n ≡ Some b → c ≡ b
+    same_second : (n q : ℕ) (c : Op) → op_of h cs n ≡ Some c → (b : Op) → op_of h cs n ≡ Some b
+        → c ≡ b
     same_second n q c e b f = some_one c b (sym e ∙ f)
 
     -- what clashes gives another value of the attribute
-    pub clash_values : (y n : ℕ) (t u : Attr) (s r : ℕ) → (a : Stands h o cs t s y) → (b : Stands h o cs u r n) → Clash h cs y n → (t ≡ u) × (value_of h cs y ≢ value_of h cs n)
+    pub clash_values : (y n : ℕ) (t u : Attr) (s r : ℕ) → (a : Stands h o cs t s y)
+        → (b : Stands h o cs u r n) → Clash h cs y n → (t ≡ u) × (value_of h cs y ≢ value_of h cs n)
     clash_values y n t u s r a b c =
         let x : c.first ≡ a.op = some_one c.first a.op (sym c.at_first ∙ a.found) in
         let z : c.second ≡ b.op = some_one c.second b.op (sym c.at_second ∙ b.found) in
         let apart = c.direct.apart in
-        let first = given_is a.value apart.attribute apart.first (ap (λ d. change_value d apart.attribute) (sym a.change) ∙ (ap (λ (w : Op). change_value w.change apart.attribute) (sym x) ∙ apart.first_given)) in
-        let second = given_is b.value apart.attribute apart.second (ap (λ d. change_value d apart.attribute) (sym b.change) ∙ (ap (λ (w : Op). change_value w.change apart.attribute) (sym z) ∙ apart.second_given)) in (
+        let first = given_is a.value apart.attribute apart.first
+        (ap (λ d. change_value d apart.attribute) (sym a.change)
+        ∙ (ap (λ (w : Op). change_value w.change apart.attribute) (sym x) ∙ apart.first_given)) in
+        let second = given_is b.value apart.attribute apart.second
+        (ap (λ d. change_value d apart.attribute) (sym b.change)
+        ∙ (ap (λ (w : Op). change_value w.change apart.attribute) (sym z) ∙ apart.second_given)) in (
           sym a.attribute ∙ (sym first.0 ∙ (second.0 ∙ b.attribute)),
-          λ e. apart.differ (first.1 ∙ (some_one a.value b.value (sym a.gives ∙ (e ∙ b.gives)) ∙ sym second.1)),
+          λ e. apart.differ (first.1 ∙ (some_one a.value b.value (sym a.gives ∙ (e ∙ b.gives))
+              ∙ sym second.1)),
         )
 
     -- WHAT STANDS BEFORE a clashing setter, unknown too and with another value, clashes as well
-    module _ (t : Attr) (s y n : ℕ) (l : s < 8) (a : Stands h o cs t s y) (b : Stands h o cs t s n ⊎ ((r : ℕ) × Stands h o cs t r n)) (c : Clash h cs y n) (k : ℕ) (first : IsFirstUnknown cs t s c.second.past k) where
+    module _ (t : Attr) (s y n : ℕ) (l : s < 8) (a : Stands h o cs t s y)
+        (b : Stands h o cs t s n ⊎ ((r : ℕ) × Stands h o cs t r n)) (c : Clash h cs y n) (k : ℕ)
+        (first : IsFirstUnknown cs t s c.second.past k) where
       other_of : (r : ℕ) × Stands h o cs t r n
       other_of = elim b [ inl z ↦ (s, z) | inr z ↦ z ]
 
-      pub clash_before : (m : ℕ) → (d : Stands h o cs t s m) → k ≤ m → m ≤ y → value_of h cs m ≢ value_of h cs n → Clash h cs m n
+      pub clash_before : (m : ℕ) → (d : Stands h o cs t s m) → k ≤ m → m ≤ y
+          → value_of h cs m ≢ value_of h cs n → Clash h cs m n
       clash_before m d from to differ =
           let e = other_of.1 in
           let x : c.first ≡ a.op = some_one c.first a.op (sym c.at_first ∙ a.found) in
           let z : c.second ≡ e.op = some_one c.second e.op (sym c.at_second ∙ e.found) in
-          let late = first.unknown d.index d.setter d.at (let u = d.number in omega (arith, u, from)) in
+          let late = first.unknown d.index d.setter d.at (let u = d.number in
+          omega (arith, u, from)) in
           let there = contained_at h d.setter.position d.op d.stands in
           let site = d.site in
           let seq = d.seq in
           let range = valid.in_range d.op there in
           let not_before : ¬ (Precedes d.op c.second) = λ p.
-          let q : d.op.id.seq ≤ entry c.second.past (s + 1) = subst (λ w. d.op.id.seq ≤ entry c.second.past w) site p in
+          let q : d.op.id.seq ≤ entry c.second.past (s + 1) = subst
+          (λ w. d.op.id.seq ≤ entry c.second.past w) site p in
           omega (arith, late, q, seq) in
-          let grow = pasts_grow h valid d.op a.op there (contained_at h a.setter.position a.op a.stands) (site ∙ sym a.site) (site_in_range d.op range) (seq_in_range d.op range).0 (in_order t s m y l d a to) in
-          let sites = site_in_range c.second (valid.in_range c.second (subst (Contains h) (sym z) (contained_at h e.setter.position e.op e.stands))) in
+          let grow = pasts_grow h valid d.op a.op there
+          (contained_at h a.setter.position a.op a.stands) (site ∙ sym a.site)
+          (site_in_range d.op range) (seq_in_range d.op range).0 (in_order t s m y l d a to) in
+          let sites = site_in_range c.second
+          (valid.in_range c.second
+          (subst (Contains h) (sym z) (contained_at h e.setter.position e.op e.stands))) in
           let not_after : ¬ (Precedes c.second d.op) = λ p.
           let g = grow c.second.id.site sites in
-          c.direct.concurrent.not_after (subst (Precedes c.second) (sym x) (let q : c.second.id.seq ≤ entry d.op.past c.second.id.site = p in omega (arith, q, g))) in
-          let values : d.value ≢ e.value = λ f. differ (d.gives ∙ (ap (λ w. Some w) f ∙ sym e.gives)) in
+          c.direct.concurrent.not_after
+          (subst (Precedes c.second) (sym x)
+          (let q : c.second.id.seq ≤ entry d.op.past c.second.id.site = p in omega (arith, q, g)))
+          in
+          let values : d.value ≢ e.value = λ f.
+          differ (d.gives ∙ (ap (λ w. Some w) f ∙ sym e.gives)) in
           record {
             first = d.op;
             second = e.op;
@@ -158,17 +194,21 @@ module _ (h : List Op) (o : ObjectId) (cs : List (List Setter)) (chains : AreCha
             at_second = e.found;
             direct = record {
               concurrent = record {
-                different = λ f. values (some_one d.value e.value (ap value_set (sym d.change) ∙ (ap (λ (w : Op). value_set w.change) f ∙ ap value_set e.change)));
+                different = λ f. values (some_one d.value e.value (ap value_set (sym d.change)
+                    ∙ (ap (λ (w : Op). value_set w.change) f ∙ ap value_set e.change)));
                 not_before = subst (λ w. ¬ (Precedes d.op w)) z not_before;
                 not_after = subst (λ w. ¬ (Precedes w d.op)) z not_after;
               };
-              one_object = ap (changed_object d.op.id) d.change ∙ sym (ap (changed_object e.op.id) e.change);
+              one_object = ap (changed_object d.op.id) d.change
+                  ∙ sym (ap (changed_object e.op.id) e.change);
               apart = record {
                 attribute = t;
                 first = d.value;
                 second = e.value;
-                first_given = subst (λ w. change_value d.op.change w ≡ Some d.value) d.attribute (ap (λ w. change_value w (attribute_of d.value)) d.change ∙ own_value d.value);
-                second_given = subst (λ w. change_value e.op.change w ≡ Some e.value) e.attribute (ap (λ w. change_value w (attribute_of e.value)) e.change ∙ own_value e.value);
+                first_given = subst (λ w. change_value d.op.change w ≡ Some d.value) d.attribute
+                    (ap (λ w. change_value w (attribute_of d.value)) d.change ∙ own_value d.value);
+                second_given = subst (λ w. change_value e.op.change w ≡ Some e.value) e.attribute
+                    (ap (λ w. change_value w (attribute_of e.value)) e.change ∙ own_value e.value);
                 differ = values;
               };
             };
@@ -180,7 +220,8 @@ module _ (h : List Op) (o : ObjectId) (cs : List (List Setter)) (chains : AreCha
 values_parted : (r q : Option Value) (v w : Value) → r ≡ Some v → q ≡ Some w → (r ≡ q) ⊎ (r ≢ q)
 values_parted r q v w e f = elim (cases_Bool (value_eq v w)) [
   | inl t ↦ inl (e ∙ (ap (λ z. Some z) (value_eq-true v w t) ∙ sym f))
-  | inr n ↦ inr (λ g. let same : v ≡ w = some_one v w (sym e ∙ (g ∙ f)) in let t = subst (λ z. value_eq v z ≡ true) same (value_eq-same v) in absurd cc)
+  | inr n ↦ inr (λ g. let same : v ≡ w = some_one v w (sym e ∙ (g ∙ f)) in
+      let t = subst (λ z. value_eq v z ≡ true) same (value_eq-same v) in absurd cc)
 ]
 
 options_parted : (r q : Option Value) → (r ≡ q) ⊎ (r ≢ q)
@@ -189,7 +230,9 @@ options_parted (Some v) None = inr (λ e. cc)
 options_parted None (Some w) = inr (λ e. cc)
 options_parted None None = inl refl
 
-pushed_at : (xs : List Member) (y : Member) (i : ℕ) (d : Member) → i < length (xs ++ y ∷ []) → ((i < length xs) × (slice_index_or (xs ++ y ∷ []) i d ≡ slice_index_or xs i d)) ⊎ ((i ≡ length xs) × (slice_index_or (xs ++ y ∷ []) i d ≡ y))
+pushed_at : (xs : List Member) (y : Member) (i : ℕ) (d : Member) → i < length (xs ++ y ∷ [])
+    → ((i < length xs) × (slice_index_or (xs ++ y ∷ []) i d ≡ slice_index_or xs i d))
+    ⊎ ((i ≡ length xs) × (slice_index_or (xs ++ y ∷ []) i d ≡ y))
 pushed_at [] y zero d l = inr (refl, refl)
 pushed_at [] y (suc i) d l = absurd (omega arith)
 pushed_at (x ∷ xs) y zero d l = inl (omega arith, refl)
@@ -198,7 +241,8 @@ pushed_at (x ∷ xs) y (suc i) d l = elim (pushed_at xs y i d (omega arith)) [
   | inr w ↦ inr (let k = w.0 in omega arith, w.1)
 ]
 
-pushed_before : (xs : List Member) (y : Member) (i : ℕ) (d : Member) → i < length xs → slice_index_or (xs ++ y ∷ []) i d ≡ slice_index_or xs i d
+pushed_before : (xs : List Member) (y : Member) (i : ℕ) (d : Member) → i < length xs
+    → slice_index_or (xs ++ y ∷ []) i d ≡ slice_index_or xs i d
 pushed_before [] y i d l = absurd (omega arith)
 pushed_before (x ∷ xs) y zero d l = refl
 pushed_before (x ∷ xs) y (suc i) d l = pushed_before xs y i d (omega arith)
@@ -211,39 +255,58 @@ module _ (h : List Op) (cs : List (List Setter)) where
 
   other_value : (q : Option Value) (v : Value) → IsTrue (not (is_value q v)) ↔ (Some v ≢ q)
   other_value (Some w) v = (
-    λ t e. let same : v ≡ w = some_one v w e in let y = subst (λ z. value_eq z v ≡ true) same (value_eq-same v) in absurd cc,
-    λ f. elim (cases_Bool (value_eq w v)) [ inl t ↦ absurd (f (ap (λ z. Some z) (sym (value_eq-true w v t)))) | inr n ↦ rw n refl ],
+    λ t e. let same : v ≡ w = some_one v w e in let y = subst (λ z. value_eq z v ≡ true) same
+        (value_eq-same v) in absurd cc,
+    λ f. elim (cases_Bool (value_eq w v)) [
+      | inl t ↦ absurd (f (ap (λ z. Some z) (sym (value_eq-true w v t))))
+      | inr n ↦ rw n refl
+    ],
   )
   other_value None v = (λ t e. absurd cc, λ f. refl)
 
-  pub others_differ : (n m : ℕ) (v : Value) (b : Bool) → Some v ≡ value_of h cs n → b ≡ number_gives h cs v m → IsTrue (not b) ↔ (value_of h cs n ≢ value_of h cs m)
+  pub others_differ : (n m : ℕ) (v : Value) (b : Bool) → Some v ≡ value_of h cs n
+      → b ≡ number_gives h cs v m → IsTrue (not b) ↔ (value_of h cs n ≢ value_of h cs m)
   others_differ n m v b e f =
-      let same : number_gives h cs v m ≡ is_value (value_of h cs m) v = ap (λ r. is_value r v) (value_found (position_of cs m)) in
-      subst (λ z. IsTrue (not z) ↔ (value_of h cs n ≢ value_of h cs m)) (sym (f ∙ same)) (subst (λ z. IsTrue (not (is_value (value_of h cs m) v)) ↔ (z ≢ value_of h cs m)) e (other_value (value_of h cs m) v))
+      let same : number_gives h cs v m ≡ is_value (value_of h cs m) v = ap (λ r. is_value r v)
+      (value_found (position_of cs m)) in
+      subst (λ z. IsTrue (not z) ↔ (value_of h cs n ≢ value_of h cs m)) (sym (f ∙ same))
+      (subst (λ z. IsTrue (not (is_value (value_of h cs m) v)) ↔ (z ≢ value_of h cs m)) e
+      (other_value (value_of h cs m) v))
 
   -- a next one with the same value hands its own on
-  pub other_kept : (n : ℕ) (r : Option Member) (m : Member) → r ≡ Some m → ¬ (value_of h cs n ≢ value_of h cs m.number) → OneChain m.number n → IsOther h cs n r m.other
-  other_kept n r m e f one = subst (λ z. IsOther h cs n z m.other) (sym e) (λ off. absurd (off one), λ c differ. absurd (f differ), λ c same. refl)
+  pub other_kept : (n : ℕ) (r : Option Member) (m : Member) → r ≡ Some m
+      → ¬ (value_of h cs n ≢ value_of h cs m.number) → OneChain m.number n
+      → IsOther h cs n r m.other
+  other_kept n r m e f one = subst (λ z. IsOther h cs n z m.other) (sym e) (
+    λ off. absurd (off one),
+    λ c differ. absurd (f differ),
+    λ c same. refl,
+  )
 
 -- a setter stands in one chain
-pub chain_determined : (h : List Op) (o : ObjectId) (cs : List (List Setter)) → AreChainsOf h o cs → (n q : ℕ) → (k : IsNumber cs n q) → n / block ≡ chain_of k.attribute k.site
+pub chain_determined : (h : List Op) (o : ObjectId) (cs : List (List Setter)) → AreChainsOf h o cs
+    → (n q : ℕ) → (k : IsNumber cs n q) → n / block ≡ chain_of k.attribute k.site
 chain_determined h o cs chains n q k =
     let p = index_short h o cs chains k.attribute k.site k.index k.setter k.within k.at in
     let m = k.number in
     omega (arith, p, m)
 
-module _ (h : List Op) (o : ObjectId) (cs : List (List Setter)) (us : List ℕ) (ms : List Member) (k n y : ℕ) (w : CanClash h o cs us ms k n y) where
+module _ (h : List Op) (o : ObjectId) (cs : List (List Setter)) (us : List ℕ) (ms : List Member)
+    (k n y : ℕ) (w : CanClash h o cs us ms k n y) where
   abbrev at_y : Stands h o cs w.attribute w.site y
-  at_y = let q = w.members.setters y w.among in in_chain h o cs w.members.chains y q.0 q.1 w.attribute w.site w.within (w.chain ∙ w.unknown.chain)
+  at_y = let q = w.members.setters y w.among in in_chain h o cs w.members.chains y q.0 q.1
+      w.attribute w.site w.within (w.chain ∙ w.unknown.chain)
 
   abbrev at_n : (t : Attr) × (r : ℕ) × Stands h o cs t r n
-  at_n = let z = clash_numbers h o cs w.members.chains y n w.clash in (z.3.attribute, z.3.site, stands h o cs w.members.chains n z.1 z.3)
+  at_n = let z = clash_numbers h o cs w.members.chains y n w.clash in
+      (z.3.attribute, z.3.site, stands h o cs w.members.chains n z.1 z.3)
 
   -- what clashes is of the attribute of the setter
   of_attribute : (r : ℕ) × Stands h o cs w.attribute r n
   of_attribute =
       let z = at_n in
-      let e = clash_values h o cs w.members.chains w.valid y n w.attribute z.0 w.site z.1 at_y z.2 w.clash in
+      let e = clash_values h o cs w.members.chains w.valid y n w.attribute z.0 w.site z.1 at_y z.2
+      w.clash in
       (z.1, subst (λ t. Stands h o cs t z.1 n) (sym e.0) z.2)
 
   -- y stands from k on
@@ -252,38 +315,52 @@ module _ (h : List Op) (o : ObjectId) (cs : List (List Setter)) (us : List ℕ) 
       let a = at_y in
       let x : w.clash.first ≡ a.op = some_one w.clash.first a.op (sym w.clash.at_first ∙ a.found) in
       let seq = a.seq in
-      let late : entry w.clash.second.past (w.site + 1) < a.setter.seq = elim (cases_lt (entry w.clash.second.past (w.site + 1)) a.setter.seq) [
+      let late : entry w.clash.second.past (w.site + 1) < a.setter.seq =
+      elim (cases_lt (entry w.clash.second.past (w.site + 1)) a.setter.seq) [
         | inl l ↦ l
         | inr l ↦
-            let known : a.op.id.seq ≤ entry w.clash.second.past (w.site + 1) = omega (arith, l, seq) in
-            absurd (w.clash.direct.concurrent.not_before (subst (λ (z : Op). Precedes z w.clash.second) (sym x) (subst (λ z. a.op.id.seq ≤ entry w.clash.second.past z) (sym a.site) known)))
+            let known : a.op.id.seq ≤ entry w.clash.second.past (w.site + 1) = omega (arith, l, seq)
+            in
+            absurd (w.clash.direct.concurrent.not_before
+            (subst (λ (z : Op). Precedes z w.clash.second) (sym x)
+            (subst (λ z. a.op.id.seq ≤ entry w.clash.second.past z) (sym a.site) known)))
       ] in
       let r = w.unknown.from a.index a.setter a.at late in
       let e = a.number in
       omega (arith, r, e)
 
   at_member : (x : ℕ) → Contains us x → OneChain x k → Stands h o cs w.attribute w.site x
-  at_member x i c = let q = w.members.setters x i in in_chain h o cs w.members.chains x q.0 q.1 w.attribute w.site w.within (c ∙ w.unknown.chain)
+  at_member x i c = let q = w.members.setters x i in in_chain h o cs w.members.chains x q.0 q.1
+      w.attribute w.site w.within (c ∙ w.unknown.chain)
 
-  before_y : (x : ℕ) → (d : Stands h o cs w.attribute w.site x) → k ≤ x → x ≤ y → value_of h cs x ≢ value_of h cs n → Clash h cs x n
-  before_y = clash_before h o cs w.members.chains w.valid w.attribute w.site y n w.within at_y (inr of_attribute) w.clash k w.unknown
+  before_y : (x : ℕ) → (d : Stands h o cs w.attribute w.site x) → k ≤ x → x ≤ y
+      → value_of h cs x ≢ value_of h cs n → Clash h cs x n
+  before_y = clash_before h o cs w.members.chains w.valid w.attribute w.site y n w.within at_y
+      (inr of_attribute) w.clash k w.unknown
 
   -- THE FIRST MEMBER from k on, or its other, clashes
-  pub first_clashes : (f : Member) → IsOfChain ms k f → f.number ≤ y → Clash h cs f.number n ⊎ ((x : ℕ) × (f.other ≡ Some x) × Clash h cs x n)
+  pub first_clashes : (f : Member) → IsOfChain ms k f → f.number ≤ y
+      → Clash h cs f.number n ⊎ ((x : ℕ) × (f.other ≡ Some x) × Clash h cs x n)
   first_clashes f c le =
       let d = at_member f.number (w.members.members.listed f c.listed) c.chain in
       let e = of_attribute.1 in
-      elim (values_parted (value_of h cs f.number) (value_of h cs n) d.value e.value d.gives e.gives) [
+      elim (values_parted (value_of h cs f.number) (value_of h cs n) d.value e.value d.gives
+      e.gives) [
         | inr differ ↦ inl (before_y f.number d c.from le differ)
         | inl same ↦
-            let parted = (clash_values h o cs w.members.chains w.valid y n w.attribute w.attribute w.site of_attribute.0 at_y e w.clash).1 in
+            let parted = (clash_values h o cs w.members.chains w.valid y n w.attribute w.attribute
+            w.site of_attribute.0 at_y e w.clash).1 in
             let m = w.members.members.each f c.listed in
             let t = m.first y w.among (w.chain ∙ sym c.chain) le (λ g. parted (g ∙ same)) in
             let i = m.is t.0 t.1 in
             let from = c.from in
             let above = i.2 in
             let x = at_member t.0 i.0 (i.1 ∙ c.chain) in
-            inr (t.0, t.1, before_y t.0 x (omega (arith, from, above)) t.2 (λ g. i.3 (g ∙ sym same)))
+            inr (
+              t.0,
+              t.1,
+              before_y t.0 x (omega (arith, from, above)) t.2 (λ g. i.3 (g ∙ sym same)),
+            )
       ]
 
   -- the member of y stands from k on
@@ -291,58 +368,78 @@ module _ (h : List Op) (o : ObjectId) (cs : List (List Setter)) (us : List ℕ) 
   member_there =
       let m = w.members.members.all y w.among in
       let e = m.2 in
-      let s = from_start in
-      (m.0, record { listed = m.1; from = omega (arith, e, s); chain = ap (λ z. z / block) e ∙ w.chain }, e)
+      let s = from_start in (
+        m.0,
+        record {
+          listed = m.1;
+          from = omega (arith, e, s);
+          chain = ap (λ z. z / block) e ∙ w.chain;
+        },
+        e,
+      )
 
 -- no setter of us of the first j sites clashes
 abbrev pub NoneAt : List Op → List (List Setter) → List Member → ℕ → ℕ → Type 0
-NoneAt h cs ms n j = (o : ObjectId) (us : List ℕ) → AreMembersOf h o cs us ms → (y q : ℕ) → Contains us y → (k : IsNumber cs y q) → k.site < j → ¬ (Clash h cs y n)
+NoneAt h cs ms n j = (o : ObjectId) (us : List ℕ) → AreMembersOf h o cs us ms → (y q : ℕ)
+    → Contains us y → (k : IsNumber cs y q) → k.site < j → ¬ (Clash h cs y n)
 
 module _ (h : List Op) (cs : List (List Setter)) (ms : List Member) (n : ℕ) where
   pub none_yet : NoneAt h cs ms n 0
   none_yet o us members y q i k l c = omega (arith, l)
 
   -- one site more
-  pub none_more : (valid : IsValid h) (op : Op) (v : Value) (j start : ℕ) → op_of h cs n ≡ Some op → op_value (Some op) ≡ Some v → j < 8 → IsFirstUnknown cs (attribute_of v) j op.past start →
-      ((o : ObjectId) (us : List ℕ) (y : ℕ) → ¬ (CanClash h o cs us ms start n y)) → NoneAt h cs ms n j → NoneAt h cs ms n (j + 1)
-  none_more valid op v j start found gives l first calm none o us members y q i k m c = elim (cases_lt k.site j) [
-    | inl less ↦ none o us members y q i k less c
-    | inr more ↦
-        let here : k.site ≡ j = omega (arith, more, m) in
-        let a = stands h o cs members.chains y q k in
-        let z = clash_numbers h o cs members.chains y n c in
-        let b = stands h o cs members.chains n z.1 z.3 in
-        let second : c.second ≡ op = some_one c.second op (sym c.at_second ∙ found) in
-        let own : b.op ≡ op = some_one b.op op (sym b.found ∙ found) in
-        let value : b.value ≡ v = some_one b.value v (ap value_set (sym b.change) ∙ (ap (λ (w : Op). value_set w.change) own ∙ gives)) in
-        let e = (clash_values h o cs members.chains valid y n k.attribute z.3.attribute k.site z.3.site a b c).0 in
-        let attribute : k.attribute ≡ attribute_of v = e ∙ (sym b.attribute ∙ ap attribute_of value) in
-        let chain : chain_of k.attribute k.site ≡ chain_of (attribute_of v) j = ap (λ t. chain_of t k.site) attribute ∙ ap (chain_of (attribute_of v)) here in
-        calm o us y (record {
-          valid = valid;
-          members = members;
-          among = i;
-          clash = c;
-          attribute = attribute_of v;
-          site = j;
-          within = l;
-          unknown = subst (λ (w : Op). IsFirstUnknown cs (attribute_of v) j w.past start) (sym second) first;
-          chain = chain_determined h o cs members.chains y q k ∙ (chain ∙ sym first.chain);
-        })
-  ]
+  pub none_more : (valid : IsValid h) (op : Op) (v : Value) (j start : ℕ) → op_of h cs n ≡ Some op
+      → op_value (Some op) ≡ Some v → j < 8 → IsFirstUnknown cs (attribute_of v) j op.past start →
+      ((o : ObjectId) (us : List ℕ) (y : ℕ) → ¬ (CanClash h o cs us ms start n y))
+      → NoneAt h cs ms n j → NoneAt h cs ms n (j + 1)
+  none_more valid op v j start found gives l first calm none o us members y q i k m c =
+      elim (cases_lt k.site j) [
+        | inl less ↦ none o us members y q i k less c
+        | inr more ↦
+            let here : k.site ≡ j = omega (arith, more, m) in
+            let a = stands h o cs members.chains y q k in
+            let z = clash_numbers h o cs members.chains y n c in
+            let b = stands h o cs members.chains n z.1 z.3 in
+            let second : c.second ≡ op = some_one c.second op (sym c.at_second ∙ found) in
+            let own : b.op ≡ op = some_one b.op op (sym b.found ∙ found) in
+            let value : b.value ≡ v = some_one b.value v (ap value_set (sym b.change)
+            ∙ (ap (λ (w : Op). value_set w.change) own ∙ gives)) in
+            let e = (clash_values h o cs members.chains valid y n k.attribute z.3.attribute k.site
+            z.3.site a b c).0 in
+            let attribute : k.attribute ≡ attribute_of v = e
+            ∙ (sym b.attribute ∙ ap attribute_of value)
+            in
+            let chain : chain_of k.attribute k.site ≡ chain_of (attribute_of v) j = ap
+            (λ t. chain_of t k.site) attribute ∙ ap (chain_of (attribute_of v)) here in
+            calm o us y (record {
+              valid = valid;
+              members = members;
+              among = i;
+              clash = c;
+              attribute = attribute_of v;
+              site = j;
+              within = l;
+              unknown = subst (λ (w : Op). IsFirstUnknown cs (attribute_of v) j w.past start)
+                  (sym second) first;
+              chain = chain_determined h o cs members.chains y q k ∙ (chain ∙ sym first.chain);
+            })
+      ]
 
   -- all sites
-  pub none_at_all : NoneAt h cs ms n 8 → (o : ObjectId) (us : List ℕ) → AreMembersOf h o cs us ms → ¬ (ClashesWithOne h cs us n)
+  pub none_at_all : NoneAt h cs ms n 8 → (o : ObjectId) (us : List ℕ) → AreMembersOf h o cs us ms
+      → ¬ (ClashesWithOne h cs us n)
   none_at_all none o us members w =
       let q = members.setters w.one w.among in
       none o us members w.one q.0 w.among q.1 q.1.within w.clash
 
-  pub none_given : (o : ObjectId) (us : List ℕ) → AreMembersOf h o cs us ms → (op : Op) → op_of h cs n ≡ Some op → op_value (Some op) ≡ None → ¬ (ClashesWithOne h cs us n)
+  pub none_given : (o : ObjectId) (us : List ℕ) → AreMembersOf h o cs us ms → (op : Op)
+      → op_of h cs n ≡ Some op → op_value (Some op) ≡ None → ¬ (ClashesWithOne h cs us n)
   none_given o us members op found e w =
       let z = clash_numbers h o cs members.chains w.one n w.clash in
       let b = stands h o cs members.chains n z.1 z.3 in
       let own : b.op ≡ op = some_one b.op op (sym b.found ∙ found) in
-      let g : Some b.value ≡ None = ap value_set (sym b.change) ∙ (ap (λ (w : Op). value_set w.change) own ∙ e) in
+      let g : Some b.value ≡ None = ap value_set (sym b.change)
+      ∙ (ap (λ (w : Op). value_set w.change) own ∙ e) in
       absurd cc
 
 -- ---- the members one by one
@@ -357,25 +454,30 @@ module _ (h : List Op) (cs : List (List Setter)) where
     each = λ m i. absurd (not_Contains-nil m i);
   }
 
-  module _ (us : List ℕ) (ms : List Member) (are : AreMembers h cs us ms) (x : ℕ) (r : Option ℕ) (below : (u : ℕ) → Contains us u → x < u) (other : IsOther h cs x (slice_get ms (length ms - 1)) r) where
+  module _ (us : List ℕ) (ms : List Member) (are : AreMembers h cs us ms) (x : ℕ) (r : Option ℕ)
+      (below : (u : ℕ) → Contains us u → x < u)
+      (other : IsOther h cs x (slice_get ms (length ms - 1)) r) where
     abbrev new : Member
     new = record { number = x; other = r }
 
     -- the last member is the least one
-    last_least : (l : Member) → slice_get ms (length ms - 1) ≡ Some l → Contains ms l × ((m : Member) → Contains ms m → l.number ≤ m.number)
+    last_least : (l : Member) → slice_get ms (length ms - 1) ≡ Some l
+        → Contains ms l × ((m : Member) → Contains ms m → l.number ≤ m.number)
     last_least l e =
         let w = got_at ms (length ms - 1) l e in (
           (length ms - 1, w.0, w.1),
           λ m i. elim (cases_lt i.0 (length ms - 1)) [
             | inl k ↦
                 let f = are.falling i.0 (length ms - 1) m k w.0 in
-                let g = subst (λ (z : Member). z.number < (slice_index_or ms i.0 m).number) (get_or_default ms (length ms - 1) m l w.0 ∙ w.1) f in
+                let g = subst (λ (z : Member). z.number < (slice_index_or ms i.0 m).number)
+                (get_or_default ms (length ms - 1) m l w.0 ∙ w.1) f in
                 let q = subst (λ (z : Member). l.number < z.number) i.2 g in
                 omega (arith, q)
             | inr k ↦
                 let b = i.1 in
                 let at : i.0 ≡ length ms - 1 = omega (arith, k, b) in
-                let same : l ≡ m = sym w.1 ∙ (sym (get_or_default ms (length ms - 1) m l w.0) ∙ (ap (λ z. slice_index_or ms z m) (sym at) ∙ i.2)) in
+                let same : l ≡ m = sym w.1 ∙ (sym (get_or_default ms (length ms - 1) m l w.0)
+                ∙ (ap (λ z. slice_index_or ms z m) (sym at) ∙ i.2)) in
                 let f : l.number ≡ m.number = ap (λ (z : Member). z.number) same in
                 omega (arith, f)
           ],
@@ -388,7 +490,8 @@ module _ (h : List Op) (cs : List (List Setter)) where
         let f : Some (slice_index_or ms (length ms - 1) m) ≡ None = sym g ∙ e in
         absurd cc
       where
-        at_member_index : (xs : List Member) (k : ℕ) (d : Member) → k < length xs → slice_get xs k ≡ Some (slice_index_or xs k d)
+        at_member_index : (xs : List Member) (k : ℕ) (d : Member) → k < length xs
+            → slice_get xs k ≡ Some (slice_index_or xs k d)
         at_member_index [] k d l = absurd (omega arith)
         at_member_index (y ∷ ys) zero d l = refl
         at_member_index (y ∷ ys) (suc k) d l = at_member_index ys k d (omega arith)
@@ -400,8 +503,10 @@ module _ (h : List Op) (cs : List (List Setter)) where
     is_member : PointsToOther h cs (x ∷ us) new
     is_member = by_last (slice_get ms (length ms - 1)) refl other
       where
-        by_values : (l : Member) → Contains ms l × ((m : Member) → Contains ms m → l.number ≤ m.number) → OneChain l.number x → IsOther h cs x (Some l) r →
-            (value_of h cs x ≡ value_of h cs l.number) ⊎ (value_of h cs x ≢ value_of h cs l.number) → PointsToOther h cs (x ∷ us) new
+        by_values : (l : Member) → Contains ms l × ((m : Member) → Contains ms m
+            → l.number ≤ m.number) → OneChain l.number x → IsOther h cs x (Some l) r →
+            (value_of h cs x ≡ value_of h cs l.number) ⊎ (value_of h cs x ≢ value_of h cs l.number)
+            → PointsToOther h cs (x ∷ us) new
         by_values l w one f (inr differ) =
             let e : r ≡ Some l.number = f.1 one differ in
             let inside = are.listed l w.0 in
@@ -409,10 +514,17 @@ module _ (h : List Op) (cs : List (List Setter)) where
             record {
               is = λ o g.
                   let same : l.number ≡ o = some_one l.number o (sym e ∙ g) in
-                  subst (λ z. Contains (x ∷ us) z × OneChain z x × (x ≤ z) × (value_of h cs z ≢ value_of h cs x)) same (tail l.number inside, one, omega (arith, low), λ k. differ (sym k));
+                  subst (λ z. Contains (x ∷ us) z × OneChain z x × (x ≤ z)
+                  × (value_of h cs z ≢ value_of h cs x)) same (
+                    tail l.number inside,
+                    one,
+                    omega (arith, low),
+                    λ k. differ (sym k),
+                  );
               first = λ y i c le d. elim (Contains-cons_cases x us y i) [
                 | inl same ↦ absurd (d (ap (value_of h cs) same))
-                | inr j ↦ let n = are.all y j in let q = w.1 n.0 n.1 in let k = n.2 in (l.number, e, omega (arith, q, k))
+                | inr j ↦ let n = are.all y j in let q = w.1 n.0 n.1 in let k = n.2 in
+                    (l.number, e, omega (arith, q, k))
               ];
             }
         by_values l w one f (inl same) =
@@ -430,13 +542,17 @@ module _ (h : List Op) (cs : List (List Setter)) where
                     let n = are.all y j in
                     let q = w.1 n.0 n.1 in
                     let k = n.2 in
-                    let t = m.first y j (c ∙ sym one) (omega (arith, q, k)) (λ z. d (z ∙ sym same)) in
+                    let t = m.first y j (c ∙ sym one) (omega (arith, q, k)) (λ z. d (z ∙ sym same))
+                    in
                     (t.0, e ∙ t.1, t.2)
               ];
             }
 
-        by_chain : (l : Member) → Contains ms l × ((m : Member) → Contains ms m → l.number ≤ m.number) → IsOther h cs x (Some l) r → (OneChain l.number x) ⊎ (¬ (OneChain l.number x)) → PointsToOther h cs (x ∷ us) new
-        by_chain l w f (inl one) = by_values l w one f (options_parted (value_of h cs x) (value_of h cs l.number))
+        by_chain : (l : Member) → Contains ms l × ((m : Member) → Contains ms m
+            → l.number ≤ m.number) → IsOther h cs x (Some l) r
+            → (OneChain l.number x) ⊎ (¬ (OneChain l.number x)) → PointsToOther h cs (x ∷ us) new
+        by_chain l w f (inl one) = by_values l w one f
+            (options_parted (value_of h cs x) (value_of h cs l.number))
         by_chain l w f (inr off) = record {
           is = λ o g. absurd (let k : None ≡ Some o = sym (f.0 off) ∙ g in cc);
           first = λ y i c le d. elim (Contains-cons_cases x us y i) [
@@ -450,7 +566,8 @@ module _ (h : List Op) (cs : List (List Setter)) where
           ];
         }
 
-        by_last : (q : Option Member) → slice_get ms (length ms - 1) ≡ q → IsOther h cs x q r → PointsToOther h cs (x ∷ us) new
+        by_last : (q : Option Member) → slice_get ms (length ms - 1) ≡ q → IsOther h cs x q r
+            → PointsToOther h cs (x ∷ us) new
         by_last None e f = record {
           is = λ o g. absurd (let k : None ≡ Some o = sym f ∙ g in cc);
           first = λ y i c le d. elim (Contains-cons_cases x us y i) [
@@ -458,7 +575,8 @@ module _ (h : List Op) (cs : List (List Setter)) where
             | inr j ↦ let m = are.all y j in absurd (no_last e m.0 m.1)
           ];
         }
-        by_last (Some l) e f = by_chain l (last_least l e) f (cases_eq (l.number / block) (x / block))
+        by_last (Some l) e f = by_chain l (last_least l e) f
+            (cases_eq (l.number / block) (x / block))
 
     -- an old member does not see the new one, which is below it
     still_member : (m : Member) → Contains ms m → PointsToOther h cs (x ∷ us) m
@@ -480,15 +598,24 @@ module _ (h : List Op) (cs : List (List Setter)) where
         | inl a ↦
             let b = pushed_before ms new i d (let u = a.0 in omega (arith, k, u)) in
             let f = are.falling i j d k a.0 in
-            let p : (slice_index_or (ms ++ new ∷ []) j d).number ≡ (slice_index_or ms j d).number = ap (λ (z : Member). z.number) a.1 in
-            let q : (slice_index_or (ms ++ new ∷ []) i d).number ≡ (slice_index_or ms i d).number = ap (λ (z : Member). z.number) b in
+            let p : (slice_index_or (ms ++ new ∷ []) j d).number ≡ (slice_index_or ms j d).number =
+            ap (λ (z : Member). z.number) a.1 in
+            let q : (slice_index_or (ms ++ new ∷ []) i d).number ≡ (slice_index_or ms i d).number =
+            ap (λ (z : Member). z.number) b in
             omega (arith, f, p, q)
         | inr a ↦
             let at = a.0 in
             let b = pushed_before ms new i d (omega (arith, k, at)) in
-            let f = below (slice_index_or ms i d).number (are.listed (slice_index_or ms i d) (i, omega (arith, k, at), get_or_default ms i (slice_index_or ms i d) d (omega (arith, k, at)))) in
-            let p : (slice_index_or (ms ++ new ∷ []) j d).number ≡ x = ap (λ (z : Member). z.number) a.1 in
-            let q : (slice_index_or (ms ++ new ∷ []) i d).number ≡ (slice_index_or ms i d).number = ap (λ (z : Member). z.number) b in
+            let f = below (slice_index_or ms i d).number
+            (are.listed (slice_index_or ms i d) (
+              i,
+              omega (arith, k, at),
+              get_or_default ms i (slice_index_or ms i d) d (omega (arith, k, at)),
+            )) in
+            let p : (slice_index_or (ms ++ new ∷ []) j d).number ≡ x = ap (λ (z : Member). z.number)
+            a.1 in
+            let q : (slice_index_or (ms ++ new ∷ []) i d).number ≡ (slice_index_or ms i d).number =
+            ap (λ (z : Member). z.number) b in
             omega (arith, f, p, q)
       ];
       listed = λ m i. elim (Contains-push_cases ms new m i) [
@@ -508,47 +635,70 @@ module _ (h : List Op) (cs : List (List Setter)) where
 -- ---- rising numbers from behind
 
 below_from_less : (a b : ℕ) → nat_cmp a b ≡ Less → a < b
-below_from_less a b e = subst (λ (o : Ordering). MatchOrdering o (a < b) (a ≡ b) (b < a)) e (ranked a b (nat_cmp a b) refl)
+below_from_less a b e = subst (λ (o : Ordering). MatchOrdering o (a < b) (a ≡ b) (b < a)) e
+    (ranked a b (nat_cmp a b) refl)
 
-rising_drop : (xs : List ℕ) → IsRising xs → (k d : ℕ) → k < length xs → (u : ℕ) → Contains (drop (k + 1) xs) u → slice_index_or xs k d < u
+rising_drop : (xs : List ℕ) → IsRising xs → (k d : ℕ) → k < length xs → (u : ℕ)
+    → Contains (drop (k + 1) xs) u → slice_index_or xs k d < u
 rising_drop [] r k d l u i = absurd (omega (arith, l))
-rising_drop (y ∷ ys) r zero d l u i = below_from_less y u (below_tail nat_cmp nat_cmp_total y ys r u i)
+rising_drop (y ∷ ys) r zero d l u i = below_from_less y u
+    (below_tail nat_cmp nat_cmp_total y ys r u i)
 rising_drop (y ∷ ys) r (suc k) d l u i =
     let e : suc k + 1 ≡ suc (k + 1) = omega arith in
-    rising_drop ys (sorted_tail nat_cmp y ys r) k d (omega (arith, l)) u (subst (λ z. Contains (drop z (y ∷ ys)) u) e i)
+    rising_drop ys (sorted_tail nat_cmp y ys r) k d (omega (arith, l)) u
+    (subst (λ z. Contains (drop z (y ∷ ys)) u) e i)
 
 -- the next number from behind stands in front of those that were met
-pub next_behind : (h : List Op) (cs : List (List Setter)) (xs : List ℕ) → IsRising xs → (b d : ℕ) → b < length xs → (ms new : List Member) → AreMembers h cs (drop (length xs - b) xs) ms → (r : Option ℕ) →
-    IsOther h cs (slice_index_or xs (length xs - 1 - b) d) (slice_get ms (length ms - 1)) r → new ≡ ms ++ record { number = slice_index_or xs (length xs - 1 - b) d; other = r } ∷ [] → AreMembers h cs (drop (length xs - (b + 1)) xs) new
+pub next_behind : (h : List Op) (cs : List (List Setter)) (xs : List ℕ) → IsRising xs → (b d : ℕ)
+    → b < length xs → (ms new : List Member) → AreMembers h cs (drop (length xs - b) xs) ms
+    → (r : Option ℕ) →
+    IsOther h cs (slice_index_or xs (length xs - 1 - b) d) (slice_get ms (length ms - 1)) r
+    → new ≡ ms ++ record { number = slice_index_or xs (length xs - 1 - b) d; other = r } ∷ []
+    → AreMembers h cs (drop (length xs - (b + 1)) xs) new
 next_behind h cs xs rises b d l ms new are r other e =
     let k = length xs - 1 - b in
     let first : length xs - (b + 1) ≡ k = omega (arith, l) in
     let second : k + 1 ≡ length xs - b = omega (arith, l) in
     let inside : k < length xs = omega (arith, l) in
-    let parted : drop (length xs - (b + 1)) xs ≡ slice_index_or xs k d ∷ drop (length xs - b) xs = ap (λ z. drop z xs) first ∙ (drop_more xs k d inside ∙ ap (λ z. slice_index_or xs k d ∷ drop z xs) second) in
-    let below = λ (u : ℕ) (i : Contains (drop (length xs - b) xs) u). rising_drop xs rises k d inside u (subst (λ z. Contains (drop z xs) u) (sym second) i) in
-    let all = members_more h cs (drop (length xs - b) xs) ms are (slice_index_or xs k d) r below other in
-    subst (λ z. AreMembers h cs z new) (sym parted) (subst (λ z. AreMembers h cs (slice_index_or xs k d ∷ drop (length xs - b) xs) z) (sym e) all)
+    let parted : drop (length xs - (b + 1)) xs ≡ slice_index_or xs k d ∷ drop (length xs - b)
+    xs = ap (λ z. drop z xs) first
+    ∙ (drop_more xs k d inside ∙ ap (λ z. slice_index_or xs k d ∷ drop z xs) second) in
+    let below = λ (u : ℕ) (i : Contains (drop (length xs - b) xs) u). rising_drop xs rises k d
+    inside u (subst (λ z. Contains (drop z xs) u) (sym second) i) in
+    let all = members_more h cs (drop (length xs - b) xs) ms are (slice_index_or xs k d) r below
+    other in
+    subst (λ z. AreMembers h cs z new) (sym parted)
+    (subst (λ z. AreMembers h cs (slice_index_or xs k d ∷ drop (length xs - b) xs) z) (sym e) all)
 
-pub all_behind : (h : List Op) (cs : List (List Setter)) (xs : List ℕ) (b : ℕ) → length xs ≤ b → (ms : List Member) → AreMembers h cs (drop (length xs - b) xs) ms → AreMembers h cs xs ms
-all_behind h cs xs b l ms are = let e : length xs - b ≡ 0 = omega (arith, l) in subst (λ z. AreMembers h cs (drop z xs) ms) e are
+pub all_behind : (h : List Op) (cs : List (List Setter)) (xs : List ℕ) (b : ℕ) → length xs ≤ b
+    → (ms : List Member) → AreMembers h cs (drop (length xs - b) xs) ms → AreMembers h cs xs ms
+all_behind h cs xs b l ms are = let e : length xs - b ≡ 0 = omega (arith, l) in
+    subst (λ z. AreMembers h cs (drop z xs) ms) e are
 
-pub none_behind : (h : List Op) (cs : List (List Setter)) (xs : List ℕ) → AreMembers h cs (drop (length xs - 0) xs) []
-none_behind h cs xs = subst (λ z. AreMembers h cs z []) (sym (drop_all (length xs - 0) xs (omega arith))) (members_none h cs)
+pub none_behind : (h : List Op) (cs : List (List Setter)) (xs : List ℕ)
+    → AreMembers h cs (drop (length xs - 0) xs) []
+none_behind h cs xs = subst (λ z. AreMembers h cs z [])
+    (sym (drop_all (length xs - 0) xs (omega arith))) (members_none h cs)
 
 -- ---- the first member from a number on
 
-pub numbers_parted : (ms : List Member) → AreFalling ms → (k : ℕ) (i j : ℕ) (d : Member) → i ≤ j → j < length ms → nat_le k (slice_index_or ms j d).number ≡ true → nat_le k (slice_index_or ms i d).number ≡ true
+pub numbers_parted : (ms : List Member) → AreFalling ms → (k : ℕ) (i j : ℕ) (d : Member) → i ≤ j
+    → j < length ms → nat_le k (slice_index_or ms j d).number ≡ true
+    → nat_le k (slice_index_or ms i d).number ≡ true
 numbers_parted ms f k i j d l m t =
     let u = leb-true k (slice_index_or ms j d).number t in
     let w : (slice_index_or ms j d).number ≤ (slice_index_or ms i d).number = elim (cases_lt i j) [
       | inl n ↦ let v = f i j d n m in omega (arith, v)
-      | inr n ↦ let e : i ≡ j = omega (arith, l, n) in let v : (slice_index_or ms i d).number ≡ (slice_index_or ms j d).number = ap (λ z. (slice_index_or ms z d).number) e in omega (arith, v)
+      | inr n ↦ let e : i ≡ j = omega (arith, l, n) in
+          let v : (slice_index_or ms i d).number ≡ (slice_index_or ms j d).number = ap
+          (λ z. (slice_index_or ms z d).number) e in omega (arith, v)
     ] in
     le-leb k (slice_index_or ms i d).number (omega (arith, u, w))
 
-module _ (ms : List Member) (falls : AreFalling ms) (k p : ℕ) (before : (i : ℕ) (d : Member) → i < p → i < length ms → nat_le k (slice_index_or ms i d).number ≡ true)
-    (behind : (i : ℕ) (d : Member) → p ≤ i → i < length ms → nat_le k (slice_index_or ms i d).number ≡ false) where
+module _ (ms : List Member) (falls : AreFalling ms) (k p : ℕ) (before : (i : ℕ) (d : Member) → i < p
+    → i < length ms → nat_le k (slice_index_or ms i d).number ≡ true)
+    (behind : (i : ℕ) (d : Member) → p ≤ i → i < length ms
+    → nat_le k (slice_index_or ms i d).number ≡ false) where
   -- a member from k on stands before p
   stands_before : (m : Member) (i : Contains ms m) → k ≤ m.number → i.0 < p
   stands_before m i l = elim (cases_lt i.0 p) [
@@ -556,14 +706,17 @@ module _ (ms : List Member) (falls : AreFalling ms) (k p : ℕ) (before : (i : �
     | inr u ↦
         let f = behind i.0 m u i.1 in
         let t : nat_le k m.number ≡ true = le-leb k m.number l in
-        let g : nat_le k m.number ≡ false = subst (λ (z : Member). nat_le k z.number ≡ false) i.2 f in
+        let g : nat_le k m.number ≡ false = subst (λ (z : Member). nat_le k z.number ≡ false) i.2 f
+        in
         absurd cc
   ]
 
   pub none_from : p ≡ 0 → (m : Member) → Contains ms m → k ≤ m.number → ⊥
   none_from e m i l = let u = stands_before m i l in omega (arith, u, e)
 
-  pub first_least : (f : Member) (q : ℕ) → q + 1 ≡ p → slice_get ms q ≡ Some f → Contains ms f × (k ≤ f.number) × ((m : Member) → Contains ms m → k ≤ m.number → f.number ≤ m.number)
+  pub first_least : (f : Member) (q : ℕ) → q + 1 ≡ p → slice_get ms q ≡ Some f
+      → Contains ms f × (k ≤ f.number) × ((m : Member) → Contains ms m → k ≤ m.number
+      → f.number ≤ m.number)
   first_least f q e at =
       let w = got_at ms q f at in
       let t = before q f (omega (arith, e)) w.0 in
@@ -575,12 +728,15 @@ module _ (ms : List Member) (falls : AreFalling ms) (k p : ℕ) (before : (i : �
             elim (cases_lt i.0 q) [
               | inl n ↦
                   let v = falls i.0 q m n w.0 in
-                  let a = subst (λ (z : Member). z.number < (slice_index_or ms i.0 m).number) (get_or_default ms q m f w.0 ∙ w.1) v in
+                  let a = subst (λ (z : Member). z.number < (slice_index_or ms i.0 m).number)
+                  (get_or_default ms q m f w.0 ∙ w.1) v in
                   let b = subst (λ (z : Member). f.number < z.number) i.2 a in
                   omega (arith, b)
               | inr n ↦
                   let here : i.0 ≡ q = omega (arith, n, u, e) in
-                  let same : f ≡ m = sym w.1 ∙ (sym (get_or_default ms q m f w.0) ∙ (ap (λ z. slice_index_or ms z m) (sym here) ∙ i.2)) in
+                  let same : f ≡ m = sym w.1
+                  ∙ (sym (get_or_default ms q m f w.0) ∙ (ap (λ z. slice_index_or ms z m) (sym here)
+                  ∙ i.2)) in
                   let c : f.number ≡ m.number = ap (λ (z : Member). z.number) same in
                   omega (arith, c)
             ],
@@ -596,7 +752,9 @@ zero_from (suc p) f = absurd (f (omega arith))
 
 -- ---- where the clock stops counting
 
-pub first_unknown_is : (cs : List (List Setter)) (t : Attr) (s : ℕ) (past : Clock) (ss : List Setter) (x n : ℕ) → x ≡ chain_of t s → ss ≡ setters cs t s → IsCountUpTo ss (entry past (s + 1)) n → n < block → IsFirstUnknown cs t s past (x * block + n)
+pub first_unknown_is : (cs : List (List Setter)) (t : Attr) (s : ℕ) (past : Clock)
+    (ss : List Setter) (x n : ℕ) → x ≡ chain_of t s → ss ≡ setters cs t s
+    → IsCountUpTo ss (entry past (s + 1)) n → n < block → IsFirstUnknown cs t s past (x * block + n)
 first_unknown_is cs t s past ss x n e same c short = record {
   chain = omega (arith, e, short);
   unknown = λ p f at l.

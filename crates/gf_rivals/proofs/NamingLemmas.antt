@@ -1,6 +1,8 @@
 -- Setters found by their ids.
-use Rattle.std.proofs.Common.{◌≡◌, ℕ, ◌<◌, ◌≤◌, ◌+◌, ◌-◌, ◌*◌, List, [], inl, inr, refl, subst, sym, ap, ◌∙◌, arith}
-use Rattle.std.specs.Prelude.{◌⊎◌, ◌↔◌, Contains, IfSome, Option, Some, None, slice_get, slice_index_or}
+use Rattle.std.proofs.Common.{◌≡◌, ℕ, ◌<◌, ◌≤◌, ◌+◌, ◌-◌, ◌*◌, List, [], inl, inr, refl, subst, sym}
+use Rattle.std.proofs.Common.{ap, ◌∙◌, arith}
+use Rattle.std.specs.Prelude.{◌⊎◌, ◌↔◌, Contains, IfSome, Option, Some, None, slice_get}
+use Rattle.std.specs.Prelude.{slice_index_or}
 use Rattle.gf_maximal.specs.Growing.{joined}
 use Rattle.gf_ops.specs.declared.op.Op.{Op}
 use Rattle.gf_ops.specs.declared.op.OpId.{OpId}
@@ -26,7 +28,9 @@ use Rattle.gf_rivals.proofs.NumberLemmas.{some_one, contained_at}
 -- ---- in one chain
 
 -- the setter with the number m in its chain has an index there
-pub index_in : (cs : List (List Setter)) (i k m n : ℕ) (ss : List Setter) → ss ≡ slice_index_or cs i [] → i ≡ k → IsSetterNumber cs k m n → (p : ℕ) × HasSeq ss m p × (n ≡ i * block + p)
+pub index_in : (cs : List (List Setter)) (i k m n : ℕ) (ss : List Setter)
+    → ss ≡ slice_index_or cs i [] → i ≡ k → IsSetterNumber cs k m n
+    → (p : ℕ) × HasSeq ss m p × (n ≡ i * block + p)
 index_in cs i k m n ss e same w = (
   w.index,
   subst (λ z. HasSeq z m w.index) (sym (e ∙ ap (λ z. slice_index_or cs z []) same)) w.setter,
@@ -35,67 +39,103 @@ index_in cs i k m n ss e same w = (
 
 -- ---- by an id
 
-pub own_site : (h : List Op) → IsValid h → (op : Op) (id : OpId) → Contains h op → op.id ≡ id → IsSite id.site
-own_site h valid op id c e = subst (λ (z : OpId). IsSite z.site) e (site_in_range op (valid.in_range op c))
+pub own_site : (h : List Op) → IsValid h → (op : Op) (id : OpId) → Contains h op → op.id ≡ id
+    → IsSite id.site
+own_site h valid op id c e = subst (λ (z : OpId). IsSite z.site) e
+    (site_in_range op (valid.in_range op c))
 
-module _ (h : List Op) (o : ObjectId) (cs : List (List Setter)) (chains : AreChainsOf h o cs) (id : OpId) where
+module _ (h : List Op) (o : ObjectId) (cs : List (List Setter)) (chains : AreChainsOf h o cs)
+    (id : OpId) where
   -- a setter with the number of the id at its site is that of the id
-  pub named_from : (t : Attr) (n : ℕ) → IsSite id.site → IsSetterNumber cs (chain_of t (id.site - 1)) id.seq n → IsNamed h cs id n
+  pub named_from : (t : Attr) (n : ℕ) → IsSite id.site
+      → IsSetterNumber cs (chain_of t (id.site - 1)) id.seq n → IsNamed h cs id n
   named_from t n site w =
       let within : id.site - 1 < 8 = let l = site in omega (arith, l.0, l.1) in
       let e = w.setter.setter in
       let is = chains.each t (id.site - 1) w.index e within w.setter.at in
-      let own : is.op.id.site ≡ id.site = let l = site in let s = is.site in omega (arith, l.0, s) in
+      let own : is.op.id.site ≡ id.site = let l = site in let s = is.site in
+      omega (arith, l.0, s) in
       let seq : is.op.id.seq ≡ id.seq = is.seq ∙ w.setter.seq in
       record {
         position = e.position;
         op = is.op;
-        number = record { attribute = t; site = id.site - 1; within = within; index = w.index; setter = e; at = w.setter.at; number = w.number; position = refl };
+        number = record {
+          attribute = t;
+          site = id.site - 1;
+          within = within;
+          index = w.index;
+          setter = e;
+          at = w.setter.at;
+          number = w.number;
+          position = refl;
+        };
         at = is.at;
         named = λ i. record { site = own i; seq = seq i };
       }
 
-  pub some_named : (t : Attr) (r : Option ℕ) → IsSite id.site → IfSome r (λ n. IsSetterNumber cs (chain_of t (id.site - 1)) id.seq n) → IfSome r (λ n. IsNamed h cs id n)
+  pub some_named : (t : Attr) (r : Option ℕ) → IsSite id.site
+      → IfSome r (λ n. IsSetterNumber cs (chain_of t (id.site - 1)) id.seq n)
+      → IfSome r (λ n. IsNamed h cs id n)
   some_named t (Some n) site w = named_from t n site w
   some_named t None site w = tt
 
   -- the setter of the id stands in the chain of the attribute that its operation sets
-  pub numbered_from : IsValid h → (op : Op) (x : ObjectId) (v : Value) (aim : List OpId) → Contains h op → op.id ≡ id → op.change ≡ Set x v aim →
-      (t : Attr) → t ≡ attribute_of v → (n : ℕ) → IsNamed h cs id n → IsSetterNumber cs (chain_of t (id.site - 1)) id.seq n
+  pub numbered_from : IsValid h → (op : Op) (x : ObjectId) (v : Value) (aim : List OpId)
+      → Contains h op → op.id ≡ id → op.change ≡ Set x v aim →
+      (t : Attr) → t ≡ attribute_of v → (n : ℕ) → IsNamed h cs id n
+      → IsSetterNumber cs (chain_of t (id.site - 1)) id.seq n
   numbered_from valid op x v aim c e change t own n k =
       let m = k.number in
       let is = chains.each m.attribute m.site m.index m.setter m.within m.at in
-      let same : is.op ≡ k.op = some_one is.op k.op (sym is.at ∙ (ap (slice_get h) m.position ∙ k.at)) in
-      let one : k.op ≡ op = same_op h valid k.op op (contained_at h k.position k.op k.at) c (k.named ∙ sym e) in
+      let same : is.op ≡ k.op = some_one is.op k.op
+      (sym is.at ∙ (ap (slice_get h) m.position ∙ k.at)) in
+      let one : k.op ≡ op = same_op h valid k.op op (contained_at h k.position k.op k.at) c
+      (k.named ∙ sym e) in
       let name : is.op.id ≡ id = ap (λ (z : Op). z.id) same ∙ k.named in
-      let site : m.site ≡ id.site - 1 = let s = is.site in let d : is.op.id.site ≡ id.site = ap (λ (z : OpId). z.site) name in omega (arith, s, d) in
+      let site : m.site ≡ id.site - 1 = let s = is.site in
+      let d : is.op.id.site ≡ id.site = ap (λ (z : OpId). z.site) name in omega (arith, s, d) in
       let seq : m.setter.seq ≡ id.seq = sym is.seq ∙ ap (λ (z : OpId). z.seq) name in
-      let value : Some is.value ≡ Some v = ap value_set (sym is.change) ∙ (ap (λ (z : Op). value_set z.change) (same ∙ one) ∙ ap value_set change) in
-      let attribute : m.attribute ≡ t = sym is.attribute ∙ (ap attribute_of (some_one is.value v value) ∙ sym own) in
+      let value : Some is.value ≡ Some v = ap value_set (sym is.change)
+      ∙ (ap (λ (z : Op). value_set z.change) (same ∙ one) ∙ ap value_set change) in
+      let attribute : m.attribute ≡ t = sym is.attribute
+      ∙ (ap attribute_of (some_one is.value v value) ∙ sym own) in
       record {
         index = m.index;
         setter = record {
           setter = m.setter;
-          at = subst (λ z. slice_get (setters cs t z) m.index ≡ Some m.setter) site (subst (λ z. slice_get (setters cs z m.site) m.index ≡ Some m.setter) attribute m.at);
+          at = subst (λ z. slice_get (setters cs t z) m.index ≡ Some m.setter) site
+              (subst (λ z. slice_get (setters cs z m.site) m.index ≡ Some m.setter) attribute m.at);
           seq = seq;
         };
-        number = subst (λ z. n ≡ chain_of t z * block + m.index) site (subst (λ z. n ≡ chain_of z m.site * block + m.index) attribute m.number);
+        number = subst (λ z. n ≡ chain_of t z * block + m.index) site
+            (subst (λ z. n ≡ chain_of z m.site * block + m.index) attribute m.number);
       }
 
   -- what makes an object is no setter
-  pub made_unnamed : IsValid h → (op : Op) (start : Start) → Contains h op → op.id ≡ id → op.change ≡ Create start → (n : ℕ) → ¬ (IsNamed h cs id n)
+  pub made_unnamed : IsValid h → (op : Op) (start : Start) → Contains h op → op.id ≡ id
+      → op.change ≡ Create start → (n : ℕ) → ¬ (IsNamed h cs id n)
   made_unnamed valid op start c e change n k =
       let m = k.number in
       let is = chains.each m.attribute m.site m.index m.setter m.within m.at in
-      let same : is.op ≡ k.op = some_one is.op k.op (sym is.at ∙ (ap (slice_get h) m.position ∙ k.at)) in
-      let one : k.op ≡ op = same_op h valid k.op op (contained_at h k.position k.op k.at) c (k.named ∙ sym e) in
-      let value : Some is.value ≡ None = ap value_set (sym is.change) ∙ (ap (λ (z : Op). value_set z.change) (same ∙ one) ∙ ap value_set change) in
+      let same : is.op ≡ k.op = some_one is.op k.op
+      (sym is.at ∙ (ap (slice_get h) m.position ∙ k.at)) in
+      let one : k.op ≡ op = same_op h valid k.op op (contained_at h k.position k.op k.at) c
+      (k.named ∙ sym e) in
+      let value : Some is.value ≡ None = ap value_set (sym is.change)
+      ∙ (ap (λ (z : Op). value_set z.change) (same ∙ one) ∙ ap value_set change) in
       absurd cc
 
 -- ---- one more number
 
-pub adds_number : (h : List Op) (cs : List (List Setter)) (id : OpId) (x : ℕ) (old new : List ℕ) → IsNamed h cs id x → ((n : ℕ) → IsNamed h cs id n → Some x ≡ Some n) → new ≡ joined x old → AddsNamed h cs id old new
+pub adds_number : (h : List Op) (cs : List (List Setter)) (id : OpId) (x : ℕ) (old new : List ℕ)
+    → IsNamed h cs id x → ((n : ℕ) → IsNamed h cs id n → Some x ≡ Some n) → new ≡ joined x old
+    → AddsNamed h cs id old new
 adds_number h cs id x old new w one e n = (
-  λ i. elim ((Contains-joined x old n).0 (subst (λ z. Contains z n) e i)) [ inl j ↦ inl j | inr d ↦ inr (subst (λ z. IsNamed h cs id z) (sym d) w) ],
-  λ i. subst (λ z. Contains z n) (sym e) ((Contains-joined x old n).1 (elim i [ inl j ↦ inl j | inr k ↦ inr (sym (some_one x n (one n k))) ])),
+  λ i. elim ((Contains-joined x old n).0 (subst (λ z. Contains z n) e i)) [
+    | inl j ↦ inl j
+    | inr d ↦ inr (subst (λ z. IsNamed h cs id z) (sym d) w)
+  ],
+  λ i. subst (λ z. Contains z n) (sym e)
+      ((Contains-joined x old n).1
+      (elim i [ inl j ↦ inl j | inr k ↦ inr (sym (some_one x n (one n k))) ])),
 )

@@ -1,5 +1,7 @@
--- The next operation of a valid history: no operation has its id, or knows it, and each of its site has a smaller number.
-use Rattle.std.proofs.Common.{◌≡◌, ◌≢◌, ℕ, zero, suc, ◌≤◌, ◌<◌, ◌+◌, List, [], ◌∷◌, map, length, refl, ap, sym, subst, ◌∙◌, inl, inr, arith}
+-- The next operation of a valid history: no operation has its id, or knows it, and each of its site
+-- has a smaller number.
+use Rattle.std.proofs.Common.{◌≡◌, ◌≢◌, ℕ, zero, suc, ◌≤◌, ◌<◌, ◌+◌, List, [], ◌∷◌, map, length}
+use Rattle.std.proofs.Common.{refl, ap, sym, subst, ◌∙◌, inl, inr, arith}
 use Rattle.std.specs.Prelude.{◌⊎◌, Contains, filter, nat_eq}
 use Rattle.std.proofs.lemmas.Bool.{cases_lt}
 use Rattle.std.proofs.lemmas.Bool.Decides.{Decides-eqb}
@@ -12,7 +14,8 @@ use Rattle.gf_ops.specs.Limits.{IsInRange}
 use Rattle.gf_ops.specs.OperationOrder.{Precedes, count_of}
 use Rattle.gf_ops.specs.ValidHistory.{IsValid}
 use Rattle.gf_ops.proofs.HistoryLemmas.{site_in_range, seq_in_range}
-use Rattle.gf_base.proofs.ListLemmas.{Contains-map, Contains-cons_cases, Contains-cons_head, Contains-cons_tail, not_Contains-nil}
+use Rattle.gf_base.proofs.ListLemmas.{Contains-map, Contains-cons_cases, Contains-cons_head}
+use Rattle.gf_base.proofs.ListLemmas.{Contains-cons_tail, not_Contains-nil}
 use Rattle.gf_base.proofs.FilterLemmas.{Contains-filter}
 
 -- the list ks with x taken out of it
@@ -44,7 +47,8 @@ abbrev numbered : ℕ → ℕ → OpId
 numbered s k = record { site = s; seq = k }
 
 -- a list with m numbered ids is as long
-as_long : (s m : ℕ) (ks : List OpId) → ((k : ℕ) → 1 ≤ k → k ≤ m → Contains ks (numbered s k)) → m ≤ length ks
+as_long : (s m : ℕ) (ks : List OpId) → ((k : ℕ) → 1 ≤ k → k ≤ m → Contains ks (numbered s k))
+    → m ≤ length ks
 as_long s zero ks f = omega arith
 as_long s (suc m) ks f =
     let w = taken_out (numbered s (suc m)) ks (f (suc m) (omega arith) (omega arith)) in
@@ -61,16 +65,21 @@ module _ (h : List Op) (valid : IsValid h) where
   ids_of s = map (λ (a : Op). a.id) (filter (λ (a : Op). nat_eq a.id.site s) h)
 
   in_ids : (b : Op) → Contains h b → Contains (ids_of b.id.site) b.id
-  in_ids b c = Contains-map (λ (a : Op). a.id) (filter (λ (a : Op). nat_eq a.id.site b.id.site) h) b ((Contains-filter (λ (a : Op). nat_eq a.id.site b.id.site) h b).1 (c, (Decides-eqb b.id.site b.id.site).1 refl))
+  in_ids b c = Contains-map (λ (a : Op). a.id) (filter (λ (a : Op). nat_eq a.id.site b.id.site) h) b
+      ((Contains-filter (λ (a : Op). nat_eq a.id.site b.id.site) h b).1
+      (c, (Decides-eqb b.id.site b.id.site).1 refl))
 
-  all_numbered : (b : Op) → Contains h b → (k : ℕ) → 1 ≤ k → k ≤ b.id.seq → Contains (ids_of b.id.site) (numbered b.id.site k)
+  all_numbered : (b : Op) → Contains h b → (k : ℕ) → 1 ≤ k → k ≤ b.id.seq
+      → Contains (ids_of b.id.site) (numbered b.id.site k)
   all_numbered b c k l u = elim (cases_lt k b.id.seq) [
     | inl m ↦
         let site = site_in_range b (valid.in_range b c) in
         let own = valid.own b c in
-        let t = valid.closed b c (numbered b.id.site k) (record { site = site; first = l; last = omega (arith, m, own) }) in
+        let t = valid.closed b c (numbered b.id.site k)
+        (record { site = site; first = l; last = omega (arith, m, own) }) in
         let same : t.op.id.site ≡ b.id.site = ap (λ (i : OpId). i.site) t.id in
-        subst (λ s. Contains (ids_of s) (numbered b.id.site k)) same (subst (λ i. Contains (ids_of t.op.id.site) i) t.id (in_ids t.op t.contained))
+        subst (λ s. Contains (ids_of s) (numbered b.id.site k)) same
+        (subst (λ i. Contains (ids_of t.op.id.site) i) t.id (in_ids t.op t.contained))
     | inr m ↦
         let e : b.id.seq ≡ k = omega (arith, u, m) in
         let same : b.id ≡ numbered b.id.site k = λ i. record { site = b.id.site; seq = e i } in
@@ -81,7 +90,9 @@ module _ (h : List Op) (valid : IsValid h) where
   seq_within : (b : Op) → Contains h b → b.id.seq ≤ count_of h b.id.site
   seq_within b c =
       let l = as_long b.id.site b.id.seq (ids_of b.id.site) (all_numbered b c) in
-      let d : length (ids_of b.id.site) ≡ count_of h b.id.site = length-map (filter (λ (a : Op). nat_eq a.id.site b.id.site) h) (λ (a : Op). a.id) ∙ length-filter (λ (a : Op). nat_eq a.id.site b.id.site) h in
+      let d : length (ids_of b.id.site) ≡ count_of h b.id.site = length-map
+      (filter (λ (a : Op). nat_eq a.id.site b.id.site) h) (λ (a : Op). a.id)
+      ∙ length-filter (λ (a : Op). nat_eq a.id.site b.id.site) h in
       omega (arith, l, d)
 
   module _ (a : Op) (in_range : IsInRange a) (accepted : IsAccepted h a) where
@@ -102,5 +113,7 @@ module _ (h : List Op) (valid : IsValid h) where
     -- no operation knows a
     pub unknown : (b : Op) → Contains h b → ¬ (Precedes a b)
     unknown b c p =
-        let t = valid.closed b c a.id (record { site = site_in_range a in_range; first = (seq_in_range a in_range).0; last = p }) in
+        let t = valid.closed b c a.id
+        (record { site = site_in_range a in_range; first = (seq_in_range a in_range).0; last = p })
+        in
         fresh t.op t.contained t.id

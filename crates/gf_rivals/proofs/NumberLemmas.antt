@@ -1,5 +1,7 @@
--- The numbers of setters and their positions: each number is that of one setter, and each position has one number.
-use Rattle.std.proofs.Common.{◌≡◌, ℕ, zero, suc, ◌<◌, ◌≤◌, ◌+◌, ◌*◌, ◌/◌, ◌%◌, List, [], ◌∷◌, length, get_or, inl, inr, refl, subst, sym, ap, ◌∙◌, arith}
+-- The numbers of setters and their positions: each number is that of one setter, and each position
+-- has one number.
+use Rattle.std.proofs.Common.{◌≡◌, ℕ, zero, suc, ◌<◌, ◌≤◌, ◌+◌, ◌*◌, ◌/◌, ◌%◌, List, [], ◌∷◌}
+use Rattle.std.proofs.Common.{length, get_or, inl, inr, refl, subst, sym, ap, ◌∙◌, arith}
 use Rattle.std.specs.Prelude.{Contains, Option, Some, None, slice_get, unwrap_or, option_map}
 use Rattle.std.proofs.lemmas.Bool.{cases_lt}
 use Rattle.std.proofs.lemmas.List.{get_or_default}
@@ -20,12 +22,14 @@ pub some_one : {X : Type 0} (a b : X) → Some a ≡ Some b → a ≡ b
 some_one a b e = ap (λ o. unwrap_or o a) e
 
 -- what stands in a list is in it
-pub got_at : {X : Type 0} (xs : List X) (i : ℕ) (x : X) → slice_get xs i ≡ Some x → (i < length xs) × (get_or xs i x ≡ x)
+pub got_at : {X : Type 0} (xs : List X) (i : ℕ) (x : X) → slice_get xs i ≡ Some x
+    → (i < length xs) × (get_or xs i x ≡ x)
 got_at [] i x e = absurd cc
 got_at (y ∷ xs) zero x e = (omega arith, some_one y x e)
 got_at (y ∷ xs) (suc i) x e = let w = got_at xs i x e in (let l = w.0 in omega arith, w.1)
 
-pub contained_at : {X : Type 0} (xs : List X) (i : ℕ) (x : X) → slice_get xs i ≡ Some x → Contains xs x
+pub contained_at : {X : Type 0} (xs : List X) (i : ℕ) (x : X) → slice_get xs i ≡ Some x
+    → Contains xs x
 contained_at xs i x e = let w = got_at xs i x e in (i, w.0, w.1)
 
 -- ---- attributes by their ranks
@@ -75,7 +79,8 @@ attribute_set (Set o v aim) = attribute_of v
 
 -- ---- blocks
 
-one_block : (k l p q : ℕ) → p < block → q < block → k * block + p ≡ l * block + q → (k ≡ l) × (p ≡ q)
+one_block : (k l p q : ℕ) → p < block → q < block → k * block + p ≡ l * block + q
+    → (k ≡ l) × (p ≡ q)
 one_block k l p q a b e = elim (cases_lt k l) [
   | inl x ↦ absurd (omega arith)
   | inr x ↦ elim (cases_lt l k) [
@@ -93,14 +98,16 @@ past_end (c ∷ cs) zero l = absurd (omega arith)
 past_end (c ∷ cs) (suc k) l = past_end cs k (omega arith)
 
 -- a position that is found comes of a setter
-setter_found : (r : Option Setter) (q : ℕ) → option_map (λ (e : Setter). e.position) r ≡ Some q → (e : Setter) × (r ≡ Some e) × (e.position ≡ q)
+setter_found : (r : Option Setter) (q : ℕ) → option_map (λ (e : Setter). e.position) r ≡ Some q
+    → (e : Setter) × (r ≡ Some e) × (e.position ≡ q)
 setter_found None q f = absurd cc
 setter_found (Some e) q f = (e, refl, some_one e.position q f)
 
 -- ---- numbers
 
 -- the number of the setter at the index p in the chain with the index k
-pub number_in : (cs : List (List Setter)) (k p : ℕ) (e : Setter) → k < 48 → slice_get (get_or cs k []) p ≡ Some e → IsNumber cs (k * block + p) e.position
+pub number_in : (cs : List (List Setter)) (k p : ℕ) (e : Setter) → k < 48
+    → slice_get (get_or cs k []) p ≡ Some e → IsNumber cs (k * block + p) e.position
 number_in cs k p e l at =
     let first : rank (unranked (k / 8)) ≡ k / 8 = rank_to (k / 8) (omega (arith, l)) in
     let chain : k ≡ chain_of (unranked (k / 8)) (k % 8) = omega (arith, first) in
@@ -116,30 +123,38 @@ number_in cs k p e l at =
     }
 
 module _ (h : List Op) (o : ObjectId) (cs : List (List Setter)) (chains : AreChainsOf h o cs) where
-  pub index_short : (t : Attr) (s p : ℕ) (e : Setter) → s < 8 → slice_get (setters cs t s) p ≡ Some e → p < block
-  index_short t s p e l a = let w = (from_index (setters cs t s) p e a).0 in let k = (chains.ordered t s l).short in omega (arith, w, k)
+  pub index_short : (t : Attr) (s p : ℕ) (e : Setter) → s < 8
+      → slice_get (setters cs t s) p ≡ Some e → p < block
+  index_short t s p e l a = let w = (from_index (setters cs t s) p e a).0 in
+      let k = (chains.ordered t s l).short in omega (arith, w, k)
 
-  pub one_setter : (n : ℕ) (t u : Attr) (s r p q : ℕ) (e f : Setter) → s < 8 → r < 8 → slice_get (setters cs t s) p ≡ Some e → slice_get (setters cs u r) q ≡ Some f →
+  pub one_setter : (n : ℕ) (t u : Attr) (s r p q : ℕ) (e f : Setter) → s < 8 → r < 8
+      → slice_get (setters cs t s) p ≡ Some e → slice_get (setters cs u r) q ≡ Some f →
       n ≡ chain_of t s * block + p → n ≡ chain_of u r * block + q → (t ≡ u) × (s ≡ r) × (e ≡ f)
   one_setter n t u s r p q e f l m a b x y =
-      let w = one_block (chain_of t s) (chain_of u r) p q (index_short t s p e l a) (index_short u r q f m b) (sym x ∙ y) in
+      let w = one_block (chain_of t s) (chain_of u r) p q (index_short t s p e l a)
+      (index_short u r q f m b) (sym x ∙ y) in
       let c = w.0 in
       let same_site : s ≡ r = omega (arith, c, l, m) in
       let same_rank : rank t ≡ rank u = omega (arith, c, l, m) in
       let same : t ≡ u = rank_one t u same_rank in (
         same,
         same_site,
-        some_one e f (sym a ∙ (ap (λ z. slice_get (setters cs t s) z) w.1 ∙ (ap (λ z. slice_get (setters cs t z) q) same_site ∙ (ap (λ z. slice_get (setters cs z r) q) same ∙ b)))),
+        some_one e f (sym a ∙ (ap (λ z. slice_get (setters cs t s) z) w.1
+            ∙ (ap (λ z. slice_get (setters cs t z) q) same_site
+            ∙ (ap (λ z. slice_get (setters cs z r) q) same ∙ b)))),
       )
 
   -- a number has one position
   pub one_position : (n q r : ℕ) → IsNumber cs n q → IsNumber cs n r → q ≡ r
   one_position n q r k m =
-      let w = one_setter n k.attribute m.attribute k.site m.site k.index m.index k.setter m.setter k.within m.within k.at m.at k.number m.number in
+      let w = one_setter n k.attribute m.attribute k.site m.site k.index m.index k.setter m.setter
+      k.within m.within k.at m.at k.number m.number in
       sym k.position ∙ (ap (λ (z : Setter). z.position) w.2 ∙ m.position)
 
   -- setters with one number at their site have one index
-  one_index : (t : Attr) (s p q : ℕ) (e f : Setter) → s < 8 → slice_get (setters cs t s) p ≡ Some e → slice_get (setters cs t s) q ≡ Some f → e.seq ≡ f.seq → p ≡ q
+  one_index : (t : Attr) (s p q : ℕ) (e f : Setter) → s < 8 → slice_get (setters cs t s) p ≡ Some e
+      → slice_get (setters cs t s) q ≡ Some f → e.seq ≡ f.seq → p ≡ q
   one_index t s p q e f l a b same =
       let ss = setters cs t s in
       let v = got_at ss p e a in
@@ -148,11 +163,13 @@ module _ (h : List Op) (o : ObjectId) (cs : List (List Setter)) (chains : AreCha
       let y : get_or ss p f ≡ e = get_or_default ss p f e v.0 ∙ v.1 in
       elim (cases_lt p q) [
         | inl n ↦
-            let u = subst (λ (z : Setter). (get_or ss p e).seq < z.seq) x ((chains.ordered t s l).rise p q e n w.0) in
+            let u = subst (λ (z : Setter). (get_or ss p e).seq < z.seq) x
+            ((chains.ordered t s l).rise p q e n w.0) in
             let r = subst (λ (z : Setter). z.seq < f.seq) v.1 u in absurd (omega (arith, r, same))
         | inr n ↦ elim (cases_lt q p) [
           | inl m ↦
-              let u = subst (λ (z : Setter). (get_or ss q f).seq < z.seq) y ((chains.ordered t s l).rise q p f m v.0) in
+              let u = subst (λ (z : Setter). (get_or ss q f).seq < z.seq) y
+              ((chains.ordered t s l).rise q p f m v.0) in
               let r = subst (λ (z : Setter). z.seq < e.seq) w.1 u in absurd (omega (arith, r, same))
           | inr m ↦ omega (arith, n, m)
         ]
@@ -165,14 +182,20 @@ module _ (h : List Op) (o : ObjectId) (cs : List (List Setter)) (chains : AreCha
       let j = chains.each l.attribute l.site l.index l.setter l.within l.at in
       let there : k.setter.position ≡ l.setter.position = k.position ∙ sym l.position in
       let op : i.op ≡ j.op = some_one i.op j.op (sym i.at ∙ (ap (slice_get h) there ∙ j.at)) in
-      let site : k.site ≡ l.site = let x : k.site + 1 ≡ l.site + 1 = sym i.site ∙ (ap (λ (z : Op). z.id.site) op ∙ j.site) in omega (arith, x) in
+      let site : k.site ≡ l.site = let x : k.site + 1 ≡ l.site + 1 = sym i.site
+      ∙ (ap (λ (z : Op). z.id.site) op ∙ j.site) in omega (arith, x) in
       let seq : k.setter.seq ≡ l.setter.seq = sym i.seq ∙ (ap (λ (z : Op). z.id.seq) op ∙ j.seq) in
       let attribute : k.attribute ≡ l.attribute =
-      sym i.attribute ∙ (ap attribute_set (sym i.change) ∙ (ap (λ (z : Op). attribute_set z.change) op ∙ (ap attribute_set j.change ∙ j.attribute))) in
+      sym i.attribute ∙ (ap attribute_set (sym i.change)
+      ∙ (ap (λ (z : Op). attribute_set z.change) op ∙ (ap attribute_set j.change ∙ j.attribute))) in
       let at : slice_get (setters cs l.attribute l.site) k.index ≡ Some k.setter =
-      subst (λ z. slice_get (setters cs l.attribute z) k.index ≡ Some k.setter) site (subst (λ z. slice_get (setters cs z k.site) k.index ≡ Some k.setter) attribute k.at) in
-      let index = one_index l.attribute l.site k.index l.index k.setter l.setter l.within at l.at seq in
-      k.number ∙ (ap (λ z. chain_of z k.site * block + k.index) attribute ∙ (ap (λ z. chain_of l.attribute z * block + k.index) site ∙ (ap (λ z. chain_of l.attribute l.site * block + z) index ∙ sym l.number)))
+      subst (λ z. slice_get (setters cs l.attribute z) k.index ≡ Some k.setter) site
+      (subst (λ z. slice_get (setters cs z k.site) k.index ≡ Some k.setter) attribute k.at) in
+      let index = one_index l.attribute l.site k.index l.index k.setter l.setter l.within at l.at
+      seq in
+      k.number ∙ (ap (λ z. chain_of z k.site * block + k.index) attribute
+      ∙ (ap (λ z. chain_of l.attribute z * block + k.index) site
+      ∙ (ap (λ z. chain_of l.attribute l.site * block + z) index ∙ sym l.number)))
 
   -- numbers lie below those of all chains
   pub number_below : (n q : ℕ) → IsNumber cs n q → n < 48 * block
@@ -192,9 +215,11 @@ module _ (h : List Op) (o : ObjectId) (cs : List (List Setter)) (chains : AreCha
   -- a setter's number leads to its position
   pub position_is : (n q : ℕ) → IsNumber cs n q → position_of cs n ≡ Some q
   position_is n q k =
-      let w = by_block (chain_of k.attribute k.site) k.index n (index_short k.attribute k.site k.index k.setter k.within k.at) k.number in
+      let w = by_block (chain_of k.attribute k.site) k.index n
+      (index_short k.attribute k.site k.index k.setter k.within k.at) k.number in
       ap (λ z. option_map (λ (e : Setter). e.position) (slice_get (get_or cs z []) (n % block))) w.0
-      ∙ (ap (λ z. option_map (λ (e : Setter). e.position) (slice_get (setters cs k.attribute k.site) z)) w.1
+      ∙ (ap (λ z. option_map (λ (e : Setter). e.position)
+      (slice_get (setters cs k.attribute k.site) z)) w.1
       ∙ (ap (option_map (λ (e : Setter). e.position)) k.at ∙ ap Some k.position))
 
   -- and only a setter's number leads to one
@@ -206,10 +231,12 @@ module _ (h : List Op) (o : ObjectId) (cs : List (List Setter)) (chains : AreCha
       let all = chains.count in
       let inside : k < 48 = elim (cases_lt k 48) [
         | inl l ↦ l
-        | inr l ↦ absurd (let e : slice_get [] p ≡ Some w.0 = ap (λ z. slice_get z p) (sym (past_end cs k (omega (arith, l, all)))) ∙ w.1 in cc)
+        | inr l ↦ absurd (let e : slice_get [] p ≡ Some w.0 = ap (λ z. slice_get z p)
+            (sym (past_end cs k (omega (arith, l, all)))) ∙ w.1 in cc)
       ] in
       let e : n ≡ k * block + p = omega arith in
-      subst (λ z. IsNumber cs z q) (sym e) (subst (IsNumber cs (k * block + p)) w.2 (number_in cs k p w.0 inside w.1))
+      subst (λ z. IsNumber cs z q) (sym e)
+      (subst (IsNumber cs (k * block + p)) w.2 (number_in cs k p w.0 inside w.1))
 
   -- what is no setter's number has no position
   pub position_none : (n : ℕ) → ((q : ℕ) → ¬ (IsNumber cs n q)) → position_of cs n ≡ None

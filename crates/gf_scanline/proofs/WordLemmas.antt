@@ -1,11 +1,15 @@
 -- The set bits of words.
-use Rattle.std.specs.Prelude.{ℕ, ◌≡◌, ◌≤◌, ◌<◌, ◌-◌, ◌*◌, ◌%◌, ◌/◌, ◌^◌, Bool, true, false, ◌&&◌, not, nat_lt, refl, bit_and}
+use Rattle.std.specs.Prelude.{ℕ, ◌≡◌, ◌≤◌, ◌<◌, ◌-◌, ◌*◌, ◌%◌, ◌/◌, ◌^◌, Bool, true, false, ◌&&◌}
+use Rattle.std.specs.Prelude.{not, nat_lt, refl, bit_and}
 use Rattle.std.specs.Int.{bit_at, bit_not, trailing_zeros, w64}
 use Rattle.std.specs.Int.Count.{trailing_of_zero}
 use Rattle.std.proofs.Common.{arith, ap, sym, subst, inl, inr, ◌∙◌}
 use Rattle.std.proofs.lemmas.Bool.{cases_lt}
 use Rattle.std.proofs.lemmas.Bool.Decides.{nat_tests}
-use Rattle.std.proofs.lemmas.Nat.Bits.{bit_at_and, bit_at_not, bit_at_mask_inside, bit_at_mask_below, bit_at-trailing_zeros, bit_at-zero, bit_at_ones, bit_at_ones_above, ones_shl, ones_shr, bit_at-lt}
+use Rattle.std.proofs.lemmas.Nat.Bits.{bit_at_and, bit_at_not, bit_at_mask_inside}
+use Rattle.std.proofs.lemmas.Nat.Bits.{bit_at_mask_below, bit_at-trailing_zeros, bit_at-zero}
+use Rattle.std.proofs.lemmas.Nat.Bits.{bit_at_ones, bit_at_ones_above, ones_shl, ones_shr}
+use Rattle.std.proofs.lemmas.Nat.Bits.{bit_at-lt}
 use Rattle.std.specs.Int.Bits.{and_lt}
 use Rattle.std.proofs.Math.Pow.{ones_lt, pow_mono}
 use Rattle.gf_scanline.specs.Columns.{is_from}
@@ -27,7 +31,8 @@ pub and_true : (x : Bool) → (x && true) ≡ x
 and_true true = refl
 and_true false = refl
 
-same_set : (a b word v i : ℕ) → is_from a b i ≡ false → bit_at v i ≡ bit_at word i → is_set v i ≡ (is_set word i && not (is_from a b i))
+same_set : (a b word v i : ℕ) → is_from a b i ≡ false → bit_at v i ≡ bit_at word i
+    → is_set v i ≡ (is_set word i && not (is_from a b i))
 unfolding is_set
 same_set a b word v i t e = rw (t, e) (sym (and_true (nat_lt 0 (bit_at word i))))
 
@@ -40,13 +45,15 @@ abbrev pub low_bits : ℕ → ℕ
 low_bits b = (2 ^ 64 - 1) / 2 ^ (64 - b)
 
 high_in : (a i : ℕ) → a ≤ i → i < 64 → bit_at (high_bits a) i ≡ 1
-high_in a i l m = ap (λ x. bit_at x i) (ones_shl 64 a (omega (arith, l, m))) ∙ bit_at_mask_inside a 64 i l m
+high_in a i l m = ap (λ x. bit_at x i) (ones_shl 64 a (omega (arith, l, m)))
+    ∙ bit_at_mask_inside a 64 i l m
 
 high_out : (a i : ℕ) → a ≤ 64 → i < a → bit_at (high_bits a) i ≡ 0
 high_out a i b l = ap (λ x. bit_at x i) (ones_shl 64 a b) ∙ bit_at_mask_below a 64 i l
 
 low_is : (b : ℕ) → b ≤ 64 → low_bits b ≡ 2 ^ b - 1
-low_is b l = let e : 64 - (64 - b) ≡ b = omega (arith, l) in ones_shr 64 (64 - b) (omega arith) ∙ ap (λ j. 2 ^ j - 1) e
+low_is b l = let e : 64 - (64 - b) ≡ b = omega (arith, l) in ones_shr 64 (64 - b) (omega arith)
+    ∙ ap (λ j. 2 ^ j - 1) e
 
 low_in : (b i : ℕ) → b ≤ 64 → i < b → bit_at (low_bits b) i ≡ 1
 low_in b i l m = ap (λ x. bit_at x i) (low_is b l) ∙ bit_at_ones b i m
@@ -57,8 +64,10 @@ low_out b i l m = ap (λ x. bit_at x i) (low_is b l) ∙ bit_at_ones_above b i m
 -- the first bits
 pub low_set : (b i : ℕ) → b ≤ 64 → is_set (low_bits b) i ≡ nat_lt i b
 low_set b i l = elim (cases_lt i b) [
-  | inl m ↦ set_is (low_bits b) i (let e = low_in b i l m in omega (arith, e)) ∙ sym (let h : nat_lt i b ≡ true = grind (arith, nat_tests) in h)
-  | inr m ↦ clear_is (low_bits b) i (low_out b i l m) ∙ sym (let h : nat_lt i b ≡ false = grind (arith, nat_tests) in h)
+  | inl m ↦ set_is (low_bits b) i (let e = low_in b i l m in omega (arith, e))
+      ∙ sym (let h : nat_lt i b ≡ true = grind (arith, nat_tests) in h)
+  | inr m ↦ clear_is (low_bits b) i (low_out b i l m)
+      ∙ sym (let h : nat_lt i b ≡ false = grind (arith, nat_tests) in h)
 ]
 
 -- ---- the first set bit
@@ -77,21 +86,25 @@ module _ (word a r : ℕ) (is : r ≡ bit_and word (high_bits a)) where
       let i = high_out a k l m in omega (arith, e, i)
 
   rest_fits : word < 2 ^ 64 → r < 2 ^ 64
-  rest_fits fits = subst (λ x. x < 2 ^ 64) (sym is) (and_lt 64 word (high_bits a) fits (omega arith))
+  rest_fits fits = subst (λ x. x < 2 ^ 64) (sym is)
+      (and_lt 64 word (high_bits a) fits (omega arith))
 
   pub first_of : word < 2 ^ 64 → a < 64 → IsFirst (is_set word) 64 a (trailing_zeros w64 r)
   first_of fits l = elim (cases_lt 0 r) [
     | inl some ↦
         let t = bit_at-trailing_zeros w64 r some (rest_fits fits) in
         let after : a ≤ trailing_zeros w64 r = elim (cases_lt (trailing_zeros w64 r) a) [
-          | inl n ↦ absurd (let o = out_rest (trailing_zeros w64 r) (omega (arith, l)) n in let one = t.1 in omega (arith, o, one))
+          | inl n ↦ absurd (let o = out_rest (trailing_zeros w64 r) (omega (arith, l)) n in
+              let one = t.1 in omega (arith, o, one))
           | inr n ↦ n
         ] in
         record {
           bound = let b = t.0 in omega (arith, b);
           from = λ m. after;
-          none = λ k f b. clear_is word k (let z = t.2 k b in let e = in_rest k f (let c = t.0 in omega (arith, b, c)) in omega (arith, e, z));
-          some = λ b. set_is word (trailing_zeros w64 r) (let one = t.1 in let e = in_rest (trailing_zeros w64 r) after b in omega (arith, e, one));
+          none = λ k f b. clear_is word k (let z = t.2 k b in
+              let e = in_rest k f (let c = t.0 in omega (arith, b, c)) in omega (arith, e, z));
+          some = λ b. set_is word (trailing_zeros w64 r) (let one = t.1 in
+              let e = in_rest (trailing_zeros w64 r) after b in omega (arith, e, one));
         }
     | inr none ↦
         let zero : r ≡ 0 = omega (arith, none) in
@@ -99,16 +112,19 @@ module _ (word a r : ℕ) (is : r ≡ bit_and word (high_bits a)) where
         record {
           bound = omega (arith, all);
           from = λ m. omega (arith, all, m);
-          none = λ k f b. clear_is word k (let e = in_rest k f (omega (arith, all, b)) in let z = ap (λ x. bit_at x k) zero ∙ bit_at-zero k in omega (arith, e, z));
+          none = λ k f b. clear_is word k (let e = in_rest k f (omega (arith, all, b)) in
+              let z = ap (λ x. bit_at x k) zero ∙ bit_at-zero k in omega (arith, e, z));
           some = λ b. absurd (omega (arith, all, b));
         }
   ]
 
-pub first_set_is : (word a : ℕ) → word < 2 ^ 64 → a < 64 → IsFirst (is_set word) 64 a (trailing_zeros w64 (bit_and word (high_bits a)))
+pub first_set_is : (word a : ℕ) → word < 2 ^ 64 → a < 64
+    → IsFirst (is_set word) 64 a (trailing_zeros w64 (bit_and word (high_bits a)))
 first_set_is word a = first_of word a (bit_and word (high_bits a)) refl
 
 -- the first clear bit
-pub first_clear_is : (word a i : ℕ) → word < 2 ^ 64 → IsFirst (is_set (bit_not w64 word)) 64 a i → IsFirst (λ k. not (is_set word k)) 64 a i
+pub first_clear_is : (word a i : ℕ) → word < 2 ^ 64 → IsFirst (is_set (bit_not w64 word)) 64 a i
+    → IsFirst (λ k. not (is_set word k)) 64 a i
 first_clear_is word a i fits f = record {
   bound = f.bound;
   from = f.from;
@@ -117,16 +133,22 @@ first_clear_is word a i fits f = record {
 }
   where
     turned : (k : ℕ) → k < 64 → is_set word k ≡ not (is_set (bit_not w64 word) k)
-    turned k l = let e = bit_at_not w64 word k fits l in let b = bit_at-lt word k in elim (cases_lt 0 (bit_at word k)) [
-      | inl one ↦ set_is word k one ∙ sym (ap not (clear_is (bit_not w64 word) k (omega (arith, e, one))))
-      | inr zero ↦ clear_is word k (omega (arith, zero)) ∙ sym (ap not (set_is (bit_not w64 word) k (omega (arith, e, zero))))
-    ]
+    turned k l = let e = bit_at_not w64 word k fits l in let b = bit_at-lt word k in
+        elim (cases_lt 0 (bit_at word k)) [
+          | inl one ↦ set_is word k one
+              ∙ sym (ap not (clear_is (bit_not w64 word) k (omega (arith, e, one))))
+          | inr zero ↦ clear_is word k (omega (arith, zero))
+              ∙ sym (ap not (set_is (bit_not w64 word) k (omega (arith, e, zero))))
+        ]
 
 -- ---- a word without some bits
 
-pub without_set : (word a b i : ℕ) → a < b → b ≤ 64 → i < 64 → is_set (bit_and word (bit_not w64 (bit_and (high_bits a) (low_bits b)))) i ≡ (is_set word i && not (is_from a b i))
+pub without_set : (word a b i : ℕ) → a < b → b ≤ 64 → i < 64
+    → is_set (bit_and word (bit_not w64 (bit_and (high_bits a) (low_bits b))))
+    i ≡ (is_set word i && not (is_from a b i))
 without_set word a b i l m n =
-    let fits : bit_and (high_bits a) (low_bits b) < 2 ^ 64 = and_lt 64 (high_bits a) (low_bits b) (omega arith) (let e = low_is b m in omega (arith, e, ones_lt b, pow_mono m)) in
+    let fits : bit_and (high_bits a) (low_bits b) < 2 ^ 64 = and_lt 64 (high_bits a) (low_bits b)
+    (omega arith) (let e = low_is b m in omega (arith, e, ones_lt b, pow_mono m)) in
     let whole = bit_at_and word (bit_not w64 (bit_and (high_bits a) (low_bits b))) i in
     let rest = bit_at_not w64 (bit_and (high_bits a) (low_bits b)) i fits n in
     let mask = bit_at_and (high_bits a) (low_bits b) i in
@@ -141,7 +163,8 @@ without_set word a b i l m n =
             let h = high_in a i from n in
             let k = low_in b i m inside in
             let t : is_from a b i ≡ true = grind (arith, nat_tests) in
-            rw t (clear_is _ i (omega (arith, whole, rest, mask, h, k)) ∙ sym (and_false (is_set word i)))
+            rw t (clear_is _ i (omega (arith, whole, rest, mask, h, k))
+            ∙ sym (and_false (is_set word i)))
         | inr behind ↦
             let h = low_out b i m behind in
             let t : is_from a b i ≡ false = grind (arith, nat_tests) in

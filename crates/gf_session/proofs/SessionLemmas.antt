@@ -1,5 +1,6 @@
 -- The outcome of a session.
-use Rattle.std.proofs.Common.{◌≡◌, ◌≢◌, ℕ, zero, suc, ◌+◌, Bool, true, false, List, [], ◌∷◌, ◌++◌, map, refl, sym, ap, subst, ◌∙◌, arith, true≢false}
+use Rattle.std.proofs.Common.{◌≡◌, ◌≢◌, ℕ, zero, suc, ◌+◌, Bool, true, false, List, [], ◌∷◌, ◌++◌}
+use Rattle.std.proofs.Common.{map, refl, sym, ap, subst, ◌∙◌, arith, true≢false}
 use Rattle.std.specs.Prelude.{◌||◌, Contains, Some, option_map, slice_get, IsTrue}
 use Rattle.std.specs.List.{list_any}
 use Rattle.std.proofs.lemmas.List.{append-nil, length-map}
@@ -30,7 +31,8 @@ use Rattle.gf_replicas.proofs.EventLemmas.{courses_have_events}
 use Rattle.gf_session.proofs.GaveLemmas.{gave_number, gave_worked, same_long}
 use Rattle.gf_session.proofs.JoinedLemmas.{one_history, origin}
 
-ops_sent : (ops : List Op) (short : Bool) → ops_of (messages_of ops ++ last_message short ∷ []) ≡ ops
+ops_sent : (ops : List Op) (short : Bool)
+    → ops_of (messages_of ops ++ last_message short ∷ []) ≡ ops
 ops_sent [] true = refl
 ops_sent [] false = refl
 ops_sent (a ∷ ops) short = ap (λ l. a ∷ l) (ops_sent ops short)
@@ -40,27 +42,45 @@ not_true true n = absurd (n refl)
 not_true false n = refl
 
 -- of a worker that is not short all that its site made was sent
-pub sent_all : (ops : List Op) (short : Bool) (p : Peer) → short ≡ false → HasSent ops short p → ops_of p.send.sent ≡ ops
+pub sent_all : (ops : List Op) (short : Bool) (p : Peer) → short ≡ false → HasSent ops short p
+    → ops_of p.send.sent ≡ ops
 sent_all ops short p e s =
     let whole = s.all (not_true s.stopped (λ q. true≢false (sym (s.unless q) ∙ e))) in
-    ap ops_of s.sent ∙ ops_sent s.first s.stopped ∙ sym (s.whole ∙ ap (λ l. s.first ++ l) whole ∙ append-nil s.first)
+    ap ops_of s.sent ∙ ops_sent s.first s.stopped ∙ sym (s.whole ∙ ap (λ l. s.first ++ l) whole
+    ∙ append-nil s.first)
 
-complete_here : (script : List Command) (peers : List Peer) (e : WorkerEnd) → e.short ≡ false → HasWorked e.site.number script peers e → IsComplete e
-complete_here script peers e q w = record { course = w.course; valid = w.valid; has = w.has; all = w.all q }
+complete_here : (script : List Command) (peers : List Peer) (e : WorkerEnd) → e.short ≡ false
+    → HasWorked e.site.number script peers e → IsComplete e
+complete_here script peers e q w = record {
+  course = w.course;
+  valid = w.valid;
+  has = w.has;
+  all = w.all q;
+}
 
-pub complete : (s : ℕ) (script : List Command) (peers : List Peer) (e : WorkerEnd) → e.short ≡ false → HasWorked s script peers e → IsComplete e
-complete s script peers e q w = complete_here script peers e q (subst (λ n. HasWorked n script peers e) (sym w.number) w)
+pub complete : (s : ℕ) (script : List Command) (peers : List Peer) (e : WorkerEnd) → e.short ≡ false
+    → HasWorked s script peers e → IsComplete e
+complete s script peers e q w = complete_here script peers e q
+    (subst (λ n. HasWorked n script peers e) (sym w.number) w)
 
-played_full : (s : ℕ) (script : List Command) (peers : List Peer) (e : WorkerEnd) → e.short ≡ false → HasWorked s script peers e → IsPlayed e.site.number script e.site.ops e.report
+played_full : (s : ℕ) (script : List Command) (peers : List Peer) (e : WorkerEnd) → e.short ≡ false
+    → HasWorked s script peers e → IsPlayed e.site.number script e.site.ops e.report
 played_full s script peers e q w =
     let p = w.played in
-    subst (λ l. IsPlayed e.site.number l e.site.ops e.report) (sym (p.whole ∙ ap (λ l. p.done ++ l) (p.full q) ∙ append-nil p.done)) p.played
+    subst (λ l. IsPlayed e.site.number l e.site.ops e.report)
+    (sym (p.whole ∙ ap (λ l. p.done ++ l) (p.full q) ∙ append-nil p.done)) p.played
 
-pub site_outcome : (s : ℕ) (script : Script) (peers : List Peer) (e : WorkerEnd) → e.short ≡ false → HasWorked s script.0.items peers e → IsSiteOutcome (place_of script (done_of e))
-site_outcome s script peers e q w = record { course = (complete s script.0.items peers e q w).course; played = played_full s script.0.items peers e q w }
+pub site_outcome : (s : ℕ) (script : Script) (peers : List Peer) (e : WorkerEnd) → e.short ≡ false
+    → HasWorked s script.0.items peers e → IsSiteOutcome (place_of script (done_of e))
+site_outcome s script peers e q w = record {
+  course = (complete s script.0.items peers e q w).course;
+  played = played_full s script.0.items peers e q w;
+}
 
-pub same_ops : (ends : List WorkerEnd) → HaveOne ends → (e f : WorkerEnd) → Contains ends e → Contains ends f → HaveSame e.site.ops f.site.ops
-same_ops ends one e f c d a = let p = one.same e c a in let q = one.same f d a in (λ k. q.1 (p.0 k), λ k. p.1 (q.0 k))
+pub same_ops : (ends : List WorkerEnd) → HaveOne ends → (e f : WorkerEnd) → Contains ends e
+    → Contains ends f → HaveSame e.site.ops f.site.ops
+same_ops ends one e f c d a = let p = one.same e c a in let q = one.same f d a in
+    (λ k. q.1 (p.0 k), λ k. p.1 (q.0 k))
 
 -- ---- the starts and what their workers gave, by places
 
@@ -70,12 +90,18 @@ record Begun (starts : List Start) (k : ℕ) (e : WorkerEnd) : Type 0 where
   at : slice_get starts k ≡ Some start
   gave : Gave start e
 
-begun_at : (starts : List Start) (ends : List WorkerEnd) → GaveAll starts ends → (k : ℕ) (e : WorkerEnd) → slice_get ends k ≡ Some e → Begun starts k e
+begun_at : (starts : List Start) (ends : List WorkerEnd) → GaveAll starts ends
+    → (k : ℕ) (e : WorkerEnd) → slice_get ends k ≡ Some e → Begun starts k e
 begun_at [] [] g k e q = absurd cc
 begun_at [] (x ∷ ends) g k e q = absurd g
 begun_at (s ∷ starts) [] g k e q = absurd cc
-begun_at (s ∷ starts) (x ∷ ends) g zero e q = let i : x ≡ e = cc in record { start = s; at = refl; gave = subst (Gave s) i g.0 }
-begun_at (s ∷ starts) (x ∷ ends) g (suc k) e q = let o = begun_at starts ends g.1 k e q in record { start = o.start; at = o.at; gave = o.gave }
+begun_at (s ∷ starts) (x ∷ ends) g zero e q = let i : x ≡ e = cc in record {
+  start = s;
+  at = refl;
+  gave = subst (Gave s) i g.0;
+}
+begun_at (s ∷ starts) (x ∷ ends) g (suc k) e q = let o = begun_at starts ends g.1 k e q in
+    record { start = o.start; at = o.at; gave = o.gave }
 
 -- the worker's end and its start at a place of a session
 record Played (starts : List Start) (ends : List WorkerEnd) (k : ℕ) (p : Place) : Type 0 where
@@ -85,12 +111,21 @@ record Played (starts : List Start) (ends : List WorkerEnd) (k : ℕ) (p : Place
   ends_at : slice_get ends k ≡ Some end
   is : p ≡ place_of start.script (done_of end)
 
-played_at : (starts : List Start) (ends : List WorkerEnd) → GaveAll starts ends → (k : ℕ) (p : Place) → slice_get (places (map (λ s. s.script) starts) (map done_of ends)) k ≡ Some p → Played starts ends k p
+played_at : (starts : List Start) (ends : List WorkerEnd) → GaveAll starts ends
+    → (k : ℕ) (p : Place) → slice_get (places (map (λ s. s.script) starts) (map done_of ends))
+    k ≡ Some p → Played starts ends k p
 played_at [] ends g k p q = absurd cc
 played_at (s ∷ starts) [] g k p q = absurd cc
-played_at (s ∷ starts) (x ∷ ends) g zero p q = let i : place_of s.script (done_of x) ≡ p = cc in record { start = s; end = x; starts_at = refl; ends_at = refl; is = sym i }
+played_at (s ∷ starts) (x ∷ ends) g zero p q = let i : place_of s.script (done_of x) ≡ p = cc in
+    record { start = s; end = x; starts_at = refl; ends_at = refl; is = sym i }
 played_at (s ∷ starts) (x ∷ ends) g (suc k) p q =
-    let o = played_at starts ends g.1 k p q in record { start = o.start; end = o.end; starts_at = o.starts_at; ends_at = o.ends_at; is = o.is }
+    let o = played_at starts ends g.1 k p q in record {
+      start = o.start;
+      end = o.end;
+      starts_at = o.starts_at;
+      ends_at = o.ends_at;
+      is = o.is;
+    }
 
 no_first : (a b : Bool) → (a || b) ≡ false → a ≡ false
 no_first true b e = absurd (true≢false e)
@@ -100,57 +135,80 @@ no_second : (a b : Bool) → (a || b) ≡ false → b ≡ false
 no_second true b e = absurd (true≢false e)
 no_second false b e = e
 
-none_short : (ends : List WorkerEnd) → list_any (λ e. e.short) ends ≡ false → (k : ℕ) (e : WorkerEnd) → slice_get ends k ≡ Some e → e.short ≡ false
+none_short : (ends : List WorkerEnd) → list_any (λ e. e.short) ends ≡ false
+    → (k : ℕ) (e : WorkerEnd) → slice_get ends k ≡ Some e → e.short ≡ false
 none_short [] n k e q = absurd cc
-none_short (x ∷ ends) n zero e q = let i : x ≡ e = cc in subst (λ (y : WorkerEnd). y.short ≡ false) i (no_first x.short (list_any (λ e. e.short) ends) n)
-none_short (x ∷ ends) n (suc k) e q = none_short ends (no_second x.short (list_any (λ e. e.short) ends) n) k e q
+none_short (x ∷ ends) n zero e q = let i : x ≡ e = cc in subst (λ (y : WorkerEnd). y.short ≡ false)
+    i (no_first x.short (list_any (λ e. e.short) ends) n)
+none_short (x ∷ ends) n (suc k) e q = none_short ends
+    (no_second x.short (list_any (λ e. e.short) ends) n) k e q
 
-lists_are : (ends : List WorkerEnd) → map (λ d. d.site.ops) (map done_of ends) ≡ map (λ e. e.site.ops) ends
+lists_are : (ends : List WorkerEnd) → map (λ d. d.site.ops) (map done_of ends) ≡ map
+    (λ e. e.site.ops) ends
 lists_are [] = refl
 lists_are (e ∷ ends) = ap (λ l. e.site.ops ∷ l) (lists_are ends)
 
 -- ---- the session
 
-module _ (scripts : List Script) (rows : List (List Peer)) (starts : List Start) (ends : List WorkerEnd) (begun : AreStarts scripts rows starts) (gave : GaveAll starts ends) (long : list_any (λ e. e.short) ends ≡ false) where
+module _ (scripts : List Script) (rows : List (List Peer)) (starts : List Start)
+    (ends : List WorkerEnd) (begun : AreStarts scripts rows starts) (gave : GaveAll starts ends)
+    (long : list_any (λ e. e.short) ends ≡ false) where
   number : (k : ℕ) (e : WorkerEnd) → slice_get ends k ≡ Some e → e.site.number ≡ k + 1
-  number k e q = let o = begun_at starts ends gave k e q in gave_number o.start e o.gave ∙ ap (λ (x : SiteState). x.number) (begun.sites_are k o.start o.at)
+  number k e q = let o = begun_at starts ends gave k e q in gave_number o.start e o.gave
+      ∙ ap (λ (x : SiteState). x.number) (begun.sites_are k o.start o.at)
 
-  worked : (k : ℕ) (e : WorkerEnd) (q : slice_get ends k ≡ Some e) → let o = begun_at starts ends gave k e q in HasWorked (k + 1) o.start.script.0.items o.start.peers.items e
+  worked : (k : ℕ) (e : WorkerEnd) (q : slice_get ends k ≡ Some e)
+      → let o = begun_at starts ends gave k e q in HasWorked (k + 1) o.start.script.0.items
+      o.start.peers.items e
   worked k e q =
       let o = begun_at starts ends gave k e q in
-      subst (λ n. HasWorked n o.start.script.0.items o.start.peers.items e) (ap (λ (x : SiteState). x.number) (begun.sites_are k o.start o.at)) (gave_worked o.start e o.gave (none_short ends long k e q))
+      subst (λ n. HasWorked n o.start.script.0.items o.start.peers.items e)
+      (ap (λ (x : SiteState). x.number) (begun.sites_are k o.start o.at))
+      (gave_worked o.start e o.gave (none_short ends long k e q))
 
-  pub ended : (k : ℕ) (e : WorkerEnd) → slice_get ends k ≡ Some e → (p : Peer) → Contains e.seats.items p → IsTrue (is_ended p.take.taken)
+  pub ended : (k : ℕ) (e : WorkerEnd) → slice_get ends k ≡ Some e → (p : Peer)
+      → Contains e.seats.items p → IsTrue (is_ended p.take.taken)
   ended k e q = (worked k e q).ended
 
   module _ (settled : AreAllTaken (map (λ e. e.seats.items) ends)) where
-    row_of : (k : ℕ) (e : WorkerEnd) → slice_get ends k ≡ Some e → slice_get (map (λ e. e.seats.items) ends) k ≡ Some e.seats.items
-    row_of k e q = slice_get-map (λ (x : WorkerEnd). x.seats.items) ends k ∙ ap (option_map (λ (x : WorkerEnd). x.seats.items)) q
+    row_of : (k : ℕ) (e : WorkerEnd) → slice_get ends k ≡ Some e
+        → slice_get (map (λ e. e.seats.items) ends) k ≡ Some e.seats.items
+    row_of k e q = slice_get-map (λ (x : WorkerEnd). x.seats.items) ends k
+        ∙ ap (option_map (λ (x : WorkerEnd). x.seats.items)) q
 
     -- what one peer took from another is all that the other's site made
-    from : (j : ℕ) (f : WorkerEnd) → slice_get ends j ≡ Some f → (p q : Peer) → Contains f.seats.items q → p.take.taken ≡ q.send.sent → IsFrom p f
+    from : (j : ℕ) (f : WorkerEnd) → slice_get ends j ≡ Some f → (p q : Peer)
+        → Contains f.seats.items q → p.take.taken ≡ q.send.sent → IsFrom p f
     from j f e p q c t =
         let w = worked j f e in
-        ap ops_of t ∙ sent_all (own (j + 1) f.site.ops) f.short q (none_short ends long j f e) (w.sent q c) ∙ ap (λ n. own n f.site.ops) (sym w.number)
+        ap ops_of t ∙ sent_all (own (j + 1) f.site.ops) f.short q (none_short ends long j f e)
+        (w.sent q c) ∙ ap (λ n. own n f.site.ops) (sym w.number)
 
     joined : AreJoined ends
     joined = record {
       complete = λ e c.
           let k = position_at ends e c in
-          let o = begun_at starts ends gave k.0 e k.1 in complete (k.0 + 1) o.start.script.0.items o.start.peers.items e (none_short ends long k.0 e k.1) (worked k.0 e k.1);
+          let o = begun_at starts ends gave k.0 e k.1 in complete (k.0 + 1) o.start.script.0.items
+          o.start.peers.items e (none_short ends long k.0 e k.1) (worked k.0 e k.1);
       one = λ e f c d n.
           let k = position_at ends e c in
           let j = position_at ends f d in
           let a = number k.0 e k.1 in
           let b = number j.0 f j.1 in
-          let i : k.0 ≡ j.0 = omega (arith, a, b, n) in one_value ends j.0 e f (subst (λ m. slice_get ends m ≡ Some e) i k.1) j.1;
+          let i : k.0 ≡ j.0 = omega (arith, a, b, n) in
+          one_value ends j.0 e f (subst (λ m. slice_get ends m ≡ Some e) i k.1) j.1;
       heard = λ e f c d n.
           let k = position_at ends e c in
           let j = position_at ends f d in
           let a = number k.0 e k.1 in
           let b = number j.0 f j.1 in
-          let h = settled.each k.0 j.0 e.seats.items f.seats.items (λ i. n (a ∙ ap (λ m. m + 1) i ∙ sym b)) (row_of k.0 e k.1) (row_of j.0 f j.1) in
-          record { peer = h.taker; contained = h.took; all = from j.0 f j.1 h.taker h.sender h.sent h.all };
+          let h = settled.each k.0 j.0 e.seats.items f.seats.items
+          (λ i. n (a ∙ ap (λ m. m + 1) i ∙ sym b)) (row_of k.0 e k.1) (row_of j.0 f j.1) in
+          record {
+            peer = h.taker;
+            contained = h.took;
+            all = from j.0 f j.1 h.taker h.sender h.sent h.all;
+          };
       senders = λ e c p m.
           let k = position_at ends e c in
           let s = settled.only k.0 e.seats.items p (row_of k.0 e k.1) m in
@@ -161,15 +219,19 @@ module _ (scripts : List Script) (rows : List (List Peer)) (starts : List Start)
             end = t.0;
             contained = position_in ends s.index t.0 t.1;
             other = λ n. s.apart (omega (arith, a, b, n));
-            all = from s.index t.0 t.1 p s.sender (subst (λ l. Contains l s.sender) (sym t.2) s.sent) s.all;
+            all = from s.index t.0 t.1 p s.sender
+                (subst (λ l. Contains l s.sender) (sym t.2) s.sent) s.all;
           };
     }
 
-    each_one : (k : ℕ) (s : Start) (e : WorkerEnd) → slice_get starts k ≡ Some s → slice_get ends k ≡ Some e → IsSiteOutcome (place_of s.script (done_of e))
+    each_one : (k : ℕ) (s : Start) (e : WorkerEnd) → slice_get starts k ≡ Some s
+        → slice_get ends k ≡ Some e → IsSiteOutcome (place_of s.script (done_of e))
     each_one k s e a b =
         let o = begun_at starts ends gave k e b in
         let i : o.start ≡ s = one_value starts k o.start s o.at a in
-        subst (λ (x : Start). IsSiteOutcome (place_of x.script (done_of e))) i (site_outcome (k + 1) o.start.script o.start.peers.items e (none_short ends long k e b) (worked k e b))
+        subst (λ (x : Start). IsSiteOutcome (place_of x.script (done_of e))) i
+        (site_outcome (k + 1) o.start.script o.start.peers.items e (none_short ends long k e b)
+        (worked k e b))
 
     have_one : HaveOne ends
     have_one = one_history ends joined
@@ -183,7 +245,8 @@ module _ (scripts : List Script) (rows : List (List Peer)) (starts : List Start)
       same = λ g h c d.
           let t = Contains-map_from (λ (x : WorkerEnd). x.site.ops) ends g c in
           let u = Contains-map_from (λ (x : WorkerEnd). x.site.ops) ends h d in
-          subst (λ (w : List Op × List Op). HaveSame w.0 w.1) (λ i. (sym t.2 i, sym u.2 i)) (same_ops ends have_one t.0 u.0 t.1 u.1);
+          subst (λ (w : List Op × List Op). HaveSame w.0 w.1) (λ i. (sym t.2 i, sym u.2 i))
+          (same_ops ends have_one t.0 u.0 t.1 u.1);
       among = λ h a c d.
           let t = Contains-map_from (λ (x : WorkerEnd). x.site.ops) ends h c in
           let o = origin ends joined t.0 a t.1 (subst (λ l. Contains l a) t.2 d) in
@@ -191,15 +254,18 @@ module _ (scripts : List Script) (rows : List (List Peer)) (starts : List Start)
           let site = o.site in
           let place = number k.0 o.end k.1 in
           let l = slice_get_within ends k.0 o.end k.1 in
-          let m = length-map ends (λ (x : WorkerEnd). x.site.ops) in omega (arith, site, place, l, m);
+          let m = length-map ends (λ (x : WorkerEnd). x.site.ops) in
+          omega (arith, site, place, l, m);
     }
 
     outcome_here : IsSession (map (λ s. s.script) starts) (map done_of ends)
     outcome_here =
         let all : List Place = places (map (λ s. s.script) starts) (map done_of ends) in record {
-          long = length-map ends done_of ∙ same_long starts ends gave ∙ sym (length-map starts (λ (s : Start). s.script));
+          long = length-map ends done_of ∙ same_long starts ends gave
+              ∙ sym (length-map starts (λ (s : Start). s.script));
           outcome = record {
-            numbers = λ k p q. let t = played_at starts ends gave k p q in ap (λ (x : Place). x.number) t.is ∙ number k t.end t.ends_at;
+            numbers = λ k p q. let t = played_at starts ends gave k p q in
+                ap (λ (x : Place). x.number) t.is ∙ number k t.end t.ends_at;
             each = λ p c.
                 let k = position_at all p c in
                 let t = played_at starts ends gave k.0 p k.1 in
@@ -209,10 +275,13 @@ module _ (scripts : List Script) (rows : List (List Peer)) (starts : List Start)
                 let j = position_at all q d in
                 let t = played_at starts ends gave k.0 p k.1 in
                 let u = played_at starts ends gave j.0 q j.1 in
-                subst (λ (x : Place × Place). HaveSame x.0.ops x.1.ops) (λ i. (sym t.is i, sym u.is i))
-                (same_ops ends have_one t.end u.end (position_in ends k.0 t.end t.ends_at) (position_in ends j.0 u.end u.ends_at));
+                subst (λ (x : Place × Place). HaveSame x.0.ops x.1.ops)
+                (λ i. (sym t.is i, sym u.is i))
+                (same_ops ends have_one t.end u.end (position_in ends k.0 t.end t.ends_at)
+                (position_in ends j.0 u.end u.ends_at));
           };
-          events = subst HaveEvents (sym (lists_are ends)) (courses_have_events (map (λ e. e.site.ops) ends) courses);
+          events = subst HaveEvents (sym (lists_are ends))
+              (courses_have_events (map (λ e. e.site.ops) ends) courses);
         }
 
     pub session_outcome : IsSession scripts (map done_of ends)

@@ -1,10 +1,12 @@
 -- All sites of a session have the operations of each.
 use Rattle.std.specs.Prelude.{Contains}
-use Rattle.std.proofs.Common.{◌≡◌, ◌∙◌, ℕ, ◌++◌, List, [], ◌∷◌, length, get_or, ap, arith, subst, sym, inl, inr}
+use Rattle.std.proofs.Common.{◌≡◌, ◌∙◌, ℕ, ◌++◌, List, [], ◌∷◌, length, get_or, ap, arith, subst}
+use Rattle.std.proofs.Common.{sym, inl, inr}
 use Rattle.std.proofs.lemmas.List.Elements.{Contains-get_or}
 use Rattle.gf_ops.specs.declared.op.Op.{Op}
 use Rattle.gf_ops.specs.ValidHistory.{IsValid}
-use Rattle.gf_base.proofs.ListLemmas.{Contains-cons_cases, Contains-cons_head, Contains-cons_tail, not_Contains-nil}
+use Rattle.gf_base.proofs.ListLemmas.{Contains-cons_cases, Contains-cons_head, Contains-cons_tail}
+use Rattle.gf_base.proofs.ListLemmas.{not_Contains-nil}
 use Rattle.gf_causal.specs.DeliveredPart.{HaveSame}
 use Rattle.gf_shape.specs.declared.any_shape.AnyShape.{AnyShape}
 use Rattle.gf_shape.specs.Outlines.{any_outline}
@@ -36,15 +38,24 @@ record IsPlace (scripts : List Script) (dones : List Done) (d : Done) : Type 0 w
   script : Script
   there : Contains (places scripts dones) (place_of script d)
 
-has_place : (scripts : List Script) (dones : List Done) → length dones ≡ length scripts → (d : Done) → Contains dones d → IsPlace scripts dones d
+has_place : (scripts : List Script) (dones : List Done) → length dones ≡ length scripts → (d : Done)
+    → Contains dones d → IsPlace scripts dones d
 has_place scripts [] e d i = absurd (not_Contains-nil d i)
 has_place [] (x ∷ dones) e d i = absurd (omega (e, arith))
 has_place (s ∷ scripts) (x ∷ dones) e d i = elim (Contains-cons_cases x dones d i) [
-  | inl q ↦ record { script = s; there = subst (λ y. Contains (place_of s x ∷ places scripts dones) (place_of s y)) (sym q) (Contains-cons_head (place_of s x) (places scripts dones)) }
-  | inr j ↦ let p = has_place scripts dones (omega (e, arith)) d j in record { script = p.script; there = Contains-cons_tail (place_of s x) (places scripts dones) (place_of p.script d) p.there }
+  | inl q ↦ record {
+    script = s;
+    there = subst (λ y. Contains (place_of s x ∷ places scripts dones) (place_of s y)) (sym q)
+        (Contains-cons_head (place_of s x) (places scripts dones));
+  }
+  | inr j ↦ let p = has_place scripts dones (omega (e, arith)) d j in record {
+    script = p.script;
+    there = Contains-cons_tail (place_of s x) (places scripts dones) (place_of p.script d) p.there;
+  }
 ]
 
-pub common_history : (scripts : List Script) (dones : List Done) → IsSession scripts dones → (d e : Done) → Contains dones d → Contains dones e → HaveSame d.site.ops e.site.ops
+pub common_history : (scripts : List Script) (dones : List Done) → IsSession scripts dones
+    → (d e : Done) → Contains dones d → Contains dones e → HaveSame d.site.ops e.site.ops
 common_history scripts dones session d e i j =
     let p = has_place scripts dones session.long d i in
     let q = has_place scripts dones session.long e j in
@@ -54,54 +65,96 @@ course_valid : {s : ℕ} {h : List Op} → IsCourse s h → IsValid h
 course_valid course_none = valid_nil
 course_valid (course_next a c valid own) = valid
 
-pub site_valid : (scripts : List Script) (dones : List Done) → IsSession scripts dones → (d : Done) → Contains dones d → IsValid d.site.ops
+pub site_valid : (scripts : List Script) (dones : List Done) → IsSession scripts dones → (d : Done)
+    → Contains dones d → IsValid d.site.ops
 site_valid scripts dones session d i =
     let p = has_place scripts dones session.long d i in
     course_valid (session.outcome.each (place_of p.script d) p.there).course
 
 -- histories of the same operations have one FIG text, which shows both
 module _ (h k : List Op) (same : HaveSame h k) where
-  pub one_text : (drawing other : DrawingState AnyShape) → IsDrawn h drawing → IsDrawn k other → fig_text any_outline drawing ≡ fig_text any_outline other
-  one_text drawing other x y = ap (fig_text any_outline) (one_drawing h k same drawing other x.canonical y.canonical)
+  pub one_text : (drawing other : DrawingState AnyShape) → IsDrawn h drawing → IsDrawn k other
+      → fig_text any_outline drawing ≡ fig_text any_outline other
+  one_text drawing other x y = ap (fig_text any_outline)
+      (one_drawing h k same drawing other x.canonical y.canonical)
 
-  pub text_shows : IsValid k → (drawing : DrawingState AnyShape) → IsDrawn h drawing → Shows (fig_text any_outline drawing) k
-  text_shows valid drawing x = canonical_shows k drawing valid (both_drawn h k same drawing x).canonical
+  pub text_shows : IsValid k → (drawing : DrawingState AnyShape) → IsDrawn h drawing
+      → Shows (fig_text any_outline drawing) k
+  text_shows valid drawing x = canonical_shows k drawing valid
+      (both_drawn h k same drawing x).canonical
 
 -- each site has the common history, whose text is told
-module _ (n : ℕ) (bytes text : List ℕ) (t : TellsSession n bytes text) (d : Done) (i : Contains t.dones d) where
+module _ (n : ℕ) (bytes text : List ℕ) (t : TellsSession n bytes text) (d : Done)
+    (i : Contains t.dones d) where
   pub told_common : HaveSame t.history d.site.ops
   told_common = let same = t.plays.common d i in λ a. ((same a).1, (same a).0)
 
-  pub told_shows : (drawing : DrawingState AnyShape) → IsDrawn d.site.ops drawing → Shows (fig_text any_outline drawing) t.history
-  told_shows drawing x = subst (λ (s : List ℕ). Shows s t.history) (sym (one_text d.site.ops t.history (t.plays.common d i) drawing t.drawing x t.drawn)) t.shown
+  pub told_shows : (drawing : DrawingState AnyShape) → IsDrawn d.site.ops drawing
+      → Shows (fig_text any_outline drawing) t.history
+  told_shows drawing x = subst (λ (s : List ℕ). Shows s t.history)
+      (sym (one_text d.site.ops t.history (t.plays.common d i) drawing t.drawing x t.drawn)) t.shown
 
 -- there is a first site
-pub first_there : (n : ℕ) (bytes : List ℕ) (scripts : List Script) (dones : List Done) (first : Done) → IsSiteCount n → DenotesScripts n bytes scripts → IsSession scripts dones → first ≡ get_or dones 0 first → Contains dones first
+pub first_there : (n : ℕ) (bytes : List ℕ) (scripts : List Script) (dones : List Done)
+    (first : Done) → IsSiteCount n → DenotesScripts n bytes scripts → IsSession scripts dones
+    → first ≡ get_or dones 0 first → Contains dones first
 first_there n bytes scripts dones first count denoted session is =
     let long = session.long in
     let whole = denoted.by_site.long in
-    subst (Contains dones) (sym is) (Contains-get_or dones 0 first (let least = count.0 in omega (least, arith)))
+    subst (Contains dones) (sym is) (Contains-get_or dones 0 first (let least = count.0 in
+    omega (least, arith)))
 
 -- the text of the lines of all sites with the FIG text of the drawing of h
-pub told_history : (h : List Op) (dones : List Done) (text fig : List ℕ) (drawing : DrawingState AnyShape) → IsDrawn h drawing → fig ≡ fig_text any_outline drawing → Reads fig (outlined any_outline drawing) → text ≡ report_text dones ++ fig → TellsHistory h dones text
+pub told_history : (h : List Op) (dones : List Done) (text fig : List ℕ)
+    (drawing : DrawingState AnyShape) → IsDrawn h drawing → fig ≡ fig_text any_outline drawing
+    → Reads fig (outlined any_outline drawing) → text ≡ report_text dones ++ fig
+    → TellsHistory h dones text
 told_history h dones text fig drawing drawn same reads is = record {
   drawing = drawing;
   drawn = drawn;
-  shown = shows h drawing drawn.figures (subst (λ t. Reads t (outlined any_outline drawing)) same reads);
+  shown = shows h drawing drawn.figures (subst (λ t. Reads t (outlined any_outline drawing)) same
+      reads);
   is = is ∙ ap (λ t. report_text dones ++ t) same;
 }
 
 -- scripts that the bytes denote were played, and first is what one of the sites came to
-module _ (n : ℕ) (bytes : List ℕ) (scripts : List Script) (dones : List Done) (first : Done) (denoted : DenotesScripts n bytes scripts) (session : IsSession scripts dones) (there : Contains dones first) where
+module _ (n : ℕ) (bytes : List ℕ) (scripts : List Script) (dones : List Done) (first : Done)
+    (denoted : DenotesScripts n bytes scripts) (session : IsSession scripts dones)
+    (there : Contains dones first) where
   plays : PlaysScripts n bytes dones first.site.ops
-  plays = record { scripts = scripts; denoted = denoted; session = session; common = λ d i. common_history scripts dones session d first i there }
+  plays = record {
+    scripts = scripts;
+    denoted = denoted;
+    session = session;
+    common = λ d i. common_history scripts dones session d first i there;
+  }
 
-  pub told_session : (text : List ℕ) → TellsHistory first.site.ops dones text → TellsSession n bytes text
-  told_session text tells = record { dones = dones; history = first.site.ops; plays = plays; drawing = tells.drawing; drawn = tells.drawn; shown = tells.shown; is = tells.is }
+  pub told_session : (text : List ℕ) → TellsHistory first.site.ops dones text
+      → TellsSession n bytes text
+  told_session text tells = record {
+    dones = dones;
+    history = first.site.ops;
+    plays = plays;
+    drawing = tells.drawing;
+    drawn = tells.drawn;
+    shown = tells.shown;
+    is = tells.is;
+  }
 
-  pub not_told : (e : StudioError) → RefusesTelling first.site.ops e → RefusesPlaying n bytes (run.Run e)
-  not_told (studio.Compile compile.TooManyVersions) refused = record { dones = dones; history = first.site.ops; plays = plays; refused = refused }
-  not_told (studio.Compile compile.TooManyColours) refused = record { dones = dones; history = first.site.ops; plays = plays; refused = refused }
+  pub not_told : (e : StudioError) → RefusesTelling first.site.ops e
+      → RefusesPlaying n bytes (run.Run e)
+  not_told (studio.Compile compile.TooManyVersions) refused = record {
+    dones = dones;
+    history = first.site.ops;
+    plays = plays;
+    refused = refused;
+  }
+  not_told (studio.Compile compile.TooManyColours) refused = record {
+    dones = dones;
+    history = first.site.ops;
+    plays = plays;
+    refused = refused;
+  }
   not_told (studio.Compile compile.OutOfMemory) refused = absurd refused
   not_told studio.OutOfMemory refused = tt
   not_told (studio.Line m why) refused = absurd refused

@@ -14,19 +14,23 @@ use Rattle.gf_shape.specs.ShapeMoves.{rect_movable, rect_moved}
 use Rattle.gf_shape.specs.ShapeLaws.{IsBounds, IsInBounds}
 
 -- a side whose moved ends lie within reach is a side
-is_side-moved : (low d : ℤ) (size : ℕ) → IsTrue (is_side low size) → IsTrue (is_reached (low +ℤ d)) → IsTrue (is_reached ((low +ℤ pos size) +ℤ d)) → IsTrue (is_side (low +ℤ d) size)
+is_side-moved : (low d : ℤ) (size : ℕ) → IsTrue (is_side low size) → IsTrue (is_reached (low +ℤ d))
+    → IsTrue (is_reached ((low +ℤ pos size) +ℤ d)) → IsTrue (is_side (low +ℤ d) size)
 unfolding is_side is_reached
 is_side-moved low d size side first last = grind (arith, ints)
 
-pub is_area-moved : (a : Area) (d : Point) → IsTrue (is_area a) → IsTrue (rect_movable a d) → IsTrue (is_area (rect_moved a d))
+pub is_area-moved : (a : Area) (d : Point) → IsTrue (is_area a) → IsTrue (rect_movable a d)
+    → IsTrue (is_area (rect_moved a d))
 is_area-moved a d area movable = grind (arith, is_side-moved)
 
 -- what lies along a side lies between its ends
-along : (low at : ℤ) (size : ℕ) → IsTrue (int_le (pos 0) (at -ℤ low)) → IsTrue (int_le (at -ℤ low) (pos size)) → (low ≤ℤ at) × (at ≤ℤ (low +ℤ pos size))
+along : (low at : ℤ) (size : ℕ) → IsTrue (int_le (pos 0) (at -ℤ low))
+    → IsTrue (int_le (at -ℤ low) (pos size)) → (low ≤ℤ at) × (at ≤ℤ (low +ℤ pos size))
 along low at size first last = (omega (arith, ints), omega (arith, ints))
 
 -- what a box holds lies between its corners
-rect_holds-within : (a : Area) (p : Point) → IsTrue (rect_holds a p) → IsInBounds (record { low = a.low; high = far_corner a }) p
+rect_holds-within : (a : Area) (p : Point) → IsTrue (rect_holds a p)
+    → IsInBounds (record { low = a.low; high = far_corner a }) p
 rect_holds-within a p h =
     let bottom = and_parts _ _ h in
     let top = and_parts _ _ bottom.0 in
@@ -53,12 +57,14 @@ rect_bounds a = record {
 }
 
 -- both ends of a side lie within reach
-is_side-reached : (low : ℤ) (size : ℕ) → IsTrue (is_side low size) → IsTrue (is_reached low) × IsTrue (is_reached (low +ℤ pos size))
+is_side-reached : (low : ℤ) (size : ℕ) → IsTrue (is_side low size)
+    → IsTrue (is_reached low) × IsTrue (is_reached (low +ℤ pos size))
 unfolding is_side is_reached
 is_side-reached low size h = (grind (arith, ints), grind (arith, ints))
 
 -- the corners of a box, the first one again, are a lawful ring
-pub IsRing-corners_again : (a : Area) → IsTrue (is_area a) → IsRing (record { boxed = true; points = corners_again a })
+pub IsRing-corners_again : (a : Area) → IsTrue (is_area a)
+    → IsRing (record { boxed = true; points = corners_again a })
 IsRing-corners_again a h =
     let sides = and_parts _ _ h in
     let x = is_side-reached a.low.x a.width sides.0 in
@@ -68,5 +74,11 @@ IsRing-corners_again a h =
       most = omega arith;
       box = λ _. refl;
       closed = refl;
-      reach = All-from_recursion (λ p. IsTrue (is_within_reach p)) (corners_again a) (and_from _ _ x.0 y.0, (and_from _ _ x.1 y.0, (and_from _ _ x.1 y.1, (and_from _ _ x.0 y.1, (and_from _ _ x.0 y.0, tt)))));
+      reach = All-from_recursion (λ p. IsTrue (is_within_reach p)) (corners_again a) (
+        and_from _ _ x.0 y.0,
+        (
+          and_from _ _ x.1 y.0,
+          (and_from _ _ x.1 y.1, (and_from _ _ x.0 y.1, (and_from _ _ x.0 y.0, tt))),
+        ),
+      );
     }

@@ -1,5 +1,6 @@
 -- The operation that a site makes of a change.
-use Rattle.std.proofs.Common.{◌≡◌, ℕ, zero, suc, ◌+◌, ◌<◌, Bool, true, false, ◌&&◌, List, refl, arith}
+use Rattle.std.proofs.Common.{◌≡◌, ℕ, zero, suc, ◌+◌, ◌<◌, Bool, true, false, ◌&&◌, List, refl}
+use Rattle.std.proofs.Common.{arith}
 use Rattle.std.specs.Prelude.{IsTrue, nat_le}
 use Rattle.std.proofs.lemmas.Bool.{le-leb}
 use Rattle.gf_ops.specs.declared.op.Op.{Op}
@@ -30,21 +31,30 @@ both_true false b p q = p
 module _ (h : List Op) (run : AreAccepted h) (valid : IsValid h) where
   clock_in_range : IsTrue (is_clock (clock_of h))
   clock_in_range =
-      let l : (s : ℕ) → IsTrue (le_most s) = λ s. le-leb (count_of h s) 10000 (count_most h run valid s) in
-      both_true _ _ (l 1) (both_true _ _ (l 2) (both_true _ _ (l 3) (both_true _ _ (l 4) (both_true _ _ (l 5) (both_true _ _ (l 6) (both_true _ _ (l 7) (both_true _ _ (l 8) refl)))))))
+      let l : (s : ℕ) → IsTrue (le_most s) = λ s. le-leb (count_of h s) 10000
+      (count_most h run valid s) in
+      both_true _ _ (l 1) (both_true _ _ (l 2)
+      (both_true _ _ (l 3) (both_true _ _ (l 4)
+      (both_true _ _ (l 5) (both_true _ _ (l 6)
+      (both_true _ _ (l 7) (both_true _ _ (l 8) refl)))))))
     where
       le_most : ℕ → Bool
       le_most s = nat_le (count_of h s) 10000
 
-  pub authored_in_range : (s : ℕ) (c : Change) → IsSite s → count_of h s < 10000 → IsTrue (is_change c) → IsInRange (authored s h c)
+  pub authored_in_range : (s : ℕ) (c : Change) → IsSite s → count_of h s < 10000
+      → IsTrue (is_change c) → IsInRange (authored s h c)
   authored_in_range s c i room fits =
       let f = i.0 in
       let l = i.1 in
-      both_true _ _ (both_true _ _ (both_true _ _ (both_true _ _ (both_true _ _ (le-leb 1 s f) (le-leb s 8 l)) (le-leb 1 (count_of h s + 1) (omega arith))) (le-leb (count_of h s + 1) 10000 (omega arith))) clock_in_range) fits
+      both_true _ _ (both_true _ _
+      (both_true _ _ (both_true _ _ (both_true _ _ (le-leb 1 s f) (le-leb s 8 l))
+      (le-leb 1 (count_of h s + 1) (omega arith))) (le-leb (count_of h s + 1) 10000 (omega arith)))
+      clock_in_range) fits
 
   pub authored_next : (s : ℕ) (c : Change) → IsSite s → IsNext h (authored s h c)
   authored_next s c i = record {
     numbered = record { seq = refl; own = let e = entry-clock_of h s i in omega arith };
     known = λ t j. let e = entry-clock_of h t j in omega arith;
-    closed = λ b m p t j. let e = entry-clock_of h t j in let k = known_most h run valid b m t j in omega arith;
+    closed = λ b m p t j. let e = entry-clock_of h t j in let k = known_most h run valid b m t j in
+        omega arith;
   }

@@ -10,12 +10,16 @@ use Rattle.gf_ops.specs.KnownObject.{IsFounded, IsSuited}
 use Rattle.gf_ops.specs.Accepted.{IsAccepted, IsRefused, AreAccepted, next}
 
 -- an accepted operation goes on
-pub run_more : (h old new : List Op) (a : Op) → AreAccepted h → old ≡ h → IsAccepted h a → new ≡ old ++ a ∷ [] → AreAccepted new
+pub run_more : (h old new : List Op) (a : Op) → AreAccepted h → old ≡ h → IsAccepted h a
+    → new ≡ old ++ a ∷ [] → AreAccepted new
 run_more h old new a run e c n = subst AreAccepted (sym (n ∙ ap (λ l. l ++ a ∷ []) e)) (next run c)
 
 -- the fault that a check told
-pub refused_by : {A : Type 0} (h : List Op) (a : Op) (r : Result A OpFault) (f : OpFault) → r ≡ Err f → (r ≡ Err BadClock ↔ IsRefused h a BadClock) → (r ≡ Err NoObject ↔ IsRefused h a NoObject) →
-    (r ≡ Err WrongKind ↔ IsRefused h a WrongKind) → (r ≡ Err BadAim ↔ IsRefused h a BadAim) → IsRefused h a f
+pub refused_by : {A : Type 0} (h : List Op) (a : Op) (r : Result A OpFault) (f : OpFault)
+    → r ≡ Err f → (r ≡ Err BadClock ↔ IsRefused h a BadClock)
+    → (r ≡ Err NoObject ↔ IsRefused h a NoObject) →
+    (r ≡ Err WrongKind ↔ IsRefused h a WrongKind) → (r ≡ Err BadAim ↔ IsRefused h a BadAim)
+    → IsRefused h a f
 refused_by h a r BadClock e p q w x = p.0 e
 refused_by h a r NoObject e p q w x = q.0 e
 refused_by h a r WrongKind e p q w x = w.0 e
@@ -25,11 +29,13 @@ refused_by h a r BadAim e p q w x = x.0 e
 pub same_taken : (r : Option Op) (a b : Op) → r ≡ Some a → r ≡ Some b → b ≡ a
 same_taken r a b e f = cc
 
-pub accepted_same : (h old : List Op) (a b : Op) → old ≡ h → b ≡ a → IsAccepted h a → IsAccepted old b
+pub accepted_same : (h old : List Op) (a b : Op) → old ≡ h → b ≡ a → IsAccepted h a
+    → IsAccepted old b
 accepted_same h old a b e s c = subst (λ l. IsAccepted l b) (sym e) (subst (IsAccepted h) (sym s) c)
 
 -- what holds of the history with the operation holds of the new one
-pub holds_more : (P : List Op → Type 0) (h old new : List Op) (a : Op) → old ≡ h → new ≡ old ++ a ∷ [] → P (h ++ a ∷ []) → P new
+pub holds_more : (P : List Op → Type 0) (h old new : List Op) (a : Op) → old ≡ h
+    → new ≡ old ++ a ∷ [] → P (h ++ a ∷ []) → P new
 holds_more P h old new a e n = subst P (sym (n ∙ ap (λ l. l ++ a ∷ []) e))
 
 -- an accepted change makes an object, or changes one that its operation knows

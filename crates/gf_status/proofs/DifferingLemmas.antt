@@ -1,5 +1,6 @@
 -- Attributes that differ among visible versions, and the operations that give their values.
-use Rattle.std.proofs.Common.{◌≡◌, ◌≢◌, ℕ, ◌<◌, true, false, not, List, [], ◌∷◌, length, refl, sym, ap, subst, ◌∙◌, inl, inr}
+use Rattle.std.proofs.Common.{◌≡◌, ◌≢◌, ℕ, ◌<◌, true, false, not, List, [], ◌∷◌, length, refl, sym}
+use Rattle.std.proofs.Common.{ap, subst, ◌∙◌, inl, inr}
 use Rattle.std.specs.Prelude.{◌↔◌, Contains, Option, Some, None, slice_get}
 use Rattle.std.specs.List.Sorted.{IsStrictlySortedBy}
 use Rattle.std.proofs.lemmas.Bool.{cases_Bool}
@@ -12,7 +13,8 @@ use Rattle.gf_ops.specs.declared.change.Value.{Value}
 use Rattle.gf_ops.specs.ConflictTests.{value_eq}
 use Rattle.gf_ops.specs.OperationOrder.{id_cmp}
 use Rattle.gf_ops.specs.ValidHistory.{IsValid}
-use Rattle.gf_base.proofs.ListLemmas.{Contains-cons_cases, Contains-cons_head, Contains-cons_tail, Contains-map, Contains-map_from, not_Contains-nil}
+use Rattle.gf_base.proofs.ListLemmas.{Contains-cons_cases, Contains-cons_head, Contains-cons_tail}
+use Rattle.gf_base.proofs.ListLemmas.{Contains-map, Contains-map_from, not_Contains-nil}
 use Rattle.gf_ops.proofs.SameLemmas.{value_eq-same, value_eq-true}
 use Rattle.gf_groups.specs.declared.group.Group.{Group}
 use Rattle.gf_groups.proofs.OnPositionLemmas.{contained_at, position_of_op}
@@ -51,30 +53,41 @@ same_told (Some v) (Some w) t = elim (cases_Bool (value_eq v w)) [
 
 -- ---- the visible versions of an object
 
-module _ (h : List Op) (valid : IsValid h) (o : ObjectId) (groups : List Group) (all : AreVisibleOn h o groups) (vs : List Version) (settled : AreSettled h groups vs) where
+module _ (h : List Op) (valid : IsValid h) (o : ObjectId) (groups : List Group)
+    (all : AreVisibleOn h o groups) (vs : List Version) (settled : AreSettled h groups vs) where
   -- the versions that were settled are visible
   visible_settled : (v : Version) → Contains vs v → IsVisibleOn h o v
   visible_settled v c =
-      let there = subst (λ gs. Contains gs (group_of v)) settled.grouped (Contains-map group_of vs v c) in
+      let there = subst (λ gs. Contains gs (group_of v)) settled.grouped
+      (Contains-map group_of vs v c) in
       let w = (all.exactly (group_of v)).0 there in
       let object : w.1.version.key.object ≡ v.key.object = ap (λ (g : Group). g.object) w.1.group in
       let ops : w.1.version.key.ops ≡ v.key.ops = ap (λ (g : Group). g.ops) w.1.group in
-      let same : w.1.version ≡ v = one_of_group h valid w.1.version v w.1.visible.version (settled.versions v c) object ops in
+      let same : w.1.version ≡ v = one_of_group h valid w.1.version v w.1.visible.version
+      (settled.versions v c) object ops in
       record { visible = subst (IsVisible h) same w.1.visible; object = w.0 }
 
   -- the versions that were settled are all visible ones
   settled_visible : (v : Version) → IsVisibleOn h o v → Contains vs v
   settled_visible v is =
-      let group : IsVisibleGroup h (group_of v) = record { version = v; visible = is.visible; group = refl } in
+      let group : IsVisibleGroup h (group_of v) = record {
+        version = v;
+        visible = is.visible;
+        group = refl;
+      } in
       let there = (all.exactly (group_of v)).1 (is.object, group) in
-      let w = Contains-map_from group_of vs (group_of v) (subst (λ gs. Contains gs (group_of v)) (sym settled.grouped) there) in
+      let w = Contains-map_from group_of vs (group_of v)
+      (subst (λ gs. Contains gs (group_of v)) (sym settled.grouped) there) in
       let object : v.key.object ≡ w.0.key.object = ap (λ (g : Group). g.object) w.2 in
       let ops : v.key.ops ≡ w.0.key.ops = ap (λ (g : Group). g.ops) w.2 in
-      let same : v ≡ w.0 = one_of_group h valid v w.0 is.visible.version (settled.versions w.0 w.1) object ops in
+      let same : v ≡ w.0 = one_of_group h valid v w.0 is.visible.version (settled.versions w.0 w.1)
+      object ops in
       subst (Contains vs) (sym same) w.1
 
 -- the test tells that an attribute differs
-pub differs_told : (h : List Op) → IsValid h → (o : ObjectId) (groups : List Group) → AreVisibleOn h o groups → (vs : List Version) → AreSettled h groups vs → (t : Attr) → some_differ t vs ≡ true → Differs h o t
+pub differs_told : (h : List Op) → IsValid h → (o : ObjectId) (groups : List Group)
+    → AreVisibleOn h o groups → (vs : List Version) → AreSettled h groups vs → (t : Attr)
+    → some_differ t vs ≡ true → Differs h o t
 differs_told h valid o groups all [] settled t e = absurd cc
 differs_told h valid o groups all (v ∷ vs) settled t e =
     let w = list_any_true (λ u. are_others (version_value v t) (version_value u t)) vs e in
@@ -82,30 +95,41 @@ differs_told h valid o groups all (v ∷ vs) settled t e =
       first = v;
       second = w.0;
       one = visible_settled h valid o groups all (v ∷ vs) settled v (Contains-cons_head v vs);
-      other = visible_settled h valid o groups all (v ∷ vs) settled w.0 (Contains-cons_tail v vs w.0 w.1);
+      other = visible_settled h valid o groups all (v ∷ vs) settled w.0
+          (Contains-cons_tail v vs w.0 w.1);
       apart = others_told (version_value v t) (version_value w.0 t) w.2;
     }
 
 -- and that it does not
-pub agrees_told : (h : List Op) → IsValid h → (o : ObjectId) (groups : List Group) → AreVisibleOn h o groups → (vs : List Version) → AreSettled h groups vs → (t : Attr) → some_differ t vs ≡ false → ¬ (Differs h o t)
-agrees_told h valid o groups all [] settled t e = λ d. absurd (not_Contains-nil d.first (settled_visible h valid o groups all [] settled d.first d.one))
+pub agrees_told : (h : List Op) → IsValid h → (o : ObjectId) (groups : List Group)
+    → AreVisibleOn h o groups → (vs : List Version) → AreSettled h groups vs → (t : Attr)
+    → some_differ t vs ≡ false → ¬ (Differs h o t)
+agrees_told h valid o groups all [] settled t e = λ d.
+    absurd (not_Contains-nil d.first (settled_visible h valid o groups all [] settled d.first
+    d.one))
 agrees_told h valid o groups all (v ∷ vs) settled t e = λ d.
-    d.apart (sym (as_first d.first (settled_visible h valid o groups all (v ∷ vs) settled d.first d.one)) ∙ as_first d.second (settled_visible h valid o groups all (v ∷ vs) settled d.second d.other))
+    d.apart (sym (as_first d.first (settled_visible h valid o groups all (v ∷ vs) settled d.first
+    d.one)) ∙ as_first d.second (settled_visible h valid o groups all (v ∷ vs) settled d.second
+    d.other))
   where
     as_first : (u : Version) → Contains (v ∷ vs) u → version_value v t ≡ version_value u t
     as_first u c = elim (Contains-cons_cases v vs u c) [
       | inl same ↦ ap (λ (z : Version). version_value z t) (sym same)
-      | inr i ↦ same_told (version_value v t) (version_value u t) (list_any_false (λ u. are_others (version_value v t) (version_value u t)) vs e u i)
+      | inr i ↦ same_told (version_value v t) (version_value u t)
+          (list_any_false (λ u. are_others (version_value v t) (version_value u t)) vs e u i)
     ]
 
 -- ---- what gives the values
 
 -- what is last in one group is an operation of the history
-pub lasts_within : (h : List Op) (t : Attr) (groups : List Group) (us : List ℕ) → ((k : ℕ) → Contains us k ↔ IsLastInOne h t groups k) → (k : ℕ) → Contains us k → k < length h
+pub lasts_within : (h : List Op) (t : Attr) (groups : List Group) (us : List ℕ)
+    → ((k : ℕ) → Contains us k ↔ IsLastInOne h t groups k) → (k : ℕ) → Contains us k → k < length h
 lasts_within h t groups us are k c = let l = (are k).0 c in slice_get_within h k l.last.op l.last.at
 
-pub givers_told : (h : List Op) (t : Attr) (groups : List Group) (us : List ℕ) → ((k : ℕ) → Contains us k ↔ IsLastInOne h t groups k)
-    → (ids : List OpId) → ((i : OpId) → Contains ids i ↔ IsIdAmong h us i) → IsStrictlySortedBy id_cmp ids → (o : ObjectId) → AreVisibleOn h o groups → AreGivers h o t ids
+pub givers_told : (h : List Op) (t : Attr) (groups : List Group) (us : List ℕ)
+    → ((k : ℕ) → Contains us k ↔ IsLastInOne h t groups k)
+    → (ids : List OpId) → ((i : OpId) → Contains ids i ↔ IsIdAmong h us i)
+    → IsStrictlySortedBy id_cmp ids → (o : ObjectId) → AreVisibleOn h o groups → AreGivers h o t ids
 givers_told h t groups us are ids told rising o all = record {
   exactly = λ i. (
     λ c.
@@ -121,7 +145,10 @@ givers_told h t groups us are ids told rising o all = record {
             group = l.group;
             object = v.0;
             visible = v.1;
-            member = record { contained = contained_at h w.position last.op last.at; grouped = last.among };
+            member = record {
+              contained = contained_at h w.position last.op last.at;
+              grouped = last.among;
+            };
             sets = last.sets;
             last = last.last;
           };
@@ -134,7 +161,13 @@ givers_told h t groups us are ids told rising o all = record {
           listed = (are w.0).1 (record {
             group = is.group;
             listed = (all.exactly is.group).1 (is.object, is.visible);
-            last = record { op = g.op; at = w.1; among = is.member.grouped; sets = is.sets; last = is.last };
+            last = record {
+              op = g.op;
+              at = w.1;
+              among = is.member.grouped;
+              sets = is.sets;
+              last = is.last;
+            };
           });
           op = g.op;
           at = w.1;

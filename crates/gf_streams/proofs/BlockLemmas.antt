@@ -1,5 +1,6 @@
 -- The first lines of a text, one after the other.
-use Rattle.std.proofs.Common.{◌≡◌, ℕ, ◌+◌, ◌-◌, ◌<◌, ◌≤◌, List, [], ◌∷◌, ◌++◌, length, take, suc, sym, ◌∙◌, append_assoc, arith}
+use Rattle.std.proofs.Common.{◌≡◌, ℕ, ◌+◌, ◌-◌, ◌<◌, ◌≤◌, List, [], ◌∷◌, ◌++◌, length, take, suc}
+use Rattle.std.proofs.Common.{sym, ◌∙◌, append_assoc, arith}
 use Rattle.std.proofs.Math.Seq.{take-nil}
 use Rattle.std.proofs.lemmas.List.{append-nil}
 use Rattle.gf_streams.specs.TextLines.{numbered_from}
@@ -11,7 +12,8 @@ has_byte [] n line others e = absurd cc
 has_byte (b ∷ text) n line others e = omega arith
 
 -- one of the first lines more is told
-pub first_more : (told all : List (ℕ × List ℕ)) (most count : ℕ) (lines others : List (ℕ × List ℕ)) (line : ℕ × List ℕ)
+pub first_more : (told all : List (ℕ × List ℕ)) (most count : ℕ) (lines others : List (ℕ × List ℕ))
+    (line : ℕ × List ℕ)
     → count < most → lines ≡ line ∷ others → told ++ take (most - count) lines ≡ all
     → (told ++ line ∷ []) ++ take (most - (count + 1)) others ≡ all
 first_more told all most count lines others line few is so_far =
@@ -24,7 +26,8 @@ pub none_left : (told all : List (ℕ × List ℕ)) (k : ℕ) (lines : List (ℕ
 none_left told all k lines none so_far = sym (append-nil told) ∙ rw (none, take-nil) at so_far
 
 -- with no room left, all of the first lines are told
-pub no_room : (told all : List (ℕ × List ℕ)) (most count : ℕ) (lines : List (ℕ × List ℕ)) → most ≤ count
+pub no_room : (told all : List (ℕ × List ℕ)) (most count : ℕ) (lines : List (ℕ × List ℕ))
+    → most ≤ count
     → told ++ take (most - count) lines ≡ all → told ≡ all
 no_room told all most count lines full so_far =
     let k : most - count ≡ 0 = omega arith in

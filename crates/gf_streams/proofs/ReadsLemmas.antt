@@ -1,11 +1,13 @@
 -- What several reads took is what they took together.
-use Rattle.std.proofs.Common.{ℕ, ◌+◌, ◌≤◌, List, ◌++◌, Option, None, Some, length, arith, length-append}
+use Rattle.std.proofs.Common.{ℕ, ◌+◌, ◌≤◌, List, ◌++◌, Option, None, Some, length, arith}
+use Rattle.std.proofs.Common.{length-append}
 use Rattle.std.specs.Io.KnownBytes.{Consumes}
 use Rattle.std.proofs.KnownBytes.{Consumes-trans}
 use Rattle.gf_streams.specs.Reads.{CamePast, ConsumesAtMost, ConsumesSome, ReadsOn}
 
 pub consumes_at_most_more : (a b c : Option (List ℕ)) (held : List ℕ) (room most : ℕ)
-    → Consumes a b held → length held + room ≤ most → ConsumesAtMost room b c → ConsumesAtMost most a c
+    → Consumes a b held → length held + room ≤ most → ConsumesAtMost room b c
+    → ConsumesAtMost most a c
 consumes_at_most_more a b c held room most p fits (front, within, q) =
     (held ++ front, omega (arith, length-append held front), Consumes-trans a b c _ _ p q)
 

@@ -8,12 +8,16 @@ use Rattle.gf_studio.specs.RefusedParts.{IsBetween}
 use Rattle.gf_studio.specs.RunAnswers.{ReadsAll, ReadsInput, ReadsUntil}
 
 -- what holds of the bytes that were read holds of those that were left before
-pub left_ok : {T : Type 0} (left : Option (List ℕ)) (bytes : List ℕ) (P : List ℕ → T → Type 0) (r : Result T StudioError) → IfSome left (λ all. bytes ≡ all) → IfOk r (P bytes) → IfOk r (λ t. IfSome left (λ all. P all t))
+pub left_ok : {T : Type 0} (left : Option (List ℕ)) (bytes : List ℕ) (P : List ℕ → T → Type 0)
+    (r : Result T StudioError) → IfSome left (λ all. bytes ≡ all) → IfOk r (P bytes)
+    → IfOk r (λ t. IfSome left (λ all. P all t))
 left_ok None bytes P (Ok t) e held = tt
 left_ok (Some all) bytes P (Ok t) e held = subst (λ b. P b t) e held
 left_ok left bytes P (Err x) e held = tt
 
-pub left_refuses : {T : Type 0} (left : Option (List ℕ)) (bytes : List ℕ) (P : List ℕ → StudioError → Type 0) (r : Result T StudioError) → IfSome left (λ all. bytes ≡ all) → IfErr r (P bytes) → IfErr r (λ e. IfSome left (λ all. P all e))
+pub left_refuses : {T : Type 0} (left : Option (List ℕ)) (bytes : List ℕ) (P : List ℕ → StudioError
+    → Type 0) (r : Result T StudioError) → IfSome left (λ all. bytes ≡ all) → IfErr r (P bytes)
+    → IfErr r (λ e. IfSome left (λ all. P all e))
 left_refuses left bytes P (Ok t) e refused = tt
 left_refuses None bytes P (Err x) e refused = tt
 left_refuses (Some all) bytes P (Err x) e refused = subst (λ b. P b x) e refused
@@ -29,13 +33,15 @@ unwritten_error (studio.Compile fault) r w = cc
 unwritten_error (studio.NoObject o) r w = cc
 unwritten_error studio.OutOfMemory r w = cc
 
-pub unwritten : {T : Type 0} (r : Result T StudioError) → IfErr r IsBetween → IfErr r (λ e. e ≢ studio.WriteFailed)
+pub unwritten : {T : Type 0} (r : Result T StudioError) → IfErr r IsBetween
+    → IfErr r (λ e. e ≢ studio.WriteFailed)
 unwritten (Ok t) between = tt
 unwritten (Err e) between = unwritten_error e between
 
 -- where all was read, an answer about what was read says so
 module _ {R : Type 0} (source : Source R) (old new : R) where
-  reads_until : ReadsAll source old new → (e : StudioError) → IsBetween e → ReadsUntil source old new e
+  reads_until : ReadsAll source old new → (e : StudioError) → IsBetween e
+      → ReadsUntil source old new e
   reads_until all (studio.Line n cause) b = all
   reads_until all (studio.Dropped id fault) b = all
   reads_until all (studio.Fig e) b = all
@@ -46,6 +52,15 @@ module _ {R : Type 0} (source : Source R) (old new : R) where
   reads_until all studio.TooLong b = absurd b
   reads_until all studio.WriteFailed b = absurd b
 
-  pub reads_on : {T X : Type 0} (t : T) (r : Result X StudioError) → ReadsInput source old new (Ok t) → IfErr r IsBetween → ReadsInput source old new r
-  reads_on t (Ok x) read between = record { came = read.came; takes = read.takes; reads = read.reads }
-  reads_on t (Err e) read between = record { came = reads_until read.came e between; takes = read.takes; reads = read.reads }
+  pub reads_on : {T X : Type 0} (t : T) (r : Result X StudioError)
+      → ReadsInput source old new (Ok t) → IfErr r IsBetween → ReadsInput source old new r
+  reads_on t (Ok x) read between = record {
+    came = read.came;
+    takes = read.takes;
+    reads = read.reads;
+  }
+  reads_on t (Err e) read between = record {
+    came = reads_until read.came e between;
+    takes = read.takes;
+    reads = read.reads;
+  }

@@ -25,53 +25,81 @@ use Rattle.gf_studio.specs.declared.studio_error.StudioError.{StudioError}
 use Rattle.gf_studio.specs.FigRun.{Draws, Writes}
 use Rattle.gf_studio.specs.PaintRun.{IsDenoted, IsMeant, WritesPicture}
 
-drawn_meant : (bytes : List ℕ) (drawing : DrawingState AnyShape) → Draws bytes drawing → IsMeant bytes (drawing_colour any_holds drawing.table drawing.figures)
-drawn_meant bytes drawing drawn = record { drawing = drawing; drawn = drawn; means = drawn.such.colours }
+drawn_meant : (bytes : List ℕ) (drawing : DrawingState AnyShape) → Draws bytes drawing
+    → IsMeant bytes (drawing_colour any_holds drawing.table drawing.figures)
+drawn_meant bytes drawing drawn = record {
+  drawing = drawing;
+  drawn = drawn;
+  means = drawn.such.colours;
+}
 
-pub left_meant : (left : Option (List ℕ)) (r : Result DrawnLines StudioError) → IfOk r (λ d. IfSome left (λ bytes. Draws bytes d.drawing)) → IfOk r (λ d. IfSome left (λ bytes. IsMeant bytes (drawing_colour any_holds d.drawing.table d.drawing.figures)))
+pub left_meant : (left : Option (List ℕ)) (r : Result DrawnLines StudioError)
+    → IfOk r (λ d. IfSome left (λ bytes. Draws bytes d.drawing))
+    → IfOk r (λ d. IfSome left
+    (λ bytes. IsMeant bytes (drawing_colour any_holds d.drawing.table d.drawing.figures)))
 left_meant None (Ok d) drawn = tt
 left_meant (Some bytes) (Ok d) drawn = drawn_meant bytes d.drawing drawn
 left_meant left (Err e) drawn = tt
 
 -- colours that are one at every point make one picture
-pub one_picture : (w : View) (colour other : Point → Rgb) → ((p : Point) → colour p ≡ other p) → picture colour w ≡ picture other w
-one_picture w colour other same = let one : colour ≡ other = λ i p. same p i in ap (λ c. picture c w) one
+pub one_picture : (w : View) (colour other : Point → Rgb) → ((p : Point) → colour p ≡ other p)
+    → picture colour w ≡ picture other w
+one_picture w colour other same = let one : colour ≡ other = λ i p. same p i in
+    ap (λ c. picture c w) one
 
 -- and so one text behind what was taken
-pub same_pictures : (w : View) (colour other : Point → Rgb) (taken text more painted repainted : List ℕ) → ((p : Point) → colour p ≡ other p) → text ≡ picture colour w → more ≡ picture other w → painted ≡ taken ++ text → repainted ≡ taken ++ more → painted ≡ repainted
+pub same_pictures : (w : View) (colour other : Point → Rgb)
+    (taken text more painted repainted : List ℕ) → ((p : Point) → colour p ≡ other p)
+    → text ≡ picture colour w → more ≡ picture other w → painted ≡ taken ++ text
+    → repainted ≡ taken ++ more → painted ≡ repainted
 same_pictures w colour other taken text more painted repainted same is also first second =
-    first ∙ (ap (λ bytes. taken ++ bytes) (is ∙ (one_picture w colour other same ∙ sym also)) ∙ sym second)
+    first ∙ (ap (λ bytes. taken ++ bytes) (is ∙ (one_picture w colour other same ∙ sym also))
+    ∙ sym second)
 
 -- what is meant is what the drawing paints
-drawn_colour : (bytes : List ℕ) (colour : Point → Rgb) (x : IsMeant bytes colour) (p : Point) → colour p ≡ drawing_colour any_holds x.drawing.table x.drawing.figures p
+drawn_colour : (bytes : List ℕ) (colour : Point → Rgb) (x : IsMeant bytes colour) (p : Point)
+    → colour p ≡ drawing_colour any_holds x.drawing.table x.drawing.figures p
 drawn_colour bytes colour x p =
-    one_colour x.drawn.history p (colour p) (drawing_colour any_holds x.drawing.table x.drawing.figures p) x.drawn.denoted.delivers.valid (x.means p) (x.drawn.such.colours p)
+    one_colour x.drawn.history p (colour p)
+    (drawing_colour any_holds x.drawing.table x.drawing.figures p) x.drawn.denoted.delivers.valid
+    (x.means p) (x.drawn.such.colours p)
 
 -- inputs with one drawing mean one colour at every point
-pub drawn_colours : (bytes others : List ℕ) (colour other : Point → Rgb) (x : IsMeant bytes colour) (y : IsMeant others other) → x.drawing ≡ y.drawing → (p : Point) → colour p ≡ other p
+pub drawn_colours : (bytes others : List ℕ) (colour other : Point → Rgb) (x : IsMeant bytes colour)
+    (y : IsMeant others other) → x.drawing ≡ y.drawing → (p : Point) → colour p ≡ other p
 drawn_colours bytes others colour other x y same p =
-    drawn_colour bytes colour x p ∙ (ap (λ (d : DrawingState AnyShape). drawing_colour any_holds d.table d.figures p) same ∙ sym (drawn_colour others other y p))
+    drawn_colour bytes colour x p
+    ∙ (ap (λ (d : DrawingState AnyShape). drawing_colour any_holds d.table d.figures p) same
+    ∙ sym (drawn_colour others other y p))
 
 -- the text that was written behind what was taken before
 module _ (bytes before text : List ℕ) (x : Writes bytes (Some before) (Some (before ++ text))) where
   pub text_reads : Reads text (outlined any_outline x.is.drawing)
-  text_reads = subst (λ t. Reads t (outlined any_outline x.is.drawing)) (sym (append_cancel_left before text x.text x.written)) x.is.reads
+  text_reads = subst (λ t. Reads t (outlined any_outline x.is.drawing))
+      (sym (append_cancel_left before text x.text x.written)) x.is.reads
 
   -- the text does not fail
   pub text_not_refused : (fault : FigFault) (n : ℕ) → ¬ (Fails text fault n)
   text_not_refused fault n = not_both text (outlined any_outline x.is.drawing) fault n text_reads
 
   -- the text denotes the colours that the bytes mean
-  text_colours : (colour other : Point → Rgb) (y : IsMeant bytes colour) → x.is.drawing ≡ y.drawing → IsDenoted text other → (p : Point) → colour p ≡ other p
+  text_colours : (colour other : Point → Rgb) (y : IsMeant bytes colour) → x.is.drawing ≡ y.drawing
+      → IsDenoted text other → (p : Point) → colour p ≡ other p
   text_colours colour other y same z p =
       let d = x.is.drawing in
-      let read : outlined any_outline d ≡ z.drawing = one_drawing text (outlined any_outline d) z.drawing text_reads z.reads in
+      let read : outlined any_outline d ≡ z.drawing = one_drawing text (outlined any_outline d)
+      z.drawing text_reads z.reads in
       drawn_colour bytes colour y p
       ∙ (ap (λ (d : DrawingState AnyShape). drawing_colour any_holds d.table d.figures p) (sym same)
       ∙ (sym (drawing_colour-outlined any_holds any_outline any_outlines d p)
-      ∙ (ap (λ (d : Drawn). drawing_colour outline_holds d.table d.figures p) read ∙ sym (z.paints p))))
+      ∙ (ap (λ (d : Drawn). drawing_colour outline_holds d.table d.figures p) read
+      ∙ sym (z.paints p))))
 
-  pub text_repaints : (w : View) (taken painted repainted : List ℕ) (y : WritesPicture (IsMeant bytes) w (Some taken) (Some painted)) → x.is.drawing ≡ y.is.shown.drawing → WritesPicture (IsDenoted text) w (Some taken) (Some repainted) → painted ≡ repainted
+  pub text_repaints : (w : View) (taken painted repainted : List ℕ)
+      (y : WritesPicture (IsMeant bytes) w (Some taken) (Some painted))
+      → x.is.drawing ≡ y.is.shown.drawing → WritesPicture (IsDenoted text) w (Some taken)
+      (Some repainted) → painted ≡ repainted
   text_repaints w taken painted repainted y same z =
       let colours = text_colours y.is.colour z.is.colour y.is.shown same z.is.shown in
-      same_pictures w y.is.colour z.is.colour taken y.text z.text painted repainted colours y.is.is z.is.is y.written z.written
+      same_pictures w y.is.colour z.is.colour taken y.text z.text painted repainted colours y.is.is
+      z.is.is y.written z.written

@@ -10,19 +10,22 @@ use Rattle.gf_replay.proofs.SameLemmas.{one_history}
 use Rattle.gf_studio.specs.FigRun.{Draws, RefusesCompiling}
 
 -- what has a drawing is not refused for its versions or colours
-pub draws_compile : (bytes : List ℕ) (drawing : DrawingState AnyShape) → Draws bytes drawing → (fault : CompileFault) → ¬ (RefusesCompiling bytes fault)
+pub draws_compile : (bytes : List ℕ) (drawing : DrawingState AnyShape) → Draws bytes drawing
+    → (fault : CompileFault) → ¬ (RefusesCompiling bytes fault)
 draws_compile bytes drawing d compile.TooManyVersions r =
     let fits = d.such.canonical.fits.versions in
     let why = r.such in
     let many = why.many in
-    let same = ranked_alike d.history r.history (one_history bytes d.history r.history d.denoted r.denoted) d.such.canonical.items why.items d.such.canonical.ranked why.ranked in
+    let same = ranked_alike d.history r.history (one_history bytes d.history r.history d.denoted
+    r.denoted) d.such.canonical.items why.items d.such.canonical.ranked why.ranked in
     let equal = ap length same in
     absurd (omega arith)
 draws_compile bytes drawing d compile.TooManyColours r =
     let fits = d.such.canonical.fits.colours in
     let why = r.such in
     let many = why.many in
-    let same = ranked_alike d.history r.history (one_history bytes d.history r.history d.denoted r.denoted) d.such.canonical.items why.items d.such.canonical.ranked why.ranked in
+    let same = ranked_alike d.history r.history (one_history bytes d.history r.history d.denoted
+    r.denoted) d.such.canonical.items why.items d.such.canonical.ranked why.ranked in
     let equal = ap (λ items. length (colours_of items)) same in
     absurd (omega arith)
 draws_compile bytes drawing d compile.OutOfMemory r = r

@@ -1,4 +1,5 @@
--- Inputs with the same operations, and those that denote histories of the same operations, have one drawing, one text and one picture.
+-- Inputs with the same operations, and those that denote histories of the same operations, have one
+-- drawing, one text and one picture.
 use Rattle.std.proofs.Common.{◌≡◌, ℕ, List, ◌++◌, sym, ap, ◌∙◌}
 use Rattle.std.specs.Prelude.{Some}
 use Rattle.gf_shape.specs.declared.any_shape.AnyShape.{AnyShape}
@@ -16,48 +17,71 @@ use Rattle.gf_studio.proofs.DrawnLemmas.{both_canonical, drawn, one_drawing}
 use Rattle.gf_studio.proofs.PaintingLemmas.{drawn_colours, same_pictures}
 
 -- inputs that denote histories of the same operations have one drawing
-module _ (bytes others : List ℕ) (h k : List Op) (d : Denotes bytes h) (e : Denotes others k) (same : HaveSame h k) where
-  histories_alike : (drawing other : DrawingState AnyShape) (x : Draws bytes drawing) (y : Draws others other) → HaveSame x.history y.history
+module _ (bytes others : List ℕ) (h k : List Op) (d : Denotes bytes h) (e : Denotes others k)
+    (same : HaveSame h k) where
+  histories_alike : (drawing other : DrawingState AnyShape) (x : Draws bytes drawing)
+      (y : Draws others other) → HaveSame x.history y.history
   histories_alike drawing other x y a =
       let first = one_history bytes x.history h x.denoted d a in
       let second = one_history others k y.history e y.denoted a in
       (λ i. second.0 ((same a).0 (first.0 i)), λ i. first.1 ((same a).1 (second.1 i)))
 
-  pub histories_draw : (drawing other : DrawingState AnyShape) → Draws bytes drawing → Draws others other → drawing ≡ other
-  histories_draw drawing other x y = one_drawing x.history y.history (histories_alike drawing other x y) drawing other x.such.canonical y.such.canonical
+  pub histories_draw : (drawing other : DrawingState AnyShape) → Draws bytes drawing
+      → Draws others other → drawing ≡ other
+  histories_draw drawing other x y = one_drawing x.history y.history
+      (histories_alike drawing other x y) drawing other x.such.canonical y.such.canonical
 
   -- what the one draws, the other draws
-  pub histories_draw_both : (drawing : DrawingState AnyShape) → Draws bytes drawing → Draws others drawing
+  pub histories_draw_both : (drawing : DrawingState AnyShape) → Draws bytes drawing
+      → Draws others drawing
   histories_draw_both drawing x =
       let first = one_history bytes x.history h x.denoted d in
-      let canonical = both_canonical x.history k (λ a. (λ i. (same a).0 ((first a).0 i), λ i. (first a).1 ((same a).1 i))) drawing x.such.canonical in
+      let canonical = both_canonical x.history k
+      (λ a. (λ i. (same a).0 ((first a).0 i), λ i. (first a).1 ((same a).1 i))) drawing
+      x.such.canonical in
       record { history = k; denoted = e; such = drawn k drawing canonical }
 
   -- and one text
-  pub histories_write : (taken text other : List ℕ) → Writes bytes (Some taken) (Some text) → Writes others (Some taken) (Some other) → text ≡ other
+  pub histories_write : (taken text other : List ℕ) → Writes bytes (Some taken) (Some text)
+      → Writes others (Some taken) (Some other) → text ≡ other
   histories_write taken text other x y =
       let same = histories_draw x.is.drawing y.is.drawing x.is.drawn y.is.drawn in
       let texts : x.text ≡ y.text = x.is.is ∙ (ap (fig_text any_outline) same ∙ sym y.is.is) in
       x.written ∙ (ap (λ t. taken ++ t) texts ∙ sym y.written)
 
   -- and one picture
-  pub histories_paint : (w : View) (taken painted other : List ℕ) → WritesPicture (IsMeant bytes) w (Some taken) (Some painted) → WritesPicture (IsMeant others) w (Some taken) (Some other) → painted ≡ other
+  pub histories_paint : (w : View) (taken painted other : List ℕ)
+      → WritesPicture (IsMeant bytes) w (Some taken) (Some painted)
+      → WritesPicture (IsMeant others) w (Some taken) (Some other) → painted ≡ other
   histories_paint w taken painted other x y =
-      let same = histories_draw x.is.shown.drawing y.is.shown.drawing x.is.shown.drawn y.is.shown.drawn in
+      let same = histories_draw x.is.shown.drawing y.is.shown.drawing x.is.shown.drawn
+      y.is.shown.drawn in
       let colours = drawn_colours bytes others x.is.colour y.is.colour x.is.shown y.is.shown same in
-      same_pictures w x.is.colour y.is.colour taken x.text y.text painted other colours x.is.is y.is.is x.written y.written
+      same_pictures w x.is.colour y.is.colour taken x.text y.text painted other colours x.is.is
+      y.is.is x.written y.written
 
 -- inputs with the same operations draw alike
-pub draw_alike : (bytes others : List ℕ) → HaveSameOperations bytes others → (drawing other : DrawingState AnyShape) → Draws bytes drawing → Draws others other → drawing ≡ other
+pub draw_alike : (bytes others : List ℕ) → HaveSameOperations bytes others
+    → (drawing other : DrawingState AnyShape) → Draws bytes drawing → Draws others other
+    → drawing ≡ other
 draw_alike bytes others have drawing other d e =
-    histories_draw bytes others d.history d.history d.denoted (denote_alike bytes others have d.history d.denoted) (λ a. (λ i. i, λ i. i)) drawing other d e
+    histories_draw bytes others d.history d.history d.denoted
+    (denote_alike bytes others have d.history d.denoted) (λ a. (λ i. i, λ i. i)) drawing other d e
 
-pub write_alike : (bytes others : List ℕ) → HaveSameOperations bytes others → (taken text other : List ℕ) → Writes bytes (Some taken) (Some text) → Writes others (Some taken) (Some other) → text ≡ other
+pub write_alike : (bytes others : List ℕ) → HaveSameOperations bytes others
+    → (taken text other : List ℕ) → Writes bytes (Some taken) (Some text)
+    → Writes others (Some taken) (Some other) → text ≡ other
 write_alike bytes others have taken text other d e =
     let h = d.is.drawn.history in
-    histories_write bytes others h h d.is.drawn.denoted (denote_alike bytes others have h d.is.drawn.denoted) (λ a. (λ i. i, λ i. i)) taken text other d e
+    histories_write bytes others h h d.is.drawn.denoted
+    (denote_alike bytes others have h d.is.drawn.denoted) (λ a. (λ i. i, λ i. i)) taken text other d
+    e
 
-pub paint_alike : (bytes others : List ℕ) → HaveSameOperations bytes others → (w : View) (taken painted other : List ℕ) → WritesPicture (IsMeant bytes) w (Some taken) (Some painted) → WritesPicture (IsMeant others) w (Some taken) (Some other) → painted ≡ other
+pub paint_alike : (bytes others : List ℕ) → HaveSameOperations bytes others
+    → (w : View) (taken painted other : List ℕ) → WritesPicture (IsMeant bytes) w (Some taken)
+    (Some painted) → WritesPicture (IsMeant others) w (Some taken) (Some other) → painted ≡ other
 paint_alike bytes others have w taken painted other d e =
     let x = d.is.shown.drawn in
-    histories_paint bytes others x.history x.history x.denoted (denote_alike bytes others have x.history x.denoted) (λ a. (λ i. i, λ i. i)) w taken painted other d e
+    histories_paint bytes others x.history x.history x.denoted
+    (denote_alike bytes others have x.history x.denoted) (λ a. (λ i. i, λ i. i)) w taken painted
+    other d e

@@ -1,4 +1,5 @@
--- Components list the largest compatible sets of their positions, and so the versions of their object.
+-- Components list the largest compatible sets of their positions, and so the versions of their
+-- object.
 use Rattle.std.proofs.Common.{ℕ, Bool, List, [], ◌∷◌, length, map, inl, inr}
 use Rattle.std.specs.Prelude.{Contains, Option, Some, None, unwrap_or}
 use Rattle.std.specs.List.{fold}
@@ -10,7 +11,8 @@ use Rattle.gf_maximal.specs.Pairs.{Pairs}
 use Rattle.gf_maximal.specs.Tables.{IsRising, IsTable}
 use Rattle.gf_maximal.proofs.LargestLemmas.{IsConflict}
 use Rattle.gf_maximal.proofs.UnitedLemmas.{Contains-united}
-use Rattle.gf_components.specs.Components.{ComponentState, ComponentsState, alone, merged, products, whole}
+use Rattle.gf_components.specs.Components.{ComponentState, ComponentsState, alone, merged, products}
+use Rattle.gf_components.specs.Components.{whole}
 use Rattle.gf_maximal.specs.Growing as words
 use Rattle.gf_components.specs.Separate.{Apart, AreComponents, IsComponent, AreSetsKept}
 use Rattle.gf_components.proofs.ComponentLemmas.{all_of_merged}
@@ -32,12 +34,15 @@ module _ (c : ℕ → ℕ → Bool) (s : IsConflict c) where
   table_full : (p : ComponentState) → IsComponent c p → IsTable c p.all (full c p)
   table_full p m = table_kept p.all m.rises p.sets m.sets
     where
-      table_kept : (us : List ℕ) → IsRising us → (r : Option (List (List ℕ))) → AreSetsKept c us r → IsTable c us (unwrap_or r (groups_at c us))
+      table_kept : (us : List ℕ) → IsRising us → (r : Option (List (List ℕ))) → AreSetsKept c us r
+          → IsTable c us (unwrap_or r (groups_at c us))
       table_kept us r (Some gs) k = k.0
       table_kept us r None k = table_groups c s us r
 
-  table_fold : (p : ComponentState) (gs : List (List ℕ)) (ps : List ComponentState) → IsTable c p.all gs → ((q : ComponentState) → Contains ps q → IsComponent c q) →
-      ((q : ComponentState) → Contains ps q → AreApart p q) → Pairs AreApart ps → IsTable c (fold merged p ps).all (fold (λ ks q. products ks (full c q)) gs ps)
+  table_fold : (p : ComponentState) (gs : List (List ℕ)) (ps : List ComponentState)
+      → IsTable c p.all gs → ((q : ComponentState) → Contains ps q → IsComponent c q) →
+      ((q : ComponentState) → Contains ps q → AreApart p q) → Pairs AreApart ps
+      → IsTable c (fold merged p ps).all (fold (λ ks q. products ks (full c q)) gs ps)
   table_fold p gs [] x ys ws zs = x
   table_fold p gs (q ∷ ps) x ys ws zs =
       let w = ws q (Contains-cons_head q ps) in
@@ -45,7 +50,8 @@ module _ (c : ℕ → ℕ → Bool) (s : IsConflict c) where
       (table_alike c (words.united p.all q.all) (merged p q).all (products gs (full c q)) (λ a. (
         λ h. (all_of_merged p q a).1 ((Contains-united p.all q.all a).0 h),
         λ h. (Contains-united p.all q.all a).1 ((all_of_merged p q a).0 h),
-      )) (table_product c s p.all q.all w gs (full c q) x (table_full q (ys q (Contains-cons_head q ps)))))
+      )) (table_product c s p.all q.all w gs (full c q) x
+      (table_full q (ys q (Contains-cons_head q ps)))))
       (λ r i. ys r (Contains-cons_tail q ps r i))
       (λ r i a b h k. elim ((all_of_merged p q a).0 h) [
         | inl j ↦ ws r (Contains-cons_tail q ps r i) a b j k
@@ -54,21 +60,29 @@ module _ (c : ℕ → ℕ → Bool) (s : IsConflict c) where
       zs.1
 
   -- what is free with one set of each component
-  pub table_listed : (t : ComponentsState) → AreComponents c t → IsTable c (whole t).all (listed c t)
-  table_listed t m = table_fold (alone t.free) (t.free ∷ []) t.components (table_alone c t.free m.rises m.calm) m.components m.loose m.apart
+  pub table_listed : (t : ComponentsState) → AreComponents c t
+      → IsTable c (whole t).all (listed c t)
+  table_listed t m = table_fold (alone t.free) (t.free ∷ []) t.components
+      (table_alone c t.free m.rises m.calm) m.components m.loose m.apart
 
 -- ---- the versions of an object
 
 module _ (h : List Op) (o : ObjectId) (t : ComponentsState) (on : AreComponentsOn h o t) where
-  pub sets_listed : IsTable (conflict_at h) (positions_below h o (length h)) (listed (conflict_at h) t)
-  sets_listed = table_alike (conflict_at h) (whole t).all (positions_below h o (length h)) (listed (conflict_at h) t) on.all (table_listed (conflict_at h) (conflict_at_test h) t on.components)
+  pub sets_listed : IsTable (conflict_at h) (positions_below h o (length h))
+      (listed (conflict_at h) t)
+  sets_listed = table_alike (conflict_at h) (whole t).all (positions_below h o (length h))
+      (listed (conflict_at h) t) on.all (table_listed (conflict_at h) (conflict_at_test h) t
+      on.components)
 
   -- THE LAW: the versions of an object, each once
-  pub versions_listed : IsValid h → IsMade h o → AreAllOf h o (map (group_at h o) (listed (conflict_at h) t))
+  pub versions_listed : IsValid h → IsMade h o
+      → AreAllOf h o (map (group_at h o) (listed (conflict_at h) t))
   versions_listed valid made =
       let us = positions_below h o (length h) in
       let rises = positions_below-rising h o (length h) in
       record {
-        exactly = groups_exactly h valid o us (all_positions h o) rises (listed (conflict_at h) t) sets_listed made;
-        once = groups_once h valid o us (all_positions h o) rises (listed (conflict_at h) t) sets_listed;
+        exactly = groups_exactly h valid o us (all_positions h o) rises (listed (conflict_at h) t)
+            sets_listed made;
+        once = groups_once h valid o us (all_positions h o) rises (listed (conflict_at h) t)
+            sets_listed;
       }

@@ -22,36 +22,67 @@ use Rattle.gf_rivals.specs.Rivals.{AreChainsOf}
 use Rattle.gf_table.specs.ObjectState.{ObjectState}
 use Rattle.gf_table.specs.Standing.{IsMetByAim}
 
-pub met_united : (h : List Op) (t : ObjectState) (us own reach members met r : List ℕ) → ((n : ℕ) → Contains reach n ↔ IsReached us t.components.components n) → members ≡ common reach us →
-    ((n : ℕ) → Contains met n ↔ (Contains reach n × ClashesWithOne h t.chains members n)) → r ≡ united own met → (n : ℕ) → Contains r n ↔ (Contains own n ⊎ IsMetByAim h t us n)
+pub met_united : (h : List Op) (t : ObjectState) (us own reach members met r : List ℕ)
+    → ((n : ℕ) → Contains reach n ↔ IsReached us t.components.components n)
+    → members ≡ common reach us →
+    ((n : ℕ) → Contains met n ↔ (Contains reach n × ClashesWithOne h t.chains members n))
+    → r ≡ united own met → (n : ℕ) → Contains r n ↔ (Contains own n ⊎ IsMetByAim h t us n)
 met_united h t us own reach members met r u c k e n =
     let w = Contains-united own met n in (
       λ i. elim (w.0 (subst (λ z. Contains z n) e i)) [
         | inl j ↦ inl j
         | inr j ↦
             let m = (k n).0 j in
-            let o = (Contains-filter (is_in reach) us m.1.one).0 (subst (λ z. Contains z m.1.one) c m.1.among) in
-            inr (record { reached = (u n).0 m.0; one = m.1.one; among = o.0; one_reached = (u m.1.one).0 (from_list reach m.1.one o.1); clash = m.1.clash })
+            let o = (Contains-filter (is_in reach) us m.1.one).0
+            (subst (λ z. Contains z m.1.one) c m.1.among) in
+            inr (record {
+              reached = (u n).0 m.0;
+              one = m.1.one;
+              among = o.0;
+              one_reached = (u m.1.one).0 (from_list reach m.1.one o.1);
+              clash = m.1.clash;
+            })
       ],
       λ i. subst (λ z. Contains z n) (sym e) (w.1 (elim i [
         | inl j ↦ inl j
         | inr m ↦
-            let o = (Contains-filter (is_in reach) us m.one).1 (m.among, in_list reach m.one ((u m.one).1 m.one_reached)) in
-            inr ((k n).1 ((u n).1 m.reached, record { one = m.one; among = subst (λ z. Contains z m.one) (sym c) o; clash = m.clash }))
+            let o = (Contains-filter (is_in reach) us m.one).1 (
+              m.among,
+              in_list reach m.one ((u m.one).1 m.one_reached),
+            ) in
+            inr ((k n).1 (
+              (u n).1 m.reached,
+              record {
+                one = m.one;
+                among = subst (λ z. Contains z m.one) (sym c) o;
+                clash = m.clash;
+              },
+            ))
       ])),
     )
 
 -- the members of an aim are on its object
-pub aim_named : (h : List Op) → IsValid h → (a : Op) → IsAimed h a → (o : ObjectId) → object_of a ≡ o → (cs : List (List Setter)) → AreChainsOf h o cs →
+pub aim_named : (h : List Op) → IsValid h → (a : Op) → IsAimed h a → (o : ObjectId)
+    → object_of a ≡ o → (cs : List (List Setter)) → AreChainsOf h o cs →
     (ids : List OpId) → ids ≡ aim_of a → (id : OpId) → Contains ids id → IsNamedOn h cs id
 aim_named h valid a aimed o own cs chained ids e id i =
     let w = aimed.each id (subst (λ z. Contains z id) e i) in
-    record { object = o; chains = chained; on = λ b c f. ap object_of (same_op h valid b w.op c w.contained (f ∙ sym w.id)) ∙ (w.object ∙ own) }
+    record {
+      object = o;
+      chains = chained;
+      on = λ b c f. ap object_of (same_op h valid b w.op c w.contained (f ∙ sym w.id))
+          ∙ (w.object ∙ own);
+    }
 
 -- the conflicts that are told of a state are those of its fields
-pub conflicts_of : (h : List Op) (a : Op) (t u : ObjectState) → t ≡ u → (d : List ℕ) → ((n : ℕ) → Contains d n ↔ ConflictsAt h t.chains a n) → (n : ℕ) → Contains d n ↔ ConflictsAt h u.chains a n
-conflicts_of h a t u e d f = subst (λ (z : ObjectState). (n : ℕ) → Contains d n ↔ ConflictsAt h z.chains a n) e f
+pub conflicts_of : (h : List Op) (a : Op) (t u : ObjectState) → t ≡ u → (d : List ℕ)
+    → ((n : ℕ) → Contains d n ↔ ConflictsAt h t.chains a n) → (n : ℕ)
+    → Contains d n ↔ ConflictsAt h u.chains a n
+conflicts_of h a t u e d f = subst (λ (z : ObjectState). (n : ℕ)
+    → Contains d n ↔ ConflictsAt h z.chains a n) e f
 
 -- members of an aim that are reached are setters, if all of the aim are
-pub members_set : (cs : List (List Setter)) (us reach members : List ℕ) → members ≡ common reach us → ListsSetters cs us → ListsSetters cs members
-members_set cs us reach members e f n i = f n ((Contains-filter (is_in reach) us n).0 (subst (λ z. Contains z n) e i)).0
+pub members_set : (cs : List (List Setter)) (us reach members : List ℕ) → members ≡ common reach us
+    → ListsSetters cs us → ListsSetters cs members
+members_set cs us reach members e f n i = f n
+    ((Contains-filter (is_in reach) us n).0 (subst (λ z. Contains z n) e i)).0

@@ -1,5 +1,6 @@
 -- The state of an object, when one operation comes: made, kept or grown.
-use Rattle.std.proofs.Common.{◌≡◌, ◌≢◌, ℕ, true, ◌+◌, ◌-◌, ◌*◌, ◌<◌, List, [], ◌∷◌, ◌++◌, get_or, length, inl, inr, refl, subst, sym, ap, ◌∙◌, arith}
+use Rattle.std.proofs.Common.{◌≡◌, ◌≢◌, ℕ, true, ◌+◌, ◌-◌, ◌*◌, ◌<◌, List, [], ◌∷◌, ◌++◌, get_or}
+use Rattle.std.proofs.Common.{length, inl, inr, refl, subst, sym, ap, ◌∙◌, arith}
 use Rattle.std.specs.Prelude.{◌⊎◌, ◌↔◌, Contains, IfSome, Option, Some, None, slice_get, unwrap_or}
 use Rattle.std.specs.Ordering.{nat_cmp}
 use Rattle.std.proofs.lemmas.Cmp.{nat_cmp_total}
@@ -33,7 +34,8 @@ use Rattle.gf_rivals.specs.Fingerprints.{fingerprint_of}
 use Rattle.gf_rivals.specs.Indexes.{IsIndex, PutsNumber}
 use Rattle.gf_rivals.specs.Setters.{block}
 use Rattle.gf_ops.specs.declared.op.Clock.{Clock}
-use Rattle.gf_rivals.specs.Chains.{IsUnknown, chain_of, no_chains, position_of, setters, with_setter}
+use Rattle.gf_rivals.specs.Chains.{IsUnknown, chain_of, no_chains, position_of, setters}
+use Rattle.gf_rivals.specs.Chains.{with_setter}
 use Rattle.gf_rivals.specs.Rivals.{AreRivals, IsNumber, AreChainsOf}
 use Rattle.gf_rivals.specs.Aimed.{AimedState, AimsAtOne, AreAimed, AreNumbersOf, Clash}
 use Rattle.gf_rivals.specs.Aimed.{IsConflict as ConflictsAt}
@@ -44,19 +46,27 @@ use Rattle.gf_ops.proofs.ConflictLemmas.{conflict_direct}
 use Rattle.gf_rivals.proofs.NumberLemmas.{number_below, number_from, position_is, position_none}
 use Rattle.gf_rivals.proofs.NumberLemmas as numbers
 use Rattle.gf_rivals.proofs.RivalLemmas.{rivals_conflict}
-use Rattle.gf_rivals.proofs.ChainLemmas.{behind_all, empty_chains, index_other, index_setter, last_number, number_cases, numbered, chains_other, chains_setter}
-use Rattle.gf_table.specs.ObjectState.{ObjectState, made, maker_number, number_conflict, position_in}
+use Rattle.gf_rivals.proofs.ChainLemmas.{behind_all, empty_chains, index_other, index_setter}
+use Rattle.gf_rivals.proofs.ChainLemmas.{last_number, number_cases, numbered, chains_other}
+use Rattle.gf_rivals.proofs.ChainLemmas.{chains_setter}
+use Rattle.gf_table.specs.ObjectState.{ObjectState, made, maker_number, number_conflict}
+use Rattle.gf_table.specs.ObjectState.{position_in}
 use Rattle.gf_table.specs.Standing.{IsMaker, IsMetByAim, IsStateOf, with_aim}
-use Rattle.gf_table.proofs.LongerLemmas.{got_before, got_cases, got_last, last_from, last_with, same_conflict}
+use Rattle.gf_table.proofs.LongerLemmas.{got_before, got_cases, got_last, last_from, last_with}
+use Rattle.gf_table.proofs.LongerLemmas.{same_conflict}
 
 -- numbers conflict as what stands at their positions
 pub numbers_test : (h : List Op) (t : ObjectState) → IsConflict (number_conflict h t)
 numbers_test h t =
     let test = conflict_at_test h in
-    record { symmetric = λ i j. test.symmetric (position_in t i) (position_in t j); alone = λ i. test.alone (position_in t i) }
+    record {
+      symmetric = λ i j. test.symmetric (position_in t i) (position_in t j);
+      alone = λ i. test.alone (position_in t i);
+    }
 
 -- what holds of what there is, follows for it
-pub if_some : {X : Type 0} {P Q : X → Type 0} (r : Option X) → ((x : X) → P x → Q x) → IfSome r P → IfSome r Q
+pub if_some : {X : Type 0} {P Q : X → Type 0} (r : Option X) → ((x : X) → P x → Q x) → IfSome r P
+    → IfSome r Q
 if_some (Some x) f p = f x p
 if_some None f p = tt
 
@@ -66,15 +76,21 @@ made_by (Create start) k e = (start, refl)
 made_by (Set o v aim) k e = absurd cc
 
 -- the creation stands in no chain
-pub maker_position : (h : List Op) (o : ObjectId) (t : ObjectState) → AreChainsOf h o t.chains → position_in t maker_number ≡ t.maker
-maker_position h o t chained = ap (λ r. unwrap_or r t.maker) (position_none h o t.chains chained maker_number (λ q k. let l = number_below h o t.chains chained maker_number q k in omega (arith, l)))
+pub maker_position : (h : List Op) (o : ObjectId) (t : ObjectState) → AreChainsOf h o t.chains
+    → position_in t maker_number ≡ t.maker
+maker_position h o t chained = ap (λ r. unwrap_or r t.maker)
+    (position_none h o t.chains chained maker_number
+    (λ q k. let l = number_below h o t.chains chained maker_number q k in omega (arith, l)))
 
 -- a number stands for its setter's position
-pub number_at : (h : List Op) (o : ObjectId) (t : ObjectState) → AreChainsOf h o t.chains → (n q : ℕ) → IsNumber t.chains n q → position_in t n ≡ q
-number_at h o t chained n q k = ap (λ r. unwrap_or r t.maker) (position_is h o t.chains chained n q k)
+pub number_at : (h : List Op) (o : ObjectId) (t : ObjectState) → AreChainsOf h o t.chains
+    → (n q : ℕ) → IsNumber t.chains n q → position_in t n ≡ q
+number_at h o t chained n q k = ap (λ r. unwrap_or r t.maker)
+    (position_is h o t.chains chained n q k)
 
 module _ (h : List Op) (o : ObjectId) (t : ObjectState) (s : IsStateOf h o t) where
-  pub setter_at : (n q : ℕ) → IsNumber t.chains n q → (op : Op) × (slice_get h q ≡ Some op) × (v : Value) × (aim : List OpId) × (op.change ≡ Set o v aim)
+  pub setter_at : (n q : ℕ) → IsNumber t.chains n q → (op : Op) × (slice_get h q ≡ Some op)
+      × (v : Value) × (aim : List OpId) × (op.change ≡ Set o v aim)
   setter_at n q k =
       let i = s.chained.each k.attribute k.site k.index k.setter k.within k.at in
       (i.op, subst (λ z. slice_get h z ≡ Some i.op) k.position i.at, i.value, i.aim, i.change)
@@ -88,8 +104,10 @@ module _ (h : List Op) (o : ObjectId) (t : ObjectState) (s : IsStateOf h o t) wh
   -- each operation of the object stands in the history
   pub position_within : (n : ℕ) → Contains (whole t.components).all n → position_in t n < length h
   position_within n i = elim ((s.exactly n).0 i) [
-    | inl e ↦ subst (λ z. position_in t z < length h) (sym e) (subst (λ z. z < length h) (sym (maker_position h o t s.chained)) maker_within)
-    | inr w ↦ subst (λ z. z < length h) (sym (number_at h o t s.chained n w.0 w.1)) (number_within n w.0 w.1)
+    | inl e ↦ subst (λ z. position_in t z < length h) (sym e)
+        (subst (λ z. z < length h) (sym (maker_position h o t s.chained)) maker_within)
+    | inr w ↦ subst (λ z. z < length h) (sym (number_at h o t s.chained n w.0 w.1))
+        (number_within n w.0 w.1)
   ]
 
   -- no number leads out of the history
@@ -103,22 +121,29 @@ module _ (h : List Op) (o : ObjectId) (t : ObjectState) (s : IsStateOf h o t) wh
   not_set : (q : ℕ) (n : ℕ) → IsNumber t.chains n q → t.maker ≢ q
   not_set q n k e =
       let w = setter_at n q k in
-      let one : s.maker.op ≡ w.0 = let x = s.maker.at in let y = w.1 in let z : slice_get h t.maker ≡ Some w.0 = subst (λ p. slice_get h p ≡ Some w.0) (sym e) y in cc in
+      let one : s.maker.op ≡ w.0 = let x = s.maker.at in let y = w.1 in
+      let z : slice_get h t.maker ≡ Some w.0 = subst (λ p. slice_get h p ≡ Some w.0) (sym e) y in
+      cc in
       let made = s.maker.made in
-      let set : made_kind s.maker.op.change ≡ None = ap made_kind (ap (λ (z : Op). z.change) one ∙ w.4) in
+      let set : made_kind s.maker.op.change ≡ None = ap made_kind (ap (λ (z : Op). z.change) one
+      ∙ w.4) in
       absurd cc
 
   -- two numbers of one position are one
-  pub one_number : (i j : ℕ) → Contains (whole t.components).all i → Contains (whole t.components).all j → position_in t i ≡ position_in t j → i ≡ j
+  pub one_number : (i j : ℕ) → Contains (whole t.components).all i
+      → Contains (whole t.components).all j → position_in t i ≡ position_in t j → i ≡ j
   one_number i j a b e = elim ((s.exactly i).0 a) [
     | inl x ↦ elim ((s.exactly j).0 b) [
       | inl y ↦ x ∙ sym y
-      | inr w ↦ absurd (not_set w.0 j w.1 (sym (maker_position h o t s.chained) ∙ (ap (position_in t) (sym x) ∙ (e ∙ number_at h o t s.chained j w.0 w.1))))
+      | inr w ↦ absurd (not_set w.0 j w.1 (sym (maker_position h o t s.chained)
+          ∙ (ap (position_in t) (sym x) ∙ (e ∙ number_at h o t s.chained j w.0 w.1))))
     ]
     | inr v ↦ elim ((s.exactly j).0 b) [
-      | inl y ↦ absurd (not_set v.0 i v.1 (sym (maker_position h o t s.chained) ∙ (ap (position_in t) (sym y) ∙ (sym e ∙ number_at h o t s.chained i v.0 v.1))))
+      | inl y ↦ absurd (not_set v.0 i v.1 (sym (maker_position h o t s.chained)
+          ∙ (ap (position_in t) (sym y) ∙ (sym e ∙ number_at h o t s.chained i v.0 v.1))))
       | inr w ↦
-          let q : v.0 ≡ w.0 = sym (number_at h o t s.chained i v.0 v.1) ∙ (e ∙ number_at h o t s.chained j w.0 w.1) in
+          let q : v.0 ≡ w.0 = sym (number_at h o t s.chained i v.0 v.1)
+          ∙ (e ∙ number_at h o t s.chained j w.0 w.1) in
           numbers.one_number h o t.chains s.chained i j w.0 (subst (IsNumber t.chains i) q v.1) w.1
     ]
   ]
@@ -128,35 +153,52 @@ module _ (h : List Op) (o : ObjectId) (t : ObjectState) (s : IsStateOf h o t) wh
     longer = h ++ a ∷ []
 
     maker_still : IsMaker longer o t.maker
-    maker_still = record { op = s.maker.op; at = got_before h a t.maker s.maker.op s.maker.at; id = s.maker.id; kind = s.maker.kind; made = s.maker.made }
+    maker_still = record {
+      op = s.maker.op;
+      at = got_before h a t.maker s.maker.op s.maker.at;
+      id = s.maker.id;
+      kind = s.maker.kind;
+      made = s.maker.made;
+    }
 
     -- ANOTHER OPERATION, which does not set anything of the object
-    pub state_kept : IsValid h → IsInRange a → IsAccepted h a → ((v : Value) (aim : List OpId) → a.change ≢ Set o v aim) → IsStateOf longer o t
+    pub state_kept : IsValid h → IsInRange a → IsAccepted h a
+        → ((v : Value) (aim : List OpId) → a.change ≢ Set o v aim) → IsStateOf longer o t
     state_kept valid in_range accepted n = record {
       maker = maker_still;
       chained = chains_other h o t.chains s.chained a n;
       index = if_some t.index (λ ix. index_other h o t.chains s.chained a ix) s.index;
       aimed = aimed_other h o t.chains s.chained a t.aimed s.aimed;
       components = components_agree (number_conflict h t) (number_conflict longer t) t.components
-          (λ i j k l. same_conflict h a valid in_range accepted (position_in t i) (position_in t j) (position_within i k) (position_within j l)) s.components;
+          (λ i j k l. same_conflict h a valid in_range accepted (position_in t i) (position_in t j)
+          (position_within i k) (position_within j l)) s.components;
       exactly = s.exactly;
     }
 
     -- ONE MORE SETTER, whose rivals are d
-    module _ (valid : IsValid h) (in_range : IsInRange a) (accepted : IsAccepted h a) (v : Value) {aim : List OpId} (change : a.change ≡ Set o v aim)
+    module _ (valid : IsValid h) (in_range : IsInRange a) (accepted : IsAccepted h a) (v : Value)
+        {aim : List OpId} (change : a.change ≡ Set o v aim)
         (d : List ℕ) (rivals : (n : ℕ) → Contains d n ↔ ConflictsAt h t.chains a n) where
       abbrev site : ℕ
       site = a.id.site - 1
 
       abbrev chains : List (List Setter)
-      chains = with_setter t.chains (attribute_of v) site (record { seq = a.id.seq; position = length h })
+      chains = with_setter t.chains (attribute_of v) site
+          (record { seq = a.id.seq; position = length h })
 
       abbrev x : ℕ
       x = chain_of (attribute_of v) site * block + length (setters t.chains (attribute_of v) site)
 
-      module _ (i : Option (List (Fingerprint × List ℕ))) (index : IfSome i (IsIndex longer chains)) (es : List AimedState) (aimed : AreAimed longer chains es) where
+      module _ (i : Option (List (Fingerprint × List ℕ))) (index : IfSome i (IsIndex longer chains))
+          (es : List AimedState) (aimed : AreAimed longer chains es) where
         abbrev pub grown : ObjectState
-        grown = record { chains = chains; index = i; aimed = es; components = after d x t.components; maker = t.maker }
+        grown = record {
+          chains = chains;
+          index = i;
+          aimed = es;
+          components = after d x t.components;
+          maker = t.maker;
+        }
 
         chained : AreChainsOf longer o chains
         chained = chains_setter h o t.chains s.chained a valid in_range accepted v change
@@ -180,30 +222,40 @@ module _ (h : List Op) (o : ObjectId) (t : ObjectState) (s : IsStateOf h o t) wh
         at_maker = maker_position longer o grown chained
 
         -- what was there stays where it was
-        as_before : (n : ℕ) → Contains (whole t.components).all n → position_in grown n ≡ position_in t n
+        as_before : (n : ℕ) → Contains (whole t.components).all n
+            → position_in grown n ≡ position_in t n
         as_before n i = elim ((s.exactly n).0 i) [
-          | inl e ↦ subst (λ z. position_in grown z ≡ position_in t z) (sym e) (at_maker ∙ sym (maker_position h o t s.chained))
-          | inr w ↦ position_new n w.0 (old_number n w.0 w.1) ∙ sym (number_at h o t s.chained n w.0 w.1)
+          | inl e ↦ subst (λ z. position_in grown z ≡ position_in t z) (sym e)
+              (at_maker ∙ sym (maker_position h o t s.chained))
+          | inr w ↦ position_new n w.0 (old_number n w.0 w.1)
+              ∙ sym (number_at h o t s.chained n w.0 w.1)
         ]
 
         before : AreComponents (number_conflict longer grown) t.components
-        before = components_agree (number_conflict h t) (number_conflict longer grown) t.components (λ i j k l.
-            same_conflict h a valid in_range accepted (position_in t i) (position_in t j) (position_within i k) (position_within j l)
-            ∙ (ap (λ z. conflict_at longer z (position_in t j)) (sym (as_before i k)) ∙ ap (conflict_at longer (position_in grown i)) (sym (as_before j l)))) s.components
+        before = components_agree (number_conflict h t) (number_conflict longer grown) t.components
+            (λ i j k l.
+            same_conflict h a valid in_range accepted (position_in t i) (position_in t j)
+            (position_within i k) (position_within j l)
+            ∙ (ap (λ z. conflict_at longer z (position_in t j)) (sym (as_before i k))
+            ∙ ap (conflict_at longer (position_in grown i)) (sym (as_before j l)))) s.components
 
         -- the number of the operation is new
         is_new : ¬ (Contains (whole t.components).all x)
-        is_new i = let l = position_within x i in let e = as_before x i in let f = at_last in omega (arith, l, e, f)
+        is_new i = let l = position_within x i in let e = as_before x i in let f = at_last in
+            omega (arith, l, e, f)
 
         -- the creation does not conflict with it
         known_maker : (b : Op) → slice_get h t.maker ≡ Some b → ¬ (Conflict h a b)
         known_maker b at k =
             let mine : s.maker.op ≡ b = let y = s.maker.at in cc in
             let m = made_by s.maker.op.change s.maker.kind s.maker.made in
-            maker_calm h o t.chains s.chained valid a accepted v change b (contained_at h t.maker b at) m.0 (ap (λ (z : Op). z.change) (sym mine) ∙ m.1) k
+            maker_calm h o t.chains s.chained valid a accepted v change b
+            (contained_at h t.maker b at) m.0 (ap (λ (z : Op). z.change) (sym mine) ∙ m.1) k
 
-        conflict_last : (n q : ℕ) → position_in grown n ≡ q → number_conflict longer grown x n ≡ conflict_at longer (length h) q
-        conflict_last n q e = ap (λ z. conflict_at longer z (position_in grown n)) at_last ∙ ap (conflict_at longer (length h)) e
+        conflict_last : (n q : ℕ) → position_in grown n ≡ q
+            → number_conflict longer grown x n ≡ conflict_at longer (length h) q
+        conflict_last n q e = ap (λ z. conflict_at longer z (position_in grown n)) at_last
+            ∙ ap (conflict_at longer (length h)) e
 
         comes : IsNewWith (number_conflict longer grown) t.components x d
         comes = record {
@@ -211,24 +263,38 @@ module _ (h : List Op) (o : ObjectId) (t : ObjectState) (s : IsStateOf h o t) wh
           rivals = λ n. (
             λ i.
                 let k = (rivals n).0 i in
-                let told = last_from h a valid in_range accepted k.position k.op k.at k.conflict in
-                ((s.exactly n).1 (inr (k.position, k.number)), conflict_last n k.position (position_new n k.position (old_number n k.position k.number)) ∙ told),
+                let told = last_from h a valid in_range accepted k.position k.op k.at k.conflict in (
+                  (s.exactly n).1 (inr (k.position, k.number)),
+                  conflict_last n k.position
+                      (position_new n k.position (old_number n k.position k.number)) ∙ told,
+                ),
             λ w. elim ((s.exactly n).0 w.0) [
               | inl e ↦
                   let p : position_in grown n ≡ t.maker = ap (position_in grown) e ∙ at_maker in
-                  let k = last_with h a valid in_range accepted t.maker maker_within (sym (conflict_last n t.maker p) ∙ w.1) in
+                  let k = last_with h a valid in_range accepted t.maker maker_within
+                  (sym (conflict_last n t.maker p) ∙ w.1) in
                   absurd (known_maker k.0 k.1 k.2)
               | inr m ↦
                   let l = number_within n m.0 m.1 in
                   let p = position_new n m.0 (old_number n m.0 m.1) in
-                  let k = last_with h a valid in_range accepted m.0 l (sym (conflict_last n m.0 p) ∙ w.1) in
-                  (rivals n).1 (record { position = m.0; op = k.0; number = m.1; at = k.1; conflict = k.2 })
+                  let k = last_with h a valid in_range accepted m.0 l (sym (conflict_last n m.0 p)
+                  ∙ w.1) in
+                  (rivals n).1 (record {
+                    position = m.0;
+                    op = k.0;
+                    number = m.1;
+                    at = k.1;
+                    conflict = k.2;
+                  })
             ],
           );
         }
 
-        step : AreComponents (number_conflict longer grown) (after d x t.components) × ((n : ℕ) → Contains (whole (after d x t.components)).all n ↔ (Contains (whole t.components).all n ⊎ (n ≡ x)))
-        step = components_after (number_conflict longer grown) (numbers_test longer grown) t.components before x d comes
+        step : AreComponents (number_conflict longer grown) (after d x t.components)
+            × ((n : ℕ) → Contains (whole (after d x t.components)).all n
+            ↔ (Contains (whole t.components).all n ⊎ (n ≡ x)))
+        step = components_after (number_conflict longer grown) (numbers_test longer grown)
+            t.components before x d comes
 
         pub state_more : IsStateOf longer o grown
         state_more = record {
@@ -239,35 +305,55 @@ module _ (h : List Op) (o : ObjectId) (t : ObjectState) (s : IsStateOf h o t) wh
           components = step.0;
           exactly = λ n. (
             λ i. elim ((step.1 n).0 i) [
-              | inl j ↦ elim ((s.exactly n).0 j) [ inl e ↦ inl e | inr w ↦ inr (w.0, old_number n w.0 w.1) ]
+              | inl j ↦ elim ((s.exactly n).0 j) [
+                | inl e ↦ inl e
+                | inr w ↦ inr (w.0, old_number n w.0 w.1)
+              ]
               | inr e ↦ inr (length h, subst (λ z. IsNumber chains z (length h)) (sym e) new_number)
             ],
             λ w. (step.1 n).1 (elim w [
               | inl e ↦ inl ((s.exactly n).1 (inl e))
-              | inr k ↦ elim (cases n k.0 k.1) [ inl j ↦ inl ((s.exactly n).1 (inr (k.0, j))) | inr e ↦ inr e.0 ]
+              | inr k ↦ elim (cases n k.0 k.1) [
+                | inl j ↦ inl ((s.exactly n).1 (inr (k.0, j)))
+                | inr e ↦ inr e.0
+              ]
             ]),
           );
         }
 
 -- one more setter, by what the calls gave
-module _ (h : List Op) (o : ObjectId) (t : ObjectState) (s : IsStateOf h o t) (a : Op) (valid : IsValid h) (in_range : IsInRange a) (accepted : IsAccepted h a)
-    (v : Value) {aim : List OpId} (change : a.change ≡ Set o v aim) (u : Attr) (own : u ≡ attribute_of v) where
+module _ (h : List Op) (o : ObjectId) (t : ObjectState) (s : IsStateOf h o t) (a : Op)
+    (valid : IsValid h) (in_range : IsInRange a) (accepted : IsAccepted h a)
+    (v : Value) {aim : List OpId} (change : a.change ≡ Set o v aim) (u : Attr)
+    (own : u ≡ attribute_of v) where
   abbrev place : ℕ
   place = a.id.site - 1
 
-  pub behind : (i : ℕ) (e : Setter) → i < length (setters t.chains u place) → (get_or (setters t.chains u place) i e).seq < a.id.seq
-  behind = subst (λ z. (i : ℕ) (e : Setter) → i < length (setters t.chains z place) → (get_or (setters t.chains z place) i e).seq < a.id.seq) (sym own)
+  pub behind : (i : ℕ) (e : Setter) → i < length (setters t.chains u place)
+      → (get_or (setters t.chains u place) i e).seq < a.id.seq
+  behind = subst (λ z. (i : ℕ) (e : Setter) → i < length (setters t.chains z place)
+      → (get_or (setters t.chains z place) i e).seq < a.id.seq) (sym own)
       (behind_all h o t.chains s.chained a valid in_range accepted v change)
 
   aimed_added : (us : List ℕ) (is : List OpId) → aim_of a ≡ is → AreNumbersOf h t.chains is us →
-      AreAimed (h ++ a ∷ []) (with_setter t.chains (attribute_of v) place (record { seq = a.id.seq; position = length h }))
-      (with_aim is (record { number = chain_of (attribute_of v) place * block + length (setters t.chains (attribute_of v) place); aim = us }) t.aimed)
-  aimed_added us [] e f = aimed_none h o t.chains s.chained a valid in_range accepted v change t.aimed s.aimed e
-  aimed_added us (i ∷ is) e f = aimed_more h o t.chains s.chained a valid in_range accepted v change t.aimed us s.aimed (subst (λ z. AreNumbersOf h t.chains z us) (sym e) f)
+      AreAimed (h ++ a ∷ []) (with_setter t.chains (attribute_of v) place
+      (record { seq = a.id.seq; position = length h }))
+      (with_aim is (record {
+        number = chain_of (attribute_of v) place * block + length
+            (setters t.chains (attribute_of v) place);
+        aim = us;
+      }) t.aimed)
+  aimed_added us [] e f = aimed_none h o t.chains s.chained a valid in_range accepted v change
+      t.aimed s.aimed e
+  aimed_added us (i ∷ is) e f = aimed_more h o t.chains s.chained a valid in_range accepted v change
+      t.aimed us s.aimed (subst (λ z. AreNumbersOf h t.chains z us) (sym e) f)
 
-  pub state_added : (d : List ℕ) → ((n : ℕ) → Contains d n ↔ ConflictsAt h t.chains a n) → (us : List ℕ) → AreNumbersOf h t.chains (aim_of a) us →
+  pub state_added : (d : List ℕ) → ((n : ℕ) → Contains d n ↔ ConflictsAt h t.chains a n)
+      → (us : List ℕ) → AreNumbersOf h t.chains (aim_of a) us →
       (n p : ℕ) → n ≡ chain_of u place * block + length (setters t.chains u place) → p ≡ length h →
-      (i : Option (List (Fingerprint × List ℕ))) → IfSome i (λ new. (old : List (Fingerprint × List ℕ)) × IsIndex h t.chains old × PutsNumber old (fingerprint_of v) n new) →
+      (i : Option (List (Fingerprint × List ℕ)))
+      → IfSome i (λ new. (old : List (Fingerprint × List ℕ)) × IsIndex h t.chains old × PutsNumber
+      old (fingerprint_of v) n new) →
       (w : ObjectState) → w ≡ record {
         chains = with_setter t.chains u place (record { seq = a.id.seq; position = p });
         index = i;
@@ -276,58 +362,107 @@ module _ (h : List Op) (o : ObjectId) (t : ObjectState) (s : IsStateOf h o t) (a
         maker = t.maker;
       } → IsStateOf (h ++ a ∷ []) o w
   state_added d rivals us are n p number position i index w is =
-      let chains : with_setter t.chains u place (record { seq = a.id.seq; position = p }) ≡ with_setter t.chains (attribute_of v) place (record { seq = a.id.seq; position = length h }) =
+      let chains : with_setter t.chains u place
+      (record { seq = a.id.seq; position = p }) ≡ with_setter t.chains (attribute_of v) place
+      (record { seq = a.id.seq; position = length h }) =
       ap (λ z. with_setter t.chains z place (record { seq = a.id.seq; position = p })) own
-      ∙ ap (λ z. with_setter t.chains (attribute_of v) place (record { seq = a.id.seq; position = z })) position in
-      let last : n ≡ chain_of (attribute_of v) place * block + length (setters t.chains (attribute_of v) place) = number ∙ ap (λ z. chain_of z place * block + length (setters t.chains z place)) own in
-      let tells_new = if_some i (λ new w. index_setter h o t.chains s.chained a valid in_range accepted v change w.0 new w.1 (subst (λ z. PutsNumber w.0 (fingerprint_of v) z new) last w.2)) index in
-      let es = with_aim (aim_of a) (record { number = chain_of (attribute_of v) place * block + length (setters t.chains (attribute_of v) place); aim = us }) t.aimed in
-      let whole_is : w ≡ grown h o t s a valid in_range accepted v change d rivals i tells_new es (aimed_added us (aim_of a) refl are) =
-      is ∙ (λ j. record { chains = chains j; index = i; aimed = with_aim (aim_of a) (record { number = last j; aim = us }) t.aimed; components = after d (last j) t.components; maker = t.maker }) in
-      subst (IsStateOf (h ++ a ∷ []) o) (sym whole_is) (state_more h o t s a valid in_range accepted v change d rivals i tells_new es (aimed_added us (aim_of a) refl are))
+      ∙ ap (λ z. with_setter t.chains (attribute_of v) place
+      (record { seq = a.id.seq; position = z })) position in
+      let last : n ≡ chain_of (attribute_of v) place * block + length
+      (setters t.chains (attribute_of v) place) = number
+      ∙ ap (λ z. chain_of z place * block + length (setters t.chains z place)) own in
+      let tells_new = if_some i (λ new w. index_setter h o t.chains s.chained a valid in_range
+      accepted v change w.0 new w.1 (subst (λ z. PutsNumber w.0 (fingerprint_of v) z new) last w.2))
+      index in
+      let es = with_aim (aim_of a)
+      (record {
+        number = chain_of (attribute_of v) place * block + length
+            (setters t.chains (attribute_of v) place);
+        aim = us;
+      }) t.aimed in
+      let whole_is : w ≡ grown h o t s a valid in_range accepted v change d rivals i tells_new es
+      (aimed_added us (aim_of a) refl are) =
+      is ∙ (λ j. record {
+        chains = chains j;
+        index = i;
+        aimed = with_aim (aim_of a) (record { number = last j; aim = us }) t.aimed;
+        components = after d (last j) t.components;
+        maker = t.maker;
+      }) in
+      subst (IsStateOf (h ++ a ∷ []) o) (sym whole_is) (state_more h o t s a valid in_range accepted
+      v change d rivals i tells_new es (aimed_added us (aim_of a) refl are))
 
 -- A CREATION, of an object that no operation of h changes
-module _ (h : List Op) (a : Op) (o : ObjectId) (k : Kind) (id : a.id ≡ o.0) (is_made : made_kind a.change ≡ Some k)
-    (none : (q : ℕ) (b : Op) (v : Value) (aim : List OpId) → slice_get h q ≡ Some b → b.change ≢ Set o v aim) where
+module _ (h : List Op) (a : Op) (o : ObjectId) (k : Kind) (id : a.id ≡ o.0)
+    (is_made : made_kind a.change ≡ Some k)
+    (none : (q : ℕ) (b : Op) (v : Value) (aim : List OpId) → slice_get h q ≡ Some b
+    → b.change ≢ Set o v aim) where
   abbrev new : ObjectState
   new = made (length h)
 
   no_number : (n q : ℕ) → ¬ (IsNumber no_chains n q)
-  no_number n q j = let w = (empty_chains o).each j.attribute j.site j.index j.setter j.within j.at in let e = w.at in absurd cc
+  no_number n q j = let w = (empty_chains o).each j.attribute j.site j.index j.setter j.within
+      j.at in let e = w.at in absurd cc
 
   not_a : (v : Value) (aim : List OpId) → a.change ≢ Set o v aim
   not_a v aim e = let n : made_kind a.change ≡ None = ap made_kind e in absurd cc
 
   alone : (n : ℕ) → Contains new.components.free n → n ≡ maker_number
-  alone n i = elim (Contains-cons_cases maker_number [] n i) [ inl e ↦ e | inr j ↦ absurd (not_Contains-nil n j) ]
+  alone n i = elim (Contains-cons_cases maker_number [] n i) [
+    | inl e ↦ e
+    | inr j ↦ absurd (not_Contains-nil n j)
+  ]
 
   pub state_made : IsStateOf (h ++ a ∷ []) o new
   state_made = record {
     maker = record { op = a; at = got_last h a; id = id; kind = k; made = is_made };
     chained = record {
-      each = λ t s p e l i. absurd (no_number (chain_of t s * block + p) e.position (record { attribute = t; site = s; within = l; index = p; setter = e; at = i; number = refl; position = refl }));
-      all = λ q b v m e c. elim (got_cases h a q b e) [ inl i ↦ absurd (none q b v m i c) | inr i ↦ absurd (not_a v m (ap (λ (z : Op). z.change) i ∙ c)) ];
+      each = λ t s p e l i. absurd (no_number (chain_of t s * block + p) e.position
+          (record {
+            attribute = t;
+            site = s;
+            within = l;
+            index = p;
+            setter = e;
+            at = i;
+            number = refl;
+            position = refl;
+          }));
+      all = λ q b v m e c. elim (got_cases h a q b e) [
+        | inl i ↦ absurd (none q b v m i c)
+        | inr i ↦ absurd (not_a v m (ap (λ (z : Op). z.change) i ∙ c))
+      ];
       ordered = (empty_chains o).ordered;
       count = (empty_chains o).count;
     };
     index = tt;
     aimed = none_aimed (h ++ a ∷ []) no_chains no_number;
     components = record {
-      rises = rising_cons nat_cmp nat_cmp_total maker_number [] (λ i d l. absurd (omega arith)) (rising_nil nat_cmp nat_cmp_total);
+      rises = rising_cons nat_cmp nat_cmp_total maker_number [] (λ i d l. absurd (omega arith))
+          (rising_nil nat_cmp nat_cmp_total);
       calm = λ i j e f.
           let x = alone i e in let y = alone j f in
-          ap (λ z. number_conflict (h ++ a ∷ []) new z j) x ∙ (ap (number_conflict (h ++ a ∷ []) new maker_number) y ∙ (numbers_test (h ++ a ∷ []) new).alone maker_number);
+          ap (λ z. number_conflict (h ++ a ∷ []) new z j) x
+          ∙ (ap (number_conflict (h ++ a ∷ []) new maker_number) y
+          ∙ (numbers_test (h ++ a ∷ []) new).alone maker_number);
       components = λ p i. absurd (not_Contains-nil p i);
       loose = λ p i. absurd (not_Contains-nil p i);
       apart = tt;
     };
-    exactly = λ n. (λ i. inl (alone n i), λ w. elim w [ inl e ↦ subst (Contains (maker_number ∷ [])) (sym e) (Contains-cons_head maker_number []) | inr j ↦ absurd (no_number n j.0 j.1) ]);
+    exactly = λ n. (
+      λ i. inl (alone n i),
+      λ w. elim w [
+        | inl e ↦ subst (Contains (maker_number ∷ [])) (sym e) (Contains-cons_head maker_number [])
+        | inr j ↦ absurd (no_number n j.0 j.1)
+      ],
+    );
   }
 
 -- ---- the rivals of the next operation
 
 -- where no setter is unknown, there is no rival
-pub no_rivals : (h : List Op) (o : ObjectId) (cs : List (List Setter)) (v : Value) (past : Clock) (u : List ℕ) → u ≡ [] →
+pub no_rivals : (h : List Op) (o : ObjectId) (cs : List (List Setter)) (v : Value) (past : Clock)
+    (u : List ℕ) → u ≡ [] →
     ((n : ℕ) → Contains u n ↔ IsUnknown cs (attribute_of v) past 8 n) → AreRivals h o cs v past u
 no_rivals h o cs v past u none f n = (
   λ i. absurd (not_Contains-nil n (subst (λ z. Contains z n) none i)),
@@ -335,25 +470,35 @@ no_rivals h o cs v past u none f n = (
 )
 
 -- an index that is there chained
-pub index_there : (h : List Op) (o : ObjectId) (t : ObjectState) → IsStateOf h o t → (ix : List (Fingerprint × List ℕ)) → t.index ≡ Some ix → IsIndex h t.chains ix
+pub index_there : (h : List Op) (o : ObjectId) (t : ObjectState) → IsStateOf h o t
+    → (ix : List (Fingerprint × List ℕ)) → t.index ≡ Some ix → IsIndex h t.chains ix
 index_there h o t s ix e = subst (λ r. IfSome r (IsIndex h t.chains)) e s.index
 
 -- what the table finds of the next operation's conflicts
-module _ (h : List Op) (o : ObjectId) (t : ObjectState) (s : IsStateOf h o t) (a : Op) (valid : IsValid h) (in_range : IsInRange a) (accepted : IsAccepted h a)
-    (v : Value) {aim : List OpId} (change : a.change ≡ Set o v aim) (us : List ℕ) (are : AreNumbersOf h t.chains (aim_of a) us) where
+module _ (h : List Op) (o : ObjectId) (t : ObjectState) (s : IsStateOf h o t) (a : Op)
+    (valid : IsValid h) (in_range : IsInRange a) (accepted : IsAccepted h a)
+    (v : Value) {aim : List OpId} (change : a.change ≡ Set o v aim) (us : List ℕ)
+    (are : AreNumbersOf h t.chains (aim_of a) us) where
   -- what clashes with one of the aim is of its component
   met_by_aim : (m n : ℕ) → Contains us m → Clash h t.chains m n → IsMetByAim h t us n
   met_by_aim m n i c =
       let w = clash_numbers h o t.chains s.chained m n c in
-      let told : conflict_at h w.0 w.1 ≡ true = conflict_from h valid w.0 w.1 c.first c.second w.4 w.5 (conflict_direct h c.first c.second c.direct) in
-      let same : number_conflict h t m n ≡ true = ap (λ z. conflict_at h z (position_in t n)) (number_at h o t s.chained m w.0 w.2) ∙ (ap (conflict_at h w.0) (number_at h o t s.chained n w.1 w.3) ∙ told) in
-      let r = conflict_reached (number_conflict h t) (numbers_test h t) t.components s.components us m n i ((s.exactly m).1 (inr (w.0, w.2))) ((s.exactly n).1 (inr (w.1, w.3))) same in
+      let told : conflict_at h w.0 w.1 ≡ true = conflict_from h valid w.0 w.1 c.first c.second w.4
+      w.5 (conflict_direct h c.first c.second c.direct) in
+      let same : number_conflict h t m n ≡ true = ap (λ z. conflict_at h z (position_in t n))
+      (number_at h o t s.chained m w.0 w.2)
+      ∙ (ap (conflict_at h w.0) (number_at h o t s.chained n w.1 w.3) ∙ told) in
+      let r = conflict_reached (number_conflict h t) (numbers_test h t) t.components s.components us
+      m n i ((s.exactly m).1 (inr (w.0, w.2))) ((s.exactly n).1 (inr (w.1, w.3))) same in
       record { reached = r.1; one = m; among = i; one_reached = r.0; clash = c }
 
-  pub rivals_found : (own met d : List ℕ) → AreRivals h o t.chains v a.past own → ((n : ℕ) → Contains met n ↔ (Contains own n ⊎ IsMetByAim h t us n)) →
-      ((n : ℕ) → Contains d n ↔ (Contains met n ⊎ AimsAtOne t.aimed met n)) → (n : ℕ) → Contains d n ↔ ConflictsAt h t.chains a n
+  pub rivals_found : (own met d : List ℕ) → AreRivals h o t.chains v a.past own
+      → ((n : ℕ) → Contains met n ↔ (Contains own n ⊎ IsMetByAim h t us n)) →
+      ((n : ℕ) → Contains d n ↔ (Contains met n ⊎ AimsAtOne t.aimed met n)) → (n : ℕ)
+      → Contains d n ↔ ConflictsAt h t.chains a n
   rivals_found own met d rivals met_are d_are =
       aims_conflict h o t.chains s.chained valid a accepted v change t.aimed s.aimed met d
-      (aim_met h o t.chains s.chained valid a accepted v change own us met (IsMetByAim h t us) (rivals_conflict h o t.chains s.chained valid a in_range accepted v change own rivals) are
+      (aim_met h o t.chains s.chained valid a accepted v change own us met (IsMetByAim h t us)
+      (rivals_conflict h o t.chains s.chained valid a in_range accepted v change own rivals) are
       (λ n w. record { one = w.one; among = w.among; clash = w.clash }) met_by_aim met_are)
       d_are

@@ -53,7 +53,8 @@ module _ (s : ℕ) (h : List Op) where
         | inr e ↦ subst (λ (x : Op). (x.id.site ≡ s) × (count_of h s < x.id.seq)) e (
           site,
           let l = added_more made m in
-              let q = subst (λ r. b.id.seq ≡ count_of (h ++ made) r + 1) site accepted.next.numbered.seq
+              let q = subst (λ r. b.id.seq ≡ count_of (h ++ made) r + 1) site
+              accepted.next.numbered.seq
               in omega arith,
         )
       ]

@@ -129,7 +129,8 @@ form_again (Polygon ps) place fits = polygon_again (points_moved ps place)
 
 module _ (h : List Op) (valid : IsValid h) (items : List (Placed AnyShape))
     (ranked : AreRanked h items) where
-  item_again : (i : Placed AnyShape) → Contains items i → shape_become (any_outline i.shape) ≡ i.shape
+  item_again : (i : Placed AnyShape) → Contains items i
+      → shape_become (any_outline i.shape) ≡ i.shape
   item_again i c =
       let w = (ranked.exactly i).1 c in
       let fits = and_parts (is_form w.version.form) (is_near w.version.place)
@@ -137,7 +138,8 @@ module _ (h : List Op) (valid : IsValid h) (items : List (Placed AnyShape))
       subst (λ (j : Placed AnyShape). shape_become (any_outline j.shape) ≡ j.shape) (sym w.placed)
       (form_again w.version.form w.version.place fits.0)
 
-  pub items_again : All (λ (i : Placed AnyShape). shape_become (any_outline i.shape) ≡ i.shape) items
+  pub items_again : All (λ (i : Placed AnyShape). shape_become (any_outline i.shape) ≡ i.shape)
+      items
   items_again = λ k d l. item_again (get_or items k d) (Contains-get_or items k d l)
 
 module _ (table : Table) where
@@ -152,7 +154,8 @@ module _ (table : Table) where
   looks_traced (i ∷ items) [] again e = absurd cc
   looks_traced (i ∷ items) (f ∷ fs) again e =
       let Again : Placed AnyShape → Type 0 = λ j. shape_become (any_outline j.shape) ≡ j.shape in
-      let head : trace (any_outline i.shape) i.colour ≡ trace f.shape (figure_colour table f) = cc in
+      let head : trace (any_outline i.shape) i.colour ≡ trace f.shape (figure_colour table f) = cc
+      in
       let rest : map (λ (i : Placed AnyShape). trace (any_outline i.shape) i.colour) items
       ≡ map (λ (f : Figure Outline). trace f.shape (figure_colour table f)) fs = cc in
       let shape : i.shape ≡ shape_become f.shape =

@@ -132,7 +132,8 @@ pub tested_apart : (o other : Outline) (a b : Bounds) → IsBounds (outline_hold
 tested_apart o other a b s t w = elim (cases_Bool (are_apart a b)) [
   | inl e ↦ e
   | inr f ↦
-      let m = meet a b (bounds_wide (outline_holds o) a s) (bounds_wide (outline_holds other) b t) f in
+      let m = meet a b (bounds_wide (outline_holds o) a s) (bounds_wide (outline_holds other) b t) f
+      in
       absurd (w.apart m.0 (within_other (outline_holds o) a w.bounds s w.is_bounds m.0 m.1)
       (within_other (outline_holds other) b w.others t w.is_others m.0 m.2))
 ]

@@ -111,7 +111,8 @@ module _ (table : Table) where
   alike_lawful fs gs (both {fs = ks} {gs = hs} f g a more) =
       All-cons (λ (x : Figure Outline). IsLawful x.shape) g hs a.others (alike_lawful ks hs more)
 
-  alike_same : (fs gs : List (Figure Outline)) → AreAlike table fs gs → map of_figure fs ≡ map of_figure gs
+  alike_same : (fs gs : List (Figure Outline)) → AreAlike table fs gs
+      → map of_figure fs ≡ map of_figure gs
   alike_same fs gs no_more = refl
   alike_same fs gs (both {fs = ks} {gs = hs} f g a more) =
       let rest = alike_same ks hs more in λ k. (a.form k, a.place k, a.colour k) ∷ rest k
@@ -124,7 +125,8 @@ module _ (table : Table) where
   shown_step i items old new whole t traced (next {rest = rest} {order = order} g out more) =
       let like = head_traced i items g order traced in
       let others = tail_traced i items g order traced in
-      let moved = beside (any_outline i.shape) i.colour t.before t.figure t.after g rest t.unlike like
+      let moved = beside (any_outline i.shape) i.colour t.before t.figure t.after g rest t.unlike
+      like
       (subst (λ l. TakesOut table g l rest) t.whole out) in
       elim moved [
         | inl w ↦ record {

@@ -59,7 +59,8 @@ module _ (keep : Op → Bool) where
       → filter keep (h ++ a ∷ []) ≡ filter keep h ++ a ∷ []
   kept_more h a e = kept_push h a true e
 
-  pub kept_same : (h : List Op) (a : Op) → keep a ≡ false → filter keep (h ++ a ∷ []) ≡ filter keep h
+  pub kept_same : (h : List Op) (a : Op) → keep a ≡ false
+      → filter keep (h ++ a ∷ []) ≡ filter keep h
   kept_same h a e = kept_push h a false e ∙ append-nil (filter keep h)
 
 -- ---- what is kept is accepted

@@ -147,7 +147,8 @@ module _ {R X : Type 0} (view : R → X) where
     pub seen_not : (k : ℕ) (r : R) → k < length refs → r ≡ get_or refs k r → ¬ (P (view r))
         → ¬ (All P (map view refs))
     seen_not k r l e other all =
-        let parts = subst (All P) (split_at (map view refs) k (view r) (map_get refs k r l e)) all in
+        let parts = subst (All P) (split_at (map view refs) k (view r) (map_get refs k r l e)) all
+        in
         other (at_middle (take k (map view refs)) (view r) (drop (suc k) (map view refs)) parts)
       where
         at_middle : (before : List X) (x : X) (after : List X) → All P (before ++ x ∷ after) → P x

@@ -60,7 +60,8 @@ module _ (table : Table) where
       ∙ (ap (λ s. any_holds s p) (λ i. form_at (a.form i) (a.place i))
       ∙ shape_become_holds g.shape p a.others)
 
-  outline_alike : (f g : Figure Outline) → IsAlike f g → outline_holds f.shape ≡ outline_holds g.shape
+  outline_alike : (f g : Figure Outline) → IsAlike f g
+      → outline_holds f.shape ≡ outline_holds g.shape
   outline_alike f g a = λ i p. holds_alike f g a p i
 
   pub swap_alike : (f g x : Figure Outline) → IsAlike f g → CanSwap table f x → CanSwap table g x
@@ -106,7 +107,8 @@ module _ (table : Table) where
       record { left = x ∷ w.left; taken = behind x u w.taken; then = behind x s w.then }
 
   -- the second list is the first with its figure f moved to where g is taken out
-  pub data IsMoved (f g : Figure Outline) : List (Figure Outline) → List (Figure Outline) → Type 0 where
+  pub data IsMoved (f g : Figure Outline) : List (Figure Outline) → List (Figure Outline)
+      → Type 0 where
     moved : {fs gs : List (Figure Outline)} → TakesOut table g gs fs → IsMoved f g (f ∷ fs) gs
     passed : {fs gs : List (Figure Outline)} (x : Figure Outline) → IsMoved f g fs gs
         → IsMoved f g (x ∷ fs) (x ∷ gs)
@@ -164,7 +166,8 @@ module _ (table : Table) where
                 (all_like others (All-tail Lawful e others lawful));
           }
           | inr w ↦
-              let r = moved_reorders rest w.left others w.still (All-tail Lawful e others lawful) more in
+              let r = moved_reorders rest w.left others w.still (All-tail Lawful e others lawful)
+              more in
               record {
                 order = e ∷ r.order;
                 reordered = next e w.taken r.reordered;
@@ -177,4 +180,5 @@ module _ (table : Table) where
         all_like [] all = no_more
         all_like (x ∷ xs) all =
             let Lawful : Figure Outline → Type 0 = λ y. IsLawful y.shape in
-            both x x (own_like x (All-head Lawful x xs all)) (all_like xs (All-tail Lawful x xs all))
+            both x x (own_like x (All-head Lawful x xs all))
+            (all_like xs (All-tail Lawful x xs all))

@@ -3,7 +3,8 @@ use Rattle.std.proofs.Common.{◌≡◌, ℕ, zero, suc, ◌+◌, ◌≤◌, ◌
 use Rattle.std.proofs.Common.{◌∷◌, ◌++◌, filter, length, take, get_or, refl, sym, ap, subst, ◌∙◌}
 use Rattle.std.proofs.Common.{inl, inr, arith}
 use Rattle.std.specs.Prelude.{◌⊎◌, Contains, max, nat_eq, nat_le}
-use Rattle.std.proofs.lemmas.Bool.{cases_Bool, cases_lt, eq-eqb, eqb-true, le-leb, leb-true, or_cases, or_left, or_right}
+use Rattle.std.proofs.lemmas.Bool.{cases_Bool, cases_lt, eq-eqb, eqb-true, le-leb, leb-true}
+use Rattle.std.proofs.lemmas.Bool.{or_cases, or_left, or_right}
 use Rattle.std.proofs.lemmas.List.{take_more}
 use Rattle.std.proofs.lemmas.List.Elements.{Contains-append_left, Contains-get_or, Contains-push}
 use Rattle.std.proofs.lemmas.List.Elements.{Contains-push_cases}
@@ -24,7 +25,8 @@ use Rattle.gf_take.proofs.PartLemmas.{known_before}
 -- ---- the reach of one more operation
 
 module _ (s : ℕ) (c : Clock) (t : ℕ) where
-  reached_more : (h : List Op) (a : Op) (n : ℕ) → ReachesTo s c t h n → ReachesTo s c t (h ++ a ∷ []) n
+  reached_more : (h : List Op) (a : Op) (n : ℕ) → ReachesTo s c t h n
+      → ReachesTo s c t (h ++ a ∷ []) n
   reached_more h a n r = record {
     op = r.op;
     contained = Contains-append_left h (a ∷ []) r.op r.contained;
@@ -105,7 +107,8 @@ module _ (s : ℕ) (c : Clock) where
   seen_from x (inl l) = or_right _ _ (le-leb x.id.seq (entry c x.id.site) l)
   seen_from x (inr e) = or_left _ _ (eq-eqb x.id.site s e)
 
-  module _ (h : List Op) (valid : IsValid h) (reach : Clock) (reached : AreReached s c h reach) where
+  module _ (h : List Op) (valid : IsValid h) (reach : Clock)
+      (reached : AreReached s c h reach) where
     site_of : (a : Op) → Contains h a → IsSite a.id.site
     site_of a m = site_in_range a (valid.in_range a m)
 
@@ -195,7 +198,8 @@ module _ (s : ℕ) (c : Clock) (h : List Op) (valid : IsValid h) (reach : Clock)
       → IsAccepted (filter (is_counted reach) (take i h)) a
   item_accepted run t =
       subst (IsAccepted (filter (is_counted reach) (take i h))) (sym is)
-      (next_kept h valid (is_counted reach) (counted_closed s c h valid reach reached) run i a within
+      (next_kept h valid (is_counted reach) (counted_closed s c h valid reach reached) run i a
+      within
       (subst (λ x. is_counted reach x ≡ true) is t))
 
   pub item_counted : is_counted reach a ≡ true → filter (is_counted reach) (take (i + 1) h)

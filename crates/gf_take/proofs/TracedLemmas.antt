@@ -30,10 +30,12 @@ module _ (table : Table) where
   of_figure f = trace f.shape (figure_colour table f)
 
   traced_push : (items : List (Placed AnyShape)) (fs : List (Figure Outline)) (i : Placed AnyShape)
-      (f : Figure Outline) → AreTraced table items fs → IsTraced table (any_outline i.shape) i.colour f
+      (f : Figure Outline) → AreTraced table items fs
+      → IsTraced table (any_outline i.shape) i.colour f
       → AreTraced table (items ++ i ∷ []) (fs ++ f ∷ [])
   traced_push items fs i f t one =
-      let last : of_item i ≡ of_figure f = λ k. (one.alike.form k, one.alike.place k, one.colour k) in
+      let last : of_item i ≡ of_figure f = λ k. (one.alike.form k, one.alike.place k, one.colour k)
+      in
       record {
         same = map-append of_item items (i ∷ [])
             ∙ ((λ k. t.same k ++ last k ∷ []) ∙ sym (map-append of_figure fs (f ∷ [])));
@@ -66,7 +68,8 @@ module _ (table : Table) where
     traced_at [] refs k i r l m p q t = absurd (omega arith)
     traced_at (j ∷ items) [] k i r l m p q t = absurd (omega arith)
     traced_at (j ∷ items) (s ∷ refs) zero i r l m p q t =
-        let same : of_item j ∷ map of_item items ≡ of_figure (view s) ∷ map of_figure (map view refs) =
+        let same : of_item j ∷ map of_item items ≡ of_figure (view s) ∷ map of_figure
+        (map view refs) =
         t.same in
         let head : of_item j ≡ of_figure (view s) = cc in
         let first : IsTraced table (any_outline j.shape) j.colour (view s) = record {
@@ -77,10 +80,12 @@ module _ (table : Table) where
           };
           colour = ap (λ (x : Trace). x.2) head;
         } in
-        subst (λ (x : Placed AnyShape). IsTraced table (any_outline x.shape) x.colour (view r)) (sym p)
+        subst (λ (x : Placed AnyShape). IsTraced table (any_outline x.shape) x.colour (view r))
+        (sym p)
         (subst (λ y. IsTraced table (any_outline j.shape) j.colour (view y)) (sym q) first)
     traced_at (j ∷ items) (s ∷ refs) (suc k) i r l m p q t =
-        let same : of_item j ∷ map of_item items ≡ of_figure (view s) ∷ map of_figure (map view refs) =
+        let same : of_item j ∷ map of_item items ≡ of_figure (view s) ∷ map of_figure
+        (map view refs) =
         t.same in
         let rest : map of_item items ≡ map of_figure (map view refs) = cc in
         traced_at items refs k i r (omega arith) (omega arith) p q

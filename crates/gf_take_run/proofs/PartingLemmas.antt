@@ -1,5 +1,7 @@
 -- Where a line of a text begins that is behind a place without the end of a line.
-use Rattle.std.proofs.Common.{◌≡◌, ℕ, ◌+◌, ◌-◌, ◌<◌, ◌≤◌, ◌++◌, take, Bool, true, false, List, nat_eq, refl, length, drop, get_or, inl, inr, sym, ap, ◌∙◌, arith, eq-eqb}
+use Rattle.std.proofs.Common.{◌≡◌, ℕ, ◌+◌, ◌-◌, ◌<◌, ◌≤◌, ◌++◌, take, Bool, true, false, List}
+use Rattle.std.proofs.Common.{nat_eq, refl, length, drop, get_or, inl, inr, sym, ap, ◌∙◌, arith}
+use Rattle.std.proofs.Common.{eq-eqb}
 use Rattle.std.specs.Prelude.{◌⊎◌, Some, codes, slice_get}
 use Rattle.std.specs.List.{starts_with}
 use Rattle.std.proofs.lemmas.Bool.{cases_lt, eqb-true, true≢false}

@@ -1,5 +1,6 @@
 -- What an operation knows that a drawing did not know.
-use Rattle.std.proofs.Common.{◌≡◌, ◌≢◌, ℕ, ◌+◌, ◌<◌, ◌≤◌, List, [], ◌∷◌, ◌++◌, length, get_or, take, inl, inr, sym, subst, ◌∙◌, arith, ap}
+use Rattle.std.proofs.Common.{◌≡◌, ◌≢◌, ℕ, ◌+◌, ◌<◌, ◌≤◌, List, [], ◌∷◌, ◌++◌, length, get_or, take}
+use Rattle.std.proofs.Common.{inl, inr, sym, subst, ◌∙◌, arith, ap}
 use Rattle.std.specs.Prelude.{Contains, IfNone, IfSome, None, Option, Some}
 use Rattle.std.proofs.lemmas.Bool.{le-leb, leb-true}
 use Rattle.std.proofs.lemmas.List.{take_more}
@@ -23,7 +24,8 @@ module _ (s : ℕ) (seen : Clock) (h : List Op) (valid : IsValid h) (known : Clo
   -- what the drawing knew is counted
   was_counted : (x : Op) → Contains h x → WasKnown seen h x → x.id.seq ≤ entry known x.id.site
   was_counted x m w =
-      leb-true x.id.seq (entry known x.id.site) (known_counted 0 seen h valid known reached x (record {
+      leb-true x.id.seq (entry known x.id.site) (known_counted 0 seen h valid known reached x
+      (record {
         contained = m;
         seen = w.counted;
         there = w.contained;
@@ -34,7 +36,8 @@ module _ (s : ℕ) (seen : Clock) (h : List Op) (valid : IsValid h) (known : Clo
   -- what is counted the drawing knew
   counted_was : (x : Op) → Contains h x → x.id.seq ≤ entry known x.id.site → WasKnown seen h x
   counted_was x m l =
-      let k = counted_known 0 seen h valid known reached x m (le-leb x.id.seq (entry known x.id.site) l) in
+      let k = counted_known 0 seen h valid known reached x m
+      (le-leb x.id.seq (entry known x.id.site) l) in
       elim k.is_seen [
         | inl w ↦ record { counted = k.seen; contained = k.there; within = w; known = k.known }
         | inr z ↦ let i = site_of k.seen k.there in let f = i.0 in absurd (omega (arith, z, f))
@@ -46,7 +49,8 @@ module _ (s : ℕ) (seen : Clock) (h : List Op) (valid : IsValid h) (known : Clo
   beyond_newer a m own after i b =
       let fewer = b.fewer in
       let last = b.last in
-      let t = valid.closed a m i (record { site = b.site; first = omega arith; last = omega (arith, last) }) in
+      let t = valid.closed a m i
+      (record { site = b.site; first = omega arith; last = omega (arith, last) }) in
       let site = ap (λ (j : OpId). j.site) t.id in
       let seq = ap (λ (j : OpId). j.seq) t.id in
       record {
@@ -59,7 +63,8 @@ module _ (s : ℕ) (seen : Clock) (h : List Op) (valid : IsValid h) (known : Clo
           other = λ e. b.other (sym site ∙ e);
           knows = before t.op site seq;
           unknown = λ w.
-              let l = subst (λ k. t.op.id.seq ≤ entry known k) site (was_counted t.op t.contained w) in
+              let l = subst (λ k. t.op.id.seq ≤ entry known k) site (was_counted t.op t.contained w)
+              in
               absurd (omega (arith, l, seq, fewer));
         };
         id = sym t.id;

@@ -1,5 +1,6 @@
 -- What was read of operation lines, and what is written of operations.
-use Rattle.std.proofs.Common.{◌≡◌, ℕ, ◌+◌, ◌<◌, List, [], ◌∷◌, ◌++◌, length, get_or, take, refl, sym, ap, subst, ◌∙◌, inl, inr}
+use Rattle.std.proofs.Common.{◌≡◌, ℕ, ◌+◌, ◌<◌, List, [], ◌∷◌, ◌++◌, length, get_or, take, refl}
+use Rattle.std.proofs.Common.{sym, ap, subst, ◌∙◌, inl, inr}
 use Rattle.std.specs.Prelude.{All, Err, IfErr, IfOk, IfSome, None, Ok, Option, Result, Some, find}
 use Rattle.std.proofs.lemmas.Grind.{flat_map-append}
 use Rattle.std.proofs.lemmas.List.{append-nil, take_more}
@@ -45,7 +46,8 @@ use Rattle.gf_take_run.specs.declared.taking.TakenText.{TakenText}
 use Rattle.gf_take_run.specs.Parting.{IsParted}
 use Rattle.gf_take_run.specs.SeenDrawing.{AreThere, IsAbsent, IsNewer, since_drawing}
 use Rattle.gf_take_run.specs.TakenText.{DenotesDrawing, DenotesLines}
-use Rattle.gf_take_run.specs.TakeRun.{HasBlockingLine, HasNewer, IsTakeOf, ReadsBoth, RefusesChanges}
+use Rattle.gf_take_run.specs.TakeRun.{HasBlockingLine, HasNewer, IsTakeOf, ReadsBoth}
+use Rattle.gf_take_run.specs.TakeRun.{RefusesChanges}
 use Rattle.gf_take_run.specs.TakeRun.{RefusesParts, RefusesTaking, TakesText, of_take, input, parts}
 use Rattle.gf_take_run.specs.TakeSteps.{AreWritten, RefusesDrawing, RefusesMaking, TakesParts}
 use Rattle.gf_take_run.specs.TakeSteps.{TakesSo}
@@ -137,9 +139,11 @@ pub takes_so : (s n m : ℕ) (h k : List Op) (drawing : Drawn) (seen : Clock) (t
     → AreThere seen k → ((a x : Op) → ¬ (IsNewer n seen k a x)) → IsBase n seen k base
     → Takes m base changes new drawing
     → (All (λ f. IsLawful f.shape) drawing.figures → LooksLike base drawing → changes ≡ [])
-    → AreWritten new t.text.items → t.taken.made ≡ made_of new → t.taken.since ≡ since_drawing n seen k
+    → AreWritten new t.text.items → t.taken.made ≡ made_of new
+    → t.taken.since ≡ since_drawing n seen k
     → AreThinOf base t.taken.thin.items → TakesSo s h drawing seen t
-takes_so s n m h k drawing seen t base changes new ns mn kh there young is_base takes none_planned written made
+takes_so s n m h k drawing seen t base changes new ns mn kh there young is_base takes none_planned
+    written made
     since thin =
     subst (λ (l : List Op). TakesSo s l drawing seen t) kh
     (subst (λ i. TakesSo i k drawing seen t) ns (record {
@@ -196,7 +200,8 @@ making_refused s n m h k base changes drawing seen e ns mn kh b f =
     (making_refuses n k base changes drawing seen e b
     (subst (λ i. RefusesMaking i base changes drawing e) mn f)))
 
-module _ (s n : ℕ) (number : n ≡ s) (lines fig : List ℕ) (h : List Op) (read : DenotesLines s lines h)
+module _ (s n : ℕ) (number : n ≡ s) (lines fig : List ℕ) (h : List Op)
+    (read : DenotesLines s lines h)
     (drawing : Drawn) (seen : Clock) (drawn : DenotesDrawing fig drawing seen) where
   pub parts_taken : (r : Result TakenText TakeRunError) → IfOk r (TakesSo n h drawing seen)
       → IfOk r (TakesParts s lines fig)
@@ -242,7 +247,8 @@ module _ (s n : ℕ) (number : n ≡ s) (lines fig : List ℕ) (h : List Op) (re
   refuses_own (refused.Run studio.TooLong) f = absurd f
   refuses_own (refused.Run studio.WriteFailed) f = absurd f
 
-  pub parts_refused : (r : Result TakenText TakeRunError) → IfErr r (RefusesDrawing n h drawing seen)
+  pub parts_refused : (r : Result TakenText TakeRunError)
+      → IfErr r (RefusesDrawing n h drawing seen)
       → IfErr r (RefusesParts s lines fig)
   parts_refused (Ok t) p = tt
   parts_refused (Err e) p =

@@ -15,14 +15,17 @@ use Rattle.gf_ops.specs.declared.change.Form.TheVariants as form
 use Rattle.gf_ops.specs.declared.change.Start.{Start}
 use Rattle.gf_ops.specs.declared.change.Value.{Value}
 use Rattle.gf_ops.specs.declared.change.Value.TheVariants.{Size}
-use Rattle.gf_ops.specs.Attribute.{Kind, Circle, form_value, value_given, change_value, set_value, start_value, size_in, made_kind, kind_of, suits, object_of, changed_object, change_aim}
+use Rattle.gf_ops.specs.Attribute.{Kind, Circle, form_value, value_given, change_value, set_value}
+use Rattle.gf_ops.specs.Attribute.{start_value, size_in, made_kind, kind_of, suits, object_of}
+use Rattle.gf_ops.specs.Attribute.{changed_object, change_aim}
 use Rattle.gf_ops.specs.DirectConflict.{DirectConflict}
 use Rattle.gf_ops.specs.KnownObject.{IsSuited}
 use Rattle.gf_ops.specs.OperationOrder.{Precedes}
 use Rattle.gf_ops.specs.ValidHistory.{IsValid}
 use Rattle.gf_ops.specs.Version.{IsMember, IsOfKind, IsVersion}
 use Rattle.gf_versions.specs.Settling.{has, HasAttribute}
-use Rattle.gf_base.proofs.ListLemmas.{Contains-cons_cases, Contains-cons_head, Contains-cons_tail, not_Contains-nil}
+use Rattle.gf_base.proofs.ListLemmas.{Contains-cons_cases, Contains-cons_head, Contains-cons_tail}
+use Rattle.gf_base.proofs.ListLemmas.{not_Contains-nil}
 use Rattle.gf_ops.proofs.ValidityLemmas.{same_op}
 
 -- ---- ids in groups
@@ -53,7 +56,8 @@ some_value None s = absurd cc
 some_value (Some v) s = (v, refl)
 
 -- a new object has a value of each attribute of its kind
-form_sets : (s : Start) (f : Form) (t : Attr) → s.form ≡ f → IsTrue (has (kind_of f) t) → IsSome (start_value s t)
+form_sets : (s : Start) (f : Form) (t : Attr) → s.form ≡ f → IsTrue (has (kind_of f) t)
+    → IsSome (start_value s t)
 form_sets s (form.Rect width height) attr.Size e i = rw e refl
 form_sets s (form.Circle radius) attr.Size e i = rw e refl
 form_sets s (form.Ellipse rx ry) attr.Size e i = rw e refl
@@ -64,16 +68,20 @@ form_sets s f attr.Layer e i = refl
 form_sets s f attr.Shown e i = refl
 form_sets s f t e i = absurd cc
 
-change_sets : (c : Change) (k : Kind) (t : Attr) → made_kind c ≡ Some k → IsTrue (has k t) → IsSome (change_value c t)
-change_sets (Create s) k t e i = let same : kind_of s.form ≡ k = cc in form_sets s s.form t refl (subst (λ l. IsTrue (has l t)) (sym same) i)
+change_sets : (c : Change) (k : Kind) (t : Attr) → made_kind c ≡ Some k → IsTrue (has k t)
+    → IsSome (change_value c t)
+change_sets (Create s) k t e i = let same : kind_of s.form ≡ k = cc in
+    form_sets s s.form t refl (subst (λ l. IsTrue (has l t)) (sym same) i)
 change_sets (Set o v aim) k t e i = absurd cc
 
 -- the size of a circle is its radius twice
-form_round : (f : Form) (m n : ℕ) → kind_of f ≡ Circle → size_in (form_value f) ≡ Some (Size m n) → m ≡ n
+form_round : (f : Form) (m n : ℕ) → kind_of f ≡ Circle → size_in (form_value f) ≡ Some (Size m n)
+    → m ≡ n
 form_round (form.Circle radius) m n k e = cc
 form_round f m n k e = absurd cc
 
-set_round : (v : Value) (m n : ℕ) → IsTrue (suits Circle v) → set_value v attr.Size ≡ Some (Size m n) → m ≡ n
+set_round : (v : Value) (m n : ℕ) → IsTrue (suits Circle v)
+    → set_value v attr.Size ≡ Some (Size m n) → m ≡ n
 set_round (Size j k) m n s e = let same = (Decides-eqb j k).0 s in cc
 set_round v m n s e = absurd cc
 
@@ -84,18 +92,23 @@ no_aim (Set o v aim) i = absurd cc
 
 module _ (h : List Op) (valid : IsValid h) (o : ObjectId) where
   -- an operation on an object is its creation, or comes after that
-  maker_or_after : (maker a : Op) → Contains h maker → maker.id ≡ o.0 → Contains h a → (change : Change) → a.change ≡ change → changed_object a.id change ≡ o → (a.id ≡ o.0) ⊎ Precedes maker a
+  maker_or_after : (maker a : Op) → Contains h maker → maker.id ≡ o.0 → Contains h a
+      → (change : Change) → a.change ≡ change → changed_object a.id change ≡ o
+      → (a.id ≡ o.0) ⊎ Precedes maker a
   maker_or_after maker a x named y (Create start) c e = inl (ap (λ (p : ObjectId). p.0) e)
   maker_or_after maker a x named y (Set p v aim) c e =
       let known = (subst (IsSuited h a) c (valid.suited a y)).known in
-      let one = same_op h valid known.maker maker known.contained x (known.id ∙ (ap (λ (q : ObjectId). q.0) e ∙ sym named)) in
+      let one = same_op h valid known.maker maker known.contained x
+      (known.id ∙ (ap (λ (q : ObjectId). q.0) e ∙ sym named)) in
       inr (subst (λ (b : Op). Precedes b a) one known.before)
 
   -- a member of a version concerns its object
-  pub member_object : (g : List OpId) → IsVersion h o g → (a : Op) → IsMember h g a → object_of a ≡ o
+  pub member_object : (g : List OpId) → IsVersion h o g → (a : Op) → IsMember h g a
+      → object_of a ≡ o
   member_object g version a m =
       let on = version.members a.id m.grouped in
-      subst (λ (b : Op). object_of b ≡ o) (same_op h valid on.op a on.contained m.contained on.id) on.object
+      subst (λ (b : Op). object_of b ≡ o) (same_op h valid on.op a on.contained m.contained on.id)
+      on.object
 
   -- the creation conflicts with no operation on its object, so it is a member of each version
   pub maker_grouped : (g : List OpId) (version : IsVersion h o g) → IsMember h g version.created.op
@@ -107,13 +120,21 @@ module _ (h : List Op) (valid : IsValid h) (o : ObjectId) where
         let member = clash.member in
         let first : clash.conflict.first ≡ made.op = elim clash.conflict.brings_first [
           | inl e ↦ e
-          | inr m ↦ absurd (not_Contains-nil clash.conflict.first.id (subst (λ is. Contains is clash.conflict.first.id) (no_aim made.op.change version.makes) m.aimed))
+          | inr m ↦ absurd (not_Contains-nil clash.conflict.first.id
+              (subst (λ is. Contains is clash.conflict.first.id)
+              (no_aim made.op.change version.makes) m.aimed))
         ] in
         let second = clash.conflict.second in
-        let there : Contains h second = elim clash.conflict.brings_second [ inl e ↦ subst (Contains h) (sym e) clash.is_member.contained | inr m ↦ m.contained ] in
-        let direct : DirectConflict made.op second = subst (λ x. DirectConflict x second) first clash.conflict.direct in
-        absurd (elim (maker_or_after made.op second made.contained made.id there second.change refl (sym direct.one_object ∙ made.object)) [
-          | inl e ↦ direct.concurrent.different (same_op h valid made.op second made.contained there (made.id ∙ sym e))
+        let there : Contains h second = elim clash.conflict.brings_second [
+          | inl e ↦ subst (Contains h) (sym e) clash.is_member.contained
+          | inr m ↦ m.contained
+        ] in
+        let direct : DirectConflict made.op second = subst (λ x. DirectConflict x second) first
+        clash.conflict.direct in
+        absurd (elim (maker_or_after made.op second made.contained made.id there second.change refl
+        (sym direct.one_object ∙ made.object)) [
+          | inl e ↦ direct.concurrent.different (same_op h valid made.op second made.contained there
+              (made.id ∙ sym e))
           | inr before ↦ direct.concurrent.not_before before
         ])
   ]
@@ -122,55 +143,87 @@ module _ (h : List Op) (valid : IsValid h) (o : ObjectId) where
   pub one_kind : (k l : Kind) → IsOfKind h o k → IsOfKind h o l → k ≡ l
   one_kind k l x y =
       let same = same_op h valid x.maker y.maker x.contained y.contained (x.id ∙ sym y.id) in
-      let e : Some k ≡ Some l = sym x.kind ∙ (ap (λ (b : Op). made_kind b.change) same ∙ y.kind) in cc
+      let e : Some k ≡ Some l = sym x.kind ∙ (ap (λ (b : Op). made_kind b.change) same ∙ y.kind) in
+      cc
 
   pub has_attribute : (k : Kind) (t : Attr) → IsOfKind h o k → IsTrue (has k t) → HasAttribute h o t
   has_attribute k t x i l y = subst (λ m. IsTrue (has m t)) (one_kind k l x y) i
 
   -- the object of a version is of some kind
-  pub version_kind : (g : List OpId) (version : IsVersion h o g) → (k : Kind) × IsOfKind h o k × (made_kind version.created.op.change ≡ Some k)
+  pub version_kind : (g : List OpId) (version : IsVersion h o g)
+      → (k : Kind) × IsOfKind h o k × (made_kind version.created.op.change ≡ Some k)
   version_kind g version =
       let made = version.created in
-      let kind = some_value (made_kind made.op.change) version.makes in
-      (kind.0, record { maker = made.op; contained = made.contained; id = made.id; kind = kind.1 }, kind.1)
+      let kind = some_value (made_kind made.op.change) version.makes in (
+        kind.0,
+        record { maker = made.op; contained = made.contained; id = made.id; kind = kind.1 },
+        kind.1,
+      )
 
   -- the operation under the object's id makes it
-  pub not_set : (g : List OpId) → IsVersion h o g → (a : Op) (p : ObjectId) (v : Value) (aim : List OpId) → Contains h a → a.id ≡ o.0 → a.change ≡ Set p v aim → ⊥
+  pub not_set : (g : List OpId) → IsVersion h o g
+      → (a : Op) (p : ObjectId) (v : Value) (aim : List OpId) → Contains h a → a.id ≡ o.0
+      → a.change ≡ Set p v aim → ⊥
   not_set g version a p v aim x named e =
       let made = version.created in
-      let some = subst (λ (b : Op). IsSome (made_kind b.change)) (same_op h valid made.op a made.contained x (made.id ∙ sym named)) version.makes in
+      let some = subst (λ (b : Op). IsSome (made_kind b.change))
+      (same_op h valid made.op a made.contained x (made.id ∙ sym named)) version.makes in
       let none = rw e at some in absurd cc
 
-  pub kind_by_form : (a : Op) (s : Start) (f : Form) → Contains h a → a.id ≡ o.0 → a.change ≡ Create s → s.form ≡ f → IsOfKind h o (kind_of f)
-  kind_by_form a s f x named e is = record { maker = a; contained = x; id = named; kind = ap made_kind e ∙ ap (λ k. Some (kind_of k)) is }
+  pub kind_by_form : (a : Op) (s : Start) (f : Form) → Contains h a → a.id ≡ o.0
+      → a.change ≡ Create s → s.form ≡ f → IsOfKind h o (kind_of f)
+  kind_by_form a s f x named e is = record {
+    maker = a;
+    contained = x;
+    id = named;
+    kind = ap made_kind e ∙ ap (λ k. Some (kind_of k)) is;
+  }
 
   -- the creation gives each attribute of the object a value
-  pub maker_sets : (g : List OpId) (version : IsVersion h o g) (t : Attr) → HasAttribute h o t → IsSome (value_given version.created.op t)
+  pub maker_sets : (g : List OpId) (version : IsVersion h o g) (t : Attr) → HasAttribute h o t
+      → IsSome (value_given version.created.op t)
   maker_sets g version t has_it =
       let kind = version_kind g version in
       change_sets version.created.op.change kind.0 t kind.2 (has_it kind.0 kind.1)
 
-  same_maker : (g : List OpId) (version : IsVersion h o g) (a : Op) → Contains h a → a.id ≡ o.0 → version.created.op ≡ a
-  same_maker g version a x named = same_op h valid version.created.op a version.created.contained x (version.created.id ∙ sym named)
+  same_maker : (g : List OpId) (version : IsVersion h o g) (a : Op) → Contains h a → a.id ≡ o.0
+      → version.created.op ≡ a
+  same_maker g version a x named = same_op h valid version.created.op a version.created.contained x
+      (version.created.id ∙ sym named)
 
   -- the same of the operation under the object's id
-  pub maker_member : (g : List OpId) → IsVersion h o g → (a : Op) → Contains h a → a.id ≡ o.0 → IsMember h g a
-  maker_member g version a x named = subst (IsMember h g) (same_maker g version a x named) (maker_grouped g version)
+  pub maker_member : (g : List OpId) → IsVersion h o g → (a : Op) → Contains h a → a.id ≡ o.0
+      → IsMember h g a
+  maker_member g version a x named = subst (IsMember h g) (same_maker g version a x named)
+      (maker_grouped g version)
 
-  pub maker_gives : (g : List OpId) → IsVersion h o g → (a : Op) (t : Attr) → Contains h a → a.id ≡ o.0 → HasAttribute h o t → IsSome (value_given a t)
-  maker_gives g version a t x named has_it = subst (λ (b : Op). IsSome (value_given b t)) (same_maker g version a x named) (maker_sets g version t has_it)
+  pub maker_gives : (g : List OpId) → IsVersion h o g → (a : Op) (t : Attr) → Contains h a
+      → a.id ≡ o.0 → HasAttribute h o t → IsSome (value_given a t)
+  maker_gives g version a t x named has_it = subst (λ (b : Op). IsSome (value_given b t))
+      (same_maker g version a x named) (maker_sets g version t has_it)
 
   -- the size of a circle is given as its radius twice
-  round_change : (a : Op) (m n : ℕ) → IsOfKind h o Circle → Contains h a → (change : Change) → a.change ≡ change → changed_object a.id change ≡ o → change_value change attr.Size ≡ Some (Size m n) → m ≡ n
+  round_change : (a : Op) (m n : ℕ) → IsOfKind h o Circle → Contains h a → (change : Change)
+      → a.change ≡ change → changed_object a.id change ≡ o
+      → change_value change attr.Size ≡ Some (Size m n) → m ≡ n
   round_change a m n kind x (Create s) c e gives =
-      let one = same_op h valid kind.maker a kind.contained x (kind.id ∙ sym (ap (λ (p : ObjectId). p.0) e)) in
-      let made : Some (kind_of s.form) ≡ Some Circle = sym (ap made_kind c) ∙ (sym (ap (λ (b : Op). made_kind b.change) one) ∙ kind.kind) in
+      let one = same_op h valid kind.maker a kind.contained x
+      (kind.id ∙ sym (ap (λ (p : ObjectId). p.0) e)) in
+      let made : Some (kind_of s.form) ≡ Some Circle = sym (ap made_kind c)
+      ∙ (sym (ap (λ (b : Op). made_kind b.change) one) ∙ kind.kind) in
       form_round s.form m n (cc) gives
   round_change a m n kind x (Set p v aim) c e gives =
       let suited = subst (IsSuited h a) c (valid.suited a x) in
       let known = suited.known in
-      let same = one_kind suited.kind Circle (record { maker = known.maker; contained = known.contained; id = known.id ∙ ap (λ (q : ObjectId). q.0) e; kind = known.kind }) kind in
+      let same = one_kind suited.kind Circle
+      (record {
+        maker = known.maker;
+        contained = known.contained;
+        id = known.id ∙ ap (λ (q : ObjectId). q.0) e;
+        kind = known.kind;
+      }) kind in
       set_round v m n (subst (λ k. IsTrue (suits k v)) same suited.suited) gives
 
-  pub round_size : (a : Op) (m n : ℕ) → IsOfKind h o Circle → Contains h a → object_of a ≡ o → value_given a attr.Size ≡ Some (Size m n) → m ≡ n
+  pub round_size : (a : Op) (m n : ℕ) → IsOfKind h o Circle → Contains h a → object_of a ≡ o
+      → value_given a attr.Size ≡ Some (Size m n) → m ≡ n
   round_size a m n kind x e gives = round_change a m n kind x a.change refl e gives

@@ -16,12 +16,16 @@ use Rattle.gf_visible.proofs.OnePassLemmas.{search_is, search_once}
 use Rattle.gf_visible.proofs.SetterSidesLemmas.{two_sides}
 use Rattle.gf_visible.proofs.TwoSidesLemmas.{found_showing}
 
-pub one_pass_shows : (h : List Op) → IsValid h → (o : ObjectId) (us : List ℕ) → AreSetters h o us → IsRising us → has_some us ≡ true
+pub one_pass_shows : (h : List Op) → IsValid h → (o : ObjectId) (us : List ℕ) → AreSetters h o us
+    → IsRising us → has_some us ≡ true
     → AreShowing (hides_at h) (covers_at h) (conflict_at h) us
     (map (whole (hides_at h) (knows_at h) (follows_at h) us)
-    (search (seen (knows_at h) (hidden (hides_at h) us)) (cut (knows_at h) (follows_at h)) (shown (hides_at h) us) (hidden (hides_at h) us)))
+    (search (seen (knows_at h) (hidden (hides_at h) us)) (cut (knows_at h) (follows_at h))
+    (shown (hides_at h) us) (hidden (hides_at h) us)))
 one_pass_shows h valid o us all rises some =
     let T = shown (hides_at h) us in
     let F = hidden (hides_at h) us in
-    found_showing (hides_at h) (knows_at h) (follows_at h) (covers_at h) (conflict_at h) us (two_sides h valid o us all) rises some (apart_at h valid T F)
-    (search (seen (knows_at h) F) (cut (knows_at h) (follows_at h)) T F) (search_is (knows_at h) (follows_at h) F T) (search_once (knows_at h) (follows_at h) F T)
+    found_showing (hides_at h) (knows_at h) (follows_at h) (covers_at h) (conflict_at h) us
+    (two_sides h valid o us all) rises some (apart_at h valid T F)
+    (search (seen (knows_at h) F) (cut (knows_at h) (follows_at h)) T F)
+    (search_is (knows_at h) (follows_at h) F T) (search_once (knows_at h) (follows_at h) F T)

@@ -1,5 +1,7 @@
--- What the operations at positions say of `Shown`: setters agree where they are compatible and neither is later.
-use Rattle.std.proofs.Common.{◌≡◌, ◌≢◌, ℕ, Bool, true, false, List, inl, inr, refl, subst, sym, ap, ◌∙◌}
+-- What the operations at positions say of `Shown`: setters agree where they are compatible and
+-- neither is later.
+use Rattle.std.proofs.Common.{◌≡◌, ◌≢◌, ℕ, Bool, true, false, List, inl, inr, refl, subst, sym, ap}
+use Rattle.std.proofs.Common.{◌∙◌}
 use Rattle.std.specs.Prelude.{◌⊎◌, Option, Some, None, IsSome, option_map, slice_get, unwrap_or}
 use Rattle.std.specs.Option.{is_some}
 use Rattle.std.proofs.lemmas.Bool.{and_parts, and_from}
@@ -19,7 +21,8 @@ use Rattle.gf_groups.specs.GroupedPositions.{is_on}
 use Rattle.gf_groups.specs.Growing.{conflict_at}
 use Rattle.gf_groups.proofs.ConflictTestLemmas.{before_decided}
 use Rattle.gf_groups.proofs.OnPositionLemmas.{conflict_from, on_from}
-use Rattle.gf_visible.specs.ShownAt.{shown_by, op_says, both_before, said_at, shows_or_hides_at, shows_at, later_at}
+use Rattle.gf_visible.specs.ShownAt.{shown_by, op_says, both_before, said_at, shows_or_hides_at}
+use Rattle.gf_visible.specs.ShownAt.{shows_at, later_at}
 
 -- ---- one operation
 
@@ -41,7 +44,8 @@ pub shown_once : (x y : Bool) → value.Shown x ≡ value.Shown y → x ≡ y
 unfolding shown_in
 shown_once x y e = ap (λ v. shown_in (Some v)) e
 
-pub value_from : (x : Bool) (r : Option Bool) → option_map value.Shown r ≡ Some (value.Shown x) → r ≡ Some x
+pub value_from : (x : Bool) (r : Option Bool) → option_map value.Shown r ≡ Some (value.Shown x)
+    → r ≡ Some x
 unfolding shown_in
 value_from x (Some b) e = ap (λ y. Some y) (ap shown_in e)
 value_from x None e = absurd cc
@@ -88,7 +92,8 @@ both_told (Some a) None t = absurd cc
 both_told None (Some b) t = absurd cc
 both_told None None t = absurd cc
 
-both_from : (r q : Option Op) (a b : Op) → r ≡ Some a → q ≡ Some b → Precedes a b → both_before r q ≡ true
+both_from : (r q : Option Op) (a b : Op) → r ≡ Some a → q ≡ Some b → Precedes a b
+    → both_before r q ≡ true
 both_from r q a b e f p = rw (e, f) ((before_decided a b).1 p)
 
 pub one_op : (r : Option Op) (a b : Op) → r ≡ Some a → r ≡ Some b → a ≡ b
@@ -101,43 +106,55 @@ module _ (h : List Op) where
   pub says_yes : (i : ℕ) → shows_at h i ≡ true → Says (slice_get h i) true
   says_yes i y = op_said (slice_get h i) true (yes_value (said_at h i) y)
 
-  pub said_op : (i : ℕ) (a : Op) (r : Option Bool) → slice_get h i ≡ Some a → shown_by a.change ≡ r → said_at h i ≡ r
+  pub said_op : (i : ℕ) (a : Op) (r : Option Bool) → slice_get h i ≡ Some a → shown_by a.change ≡ r
+      → said_at h i ≡ r
   said_op i a r e f = ap op_says e ∙ f
 
   pub setter_shows : (i : ℕ) → shows_at h i ≡ true → shows_or_hides_at h i ≡ true
   setter_shows i y = ap (λ (r : Option Bool). is_some r) (yes_value (said_at h i) y)
 
   pub setter_later : (i j : ℕ) → later_at h i j ≡ true → shows_or_hides_at h j ≡ true
-  setter_later i j y = (and_parts (shows_or_hides_at h j) (both_before (slice_get h i) (slice_get h j)) y).0
+  setter_later i j y = (and_parts (shows_or_hides_at h j)
+      (both_before (slice_get h i) (slice_get h j)) y).0
 
   pub told : (i j : ℕ) → later_at h i j ≡ true → Told (slice_get h i) (slice_get h j)
-  told i j y = both_told (slice_get h i) (slice_get h j) (and_parts (shows_or_hides_at h j) (both_before (slice_get h i) (slice_get h j)) y).1
+  told i j y = both_told (slice_get h i) (slice_get h j)
+      (and_parts (shows_or_hides_at h j) (both_before (slice_get h i) (slice_get h j)) y).1
 
-  pub from_told : (i j : ℕ) (a b : Op) → slice_get h i ≡ Some a → slice_get h j ≡ Some b → shows_or_hides_at h j ≡ true → Precedes a b → later_at h i j ≡ true
-  from_told i j a b e f s p = and_from (shows_or_hides_at h j) (both_before (slice_get h i) (slice_get h j)) s (both_from (slice_get h i) (slice_get h j) a b e f p)
+  pub from_told : (i j : ℕ) (a b : Op) → slice_get h i ≡ Some a → slice_get h j ≡ Some b
+      → shows_or_hides_at h j ≡ true → Precedes a b → later_at h i j ≡ true
+  from_told i j a b e f s p = and_from (shows_or_hides_at h j)
+      (both_before (slice_get h i) (slice_get h j)) s (both_from (slice_get h i) (slice_get h j) a b
+      e f p)
 
 module _ (h : List Op) (valid : IsValid h) where
   -- setters of one object that are compatible and neither of which is later say the same
-  pub agree_at : (o : ObjectId) (i j : ℕ) → is_on o (slice_get h i) ≡ true → is_on o (slice_get h j) ≡ true → conflict_at h i j ≡ false → shows_or_hides_at h i ≡ true → shows_or_hides_at h j ≡ true → later_at h i j ≡ false → later_at h j i ≡ false → shows_at h i ≡ shows_at h j
+  pub agree_at : (o : ObjectId) (i j : ℕ) → is_on o (slice_get h i) ≡ true
+      → is_on o (slice_get h j) ≡ true → conflict_at h i j ≡ false → shows_or_hides_at h i ≡ true
+      → shows_or_hides_at h j ≡ true → later_at h i j ≡ false → later_at h j i ≡ false
+      → shows_at h i ≡ shows_at h j
   agree_at o i j on_i on_j calm set_i set_j no_i no_j =
       let x = says h i set_i in
       let y = says h j set_j in
       let a = x.1.0 in
       let b = y.1.0 in
       let same : x.0 ≡ y.0 → shows_at h i ≡ shows_at h j = λ e.
-      ap (λ (r : Option Bool). unwrap_or r false) (said_op h i a (Some x.0) x.1.1 x.1.2 ∙ (ap (λ z. Some z) e ∙ sym (said_op h j b (Some y.0) y.1.1 y.1.2))) in
+      ap (λ (r : Option Bool). unwrap_or r false) (said_op h i a (Some x.0) x.1.1 x.1.2
+      ∙ (ap (λ z. Some z) e ∙ sym (said_op h j b (Some y.0) y.1.1 y.1.2))) in
       elim (two_bools x.0 y.0) [
         | inl e ↦ same e
         | inr n ↦
             let k : DirectConflict a b = record {
               concurrent = record {
                 different = λ e.
-                    let says : shown_by a.change ≡ shown_by b.change = ap (λ (z : Op). shown_by z.change) e in
+                    let says : shown_by a.change ≡ shown_by b.change = ap
+                    (λ (z : Op). shown_by z.change) e in
                     n (one_value (shown_by a.change) (shown_by b.change) x.0 y.0 says x.1.2 y.1.2);
                 not_before = λ p. no_later no_i (from_told h i j a b x.1.1 y.1.1 set_j p);
                 not_after = λ p. no_later no_j (from_told h j i b a y.1.1 x.1.1 set_i p);
               };
-              one_object = on_from o a (subst (λ r. is_on o r ≡ true) x.1.1 on_i) ∙ sym (on_from o b (subst (λ r. is_on o r ≡ true) y.1.1 on_j));
+              one_object = on_from o a (subst (λ r. is_on o r ≡ true) x.1.1 on_i)
+                  ∙ sym (on_from o b (subst (λ r. is_on o r ≡ true) y.1.1 on_j));
               apart = record {
                 attribute = attr.Shown;
                 first = value.Shown x.0;
@@ -147,7 +164,8 @@ module _ (h : List Op) (valid : IsValid h) where
                 differ = λ e. n (shown_once x.0 y.0 e);
               };
             } in
-            absurd (no_later calm (conflict_from h valid i j a b x.1.1 y.1.1 (conflict_direct h a b k)))
+            absurd (no_later calm (conflict_from h valid i j a b x.1.1 y.1.1
+            (conflict_direct h a b k)))
       ]
     where
       no_later : {b : Bool} → b ≡ false → b ≡ true → ⊥

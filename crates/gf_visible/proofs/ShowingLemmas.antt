@@ -1,53 +1,74 @@
--- The choices that hold are the largest compatible sets in which each position that hides is covered, each once.
-use Rattle.std.proofs.Common.{◌≡◌, ◌≢◌, ℕ, Bool, true, false, not, ◌&&◌, ◌||◌, cond, List, [], ◌∷◌, ◌++◌, filter, map, take, length, ◌+◌, ◌<◌, ◌≤◌, inl, inr, subst, sym, ap, ◌∙◌, arith, fold}
+-- The choices that hold are the largest compatible sets in which each position that hides is
+-- covered, each once.
+use Rattle.std.proofs.Common.{◌≡◌, ◌≢◌, ℕ, Bool, true, false, not, ◌&&◌, ◌||◌, cond, List, [], ◌∷◌}
+use Rattle.std.proofs.Common.{◌++◌, filter, map, take, length, ◌+◌, ◌<◌, ◌≤◌, inl, inr, subst, sym}
+use Rattle.std.proofs.Common.{ap, ◌∙◌, arith, fold}
 use Rattle.std.specs.Prelude.{◌⊎◌, All, AllPairs, Contains}
 use Rattle.std.specs.BTreeSet.{insert_key}
 use Rattle.std.specs.Ordering.{nat_cmp}
 use Rattle.std.specs.FinMap.{nat_cmp-IsAntisymmetric}
-use Rattle.std.proofs.lemmas.Bool.{cases_Bool, cond-true, cond-false, and_parts, and_from, or_cases, not-true, not_from_false}
+use Rattle.std.proofs.lemmas.Bool.{cases_Bool, cond-true, cond-false, and_parts, and_from, or_cases}
+use Rattle.std.proofs.lemmas.Bool.{not-true, not_from_false}
 use Rattle.std.proofs.lemmas.Cmp.{nat_cmp_total}
 use Rattle.std.proofs.lemmas.List.Elements.{All-filter, filter-append}
 use Rattle.std.proofs.lemmas.List.{take_all}
 use Rattle.std.proofs.lemmas.List.Kept.{IsStrictlySortedBy-filter}
-use Rattle.gf_base.proofs.ListLemmas.{Contains-cons_cases, Contains-cons_head, Contains-cons_tail, Contains-map, Contains-map_from, not_Contains-nil}
+use Rattle.gf_base.proofs.ListLemmas.{Contains-cons_cases, Contains-cons_head, Contains-cons_tail}
+use Rattle.gf_base.proofs.ListLemmas.{Contains-map, Contains-map_from, not_Contains-nil}
 use Rattle.gf_maximal.specs.Growing.{is_in, meets, without}
 use Rattle.gf_maximal.specs.Tables.{IsRising}
 use Rattle.gf_maximal.proofs.InsertLemmas.{inserted_all, holds_all}
 use Rattle.gf_base.proofs.FilterLemmas.{Contains-filter, list_all_true, list_all_from}
-use Rattle.gf_maximal.proofs.MaximalLemmas.{Within, from_list, not_in, meets_one, meets_from, Contains-without}
+use Rattle.gf_maximal.proofs.MaximalLemmas.{Within, from_list, not_in, meets_one, meets_from}
+use Rattle.gf_maximal.proofs.MaximalLemmas.{Contains-without}
 use Rattle.gf_maximal.proofs.PairLemmas.{AllPairs-append}
 use Rattle.gf_base.proofs.RisingLemmas.{one_rising, rising_nil}
-use Rattle.gf_visible.specs.Choices.{StepState, holds, all_hold, choices, first, second, step_of, showing, IsShowing, AreShowing}
-use Rattle.gf_visible.proofs.SearchLemmas.{ways, by_chosen, by_left, choices_in, choices_out, choice_within, or_first, or_second}
+use Rattle.gf_visible.specs.Choices.{StepState, holds, all_hold, choices, first, second, step_of}
+use Rattle.gf_visible.specs.Choices.{showing, IsShowing, AreShowing}
+use Rattle.gf_visible.proofs.SearchLemmas.{ways, by_chosen, by_left, choices_in, choices_out}
+use Rattle.gf_visible.proofs.SearchLemmas.{choice_within, or_first, or_second}
 
 -- rising numbers are their own set
 pub set_same : (us : List ℕ) → IsRising us → fold (insert_key nat_cmp) [] us ≡ us
 set_same us form = one_rising nat_cmp nat_cmp_total (fold (insert_key nat_cmp) [] us) us
-    (inserted_all nat_cmp nat_cmp_total nat_cmp-IsAntisymmetric us [] (rising_nil nat_cmp nat_cmp_total)) form
+    (inserted_all nat_cmp nat_cmp_total nat_cmp-IsAntisymmetric us []
+    (rising_nil nat_cmp nat_cmp_total)) form
     (λ a. (
-      λ i. elim ((holds_all nat_cmp nat_cmp_total nat_cmp-IsAntisymmetric us [] a).0 i) [ inl n ↦ absurd (not_Contains-nil a n) | inr j ↦ j ],
+      λ i. elim ((holds_all nat_cmp nat_cmp_total nat_cmp-IsAntisymmetric us [] a).0 i) [
+        | inl n ↦ absurd (not_Contains-nil a n)
+        | inr j ↦ j
+      ],
       λ i. (holds_all nat_cmp nat_cmp_total nat_cmp-IsAntisymmetric us [] a).1 (inr i),
     ))
 
 -- the rising numbers that pass a test, seen to the end
-module _ (t : ℕ → Bool) (us : List ℕ) (i : ℕ) (found : List ℕ) (done : length us ≤ i) (is : found ≡ filter t (take i us)) where
+module _ (t : ℕ → Bool) (us : List ℕ) (i : ℕ) (found : List ℕ) (done : length us ≤ i)
+    (is : found ≡ filter t (take i us)) where
   whole : found ≡ filter t us
   whole = is ∙ ap (filter t) (take_all i us done)
 
   pub kept_rising : IsRising us → IsRising found
   kept_rising r = subst IsRising (sym whole) (IsStrictlySortedBy-filter nat_cmp t us r)
 
-pub kept_bounded : (m : ℕ) (t : ℕ → Bool) (us : List ℕ) (i : ℕ) (found : List ℕ) → length us ≤ i → found ≡ filter t (take i us) → All (λ n. n + 1 < m) us → All (λ n. n + 1 < m) found
-kept_bounded m t us i found done is all = subst (All (λ n. n + 1 < m)) (sym (whole t us i found done is)) (All-filter t (λ n. n + 1 < m) us all)
+pub kept_bounded : (m : ℕ) (t : ℕ → Bool) (us : List ℕ) (i : ℕ) (found : List ℕ) → length us ≤ i
+    → found ≡ filter t (take i us) → All (λ n. n + 1 < m) us → All (λ n. n + 1 < m) found
+kept_bounded m t us i found done is all = subst (All (λ n. n + 1 < m))
+    (sym (whole t us i found done is)) (All-filter t (λ n. n + 1 < m) us all)
 
 -- ---- each choice rises
 
-choice_rises : (steps : List StepState) (p g : List ℕ) → IsRising p → Contains (choices steps p) g → IsRising g
-choice_rises [] p g r i = elim (Contains-cons_cases p [] g i) [ inl e ↦ subst IsRising (sym e) r | inr n ↦ absurd (not_Contains-nil g n) ]
+choice_rises : (steps : List StepState) (p g : List ℕ) → IsRising p → Contains (choices steps p) g
+    → IsRising g
+choice_rises [] p g r i = elim (Contains-cons_cases p [] g i) [
+  | inl e ↦ subst IsRising (sym e) r
+  | inr n ↦ absurd (not_Contains-nil g n)
+]
 choice_rises (s ∷ steps) p g r i = elim (ways s steps p g i) [
-  | inl w ↦ choice_rises steps (without s.rivals p) g (IsStrictlySortedBy-filter nat_cmp (λ a. not (is_in s.rivals a)) p r) w.1
+  | inl w ↦ choice_rises steps (without s.rivals p) g
+      (IsStrictlySortedBy-filter nat_cmp (λ a. not (is_in s.rivals a)) p r) w.1
   | inr v ↦ elim v [
-    | inl j ↦ choice_rises steps (without s.own p) g (IsStrictlySortedBy-filter nat_cmp (λ a. not (is_in s.own a)) p r) j
+    | inl j ↦ choice_rises steps (without s.own p) g
+        (IsStrictlySortedBy-filter nat_cmp (λ a. not (is_in s.own a)) p r) j
     | inr w ↦ choice_rises steps p g r w.1
   ]
 ]
@@ -75,10 +96,12 @@ module _ (hides : ℕ → Bool) (covers rivals : ℕ → ℕ → Bool) (us : Lis
   Hit g x = (b : ℕ) × Contains g b × (rivals x b ≡ true)
 
   hit : (x : ℕ) (g : List ℕ) → meets (filter (rivals x) us) g ≡ true → Hit g x
-  hit x g t = let w = meets_one (filter (rivals x) us) g t in (w.0, w.2, ((Contains-filter (rivals x) us w.0).0 w.1).1)
+  hit x g t = let w = meets_one (filter (rivals x) us) g t in
+      (w.0, w.2, ((Contains-filter (rivals x) us w.0).0 w.1).1)
 
   hit_from : (x : ℕ) (g : List ℕ) → Within g us → Hit g x → meets (filter (rivals x) us) g ≡ true
-  hit_from x g within w = meets_from (filter (rivals x) us) g w.0 ((Contains-filter (rivals x) us w.0).1 (within w.0 w.1, w.2)) w.1
+  hit_from x g within w = meets_from (filter (rivals x) us) g w.0
+      ((Contains-filter (rivals x) us w.0).1 (within w.0 w.1, w.2)) w.1
 
   -- g has one that covers x
   abbrev Cover : List ℕ → ℕ → Type 0
@@ -86,86 +109,117 @@ module _ (hides : ℕ → Bool) (covers rivals : ℕ → ℕ → Bool) (us : Lis
 
   cover : (x : ℕ) (g : List ℕ) → hides x ≡ true → meets (step x).covers g ≡ true → Cover g x
   cover x g h t =
-      let e : (step x).covers ≡ filter (covers x) us = cond-true (hides x) (filter (covers x) us) [] h in
+      let e : (step x).covers ≡ filter (covers x) us = cond-true (hides x) (filter (covers x) us) []
+      h in
       let w = meets_one (filter (covers x) us) g (subst (λ z. meets z g ≡ true) e t) in
       (w.0, w.2, ((Contains-filter (covers x) us w.0).0 w.1).1)
 
-  cover_from : (x : ℕ) (g : List ℕ) → Within g us → hides x ≡ true → Cover g x → meets (step x).covers g ≡ true
+  cover_from : (x : ℕ) (g : List ℕ) → Within g us → hides x ≡ true → Cover g x
+      → meets (step x).covers g ≡ true
   cover_from x g within h w =
-      let e : (step x).covers ≡ filter (covers x) us = cond-true (hides x) (filter (covers x) us) [] h in
-      subst (λ z. meets z g ≡ true) (sym e) (meets_from (filter (covers x) us) g w.0 ((Contains-filter (covers x) us w.0).1 (within w.0 w.1, w.2)) w.1)
+      let e : (step x).covers ≡ filter (covers x) us = cond-true (hides x) (filter (covers x) us) []
+      h in
+      subst (λ z. meets z g ≡ true) (sym e)
+      (meets_from (filter (covers x) us) g w.0
+      ((Contains-filter (covers x) us w.0).1 (within w.0 w.1, w.2)) w.1)
 
   -- x is chosen and covered, or left out for a rival
   abbrev Held : List ℕ → ℕ → Type 0
   Held g x = (Contains g x × (hides x ≡ true → Cover g x)) ⊎ Hit g x
 
   held : (x : ℕ) (g : List ℕ) → holds g (step x) ≡ true → Held g x
-  held x g t = elim (or_cases (meets (x ∷ []) g && (not (hides x) || meets (step x).covers g)) (meets (step x).rivals g) t) [
-    | inl a ↦
-        let w = and_parts (meets (x ∷ []) g) (not (hides x) || meets (step x).covers g) a in
-        inl (
-          alone x g w.0,
-          λ h. elim (or_cases (not (hides x)) (meets (step x).covers g) w.1) [
-            | inl n ↦ let no = not-true (hides x) n in absurd cc
-            | inr m ↦ cover x g h m
-          ],
-        )
-    | inr m ↦ inr (hit x g m)
-  ]
+  held x g t = elim (or_cases (meets (x ∷ []) g && (not (hides x) || meets (step x).covers g))
+      (meets (step x).rivals g) t) [
+        | inl a ↦
+            let w = and_parts (meets (x ∷ []) g) (not (hides x) || meets (step x).covers g) a in
+            inl (
+              alone x g w.0,
+              λ h. elim (or_cases (not (hides x)) (meets (step x).covers g) w.1) [
+                | inl n ↦ let no = not-true (hides x) n in absurd cc
+                | inr m ↦ cover x g h m
+              ],
+            )
+        | inr m ↦ inr (hit x g m)
+      ]
 
   held_from : (x : ℕ) (g : List ℕ) → Within g us → Held g x → holds g (step x) ≡ true
   held_from x g within (inl w) =
       let covered : (not (hides x) || meets (step x).covers g) ≡ true = elim (cases_Bool (hides x)) [
-        | inl h ↦ or_second (not (hides x)) (meets (step x).covers g) (cover_from x g within h (w.1 h))
+        | inl h ↦ or_second (not (hides x)) (meets (step x).covers g)
+            (cover_from x g within h (w.1 h))
         | inr n ↦ or_first (not (hides x)) (meets (step x).covers g) (not_from_false (hides x) n)
       ] in
-      or_first (meets (x ∷ []) g && (not (hides x) || meets (step x).covers g)) (meets (step x).rivals g)
-      (and_from (meets (x ∷ []) g) (not (hides x) || meets (step x).covers g) (alone_from x g w.0) covered)
-  held_from x g within (inr w) = or_second (meets (x ∷ []) g && (not (hides x) || meets (step x).covers g)) (meets (step x).rivals g) (hit_from x g within w)
+      or_first (meets (x ∷ []) g && (not (hides x) || meets (step x).covers g))
+      (meets (step x).rivals g)
+      (and_from (meets (x ∷ []) g) (not (hides x) || meets (step x).covers g) (alone_from x g w.0)
+      covered)
+  held_from x g within (inr w) = or_second
+      (meets (x ∷ []) g && (not (hides x) || meets (step x).covers g)) (meets (step x).rivals g)
+      (hit_from x g within w)
 
   -- ---- what a choice holds
 
   -- where a choice has a position of xs, it has none of its rivals
-  chosen_calm : (xs : List ℕ) (p g : List ℕ) → Within p us → Contains (choices (steps xs) p) g → (x : ℕ) → Contains xs x → Contains g x → ¬ (Hit g x)
+  chosen_calm : (xs : List ℕ) (p g : List ℕ) → Within p us → Contains (choices (steps xs) p) g
+      → (x : ℕ) → Contains xs x → Contains g x → ¬ (Hit g x)
   chosen_calm [] p g within i x h k w = not_Contains-nil x h
   chosen_calm (y ∷ xs) p g within i x h k w = elim (Contains-cons_cases y xs x h) [
     | inl e ↦ elim (ways (step y) (steps xs) p g i) [
       | inl v ↦
-          let there = (Contains-without (filter (rivals y) us) p w.0).0 (choice_within (steps xs) (without (filter (rivals y) us) p) g v.1 w.0 w.1) in
-          there.1 ((Contains-filter (rivals y) us w.0).1 (within w.0 there.0, subst (λ z. rivals z w.0 ≡ true) e w.2))
+          let there = (Contains-without (filter (rivals y) us) p w.0).0
+          (choice_within (steps xs) (without (filter (rivals y) us) p) g v.1 w.0 w.1) in
+          there.1 ((Contains-filter (rivals y) us w.0).1
+          (within w.0 there.0, subst (λ z. rivals z w.0 ≡ true) e w.2))
       | inr v ↦ elim v [
-        | inl j ↦ ((Contains-without (y ∷ []) p x).0 (choice_within (steps xs) (without (y ∷ []) p) g j x k)).1 (subst (Contains (y ∷ [])) (sym e) (Contains-cons_head y []))
-        | inr j ↦ let bad = alone_from y p (subst (Contains p) e (choice_within (steps xs) p g j.1 x k)) in let no = j.0 in absurd cc
+        | inl j ↦ ((Contains-without (y ∷ []) p x).0 (choice_within (steps xs) (without (y ∷ []) p)
+            g j x k)).1 (subst (Contains (y ∷ [])) (sym e) (Contains-cons_head y []))
+        | inr j ↦ let bad = alone_from y p
+            (subst (Contains p) e (choice_within (steps xs) p g j.1 x k)) in let no = j.0 in
+            absurd cc
       ]
     ]
     | inr r ↦ elim (ways (step y) (steps xs) p g i) [
-      | inl v ↦ chosen_calm xs (without (filter (rivals y) us) p) g (λ a j. within a ((Contains-without (filter (rivals y) us) p a).0 j).0) v.1 x r k w
+      | inl v ↦ chosen_calm xs (without (filter (rivals y) us) p) g
+          (λ a j. within a ((Contains-without (filter (rivals y) us) p a).0 j).0) v.1 x r k w
       | inr v ↦ elim v [
-        | inl j ↦ chosen_calm xs (without (y ∷ []) p) g (λ a q. within a ((Contains-without (y ∷ []) p a).0 q).0) j x r k w
+        | inl j ↦ chosen_calm xs (without (y ∷ []) p) g
+            (λ a q. within a ((Contains-without (y ∷ []) p a).0 q).0) j x r k w
         | inr j ↦ chosen_calm xs p g within j.1 x r k w
       ]
     ]
   ]
 
   all_held : (g : List ℕ) → all_hold (steps us) g ≡ true → (x : ℕ) → Contains us x → Held g x
-  all_held g t x i = held x g (list_all_true (holds g) (steps us) t (step x) (Contains-map (step_of hides covers rivals us) us x i))
+  all_held g t x i = held x g (list_all_true (holds g) (steps us) t (step x)
+      (Contains-map (step_of hides covers rivals us) us x i))
 
-  all_held_from : (g : List ℕ) → Within g us → ((x : ℕ) → Contains us x → Held g x) → all_hold (steps us) g ≡ true
-  all_held_from g within f = list_all_from (holds g) (steps us) (λ s i. let w = Contains-map_from (step_of hides covers rivals us) us s i in subst (λ z. holds g z ≡ true) (sym w.2) (held_from w.0 g within (f w.0 w.1)))
+  all_held_from : (g : List ℕ) → Within g us → ((x : ℕ) → Contains us x → Held g x)
+      → all_hold (steps us) g ≡ true
+  all_held_from g within f = list_all_from (holds g) (steps us)
+      (λ s i. let w = Contains-map_from (step_of hides covers rivals us) us s i in
+      subst (λ z. holds g z ≡ true) (sym w.2) (held_from w.0 g within (f w.0 w.1)))
 
-  showing_sound : IsRising us → (g : List ℕ) → Contains (showing hides covers rivals us) g → IsShowing hides covers rivals us g
+  showing_sound : IsRising us → (g : List ℕ) → Contains (showing hides covers rivals us) g
+      → IsShowing hides covers rivals us g
   showing_sound form g h =
       let k = (Contains-filter (all_hold (steps us)) (choices (steps us) us) g).0 h in
       let within : Within g us = choice_within (steps us) us g k.0 in
-      let calm : (x : ℕ) → Contains g x → ¬ (Hit g x) = λ x i. chosen_calm us us g (λ a j. j) k.0 x (within x i) i in
+      let calm : (x : ℕ) → Contains g x → ¬ (Hit g x) = λ x i. chosen_calm us us g (λ a j. j) k.0 x
+      (within x i) i in
       record {
         rises = choice_rises (steps us) us g form k.0;
         largest = record {
           within = within;
-          compatible = λ a b i j. elim (cases_Bool (rivals a b)) [ inl y ↦ absurd (calm a i (b, j, y)) | inr n ↦ n ];
+          compatible = λ a b i j. elim (cases_Bool (rivals a b)) [
+            | inl y ↦ absurd (calm a i (b, j, y))
+            | inr n ↦ n
+          ];
           largest = λ a i. elim (all_held g k.1 a i) [ inl w ↦ inl w.0 | inr w ↦ inr w ];
         };
-        covered = λ a i y. elim (all_held g k.1 a (within a i)) [ inl w ↦ w.1 y | inr w ↦ absurd (calm a i w) ];
+        covered = λ a i y. elim (all_held g k.1 a (within a i)) [
+          | inl w ↦ w.1 y
+          | inr w ↦ absurd (calm a i w)
+        ];
       }
 
   -- ---- each is chosen
@@ -175,38 +229,60 @@ module _ (hides : ℕ → Bool) (covers rivals : ℕ → ℕ → Bool) (us : Lis
     abbrev Decided : List ℕ → List ℕ → Type 0
     Decided xs p = (a : ℕ) → Contains p a → Contains xs a ⊎ Contains g a
 
-    found : (xs : List ℕ) (p : List ℕ) → IsRising p → Within xs us → Within g p → Decided xs p → Contains (choices (steps xs) p) g
+    found : (xs : List ℕ) (p : List ℕ) → IsRising p → Within xs us → Within g p → Decided xs p
+        → Contains (choices (steps xs) p) g
     found [] p r all has decided =
-        let e : g ≡ p = one_rising nat_cmp nat_cmp_total g p w.rises r (λ a. (has a, λ i. elim (decided a i) [ inl n ↦ absurd (not_Contains-nil a n) | inr j ↦ j ])) in
+        let e : g ≡ p = one_rising nat_cmp nat_cmp_total g p w.rises r
+        (λ a. (
+          has a,
+          λ i. elim (decided a i) [ inl n ↦ absurd (not_Contains-nil a n) | inr j ↦ j ],
+        )) in
         subst (Contains (p ∷ [])) (sym e) (Contains-cons_head p [])
     found (x ∷ xs) p r all has decided = elim (cases_Bool (meets (x ∷ []) p)) [
       | inl y ↦ elim (cases_Bool (is_in g x)) [
         | inl t ↦
             let q = without (filter (rivals x) us) p in
             by_chosen (step x) (steps xs) p y g
-            (found xs q (IsStrictlySortedBy-filter nat_cmp (λ a. not (is_in (filter (rivals x) us) a)) p r) rest
-            (λ a i. (Contains-without (filter (rivals x) us) p a).1 (has a i, λ j. let v = (Contains-filter (rivals x) us a).0 j in let n = w.largest.compatible x a (from_list g x t) i in let bad = v.1 in absurd cc))
+            (found xs q (IsStrictlySortedBy-filter nat_cmp
+            (λ a. not (is_in (filter (rivals x) us) a)) p r) rest
+            (λ a i. (Contains-without (filter (rivals x) us) p a).1 (
+              has a i,
+              λ j. let v = (Contains-filter (rivals x) us a).0 j in
+                  let n = w.largest.compatible x a (from_list g x t) i in let bad = v.1 in
+                  absurd cc,
+            ))
             (λ a i. elim (decided a ((Contains-without (filter (rivals x) us) p a).0 i).0) [
-              | inl j ↦ elim (Contains-cons_cases x xs a j) [ inl e ↦ inr (subst (Contains g) (sym e) (from_list g x t)) | inr k ↦ inl k ]
+              | inl j ↦ elim (Contains-cons_cases x xs a j) [
+                | inl e ↦ inr (subst (Contains g) (sym e) (from_list g x t))
+                | inr k ↦ inl k
+              ]
               | inr j ↦ inr j
             ]))
         | inr n ↦
             let q = without (x ∷ []) p in
             by_left (step x) (steps xs) p y g
             (found xs q (IsStrictlySortedBy-filter nat_cmp (λ a. not (is_in (x ∷ []) a)) p r) rest
-            (λ a i. (Contains-without (x ∷ []) p a).1 (has a i, λ j. not_in g x n (elim (Contains-cons_cases x [] a j) [ inl e ↦ subst (Contains g) e i | inr k ↦ absurd (not_Contains-nil a k) ])))
+            (λ a i. (Contains-without (x ∷ []) p a).1 (
+              has a i,
+              λ j. not_in g x n (elim (Contains-cons_cases x [] a j)
+                  [ inl e ↦ subst (Contains g) e i | inr k ↦ absurd (not_Contains-nil a k) ]),
+            ))
             (λ a i. let v = (Contains-without (x ∷ []) p a).0 i in elim (decided a v.0) [
-              | inl j ↦ elim (Contains-cons_cases x xs a j) [ inl e ↦ absurd (v.1 (subst (Contains (x ∷ [])) (sym e) (Contains-cons_head x []))) | inr k ↦ inl k ]
+              | inl j ↦ elim (Contains-cons_cases x xs a j) [
+                | inl e ↦ absurd (v.1 (subst (Contains (x ∷ [])) (sym e) (Contains-cons_head x [])))
+                | inr k ↦ inl k
+              ]
               | inr j ↦ inr j
             ]))
       ]
-      | inr n ↦ subst (λ z. Contains z g) (sym (choices_out (step x) (steps xs) p n)) (found xs p r rest has (λ a i. elim (decided a i) [
-        | inl j ↦ elim (Contains-cons_cases x xs a j) [
-          | inl e ↦ let bad = alone_from x p (subst (Contains p) e i) in absurd cc
-          | inr k ↦ inl k
-        ]
-        | inr j ↦ inr j
-      ]))
+      | inr n ↦ subst (λ z. Contains z g) (sym (choices_out (step x) (steps xs) p n))
+          (found xs p r rest has (λ a i. elim (decided a i) [
+            | inl j ↦ elim (Contains-cons_cases x xs a j) [
+              | inl e ↦ let bad = alone_from x p (subst (Contains p) e i) in absurd cc
+              | inr k ↦ inl k
+            ]
+            | inr j ↦ inr j
+          ]))
     ]
       where
         rest : Within xs us
@@ -215,7 +291,8 @@ module _ (hides : ℕ → Bool) (covers rivals : ℕ → ℕ → Bool) (us : Lis
     showing_complete : IsRising us → Contains (showing hides covers rivals us) g
     showing_complete form = (Contains-filter (all_hold (steps us)) (choices (steps us) us) g).1 (
       found us us form (λ a i. i) w.largest.within (λ a i. inl i),
-      all_held_from g w.largest.within (λ x i. elim (w.largest.largest x i) [ inl j ↦ inl (j, w.covered x j) | inr v ↦ inr v ]),
+      all_held_from g w.largest.within
+          (λ x i. elim (w.largest.largest x i) [ inl j ↦ inl (j, w.covered x j) | inr v ↦ inr v ]),
     )
 
   -- ---- each once
@@ -224,17 +301,21 @@ module _ (hides : ℕ → Bool) (covers rivals : ℕ → ℕ → Bool) (us : Lis
   abbrev Told : List ℕ → List ℕ → List (List ℕ)
   Told xs p = filter (all_hold (steps us)) (choices (steps xs) p)
 
-  chosen_has : (x : ℕ) (xs p g : List ℕ) → Contains us x → Within p us → Contains (Told xs (without (filter (rivals x) us) p)) g → Contains g x
+  chosen_has : (x : ℕ) (xs p g : List ℕ) → Contains us x → Within p us
+      → Contains (Told xs (without (filter (rivals x) us) p)) g → Contains g x
   chosen_has x xs p g i within h =
-      let k = (Contains-filter (all_hold (steps us)) (choices (steps xs) (without (filter (rivals x) us) p)) g).0 h in
+      let k = (Contains-filter (all_hold (steps us))
+      (choices (steps xs) (without (filter (rivals x) us) p)) g).0 h in
       elim (all_held g k.1 x i) [
         | inl w ↦ w.0
         | inr w ↦
-            let there = (Contains-without (filter (rivals x) us) p w.0).0 (choice_within (steps xs) (without (filter (rivals x) us) p) g k.0 w.0 w.1) in
+            let there = (Contains-without (filter (rivals x) us) p w.0).0
+            (choice_within (steps xs) (without (filter (rivals x) us) p) g k.0 w.0 w.1) in
             absurd (there.1 ((Contains-filter (rivals x) us w.0).1 (within w.0 there.0, w.2)))
       ]
 
-  once_from : (xs p : List ℕ) → Within xs us → Within p us → AllPairs (λ g k. g ≢ k) (filter (all_hold (steps us)) (choices (steps xs) p))
+  once_from : (xs p : List ℕ) → Within xs us → Within p us
+      → AllPairs (λ g k. g ≢ k) (filter (all_hold (steps us)) (choices (steps xs) p))
   once_from [] p all within = few (all_hold (steps us) p) p
     where
       few : (b : Bool) (g : List ℕ) → AllPairs (λ g k. g ≢ k) (cond b (g ∷ []) [])
@@ -242,14 +323,23 @@ module _ (hides : ℕ → Bool) (covers rivals : ℕ → ℕ → Bool) (us : Lis
       few false g = λ i j d l m. absurd (omega arith)
   once_from (x ∷ xs) p all within = elim (cases_Bool (meets (x ∷ []) p)) [
     | inl y ↦
-        let is : Told (x ∷ xs) p ≡ Told xs (first (step x) p) ++ Told xs (second (step x) p) = ap (filter (all_hold (steps us))) (choices_in (step x) (steps xs) p y) ∙ filter-append (all_hold (steps us)) (choices (steps xs) (first (step x) p)) (choices (steps xs) (second (step x) p)) in
-        let of_a = once_from xs a rest (λ c j. within c ((Contains-without (filter (rivals x) us) p c).0 j).0) in
+        let is : Told (x ∷ xs) p ≡ Told xs (first (step x) p) ++ Told xs (second (step x) p) = ap
+        (filter (all_hold (steps us))) (choices_in (step x) (steps xs) p y)
+        ∙ filter-append (all_hold (steps us)) (choices (steps xs) (first (step x) p))
+        (choices (steps xs) (second (step x) p)) in
+        let of_a = once_from xs a rest
+        (λ c j. within c ((Contains-without (filter (rivals x) us) p c).0 j).0) in
         let of_b = once_from xs b rest (λ c j. within c ((Contains-without (x ∷ []) p c).0 j).0) in
         subst (AllPairs (λ g k. g ≢ k)) (sym is) (elim (cases_Bool (hides x)) [
-          | inl h ↦ rw (cond-true (hides x) b a h, cond-true (hides x) a b h) (AllPairs-append (λ g k. g ≢ k) (Told xs b) (Told xs a) of_b of_a (λ g k i j e. differ k g j i (sym e)))
-          | inr h ↦ rw (cond-false (hides x) b a h, cond-false (hides x) a b h) (AllPairs-append (λ g k. g ≢ k) (Told xs a) (Told xs b) of_a of_b differ)
+          | inl h ↦ rw (cond-true (hides x) b a h, cond-true (hides x) a b h)
+              (AllPairs-append (λ g k. g ≢ k) (Told xs b) (Told xs a) of_b of_a
+              (λ g k i j e. differ k g j i (sym e)))
+          | inr h ↦ rw (cond-false (hides x) b a h, cond-false (hides x) a b h)
+              (AllPairs-append (λ g k. g ≢ k) (Told xs a) (Told xs b) of_a of_b differ)
         ])
-    | inr n ↦ subst (AllPairs (λ g k. g ≢ k)) (sym (ap (filter (all_hold (steps us))) (choices_out (step x) (steps xs) p n))) (once_from xs p rest within)
+    | inr n ↦ subst (AllPairs (λ g k. g ≢ k))
+        (sym (ap (filter (all_hold (steps us))) (choices_out (step x) (steps xs) p n)))
+        (once_from xs p rest within)
   ]
     where
       rest : Within xs us
@@ -266,11 +356,18 @@ module _ (hides : ℕ → Bool) (covers rivals : ℕ → ℕ → Bool) (us : Lis
       differ g k i j e =
           let has = chosen_has x xs p g (all x (Contains-cons_head x xs)) within i in
           let of_k = ((Contains-filter (all_hold (steps us)) (choices (steps xs) b) k).0 j).0 in
-          ((Contains-without (x ∷ []) p x).0 (choice_within (steps xs) b k of_k x (subst (λ z. Contains z x) e has))).1 (Contains-cons_head x [])
+          ((Contains-without (x ∷ []) p x).0
+          (choice_within (steps xs) b k of_k x (subst (λ z. Contains z x) e has))).1
+          (Contains-cons_head x [])
 
 -- THE CHOICES among positions
-pub showing_all : (hides : ℕ → Bool) (covers rivals : ℕ → ℕ → Bool) → ((a b : ℕ) → rivals a b ≡ rivals b a) → ((a : ℕ) → rivals a a ≡ false) → (us : List ℕ) → IsRising us → AreShowing hides covers rivals us (showing hides covers rivals us)
+pub showing_all : (hides : ℕ → Bool) (covers rivals : ℕ → ℕ → Bool)
+    → ((a b : ℕ) → rivals a b ≡ rivals b a) → ((a : ℕ) → rivals a a ≡ false) → (us : List ℕ)
+    → IsRising us → AreShowing hides covers rivals us (showing hides covers rivals us)
 showing_all hides covers rivals symmetric alone us form = record {
-  exactly = λ g. (showing_sound hides covers rivals us form g, λ w. showing_complete hides covers rivals us g w form);
+  exactly = λ g. (
+    showing_sound hides covers rivals us form g,
+    λ w. showing_complete hides covers rivals us g w form,
+  );
   once = once_from hides covers rivals us us us (λ a i. i) (λ a i. i);
 }

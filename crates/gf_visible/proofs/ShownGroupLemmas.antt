@@ -29,8 +29,10 @@ use Rattle.gf_versions.proofs.SettlingLemmas.{settled_once}
 use Rattle.gf_versions.proofs.VersionLemmas.{some_version}
 
 -- all sets rise
-pub sets_rise : (h : List Op) (us : List ℕ) (sets : List (List ℕ)) → AreShownSets h us sets → All IsRising sets
-sets_rise h us sets all = All-weaker (Contains sets) IsRising (λ g i. ((all.exactly g).0 i).rises) sets (All-contains_itself sets)
+pub sets_rise : (h : List Op) (us : List ℕ) (sets : List (List ℕ)) → AreShownSets h us sets
+    → All IsRising sets
+sets_rise h us sets all = All-weaker (Contains sets) IsRising (λ g i. ((all.exactly g).0 i).rises)
+    sets (All-contains_itself sets)
 
 module _ (h : List Op) (valid : IsValid h) (o : ObjectId) (made : IsMade h o) where
   abbrev us : List ℕ
@@ -50,19 +52,25 @@ module _ (h : List Op) (valid : IsValid h) (o : ObjectId) (made : IsMade h o) wh
 
   visible : (q : List ℕ) → IsShownSet h us q → IsVisibleGroup h (group_at h o q)
   visible q s =
-      let version : IsVersionGroup h (group_at h o q) = version_of_largest h valid o us on made q s.largest in
+      let version : IsVersionGroup h (group_at h o q) = version_of_largest h valid o us on made q
+      s.largest in
       let v = some_version h valid (group_at h o q) version in
       let shown = to_settled h valid q s.shown in
       let ids : v.0.key.ops ≡ rising_ids h q = ap (λ (g : Group). g.ops) v.2 in
-      let own : IsSettled h (rising_ids h q) attr.Shown (value.Shown v.0.shown) = subst (λ g. IsSettled h g attr.Shown (value.Shown v.0.shown)) ids v.1.shown in
-      let yes = shown_once v.0.shown true (settled_once h valid o (rising_ids h q) version attr.Shown (value.Shown v.0.shown) (value.Shown true) own shown) in
+      let own : IsSettled h (rising_ids h q) attr.Shown (value.Shown v.0.shown) = subst
+      (λ g. IsSettled h g attr.Shown (value.Shown v.0.shown)) ids v.1.shown in
+      let yes = shown_once v.0.shown true (settled_once h valid o (rising_ids h q) version
+      attr.Shown (value.Shown v.0.shown) (value.Shown true) own shown) in
       record { version = v.0; visible = record { version = v.1; shown = yes }; group = v.2 }
 
-  shown_set : (q : List ℕ) → Contains groups q → IsVisibleGroup h (group_at h o q) → IsShownSet h us q
+  shown_set : (q : List ℕ) → Contains groups q → IsVisibleGroup h (group_at h o q)
+      → IsShownSet h us q
   shown_set q c w =
       let l = (table.each q).0 c in
       let ids : w.version.key.ops ≡ rising_ids h q = ap (λ (g : Group). g.ops) w.group in
-      let own : IsSettled h w.version.key.ops attr.Shown (value.Shown true) = subst (λ b. IsSettled h w.version.key.ops attr.Shown (value.Shown b)) w.visible.shown w.visible.version.shown in
+      let own : IsSettled h w.version.key.ops attr.Shown (value.Shown true) = subst
+      (λ b. IsSettled h w.version.key.ops attr.Shown (value.Shown b)) w.visible.shown
+      w.visible.version.shown in
       let settled = subst (λ g. IsSettled h g attr.Shown (value.Shown true)) ids own in
       record {
         rises = l.0;
@@ -71,19 +79,26 @@ module _ (h : List Op) (valid : IsValid h) (o : ObjectId) (made : IsMade h o) wh
       }
 
   -- THE VISIBLE VERSIONS of the object
-  pub visible_on : (sets : List (List ℕ)) → AreShownSets h (positions_below h o (length h)) sets → AreVisibleOn h o (map (group_at h o) sets)
+  pub visible_on : (sets : List (List ℕ)) → AreShownSets h (positions_below h o (length h)) sets
+      → AreVisibleOn h o (map (group_at h o) sets)
   visible_on sets all = record {
     exactly = λ g. (
       λ i.
-          let w = Contains-map_from (group_at h o) sets g i in
-          (ap (λ (k : Group). k.object) w.2, subst (IsVisibleGroup h) (sym w.2) (visible w.0 ((all.exactly w.0).0 w.1))),
+          let w = Contains-map_from (group_at h o) sets g i in (
+            ap (λ (k : Group). k.object) w.2,
+            subst (IsVisibleGroup h) (sym w.2) (visible w.0 ((all.exactly w.0).0 w.1)),
+          ),
       λ t.
-          let version : IsVersionGroup h g = subst (IsVersionGroup h) t.1.group t.1.visible.version.version in
-          let w = Contains-map_from (group_at h o) groups g ((groups_exactly h valid o us on rises groups table made g).1 (t.0, version)) in
+          let version : IsVersionGroup h g = subst (IsVersionGroup h) t.1.group
+          t.1.visible.version.version in
+          let w = Contains-map_from (group_at h o) groups g
+          ((groups_exactly h valid o us on rises groups table made g).1 (t.0, version)) in
           let there = (all.exactly w.0).1 (shown_set w.0 w.1 (subst (IsVisibleGroup h) w.2 t.1)) in
-          subst (Contains (map (group_at h o) sets)) (sym w.2) (Contains-map (group_at h o) sets w.0 there),
+          subst (Contains (map (group_at h o) sets)) (sym w.2)
+          (Contains-map (group_at h o) sets w.0 there),
     );
-    once = AllPairs-map (group_at h o) sets (λ g k x y. same_group_at h valid o us on rises groups table g k (in_table g x) (in_table k y)) all.once;
+    once = AllPairs-map (group_at h o) sets (λ g k x y. same_group_at h valid o us on rises groups
+        table g k (in_table g x) (in_table k y)) all.once;
   }
     where
       in_table : (g : List ℕ) → Contains sets g → Contains groups g

@@ -5,4 +5,5 @@ pub returns-clause-part : goal.returns-clause-part
 returns-clause-part c = λ offered added one last a. delivered_part offered added one last a
 
 pub returns-clause-same : goal.returns-clause-same
-returns-clause-same c = λ offered others f g one same l m a. same_delivered offered others f g one same l m a
+returns-clause-same c = λ offered others f g one same l m a. same_delivered offered others f g one
+    same l m a

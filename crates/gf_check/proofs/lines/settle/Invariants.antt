@@ -5,7 +5,8 @@ use Rattle.gf_check.specs.CheckSteps.{TellsDrop}
 use Rattle.gf_check.proofs.lines.settle.Given as goal
 
 abbrev pub invariant-loop-id : goal.invariant-loop-id
-invariant-loop-id l = (told : List Told) → HasTold told l.initial.telling → TellsDrop l.initial.site l.site told l.telling
+invariant-loop-id l = (told : List Told) → HasTold told l.initial.telling
+    → TellsDrop l.initial.site l.site told l.telling
 
 abbrev pub decreases-loop-id : goal.decreases-loop-id
 decreases-loop-id l = length l.site.held

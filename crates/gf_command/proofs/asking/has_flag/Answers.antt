@@ -5,4 +5,6 @@ use Rattle.gf_command.specs.Asking.{is_true}
 use Rattle.gf_command.proofs.asking.has_flag.Goals as goal
 
 pub returns : goal.returns
-returns c = c.is_true.ensures ∙ ap is_true (c.get_str.ensures ∙ first_value-rows (found_of c.args.matches.now) c.args.name.now)
+returns c = c.is_true.ensures
+    ∙ ap is_true (c.get_str.ensures ∙ first_value-rows (found_of c.args.matches.now)
+    c.args.name.now)

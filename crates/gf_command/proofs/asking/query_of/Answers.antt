@@ -10,4 +10,5 @@ returns c =
     let object = c.get_str.ensures ∙ first_value-rows f (codes "object") in
     let at = c.get_str-2.ensures ∙ first_value-rows f (codes "at") in
     subst (λ t. AsksQuery (first_of (codes "object") (rows_of f)) t c.asked_of.result) at
-    (subst (λ t. AsksQuery t (option_map (λ t. t.now) c.get_str-2.result) c.asked_of.result) object c.asked_of.ensures)
+    (subst (λ t. AsksQuery t (option_map (λ t. t.now) c.get_str-2.result) c.asked_of.result) object
+    c.asked_of.ensures)

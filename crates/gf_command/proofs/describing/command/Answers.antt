@@ -12,5 +12,6 @@ returns c =
     let start : app_of c.after_help.result ≡ new_app run.name.now =
     ap app_of_fields c.after_help.ensures ∙ ap app_of_fields c.about.ensures ∙ c.new.ensures.app in
     let simple = ap (list_all (λ r. r.is_simple)) has ∙ options_simple run.takes in
-    IfOk-weaker c.args-2.result _ _ (λ r adds. options_added c.in_ok-options.options.items c.after_help.result r simple adds
+    IfOk-weaker c.args-2.result _ _ (λ r adds. options_added c.in_ok-options.options.items
+    c.after_help.result r simple adds
     ∙ ap₂ (fold with_rule) start has ∙ options_whole run.name.now run.takes) c.args-2.ensures

@@ -22,5 +22,6 @@ returns c =
     let wanted = ap app_of_fields c.subcommand_required.ensures ∙ ap (on_top with_wanted) told in
     let start = ap app_of_fields c.arg_required_else_help.ensures ∙ ap (on_top with_help) wanted in
     let plain = ap (list_all (λ s. s.is_plain)) has in
-    IfOk-weaker c.subcommands.result _ _ (λ r adds. commands_added c.in_ok-runs.runs.items c.arg_required_else_help.result r plain adds
+    IfOk-weaker c.subcommands.result _ _ (λ r adds. commands_added c.in_ok-runs.runs.items
+    c.arg_required_else_help.result r plain adds
     ∙ ap₂ (fold with_subcommand) start has) c.subcommands.ensures

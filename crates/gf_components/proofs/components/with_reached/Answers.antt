@@ -8,7 +8,13 @@ use Rattle.gf_components.proofs.components.with_reached.Goals as goal
 
 pub returns-then-touches : goal.returns-then-touches
 returns-then-touches c =
-    let hit : touches c.args.numbers.now c.args.component.now ≡ true = sym c.touches.ensures ∙ c.if-touches.true in
+    let hit : touches c.args.numbers.now c.args.component.now ≡ true = sym c.touches.ensures
+    ∙ c.if-touches.true in
     IfOk-weaker c.united.result (λ (all : List ℕ). all ≡ united c.args.found c.component.inside.all)
-    (λ (all : List ℕ). (n : ℕ) → Contains all n ↔ (Contains c.args.found n ⊎ ((touches c.args.numbers.now c.args.component.now ≡ true) × Contains c.args.component.now.all n)))
-    (λ all e. reached_united c.args.numbers.now c.args.component.now c.args.found c.component.inside.all all (ap (λ (p : ComponentState). p.all) c.component.view_is) hit e) c.united.ensures
+    (λ (all : List ℕ). (n : ℕ)
+    → Contains all n ↔ (Contains c.args.found n
+    ⊎ ((touches c.args.numbers.now c.args.component.now ≡ true) × Contains c.args.component.now.all
+    n)))
+    (λ all e. reached_united c.args.numbers.now c.args.component.now c.args.found
+    c.component.inside.all all (ap (λ (p : ComponentState). p.all) c.component.view_is) hit e)
+    c.united.ensures

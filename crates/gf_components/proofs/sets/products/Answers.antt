@@ -11,5 +11,7 @@ loop-set-preserved c =
     let xs = c.args.sets.now in
     let i = c.loop-set.set-index in
     let ks = c.args.others.now in
-    let all : take (i + 1) xs ≡ take i xs ++ g ∷ [] = take_more xs i g c.loop-set-test.true ∙ ap (λ z. take i xs ++ z ∷ []) (sym c.set-item.is) in
-    c.in_ok-add_products.ensures ∙ (ap (λ zs. zs ++ map (united g) ks) c.loop-set.invariant ∙ (sym (products-push (take i xs) g ks) ∙ ap (λ zs. products zs ks) (sym all)))
+    let all : take (i + 1) xs ≡ take i xs ++ g ∷ [] = take_more xs i g c.loop-set-test.true
+    ∙ ap (λ z. take i xs ++ z ∷ []) (sym c.set-item.is) in
+    c.in_ok-add_products.ensures ∙ (ap (λ zs. zs ++ map (united g) ks) c.loop-set.invariant
+    ∙ (sym (products-push (take i xs) g ks) ∙ ap (λ zs. products zs ks) (sym all)))

@@ -12,7 +12,8 @@ add_colour-requires g c =
     let items = ap length c.as_slice-colour-items.ensures.keys in
     let less = c.loop-colour-test.true in
     let few = c.requires.few in
-    rw long (free_next c.loop-colour.drawing.table (take c.loop-colour.colour-index c.args.colours.now.keys) c.loop-colour.colour-index
+    rw long (free_next c.loop-colour.drawing.table
+    (take c.loop-colour.colour-index c.args.colours.now.keys) c.loop-colour.colour-index
     (ap (λ (d : DrawingState g.row.S.Denot). d.table) loop.drawing) loop.counted (omega arith))
 
 pub loop-colour-preserved : goal.loop-colour-preserved
@@ -24,6 +25,12 @@ loop-colour-preserved g c =
     let added = rw (long, keys) at c.in_ok-add_colour.ensures.ok in
     let table = ap (λ (d : DrawingState g.row.S.Denot). d.table) added in
     record {
-      drawing = rw loop.drawing at added ∙ (λ k. record { table = sym (numbered-next c.args.colours.now.keys c.loop-colour.colour-index (rgb 0 0 0) less) k; figures = [] });
-      counted = ap length table ∙ (length-append c.loop-colour.drawing.table _ ∙ ap (λ n. n + 1) loop.counted);
+      drawing = rw loop.drawing at added
+          ∙ (λ k. record {
+            table = sym (numbered-next c.args.colours.now.keys c.loop-colour.colour-index
+                (rgb 0 0 0) less) k;
+            figures = [];
+          });
+      counted = ap length table ∙ (length-append c.loop-colour.drawing.table _
+          ∙ ap (λ n. n + 1) loop.counted);
     }

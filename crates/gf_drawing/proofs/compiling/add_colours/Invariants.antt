@@ -4,6 +4,9 @@ use Rattle.gf_drawing.proofs.compiling.add_colours.Given as goal
 
 abbrev pub invariant-loop-colour : goal.invariant-loop-colour
 invariant-loop-colour g l = record {
-  drawing : l.drawing ≡ record { table = enumerate_from 32 (take l.colour-index l.colours.keys); figures = [] };
+  drawing : l.drawing ≡ record {
+    table = enumerate_from 32 (take l.colour-index l.colours.keys);
+    figures = [];
+  };
   counted : length l.drawing.table ≡ l.colour-index;
 }

@@ -9,6 +9,7 @@ invariant-loop-item g l = record {
   items : l.yielded ++ into_iter_items l.item-iterator ≡ l.fn.items.items;
   left : into_iter_len l.item-iterator ≡ length (into_iter_items l.item-iterator);
   table : l.drawing.table ≡ canonical_table l.fn.items.items;
-  figures : l.drawing.figures ≡ map (canonical_figure (colours_of l.fn.items.items)) (enumerate_from 0 l.yielded);
+  figures : l.drawing.figures ≡ map (canonical_figure (colours_of l.fn.items.items))
+      (enumerate_from 0 l.yielded);
   counted : length l.drawing.figures ≡ length l.yielded;
 }

@@ -8,5 +8,9 @@ use Rattle.gf_edit.proofs.making.refusal.Goals as goal
 pub returns-else-has : goal.returns-else-has
 returns-else-has c =
     let id : IsTrue (is_id c.args.id) = search rules in
-    let other : c.args.id.site ≢ c.args.site.now.number = search rules in
-    (id, other, subst (λ l. IsFree l c.args.id) c.history.ensures.ops (c.has.ensures.no c.if-has.false), λ a i d. absurd (not_Contains-nil a i))
+    let other : c.args.id.site ≢ c.args.site.now.number = search rules in (
+      id,
+      other,
+      subst (λ l. IsFree l c.args.id) c.history.ensures.ops (c.has.ensures.no c.if-has.false),
+      λ a i d. absurd (not_Contains-nil a i),
+    )

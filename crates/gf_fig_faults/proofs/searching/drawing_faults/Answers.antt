@@ -7,9 +7,11 @@ use Rattle.gf_fig_faults.proofs.searching.drawing_faults.Goals as goal
 pub returns-clause-none : goal.returns-clause-none
 returns-clause-none c =
     none_where_read c.args.text.now 64 c.new.result (omega arith)
-    (subst (λ (fs : List DrawingFault). AreFaults 64 None c.args.text.now fs) (sym c.new.ensures) c.in_ok-faults.ensures)
+    (subst (λ (fs : List DrawingFault). AreFaults 64 None c.args.text.now fs) (sym c.new.ensures)
+    c.in_ok-faults.ensures)
 
 pub returns-clause-first : goal.returns-clause-first
 returns-clause-first c =
     first_refuses c.args.text.now 64 c.new.result
-    (subst (λ (fs : List DrawingFault). AreFaults 64 None c.args.text.now fs) (sym c.new.ensures) c.in_ok-faults.ensures)
+    (subst (λ (fs : List DrawingFault). AreFaults 64 None c.args.text.now fs) (sym c.new.ensures)
+    c.in_ok-faults.ensures)

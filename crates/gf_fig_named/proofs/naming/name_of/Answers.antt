@@ -7,5 +7,6 @@ pub returns : goal.returns
 returns c =
     let h = c.args.history.now.ops in
     let others = c.in_ok-others.others.items in
-    let tells : AreTelling h c.args.key.now.ops (IsMember h others) c.in_ok-telling.field-0 = rw (c.as_slice.ensures, c.deref.ensures.value) at c.in_ok-telling.ensures in
+    let tells : AreTelling h c.args.key.now.ops (IsMember h others) c.in_ok-telling.field-0 =
+    rw (c.as_slice.ensures, c.deref.ensures.value) at c.in_ok-telling.ensures in
     record { object = refl; others = others; elsewhere = c.in_ok-others.ensures; telling = tells }

@@ -10,6 +10,9 @@ returns c =
     let h = c.args.history.now.ops in
     let items = c.args.items.now in
     let ids = c.as_slice.result.now in
-    let shown : (i : OpId) → Contains ids i ↔ Contains (ids_of items) i = rw c.as_slice.ensures c.in_ok-shown.ensures in
-    if_ok c.names_among.result _ _ (λ names all. zip_weaker (IsItemNamed h ids) (IsNameOf h items) items names.items
-    (λ i n listed so. named h c.ops.ensures.valid items c.requires ids shown i n listed so) all) c.names_among.ensures
+    let shown : (i : OpId) → Contains ids i ↔ Contains (ids_of items) i = rw c.as_slice.ensures
+    c.in_ok-shown.ensures in
+    if_ok c.names_among.result _ _ (λ names all. zip_weaker (IsItemNamed h ids) (IsNameOf h items)
+    items names.items
+    (λ i n listed so. named h c.ops.ensures.valid items c.requires ids shown i n listed so) all)
+    c.names_among.ensures

@@ -7,7 +7,8 @@ use Rattle.gf_fig_read.proofs.outlines.points.Given as goal
 
 abbrev pub invariant-loop : goal.invariant-loop
 invariant-loop l = record {
-  read : with_front l.points.items (points (l.count - l.counter) l.tokens) ≡ points l.count l.initial.tokens;
+  read : with_front l.points.items (points (l.count - l.counter) l.tokens) ≡ points l.count
+      l.initial.tokens;
   len : length l.points.items ≡ l.counter;
   within : All (λ p. IsTrue (is_within_reach p)) l.points.items;
 }

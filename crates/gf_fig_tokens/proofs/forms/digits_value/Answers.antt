@@ -10,7 +10,12 @@ overflow_mul-n c =
 pub overflow_add-n : goal.overflow_add-n
 overflow_add-n c =
     let few : c.loop-d.d-index ≤ 18 = omega (arith, c.requires.few, c.loop-d-test.true) in
-    omega (arith, c.loop-d.invariant.1, ten_pow_small c.loop-d.d-index 18 few, c.type_inv.digits c.loop-d.d-index)
+    omega (
+      arith,
+      c.loop-d.invariant.1,
+      ten_pow_small c.loop-d.d-index 18 few,
+      c.type_inv.digits c.loop-d.d-index,
+    )
 
 pub returns-clause-small : goal.returns-clause-small
 returns-clause-small c =

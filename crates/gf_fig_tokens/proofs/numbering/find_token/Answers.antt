@@ -18,7 +18,8 @@ loop-next-preserved c = (
   behind_first_line (plain_behind c.loop-next.number c.loop-next.rest.now)
       (plain_behind c.in-Some.next c.in-Some.after.now) (c.in-Some.next, c.in-Some.line.now)
       c.loop-next.left c.count_words-count.result
-      (slice_get (flat_map repeated_number (plain_behind c.args.before c.args.text.now)) c.args.index)
+      (slice_get (flat_map repeated_number (plain_behind c.args.before c.args.text.now))
+      c.args.index)
       c.in-Some.ensures.lines c.count_words-count.ensures.count c.if-left-count.false
       c.loop-next.invariant.0,
   omega (arith, c.in-Some.ensures.few, c.loop-next.invariant.1),

@@ -11,5 +11,6 @@ loop-i-preserved c =
     let within : c.loop-i.i < length c.args.table.now = search rules in
     record {
       text = grind (arith, common_steps, flat_map_next);
-      bytes = one_entry_more (λ (e : ℕ × Rgb). HasBytes e.1) c.args.table.now c.loop-i.i within c.loop-i.invariant.bytes c.in_ok-push_entry.ensures.bytes;
+      bytes = one_entry_more (λ (e : ℕ × Rgb). HasBytes e.1) c.args.table.now c.loop-i.i within
+          c.loop-i.invariant.bytes c.in_ok-push_entry.ensures.bytes;
     }

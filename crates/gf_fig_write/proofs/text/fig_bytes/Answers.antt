@@ -12,4 +12,6 @@ returns-clause-reads g c =
     let d = c.args.drawing.now in
     let is : c.push_figures.new.out.items ≡ fig_text outline d = grind (arith, common_steps) in
     subst (λ (bytes : List ℕ). Reads bytes (outlined outline d)) (sym is)
-    (text_reads outline d c.colours.ensures.lawful (rw c.colours.ensures.table at c.in_ok-push_table.ensures.bytes) (rw c.figures.ensures.figures at c.in_ok-push_figures.ensures.lawful))
+    (text_reads outline d c.colours.ensures.lawful
+    (rw c.colours.ensures.table at c.in_ok-push_table.ensures.bytes)
+    (rw c.figures.ensures.figures at c.in_ok-push_figures.ensures.lawful))

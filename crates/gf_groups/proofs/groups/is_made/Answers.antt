@@ -9,10 +9,15 @@ returns-in_default c = (
   λ t. absurd cc,
   λ m.
       let found = c.in-Some.ensures.found in
-      let one = same_op c.args.history.now.ops c.ops.ensures.valid m.made.maker c.in-Some.maker.now m.made.contained found.0 (m.made.id ∙ sym found.1) in
-      let none : made_kind m.made.maker.change ≡ None = ap (λ (a : Op). made_kind a.change) one ∙ ap made_kind c.in_default.is in
+      let one = same_op c.args.history.now.ops c.ops.ensures.valid m.made.maker c.in-Some.maker.now
+      m.made.contained found.0 (m.made.id ∙ sym found.1) in
+      let none : made_kind m.made.maker.change ≡ None = ap (λ (a : Op). made_kind a.change) one
+      ∙ ap made_kind c.in_default.is in
       let some = m.made.kind in absurd cc,
 )
 
 pub returns-in-None : goal.returns-in-None
-returns-in-None c = (λ t. absurd cc, λ m. absurd (c.in-None.ensures.none m.made.maker m.made.contained m.made.id))
+returns-in-None c = (
+  λ t. absurd cc,
+  λ m. absurd (c.in-None.ensures.none m.made.maker m.made.contained m.made.id),
+)

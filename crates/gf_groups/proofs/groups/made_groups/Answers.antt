@@ -7,17 +7,21 @@ use Rattle.gf_groups.proofs.TableLemmas.{conflict_at_test, table_groups}
 use Rattle.gf_groups.proofs.groups.made_groups.Goals as goal
 
 pub groups_at-requires-clause-rising : goal.groups_at-requires-clause-rising
-groups_at-requires-clause-rising c = rw (c.deref.ensures.value, c.in_ok-positions.ensures) (positions_below-rising c.ops.result.now c.args.object (length c.ops.result.now))
+groups_at-requires-clause-rising c = rw (c.deref.ensures.value, c.in_ok-positions.ensures)
+    (positions_below-rising c.ops.result.now c.args.object (length c.ops.result.now))
 
 pub groups_at-requires-clause-bounded : goal.groups_at-requires-clause-bounded
 groups_at-requires-clause-bounded c =
     let l : length c.ops.result.now < 2 ^ 64 = search rules in
-    rw (c.deref.ensures.value, c.in_ok-positions.ensures) (positions_below-bounded c.ops.result.now c.args.object (length c.ops.result.now) (2 ^ 64) l)
+    rw (c.deref.ensures.value, c.in_ok-positions.ensures)
+    (positions_below-bounded c.ops.result.now c.args.object (length c.ops.result.now) (2 ^ 64) l)
 
 pub groups_from-requires-clause-table : goal.groups_from-requires-clause-table
 groups_from-requires-clause-table c =
     let h = c.args.history.now.ops in
     let us = positions_below h c.args.object (length h) in
-    let positions : c.deref.result.now ≡ us = c.deref.ensures.value ∙ (rw c.ops.ensures.ops at c.in_ok-positions.ensures) in
+    let positions : c.deref.result.now ≡ us = c.deref.ensures.value
+    ∙ (rw c.ops.ensures.ops at c.in_ok-positions.ensures) in
     let sets = c.in_ok-sets.ensures ∙ ap (groups_at (conflict_at h)) positions in
-    subst (IsTable (conflict_at h) us) (sym sets) (table_groups (conflict_at h) (conflict_at_test h) us (positions_below-rising h c.args.object (length h)))
+    subst (IsTable (conflict_at h) us) (sym sets) (table_groups (conflict_at h) (conflict_at_test h)
+    us (positions_below-rising h c.args.object (length h)))

@@ -8,4 +8,6 @@ use Rattle.gf_groups.proofs.IdLemmas.{id_cmp_total}
 use Rattle.gf_groups.proofs.groups.sort.Goals as goal
 
 pub returns-clause-sorted : goal.returns-clause-sorted
-returns-clause-sorted c = c.in_ok-sort_by.ensures.sorted (λ g k. is_lt (group_cmp g k)) (ranks_by (lists_total id_cmp_total) (λ (g : Group). g.ops)) (answers_always _ _ _ (λ f a r g h. search rules))
+returns-clause-sorted c = c.in_ok-sort_by.ensures.sorted (λ g k. is_lt (group_cmp g k))
+    (ranks_by (lists_total id_cmp_total) (λ (g : Group). g.ops))
+    (answers_always _ _ _ (λ f a r g h. search rules))

@@ -1,4 +1,5 @@
-use Rattle.std.proofs.Common.{◌≡◌, ◌+◌, [], ◌∷◌, ◌++◌, take, drop, get_or, take-append-drop, sym, ap, ◌∙◌}
+use Rattle.std.proofs.Common.{◌≡◌, ◌+◌, [], ◌∷◌, ◌++◌, take, drop, get_or, take-append-drop, sym}
+use Rattle.std.proofs.Common.{ap, ◌∙◌}
 use Rattle.std.specs.Ordering.{nat_cmp}
 use Rattle.std.proofs.lemmas.Cmp.{nat_cmp_total}
 use Rattle.std.proofs.lemmas.List.{take_more}
@@ -17,10 +18,15 @@ loop-other-preserved c =
     let i = c.loop-other.other-index in
     let x = get_or us i 0 in
     let all : take (i + 1) us ≡ take i us ++ x ∷ [] = take_more us i 0 c.loop-other-test.true in
-    let form : IsRising (take i us ++ x ∷ []) = rw (← all) (rising_front nat_cmp nat_cmp_total (take (i + 1) us) (drop (i + 1) us) (rw take-append-drop c.requires.rising)) in
+    let form : IsRising (take i us ++ x ∷ []) = rw (← all)
+    (rising_front nat_cmp nat_cmp_total (take (i + 1) us) (drop (i + 1) us)
+    (rw take-append-drop c.requires.rising)) in
     rw all (elim c.if-conflict_at.branch [
       | then-conflict_at+in_ok-join w ↦
-          let more = rivals_more k (take i us) c.args.position x form (sym w.if-conflict_at.ensures) in
+          let more = rivals_more k (take i us) c.args.position x form (sym w.if-conflict_at.ensures)
+          in
           w.rivals-is ∙ (w.in_ok-join.ensures.ok ∙ (ap (joined x) c.loop-other.invariant ∙ more))
-      | else-conflict_at w ↦ w.rivals-is ∙ (c.loop-other.invariant ∙ rivals_same k (take i us) c.args.position x (sym w.if-conflict_at.ensures))
+      | else-conflict_at w ↦ w.rivals-is
+          ∙ (c.loop-other.invariant ∙ rivals_same k (take i us) c.args.position x
+          (sym w.if-conflict_at.ensures))
     ])

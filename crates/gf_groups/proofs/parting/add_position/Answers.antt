@@ -9,5 +9,8 @@ returns-in-Ok c = λ p.
     let old = c.args.parts.now in
     let updates = rw c.get_mut.follows.holds-at-none at c.in-Ok.ensures.updates in
     let none : positions_of old c.args.object ≡ None = sym c.in_default.ensures.value in
-    let one = c.in_ok-push.ensures ∙ ap (λ positions. positions ++ c.args.position ∷ []) c.new-positions.ensures in
-    with_position (positions_of c.insert.new.self p) (positions_of old c.args.object) (positions_of old p) (is_at (object_cmp c.args.object) p) c.push-2.new.self c.args.position none one (updates.0 p)
+    let one = c.in_ok-push.ensures ∙ ap (λ positions. positions ++ c.args.position ∷ [])
+    c.new-positions.ensures in
+    with_position (positions_of c.insert.new.self p) (positions_of old c.args.object)
+    (positions_of old p) (is_at (object_cmp c.args.object) p) c.push-2.new.self c.args.position none
+    one (updates.0 p)

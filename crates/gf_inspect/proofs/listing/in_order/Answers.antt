@@ -17,5 +17,8 @@ loop-group-preserved c =
     let v = c.in_ok-settle.field-0 in
     let is = c.in_ok-settle.ensures in
     let e : group_of v ≡ g = λ i. record { object = is.object i; ops = is.ops i } in
-    let grown = take_more groups n g c.loop-group-test.true ∙ ap (λ (k : Group). take n groups ++ k ∷ []) (sym c.group-item.is) in
-    rw (grown, c.in_ok-push.ensures.items) (settled_more h (take n groups) c.loop-group.versions.items c.loop-group.invariant g v is.version e)
+    let grown = take_more groups n g c.loop-group-test.true
+    ∙ ap (λ (k : Group). take n groups ++ k ∷ []) (sym c.group-item.is) in
+    rw (grown, c.in_ok-push.ensures.items)
+    (settled_more h (take n groups) c.loop-group.versions.items c.loop-group.invariant g v
+    is.version e)

@@ -8,4 +8,6 @@ use Rattle.gf_inspect.specs.Falling.{falling_cmp}
 use Rattle.gf_inspect.proofs.listing.sort.Goals as goal
 
 pub returns-clause-sorted : goal.returns-clause-sorted
-returns-clause-sorted c = c.in_ok-sort_by.ensures.sorted (λ v w. is_lt (falling_cmp v w)) (ranks_by (back_total key_cmp_total) (λ (v : Version). v.key)) (answers_always _ _ _ (λ f a r g h. search rules))
+returns-clause-sorted c = c.in_ok-sort_by.ensures.sorted (λ v w. is_lt (falling_cmp v w))
+    (ranks_by (back_total key_cmp_total) (λ (v : Version). v.key))
+    (answers_always _ _ _ (λ f a r g h. search rules))

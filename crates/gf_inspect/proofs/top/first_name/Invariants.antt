@@ -8,5 +8,7 @@ use Rattle.gf_inspect.proofs.top.first_name.Given as goal
 
 -- no item so far holds the point
 abbrev pub invariant-loop-item : goal.invariant-loop-item
-invariant-loop-item l = find (λ (i : Placed AnyShape). any_holds i.shape l.point) (into_iter_items l.item-iterator)
-    ≡ find (λ (i : Placed AnyShape). any_holds i.shape l.point) (into_iter_items l.initial.item-iterator)
+invariant-loop-item l = find (λ (i : Placed AnyShape). any_holds i.shape l.point)
+    (into_iter_items l.item-iterator)
+    ≡ find (λ (i : Placed AnyShape). any_holds i.shape l.point)
+    (into_iter_items l.initial.item-iterator)

@@ -6,7 +6,8 @@ use Rattle.gf_json.proofs.reading.read_keep.Goals as goal
 
 pub returns-in-Ok-clause-denoted : goal.returns-in-Ok-clause-denoted
 returns-in-Ok-clause-denoted c =
-    denoted_by keep_of c.args.line.now (view c.in-Ok.value) c.in-Ok.value _ _ refl c.in-Ok.ensures c.keep_of.ensures.value
+    denoted_by keep_of c.args.line.now (view c.in-Ok.value) c.in-Ok.value _ _ refl c.in-Ok.ensures
+    c.keep_of.ensures.value
 
 pub returns-in-Err-clause-denoted : goal.returns-in-Err-clause-denoted
 returns-in-Err-clause-denoted c =

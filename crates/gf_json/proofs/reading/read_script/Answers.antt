@@ -6,7 +6,8 @@ use Rattle.gf_json.proofs.reading.read_script.Goals as goal
 
 pub returns-in-Ok-clause-denoted : goal.returns-in-Ok-clause-denoted
 returns-in-Ok-clause-denoted c =
-    denoted_by script_of c.args.line.now (view c.in-Ok.value) c.in-Ok.value _ _ refl c.in-Ok.ensures c.script_of.ensures.value
+    denoted_by script_of c.args.line.now (view c.in-Ok.value) c.in-Ok.value _ _ refl c.in-Ok.ensures
+    c.script_of.ensures.value
 
 pub returns-in-Err-clause-denoted : goal.returns-in-Err-clause-denoted
 returns-in-Err-clause-denoted c =

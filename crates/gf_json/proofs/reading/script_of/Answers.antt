@@ -4,4 +4,6 @@ use Rattle.gf_json.proofs.MissingKeys.{awaited-read}
 use Rattle.gf_json.proofs.reading.script_of.Goals as goal
 
 pub returns-then-tells-clause-value : goal.returns-then-tells-clause-value
-returns-then-tells-clause-value c = inr (rw (c.awaited.ensures.value) (awaited-read (view c.args.line.now) (rw (← c.tells.ensures) c.if-tells.true)))
+returns-then-tells-clause-value c = inr
+    (rw (c.awaited.ensures.value)
+    (awaited-read (view c.args.line.now) (rw (← c.tells.ensures) c.if-tells.true)))

@@ -13,12 +13,16 @@ use Rattle.gf_json.proofs.writing.command_line.Goals as goal
 pub returns-clause-text : goal.returns-clause-text
 returns-clause-text c =
     let built = c.in_ok-value.ensures in
-    let whole : has_float (view c.in_ok-value.value) ≡ false = rw built (has_float-script_data c.args.script.now) in
+    let whole : has_float (view c.in_ok-value.value) ≡ false = rw built
+    (has_float-script_data c.args.script.now) in
     c.in_ok-line.ensures.text whole ∙ ap compact_text built
 
 pub returns-clause-read_again : goal.returns-clause-read_again
 returns-clause-read_again c = λ within.
     let built = c.in_ok-value.ensures in
-    let shallow : depth (view c.in_ok-value.value) ≤ max_depth = rw built (depth-script_data c.args.script.now) in
-    let read = json-read (string_bytes c.in_ok-line.line) (script_data c.args.script.now) (IsUtf8-string_bytes c.in_ok-line.line) (c.in_ok-line.ensures.reads_back shallow ∙ ap Some built) in
+    let shallow : depth (view c.in_ok-value.value) ≤ max_depth = rw built
+    (depth-script_data c.args.script.now) in
+    let read = json-read (string_bytes c.in_ok-line.line) (script_data c.args.script.now)
+    (IsUtf8-string_bytes c.in_ok-line.line) (c.in_ok-line.ensures.reads_back shallow
+    ∙ ap Some built) in
     rw read (script_of-script_data c.args.script.now within)

@@ -5,4 +5,6 @@ use Rattle.gf_keep.specs.KeepSteps.{IsBroughtFrom}
 use Rattle.gf_keep.proofs.aiming.add_all.Given as goal
 
 abbrev pub invariant-loop-id : goal.invariant-loop-id
-invariant-loop-id l = (i : OpId) → Contains l.found.items i ↔ (Contains l.initial.found.items i ⊎ IsBroughtFrom l.history.ops (take l.id-index l.ids) i)
+invariant-loop-id l = (i : OpId)
+    → Contains l.found.items i ↔ (Contains l.initial.found.items i ⊎ IsBroughtFrom l.history.ops
+    (take l.id-index l.ids) i)

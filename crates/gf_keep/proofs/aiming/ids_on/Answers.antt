@@ -15,17 +15,26 @@ loop-op-preserved c =
     let x = c.op-item.result in
     elim c.if-is_on.branch [
       | then-is_on+in_ok-push w ↦
-          let on = subst (λ (y : Op). object_of y ≡ c.args.object) c.op-item.is (c.is_on.ensures.0 w.if-is_on.true) in
-          let pushed = ap (λ (v : Vec OpId Global). v.items) w.ids-is ∙ (w.in_ok-push.ensures.items ∙ ap (λ (y : Op). c.loop-op.ids.items ++ y.id ∷ []) c.op-item.is) in
-          on_more h c.args.object n x c.loop-op-test.true c.loop-op.ids.items c.if-is_on.ids.items on c.loop-op.invariant pushed
+          let on = subst (λ (y : Op). object_of y ≡ c.args.object) c.op-item.is
+          (c.is_on.ensures.0 w.if-is_on.true) in
+          let pushed = ap (λ (v : Vec OpId Global). v.items) w.ids-is
+          ∙ (w.in_ok-push.ensures.items ∙ ap (λ (y : Op). c.loop-op.ids.items ++ y.id ∷ [])
+          c.op-item.is) in
+          on_more h c.args.object n x c.loop-op-test.true c.loop-op.ids.items c.if-is_on.ids.items
+          on c.loop-op.invariant pushed
       | else-is_on w ↦
-          let off : ¬ (object_of x ≡ c.args.object) = λ e. let t = c.is_on.ensures.1 e in let f = w.if-is_on.false in absurd cc in
+          let off : ¬ (object_of x ≡ c.args.object) = λ e. let t = c.is_on.ensures.1 e in
+          let f = w.if-is_on.false in absurd cc in
           let off' = subst (λ (y : Op). ¬ (object_of y ≡ c.args.object)) c.op-item.is off in
-          subst (λ (v : Vec OpId Global). (i : OpId) → Contains v.items i ↔ HasOn (take (n + 1) h) c.args.object i) (sym w.ids-is)
-          (on_same h c.args.object n x c.loop-op-test.true c.loop-op.ids.items off' c.loop-op.invariant)
+          subst (λ (v : Vec OpId Global). (i : OpId) → Contains v.items i ↔ HasOn (take (n + 1) h)
+          c.args.object i) (sym w.ids-is)
+          (on_same h c.args.object n x c.loop-op-test.true c.loop-op.ids.items off'
+          c.loop-op.invariant)
     ]
 
 pub returns : goal.returns
 returns c =
-    subst (λ (h : List Op). (i : OpId) → Contains c.loop-op.ids.items i ↔ HasOn h c.args.object i) c.ops-op-items.ensures.ops
-    (on_all c.ops-op-items.result.now c.args.object c.loop-op.op-index c.loop-op.ids.items c.loop-op-test.false c.loop-op.invariant)
+    subst (λ (h : List Op). (i : OpId) → Contains c.loop-op.ids.items i ↔ HasOn h c.args.object i)
+    c.ops-op-items.ensures.ops
+    (on_all c.ops-op-items.result.now c.args.object c.loop-op.op-index c.loop-op.ids.items
+    c.loop-op-test.false c.loop-op.invariant)

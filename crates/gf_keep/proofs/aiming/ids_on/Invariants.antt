@@ -5,4 +5,5 @@ use Rattle.gf_ops.specs.Version.{HasOn}
 use Rattle.gf_keep.proofs.aiming.ids_on.Given as goal
 
 abbrev pub invariant-loop-op : goal.invariant-loop-op
-invariant-loop-op l = (i : OpId) → Contains l.ids.items i ↔ HasOn (take l.op-index l.op-items) l.object i
+invariant-loop-op l = (i : OpId) → Contains l.ids.items i ↔ HasOn (take l.op-index l.op-items)
+    l.object i

@@ -3,4 +3,5 @@ use Rattle.gf_keep.specs.KeepSteps.{AreShowings}
 use Rattle.gf_keep.proofs.keeping_changes.changes_of.Given as goal
 
 abbrev pub invariant-loop-group : goal.invariant-loop-group
-invariant-loop-group l = AreShowings l.history.ops l.object (take l.group-index l.groups) l.changes.items
+invariant-loop-group l = AreShowings l.history.ops l.object (take l.group-index l.groups)
+    l.changes.items

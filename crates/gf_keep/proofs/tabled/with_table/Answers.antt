@@ -6,5 +6,7 @@ use Rattle.gf_keep.proofs.tabled.with_table.Goals as goal
 pub add-requires-clause-accepted : goal.add-requires-clause-accepted
 add-requires-clause-accepted g c =
     let h = c.ops-op-items.result.now in
-    let run = subst AreAccepted (sym (c.ops-op-items.ensures.ops ∙ c.history.ensures.ops)) c.history.ensures.accepted in
-    accepted_at h run c.loop-op.op-index c.op-item.result c.loop-op-test.true c.loop-op.tabled.ops c.op-item.result c.in_ok-copy.field-0 c.loop-op.invariant c.op-item.is c.in_ok-copy.ensures
+    let run = subst AreAccepted (sym (c.ops-op-items.ensures.ops ∙ c.history.ensures.ops))
+    c.history.ensures.accepted in
+    accepted_at h run c.loop-op.op-index c.op-item.result c.loop-op-test.true c.loop-op.tabled.ops
+    c.op-item.result c.in_ok-copy.field-0 c.loop-op.invariant c.op-item.is c.in_ok-copy.ensures

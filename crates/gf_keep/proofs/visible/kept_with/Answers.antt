@@ -5,5 +5,8 @@ use Rattle.gf_keep.proofs.visible.kept_with.Goals as goal
 
 pub returns-clause-kept : goal.returns-clause-kept
 returns-clause-kept c =
-    kept_at c.args.site.now.ops c.args.keep.now c.versions.result c.versions.ensures.ops (λ (v : Vec Group Global). v.items) c.in_ok-groups.field-0 c.in-Some.groups c.in-Some.is c.in_ok-groups.ensures.groups
-    c.as_slice.result.now c.as_slice.ensures c.in_ok-kept.kept.items c.sort.new.groups.items c.in_ok-kept.ensures c.in_ok-sort.ensures.moved c.in_ok-sort.ensures.sorted
+    kept_at c.args.site.now.ops c.args.keep.now c.versions.result c.versions.ensures.ops
+    (λ (v : Vec Group Global). v.items) c.in_ok-groups.field-0 c.in-Some.groups c.in-Some.is
+    c.in_ok-groups.ensures.groups
+    c.as_slice.result.now c.as_slice.ensures c.in_ok-kept.kept.items c.sort.new.groups.items
+    c.in_ok-kept.ensures c.in_ok-sort.ensures.moved c.in_ok-sort.ensures.sorted

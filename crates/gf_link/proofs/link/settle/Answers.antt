@@ -16,4 +16,5 @@ returns-clause-whole g c =
     let all = c.learn_as.ensures.rule in
     let taken = ap (λ s. s.taken) c.take.view_is in
     let sent = ap (λ s. s.sent) c.send.view_is in
-    λ ended. sym taken ∙ whole _ _ _ all.0 c.absorb.ensures.rule all.1.0 all.1.1 (subst (λ xs. IsTrue (is_ended xs)) (sym taken) ended) ∙ sent
+    λ ended. sym taken ∙ whole _ _ _ all.0 c.absorb.ensures.rule all.1.0 all.1.1
+    (subst (λ xs. IsTrue (is_ended xs)) (sym taken) ended) ∙ sent

@@ -4,6 +4,8 @@ use Rattle.gf_maximal.proofs.growth.join_all.Given as goal
 
 abbrev pub invariant-loop-set : goal.invariant-loop-set
 invariant-loop-set l = record {
-  done : take l.set-index l.set-items ≡ map (joined l.number) (take l.set-index l.initial.set-items);
-  rest : (k : ℕ) (d : List ℕ) → l.set-index ≤ k → get_or l.set-items k d ≡ get_or l.initial.set-items k d;
+  done : take l.set-index l.set-items ≡ map (joined l.number)
+      (take l.set-index l.initial.set-items);
+  rest : (k : ℕ) (d : List ℕ) → l.set-index ≤ k
+      → get_or l.set-items k d ≡ get_or l.initial.set-items k d;
 }

@@ -8,7 +8,9 @@ returns-then-touches_front c =
     let i = c.loop-run.run-index in
     let runs = c.args.runs.now in
     let none : Run = record { start = 0; end = 0 } in
-    any_found c.args.others.now runs c.loop-run.rest.now c.after-rest.result.now i (i + 1) (get_or runs i none) none refl c.loop-run-test.true refl c.requires.runs c.loop-run.invariant.1 c.after-rest.ensures
+    any_found c.args.others.now runs c.loop-run.rest.now c.after-rest.result.now i (i + 1)
+    (get_or runs i none) none refl c.loop-run-test.true refl c.requires.runs c.loop-run.invariant.1
+    c.after-rest.ensures
     c.touches_front.result c.touches_front.ensures c.if-touches_front.true c.loop-run.invariant.0
 
 pub loop-run-preserved : goal.loop-run-preserved
@@ -16,5 +18,7 @@ loop-run-preserved c =
     let i = c.loop-run.run-index in
     let runs = c.args.runs.now in
     let none : Run = record { start = 0; end = 0 } in
-    any_passed c.args.others.now runs c.loop-run.rest.now c.after-rest.result.now i (i + 1) (get_or runs i none) none refl c.loop-run-test.true refl c.requires.runs c.loop-run.invariant.1 c.after-rest.ensures
+    any_passed c.args.others.now runs c.loop-run.rest.now c.after-rest.result.now i (i + 1)
+    (get_or runs i none) none refl c.loop-run-test.true refl c.requires.runs c.loop-run.invariant.1
+    c.after-rest.ensures
     c.touches_front.result c.touches_front.ensures c.if-touches_front.false c.loop-run.invariant.0

@@ -7,7 +7,9 @@ pub returns : goal.returns
 returns c =
     let n = c.args.number in
     let rs = c.args.runs.now in
-    let point = IsPartitionPoint-from_clause (λ r. nat_lt r.end n) _ _ c.partition_point.ensures.partitioned (ends_parted_below rs c.requires n) (λ a r q k. search rules) in
+    let point = IsPartitionPoint-from_clause (λ r. nat_lt r.end n) _ _
+    c.partition_point.ensures.partitioned (ends_parted_below rs c.requires n)
+    (λ a r q k. search rules) in
     record {
       bound = c.partition_point.ensures.bound;
       below = λ k d m. point.0 k d (omega arith) m;

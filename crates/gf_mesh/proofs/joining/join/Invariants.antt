@@ -5,4 +5,5 @@ use Rattle.gf_mesh.proofs.joining.join.Given as goal
 
 -- the new site has met the sites so far
 abbrev pub invariant-loop-other : goal.invariant-loop-other
-invariant-loop-other g l = IsMesh Connects l.links.items (rows_of l.rows) l.row.items × (vec_len l.row ≡ l.other-index)
+invariant-loop-other g l = IsMesh Connects l.links.items (rows_of l.rows) l.row.items
+    × (vec_len l.row ≡ l.other-index)

@@ -7,7 +7,8 @@ use Rattle.gf_mesh.proofs.settling.settle_row.Given as goal
 abbrev pub invariant-loop-mine : goal.invariant-loop-mine
 invariant-loop-mine g l =
     IsMesh IsLinked l.links.items (rows_of l.rows) l.row.items
-    × (IsMesh Exchanged l.links.items (rows_of l.rows) l.row.items → IsMesh Exchanged l.initial.links.items (rows_of l.initial.rows) l.initial.row.items)
+    × (IsMesh Exchanged l.links.items (rows_of l.rows) l.row.items
+    → IsMesh Exchanged l.initial.links.items (rows_of l.initial.rows) l.initial.row.items)
 
 abbrev pub decreases-loop-mine : goal.decreases-loop-mine
 decreases-loop-mine g l = length l.row.items

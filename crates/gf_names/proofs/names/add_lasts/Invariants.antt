@@ -5,4 +5,6 @@ use Rattle.gf_names.specs.LastMeeting.{TellsFrom}
 use Rattle.gf_names.proofs.names.add_lasts.Given as goal
 
 abbrev pub invariant-loop-other : goal.invariant-loop-other
-invariant-loop-other l = (i : OpId) → Contains l.found.items i ↔ (Contains l.initial.found.items i ⊎ TellsFrom l.history.ops l.ids (take l.other-index l.others) i)
+invariant-loop-other l = (i : OpId)
+    → Contains l.found.items i ↔ (Contains l.initial.found.items i ⊎ TellsFrom l.history.ops l.ids
+    (take l.other-index l.others) i)

@@ -12,13 +12,18 @@ loop-id-preserved c =
     elim c.if-is_later.branch [
       | then-is_later w ↦
           let p = c.is_later.ensures.0 w.if-is_later.true in
-          subst (λ (l : Option OpId). TellsLast h (take (n + 1) c.args.ids.now) c.args.other.now l) (sym w.last-is)
-          (last_more h c.args.other.now c.args.ids.now n _ c.loop-id-test.true c.loop-id.last c.loop-id.invariant p.0 p.1)
+          subst (λ (l : Option OpId). TellsLast h (take (n + 1) c.args.ids.now) c.args.other.now l)
+          (sym w.last-is)
+          (last_more h c.args.other.now c.args.ids.now n _ c.loop-id-test.true c.loop-id.last
+          c.loop-id.invariant p.0 p.1)
       | else-is_later w ↦
-          subst (λ (l : Option OpId). TellsLast h (take (n + 1) c.args.ids.now) c.args.other.now l) (sym w.last-is)
-          (last_same h c.args.other.now c.args.ids.now n _ c.loop-id-test.true c.loop-id.last c.loop-id.invariant
+          subst (λ (l : Option OpId). TellsLast h (take (n + 1) c.args.ids.now) c.args.other.now l)
+          (sym w.last-is)
+          (last_same h c.args.other.now c.args.ids.now n _ c.loop-id-test.true c.loop-id.last
+          c.loop-id.invariant
           (λ p. let t = c.is_later.ensures.1 p in let f = w.if-is_later.false in absurd cc))
     ]
 
 pub returns : goal.returns
-returns c = last_all c.args.history.now.ops c.args.other.now c.args.ids.now c.loop-id.id-index c.loop-id.last c.loop-id-test.false c.loop-id.invariant
+returns c = last_all c.args.history.now.ops c.args.other.now c.args.ids.now c.loop-id.id-index
+    c.loop-id.last c.loop-id-test.false c.loop-id.invariant

@@ -6,4 +6,6 @@ use Rattle.gf_names.specs.Telling.{IsTelling}
 use Rattle.gf_names.proofs.names.telling.Given as goal
 
 abbrev pub invariant-loop-site : goal.invariant-loop-site
-invariant-loop-site l = (i : OpId) → Contains l.found.items i ↔ ((i.site < l.site) × IsTelling l.history.ops l.members (IsMember l.history.ops l.others) i)
+invariant-loop-site l = (i : OpId)
+    → Contains l.found.items i
+    ↔ ((i.site < l.site) × IsTelling l.history.ops l.members (IsMember l.history.ops l.others) i)

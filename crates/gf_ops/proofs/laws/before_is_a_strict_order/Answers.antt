@@ -8,4 +8,5 @@ returns-clause-irreflexive c = λ h valid a x. precedes_irreflexive h valid a x
 pub returns-clause-transitive : goal.returns-clause-transitive
 returns-clause-transitive c = λ h valid a b d x y z before after.
     let known = valid.in_range b y in
-    precedes_transitive h valid a b d y z (site_in_range a (valid.in_range a x)) (site_in_range b known) (seq_in_range b known).0 before after
+    precedes_transitive h valid a b d y z (site_in_range a (valid.in_range a x))
+    (site_in_range b known) (seq_in_range b known).0 before after

@@ -8,5 +8,6 @@ use Rattle.gf_raster.specs.Columns.{AreColumns}
 use Rattle.gf_raster.proofs.gathering.gather_row.Given as goal
 
 abbrev pub invariant-loop-pieces : goal.invariant-loop-pieces
-invariant-loop-pieces l = (colour : Point → Rgb) (w : View) (j size : ℕ) → AreColumns colour w j l.i size l.columns
+invariant-loop-pieces l = (colour : Point → Rgb) (w : View) (j size : ℕ)
+    → AreColumns colour w j l.i size l.columns
     → l.bytes.items ≡ l.initial.bytes.items ++ cells colour w j 0 (cut w.width size l.pieces-index)

@@ -14,8 +14,10 @@ loop-top-preserved g c =
     let top = ap (λ (b : BandView). b.top) c.new.ensures in
     let count = ap (λ (b : BandView). b.count) c.new.ensures in
     let at : band.top ≡ 0 + c.loop-top.top = omega (arith, top) in
-    let added = c.in_ok-add_pieces.ensures ∙ ap (λ bytes. old ++ bytes) (ap bytes_in c.deref.ensures.value ∙ c.in_ok-pieces.ensures) in
+    let added = c.in_ok-add_pieces.ensures
+    ∙ ap (λ bytes. old ++ bytes) (ap bytes_in c.deref.ensures.value ∙ c.in_ok-pieces.ensures) in
     record {
       within = search (rules, arith);
-      bytes = rw count at (band_added colour c.args.window band 0 c.loop-top.top old c.add_pieces.new.bytes.items window at c.loop-top.invariant.bytes added);
+      bytes = rw count at (band_added colour c.args.window band 0 c.loop-top.top old
+          c.add_pieces.new.bytes.items window at c.loop-top.invariant.bytes added);
     }

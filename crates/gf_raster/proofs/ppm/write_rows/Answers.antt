@@ -20,20 +20,24 @@ loop-top-preserved g c =
     let old = g.W.Sink.taken c.loop-top.sink in
     let new = g.W.Sink.taken c.write_round.new.sink in
     let above : top < w.height = search (rules, arith) in
-    let wrote = subst (λ (b : BandView). Appends old new (bytes_of colour b)) c.new.ensures c.in_ok-write_round.ensures.whole in
+    let wrote = subst (λ (b : BandView). Appends old new (bytes_of colour b)) c.new.ensures
+    c.in_ok-write_round.ensures.whole in
     record {
       within = search (rules, arith);
       whole = λ l.
           let all : count ≡ rows = search (rules, arith, l) in
-          rw all (whole_more top rows (c.loop-top.invariant.whole above) c.rows_of_round-rows.ensures.whole);
-      wrote = rows_written colour w top count (g.W.Sink.taken c.args.sink.now) old new c.loop-top.invariant.wrote wrote;
+          rw all (whole_more top rows (c.loop-top.invariant.whole above)
+          c.rows_of_round-rows.ensures.whole);
+      wrote = rows_written colour w top count (g.W.Sink.taken c.args.sink.now) old new
+          c.loop-top.invariant.wrote wrote;
       unfailed = c.in_ok-write_round.ensures.unfailed ∙ c.loop-top.invariant.unfailed;
     }
 
 pub returns-in_err-write_round-clause-memory : goal.returns-in_err-write_round-clause-memory
 returns-in_err-write_round-clause-memory g c = λ e.
     let p = err_from_is_err_and c.from_residual.result c.from_residual.ensures.1 in
-    let same : c.in_err-write_round.field-0.0 ≡ WriteError.OutOfMemory = let q = sym p.1 ∙ e in cc in
+    let same : c.in_err-write_round.field-0.0 ≡ WriteError.OutOfMemory = let q = sym p.1 ∙ e in
+    cc in
     let kept = c.in_err-write_round.ensures.memory (ap Err same) in
     let above : c.loop-top.top < c.args.window.height = search (rules, arith) in
     let whole = c.loop-top.invariant.whole above in
@@ -47,7 +51,8 @@ returns-in_err-write_round-clause-memory g c = λ e.
 pub returns-in_err-write_round-clause-prefix : goal.returns-in_err-write_round-clause-prefix
 returns-in_err-write_round-clause-prefix g c = λ e.
     let p = err_from_is_err_and c.from_residual.result c.from_residual.ensures.1 in
-    let same : c.in_err-write_round.field-0.0 ≡ WriteError.WriteFailed = let q = sym p.1 ∙ e in cc in
+    let same : c.in_err-write_round.field-0.0 ≡ WriteError.WriteFailed = let q = sym p.1 ∙ e in
+    cc in
     let colour = layered g.S.Shape.holds c.args.layers.now in
     let w = c.args.window in
     let top = c.loop-top.top in
@@ -55,5 +60,7 @@ returns-in_err-write_round-clause-prefix g c = λ e.
     let old = g.W.Sink.taken c.loop-top.sink in
     let new = g.W.Sink.taken c.write_round.new.sink in
     let within : top + count ≤ w.height = search (rules, arith) in
-    let front = subst (λ (b : BandView). AppendsPrefix old new (bytes_of colour b)) c.new.ensures (c.in_err-write_round.ensures.prefix (ap Err same)) in
-    front_more (g.W.Sink.taken c.args.sink.now) old new _ _ (raster colour w) _ (rows_parted colour w w.height top count within) c.loop-top.invariant.wrote front
+    let front = subst (λ (b : BandView). AppendsPrefix old new (bytes_of colour b)) c.new.ensures
+    (c.in_err-write_round.ensures.prefix (ap Err same)) in
+    front_more (g.W.Sink.taken c.args.sink.now) old new _ _ (raster colour w) _
+    (rows_parted colour w w.height top count within) c.loop-top.invariant.wrote front

@@ -9,7 +9,8 @@ abbrev pub invariant-loop-top : goal.invariant-loop-top
 invariant-loop-top g l = record {
   within : l.top ≤ l.fn.window.height;
   whole : l.top < l.fn.window.height → AreWholeBands l.top;
-  wrote : Appends (g.W.Sink.taken l.initial.sink) (g.W.Sink.taken l.sink) (rows (layered g.S.Shape.holds l.layers) l.fn.window 0 l.top);
+  wrote : Appends (g.W.Sink.taken l.initial.sink) (g.W.Sink.taken l.sink)
+      (rows (layered g.S.Shape.holds l.layers) l.fn.window 0 l.top);
   unfailed : g.W.Sink.failures l.sink ≡ g.W.Sink.failures l.initial.sink;
 }
 

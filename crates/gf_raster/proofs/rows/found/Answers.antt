@@ -10,7 +10,8 @@ returns-clause-len g c =
     let shares = c.in_ok-shares.shares.items in
     let n : length shares ≡ workers = search (rules, arith, c.in_ok-shares.ensures.len) in
     let size : c.div_ceil-size.result ≡ parts p.band.count workers = search (rules, arith) in
-    let all = found_of g.S.Shape.holds p workers shares c.args.crew.now.within.0 n (rw size at c.in_ok-shares.ensures.each) in
+    let all = found_of g.S.Shape.holds p workers shares c.args.crew.now.within.0 n
+    (rw size at c.in_ok-shares.ensures.each) in
     let many : length c.in_ok-rows.rows.items ≡ p.band.count = rw c.in_ok-rows.ensures all.0 in
     search (rules, arith, many)
 
@@ -21,5 +22,6 @@ returns-clause-rows g c =
     let shares = c.in_ok-shares.shares.items in
     let n : length shares ≡ workers = search (rules, arith, c.in_ok-shares.ensures.len) in
     let size : c.div_ceil-size.result ≡ parts p.band.count workers = search (rules, arith) in
-    let all = found_of g.S.Shape.holds p workers shares c.args.crew.now.within.0 n (rw size at c.in_ok-shares.ensures.each) in
+    let all = found_of g.S.Shape.holds p workers shares c.args.crew.now.within.0 n
+    (rw size at c.in_ok-shares.ensures.each) in
     rw c.in_ok-rows.ensures all.1

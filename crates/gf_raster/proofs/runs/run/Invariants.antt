@@ -6,7 +6,8 @@ use Rattle.gf_raster.proofs.runs.run.Given as goal
 abbrev pub invariant-loop-done : goal.invariant-loop-done
 invariant-loop-done g l = record {
   within : l.done ≤ l.len;
-  bytes : l.bytes.items ≡ rows (layered g.S.Shape.holds l.layers) l.fn.round.window (l.fn.round.top + l.start) l.done;
+  bytes : l.bytes.items ≡ rows (layered g.S.Shape.holds l.layers) l.fn.round.window
+      (l.fn.round.top + l.start) l.done;
 }
 
 abbrev pub decreases-loop-done : goal.decreases-loop-done

@@ -9,5 +9,6 @@ abbrev pub invariant-loop-i : goal.invariant-loop-i
 invariant-loop-i g l = record {
   count : length l.pieces.items ≡ length l.shown.strokes.items;
   filled : (colour : Point → Rgb) → ShowsRows colour l.shown
-      → ArePieces colour l.shown.band.window l.shown.band.top l.start (min (64 * l.i) l.len) l.pieces.items;
+      → ArePieces colour l.shown.band.window l.shown.band.top l.start (min (64 * l.i) l.len)
+      l.pieces.items;
 }

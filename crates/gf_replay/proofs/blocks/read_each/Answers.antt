@@ -9,4 +9,5 @@ returns g c =
     (omega (arith, c.for_each_mut.auto.s, c.requires.places))
     (λ i within d e.
     let at = (c.for_each_mut.ensures i e (omega (arith, within, c.for_each_mut.auto.s))).1 in
-    subst (λ r. let line = get_or c.args.lines.now i d in IsReading (line.0, line.1.now) r) at.left (at.call d))
+    subst (λ r. let line = get_or c.args.lines.now i d in IsReading (line.0, line.1.now) r) at.left
+    (at.call d))

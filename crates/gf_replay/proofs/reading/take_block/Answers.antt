@@ -2,7 +2,8 @@ use Rattle.std.proofs.Common.{◌≡◌, ◌∙◌, length, rules, subst, sym}
 use Rattle.std.specs.Vec.Iter.{into_iter_items}
 use Rattle.std.proofs.lemmas.Result.{err_from_is_err_and}
 use Rattle.gf_replay.specs.LineSteps.{RefusesLine}
-use Rattle.gf_replay.proofs.ReadingLemmas.{AreOfLines-rest, HasRead-block, IsBefore-line, RefusesText-first}
+use Rattle.gf_replay.proofs.ReadingLemmas.{AreOfLines-rest, HasRead-block, IsBefore-line}
+use Rattle.gf_replay.proofs.ReadingLemmas.{RefusesText-first}
 use Rattle.gf_replay.proofs.reading.take_block.Goals as goal
 
 pub loop-reading-preserved : goal.loop-reading-preserved
@@ -11,7 +12,8 @@ loop-reading-preserved g c =
     record {
       block = AreOfLines-rest c.in-Some.reading _ (rw steps at c.loop-reading.invariant.block);
       before = λ text others whole.
-          IsBefore-line text c.in-Some.reading _ others c.loop-reading.site (rw steps at c.loop-reading.invariant.before text others whole)
+          IsBefore-line text c.in-Some.reading _ others c.loop-reading.site
+          (rw steps at c.loop-reading.invariant.before text others whole)
           c.take_reading.new.site c.in_ok-take_reading.ensures.ok;
       number = c.in_ok-take_reading.ensures.number ∙ c.loop-reading.invariant.number;
     }
@@ -24,15 +26,18 @@ returns-in_err-take_reading g c =
       ok = λ text others whole. tt;
       number = tt;
       err = λ text others whole.
-          RefusesText-first text c.in-Some.reading _ others c.loop-reading.site (rw steps at c.loop-reading.invariant.before text others whole) _
-          (λ line reads. subst (λ e. RefusesLine line.0 line.1 c.loop-reading.site e) (sym p.2) (c.in_err-take_reading.ensures.err line reads));
+          RefusesText-first text c.in-Some.reading _ others c.loop-reading.site
+          (rw steps at c.loop-reading.invariant.before text others whole) _
+          (λ line reads. subst (λ e. RefusesLine line.0 line.1 c.loop-reading.site e) (sym p.2)
+          (c.in_err-take_reading.ensures.err line reads));
     })
 
 pub returns : goal.returns
 returns g c = record {
   ok = λ text others whole.
       let none : length (into_iter_items c.loop-reading.reading-iterator) ≡ 0 = search rules in
-      HasRead-block text _ others c.loop-reading.site none (c.loop-reading.invariant.before text others whole);
+      HasRead-block text _ others c.loop-reading.site none
+      (c.loop-reading.invariant.before text others whole);
   number = c.loop-reading.invariant.number;
   err = λ text others whole. tt;
 }

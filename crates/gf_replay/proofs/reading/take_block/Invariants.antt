@@ -7,7 +7,8 @@ use Rattle.gf_replay.proofs.reading.take_block.Given as goal
 abbrev pub invariant-loop-reading : goal.invariant-loop-reading
 invariant-loop-reading g l = record {
   block : AreOfLines (into_iter_items l.reading-iterator);
-  before : (text : List ℕ) (others : List (ℕ × List ℕ)) → IsBefore text l.fn.readings.items others l.fn.site
+  before : (text : List ℕ) (others : List (ℕ × List ℕ))
+      → IsBefore text l.fn.readings.items others l.fn.site
       → IsBefore text (into_iter_items l.reading-iterator) others l.site;
   number : l.site.number ≡ l.fn.site.number;
 }

@@ -5,7 +5,12 @@ use Rattle.gf_rivals.proofs.aims.add_named.Goals as goal
 
 pub returns-in-Some : goal.returns-in-Some
 returns-in-Some c =
-    on_ok_weaker c.join.result (λ e. adds_number c.args.history.now.ops c.args.chains.now c.args.id c.in-Some.number c.args.numbers.now c.join.new.self c.in-Some.ensures.some c.in-Some.ensures.all e) c.join.ensures.ok
+    on_ok_weaker c.join.result (λ e. adds_number c.args.history.now.ops c.args.chains.now c.args.id
+    c.in-Some.number c.args.numbers.now c.join.new.self c.in-Some.ensures.some c.in-Some.ensures.all
+    e) c.join.ensures.ok
 
 pub returns-in-None : goal.returns-in-None
-returns-in-None c = λ n. (λ i. inl i, λ w. elim w [ inl i ↦ i | inr k ↦ let e = c.in-None.ensures.all n k in absurd cc ])
+returns-in-None c = λ n. (
+  λ i. inl i,
+  λ w. elim w [ inl i ↦ i | inr k ↦ let e = c.in-None.ensures.all n k in absurd cc ],
+)

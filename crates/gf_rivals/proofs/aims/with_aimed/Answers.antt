@@ -7,8 +7,12 @@ use Rattle.gf_rivals.proofs.aims.with_aimed.Goals as goal
 
 pub loop-operation-preserved : goal.loop-operation-preserved
 loop-operation-preserved c =
-    aimed_more c.args.numbers c.args.aimed.now c.loop-operation.found c.join_to.new.found c.loop-operation.operation-index c.operation-item.result c.loop-operation-test.true c.loop-operation.invariant
-    (subst (λ (z : AimedState). AddsIf (meets z.aim c.args.numbers ≡ true) z.number c.loop-operation.found c.join_to.new.found) c.operation-item.is c.in_ok-join_to.ensures)
+    aimed_more c.args.numbers c.args.aimed.now c.loop-operation.found c.join_to.new.found
+    c.loop-operation.operation-index c.operation-item.result c.loop-operation-test.true
+    c.loop-operation.invariant
+    (subst (λ (z : AimedState). AddsIf (meets z.aim c.args.numbers ≡ true) z.number
+    c.loop-operation.found c.join_to.new.found) c.operation-item.is c.in_ok-join_to.ensures)
 
 pub returns : goal.returns
-returns c = aimed_all c.args.numbers c.args.aimed.now c.loop-operation.found c.loop-operation.operation-index c.loop-operation-test.false c.loop-operation.invariant
+returns c = aimed_all c.args.numbers c.args.aimed.now c.loop-operation.found
+    c.loop-operation.operation-index c.loop-operation-test.false c.loop-operation.invariant

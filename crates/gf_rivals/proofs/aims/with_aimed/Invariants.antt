@@ -4,4 +4,6 @@ use Rattle.gf_rivals.specs.Aimed.{AimsAtOne}
 use Rattle.gf_rivals.proofs.aims.with_aimed.Given as goal
 
 abbrev pub invariant-loop-operation : goal.invariant-loop-operation
-invariant-loop-operation l = (n : ℕ) → Contains l.found n ↔ (Contains l.fn.numbers n ⊎ AimsAtOne (take l.operation-index l.aimed) l.fn.numbers n)
+invariant-loop-operation l = (n : ℕ)
+    → Contains l.found n ↔ (Contains l.fn.numbers n ⊎ AimsAtOne (take l.operation-index l.aimed)
+    l.fn.numbers n)

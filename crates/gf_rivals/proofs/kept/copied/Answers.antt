@@ -11,7 +11,12 @@ use Rattle.gf_rivals.proofs.kept.copied.Goals as goal
 pub loop-index-preserved : goal.loop-index-preserved
 loop-index-preserved c =
     let gives = c.into_iter-index-iterator.ensures.into_iter_gives in
-    let sorted : IsStrictlySortedBy nat_cmp (keys_of c.into_iter-index-iterator.result) = rw gives.0 gives.5 in
-    let made = c.in_ok-put.ensures.entries ∙ ap (λ (s : List Setter). insert_entry nat_cmp c.loop-index.copy.entries c.in-Some.index.now s) c.in_ok-chain.ensures in
-    copied_more nat_cmp nat_cmp_total c.loop-index.copy.entries c.put.new.chains.entries c.into_iter-index-iterator.result c.in-Some.index.now c.in-Some.chain.now c.next.new.self c.loop-index.index-iterator
+    let sorted : IsStrictlySortedBy nat_cmp (keys_of c.into_iter-index-iterator.result) = rw gives.0
+    gives.5 in
+    let made = c.in_ok-put.ensures.entries
+    ∙ ap (λ (s : List Setter). insert_entry nat_cmp c.loop-index.copy.entries c.in-Some.index.now s)
+    c.in_ok-chain.ensures in
+    copied_more nat_cmp nat_cmp_total c.loop-index.copy.entries c.put.new.chains.entries
+    c.into_iter-index-iterator.result c.in-Some.index.now c.in-Some.chain.now c.next.new.self
+    c.loop-index.index-iterator
     sorted made c.in-Some.ensures.steps c.loop-index.invariant

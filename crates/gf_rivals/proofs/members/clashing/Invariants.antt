@@ -6,5 +6,7 @@ use Rattle.gf_rivals.specs.Members.{AreMembersOf}
 use Rattle.gf_rivals.proofs.members.clashing.Given as goal
 
 abbrev pub invariant-loop-number : goal.invariant-loop-number
-invariant-loop-number l = (o : ObjectId) → AreMembersOf l.history.ops o l.chains l.others l.members.items
-    → (n : ℕ) → Contains l.found n ↔ (Contains (take l.number-index l.number-items) n × ClashesWithOne l.history.ops l.chains l.others n)
+invariant-loop-number l = (o : ObjectId) → AreMembersOf l.history.ops o l.chains l.others
+    l.members.items
+    → (n : ℕ) → Contains l.found n ↔ (Contains (take l.number-index l.number-items) n
+    × ClashesWithOne l.history.ops l.chains l.others n)

@@ -4,7 +4,8 @@ use Rattle.std.proofs.lemmas.Bool.{ltb-true}
 use Rattle.std.proofs.lemmas.Option.{slice_get_read}
 use Rattle.std.proofs.lemmas.List.Sorted.{IsPartitionPoint-from_clause}
 use Rattle.gf_rivals.specs.declared.members.Member.{Member}
-use Rattle.gf_rivals.proofs.MemberLemmas.{between_chain, first_least, none_from, numbers_parted, zero_from}
+use Rattle.gf_rivals.proofs.MemberLemmas.{between_chain, first_least, none_from, numbers_parted}
+use Rattle.gf_rivals.proofs.MemberLemmas.{zero_from}
 use Rattle.gf_rivals.proofs.members.first_from.Goals as goal
 
 pub returns-in_err-index-clause-least : goal.returns-in_err-index-clause-least
@@ -12,17 +13,27 @@ returns-in_err-index-clause-least c = λ m w.
     let k = c.args.start in
     let ms = c.args.members.now in
     let p = c.partition_point.result in
-    let point = IsPartitionPoint-from_clause (λ (s : Member). nat_le k s.number) ms p c.partition_point.ensures.partitioned (numbers_parted ms c.requires k) (λ a r q k. search rules) in
+    let point = IsPartitionPoint-from_clause (λ (s : Member). nat_le k s.number) ms p
+    c.partition_point.ensures.partitioned (numbers_parted ms c.requires k) (λ a r q k. search rules)
+    in
     let none : p ≡ 0 = let f = c.in_err-index.ensures in zero_from p f in
-    absurd (none_from ms c.requires k p (λ i d u l. point.0 i d (omega arith) u) (λ i d u l. point.1 i d u l) none m w.listed w.from)
+    absurd (none_from ms c.requires k p (λ i d u l. point.0 i d (omega arith) u)
+    (λ i d u l. point.1 i d u l) none m w.listed w.from)
 
 pub returns-then-first-start-clause-some : goal.returns-then-first-start-clause-some
 returns-then-first-start-clause-some c =
     let k = c.args.start in
     let ms = c.args.members.now in
     let p = c.partition_point.result in
-    let point = IsPartitionPoint-from_clause (λ (s : Member). nat_le k s.number) ms p c.partition_point.ensures.partitioned (numbers_parted ms c.requires k) (λ a r q k. search rules) in
-    let t = first_least ms c.requires k p (λ i d u l. point.0 i d (omega arith) u) (λ i d u l. point.1 i d u l) c.in_ok-first.first.now c.in_ok-index.index (let a = c.in_ok-index.ensures.0 in let b = c.in_ok-index.ensures.1 in omega (arith, a, b)) (slice_get_read ms (length ms) c.in_ok-index.index c.in_ok-first.first.now refl (ltb-true c.in_ok-index.index (length ms) (sym c.in_ok-first.ensures.lookup.0)) c.in_ok-first.ensures.lookup.1) in
+    let point = IsPartitionPoint-from_clause (λ (s : Member). nat_le k s.number) ms p
+    c.partition_point.ensures.partitioned (numbers_parted ms c.requires k) (λ a r q k. search rules)
+    in
+    let t = first_least ms c.requires k p (λ i d u l. point.0 i d (omega arith) u)
+    (λ i d u l. point.1 i d u l) c.in_ok-first.first.now c.in_ok-index.index
+    (let a = c.in_ok-index.ensures.0 in let b = c.in_ok-index.ensures.1 in omega (arith, a, b))
+    (slice_get_read ms (length ms) c.in_ok-index.index c.in_ok-first.first.now refl
+    (ltb-true c.in_ok-index.index (length ms) (sym c.in_ok-first.ensures.lookup.0))
+    c.in_ok-first.ensures.lookup.1) in
     record { listed = t.0; from = t.1; chain = c.if-first-start.true }
 
 pub returns-then-first-start-clause-least : goal.returns-then-first-start-clause-least
@@ -30,9 +41,15 @@ returns-then-first-start-clause-least c = λ m w.
     let k = c.args.start in
     let ms = c.args.members.now in
     let p = c.partition_point.result in
-    let point = IsPartitionPoint-from_clause (λ (s : Member). nat_le k s.number) ms p c.partition_point.ensures.partitioned (numbers_parted ms c.requires k) (λ a r q k. search rules) in
-    let t = first_least ms c.requires k p (λ i d u l. point.0 i d (omega arith) u) (λ i d u l. point.1 i d u l) c.in_ok-first.first.now c.in_ok-index.index (let a = c.in_ok-index.ensures.0 in let b = c.in_ok-index.ensures.1 in omega (arith, a, b))
-    (slice_get_read ms (length ms) c.in_ok-index.index c.in_ok-first.first.now refl (ltb-true c.in_ok-index.index (length ms) (sym c.in_ok-first.ensures.lookup.0)) c.in_ok-first.ensures.lookup.1) in
+    let point = IsPartitionPoint-from_clause (λ (s : Member). nat_le k s.number) ms p
+    c.partition_point.ensures.partitioned (numbers_parted ms c.requires k) (λ a r q k. search rules)
+    in
+    let t = first_least ms c.requires k p (λ i d u l. point.0 i d (omega arith) u)
+    (λ i d u l. point.1 i d u l) c.in_ok-first.first.now c.in_ok-index.index
+    (let a = c.in_ok-index.ensures.0 in let b = c.in_ok-index.ensures.1 in omega (arith, a, b))
+    (slice_get_read ms (length ms) c.in_ok-index.index c.in_ok-first.first.now refl
+    (ltb-true c.in_ok-index.index (length ms) (sym c.in_ok-first.ensures.lookup.0))
+    c.in_ok-first.ensures.lookup.1) in
     (c.in_ok-first.first.now, refl, t.2 m w.listed w.from)
 
 pub returns-else-first-start-clause-least : goal.returns-else-first-start-clause-least
@@ -40,7 +57,14 @@ returns-else-first-start-clause-least c = λ m w.
     let k = c.args.start in
     let ms = c.args.members.now in
     let p = c.partition_point.result in
-    let point = IsPartitionPoint-from_clause (λ (s : Member). nat_le k s.number) ms p c.partition_point.ensures.partitioned (numbers_parted ms c.requires k) (λ a r q k. search rules) in
-    let t = first_least ms c.requires k p (λ i d u l. point.0 i d (omega arith) u) (λ i d u l. point.1 i d u l) c.in_ok-first.first.now c.in_ok-index.index (let a = c.in_ok-index.ensures.0 in let b = c.in_ok-index.ensures.1 in omega (arith, a, b))
-    (slice_get_read ms (length ms) c.in_ok-index.index c.in_ok-first.first.now refl (ltb-true c.in_ok-index.index (length ms) (sym c.in_ok-first.ensures.lookup.0)) c.in_ok-first.ensures.lookup.1) in
-    absurd (c.if-first-start.false (between_chain k c.in_ok-first.first.now.number m.number t.1 (t.2 m w.listed w.from) w.chain))
+    let point = IsPartitionPoint-from_clause (λ (s : Member). nat_le k s.number) ms p
+    c.partition_point.ensures.partitioned (numbers_parted ms c.requires k) (λ a r q k. search rules)
+    in
+    let t = first_least ms c.requires k p (λ i d u l. point.0 i d (omega arith) u)
+    (λ i d u l. point.1 i d u l) c.in_ok-first.first.now c.in_ok-index.index
+    (let a = c.in_ok-index.ensures.0 in let b = c.in_ok-index.ensures.1 in omega (arith, a, b))
+    (slice_get_read ms (length ms) c.in_ok-index.index c.in_ok-first.first.now refl
+    (ltb-true c.in_ok-index.index (length ms) (sym c.in_ok-first.ensures.lookup.0))
+    c.in_ok-first.ensures.lookup.1) in
+    absurd (c.if-first-start.false (between_chain k c.in_ok-first.first.now.number m.number t.1
+    (t.2 m w.listed w.from) w.chain))

@@ -5,6 +5,7 @@ use Rattle.gf_scanline.proofs.layers.layers_of.Given as goal
 
 abbrev pub invariant-loop-figure : goal.invariant-loop-figure
 invariant-loop-figure g l = record {
-  seen : map seen l.layers.items ≡ map (λ f. seen_figure l.drawing.table f.now) (take l.figure-index l.figures);
+  seen : map seen l.layers.items ≡ map (λ f. seen_figure l.drawing.table f.now)
+      (take l.figure-index l.figures);
   layers : All (IsLayer g.S.Shape.holds) l.layers.items;
 }

@@ -8,12 +8,15 @@ pub returns-in_ok-push-clause-pieces : goal.returns-in_ok-push-clause-pieces
 returns-in_ok-push-clause-pieces g c = λ j row all.
     let P = IsPiece g.S.Shape.holds c.args.band.window j in
     let one = (rw c.in-Some.is at c.in_ok-piece.ensures.some) j row in
-    rw c.in_ok-push.ensures.items (All-append P c.args.pieces.now.items (c.in-Some.piece ∷ []) all (All-cons P c.in-Some.piece [] one (All-nil P)))
+    rw c.in_ok-push.ensures.items (All-append P c.args.pieces.now.items (c.in-Some.piece ∷ []) all
+    (All-cons P c.in-Some.piece [] one (All-nil P)))
 
 pub returns-in_ok-push-clause-seen : goal.returns-in_ok-push-clause-seen
 returns-in_ok-push-clause-seen g c = λ rest.
     let one = rw c.in-Some.is at c.in_ok-piece.ensures.layer in
-    rw c.in_ok-push.ensures.items (seen_with g.S.Shape.holds c.args.band c.args.pieces.now.items c.in-Some.piece rest c.args.layer.now one)
+    rw c.in_ok-push.ensures.items (seen_with g.S.Shape.holds c.args.band c.args.pieces.now.items
+    c.in-Some.piece rest c.args.layer.now one)
 
 pub returns-in_default-clause-seen : goal.returns-in_default-clause-seen
-returns-in_default-clause-seen g c = λ rest. seen_without g.S.Shape.holds c.args.band _ rest c.args.layer.now (c.in_ok-piece.ensures.none (no_some _ c.in_default.not-Some))
+returns-in_default-clause-seen g c = λ rest. seen_without g.S.Shape.holds c.args.band _ rest
+    c.args.layer.now (c.in_ok-piece.ensures.none (no_some _ c.in_default.not-Some))

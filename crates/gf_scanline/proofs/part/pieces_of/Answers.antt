@@ -13,9 +13,12 @@ loop-layer-preserved g c =
     let i = c.loop-layer.layer-index in
     let l : i < length ls = search rules in
     record {
-      pieces = λ j row. c.in_ok-add_piece.ensures.pieces j row (c.loop-layer.invariant.pieces j row);
+      pieces = λ j row. c.in_ok-add_piece.ensures.pieces j row
+          (c.loop-layer.invariant.pieces j row);
       seen = λ j k row in_it.
-          let colours : List (Layer g.row.S.Denot) → Rgb = λ rest. row_colours g.S.Shape.holds (layers_of c.loop-layer.pieces.items ++ rest) c.args.band.window j k in
+          let colours : List (Layer g.row.S.Denot)
+          → Rgb = λ rest. row_colours g.S.Shape.holds (layers_of c.loop-layer.pieces.items ++ rest)
+          c.args.band.window j k in
           c.in_ok-add_piece.ensures.seen (drop (i + 1) ls) j k row in_it
           ∙ (ap (λ x. colours (x ∷ drop (i + 1) ls)) c.layer-item.is
           ∙ (sym (at_drop_more colours ls i c.layer-item.result l)
@@ -25,4 +28,5 @@ loop-layer-preserved g c =
 pub add_piece-requires : goal.add_piece-requires
 add_piece-requires g c =
     let l : c.loop-layer.layer-index < length c.args.layers.now = search rules in
-    subst (IsLayer g.S.Shape.holds) (sym c.layer-item.is) (c.requires c.loop-layer.layer-index c.layer-item.result l)
+    subst (IsLayer g.S.Shape.holds) (sym c.layer-item.is)
+    (c.requires c.loop-layer.layer-index c.layer-item.result l)

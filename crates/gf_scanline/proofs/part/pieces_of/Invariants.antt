@@ -6,5 +6,6 @@ use Rattle.gf_scanline.proofs.part.pieces_of.Given as goal
 abbrev pub invariant-loop-layer : goal.invariant-loop-layer
 invariant-loop-layer g l = record {
   pieces : (j : ℕ) → HasRow l.band j → All (IsPiece g.S.Shape.holds l.band.window j) l.pieces.items;
-  seen : AreSeen g.S.Shape.holds l.band l.layers (layers_of l.pieces.items ++ drop l.layer-index l.layers);
+  seen : AreSeen g.S.Shape.holds l.band l.layers (layers_of l.pieces.items ++ drop l.layer-index
+      l.layers);
 }

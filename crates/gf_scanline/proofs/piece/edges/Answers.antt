@@ -9,4 +9,5 @@ returns-in_ok-edges-in-Some g c = λ y from upto.
     let high = c.ranges.high in
     let alike = rw c.in-Some.is at c.requires.chain in
     let tells = (simp to_z-of_z at c.in_ok-edges-in-Some.ensures) y from upto in
-    tells_same (chain_holds c.in-Some.chain.points) (g.S.Shape.holds c.args.layer.now.shape.now) y c.in_ok-edges-in-Some.edges alike tells
+    tells_same (chain_holds c.in-Some.chain.points) (g.S.Shape.holds c.args.layer.now.shape.now) y
+    c.in_ok-edges-in-Some.edges alike tells

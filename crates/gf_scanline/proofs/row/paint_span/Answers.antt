@@ -9,4 +9,7 @@ use Rattle.gf_scanline.proofs.row.paint_span.Goals as goal
 pub returns : goal.returns
 returns c = λ target behind h.
     c.in_ok-paint.ensures.painted target behind c.args.window.width
-    (painted_same target (over (λ k. is_in_span (column c.args.window k) c.args.span) c.args.brush.now behind) (over (is_among c.columns.result) c.args.brush.now behind) c.args.window.width c.args.strip.now (λ k l. ap (λ t. if t then c.args.brush.now else behind k) (sym (c.columns.ensures k l))) h)
+    (painted_same target (over (λ k. is_in_span (column c.args.window k) c.args.span)
+    c.args.brush.now behind) (over (is_among c.columns.result) c.args.brush.now behind)
+    c.args.window.width c.args.strip.now (λ k l. ap (λ t. if t then c.args.brush.now else behind k)
+    (sym (c.columns.ensures k l))) h)

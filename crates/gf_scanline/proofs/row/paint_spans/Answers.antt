@@ -13,10 +13,19 @@ loop-span-preserved c =
     let ss = c.args.spans.now in
     let i = c.loop-span.span-index in
     let l : i < length ss = search rules in
-    λ target behind h. c.in_ok-paint_span.ensures target (over (λ k. list_any (is_in_span (column c.args.window k)) (drop (i + 1) ss)) c.args.brush.now behind)
-    (spans_painted target behind c.args.brush.now (λ k. is_in_span (column c.args.window k) (get_or ss i none)) (λ k. list_any (is_in_span (column c.args.window k)) (drop (i + 1) ss)) (λ k. list_any (is_in_span (column c.args.window k)) (drop i ss)) c.args.window.width c.loop-span.strip (λ k. any_drop (is_in_span (column c.args.window k)) ss i none l) (c.loop-span.invariant target behind h))
+    λ target behind h. c.in_ok-paint_span.ensures target
+    (over (λ k. list_any (is_in_span (column c.args.window k)) (drop (i + 1) ss)) c.args.brush.now
+    behind)
+    (spans_painted target behind c.args.brush.now
+    (λ k. is_in_span (column c.args.window k) (get_or ss i none))
+    (λ k. list_any (is_in_span (column c.args.window k)) (drop (i + 1) ss))
+    (λ k. list_any (is_in_span (column c.args.window k)) (drop i ss)) c.args.window.width
+    c.loop-span.strip (λ k. any_drop (is_in_span (column c.args.window k)) ss i none l)
+    (c.loop-span.invariant target behind h))
 
 pub returns : goal.returns
 returns c = λ target behind h.
     let l : length c.args.spans.now ≤ c.loop-span.span-index = search (rules, arith) in
-    spans_done target behind c.args.brush.now (λ k. column c.args.window k) c.args.spans.now c.loop-span.span-index c.args.window.width c.loop-span.strip l (c.loop-span.invariant target behind h)
+    spans_done target behind c.args.brush.now (λ k. column c.args.window k) c.args.spans.now
+    c.loop-span.span-index c.args.window.width c.loop-span.strip l
+    (c.loop-span.invariant target behind h)

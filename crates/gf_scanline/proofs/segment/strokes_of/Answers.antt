@@ -18,10 +18,15 @@ loop-segment-preserved c =
           let d : Stroke = record { to = s.columns.to; brush = s.brush } in
           let past = w.if-at-segment.true in
           rw (w.at-is, w.strokes-is) (record {
-            seen = seen_more ss i at s.columns.to s c.loop-segment.invariant.seen l e (omega (arith, past)) (omega arith);
+            seen = seen_more ss i at s.columns.to s c.loop-segment.invariant.seen l e
+                (omega (arith, past)) (omega arith);
             strokes = λ target n h rest r.
-                let more = stroke_more target n ss i at s d rest c.requires h c.loop-segment.invariant.seen l e refl refl past r in
-                rw (w.in_ok-push.ensures.items, append_assoc c.loop-segment.strokes.items (d ∷ []) rest) (c.loop-segment.invariant.strokes target n h (d ∷ rest) more);
+                let more = stroke_more target n ss i at s d rest c.requires h
+                c.loop-segment.invariant.seen l e refl refl past r in
+                rw (
+                  w.in_ok-push.ensures.items,
+                  append_assoc c.loop-segment.strokes.items (d ∷ []) rest,
+                ) (c.loop-segment.invariant.strokes target n h (d ∷ rest) more);
           })
       | else-at-segment w ↦
           let short = w.if-at-segment.false in
@@ -35,4 +40,6 @@ pub returns : goal.returns
 returns c = λ target n h.
     let ss = c.args.segments.now in
     let l : length ss ≤ c.loop-segment.segment-index = search (rules, arith) in
-    rw (append-nil c.loop-segment.strokes.items) at (c.loop-segment.invariant.strokes target n h [] (no_later target n ss c.loop-segment.segment-index c.loop-segment.at h c.loop-segment.invariant.seen l))
+    rw (append-nil c.loop-segment.strokes.items) at (c.loop-segment.invariant.strokes target n h []
+    (no_later target n ss c.loop-segment.segment-index c.loop-segment.at h
+    c.loop-segment.invariant.seen l))

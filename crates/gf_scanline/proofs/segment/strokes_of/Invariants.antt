@@ -9,5 +9,7 @@ use Rattle.gf_scanline.proofs.segment.strokes_of.Given as goal
 abbrev pub invariant-loop-segment : goal.invariant-loop-segment
 invariant-loop-segment l = record {
   seen : (k : ℕ) (d : Segment) → k < l.segment-index → (get_or l.segments k d).columns.to ≤ l.at;
-  strokes : (target : ℕ → Rgb) (n : ℕ) → AreSegmentsOf target n (views l.segments) → (rest : List Stroke) → AreStrokesFrom l.at target n rest → AreStrokesFrom 0 target n (l.strokes.items ++ rest);
+  strokes : (target : ℕ → Rgb) (n : ℕ) → AreSegmentsOf target n (views l.segments)
+      → (rest : List Stroke) → AreStrokesFrom l.at target n rest
+      → AreStrokesFrom 0 target n (l.strokes.items ++ rest);
 }

@@ -1,4 +1,5 @@
-use Rattle.std.proofs.Common.{◌≡◌, ◌<◌, ◌≤◌, ◌+◌, ◌-◌, ◌∷◌, ◌++◌, ap, arith, drop, length, max, min, rules, subst, sym, ◌∙◌}
+use Rattle.std.proofs.Common.{◌≡◌, ◌<◌, ◌≤◌, ◌+◌, ◌-◌, ◌∷◌, ◌++◌, ap, arith, drop, length, max, min}
+use Rattle.std.proofs.Common.{rules, subst, sym, ◌∙◌}
 use Rattle.std.proofs.lemmas.List.{drop_more}
 use Rattle.gf_scanline.specs.Pixels.{pixels}
 use Rattle.gf_scanline.proofs.StrokeLemmas.{IsFilling, filling_ends, filling_more}
@@ -22,8 +23,10 @@ loop-stroke-preserved c =
           let next = drop_more ss i s m ∙ ap (λ x. x ∷ drop (i + 1) ss) (sym c.stroke-item.is) in
           let old = c.loop-stroke.bytes.items in
           let all = c.args.bytes.now.items ++ pixels target c.args.from (to - c.args.from) in
-          filling_more target n to at c.max-end.result s (drop (i + 1) ss) old c.append.new.bytes.items all l c.if-to-at.false end c.in_ok-append.ensures
-          (subst (λ z. IsFilling target n to at z old all) next (c.loop-stroke.invariant.filling target n h l));
+          filling_more target n to at c.max-end.result s (drop (i + 1) ss) old
+          c.append.new.bytes.items all l c.if-to-at.false end c.in_ok-append.ensures
+          (subst (λ z. IsFilling target n to at z old all) next
+          (c.loop-stroke.invariant.filling target n h l));
     }
 
 pub returns : goal.returns
@@ -31,4 +34,6 @@ returns c = λ target n h l.
     let ss = c.args.strokes.now in
     let i = c.loop-stroke.stroke-index in
     let past : length ss ≤ i = search (rules, arith) in
-    filling_ends target n c.args.to c.loop-stroke.at ss i c.loop-stroke.bytes.items (c.args.bytes.now.items ++ pixels target c.args.from (c.args.to - c.args.from)) l past (c.loop-stroke.invariant.filling target n h l)
+    filling_ends target n c.args.to c.loop-stroke.at ss i c.loop-stroke.bytes.items
+    (c.args.bytes.now.items ++ pixels target c.args.from (c.args.to - c.args.from)) l past
+    (c.loop-stroke.invariant.filling target n h l)

@@ -14,20 +14,31 @@ pub fork-ends-requires-clause-ready : goal.fork-ends-requires-clause-ready
 fork-ends-requires-clause-ready g c κs within =
     let starts = c.in_ok-starts.starts.items in
     subst (λ l. All (IsReadyToStart l) starts) (sym c.links.ensures)
-    (all_ready c.in_ok-mesh.mesh.links c.args.scripts.items (rows_of c.in_ok-mesh.peers.items) starts c.in_ok-mesh.ensures.linked c.in_ok-starts.ensures c.requires.short)
+    (all_ready c.in_ok-mesh.mesh.links c.args.scripts.items (rows_of c.in_ok-mesh.peers.items)
+    starts c.in_ok-mesh.ensures.linked c.in_ok-starts.ensures c.requires.short)
 
 pub settle-requires-clause-seats : goal.settle-requires-clause-seats
 settle-requires-clause-seats g c =
     ap seats_of c.in_ok-dones.ensures.peers
-    ∙ same_seats c.args.scripts.items (rows_of c.in_ok-mesh.peers.items) c.in_ok-starts.starts.items c.fork-ends.result.items c.in_ok-starts.ensures c.fork-ends.ensures.gave ∙ c.in_ok-mesh.ensures.seats
+    ∙ same_seats c.args.scripts.items (rows_of c.in_ok-mesh.peers.items) c.in_ok-starts.starts.items
+    c.fork-ends.result.items c.in_ok-starts.ensures c.fork-ends.ensures.gave
+    ∙ c.in_ok-mesh.ensures.seats
 
 pub settle-requires-clause-ended : goal.settle-requires-clause-ended
 settle-requires-clause-ended g c =
-    let long : list_any (λ (e : WorkerEnd). e.short) c.fork-ends.result.items ≡ false = ap (list_any (λ (e : WorkerEnd). e.short)) (sym c.deref.ensures.value) ∙ sym c.any_short.ensures ∙ c.if-any_short.false in
-    subst HaveEnded (sym c.in_ok-dones.ensures.peers) (all_ended c.args.scripts.items (rows_of c.in_ok-mesh.peers.items) c.in_ok-starts.starts.items c.fork-ends.result.items c.in_ok-starts.ensures c.fork-ends.ensures.gave long)
+    let long : list_any (λ (e : WorkerEnd). e.short) c.fork-ends.result.items ≡ false = ap
+    (list_any (λ (e : WorkerEnd). e.short)) (sym c.deref.ensures.value) ∙ sym c.any_short.ensures
+    ∙ c.if-any_short.false in
+    subst HaveEnded (sym c.in_ok-dones.ensures.peers)
+    (all_ended c.args.scripts.items (rows_of c.in_ok-mesh.peers.items) c.in_ok-starts.starts.items
+    c.fork-ends.result.items c.in_ok-starts.ensures c.fork-ends.ensures.gave long)
 
 pub returns : goal.returns
 returns g c =
-    let long : list_any (λ (e : WorkerEnd). e.short) c.fork-ends.result.items ≡ false = ap (list_any (λ (e : WorkerEnd). e.short)) (sym c.deref.ensures.value) ∙ sym c.any_short.ensures ∙ c.if-any_short.false in
+    let long : list_any (λ (e : WorkerEnd). e.short) c.fork-ends.result.items ≡ false = ap
+    (list_any (λ (e : WorkerEnd). e.short)) (sym c.deref.ensures.value) ∙ sym c.any_short.ensures
+    ∙ c.if-any_short.false in
     subst (IsSession c.args.scripts.items) (sym c.in_ok-dones.ensures.dones)
-    (session_outcome c.args.scripts.items (rows_of c.in_ok-mesh.peers.items) c.in_ok-starts.starts.items c.fork-ends.result.items c.in_ok-starts.ensures c.fork-ends.ensures.gave long (subst AreAllTaken c.in_ok-dones.ensures.peers c.settle.ensures))
+    (session_outcome c.args.scripts.items (rows_of c.in_ok-mesh.peers.items)
+    c.in_ok-starts.starts.items c.fork-ends.result.items c.in_ok-starts.ensures
+    c.fork-ends.ensures.gave long (subst AreAllTaken c.in_ok-dones.ensures.peers c.settle.ensures))

@@ -10,11 +10,16 @@ use Rattle.gf_session.proofs.session.starts_of.Given as goal
 -- the starts so far, and what is left of the scripts and of the peers
 abbrev pub invariant-loop-script : goal.invariant-loop-script
 invariant-loop-script l = record {
-  iterate : goal.iterator-loop-script.can_next l.script-iterator × goal.iterator-loop-script.is_finite l.script-iterator;
+  iterate : goal.iterator-loop-script.can_next l.script-iterator
+      × goal.iterator-loop-script.is_finite l.script-iterator;
   counted : l.number ≡ length l.starts.items;
   sites : (k : ℕ) (s : Start) → slice_get l.starts.items k ≡ Some s → s.site ≡ new_site (k + 1);
-  scripts : map (λ s. s.script) l.starts.items ++ into_iter_items (zip_first l.script-iterator) ≡ l.fn.scripts.items;
-  rows : map (λ s. s.peers.items) l.starts.items ++ rows_of (into_iter_items (zip_second l.script-iterator)) ≡ rows_of l.fn.peers.items;
-  scripts_left : into_iter_len (zip_first l.script-iterator) ≡ length (into_iter_items (zip_first l.script-iterator));
-  rows_left : into_iter_len (zip_second l.script-iterator) ≡ length (into_iter_items (zip_second l.script-iterator));
+  scripts : map (λ s. s.script) l.starts.items ++ into_iter_items
+      (zip_first l.script-iterator) ≡ l.fn.scripts.items;
+  rows : map (λ s. s.peers.items) l.starts.items ++ rows_of
+      (into_iter_items (zip_second l.script-iterator)) ≡ rows_of l.fn.peers.items;
+  scripts_left : into_iter_len (zip_first l.script-iterator) ≡ length
+      (into_iter_items (zip_first l.script-iterator));
+  rows_left : into_iter_len (zip_second l.script-iterator) ≡ length
+      (into_iter_items (zip_second l.script-iterator));
 }

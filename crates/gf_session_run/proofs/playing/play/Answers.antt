@@ -10,8 +10,11 @@ returns-in-Ok-clause-ok g c =
     let first = c.index.result.now in
     let denoted = c.in_ok-scripts.ensures.ok in
     let session = c.in_ok-dones.ensures.ok in
-    let tells = subst (λ ds. TellsHistory first.site.ops ds c.in-Ok.text.items) c.as_slice.ensures.value c.in-Ok.ensures.ok in
-    told_session c.args.sites c.args.bytes.items scripts dones first denoted session (first_there c.args.sites c.args.bytes.items scripts dones first c.requires denoted session c.index.ensures) c.in-Ok.text.items tells
+    let tells = subst (λ ds. TellsHistory first.site.ops ds c.in-Ok.text.items)
+    c.as_slice.ensures.value c.in-Ok.ensures.ok in
+    told_session c.args.sites c.args.bytes.items scripts dones first denoted session
+    (first_there c.args.sites c.args.bytes.items scripts dones first c.requires denoted session
+    c.index.ensures) c.in-Ok.text.items tells
 
 pub returns-clause-err : goal.returns-clause-err
 returns-clause-err g c =
@@ -20,4 +23,6 @@ returns-clause-err g c =
     let first = c.index.result.now in
     let denoted = c.in_ok-scripts.ensures.ok in
     let session = c.in_ok-dones.ensures.ok in
-    not_told c.args.sites c.args.bytes.items scripts dones first denoted session (first_there c.args.sites c.args.bytes.items scripts dones first c.requires denoted session c.index.ensures) c.in-Err.fault c.in-Err.ensures.err
+    not_told c.args.sites c.args.bytes.items scripts dones first denoted session
+    (first_there c.args.sites c.args.bytes.items scripts dones first c.requires denoted session
+    c.index.ensures) c.in-Err.fault c.in-Err.ensures.err

@@ -6,10 +6,25 @@ use Rattle.gf_session_run.proofs.scripts.take_line.Goals as goal
 
 pub returns-then-is_full-clause-err : goal.returns-then-is_full-clause-err
 returns-then-is_full-clause-err c =
-    let l = c.in-Ok.read in
-    (refl, inr (record { command = l; denotes = command_read _ _ l c.in-Ok.ensures.denoted refl; place = _; site = placed l.site _ (is_command l.command) c.from-place.ensures c.in-Ok.ensures.in_range; full = c.is_full.ensures.0 c.if-is_full.true }))
+    let l = c.in-Ok.read in (
+      refl,
+      inr (record {
+        command = l;
+        denotes = command_read _ _ l c.in-Ok.ensures.denoted refl;
+        place = _;
+        site = placed l.site _ (is_command l.command) c.from-place.ensures c.in-Ok.ensures.in_range;
+        full = c.is_full.ensures.0 c.if-is_full.true;
+      }),
+    )
 
 pub returns-in-Ok-give-clause-ok : goal.returns-in-Ok-give-clause-ok
 returns-in-Ok-give-clause-ok c =
     let l = c.in-Ok.read in
-    record { command = l; denotes = command_read _ _ l c.in-Ok.ensures.denoted refl; place = _; site = placed l.site _ (is_command l.command) c.from-place.ensures c.in-Ok.ensures.in_range; room = λ full. let t = c.is_full.ensures.1 full in let f = c.if-is_full.false in absurd cc; gains = c.in-Ok-give.ensures }
+    record {
+      command = l;
+      denotes = command_read _ _ l c.in-Ok.ensures.denoted refl;
+      place = _;
+      site = placed l.site _ (is_command l.command) c.from-place.ensures c.in-Ok.ensures.in_range;
+      room = λ full. let t = c.is_full.ensures.1 full in let f = c.if-is_full.false in absurd cc;
+      gains = c.in-Ok-give.ensures;
+    }

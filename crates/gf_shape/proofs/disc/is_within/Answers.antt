@@ -9,7 +9,8 @@ returns c =
     let f1 : FitsSigned w128 c.product.result = search rules in
     let f2 : FitsSigned w128 c.product-2.result = search rules in
     let f3 : FitsSigned w128 c.product-3.result = search rules in
-    let f4 = sum_fits c.product.result c.product-2.result c.product.ensures.small c.product-2.ensures.small in
+    let f4 = sum_fits c.product.result c.product-2.result c.product.ensures.small
+    c.product-2.ensures.small in
     let f5 : FitsSigned w64 c.from-radius.result = search rules in
     let f6 = c.ranges.x in
     let f7 = c.ranges.y in
@@ -34,7 +35,8 @@ pub overflow_add-result : goal.overflow_add-result
 overflow_add-result c =
     let f1 : FitsSigned w128 c.product.result = search rules in
     let f2 : FitsSigned w128 c.product-2.result = search rules in
-    simp to_z-of_z (sum_fits c.product.result c.product-2.result c.product.ensures.small c.product-2.ensures.small)
+    simp to_z-of_z (sum_fits c.product.result c.product-2.result c.product.ensures.small
+    c.product-2.ensures.small)
 
 pub product-requires-3-clause-a : goal.product-requires-3-clause-a
 product-requires-3-clause-a c =

@@ -9,7 +9,8 @@ pub overflow_sub-result : goal.overflow_sub-result
 overflow_sub-result c =
     let f5 : FitsSigned w128 c.product-climb.result = search rules in
     let f6 : FitsSigned w128 c.product-reach.result = search rules in
-    simp to_z-of_z (difference_fits c.product-climb.result c.product-reach.result c.product-climb.ensures.small c.product-reach.ensures.small)
+    simp to_z-of_z (difference_fits c.product-climb.result c.product-reach.result
+    c.product-climb.ensures.small c.product-reach.ensures.small)
 
 pub returns : goal.returns
 unfolding side
@@ -26,12 +27,14 @@ returns c =
     let by : FitsSigned w32 c.args.b.y = search rules in
     let dx : FitsSigned w32 c.args.d.x = search rules in
     let dy : FitsSigned w32 c.args.d.y = search rules in
-    let f7 = difference_fits c.product-climb.result c.product-reach.result c.product-climb.ensures.small c.product-reach.ensures.small in
+    let f7 = difference_fits c.product-climb.result c.product-reach.result
+    c.product-climb.ensures.small c.product-reach.ensures.small in
     let g1 = simp to_z-of_z at c.gap.ensures.value in
     let g2 = simp to_z-of_z at c.gap-2.ensures.value in
     let g3 = simp to_z-of_z at c.gap-3.ensures.value in
     let g4 = simp to_z-of_z at c.gap-4.ensures.value in
     let climb = simp to_z-of_z at c.product-climb.ensures.value in
     let reach = simp to_z-of_z at c.product-reach.ensures.value in
-    let sides : c.product-climb.result -ℤ c.product-reach.result ≡ side (c.args.a, c.args.b) c.args.d = cc in
+    let sides : c.product-climb.result -ℤ c.product-reach.result ≡ side (c.args.a, c.args.b)
+    c.args.d = cc in
     simp to_z-of_z sides

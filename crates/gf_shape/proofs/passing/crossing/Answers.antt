@@ -9,14 +9,16 @@ rise-requires c =
     let fy = c.ranges.y in
     let fa : FitsSigned w32 c.args.a.y = search rules in
     let fb : FitsSigned w32 c.args.b.y = search rules in
-    simp to_z-of_z (climbing_heights c.args.a.y c.args.b.y c.args.y c.requires.passes (simp to_z-of_z at c.if-a-y.true))
+    simp to_z-of_z (climbing_heights c.args.a.y c.args.b.y c.args.y c.requires.passes
+    (simp to_z-of_z at c.if-a-y.true))
 
 pub fall-requires : goal.fall-requires
 fall-requires c =
     let fy = c.ranges.y in
     let fa : FitsSigned w32 c.args.a.y = search rules in
     let fb : FitsSigned w32 c.args.b.y = search rules in
-    simp to_z-of_z (falling_heights c.args.a.y c.args.b.y c.args.y c.requires.passes (simp to_z-of_z at c.if-a-y.false))
+    simp to_z-of_z (falling_heights c.args.a.y c.args.b.y c.args.y c.requires.passes
+    (simp to_z-of_z at c.if-a-y.false))
 
 pub returns-then-a-y : goal.returns-then-a-y
 returns-then-a-y c =
@@ -47,28 +49,36 @@ returns-else-a-y c =
     rw (place, far, high, simp to_z-of_z at c.if-a-y.false) refl
 
 pub run-requires-clause-from : goal.run-requires-clause-from
-run-requires-clause-from c = let f : FitsSigned w32 c.args.a.y = search rules in simp to_z-of_z (and_parts _ _ c.requires.a).1
+run-requires-clause-from c = let f : FitsSigned w32 c.args.a.y = search rules in
+    simp to_z-of_z (and_parts _ _ c.requires.a).1
 
 pub run-requires-clause-to : goal.run-requires-clause-to
-run-requires-clause-to c = let f : FitsSigned w32 c.args.b.y = search rules in simp to_z-of_z (and_parts _ _ c.requires.b).1
+run-requires-clause-to c = let f : FitsSigned w32 c.args.b.y = search rules in
+    simp to_z-of_z (and_parts _ _ c.requires.b).1
 
 pub along-requires-clause-from : goal.along-requires-clause-from
-along-requires-clause-from c = let f : FitsSigned w32 c.args.a.x = search rules in simp to_z-of_z (and_parts _ _ c.requires.a).0
+along-requires-clause-from c = let f : FitsSigned w32 c.args.a.x = search rules in
+    simp to_z-of_z (and_parts _ _ c.requires.a).0
 
 pub along-requires-clause-to : goal.along-requires-clause-to
-along-requires-clause-to c = let f : FitsSigned w32 c.args.b.x = search rules in simp to_z-of_z (and_parts _ _ c.requires.b).0
+along-requires-clause-to c = let f : FitsSigned w32 c.args.b.x = search rules in
+    simp to_z-of_z (and_parts _ _ c.requires.b).0
 
 pub run-requires-else-a-y-clause-from : goal.run-requires-else-a-y-clause-from
-run-requires-else-a-y-clause-from c = let f : FitsSigned w32 c.args.b.y = search rules in simp to_z-of_z (and_parts _ _ c.requires.b).1
+run-requires-else-a-y-clause-from c = let f : FitsSigned w32 c.args.b.y = search rules in
+    simp to_z-of_z (and_parts _ _ c.requires.b).1
 
 pub run-requires-else-a-y-clause-to : goal.run-requires-else-a-y-clause-to
-run-requires-else-a-y-clause-to c = let f : FitsSigned w32 c.args.a.y = search rules in simp to_z-of_z (and_parts _ _ c.requires.a).1
+run-requires-else-a-y-clause-to c = let f : FitsSigned w32 c.args.a.y = search rules in
+    simp to_z-of_z (and_parts _ _ c.requires.a).1
 
 pub along-requires-else-a-y-clause-from : goal.along-requires-else-a-y-clause-from
-along-requires-else-a-y-clause-from c = let f : FitsSigned w32 c.args.a.x = search rules in simp to_z-of_z (and_parts _ _ c.requires.a).0
+along-requires-else-a-y-clause-from c = let f : FitsSigned w32 c.args.a.x = search rules in
+    simp to_z-of_z (and_parts _ _ c.requires.a).0
 
 pub along-requires-else-a-y-clause-to : goal.along-requires-else-a-y-clause-to
-along-requires-else-a-y-clause-to c = let f : FitsSigned w32 c.args.b.x = search rules in simp to_z-of_z (and_parts _ _ c.requires.b).0
+along-requires-else-a-y-clause-to c = let f : FitsSigned w32 c.args.b.x = search rules in
+    simp to_z-of_z (and_parts _ _ c.requires.b).0
 
 pub along-requires-clause-rise : goal.along-requires-clause-rise
 along-requires-clause-rise c =

@@ -10,8 +10,12 @@ loop-group-preserved c =
     let groups = c.args.groups.now in
     let n = c.loop-group.group-index in
     let g = c.group-item.result in
-    let grown = take_more groups n g c.loop-group-test.true ∙ ap (λ (k : Group). take n groups ++ k ∷ []) (sym c.group-item.is) in
-    rw (grown, c.in_ok-append.ensures.items) (lasts_more h c.args.attribute (take n groups) c.loop-group.found.items c.in_ok-more.more.items g c.loop-group.invariant c.in_ok-more.ensures)
+    let grown = take_more groups n g c.loop-group-test.true
+    ∙ ap (λ (k : Group). take n groups ++ k ∷ []) (sym c.group-item.is) in
+    rw (grown, c.in_ok-append.ensures.items) (lasts_more h c.args.attribute (take n groups)
+    c.loop-group.found.items c.in_ok-more.more.items g c.loop-group.invariant c.in_ok-more.ensures)
 
 pub returns : goal.returns
-returns c = subst (λ groups. AreLasts c.args.history.now.ops c.args.attribute groups c.loop-group.found.items) (take_all c.loop-group.group-index c.args.groups.now c.loop-group-test.false) c.loop-group.invariant
+returns c = subst (λ groups. AreLasts c.args.history.now.ops c.args.attribute groups
+    c.loop-group.found.items) (take_all c.loop-group.group-index c.args.groups.now
+    c.loop-group-test.false) c.loop-group.invariant

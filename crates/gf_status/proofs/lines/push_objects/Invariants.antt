@@ -4,4 +4,5 @@ use Rattle.gf_status.specs.StatusLines.{object_lines}
 use Rattle.gf_status.proofs.lines.push_objects.Given as goal
 
 abbrev pub invariant-loop-status : goal.invariant-loop-status
-invariant-loop-status l = l.out.items ≡ l.initial.out.items ++ flat_map object_lines (take l.status-index l.statuses)
+invariant-loop-status l = l.out.items ≡ l.initial.out.items ++ flat_map object_lines
+    (take l.status-index l.statuses)

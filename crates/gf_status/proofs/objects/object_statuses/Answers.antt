@@ -17,10 +17,12 @@ pub object_status-requires : goal.object_status-requires
 object_status-requires c =
     let h = c.args.versions.now in
     let made = rw c.history-history.ensures.ops at c.in_ok-made.ensures in
-    let told = rw (c.history-history.ensures.ops, c.deref.ensures.value) at c.in_ok-ids.ensures.exactly in
+    let told = rw (c.history-history.ensures.ops, c.deref.ensures.value)
+    at c.in_ok-ids.ensures.exactly in
     let same = c.as_slice-id-items.ensures in
     let within : c.loop-id.id-index < length c.in_ok-ids.ids = rw same at c.loop-id-test.true in
-    rw same (made_at h c.in_ok-ids.ids c.loop-id.id-index no_id (made_told h c.in_ok-made.made.items made c.in_ok-ids.ids told) within)
+    rw same (made_at h c.in_ok-ids.ids c.loop-id.id-index no_id
+    (made_told h c.in_ok-made.made.items made c.in_ok-ids.ids told) within)
 
 pub loop-id-preserved : goal.loop-id-preserved
 loop-id-preserved c =
@@ -30,16 +32,20 @@ loop-id-preserved c =
     let s = c.in_ok-object_status.field-0 in
     let is = c.in_ok-object_status.ensures in
     let named : s.object.0 ≡ get_or ids n no_id = ap (λ (o : ObjectId). o.0) is.object in
-    rw (take_more ids n no_id c.loop-id-test.true, c.in_ok-push.ensures.items) (of_more h (take n ids) c.loop-id.found.items c.loop-id.invariant s (get_or ids n no_id) named is.status)
+    rw (take_more ids n no_id c.loop-id-test.true, c.in_ok-push.ensures.items)
+    (of_more h (take n ids) c.loop-id.found.items c.loop-id.invariant s (get_or ids n no_id) named
+    is.status)
 
 pub returns : goal.returns
 returns c =
     let h = c.args.versions.now in
     let ids = c.in_ok-ids.ids in
     let made = rw c.history-history.ensures.ops at c.in_ok-made.ensures in
-    let told = rw (c.history-history.ensures.ops, c.deref.ensures.value) at c.in_ok-ids.ensures.exactly in
+    let told = rw (c.history-history.ensures.ops, c.deref.ensures.value)
+    at c.in_ok-ids.ensures.exactly in
     let same = c.as_slice-id-items.ensures in
     let past : length ids ≤ c.loop-id.id-index = rw same at c.loop-id-test.false in
     let so_far = rw same at c.loop-id.invariant in
-    all_of h ids c.loop-id.found.items (made_told h c.in_ok-made.made.items made ids told) c.in_ok-ids.ensures.rising
+    all_of h ids c.loop-id.found.items (made_told h c.in_ok-made.made.items made ids told)
+    c.in_ok-ids.ensures.rising
     (subst (λ is. AreOf h is c.loop-id.found.items) (take_all c.loop-id.id-index ids past) so_far)

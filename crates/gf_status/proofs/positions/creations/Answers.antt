@@ -17,12 +17,16 @@ loop-position-preserved c =
     let at : slice_get h n ≡ Some a = slice_get-get_or h n a within ∙ ap (λ z. Some z) (sym is) in
     elim c.match-op.branch [
       | in-Create+in_ok-push-in-Create w ↦
-          rw (w.found-is, w.in_ok-push-in-Create.ensures.items) (below_more h n us c.loop-position.invariant a at (creates a.change w.in-Create.field-0 w.in-Create.is))
-      | in-Set w ↦ rw w.found-is (below_same h n us c.loop-position.invariant a at (sets_only a.change _ _ _ w.in-Set.is))
+          rw (w.found-is, w.in_ok-push-in-Create.ensures.items)
+          (below_more h n us c.loop-position.invariant a
+          at (creates a.change w.in-Create.field-0 w.in-Create.is))
+      | in-Set w ↦ rw w.found-is (below_same h n us c.loop-position.invariant a
+          at (sets_only a.change _ _ _ w.in-Set.is))
     ]
 
 pub returns : goal.returns
 returns c =
     let h = c.args.history.now.ops in
-    let past : length h ≤ c.loop-position.position = rw c.ops-op-items.ensures.ops at c.loop-position-test.false in
+    let past : length h ≤ c.loop-position.position = rw c.ops-op-items.ensures.ops
+    at c.loop-position-test.false in
     below_all h c.loop-position.position c.loop-position.found.items past c.loop-position.invariant

@@ -17,9 +17,12 @@ loop-id-preserved c =
     rw (take_more ids n no_id c.loop-id-test.true) (elim c.match-position.branch [
       | in-Some+in_ok-push w ↦
           rw (w.found-is, w.in_ok-push.ensures.items)
-          (members_more h c.ops.ensures.valid (take n ids) us (get_or ids n no_id) w.in-Some.position c.loop-id.invariant w.in-Some.ensures.found)
-      | in_default w ↦ rw w.found-is (members_same h (take n ids) us (get_or ids n no_id) c.loop-id.invariant w.in_default.ensures.none)
+          (members_more h c.ops.ensures.valid (take n ids) us (get_or ids n no_id)
+          w.in-Some.position c.loop-id.invariant w.in-Some.ensures.found)
+      | in_default w ↦ rw w.found-is (members_same h (take n ids) us (get_or ids n no_id)
+          c.loop-id.invariant w.in_default.ensures.none)
     ])
 
 pub returns : goal.returns
-returns c = subst (λ ids. AreAt c.args.history.now.ops ids c.loop-id.found.items) (take_all c.loop-id.id-index c.args.ids.now c.loop-id-test.false) c.loop-id.invariant
+returns c = subst (λ ids. AreAt c.args.history.now.ops ids c.loop-id.found.items)
+    (take_all c.loop-id.id-index c.args.ids.now c.loop-id-test.false) c.loop-id.invariant

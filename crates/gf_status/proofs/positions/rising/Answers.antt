@@ -15,7 +15,8 @@ returns-clause-exactly c =
     let us = c.args.positions.now in
     let set = c.in_ok-set.ensures in
     let listed = c.in_ok-to_vec.ensures.value ∙ set in
-    ids_told h us c.in_ok-ids.ids (c.in_ok-ids.ensures ∙ ap (rising_ids h) (c.deref.ensures.value ∙ listed))
+    ids_told h us c.in_ok-ids.ids (c.in_ok-ids.ensures
+    ∙ ap (rising_ids h) (c.deref.ensures.value ∙ listed))
 
 pub returns-clause-rising : goal.returns-clause-rising
 returns-clause-rising c = ids_rise c.args.history.now.ops _ c.in_ok-ids.ids c.in_ok-ids.ensures

@@ -4,4 +4,5 @@ use Rattle.gf_status.specs.SettersAt.{hides_at}
 use Rattle.gf_status.proofs.setters.hidings.Given as goal
 
 abbrev pub invariant-loop-position : goal.invariant-loop-position
-invariant-loop-position l = l.found.items ≡ filter (hides_at l.history.ops) (take l.position-index l.positions)
+invariant-loop-position l = l.found.items ≡ filter (hides_at l.history.ops)
+    (take l.position-index l.positions)

@@ -4,4 +4,5 @@ use Rattle.gf_visible.specs.ShownAt.{before_at}
 use Rattle.gf_status.proofs.setters.taken.Given as goal
 
 abbrev pub invariant-loop-last : goal.invariant-loop-last
-invariant-loop-last l = l.more.items ≡ filter (λ i. not (before_at l.history.ops i l.position)) (take l.last-index l.lasts)
+invariant-loop-last l = l.more.items ≡ filter (λ i. not (before_at l.history.ops i l.position))
+    (take l.last-index l.lasts)

@@ -6,4 +6,5 @@ use Rattle.gf_status.proofs.setters.unknowing.Given as goal
 abbrev pub invariant-loop-position : goal.invariant-loop-position
 invariant-loop-position l =
     l.found.items
-    ≡ filter (λ k. is_left_out l.history.ops l.seen k && is_unknowing l.history.ops l.setters l.last k) (take l.position-index l.positions)
+    ≡ filter (λ k. is_left_out l.history.ops l.seen k && is_unknowing l.history.ops l.setters l.last
+    k) (take l.position-index l.positions)

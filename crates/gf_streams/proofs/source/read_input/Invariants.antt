@@ -8,8 +8,10 @@ invariant-loop-chunk g l = record {
   within : vec_len l.bytes ≤ 16777217;
   takes : Consumes (g.R.Source.left l.initial.source) (g.R.Source.left l.source) l.bytes.items;
   reads : g.R.Source.reads l.source ≤ g.R.Source.reads l.initial.source + vec_len l.bytes;
-  keeps_reads : g.R.Source.reads l.initial.source < 2 ^ 64 - 1 → g.R.Source.reads l.initial.source ≤ g.R.Source.reads l.source;
-  is_read : 0 < vec_len l.bytes → Rises (g.R.Source.reads l.initial.source) (g.R.Source.reads l.source);
+  keeps_reads : g.R.Source.reads l.initial.source < 2 ^ 64 - 1
+      → g.R.Source.reads l.initial.source ≤ g.R.Source.reads l.source;
+  is_read : 0 < vec_len l.bytes
+      → Rises (g.R.Source.reads l.initial.source) (g.R.Source.reads l.source);
   failures : g.R.Source.failures l.source ≡ g.R.Source.failures l.initial.source;
 }
 

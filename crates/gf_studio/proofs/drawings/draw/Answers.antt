@@ -7,21 +7,36 @@ use Rattle.gf_studio.proofs.drawings.draw.Goals as goal
 
 pub returns-clause-ok : goal.returns-clause-ok
 returns-clause-ok g c =
-    record { history = c.in_ok-site.site.ops; denoted = c.in_ok-site.ensures.ok; such = c.in_ok-drawing.ensures.ok }
+    record {
+      history = c.in_ok-site.site.ops;
+      denoted = c.in_ok-site.ensures.ok;
+      such = c.in_ok-drawing.ensures.ok;
+    }
 
 pub returns-clause-waiting : goal.returns-clause-waiting
 returns-clause-waiting g c =
     let site = c.in_ok-site.site in
-    record { history = site.ops; waiting = site.held; denoted = c.in_ok-site.ensures.held; count = c.held-waiting.ensures.held }
+    record {
+      history = site.ops;
+      waiting = site.held;
+      denoted = c.in_ok-site.ensures.held;
+      count = c.held-waiting.ensures.held;
+    }
 
 pub returns-in_err-drawing-clause-refused : goal.returns-in_err-drawing-clause-refused
 returns-in_err-drawing-clause-refused g c =
-    let p = err_from_is_err_and c.from_residual-in_err-drawing.result c.from_residual-in_err-drawing.ensures.1 in
+    let p = err_from_is_err_and c.from_residual-in_err-drawing.result
+    c.from_residual-in_err-drawing.ensures.1 in
     let bytes = c.args.bytes.items in
-    rw p.1 (subst (RefusesLines bytes) (sym p.2) (history_refused bytes c.in_ok-site.site.ops c.in_ok-site.ensures.ok _ c.in_err-drawing.ensures.err).0)
+    rw p.1 (subst (RefusesLines bytes) (sym p.2)
+    (history_refused bytes c.in_ok-site.site.ops c.in_ok-site.ensures.ok _
+    c.in_err-drawing.ensures.err).0)
 
 pub returns-in_err-drawing-clause-between : goal.returns-in_err-drawing-clause-between
 returns-in_err-drawing-clause-between g c =
-    let p = err_from_is_err_and c.from_residual-in_err-drawing.result c.from_residual-in_err-drawing.ensures.1 in
+    let p = err_from_is_err_and c.from_residual-in_err-drawing.result
+    c.from_residual-in_err-drawing.ensures.1 in
     let bytes = c.args.bytes.items in
-    rw p.1 (subst IsBetween (sym p.2) (history_refused bytes c.in_ok-site.site.ops c.in_ok-site.ensures.ok _ c.in_err-drawing.ensures.err).1)
+    rw p.1 (subst IsBetween (sym p.2)
+    (history_refused bytes c.in_ok-site.site.ops c.in_ok-site.ensures.ok _
+    c.in_err-drawing.ensures.err).1)

@@ -6,10 +6,13 @@ pub returns-clause-denotes : goal.returns-clause-denotes
 returns-clause-denotes c = λ bytes others have h d. denote_alike bytes others have h d
 
 pub returns-clause-drawing : goal.returns-clause-drawing
-returns-clause-drawing c = λ bytes others have drawing other d e. draw_alike bytes others have drawing other d e
+returns-clause-drawing c = λ bytes others have drawing other d e. draw_alike bytes others have
+    drawing other d e
 
 pub returns-clause-text : goal.returns-clause-text
-returns-clause-text c = λ bytes others have taken text other d e. write_alike bytes others have taken text other d e
+returns-clause-text c = λ bytes others have taken text other d e. write_alike bytes others have
+    taken text other d e
 
 pub returns-clause-picture : goal.returns-clause-picture
-returns-clause-picture c = λ bytes others have w taken painted other d e. paint_alike bytes others have w taken painted other d e
+returns-clause-picture c = λ bytes others have w taken painted other d e. paint_alike bytes others
+    have w taken painted other d e

@@ -6,5 +6,10 @@ use Rattle.gf_table.proofs.listing.listed.Goals as goal
 pub multiplied-requires-clause-within : goal.multiplied-requires-clause-within
 multiplied-requires-clause-within c =
     let p = c.component-item.result in
-    let inside : Contains c.components-component-items.result.now p = (c.loop-component.component-index, c.loop-component-test.true, sym c.component-item.is) in
-    component_below c.args.history.now.ops c.args.object c.args.components.now c.requires p (subst (λ ps. Contains ps p) c.components-component-items.ensures inside)
+    let inside : Contains c.components-component-items.result.now p = (
+      c.loop-component.component-index,
+      c.loop-component-test.true,
+      sym c.component-item.is,
+    ) in
+    component_below c.args.history.now.ops c.args.object c.args.components.now c.requires p
+    (subst (λ ps. Contains ps p) c.components-component-items.ensures inside)

@@ -6,4 +6,6 @@ use Rattle.gf_table.specs.Standing.{full}
 use Rattle.gf_table.proofs.listing.listed.Given as goal
 
 abbrev pub invariant-loop-component : goal.invariant-loop-component
-invariant-loop-component l = l.sets.items ≡ fold (λ gs p. products gs (full (conflict_at l.history.ops) p)) l.initial.sets.items (take l.component-index l.component-items)
+invariant-loop-component l = l.sets.items ≡ fold
+    (λ gs p. products gs (full (conflict_at l.history.ops) p)) l.initial.sets.items
+    (take l.component-index l.component-items)

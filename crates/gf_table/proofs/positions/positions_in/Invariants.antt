@@ -4,4 +4,5 @@ use Rattle.gf_components.specs.Components.{ComponentState}
 use Rattle.gf_table.proofs.positions.positions_in.Given as goal
 
 abbrev pub invariant-loop-component : goal.invariant-loop-component
-invariant-loop-component l = l.found.items ≡ l.components.free ++ flat_map (λ (p : ComponentState). p.all) (take l.component-index l.component-items)
+invariant-loop-component l = l.found.items ≡ l.components.free ++ flat_map
+    (λ (p : ComponentState). p.all) (take l.component-index l.component-items)

@@ -24,7 +24,8 @@ add-requires c =
       object = o;
       aim = c.in-Set.aim;
       change = c.in-Set.is;
-      state = there c.args.history.now.ops o (state_of t o) c.in-Some.state.now (c.requires.stands o) (sym c.in-Some.ensures.value);
+      state = there c.args.history.now.ops o (state_of t o) c.in-Some.state.now
+          (c.requires.stands o) (sym c.in-Some.ensures.value);
     }
 
 pub unreachable-requires : goal.unreachable-requires
@@ -32,7 +33,8 @@ unreachable-requires c =
     let h = c.args.history.now.ops in
     let o = c.in-Set.object in
     let t = c.args.objects.now.entries in
-    some_before h c.ops-position.ensures.valid c.args.op.now c.requires.in_range c.requires.accepted o c.in-Set.value c.in-Set.aim c.in-Set.is
+    some_before h c.ops-position.ensures.valid c.args.op.now c.requires.in_range c.requires.accepted
+    o c.in-Set.value c.in-Set.aim c.in-Set.is
     (absent h o (state_of t o) (c.requires.stands o) (sym c.in-None.ensures.value))
 
 pub returns-in_ok-state-in-Create-clause-ok : goal.returns-in_ok-state-in-Create-clause-ok
@@ -42,11 +44,16 @@ returns-in_ok-state-in-Create-clause-ok c =
     let o : ObjectId = record { 0 = a.id } in
     let w = c.in_ok-state-in-Create.state in
     let valid = c.ops-position.ensures.valid in
-    let kind : made_kind a.change ≡ made_kind (Create c.in-Create.field-0) = ap made_kind c.in-Create.is in
-    let is : w ≡ made (length h) = c.in_ok-state-in-Create.ensures ∙ ap (λ z. made (length z)) c.ops-position.ensures.ops in
+    let kind : made_kind a.change ≡ made_kind (Create c.in-Create.field-0) = ap made_kind
+    c.in-Create.is in
+    let is : w ≡ made (length h) = c.in_ok-state-in-Create.ensures
+    ∙ ap (λ z. made (length z)) c.ops-position.ensures.ops in
     let state : IsStateOf (h ++ a ∷ []) o w = subst (IsStateOf (h ++ a ∷ []) o) (sym is)
-    (state_made h a o _ refl kind (none_before h valid a c.requires.in_range c.requires.accepted o refl)) in
-    on_ok_weaker c.put.result (λ puts. stands_after h valid a c.requires.in_range c.requires.accepted c.args.objects.now.entries c.put.new.objects.entries o w c.requires.stands (ap (changed_object a.id) c.in-Create.is) state puts) c.put.ensures.puts
+    (state_made h a o _ refl kind (none_before h valid a c.requires.in_range c.requires.accepted o
+    refl)) in
+    on_ok_weaker c.put.result (λ puts. stands_after h valid a c.requires.in_range
+    c.requires.accepted c.args.objects.now.entries c.put.new.objects.entries o w c.requires.stands
+    (ap (changed_object a.id) c.in-Create.is) state puts) c.put.ensures.puts
 
 pub returns-in-Some-clause-ok : goal.returns-in-Some-clause-ok
 returns-in-Some-clause-ok c =
@@ -58,7 +65,9 @@ returns-in-Some-clause-ok c =
     let now = c.get_mut.follows.lender w in
     let some = subst IsSome c.in-Some.ensures.value refl in
     let puts = ((c.get_mut.follows.holds w).3 some).0 in
-    on_ok_weaker c.add.result (λ state. stands_after h c.ops-position.ensures.valid a c.requires.in_range c.requires.accepted t now.entries o w c.requires.stands (ap (changed_object a.id) c.in-Set.is) (state o c.in-Set.aim c.in-Set.is) puts) c.add.ensures.ok
+    on_ok_weaker c.add.result (λ state. stands_after h c.ops-position.ensures.valid a
+    c.requires.in_range c.requires.accepted t now.entries o w c.requires.stands
+    (ap (changed_object a.id) c.in-Set.is) (state o c.in-Set.aim c.in-Set.is) puts) c.add.ensures.ok
 
 pub returns-in-Some-clause-err : goal.returns-in-Some-clause-err
 returns-in-Some-clause-err c =
@@ -66,4 +75,5 @@ returns-in-Some-clause-err c =
     let t = c.args.objects.now.entries in
     let w = c.add.new.self in
     on_err_weaker c.add.result (λ same.
-    (c.get_mut.follows.holds w).0 ∙ set_value_same (is_at (object_cmp o)) t w (sym c.in-Some.ensures.value ∙ ap (λ (z : ObjectState). Some z) (sym same))) c.add.ensures.err
+    (c.get_mut.follows.holds w).0 ∙ set_value_same (is_at (object_cmp o)) t w
+    (sym c.in-Some.ensures.value ∙ ap (λ (z : ObjectState). Some z) (sym same))) c.add.ensures.err

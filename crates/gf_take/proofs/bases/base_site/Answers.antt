@@ -31,7 +31,8 @@ add-requires-clause-accepted c =
     let within : i < length ops = search (rules, arith) in
     let reach = c.reach-reach.result in
     let counted : is_counted reach a ≡ true = sym c.is_counted.ensures ∙ c.if-is_counted.true in
-    subst (λ l. IsAccepted l c.in_ok-copy.field-0) (sym (ap (λ (x : SiteState). x.ops) c.loop-op.invariant))
+    subst (λ l. IsAccepted l c.in_ok-copy.field-0)
+    (sym (ap (λ (x : SiteState). x.ops) c.loop-op.invariant))
     (subst (IsAccepted (filter (is_counted reach) (take i ops))) (sym c.in_ok-copy.ensures)
     (item_accepted c.args.site c.args.seen.now ops valid reach c.reach-reach.ensures i a within
     c.op-item.is run counted))
@@ -46,7 +47,8 @@ loop-op-preserved c =
     let within : i < length ops = search (rules, arith) in
     elim c.if-is_counted.branch [
       | then-is_counted+in_ok-copy+in_ok-add w ↦
-          let more = item_counted c.args.site c.args.seen.now ops valid reach c.reach-reach.ensures i
+          let more = item_counted c.args.site c.args.seen.now ops valid reach c.reach-reach.ensures
+          i
           a within c.op-item.is (sym c.is_counted.ensures ∙ w.if-is_counted.true) in
           let grown : filter (is_counted reach) (take i ops) ++ w.in_ok-copy.field-0 ∷ []
           ≡ filter (is_counted reach) (take (i + 1) ops) =

@@ -16,7 +16,8 @@ returns-then-not-branch c =
       λ t. absurd cc,
       λ t.
           let same = subst (AreTraced table items) (sym c.in_ok-figures.ensures.order) t in
-          let like = traced_at table (λ f. f.now) items figures k c.index-items-place.result c.index.result.now
+          let like = traced_at table (λ f. f.now) items figures k c.index-items-place.result
+          c.index.result.now
           within inside c.index-items-place.is is same in
           let none : false ≡ true = sym other ∙ c.in_ok-is_like.ensures.1 like in absurd cc,
     )
@@ -31,5 +32,6 @@ loop-place-preserved c =
     let inside : k < length figures = search (rules, arith) in
     let is : c.index.result.now ≡ get_or figures k c.index.result.now = search rules in
     let like : c.in_ok-is_like.field-0 ≡ true = search rules in
-    traced_more table (λ f. f.now) items figures k c.index-items-place.result c.index.result.now within
+    traced_more table (λ f. f.now) items figures k c.index-items-place.result c.index.result.now
+    within
     inside c.index-items-place.is is c.loop-place.invariant (c.in_ok-is_like.ensures.0 like)

@@ -19,7 +19,8 @@ returns-then-not-branch c =
     drop_more items i item within ∙ ap (λ x. x ∷ drop (i + 1) items) (sym c.item-item.is) in
     let none : c.in_ok-take_out.field-0 ≡ false = search rules in (
       λ t. absurd cc,
-      λ s. absurd (not_shown table item (drop (i + 1) items) left (c.in_ok-take_out.ensures.none none)
+      λ s. absurd (not_shown table item (drop (i + 1) items) left
+          (c.in_ok-take_out.ensures.none none)
           (subst (AreShown table left) next (c.loop-item.invariant.1 s))),
     )
 
@@ -57,7 +58,8 @@ returns c =
           let empty : length left ≡ 0 = search (rules, arith) in
           matched_all table fs items
           (subst (λ l. AreMatched table fs l []) (take_all i items all)
-          (subst (λ l. AreMatched table fs (take i items) (map (λ f. f.now) l)) (no_items left empty)
+          (subst (λ l. AreMatched table fs (take i items) (map (λ f. f.now) l))
+          (no_items left empty)
           c.loop-item.invariant.0)),
       λ s.
           let none : map (λ f. f.now) left ≡ [] =

@@ -14,7 +14,8 @@ returns-in-None-clause-err c =
     shows_too_many c.args.site.now.number c.args.site.now.ops
     (subst (λ h. HasMoreVisible h 1000) c.versions.ensures.ops more)
 
-pub returns-in_ok-look_alike-in-Some-clause-alike : goal.returns-in_ok-look_alike-in-Some-clause-alike
+pub returns-in_ok-look_alike-in-Some-clause-alike :
+    goal.returns-in_ok-look_alike-in-Some-clause-alike
 returns-in_ok-look_alike-in-Some-clause-alike c = λ e.
     let d = c.args.drawing.now in
     let items = c.in-Some.ranked.items.items in
@@ -24,12 +25,14 @@ returns-in_ok-look_alike-in-Some-clause-alike c = λ e.
     (c.in_ok-look_alike-in-Some.ensures.0 e) in
     traced_look c.args.site.now.ops d items c.versions.ensures.valid ranked traced
 
-pub returns-in_ok-look_alike-in-Some-clause-other : goal.returns-in_ok-look_alike-in-Some-clause-other
+pub returns-in_ok-look_alike-in-Some-clause-other :
+    goal.returns-in_ok-look_alike-in-Some-clause-other
 returns-in_ok-look_alike-in-Some-clause-other c = λ e lawful s.
     let d = c.args.drawing.now in
     let items = c.in-Some.ranked.items.items in
     let listed = rw c.in-Some.is at c.in_ok-ranked_within.ensures.ranked in
     let ranked = subst (λ h. AreRanked h items) c.versions.ensures.ops listed in
-    let traced = subst (λ is. AreTraced d.table is (from_front d.figures)) (sym c.deref.ensures.value)
+    let traced = subst (λ is. AreTraced d.table is (from_front d.figures))
+    (sym c.deref.ensures.value)
     (look_is_traced c.args.site.now.ops d items ranked lawful s) in
     let none : false ≡ true = sym e ∙ c.in_ok-look_alike-in-Some.ensures.1 traced in absurd cc

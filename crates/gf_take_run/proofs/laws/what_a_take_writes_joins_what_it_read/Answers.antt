@@ -6,11 +6,12 @@ returns c = λ s bytes others new j.
     record {
       ops = j.ops;
       lines = j.lines;
-      delivers = takes_join s j.take.seen j.take.read.ops j.take.history j.take.taken.base new j.ops (record {
-        read = j.take.read.read;
-        base = j.take.taken.is_base;
-        changes = j.take.taken.changes;
-        makes = j.take.taken.takes.makes;
-        same = j.same;
-      });
+      delivers = takes_join s j.take.seen j.take.read.ops j.take.history j.take.taken.base new j.ops
+          (record {
+            read = j.take.read.read;
+            base = j.take.taken.is_base;
+            changes = j.take.taken.changes;
+            makes = j.take.taken.takes.makes;
+            same = j.same;
+          });
     }

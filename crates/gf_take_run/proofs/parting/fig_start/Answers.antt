@@ -21,7 +21,8 @@ loop-left-preserved c =
         | inl after ↦ next_behind text start end first m after b.line
         | inr here ↦
             let low = c.loop-left.invariant.none m b in
-            absurd (begun text start m (omega (arith, here, low)) b c.starts_with.result value c.if-starts_with.false)
+            absurd (begun text start m (omega (arith, here, low)) b c.starts_with.result value
+            c.if-starts_with.false)
       ];
     }
 
@@ -36,5 +37,6 @@ returns-in-None-clause-none c =
       | inl after ↦ none_behind text start none m after b.line
       | inr here ↦
           let low = c.loop-left.invariant.none m b in
-          begun text start m (omega (arith, here, low)) b c.starts_with.result value c.if-starts_with.false
+          begun text start m (omega (arith, here, low)) b c.starts_with.result value
+          c.if-starts_with.false
     ]

@@ -4,4 +4,5 @@ use Rattle.gf_take_run.proofs.seeing.first_beyond.Given as goal
 
 -- the other sites so far are counted
 abbrev pub invariant-loop-other : goal.invariant-loop-other
-invariant-loop-other l = (t : ℕ) → 1 ≤ t → t < l.other → t ≢ l.site → entry l.past t ≤ entry l.known t
+invariant-loop-other l = (t : ℕ) → 1 ≤ t → t < l.other → t ≢ l.site
+    → entry l.past t ≤ entry l.known t

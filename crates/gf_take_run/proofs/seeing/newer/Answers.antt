@@ -13,11 +13,13 @@ returns-clause-some c =
     let own : a.id.site ≡ s = search rules in
     let after : entry seen s < a.id.seq = search (rules, arith) in
     some_lifted (IsBeyond s a.past c.args.known.now) (IsNewerThan s seen h a) c.first_beyond.result
-    (beyond_newer s seen h c.requires.valid c.args.known.now c.requires.reached a c.requires.contained own after)
+    (beyond_newer s seen h c.requires.valid c.args.known.now c.requires.reached a
+    c.requires.contained own after)
     c.first_beyond.ensures.some
 
 pub returns-clause-none : goal.returns-clause-none
 returns-clause-none c =
     none_lifted _ _ c.first_beyond.result
-    (within_not_newer c.args.site c.args.seen.now c.args.history.now.ops c.requires.valid c.args.known.now c.requires.reached c.args.op.now)
+    (within_not_newer c.args.site c.args.seen.now c.args.history.now.ops c.requires.valid
+    c.args.known.now c.requires.reached c.args.op.now)
     c.first_beyond.ensures.none

@@ -13,19 +13,23 @@ lines_of-requires c =
     let base = c.in_ok-base.base.ops in
     let new = c.in_ok-ops.ops.items in
     λ a m. c.in_ok-ops.ensures.ok.valid.in_range a
-    (Contains-append_right base new a (subst (λ (os : List Op). Contains os a) c.deref.ensures.value m))
+    (Contains-append_right base new a (subst (λ (os : List Op). Contains os a) c.deref.ensures.value
+    m))
 
 pub returns-clause-ok : goal.returns-clause-ok
 returns-clause-ok c =
     let new = c.in_ok-ops.ops.items in
     let written : AreWritten new c.in_ok-lines_of.field-0.items =
-    subst (λ (os : List Op). AreWritten os c.in_ok-lines_of.field-0.items) c.deref.ensures.value c.in_ok-lines_of.ensures in
-    takes_so c.args.replica.now.number c.number-site.result c.in_ok-base.base.number c.args.replica.now.ops
+    subst (λ (os : List Op). AreWritten os c.in_ok-lines_of.field-0.items) c.deref.ensures.value
+    c.in_ok-lines_of.ensures in
+    takes_so c.args.replica.now.number c.number-site.result c.in_ok-base.base.number
+    c.args.replica.now.ops
     c.history-history.result.now.ops c.args.drawn.drawing c.args.drawn.seen _ c.in_ok-base.base.ops
     c.in_ok-plan.plan.changes.items new c.number-site.ensures.number c.in_ok-base.ensures.number
     c.history-history.ensures.ops c.in_ok-check_known.ensures.ok c.in_ok-check_age.ensures.ok
     c.in_ok-base.ensures.base c.in_ok-ops.ensures.ok c.in_ok-plan.ensures.same written
-    (c.made_of.ensures ∙ ap made_of c.deref-2.ensures.value) c.made_since-since.ensures c.in_ok-thin.ensures.ok
+    (c.made_of.ensures ∙ ap made_of c.deref-2.ensures.value) c.made_since-since.ensures
+    c.in_ok-thin.ensures.ok
 
 pub returns-in_err-ops-clause-refused : goal.returns-in_err-ops-clause-refused
 returns-in_err-ops-clause-refused c =

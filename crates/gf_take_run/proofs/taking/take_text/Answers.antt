@@ -11,7 +11,8 @@ returns-in_err-parts-clause-refused g c =
     rw p.1 (input studio.OutOfMemory p.2 tt)
 
 pub returns-in_default-clause-refused : goal.returns-in_default-clause-refused
-returns-in_default-clause-refused g c = no_drawing refl (rw c.in_default.is at c.in_ok-parts.ensures.none)
+returns-in_default-clause-refused g c = no_drawing refl
+    (rw c.in_default.is at c.in_ok-parts.ensures.none)
 
 pub returns-clause-ok : goal.returns-clause-ok
 returns-clause-ok g c =
@@ -20,5 +21,7 @@ returns-clause-ok g c =
 
 pub returns-clause-refused : goal.returns-clause-refused
 returns-clause-refused g c =
-    text_refused c.args.site c.args.bytes.items c.in-Some.parts.lines.items c.in-Some.parts.fig.items
-    (rw c.in-Some.is at c.in_ok-parts.ensures.parted) c.take_parts.result c.take_parts.ensures.refused
+    text_refused c.args.site c.args.bytes.items c.in-Some.parts.lines.items
+    c.in-Some.parts.fig.items
+    (rw c.in-Some.is at c.in_ok-parts.ensures.parted) c.take_parts.result
+    c.take_parts.ensures.refused

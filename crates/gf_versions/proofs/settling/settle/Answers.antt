@@ -14,8 +14,12 @@ returns-clause-version c =
       version = c.requires;
       kind = form.kind;
       form = form.settled;
-      place = settled_by h g.ops attr.Place c.last_setter-2.result.now (Place c.place.result) c.last_setter-2.ensures c.place.ensures;
-      colour = settled_by h g.ops attr.Colour c.last_setter-3.result.now (Colour c.colour.result) c.last_setter-3.ensures c.colour.ensures;
-      layer = settled_by h g.ops attr.Layer c.last_setter.result.now (Layer c.layer.result) c.last_setter.ensures c.layer.ensures;
-      shown = settled_by h g.ops attr.Shown c.last_setter-4.result.now (Shown c.shown.result) c.last_setter-4.ensures c.shown.ensures;
+      place = settled_by h g.ops attr.Place c.last_setter-2.result.now (Place c.place.result)
+          c.last_setter-2.ensures c.place.ensures;
+      colour = settled_by h g.ops attr.Colour c.last_setter-3.result.now (Colour c.colour.result)
+          c.last_setter-3.ensures c.colour.ensures;
+      layer = settled_by h g.ops attr.Layer c.last_setter.result.now (Layer c.layer.result)
+          c.last_setter.ensures c.layer.ensures;
+      shown = settled_by h g.ops attr.Shown c.last_setter-4.result.now (Shown c.shown.result)
+          c.last_setter-4.ensures c.shown.ensures;
     })

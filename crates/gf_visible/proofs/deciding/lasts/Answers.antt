@@ -8,4 +8,6 @@ pub of-requires : goal.of-requires
 of-requires c =
     let h = c.args.history.now.ops in
     lasts_fit h 18446744073709551616 c.args.positions.now c.deref-2.result.now
-    (c.deref-2.ensures.value ∙ (c.in_ok-found.ensures ∙ ap (fold (next_lasts h) []) (c.deref.ensures.value ∙ c.in_ok-positions.ensures.value))) c.requires
+    (c.deref-2.ensures.value
+    ∙ (c.in_ok-found.ensures ∙ ap (fold (next_lasts h) []) (c.deref.ensures.value
+    ∙ c.in_ok-positions.ensures.value))) c.requires

@@ -4,6 +4,8 @@ use Rattle.gf_visible.proofs.gathering.take_showing.Given as goal
 
 abbrev pub invariant-loop-one : goal.invariant-loop-one
 invariant-loop-one l = record {
-  done : take l.one-index l.one-items ≡ map (with_showing l.showing) (take l.one-index l.initial.one-items);
-  rest : (k : ℕ) (d : GatheredState) → l.one-index ≤ k → get_or l.one-items k d ≡ get_or l.initial.one-items k d;
+  done : take l.one-index l.one-items ≡ map (with_showing l.showing)
+      (take l.one-index l.initial.one-items);
+  rest : (k : ℕ) (d : GatheredState) → l.one-index ≤ k
+      → get_or l.one-items k d ≡ get_or l.initial.one-items k d;
 }

@@ -10,7 +10,8 @@ pub returns-in_default-clause-more : goal.returns-in_default-clause-more
 returns-in_default-clause-more c =
     let h = c.args.versions.now in
     let listed = rw c.history-history.ensures.ops at c.in_ok-sets.ensures in
-    more_on h c.history-history.ensures.valid c.args.object c.requires.made c.args.most (rw c.in_default.is at listed)
+    more_on h c.history-history.ensures.valid c.args.object c.requires.made c.args.most
+    (rw c.in_default.is at listed)
 
 pub add_groups-requires : goal.add_groups-requires
 add_groups-requires c =
@@ -22,7 +23,9 @@ pub returns-clause-groups : goal.returns-clause-groups
 returns-clause-groups c =
     let listed = rw c.in-Some.is at (rw c.history-history.ensures.ops at c.in_ok-sets.ensures) in
     let added = rw c.history-history.ensures.ops at c.in_ok-add_groups.ensures in
-    rw (added, c.new-groups.ensures.items) (visible_on c.args.versions.now c.history-history.ensures.valid c.args.object c.requires.made c.in-Some.sets.items listed.0)
+    rw (added, c.new-groups.ensures.items)
+    (visible_on c.args.versions.now c.history-history.ensures.valid c.args.object c.requires.made
+    c.in-Some.sets.items listed.0)
 
 pub returns-clause-few : goal.returns-clause-few
 returns-clause-few c =
@@ -30,7 +33,10 @@ returns-clause-few c =
     rw (c.in_ok-add_groups.ensures, c.new-groups.ensures.items, length-map) listed.1
 
 pub shown_sets-requires-clause-on : goal.shown_sets-requires-clause-on
-shown_sets-requires-clause-on c = subst (λ h. AreComponentsOn h c.args.object c.in_ok-components.components) (sym c.history-history.ensures.ops) c.in_ok-components.ensures
+shown_sets-requires-clause-on c = subst
+    (λ h. AreComponentsOn h c.args.object c.in_ok-components.components)
+    (sym c.history-history.ensures.ops) c.in_ok-components.ensures
 
 pub shown_sets-requires-clause-made : goal.shown_sets-requires-clause-made
-shown_sets-requires-clause-made c = subst (λ h. IsMade h c.args.object) (sym c.history-history.ensures.ops) c.requires.made
+shown_sets-requires-clause-made c = subst (λ h. IsMade h c.args.object)
+    (sym c.history-history.ensures.ops) c.requires.made

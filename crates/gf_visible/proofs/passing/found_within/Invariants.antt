@@ -5,5 +5,7 @@ use Rattle.gf_visible.specs.Passing.{found, is_seen, rivals_of, walls}
 use Rattle.gf_visible.proofs.passing.found_within.Given as goal
 
 abbrev pub invariant-loop-hiding : goal.invariant-loop-hiding
-invariant-loop-hiding l = passes (is_seen (walls l.history.ops l.showings l.hidings)) (λ (t : List ℕ) (f : ℕ). without (rivals_of l.history.ops l.showings f) t) l.found.items (drop l.hiding-index l.hidings)
+invariant-loop-hiding l = passes (is_seen (walls l.history.ops l.showings l.hidings))
+    (λ (t : List ℕ) (f : ℕ). without (rivals_of l.history.ops l.showings f) t) l.found.items
+    (drop l.hiding-index l.hidings)
     ≡ found l.history.ops l.showings l.hidings

@@ -5,4 +5,5 @@ use Rattle.gf_visible.proofs.passing.put_rest.Goals as goal
 
 pub returns-then-not-meets : goal.returns-then-not-meets
 returns-then-not-meets c =
-    rest_same (is_seen c.args.walls.now) c.args.found.now.items c.args.rivals.now c.index.result.now c.args.index c.requires c.index.ensures (sym c.if-not-meets.ensures)
+    rest_same (is_seen c.args.walls.now) c.args.found.now.items c.args.rivals.now c.index.result.now
+    c.args.index c.requires c.index.ensures (sym c.if-not-meets.ensures)

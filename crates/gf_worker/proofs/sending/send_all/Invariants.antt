@@ -4,4 +4,5 @@ use Rattle.gf_worker.specs.Peers.{with_message}
 use Rattle.gf_worker.proofs.sending.send_all.Given as goal
 
 abbrev pub invariant-loop-peer : goal.invariant-loop-peer
-invariant-loop-peer g l = l.peers ≡ map (with_message (message.Op l.op)) (take l.peer-index l.initial.peers) ++ drop l.peer-index l.initial.peers
+invariant-loop-peer g l = l.peers ≡ map (with_message (message.Op l.op))
+    (take l.peer-index l.initial.peers) ++ drop l.peer-index l.initial.peers

@@ -4,4 +4,7 @@ use Rattle.gf_worker.proofs.sending.send_last.Goals as goal
 
 pub loop-peer-preserved : goal.loop-peer-preserved
 loop-peer-preserved g c =
-    rw (c.end_one.ensures, ← c.peer-item.is) (map_over_more (with_last c.args.short) c.args.peers.now c.loop-peer.peers c.loop-peer.peer-index c.peer-item.result c.loop-peer-test.true c.loop-peer.invariant c.peer-item.is)
+    rw (c.end_one.ensures, ← c.peer-item.is)
+    (map_over_more (with_last c.args.short) c.args.peers.now c.loop-peer.peers
+    c.loop-peer.peer-index c.peer-item.result c.loop-peer-test.true c.loop-peer.invariant
+    c.peer-item.is)

@@ -5,5 +5,6 @@ use Rattle.test_memory.proofs.versions.settle_first.Goals as goal
 pub settle_group-requires : goal.settle_group-requires
 settle_group-requires c =
     let group = c.index-groups-0.result in
-    let contained : Contains c.as_slice-groups.result.now group = (0, omega arith, sym c.index-groups-0.is) in
+    let contained : Contains c.as_slice-groups.result.now
+    group = (0, omega arith, sym c.index-groups-0.is) in
     (c.in_ok-groups.ensures.exactly group).0 (rw c.as_slice-groups.ensures at contained)

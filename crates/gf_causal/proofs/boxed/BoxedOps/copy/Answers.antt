@@ -13,13 +13,19 @@ use Rattle.gf_causal.proofs.boxed.BoxedOps.copy.Goals as goal
 pub loop-id-preserved : goal.loop-id-preserved
 loop-id-preserved c =
     let gives = c.into_iter-id-iterator.ensures.into_iter_gives in
-    let sorted : IsStrictlySortedBy id_cmp (keys_of c.into_iter-id-iterator.result) = rw gives.0 gives.5 in
-    let made = c.in_ok-insert.ensures.ok ∙ ap (λ (a : Op). insert_entry id_cmp c.loop-id.ops c.in-Some.id.now a) (c.in_ok-op.ensures ∙ c.deref.ensures) in
-    copied_more id_cmp ids_total c.loop-id.ops c.insert.new.self (opened c.into_iter-id-iterator.result) c.in-Some.id.now c.in-Some.op.now.value (opened c.next.new.self) (opened c.loop-id.id-iterator)
+    let sorted : IsStrictlySortedBy id_cmp (keys_of c.into_iter-id-iterator.result) = rw gives.0
+    gives.5 in
+    let made = c.in_ok-insert.ensures.ok
+    ∙ ap (λ (a : Op). insert_entry id_cmp c.loop-id.ops c.in-Some.id.now a) (c.in_ok-op.ensures
+    ∙ c.deref.ensures) in
+    copied_more id_cmp ids_total c.loop-id.ops c.insert.new.self
+    (opened c.into_iter-id-iterator.result) c.in-Some.id.now c.in-Some.op.now.value
+    (opened c.next.new.self) (opened c.loop-id.id-iterator)
     (rising_opened _ sorted) made (ap opened c.in-Some.ensures.steps) c.loop-id.invariant
 
 pub returns : goal.returns
 returns c =
     let gives = c.into_iter-id-iterator.ensures.into_iter_gives in
     rw (← c.self.view_is)
-    (copied_all c.loop-id.ops (opened c.loop-id.id-iterator) _ (ap opened c.in-None.ensures.steps.0) c.loop-id.invariant ∙ ap opened gives.0)
+    (copied_all c.loop-id.ops (opened c.loop-id.id-iterator) _ (ap opened c.in-None.ensures.steps.0)
+    c.loop-id.invariant ∙ ap opened gives.0)

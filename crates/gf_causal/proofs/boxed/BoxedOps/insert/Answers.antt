@@ -11,7 +11,8 @@ returns-in-Ok-insert-clause-ok c =
     rw (← c.self.view_is)
     (ap opened c.in-Ok-insert.ensures.entries
     ∙ opened-insert _ c.args.id c.in-Ok.op
-    ∙ ap (λ (a : Op). insert_entry id_cmp (opened c.self.inside.boxes.entries) c.args.id a) c.in-Ok.ensures.ok)
+    ∙ ap (λ (a : Op). insert_entry id_cmp (opened c.self.inside.boxes.entries) c.args.id a)
+    c.in-Ok.ensures.ok)
 
 pub returns-in-Ok-insert-clause-rising : goal.returns-in-Ok-insert-clause-rising
 returns-in-Ok-insert-clause-rising c = rising_opened _ c.insert.ensures.ordered

@@ -6,7 +6,8 @@ use Rattle.gf_causal.proofs.buffer.Buffer.first_ready.Goals as goal
 
 pub loop-site-init : goal.loop-site-init
 loop-site-init c = λ a h r.
-    let held : AreHeld c.args.self.now = rw (← c.self.view_is) c.self.invariant.held in (site_in_range a (held.in_range a h)).0
+    let held : AreHeld c.args.self.now = rw (← c.self.view_is) c.self.invariant.held in
+    (site_in_range a (held.in_range a h)).0
 
 pub returns-in-Some-clause-found : goal.returns-in-Some-clause-found
 returns-in-Some-clause-found c =
@@ -14,7 +15,8 @@ returns-in-Some-clause-found c =
     record {
       contained = f.0;
       ready = f.1;
-      least = λ b h r. let i = c.loop-site.invariant b h r in let s = f.2 in least_ready _ c.in-Some.op.now b f.1 r (omega arith);
+      least = λ b h r. let i = c.loop-site.invariant b h r in let s = f.2 in
+          least_ready _ c.in-Some.op.now b f.1 r (omega arith);
     }
 
 pub loop-site-preserved : goal.loop-site-preserved
@@ -31,4 +33,5 @@ returns-clause-none c = λ a h r.
 
 pub returns-in-Some-clause-in_range : goal.returns-in-Some-clause-in_range
 returns-in-Some-clause-in_range c =
-    let held : AreHeld c.args.self.now = rw (← c.self.view_is) c.self.invariant.held in held.in_range c.in-Some.op.now c.in-Some.ensures.found.0
+    let held : AreHeld c.args.self.now = rw (← c.self.view_is) c.self.invariant.held in
+    held.in_range c.in-Some.op.now c.in-Some.ensures.found.0

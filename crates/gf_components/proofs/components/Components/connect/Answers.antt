@@ -8,6 +8,12 @@ pub returns-in-Some-clause-ok : goal.returns-in-Some-clause-ok
 returns-in-Some-clause-ok c =
     let d = c.args.rivals.now in
     let i = c.in-Some.index in
-    let s : ComponentsState = record { free = c.self.inside.free; components = c.self.inside.components.items } in
-    let one = subst (λ components. IsOneTouched d c.args.number components i) c.deref.ensures.value c.in-Some.ensures in
-    one_connected c.grow_one.result d c.args.number s c.args.self.now i c.grow_one.new.components.items one (sym c.if-not-meets.ensures) c.self.view_is c.grow_one.ensures.ok
+    let s : ComponentsState = record {
+      free = c.self.inside.free;
+      components = c.self.inside.components.items;
+    } in
+    let one = subst (λ components. IsOneTouched d c.args.number components i) c.deref.ensures.value
+    c.in-Some.ensures in
+    one_connected c.grow_one.result d c.args.number s c.args.self.now i
+    c.grow_one.new.components.items one (sym c.if-not-meets.ensures) c.self.view_is
+    c.grow_one.ensures.ok

@@ -5,4 +5,5 @@ use Rattle.gf_components.specs.Components.{merged, touches}
 use Rattle.gf_components.proofs.components.Components.touched.Given as goal
 
 abbrev pub invariant-loop-other : goal.invariant-loop-other
-invariant-loop-other l = l.component ≡ fold merged l.initial.component (filter (touches l.rivals) (take l.other-index l.self.components))
+invariant-loop-other l = l.component ≡ fold merged l.initial.component
+    (filter (touches l.rivals) (take l.other-index l.self.components))

@@ -3,8 +3,12 @@ use Rattle.gf_json.proofs.reading.aims.rise_behind.Goals as goal
 
 pub returns-in-None : goal.returns-in-None
 returns-in-None c =
-    rise_stops c.args.first c.loop-value.last c.args.values.now c.loop-value.value-index c.value-item.result c.loop-value-test.true c.value-item.is c.in-None.ensures c.loop-value.invariant
+    rise_stops c.args.first c.loop-value.last c.args.values.now c.loop-value.value-index
+    c.value-item.result c.loop-value-test.true c.value-item.is c.in-None.ensures
+    c.loop-value.invariant
 
 pub loop-value-preserved : goal.loop-value-preserved
 loop-value-preserved c =
-    rise_more c.args.first c.loop-value.last c.in-Some.next c.args.values.now c.loop-value.value-index c.value-item.result c.loop-value-test.true c.value-item.is c.in-Some.ensures c.loop-value.invariant
+    rise_more c.args.first c.loop-value.last c.in-Some.next c.args.values.now
+    c.loop-value.value-index c.value-item.result c.loop-value-test.true c.value-item.is
+    c.in-Some.ensures c.loop-value.invariant

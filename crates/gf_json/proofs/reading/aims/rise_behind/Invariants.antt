@@ -6,4 +6,5 @@ use Rattle.gf_json.proofs.reading.aims.rise_behind.Given as goal
 
 abbrev pub invariant-loop-value : goal.invariant-loop-value
 invariant-loop-value l =
-    rising_behind l.last (each numbers (elements (items_view (drop l.value-index l.values)))) ≡ rising_behind l.fn.first (each numbers (elements (items_view l.values)))
+    rising_behind l.last (each numbers (elements (items_view (drop l.value-index l.values))))
+    ≡ rising_behind l.fn.first (each numbers (elements (items_view l.values)))

@@ -9,6 +9,11 @@ loop-left-preserved c =
     record {
       within = omega (arith, within);
       found =
-          rw (checked_before c.args.values.now c.index-values-left.result c.loop-left.left some within c.index-values-left.is, ← c.point.ensures.value, ← c.loop-left.invariant.found)
+          rw (
+            checked_before c.args.values.now c.index-values-left.result c.loop-left.left some within
+                c.index-values-left.is,
+            ← c.point.ensures.value,
+            ← c.loop-left.invariant.found,
+          )
           c.beside-found.ensures;
     }

@@ -5,4 +5,5 @@ use Rattle.gf_json.specs.CheckedPoints.{read_point}
 use Rattle.gf_json.proofs.reading.points.checked_points.Given as goal
 
 abbrev pub invariant-loop-value : goal.invariant-loop-value
-invariant-loop-value l = map (λ v. point (view v)) (take l.value-index l.values) ≡ map read_point l.points.items
+invariant-loop-value l = map (λ v. point (view v)) (take l.value-index l.values) ≡ map read_point
+    l.points.items

@@ -19,10 +19,12 @@ pub invariant_of-seat : goal.invariant_of-seat
 invariant_of-seat g c =
     let sent = ap (λ s. s.sent) c.seat.view_is in
     let still = subst (λ xs. IsFalse (is_ended xs)) (sym sent) c.requires.open in
-    rw c.is_end-ends.ensures (sender_more c.seat.inside c.push_as.new.pass c.args.message c.seat.invariant c.push_as.ensures.queue.2 still c.in-Ok.ensures.rule)
+    rw c.is_end-ends.ensures (sender_more c.seat.inside c.push_as.new.pass c.args.message
+    c.seat.invariant c.push_as.ensures.queue.2 still c.in-Ok.ensures.rule)
 
 pub returns-clause-ended : goal.returns-clause-ended
 returns-clause-ended g c =
     let sent = ap (λ s. s.sent) c.seat.view_is in
     let still = subst (λ xs. IsFalse (is_ended xs)) (sym sent) c.requires.open in
-    ap (λ v. is_ended v.sent) c.in-Ok.ensures.rule ∙ ended_last (view c.seat.inside.pass).sent c.args.message still
+    ap (λ v. is_ended v.sent) c.in-Ok.ensures.rule ∙ ended_last (view c.seat.inside.pass).sent
+    c.args.message still

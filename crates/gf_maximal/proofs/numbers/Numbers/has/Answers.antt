@@ -1,5 +1,5 @@
 use Rattle.std.proofs.Common.{◌∙◌}
-use Rattle.gf_maximal.proofs.RunSetLemmas.{has_is}
+use Rattle.gf_maximal.proofs.PutLemmas.{has_is}
 use Rattle.gf_maximal.proofs.numbers.Numbers.has.Goals as goal
 
 pub returns : goal.returns

@@ -5,4 +5,5 @@ use Rattle.gf_mesh.proofs.joining.Mesh.new.Given as goal
 
 -- the sites so far are joined
 abbrev pub invariant-loop : goal.invariant-loop
-invariant-loop g l = IsMesh Connects l.links.items (rows_of l.peers.items) [] × (vec_len l.peers ≡ l.counter)
+invariant-loop g l = IsMesh Connects l.links.items (rows_of l.peers.items) []
+    × (vec_len l.peers ≡ l.counter)

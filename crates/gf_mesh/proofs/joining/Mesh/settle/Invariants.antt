@@ -7,7 +7,8 @@ use Rattle.gf_mesh.proofs.joining.Mesh.settle.Given as goal
 abbrev pub invariant-loop-row : goal.invariant-loop-row
 invariant-loop-row g l =
     IsMesh IsLinked l.links.items (rows_of l.peers.items) []
-    × (IsMesh Exchanged l.links.items (rows_of l.peers.items) [] → IsMesh Exchanged l.initial.links.items (rows_of l.initial.peers.items) [])
+    × (IsMesh Exchanged l.links.items (rows_of l.peers.items) []
+    → IsMesh Exchanged l.initial.links.items (rows_of l.initial.peers.items) [])
 
 abbrev pub decreases-loop-row : goal.decreases-loop-row
 decreases-loop-row g l = length l.peers.items

@@ -3,10 +3,12 @@ use Rattle.gf_ops.proofs.HistoryLemmas.{not_made, not_there, none_told}
 use Rattle.gf_ops.proofs.history.History.known_form.Goals as goal
 
 pub returns-in_err-maker-clause-none : goal.returns-in_err-maker-clause-none
-returns-in_err-maker-clause-none c = none_told _ c.from_residual.result (not_there c.args.self.now.ops c.args.op.now c.args.object (search rules))
+returns-in_err-maker-clause-none c = none_told _ c.from_residual.result
+    (not_there c.args.self.now.ops c.args.op.now c.args.object (search rules))
 
 pub returns-in-Set-clause-none : goal.returns-in-Set-clause-none
 returns-in-Set-clause-none c =
     let found = c.in_ok-maker.ensures.found in
     let there = rw (← c.self.view_is) at found.0 in
-    rw (← c.self.view_is) (not_made _ c.self.invariant.valid c.args.op.now c.in_ok-maker.maker.now c.args.object c.in-Set.object c.in-Set.value c.in-Set.aim there found.1 c.in-Set.is)
+    rw (← c.self.view_is) (not_made _ c.self.invariant.valid c.args.op.now c.in_ok-maker.maker.now
+    c.args.object c.in-Set.object c.in-Set.value c.in-Set.aim there found.1 c.in-Set.is)

@@ -3,4 +3,6 @@ use Rattle.gf_ops.proofs.AimLemmas.{all_before_more}
 use Rattle.gf_ops.proofs.history.History.may_aim.Goals as goal
 
 pub loop-id-preserved : goal.loop-id-preserved
-loop-id-preserved c = all_before_more (MayAimAt c.args.self.now.ops c.args.op.now) c.aim-id-items.result.now c.loop-id.id-index _ c.loop-id-test.true c.loop-id.invariant (c.may_aim_at.ensures.0 c.if-not-may_aim_at.false)
+loop-id-preserved c = all_before_more (MayAimAt c.args.self.now.ops c.args.op.now)
+    c.aim-id-items.result.now c.loop-id.id-index _ c.loop-id-test.true c.loop-id.invariant
+    (c.may_aim_at.ensures.0 c.if-not-may_aim_at.false)

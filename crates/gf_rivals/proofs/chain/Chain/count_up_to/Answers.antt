@@ -10,8 +10,10 @@ returns-clause-value c =
     let qs = c.deref.result.now in
     let e = c.deref.ensures.value in
     let a = subst AreSetters (sym e) c.self.invariant in
-    let point = IsPartitionPoint-from_clause (λ s. nat_le s.seq m) _ _ c.partition_point.ensures.partitioned (seqs_parted qs a m) (λ a r q k. search rules) in
-    counted c.args.self.now qs m c.partition_point.result (sym c.self.view_is ∙ sym e) c.partition_point.ensures.bound point
+    let point = IsPartitionPoint-from_clause (λ s. nat_le s.seq m) _ _
+    c.partition_point.ensures.partitioned (seqs_parted qs a m) (λ a r q k. search rules) in
+    counted c.args.self.now qs m c.partition_point.result (sym c.self.view_is ∙ sym e)
+    c.partition_point.ensures.bound point
 
 pub returns-clause-bound : goal.returns-clause-bound
 returns-clause-bound c =

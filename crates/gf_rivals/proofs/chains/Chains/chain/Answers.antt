@@ -6,7 +6,9 @@ use Rattle.gf_rivals.proofs.chains.Chains.chain.Goals as goal
 pub returns-clause-value : goal.returns-clause-value
 returns-clause-value c =
     ap (λ o. unwrap_or o []) c.get.ensures.value
-    ∙ (chain_seen c.self.inside.chains.entries c.args.index c.self.invariant.0 ∙ ap (λ z. get_or z c.args.index []) c.self.view_is)
+    ∙ (chain_seen c.self.inside.chains.entries c.args.index c.self.invariant.0
+    ∙ ap (λ z. get_or z c.args.index []) c.self.view_is)
 
 pub returns-clause-bound : goal.returns-clause-bound
-returns-clause-bound c = kept_below c.self.inside.chains.entries c.args.index c.get.result c.self.invariant.0 c.get.ensures.value
+returns-clause-bound c = kept_below c.self.inside.chains.entries c.args.index c.get.result
+    c.self.invariant.0 c.get.ensures.value

@@ -8,4 +8,8 @@ pub returns : goal.returns
 returns c = none_all c.new.result.entries c.new.ensures.empty
 
 pub invariant_of-result : goal.invariant_of-result
-invariant_of-result c = (subst (AreBelow 48) (sym c.new.ensures.empty) (λ k m. refl), AreCounted-none (record { 0 = 0 ∷ 0 ∷ 0 ∷ 0 ∷ 0 ∷ 0 ∷ 0 ∷ 0 ∷ [] }) c.new.result.entries c.new.ensures.empty)
+invariant_of-result c = (
+  subst (AreBelow 48) (sym c.new.ensures.empty) (λ k m. refl),
+  AreCounted-none (record { 0 = 0 ∷ 0 ∷ 0 ∷ 0 ∷ 0 ∷ 0 ∷ 0 ∷ 0 ∷ [] }) c.new.result.entries
+      c.new.ensures.empty,
+)

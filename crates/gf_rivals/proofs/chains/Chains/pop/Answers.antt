@@ -5,8 +5,15 @@ use Rattle.gf_rivals.proofs.chains.Chains.pop.Goals as goal
 
 pub invariant_of-self : goal.invariant_of-self
 invariant_of-self c =
-    let below = c.pop_from.ensures.below 48 c.self.invariant.0 in
-    (below, AreCounted-fewer c.self.inside.latest c.self.inside.chains.entries c.pop_from.new.chains.entries c.self.invariant.0 below c.pop_from.ensures.rest c.self.invariant.1)
+    let below = c.pop_from.ensures.below 48 c.self.invariant.0 in (
+      below,
+      AreCounted-fewer c.self.inside.latest c.self.inside.chains.entries
+          c.pop_from.new.chains.entries c.self.invariant.0 below c.pop_from.ensures.rest
+          c.self.invariant.1,
+    )
 
 pub returns : goal.returns
-returns c = λ us e w. popped_all c.self.inside.chains.entries c.args.self.now c.args.attribute (c.args.site - 1) c.index_of-index.result c.self.view_is c.index_of-index.ensures.value c.self.invariant.0 c.pop_from.new.chains.entries us e c.index_of-index.ensures.bound c.pop_from.ensures.popped w
+returns c = λ us e w. popped_all c.self.inside.chains.entries c.args.self.now c.args.attribute
+    (c.args.site - 1) c.index_of-index.result c.self.view_is c.index_of-index.ensures.value
+    c.self.invariant.0 c.pop_from.new.chains.entries us e c.index_of-index.ensures.bound
+    c.pop_from.ensures.popped w

@@ -7,13 +7,20 @@ use Rattle.gf_rivals.proofs.KeptLemmas.{keeps_all, last_kept, pushed_all}
 use Rattle.gf_rivals.proofs.chains.Chains.push.Goals as goal
 
 pub push_to-requires-clause-last : goal.push_to-requires-clause-last
-push_to-requires-clause-last c = last_kept c.self.inside.chains.entries c.args.self.now c.args.attribute (c.args.id.site - 1) c.index_of-index.result c.self.view_is c.index_of-index.ensures.value c.self.invariant.0 c.args.id.seq c.requires.last
+push_to-requires-clause-last c = last_kept c.self.inside.chains.entries c.args.self.now
+    c.args.attribute (c.args.id.site - 1) c.index_of-index.result c.self.view_is
+    c.index_of-index.ensures.value c.self.invariant.0 c.args.id.seq c.requires.last
 
 pub returns-clause-ok : goal.returns-clause-ok
-returns-clause-ok c = on_ok_weaker c.push_to.result (λ p. pushed_all c.self.inside.chains.entries c.args.self.now c.args.attribute (c.args.id.site - 1) c.index_of-index.result c.self.view_is c.index_of-index.ensures.value c.self.invariant.0 c.push_to.new.chains.entries _ c.index_of-index.ensures.bound p) c.push_to.ensures.ok
+returns-clause-ok c = on_ok_weaker c.push_to.result (λ p. pushed_all c.self.inside.chains.entries
+    c.args.self.now c.args.attribute (c.args.id.site - 1) c.index_of-index.result c.self.view_is
+    c.index_of-index.ensures.value c.self.invariant.0 c.push_to.new.chains.entries _
+    c.index_of-index.ensures.bound p) c.push_to.ensures.ok
 
 pub returns-clause-err : goal.returns-clause-err
-returns-clause-err c = on_err_weaker c.push_to.result (λ p. rw (← c.self.view_is) (keeps_all c.self.inside.chains.entries c.push_to.new.chains.entries p)) c.push_to.ensures.err
+returns-clause-err c = on_err_weaker c.push_to.result
+    (λ p. rw (← c.self.view_is) (keeps_all c.self.inside.chains.entries c.push_to.new.chains.entries
+    p)) c.push_to.ensures.err
 
 pub invariant_of-self : goal.invariant_of-self
 invariant_of-self c =
@@ -24,10 +31,16 @@ invariant_of-self c =
     let bound = c.index_of-index.ensures.bound in
     let site = c.requires.site in
     let below = c.self.invariant.0 in
-    let own = subst (λ z. c.args.id.seq ≤ entry c.counting-self-inside.result z) (omega (arith, site.0)) c.counting-self-inside.ensures.own in (
-      AreBelow-pushed c.push_to.result es fs x 48 _ bound below c.push_to.ensures.ok c.push_to.ensures.err,
-      AreCounted-pushed c.push_to.result c.self.inside.latest c.counting-self-inside.result (all_chains es) (all_chains fs) c.args.attribute s (record { seq = c.args.id.seq; position = c.args.position })
-          (omega (arith, site.0, site.1)) c.self.invariant.1 c.counting-self-inside.ensures.within own
-          (on_ok_weaker c.push_to.result (λ p. pushed_all es (all_chains es) c.args.attribute s x refl c.index_of-index.ensures.value below fs _ bound p) c.push_to.ensures.ok)
+    let own = subst (λ z. c.args.id.seq ≤ entry c.counting-self-inside.result z)
+    (omega (arith, site.0)) c.counting-self-inside.ensures.own in (
+      AreBelow-pushed c.push_to.result es fs x 48 _ bound below c.push_to.ensures.ok
+          c.push_to.ensures.err,
+      AreCounted-pushed c.push_to.result c.self.inside.latest c.counting-self-inside.result
+          (all_chains es) (all_chains fs) c.args.attribute s
+          (record { seq = c.args.id.seq; position = c.args.position })
+          (omega (arith, site.0, site.1)) c.self.invariant.1 c.counting-self-inside.ensures.within
+          own
+          (on_ok_weaker c.push_to.result (λ p. pushed_all es (all_chains es) c.args.attribute s x
+          refl c.index_of-index.ensures.value below fs _ bound p) c.push_to.ensures.ok)
           (on_err_weaker c.push_to.result (λ p. keeps_all es fs p) c.push_to.ensures.err),
     )

@@ -4,4 +4,5 @@ use Rattle.gf_rivals.specs.Chains.{IsUnknown}
 use Rattle.gf_rivals.proofs.chains.Chains.unknown.Given as goal
 
 abbrev pub invariant-loop-site : goal.invariant-loop-site
-invariant-loop-site l = (n : ℕ) → Contains l.found n ↔ IsUnknown l.self l.fn.attribute l.past l.site n
+invariant-loop-site l = (n : ℕ) → Contains l.found n ↔ IsUnknown l.self l.fn.attribute l.past l.site
+    n

@@ -10,7 +10,12 @@ use Rattle.gf_rivals.proofs.index.Index.copy.Goals as goal
 pub loop-fingerprint-preserved : goal.loop-fingerprint-preserved
 loop-fingerprint-preserved c =
     let gives = c.into_iter-fingerprint-iterator.ensures.into_iter_gives in
-    let sorted : IsStrictlySortedBy fingerprint_cmp (keys_of c.into_iter-fingerprint-iterator.result) = rw gives.0 gives.5 in
-    let made = c.in_ok-put.ensures.entries ∙ ap (λ (s : List ℕ). insert_entry fingerprint_cmp c.loop-fingerprint.numbers.entries c.in-Some.fingerprint.now s) c.in_ok-some.ensures in
-    copied_more fingerprint_cmp fingerprint_cmp_total c.loop-fingerprint.numbers.entries c.put.new.numbers.entries c.into_iter-fingerprint-iterator.result c.in-Some.fingerprint.now c.in-Some.some.now c.next.new.self c.loop-fingerprint.fingerprint-iterator
+    let sorted : IsStrictlySortedBy fingerprint_cmp
+    (keys_of c.into_iter-fingerprint-iterator.result) = rw gives.0 gives.5 in
+    let made = c.in_ok-put.ensures.entries
+    ∙ ap (λ (s : List ℕ). insert_entry fingerprint_cmp c.loop-fingerprint.numbers.entries
+    c.in-Some.fingerprint.now s) c.in_ok-some.ensures in
+    copied_more fingerprint_cmp fingerprint_cmp_total c.loop-fingerprint.numbers.entries
+    c.put.new.numbers.entries c.into_iter-fingerprint-iterator.result c.in-Some.fingerprint.now
+    c.in-Some.some.now c.next.new.self c.loop-fingerprint.fingerprint-iterator
     sorted made c.in-Some.ensures.steps c.loop-fingerprint.invariant

@@ -6,4 +6,5 @@ use Rattle.gf_rivals.specs.Indexing.{IsListedBelow}
 use Rattle.gf_rivals.proofs.index.Index.of.Given as goal
 
 abbrev pub invariant-loop-index : goal.invariant-loop-index
-invariant-loop-index l = (p : Fingerprint) (n : ℕ) → Contains (numbers_at l.numbers.entries p) n ↔ IsListedBelow l.ops l.chains l.index p n
+invariant-loop-index l = (p : Fingerprint) (n : ℕ) → Contains (numbers_at l.numbers.entries p) n
+    ↔ IsListedBelow l.ops l.chains l.index p n

@@ -16,12 +16,14 @@ invariant_of-result c =
     rw e
     (reached_along c.args.low c.args.high _ _
     (All-get_or (λ p. IsTrue (is_within_reach p)) points 0 origin (omega arith) reach)
-    (All-take (λ p. IsTrue (is_within_reach p)) (length points - 1) (drop 1 points) (All-drop (λ p. IsTrue (is_within_reach p)) 1 points reach)))
+    (All-take (λ p. IsTrue (is_within_reach p)) (length points - 1) (drop 1 points)
+    (All-drop (λ p. IsTrue (is_within_reach p)) 1 points reach)))
 
 pub returns : goal.returns
 returns c = λ y from upto.
     let l = c.ranges.low in
     let h = c.ranges.high in
     let e = rw c.new-edges.ensures.items at (simp to_z-of_z at c.in_ok-add_along.ensures) in
-    let tells = ring_tells c.args.low c.args.high y from upto c.args.chain.now c.points-points.result.now c.points-points.ensures.lawful c.points-points.ensures.points in
+    let tells = ring_tells c.args.low c.args.high y from upto c.args.chain.now
+    c.points-points.result.now c.points-points.ensures.lawful c.points-points.ensures.points in
     rw (e, ← c.points-points.ensures.points) tells

@@ -11,9 +11,12 @@ invariant-loop-run l = record {
   from : l.fn.columns.from ≤ l.rest.from;
   to : l.rest.to ≡ l.fn.columns.to;
   bound : (l.rest.from ≡ l.fn.columns.from) ⊎ (l.rest.from ≤ l.fn.columns.to);
-  free : (k : ℕ) → is_free l.self-inside.free k ≡ (is_free l.fn.self.free k && not (is_from l.fn.columns.from l.rest.from k));
-  painted : (target behind : ℕ → Rgb) (n : ℕ) → IsPainted target (over (is_among l.fn.columns) l.brush behind) n l.fn.self
-      → IsPainted target (over (is_among l.rest) l.brush behind) n (record { segments = views l.self-inside.segments.items; free = l.self-inside.free });
+  free : (k : ℕ) → is_free l.self-inside.free
+      k ≡ (is_free l.fn.self.free k && not (is_from l.fn.columns.from l.rest.from k));
+  painted : (target behind : ℕ → Rgb) (n : ℕ)
+      → IsPainted target (over (is_among l.fn.columns) l.brush behind) n l.fn.self
+      → IsPainted target (over (is_among l.rest) l.brush behind) n
+      (record { segments = views l.self-inside.segments.items; free = l.self-inside.free });
 }
 
 abbrev pub decreases-loop-run : goal.decreases-loop-run

@@ -12,4 +12,5 @@ returns c =
     let k : FitsSigned w32 c.self.inside.centre.y = search rules in
     let x = simp to_z-of_z at c.apart-x.ensures.value in
     let y = simp to_z-of_z at c.apart-y.ensures.value in
-    rw (← c.self.view_is, c.is_within.ensures, x, y) (sym (ellipse_beside c.self.inside.rx c.self.inside.ry (minus c.args.p c.self.inside.centre)))
+    rw (← c.self.view_is, c.is_within.ensures, x, y)
+    (sym (ellipse_beside c.self.inside.rx c.self.inside.ry (minus c.args.p c.self.inside.centre)))

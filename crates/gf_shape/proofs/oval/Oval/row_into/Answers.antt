@@ -14,7 +14,13 @@ returns-in_ok-set c =
     let set = simp to_z-of_z at c.in_ok-set.ensures in
     let left = simp to_z-of_z at c.less.ensures in
     let right = simp to_z-of_z at c.more.ensures in
-    rw (← c.self.view_is, set, left, right) (oval_row (record { centre = c.self.inside.centre; rx = c.self.inside.rx; ry = c.self.inside.ry }) c.args.y c.half_width-half.result (rw past at c.half_width-half.ensures.low) (rw past at c.half_width-half.ensures.high))
+    rw (← c.self.view_is, set, left, right)
+    (oval_row (record {
+      centre = c.self.inside.centre;
+      rx = c.self.inside.rx;
+      ry = c.self.inside.ry;
+    }) c.args.y c.half_width-half.result (rw past at c.half_width-half.ensures.low)
+    (rw past at c.half_width-half.ensures.high))
 
 pub returns-else-past-from : goal.returns-else-past-from
 returns-else-past-from c =
@@ -23,4 +29,9 @@ returns-else-past-from c =
     let some : 0 < c.self.inside.rx = search rules in
     let past = simp to_z-of_z at c.apart-past.ensures.value in
     let l : c.self.inside.ry < c.apart-past.result = omega arith in
-    rw (← c.self.view_is, c.clear.ensures) (oval_no_row (record { centre = c.self.inside.centre; rx = c.self.inside.rx; ry = c.self.inside.ry }) c.args.y some (rw past at l))
+    rw (← c.self.view_is, c.clear.ensures)
+    (oval_no_row (record {
+      centre = c.self.inside.centre;
+      rx = c.self.inside.rx;
+      ry = c.self.inside.ry;
+    }) c.args.y some (rw past at l))

@@ -6,4 +6,5 @@ pub returns : goal.returns
 returns c =
     let f = c.ranges.y in
     let row = simp to_z-of_z at c.in_ok-row_into.ensures in
-    rw (← c.self.view_is) (IsRow-closed c.self.inside.ring c.args.y c.row_into.new.row c.self.invariant row)
+    rw (← c.self.view_is) (IsRow-closed c.self.inside.ring c.args.y c.row_into.new.row
+    c.self.invariant row)

@@ -12,5 +12,10 @@ invariant_of-self-2 g c =
     let a = c.args.op in
     let same = c.in_ok-grow.ensures.history in
     let more = c.push.ensures.ops in
-    let accepted = subst (λ (v : SiteState). IsAccepted v.ops a) (sym c.self.view_is) c.requires.accepted in
-    (c.self.invariant.0, run_more h old new a c.self.invariant.1 same accepted more, holds_more (g.T.Table.stands c.grow.new.table) h old new a same more c.in_ok-grow.ensures.table)
+    let accepted = subst (λ (v : SiteState). IsAccepted v.ops a) (sym c.self.view_is)
+    c.requires.accepted in (
+      c.self.invariant.0,
+      run_more h old new a c.self.invariant.1 same accepted more,
+      holds_more (g.T.Table.stands c.grow.new.table) h old new a same more
+          c.in_ok-grow.ensures.table,
+    )

@@ -2,4 +2,14 @@ use Rattle.std.proofs.Common.{refl}
 use Rattle.gf_site.proofs.site.Replica.clock.Goals as goal
 
 pub returns : goal.returns
-returns g c = rw (← c.self.view_is, c.count.ensures, c.count-2.ensures, c.count-3.ensures, c.count-4.ensures, c.count-5.ensures, c.count-6.ensures, c.count-7.ensures, c.count-8.ensures) refl
+returns g c = rw (
+  ← c.self.view_is,
+  c.count.ensures,
+  c.count-2.ensures,
+  c.count-3.ensures,
+  c.count-4.ensures,
+  c.count-5.ensures,
+  c.count-6.ensures,
+  c.count-7.ensures,
+  c.count-8.ensures,
+) refl

@@ -12,11 +12,18 @@ returns-in-Err-clause-ok g c =
     let a = c.in-Some.op.now in
     let first = c.in-Some.ensures.found in
     let taken = c.take.ensures.held a first.contained refl in
-    let refused = refused_by c.self.inside.history.ops a c.check.result c.in-Err.fault c.in-Err.is c.check.ensures.bad_clock c.check.ensures.no_object c.check.ensures.wrong_kind c.check.ensures.bad_aim in
+    let refused = refused_by c.self.inside.history.ops a c.check.result c.in-Err.fault c.in-Err.is
+    c.check.ensures.bad_clock c.check.ensures.no_object c.check.ensures.wrong_kind
+    c.check.ensures.bad_aim in
     rw (← c.self.view_is) (record {
       op = a;
       id = refl;
-      takes = record { first = first; in_range = c.in-Some.ensures.in_range; taken = taken.1; number = refl };
+      takes = record {
+        first = first;
+        in_range = c.in-Some.ensures.in_range;
+        taken = taken.1;
+        number = refl;
+      };
       refused = refused;
       ops = refl;
     })
@@ -24,10 +31,16 @@ returns-in-Err-clause-ok g c =
 pub returns-in_err-grow-clause-out_of_memory : goal.returns-in_err-grow-clause-out_of_memory
 returns-in_err-grow-clause-out_of_memory g c =
     let p = err_from_is_err_and c.from_residual.result c.from_residual.ensures.1 in
-    rw (p.1, ← c.self.view_is) (record { op = c.in-Some.op.now; first = c.in-Some.ensures.found; accepted = c.in_default-check.ensures.ok.0 refl })
+    rw (p.1, ← c.self.view_is)
+    (record {
+      op = c.in-Some.op.now;
+      first = c.in-Some.ensures.found;
+      accepted = c.in_default-check.ensures.ok.0 refl;
+    })
 
 pub unreachable-requires : goal.unreachable-requires
-unreachable-requires g c = let taken = c.take-2.ensures.held c.in-Some.op.now c.in-Some.ensures.found.contained refl in c.in_default-take.not-Some c.in-Some.op.now taken.0
+unreachable-requires g c = let taken = c.take-2.ensures.held c.in-Some.op.now
+    c.in-Some.ensures.found.contained refl in c.in_default-take.not-Some c.in-Some.op.now taken.0
 
 pub push-requires-clause-in_range : goal.push-requires-clause-in_range
 push-requires-clause-in_range g c =
@@ -41,7 +54,8 @@ push-requires-clause-accepted g c =
     let a = c.in-Some.op.now in
     let taken = c.take-2.ensures.held a c.in-Some.ensures.found.contained refl in
     let same = same_taken c.take-2.result a c.in-Some-take.op taken.0 c.in-Some-take.is in
-    accepted_same c.self.inside.history.ops c.grow.new.history.ops a c.in-Some-take.op c.in_ok-grow.ensures.history same (c.in_default-check.ensures.ok.0 refl)
+    accepted_same c.self.inside.history.ops c.grow.new.history.ops a c.in-Some-take.op
+    c.in_ok-grow.ensures.history same (c.in_default-check.ensures.ok.0 refl)
 
 pub invariant_of-self-2 : goal.invariant_of-self-2
 invariant_of-self-2 g c =
@@ -54,9 +68,13 @@ invariant_of-self-2 g c =
     let more = c.push.ensures.ops in
     let taken = c.take-2.ensures.held a c.in-Some.ensures.found.contained refl in
     let same = same_taken c.take-2.result a b taken.0 c.in-Some-take.is in
-    let stands = subst (λ a. g.T.Table.stands c.grow.new.table (h ++ a ∷ [])) (sym same) c.in_ok-grow.ensures.table in
-    let accepted = accepted_same h h a b refl same (c.in_default-check.ensures.ok.0 refl) in
-    (c.self.invariant.0, run_more h old new b c.self.invariant.1 history accepted more, holds_more (g.T.Table.stands c.grow.new.table) h old new b history more stands)
+    let stands = subst (λ a. g.T.Table.stands c.grow.new.table (h ++ a ∷ [])) (sym same)
+    c.in_ok-grow.ensures.table in
+    let accepted = accepted_same h h a b refl same (c.in_default-check.ensures.ok.0 refl) in (
+      c.self.invariant.0,
+      run_more h old new b c.self.invariant.1 history accepted more,
+      holds_more (g.T.Table.stands c.grow.new.table) h old new b history more stands,
+    )
 
 pub returns-clause-ok : goal.returns-clause-ok
 returns-clause-ok g c =
@@ -69,7 +87,13 @@ returns-clause-ok g c =
     rw (← c.self.view_is) (record {
       op = a;
       id = refl;
-      takes = record { first = first; in_range = c.in-Some.ensures.in_range; taken = taken.1; number = refl };
+      takes = record {
+        first = first;
+        in_range = c.in-Some.ensures.in_range;
+        taken = taken.1;
+        number = refl;
+      };
       accepted = c.in_default-check.ensures.ok.0 refl;
-      ops = c.push.ensures.ops ∙ ap (λ l. l ++ b ∷ []) c.in_ok-grow.ensures.history ∙ ap (λ b. h ++ b ∷ []) same;
+      ops = c.push.ensures.ops ∙ ap (λ l. l ++ b ∷ []) c.in_ok-grow.ensures.history
+          ∙ ap (λ b. h ++ b ∷ []) same;
     })

@@ -11,31 +11,60 @@ use Rattle.gf_table.proofs.object.ObjectTable.direct_rivals.Goals as goal
 
 pub returns-then-is_empty-clause-rivals : goal.returns-then-is_empty-clause-rivals
 returns-then-is_empty-clause-rivals c = λ o s.
-    let t : ObjectState = record { chains = c.self.inside.chains; index = c.self.inside.index; aimed = c.self.inside.aimed.items; components = c.self.inside.components; maker = c.self.inside.maker } in
+    let t : ObjectState = record {
+      chains = c.self.inside.chains;
+      index = c.self.inside.index;
+      aimed = c.self.inside.aimed.items;
+      components = c.self.inside.components;
+      maker = c.self.inside.maker;
+    } in
     let same : t ≡ c.args.self.now = c.self.view_is in
-    let told = subst (λ (z : Attr). (n : ℕ) → Contains c.in_ok-unknown.unknown n ↔ IsUnknown t.chains z c.args.past.now 8 n) c.attribute.ensures c.in_ok-unknown.ensures in
-    subst (λ (z : ObjectState). AreRivals c.args.history.now.ops o z.chains c.args.value.now c.args.past.now c.in_ok-unknown.unknown) same
-    (no_rivals c.args.history.now.ops o t.chains c.args.value.now c.args.past.now c.in_ok-unknown.unknown (c.is_empty.ensures.0 c.if-is_empty.true) told)
+    let told = subst (λ (z : Attr). (n : ℕ) → Contains c.in_ok-unknown.unknown n ↔ IsUnknown
+    t.chains z c.args.past.now 8 n) c.attribute.ensures c.in_ok-unknown.ensures in
+    subst (λ (z : ObjectState). AreRivals c.args.history.now.ops o z.chains c.args.value.now
+    c.args.past.now c.in_ok-unknown.unknown) same
+    (no_rivals c.args.history.now.ops o t.chains c.args.value.now c.args.past.now
+    c.in_ok-unknown.unknown (c.is_empty.ensures.0 c.if-is_empty.true) told)
 
 pub returns-in_ok-found-in-Some-clause-rivals : goal.returns-in_ok-found-in-Some-clause-rivals
 returns-in_ok-found-in-Some-clause-rivals c = λ o s.
-    let t : ObjectState = record { chains = c.self.inside.chains; index = c.self.inside.index; aimed = c.self.inside.aimed.items; components = c.self.inside.components; maker = c.self.inside.maker } in
+    let t : ObjectState = record {
+      chains = c.self.inside.chains;
+      index = c.self.inside.index;
+      aimed = c.self.inside.aimed.items;
+      components = c.self.inside.components;
+      maker = c.self.inside.maker;
+    } in
     let same : t ≡ c.args.self.now = c.self.view_is in
-    let own : IsStateOf c.args.history.now.ops o t = subst (IsStateOf c.args.history.now.ops o) (sym same) s in
-    let told = subst (λ (z : Attr). (n : ℕ) → Contains c.in_ok-unknown.unknown n ↔ IsUnknown t.chains z c.args.past.now 8 n) c.attribute.ensures c.in_ok-unknown.ensures in
+    let own : IsStateOf c.args.history.now.ops o t = subst (IsStateOf c.args.history.now.ops o)
+    (sym same) s in
+    let told = subst (λ (z : Attr). (n : ℕ) → Contains c.in_ok-unknown.unknown n ↔ IsUnknown
+    t.chains z c.args.past.now 8 n) c.attribute.ensures c.in_ok-unknown.ensures in
     let there : t.index ≡ Some c.in-Some.index = c.in-Some.is in
-    subst (λ (z : ObjectState). AreRivals c.args.history.now.ops o z.chains c.args.value.now c.args.past.now c.in_ok-found-in-Some.found) same
-    (c.in_ok-found-in-Some.ensures o c.args.past.now own.chained (index_there c.args.history.now.ops o t own c.in-Some.index there) told)
+    subst (λ (z : ObjectState). AreRivals c.args.history.now.ops o z.chains c.args.value.now
+    c.args.past.now c.in_ok-found-in-Some.found) same
+    (c.in_ok-found-in-Some.ensures o c.args.past.now own.chained
+    (index_there c.args.history.now.ops o t own c.in-Some.index there) told)
 
 pub returns-in_ok-found-in-None-clause-rivals : goal.returns-in_ok-found-in-None-clause-rivals
 returns-in_ok-found-in-None-clause-rivals c = λ o s.
-    let t : ObjectState = record { chains = c.self.inside.chains; index = c.self.inside.index; aimed = c.self.inside.aimed.items; components = c.self.inside.components; maker = c.self.inside.maker } in
+    let t : ObjectState = record {
+      chains = c.self.inside.chains;
+      index = c.self.inside.index;
+      aimed = c.self.inside.aimed.items;
+      components = c.self.inside.components;
+      maker = c.self.inside.maker;
+    } in
     let same : t ≡ c.args.self.now = c.self.view_is in
-    let own : IsStateOf c.args.history.now.ops o t = subst (IsStateOf c.args.history.now.ops o) (sym same) s in
-    let told = subst (λ (z : Attr). (n : ℕ) → Contains c.in_ok-unknown.unknown n ↔ IsUnknown t.chains z c.args.past.now 8 n) c.attribute.ensures c.in_ok-unknown.ensures in
-    subst (λ (z : ObjectState). AreRivals c.args.history.now.ops o z.chains c.args.value.now c.args.past.now c.in_ok-found-in-None.found) same
+    let own : IsStateOf c.args.history.now.ops o t = subst (IsStateOf c.args.history.now.ops o)
+    (sym same) s in
+    let told = subst (λ (z : Attr). (n : ℕ) → Contains c.in_ok-unknown.unknown n ↔ IsUnknown
+    t.chains z c.args.past.now 8 n) c.attribute.ensures c.in_ok-unknown.ensures in
+    subst (λ (z : ObjectState). AreRivals c.args.history.now.ops o z.chains c.args.value.now
+    c.args.past.now c.in_ok-found-in-None.found) same
     (c.in_ok-found-in-None.ensures o c.args.past.now own.chained c.in_ok-index-in-None.ensures told)
 
 pub returns-in_ok-found-in-None-clause-made : goal.returns-in_ok-found-in-None-clause-made
 returns-in_ok-found-in-None-clause-made c =
-    subst (λ (z : ObjectState). IsIndex c.args.history.now.ops z.chains c.in_ok-index-in-None.index) c.self.view_is c.in_ok-index-in-None.ensures
+    subst (λ (z : ObjectState). IsIndex c.args.history.now.ops z.chains c.in_ok-index-in-None.index)
+    c.self.view_is c.in_ok-index-in-None.ensures

@@ -5,10 +5,31 @@ use Rattle.gf_table.proofs.object.ObjectTable.grow.Goals as goal
 
 pub returns-in-Err-clause-err : goal.returns-in-Err-clause-err
 returns-in-Err-clause-err c =
-    let t : ObjectState = record { chains = c.self.inside.chains; index = c.self.inside.index; aimed = c.self.inside.aimed.items; components = c.self.inside.components; maker = c.self.inside.maker } in
-    let all : length t.chains ≡ 48 = subst (λ (z : ObjectState). length z.chains ≡ 48) (sym c.self.view_is) c.requires.chains in
+    let t : ObjectState = record {
+      chains = c.self.inside.chains;
+      index = c.self.inside.index;
+      aimed = c.self.inside.aimed.items;
+      components = c.self.inside.components;
+      maker = c.self.inside.maker;
+    } in
+    let all : length t.chains ≡ 48 = subst (λ (z : ObjectState). length z.chains ≡ 48)
+    (sym c.self.view_is) c.requires.chains in
     let site = c.requires.site in
     let chains : c.pop.new.self ≡ t.chains =
-    taken_back t.chains c.push.new.self c.pop.new.self c.args.attribute (c.args.id.site - 1) _ all (let l = site.0 in let m = site.1 in omega (arith, l, m)) c.in_ok-push.ensures.ok c.pop.ensures in
-    let back : record { chains = c.pop.new.self; index = t.index; aimed = t.aimed; components = c.add.new.self; maker = t.maker } ≡ t = λ i. record { chains = chains i; index = t.index; aimed = t.aimed; components = c.in-Err.ensures.err i; maker = t.maker } in
+    taken_back t.chains c.push.new.self c.pop.new.self c.args.attribute (c.args.id.site - 1) _ all
+    (let l = site.0 in let m = site.1 in omega (arith, l, m)) c.in_ok-push.ensures.ok c.pop.ensures
+    in
+    let back : record {
+      chains = c.pop.new.self;
+      index = t.index;
+      aimed = t.aimed;
+      components = c.add.new.self;
+      maker = t.maker;
+    } ≡ t = λ i. record {
+      chains = chains i;
+      index = t.index;
+      aimed = t.aimed;
+      components = c.in-Err.ensures.err i;
+      maker = t.maker;
+    } in
     back ∙ c.self.view_is

@@ -12,13 +12,25 @@ use Rattle.gf_table.proofs.object.ObjectTable.with_met.Goals as goal
 
 pub returns : goal.returns
 returns c =
-    let t : ObjectState = record { chains = c.self.inside.chains; index = c.self.inside.index; aimed = c.self.inside.aimed.items; components = c.self.inside.components; maker = c.self.inside.maker } in
+    let t : ObjectState = record {
+      chains = c.self.inside.chains;
+      index = c.self.inside.index;
+      aimed = c.self.inside.aimed.items;
+      components = c.self.inside.components;
+      maker = c.self.inside.maker;
+    } in
     let h = c.args.history.now.ops in
     let us = c.args.aim.now in
     IfOk-weaker c.united.result (λ (r : List ℕ). r ≡ united c.args.direct c.in_ok-met.met)
-    (λ (r : List ℕ). (o : ObjectId) → AreChainsOf h o c.args.self.now.chains → ListsSetters c.args.self.now.chains us → (n : ℕ) → Contains r n ↔ (Contains c.args.direct n ⊎ IsMetByAim h c.args.self.now us n))
-    (λ r e o chained setters. subst (λ z. (n : ℕ) → Contains r n ↔ (Contains c.args.direct n ⊎ IsMetByAim h z us n)) c.self.view_is
-    (met_united h t us c.args.direct c.in_ok-reach.reach c.in_ok-members.members c.in_ok-met.met r c.in_ok-reach.ensures c.in_ok-members.ensures
-    (c.in_ok-met.ensures o (subst (λ (z : ObjectState). AreChainsOf h o z.chains) (sym c.self.view_is) chained)
-    (members_set t.chains us c.in_ok-reach.reach c.in_ok-members.members c.in_ok-members.ensures (subst (λ (z : ObjectState). ListsSetters z.chains us) (sym c.self.view_is) setters))) e))
+    (λ (r : List ℕ). (o : ObjectId) → AreChainsOf h o c.args.self.now.chains
+    → ListsSetters c.args.self.now.chains us → (n : ℕ)
+    → Contains r n ↔ (Contains c.args.direct n ⊎ IsMetByAim h c.args.self.now us n))
+    (λ r e o chained setters. subst (λ z. (n : ℕ)
+    → Contains r n ↔ (Contains c.args.direct n ⊎ IsMetByAim h z us n)) c.self.view_is
+    (met_united h t us c.args.direct c.in_ok-reach.reach c.in_ok-members.members c.in_ok-met.met r
+    c.in_ok-reach.ensures c.in_ok-members.ensures
+    (c.in_ok-met.ensures o (subst (λ (z : ObjectState). AreChainsOf h o z.chains)
+    (sym c.self.view_is) chained)
+    (members_set t.chains us c.in_ok-reach.reach c.in_ok-members.members c.in_ok-members.ensures
+    (subst (λ (z : ObjectState). ListsSetters z.chains us) (sym c.self.view_is) setters))) e))
     c.united.ensures

@@ -11,7 +11,12 @@ use Rattle.gf_table.proofs.table.GroupTable.copy.Goals as goal
 pub loop-object-preserved : goal.loop-object-preserved
 loop-object-preserved c =
     let gives = c.into_iter-object-iterator.ensures.into_iter_gives in
-    let sorted : IsStrictlySortedBy object_cmp (keys_of c.into_iter-object-iterator.result) = rw gives.0 gives.5 in
-    let made = c.in_ok-put.ensures.ok ∙ ap (λ (s : ObjectState). insert_entry object_cmp c.loop-object.objects.entries c.in-Some.object.now s) c.in_ok-state.ensures in
-    copied_more object_cmp object_cmp_total c.loop-object.objects.entries c.put.new.objects.entries c.into_iter-object-iterator.result c.in-Some.object.now c.in-Some.state.now c.next.new.self c.loop-object.object-iterator
+    let sorted : IsStrictlySortedBy object_cmp (keys_of c.into_iter-object-iterator.result) =
+    rw gives.0 gives.5 in
+    let made = c.in_ok-put.ensures.ok
+    ∙ ap (λ (s : ObjectState). insert_entry object_cmp c.loop-object.objects.entries
+    c.in-Some.object.now s) c.in_ok-state.ensures in
+    copied_more object_cmp object_cmp_total c.loop-object.objects.entries c.put.new.objects.entries
+    c.into_iter-object-iterator.result c.in-Some.object.now c.in-Some.state.now c.next.new.self
+    c.loop-object.object-iterator
     sorted made c.in-Some.ensures.steps c.loop-object.invariant

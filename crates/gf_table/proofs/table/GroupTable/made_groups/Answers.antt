@@ -9,4 +9,5 @@ pub groups_from-requires-clause-table : goal.groups_from-requires-clause-table
 groups_from-requires-clause-table c =
     let h = c.args.history.now.ops in
     let o = c.args.object in
-    subst (IsTable (conflict_at h) (positions_below h o (length h))) (sym c.in_ok-sets.ensures) (sets_listed h o c.in_ok-components.components c.in_ok-components.ensures)
+    subst (IsTable (conflict_at h) (positions_below h o (length h))) (sym c.in_ok-sets.ensures)
+    (sets_listed h o c.in_ok-components.components c.in_ok-components.ensures)

@@ -9,4 +9,5 @@ returns c =
     let h = c.args.self.now in
     let o = c.args.object in
     IfOk-weaker c.positions_in.result _ _ (λ found e.
-    subst (ArePositionsOn h o) (sym e) (numbers_on h o c.in_ok-components.components c.in_ok-components.ensures)) c.positions_in.ensures
+    subst (ArePositionsOn h o) (sym e) (numbers_on h o c.in_ok-components.components
+    c.in_ok-components.ensures)) c.positions_in.ensures

@@ -8,6 +8,9 @@ returns-clause-hears c =
     let w = c.args.self.now in
     let o = c.receive-offer.ensures in
     let n = c.number.ensures.number in
-    hears_offer w.site.number w.site.ops w.site.held c.args.op c.receive-offer.result (w.short || c.ran_out.result) c.receive-offer.new.self.held
-    (λ e. c.if-op-number.false (e ∙ sym n)) (λ e. sym c.ran_out.ensures ∙ or_second w.short c.ran_out.result e)
-    (λ e. o.range.0 e) (λ e. (o.clash.0 e).1) (λ e. (o.already.0 e).1) (λ e. (o.held e).2) (λ d. ap (λ (t : SiteState). t.held) (o.same d))
+    hears_offer w.site.number w.site.ops w.site.held c.args.op c.receive-offer.result
+    (w.short || c.ran_out.result) c.receive-offer.new.self.held
+    (λ e. c.if-op-number.false (e ∙ sym n)) (λ e. sym c.ran_out.ensures
+    ∙ or_second w.short c.ran_out.result e)
+    (λ e. o.range.0 e) (λ e. (o.clash.0 e).1) (λ e. (o.already.0 e).1) (λ e. (o.held e).2)
+    (λ d. ap (λ (t : SiteState). t.held) (o.same d))

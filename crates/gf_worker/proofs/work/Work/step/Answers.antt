@@ -3,13 +3,17 @@ use Rattle.gf_worker.proofs.StepLemmas.{continues_stepping, continues_short, idl
 use Rattle.gf_worker.proofs.work.Work.step.Goals as goal
 
 pub returns-in_default-clause-continues : goal.returns-in_default-clause-continues
-returns-in_default-clause-continues c = continues_short c.args.self.now c.step.new.self c.in_default.ensures.same
+returns-in_default-clause-continues c = continues_short c.args.self.now c.step.new.self
+    c.in_default.ensures.same
 
 pub returns-clause-continues : goal.returns-clause-continues
-returns-clause-continues c = continues_stepping c.args.self.now c.in-Ok.step c.step.new.self c.number.ensures.site c.history.ensures.accepted c.history.ensures.valid c.in-Ok.ensures.ok
+returns-clause-continues c = continues_stepping c.args.self.now c.in-Ok.step c.step.new.self
+    c.number.ensures.site c.history.ensures.accepted c.history.ensures.valid c.in-Ok.ensures.ok
 
 pub returns-clause-idle : goal.returns-clause-idle
-returns-clause-idle c = λ e s. idle_step c.args.self.now.site c.in-Ok.step c.step.new.self (sym c.goes_on.ensures ∙ e) c.in-Ok.ensures.ok
+returns-clause-idle c = λ e s. idle_step c.args.self.now.site c.in-Ok.step c.step.new.self
+    (sym c.goes_on.ensures ∙ e) c.in-Ok.ensures.ok
 
 pub returns-clause-fewer : goal.returns-clause-fewer
-returns-clause-fewer c = λ e. fewer_held c.args.self.now.site c.in-Ok.step c.step.new.self (sym c.goes_on.ensures ∙ e) c.in-Ok.ensures.ok
+returns-clause-fewer c = λ e. fewer_held c.args.self.now.site c.in-Ok.step c.step.new.self
+    (sym c.goes_on.ensures ∙ e) c.in-Ok.ensures.ok
