@@ -1,7 +1,7 @@
 -- The lines that tell faults: where one is, which it is, and why (this project's choice).
 use Rattle.std.specs.Prelude.{ℕ, List, ◌++◌, Contains, codes, flat_map, map}
 use Rattle.std.specs.Fmt.{decimal}
-use Rattle.gf_ops.specs.declared.op.OpId.{OpId}
+use Rattle.gf_ops.specs.IdText.{id_text}
 use Rattle.gf_ops.specs.declared.faults.OpFault.{OpFault}
 use Rattle.gf_ops.specs.declared.faults.OpFault.TheVariants as fault
 use Rattle.gf_replay.specs.declared.reading_error.LineCause.{LineCause}
@@ -22,10 +22,6 @@ fault_word fault.BadClock = codes "BadClock"
 fault_word fault.NoObject = codes "NoObject"
 fault_word fault.WrongKind = codes "WrongKind"
 fault_word fault.BadAim = codes "BadAim"
-
--- the id of an operation: its site and its number there
-abbrev pub id_text : OpId → List ℕ
-id_text i = decimal i.site ++ codes "." ++ decimal i.seq
 
 -- where a fault is, and which one it is
 abbrev pub fault_head : ReadingError → List ℕ

@@ -1,12 +1,11 @@
 //! The lines that tell faults.
 
 ghost use Rattle.std.specs.Prelude.{◌≡◌, ◌++◌, codes, OnOk};
-ghost use Rattle.gf_check.specs.FaultLines.{cause_word, fault_head, fault_word, id_text};
+ghost use Rattle.gf_check.specs.FaultLines.{cause_word, fault_head, fault_word};
 ghost use Rattle.gf_check.specs.FaultLines.{told_line};
 
-use gf_base::OutOfMemory;
-use gf_digits::push_number;
-use gf_ops::{OpFault, OpId};
+use gf_base::{OutOfMemory, push_number};
+use gf_ops::{OpFault, OpId, push_id};
 use gf_replay::{LineCause, ReadingError};
 use std::alloc::AllocError;
 
@@ -54,14 +53,6 @@ fn push_operation(text: &mut Vec<u8>, id: OpId, fault: OpFault) -> Result<(), Al
     push_id(text, id)?;
     text.extend_from_slice(b": ")?;
     text.extend_from_slice(fault_word(fault))
-}
-
-fn push_id(text: &mut Vec<u8>, id: OpId) -> Result<(), AllocError>
-    ensures { OnOk result (text.new.items ≡ text.old.items ++ id_text id) }
-{
-    push_number(text, id.site)?;
-    text.push(b'.')?;
-    push_number(text, id.seq)
 }
 
 fn cause_word(cause: LineCause) -> &'static [u8]

@@ -10,7 +10,8 @@ use Rattle.std.proofs.lemmas.List.Folds.{list_all-append}
 use Rattle.gf_ops.specs.declared.op.OpId.{OpId}
 use Rattle.gf_fig_tokens.specs.Layout.{is_line_feed, lines, plain}
 use Rattle.gf_fig_named.specs.declared.naming.Name.{Name}
-use Rattle.gf_fig_named.specs.Comments.{id_text, known_site, knows_comment, name_lines, nth_id}
+use Rattle.gf_ops.specs.IdText.{id_text}
+use Rattle.gf_fig_named.specs.Comments.{known_site, knows_comment, name_lines, nth_id}
 use Rattle.gf_fig_named.specs.Comments.{or_nothing, spaced_id}
 use Rattle.gf_fig_named.specs.NamedText.{known_lines}
 use Rattle.gf_fig_named.proofs.SilentLemmas.{IsOneLine, comment_alone}

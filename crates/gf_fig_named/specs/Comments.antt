@@ -5,11 +5,8 @@ use Rattle.std.specs.Prelude.{if◌then◌else◌}
 use Rattle.std.specs.Fmt.{decimal}
 use Rattle.std.specs.List.{enumerate_from, range_with_len}
 use Rattle.gf_ops.specs.declared.op.OpId.{OpId}
+use Rattle.gf_ops.specs.IdText.{id_text}
 use Rattle.gf_fig_named.specs.declared.naming.Name.{Name}
-
--- the id of an operation or of an object, as `1.2`
-abbrev pub id_text : OpId → List ℕ
-id_text i = decimal i.site ++ codes "." ++ decimal i.seq
 
 -- a blank, and operation n of site s
 abbrev pub spaced_id : ℕ → ℕ → List ℕ

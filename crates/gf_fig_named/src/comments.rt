@@ -3,13 +3,12 @@
 ghost use Rattle.std.specs.Prelude.{◌≡◌, ◌++◌, OnOk, IfOk, flat_map};
 ghost use Rattle.std.specs.List.{enumerate_from, range_with_len};
 ghost use Rattle.gf_ops.specs.OperationOrder.{IsSite, count_of, entry};
-ghost use Rattle.gf_fig_named.specs.Comments.{before_id, id_text, known_site, knows_comment};
+ghost use Rattle.gf_fig_named.specs.Comments.{before_id, known_site, knows_comment};
 ghost use Rattle.gf_fig_named.specs.Comments.{name_lines, nth_id, or_nothing, spaced_id};
 
 use crate::Name;
-use gf_base::OutOfMemory;
-use gf_digits::push_number;
-use gf_ops::{Clock, History, OpId};
+use gf_base::{OutOfMemory, push_number};
+use gf_ops::{Clock, History, OpId, push_id};
 use std::alloc::{AllocError, Global};
 
 /// How many operations of each site a history has.
@@ -81,14 +80,6 @@ fn push_spaced(out: &mut Vec<u8>, id: OpId) -> Result<(), AllocError>
 {
     out.push(b' ')?;
     push_id(out, id)
-}
-
-fn push_id(out: &mut Vec<u8>, id: OpId) -> Result<(), AllocError>
-    ensures { OnOk result (out.new.items ≡ out.old.items ++ id_text id) }
-{
-    push_number(out, id.site)?;
-    out.push(b'.')?;
-    push_number(out, id.seq)
 }
 
 /// Appends the lines that name a figure at a depth.

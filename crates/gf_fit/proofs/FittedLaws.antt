@@ -1,6 +1,5 @@
 -- Inputs with the same operations fit in one window, and so do an input and its FIG text.
-use Rattle.std.specs.Prelude.{Some}
-use Rattle.std.proofs.Common.{◌≡◌, ◌∙◌, ◌||◌, ◌++◌, ◌∷◌, [], Bool, List, ap, map, refl}
+use Rattle.std.proofs.Common.{◌≡◌, ◌∙◌, ◌||◌, ◌∷◌, [], Bool, List, ap, map, refl}
 use Rattle.std.proofs.Common.{subst, sym, ℕ}
 use Rattle.gf_shape.specs.declared.any_shape.AnyShape.{AnyShape}
 use Rattle.gf_shape.specs.declared.point.Point.{Point}
@@ -15,9 +14,9 @@ use Rattle.gf_fig_read.specs.Objects.{Drawn}
 use Rattle.gf_fig_read.proofs.GrammarLemmas.{one_drawing}
 use Rattle.gf_replay.specs.Denoting.{HaveSameOperations}
 use Rattle.gf_scanline.specs.Windows.{View}
-use Rattle.gf_studio.specs.FigRun.{Draws, Writes}
-use Rattle.gf_studio.specs.PaintRun.{IsDenoted, IsMeant, WritesPicture}
-use Rattle.gf_studio.proofs.PaintingLemmas.{text_reads, text_repaints}
+use Rattle.gf_studio.specs.FigRun.{Draws, IsFigOf}
+use Rattle.gf_studio.specs.PaintRun.{PictureOf, RepaintOf}
+use Rattle.gf_studio.proofs.PaintingLemmas.{text_repaints}
 use Rattle.gf_studio.proofs.SameLemmas.{draw_alike, histories_draw, paint_alike}
 use Rattle.gf_fit.specs.FittedRun.{FitsLines, FitsText}
 use Rattle.gf_fit.specs.FittedWindow.{IsFitted, held}
@@ -31,10 +30,6 @@ FitsShapes frame w d = IsFitted (held any_holds d.figures) frame w
 abbrev FitsOutlines : Sides → View → Drawn → Type 0
 FitsOutlines frame w d = IsFitted (held outline_holds d.figures) frame w
 
--- a picture of what the bytes mean, behind what was taken, in w
-abbrev Paints : List ℕ → List ℕ → List ℕ → View → Type 0
-Paints bytes taken painted w = WritesPicture (IsMeant bytes) w (Some taken) (Some painted)
-
 module _ (bytes others : List ℕ) (have : HaveSameOperations bytes others) (frame : Sides)
     (v w : View) (x : FitsLines bytes frame v) (y : FitsLines others frame w) where
   pub fit_alike : v ≡ w
@@ -43,11 +38,10 @@ module _ (bytes others : List ℕ) (have : HaveSameOperations bytes others) (fra
       one_window (held any_holds y.drawing.figures) frame v w
       (subst (FitsShapes frame v) same x.fitted) y.fitted
 
-  pub fit_alike-picture : (taken painted other : List ℕ) → Paints bytes taken painted v
-      → Paints others taken other w → painted ≡ other
-  fit_alike-picture taken painted other p q =
-      paint_alike bytes others have w taken painted other
-      (subst (Paints bytes taken painted) fit_alike p) q
+  pub fit_alike-picture : (text other : List ℕ) → PictureOf bytes v text
+      → PictureOf others w other → text ≡ other
+  fit_alike-picture text other p q = paint_alike bytes others have w text other
+      (subst (λ z. PictureOf bytes z text) fit_alike p) q
 
 -- outlines hold what their shapes hold
 held_outlined : (fs : List (Figure AnyShape)) (p : Point)
@@ -62,33 +56,30 @@ outlines_fit : (frame : Sides) (w : View) (d : DrawingState AnyShape) → FitsSh
 outlines_fit frame w d =
     subst (λ h. IsFitted h frame w) (λ k p. held_outlined d.figures p k)
 
-module _ (bytes before text : List ℕ) (x : Writes bytes (Some before) (Some (before ++ text)))
-    (frame : Sides) (v w : View) (y : FitsLines bytes frame v) (z : FitsText text frame w) where
+module _ (bytes fig : List ℕ) (x : IsFigOf bytes fig) (frame : Sides) (v w : View)
+    (y : FitsLines bytes frame v) (z : FitsText fig frame w) where
   -- the text reads as the outlines of what the bytes draw
-  text_drawing : outlined any_outline x.is.drawing ≡ z.drawing
-  text_drawing =
-      one_drawing text (outlined any_outline x.is.drawing) z.drawing
-      (text_reads bytes before text x)
-      z.reads
+  text_drawing : outlined any_outline x.drawing ≡ z.drawing
+  text_drawing = one_drawing fig (outlined any_outline x.drawing) z.drawing x.reads z.reads
 
-  drawing_same : (other : DrawingState AnyShape) → Draws bytes other → x.is.drawing ≡ other
+  drawing_same : (other : DrawingState AnyShape) → Draws bytes other → x.drawing ≡ other
   drawing_same other drawn =
-      let h = x.is.drawn.history in
-      let denoted = x.is.drawn.denoted in
-      histories_draw bytes bytes h h denoted denoted (λ a. (λ i. i, λ i. i)) x.is.drawing
-      other x.is.drawn drawn
+      let h = x.drawn.history in
+      let denoted = x.drawn.denoted in
+      histories_draw bytes bytes h h denoted denoted (λ a. (λ i. i, λ i. i)) x.drawing
+      other x.drawn drawn
 
   pub text_fits : v ≡ w
   text_fits =
       let same = sym (drawing_same y.drawing y.drawn) in
       let shapes = subst (FitsShapes frame v) same y.fitted in
-      let outlines = outlines_fit frame v x.is.drawing shapes in
+      let outlines = outlines_fit frame v x.drawing shapes in
       one_window (held outline_holds z.drawing.figures) frame v w
       (subst (FitsOutlines frame v) text_drawing outlines) z.fitted
 
-  pub text_fits-picture : (taken painted repainted : List ℕ) → Paints bytes taken painted v
-      → WritesPicture (IsDenoted text) w (Some taken) (Some repainted) → painted ≡ repainted
-  text_fits-picture taken painted repainted p q =
-      let there = subst (Paints bytes taken painted) text_fits p in
-      let same = drawing_same there.is.shown.drawing there.is.shown.drawn in
-      text_repaints bytes before text x w taken painted repainted there same q
+  pub text_fits-picture : (text other : List ℕ) → PictureOf bytes v text → RepaintOf fig w other
+      → text ≡ other
+  text_fits-picture text other p q =
+      let there = subst (λ z. PictureOf bytes z text) text_fits p in
+      let same = drawing_same there.shown.drawing there.shown.drawn in
+      text_repaints bytes fig x w text other there same q

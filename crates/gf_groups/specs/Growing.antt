@@ -3,7 +3,7 @@ use Rattle.std.specs.Prelude.{ℕ, Bool, false, not, ◌&&◌, ◌==◌, List, [
 use Rattle.std.specs.Prelude.{◌++◌, filter, Option, Some, slice_get}
 use Rattle.gf_ops.specs.declared.op.Op.{Op}
 use Rattle.gf_maximal.specs.Growing.{next}
-use Rattle.gf_groups.specs.VersionList.{in_conflict}
+use Rattle.gf_groups.specs.VersionList.{in_conflict, is_before}
 
 -- both operations are there, and conflict
 abbrev pub both_conflict : List Op → Option Op → Option Op → Bool
@@ -13,6 +13,15 @@ both_conflict h r s = false
 -- the operations of h at i and j, two positions, conflict
 abbrev pub conflict_at : List Op → ℕ → ℕ → Bool
 conflict_at h i j = not (i == j) && both_conflict h (slice_get h i) (slice_get h j)
+
+-- there are two operations, and the first comes before the second
+abbrev pub both_before : Option Op → Option Op → Bool
+both_before (Some a) (Some b) = is_before a b
+both_before a b = false
+
+-- there are operations of h at i and j, two positions, and the first comes before the second
+abbrev pub before_at : List Op → ℕ → ℕ → Bool
+before_at h i j = both_before (slice_get h i) (slice_get h j)
 
 -- c says whether the operations at two positions conflict
 module _ (c : ℕ → ℕ → Bool) where

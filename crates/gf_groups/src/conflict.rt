@@ -1,11 +1,11 @@
-//! Conflicts of operations, found by their positions in a history.
+//! Conflicts and the order of operations, by their positions in a history.
 
 ghost use Rattle.std.specs.Prelude.{◌≡◌, IfSome, option_copied, slice_get};
 ghost use Rattle.gf_ops.specs.Limits.{IsInRange};
-ghost use Rattle.gf_groups.specs.Growing.{both_conflict, conflict_at};
-ghost use Rattle.gf_groups.specs.VersionList.{in_conflict};
+ghost use Rattle.gf_groups.specs.Growing.{before_at, both_conflict, conflict_at};
+ghost use Rattle.gf_groups.specs.VersionList.{in_conflict, is_before};
 
-use gf_ops::{History, Op, conflicts};
+use gf_ops::{History, Op, before, conflicts};
 
 /// Whether the operations at two positions conflict. A position does not conflict with itself.
 pub fn conflict_at(history: &History, i: usize, j: usize) -> bool
@@ -34,6 +34,24 @@ fn both_conflict(history: &History, a: Option<&Op>, b: Option<&Op>) -> bool
         (Some(a), Some(b)) => in_conflict(history, a, b),
         _ => false,
     }
+}
+
+/// Whether there are two operations at these positions, and the first comes before the second.
+pub fn before_at(history: &History, i: usize, j: usize) -> bool
+    ensures { result ≡ before_at history.now.ops i j }
+{
+    match (history.ops().get(i), history.ops().get(j)) {
+        (Some(a), Some(b)) => is_before(a, b),
+        _ => false,
+    }
+}
+
+fn is_before(a: &Op, b: &Op) -> bool
+    requires a { IsInRange a.now }
+    requires b { IsInRange b.now }
+    ensures { result ≡ is_before a.now b.now }
+{
+    before(a, b)
 }
 
 #[inline(always)]

@@ -6,8 +6,9 @@
 //! - [`GroupFault`]: why there is no such list.
 //! - [`the_versions_are_a_list_that_computes`]: the law.
 //!
-//! For tables of versions: whether the operations at two positions conflict ([`conflict_at`]), and
-//! the largest sets of positions without a conflict ([`groups_at`]). [`groups_from`] makes such
+//! For tables of versions: whether the operations at two positions conflict ([`conflict_at`]) or
+//! come one before the other ([`before_at`]), and the largest sets of positions without a conflict
+//! ([`groups_at`]). [`groups_from`] makes such
 //! sets the groups of an object, and [`add_groups`] adds these groups to others. [`rising_ids`] are
 //! the ids of the operations at some positions.
 #![tactic(auto)]
@@ -22,7 +23,7 @@ mod listing;
 mod parting;
 mod positions;
 
-pub use conflict::conflict_at;
+pub use conflict::{before_at, conflict_at};
 pub use faults::GroupFault;
 pub use group::{Group, Groups};
 pub use groups::{all_groups, groups_from, groups_of, is_made};

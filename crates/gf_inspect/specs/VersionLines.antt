@@ -10,21 +10,14 @@ use Rattle.gf_ops.specs.declared.op.OpId.{OpId}
 use Rattle.gf_ops.specs.declared.op.ObjectId.{ObjectId}
 use Rattle.gf_ops.specs.declared.change.Form.{Form}
 use Rattle.gf_ops.specs.declared.change.Form.TheVariants.{Rect, Circle, Ellipse, Polygon}
+use Rattle.gf_ops.specs.IdText.{id_text, spaced_ids_text}
 use Rattle.gf_versions.specs.declared.key.Version.{Version}
 use Rattle.gf_inspect.specs.declared.top.VersionName.{VersionName}
-
--- the id of an operation: its site and its number there
-abbrev pub id_text : OpId → List ℕ
-id_text i = decimal i.site ++ codes "." ++ decimal i.seq
-
--- ids with a blank before each
-abbrev pub later_ids : List OpId → List ℕ
-later_ids ids = flat_map (λ i. codes " " ++ id_text i) ids
 
 -- ids with blanks between them
 abbrev pub ids_text : List OpId → List ℕ
 ids_text [] = []
-ids_text (i ∷ ids) = id_text i ++ later_ids ids
+ids_text (i ∷ ids) = id_text i ++ spaced_ids_text ids
 
 -- an object, and the ids of a version of it in brackets
 unfoldable pub name_text : ObjectId → List OpId → List ℕ

@@ -5,7 +5,6 @@ ghost use Rattle.std.specs.List.Sorted.{IsPermutation, IsSorted};
 ghost use Rattle.gf_groups.specs.declared.faults.GroupFault.{GroupFault};
 ghost use Rattle.gf_groups.specs.declared.group.Group.{Group};
 ghost use Rattle.gf_groups.specs.Versions.{IsMade, IsVersionGroup};
-ghost use Rattle.gf_versions.specs.ListedVersions.{AreSettled};
 ghost use Rattle.gf_inspect.specs.ObjectVersions.{AreVersionsOf};
 ghost use Rattle.gf_inspect.specs.Falling.{falling_cmp, IsSettledFalling};
 
@@ -13,7 +12,7 @@ use gf_groups::{Group, GroupFault, groups_of};
 use gf_ops::{History, ObjectId};
 use gf_shape::OutOfMemory;
 use gf_table::VersionedHistory;
-use gf_versions::{Version, settle};
+use gf_versions::{Version, settle_all};
 use std::alloc::Global;
 
 /// All versions of an object with their settled values, hidden ones too, topmost first.
@@ -56,20 +55,8 @@ fn settled(alloc: Global, history: &History, groups: &[Group]) -> Result<Vec<Ver
     requires { (g : Group) → Contains groups.now g → IsVersionGroup history.now.ops g }
     ensures { IfOk result (λ versions. IsSettledFalling history.now.ops groups.now versions.items) }
 {
-    let mut versions = in_order(alloc, history, groups)?;
+    let mut versions = settle_all(alloc, history, groups)?;
     sort(&mut versions)?;
-    Ok(versions)
-}
-
-/// The versions with these groups, in the order of the groups.
-fn in_order(alloc: Global, history: &History, groups: &[Group]) -> Result<Vec<Version>, OutOfMemory>
-    requires { (g : Group) → Contains groups.now g → IsVersionGroup history.now.ops g }
-    ensures { IfOk result (λ versions. AreSettled history.now.ops groups.now versions.items) }
-{
-    let mut versions = Vec::new(alloc);
-    for group in groups {
-        versions.push(settle(alloc, history, group)?)?;
-    }
     Ok(versions)
 }
 

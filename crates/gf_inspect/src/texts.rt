@@ -1,15 +1,16 @@
 //! The texts of versions and of what is on top.
 
 ghost use Rattle.std.specs.Prelude.{◌≡◌, ◌++◌, IfOk, OnOk, flat_map, option_copied};
-ghost use Rattle.gf_inspect.specs.VersionLines.{id_text, later_ids, ids_text, name_text};
+ghost use Rattle.gf_inspect.specs.VersionLines.{ids_text, name_text};
 ghost use Rattle.gf_inspect.specs.VersionLines.{point_text, corner_text, kind_word, size_text};
 ghost use Rattle.gf_inspect.specs.VersionLines.{points_text, measure_text, colour_text, layer_text};
 ghost use Rattle.gf_inspect.specs.VersionLines.{shown_word, form_text, look_text, version_line};
 ghost use Rattle.gf_inspect.specs.VersionLines.{top_text, top_line};
 
 use crate::VersionName;
-use gf_digits::{push_hex_rgb, push_number};
-use gf_ops::{Form, ObjectId, OpId};
+use gf_base::push_number;
+use gf_digits::push_hex_rgb;
+use gf_ops::{Form, ObjectId, OpId, push_id, push_spaced_ids};
 use gf_shape::{OutOfMemory, Point, Rgb};
 use gf_versions::Version;
 use std::alloc::{AllocError, Global};
@@ -151,27 +152,9 @@ fn push_ids(out: &mut Vec<u8>, ids: &[OpId]) -> Result<(), AllocError>
         [] => Ok(()),
         [first, rest @ ..] => {
             push_id(out, *first)?;
-            push_later_ids(out, rest)
+            push_spaced_ids(out, rest)
         }
     }
-}
-
-fn push_later_ids(out: &mut Vec<u8>, ids: &[OpId]) -> Result<(), AllocError>
-    ensures { OnOk result (out.new.items ≡ out.old.items ++ later_ids ids.now) }
-{
-    for id in ids {
-        out.push(b' ')?;
-        push_id(out, *id)?;
-    }
-    Ok(())
-}
-
-fn push_id(out: &mut Vec<u8>, id: OpId) -> Result<(), AllocError>
-    ensures { OnOk result (out.new.items ≡ out.old.items ++ id_text id) }
-{
-    push_number(out, id.site)?;
-    out.push(b'.')?;
-    push_number(out, id.seq)
 }
 
 fn push_point(out: &mut Vec<u8>, p: Point) -> Result<(), AllocError>

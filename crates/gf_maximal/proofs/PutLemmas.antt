@@ -15,7 +15,7 @@ use Rattle.gf_maximal.specs.declared.run.Run.{Run}
 use Rattle.gf_maximal.specs.Growing.{is_in, meets, without, is_within, joined}
 use Rattle.gf_maximal.specs.Runs.{numbers_of, members, AreRuns, Serves, after, is_inside}
 use Rattle.gf_maximal.specs.Runs.{touches, covers, piece, cut, all_cut}
-use Rattle.gf_maximal.specs.Runs.{absorb, settle, put, single}
+use Rattle.gf_maximal.specs.Runs.{absorb, put_into, put, single}
 use Rattle.gf_maximal.specs.Tables.{IsRising}
 use Rattle.gf_base.proofs.ListLemmas.{Contains-cons_cases, Contains-cons_head, Contains-cons_tail}
 use Rattle.gf_base.proofs.ListLemmas.{not_Contains-nil}
@@ -62,9 +62,9 @@ absorb_above n r (q ∷ qs) l f p h = elim (cases_Bool (r.end == q.start)) [
   ]
 ]
 
-settle_above : (n x : ℕ) (q : Run) (qs : List Run) → n < x → StartAbove n (q ∷ qs)
-    → StartAbove n (settle x q qs)
-settle_above n x q qs l f = elim (cases_Bool (q.end == x)) [
+put_into_above : (n x : ℕ) (q : Run) (qs : List Run) → n < x → StartAbove n (q ∷ qs)
+    → StartAbove n (put_into x q qs)
+put_into_above n x q qs l f = elim (cases_Bool (q.end == x)) [
   | inl t ↦ rw t (absorb_above n (longer x q) qs (f q (Contains-cons_head q qs))
       (λ p h. f p (Contains-cons_tail q qs p h)))
   | inr t ↦ elim (cases_Bool (nat_le q.start x)) [
@@ -93,7 +93,7 @@ put_above n x (q ∷ qs) l f p h = elim (cases_Bool (nat_lt q.end x)) [
     | inl e ↦ subst (λ (z : Run). n < z.start) (sym e) (f q (Contains-cons_head q qs))
     | inr i ↦ put_above n x qs l (λ o j. f o (Contains-cons_tail q qs o j)) p i
   ]
-  | inr t ↦ settle_above n x q qs l f p (rw t at h)
+  | inr t ↦ put_into_above n x q qs l f p (rw t at h)
 ]
 
 -- what ends at x + 1, before runs that begin above x
@@ -144,9 +144,9 @@ absorb_has r (q ∷ qs) w l a = elim (cases_Bool (r.end == q.start)) [
   | inr t ↦ rw t (λ h. h, λ h. h)
 ]
 
-settle_runs : (x : ℕ) (q : Run) (qs : List Run) → x ≤ q.end → AreRuns (q ∷ qs)
-    → AreRuns (settle x q qs)
-settle_runs x q qs l w = let v = w.0 in elim (cases_Bool (q.end == x)) [
+put_into_runs : (x : ℕ) (q : Run) (qs : List Run) → x ≤ q.end → AreRuns (q ∷ qs)
+    → AreRuns (put_into x q qs)
+put_into_runs x q qs l w = let v = w.0 in elim (cases_Bool (q.end == x)) [
   | inl t ↦ let e = (Decides-eqb q.end x).0 t in
       rw t (absorb_runs x (longer x q) qs (omega arith) refl (λ p h. let m = w.1 p h in omega arith)
       w.2)
@@ -171,9 +171,9 @@ settle_runs x q qs l w = let v = w.0 in elim (cases_Bool (q.end == x)) [
   ]
 ]
 
-settle_has : (x : ℕ) (q : Run) (qs : List Run) → x ≤ q.end → AreRuns (q ∷ qs) → (a : ℕ)
-    → Has (settle x q qs) a ↔ (Has (q ∷ qs) a ⊎ (a ≡ x))
-settle_has x q qs l w a = let v = w.0 in elim (cases_Bool (q.end == x)) [
+put_into_has : (x : ℕ) (q : Run) (qs : List Run) → x ≤ q.end → AreRuns (q ∷ qs) → (a : ℕ)
+    → Has (put_into x q qs) a ↔ (Has (q ∷ qs) a ⊎ (a ≡ x))
+put_into_has x q qs l w a = let v = w.0 in elim (cases_Bool (q.end == x)) [
   | inl t ↦ let e = (Decides-eqb q.end x).0 t in
       let k = absorb_has (longer x q) qs w.2 (omega arith) a in rw t (
         λ h. elim (k.0 h) [
@@ -230,7 +230,7 @@ put_runs : (x : ℕ) (rs : List Run) → AreRuns rs → AreRuns (put x rs)
 put_runs x [] w = (omega arith, λ q h. absurd (not_Contains-nil q h), tt)
 put_runs x (q ∷ qs) w = elim (cases_Bool (nat_lt q.end x)) [
   | inl t ↦ rw t (w.0, put_above q.end x qs (nat_lt_true q.end x t) w.1, put_runs x qs w.2)
-  | inr t ↦ rw t (settle_runs x q qs (nat_lt_false q.end x t) w)
+  | inr t ↦ rw t (put_into_runs x q qs (nat_lt_false q.end x t) w)
 ]
 
 put_has : (x : ℕ) (rs : List Run) → AreRuns rs → (a : ℕ) → Has (put x rs) a ↔ (Has rs a ⊎ (a ≡ x))
@@ -249,7 +249,7 @@ put_has x (q ∷ qs) w a = elim (cases_Bool (nat_lt q.end x)) [
       | inr e ↦ inr ((put_has x qs w.2 a).1 (inr e))
     ],
   )
-  | inr t ↦ rw t (settle_has x q qs (nat_lt_false q.end x t) w a)
+  | inr t ↦ rw t (put_into_has x q qs (nat_lt_false q.end x t) w a)
 ]
 
 pub put_is : (x : ℕ) (rs : List Run) → AreRuns rs

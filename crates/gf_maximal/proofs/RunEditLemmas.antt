@@ -8,7 +8,7 @@ use Rattle.std.proofs.lemmas.Bool.{cases_Bool, cond-true, cond-false}
 use Rattle.std.proofs.lemmas.Bool.Decides.{Decides-eqb}
 use Rattle.std.proofs.lemmas.List.{append-nil}
 use Rattle.gf_maximal.specs.declared.run.Run.{Run}
-use Rattle.gf_maximal.specs.Runs.{AreRuns, absorb, settle, settled, put, pushed, IsFirstFrom}
+use Rattle.gf_maximal.specs.Runs.{AreRuns, absorb, put_into, put_at, put, pushed, IsFirstFrom}
 use Rattle.gf_maximal.proofs.RunLemmas.{ends_rise, nat_lt_true, nat_lt_from}
 
 -- later runs end later, told by the test
@@ -19,10 +19,10 @@ ends_parted_below rs a n i j d l m up =
     nat_lt_from (get_or rs i d).end n (omega arith)
 
 pub put_point : (x : ℕ) (rs : List Run) (i : ℕ) → IsFirstFrom x rs i
-    → put x rs ≡ take i rs ++ settled x (drop i rs)
+    → put x rs ≡ take i rs ++ put_at x (drop i rs)
 put_point x [] zero f = refl
 put_point x [] (suc i) f = let b = f.bound in absurd (omega arith)
-put_point x (q ∷ qs) zero f = cond-false (nat_lt q.end x) (q ∷ put x qs) (settle x q qs)
+put_point x (q ∷ qs) zero f = cond-false (nat_lt q.end x) (q ∷ put x qs) (put_into x q qs)
     (f.above 0 q (omega arith) (omega arith))
 put_point x (q ∷ qs) (suc i) f =
     let rec = put_point x qs i (record {
@@ -30,7 +30,7 @@ put_point x (q ∷ qs) (suc i) f =
       below = λ k d l. f.below (suc k) d (omega arith);
       above = λ k d l m. f.above (suc k) d (omega arith) (omega arith);
     }) in
-    cond-true (nat_lt q.end x) (q ∷ put x qs) (settle x q qs) (f.below 0 q (omega arith))
+    cond-true (nat_lt q.end x) (q ∷ put x qs) (put_into x q qs) (f.below 0 q (omega arith))
     ∙ ap (λ z. q ∷ z) rec
 
 pub drop_one : (rs : List Run) (i j : ℕ) (d : Run) → j ≡ i + 1 → i < length rs
@@ -104,18 +104,18 @@ absorb_near rs i v q l e n =
 
 -- ---- x comes to the runs from the index i on, the first of which is q
 
-pub settled_at : (x : ℕ) (rs : List Run) (i : ℕ) (q : Run) → i < length rs → q ≡ get_or rs i q
-    → take i rs ++ settled x (drop i rs) ≡ take i rs ++ settle x q (drop (i + 1) rs)
-settled_at x rs i q l e =
+pub first_put_at : (x : ℕ) (rs : List Run) (i : ℕ) (q : Run) → i < length rs → q ≡ get_or rs i q
+    → take i rs ++ put_at x (drop i rs) ≡ take i rs ++ put_into x q (drop (i + 1) rs)
+first_put_at x rs i q l e =
     let d : drop i rs ≡ q ∷ drop (i + 1) rs = subst (λ z. drop i rs ≡ z ∷ drop (i + 1) rs) (sym e)
     (drop_one rs i (i + 1) q refl l) in
-    ap (λ z. take i rs ++ settled x z) d
+    ap (λ z. take i rs ++ put_at x z) d
 
-pub settled_lower : (x : ℕ) (rs : List Run) (i : ℕ) (q : Run) → i < length rs → q ≡ get_or rs i q
+pub put_at_lower : (x : ℕ) (rs : List Run) (i : ℕ) (q : Run) → i < length rs → q ≡ get_or rs i q
     → (q.end == x) ≡ false → nat_le q.start x ≡ false → (q.start == x + 1) ≡ true
-    → set rs i (record { start = x; end = q.end }) ≡ take i rs ++ settled x (drop i rs)
-settled_lower x rs i q l e n m t = set_is rs i (i + 1) (record { start = x; end = q.end }) refl l
-    ∙ sym (settled_at x rs i q l e ∙ ap (λ z. take i rs ++ z) (rw (n, m, t) refl))
+    → set rs i (record { start = x; end = q.end }) ≡ take i rs ++ put_at x (drop i rs)
+put_at_lower x rs i q l e n m t = set_is rs i (i + 1) (record { start = x; end = q.end }) refl l
+    ∙ sym (first_put_at x rs i q l e ∙ ap (λ z. take i rs ++ z) (rw (n, m, t) refl))
 
 get_any : (rs : List Run) (i : ℕ) (d e : Run) → i < length rs → get_or rs i d ≡ get_or rs i e
 get_any [] i d e l = absurd (omega arith)

@@ -82,8 +82,8 @@ absorb r (q ∷ qs) =
     cond (r.end == q.start) (record { start = r.start; end = q.end } ∷ qs) (r ∷ q ∷ qs)
 
 -- the runs of which the first one ends at x or above it, with x added
-abbrev pub settle : ℕ → Run → List Run → List Run
-settle x q qs = cond (q.end == x) (absorb (record { start = q.start; end = x + 1 }) qs)
+abbrev pub put_into : ℕ → Run → List Run → List Run
+put_into x q qs = cond (q.end == x) (absorb (record { start = q.start; end = x + 1 }) qs)
     (cond (nat_le q.start x) (q ∷ qs)
     (cond (q.start == x + 1) (record { start = x; end = q.end } ∷ qs)
     (record { start = x; end = x + 1 } ∷ q ∷ qs)))
@@ -91,7 +91,7 @@ settle x q qs = cond (q.end == x) (absorb (record { start = q.start; end = x + 1
 -- the runs with x added
 abbrev pub put : ℕ → List Run → List Run
 put x [] = record { start = x; end = x + 1 } ∷ []
-put x (q ∷ qs) = cond (nat_lt q.end x) (q ∷ put x qs) (settle x q qs)
+put x (q ∷ qs) = cond (nat_lt q.end x) (q ∷ put x qs) (put_into x q qs)
 
 -- i is the index of the first run that ends at x or above it, or how many there are
 pub record IsFirstFrom (x : ℕ) (rs : List Run) (i : ℕ) : Type 0 where
@@ -100,10 +100,10 @@ pub record IsFirstFrom (x : ℕ) (rs : List Run) (i : ℕ) : Type 0 where
   pub above : (k : ℕ) (d : Run) → i ≤ k → k < length rs
       → nat_lt (slice_index_or rs k d).end x ≡ false
 
--- what settle makes of the runs from the first one on that ends at x or above it
-abbrev pub settled : ℕ → List Run → List Run
-settled x [] = record { start = x; end = x + 1 } ∷ []
-settled x (q ∷ qs) = settle x q qs
+-- runs of which the first one, if there is one, ends at x or above it, with x added
+abbrev pub put_at : ℕ → List Run → List Run
+put_at x [] = record { start = x; end = x + 1 } ∷ []
+put_at x (q ∷ qs) = put_into x q qs
 
 -- the runs with r, which begins where the last of them does or behind it
 abbrev pub pushed : List Run → Run → List Run

@@ -6,7 +6,7 @@ ghost use Rattle.std.specs.List.{fold, list_any};
 ghost use Rattle.std.specs.List.Sorted.{IsPermutation, IsNonDecreasingBy};
 ghost use Rattle.gf_maximal.specs.Runs.{AreRuns, numbers_of, members, single, after};
 ghost use Rattle.gf_maximal.specs.Runs.{first_touches, first_covers, touches, covers};
-ghost use Rattle.gf_maximal.specs.Runs.{piece, cut, all_cut, absorb, settled, put, IsFirstFrom};
+ghost use Rattle.gf_maximal.specs.Runs.{piece, cut, all_cut, absorb, put_at, put, IsFirstFrom};
 ghost use Rattle.gf_maximal.specs.Runs.{pushed, are_same, IsGathered};
 
 use gf_base::OutOfMemory;
@@ -199,11 +199,11 @@ fn lengthen(runs: &mut Vec<Run>, index: usize, number: usize)
 }
 
 /// Adds a number at the index of the first run that ends at it or above it.
-fn settle(runs: &mut Vec<Run>, index: usize, number: usize) -> Result<(), OutOfMemory>
+fn put_at(runs: &mut Vec<Run>, index: usize, number: usize) -> Result<(), OutOfMemory>
     requires index { index ≤ length runs.old.items }
     requires number { number + 1 < 2 ^ 64 }
     ensures ok { OnOk result (runs.new.items
-        ≡ take index runs.old.items ++ settled number (drop index runs.old.items)) }
+        ≡ take index runs.old.items ++ put_at number (drop index runs.old.items)) }
     ensures err { OnErr result (runs.new.items ≡ runs.old.items) }
 {
     if index < runs.len() {
@@ -241,7 +241,7 @@ pub(crate) fn put(runs: &mut Vec<Run>, number: usize) -> Result<(), OutOfMemory>
     ensures err { OnErr result (runs.new.items ≡ runs.old.items) }
 {
     let index = first_from(runs, number);
-    settle(runs, index, number)
+    put_at(runs, index, number)
 }
 
 /// Adds a run behind others, which begin no later. Where the run touches the last one, the two are

@@ -17,3 +17,4 @@ pub mod Accepted
 pub mod Standing
 pub mod HistoryState
 pub mod HistoryIndex
+pub mod IdText

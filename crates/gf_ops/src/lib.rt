@@ -10,6 +10,7 @@
 //!   whether they cannot by themselves, whatever their aims, which are [`Ids`].
 //! - [`History`]: the operations that a site has, always a valid history.
 //! - [`OpFault`], [`AddFault`]: why an operation was not added.
+//! - [`push_id`], [`push_spaced_ids`]: the text of ids.
 //! - [`before_is_a_strict_order`], [`conflict_is_symmetric_and_irreflexive`]: the laws.
 #![tactic(auto)]
 
@@ -20,6 +21,7 @@ mod conflict;
 mod copying;
 mod faults;
 mod history;
+mod id_text;
 mod ids;
 mod laws;
 mod limits;
@@ -32,6 +34,7 @@ pub use change::{Attr, Change, Form, Start, Value};
 pub use conflict::{conflicts, direct_conflict, meets_brought};
 pub use faults::{AddFault, OpFault};
 pub use history::History;
+pub use id_text::{push_id, push_spaced_ids};
 pub use ids::Ids;
 pub use laws::{
     a_version_holds_the_aims_of_its_members, before_is_a_strict_order,

@@ -14,7 +14,7 @@ ghost use Rattle.gf_raster.specs.Rows.{bytes_in, bytes_of};
 use crate::Gate;
 use crate::crew::Crew;
 use crate::rounds::{round, rows_of_round};
-use gf_digits::push_number;
+use gf_base::push_number;
 use gf_figures::Drawing;
 use gf_scanline::{Band, Layers, Window};
 use gf_shape::Shape;

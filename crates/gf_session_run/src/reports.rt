@@ -4,7 +4,7 @@ ghost use Rattle.std.specs.Prelude.{◌≡◌, ◌++◌, OnOk, flat_map};
 ghost use Rattle.gf_session_run.specs.Reports.{cause_word, counts_line, refused_line, report_lines};
 ghost use Rattle.gf_session_run.specs.Reports.{report_text, site_text};
 
-use gf_digits::push_number;
+use gf_base::push_number;
 use gf_session::Done;
 use gf_worker::{Cause, Refused, Report};
 use std::alloc::AllocError;

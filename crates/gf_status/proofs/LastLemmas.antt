@@ -17,7 +17,7 @@ use Rattle.gf_base.proofs.FilterLemmas.{Contains-filter, list_any_false, list_an
 use Rattle.gf_base.proofs.ListLemmas.{not_Contains-nil}
 use Rattle.gf_groups.proofs.ConflictTestLemmas.{before_decided}
 use Rattle.gf_groups.proofs.OnPositionLemmas.{contained_at}
-use Rattle.gf_visible.specs.ShownAt.{before_at, both_before}
+use Rattle.gf_groups.specs.Growing.{before_at, both_before}
 use Rattle.gf_status.specs.SettersAt.{lasts, next_lasts, taken}
 
 -- ---- two operations

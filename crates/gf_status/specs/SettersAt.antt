@@ -13,7 +13,7 @@ use Rattle.gf_maximal.specs.Growing.{is_in}
 use Rattle.gf_groups.specs.Growing.{conflict_at}
 use Rattle.gf_groups.specs.VersionList.{are_unordered}
 use Rattle.gf_versions.specs.declared.key.Version.{Version}
-use Rattle.gf_visible.specs.ShownAt.{before_at}
+use Rattle.gf_groups.specs.Growing.{before_at}
 use Rattle.gf_status.specs.Differing.{version_value}
 use Rattle.gf_ops.specs.declared.change.Change.{Change}
 use Rattle.gf_ops.specs.declared.change.Change.TheVariants.{Create, Set}

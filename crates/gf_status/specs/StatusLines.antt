@@ -8,6 +8,7 @@ use Rattle.gf_ops.specs.declared.op.OpId.{OpId}
 use Rattle.gf_ops.specs.declared.op.ObjectId.{ObjectId}
 use Rattle.gf_ops.specs.declared.change.Attr.{Attr}
 use Rattle.gf_ops.specs.declared.change.Attr.TheVariants.{Place, Points, Size, Colour, Layer, Shown}
+use Rattle.gf_ops.specs.IdText.{id_text, spaced_ids_text}
 use Rattle.gf_ops.specs.OperationOrder.{count_of}
 use Rattle.gf_causal.specs.Waiting.{waits_for}
 use Rattle.gf_table.specs.Counting.{capped}
@@ -15,14 +16,6 @@ use Rattle.gf_status.specs.declared.state.State.{State}
 use Rattle.gf_status.specs.declared.state.State.TheVariants.{Clean, Open}
 use Rattle.gf_status.specs.declared.differing.Difference.{Difference}
 use Rattle.gf_status.specs.declared.objects.ObjectStatus.{ObjectStatus}
-
--- the id of an operation or of an object, as `1.2`
-abbrev pub id_text : OpId → List ℕ
-id_text i = decimal i.site ++ codes "." ++ decimal i.seq
-
--- ids with a blank before each
-abbrev pub ids_text : List OpId → List ℕ
-ids_text ids = flat_map (λ i. codes " " ++ id_text i) ids
 
 -- the line that the site s has n operations
 unfoldable pub has_line : ℕ → ℕ → List ℕ
@@ -71,7 +64,7 @@ attribute_word Shown = codes "shown"
 unfoldable pub difference_line : ObjectId → Difference → List ℕ
 difference_line o d =
     codes "object " ++ id_text o.0 ++ codes " " ++ attribute_word d.attribute
-    ++ ids_text d.givers ++ codes "\n"
+    ++ spaced_ids_text d.givers ++ codes "\n"
 
 -- ids with ` and ` before each
 abbrev pub more_ids_text : List OpId → List ℕ
@@ -93,7 +86,7 @@ hidings_line o (i ∷ j ∷ ids) = crossed_line o i (j ∷ ids)
 -- the line that the operations under these ids changed of the object o what is hidden
 unfoldable pub changed_line : ObjectId → List OpId → List ℕ
 changed_line o ids =
-    codes "object " ++ id_text o.0 ++ codes " hidden, changed by" ++ ids_text ids ++ codes "\n"
+    codes "object " ++ id_text o.0 ++ codes " hidden, changed by" ++ spaced_ids_text ids ++ codes "\n"
 
 -- the line of an object of which something is hidden, if operations changed that
 abbrev pub hidden_line : ObjectId → List OpId → List ℕ

@@ -3,7 +3,6 @@
 ghost use Rattle.std.specs.Prelude.{◌≡◌, ◌↔◌, Contains, IfOk, option_map};
 ghost use Rattle.gf_groups.specs.declared.group.Group.{Group};
 ghost use Rattle.gf_groups.specs.Versions.{IsVersionGroup};
-ghost use Rattle.gf_versions.specs.ListedVersions.{AreSettled};
 ghost use Rattle.gf_visible.specs.ShownVersions.{AreVisibleOn};
 ghost use Rattle.gf_status.specs.Differing.{AreDifferences, AreGivers, attributes};
 ghost use Rattle.gf_status.specs.Differing.{version_value};
@@ -18,7 +17,7 @@ use crate::setters::{lasts, setters};
 use gf_base::OutOfMemory;
 use gf_groups::Group;
 use gf_ops::{Attr, Form, History, Ids, Points};
-use gf_versions::{Version, settle};
+use gf_versions::{Version, settle_all};
 use std::alloc::Global;
 
 /// The attributes that a status compares. `Shown` is none of them, since visible versions are all
@@ -66,7 +65,7 @@ fn differing_of(
 {
     // The clause of `ops` says that the history is valid.
     let _ = history.ops();
-    let versions = settled(alloc, history, groups)?;
+    let versions = settle_all(alloc, history, groups)?;
     let mut found = Vec::new(alloc);
     for attribute in attributes {
         if some_differ(*attribute, &versions) {
@@ -78,18 +77,6 @@ fn differing_of(
         }
     }
     Ok(found)
-}
-
-/// The versions with these groups, in the order of the groups.
-fn settled(alloc: Global, history: &History, groups: &[Group]) -> Result<Vec<Version>, OutOfMemory>
-    requires { (g : Group) → Contains groups.now g → IsVersionGroup history.now.ops g }
-    ensures { IfOk result (λ versions. AreSettled history.now.ops groups.now versions.items) }
-{
-    let mut versions = Vec::new(alloc);
-    for group in groups {
-        versions.push(settle(alloc, history, group)?)?;
-    }
-    Ok(versions)
 }
 
 /// Whether one of the versions has another value of the attribute than the first.

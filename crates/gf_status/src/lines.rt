@@ -4,17 +4,16 @@ ghost use Rattle.std.specs.Prelude.{◌≡◌, ◌++◌, [], IfOk, OnOk, cond, f
 ghost use Rattle.gf_ops.specs.declared.op.Op.{Op};
 ghost use Rattle.gf_status.specs.StatusLines.{attribute_word, changed_line, crossed_line};
 ghost use Rattle.gf_status.specs.StatusLines.{difference_line, drawing_line, has_line};
-ghost use Rattle.gf_status.specs.StatusLines.{has_versions_line, hidden_line, hidings_line, id_text};
-ghost use Rattle.gf_status.specs.StatusLines.{ids_text, many_line, more_ids_text, number_text};
+ghost use Rattle.gf_status.specs.StatusLines.{has_versions_line, hidden_line, hidings_line};
+ghost use Rattle.gf_status.specs.StatusLines.{many_line, more_ids_text, number_text};
 ghost use Rattle.gf_status.specs.StatusLines.{object_lines, site_line, site_lines, status_text};
 ghost use Rattle.gf_status.specs.StatusLines.{versions_line, waiting_line, waits_line};
 
 use crate::counting::{MOST_COUNTED, shown_in};
 use crate::{Difference, ObjectStatus};
-use gf_base::OutOfMemory;
+use gf_base::{OutOfMemory, push_number};
 use gf_causal::waits_for;
-use gf_digits::push_number;
-use gf_ops::{Attr, History, ObjectId, Op, OpId};
+use gf_ops::{Attr, History, ObjectId, Op, OpId, push_id, push_spaced_ids};
 use std::alloc::{AllocError, Global};
 
 /// The numbers of all sites.
@@ -195,7 +194,7 @@ fn push_difference(
     push_id(out, object.0)?;
     out.push(b' ')?;
     out.extend_from_slice(attribute_word(difference.attribute))?;
-    push_ids(out, difference.givers.as_slice())?;
+    push_spaced_ids(out, difference.givers.as_slice())?;
     out.push(b'\n')?;
     Ok(())
 }
@@ -271,28 +270,9 @@ fn push_changed(out: &mut Vec<u8>, object: ObjectId, changed: &[OpId]) -> Result
     out.extend_from_slice(b"object ")?;
     push_id(out, object.0)?;
     out.extend_from_slice(b" hidden, changed by")?;
-    push_ids(out, changed)?;
+    push_spaced_ids(out, changed)?;
     out.push(b'\n')?;
     Ok(())
-}
-
-/// Appends ids, with a blank before each.
-fn push_ids(out: &mut Vec<u8>, ids: &[OpId]) -> Result<(), AllocError>
-    ensures { OnOk result (out.new.items ≡ out.old.items ++ ids_text ids.now) }
-{
-    for id in ids {
-        out.push(b' ')?;
-        push_id(out, *id)?;
-    }
-    Ok(())
-}
-
-fn push_id(out: &mut Vec<u8>, id: OpId) -> Result<(), AllocError>
-    ensures { OnOk result (out.new.items ≡ out.old.items ++ id_text id) }
-{
-    push_number(out, id.site)?;
-    out.push(b'.')?;
-    push_number(out, id.seq)
 }
 
 /// Appends that more versions are shown than a drawing has, if their count is above that.

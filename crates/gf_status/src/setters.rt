@@ -3,14 +3,14 @@
 ghost use Rattle.std.specs.Prelude.{◌≡◌, ◌+◌, ◌^◌, ◌<◌, All, IfOk};
 ghost use Rattle.gf_ops.specs.Limits.{IsInRange};
 ghost use Rattle.gf_groups.specs.VersionList.{are_unordered, is_before};
-ghost use Rattle.gf_visible.specs.ShownAt.{before_at};
+ghost use Rattle.gf_groups.specs.Growing.{before_at};
 ghost use Rattle.std.specs.List.{list_all, list_any};
 ghost use Rattle.gf_status.specs.SettersAt.{beside, hides, hides_at, hidings, hidings_beside};
 ghost use Rattle.gf_status.specs.SettersAt.{is_beside, is_left_out, is_unknowing, lasts, sets_at};
 ghost use Rattle.gf_status.specs.SettersAt.{setters, taken, unknowing, unordered_at};
 
 use gf_base::OutOfMemory;
-use gf_groups::conflict_at;
+use gf_groups::{before_at, conflict_at};
 use gf_maximal::Numbers;
 use gf_ops::{Attr, Change, History, Op, Value, before};
 use gf_versions::sets;
@@ -30,17 +30,6 @@ fn are_unordered(a: &Op, b: &Op) -> bool
     ensures { result ≡ are_unordered a.now b.now }
 {
     !is_before(a, b) && !is_before(b, a)
-}
-
-/// Whether there are two operations at these positions, and the first comes before the second.
-fn before_at(history: &History, position: usize, other: usize) -> bool
-    ensures { result ≡ before_at history.now.ops position other }
-{
-    let ops = history.ops();
-    match (ops.get(position), ops.get(other)) {
-        (Some(a), Some(b)) => is_before(a, b),
-        _ => false,
-    }
 }
 
 /// Whether there are two operations at these positions, and neither comes before the other.

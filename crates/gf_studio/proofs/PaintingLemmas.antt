@@ -1,7 +1,6 @@
 -- What some bytes draw is painted in the colours that they mean, and so is the FIG text of it.
 use Rattle.std.specs.Prelude.{IfOk, IfSome, None, Option, Some}
-use Rattle.std.proofs.Common.{◌≡◌, ℕ, List, ◌++◌, Result, Ok, Err, sym, subst, ap, ◌∙◌}
-use Rattle.std.proofs.lemmas.List.{append_cancel_left}
+use Rattle.std.proofs.Common.{◌≡◌, ℕ, List, Result, Ok, Err, sym, ap, ◌∙◌}
 use Rattle.gf_shape.specs.declared.any_shape.AnyShape.{AnyShape}
 use Rattle.gf_shape.specs.declared.colour.Rgb.{Rgb}
 use Rattle.gf_shape.specs.declared.point.Point.{Point}
@@ -22,8 +21,8 @@ use Rattle.gf_scanline.specs.Picture.{picture}
 use Rattle.gf_scanline.specs.Windows.{View}
 use Rattle.gf_studio.specs.declared.drawings.DrawnLines.{DrawnLines}
 use Rattle.gf_studio.specs.declared.studio_error.StudioError.{StudioError}
-use Rattle.gf_studio.specs.FigRun.{Draws, Writes}
-use Rattle.gf_studio.specs.PaintRun.{IsDenoted, IsMeant, WritesPicture}
+use Rattle.gf_studio.specs.FigRun.{Draws, IsFigOf}
+use Rattle.gf_studio.specs.PaintRun.{IsDenoted, IsMeant, PictureOf, RepaintOf}
 
 drawn_meant : (bytes : List ℕ) (drawing : DrawingState AnyShape) → Draws bytes drawing
     → IsMeant bytes (drawing_colour any_holds drawing.table drawing.figures)
@@ -47,15 +46,6 @@ pub one_picture : (w : View) (colour other : Point → Rgb) → ((p : Point) →
 one_picture w colour other same = let one : colour ≡ other = λ i p. same p i in
     ap (λ c. picture c w) one
 
--- and so one text behind what was taken
-pub same_pictures : (w : View) (colour other : Point → Rgb)
-    (taken text more painted repainted : List ℕ) → ((p : Point) → colour p ≡ other p)
-    → text ≡ picture colour w → more ≡ picture other w → painted ≡ taken ++ text
-    → repainted ≡ taken ++ more → painted ≡ repainted
-same_pictures w colour other taken text more painted repainted same is also first second =
-    first ∙ (ap (λ bytes. taken ++ bytes) (is ∙ (one_picture w colour other same ∙ sym also))
-    ∙ sym second)
-
 -- what is meant is what the drawing paints
 drawn_colour : (bytes : List ℕ) (colour : Point → Rgb) (x : IsMeant bytes colour) (p : Point)
     → colour p ≡ drawing_colour any_holds x.drawing.table x.drawing.figures p
@@ -72,34 +62,27 @@ drawn_colours bytes others colour other x y same p =
     ∙ (ap (λ (d : DrawingState AnyShape). drawing_colour any_holds d.table d.figures p) same
     ∙ sym (drawn_colour others other y p))
 
--- the text that was written behind what was taken before
-module _ (bytes before text : List ℕ) (x : Writes bytes (Some before) (Some (before ++ text))) where
-  pub text_reads : Reads text (outlined any_outline x.is.drawing)
-  text_reads = subst (λ t. Reads t (outlined any_outline x.is.drawing))
-      (sym (append_cancel_left before text x.text x.written)) x.is.reads
-
+-- the FIG text of what the bytes draw
+module _ (bytes fig : List ℕ) (x : IsFigOf bytes fig) where
   -- the text does not fail
-  pub text_not_refused : (fault : FigFault) (n : ℕ) → ¬ (Fails text fault n)
-  text_not_refused fault n = not_both text (outlined any_outline x.is.drawing) fault n text_reads
+  pub text_not_refused : (fault : FigFault) (n : ℕ) → ¬ (Fails fig fault n)
+  text_not_refused fault n = not_both fig (outlined any_outline x.drawing) fault n x.reads
 
   -- the text denotes the colours that the bytes mean
-  text_colours : (colour other : Point → Rgb) (y : IsMeant bytes colour) → x.is.drawing ≡ y.drawing
-      → IsDenoted text other → (p : Point) → colour p ≡ other p
+  text_colours : (colour other : Point → Rgb) (y : IsMeant bytes colour) → x.drawing ≡ y.drawing
+      → IsDenoted fig other → (p : Point) → colour p ≡ other p
   text_colours colour other y same z p =
-      let d = x.is.drawing in
-      let read : outlined any_outline d ≡ z.drawing = one_drawing text (outlined any_outline d)
-      z.drawing text_reads z.reads in
+      let d = x.drawing in
+      let read : outlined any_outline d ≡ z.drawing = one_drawing fig (outlined any_outline d)
+      z.drawing x.reads z.reads in
       drawn_colour bytes colour y p
       ∙ (ap (λ (d : DrawingState AnyShape). drawing_colour any_holds d.table d.figures p) (sym same)
       ∙ (sym (drawing_colour-outlined any_holds any_outline any_outlines d p)
       ∙ (ap (λ (d : Drawn). drawing_colour outline_holds d.table d.figures p) read
       ∙ sym (z.paints p))))
 
-  pub text_repaints : (w : View) (taken painted repainted : List ℕ)
-      (y : WritesPicture (IsMeant bytes) w (Some taken) (Some painted))
-      → x.is.drawing ≡ y.is.shown.drawing → WritesPicture (IsDenoted text) w (Some taken)
-      (Some repainted) → painted ≡ repainted
-  text_repaints w taken painted repainted y same z =
-      let colours = text_colours y.is.colour z.is.colour y.is.shown same z.is.shown in
-      same_pictures w y.is.colour z.is.colour taken y.text z.text painted repainted colours y.is.is
-      z.is.is y.written z.written
+  pub text_repaints : (w : View) (text other : List ℕ) (y : PictureOf bytes w text)
+      → x.drawing ≡ y.shown.drawing → RepaintOf fig w other → text ≡ other
+  text_repaints w text other y same z =
+      let colours = text_colours y.colour z.colour y.shown same z.shown in
+      y.is ∙ (one_picture w y.colour z.colour colours ∙ sym z.is)

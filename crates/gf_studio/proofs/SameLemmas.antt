@@ -1,7 +1,6 @@
 -- Inputs with the same operations, and those that denote histories of the same operations, have one
 -- drawing, one text and one picture.
-use Rattle.std.proofs.Common.{◌≡◌, ℕ, List, ◌++◌, sym, ap, ◌∙◌}
-use Rattle.std.specs.Prelude.{Some}
+use Rattle.std.proofs.Common.{◌≡◌, ℕ, List, sym, ap, ◌∙◌}
 use Rattle.gf_shape.specs.declared.any_shape.AnyShape.{AnyShape}
 use Rattle.gf_shape.specs.Outlines.{any_outline}
 use Rattle.gf_ops.specs.declared.op.Op.{Op}
@@ -11,10 +10,10 @@ use Rattle.gf_fig_write.specs.FigText.{fig_text}
 use Rattle.gf_scanline.specs.Windows.{View}
 use Rattle.gf_replay.specs.Denoting.{Denotes, HaveSameOperations}
 use Rattle.gf_replay.proofs.SameLemmas.{denote_alike, one_history}
-use Rattle.gf_studio.specs.FigRun.{Draws, Writes}
-use Rattle.gf_studio.specs.PaintRun.{IsMeant, WritesPicture}
+use Rattle.gf_studio.specs.FigRun.{Draws, IsFigOf}
+use Rattle.gf_studio.specs.PaintRun.{PictureOf}
 use Rattle.gf_studio.proofs.DrawnLemmas.{both_canonical, drawn, one_drawing}
-use Rattle.gf_studio.proofs.PaintingLemmas.{drawn_colours, same_pictures}
+use Rattle.gf_studio.proofs.PaintingLemmas.{drawn_colours, one_picture}
 
 -- inputs that denote histories of the same operations have one drawing
 module _ (bytes others : List ℕ) (h k : List Op) (d : Denotes bytes h) (e : Denotes others k)
@@ -42,23 +41,19 @@ module _ (bytes others : List ℕ) (h k : List Op) (d : Denotes bytes h) (e : De
       record { history = k; denoted = e; such = drawn k drawing canonical }
 
   -- and one text
-  pub histories_write : (taken text other : List ℕ) → Writes bytes (Some taken) (Some text)
-      → Writes others (Some taken) (Some other) → text ≡ other
-  histories_write taken text other x y =
-      let same = histories_draw x.is.drawing y.is.drawing x.is.drawn y.is.drawn in
-      let texts : x.text ≡ y.text = x.is.is ∙ (ap (fig_text any_outline) same ∙ sym y.is.is) in
-      x.written ∙ (ap (λ t. taken ++ t) texts ∙ sym y.written)
+  pub histories_write : (text other : List ℕ) → IsFigOf bytes text → IsFigOf others other
+      → text ≡ other
+  histories_write text other x y =
+      let same = histories_draw x.drawing y.drawing x.drawn y.drawn in
+      x.is ∙ (ap (fig_text any_outline) same ∙ sym y.is)
 
   -- and one picture
-  pub histories_paint : (w : View) (taken painted other : List ℕ)
-      → WritesPicture (IsMeant bytes) w (Some taken) (Some painted)
-      → WritesPicture (IsMeant others) w (Some taken) (Some other) → painted ≡ other
-  histories_paint w taken painted other x y =
-      let same = histories_draw x.is.shown.drawing y.is.shown.drawing x.is.shown.drawn
-      y.is.shown.drawn in
-      let colours = drawn_colours bytes others x.is.colour y.is.colour x.is.shown y.is.shown same in
-      same_pictures w x.is.colour y.is.colour taken x.text y.text painted other colours x.is.is
-      y.is.is x.written y.written
+  pub histories_paint : (w : View) (text other : List ℕ) → PictureOf bytes w text
+      → PictureOf others w other → text ≡ other
+  histories_paint w text other x y =
+      let same = histories_draw x.shown.drawing y.shown.drawing x.shown.drawn y.shown.drawn in
+      let colours = drawn_colours bytes others x.colour y.colour x.shown y.shown same in
+      x.is ∙ (one_picture w x.colour y.colour colours ∙ sym y.is)
 
 -- inputs with the same operations draw alike
 pub draw_alike : (bytes others : List ℕ) → HaveSameOperations bytes others
@@ -69,19 +64,16 @@ draw_alike bytes others have drawing other d e =
     (denote_alike bytes others have d.history d.denoted) (λ a. (λ i. i, λ i. i)) drawing other d e
 
 pub write_alike : (bytes others : List ℕ) → HaveSameOperations bytes others
-    → (taken text other : List ℕ) → Writes bytes (Some taken) (Some text)
-    → Writes others (Some taken) (Some other) → text ≡ other
-write_alike bytes others have taken text other d e =
-    let h = d.is.drawn.history in
-    histories_write bytes others h h d.is.drawn.denoted
-    (denote_alike bytes others have h d.is.drawn.denoted) (λ a. (λ i. i, λ i. i)) taken text other d
-    e
+    → (text other : List ℕ) → IsFigOf bytes text → IsFigOf others other → text ≡ other
+write_alike bytes others have text other d e =
+    let h = d.drawn.history in
+    histories_write bytes others h h d.drawn.denoted
+    (denote_alike bytes others have h d.drawn.denoted) (λ a. (λ i. i, λ i. i)) text other d e
 
 pub paint_alike : (bytes others : List ℕ) → HaveSameOperations bytes others
-    → (w : View) (taken painted other : List ℕ) → WritesPicture (IsMeant bytes) w (Some taken)
-    (Some painted) → WritesPicture (IsMeant others) w (Some taken) (Some other) → painted ≡ other
-paint_alike bytes others have w taken painted other d e =
-    let x = d.is.shown.drawn in
+    → (w : View) (text other : List ℕ) → PictureOf bytes w text → PictureOf others w other
+    → text ≡ other
+paint_alike bytes others have w text other d e =
+    let x = d.shown.drawn in
     histories_paint bytes others x.history x.history x.denoted
-    (denote_alike bytes others have x.history x.denoted) (λ a. (λ i. i, λ i. i)) w taken painted
-    other d e
+    (denote_alike bytes others have x.history x.denoted) (λ a. (λ i. i, λ i. i)) w text other d e

@@ -51,6 +51,14 @@ module _ (IsShown : (Point → Rgb) → Type 0) (w : View) where
     pub shown : IsShown colour
     pub written : HasBands (header w) colour w old new
 
+-- the text is the picture, in window w, of what the bytes mean
+abbrev pub PictureOf : List ℕ → View → List ℕ → Type 0
+PictureOf bytes w text = IsPicture (IsMeant bytes) w text
+
+-- the text is the picture, in window w, of the drawing that a FIG text reads as
+abbrev pub RepaintOf : List ℕ → View → List ℕ → Type 0
+RepaintOf fig w text = IsPicture (IsDenoted fig) w text
+
 -- what a run leaves of its sink that paints, in window w, colours that IsShown says of the bytes
 -- that are left in its source
 abbrev pub PaintsWindow : {W T : Type 0} → Sink W → Option (List ℕ)

@@ -1,6 +1,6 @@
 //! The laws of runs, each the contract of a function that does nothing.
 
-ghost use Rattle.std.specs.Prelude.{◌≡◌, ℕ, List, ◌++◌, Some};
+ghost use Rattle.std.specs.Prelude.{◌≡◌, ℕ, List};
 ghost use Rattle.gf_shape.specs.declared.any_shape.AnyShape.{AnyShape};
 ghost use Rattle.gf_shape.specs.Outlines.{any_outline};
 ghost use Rattle.gf_ops.specs.declared.faults.OpFault.{OpFault};
@@ -17,10 +17,10 @@ ghost use Rattle.gf_fig_tokens.specs.declared.faults.FigFault.{FigFault};
 ghost use Rattle.gf_fig_write.specs.FigText.{fig_text};
 ghost use Rattle.gf_fig_write.specs.ShownHistory.{Shows};
 ghost use Rattle.gf_scanline.specs.Windows.{View};
-ghost use Rattle.gf_studio.specs.PaintRun.{IsDenoted, IsMeant, WritesPicture};
+ghost use Rattle.gf_studio.specs.PaintRun.{PictureOf, RepaintOf};
 ghost use Rattle.gf_replay.specs.Denoting.{Denotes, HaveSameOperations};
 ghost use Rattle.gf_replay.specs.Refusing.{Drops, HasFault};
-ghost use Rattle.gf_studio.specs.FigRun.{Draws, RefusesCompiling, Writes};
+ghost use Rattle.gf_studio.specs.FigRun.{Draws, IsFigOf, RefusesCompiling};
 
 /// The FIG text of the canonical drawing of what lines denote reads as the drawing of its outlines.
 /// Each drawing that it reads as has at every grid point the colour that the history means there.
@@ -44,9 +44,8 @@ pub fn what_denotes_a_history_is_not_refused()
 {}
 
 /// Inputs with the same operations, in any order and however often, denote the same histories with
-/// at most one drawing. Runs that succeed with them write the same bytes behind the same ones, text
-/// or picture in one window. Where one run succeeds, no other is refused for a line, an operation
-/// or its drawing.
+/// at most one drawing. So runs that succeed with them write one FIG text, and one picture in a
+/// window. Where one run succeeds, no other is refused for a line, an operation or its drawing.
 pub fn the_same_operations_draw_alike()
     ensures denotes { (bytes others : List ℕ) → HaveSameOperations bytes others → (h : List Op) →
         Denotes bytes h → Denotes others h }
@@ -54,17 +53,14 @@ pub fn the_same_operations_draw_alike()
         (drawing other : DrawingState AnyShape) → Draws bytes drawing → Draws others other →
         drawing ≡ other }
     ensures text { (bytes others : List ℕ) → HaveSameOperations bytes others →
-        (taken text other : List ℕ) → Writes bytes (Some taken) (Some text) →
-        Writes others (Some taken) (Some other) → text ≡ other }
-    ensures picture { (bytes others : List ℕ) → HaveSameOperations bytes others →
-        (w : View) (taken painted other : List ℕ) →
-        WritesPicture (IsMeant bytes) w (Some taken) (Some painted) →
-        WritesPicture (IsMeant others) w (Some taken) (Some other) → painted ≡ other }
+        (text other : List ℕ) → IsFigOf bytes text → IsFigOf others other → text ≡ other }
+    ensures picture { (bytes others : List ℕ) → HaveSameOperations bytes others → (w : View)
+        (text other : List ℕ) → PictureOf bytes w text → PictureOf others w other → text ≡ other }
 {}
 
 /// Inputs that denote histories of the same operations have one drawing, whatever else waits in
-/// them. What the one draws, the other draws, and no other drawing. Runs that succeed with them
-/// write the same bytes behind the same ones, text or picture in one window.
+/// them. What the one draws, the other draws, and no other drawing. So runs that succeed with them
+/// write one FIG text, and one picture in a window.
 pub fn the_same_histories_draw_alike()
     ensures drawing { (bytes others : List ℕ) (h k : List Op) → Denotes bytes h → Denotes others k →
         HaveSame h k → (drawing other : DrawingState AnyShape) → Draws bytes drawing →
@@ -73,23 +69,18 @@ pub fn the_same_histories_draw_alike()
         HaveSame h k → (drawing : DrawingState AnyShape) → Draws bytes drawing →
         Draws others drawing }
     ensures text { (bytes others : List ℕ) (h k : List Op) → Denotes bytes h → Denotes others k →
-        HaveSame h k → (taken text other : List ℕ) → Writes bytes (Some taken) (Some text) →
-        Writes others (Some taken) (Some other) → text ≡ other }
+        HaveSame h k → (text other : List ℕ) → IsFigOf bytes text → IsFigOf others other →
+        text ≡ other }
     ensures picture { (bytes others : List ℕ) (h k : List Op) → Denotes bytes h → Denotes others k →
-        HaveSame h k → (w : View) (taken painted other : List ℕ) →
-        WritesPicture (IsMeant bytes) w (Some taken) (Some painted) →
-        WritesPicture (IsMeant others) w (Some taken) (Some other) → painted ≡ other }
+        HaveSame h k → (w : View) (text other : List ℕ) → PictureOf bytes w text →
+        PictureOf others w other → text ≡ other }
 {}
 
-/// The FIG text that a run wrote of an input is no text at fault. Repainted in a window, it gives
-/// the picture of the input painted in this window.
+/// The FIG text of an input is no text at fault. Repainted in a window, it gives the picture of the
+/// input painted in this window.
 pub fn a_text_is_repainted_as_its_history_is_painted()
-    ensures not_refused { (bytes before text : List ℕ) →
-        Writes bytes (Some before) (Some (before ++ text)) → (fault : FigFault) (n : ℕ) →
-        ¬ (Fails text fault n) }
-    ensures picture { (bytes before text : List ℕ) →
-        Writes bytes (Some before) (Some (before ++ text)) →
-        (w : View) (taken painted repainted : List ℕ) →
-        WritesPicture (IsMeant bytes) w (Some taken) (Some painted) →
-        WritesPicture (IsDenoted text) w (Some taken) (Some repainted) → painted ≡ repainted }
+    ensures not_refused { (bytes fig : List ℕ) → IsFigOf bytes fig → (fault : FigFault) (n : ℕ) →
+        ¬ (Fails fig fault n) }
+    ensures picture { (bytes fig : List ℕ) → IsFigOf bytes fig → (w : View) (text other : List ℕ) →
+        PictureOf bytes w text → RepaintOf fig w other → text ≡ other }
 {}

@@ -4,8 +4,8 @@
 //!   operations.
 //! - [`Ranked`], a list of [`Placed`]: the visible versions, topmost first.
 //! - [`sets`]: whether an operation gives an attribute a value.
-//! - [`settle`]: makes the version of a group; [`ranked`]: lists the visible versions of a history;
-//!   [`ranked_of`]: lists those of some groups.
+//! - [`settle`]: makes the version of a group, [`settle_all`] those of some groups; [`ranked`]:
+//!   lists the visible versions of a history; [`ranked_of`]: lists those of some groups.
 //! - [`a_version_settles_each_attribute_once`], [`versions_are_in_a_total_order`],
 //!   [`one_colour_at_a_point`], [`the_first_that_holds_is_on_top`]: the laws.
 //! - [`the_same_operations_rank_alike`]: the law that the order of a history says nothing.
@@ -27,4 +27,4 @@ pub use laws::{
 };
 pub use placed::{Placed, Ranked};
 pub use ranking::{ranked, ranked_of};
-pub use settling::settle;
+pub use settling::{settle, settle_all};

@@ -2,7 +2,9 @@
 
 ghost use Rattle.std.specs.Prelude.{◌≡◌, Contains, IfOk};
 ghost use Rattle.gf_ops.specs.ValidHistory.{IsValid};
+ghost use Rattle.gf_groups.specs.declared.group.Group.{Group};
 ghost use Rattle.gf_groups.specs.Versions.{IsVersionGroup};
+ghost use Rattle.gf_versions.specs.ListedVersions.{AreSettled};
 ghost use Rattle.gf_versions.specs.Settling.{HasAttribute, IsFormOf, IsLastSetter};
 ghost use Rattle.gf_versions.specs.VersionOf.{IsVersionOf};
 
@@ -31,6 +33,22 @@ pub fn settle(alloc: Global, history: &History, group: &Group) -> Result<Version
         colour: colour(last_setter(history, group, Attr::Colour)),
         shown: shown(last_setter(history, group, Attr::Shown)),
     })
+}
+
+/// The versions of these groups, in the order of the groups.
+pub fn settle_all(
+    alloc: Global,
+    history: &History,
+    groups: &[Group],
+) -> Result<Vec<Version>, OutOfMemory>
+    requires { (g : Group) → Contains groups.now g → IsVersionGroup history.now.ops g }
+    ensures { IfOk result (λ versions. AreSettled history.now.ops groups.now versions.items) }
+{
+    let mut versions = Vec::new(alloc);
+    for group in groups {
+        versions.push(settle(alloc, history, group)?)?;
+    }
+    Ok(versions)
 }
 
 /// The form of the group's object, of the kind that it was made with, with the settled size or

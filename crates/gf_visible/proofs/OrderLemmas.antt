@@ -9,7 +9,7 @@ use Rattle.gf_base.proofs.PositionLemmas.{position_in}
 use Rattle.gf_ops.proofs.HistoryLemmas.{site_in_range, seq_in_range}
 use Rattle.gf_ops.proofs.ValidityLemmas.{precedes_irreflexive, precedes_transitive}
 use Rattle.gf_groups.proofs.ConflictTestLemmas.{before_decided}
-use Rattle.gf_visible.specs.ShownAt.{before_at, both_before}
+use Rattle.gf_groups.specs.Growing.{before_at, both_before}
 use Rattle.gf_visible.specs.Cuts.{AreApart, AreLast, seen}
 use Rattle.gf_visible.specs.SettersAt.{knows_at, follows_at, HaveLast}
 use Rattle.gf_visible.proofs.CutLemmas.{last_decide}

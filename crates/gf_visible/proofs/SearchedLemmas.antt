@@ -24,7 +24,8 @@ use Rattle.gf_visible.specs.OnePass.{put, puts, pass, passes, search}
 use Rattle.gf_visible.specs.Passing.{GatheredState, found, gathered, is_seen, missed, rivals_of}
 use Rattle.gf_visible.specs.Passing.{walls, with_position}
 use Rattle.gf_visible.specs.SettersAt.{HaveLast, follows_at, knows_at}
-use Rattle.gf_visible.specs.ShownAt.{before_at, hides_at, later_at, shows_at, shows_or_hides_at}
+use Rattle.gf_groups.specs.Growing.{before_at}
+use Rattle.gf_visible.specs.ShownAt.{hides_at, later_at, shows_at, shows_or_hides_at}
 use Rattle.gf_visible.specs.TwoSides.{goes_with, hidden, shown, whole}
 use Rattle.gf_visible.proofs.CutLemmas.{in_cut, in_cuts, same_truth}
 use Rattle.gf_visible.proofs.OneCutLemmas.{filter_agrees}

@@ -22,7 +22,8 @@ use Rattle.gf_groups.specs.VersionList.{id_eq, is_before, are_unordered, in_dire
 use Rattle.gf_groups.specs.VersionList.{aims_at, brought, in_conflict}
 use Rattle.gf_groups.specs.Growing.{conflict_at}
 use Rattle.gf_groups.proofs.ConflictTestLemmas.{id_decided, direct_decided}
-use Rattle.gf_visible.specs.ShownAt.{before_at, said_at, hides_at, covers_at, shown_by}
+use Rattle.gf_groups.specs.Growing.{before_at}
+use Rattle.gf_visible.specs.ShownAt.{said_at, hides_at, covers_at, shown_by}
 use Rattle.gf_visible.specs.Cuts.{rivals}
 use Rattle.gf_visible.specs.TwoSides.{AreSides}
 use Rattle.gf_visible.specs.SettersAt.{knows_at, follows_at, IsSetter, AreSetters}

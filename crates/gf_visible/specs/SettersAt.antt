@@ -7,7 +7,8 @@ use Rattle.gf_ops.specs.declared.op.Op.{Op}
 use Rattle.gf_ops.specs.declared.op.ObjectId.{ObjectId}
 use Rattle.gf_ops.specs.Attribute.{aim_of, object_of}
 use Rattle.gf_visible.specs.Cuts.{has_some}
-use Rattle.gf_visible.specs.ShownAt.{before_at, shown_by}
+use Rattle.gf_groups.specs.Growing.{before_at}
+use Rattle.gf_visible.specs.ShownAt.{shown_by}
 
 -- the operation at f knows the one at x
 abbrev pub knows_at : List Op → ℕ → ℕ → Bool

@@ -1,15 +1,13 @@
 //! What the operations at positions say of `Shown`.
 
 ghost use Rattle.std.specs.Prelude.{◌≡◌};
-ghost use Rattle.gf_ops.specs.Limits.{IsInRange};
-ghost use Rattle.gf_groups.specs.VersionList.{is_before};
-ghost use Rattle.gf_visible.specs.ShownAt.{shown_value, shown_by, before_at};
+ghost use Rattle.gf_visible.specs.ShownAt.{shown_value, shown_by};
 ghost use Rattle.gf_visible.specs.ShownAt.{said_at, shows_or_hides_at, shows_at, later_at};
 ghost use Rattle.gf_visible.specs.ShownAt.{hides_at};
 
 use crate::Setters;
-use gf_groups::conflict_at;
-use gf_ops::{Change, History, Op, Value, before};
+use gf_groups::{before_at, conflict_at};
+use gf_ops::{Change, History, Value};
 
 /// Whether the value shows, if it says that.
 fn shown_value(value: &Value) -> Option<bool>
@@ -42,25 +40,6 @@ fn said_at(history: &History, position: usize) -> Option<bool>
     match history.ops().get(position) {
         Some(op) => shown_by(&op.change),
         None => None,
-    }
-}
-
-fn is_before(a: &Op, b: &Op) -> bool
-    requires a { IsInRange a.now }
-    requires b { IsInRange b.now }
-    ensures { result ≡ is_before a.now b.now }
-{
-    before(a, b)
-}
-
-/// Whether there are two operations at these positions, and the first comes before the second.
-pub(crate) fn before_at(history: &History, position: usize, other: usize) -> bool
-    ensures { result ≡ before_at history.now.ops position other }
-{
-    let ops = history.ops();
-    match (ops.get(position), ops.get(other)) {
-        (Some(a), Some(b)) => is_before(a, b),
-        _ => false,
     }
 }
 

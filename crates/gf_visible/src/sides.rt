@@ -14,8 +14,9 @@ ghost use Rattle.gf_visible.specs.ShownAt.{hides_at};
 ghost use Rattle.gf_visible.specs.TwoSides.{hidden, shown};
 
 use crate::deciding::last_setters;
-use crate::saying::{before_at, hides_at, shown_by};
+use crate::saying::{hides_at, shown_by};
 use crate::setters::set_of;
+use gf_groups::before_at;
 use gf_maximal::Numbers;
 use gf_ops::{History, Op};
 use gf_shape::OutOfMemory;

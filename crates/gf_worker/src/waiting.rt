@@ -41,7 +41,7 @@ impl Work {
     {
         for _ in rt.forever() {
             self.take_round(rt, links);
-            self.settle();
+            self.step_all();
             if self.short {
                 return Waited::Short;
             }
@@ -65,7 +65,7 @@ impl Work {
     {
         for _ in rt.forever() {
             self.take_round(rt, links);
-            self.settle();
+            self.step_all();
             if self.all_ended() {
                 return;
             }

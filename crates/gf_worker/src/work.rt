@@ -109,7 +109,7 @@ impl Work {
     }
 
     /// Steps until no held operation is ready. With each step one operation less is held.
-    pub(crate) fn settle(&mut self)
+    pub(crate) fn step_all(&mut self)
         ensures continues { Continues self.old self.new }
         ensures idle { self.new.short ≡ false → NoneIsReady self.new.site.ops self.new.site.held }
     {

@@ -9,11 +9,11 @@ returns-clause-drawing c = λ s bytes others lines new site j denotes drawing x.
     (joins s bytes others new site j) (λ a. (λ i. i, λ i. i)) drawing x
 
 pub returns-clause-text : goal.returns-clause-text
-returns-clause-text c = λ s bytes others lines new site j denotes taken text other x y.
+returns-clause-text c = λ s bytes others lines new site j denotes text other x y.
     histories_write lines others (j.edit.history ++ new) (j.edit.history ++ new) denotes
-    (joins s bytes others new site j) (λ a. (λ i. i, λ i. i)) taken text other x y
+    (joins s bytes others new site j) (λ a. (λ i. i, λ i. i)) text other x y
 
 pub returns-clause-picture : goal.returns-clause-picture
-returns-clause-picture c = λ s bytes others lines new site j denotes w taken painted other x y.
+returns-clause-picture c = λ s bytes others lines new site j denotes w text other x y.
     histories_paint lines others (j.edit.history ++ new) (j.edit.history ++ new) denotes
-    (joins s bytes others new site j) (λ a. (λ i. i, λ i. i)) w taken painted other x y
+    (joins s bytes others new site j) (λ a. (λ i. i, λ i. i)) w text other x y

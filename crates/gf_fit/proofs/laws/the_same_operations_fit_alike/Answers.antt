@@ -6,5 +6,5 @@ returns-clause-window c = λ bytes others have frame v w x y.
     fit_alike bytes others have frame v w x y
 
 pub returns-clause-picture : goal.returns-clause-picture
-returns-clause-picture c = λ bytes others have frame v w x y taken painted other p q.
-    fit_alike-picture bytes others have frame v w x y taken painted other p q
+returns-clause-picture c = λ bytes others have frame v w x y text other p q.
+    fit_alike-picture bytes others have frame v w x y text other p q

@@ -4,4 +4,4 @@ use Rattle.gf_maximal.proofs.run.put.Goals as goal
 
 pub returns-clause-ok : goal.returns-clause-ok
 returns-clause-ok c = rw (put_point c.args.number c.args.runs.now.items c.first_from-index.result
-    (search rules)) c.settle.ensures.ok
+    (search rules)) c.put_at.ensures.ok

@@ -1,6 +1,6 @@
 use Rattle.std.proofs.Common.{◌≡◌, not, take}
 use Rattle.std.specs.Prelude.{filter}
-use Rattle.gf_visible.specs.ShownAt.{before_at}
+use Rattle.gf_groups.specs.Growing.{before_at}
 use Rattle.gf_status.proofs.setters.taken.Given as goal
 
 abbrev pub invariant-loop-last : goal.invariant-loop-last

@@ -3,12 +3,11 @@ use Rattle.gf_studio.proofs.SameLemmas.{histories_draw}
 use Rattle.gf_studio.proofs.laws.a_text_is_repainted_as_its_history_is_painted.Goals as goal
 
 pub returns-clause-not_refused : goal.returns-clause-not_refused
-returns-clause-not_refused c = λ bytes before text x fault n. text_not_refused bytes before text x
-    fault n
+returns-clause-not_refused c = λ bytes fig x fault n. text_not_refused bytes fig x fault n
 
 pub returns-clause-picture : goal.returns-clause-picture
-returns-clause-picture c = λ bytes before text x w taken painted repainted y z.
-    let d = x.is.drawn in
+returns-clause-picture c = λ bytes fig x w text other y z.
+    let d = x.drawn in
     let same = histories_draw bytes bytes d.history d.history d.denoted d.denoted
-    (λ a. (λ i. i, λ i. i)) x.is.drawing y.is.shown.drawing d y.is.shown.drawn in
-    text_repaints bytes before text x w taken painted repainted y same z
+    (λ a. (λ i. i, λ i. i)) x.drawing y.shown.drawing d y.shown.drawn in
+    text_repaints bytes fig x w text other y same z

@@ -11,9 +11,9 @@ returns-clause-draws c = λ bytes others h k d e same drawing x. histories_draw_
     d e same drawing x
 
 pub returns-clause-text : goal.returns-clause-text
-returns-clause-text c = λ bytes others h k d e same taken text other x y. histories_write bytes
-    others h k d e same taken text other x y
+returns-clause-text c = λ bytes others h k d e same text other x y. histories_write bytes
+    others h k d e same text other x y
 
 pub returns-clause-picture : goal.returns-clause-picture
-returns-clause-picture c = λ bytes others h k d e same w taken painted other x y. histories_paint
-    bytes others h k d e same w taken painted other x y
+returns-clause-picture c = λ bytes others h k d e same w text other x y. histories_paint
+    bytes others h k d e same w text other x y

@@ -10,9 +10,9 @@ returns-clause-drawing c = λ bytes others have drawing other d e. draw_alike by
     drawing other d e
 
 pub returns-clause-text : goal.returns-clause-text
-returns-clause-text c = λ bytes others have taken text other d e. write_alike bytes others have
-    taken text other d e
+returns-clause-text c = λ bytes others have text other d e. write_alike bytes others have
+    text other d e
 
 pub returns-clause-picture : goal.returns-clause-picture
-returns-clause-picture c = λ bytes others have w taken painted other d e. paint_alike bytes others
-    have w taken painted other d e
+returns-clause-picture c = λ bytes others have w text other d e. paint_alike bytes others
+    have w text other d e

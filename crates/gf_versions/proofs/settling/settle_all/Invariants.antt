@@ -1,6 +1,6 @@
 use Rattle.std.proofs.Common.{take}
 use Rattle.gf_versions.specs.ListedVersions.{AreSettled}
-use Rattle.gf_inspect.proofs.listing.in_order.Given as goal
+use Rattle.gf_versions.proofs.settling.settle_all.Given as goal
 
 -- the groups so far have their versions
 abbrev pub invariant-loop-group : goal.invariant-loop-group

@@ -3,7 +3,7 @@ use Rattle.std.proofs.lemmas.List.{take_more}
 use Rattle.gf_groups.specs.declared.group.Group.{Group}
 use Rattle.gf_versions.specs.Ranking.{group_of}
 use Rattle.gf_versions.proofs.RankingLemmas.{settled_more}
-use Rattle.gf_status.proofs.differing.settled.Goals as goal
+use Rattle.gf_versions.proofs.settling.settle_all.Goals as goal
 
 pub settle-requires : goal.settle-requires
 settle-requires c = c.requires c.group-item.result (search rules)

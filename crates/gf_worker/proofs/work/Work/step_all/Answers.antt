@@ -1,5 +1,5 @@
 use Rattle.gf_worker.proofs.HearLemmas.{continues_trans}
-use Rattle.gf_worker.proofs.work.Work.settle.Goals as goal
+use Rattle.gf_worker.proofs.work.Work.step_all.Goals as goal
 
 pub loop-preserved : goal.loop-preserved
 loop-preserved c = continues_trans c.args.self.now c.loop.self c.step.new.self c.loop.invariant
