@@ -13,7 +13,7 @@ use Rattle.gf_figures.specs.DrawingColour.{drawing_colour}
 use Rattle.gf_figures.specs.DrawingState.{DrawingState}
 use Rattle.gf_figures.specs.Outlined.{outlined}
 use Rattle.gf_figures.proofs.OutlinedLemmas.{drawing_colour-outlined}
-use Rattle.gf_fig_read.specs.FigGrammar.{Fails, Reads}
+use Rattle.gf_fig_read.specs.FigGrammar.{Fails}
 use Rattle.gf_fig_read.specs.Objects.{Drawn}
 use Rattle.gf_fig_tokens.specs.declared.faults.FigFault.{FigFault}
 use Rattle.gf_fig_read.proofs.GrammarLemmas.{not_both, one_drawing}
