@@ -68,7 +68,7 @@ fn attribute_index(attribute: Attr) -> usize
 }
 
 /// The index of the chain of an attribute and a site.
-fn index_of(attribute: Attr, site: u8) -> usize
+fn chain_of(attribute: Attr, site: u8) -> usize
     requires { IsSite site }
     ensures value { result ≡ chain_of attribute (site - 1) }
     ensures bound { result < CHAINS }
@@ -125,17 +125,17 @@ impl Chains {
         &self,
         alloc: Global,
         found: Numbers,
-        index: usize,
+        chain: usize,
         count: u32,
     ) -> Result<Numbers, OutOfMemory>
-        requires { index < CHAINS }
-        ensures { let ss = slice_index_or self.now index [] in IfOk result (λ all. (n : _)
-            → Contains all n ↔ (Contains found n ⊎ IsNumberAbove ss index count n)) }
+        requires { chain < CHAINS }
+        ensures { let ss = slice_index_or self.now chain [] in IfOk result (λ all. (n : _)
+            → Contains all n ↔ (Contains found n ⊎ IsNumberAbove ss chain count n)) }
     {
-        let Some(chain) = self.chain(index) else {
+        let Some(setters) = self.chain(chain) else {
             return Ok(found);
         };
-        let more = chain.unknown(alloc, index, count)?;
+        let more = setters.unknown(alloc, chain, count)?;
         if more.is_empty() {
             return Ok(found);
         }
@@ -200,7 +200,7 @@ impl Chains {
             → result ≡ Some n }
         ensures bound { IfSome result (λ n. n + 1 < 2 ^ 64) }
     {
-        let chain = index_of(attribute, id.site);
+        let chain = chain_of(attribute, id.site);
         let index = self.chain(chain)?.index(id.seq)?;
         Some(SetterIndex { chain, index }.number())
     }
@@ -214,7 +214,7 @@ impl Chains {
         }) }
         ensures bound { result + 1 < 2 ^ 64 }
     {
-        let chain = index_of(attribute, site);
+        let chain = chain_of(attribute, site);
         match self.chain(chain) {
             Some(setters) => {
                 let index = setters.len();
@@ -240,9 +240,9 @@ impl Chains {
             (record { seq = id.seq; position = position })) }
         ensures err { OnErr result (self.new ≡ self.old) }
     {
-        let index = index_of(attribute, id.site);
+        let chain = chain_of(attribute, id.site);
         self.latest = counting(self.latest, id);
-        push_to(alloc, &mut self.chains, index, id.seq, position)
+        push_to(alloc, &mut self.chains, chain, id.seq, position)
     }
 
     /// Takes the last setter of the attribute by the site away, if there is one.
@@ -251,7 +251,7 @@ impl Chains {
         ensures { (us : _) (e : _) → setters self.old attribute (site - 1) ≡ us ++ e ∷ []
             → self.new ≡ with_chain self.old attribute (site - 1) us }
     {
-        let index = index_of(attribute, site);
-        pop_from(&mut self.chains, index);
+        let chain = chain_of(attribute, site);
+        pop_from(&mut self.chains, chain);
     }
 }

@@ -264,7 +264,8 @@ module _ (h : List Op) (o : ObjectId) (t : ObjectState) (s : IsStateOf h o t) wh
           rivals = λ n. (
             λ i.
                 let k = (rivals n).0 i in
-                let told = last_from h a valid in_range accepted k.position k.op k.at k.conflict in (
+                let told = last_from h a valid in_range accepted k.position k.op k.at
+                k.conflict in (
                   (s.exactly n).1 (inr (k.position, k.number)),
                   conflict_last n k.position
                       (position_new n k.position (old_number n k.position k.number)) ∙ told,
@@ -351,7 +352,8 @@ module _ (h : List Op) (o : ObjectId) (t : ObjectState) (s : IsStateOf h o t) (a
 
   pub state_added : (d : List ℕ) → ((n : ℕ) → Contains d n ↔ ConflictsAt h t.chains a n)
       → (us : List ℕ) → AreNumbersOf h t.chains (aim_of a) us →
-      (n p : ℕ) → n ≡ chain_number (chain_of u place) (length (setters t.chains u place)) → p ≡ length h →
+      (n p : ℕ) → n ≡ chain_number (chain_of u place) (length (setters t.chains u place))
+      → p ≡ length h →
       (i : Option (List (Fingerprint × List ℕ)))
       → IfSome i (λ new. (old : List (Fingerprint × List ℕ)) × IsIndex h t.chains old × PutsNumber
       old (fingerprint_of v) n new) →
