@@ -23,8 +23,8 @@ use Rattle.gf_ops.proofs.DirectConflictLemmas.{direct-sym}
 use Rattle.gf_base.proofs.ListLemmas.{not_Contains-nil}
 use Rattle.gf_ops.proofs.ValidityLemmas.{same_op}
 use Rattle.gf_rivals.specs.declared.chain.Setter.{Setter}
-use Rattle.gf_rivals.specs.Aimed.{AimedState, AimsAtOne, AreAimed, AreNumbersOf, Clash}
-use Rattle.gf_rivals.specs.Aimed.{ClashesWithOne, IsConflict, IsMet, op_at}
+use Rattle.gf_rivals.specs.Aimed.{AimedState, AimsAtOne, AreAimed, AreNumbersOf, ConflictDirectly}
+use Rattle.gf_rivals.specs.Aimed.{ConflictsWithOne, IsConflict, IsMet, op_at}
 use Rattle.gf_rivals.specs.Chains.{position_of}
 use Rattle.gf_rivals.specs.Rivals.{IsDirect, IsNumber, AreChainsOf}
 use Rattle.gf_rivals.proofs.NumberLemmas.{some_one, contained_at, number_from, one_position}
@@ -109,8 +109,8 @@ module _ (h : List Op) (o : ObjectId) (cs : List (List Setter)) (chains : AreCha
   -- WHAT IT AND ITS AIM MEET, where by_aim is what its aim meets
   module _ (own us r : List ℕ) (by_aim : ℕ → Type 0) (own_are : (n : ℕ)
       → Contains own n ↔ IsDirect h cs a n) (us_are : AreNumbersOf h cs (aim_of a) us)
-      (from : (n : ℕ) → by_aim n → ClashesWithOne h cs us n) (to : (m n : ℕ) → Contains us m
-      → Clash h cs m n → by_aim n)
+      (from : (n : ℕ) → by_aim n → ConflictsWithOne h cs us n) (to : (m n : ℕ) → Contains us m
+      → ConflictDirectly h cs m n → by_aim n)
       (r_are : (n : ℕ) → Contains r n ↔ (Contains own n ⊎ by_aim n)) where
     pub aim_met : (n : ℕ) → Contains r n ↔ IsMet h cs a n
     aim_met n = (
@@ -118,7 +118,7 @@ module _ (h : List Op) (o : ObjectId) (cs : List (List Setter)) (chains : AreCha
         | inl j ↦ record { first = a; brings = inl refl; direct = (own_are n).0 j }
         | inr j ↦
             let w = from n j in
-            let c = w.clash in
+            let c = w.conflict in
             let m = (us_are w.one).0 w.among in
             let x = there_at h (position_of cs w.one) c.first c.at_first in
             let y = there_at h (position_of cs n) c.second c.at_second in
@@ -287,12 +287,12 @@ module _ (h : List Op) (o : ObjectId) (cs : List (List Setter)) (chains : AreCha
       λ c. (found n).1 (conflict_found n c),
     )
 
--- what clashes are two setters
-pub clash_numbers : (h : List Op) (o : ObjectId) (cs : List (List Setter)) → AreChainsOf h o cs
-    → (m n : ℕ) → (c : Clash h cs m n) →
+-- what conflicts are two setters
+pub conflict_numbers : (h : List Op) (o : ObjectId) (cs : List (List Setter)) → AreChainsOf h o cs
+    → (m n : ℕ) → (c : ConflictDirectly h cs m n) →
     (p : ℕ) × (q : ℕ) × IsNumber cs m p × IsNumber cs n q × (slice_get h p ≡ Some c.first)
     × (slice_get h q ≡ Some c.second)
-clash_numbers h o cs chains m n c =
+conflict_numbers h o cs chains m n c =
     let x = there_at h (position_of cs m) c.first c.at_first in
     let y = there_at h (position_of cs n) c.second c.at_second in
     (x.0, y.0, number_from h o cs chains m x.0 x.1, number_from h o cs chains n y.0 y.1, x.2, y.2)

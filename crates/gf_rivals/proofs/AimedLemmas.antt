@@ -11,7 +11,8 @@ use Rattle.gf_maximal.specs.Growing.{meets}
 use Rattle.gf_ops.specs.declared.op.Op.{Op}
 use Rattle.gf_ops.specs.declared.op.OpId.{OpId}
 use Rattle.gf_rivals.specs.declared.chain.Setter.{Setter}
-use Rattle.gf_rivals.specs.Aimed.{AimedState, AimsAtOne, AreNumbersOf, Clash, ClashesWithOne}
+use Rattle.gf_rivals.specs.Aimed.{AimedState, AimsAtOne, AreNumbersOf, ConflictDirectly}
+use Rattle.gf_rivals.specs.Aimed.{ConflictsWithOne}
 use Rattle.gf_rivals.specs.Comparing.{AddsIf}
 use Rattle.gf_rivals.specs.Naming.{AddsNamed}
 
@@ -127,20 +128,21 @@ module _ (h : List Op) (cs : List (List Setter)) where
   -- ---- what conflicts with a member
 
   abbrev pub NoneBefore : List ℕ → ℕ → ℕ → Type 0
-  NoneBefore ms n k = (j d : ℕ) → j < k → j < length ms → ¬ (Clash h cs (slice_index_or ms j d) n)
+  NoneBefore ms n k = (j d : ℕ) → j < k → j < length ms
+      → ¬ (ConflictDirectly h cs (slice_index_or ms j d) n)
 
   pub none_more : (ms : List ℕ) (n k e : ℕ) → k < length ms → NoneBefore ms n k
-      → ¬ (Clash h cs (slice_index_or ms k e) n) → NoneBefore ms n (k + 1)
+      → ¬ (ConflictDirectly h cs (slice_index_or ms k e) n) → NoneBefore ms n (k + 1)
   none_more ms n k e l f g j d m b = elim (cases_lt j k) [
     | inl less ↦ f j d less b
     | inr more ↦ let s : j ≡ k = omega arith in
-        subst (λ z. ¬ (Clash h cs z n))
+        subst (λ z. ¬ (ConflictDirectly h cs z n))
         (sym (ap (λ i. slice_index_or ms i d) s ∙ get_or_default ms k d e l)) g
   ]
 
   pub none_at_all : (ms : List ℕ) (n k : ℕ) → length ms ≤ k → NoneBefore ms n k
-      → ¬ (ClashesWithOne h cs ms n)
+      → ¬ (ConflictsWithOne h cs ms n)
   none_at_all ms n k l f c =
       let w = c.among in
       let b = w.1 in
-      f w.0 c.one (omega arith) b (subst (λ z. Clash h cs z n) (sym w.2) c.clash)
+      f w.0 c.one (omega arith) b (subst (λ z. ConflictDirectly h cs z n) (sym w.2) c.conflict)

@@ -18,7 +18,7 @@ use Rattle.gf_rivals.specs.declared.chain.Setter.{Setter}
 use Rattle.gf_rivals.specs.Aimed.{AimedState, AreAimed, AreNumbersOf, IsAimedState, IsAmong}
 use Rattle.gf_rivals.specs.Chains.{chain_of, setters, with_setter}
 use Rattle.gf_rivals.specs.Rivals.{IsNumber, AreChainsOf}
-use Rattle.gf_rivals.specs.Setters.{block}
+use Rattle.gf_rivals.proofs.SetterIndexLemmas.{chain_number}
 use Rattle.gf_rivals.proofs.LongerLemmas.{get_front, get_within, get_last}
 use Rattle.gf_rivals.proofs.NextLemmas.{fresh}
 use Rattle.gf_rivals.proofs.NumberLemmas.{some_one, contained_at, number_within}
@@ -83,8 +83,8 @@ module _ (h : List Op) (o : ObjectId) (cs : List (List Setter)) (chains : AreCha
         (record { seq = a.id.seq; position = length h })
 
     abbrev x : ℕ
-    x = chain_of (attribute_of v) (a.id.site - 1) * block + length
-        (setters cs (attribute_of v) (a.id.site - 1))
+    x = chain_number (chain_of (attribute_of v) (a.id.site - 1))
+        (length (setters cs (attribute_of v) (a.id.site - 1)))
 
     -- nobody that the history has, and a itself, aims at a
     none_at : (b : Op) → Contains h b ⊎ (b ≡ a) → ¬ (Contains (aim_of b) a.id)

@@ -18,8 +18,9 @@ use Rattle.gf_ops.specs.OperationOrder.{IsSite}
 use Rattle.gf_ops.specs.ValidHistory.{IsValid}
 use Rattle.gf_ops.proofs.HistoryLemmas.{site_in_range, seq_in_range}
 use Rattle.gf_rivals.specs.declared.chain.Setter.{Setter}
-use Rattle.gf_rivals.specs.Setters.{block, AreSetters}
-use Rattle.gf_rivals.specs.Chains.{rank, chain_of, setters, no_chains, with_chain, with_setter}
+use Rattle.gf_rivals.specs.Setters.{AreSetters}
+use Rattle.gf_rivals.specs.Chains.{attribute_index, chain_of, setters, no_chains, with_chain}
+use Rattle.gf_rivals.specs.Chains.{with_setter}
 use Rattle.gf_rivals.specs.Rivals.{IsSetter, IsNumber, AreChainsOf}
 use Rattle.gf_rivals.specs.declared.fingerprint.Fingerprint.{Fingerprint}
 use Rattle.gf_rivals.specs.Fingerprints.{fingerprint_of}
@@ -29,8 +30,10 @@ use Rattle.gf_rivals.proofs.IndexLemmas.{Contains-numbers_at}
 use Rattle.gf_rivals.proofs.LongerLemmas.{get_front, get_within, get_last, get_cases, set_here}
 use Rattle.gf_rivals.proofs.LongerLemmas.{set_else, set_back}
 use Rattle.gf_rivals.proofs.NextLemmas.{earlier}
-use Rattle.gf_rivals.proofs.NumberLemmas.{some_one, rank_one, rank_below, contained_at}
+use Rattle.gf_rivals.proofs.NumberLemmas.{some_one, one_attribute, attribute_index_below}
+use Rattle.gf_rivals.proofs.NumberLemmas.{contained_at}
 use Rattle.gf_rivals.proofs.NumberLemmas.{number_within}
+use Rattle.gf_rivals.proofs.SetterIndexLemmas.{chain_number}
 use Rattle.gf_rivals.proofs.SetterLemmas.{setters_push, at_index}
 
 -- a setter that was put behind the others and taken away again leaves the chains as they were
@@ -39,7 +42,7 @@ pub taken_back : (cs now new : List (List Setter)) (t : Attr) (s : ℕ) (e : Set
     ((us : List Setter) (d : Setter) → setters now t s ≡ us ++ d ∷ [] → new ≡ with_chain now t s us)
     → new ≡ cs
 taken_back cs now new t s e all l m f =
-    let r = rank_below t in
+    let r = attribute_index_below t in
     let there : chain_of t s < length cs = omega (arith, r, l, all) in
     let own : setters now t s ≡ setters cs t s ++ e ∷ [] = ap (λ z. setters z t s) m
     ∙ set_here cs (chain_of t s) (setters cs t s ++ e ∷ []) [] there in
@@ -165,7 +168,8 @@ module _ (h : List Op) (o : ObjectId) (cs : List (List Setter)) (chains : AreCha
     new = with_setter cs t s last
 
     there : chain_of t s < length cs
-    there = let r = rank_below t in let w = within in let k = chains.count in omega (arith, r, w, k)
+    there = let r = attribute_index_below t in let w = within in let k = chains.count in
+        omega (arith, r, w, k)
 
     own : setters new t s ≡ setters cs t s ++ last ∷ []
     own = set_here cs (chain_of t s) (setters cs t s ++ last ∷ []) [] there
@@ -180,8 +184,9 @@ module _ (h : List Op) (o : ObjectId) (cs : List (List Setter)) (chains : AreCha
             (λ e. omega (arith, m, e)))
         | inr m ↦
             let x : r ≡ s = let w = within in omega (arith, k, m, l, w) in
-            let y : rank u ≡ rank t = let w = within in omega (arith, k, m, l, w) in
-            inl (rank_one u t y, x)
+            let y : attribute_index u ≡ attribute_index t = let w = within in
+            omega (arith, k, m, l, w) in
+            inl (one_attribute u t y, x)
       ]
     ]
 
@@ -242,7 +247,8 @@ module _ (h : List Op) (o : ObjectId) (cs : List (List Setter)) (chains : AreCha
     }
 
     -- the number of the new setter
-    pub last_number : IsNumber new (chain_of t s * block + length (setters cs t s)) (length h)
+    pub last_number : IsNumber new (chain_number (chain_of t s) (length (setters cs t s)))
+        (length h)
     last_number = record {
       attribute = t;
       site = s;
@@ -272,8 +278,8 @@ module _ (h : List Op) (o : ObjectId) (cs : List (List Setter)) (chains : AreCha
       all = λ q b w m g c. elim (get_cases h a q b g) [
         | inl i ↦ let k = chains.all q b w m i c in (k.0, numbered k.0 q k.1)
         | inr z ↦ (
-          chain_of t s * block + length (setters cs t s),
-          subst (IsNumber new (chain_of t s * block + length (setters cs t s))) (sym z.0)
+          chain_number (chain_of t s) (length (setters cs t s)),
+          subst (IsNumber new (chain_number (chain_of t s) (length (setters cs t s)))) (sym z.0)
               last_number,
         )
       ];
@@ -282,7 +288,7 @@ module _ (h : List Op) (o : ObjectId) (cs : List (List Setter)) (chains : AreCha
     }
 
     abbrev x : ℕ
-    x = chain_of t s * block + length (setters cs t s)
+    x = chain_number (chain_of t s) (length (setters cs t s))
 
     -- a number is an old one or the new one
     pub number_cases : (n q : ℕ) → IsNumber new n q → IsNumber cs n q ⊎ ((n ≡ x) × (q ≡ length h))
@@ -291,9 +297,9 @@ module _ (h : List Op) (o : ObjectId) (cs : List (List Setter)) (chains : AreCha
           let here : slice_get (setters new t s) k.index ≡ Some k.setter = subst
           (λ z. slice_get (setters new z s) k.index ≡ Some k.setter) w.0
           (subst (λ z. slice_get (setters new k.attribute z) k.index ≡ Some k.setter) w.1 k.at) in
-          let number : n ≡ chain_of t s * block + k.index = subst
-          (λ z. n ≡ chain_of z s * block + k.index) w.0
-          (subst (λ z. n ≡ chain_of k.attribute z * block + k.index) w.1 k.number) in
+          let number : n ≡ chain_number (chain_of t s) k.index = subst
+          (λ z. n ≡ chain_number (chain_of z s) k.index) w.0
+          (subst (λ z. n ≡ chain_number (chain_of k.attribute z) k.index) w.1 k.number) in
           elim (get_cases (setters cs t s) last k.index k.setter
           (ap (λ z. slice_get z k.index) (sym own) ∙ here)) [
             | inl old ↦ inl (record {
@@ -307,7 +313,7 @@ module _ (h : List Op) (o : ObjectId) (cs : List (List Setter)) (chains : AreCha
               position = k.position;
             })
             | inr z ↦ inr (
-              number ∙ ap (λ y. chain_of t s * block + y) z.0,
+              number ∙ ap (chain_number (chain_of t s)) z.0,
               sym k.position ∙ ap (λ (y : Setter). y.position) (sym z.1),
             )
           ]

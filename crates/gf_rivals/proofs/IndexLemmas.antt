@@ -13,7 +13,6 @@ use Rattle.gf_maximal.proofs.InsertLemmas.{holds}
 use Rattle.gf_ops.specs.declared.op.Op.{Op}
 use Rattle.gf_rivals.specs.declared.chain.Setter.{Setter}
 use Rattle.gf_rivals.specs.declared.fingerprint.Fingerprint.{Fingerprint}
-use Rattle.gf_rivals.specs.Setters.{block}
 use Rattle.gf_rivals.specs.Fingerprints.{fingerprint_cmp}
 use Rattle.gf_rivals.specs.Giving.{op_value, fingerprint_given}
 use Rattle.gf_rivals.specs.Rivals.{IsNumber}
@@ -21,8 +20,9 @@ use Rattle.gf_rivals.specs.Chains.{chain_of}
 use Rattle.gf_rivals.specs.Indexes.{Entries, numbers_at, IsIndex, PutsNumber}
 use Rattle.gf_rivals.specs.Indexing.{PutsGiven, IsListed, Lists, IsListedBelow, ListsChain}
 use Rattle.gf_rivals.proofs.FingerprintLemmas.{at_itself, at_same}
+use Rattle.gf_rivals.proofs.SetterIndexLemmas.{chain_number}
 use Rattle.gf_rivals.proofs.SetterLemmas.{at_index}
-use Rattle.gf_rivals.proofs.NumberLemmas.{some_one, got_at, rank_below, number_in}
+use Rattle.gf_rivals.proofs.NumberLemmas.{some_one, got_at, attribute_index_below, number_in}
 
 -- ---- one more number
 
@@ -65,7 +65,7 @@ Contains-numbers_at old new p x f q n = elim (cases_Bool (is_at (fingerprint_cmp
 listed_more : (h : List Op) (ss : List Setter) (b m : ℕ) (e : Setter) (old mid new : Entries)
     → slice_get ss m ≡ Some e →
     Lists h ss b m old mid → PutsGiven mid (fingerprint_given (op_value (slice_get h e.position)))
-    (b + m) new → Lists h ss b (m + 1) old new
+    (chain_number b m) new → Lists h ss b (m + 1) old new
 listed_more h ss b m e old mid new there f g p n = by_given
     (fingerprint_given (op_value (slice_get h e.position))) refl g
   where
@@ -82,7 +82,7 @@ listed_more h ss b m e old mid new there f g p n = by_given
     -- of the setter at the new index m
     last : (i : IsListed h ss b (m + 1) p n)
         → IsListed h ss b m p n ⊎ ((fingerprint_given (op_value (slice_get h e.position)) ≡ Some p)
-        × (n ≡ b + m))
+        × (n ≡ chain_number b m))
     last i = elim (cases_lt i.index m) [
       | inl w ↦ inl (record {
         index = i.index;
@@ -100,12 +100,12 @@ listed_more h ss b m e old mid new there f g p n = by_given
           inr (
             ap (λ (z : Setter). fingerprint_given (op_value (slice_get h z.position))) (sym one)
                 ∙ i.given,
-            i.number ∙ ap (λ z. b + z) same,
+            i.number ∙ ap (chain_number b) same,
           )
     ]
 
     by_given : (r : Option Fingerprint) → fingerprint_given (op_value (slice_get h e.position)) ≡ r
-        → PutsGiven mid r (b + m) new
+        → PutsGiven mid r (chain_number b m) new
         → Contains (numbers_at new p) n ↔ (Contains (numbers_at old p) n ⊎ IsListed h ss b (m + 1) p
         n)
     by_given None none put = (
@@ -120,7 +120,7 @@ listed_more h ss b m e old mid new there f g p n = by_given
       ]),
     )
     by_given (Some q) some put =
-        let w = Contains-numbers_at mid new q (b + m) put p n in (
+        let w = Contains-numbers_at mid new q (chain_number b m) put p n in (
           λ i. elim (w.0 i) [
             | inl j ↦ elim ((f p n).0 j) [ inl k ↦ inl k | inr k ↦ inr (one_up k) ]
             | inr j ↦ inr (record {
@@ -141,13 +141,15 @@ listed_more h ss b m e old mid new there f g p n = by_given
           ]),
         )
 
-pub lists_more : (h : List Op) (ss : List Setter) (b m : ℕ) (d : Setter) (old mid new : Entries)
+pub lists_more : (h : List Op) (ss : List Setter) (b m x : ℕ) (d : Setter)
+    (old mid new : Entries)
     → m < length ss →
     Lists h ss b m old mid → PutsGiven mid
-    (fingerprint_given (op_value (slice_get h (get_or ss m d).position))) (b + m) new
-    → Lists h ss b (m + 1) old new
-lists_more h ss b m d old mid new l f g = listed_more h ss b m (get_or ss m d) old mid new
-    (at_index ss m d l) f g
+    (fingerprint_given (op_value (slice_get h (get_or ss m d).position))) x new
+    → x ≡ chain_number b m → Lists h ss b (m + 1) old new
+lists_more h ss b m x d old mid new l f g e = listed_more h ss b m (get_or ss m d) old mid new
+    (at_index ss m d l) f (subst (λ z. PutsGiven mid
+    (fingerprint_given (op_value (slice_get h (get_or ss m d).position))) z new) e g)
 
 pub lists_all : (h : List Op) (ss : List Setter) (b m : ℕ) (old new : Entries) → m ≡ length ss
     → Lists h ss b m old new → Lists h ss b (length ss) old new
@@ -202,7 +204,7 @@ below_more h cs k old new f g p n = (
           setter = i.setter;
           at = at;
           given = i.given;
-          number = i.number ∙ ap (λ z. z * block + i.index) same;
+          number = i.number ∙ ap (λ z. chain_number z i.index) same;
         })
   ]),
 )
@@ -222,7 +224,7 @@ index_made h cs k ix e f p n = (
       },
   λ i.
       let k = i.number in
-      let r = rank_below k.attribute in
+      let r = attribute_index_below k.attribute in
       let l = k.within in
       (f p n).1 (record {
         chain = chain_of k.attribute k.site;

@@ -1,4 +1,5 @@
 pub mod NextLemmas
+pub mod SetterIndexLemmas
 pub mod SetterLemmas
 pub mod NumberLemmas
 pub mod RivalLemmas

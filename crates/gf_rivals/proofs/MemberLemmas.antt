@@ -33,18 +33,22 @@ use Rattle.gf_base.proofs.ListLemmas.{not_Contains-nil}
 use Rattle.gf_ops.proofs.ValidityLemmas.{pasts_grow}
 use Rattle.gf_rivals.specs.declared.chain.Setter.{Setter}
 use Rattle.gf_rivals.specs.declared.members.Member.{Member}
-use Rattle.gf_rivals.specs.Aimed.{Clash, ClashesWithOne, op_at, op_of}
+use Rattle.gf_rivals.specs.Aimed.{ConflictDirectly, ConflictsWithOne, op_at, op_of}
 use Rattle.gf_rivals.specs.Chains.{chain_of, position_of, setters}
 use Rattle.gf_rivals.specs.Comparing.{is_value, number_gives, value_at}
 use Rattle.gf_rivals.specs.Giving.{op_value, value_set}
-use Rattle.gf_rivals.specs.Members.{AreFalling, AreMembers, AreMembersOf, CanClash, IsFirstUnknown}
+use Rattle.gf_rivals.specs.Members.{AreFalling, AreMembers, AreMembersOf, CanConflict}
+use Rattle.gf_rivals.specs.Members.{IsFirstUnknown}
 use Rattle.gf_rivals.specs.Members.{PointsToOther, IsOfChain, IsOther, OneChain, value_of}
 use Rattle.gf_rivals.specs.Rivals.{IsNumber, AreChainsOf}
-use Rattle.gf_rivals.specs.Setters.{block, IsCountUpTo}
-use Rattle.gf_rivals.proofs.AimRivalLemmas.{clash_numbers}
+use Rattle.gf_rivals.specs.SetterIndexes.{setter_of}
+use Rattle.gf_rivals.specs.declared.setter_index.SetterIndex.{SetterIndex}
+use Rattle.gf_rivals.specs.Setters.{IsCountUpTo}
+use Rattle.gf_rivals.proofs.AimRivalLemmas.{conflict_numbers}
 use Rattle.gf_rivals.proofs.NumberLemmas.{some_one, contained_at, got_at, index_short, position_is}
-use Rattle.gf_rivals.proofs.NumberLemmas.{rank_one}
+use Rattle.gf_rivals.proofs.NumberLemmas.{one_attribute}
 use Rattle.gf_rivals.proofs.RivalLemmas.{given_is, own_value}
+use Rattle.gf_rivals.proofs.SetterIndexLemmas.{chain_number, setter_of-chain_number}
 
 -- a number of the chain of t and the site s + 1
 pub record Stands (h : List Op) (o : ObjectId) (cs : List (List Setter)) (t : Attr) (s n : ℕ) : Type
@@ -52,7 +56,7 @@ pub record Stands (h : List Op) (o : ObjectId) (cs : List (List Setter)) (t : At
   pub index : ℕ
   pub setter : Setter
   pub at : slice_get (setters cs t s) index ≡ Some setter
-  pub number : n ≡ chain_of t s * block + index
+  pub number : n ≡ chain_number (chain_of t s) index
   pub op : Op
   pub stands : slice_get h setter.position ≡ Some op
   pub found : op_of h cs n ≡ Some op
@@ -92,14 +96,14 @@ module _ (h : List Op) (o : ObjectId) (cs : List (List Setter)) (chains : AreCha
 
   -- and the number determines that chain
   pub in_chain : (n q : ℕ) → (k : IsNumber cs n q) → (t : Attr) (s : ℕ) → s < 8
-      → n / block ≡ chain_of t s → Stands h o cs t s n
+      → (setter_of n).chain ≡ chain_of t s → Stands h o cs t s n
   in_chain n q k t s l e =
       let p = index_short h o cs chains k.attribute k.site k.index k.setter k.within k.at in
       let m = k.number in
       let w = k.within in
       let one : chain_of k.attribute k.site ≡ chain_of t s = omega (arith, p, m, e) in
       let site : k.site ≡ s = omega (arith, one, l, w) in
-      let same : k.attribute ≡ t = rank_one k.attribute t (omega (arith, one, l, w)) in
+      let same : k.attribute ≡ t = one_attribute k.attribute t (omega (arith, one, l, w)) in
       subst (λ z. Stands h o cs t z n) site
       (subst (λ z. Stands h o cs z k.site n) same (stands n q k))
 
@@ -132,10 +136,11 @@ module _ (h : List Op) (o : ObjectId) (cs : List (List Setter)) (chains : AreCha
         → c ≡ b
     same_second n q c e b f = some_one c b (sym e ∙ f)
 
-    -- what clashes gives another value of the attribute
-    pub clash_values : (y n : ℕ) (t u : Attr) (s r : ℕ) → (a : Stands h o cs t s y)
-        → (b : Stands h o cs u r n) → Clash h cs y n → (t ≡ u) × (value_of h cs y ≢ value_of h cs n)
-    clash_values y n t u s r a b c =
+    -- what conflicts gives another value of the attribute
+    pub conflict_values : (y n : ℕ) (t u : Attr) (s r : ℕ) → (a : Stands h o cs t s y)
+        → (b : Stands h o cs u r n) → ConflictDirectly h cs y n
+        → (t ≡ u) × (value_of h cs y ≢ value_of h cs n)
+    conflict_values y n t u s r a b c =
         let x : c.first ≡ a.op = some_one c.first a.op (sym c.at_first ∙ a.found) in
         let z : c.second ≡ b.op = some_one c.second b.op (sym c.at_second ∙ b.found) in
         let apart = c.direct.apart in
@@ -144,27 +149,28 @@ module _ (h : List Op) (o : ObjectId) (cs : List (List Setter)) (chains : AreCha
         ∙ (ap (λ (w : Op). change_value w.change apart.attribute) (sym x) ∙ apart.first_given)) in
         let second = given_is b.value apart.attribute apart.second
         (ap (λ d. change_value d apart.attribute) (sym b.change)
-        ∙ (ap (λ (w : Op). change_value w.change apart.attribute) (sym z) ∙ apart.second_given)) in (
+        ∙ (ap (λ (w : Op). change_value w.change apart.attribute) (sym z)
+        ∙ apart.second_given)) in (
           sym a.attribute ∙ (sym first.0 ∙ (second.0 ∙ b.attribute)),
           λ e. apart.differ (first.1 ∙ (some_one a.value b.value (sym a.gives ∙ (e ∙ b.gives))
               ∙ sym second.1)),
         )
 
-    -- WHAT STANDS BEFORE a clashing setter, unknown too and with another value, clashes as well
+    -- WHAT STANDS BEFORE a conflicting_with setter, unknown too and with another value, conflicts
+    -- as well
     module _ (t : Attr) (s y n : ℕ) (l : s < 8) (a : Stands h o cs t s y)
-        (b : Stands h o cs t s n ⊎ ((r : ℕ) × Stands h o cs t r n)) (c : Clash h cs y n) (k : ℕ)
-        (first : IsFirstUnknown cs t s c.second.past k) where
+        (b : Stands h o cs t s n ⊎ ((r : ℕ) × Stands h o cs t r n)) (c : ConflictDirectly h cs y n)
+        (k : SetterIndex) (first : IsFirstUnknown cs t s c.second.past k) where
       other_of : (r : ℕ) × Stands h o cs t r n
       other_of = elim b [ inl z ↦ (s, z) | inr z ↦ z ]
 
-      pub clash_before : (m : ℕ) → (d : Stands h o cs t s m) → k ≤ m → m ≤ y
-          → value_of h cs m ≢ value_of h cs n → Clash h cs m n
-      clash_before m d from to differ =
+      pub conflict_before : (m : ℕ) → (d : Stands h o cs t s m) → k.index ≤ d.index → m ≤ y
+          → value_of h cs m ≢ value_of h cs n → ConflictDirectly h cs m n
+      conflict_before m d from to differ =
           let e = other_of.1 in
           let x : c.first ≡ a.op = some_one c.first a.op (sym c.at_first ∙ a.found) in
           let z : c.second ≡ e.op = some_one c.second e.op (sym c.at_second ∙ e.found) in
-          let late = first.unknown d.index d.setter d.at (let u = d.number in
-          omega (arith, u, from)) in
+          let late = first.unknown d.index d.setter d.at from in
           let there = contained_at h d.setter.position d.op d.stands in
           let site = d.site in
           let seq = d.seq in
@@ -285,81 +291,94 @@ module _ (h : List Op) (cs : List (List Setter)) where
 
 -- a setter stands in one chain
 pub chain_determined : (h : List Op) (o : ObjectId) (cs : List (List Setter)) → AreChainsOf h o cs
-    → (n q : ℕ) → (k : IsNumber cs n q) → n / block ≡ chain_of k.attribute k.site
+    → (n q : ℕ) → (k : IsNumber cs n q) → (setter_of n).chain ≡ chain_of k.attribute k.site
 chain_determined h o cs chains n q k =
     let p = index_short h o cs chains k.attribute k.site k.index k.setter k.within k.at in
     let m = k.number in
     omega (arith, p, m)
 
 module _ (h : List Op) (o : ObjectId) (cs : List (List Setter)) (us : List ℕ) (ms : List Member)
-    (k n y : ℕ) (w : CanClash h o cs us ms k n y) where
+    (k : SetterIndex) (n y : ℕ) (w : CanConflict h o cs us ms k n y) where
   abbrev at_y : Stands h o cs w.attribute w.site y
   at_y = let q = w.members.setters y w.among in in_chain h o cs w.members.chains y q.0 q.1
       w.attribute w.site w.within (w.chain ∙ w.unknown.chain)
 
   abbrev at_n : (t : Attr) × (r : ℕ) × Stands h o cs t r n
-  at_n = let z = clash_numbers h o cs w.members.chains y n w.clash in
+  at_n = let z = conflict_numbers h o cs w.members.chains y n w.conflict in
       (z.3.attribute, z.3.site, stands h o cs w.members.chains n z.1 z.3)
 
-  -- what clashes is of the attribute of the setter
+  -- what conflicts is of the attribute of the setter
   of_attribute : (r : ℕ) × Stands h o cs w.attribute r n
   of_attribute =
       let z = at_n in
-      let e = clash_values h o cs w.members.chains w.valid y n w.attribute z.0 w.site z.1 at_y z.2
-      w.clash in
+      let e = conflict_values h o cs w.members.chains w.valid y n w.attribute z.0 w.site z.1 at_y
+      z.2
+      w.conflict in
       (z.1, subst (λ t. Stands h o cs t z.1 n) (sym e.0) z.2)
 
+  -- what stands in the chain has its index there
+  index_is : (x : ℕ) → (d : Stands h o cs w.attribute w.site x) → (setter_of x).index ≡ d.index
+  index_is x d = (setter_of-chain_number (chain_of w.attribute w.site) d.index x
+      (index_short h o cs w.members.chains w.attribute w.site d.index d.setter w.within d.at)
+      d.number).1
+
   -- y stands from k on
-  pub from_start : k ≤ y
+  pub from_start : k.index ≤ (setter_of y).index
   from_start =
       let a = at_y in
-      let x : w.clash.first ≡ a.op = some_one w.clash.first a.op (sym w.clash.at_first ∙ a.found) in
+      let x : w.conflict.first ≡ a.op = some_one w.conflict.first a.op (sym w.conflict.at_first
+      ∙ a.found) in
       let seq = a.seq in
-      let late : entry w.clash.second.past (w.site + 1) < a.setter.seq =
-      elim (cases_lt (entry w.clash.second.past (w.site + 1)) a.setter.seq) [
+      let late : entry w.conflict.second.past (w.site + 1) < a.setter.seq =
+      elim (cases_lt (entry w.conflict.second.past (w.site + 1)) a.setter.seq) [
         | inl l ↦ l
         | inr l ↦
-            let known : a.op.id.seq ≤ entry w.clash.second.past (w.site + 1) = omega (arith, l, seq)
+            let known : a.op.id.seq ≤ entry w.conflict.second.past (w.site + 1) = omega
+            (arith, l, seq)
             in
-            absurd (w.clash.direct.concurrent.not_before
-            (subst (λ (z : Op). Precedes z w.clash.second) (sym x)
-            (subst (λ z. a.op.id.seq ≤ entry w.clash.second.past z) (sym a.site) known)))
+            absurd (w.conflict.direct.concurrent.not_before
+            (subst (λ (z : Op). Precedes z w.conflict.second) (sym x)
+            (subst (λ z. a.op.id.seq ≤ entry w.conflict.second.past z) (sym a.site) known)))
       ] in
-      let r = w.unknown.from a.index a.setter a.at late in
-      let e = a.number in
-      omega (arith, r, e)
+      subst (λ z. k.index ≤ z) (sym (index_is y a)) (w.unknown.from a.index a.setter a.at late)
 
-  at_member : (x : ℕ) → Contains us x → OneChain x k → Stands h o cs w.attribute w.site x
+  at_member : (x : ℕ) → Contains us x → (setter_of x).chain ≡ k.chain
+      → Stands h o cs w.attribute w.site x
   at_member x i c = let q = w.members.setters x i in in_chain h o cs w.members.chains x q.0 q.1
       w.attribute w.site w.within (c ∙ w.unknown.chain)
 
-  before_y : (x : ℕ) → (d : Stands h o cs w.attribute w.site x) → k ≤ x → x ≤ y
-      → value_of h cs x ≢ value_of h cs n → Clash h cs x n
-  before_y = clash_before h o cs w.members.chains w.valid w.attribute w.site y n w.within at_y
-      (inr of_attribute) w.clash k w.unknown
+  before_y : (x : ℕ) → (d : Stands h o cs w.attribute w.site x) → k.index ≤ d.index → x ≤ y
+      → value_of h cs x ≢ value_of h cs n → ConflictDirectly h cs x n
+  before_y = conflict_before h o cs w.members.chains w.valid w.attribute w.site y n w.within at_y
+      (inr of_attribute) w.conflict k w.unknown
 
-  -- THE FIRST MEMBER from k on, or its other, clashes
-  pub first_clashes : (f : Member) → IsOfChain ms k f → f.number ≤ y
-      → Clash h cs f.number n ⊎ ((x : ℕ) × (f.other ≡ Some x) × Clash h cs x n)
-  first_clashes f c le =
+  -- THE FIRST MEMBER from k on, or its other, conflicts
+  pub first_conflicts : (f : Member) → IsOfChain ms k f → f.number ≤ y
+      → ConflictDirectly h cs f.number n ⊎ ((x : ℕ) × (f.other ≡ Some x) × ConflictDirectly h cs x
+      n)
+  first_conflicts f c le =
       let d = at_member f.number (w.members.members.listed f c.listed) c.chain in
       let e = of_attribute.1 in
       elim (values_parted (value_of h cs f.number) (value_of h cs n) d.value e.value d.gives
       e.gives) [
-        | inr differ ↦ inl (before_y f.number d c.from le differ)
+        | inr differ ↦ inl (before_y f.number d (subst (λ z. k.index ≤ z) (index_is f.number d)
+            c.from) le differ)
         | inl same ↦
-            let parted = (clash_values h o cs w.members.chains w.valid y n w.attribute w.attribute
-            w.site of_attribute.0 at_y e w.clash).1 in
+            let parted = (conflict_values h o cs w.members.chains w.valid y n w.attribute
+            w.attribute
+            w.site of_attribute.0 at_y e w.conflict).1 in
             let m = w.members.members.each f c.listed in
             let t = m.first y w.among (w.chain ∙ sym c.chain) le (λ g. parted (g ∙ same)) in
             let i = m.is t.0 t.1 in
             let from = c.from in
             let above = i.2 in
+            let one = i.1 in
             let x = at_member t.0 i.0 (i.1 ∙ c.chain) in
             inr (
               t.0,
               t.1,
-              before_y t.0 x (omega (arith, from, above)) t.2 (λ g. i.3 (g ∙ sym same)),
+              before_y t.0 x (subst (λ z. k.index ≤ z) (index_is t.0 x)
+                  (omega (arith, from, above, one))) t.2 (λ g. i.3 (g ∙ sym same)),
             )
       ]
 
@@ -372,25 +391,26 @@ module _ (h : List Op) (o : ObjectId) (cs : List (List Setter)) (us : List ℕ) 
         m.0,
         record {
           listed = m.1;
-          from = omega (arith, e, s);
-          chain = ap (λ z. z / block) e ∙ w.chain;
+          from = subst (λ z. k.index ≤ (setter_of z).index) (sym e) s;
+          chain = ap (λ z. (setter_of z).chain) e ∙ w.chain;
         },
         e,
       )
 
--- no setter of us of the first j sites clashes
+-- no setter of us of the first j sites conflicts
 abbrev pub NoneAt : List Op → List (List Setter) → List Member → ℕ → ℕ → Type 0
 NoneAt h cs ms n j = (o : ObjectId) (us : List ℕ) → AreMembersOf h o cs us ms → (y q : ℕ)
-    → Contains us y → (k : IsNumber cs y q) → k.site < j → ¬ (Clash h cs y n)
+    → Contains us y → (k : IsNumber cs y q) → k.site < j → ¬ (ConflictDirectly h cs y n)
 
 module _ (h : List Op) (cs : List (List Setter)) (ms : List Member) (n : ℕ) where
   pub none_yet : NoneAt h cs ms n 0
   none_yet o us members y q i k l c = omega (arith, l)
 
   -- one site more
-  pub none_more : (valid : IsValid h) (op : Op) (v : Value) (j start : ℕ) → op_of h cs n ≡ Some op
-      → op_value (Some op) ≡ Some v → j < 8 → IsFirstUnknown cs (attribute_of v) j op.past start →
-      ((o : ObjectId) (us : List ℕ) (y : ℕ) → ¬ (CanClash h o cs us ms start n y))
+  pub none_more : (valid : IsValid h) (op : Op) (v : Value) (j : ℕ) (start : SetterIndex)
+      → op_of h cs n ≡ Some op → op_value (Some op) ≡ Some v → j < 8
+      → IsFirstUnknown cs (attribute_of v) j op.past start →
+      ((o : ObjectId) (us : List ℕ) (y : ℕ) → ¬ (CanConflict h o cs us ms start n y))
       → NoneAt h cs ms n j → NoneAt h cs ms n (j + 1)
   none_more valid op v j start found gives l first calm none o us members y q i k m c =
       elim (cases_lt k.site j) [
@@ -398,13 +418,14 @@ module _ (h : List Op) (cs : List (List Setter)) (ms : List Member) (n : ℕ) wh
         | inr more ↦
             let here : k.site ≡ j = omega (arith, more, m) in
             let a = stands h o cs members.chains y q k in
-            let z = clash_numbers h o cs members.chains y n c in
+            let z = conflict_numbers h o cs members.chains y n c in
             let b = stands h o cs members.chains n z.1 z.3 in
             let second : c.second ≡ op = some_one c.second op (sym c.at_second ∙ found) in
             let own : b.op ≡ op = some_one b.op op (sym b.found ∙ found) in
             let value : b.value ≡ v = some_one b.value v (ap value_set (sym b.change)
             ∙ (ap (λ (w : Op). value_set w.change) own ∙ gives)) in
-            let e = (clash_values h o cs members.chains valid y n k.attribute z.3.attribute k.site
+            let e = (conflict_values h o cs members.chains valid y n k.attribute z.3.attribute
+            k.site
             z.3.site a b c).0 in
             let attribute : k.attribute ≡ attribute_of v = e
             ∙ (sym b.attribute ∙ ap attribute_of value)
@@ -415,7 +436,7 @@ module _ (h : List Op) (cs : List (List Setter)) (ms : List Member) (n : ℕ) wh
               valid = valid;
               members = members;
               among = i;
-              clash = c;
+              conflict = c;
               attribute = attribute_of v;
               site = j;
               within = l;
@@ -427,15 +448,15 @@ module _ (h : List Op) (cs : List (List Setter)) (ms : List Member) (n : ℕ) wh
 
   -- all sites
   pub none_at_all : NoneAt h cs ms n 8 → (o : ObjectId) (us : List ℕ) → AreMembersOf h o cs us ms
-      → ¬ (ClashesWithOne h cs us n)
+      → ¬ (ConflictsWithOne h cs us n)
   none_at_all none o us members w =
       let q = members.setters w.one w.among in
-      none o us members w.one q.0 w.among q.1 q.1.within w.clash
+      none o us members w.one q.0 w.among q.1 q.1.within w.conflict
 
   pub none_given : (o : ObjectId) (us : List ℕ) → AreMembersOf h o cs us ms → (op : Op)
-      → op_of h cs n ≡ Some op → op_value (Some op) ≡ None → ¬ (ClashesWithOne h cs us n)
+      → op_of h cs n ≡ Some op → op_value (Some op) ≡ None → ¬ (ConflictsWithOne h cs us n)
   none_given o us members op found e w =
-      let z = clash_numbers h o cs members.chains w.one n w.clash in
+      let z = conflict_numbers h o cs members.chains w.one n w.conflict in
       let b = stands h o cs members.chains n z.1 z.3 in
       let own : b.op ≡ op = some_one b.op op (sym b.found ∙ found) in
       let g : Some b.value ≡ None = ap value_set (sym b.change)
@@ -576,7 +597,7 @@ module _ (h : List Op) (cs : List (List Setter)) where
           ];
         }
         by_last (Some l) e f = by_chain l (last_least l e) f
-            (cases_eq (l.number / block) (x / block))
+            (cases_eq (setter_of l.number).chain (setter_of x).chain)
 
     -- an old member does not see the new one, which is below it
     still_member : (m : Member) → Contains ms m → PointsToOther h cs (x ∷ us) m
@@ -742,10 +763,6 @@ module _ (ms : List Member) (falls : AreFalling ms) (k p : ℕ) (before : (i : �
             ],
       )
 
--- what lies between numbers of one chain is of it
-pub between_chain : (k f m : ℕ) → k ≤ f → f ≤ m → m / block ≡ k / block → f / block ≡ k / block
-between_chain k f m a b c = omega (arith, a, b, c)
-
 pub zero_from : (p : ℕ) → ((1 ≤ p) → ⊥) → p ≡ 0
 zero_from zero f = refl
 zero_from (suc p) f = absurd (f (omega arith))
@@ -754,12 +771,13 @@ zero_from (suc p) f = absurd (f (omega arith))
 
 pub first_unknown_is : (cs : List (List Setter)) (t : Attr) (s : ℕ) (past : Clock)
     (ss : List Setter) (x n : ℕ) → x ≡ chain_of t s → ss ≡ setters cs t s
-    → IsCountUpTo ss (entry past (s + 1)) n → n < block → IsFirstUnknown cs t s past (x * block + n)
-first_unknown_is cs t s past ss x n e same c short = record {
-  chain = omega (arith, e, short);
+    → IsCountUpTo ss (entry past (s + 1)) n
+    → IsFirstUnknown cs t s past (record { chain = x; index = n })
+first_unknown_is cs t s past ss x n e same c = record {
+  chain = e;
   unknown = λ p f at l.
       let w = got_at ss p f (subst (λ z. slice_get z p ≡ Some f) (sym same) at) in
-      let u = c.above p f (omega (arith, l, e)) w.0 in
+      let u = c.above p f l w.0 in
       subst (λ (z : Setter). entry past (s + 1) < z.seq) w.1 u;
   from = λ p f at l.
       let w = got_at ss p f (subst (λ z. slice_get z p ≡ Some f) (sym same) at) in
@@ -767,6 +785,6 @@ first_unknown_is cs t s past ss x n e same c short = record {
         | inl u ↦
             let v = subst (λ (z : Setter). z.seq ≤ entry past (s + 1)) w.1 (c.below p f u) in
             absurd (omega (arith, v, l))
-        | inr u ↦ omega (arith, u, e)
+        | inr u ↦ u
       ];
 }

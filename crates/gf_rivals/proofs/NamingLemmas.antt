@@ -17,24 +17,24 @@ use Rattle.gf_ops.specs.ValidHistory.{IsValid}
 use Rattle.gf_ops.proofs.HistoryLemmas.{site_in_range}
 use Rattle.gf_ops.proofs.ValidityLemmas.{same_op}
 use Rattle.gf_rivals.specs.declared.chain.Setter.{Setter}
-use Rattle.gf_rivals.specs.Setters.{block}
 use Rattle.gf_rivals.specs.Chains.{chain_of, setters}
 use Rattle.gf_rivals.specs.Giving.{value_set}
 use Rattle.gf_rivals.specs.Naming.{AddsNamed, HasSeq, IsNamed, IsSetterNumber}
 use Rattle.gf_rivals.specs.Rivals.{AreChainsOf}
 use Rattle.gf_rivals.proofs.IndexLemmas.{Contains-joined}
 use Rattle.gf_rivals.proofs.NumberLemmas.{some_one, contained_at}
+use Rattle.gf_rivals.proofs.SetterIndexLemmas.{chain_number}
 
 -- ---- in one chain
 
 -- the setter with the number m in its chain has an index there
 pub index_in : (cs : List (List Setter)) (i k m n : ℕ) (ss : List Setter)
     → ss ≡ slice_index_or cs i [] → i ≡ k → IsSetterNumber cs k m n
-    → (p : ℕ) × HasSeq ss m p × (n ≡ i * block + p)
+    → (p : ℕ) × HasSeq ss m p × (n ≡ chain_number i p)
 index_in cs i k m n ss e same w = (
   w.index,
   subst (λ z. HasSeq z m w.index) (sym (e ∙ ap (λ z. slice_index_or cs z []) same)) w.setter,
-  w.number ∙ ap (λ z. z * block + w.index) (sym same),
+  w.number ∙ ap (λ z. chain_number z w.index) (sym same),
 )
 
 -- ---- by an id
@@ -107,8 +107,8 @@ module _ (h : List Op) (o : ObjectId) (cs : List (List Setter)) (chains : AreCha
               (subst (λ z. slice_get (setters cs z m.site) m.index ≡ Some m.setter) attribute m.at);
           seq = seq;
         };
-        number = subst (λ z. n ≡ chain_of t z * block + m.index) site
-            (subst (λ z. n ≡ chain_of z m.site * block + m.index) attribute m.number);
+        number = subst (λ z. n ≡ chain_number (chain_of t z) m.index) site
+            (subst (λ z. n ≡ chain_number (chain_of z m.site) m.index) attribute m.number);
       }
 
   -- what makes an object is no setter

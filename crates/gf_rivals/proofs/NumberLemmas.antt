@@ -1,6 +1,6 @@
 -- The numbers of setters and their positions: each number is that of one setter, and each position
 -- has one number.
-use Rattle.std.proofs.Common.{◌≡◌, ℕ, zero, suc, ◌<◌, ◌≤◌, ◌+◌, ◌*◌, ◌/◌, ◌%◌, List, [], ◌∷◌}
+use Rattle.std.proofs.Common.{◌≡◌, ℕ, zero, suc, ◌<◌, ◌≤◌, ◌+◌, ◌*◌, ◌/◌, ◌%◌, ◌^◌, List, [], ◌∷◌}
 use Rattle.std.proofs.Common.{length, get_or, inl, inr, refl, subst, sym, ap, ◌∙◌, arith}
 use Rattle.std.specs.Prelude.{Contains, Option, Some, None, slice_get, unwrap_or, option_map}
 use Rattle.std.proofs.lemmas.Bool.{cases_lt}
@@ -13,9 +13,12 @@ use Rattle.gf_ops.specs.declared.change.Change.{Change}
 use Rattle.gf_ops.specs.declared.change.Change.TheVariants.{Create, Set}
 use Rattle.gf_ops.specs.Attribute.{attribute_of}
 use Rattle.gf_rivals.specs.declared.chain.Setter.{Setter}
-use Rattle.gf_rivals.specs.Setters.{block}
-use Rattle.gf_rivals.specs.Chains.{rank, chain_of, setters, position_of}
+use Rattle.gf_rivals.specs.declared.setter_index.TheConstants.{FIRST_ABOVE}
+use Rattle.gf_rivals.specs.SetterIndexes.{setter_of}
+use Rattle.gf_rivals.specs.Chains.{attribute_index, chain_of, setters, position_of}
 use Rattle.gf_rivals.specs.Rivals.{IsNumber, AreChainsOf}
+use Rattle.gf_rivals.proofs.SetterIndexLemmas.{chain_number, number_of-setter_of, one_chain_number}
+use Rattle.gf_rivals.proofs.SetterIndexLemmas.{setter_of-chain_number}
 use Rattle.gf_rivals.proofs.SetterLemmas.{from_index}
 
 pub some_one : {X : Type 0} (a b : X) → Some a ≡ Some b → a ≡ b
@@ -32,65 +35,52 @@ pub contained_at : {X : Type 0} (xs : List X) (i : ℕ) (x : X) → slice_get xs
     → Contains xs x
 contained_at xs i x e = let w = got_at xs i x e in (i, w.0, w.1)
 
--- ---- attributes by their ranks
+-- ---- attributes by their indices
 
-pub rank_below : (t : Attr) → rank t < 6
-rank_below Place = omega arith
-rank_below Points = omega arith
-rank_below Size = omega arith
-rank_below Colour = omega arith
-rank_below Layer = omega arith
-rank_below Shown = omega arith
+pub attribute_index_below : (t : Attr) → attribute_index t < 6
+attribute_index_below Place = omega arith
+attribute_index_below Points = omega arith
+attribute_index_below Size = omega arith
+attribute_index_below Colour = omega arith
+attribute_index_below Layer = omega arith
+attribute_index_below Shown = omega arith
 
-unranked : ℕ → Attr
-unranked zero = Place
-unranked (suc zero) = Points
-unranked (suc (suc zero)) = Size
-unranked (suc (suc (suc zero))) = Colour
-unranked (suc (suc (suc (suc zero)))) = Layer
-unranked (suc (suc (suc (suc (suc k))))) = Shown
+attribute_at : ℕ → Attr
+attribute_at zero = Place
+attribute_at (suc zero) = Points
+attribute_at (suc (suc zero)) = Size
+attribute_at (suc (suc (suc zero))) = Colour
+attribute_at (suc (suc (suc (suc zero)))) = Layer
+attribute_at (suc (suc (suc (suc (suc k))))) = Shown
 
-rank_back : (t : Attr) → unranked (rank t) ≡ t
-unfolding unranked
-rank_back Place = refl
-rank_back Points = refl
-rank_back Size = refl
-rank_back Colour = refl
-rank_back Layer = refl
-rank_back Shown = refl
+attribute_at_index : (t : Attr) → attribute_at (attribute_index t) ≡ t
+unfolding attribute_at
+attribute_at_index Place = refl
+attribute_at_index Points = refl
+attribute_at_index Size = refl
+attribute_at_index Colour = refl
+attribute_at_index Layer = refl
+attribute_at_index Shown = refl
 
-pub rank_one : (t u : Attr) → rank t ≡ rank u → t ≡ u
-rank_one t u e = sym (rank_back t) ∙ (ap unranked e ∙ rank_back u)
+pub one_attribute : (t u : Attr) → attribute_index t ≡ attribute_index u → t ≡ u
+one_attribute t u e = sym (attribute_at_index t) ∙ (ap attribute_at e ∙ attribute_at_index u)
 
-rank_to : (r : ℕ) → r < 6 → rank (unranked r) ≡ r
-unfolding unranked
-rank_to zero l = refl
-rank_to (suc zero) l = refl
-rank_to (suc (suc zero)) l = refl
-rank_to (suc (suc (suc zero))) l = refl
-rank_to (suc (suc (suc (suc zero)))) l = refl
-rank_to (suc (suc (suc (suc (suc zero))))) l = refl
-rank_to (suc (suc (suc (suc (suc (suc k)))))) l = absurd (omega arith)
+attribute_index_at : (r : ℕ) → r < 6 → attribute_index (attribute_at r) ≡ r
+unfolding attribute_at
+attribute_index_at zero l = refl
+attribute_index_at (suc zero) l = refl
+attribute_index_at (suc (suc zero)) l = refl
+attribute_index_at (suc (suc (suc zero))) l = refl
+attribute_index_at (suc (suc (suc (suc zero)))) l = refl
+attribute_index_at (suc (suc (suc (suc (suc zero))))) l = refl
+attribute_index_at (suc (suc (suc (suc (suc (suc k)))))) l = absurd (omega arith)
 
 -- the attribute that a setter sets
 abbrev attribute_set : Change → Attr
 attribute_set (Create start) = Place
 attribute_set (Set o v aim) = attribute_of v
 
--- ---- blocks
-
-one_block : (k l p q : ℕ) → p < block → q < block → k * block + p ≡ l * block + q
-    → (k ≡ l) × (p ≡ q)
-one_block k l p q a b e = elim (cases_lt k l) [
-  | inl x ↦ absurd (omega arith)
-  | inr x ↦ elim (cases_lt l k) [
-    | inl y ↦ absurd (omega arith)
-    | inr y ↦ (omega arith, omega arith)
-  ]
-]
-
-by_block : (k p n : ℕ) → p < block → n ≡ k * block + p → (n / block ≡ k) × (n % block ≡ p)
-by_block k p n l e = (omega arith, omega arith)
+-- ---- chains
 
 past_end : (cs : List (List Setter)) (k : ℕ) → length cs ≤ k → get_or cs k [] ≡ []
 past_end [] k l = refl
@@ -107,37 +97,39 @@ setter_found (Some e) q f = (e, refl, some_one e.position q f)
 
 -- the number of the setter at the index p in the chain with the index k
 pub number_in : (cs : List (List Setter)) (k p : ℕ) (e : Setter) → k < 48
-    → slice_get (get_or cs k []) p ≡ Some e → IsNumber cs (k * block + p) e.position
+    → slice_get (get_or cs k []) p ≡ Some e → IsNumber cs (chain_number k p) e.position
 number_in cs k p e l at =
-    let first : rank (unranked (k / 8)) ≡ k / 8 = rank_to (k / 8) (omega (arith, l)) in
-    let chain : k ≡ chain_of (unranked (k / 8)) (k % 8) = omega (arith, first) in
+    let first : attribute_index (attribute_at (k / 8)) ≡ k / 8 = attribute_index_at (k / 8)
+    (omega (arith, l)) in
+    let chain : k ≡ chain_of (attribute_at (k / 8)) (k % 8) = omega (arith, first) in
     record {
-      attribute = unranked (k / 8);
+      attribute = attribute_at (k / 8);
       site = k % 8;
       within = omega arith;
       index = p;
       setter = e;
       at = subst (λ z. slice_get (get_or cs z []) p ≡ Some e) chain at;
-      number = ap (λ z. z * block + p) chain;
+      number = ap (λ z. chain_number z p) chain;
       position = refl;
     }
 
 module _ (h : List Op) (o : ObjectId) (cs : List (List Setter)) (chains : AreChainsOf h o cs) where
   pub index_short : (t : Attr) (s p : ℕ) (e : Setter) → s < 8
-      → slice_get (setters cs t s) p ≡ Some e → p < block
+      → slice_get (setters cs t s) p ≡ Some e → p < 2 ^ 32
   index_short t s p e l a = let w = (from_index (setters cs t s) p e a).0 in
       let k = (chains.ordered t s l).short in omega (arith, w, k)
 
   pub one_setter : (n : ℕ) (t u : Attr) (s r p q : ℕ) (e f : Setter) → s < 8 → r < 8
       → slice_get (setters cs t s) p ≡ Some e → slice_get (setters cs u r) q ≡ Some f →
-      n ≡ chain_of t s * block + p → n ≡ chain_of u r * block + q → (t ≡ u) × (s ≡ r) × (e ≡ f)
+      n ≡ chain_number (chain_of t s) p → n ≡ chain_number (chain_of u r) q
+      → (t ≡ u) × (s ≡ r) × (e ≡ f)
   one_setter n t u s r p q e f l m a b x y =
-      let w = one_block (chain_of t s) (chain_of u r) p q (index_short t s p e l a)
+      let w = one_chain_number (chain_of t s) (chain_of u r) p q (index_short t s p e l a)
       (index_short u r q f m b) (sym x ∙ y) in
       let c = w.0 in
       let same_site : s ≡ r = omega (arith, c, l, m) in
-      let same_rank : rank t ≡ rank u = omega (arith, c, l, m) in
-      let same : t ≡ u = rank_one t u same_rank in (
+      let same_index : attribute_index t ≡ attribute_index u = omega (arith, c, l, m) in
+      let same : t ≡ u = one_attribute t u same_index in (
         same,
         same_site,
         some_one e f (sym a ∙ (ap (λ z. slice_get (setters cs t s) z) w.1
@@ -193,14 +185,14 @@ module _ (h : List Op) (o : ObjectId) (cs : List (List Setter)) (chains : AreCha
       (subst (λ z. slice_get (setters cs z k.site) k.index ≡ Some k.setter) attribute k.at) in
       let index = one_index l.attribute l.site k.index l.index k.setter l.setter l.within at l.at
       seq in
-      k.number ∙ (ap (λ z. chain_of z k.site * block + k.index) attribute
-      ∙ (ap (λ z. chain_of l.attribute z * block + k.index) site
-      ∙ (ap (λ z. chain_of l.attribute l.site * block + z) index ∙ sym l.number)))
+      k.number ∙ (ap (λ z. chain_number (chain_of z k.site) k.index) attribute
+      ∙ (ap (λ z. chain_number (chain_of l.attribute z) k.index) site
+      ∙ (ap (chain_number (chain_of l.attribute l.site)) index ∙ sym l.number)))
 
   -- numbers lie below those of all chains
-  pub number_below : (n q : ℕ) → IsNumber cs n q → n < 48 * block
+  pub number_below : (n q : ℕ) → IsNumber cs n q → n < FIRST_ABOVE
   number_below n q k =
-      let r = rank_below k.attribute in
+      let r = attribute_index_below k.attribute in
       let l = k.within in
       let p = index_short k.attribute k.site k.index k.setter k.within k.at in
       let e = k.number in
@@ -215,9 +207,10 @@ module _ (h : List Op) (o : ObjectId) (cs : List (List Setter)) (chains : AreCha
   -- a setter's number leads to its position
   pub position_is : (n q : ℕ) → IsNumber cs n q → position_of cs n ≡ Some q
   position_is n q k =
-      let w = by_block (chain_of k.attribute k.site) k.index n
+      let w = setter_of-chain_number (chain_of k.attribute k.site) k.index n
       (index_short k.attribute k.site k.index k.setter k.within k.at) k.number in
-      ap (λ z. option_map (λ (e : Setter). e.position) (slice_get (get_or cs z []) (n % block))) w.0
+      ap (λ z. option_map (λ (e : Setter). e.position)
+      (slice_get (get_or cs z []) (setter_of n).index)) w.0
       ∙ (ap (λ z. option_map (λ (e : Setter). e.position)
       (slice_get (setters cs k.attribute k.site) z)) w.1
       ∙ (ap (option_map (λ (e : Setter). e.position)) k.at ∙ ap Some k.position))
@@ -225,8 +218,8 @@ module _ (h : List Op) (o : ObjectId) (cs : List (List Setter)) (chains : AreCha
   -- and only a setter's number leads to one
   pub number_from : (n q : ℕ) → position_of cs n ≡ Some q → IsNumber cs n q
   number_from n q f =
-      let k = n / block in
-      let p = n % block in
+      let k = (setter_of n).chain in
+      let p = (setter_of n).index in
       let w = setter_found (slice_get (get_or cs k []) p) q f in
       let all = chains.count in
       let inside : k < 48 = elim (cases_lt k 48) [
@@ -234,9 +227,8 @@ module _ (h : List Op) (o : ObjectId) (cs : List (List Setter)) (chains : AreCha
         | inr l ↦ absurd (let e : slice_get [] p ≡ Some w.0 = ap (λ z. slice_get z p)
             (sym (past_end cs k (omega (arith, l, all)))) ∙ w.1 in cc)
       ] in
-      let e : n ≡ k * block + p = omega arith in
-      subst (λ z. IsNumber cs z q) (sym e)
-      (subst (IsNumber cs (k * block + p)) w.2 (number_in cs k p w.0 inside w.1))
+      subst (λ z. IsNumber cs z q) (sym (number_of-setter_of n))
+      (subst (IsNumber cs (chain_number k p)) w.2 (number_in cs k p w.0 inside w.1))
 
   -- what is no setter's number has no position
   pub position_none : (n : ℕ) → ((q : ℕ) → ¬ (IsNumber cs n q)) → position_of cs n ≡ None

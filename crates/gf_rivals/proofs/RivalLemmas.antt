@@ -31,12 +31,12 @@ use Rattle.gf_rivals.specs.Comparing.{is_value, value_at, number_gives}
 use Rattle.gf_rivals.specs.Indexes.{numbers_at, IsIndex}
 use Rattle.gf_rivals.proofs.FingerprintLemmas.{determined_value}
 use Rattle.gf_rivals.specs.declared.chain.Setter.{Setter}
-use Rattle.gf_rivals.specs.Setters.{block}
 use Rattle.gf_rivals.specs.Chains.{chain_of, setters, position_of, IsUnknown}
 use Rattle.gf_rivals.specs.Rivals.{IsNumber, AreChainsOf, GivesAt, AreRivals, IsDirect}
 use Rattle.gf_rivals.proofs.NextLemmas.{fresh, unknown}
 use Rattle.gf_rivals.proofs.NumberLemmas.{some_one, contained_at, one_position, position_is}
 use Rattle.gf_rivals.proofs.NumberLemmas.{number_from}
+use Rattle.gf_rivals.proofs.SetterIndexLemmas.{chain_number}
 
 -- ---- values and attributes
 
@@ -158,7 +158,7 @@ module _ (h : List Op) (o : ObjectId) (cs : List (List Setter)) (chains : AreCha
               setter = k.setter;
               at = subst (λ z. slice_get (setters cs z k.site) k.index ≡ Some k.setter) one k.at;
               unknown = late;
-              number = subst (λ z. n ≡ chain_of z k.site * block + k.index) one k.number;
+              number = subst (λ z. n ≡ chain_number (chain_of z k.site) k.index) one k.number;
             };
           },
           λ q m g.

@@ -1,7 +1,7 @@
 -- Setters by their indices.
-use Rattle.std.proofs.Common.{◌≡◌, ℕ, zero, suc, ◌<◌, ◌≤◌, ◌+◌, ◌-◌, ◌*◌, List, [], ◌∷◌, ◌++◌}
+use Rattle.std.proofs.Common.{◌≡◌, ℕ, zero, suc, ◌<◌, ◌≤◌, ◌+◌, ◌-◌, ◌*◌, ◌^◌, List, [], ◌∷◌, ◌++◌}
 use Rattle.std.proofs.Common.{length, get_or, inl, inr, refl, subst, sym, ap, arith, nat_le, true}
-use Rattle.std.proofs.Common.{false}
+use Rattle.std.proofs.Common.{false, ◌∙◌}
 use Rattle.std.specs.Prelude.{◌⊎◌, ◌↔◌, Contains, Option, Some, None, slice_get, Result, Ok, Err}
 use Rattle.std.specs.Prelude.{IfOk}
 use Rattle.std.specs.List.{range_with_len}
@@ -15,8 +15,9 @@ use Rattle.gf_maximal.proofs.PutLemmas.{Contains-range}
 use Rattle.gf_maximal.proofs.UnitedLemmas.{Contains-united}
 use Rattle.gf_maximal.specs.Growing.{united}
 use Rattle.gf_rivals.specs.declared.chain.Setter.{Setter}
-use Rattle.gf_rivals.specs.Setters.{block, AreSetters, IsCountUpTo, IsNumberAbove}
-use Rattle.gf_rivals.specs.Chains.{rank, chain_of, setters, IsUnknown}
+use Rattle.gf_rivals.specs.Setters.{AreSetters, IsCountUpTo, IsNumberAbove}
+use Rattle.gf_rivals.specs.Chains.{attribute_index, chain_of, setters, IsUnknown}
+use Rattle.gf_rivals.proofs.SetterIndexLemmas.{chain_number}
 
 seq_up_to : (m n : ℕ) → nat_le m n ≡ true → m ≤ n
 seq_up_to m n h = grind (arith, nat_tests)
@@ -56,14 +57,15 @@ a_setter = record { seq = 0; position = 0 }
 
 -- the numbers from the first unknown one on are those of the setters above m
 pub above_exact : (ss : List Setter) (b m k n : ℕ) (g : List ℕ) → IsCountUpTo ss m k
-    → g ≡ range_with_len (b + k) (b + length ss - (b + k)) → Contains g n ↔ IsNumberAbove ss b m n
+    → g ≡ range_with_len (chain_number b k) (chain_number b (length ss) - chain_number b k)
+    → Contains g n ↔ IsNumberAbove ss b m n
 above_exact ss b m k n g c e =
-    let r = Contains-range (b + length ss - (b + k)) (b + k) n in
+    let r = Contains-range (chain_number b (length ss) - chain_number b k) (chain_number b k) n in
     let bound = c.bound in (
       λ h.
           let w = r.0 (subst (λ z. Contains z n) e h) in
           let l = w.0 in let u = w.1 in
-          let p = n - b in
+          let p = n - chain_number b 0 in
           let in_it : p < length ss = omega arith in
           let from : k ≤ p = omega arith in
           record {
@@ -91,12 +93,12 @@ above_exact ss b m k n g c e =
 
 pub unknown_more : (cs : List (List Setter)) (t : Attr) (past : Clock) (m j n : ℕ) → j ≡ m + 1
     → IsUnknown cs t past j n ↔ (IsUnknown cs t past m n ⊎ IsNumberAbove (setters cs t m)
-    (chain_of t m * block) (entry past (m + 1)) n)
+    (chain_of t m) (entry past (m + 1)) n)
 unknown_more cs t past m j n e = (
   λ h. let w = h.within in elim (cases_lt h.site m) [
     | inl l ↦ inl (record { site = h.site; within = l; setter = h.setter })
     | inr l ↦ let same : h.site ≡ m = omega arith in
-        inr (subst (λ z. IsNumberAbove (setters cs t z) (chain_of t z * block) (entry past (z + 1))
+        inr (subst (λ z. IsNumberAbove (setters cs t z) (chain_of t z) (entry past (z + 1))
         n) same h.setter)
   ],
   λ h. elim h [
@@ -120,7 +122,7 @@ pushed_at (t ∷ ss) s (suc i) d l = elim (pushed_at ss s i d (omega arith)) [
 
 pub setters_push : (ss qs : List Setter) (s : Setter) → qs ≡ ss ++ s ∷ [] → AreSetters ss
     → ((i : ℕ) (d : Setter) → i < length ss → (get_or ss i d).seq < s.seq) → 0 < s.seq
-    → s.seq < block → AreSetters qs
+    → s.seq < 2 ^ 32 → AreSetters qs
 setters_push ss qs s e a f z b = subst AreSetters (sym e) (record {
   rise = λ i j d l m. elim (pushed_at ss s j d m) [
     | inl w ↦ elim (pushed_at ss s i d (let k = w.0 in let n = longer ss in omega arith)) [
@@ -154,13 +156,14 @@ setters_push ss qs s e a f z b = subst AreSetters (sym e) (record {
       | inr l ↦ omega arith
     ]
 
-pub above_result : {B : Type 0} (r : Result (List ℕ) B) (ss : List Setter) (b m k l : ℕ)
-    → IsCountUpTo ss m k → l ≡ length ss
-    → IfOk r (λ g. g ≡ range_with_len (b + k) (b + l - (b + k)))
+pub above_result : {B : Type 0} (r : Result (List ℕ) B) (ss : List Setter) (b m k l u v : ℕ)
+    → IsCountUpTo ss m k → l ≡ length ss → u ≡ chain_number b k → v ≡ chain_number b l
+    → IfOk r (λ g. g ≡ range_with_len u (v - u))
     → IfOk r (λ g. (n : ℕ) → Contains g n ↔ IsNumberAbove ss b m n)
-above_result (Ok g) ss b m k l c e f = λ n. above_exact ss b m k n g c
-    (subst (λ z. g ≡ range_with_len (b + k) (b + z - (b + k))) e f)
-above_result (Err x) ss b m k l c e f = tt
+above_result (Ok g) ss b m k l u v c e first end f = λ n. above_exact ss b m k n g c
+    (subst (λ z. g ≡ range_with_len (chain_number b k) (z - chain_number b k))
+    (end ∙ ap (chain_number b) e) (subst (λ z. g ≡ range_with_len z (v - z)) first f))
+above_result (Err x) ss b m k l u v c e first end f = tt
 
 pub counted : (ss qs : List Setter) (m k : ℕ) → ss ≡ qs → k ≤ length qs
     → ((i : ℕ) (d : Setter) → 0 ≤ i → i < k → nat_le (get_or qs i d).seq m ≡ true)
@@ -199,21 +202,20 @@ found_none found more ss b m f e n = (
 
 -- the found ones, with those of one more site
 pub site_more : (cs : List (List Setter)) (t : Attr) (past : Clock) (m j f : ℕ) (found new : List ℕ)
-    → j ≡ m + 1 → f ≡ rank t * 8 →
+    → j ≡ m + 1 → f ≡ attribute_index t * 8 →
     ((n : ℕ) → Contains found n ↔ IsUnknown cs t past m n) →
     ((n : ℕ) → Contains new n ↔ (Contains found n ⊎ IsNumberAbove (get_or cs (f + m) [])
-    ((f + m) * block) (get_or past.0 m 0) n)) →
+    (f + m) (get_or past.0 m 0) n)) →
     (n : ℕ) → Contains new n ↔ IsUnknown cs t past j n
 site_more cs t past m j f found new e g x y n =
     let at : f + m ≡ chain_of t m = ap (λ k. k + m) g in
     let known : get_or past.0 m 0 ≡ entry past (m + 1) = let d : m ≡ m + 1 - 1 = omega arith in
     ap (λ k. get_or past.0 k 0) d in
     let one : Contains new n
-    ↔ (Contains found n ⊎ IsNumberAbove (setters cs t m) (chain_of t m * block) (entry past (m + 1))
-    n) =
+    ↔ (Contains found n ⊎ IsNumberAbove (setters cs t m) (chain_of t m) (entry past (m + 1)) n) =
     subst (λ k. Contains new n
-    ↔ (Contains found n ⊎ IsNumberAbove (setters cs t m) (chain_of t m * block) k n)) known
-    (subst (λ k. Contains new n ↔ (Contains found n ⊎ IsNumberAbove (get_or cs k []) (k * block)
+    ↔ (Contains found n ⊎ IsNumberAbove (setters cs t m) (chain_of t m) k n)) known
+    (subst (λ k. Contains new n ↔ (Contains found n ⊎ IsNumberAbove (get_or cs k []) k
     (get_or past.0 m 0) n)) at (y n)) in
     let step = unknown_more cs t past m j n e in (
       λ h. step.1 (elim (one.0 h) [ inl i ↦ inl ((x n).0 i) | inr i ↦ inr i ]),

@@ -67,7 +67,7 @@ abbrev pub op_of : List Op → List (List Setter) → ℕ → Option Op
 op_of h cs n = op_at h (position_of cs n)
 
 -- the setters with the numbers m and n conflict directly
-pub record Clash (h : List Op) (cs : List (List Setter)) (m n : ℕ) : Type 0 where
+pub record ConflictDirectly (h : List Op) (cs : List (List Setter)) (m n : ℕ) : Type 0 where
   pub first : Op
   pub second : Op
   pub at_first : op_of h cs m ≡ Some first
@@ -75,11 +75,11 @@ pub record Clash (h : List Op) (cs : List (List Setter)) (m n : ℕ) : Type 0 wh
   pub direct : DirectConflict first second
 
 -- a setter with one of the numbers us conflicts directly with the setter with the number n
-pub record ClashesWithOne (h : List Op) (cs : List (List Setter)) (us : List ℕ)
+pub record ConflictsWithOne (h : List Op) (cs : List (List Setter)) (us : List ℕ)
     (n : ℕ) : Type 0 where
   pub one : ℕ
   pub among : Contains us one
-  pub clash : Clash h cs one n
+  pub conflict : ConflictDirectly h cs one n
 
 -- n is the number of a setter with which a, or one that a aims at, conflicts directly
 pub record IsMet (h : List Op) (cs : List (List Setter)) (a : Op) (n : ℕ) : Type 0 where

@@ -1,5 +1,5 @@
 -- The setters of an object, by attribute and site.
-use Rattle.std.specs.Prelude.{ℕ, ◌+◌, ◌*◌, ◌/◌, ◌%◌, ◌<◌, List, [], ◌∷◌}
+use Rattle.std.specs.Prelude.{ℕ, ◌+◌, ◌*◌, ◌<◌, List, [], ◌∷◌}
 use Rattle.std.specs.Prelude.{◌++◌, slice_index_or, slice_get, slice_set, Option, option_map}
 use Rattle.std.specs.List.{repeat}
 use Rattle.gf_ops.specs.declared.change.Attr.{Attr}
@@ -7,21 +7,22 @@ use Rattle.gf_ops.specs.declared.change.Attr.TheVariants.{Place, Points, Size, C
 use Rattle.gf_ops.specs.declared.op.Clock.{Clock}
 use Rattle.gf_ops.specs.OperationOrder.{entry}
 use Rattle.gf_rivals.specs.declared.chain.Setter.{Setter}
-use Rattle.gf_rivals.specs.Setters.{block, IsNumberAbove}
+use Rattle.gf_rivals.specs.SetterIndexes.{setter_of}
+use Rattle.gf_rivals.specs.Setters.{IsNumberAbove}
 use Rattle.gf_rivals.specs.declared.chains.TheConstants.{CHAINS}
 
 -- the index of the attribute
-abbrev pub rank : Attr → ℕ
-rank Place = 0
-rank Points = 1
-rank Size = 2
-rank Colour = 3
-rank Layer = 4
-rank Shown = 5
+abbrev pub attribute_index : Attr → ℕ
+attribute_index Place = 0
+attribute_index Points = 1
+attribute_index Size = 2
+attribute_index Colour = 3
+attribute_index Layer = 4
+attribute_index Shown = 5
 
 -- the index of the chain of the attribute t and the site s + 1
 abbrev pub chain_of : Attr → ℕ → ℕ
-chain_of t s = rank t * 8 + s
+chain_of t s = attribute_index t * 8 + s
 
 -- the setters of the attribute t by the site s + 1
 abbrev pub setters : List (List Setter) → Attr → ℕ → List Setter
@@ -31,12 +32,12 @@ setters cs t s = slice_index_or cs (chain_of t s) []
 pub record IsUnknown (cs : List (List Setter)) (t : Attr) (past : Clock) (m n : ℕ) : Type 0 where
   pub site : ℕ
   pub within : site < m
-  pub setter : IsNumberAbove (setters cs t site) (chain_of t site * block) (entry past (site + 1)) n
+  pub setter : IsNumberAbove (setters cs t site) (chain_of t site) (entry past (site + 1)) n
 
 -- the position of the setter with the number n
 abbrev pub position_of : List (List Setter) → ℕ → Option ℕ
-position_of cs n = option_map (λ (e : Setter). e.position)
-    (slice_get (slice_index_or cs (n / block) []) (n % block))
+position_of cs n = let i = setter_of n in option_map (λ (e : Setter). e.position)
+    (slice_get (slice_index_or cs i.chain []) i.index)
 
 -- the chains without a setter
 abbrev pub no_chains : List (List Setter)

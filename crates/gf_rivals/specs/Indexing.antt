@@ -1,5 +1,5 @@
 -- How an index is made, one setter after the other. No public clause cites this module.
-use Rattle.std.specs.Prelude.{◌≡◌, ◌↔◌, ◌⊎◌, ℕ, ◌+◌, ◌*◌, ◌<◌, List}
+use Rattle.std.specs.Prelude.{◌≡◌, ◌↔◌, ◌⊎◌, ℕ, ◌<◌, List}
 use Rattle.std.specs.Prelude.{[], Contains, Option, None, Some}
 use Rattle.std.specs.Prelude.{length, slice_get, slice_index_or}
 use Rattle.gf_ops.specs.declared.op.Op.{Op}
@@ -7,33 +7,33 @@ use Rattle.gf_rivals.specs.declared.chain.Setter.{Setter}
 use Rattle.gf_rivals.specs.declared.fingerprint.Fingerprint.{Fingerprint}
 use Rattle.gf_rivals.specs.Giving.{op_value, fingerprint_given}
 use Rattle.gf_rivals.specs.Indexes.{Entries, numbers_at, PutsNumber}
-use Rattle.gf_rivals.specs.Setters.{block}
+use Rattle.gf_rivals.specs.SetterIndexes.{number_of}
 
 -- new has the number x under the fingerprint that is given, if one is, and what old has
 abbrev pub PutsGiven : Entries → Option Fingerprint → ℕ → Entries → Type 0
 PutsGiven old None x new = new ≡ old
 PutsGiven old (Some p) x new = PutsNumber old p x new
 
--- n is the number of one of the first m setters of ss, with the fingerprint p. The first setter of
--- all has the number b
-pub record IsListed (h : List Op) (ss : List Setter) (b m : ℕ) (p : Fingerprint)
+-- n is the number of one of the first m setters of chain k, with the fingerprint p. The setters of
+-- the chain are ss
+pub record IsListed (h : List Op) (ss : List Setter) (k m : ℕ) (p : Fingerprint)
     (n : ℕ) : Type 0 where
   pub index : ℕ
   pub within : index < m
   pub setter : Setter
   pub at : slice_get ss index ≡ Some setter
   pub given : fingerprint_given (op_value (slice_get h setter.position)) ≡ Some p
-  pub number : n ≡ b + index
+  pub number : n ≡ number_of (record { chain = k; index = index })
 
--- new has what old has, and the first m setters of ss
+-- new has what old has, and the first m setters of chain k, whose setters are ss
 abbrev pub Lists : List Op → List Setter → ℕ → ℕ → Entries → Entries → Type 0
-Lists h ss b m old new = (p : Fingerprint) (n : ℕ)
-    → Contains (numbers_at new p) n ↔ (Contains (numbers_at old p) n ⊎ IsListed h ss b m p n)
+Lists h ss k m old new = (p : Fingerprint) (n : ℕ)
+    → Contains (numbers_at new p) n ↔ (Contains (numbers_at old p) n ⊎ IsListed h ss k m p n)
 
 -- new has what old has, and the setters of the chain with the index k
 abbrev pub ListsChain : List Op → List (List Setter) → ℕ → Entries → Entries → Type 0
 ListsChain h cs k old new = let ss = slice_index_or cs k []
-    in Lists h ss (k * block) (length ss) old new
+    in Lists h ss k (length ss) old new
 
 -- n is the number of a setter of the first k chains whose value has the fingerprint p
 pub record IsListedBelow (h : List Op) (cs : List (List Setter)) (k : ℕ) (p : Fingerprint)
@@ -44,4 +44,4 @@ pub record IsListedBelow (h : List Op) (cs : List (List Setter)) (k : ℕ) (p : 
   pub setter : Setter
   pub at : slice_get (slice_index_or cs chain []) index ≡ Some setter
   pub given : fingerprint_given (op_value (slice_get h setter.position)) ≡ Some p
-  pub number : n ≡ chain * block + index
+  pub number : n ≡ number_of (record { chain = chain; index = index })

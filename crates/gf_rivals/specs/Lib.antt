@@ -1,3 +1,4 @@
+pub mod SetterIndexes
 pub mod Setters
 pub mod KeptChains
 pub mod Chains

@@ -1,6 +1,6 @@
 -- The setters of an aim, the last one first, each with the next setter of its chain that gives
 -- another value.
-use Rattle.std.specs.Prelude.{◌≡◌, ◌≢◌, ℕ, ◌+◌, ◌*◌, ◌/◌, ◌<◌}
+use Rattle.std.specs.Prelude.{◌≡◌, ◌≢◌, ℕ, ◌+◌, ◌<◌}
 use Rattle.std.specs.Prelude.{◌≤◌, List, Contains, Option, Some, None, slice_get}
 use Rattle.std.specs.Prelude.{slice_index_or, length}
 use Rattle.gf_ops.specs.declared.op.Op.{Op}
@@ -12,11 +12,12 @@ use Rattle.gf_ops.specs.OperationOrder.{entry}
 use Rattle.gf_ops.specs.ValidHistory.{IsValid}
 use Rattle.gf_rivals.specs.declared.chain.Setter.{Setter}
 use Rattle.gf_rivals.specs.declared.members.Member.{Member}
-use Rattle.gf_rivals.specs.Aimed.{Clash, op_of}
+use Rattle.gf_rivals.specs.declared.setter_index.SetterIndex.{SetterIndex}
+use Rattle.gf_rivals.specs.Aimed.{ConflictDirectly, op_of}
 use Rattle.gf_rivals.specs.Chains.{chain_of, setters}
 use Rattle.gf_rivals.specs.Giving.{op_value}
 use Rattle.gf_rivals.specs.Rivals.{IsNumber, AreChainsOf}
-use Rattle.gf_rivals.specs.Setters.{block}
+use Rattle.gf_rivals.specs.SetterIndexes.{setter_of}
 
 -- the value of the setter with the number n
 abbrev pub value_of : List Op → List (List Setter) → ℕ → Option Value
@@ -29,7 +30,7 @@ AreFalling ms = (i j : ℕ) (d : Member) → i < j → j < length ms
 
 -- m and n are numbers of one chain
 abbrev pub OneChain : ℕ → ℕ → Type 0
-OneChain m n = m / block ≡ n / block
+OneChain m n = (setter_of m).chain ≡ (setter_of n).chain
 
 -- r is what a number has as its next one with another value, where next is the member behind it
 abbrev pub IsOther : List Op → List (List Setter) → ℕ → Option Member → Option ℕ
@@ -67,30 +68,30 @@ pub record AreMembersOf (h : List Op) (o : ObjectId) (cs : List (List Setter)) (
   pub setters : ListsSetters cs us
   pub members : AreMembers h cs us ms
 
--- m is a member from the number k on, in the chain of k
-pub record IsOfChain (ms : List Member) (k : ℕ) (m : Member) : Type 0 where
+-- m is a member of the chain of k, from the index of k on
+pub record IsOfChain (ms : List Member) (k : SetterIndex) (m : Member) : Type 0 where
   pub listed : Contains ms m
-  pub from : k ≤ m.number
-  pub chain : OneChain m.number k
+  pub from : k.index ≤ (setter_of m.number).index
+  pub chain : (setter_of m.number).chain ≡ k.chain
 
--- the clock does not count k, the first such number of a setter of t by the site s + 1
+-- the clock does not count k, the first such setter of t by the site s + 1
 pub record IsFirstUnknown (cs : List (List Setter)) (t : Attr) (s : ℕ) (past : Clock)
-    (k : ℕ) : Type 0 where
-  pub chain : k / block ≡ chain_of t s
+    (k : SetterIndex) : Type 0 where
+  pub chain : k.chain ≡ chain_of t s
   pub unknown : (p : ℕ) (e : Setter) → slice_get (setters cs t s) p ≡ Some e
-      → k ≤ chain_of t s * block + p → entry past (s + 1) < e.seq
+      → k.index ≤ p → entry past (s + 1) < e.seq
   pub from : (p : ℕ) (e : Setter) → slice_get (setters cs t s) p ≡ Some e
-      → entry past (s + 1) < e.seq → k ≤ chain_of t s * block + p
+      → entry past (s + 1) < e.seq → k.index ≤ p
 
 -- y is one of us and conflicts directly with the setter n, which knows nothing from k on
-pub record CanClash (h : List Op) (o : ObjectId) (cs : List (List Setter)) (us : List ℕ)
-    (ms : List Member) (k n y : ℕ) : Type 0 where
+pub record CanConflict (h : List Op) (o : ObjectId) (cs : List (List Setter)) (us : List ℕ)
+    (ms : List Member) (k : SetterIndex) (n y : ℕ) : Type 0 where
   pub valid : IsValid h
   pub members : AreMembersOf h o cs us ms
   pub among : Contains us y
-  pub clash : Clash h cs y n
+  pub conflict : ConflictDirectly h cs y n
   pub attribute : Attr
   pub site : ℕ
   pub within : site < 8
-  pub unknown : IsFirstUnknown cs attribute site clash.second.past k
-  pub chain : OneChain y k
+  pub unknown : IsFirstUnknown cs attribute site conflict.second.past k
+  pub chain : (setter_of y).chain ≡ k.chain

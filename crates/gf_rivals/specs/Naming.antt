@@ -1,12 +1,12 @@
 -- Setters by their ids. No public clause cites this module.
-use Rattle.std.specs.Prelude.{◌≡◌, ◌↔◌, ◌⊎◌, ℕ, ◌+◌, ◌*◌, List, []}
+use Rattle.std.specs.Prelude.{◌≡◌, ◌↔◌, ◌⊎◌, ℕ, List, []}
 use Rattle.std.specs.Prelude.{Contains, Some, slice_get, slice_index_or}
 use Rattle.gf_ops.specs.declared.op.Op.{Op}
 use Rattle.gf_ops.specs.declared.op.OpId.{OpId}
 use Rattle.gf_ops.specs.declared.op.ObjectId.{ObjectId}
 use Rattle.gf_ops.specs.Attribute.{object_of}
 use Rattle.gf_rivals.specs.declared.chain.Setter.{Setter}
-use Rattle.gf_rivals.specs.Setters.{block}
+use Rattle.gf_rivals.specs.SetterIndexes.{number_of}
 use Rattle.gf_rivals.specs.Rivals.{IsNumber, AreChainsOf}
 
 -- the setter at the index p has the number m at its site
@@ -19,7 +19,7 @@ pub record HasSeq (ss : List Setter) (m p : ℕ) : Type 0 where
 pub record IsSetterNumber (cs : List (List Setter)) (k m n : ℕ) : Type 0 where
   pub index : ℕ
   pub setter : HasSeq (slice_index_or cs k []) m index
-  pub number : n ≡ k * block + index
+  pub number : n ≡ number_of (record { chain = k; index = index })
 
 -- n is the number of the setter with the id
 pub record IsNamed (h : List Op) (cs : List (List Setter)) (id : OpId) (n : ℕ) : Type 0 where

@@ -1,5 +1,5 @@
 -- Which setters of an object conflict with the next operation.
-use Rattle.std.specs.Prelude.{◌≡◌, ◌↔◌, ℕ, ◌+◌, ◌*◌, ◌<◌, List, Contains}
+use Rattle.std.specs.Prelude.{◌≡◌, ◌↔◌, ℕ, ◌+◌, ◌<◌, List, Contains}
 use Rattle.std.specs.Prelude.{Some, slice_get, length}
 use Rattle.gf_ops.specs.declared.op.Op.{Op}
 use Rattle.gf_ops.specs.declared.op.OpId.{OpId}
@@ -11,7 +11,8 @@ use Rattle.gf_ops.specs.declared.change.Value.{Value}
 use Rattle.gf_ops.specs.Attribute.{attribute_of}
 use Rattle.gf_ops.specs.DirectConflict.{DirectConflict}
 use Rattle.gf_rivals.specs.declared.chain.Setter.{Setter}
-use Rattle.gf_rivals.specs.Setters.{block, AreSetters}
+use Rattle.gf_rivals.specs.SetterIndexes.{number_of}
+use Rattle.gf_rivals.specs.Setters.{AreSetters}
 use Rattle.gf_rivals.specs.Chains.{chain_of, setters, IsUnknown}
 use Rattle.gf_rivals.specs.declared.chains.TheConstants.{CHAINS}
 
@@ -34,7 +35,7 @@ pub record IsNumber (cs : List (List Setter)) (n q : ℕ) : Type 0 where
   pub index : ℕ
   pub setter : Setter
   pub at : slice_get (setters cs attribute site) index ≡ Some setter
-  pub number : n ≡ chain_of attribute site * block + index
+  pub number : n ≡ number_of (record { chain = chain_of attribute site; index = index })
   pub position : setter.position ≡ q
 
 -- the chains have the setters of o in h, those of each site in their order

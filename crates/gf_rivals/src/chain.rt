@@ -4,8 +4,10 @@ ghost use Rattle.std.specs.Prelude.{◌≡◌, ◌↔◌, ◌++◌, ◌∷◌, [
 ghost use Rattle.std.specs.Prelude.{IfOk, IfSome, OnOk, OnErr, Some};
 ghost use Rattle.gf_rivals.specs.Naming.{HasSeq};
 ghost use Rattle.std.specs.Prelude.{option_copied, slice_get, slice_index_or, length};
-ghost use Rattle.gf_rivals.specs.Setters.{block, IsCountUpTo, IsNumberAbove};
+ghost use Rattle.gf_rivals.specs.Setters.{IsCountUpTo, IsNumberAbove};
+ghost use Rattle.gf_rivals.specs.declared.chains.TheConstants.{CHAINS};
 
+use crate::setter_index::SetterIndex;
 use gf_maximal::Numbers;
 use gf_shape::OutOfMemory;
 use std::alloc::Global;
@@ -49,7 +51,7 @@ impl Chain {
     /// How many setters there are.
     pub fn len(&self) -> usize
         ensures value { result ≡ length self.now }
-        ensures bound { result < block }
+        ensures bound { result < 2 ^ 32 }
     {
         self.setters.len()
     }
@@ -57,7 +59,7 @@ impl Chain {
     /// All setters.
     pub fn setters(&self) -> &[Setter]
         ensures value { result.now ≡ self.now }
-        ensures bound { length self.now < block }
+        ensures bound { length self.now < 2 ^ 32 }
     {
         &self.setters
     }
@@ -72,7 +74,7 @@ impl Chain {
     /// How many of the first setters have a number up to this one.
     pub fn count_up_to(&self, count: u32) -> usize
         ensures value { IsCountUpTo self.now count result }
-        ensures bound { result < block }
+        ensures bound { result < 2 ^ 32 }
     {
         self.setters.partition_point(|setter| setter.seq <= count)
     }
@@ -81,23 +83,28 @@ impl Chain {
     pub fn index(&self, seq: u32) -> Option<usize>
         ensures some { IfSome result (λ index. HasSeq self.now seq index) }
         ensures all { (p : _) → HasSeq self.now seq p → result ≡ Some p }
-        ensures bound { IfSome result (λ index. index < block) }
+        ensures bound { IfSome result (λ index. index < 2 ^ 32) }
     {
         let index = self.count_up_to(seq).checked_sub(1)?;
         let setter = self.setters.get(index)?;
         if setter.seq == seq { Some(index) } else { None }
     }
 
-    /// The numbers of the setters whose number at their site is above this one. The first setter of
-    /// all has the number `base`.
-    pub fn unknown(&self, alloc: Global, base: usize, count: u32) -> Result<Numbers, OutOfMemory>
-        requires { base + block ≤ 2 ^ 64 }
+    /// The numbers of the setters whose number at their site is above this one, where the chain has
+    /// this index.
+    pub fn unknown(&self, alloc: Global, chain: usize, count: u32) -> Result<Numbers, OutOfMemory>
+        requires { chain < CHAINS }
         ensures { IfOk result (λ found. (n : _)
-            → Contains found n ↔ IsNumberAbove self.now base count n) }
+            → Contains found n ↔ IsNumberAbove self.now chain count n) }
     {
         let len = self.len();
         let known = self.count_up_to(count);
-        Numbers::between(alloc, base + known, base + len)
+        let first = SetterIndex {
+            chain,
+            index: known,
+        };
+        let end = SetterIndex { chain, index: len };
+        Numbers::between(alloc, first.number(), end.number())
     }
 
     /// Adds a setter behind the others, which have smaller numbers at their site.

@@ -8,13 +8,17 @@ ghost use Rattle.gf_rivals.specs.Members.{IsFirstUnknown};
 ghost use Rattle.gf_rivals.specs.Naming.{IsSetterNumber};
 ghost use Rattle.gf_ops.specs.OperationOrder.{IsSite, entry};
 ghost use Rattle.gf_ops.specs.ValidHistory.{IsWithin};
-ghost use Rattle.gf_rivals.specs.Setters.{block, IsNumberAbove};
-ghost use Rattle.gf_rivals.specs.Chains.{rank, chain_of, setters, no_chains, position_of};
+ghost use Rattle.gf_rivals.specs.SetterIndexes.{HasNumber, number_of};
+ghost use Rattle.gf_rivals.specs.Setters.{IsNumberAbove};
+ghost use Rattle.gf_rivals.specs.Chains.{attribute_index, chain_of, setters, no_chains};
+ghost use Rattle.gf_rivals.specs.Chains.{position_of};
 ghost use Rattle.gf_rivals.specs.Chains.{with_setter, with_chain, IsUnknown};
-ghost use Rattle.gf_rivals.specs.declared.chains.TheConstants.{CHAINS, FIRST_ABOVE};
+ghost use Rattle.gf_rivals.specs.declared.chains.TheConstants.{CHAINS};
+ghost use Rattle.gf_rivals.specs.declared.setter_index.TheConstants.{FIRST_ABOVE};
 
 use crate::chain::Chain;
 use crate::kept::{KeptChains, copied, pop_from, push_to};
+use crate::setter_index::SetterIndex;
 use gf_maximal::Numbers;
 use gf_ops::{Attr, Clock, OpId};
 use gf_shape::OutOfMemory;
@@ -22,14 +26,8 @@ use std::alloc::Global;
 use std::collections::BTreeMap;
 use std::marker::Model;
 
-/// The numbers that are kept for one chain.
-pub const BLOCK: usize = 4_294_967_296;
-
 /// How many chains there are: one for each attribute and site.
 pub const CHAINS: usize = 48;
-
-/// The first number above those of all setters.
-pub const FIRST_ABOVE: usize = CHAINS * BLOCK;
 
 /// The chains of all attributes and sites. A chain is kept from its first setter on, so few setters
 /// take little memory.
@@ -55,8 +53,8 @@ impl Model for Chains {
 }
 
 /// The index of an attribute.
-fn rank(attribute: Attr) -> usize
-    ensures value { result ≡ rank attribute }
+fn attribute_index(attribute: Attr) -> usize
+    ensures value { result ≡ attribute_index attribute }
     ensures bound { result < 6 }
 {
     match attribute {
@@ -70,12 +68,12 @@ fn rank(attribute: Attr) -> usize
 }
 
 /// The index of the chain of an attribute and a site.
-fn index_of(attribute: Attr, site: u8) -> usize
+fn chain_of(attribute: Attr, site: u8) -> usize
     requires { IsSite site }
     ensures value { result ≡ chain_of attribute (site - 1) }
     ensures bound { result < CHAINS }
 {
-    rank(attribute) * 8 + (usize::from(site) - 1)
+    attribute_index(attribute) * 8 + (usize::from(site) - 1)
 }
 
 /// The clock, which counts the operation under this id too.
@@ -127,17 +125,17 @@ impl Chains {
         &self,
         alloc: Global,
         found: Numbers,
-        index: usize,
+        chain: usize,
         count: u32,
     ) -> Result<Numbers, OutOfMemory>
-        requires { index < CHAINS }
-        ensures { let ss = slice_index_or self.now index [] in IfOk result (λ all. (n : _)
-            → Contains all n ↔ (Contains found n ⊎ IsNumberAbove ss (index * block) count n)) }
+        requires { chain < CHAINS }
+        ensures { let ss = slice_index_or self.now chain [] in IfOk result (λ all. (n : _)
+            → Contains all n ↔ (Contains found n ⊎ IsNumberAbove ss chain count n)) }
     {
-        let Some(chain) = self.chain(index) else {
+        let Some(setters) = self.chain(chain) else {
             return Ok(found);
         };
-        let more = chain.unknown(alloc, index * BLOCK, count)?;
+        let more = setters.unknown(alloc, chain, count)?;
         if more.is_empty() {
             return Ok(found);
         }
@@ -158,7 +156,7 @@ impl Chains {
         if self.latest.is_within(past) {
             return Ok(Numbers::new(alloc));
         }
-        let first = rank(attribute) * 8;
+        let first = attribute_index(attribute) * 8;
         let mut found = Numbers::new(alloc);
         for site in 0..8 {
             found = self.with_unknown(alloc, found, first + site, past.0[site])?;
@@ -166,16 +164,20 @@ impl Chains {
         Ok(found)
     }
 
-    /// The first number of a setter of the attribute by the site that the clock does not count. The
-    /// sites are counted from 0.
-    pub(crate) fn first_unknown(&self, attribute: Attr, site: usize, past: &Clock) -> usize
+    /// The first setter of the attribute by the site that the clock does not count. The sites are
+    /// counted from 0.
+    pub(crate) fn first_unknown(&self, attribute: Attr, site: usize, past: &Clock) -> SetterIndex
         requires { site < 8 }
-        ensures { IsFirstUnknown self.now attribute site past.now result }
+        ensures first { IsFirstUnknown self.now attribute site past.now result }
+        ensures number { HasNumber result }
     {
-        let index = rank(attribute) * 8 + site;
-        match self.chain(index) {
-            Some(chain) => index * BLOCK + chain.count_up_to(past.0[site]),
-            None => index * BLOCK,
+        let chain = attribute_index(attribute) * 8 + site;
+        match self.chain(chain) {
+            Some(setters) => {
+                let index = setters.count_up_to(past.0[site]);
+                SetterIndex { chain, index }
+            }
+            None => SetterIndex { chain, index: 0 },
         }
     }
 
@@ -184,8 +186,8 @@ impl Chains {
         ensures value { result ≡ position_of self.now number }
         ensures bound { IfSome result (λ _. number < FIRST_ABOVE) }
     {
-        let chain = self.chain(number / BLOCK)?;
-        let setter = chain.get(number % BLOCK)?;
+        let SetterIndex { chain, index } = SetterIndex::of(number);
+        let setter = self.chain(chain)?.get(index)?;
         Some(setter.position)
     }
 
@@ -198,22 +200,27 @@ impl Chains {
             → result ≡ Some n }
         ensures bound { IfSome result (λ n. n + 1 < 2 ^ 64) }
     {
-        let index = index_of(attribute, id.site);
-        let at = self.chain(index)?.index(id.seq)?;
-        Some(index * BLOCK + at)
+        let chain = chain_of(attribute, id.site);
+        let index = self.chain(chain)?.index(id.seq)?;
+        Some(SetterIndex { chain, index }.number())
     }
 
     /// The number that the next setter of the attribute by the site will have.
     pub fn next_number(&self, attribute: Attr, site: u8) -> usize
         requires { IsSite site }
-        ensures value { result ≡ chain_of attribute (site - 1) * block
-            + length (setters self.now attribute (site - 1)) }
+        ensures value { result ≡ number_of (record {
+          chain = chain_of attribute (site - 1);
+          index = length (setters self.now attribute (site - 1));
+        }) }
         ensures bound { result + 1 < 2 ^ 64 }
     {
-        let index = index_of(attribute, site);
-        match self.chain(index) {
-            Some(chain) => index * BLOCK + chain.len(),
-            None => index * BLOCK,
+        let chain = chain_of(attribute, site);
+        match self.chain(chain) {
+            Some(setters) => {
+                let index = setters.len();
+                SetterIndex { chain, index }.number()
+            }
+            None => SetterIndex { chain, index: 0 }.number(),
         }
     }
 
@@ -233,9 +240,9 @@ impl Chains {
             (record { seq = id.seq; position = position })) }
         ensures err { OnErr result (self.new ≡ self.old) }
     {
-        let index = index_of(attribute, id.site);
+        let chain = chain_of(attribute, id.site);
         self.latest = counting(self.latest, id);
-        push_to(alloc, &mut self.chains, index, id.seq, position)
+        push_to(alloc, &mut self.chains, chain, id.seq, position)
     }
 
     /// Takes the last setter of the attribute by the site away, if there is one.
@@ -244,7 +251,7 @@ impl Chains {
         ensures { (us : _) (e : _) → setters self.old attribute (site - 1) ≡ us ++ e ∷ []
             → self.new ≡ with_chain self.old attribute (site - 1) us }
     {
-        let index = index_of(attribute, site);
-        pop_from(&mut self.chains, index);
+        let chain = chain_of(attribute, site);
+        pop_from(&mut self.chains, chain);
     }
 }

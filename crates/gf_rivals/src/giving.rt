@@ -4,8 +4,7 @@ ghost use Rattle.std.specs.Prelude.{◌≡◌, ◌*◌, ◌<◌, IsTrue, option_
 ghost use Rattle.gf_ops.specs.ConflictTests.{value_eq};
 ghost use Rattle.gf_rivals.specs.Comparing.{is_value, number_gives};
 ghost use Rattle.gf_rivals.specs.Giving.{op_value};
-ghost use Rattle.gf_rivals.specs.Setters.{block};
-ghost use Rattle.gf_rivals.specs.declared.chains.TheConstants.{FIRST_ABOVE};
+ghost use Rattle.gf_rivals.specs.declared.setter_index.TheConstants.{FIRST_ABOVE};
 
 use crate::chains::Chains;
 use gf_ops::{Change, Op, Value};

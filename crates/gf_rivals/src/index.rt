@@ -11,9 +11,10 @@ ghost use Rattle.gf_rivals.specs.Indexing.{PutsGiven, Lists, ListsChain};
 ghost use Rattle.gf_rivals.specs.declared.chains.TheConstants.{CHAINS};
 
 use crate::chain::Setter;
-use crate::chains::{BLOCK, CHAINS, Chains};
+use crate::chains::{CHAINS, Chains};
 use crate::fingerprint::{Fingerprint, fingerprint_of};
 use crate::giving::op_value;
+use crate::setter_index::SetterIndex;
 use gf_maximal::Numbers;
 use gf_ops::{History, Op, Value};
 use gf_shape::OutOfMemory;
@@ -99,25 +100,27 @@ fn add_setter(
     }
 }
 
-/// Adds the setters of a chain, the first of which has the number `base`.
+/// Adds the setters of the chain with this index.
 fn add_setters(
     alloc: Global,
     ops: &[Op],
     setters: &[Setter],
-    base: usize,
+    chain: usize,
     numbers: &mut NumbersByFingerprint,
 ) -> Result<(), OutOfMemory>
-    requires { base + length setters.now < 2 ^ 64 }
-    ensures { OnOk result (Lists ops.now setters.now base (length setters.now)
+    requires chain { chain < CHAINS }
+    requires short { length setters.now < 2 ^ 32 }
+    ensures { OnOk result (Lists ops.now setters.now chain (length setters.now)
         numbers.old.entries numbers.new.entries) }
 {
     for (index, setter) in setters.iter().enumerate() {
-        add_setter(alloc, ops, setter.position, base + index, numbers)?;
+        let number = SetterIndex { chain, index }.number();
+        add_setter(alloc, ops, setter.position, number, numbers)?;
     }
     Ok(())
 }
 
-/// Adds the setters of the chain with this index.
+/// Adds the setters of the chain with this index, if it is kept.
 fn add_chain(
     alloc: Global,
     ops: &[Op],
@@ -130,7 +133,7 @@ fn add_chain(
         (ListsChain ops.now chains.now index numbers.old.entries numbers.new.entries) }
 {
     match chains.chain(index) {
-        Some(chain) => add_setters(alloc, ops, chain.setters(), index * BLOCK, numbers),
+        Some(chain) => add_setters(alloc, ops, chain.setters(), index, numbers),
         None => Ok(()),
     }
 }

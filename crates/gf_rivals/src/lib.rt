@@ -1,8 +1,13 @@
 //! The setters of an object's attributes, and which of them conflict with the next operation.
 //!
+//! A setter is known by its chain, which is that of its attribute and site, and by its index there.
+//! A set of setters keeps each as one number below [`FIRST_ABOVE`].
+//!
 //! - [`Chains`]: the setters by attribute and site, each with a number.
 //! - [`Index`]: the numbers of the setters by the values that they give.
 //! - [`rivals`]: the numbers of the setters that conflict with the next operation.
+//! - [`conflicting_with`]: the numbers of the setters that conflict with one of some others.
+//! - [`Aimed`], [`numbers_of`], [`with_aimed`]: operations that aim at others, by numbers.
 #![tactic(auto)]
 
 mod aims;
@@ -14,9 +19,11 @@ mod giving;
 mod index;
 mod kept;
 mod members;
+mod setter_index;
 
 pub use aims::{Aimed, numbers_of, with_aimed};
-pub use chains::{Chains, FIRST_ABOVE};
+pub use chains::Chains;
 pub use conflicting::rivals;
 pub use index::Index;
-pub use members::clashing;
+pub use members::conflicting_with;
+pub use setter_index::FIRST_ABOVE;

@@ -4,16 +4,17 @@ ghost use Rattle.std.specs.Prelude.{◌≡◌, ◌≢◌, ◌↔◌, ◌*◌, �
 ghost use Rattle.std.specs.Prelude.{IfOk, IfSome, OnOk, IsTrue, option_copied};
 ghost use Rattle.gf_maximal.specs.Tables.{IsRising};
 ghost use Rattle.gf_ops.specs.Limits.{IsInRange};
-ghost use Rattle.gf_rivals.specs.Aimed.{Clash, ClashesWithOne, op_of};
+ghost use Rattle.gf_rivals.specs.Aimed.{ConflictDirectly, ConflictsWithOne, op_of};
 ghost use Rattle.gf_rivals.specs.Comparing.{AddsIf};
-ghost use Rattle.gf_rivals.specs.Members.{AreFalling, AreMembers, AreMembersOf, CanClash};
+ghost use Rattle.gf_rivals.specs.Members.{AreFalling, AreMembers, AreMembersOf, CanConflict};
 ghost use Rattle.gf_rivals.specs.Members.{IsOfChain, IsOther, ListsSetters, value_of};
 ghost use Rattle.gf_rivals.specs.Rivals.{AreChainsOf};
-ghost use Rattle.gf_rivals.specs.Setters.{block};
-ghost use Rattle.gf_rivals.specs.declared.chains.TheConstants.{FIRST_ABOVE};
+ghost use Rattle.gf_rivals.specs.SetterIndexes.{HasNumber};
+ghost use Rattle.gf_rivals.specs.declared.setter_index.TheConstants.{FIRST_ABOVE};
 
-use crate::chains::{BLOCK, Chains};
+use crate::chains::Chains;
 use crate::giving::{number_gives, op_value};
+use crate::setter_index::SetterIndex;
 use gf_maximal::Numbers;
 use gf_ops::{History, Op, Value, direct_conflict};
 use gf_shape::OutOfMemory;
@@ -37,8 +38,8 @@ fn op_of<'a>(history: &'a History, chains: &Chains, number: usize) -> Option<&'a
 }
 
 /// Whether the setters with these numbers conflict directly.
-fn clash(history: &History, chains: &Chains, number: usize, other: usize) -> bool
-    ensures value { IsTrue result ↔ Clash history.now.ops chains.now number other }
+fn conflict(history: &History, chains: &Chains, number: usize, other: usize) -> bool
+    ensures value { IsTrue result ↔ ConflictDirectly history.now.ops chains.now number other }
     ensures bound { IsTrue result → other < FIRST_ABOVE }
 {
     match (
@@ -79,7 +80,7 @@ fn other_of(
     ensures { IsOther history.now.ops chains.now number (option_copied next.entry) result }
 {
     let next = next?;
-    if next.number / BLOCK != number / BLOCK {
+    if SetterIndex::of(next.number).chain != SetterIndex::of(number).chain {
         return None;
     }
     if give_others(history, chains, number, next.number) {
@@ -110,17 +111,19 @@ fn members_of(
 }
 
 /// The first of the members from `start` on, if it is of the same chain.
-fn first_from(members: &[Member], start: usize) -> Option<&Member>
-    requires { AreFalling members.now }
+fn first_from(members: &[Member], start: SetterIndex) -> Option<&Member>
+    requires members { AreFalling members.now }
+    requires start { HasNumber start }
     ensures some { IfSome result (λ first. IsOfChain members.now start first.now) }
     ensures least { (m : _) → IsOfChain members.now start m
         → (f : _) × (option_copied result ≡ Some f) × (f.number ≤ m.number) }
 {
+    let number = start.number();
     let index = members
-        .partition_point(|member| member.number >= start)
+        .partition_point(|member| member.number >= number)
         .checked_sub(1)?;
     let first = members.get(index)?;
-    if first.number / BLOCK == start / BLOCK {
+    if SetterIndex::of(first.number).chain == start.chain {
         Some(first)
     } else {
         None
@@ -129,37 +132,38 @@ fn first_from(members: &[Member], start: usize) -> Option<&Member>
 
 /// Whether the first of the members from `start` on, or its next with another value, conflicts
 /// directly with the setter.
-fn clashes_from(
+fn conflicts_from(
     history: &History,
     chains: &Chains,
     members: &[Member],
-    start: usize,
+    start: SetterIndex,
     number: usize,
 ) -> bool
-    requires { AreFalling members.now }
+    requires members { AreFalling members.now }
+    requires start { HasNumber start }
     ensures sound { (us : _) → AreMembers history.now.ops chains.now us members.now
-        → IsTrue result → ClashesWithOne history.now.ops chains.now us number }
+        → IsTrue result → ConflictsWithOne history.now.ops chains.now us number }
     ensures complete { (o : _) (us : _) (y : _)
-        → CanClash history.now.ops o chains.now us members.now start number y → IsTrue result }
+        → CanConflict history.now.ops o chains.now us members.now start number y → IsTrue result }
     ensures bound { IsTrue result → number < FIRST_ABOVE }
 {
     let Some(first) = first_from(members, start) else {
         return false;
     };
-    if clash(history, chains, first.number, number) {
+    if conflict(history, chains, first.number, number) {
         return true;
     }
     match first.other {
-        Some(other) => clash(history, chains, other, number),
+        Some(other) => conflict(history, chains, other, number),
         None => false,
     }
 }
 
 /// Whether one of the members conflicts directly with the setter.
-fn clashes_with_one(history: &History, chains: &Chains, members: &[Member], number: usize) -> bool
+fn conflicts_with_one(history: &History, chains: &Chains, members: &[Member], number: usize) -> bool
     requires { AreFalling members.now }
     ensures value { (o : _) (us : _) → AreMembersOf history.now.ops o chains.now us members.now
-        → (IsTrue result ↔ ClashesWithOne history.now.ops chains.now us number) }
+        → (IsTrue result ↔ ConflictsWithOne history.now.ops chains.now us number) }
     ensures bound { IsTrue result → number < FIRST_ABOVE }
 {
     // The clause of `ops` says that the history is valid.
@@ -172,7 +176,7 @@ fn clashes_with_one(history: &History, chains: &Chains, members: &[Member], numb
     };
     for site in 0..8 {
         let start = chains.first_unknown(value.attribute(), site, &op.past);
-        if clashes_from(history, chains, members, start, number) {
+        if conflicts_from(history, chains, members, start, number) {
             return true;
         }
     }
@@ -180,7 +184,7 @@ fn clashes_with_one(history: &History, chains: &Chains, members: &[Member], numb
 }
 
 /// Adds the number, if one of the members conflicts directly with its setter.
-fn add_clashing(
+fn add_conflicting(
     history: &History,
     chains: &Chains,
     members: &[Member],
@@ -190,10 +194,10 @@ fn add_clashing(
     requires { AreFalling members.now }
     ensures { OnOk result ((o : _) (us : _)
         → AreMembersOf history.now.ops o chains.now us members.now
-        → AddsIf (ClashesWithOne history.now.ops chains.now us number)
+        → AddsIf (ConflictsWithOne history.now.ops chains.now us number)
         number found.old found.new) }
 {
-    if clashes_with_one(history, chains, members, number) {
+    if conflicts_with_one(history, chains, members, number) {
         found.join(number)
     } else {
         Ok(())
@@ -202,7 +206,7 @@ fn add_clashing(
 
 /// The numbers of `among` whose setter conflicts directly with a setter of the others. Each is
 /// compared with two of the others for each site.
-pub fn clashing(
+pub fn conflicting_with(
     alloc: Global,
     history: &History,
     chains: &Chains,
@@ -211,13 +215,13 @@ pub fn clashing(
 ) -> Result<Numbers, OutOfMemory>
     ensures { IfOk result (λ found. (o : _) → AreChainsOf history.now.ops o chains.now
         → ListsSetters chains.now others.now → (n : _) → Contains found n
-        ↔ (Contains among.now n × ClashesWithOne history.now.ops chains.now others.now n)) }
+        ↔ (Contains among.now n × ConflictsWithOne history.now.ops chains.now others.now n)) }
 {
     let all = among.to_vec(alloc)?;
     let members = members_of(alloc, history, chains, &others.to_vec(alloc)?)?;
     let mut found = Numbers::new(alloc);
     for number in &all {
-        add_clashing(history, chains, &members, *number, &mut found)?;
+        add_conflicting(history, chains, &members, *number, &mut found)?;
     }
     Ok(found)
 }

@@ -14,7 +14,7 @@ use Rattle.gf_ops.specs.ValidHistory.{IsValid}
 use Rattle.gf_ops.proofs.ValidityLemmas.{same_op}
 use Rattle.gf_components.specs.Components.{IsReached}
 use Rattle.gf_rivals.specs.declared.chain.Setter.{Setter}
-use Rattle.gf_rivals.specs.Aimed.{ClashesWithOne}
+use Rattle.gf_rivals.specs.Aimed.{ConflictsWithOne}
 use Rattle.gf_rivals.specs.Aimed.{IsConflict as ConflictsAt}
 use Rattle.gf_rivals.specs.Members.{ListsSetters}
 use Rattle.gf_rivals.specs.Naming.{IsNamedOn}
@@ -25,7 +25,7 @@ use Rattle.gf_table.specs.Standing.{IsMetByAim}
 pub met_united : (h : List Op) (t : ObjectState) (us own reach members met r : List ℕ)
     → ((n : ℕ) → Contains reach n ↔ IsReached us t.components.components n)
     → members ≡ common reach us →
-    ((n : ℕ) → Contains met n ↔ (Contains reach n × ClashesWithOne h t.chains members n))
+    ((n : ℕ) → Contains met n ↔ (Contains reach n × ConflictsWithOne h t.chains members n))
     → r ≡ united own met → (n : ℕ) → Contains r n ↔ (Contains own n ⊎ IsMetByAim h t us n)
 met_united h t us own reach members met r u c k e n =
     let w = Contains-united own met n in (
@@ -40,7 +40,7 @@ met_united h t us own reach members met r u c k e n =
               one = m.1.one;
               among = o.0;
               one_reached = (u m.1.one).0 (from_list reach m.1.one o.1);
-              clash = m.1.clash;
+              conflict = m.1.conflict;
             })
       ],
       λ i. subst (λ z. Contains z n) (sym e) (w.1 (elim i [
@@ -55,7 +55,7 @@ met_united h t us own reach members met r u c k e n =
               record {
                 one = m.one;
                 among = subst (λ z. Contains z m.one) (sym c) o;
-                clash = m.clash;
+                conflict = m.conflict;
               },
             ))
       ])),

@@ -32,19 +32,19 @@ use Rattle.gf_rivals.specs.declared.chain.Setter.{Setter}
 use Rattle.gf_rivals.specs.declared.fingerprint.Fingerprint.{Fingerprint}
 use Rattle.gf_rivals.specs.Fingerprints.{fingerprint_of}
 use Rattle.gf_rivals.specs.Indexes.{IsIndex, PutsNumber}
-use Rattle.gf_rivals.specs.Setters.{block}
 use Rattle.gf_ops.specs.declared.op.Clock.{Clock}
 use Rattle.gf_rivals.specs.Chains.{IsUnknown, chain_of, no_chains, position_of, setters}
 use Rattle.gf_rivals.specs.Chains.{with_setter}
 use Rattle.gf_rivals.specs.Rivals.{AreRivals, IsNumber, AreChainsOf}
-use Rattle.gf_rivals.specs.Aimed.{AimedState, AimsAtOne, AreAimed, AreNumbersOf, Clash}
+use Rattle.gf_rivals.specs.Aimed.{AimedState, AimsAtOne, AreAimed, AreNumbersOf, ConflictDirectly}
 use Rattle.gf_rivals.specs.Aimed.{IsConflict as ConflictsAt}
-use Rattle.gf_rivals.proofs.AimRivalLemmas.{aim_met, aims_conflict, clash_numbers, maker_calm}
+use Rattle.gf_rivals.proofs.AimRivalLemmas.{aim_met, aims_conflict, conflict_numbers, maker_calm}
 use Rattle.gf_rivals.proofs.AimedStateLemmas.{aimed_more, aimed_none, aimed_other, none_aimed}
 use Rattle.gf_components.proofs.ReachLemmas.{conflict_reached}
 use Rattle.gf_ops.proofs.ConflictLemmas.{conflict_direct}
 use Rattle.gf_rivals.proofs.NumberLemmas.{number_below, number_from, position_is, position_none}
 use Rattle.gf_rivals.proofs.NumberLemmas as numbers
+use Rattle.gf_rivals.proofs.SetterIndexLemmas.{chain_number}
 use Rattle.gf_rivals.proofs.RivalLemmas.{rivals_conflict}
 use Rattle.gf_rivals.proofs.ChainLemmas.{behind_all, empty_chains, index_other, index_setter}
 use Rattle.gf_rivals.proofs.ChainLemmas.{last_number, number_cases, numbered, chains_other}
@@ -187,7 +187,8 @@ module _ (h : List Op) (o : ObjectId) (t : ObjectState) (s : IsStateOf h o t) wh
           (record { seq = a.id.seq; position = length h })
 
       abbrev x : ℕ
-      x = chain_of (attribute_of v) site * block + length (setters t.chains (attribute_of v) site)
+      x = chain_number (chain_of (attribute_of v) site)
+          (length (setters t.chains (attribute_of v) site))
 
       module _ (i : Option (List (Fingerprint × List ℕ))) (index : IfSome i (IsIndex longer chains))
           (es : List AimedState) (aimed : AreAimed longer chains es) where
@@ -263,7 +264,8 @@ module _ (h : List Op) (o : ObjectId) (t : ObjectState) (s : IsStateOf h o t) wh
           rivals = λ n. (
             λ i.
                 let k = (rivals n).0 i in
-                let told = last_from h a valid in_range accepted k.position k.op k.at k.conflict in (
+                let told = last_from h a valid in_range accepted k.position k.op k.at
+                k.conflict in (
                   (s.exactly n).1 (inr (k.position, k.number)),
                   conflict_last n k.position
                       (position_new n k.position (old_number n k.position k.number)) ∙ told,
@@ -339,8 +341,8 @@ module _ (h : List Op) (o : ObjectId) (t : ObjectState) (s : IsStateOf h o t) (a
       AreAimed (h ++ a ∷ []) (with_setter t.chains (attribute_of v) place
       (record { seq = a.id.seq; position = length h }))
       (with_aim is (record {
-        number = chain_of (attribute_of v) place * block + length
-            (setters t.chains (attribute_of v) place);
+        number = chain_number (chain_of (attribute_of v) place)
+            (length (setters t.chains (attribute_of v) place));
         aim = us;
       }) t.aimed)
   aimed_added us [] e f = aimed_none h o t.chains s.chained a valid in_range accepted v change
@@ -350,7 +352,8 @@ module _ (h : List Op) (o : ObjectId) (t : ObjectState) (s : IsStateOf h o t) (a
 
   pub state_added : (d : List ℕ) → ((n : ℕ) → Contains d n ↔ ConflictsAt h t.chains a n)
       → (us : List ℕ) → AreNumbersOf h t.chains (aim_of a) us →
-      (n p : ℕ) → n ≡ chain_of u place * block + length (setters t.chains u place) → p ≡ length h →
+      (n p : ℕ) → n ≡ chain_number (chain_of u place) (length (setters t.chains u place))
+      → p ≡ length h →
       (i : Option (List (Fingerprint × List ℕ)))
       → IfSome i (λ new. (old : List (Fingerprint × List ℕ)) × IsIndex h t.chains old × PutsNumber
       old (fingerprint_of v) n new) →
@@ -368,16 +371,16 @@ module _ (h : List Op) (o : ObjectId) (t : ObjectState) (s : IsStateOf h o t) (a
       ap (λ z. with_setter t.chains z place (record { seq = a.id.seq; position = p })) own
       ∙ ap (λ z. with_setter t.chains (attribute_of v) place
       (record { seq = a.id.seq; position = z })) position in
-      let last : n ≡ chain_of (attribute_of v) place * block + length
-      (setters t.chains (attribute_of v) place) = number
-      ∙ ap (λ z. chain_of z place * block + length (setters t.chains z place)) own in
+      let last : n ≡ chain_number (chain_of (attribute_of v) place)
+      (length (setters t.chains (attribute_of v) place)) = number
+      ∙ ap (λ z. chain_number (chain_of z place) (length (setters t.chains z place))) own in
       let tells_new = if_some i (λ new w. index_setter h o t.chains s.chained a valid in_range
       accepted v change w.0 new w.1 (subst (λ z. PutsNumber w.0 (fingerprint_of v) z new) last w.2))
       index in
       let es = with_aim (aim_of a)
       (record {
-        number = chain_of (attribute_of v) place * block + length
-            (setters t.chains (attribute_of v) place);
+        number = chain_number (chain_of (attribute_of v) place)
+            (length (setters t.chains (attribute_of v) place));
         aim = us;
       }) t.aimed in
       let whole_is : w ≡ grown h o t s a valid in_range accepted v change d rivals i tells_new es
@@ -417,7 +420,7 @@ module _ (h : List Op) (a : Op) (o : ObjectId) (k : Kind) (id : a.id ≡ o.0)
   state_made = record {
     maker = record { op = a; at = got_last h a; id = id; kind = k; made = is_made };
     chained = record {
-      each = λ t s p e l i. absurd (no_number (chain_of t s * block + p) e.position
+      each = λ t s p e l i. absurd (no_number (chain_number (chain_of t s) p) e.position
           (record {
             attribute = t;
             site = s;
@@ -479,10 +482,10 @@ module _ (h : List Op) (o : ObjectId) (t : ObjectState) (s : IsStateOf h o t) (a
     (valid : IsValid h) (in_range : IsInRange a) (accepted : IsAccepted h a)
     (v : Value) {aim : List OpId} (change : a.change ≡ Set o v aim) (us : List ℕ)
     (are : AreNumbersOf h t.chains (aim_of a) us) where
-  -- what clashes with one of the aim is of its component
-  met_by_aim : (m n : ℕ) → Contains us m → Clash h t.chains m n → IsMetByAim h t us n
+  -- what conflicts with one of the aim is of its component
+  met_by_aim : (m n : ℕ) → Contains us m → ConflictDirectly h t.chains m n → IsMetByAim h t us n
   met_by_aim m n i c =
-      let w = clash_numbers h o t.chains s.chained m n c in
+      let w = conflict_numbers h o t.chains s.chained m n c in
       let told : conflict_at h w.0 w.1 ≡ true = conflict_from h valid w.0 w.1 c.first c.second w.4
       w.5 (conflict_direct h c.first c.second c.direct) in
       let same : number_conflict h t m n ≡ true = ap (λ z. conflict_at h z (position_in t n))
@@ -490,7 +493,7 @@ module _ (h : List Op) (o : ObjectId) (t : ObjectState) (s : IsStateOf h o t) (a
       ∙ (ap (conflict_at h w.0) (number_at h o t s.chained n w.1 w.3) ∙ told) in
       let r = conflict_reached (number_conflict h t) (numbers_test h t) t.components s.components us
       m n i ((s.exactly m).1 (inr (w.0, w.2))) ((s.exactly n).1 (inr (w.1, w.3))) same in
-      record { reached = r.1; one = m; among = i; one_reached = r.0; clash = c }
+      record { reached = r.1; one = m; among = i; one_reached = r.0; conflict = c }
 
   pub rivals_found : (own met d : List ℕ) → AreRivals h o t.chains v a.past own
       → ((n : ℕ) → Contains met n ↔ (Contains own n ⊎ IsMetByAim h t us n)) →
@@ -500,5 +503,5 @@ module _ (h : List Op) (o : ObjectId) (t : ObjectState) (s : IsStateOf h o t) (a
       aims_conflict h o t.chains s.chained valid a accepted v change t.aimed s.aimed met d
       (aim_met h o t.chains s.chained valid a accepted v change own us met (IsMetByAim h t us)
       (rivals_conflict h o t.chains s.chained valid a in_range accepted v change own rivals) are
-      (λ n w. record { one = w.one; among = w.among; clash = w.clash }) met_by_aim met_are)
+      (λ n w. record { one = w.one; among = w.among; conflict = w.conflict }) met_by_aim met_are)
       d_are

@@ -9,7 +9,7 @@ use Rattle.gf_groups.specs.Growing.{conflict_at}
 use Rattle.gf_rivals.specs.declared.chain.Setter.{Setter}
 use Rattle.gf_rivals.specs.declared.fingerprint.Fingerprint.{Fingerprint}
 use Rattle.gf_rivals.specs.Aimed.{AimedState}
-use Rattle.gf_rivals.specs.declared.chains.TheConstants.{FIRST_ABOVE}
+use Rattle.gf_rivals.specs.declared.setter_index.TheConstants.{FIRST_ABOVE}
 use Rattle.gf_rivals.specs.Chains.{no_chains, position_of, with_setter}
 
 pub record ObjectState : Type 0 where

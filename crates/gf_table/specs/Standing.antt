@@ -22,7 +22,7 @@ use Rattle.gf_groups.specs.Versions.{IsVersionGroup}
 use Rattle.gf_components.specs.Components.{ComponentState, ComponentsState, IsReached, products}
 use Rattle.gf_components.specs.Components.{whole}
 use Rattle.gf_components.specs.Separate.{AreComponents}
-use Rattle.gf_rivals.specs.Aimed.{AimedState, AreAimed, Clash}
+use Rattle.gf_rivals.specs.Aimed.{AimedState, AreAimed, ConflictDirectly}
 use Rattle.gf_rivals.specs.Indexes.{IsIndex}
 use Rattle.gf_rivals.specs.Rivals.{IsNumber, AreChainsOf}
 use Rattle.gf_table.specs.ObjectState.{ObjectState, maker_number, number_conflict}
@@ -61,7 +61,7 @@ pub record IsMetByAim (h : List Op) (t : ObjectState) (us : List ℕ) (n : ℕ) 
   pub one : ℕ
   pub among : Contains us one
   pub one_reached : IsReached us t.components.components one
-  pub clash : Clash h t.chains one n
+  pub conflict : ConflictDirectly h t.chains one n
 
 -- es with the state of an aim behind, where an operation with this aim has a state
 abbrev pub with_aim : List OpId → AimedState → List AimedState → List AimedState

@@ -23,7 +23,9 @@ use gf_base::OutOfMemory;
 use gf_components::{Component, Components};
 use gf_maximal::Numbers;
 use gf_ops::{Attr, Clock, History, Op, OpId, Value};
-use gf_rivals::{Aimed, Chains, FIRST_ABOVE, Index, clashing, numbers_of, rivals, with_aimed};
+use gf_rivals::{
+    Aimed, Chains, FIRST_ABOVE, Index, conflicting_with, numbers_of, rivals, with_aimed,
+};
 use std::alloc::Global;
 use std::marker::Model;
 
@@ -192,7 +194,7 @@ impl ObjectTable {
         }
         let reach = self.components.reach(alloc, aim)?;
         let members = aim.common(alloc, &reach)?;
-        let met = clashing(alloc, history, &self.chains, &members, &reach)?;
+        let met = conflicting_with(alloc, history, &self.chains, &members, &reach)?;
         direct.united(alloc, &met)
     }
 

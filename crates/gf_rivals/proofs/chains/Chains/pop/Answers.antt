@@ -14,6 +14,6 @@ invariant_of-self c =
 
 pub returns : goal.returns
 returns c = λ us e w. popped_all c.self.inside.chains.entries c.args.self.now c.args.attribute
-    (c.args.site - 1) c.index_of-index.result c.self.view_is c.index_of-index.ensures.value
-    c.self.invariant.0 c.pop_from.new.chains.entries us e c.index_of-index.ensures.bound
+    (c.args.site - 1) c.chain_of-chain.result c.self.view_is c.chain_of-chain.ensures.value
+    c.self.invariant.0 c.pop_from.new.chains.entries us e c.chain_of-chain.ensures.bound
     c.pop_from.ensures.popped w

@@ -8,14 +8,14 @@ use Rattle.gf_rivals.proofs.chains.Chains.push.Goals as goal
 
 pub push_to-requires-clause-last : goal.push_to-requires-clause-last
 push_to-requires-clause-last c = last_kept c.self.inside.chains.entries c.args.self.now
-    c.args.attribute (c.args.id.site - 1) c.index_of-index.result c.self.view_is
-    c.index_of-index.ensures.value c.self.invariant.0 c.args.id.seq c.requires.last
+    c.args.attribute (c.args.id.site - 1) c.chain_of-chain.result c.self.view_is
+    c.chain_of-chain.ensures.value c.self.invariant.0 c.args.id.seq c.requires.last
 
 pub returns-clause-ok : goal.returns-clause-ok
 returns-clause-ok c = on_ok_weaker c.push_to.result (λ p. pushed_all c.self.inside.chains.entries
-    c.args.self.now c.args.attribute (c.args.id.site - 1) c.index_of-index.result c.self.view_is
-    c.index_of-index.ensures.value c.self.invariant.0 c.push_to.new.chains.entries _
-    c.index_of-index.ensures.bound p) c.push_to.ensures.ok
+    c.args.self.now c.args.attribute (c.args.id.site - 1) c.chain_of-chain.result c.self.view_is
+    c.chain_of-chain.ensures.value c.self.invariant.0 c.push_to.new.chains.entries _
+    c.chain_of-chain.ensures.bound p) c.push_to.ensures.ok
 
 pub returns-clause-err : goal.returns-clause-err
 returns-clause-err c = on_err_weaker c.push_to.result
@@ -27,8 +27,8 @@ invariant_of-self c =
     let es = c.self.inside.chains.entries in
     let fs = c.push_to.new.chains.entries in
     let s = c.args.id.site - 1 in
-    let x = c.index_of-index.result in
-    let bound = c.index_of-index.ensures.bound in
+    let x = c.chain_of-chain.result in
+    let bound = c.chain_of-chain.ensures.bound in
     let site = c.requires.site in
     let below = c.self.invariant.0 in
     let own = subst (λ z. c.args.id.seq ≤ entry c.counting-self-inside.result z)
@@ -41,6 +41,6 @@ invariant_of-self c =
           (omega (arith, site.0, site.1)) c.self.invariant.1 c.counting-self-inside.ensures.within
           own
           (on_ok_weaker c.push_to.result (λ p. pushed_all es (all_chains es) c.args.attribute s x
-          refl c.index_of-index.ensures.value below fs _ bound p) c.push_to.ensures.ok)
+          refl c.chain_of-chain.ensures.value below fs _ bound p) c.push_to.ensures.ok)
           (on_err_weaker c.push_to.result (λ p. keeps_all es fs p) c.push_to.ensures.err),
     )

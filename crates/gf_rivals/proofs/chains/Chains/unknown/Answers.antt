@@ -5,7 +5,8 @@ use Rattle.gf_rivals.proofs.chains.Chains.unknown.Goals as goal
 pub loop-site-preserved : goal.loop-site-preserved
 loop-site-preserved c =
     site_more c.args.self.now c.args.attribute c.args.past.now c.loop-site.site
-    (c.loop-site.site + 1) (c.rank-first.result * 8) c.loop-site.found c.in_ok-found.found
+    (c.loop-site.site + 1) (c.attribute_index-first.result * 8) c.loop-site.found
+    c.in_ok-found.found
     (omega arith) (search rules) c.loop-site.invariant (search rules)
 
 pub returns : goal.returns

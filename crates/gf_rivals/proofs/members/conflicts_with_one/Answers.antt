@@ -1,7 +1,7 @@
 use Rattle.std.proofs.Common.{◌≡◌, sym, subst, ◌∙◌, true≢false, arith}
 use Rattle.gf_rivals.specs.Members.{IsFirstUnknown}
 use Rattle.gf_rivals.proofs.MemberLemmas.{NoneAt, none_at_all, none_given, none_more, none_yet}
-use Rattle.gf_rivals.proofs.members.clashes_with_one.Goals as goal
+use Rattle.gf_rivals.proofs.members.conflicts_with_one.Goals as goal
 
 pub returns-in_default-op_value-clause-value : goal.returns-in_default-op_value-clause-value
 returns-in_default-op_value-clause-value c = λ o us members. (
@@ -22,9 +22,9 @@ loop-site-preserved c =
     c.first_unknown-start.result
     (sym c.in-Some.ensures.value) (sym c.in-Some-op_value.ensures) c.loop-site-test.true
     (subst (λ t. IsFirstUnknown c.args.chains.now t c.loop-site.site c.in-Some.op.now.past
-    c.first_unknown-start.result) c.attribute.ensures c.first_unknown-start.ensures)
-    (λ o us y w. true≢false (sym (c.clashes_from.ensures.complete o us y w)
-    ∙ c.if-clashes_from.false)) c.loop-site.invariant
+    c.first_unknown-start.result) c.attribute.ensures c.first_unknown-start.ensures.first)
+    (λ o us y w. true≢false (sym (c.conflicts_from.ensures.complete o us y w)
+    ∙ c.if-conflicts_from.false)) c.loop-site.invariant
 
 pub returns-clause-value : goal.returns-clause-value
 returns-clause-value c = λ o us members. (

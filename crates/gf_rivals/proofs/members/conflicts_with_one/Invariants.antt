@@ -1,5 +1,5 @@
 use Rattle.gf_rivals.proofs.MemberLemmas.{NoneAt}
-use Rattle.gf_rivals.proofs.members.clashes_with_one.Given as goal
+use Rattle.gf_rivals.proofs.members.conflicts_with_one.Given as goal
 
 abbrev pub invariant-loop-site : goal.invariant-loop-site
 invariant-loop-site l = NoneAt l.history.ops l.chains l.members l.number l.site

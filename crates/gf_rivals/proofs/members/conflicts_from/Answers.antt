@@ -1,9 +1,9 @@
 use Rattle.std.proofs.Common.{◌≡◌, ◌≤◌, arith, inl, inr, ap, sym, subst, ◌∙◌, true≢false}
 use Rattle.gf_rivals.specs.declared.members.Member.{Member}
-use Rattle.gf_rivals.specs.Aimed.{Clash}
-use Rattle.gf_rivals.proofs.MemberLemmas.{first_clashes, member_there}
+use Rattle.gf_rivals.specs.Aimed.{ConflictDirectly}
+use Rattle.gf_rivals.proofs.MemberLemmas.{first_conflicts, member_there}
 use Rattle.gf_rivals.proofs.NumberLemmas.{some_one}
-use Rattle.gf_rivals.proofs.members.clashes_from.Goals as goal
+use Rattle.gf_rivals.proofs.members.conflicts_from.Goals as goal
 
 pub returns-in_default-clause-complete : goal.returns-in_default-clause-complete
 returns-in_default-clause-complete c = λ o us y w.
@@ -20,7 +20,7 @@ returns-in-Some-other-clause-sound c = λ us members t.
     record {
       one = c.in-Some-other.other;
       among = i.0;
-      clash = c.clash-in-Some-other.ensures.value.0 t;
+      conflict = c.conflict-in-Some-other.ensures.value.0 t;
     }
 
 pub returns-in-Some-other-clause-complete : goal.returns-in-Some-other-clause-complete
@@ -29,13 +29,13 @@ returns-in-Some-other-clause-complete c = λ o us y w.
     let m = member_there c.args.history.now.ops o c.args.chains.now us c.args.members.now
     c.args.start c.args.number y w in
     let l = c.in-Some.ensures.least m.0 m.1 in
-    elim (first_clashes c.args.history.now.ops o c.args.chains.now us c.args.members.now
+    elim (first_conflicts c.args.history.now.ops o c.args.chains.now us c.args.members.now
     c.args.start c.args.number y w f c.in-Some.ensures.some
     (let e : f.number ≡ l.0.number = ap (λ (z : Member). z.number) (some_one f l.0 l.1) in
     let q = l.2 in let n = m.2 in omega (arith, e, q, n))) [
-      | inl k ↦ absurd (true≢false (sym (c.clash.ensures.value.1 k) ∙ c.if-clash.false))
-      | inr k ↦ c.clash-in-Some-other.ensures.value.1
-          (subst (λ z. Clash c.args.history.now.ops c.args.chains.now z c.args.number)
+      | inl k ↦ absurd (true≢false (sym (c.conflict.ensures.value.1 k) ∙ c.if-conflict.false))
+      | inr k ↦ c.conflict-in-Some-other.ensures.value.1
+          (subst (λ z. ConflictDirectly c.args.history.now.ops c.args.chains.now z c.args.number)
           (some_one k.0 c.in-Some-other.other (sym k.1 ∙ c.in-Some-other.is)) k.2)
     ]
 
@@ -45,10 +45,10 @@ returns-in-None-clause-complete c = λ o us y w.
     let m = member_there c.args.history.now.ops o c.args.chains.now us c.args.members.now
     c.args.start c.args.number y w in
     let l = c.in-Some.ensures.least m.0 m.1 in
-    elim (first_clashes c.args.history.now.ops o c.args.chains.now us c.args.members.now
+    elim (first_conflicts c.args.history.now.ops o c.args.chains.now us c.args.members.now
     c.args.start c.args.number y w f c.in-Some.ensures.some
     (let e : f.number ≡ l.0.number = ap (λ (z : Member). z.number) (some_one f l.0 l.1) in
     let q = l.2 in let n = m.2 in omega (arith, e, q, n))) [
-      | inl k ↦ absurd (true≢false (sym (c.clash.ensures.value.1 k) ∙ c.if-clash.false))
+      | inl k ↦ absurd (true≢false (sym (c.conflict.ensures.value.1 k) ∙ c.if-conflict.false))
       | inr k ↦ let e = c.in-None.is in let g = k.1 in absurd cc
     ]

@@ -1,12 +1,12 @@
 use Rattle.std.proofs.Common.{◌≡◌, ℕ, take}
 use Rattle.std.specs.Prelude.{◌↔◌, Contains}
 use Rattle.gf_ops.specs.declared.op.ObjectId.{ObjectId}
-use Rattle.gf_rivals.specs.Aimed.{ClashesWithOne}
+use Rattle.gf_rivals.specs.Aimed.{ConflictsWithOne}
 use Rattle.gf_rivals.specs.Members.{AreMembersOf}
-use Rattle.gf_rivals.proofs.members.clashing.Given as goal
+use Rattle.gf_rivals.proofs.members.conflicting_with.Given as goal
 
 abbrev pub invariant-loop-number : goal.invariant-loop-number
 invariant-loop-number l = (o : ObjectId) → AreMembersOf l.history.ops o l.chains l.others
     l.members.items
     → (n : ℕ) → Contains l.found n ↔ (Contains (take l.number-index l.number-items) n
-    × ClashesWithOne l.history.ops l.chains l.others n)
+    × ConflictsWithOne l.history.ops l.chains l.others n)
