@@ -18,7 +18,7 @@ use Rattle.gf_json.specs.LineValues.{Got, mapped, and_then, ◌&◌, whole, two,
 use Rattle.gf_json.specs.LineLimits.{natural, name}
 use Rattle.gf_json.specs.LineAims.{numbers, pair_less, pairs_rise_behind, rising_behind, rising}
 use Rattle.gf_json.specs.LineAims.{ids_of, ids}
-use Rattle.gf_json.specs.CheckedIds.{next_behind, read_name}
+use Rattle.gf_json.specs.CheckedIds.{next_behind}
 use Rattle.gf_json.specs.WrittenValues.{name_data, ids_data}
 use Rattle.gf_json.proofs.ArrayLemmas.{mapped-parts, beside-parts, each-all, length-elements}
 use Rattle.gf_json.proofs.AgainLemmas.{both_true, name_again, elements-items_of, each_again}
@@ -208,14 +208,14 @@ names_fault vs k o e rises l is fault_of =
     ]
 
 -- names that are read one after the other
-pub names_read : (vs : List Value) (is : List OpId) → map (λ v. name (view v)) vs ≡ map read_name is
+pub names_read : (vs : List Value) (is : List OpId) → map (λ v. name (view v)) vs ≡ map Ok is
     → each name (elements (items_view vs)) ≡ Ok is
 names_read [] [] h = refl
 names_read [] (i ∷ is) h = absurd cc
 names_read (v ∷ vs) [] h = absurd cc
 names_read (v ∷ vs) (i ∷ is) h =
     let first : name (view v) ≡ Ok i = cc in
-    let rest : map (λ w. name (view w)) vs ≡ map read_name is = cc in
+    let rest : map (λ w. name (view w)) vs ≡ map Ok is = cc in
     rw (first, names_read vs is rest) refl
 
 -- ---- one pair after the other

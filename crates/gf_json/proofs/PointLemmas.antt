@@ -17,7 +17,7 @@ use Rattle.gf_json.specs.declared.line_error.LineError.{LineError}
 use Rattle.gf_json.specs.declared.line_error.LineError.TheVariants as fault
 use Rattle.gf_json.specs.LineValues.{Got, mapped, and_then, ◌&◌, each, elements, two, whole}
 use Rattle.gf_json.specs.LineLimits.{coordinate, point, counted, points_of}
-use Rattle.gf_json.specs.CheckedPoints.{checked, read_point}
+use Rattle.gf_json.specs.CheckedPoints.{checked}
 use Rattle.gf_json.proofs.ArrayLemmas.{mapped-parts, beside-parts, beside-mapped, each-all}
 use Rattle.gf_json.proofs.ArrayLemmas.{length-elements}
 
@@ -60,14 +60,14 @@ all_points (v ∷ vs) t h =
     All-cons (λ w. IsOk (point (view w))) v vs (rw parts.0 refl) (all_points vs q.1 parts.1)
 
 -- elements that are points are read as these
-each-points : (vs : List Value) (ps : List Point) → map (λ v. point (view v)) vs ≡ map read_point ps
+each-points : (vs : List Value) (ps : List Point) → map (λ v. point (view v)) vs ≡ map Ok ps
     → each point (elements (items_view vs)) ≡ Ok ps
 each-points [] [] h = refl
 each-points [] (p ∷ ps) h = absurd cc
 each-points (v ∷ vs) [] h = absurd cc
 each-points (v ∷ vs) (p ∷ ps) h =
     let first : point (view v) ≡ Ok p = cc in
-    let rest : map (λ w. point (view w)) vs ≡ map read_point ps = cc in
+    let rest : map (λ w. point (view w)) vs ≡ map Ok ps = cc in
     rw (first, each-points vs ps rest) refl
 
 -- a fault that a map leaves
@@ -86,7 +86,7 @@ points_checked vs p h = all_points vs p.1
 -- and these points are read
 pub points_of-read : (vs : List Value) (ps : List Point) (p : ℕ × ⊤)
     → (counted (length vs) & checked (each point (elements (items_view vs)))) ≡ Ok p
-    → map (λ v. point (view v)) vs ≡ map read_point ps
+    → map (λ v. point (view v)) vs ≡ map Ok ps
     → points_of (elements (items_view vs)) ≡ Ok ps
 points_of-read vs ps p h read =
     let parts = beside-parts (counted (length vs)) (checked (each point (elements (items_view vs))))

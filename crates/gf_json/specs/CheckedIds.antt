@@ -1,6 +1,5 @@
 -- Ids that are read one after the other. No public clause cites this module.
 use Rattle.std.specs.Prelude.{ℤ, Option, Some, None, Ok, Err, if◌then◌else◌}
-use Rattle.gf_ops.specs.declared.op.OpId.{OpId}
 use Rattle.gf_json.specs.LineValues.{Got}
 use Rattle.gf_json.specs.LineAims.{pair_less}
 
@@ -8,7 +7,3 @@ use Rattle.gf_json.specs.LineAims.{pair_less}
 abbrev pub next_behind : ℤ × ℤ → Got (ℤ × ℤ) → Option (ℤ × ℤ)
 next_behind p (Ok q) = if pair_less p q then Some q else None
 next_behind p (Err e) = None
-
--- what a value that names the id i reads as
-abbrev pub read_name : OpId → Got OpId
-read_name i = Ok i

@@ -5,7 +5,7 @@ ghost use Rattle.serde_json.specs.View.{view, items_view};
 ghost use Rattle.gf_ops.specs.Limits.{is_polygon};
 ghost use Rattle.gf_json.specs.LineValues.{◌&◌, elements, each};
 ghost use Rattle.gf_json.specs.LineLimits.{point, counted, points, points_of};
-ghost use Rattle.gf_json.specs.CheckedPoints.{checked, read_point};
+ghost use Rattle.gf_json.specs.CheckedPoints.{checked};
 
 use crate::LineError;
 use crate::reading::values::{both, elements, point};
@@ -70,7 +70,7 @@ fn beside(first: Result<Point, LineError>, others: Result<(), LineError>) -> Res
 /// The points that the values are.
 fn checked_points(alloc: Global, values: &[Value]) -> Result<Vec<Point>, AllocError>
     requires { All (λ v. IsOk (point (view v))) values.now }
-    ensures { IfOk result (λ ps. map (λ v. point (view v)) values.now ≡ map read_point ps.items) }
+    ensures { IfOk result (λ ps. map (λ v. point (view v)) values.now ≡ map Ok ps.items) }
 {
     let mut points = Vec::new(alloc);
     points.reserve(values.len())?;
