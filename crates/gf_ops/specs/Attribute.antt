@@ -68,9 +68,13 @@ form_value (form.Ellipse rx ry) = value.Size rx ry
 abbrev pub form_attribute : Form → Attr
 form_attribute f = attribute_of (form_value f)
 
+-- s and t are one attribute, as the derived == tells
+abbrev pub attribute_eq : Attr → Attr → Bool
+attribute_eq = attributes.eq-value.it
+
 -- the value v, if it is one of the attribute t
 abbrev pub value_as : Value → Attr → Option Value
-value_as v t = if attributes.eq-value.it (attribute_of v) t then Some v else None
+value_as v t = if attribute_eq (attribute_of v) t then Some v else None
 
 -- the value of the attribute t in the start s, if the kind of the object has t
 abbrev pub start_value : Start → Attr → Option Value
