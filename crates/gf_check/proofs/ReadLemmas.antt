@@ -20,7 +20,7 @@ use Rattle.gf_replay.specs.declared.reading_error.LineCause.{LineCause}
 use Rattle.gf_replay.specs.declared.reading_error.LineCause.TheVariants as cause
 use Rattle.gf_replay.specs.declared.reading_error.ReadingError.{ReadingError}
 use Rattle.gf_replay.specs.declared.reading_error.ReadingError.TheVariants as reading
-use Rattle.gf_replay.specs.Denoting.{AreLinesOf, denotes_op}
+use Rattle.gf_replay.specs.Denoting.{AreLinesOf}
 use Rattle.gf_replay.specs.LineSteps as replay
 use Rattle.gf_replay.specs.Taking.{HasTaken}
 use Rattle.gf_replay.proofs.ReadingLemmas.{RefusesText-line}
@@ -61,7 +61,7 @@ lines_alone (l ∷ ls) (x ∷ xs) e =
     let head : line_entry None l ≡ denotes_entry x = cc in
     let tail : map (line_entry None) ls ≡ map denotes_entry xs = cc in
     let r = read_op (denoted l.1) x.1 (ap (λ (p : ℕ × Got Entry). p.1) head) in
-    subst (λ t. denoted l.1 ∷ map (λ (k : ℕ × List ℕ). denoted k.1) ls ≡ map denotes_op
+    subst (λ t. denoted l.1 ∷ map (λ (k : ℕ × List ℕ). denoted k.1) ls ≡ map Ok
     (op_in t ++ ops_in xs)) (sym r.2)
     (ap (λ g. g ∷ map (λ (k : ℕ × List ℕ). denoted k.1) ls) r.1
     ∙ ap (λ gs. Ok r.0 ∷ gs) (lines_alone ls xs tail))

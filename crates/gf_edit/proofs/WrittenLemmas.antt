@@ -15,7 +15,6 @@ use Rattle.serde_json.specs.Data.{Data}
 use Rattle.serde_json.specs.Written.{compact_text}
 use Rattle.gf_json.specs.WrittenValues.{clock_data, name_data}
 use Rattle.gf_json.specs.WrittenLines.{change_data, creation_data, op_text}
-use Rattle.gf_replay.specs.Denoting.{denotes_op}
 use Rattle.gf_edit.specs.Making.{written_lines}
 
 -- a written line begins with a bracket
@@ -42,7 +41,7 @@ pub record IsWritable (a : Op) : Type 0 where
 
 pub written_from : (n : ℕ) (ops : List Op) → ((a : Op) → Contains ops a → IsWritable a)
     → map (λ (line : ℕ × List ℕ). denoted line.1) (numbered_from n (written_lines ops)) ≡ map
-    denotes_op ops
+    Ok ops
 written_from n [] w = refl
 written_from n (a ∷ ops) w =
     let x = w a (Contains-cons_head a ops) in

@@ -14,9 +14,10 @@ use Rattle.gf_ops.specs.Limits.{is_site, is_id, is_clock, is_near, is_size, is_p
 use Rattle.gf_ops.specs.Limits.{is_colour}
 use Rattle.serde_json.specs.Data.{Data}
 use Rattle.serde_json.specs.View.{items_of}
-use Rattle.gf_json.specs.LineValues.{Got, and_then, whole, elements, array, each}
-use Rattle.gf_json.specs.LineLimits.{natural, coordinate, entry, name, size, radius, level, clock}
-use Rattle.gf_json.specs.LineLimits.{point, points}
+use Rattle.gf_json.specs.LineValues.{Got, and_then, whole_value, elements, array, each}
+use Rattle.gf_json.specs.LineLimits.{natural_value, coordinate_value, entry_value, name, size}
+use Rattle.gf_json.specs.LineLimits.{radius, level, clock}
+use Rattle.gf_json.specs.LineLimits.{point_value, points_value}
 use Rattle.gf_json.specs.LineColours.{hex_colour}
 use Rattle.gf_json.specs.WrittenValues.{natural_data, integer_data, name_data, clock_data}
 use Rattle.gf_json.specs.WrittenValues.{point_data, points_data, size_data, colour_data}
@@ -28,7 +29,7 @@ pub both_true : (a b : Bool) → (a && b) ≡ true → (a ≡ true) × (b ≡ tr
 both_true true b h = (refl, h)
 both_true false b h = absurd cc
 
-whole_again : (n : ℕ) → nat_le n 1000000 ≡ true → whole (natural_data n) ≡ Ok (pos n)
+whole_again : (n : ℕ) → nat_le n 1000000 ≡ true → whole_value (natural_data n) ≡ Ok (pos n)
 whole_again n h =
     let small : n ≤ 1000000 = grind (arith, h) in
     let fits : n < 2 ^ 63 = omega (arith, small) in
@@ -36,7 +37,7 @@ whole_again n h =
 
 -- a number within limits
 natural_again : (low high n : ℕ) → (nat_le low n && nat_le n high) ≡ true
-    → nat_le high 1000000 ≡ true → natural low high (natural_data n) ≡ Ok n
+    → nat_le high 1000000 ≡ true → natural_value low high (natural_data n) ≡ Ok n
 natural_again low high n h k =
     let parts = both_true (nat_le low n) (nat_le n high) h in
     let most = parts.1 in
@@ -44,7 +45,7 @@ natural_again low high n h k =
     rw (whole_again n small, h) refl
 
 coordinate_again : (z : ℤ) → (int_le (negsuc 999999) z && int_le z (pos 1000000)) ≡ true
-    → coordinate (integer_data z) ≡ Ok z
+    → coordinate_value (integer_data z) ≡ Ok z
 coordinate_again (pos n) h = rw (whole_again n h) (rw h refl)
 coordinate_again (negsuc n) h = rw h refl
 
@@ -54,7 +55,7 @@ level_again n h = natural_again 0 9999 n (grind (arith, h)) refl
 -- ---- names, sizes and points
 
 -- a site
-pub site_again : (n : ℕ) → is_site n ≡ true → natural 1 8 (natural_data n) ≡ Ok n
+pub site_again : (n : ℕ) → is_site n ≡ true → natural_value 1 8 (natural_data n) ≡ Ok n
 site_again n h = natural_again 1 8 n h refl
 
 -- a name
@@ -92,7 +93,7 @@ unfolding is_near
 near_y p h = grind (arith, h)
 
 -- a point
-pub point_again : (p : Point) → is_near p ≡ true → point (point_data p) ≡ Ok p
+pub point_again : (p : Point) → is_near p ≡ true → point_value (point_data p) ≡ Ok p
 point_again p h = rw (coordinate_again p.x (near_x p h), coordinate_again p.y (near_y p h)) refl
 
 -- ---- lists
@@ -109,7 +110,7 @@ each_again form f p t (x ∷ xs) h =
     let parts = both_true (p x) (list_all p xs) h in
     rw (t x parts.0, each_again form f p t xs parts.1) refl
 
-entry_again : (n : ℕ) → nat_le n 10000 ≡ true → entry (natural_data n) ≡ Ok n
+entry_again : (n : ℕ) → nat_le n 10000 ≡ true → entry_value (natural_data n) ≡ Ok n
 entry_again n h = natural_again 0 10000 n (grind (arith, h)) refl
 
 -- a clock of eight entries
@@ -120,18 +121,18 @@ clock_again c e h =
       elements-items_of (map natural_data c.0),
       length-map,
       e,
-      each_again entry natural_data (λ n. nat_le n 10000) entry_again c.0 h,
+      each_again entry_value natural_data (λ n. nat_le n 10000) entry_again c.0 h,
     ) refl
 
 -- the points of a polygon
-pub points_again : (ps : List Point) → is_polygon ps ≡ true → points (points_data ps) ≡ Ok ps
+pub points_again : (ps : List Point) → is_polygon ps ≡ true → points_value (points_data ps) ≡ Ok ps
 points_again ps h =
     let parts = both_true (is_polygon_count (length ps)) (list_all is_near ps) h in
     rw (
       elements-items_of (map point_data ps),
       length-map,
       parts.0,
-      each_again point point_data is_near point_again ps parts.1,
+      each_again point_value point_data is_near point_again ps parts.1,
     ) refl
 
 -- ---- colours

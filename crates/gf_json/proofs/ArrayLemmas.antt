@@ -7,8 +7,9 @@ use Rattle.serde_json.specs.Data.{Data}
 use Rattle.serde_json.specs.declared.value.Value.{Value}
 use Rattle.serde_json.specs.View.{view, items_view}
 use Rattle.gf_json.specs.declared.line_error.LineError.TheVariants as fault
-use Rattle.gf_json.specs.LineValues.{Got, mapped, ◌&◌, each, elements, two_of, and_then, whole}
-use Rattle.gf_json.specs.LineLimits.{clock, entry}
+use Rattle.gf_json.specs.LineValues.{Got, mapped, ◌&◌, each, elements, two_of, and_then}
+use Rattle.gf_json.specs.LineValues.{whole_value}
+use Rattle.gf_json.specs.LineLimits.{clock, entry_value}
 use Rattle.gf_ops.specs.declared.op.Clock.{Clock}
 use Rattle.gf_ops.specs.Limits.{is_clock}
 use Rattle.std.specs.Prelude.{IsTrue}
@@ -86,10 +87,11 @@ pub clock_of_eight : (vs : List Value) (a b c d e f g h : Value) → 8 ≤ lengt
     → e ≡ get_or vs 4 e → f ≡ get_or vs 5 f → g ≡ get_or vs 6 g → h ≡ get_or vs 7 h
     → clock (elements (items_view vs)) ≡ mapped
     (λ (a, (b, (c, (d, (e, (f, (g, h))))))). record { 0 = a ∷ b ∷ c ∷ d ∷ e ∷ f ∷ g ∷ h ∷ [] })
-    (entry (view a) & entry (view b) & entry (view c) & entry (view d) & entry (view e) & entry
-    (view f) & entry (view g) & entry (view h))
+    (entry_value (view a) & entry_value (view b) & entry_value (view c) & entry_value (view d) &
+    entry_value (view e) & entry_value
+    (view f) & entry_value (view g) & entry_value (view h))
 clock_of_eight (v0 ∷ v1 ∷ v2 ∷ v3 ∷ v4 ∷ v5 ∷ v6 ∷ v7 ∷ []) a b c d e f g h l m p q r s t u v w =
-    rw (p, q, r, s, t, u, v, w, each_of_eight entry) (mapped-mapped _ _ _)
+    rw (p, q, r, s, t, u, v, w, each_of_eight entry_value) (mapped-mapped _ _ _)
 clock_of_eight vs a b c d e f g h l m p q r s t u v w = absurd (omega (arith, l, m))
 
 -- a number that keeps its limit
@@ -101,8 +103,8 @@ limited (Ok (negsuc k)) high n h = absurd cc
 limited (Ok (pos k)) high n h = grind (arith, h)
 
 -- an entry keeps its limit
-entry-within : (d : Data) (n : ℕ) → entry d ≡ Ok n → nat_le n 10000 ≡ true
-entry-within d n h = limited (whole d) 10000 n h
+entry_value-within : (d : Data) (n : ℕ) → entry_value d ≡ Ok n → nat_le n 10000 ≡ true
+entry_value-within d n h = limited (whole_value d) 10000 n h
 
 -- what a mapped part is made of
 pub mapped-parts : {A B : Type 0} (f : A → B) (x : Got A) (b : B) → mapped f x ≡ Ok b
@@ -141,6 +143,7 @@ passed false x a h = absurd cc
 -- a clock that is read keeps its limits
 pub clock-within : (ds : List Data) (c : Clock) → clock ds ≡ Ok c → IsTrue (is_clock c)
 clock-within ds c h =
-    let (ns, e, g) = mapped-parts {A = List ℕ} {B = Clock} (λ ns. record { 0 = ns }) (each entry ds)
+    let (ns, e, g) = mapped-parts {A = List ℕ} {B = Clock} (λ ns. record { 0 = ns })
+    (each entry_value ds)
     c (passed (length ds == 8) _ c h) in
-    let all = each-all (λ n. nat_le n 10000) entry entry-within ds ns e in rw (← g) all
+    let all = each-all (λ n. nat_le n 10000) entry_value entry_value-within ds ns e in rw (← g) all

@@ -4,21 +4,22 @@ use Rattle.std.proofs.Common.{◌∷◌, length, map, drop, get_or, refl, sym, a
 use Rattle.std.proofs.Common.{inl, inr, ◌⊎◌, if◌then◌else◌, true, false, ◌&&◌, ◌==◌, ◌≤◌, zero, suc}
 use Rattle.std.specs.Prelude.{Some, None}
 use Rattle.std.specs.List.{list_all}
-use Rattle.std.specs.Ordering.{int_eq}
+use Rattle.std.specs.Ordering.{int_cmp, nat_cmp, is_lt}
 use Rattle.std.proofs.lemmas.Bool.{cases_Bool}
+use Rattle.std.proofs.lemmas.Bool.Decides.{nat_tests}
 use Rattle.std.proofs.lemmas.List.{length-map, drop_more}
 use Rattle.gf_ops.specs.declared.op.OpId.{OpId}
-use Rattle.gf_ops.specs.Limits.{is_id, is_aim, id_less, rise_behind, ids_rise}
+use Rattle.gf_ops.specs.Limits.{is_id, is_aim}
+use Rattle.gf_ops.specs.OperationOrder.{id_cmp, rises}
 use Rattle.serde_json.specs.Data.{Data}
 use Rattle.serde_json.specs.declared.value.Value.{Value}
 use Rattle.serde_json.specs.View.{view, items_view}
 use Rattle.gf_json.specs.declared.line_error.LineError.{LineError}
 use Rattle.gf_json.specs.declared.line_error.LineError.TheVariants as fault
-use Rattle.gf_json.specs.LineValues.{Got, mapped, and_then, ◌&◌, whole, two, each, elements}
-use Rattle.gf_json.specs.LineLimits.{natural, name}
-use Rattle.gf_json.specs.LineAims.{numbers, pair_less, pairs_rise_behind, rising_behind, rising}
-use Rattle.gf_json.specs.LineAims.{ids_of, ids}
-use Rattle.gf_json.specs.CheckedIds.{next_behind, read_name}
+use Rattle.gf_json.specs.LineValues.{Got, mapped, and_then, ◌&◌, whole_value, two, each, elements}
+use Rattle.gf_json.specs.LineLimits.{natural_value, name}
+use Rattle.gf_json.specs.LineAims.{numbers, pair_cmp, rising, aim_ids, ids}
+use Rattle.gf_json.specs.CheckedIds.{next_behind, rising_behind}
 use Rattle.gf_json.specs.WrittenValues.{name_data, ids_data}
 use Rattle.gf_json.proofs.ArrayLemmas.{mapped-parts, beside-parts, each-all, length-elements}
 use Rattle.gf_json.proofs.AgainLemmas.{both_true, name_again, elements-items_of, each_again}
@@ -51,17 +52,17 @@ id_parts s n h k = let parts = both_true (nat_le 1 n) (nat_le n 10000) k in
     rw (h, parts.0, parts.1) refl
 
 named_parts : (t : Got (Data × Data)) (i : OpId) → mapped (λ p. record { site = p.0; seq = p.1 })
-    (and_then (λ q. natural 1 8 q.0 & natural 1 10000 q.1) t) ≡ Ok i
-    → (and_then (λ q. whole q.0 & whole q.1) t ≡ Ok (numbers_of i)) × (is_id i ≡ true)
+    (and_then (λ q. natural_value 1 8 q.0 & natural_value 1 10000 q.1) t) ≡ Ok i
+    → (and_then (λ q. whole_value q.0 & whole_value q.1) t ≡ Ok (numbers_of i)) × (is_id i ≡ true)
 named_parts (Err e) i h = absurd cc
 named_parts (Ok q) i h =
     let (p, b, e) = mapped-parts {A = ℕ × ℕ} {B = OpId} (λ p. record { site = p.0; seq = p.1 })
-    (natural 1 8 q.0 & natural 1 10000 q.1) i h in
-    let parts = beside-parts (natural 1 8 q.0) (natural 1 10000 q.1) p b in
-    let site = within (whole q.0) 1 8 p.0 parts.0 in
-    let seq = within (whole q.1) 1 10000 p.1 parts.1 in
+    (natural_value 1 8 q.0 & natural_value 1 10000 q.1) i h in
+    let parts = beside-parts (natural_value 1 8 q.0) (natural_value 1 10000 q.1) p b in
+    let site = within (whole_value q.0) 1 8 p.0 parts.0 in
+    let seq = within (whole_value q.1) 1 10000 p.1 parts.1 in
     rw (← e) (
-      read_numbers (whole q.0) (whole q.1) (pos p.0) (pos p.1) site.0 seq.0,
+      read_numbers (whole_value q.0) (whole_value q.1) (pos p.0) (pos p.1) site.0 seq.0,
       id_parts p.0 p.1 site.1 seq.1,
     )
 
@@ -81,31 +82,27 @@ each_numbers (d ∷ ds) is h =
 
 -- ---- their order
 
-same_numbers : (a b : ℕ) → int_eq (pos a) (pos b) ≡ (a == b)
-same_numbers a b = grind arith
+same_order : (a b : ℕ) → int_cmp (pos a) (pos b) ≡ nat_cmp a b
+same_order a b = grind (arith, nat_tests)
 
-pair_less-numbers : (i j : OpId) → pair_less (numbers_of i) (numbers_of j) ≡ id_less i j
-pair_less-numbers i j = rw (same_numbers i.site j.site) refl
+pair_cmp-numbers : (i j : OpId) → pair_cmp (numbers_of i) (numbers_of j) ≡ id_cmp i j
+pair_cmp-numbers i j = rw (same_order i.site j.site, same_order i.seq j.seq) refl
 
-rise_behind-numbers : (i : OpId) (is : List OpId)
-    → pairs_rise_behind (numbers_of i) (map numbers_of is) ≡ rise_behind i is
-rise_behind-numbers i [] = refl
-rise_behind-numbers i (j ∷ js) = rw (pair_less-numbers i j, rise_behind-numbers j js) refl
-
-rise-numbers : (is : List OpId) → rising (Ok (map numbers_of is)) ≡ ids_rise is
-rise-numbers [] = refl
-rise-numbers (i ∷ is) = rise_behind-numbers i is
+rises-numbers : (is : List OpId) → rises pair_cmp (map numbers_of is) ≡ rises id_cmp is
+rises-numbers [] = refl
+rises-numbers (i ∷ []) = refl
+rises-numbers (i ∷ j ∷ js) = rw (pair_cmp-numbers i j, rises-numbers (j ∷ js)) refl
 
 -- names rise as their numbers do
 rising-names : (ds : List Data) (is : List OpId) → each name ds ≡ Ok is
-    → rising (each numbers ds) ≡ ids_rise is
-rising-names ds is h = rw (each_numbers ds is h) (rise-numbers is)
+    → rising (each numbers ds) ≡ rises id_cmp is
+rising-names ds is h = rw (each_numbers ds is h) (rises-numbers is)
 
 -- ids that are read keep the limits of an aim
 pub names-within : (ds : List Data) (is : List OpId) → rising (each numbers ds) ≡ true
     → nat_le (length ds) 1000 ≡ true → each name ds ≡ Ok is → is_aim is ≡ true
-names-within ds is rises few h =
-    let rise : ids_rise is ≡ true = sym (rising-names ds is h) ∙ rises in
+names-within ds is rising_numbers few h =
+    let rise : rises id_cmp is ≡ true = sym (rising-names ds is h) ∙ rising_numbers in
     let each_id : list_all is_id is ≡ true = each-all is_id name (λ d i k. (name_read d i k).1) ds
     is h in
     rw (length-each name ds is h, few, each_id) rise
@@ -113,7 +110,7 @@ names-within ds is rises few h =
 -- the ids that are written for an aim are read as it
 pub ids_again : (is : List OpId) → is_aim is ≡ true → ids (ids_data is) ≡ Ok is
 ids_again is h =
-    let parts = both_true (nat_le (length is) 1000 && list_all is_id is) (ids_rise is) h in
+    let parts = both_true (nat_le (length is) 1000 && list_all is_id is) (rises id_cmp is) h in
     let first = both_true (nat_le (length is) 1000) (list_all is_id is) parts.0 in
     let names : each name (map name_data is) ≡ Ok is = each_again name name_data is_id name_again is
     first.1 in
@@ -145,16 +142,18 @@ formed_natural w z low high h = elim (cases_Bool (int_le (pos low) z && int_le z
   | inr f ↦ inl (rw (h, f) refl)
 ]
 
-formed_parts : (t : Got (Data × Data)) (p : ℤ × ℤ) → and_then (λ q. whole q.0 & whole q.1) t ≡ Ok p
+formed_parts : (t : Got (Data × Data)) (p : ℤ × ℤ)
+    → and_then (λ q. whole_value q.0 & whole_value q.1) t ≡ Ok p
     → IsFormed {A = OpId} (mapped (λ p. record { site = p.0; seq = p.1 })
-    (and_then (λ q. natural 1 8 q.0 & natural 1 10000 q.1) t))
+    (and_then (λ q. natural_value 1 8 q.0 & natural_value 1 10000 q.1) t))
 formed_parts (Err e) p h = absurd cc
 formed_parts (Ok q) p h =
-    let parts = beside-parts (whole q.0) (whole q.1) p h in
+    let parts = beside-parts (whole_value q.0) (whole_value q.1) p h in
     formed_mapped {A = ℕ × ℕ} {B = OpId} (λ p. record { site = p.0; seq = p.1 })
-    (natural 1 8 q.0 & natural 1 10000 q.1)
-    (formed_beside (natural 1 8 q.0) (natural 1 10000 q.1)
-    (formed_natural (whole q.0) p.0 1 8 parts.0) (formed_natural (whole q.1) p.1 1 10000 parts.1))
+    (natural_value 1 8 q.0 & natural_value 1 10000 q.1)
+    (formed_beside (natural_value 1 8 q.0) (natural_value 1 10000 q.1)
+    (formed_natural (whole_value q.0) p.0 1 8 parts.0) (formed_natural (whole_value q.1) p.1 1 10000
+    parts.1))
 
 formed_name : (d : Data) (p : ℤ × ℤ) → numbers d ≡ Ok p → IsFormed (name d)
 formed_name d p h = formed_parts (two d) p h
@@ -208,14 +207,14 @@ names_fault vs k o e rises l is fault_of =
     ]
 
 -- names that are read one after the other
-pub names_read : (vs : List Value) (is : List OpId) → map (λ v. name (view v)) vs ≡ map read_name is
+pub names_read : (vs : List Value) (is : List OpId) → map (λ v. name (view v)) vs ≡ map Ok is
     → each name (elements (items_view vs)) ≡ Ok is
 names_read [] [] h = refl
 names_read [] (i ∷ is) h = absurd cc
 names_read (v ∷ vs) [] h = absurd cc
 names_read (v ∷ vs) (i ∷ is) h =
     let first : name (view v) ≡ Ok i = cc in
-    let rest : map (λ w. name (view w)) vs ≡ map read_name is = cc in
+    let rest : map (λ w. name (view w)) vs ≡ map Ok is = cc in
     rw (first, names_read vs is rest) refl
 
 -- ---- one pair after the other
@@ -224,8 +223,9 @@ more : (p q : ℤ × ℤ) (x : Got (ℤ × ℤ)) (y : Got (List (ℤ × ℤ))) �
     → rising_behind p (mapped (λ r. r.0 ∷ r.1) (x & y)) ≡ rising_behind q y
 more p q (Err e) y h = absurd cc
 more p q (Ok r) (Err e) h = refl
-more p q (Ok r) (Ok rs) h = elim (cases_Bool (pair_less p r)) [
-  | inl t ↦ let g = rw t at h in let e : r ≡ q = cc in rw (t, e) refl
+more p q (Ok r) (Ok rs) h = elim (cases_Bool (is_lt (pair_cmp p r))) [
+  | inl t ↦ let g = rw t at h in let e : r ≡ q = cc in
+      rw t (ap (λ (s : ℤ × ℤ). rises pair_cmp (s ∷ rs)) e)
   | inr f ↦ absurd (let g = rw f at h in cc)
 ]
 
@@ -237,7 +237,7 @@ stops p (Err e) (Err fault.Field) h = refl
 stops p (Err e) (Err fault.Range) h = refl
 stops p (Err e) (Err fault.OutOfMemory) h = refl
 stops p (Ok r) (Err e) h = refl
-stops p (Ok r) (Ok rs) h = elim (cases_Bool (pair_less p r)) [
+stops p (Ok r) (Ok rs) h = elim (cases_Bool (is_lt (pair_cmp p r))) [
   | inl t ↦ absurd (let g = rw t at h in cc)
   | inr f ↦ rw f refl
 ]
@@ -283,14 +283,14 @@ many_elements vs l = rw (length-elements vs) (grind (arith, l))
 
 -- more than 1,000
 pub many_ids : (vs : List Value) → rising (each numbers (elements (items_view vs))) ≡ true
-    → 1000 < length vs → Err fault.Range ≡ ids_of (elements (items_view vs))
+    → 1000 < length vs → Err fault.Range ≡ aim_ids (elements (items_view vs))
 many_ids vs rises l = rw (rises, many_elements vs l) refl
 
 -- no more, which are read
 pub read_ids : {B : Type 0} (b : B) (vs : List Value) (is : List OpId)
     → rising (each numbers (elements (items_view vs))) ≡ true → length vs ≤ 1000
     → (◌≡◌ {A = Got B} (Ok b) (Err fault.OutOfMemory))
-    ⊎ (Ok is ≡ each name (elements (items_view vs))) → (Ok is ≡ ids_of (elements (items_view vs)))
+    ⊎ (Ok is ≡ each name (elements (items_view vs))) → (Ok is ≡ aim_ids (elements (items_view vs)))
     × (is_aim is ≡ true)
 read_ids b vs is rises l (inl m) = absurd cc
 read_ids b vs is rises l (inr e) = (
@@ -304,6 +304,6 @@ pub fault_of_ids : {B C : Type 0} (e : LineError) (vs : List Value)
     → (◌≡◌ {A = Got B} (Err e) (Err fault.OutOfMemory))
     ⊎ (Err e ≡ each name (elements (items_view vs)))
     → (◌≡◌ {A = Got C} (Err e) (Err fault.OutOfMemory))
-    ⊎ (Err e ≡ ids_of (elements (items_view vs)))
+    ⊎ (Err e ≡ aim_ids (elements (items_view vs)))
 fault_of_ids e vs rises l (inl m) = let q : e ≡ fault.OutOfMemory = cc in inl (rw q refl)
 fault_of_ids e vs rises l (inr f) = inr (rw (rises, few_elements vs l) f)

@@ -18,8 +18,9 @@ use Rattle.gf_json.specs.declared.line_error.LineError.TheVariants as fault
 use Rattle.serde_json.specs.Data.{Data, Members}
 use Rattle.serde_json.specs.Find.{get, as_str, as_object}
 use Rattle.gf_json.specs.LineValues.{Got, and_then, fault_beside, ◌&◌}
-use Rattle.gf_json.specs.LineFields.{at, id, past, site, object, aim, place, box_size, circle_size}
-use Rattle.gf_json.specs.LineFields.{ellipse_size, polygon_points, colour, layer, shown}
+use Rattle.gf_json.specs.LineFields.{at, id, past, site, object_member, aim, place_member, box_size}
+use Rattle.gf_json.specs.LineFields.{circle_size}
+use Rattle.gf_json.specs.LineFields.{ellipse_size, polygon_points, colour_member, layer, shown}
 use Rattle.gf_json.specs.LineKeys.{op_keys, author_keys, create_keys, set_keys, aimed_keys}
 use Rattle.gf_json.specs.LineKeys.{await_keys, has_count, has_exactly, is_word, says, member_count}
 use Rattle.gf_json.specs.LineChanges.{new_value, named_value, creation, setting, change}
@@ -115,26 +116,26 @@ creation-missing : (form : Got Form) (shape kind : List ℕ) (d : Data)
     → list_all (λ key. is_some (get key d)) (create_keys shape) ≡ false
     → creation form d ≡ Err fault.Field
 creation-missing form shape kind d k f h =
-    let e : (form & place d & colour d & layer d & shown d) ≡ Err fault.Field =
+    let e : (form & place_member d & colour_member d & layer d & shown d) ≡ Err fault.Field =
     by_key d (create_keys shape) (
       unsaid (codes "kind") kind d k,
       (
-        (λ n. field_right form _ (field_left (place d) _ (missing (codes "place") _ d n))),
+        (λ n. field_right form _ (field_left (place_member d) _ (missing (codes "place") _ d n))),
         (
           (λ n. field_left form _ (f n)),
           (
             (λ n. field_right form _
-                (field_right (place d) _
-                (field_left (colour d) _ (missing (codes "colour") _ d n)))),
+                (field_right (place_member d) _
+                (field_left (colour_member d) _ (missing (codes "colour") _ d n)))),
             (
               (λ n. field_right form _
-                  (field_right (place d) _
-                  (field_right (colour d) _
+                  (field_right (place_member d) _
+                  (field_right (colour_member d) _
                   (field_left (layer d) _ (missing (codes "layer") _ d n))))),
               (
                 (λ n. field_right form _
-                    (field_right (place d) _
-                    (field_right (colour d) _
+                    (field_right (place_member d) _
+                    (field_right (colour_member d) _
                     (field_right (layer d) _ (missing (codes "shown") _ d n))))),
                 tt,
               ),
@@ -161,12 +162,16 @@ unnamed d n = of_value (get (codes "to") d)
 
 -- without one of the keys of a setting, whatever its aim is
 without_key : (g : Got (List OpId)) (d : Data)
-    → EachMissing d ((object d & new_value d & g) ≡ Err fault.Field) set_keys
+    → EachMissing d ((object_member d & new_value d & g) ≡ Err fault.Field) set_keys
 without_key g d = (
-  (λ n. field_left (object d) _ (rw (missing (codes "object") _ d n) refl)),
+  (λ n. field_left (object_member d) _ (rw (missing (codes "object") _ d n) refl)),
   (
-    (λ n. field_right (object d) _ (field_left (new_value d) _ (unnamed d n))),
-    ((λ n. field_right (object d) _ (field_left (new_value d) _ (missing (codes "to") _ d n))), tt),
+    (λ n. field_right (object_member d) _ (field_left (new_value d) _ (unnamed d n))),
+    (
+      (λ n. field_right (object_member d) _
+          (field_left (new_value d) _ (missing (codes "to") _ d n))),
+      tt,
+    ),
   ),
 )
 
@@ -174,16 +179,18 @@ setting-missing : (g : Got (List OpId)) (d : Data)
     → list_all (λ key. is_some (get key d)) set_keys ≡ false
     → setting (new_value d) g d ≡ Err fault.Field
 setting-missing g d h =
-    let e : (object d & new_value d & g) ≡ Err fault.Field = by_key d set_keys (without_key g d) h
+    let e : (object_member d & new_value d & g) ≡ Err fault.Field = by_key d set_keys
+    (without_key g d) h
     in
     rw e refl
 
 aimed-missing : (d : Data) → list_all (λ key. is_some (get key d)) aimed_keys ≡ false
     → setting (new_value d) (aim d) d ≡ Err fault.Field
 aimed-missing d h =
-    let e : (object d & new_value d & aim d) ≡ Err fault.Field =
+    let e : (object_member d & new_value d & aim d) ≡ Err fault.Field =
     by_key d aimed_keys (
-      (λ n. field_right (object d) _ (field_right (new_value d) _ (missing (codes "aim") _ d n))),
+      (λ n. field_right (object_member d) _
+          (field_right (new_value d) _ (missing (codes "aim") _ d n))),
       without_key (aim d) d,
     ) h in
     rw e refl

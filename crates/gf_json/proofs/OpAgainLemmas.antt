@@ -18,8 +18,9 @@ use Rattle.gf_ops.specs.Limits.{is_aim, is_change, IsInRange}
 use Rattle.serde_json.specs.Data.{Data}
 use Rattle.gf_json.specs.LineValues.{Got, mapped, and_then, ◌&◌, array}
 use Rattle.gf_json.specs.LineLimits.{name, clock}
-use Rattle.gf_json.specs.LineFields.{id, past, object, aim, place, box_size, circle_size}
-use Rattle.gf_json.specs.LineFields.{ellipse_size, polygon_points, colour, layer, shown}
+use Rattle.gf_json.specs.LineFields.{id, past, object_member, aim, place_member, box_size}
+use Rattle.gf_json.specs.LineFields.{circle_size}
+use Rattle.gf_json.specs.LineFields.{ellipse_size, polygon_points, colour_member, layer, shown}
 use Rattle.gf_json.specs.LineKeys.{op_keys}
 use Rattle.gf_json.specs.LineChanges.{change, new_value}
 use Rattle.gf_json.specs.OperationLines.{op_of}
@@ -79,22 +80,26 @@ creation_again : (i p : Data) (s : Start) (f : Form) → is_form f ≡ true → 
     }))
 creation_again i p s (Rect width height) form near level fill =
     let d = creation_data i p s (Rect width height) in
-    start_parts (box_size d) (place d) (colour d) (layer d) (shown d) (Rect width height) s
+    start_parts (box_size d) (place_member d) (colour_member d) (layer d) (shown d)
+    (Rect width height) s
     (mapped-Ok (λ q. Rect q.0 q.1) _ (width, height) (size_again width height form))
     (point_again s.place near) (colour_again s.colour fill) (level_again s.layer level) refl
 creation_again i p s (Polygon ps) form near level fill =
     let d = creation_data i p s (Polygon ps) in
-    start_parts (polygon_points d) (place d) (colour d) (layer d) (shown d) (Polygon ps) s
+    start_parts (polygon_points d) (place_member d) (colour_member d) (layer d) (shown d)
+    (Polygon ps) s
     (mapped-Ok Polygon _ ps (points_again ps form)) (point_again s.place near)
     (colour_again s.colour fill) (level_again s.layer level) refl
 creation_again i p s (Circle radius) form near level fill =
     let d = creation_data i p s (Circle radius) in
-    start_parts (circle_size d) (place d) (colour d) (layer d) (shown d) (Circle radius) s
+    start_parts (circle_size d) (place_member d) (colour_member d) (layer d) (shown d)
+    (Circle radius) s
     (mapped-Ok Circle _ radius (radius_again radius form)) (point_again s.place near)
     (colour_again s.colour fill) (level_again s.layer level) refl
 creation_again i p s (Ellipse rx ry) form near level fill =
     let d = creation_data i p s (Ellipse rx ry) in
-    start_parts (ellipse_size d) (place d) (colour d) (layer d) (shown d) (Ellipse rx ry) s
+    start_parts (ellipse_size d) (place_member d) (colour_member d) (layer d) (shown d)
+    (Ellipse rx ry) s
     (mapped-Ok (λ q. Ellipse q.0 q.1) _ (rx, ry) (size_again rx ry form)) (point_again s.place near)
     (colour_again s.colour fill) (level_again s.layer level) refl
 
@@ -125,12 +130,12 @@ setting_again : (i p : Data) (o : ObjectId) (v : Value) (ids : List OpId) → is
     → change (codes "op") op_keys (setting_data i p o v ids) ≡ Ok (Set o v ids)
 setting_again i p o v [] name h few =
     let d = setting_data i p o v [] in
-    setting_parts (object d) (new_value d) (Ok []) o v []
+    setting_parts (object_member d) (new_value d) (Ok []) o v []
     (mapped-Ok {B = ObjectId} (λ n. record { 0 = n }) _ o.0 (name_again o.0 name))
     (value_again i p o v h) refl
 setting_again i p o v (j ∷ js) name h few =
     let d = setting_data i p o v (j ∷ js) in
-    setting_parts (object d) (new_value d) (aim d) o v (j ∷ js)
+    setting_parts (object_member d) (new_value d) (aim d) o v (j ∷ js)
     (mapped-Ok {B = ObjectId} (λ n. record { 0 = n }) _ o.0 (name_again o.0 name))
     (aimed_value i p o v j js ∙ value_again i p o v h) (ids_again (j ∷ js) few)
 

@@ -15,9 +15,9 @@ use Rattle.serde_json.specs.declared.value.Value.{Value}
 use Rattle.serde_json.specs.View.{view, items_view}
 use Rattle.gf_json.specs.declared.line_error.LineError.{LineError}
 use Rattle.gf_json.specs.declared.line_error.LineError.TheVariants as fault
-use Rattle.gf_json.specs.LineValues.{Got, mapped, and_then, ◌&◌, each, elements, two, whole}
-use Rattle.gf_json.specs.LineLimits.{coordinate, point, counted, points_of}
-use Rattle.gf_json.specs.CheckedPoints.{checked, read_point}
+use Rattle.gf_json.specs.LineValues.{Got, mapped, and_then, ◌&◌, each, elements, two, whole_value}
+use Rattle.gf_json.specs.LineLimits.{coordinate_value, point_value, counted, points_of}
+use Rattle.gf_json.specs.CheckedPoints.{checked}
 use Rattle.gf_json.proofs.ArrayLemmas.{mapped-parts, beside-parts, beside-mapped, each-all}
 use Rattle.gf_json.proofs.ArrayLemmas.{length-elements}
 
@@ -37,37 +37,40 @@ checked-beside (Err e) (Err fault.OutOfMemory) = refl
 -- the fault of a value and of those behind it
 pub checked_before : (vs : List Value) (v : Value) (n : ℕ) → 1 ≤ n → n ≤ length vs
     → v ≡ get_or vs (n - 1) v
-    → checked (each point (elements (items_view (drop (n - 1) vs)))) ≡ checked
-    (point (view v) & checked (each point (elements (items_view (drop n vs)))))
+    → checked (each point_value (elements (items_view (drop (n - 1) vs)))) ≡ checked
+    (point_value (view v) & checked (each point_value (elements (items_view (drop n vs)))))
 checked_before vs v n l m e =
     let next : n - 1 + 1 ≡ n = omega (arith, l) in
     rw (drop_more vs (n - 1) v (omega (arith, l, m)), ← e, next)
-    (checked-beside (point (view v)) (each point (elements (items_view (drop n vs)))))
+    (checked-beside (point_value (view v)) (each point_value (elements (items_view (drop n vs)))))
 
 -- ---- what is read of all of them
 
 -- values that were checked are points
-all_points : (vs : List Value) (t : ⊤) → checked (each point (elements (items_view vs))) ≡ Ok t
-    → All (λ v. IsOk (point (view v))) vs
+all_points : (vs : List Value) (t : ⊤) → checked (each point_value (elements (items_view vs))) ≡ Ok
+    t
+    → All (λ v. IsOk (point_value (view v))) vs
 all_points [] t h = All-nil _
 all_points (v ∷ vs) t h =
-    let e : checked (point (view v) & checked (each point (elements (items_view vs)))) ≡ Ok t = sym
-    (checked-beside (point (view v)) (each point (elements (items_view vs)))) ∙ h in
+    let e : checked (point_value (view v) & checked (each point_value (elements (items_view vs))))
+    ≡ Ok t = sym
+    (checked-beside (point_value (view v)) (each point_value (elements (items_view vs)))) ∙ h in
     let (q, b, u) = mapped-parts {B = ⊤} (λ a. tt)
-    (point (view v) & checked (each point (elements (items_view vs)))) t e in
-    let parts = beside-parts (point (view v)) (checked (each point (elements (items_view vs)))) q b
+    (point_value (view v) & checked (each point_value (elements (items_view vs)))) t e in
+    let parts = beside-parts (point_value (view v))
+    (checked (each point_value (elements (items_view vs)))) q b
     in
-    All-cons (λ w. IsOk (point (view w))) v vs (rw parts.0 refl) (all_points vs q.1 parts.1)
+    All-cons (λ w. IsOk (point_value (view w))) v vs (rw parts.0 refl) (all_points vs q.1 parts.1)
 
 -- elements that are points are read as these
-each-points : (vs : List Value) (ps : List Point) → map (λ v. point (view v)) vs ≡ map read_point ps
-    → each point (elements (items_view vs)) ≡ Ok ps
+each-points : (vs : List Value) (ps : List Point) → map (λ v. point_value (view v)) vs ≡ map Ok ps
+    → each point_value (elements (items_view vs)) ≡ Ok ps
 each-points [] [] h = refl
 each-points [] (p ∷ ps) h = absurd cc
 each-points (v ∷ vs) [] h = absurd cc
 each-points (v ∷ vs) (p ∷ ps) h =
-    let first : point (view v) ≡ Ok p = cc in
-    let rest : map (λ w. point (view w)) vs ≡ map read_point ps = cc in
+    let first : point_value (view v) ≡ Ok p = cc in
+    let rest : map (λ w. point_value (view w)) vs ≡ map Ok ps = cc in
     rw (first, each-points vs ps rest) refl
 
 -- a fault that a map leaves
@@ -78,30 +81,32 @@ mapped-fault f g (Err d) e h = cc
 
 -- where the count and the values are checked, each value is a point
 pub points_checked : (vs : List Value) (p : ℕ × ⊤)
-    → (counted (length vs) & checked (each point (elements (items_view vs)))) ≡ Ok p
-    → All (λ v. IsOk (point (view v))) vs
+    → (counted (length vs) & checked (each point_value (elements (items_view vs)))) ≡ Ok p
+    → All (λ v. IsOk (point_value (view v))) vs
 points_checked vs p h = all_points vs p.1
-    (beside-parts (counted (length vs)) (checked (each point (elements (items_view vs)))) p h).1
+    (beside-parts (counted (length vs)) (checked (each point_value (elements (items_view vs)))) p
+    h).1
 
 -- and these points are read
 pub points_of-read : (vs : List Value) (ps : List Point) (p : ℕ × ⊤)
-    → (counted (length vs) & checked (each point (elements (items_view vs)))) ≡ Ok p
-    → map (λ v. point (view v)) vs ≡ map read_point ps
+    → (counted (length vs) & checked (each point_value (elements (items_view vs)))) ≡ Ok p
+    → map (λ v. point_value (view v)) vs ≡ map Ok ps
     → points_of (elements (items_view vs)) ≡ Ok ps
 points_of-read vs ps p h read =
-    let parts = beside-parts (counted (length vs)) (checked (each point (elements (items_view vs))))
+    let parts = beside-parts (counted (length vs))
+    (checked (each point_value (elements (items_view vs))))
     p h in
     rw (length-elements vs, parts.0, each-points vs ps read) refl
 
 -- and where they are not, the fault is theirs
 pub points_of-refused : (vs : List Value) (e : LineError)
-    → (counted (length vs) & checked (each point (elements (items_view vs)))) ≡ Err e
+    → (counted (length vs) & checked (each point_value (elements (items_view vs)))) ≡ Err e
     → points_of (elements (items_view vs)) ≡ Err e
 points_of-refused vs e h =
     let both = rw (beside-mapped {C = ⊤} (λ ps. tt) (counted (length vs))
-    (each point (elements (items_view vs)))) at h in
+    (each point_value (elements (items_view vs)))) at h in
     rw (length-elements vs) (mapped-fault _ (λ p. p.1)
-    (counted (length vs) & each point (elements (items_view vs))) e both)
+    (counted (length vs) & each point_value (elements (items_view vs))) e both)
 
 -- ---- limits
 
@@ -129,14 +134,14 @@ and_then-parts f (Ok a) b h = (a, h)
 and_then-parts f (Err e) b h = absurd cc
 
 -- a point that is read is near
-point-near : (d : Data) (p : Point) → point d ≡ Ok p → is_near p ≡ true
-point-near d p h =
+point_value-near : (d : Data) (p : Point) → point_value d ≡ Ok p → is_near p ≡ true
+point_value-near d p h =
     let (q, b, e) = mapped-parts {A = ℤ × ℤ} {B = Point} (λ q. record { x = q.0; y = q.1 })
-    (and_then (λ r. coordinate r.0 & coordinate r.1) (two d)) p h in
-    let (r, c) = and_then-parts (λ r. coordinate r.0 & coordinate r.1) (two d) q b in
-    let parts = beside-parts (coordinate r.0) (coordinate r.1) q c in
-    rw (← e) (is_near-parts (record { x = q.0; y = q.1 }) (near (whole r.0) q.0 parts.0)
-    (near (whole r.1) q.1 parts.1))
+    (and_then (λ r. coordinate_value r.0 & coordinate_value r.1) (two d)) p h in
+    let (r, c) = and_then-parts (λ r. coordinate_value r.0 & coordinate_value r.1) (two d) q b in
+    let parts = beside-parts (coordinate_value r.0) (coordinate_value r.1) q c in
+    rw (← e) (is_near-parts (record { x = q.0; y = q.1 }) (near (whole_value r.0) q.0 parts.0)
+    (near (whole_value r.1) q.1 parts.1))
 
 -- a count that is read is one of a polygon
 counted-within : (n m : ℕ) → counted n ≡ Ok m → is_polygon_count n ≡ true
@@ -165,11 +170,11 @@ pub points_of-within : (ds : List Data) (ps : List Point) → points_of ds ≡ O
     → is_polygon ps ≡ true
 points_of-within ds ps h =
     let (q, b, e) = mapped-parts {A = ℕ × List Point} {B = List Point} (λ p. p.1)
-    (counted (length ds) & each point ds) ps h in
-    let parts = beside-parts (counted (length ds)) (each point ds) q b in
-    let all = each-all is_near point point-near ds q.1 parts.1 in
+    (counted (length ds) & each point_value ds) ps h in
+    let parts = beside-parts (counted (length ds)) (each point_value ds) q b in
+    let all = each-all is_near point_value point_value-near ds q.1 parts.1 in
     subst (λ (rs : List Point). is_polygon rs ≡ true) e
-    (is_polygon-parts q.1 (length ds) (length-each point ds q.1 parts.1)
+    (is_polygon-parts q.1 (length ds) (length-each point_value ds q.1 parts.1)
     (counted-within (length ds) q.0 parts.0) all)
 
 pub ruleset refusals = (points_of-refused)

@@ -8,7 +8,7 @@ use Rattle.gf_json.specs.declared.scripts.KeepLine.{KeepLine}
 use Rattle.serde_json.specs.Data.{Data}
 use Rattle.serde_json.specs.Find.{as_object}
 use Rattle.gf_json.specs.LineValues.{Got, mapped, and_then, ◌&◌}
-use Rattle.gf_json.specs.LineFields.{object, site, with_ids}
+use Rattle.gf_json.specs.LineFields.{object_member, site, with_ids}
 use Rattle.gf_json.specs.LineKeys.{has_count, says}
 use Rattle.gf_json.specs.OperationLines.{json}
 
@@ -23,7 +23,8 @@ keeps d = has_count 4 (as_object d) && says (codes "do") (codes "keep") d
 -- the site, the object and the ids, which were read or not
 abbrev pub kept_with : Got (List OpId) → Data → Got KeepLine
 kept_with ids d =
-    mapped (λ p. record { site = p.0; object = p.1.0; with = p.1.1 }) (site d & (object d & ids))
+    mapped (λ p. record { site = p.0; object = p.1.0; with = p.1.1 })
+    (site d & (object_member d & ids))
 
 -- what stands at the other three keys: "site", "object" and "with"
 abbrev pub kept : Data → Got KeepLine

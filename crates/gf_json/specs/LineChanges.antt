@@ -11,10 +11,10 @@ use Rattle.gf_ops.specs.declared.change.Value.TheVariants as value
 use Rattle.gf_json.specs.declared.line_error.LineError.TheVariants as fault
 use Rattle.serde_json.specs.Data.{Data}
 use Rattle.gf_json.specs.LineValues.{Got, mapped, ◌&◌, truth}
-use Rattle.gf_json.specs.LineLimits.{size, level, point, points}
+use Rattle.gf_json.specs.LineLimits.{size, level, point_value, points_value}
 use Rattle.gf_json.specs.LineColours.{hex_colour}
-use Rattle.gf_json.specs.LineFields.{at, object, aim, place, box_size, circle_size, ellipse_size}
-use Rattle.gf_json.specs.LineFields.{polygon_points, colour, layer, shown}
+use Rattle.gf_json.specs.LineFields.{at, object_member, aim, place_member, box_size, circle_size}
+use Rattle.gf_json.specs.LineFields.{ellipse_size, polygon_points, colour_member, layer, shown}
 use Rattle.gf_json.specs.LineKeys.{says, creates, sets, sets_aimed}
 
 -- what a new object of the form begins with
@@ -27,13 +27,13 @@ start form d = mapped
       layer = level;
       shown = visible;
     })
-    (form & place d & colour d & layer d & shown d)
+    (form & place_member d & colour_member d & layer d & shown d)
 
 -- v in the form of the attribute that the line d names
 abbrev pub named_value : Data → Data → Got Value
 named_value d v =
-    if says (codes "set") (codes "place") d then mapped value.Place (point v)
-    else (if says (codes "set") (codes "points") d then mapped value.Points (points v)
+    if says (codes "set") (codes "place") d then mapped value.Place (point_value v)
+    else (if says (codes "set") (codes "points") d then mapped value.Points (points_value v)
     else (if says (codes "set") (codes "size") d then mapped (λ s. value.Size s.0 s.1) (size v)
     else (if says (codes "set") (codes "colour") d then mapped value.Colour (hex_colour v)
     else (if says (codes "set") (codes "layer") d then mapped value.Layer (level v)
@@ -50,7 +50,7 @@ creation form d = mapped Create (start form d)
 
 -- the change that sets an attribute of an object to v, aimed at these ids
 abbrev pub setting : Got Value → Got (List OpId) → Data → Got Change
-setting v aim d = mapped (λ (o, (new, ids)). Set o new ids) (object d & v & aim)
+setting v aim d = mapped (λ (o, (new, ids)). Set o new ids) (object_member d & v & aim)
 
 -- the change of a line with its verb at this key, and with these keys beside those of the change
 abbrev pub change : List ℕ → List (List ℕ) → Data → Got Change

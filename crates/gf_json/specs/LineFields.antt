@@ -13,7 +13,8 @@ use Rattle.gf_json.specs.declared.line_error.LineError.TheVariants as fault
 use Rattle.serde_json.specs.Data.{Data}
 use Rattle.serde_json.specs.Find.{get}
 use Rattle.gf_json.specs.LineValues.{Got, mapped, and_then, array, truth}
-use Rattle.gf_json.specs.LineLimits.{natural, name, size, radius, level, clock, point, points}
+use Rattle.gf_json.specs.LineLimits.{natural_value, name, size, radius, level, clock, point_value}
+use Rattle.gf_json.specs.LineLimits.{points_value}
 use Rattle.gf_json.specs.LineAims.{ids}
 use Rattle.gf_json.specs.LineColours.{hex_colour}
 
@@ -35,11 +36,11 @@ past d = at (codes "past") (λ v. and_then clock (array v)) d
 
 -- the site of a command
 abbrev pub site : Data → Got ℕ
-site d = at (codes "site") (natural 1 8) d
+site d = at (codes "site") (natural_value 1 8) d
 
 -- the object whose attribute is set
-abbrev pub object : Data → Got ObjectId
-object d = mapped (λ i. record { 0 = i }) (at (codes "object") name d)
+abbrev pub object_member : Data → Got ObjectId
+object_member d = mapped (λ i. record { 0 = i }) (at (codes "object") name d)
 
 -- the ids that the operation aims at
 abbrev pub aim : Data → Got (List OpId)
@@ -50,8 +51,8 @@ abbrev pub with_ids : Data → Got (List OpId)
 with_ids d = at (codes "with") ids d
 
 -- where the new object is
-abbrev pub place : Data → Got Point
-place d = at (codes "place") point d
+abbrev pub place_member : Data → Got Point
+place_member d = at (codes "place") point_value d
 
 -- a box, by its width and its height
 abbrev pub box_size : Data → Got Form
@@ -67,11 +68,11 @@ ellipse_size d = mapped (λ p. Ellipse p.0 p.1) (at (codes "size") size d)
 
 -- a polygon, by its points
 abbrev pub polygon_points : Data → Got Form
-polygon_points d = mapped Polygon (at (codes "points") points d)
+polygon_points d = mapped Polygon (at (codes "points") points_value d)
 
 -- the colour of the new object
-abbrev pub colour : Data → Got Rgb
-colour d = at (codes "colour") hex_colour d
+abbrev pub colour_member : Data → Got Rgb
+colour_member d = at (codes "colour") hex_colour d
 
 -- the layer of the new object
 abbrev pub layer : Data → Got ℕ

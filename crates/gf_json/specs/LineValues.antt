@@ -38,8 +38,8 @@ abbrev pub ◌&◌ : {A B : Type 0} → Got A → Got B → Got (A × B)
 -- ---- forms
 
 -- a whole number that fits in 64 bits with sign
-abbrev pub whole : Data → Got ℤ
-whole d = ok_or (option_and_then as_i64 (as_number d)) fault.Field
+abbrev pub whole_value : Data → Got ℤ
+whole_value d = ok_or (option_and_then as_i64 (as_number d)) fault.Field
 
 -- true or false
 abbrev pub truth : Data → Got Bool

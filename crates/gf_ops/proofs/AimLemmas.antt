@@ -5,9 +5,9 @@ use Rattle.std.proofs.Common.{refl, sym, ap, subst, ◌∙◌, inl, inr, arith, 
 use Rattle.std.specs.Prelude.{◌⊎◌, ◌↔◌, ◌+◌, drop, Contains, IsTrue, nat_lt, nat_le, length}
 use Rattle.std.specs.Prelude.{slice_index_or}
 use Rattle.std.specs.List.{fold, list_all}
+use Rattle.std.specs.Ordering.{is_lt}
 use Rattle.std.proofs.lemmas.Bool.{cases_Bool, cases_lt, cond-true, cond-false, and_parts, and_from}
-use Rattle.std.proofs.lemmas.Bool.{or_cases, or_left, or_right, ltb-true, lt-ltb}
-use Rattle.std.proofs.lemmas.Bool.Decides.{Decides-eqb}
+use Rattle.std.proofs.lemmas.Bool.Decides.{Decides-eqb, nat_tests}
 use Rattle.std.proofs.lemmas.List.{at_drop_more, at_drop_all, get_or_default}
 use Rattle.gf_ops.specs.declared.op.Op.{Op}
 use Rattle.gf_ops.specs.declared.op.OpId.{OpId}
@@ -16,8 +16,8 @@ use Rattle.gf_ops.specs.declared.change.Change.TheVariants.{Create, Set}
 use Rattle.gf_ops.specs.Aims.{MayAimAt}
 use Rattle.gf_ops.specs.AimTests.{after_id, IsWithinAim, FitsAim, MeetsAt, MemberMeets, AimMeets}
 use Rattle.gf_ops.specs.Attribute.{change_aim, aim_of}
-use Rattle.gf_ops.specs.Limits.{is_id, is_clock, is_value, is_change, is_aim, id_less, rise_behind}
-use Rattle.gf_ops.specs.Limits.{ids_rise, IsInRange}
+use Rattle.gf_ops.specs.Limits.{is_id, is_clock, is_value, is_change, is_aim, IsInRange}
+use Rattle.gf_ops.specs.OperationOrder.{id_cmp, rises}
 use Rattle.gf_ops.specs.Conflict.{Conflict, MeetsBrought}
 use Rattle.gf_ops.specs.DirectConflict.{DirectConflict}
 use Rattle.gf_ops.specs.ValidHistory.{IsValid}
@@ -27,25 +27,17 @@ use Rattle.gf_ops.proofs.ValidityLemmas.{same_op}
 
 -- ---- the order of ids
 
+-- i is before j
+abbrev pub id_less : OpId → OpId → Bool
+id_less i j = is_lt (id_cmp i j)
+
 pub less_told : (i j : OpId) → id_less i j ≡ true
     → (i.site < j.site) ⊎ ((i.site ≡ j.site) × (i.seq < j.seq))
-less_told i j t = elim (or_cases (nat_lt i.site j.site) (i.site == j.site && nat_lt i.seq j.seq) t) [
-  | inl l ↦ inl (ltb-true i.site j.site l)
-  | inr r ↦ let p = and_parts (i.site == j.site) (nat_lt i.seq j.seq) r in inr (
-    (Decides-eqb i.site j.site).0 p.0,
-    ltb-true i.seq j.seq p.1,
-  )
-]
+less_told i j t = grind (arith, nat_tests, t)
 
 less_from : (i j : OpId) → (i.site < j.site) ⊎ ((i.site ≡ j.site) × (i.seq < j.seq))
     → id_less i j ≡ true
-less_from i j w = elim w [
-  | inl l ↦ or_left (nat_lt i.site j.site) (i.site == j.site && nat_lt i.seq j.seq)
-      (lt-ltb i.site j.site l)
-  | inr p ↦ or_right (nat_lt i.site j.site) (i.site == j.site && nat_lt i.seq j.seq)
-      (and_from (i.site == j.site) (nat_lt i.seq j.seq) ((Decides-eqb i.site j.site).1 p.0)
-      (lt-ltb i.seq j.seq p.1))
-]
+less_from i j w = grind (arith, nat_tests, w)
 
 less_trans : (i j k : OpId) → id_less i j ≡ true → id_less j k ≡ true → id_less i k ≡ true
 less_trans i j k l m = less_from i k (elim (less_told i j l) [
@@ -70,19 +62,19 @@ less_not i j l e =
 
 -- ---- rising ids
 
-pub behind : (i : OpId) (is : List OpId) → rise_behind i is ≡ true → (j : OpId) → Contains is j
+pub behind : (i : OpId) (is : List OpId) → rises id_cmp (i ∷ is) ≡ true → (j : OpId) → Contains is j
     → id_less i j ≡ true
 behind i [] t j c = absurd (not_Contains-nil j c)
 behind i (k ∷ ks) t j c =
-    let p = and_parts (id_less i k) (rise_behind k ks) t in
+    let p = and_parts (id_less i k) (rises id_cmp (k ∷ ks)) t in
     elim (Contains-cons_cases k ks j c) [
       | inl e ↦ subst (λ l. id_less i l ≡ true) (sym e) p.0
       | inr d ↦ less_trans i k j p.0 (behind k ks p.1 j d)
     ]
 
-pub rises_tail : (i : OpId) (is : List OpId) → ids_rise (i ∷ is) ≡ true → ids_rise is ≡ true
+pub rises_tail : (i : OpId) (is : List OpId) → rises id_cmp (i ∷ is) ≡ true → rises id_cmp is ≡ true
 rises_tail i [] t = refl
-rises_tail i (j ∷ js) t = (and_parts (id_less i j) (rise_behind j js) t).1
+rises_tail i (j ∷ js) t = (and_parts (id_less i j) (rises id_cmp (j ∷ js)) t).1
 
 -- ---- one walk
 
@@ -136,7 +128,7 @@ none_left is js e j c = elim (left_or_met is js j c) [
 ]
 
 -- and where all rise, what lies within is met
-all_met : (js is : List OpId) → ids_rise is ≡ true → ids_rise js ≡ true → IsWithinAim is js
+all_met : (js is : List OpId) → rises id_cmp is ≡ true → rises id_cmp js ≡ true → IsWithinAim is js
     → fold after_id is js ≡ []
 all_met [] [] r s w = refl
 all_met [] (i ∷ is) r s w = absurd (not_Contains-nil i (w i (Contains-cons_head i is)))
@@ -168,7 +160,7 @@ all_met (k ∷ ks) (i ∷ is) r s w = elim (cases_Bool (met i k is)) [
       (all_met ks (i ∷ is) r (rises_tail k ks s) within)
 ]
 
-pub within_told : (is js : List OpId) → ids_rise is ≡ true → ids_rise js ≡ true
+pub within_told : (is js : List OpId) → rises id_cmp is ≡ true → rises id_cmp js ≡ true
     → (fold after_id is js ≡ []) ↔ IsWithinAim is js
 within_told is js r s = (none_left is js, all_met js is r s)
 
@@ -182,32 +174,32 @@ empty_told t (i ∷ is) e = (
 
 -- ---- what is in range
 
-change_rises : (c : Change) → is_change c ≡ true → ids_rise (change_aim c) ≡ true
+change_rises : (c : Change) → is_change c ≡ true → rises id_cmp (change_aim c) ≡ true
 change_rises (Create start) t = refl
 change_rises (Set o v aim) t =
     let p = and_parts (is_id o.0 && is_value v) (is_aim aim) t in
-    (and_parts (nat_le (length aim) 1000 && list_all is_id aim) (ids_rise aim) p.1).1
+    (and_parts (nat_le (length aim) 1000 && list_all is_id aim) (rises id_cmp aim) p.1).1
 
-pub aim_rises : (a : Op) → IsInRange a → ids_rise (aim_of a) ≡ true
+pub aim_rises : (a : Op) → IsInRange a → rises id_cmp (aim_of a) ≡ true
 aim_rises a t = change_rises a.change
     (and_parts (is_id a.id && is_clock a.past) (is_change a.change) t).1
 
 -- ---- the loop that looks whether ids rise
 
 module _ (first last : OpId) (is : List OpId) (k : ℕ) (d : OpId)
-    (same : rise_behind last (drop k is) ≡ rise_behind first is) where
+    (same : rises id_cmp (last ∷ drop k is) ≡ rises id_cmp (first ∷ is)) where
   pub rise_stops : k < length is → id_less last (slice_index_or is k d) ≡ false
-      → false ≡ rise_behind first is
-  rise_stops l off = sym (at_drop_more (rise_behind last) is k d l
-      ∙ ap (λ b. b && rise_behind (slice_index_or is k d) (drop (k + 1) is)) off) ∙ same
+      → false ≡ rises id_cmp (first ∷ is)
+  rise_stops l off = sym (at_drop_more (λ js. rises id_cmp (last ∷ js)) is k d l
+      ∙ ap (λ b. b && rises id_cmp (slice_index_or is k d ∷ drop (k + 1) is)) off) ∙ same
 
   pub rise_more : k < length is → id_less last (slice_index_or is k d) ≡ true
-      → rise_behind (slice_index_or is k d) (drop (k + 1) is) ≡ rise_behind first is
-  rise_more l on = sym (at_drop_more (rise_behind last) is k d l
-      ∙ ap (λ b. b && rise_behind (slice_index_or is k d) (drop (k + 1) is)) on) ∙ same
+      → rises id_cmp (slice_index_or is k d ∷ drop (k + 1) is) ≡ rises id_cmp (first ∷ is)
+  rise_more l on = sym (at_drop_more (λ js. rises id_cmp (last ∷ js)) is k d l
+      ∙ ap (λ b. b && rises id_cmp (slice_index_or is k d ∷ drop (k + 1) is)) on) ∙ same
 
-  pub rise_ends : length is ≤ k → true ≡ rise_behind first is
-  rise_ends l = sym (at_drop_all (rise_behind last) is k l) ∙ same
+  pub rise_ends : length is ≤ k → true ≡ rises id_cmp (first ∷ is)
+  rise_ends l = sym (at_drop_all (λ js. rises id_cmp (last ∷ js)) is k l) ∙ same
 
 -- ---- the operation under an id
 

@@ -15,8 +15,8 @@ use Rattle.gf_ops.specs.declared.change.Value.{Value}
 use Rattle.gf_ops.specs.declared.change.Value.TheVariants.{Place, Points, Size, Colour, Layer}
 use Rattle.gf_ops.specs.declared.change.Value.TheVariants.{Shown}
 use Rattle.gf_ops.specs.declared.change.Attr.TheVariants as attr
-use Rattle.gf_ops.specs.Attribute.{attribute_of, change_value, start_value, set_value, form_value}
-use Rattle.gf_ops.specs.Attribute.{size_in, points_in, object_of}
+use Rattle.gf_ops.specs.Attribute.{attribute_of, change_value, start_value, value_as, form_value}
+use Rattle.gf_ops.specs.Attribute.{object_of}
 use Rattle.gf_ops.specs.DirectConflict.{SetApart, DirectConflict}
 use Rattle.gf_ops.specs.ConflictTests.{value_eq, is_another, sets_another, begins_apart, are_apart}
 use Rattle.gf_ops.specs.OperationOrder.{IsConcurrent, Precedes}
@@ -25,23 +25,23 @@ use Rattle.gf_ops.proofs.SameLemmas.{value_eq-same, value_eq-true}
 -- ---- values
 
 -- what a Set gives to an attribute is its value, of that attribute
-pub set_value-given : (v w : Value) (t : Attr) → set_value v t ≡ Some w
+pub value_as-given : (v w : Value) (t : Attr) → value_as v t ≡ Some w
     → (v ≡ w) × (attribute_of v ≡ t)
-set_value-given (Place p) w attr.Place e = (cc, refl)
-set_value-given (Points ps) w attr.Points e = (cc, refl)
-set_value-given (Size j k) w attr.Size e = (cc, refl)
-set_value-given (Colour c) w attr.Colour e = (cc, refl)
-set_value-given (Layer n) w attr.Layer e = (cc, refl)
-set_value-given (Shown b) w attr.Shown e = (cc, refl)
-set_value-given v w t e = absurd cc
+value_as-given (Place p) w attr.Place e = (cc, refl)
+value_as-given (Points ps) w attr.Points e = (cc, refl)
+value_as-given (Size j k) w attr.Size e = (cc, refl)
+value_as-given (Colour c) w attr.Colour e = (cc, refl)
+value_as-given (Layer n) w attr.Layer e = (cc, refl)
+value_as-given (Shown b) w attr.Shown e = (cc, refl)
+value_as-given v w t e = absurd cc
 
-pub set_value-own : (v : Value) → set_value v (attribute_of v) ≡ Some v
-set_value-own (Place p) = refl
-set_value-own (Points ps) = refl
-set_value-own (Size j k) = refl
-set_value-own (Colour c) = refl
-set_value-own (Layer n) = refl
-set_value-own (Shown b) = refl
+pub value_as-own : (v : Value) → value_as v (attribute_of v) ≡ Some v
+value_as-own (Place p) = refl
+value_as-own (Points ps) = refl
+value_as-own (Size j k) = refl
+value_as-own (Colour c) = refl
+value_as-own (Layer n) = refl
+value_as-own (Shown b) = refl
 
 -- ---- changes
 
@@ -78,14 +78,14 @@ another_apart c o w aim t =
       first = v;
       second = w;
       first_given = given;
-      second_given = set_value-own w;
+      second_given = value_as-own w;
       differ = differ;
     }
 
 apart_another : (c : Change) (o : ObjectId) (w : Value) (aim : List OpId) → SetApart c (Set o w aim)
     → sets_another c w ≡ true
 apart_another c o w aim s =
-    let (same, at) = set_value-given w s.second s.attribute s.second_given in
+    let (same, at) = value_as-given w s.second s.attribute s.second_given in
     let given : change_value c (attribute_of w) ≡ Some s.first = ap (change_value c)
     at ∙ s.first_given in
     rw given (another_from s.first w (λ e. s.differ (e ∙ same)))
@@ -104,14 +104,14 @@ form_given s = given s.form refl
     given (Circle r) e = rw e refl
     given (Ellipse m n) e = rw e refl
 
-size_is : (f : Form) (w : Value) → size_in (form_value f) ≡ Some w
+size_is : (f : Form) (w : Value) → value_as (form_value f) attr.Size ≡ Some w
     → (form_value f ≡ w) × (attribute_of w ≡ attr.Size)
 size_is (Rect v h) w e = let same : Size v h ≡ w = cc in (same, ap attribute_of (sym same))
 size_is (Circle r) w e = let same : Size r r ≡ w = cc in (same, ap attribute_of (sym same))
 size_is (Ellipse m n) w e = let same : Size m n ≡ w = cc in (same, ap attribute_of (sym same))
 size_is (Polygon ps) w e = absurd cc
 
-points_are : (f : Form) (w : Value) → points_in (form_value f) ≡ Some w
+points_are : (f : Form) (w : Value) → value_as (form_value f) attr.Points ≡ Some w
     → (form_value f ≡ w) × (attribute_of w ≡ attr.Points)
 points_are (Polygon ps) w e = let same : Points ps ≡ w = cc in (same, ap attribute_of (sym same))
 points_are f w e = absurd cc

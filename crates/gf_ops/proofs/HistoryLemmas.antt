@@ -2,8 +2,7 @@
 use Rattle.std.proofs.Common.{◌≡◌, ◌≢◌, ℕ, ◌-◌, ◌≤◌, ◌<◌, Bool, true, false, cond, ◌&&◌, List, []}
 use Rattle.std.proofs.Common.{◌∷◌, length, get_or, refl, ap, sym, subst, ◌∙◌, arith, rules, inl}
 use Rattle.std.proofs.Common.{inr, true≢false}
-use Rattle.std.specs.Borrow.{Bor}
-use Rattle.std.specs.Prelude.{◌⊎◌, IfSome, IfNone, IsSome, All, Contains, Option, Some, None}
+use Rattle.std.specs.Prelude.{◌⊎◌, IfNone, All, Contains, Option, Some, None}
 use Rattle.std.specs.Prelude.{IsTrue, slice_index, slice_index_or, count_by, nat_eq}
 use Rattle.std.proofs.lemmas.Bool.{cases_lt}
 use Rattle.std.proofs.lemmas.Bool.Decides.{eqb_tells}
@@ -115,18 +114,6 @@ not_counted h rows counts i t out op c e =
     let seq : op.id.seq ≡ i.seq = ap (λ (j : OpId). j.seq) e in
     let last = rw site at r in
     elim out [ inl l ↦ absurd (omega arith) | inr l ↦ absurd (omega arith) ]
-
--- a look-up at the position of the operation under an id finds it
-pub found_under : (h : List Op) (i : OpId) (k : ℕ) (r : Option (Bor Op)) (op : Op) → k < length h
-    → get_or h k op ≡ op → op.id ≡ i → IfSome r (λ o. o.now ≡ get_or h k o.now)
-    → IfSome r (λ o. Contains h o.now × (o.now.id ≡ i))
-found_under h i k None op l at d e = tt
-found_under h i k (Some o) op l at d e = let f : o.now ≡ op = e
-    ∙ (get_or_default h k o.now op l ∙ at) in ((k, l, sym e), ap (λ (a : Op). a.id) f ∙ d)
-
-pub found_some : (A : Type 0) (r : Option (Bor Op)) → IsSome r → IfNone r A
-found_some A None s = absurd cc
-found_some A (Some o) s = tt
 
 -- ---- the object that an operation changes
 

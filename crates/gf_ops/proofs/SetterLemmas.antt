@@ -15,13 +15,13 @@ use Rattle.gf_ops.specs.declared.change.Value.{Value}
 use Rattle.gf_ops.specs.declared.change.Value.TheVariants.{Place, Points, Size, Colour, Layer}
 use Rattle.gf_ops.specs.declared.change.Value.TheVariants.{Shown}
 use Rattle.gf_ops.specs.AimWalk.{place_of, Sets}
-use Rattle.gf_ops.specs.Attribute.{attribute_of, change_value, set_value, changed_object, object_of}
+use Rattle.gf_ops.specs.Attribute.{attribute_of, change_value, value_as, changed_object, object_of}
 use Rattle.gf_ops.specs.ConflictTests.{value_eq, sets_another}
 use Rattle.gf_ops.specs.DirectConflict.{SetApart, DirectConflict}
 use Rattle.gf_ops.specs.KnownObject.{IsSuited}
 use Rattle.gf_ops.specs.OperationOrder.{Precedes}
 use Rattle.gf_ops.specs.ValidHistory.{IsValid}
-use Rattle.gf_ops.proofs.DirectConflictLemmas.{set_value-given, set_value-own, another_told}
+use Rattle.gf_ops.proofs.DirectConflictLemmas.{value_as-given, value_as-own, another_told}
 use Rattle.gf_ops.proofs.DirectConflictLemmas.{another_from, direct-sym}
 use Rattle.gf_ops.proofs.SameLemmas.{value_eq-true, value_eq-same}
 use Rattle.gf_ops.proofs.ValidityLemmas.{same_op}
@@ -78,8 +78,8 @@ sets_apart x y v w s r e n = record {
   first = v;
   second = w;
   first_given = ap (λ c. change_value c (attribute_of w)) s.is
-      ∙ (ap (set_value v) (sym (one_attribute v w e)) ∙ set_value-own v);
-  second_given = ap (λ c. change_value c (attribute_of w)) r.is ∙ set_value-own w;
+      ∙ (ap (value_as v) (sym (one_attribute v w e)) ∙ value_as-own v);
+  second_given = ap (λ c. change_value c (attribute_of w)) r.is ∙ value_as-own w;
   differ = n;
 }
 
@@ -88,15 +88,15 @@ pub other_told : (x : Op) (v w : Value) → Sets x v → sets_another x.change w
 other_told x v w s t e =
     let u : sets_another (Set s.object v s.aim) w ≡ true = subst (λ c. sets_another c w ≡ true) s.is
     t in
-    let told = another_told (set_value v (attribute_of w)) w u in
-    let given = set_value-given v told.0 (attribute_of w) told.1 in
+    let told = another_told (value_as v (attribute_of w)) w u in
+    let given = value_as-given v told.0 (attribute_of w) told.1 in
     told.2 (sym given.0 ∙ e)
 
 pub other_from : (x : Op) (v w : Value) → Sets x v → place_of v ≡ place_of w → v ≢ w
     → sets_another x.change w ≡ true
 other_from x v w s e n =
-    let given : set_value v (attribute_of w) ≡ Some v = ap (set_value v) (sym (one_attribute v w e))
-    ∙ set_value-own v in
+    let given : value_as v (attribute_of w) ≡ Some v = ap (value_as v) (sym (one_attribute v w e))
+    ∙ value_as-own v in
     subst (λ c. sets_another c w ≡ true) (sym s.is) (rw given (another_from v w n))
 
 -- x and y set one attribute to different values
@@ -133,9 +133,9 @@ module _ (h : List Op) (valid : IsValid h) where
       (direct-sym x y d))
   both_set x y i j (Set o v aim) (Set p w others) e f d =
       let a = d.apart in
-      let first = set_value-given v a.first a.attribute
+      let first = value_as-given v a.first a.attribute
       (ap (λ c. change_value c a.attribute) (sym e) ∙ a.first_given) in
-      let second = set_value-given w a.second a.attribute
+      let second = value_as-given w a.second a.attribute
       (ap (λ c. change_value c a.attribute) (sym f) ∙ a.second_given) in
       record {
         first = v;

@@ -15,10 +15,9 @@ use Rattle.gf_ops.specs.Attribute.{aim_of, object_of}
 use Rattle.gf_ops.specs.AimWalk.{IsOfSite, AreOnOne, AreParted, ArePartedBelow, KnewAt, NoneKnew}
 use Rattle.gf_ops.specs.AimWalk.{NoneAbove, IsAimTable, MeetsTable, IsNoted}
 use Rattle.gf_ops.specs.DirectConflict.{DirectConflict}
-use Rattle.gf_ops.specs.Limits.{id_less, ids_rise}
-use Rattle.gf_ops.specs.OperationOrder.{IsSite, entry}
+use Rattle.gf_ops.specs.OperationOrder.{IsSite, entry, id_cmp, rises}
 use Rattle.gf_ops.specs.ValidHistory.{IsValid}
-use Rattle.gf_ops.proofs.AimLemmas.{less_told, behind, rises_tail}
+use Rattle.gf_ops.proofs.AimLemmas.{id_less, less_told, behind, rises_tail}
 use Rattle.gf_ops.proofs.AimWalkLemmas.{table_met, table_tells}
 use Rattle.gf_ops.proofs.DirectConflictLemmas.{direct-sym}
 use Rattle.gf_ops.proofs.HistoryLemmas.{site_in_range, seq_in_range}
@@ -41,7 +40,8 @@ taken_from (x ∷ xs) (suc m) zero l b = omega arith
 taken_from (x ∷ xs) (suc m) (suc k) l b = let r = taken_from xs m k (omega (arith, l))
     (omega (arith, b)) in omega (arith, r)
 
-rises_at : (ids : List OpId) → ids_rise ids ≡ true → (k n : ℕ) (d e : OpId) → k < n → n < length ids
+rises_at : (ids : List OpId) → rises id_cmp ids ≡ true → (k n : ℕ) (d e : OpId) → k < n
+    → n < length ids
     → id_less (get_or ids k d) (get_or ids n e) ≡ true
 rises_at [] r k n d e l b = absurd (omega (arith, b))
 rises_at (i ∷ is) r k zero d e l b = absurd (omega (arith, l))
@@ -62,7 +62,8 @@ pub record IsWalked (h : List Op) (ids : List OpId) (s t n m : ℕ)
       → NoneKnew h (take m ids) t (slice_index_or ids k d)
   pub parted : AreParted h (take n ids) ids s t
 
-module _ (h : List Op) (valid : IsValid h) (ids : List OpId) (rising : ids_rise ids ≡ true) where
+module _ (h : List Op) (valid : IsValid h) (ids : List OpId)
+    (rising : rises id_cmp ids ≡ true) where
   -- an operation of the first m is one of all
   of_first : (m t : ℕ) (y : Op) → IsOfSite h (take m ids) t y → IsOfSite h ids t y
   of_first m t y of =

@@ -1,5 +1,5 @@
 -- The attributes of objects, and the value that an operation gives to each (this project's choice).
-use Rattle.std.specs.Prelude.{Bool, true, false, ◌==◌, List, [], Option, Some, None}
+use Rattle.std.specs.Prelude.{Bool, true, false, ◌==◌, List, [], Option, Some, None, if◌then◌else◌}
 use Rattle.gf_ops.specs.declared.op.Op.{Op}
 use Rattle.gf_ops.specs.declared.op.OpId.{OpId}
 use Rattle.gf_ops.specs.declared.op.ObjectId.{ObjectId}
@@ -12,6 +12,7 @@ use Rattle.gf_ops.specs.declared.change.Attr.{Attr}
 use Rattle.gf_ops.specs.declared.change.Attr.TheVariants.{Place, Points, Size, Colour, Layer, Shown}
 use Rattle.gf_ops.specs.declared.change.Value.{Value}
 use Rattle.gf_ops.specs.declared.change.Value.TheVariants as value
+use Rattle.gf_ops.specs.contracts.change.AttrPartialEq.TheImpl as attributes
 
 -- the kinds of objects
 pub data Kind : Type 0 where
@@ -56,13 +57,6 @@ attribute_of (value.Colour c) = Colour
 attribute_of (value.Layer n) = Layer
 attribute_of (value.Shown b) = Shown
 
--- the attribute that the form f gives a value to
-abbrev pub form_attribute : Form → Attr
-form_attribute (form.Rect width height) = Size
-form_attribute (form.Polygon ps) = Points
-form_attribute (form.Circle radius) = Size
-form_attribute (form.Ellipse rx ry) = Size
-
 -- the value that the form f gives to its attribute
 abbrev pub form_value : Form → Value
 form_value (form.Rect width height) = value.Size width height
@@ -70,52 +64,31 @@ form_value (form.Polygon ps) = value.Points ps
 form_value (form.Circle radius) = value.Size radius radius
 form_value (form.Ellipse rx ry) = value.Size rx ry
 
--- the value v, if it is a size
-abbrev pub size_in : Value → Option Value
-size_in (value.Size width height) = Some (value.Size width height)
-size_in (value.Place p) = None
-size_in (value.Points ps) = None
-size_in (value.Colour c) = None
-size_in (value.Layer n) = None
-size_in (value.Shown b) = None
+-- the attribute that the form f gives a value to
+abbrev pub form_attribute : Form → Attr
+form_attribute f = attribute_of (form_value f)
 
--- the value v, if it is a list of points
-abbrev pub points_in : Value → Option Value
-points_in (value.Points ps) = Some (value.Points ps)
-points_in (value.Place p) = None
-points_in (value.Size width height) = None
-points_in (value.Colour c) = None
-points_in (value.Layer n) = None
-points_in (value.Shown b) = None
+-- s and t are one attribute, as the derived == tells
+abbrev pub attribute_eq : Attr → Attr → Bool
+attribute_eq = attributes.eq-value.it
+
+-- the value v, if it is one of the attribute t
+abbrev pub value_as : Value → Attr → Option Value
+value_as v t = if attribute_eq (attribute_of v) t then Some v else None
 
 -- the value of the attribute t in the start s, if the kind of the object has t
 abbrev pub start_value : Start → Attr → Option Value
 start_value s Place = Some (value.Place s.place)
-start_value s Size = size_in (form_value s.form)
-start_value s Points = points_in (form_value s.form)
+start_value s Size = value_as (form_value s.form) Size
+start_value s Points = value_as (form_value s.form) Points
 start_value s Colour = Some (value.Colour s.colour)
 start_value s Layer = Some (value.Layer s.layer)
 start_value s Shown = Some (value.Shown s.shown)
 
--- the value v, if it is one of the attribute t
-abbrev pub set_value : Value → Attr → Option Value
-set_value (value.Place p) Place = Some (value.Place p)
-set_value (value.Points ps) Points = Some (value.Points ps)
-set_value (value.Size width height) Size = Some (value.Size width height)
-set_value (value.Colour c) Colour = Some (value.Colour c)
-set_value (value.Layer n) Layer = Some (value.Layer n)
-set_value (value.Shown b) Shown = Some (value.Shown b)
-set_value (value.Place p) t = None
-set_value (value.Points ps) t = None
-set_value (value.Size width height) t = None
-set_value (value.Colour c) t = None
-set_value (value.Layer n) t = None
-set_value (value.Shown b) t = None
-
 -- the value that the change c gives to the attribute t, if it sets it
 abbrev pub change_value : Change → Attr → Option Value
 change_value (Create start) t = start_value start t
-change_value (Set object v aim) t = set_value v t
+change_value (Set object v aim) t = value_as v t
 
 -- the value that the operation a gives to the attribute t, if it sets it
 abbrev pub value_given : Op → Attr → Option Value

@@ -1,6 +1,6 @@
 -- The limits of an operation (this project's choice).
-use Rattle.std.specs.Prelude.{ℕ, pos, negsuc, Bool, true, IsTrue, ◌&&◌, ◌||◌, ◌==◌}
-use Rattle.std.specs.Prelude.{nat_lt, nat_le, int_le, List, [], ◌∷◌, length}
+use Rattle.std.specs.Prelude.{ℕ, pos, negsuc, Bool, true, IsTrue, ◌&&◌}
+use Rattle.std.specs.Prelude.{nat_lt, nat_le, int_le, List, length}
 use Rattle.std.specs.List.{list_all}
 use Rattle.gf_shape.specs.declared.colour.Rgb.{Rgb}
 use Rattle.gf_shape.specs.declared.point.Point.{Point}
@@ -15,6 +15,7 @@ use Rattle.gf_ops.specs.declared.change.Change.TheVariants.{Create, Set}
 use Rattle.gf_ops.specs.declared.change.Start.{Start}
 use Rattle.gf_ops.specs.declared.change.Value.{Value}
 use Rattle.gf_ops.specs.declared.change.Value.TheVariants as value
+use Rattle.gf_ops.specs.OperationOrder.{id_cmp, rises}
 
 -- sites are numbered 1 to 8
 abbrev pub is_site : ℕ → Bool
@@ -23,10 +24,6 @@ is_site s = nat_le 1 s && nat_le s 8
 -- an id names one of the first 10,000 operations of a site
 abbrev pub is_id : OpId → Bool
 is_id i = is_site i.site && nat_le 1 i.seq && nat_le i.seq 10000
-
--- i is before j in the order of ids: by site, then by number
-abbrev pub id_less : OpId → OpId → Bool
-id_less i j = nat_lt i.site j.site || i.site == j.site && nat_lt i.seq j.seq
 
 -- no entry of the clock is above 10,000
 abbrev pub is_clock : Clock → Bool
@@ -69,19 +66,9 @@ is_value (value.Colour c) = is_colour c
 is_value (value.Layer n) = is_layer n
 is_value (value.Shown b) = true
 
--- the ids rise behind i, by site and then by number
-abbrev pub rise_behind : OpId → List OpId → Bool
-rise_behind i [] = true
-rise_behind i (j ∷ js) = id_less i j && rise_behind j js
-
--- the ids rise, each once
-abbrev pub ids_rise : List OpId → Bool
-ids_rise [] = true
-ids_rise (i ∷ is) = rise_behind i is
-
 -- an aim has at most 1,000 ids, which rise
 abbrev pub is_aim : List OpId → Bool
-is_aim aim = nat_le (length aim) 1000 && list_all is_id aim && ids_rise aim
+is_aim aim = nat_le (length aim) 1000 && list_all is_id aim && rises id_cmp aim
 
 -- a new object has a form, a layer and a colour in range, and is near
 abbrev pub is_start : Start → Bool

@@ -1,8 +1,8 @@
 -- Causal order and concurrency of operations (Sun and Chen, ACM TOCHI 9(1), 2002).
-use Rattle.std.specs.Prelude.{◌≢◌, ℕ, ◌-◌, ◌≤◌, List, slice_index, count_by}
+use Rattle.std.specs.Prelude.{◌≢◌, ℕ, ◌-◌, ◌≤◌, Bool, true, ◌&&◌, List, ◌∷◌, slice_index, count_by}
 use Rattle.std.specs.Prelude.{nat_eq}
 use Rattle.std.specs.declared.cmp.Ordering.{Ordering}
-use Rattle.std.specs.Ordering.{ordering_then, nat_cmp}
+use Rattle.std.specs.Ordering.{ordering_then, nat_cmp, is_lt}
 use Rattle.gf_ops.specs.declared.op.Op.{Op}
 use Rattle.gf_ops.specs.declared.op.OpId.{OpId}
 use Rattle.gf_ops.specs.declared.op.Clock.{Clock}
@@ -32,3 +32,8 @@ pub record IsConcurrent (a b : Op) : Type 0 where
 -- ids are ordered by site, then by number
 abbrev pub id_cmp : OpId → OpId → Ordering
 id_cmp i j = ordering_then (nat_cmp i.site j.site) (nat_cmp i.seq j.seq)
+
+-- the elements rise by the order cmp, each once
+abbrev pub rises : {A : Type 0} → (A → A → Ordering) → List A → Bool
+rises cmp (x ∷ y ∷ ys) = is_lt (cmp x y) && rises cmp (y ∷ ys)
+rises cmp xs = true

@@ -8,8 +8,8 @@ ghost use Rattle.gf_ops.specs.AimTests.{AreDirectlyCompatible};
 ghost use Rattle.gf_ops.specs.AimWalk.{place_of, AreOnOne, AreParted, ArePartedBelow, KnewAt};
 ghost use Rattle.gf_ops.specs.AimWalk.{SetsAt, SetsSome, GivesAnother, IsLatest};
 ghost use Rattle.gf_ops.specs.AimWalk.{TellsOne, IsAimTable, NoneAbove, MeetsTable, IsNoted};
-ghost use Rattle.gf_ops.specs.Limits.{IsInRange, ids_rise};
-ghost use Rattle.gf_ops.specs.OperationOrder.{IsSite};
+ghost use Rattle.gf_ops.specs.Limits.{IsInRange};
+ghost use Rattle.gf_ops.specs.OperationOrder.{IsSite, id_cmp, rises};
 
 use crate::conflict::sets_another;
 use crate::{Change, History, Op, OpId, Value};
@@ -41,7 +41,7 @@ impl History {
     /// Whether no two operations under these rising ids conflict directly. The cost is a walk over
     /// the ids for every two sites.
     pub(crate) fn are_directly_compatible(&self, ids: &[OpId]) -> bool
-        requires rising { IsTrue (ids_rise ids.now) }
+        requires rising { IsTrue (rises id_cmp ids.now) }
         requires object { AreOnOne self.now.ops ids.now }
         ensures { IsTrue result ↔ AreDirectlyCompatible self.now.ops ids.now }
     {
@@ -57,7 +57,7 @@ impl History {
 
     /// Whether no operation of this site conflicts directly with one of a site of a lower number.
     fn are_parted_below(&self, ids: &[OpId], site: u8) -> bool
-        requires rising { IsTrue (ids_rise ids.now) }
+        requires rising { IsTrue (rises id_cmp ids.now) }
         requires object { AreOnOne self.now.ops ids.now }
         requires site { IsSite site }
         ensures { IsTrue result ↔ ArePartedBelow self.now.ops ids.now site site }
@@ -74,7 +74,7 @@ impl History {
     /// operation of the one site, the walk notes the other site's operations that did not know it.
     /// Only the latest noted setters are compared.
     fn are_parted(&self, ids: &[OpId], site: u8, other: u8) -> bool
-        requires rising { IsTrue (ids_rise ids.now) }
+        requires rising { IsTrue (rises id_cmp ids.now) }
         requires object { AreOnOne self.now.ops ids.now }
         requires site { IsSite site }
         ensures { IsTrue result ↔ AreParted self.now.ops ids.now ids.now site other }
@@ -103,7 +103,7 @@ impl History {
         from: usize,
         table: &mut [Option<Latest>; 6],
     ) -> usize
-        requires rising { IsTrue (ids_rise ids.now) }
+        requires rising { IsTrue (rises id_cmp ids.now) }
         requires id { IsSite id.site }
         requires noted { IsNoted self.now.ops ids.now site from id table.old }
         ensures noted { IsNoted self.now.ops ids.now site result id table.new }

@@ -6,7 +6,8 @@ ghost use Rattle.gf_ops.specs.Aims.{IsAimed, MayAimAt};
 ghost use Rattle.gf_ops.specs.AimTests.{after_id, IsWithinAim, FitsAim, MayAim, MeetsAt};
 ghost use Rattle.gf_ops.specs.AimTests.{MeetsOne};
 ghost use Rattle.gf_ops.specs.Attribute.{aim_of, object_of};
-ghost use Rattle.gf_ops.specs.Limits.{IsInRange, ids_rise};
+ghost use Rattle.gf_ops.specs.Limits.{IsInRange};
+ghost use Rattle.gf_ops.specs.OperationOrder.{id_cmp, rises};
 
 use crate::{Change, History, Op, OpId, before, direct_conflict};
 
@@ -51,8 +52,8 @@ fn left_of<'a>(ids: &'a [OpId], others: &[OpId]) -> &'a [OpId]
 
 /// Whether the aim has each of these ids. Both lists rise, so one walk over the aim is enough.
 fn is_within_aim(ids: &[OpId], aim: &[OpId]) -> bool
-    requires ids { IsTrue (ids_rise ids.now) }
-    requires aim { IsTrue (ids_rise aim.now) }
+    requires ids { IsTrue (rises id_cmp ids.now) }
+    requires aim { IsTrue (rises id_cmp aim.now) }
     ensures { IsTrue result ↔ IsWithinAim ids.now aim.now }
 {
     left_of(ids, aim).is_empty()

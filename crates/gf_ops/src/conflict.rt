@@ -1,8 +1,9 @@
 //! Which operations cannot stand in one version.
 
 ghost use Rattle.std.specs.Prelude.{◌≡◌, ◌↔◌, IsTrue};
-ghost use Rattle.gf_ops.specs.Attribute.{attribute_of, start_value, set_value, object_of};
-ghost use Rattle.gf_ops.specs.Attribute.{form_value, points_in, size_in};
+ghost use Rattle.gf_ops.specs.Attribute.{attribute_of, start_value, value_as, object_of};
+ghost use Rattle.gf_ops.specs.Attribute.{form_value};
+ghost use Rattle.gf_ops.specs.declared.change.Attr.{Attr};
 ghost use Rattle.gf_ops.specs.declared.change.Value.{Value};
 ghost use Rattle.gf_ops.specs.DirectConflict.{DirectConflict};
 ghost use Rattle.gf_ops.specs.AimTests.{AimMeets, MemberMeets};
@@ -132,7 +133,7 @@ pub(crate) fn sets_another(change: &Change, value: &Value) -> bool
 
 #[inline(always)]
 fn is_another(own: &Value, value: &Value) -> bool
-    ensures { result ≡ is_another (set_value own.now (attribute_of value.now)) value.now }
+    ensures { result ≡ is_another (value_as own.now (attribute_of value.now)) value.now }
 {
     match (own, value) {
         (Value::Place(own), Value::Place(place)) => own != place,
@@ -163,7 +164,8 @@ fn begins_with_another(start: &Start, value: &Value) -> bool
 
 /// Whether a form has points other than these.
 fn begins_with_other_points(form: &Form, points: &Points) -> bool
-    ensures { result ≡ is_another (points_in (form_value form.now)) (Value.Points points.now) }
+    ensures { result ≡ is_another (value_as (form_value form.now) Attr.Points)
+        (Value.Points points.now) }
 {
     match form {
         Form::Polygon(own) => own != points,
@@ -173,7 +175,8 @@ fn begins_with_other_points(form: &Form, points: &Points) -> bool
 
 /// Whether a form has a size other than this one.
 fn begins_with_another_size(form: &Form, width: u32, height: u32) -> bool
-    ensures { result ≡ is_another (size_in (form_value form.now)) (Value.Size width height) }
+    ensures { result ≡ is_another (value_as (form_value form.now) Attr.Size)
+        (Value.Size width height) }
 {
     match form {
         Form::Rect(own_width, own_height) => !(*own_width == width && *own_height == height),

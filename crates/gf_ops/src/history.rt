@@ -88,12 +88,9 @@ impl History {
         ensures found { IfSome result (λ op. Contains self.now.ops op.now × (op.now.id ≡ id)) }
         ensures none { IfNone result ((op : Op) → Contains self.now.ops op → op.id ≢ id) }
     {
-        let ops = &self.ops;
-        if 1 <= id.seq && id.seq <= self.count(id.site) {
-            let row = &self.positions[id.seq as usize - 1];
-            ops.get(row[usize::from(id.site) - 1])
-        } else {
-            None
+        match self.position(id) {
+            Some(place) => self.ops.get(place),
+            None => None,
         }
     }
 

@@ -1,12 +1,13 @@
 //! The limits of operations.
 
-ghost use Rattle.std.specs.Prelude.{◌≡◌, nat_lt};
+ghost use Rattle.std.specs.Prelude.{◌≡◌, ◌∷◌, nat_lt};
 ghost use Rattle.std.specs.List.{list_all};
+ghost use Rattle.std.specs.Ordering.{is_lt};
 ghost use Rattle.gf_shape.specs.Polygons.{is_polygon_count};
 ghost use Rattle.gf_ops.specs.Limits.{is_site, is_size, is_near, is_id, is_clock, is_polygon};
 ghost use Rattle.gf_ops.specs.Limits.{is_form, is_layer, is_value, is_change, is_in_range};
-ghost use Rattle.gf_ops.specs.Limits.{is_colour, is_start};
-ghost use Rattle.gf_ops.specs.Limits.{id_less, rise_behind, ids_rise, is_aim};
+ghost use Rattle.gf_ops.specs.Limits.{is_colour, is_start, is_aim};
+ghost use Rattle.gf_ops.specs.OperationOrder.{id_cmp, rises};
 
 use crate::{Change, Clock, Form, Op, OpId, Start, Value};
 use gf_shape::{Point, Rgb};
@@ -49,14 +50,14 @@ fn is_id(id: OpId) -> bool
 
 /// Whether the first is before the second, by site and then by number.
 fn id_less(id: OpId, other: OpId) -> bool
-    ensures { result ≡ id_less id other }
+    ensures { result ≡ is_lt (id_cmp id other) }
 {
     id.site < other.site || id.site == other.site && id.seq < other.seq
 }
 
-/// Whether these ids rise behind another one.
+/// Whether an id and those behind it rise.
 fn rise_behind(id: OpId, ids: &[OpId]) -> bool
-    ensures { result ≡ rise_behind id ids.now }
+    ensures { result ≡ rises id_cmp (id ∷ ids.now) }
 {
     let mut last = id;
     for next in ids {
@@ -69,7 +70,7 @@ fn rise_behind(id: OpId, ids: &[OpId]) -> bool
 }
 
 fn ids_rise(ids: &[OpId]) -> bool
-    ensures { result ≡ ids_rise ids.now }
+    ensures { result ≡ rises id_cmp ids.now }
 {
     match ids.split_first() {
         Some((first, rest)) => rise_behind(*first, rest),

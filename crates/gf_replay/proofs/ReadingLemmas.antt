@@ -1,9 +1,11 @@
 -- How the operations of the lines grow, and what a refused line says of the text.
 use Rattle.std.proofs.Common.{◌≡◌, ℕ, List, [], ◌∷◌, ◌++◌, drop, length, map, refl, sym, ap, subst}
-use Rattle.std.proofs.Common.{◌∙◌, append_assoc}
+use Rattle.std.proofs.Common.{◌∙◌, append_assoc, Ok}
 use Rattle.std.proofs.lemmas.List.{map-append, append-nil}
+use Rattle.gf_ops.specs.declared.op.Op.{Op}
 use Rattle.gf_ops.specs.declared.op.OpId.{OpId}
 use Rattle.gf_ops.specs.declared.faults.OpFault.{OpFault}
+use Rattle.gf_json.specs.LineValues.{Got}
 use Rattle.gf_json.specs.OperationLines.{denoted}
 use Rattle.gf_site.specs.SiteState.{SiteState}
 use Rattle.gf_replay.specs.declared.reading_error.LineCause.{LineCause}
@@ -11,7 +13,7 @@ use Rattle.gf_replay.specs.declared.reading_error.LineCause.TheVariants as cause
 use Rattle.gf_replay.specs.declared.reading_error.ReadingError.{ReadingError}
 use Rattle.gf_replay.specs.declared.reading_error.ReadingError.TheVariants as reading
 use Rattle.gf_causal.specs.HeldOperations.{AreHeld}
-use Rattle.gf_replay.specs.Denoting.{Denotes, denotes_op}
+use Rattle.gf_replay.specs.Denoting.{Denotes}
 use Rattle.gf_replay.specs.Refusing.{Drops, HasFault, IsAt, IsFault, RefusesText}
 use Rattle.gf_replay.specs.LineSteps.{DropsLine, HasRead, IsLineFault, TakesLine, RefusesLine}
 use Rattle.gf_replay.specs.Waiting.{DenotesWaiting}
@@ -31,8 +33,8 @@ HasRead-line bytes n line left x y read takes = record {
   lines =
       map-append (λ (l : ℕ × List ℕ). denoted l.1) read.before ((n, line) ∷ [])
       ∙ (ap (λ r. r ++ denoted line ∷ []) read.lines
-      ∙ (ap (λ r. map denotes_op read.ops ++ r ∷ []) takes.denotes
-      ∙ sym (map-append denotes_op read.ops (takes.op ∷ []))));
+      ∙ (ap (λ (r : Got Op). map Ok read.ops ++ r ∷ []) takes.denotes
+      ∙ sym (map-append {B = Got Op} Ok read.ops (takes.op ∷ []))));
   taken = HasTaken-moves (read.ops ++ takes.op ∷ []) takes.takes.offered y
       (HasTaken-offer read.ops x read.taken takes.op takes.takes.offered takes.takes.offers)
       takes.takes.settles.moves;

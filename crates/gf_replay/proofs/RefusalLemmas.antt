@@ -15,7 +15,7 @@ use Rattle.gf_json.specs.OperationLines.{denoted}
 use Rattle.gf_site.proofs.StepLemmas.{not_refused}
 use Rattle.gf_replay.specs.declared.reading_error.LineCause.{LineCause}
 use Rattle.gf_replay.specs.declared.reading_error.LineCause.TheVariants as cause
-use Rattle.gf_replay.specs.Denoting.{Denotes, denotes_op}
+use Rattle.gf_replay.specs.Denoting.{Denotes}
 use Rattle.gf_replay.specs.Refusing.{Drops, HasFault, IsAt, IsFault}
 
 -- lines behind those of some operations denote the operations behind these
@@ -26,8 +26,8 @@ record Continues (ops all : List Op) (r : Got Op) : Type 0 where
   pub whole : all ≡ ops ++ last ∷ rest
 
 continued : (ops all : List Op) (r : Got Op) (behind : List (Got Op))
-    → map denotes_op ops ++ r ∷ behind ≡ map denotes_op all → Continues ops all r
-continued [] (a ∷ all) r behind e = let first : r ≡ denotes_op a = cc in record {
+    → map Ok ops ++ r ∷ behind ≡ map Ok all → Continues ops all r
+continued [] (a ∷ all) r behind e = let first : r ≡ Ok a = cc in record {
   last = a;
   rest = all;
   is = first;
@@ -35,9 +35,8 @@ continued [] (a ∷ all) r behind e = let first : r ≡ denotes_op a = cc in rec
 }
 continued [] [] r behind e = absurd cc
 continued (o ∷ ops) (a ∷ all) r behind e =
-    let first : denotes_op o ≡ denotes_op a = cc in
     let same : o ≡ a = cc in
-    let tail : map denotes_op ops ++ r ∷ behind ≡ map denotes_op all = cc in
+    let tail : map Ok ops ++ r ∷ behind ≡ map Ok all = cc in
     let k = continued ops all r behind tail in
     record {
       last = k.last;
@@ -51,7 +50,7 @@ module _ (bytes : List ℕ) (h : List Op) (d : Denotes bytes h) where
   at_line : (n : ℕ) (line : List ℕ) (at : IsAt bytes n line) → Continues at.ops d.ops (denoted line)
   at_line n line at =
       let read = λ (l : ℕ × List ℕ). denoted l.1 in
-      let parts : map read (at.before ++ (n, line) ∷ at.behind) ≡ map denotes_op at.ops ++ denoted
+      let parts : map read (at.before ++ (n, line) ∷ at.behind) ≡ map Ok at.ops ++ denoted
       line ∷ map read at.behind =
       map-append read at.before ((n, line) ∷ at.behind)
       ∙ ap (λ x. x ++ denoted line ∷ map read at.behind) at.lines in

@@ -1,15 +1,16 @@
 -- Inputs with the same operations denote the same histories, and one input denotes one.
-use Rattle.std.proofs.Common.{◌≡◌, ℕ, List, [], ◌∷◌, map, refl, sym, subst, ◌∙◌}
+use Rattle.std.proofs.Common.{◌≡◌, ℕ, List, [], ◌∷◌, map, refl, sym, subst, ◌∙◌, Ok}
 use Rattle.gf_ops.specs.declared.op.Op.{Op}
+use Rattle.gf_json.specs.LineValues.{Got}
 use Rattle.gf_causal.specs.DeliveredPart.{HaveSame, IsDelivered, IsDeliveredPart}
-use Rattle.gf_replay.specs.Denoting.{Denotes, HaveSameOperations, denotes_op}
+use Rattle.gf_replay.specs.Denoting.{Denotes, HaveSameOperations}
 
 -- lines denote one list of operations
-one_denoted : (ops others : List Op) → map denotes_op ops ≡ map denotes_op others → ops ≡ others
+one_denoted : (ops others : List Op) → ◌≡◌ {A = List (Got Op)} (map Ok ops) (map Ok others)
+    → ops ≡ others
 one_denoted [] [] e = refl
 one_denoted (a ∷ ops) (b ∷ others) e =
-    let first : denotes_op a ≡ denotes_op b = cc in
-    let rest : map denotes_op ops ≡ map denotes_op others = cc in
+    let rest : ◌≡◌ {A = List (Got Op)} (map Ok ops) (map Ok others) = cc in
     let same : a ≡ b = cc in
     let later = one_denoted ops others rest in
     λ i. same i ∷ later i

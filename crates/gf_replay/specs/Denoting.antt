@@ -4,17 +4,12 @@ use Rattle.gf_streams.specs.TextLines.{numbered_lines}
 use Rattle.gf_ops.specs.declared.op.Op.{Op}
 use Rattle.gf_ops.specs.ValidHistory.{IsValid}
 use Rattle.gf_causal.specs.DeliveredPart.{AreOneById, HaveSame, IsDeliveredPart}
-use Rattle.gf_json.specs.LineValues.{Got}
 use Rattle.gf_json.specs.OperationLines.{denoted}
-
--- what a line that denotes this operation reads as
-abbrev pub denotes_op : Op → Got Op
-denotes_op op = Ok op
 
 -- the lines denote these operations, in their order
 abbrev pub AreLinesOf : List (ℕ × List ℕ) → List Op → Type 0
 AreLinesOf lines ops = map (λ (line : ℕ × List ℕ). denoted line.1) lines
-    ≡ map denotes_op ops
+    ≡ map Ok ops
 
 -- of the operations equal ids are equal operations, and their delivered part is this valid history
 pub record Delivers (ops history : List Op) : Type 0 where

@@ -1,12 +1,13 @@
 //! The ids that an operation aims at.
 
 ghost use Rattle.std.specs.Prelude.{◌≡◌, ◌⊎◌, Err, IfOk, IsTrue};
+ghost use Rattle.std.specs.Ordering.{is_lt};
 ghost use Rattle.serde_json.specs.View.{view, items_view};
 ghost use Rattle.gf_ops.specs.Limits.{is_aim};
 ghost use Rattle.gf_json.specs.LineValues.{mapped, elements, each};
 ghost use Rattle.gf_json.specs.LineLimits.{name};
-ghost use Rattle.gf_json.specs.LineAims.{numbers, pair_less, rising_behind, rising, ids_of, ids};
-ghost use Rattle.gf_json.specs.CheckedIds.{next_behind};
+ghost use Rattle.gf_json.specs.LineAims.{numbers, pair_cmp, rising, aim_ids, ids};
+ghost use Rattle.gf_json.specs.CheckedIds.{next_behind, rising_behind};
 
 use crate::LineError;
 use crate::reading::values::{elements, name, numbers};
@@ -25,7 +26,7 @@ pub(crate) fn ids(alloc: Global, value: &Value) -> Result<Ids, LineError>
 /// The ids of the elements of an array. A wrong order is a fault of form, before those of limits.
 fn ids_of(alloc: Global, values: &[Value]) -> Result<Ids, LineError>
     ensures value { (result ≡ Err LineError.OutOfMemory)
-        ⊎ (result ≡ ids_of (elements (items_view values.now))) }
+        ⊎ (result ≡ aim_ids (elements (items_view values.now))) }
     ensures in_range { IfOk result (λ is. IsTrue (is_aim is)) }
 {
     if !are_rising(values) {
@@ -86,7 +87,7 @@ fn next_behind(last: (i64, i64), value: &Value) -> Option<(i64, i64)>
 /// Whether a pair is before another, by the first number and then by the second.
 #[tactic(auto, using(std::proofs::lemmas::Int::ints))]
 fn pair_less(first: (i64, i64), second: (i64, i64)) -> bool
-    ensures { result ≡ pair_less first second }
+    ensures { result ≡ is_lt (pair_cmp first second) }
 {
     first.0 < second.0 || first.0 == second.0 && first.1 < second.1
 }

@@ -5,7 +5,7 @@ ghost use Rattle.serde_json.specs.View.{view};
 ghost use Rattle.gf_ops.specs.Limits.{is_aim, is_change, is_colour, is_form, is_layer, is_start};
 ghost use Rattle.gf_ops.specs.Limits.{is_value};
 ghost use Rattle.gf_json.specs.LineValues.{◌&◌};
-ghost use Rattle.gf_json.specs.LineFields.{aim, polygon_points, colour, layer, shown};
+ghost use Rattle.gf_json.specs.LineFields.{aim, polygon_points, colour_member, layer, shown};
 ghost use Rattle.gf_json.specs.LineChanges.{start, named_value, new_value, creation, setting};
 ghost use Rattle.gf_json.specs.ReadChanges.{named_creation, read_change};
 
@@ -107,7 +107,7 @@ fn start(form: Result<Form, LineError>, line: &Value) -> Result<Start, LineError
 }
 
 fn look(line: &Value) -> Result<(Rgb, (u16, bool)), LineError>
-    ensures value { result ≡ (colour (view line.now) & layer (view line.now) & shown
+    ensures value { result ≡ (colour_member (view line.now) & layer (view line.now) & shown
         (view line.now)) }
     ensures colour { IfOk result (λ l. IsTrue (is_colour l.0)) }
     ensures layer { IfOk result (λ l. IsTrue (is_layer l.1.0)) }

@@ -5,9 +5,9 @@ ghost use Rattle.serde_json.specs.View.{view};
 ghost use Rattle.gf_ops.specs.Limits.{is_site, is_id, is_clock, is_aim, is_near, is_form, is_layer};
 ghost use Rattle.gf_ops.specs.Limits.{is_colour};
 ghost use Rattle.gf_json.specs.LineValues.{mapped};
-ghost use Rattle.gf_json.specs.LineFields.{value_at, id, past, site, object, aim, place};
+ghost use Rattle.gf_json.specs.LineFields.{value_at, id, past, site, object_member, aim};
 ghost use Rattle.gf_json.specs.LineFields.{box_size, circle_size, ellipse_size, polygon_points};
-ghost use Rattle.gf_json.specs.LineFields.{colour, layer, shown, with_ids};
+ghost use Rattle.gf_json.specs.LineFields.{place_member, colour_member, layer, shown, with_ids};
 
 use crate::LineError;
 use crate::reading::aims::ids;
@@ -42,7 +42,7 @@ pub(crate) fn site(line: &Value) -> Result<u8, LineError>
 }
 
 pub(crate) fn object(line: &Value) -> Result<ObjectId, LineError>
-    ensures value { result ≡ object (view line.now) }
+    ensures value { result ≡ object_member (view line.now) }
     ensures in_range { IfOk result (λ o. IsTrue (is_id o.0)) }
 {
     value_at(line, "object").and_then(name).map(ObjectId)
@@ -63,7 +63,7 @@ pub(crate) fn with_ids(alloc: Global, line: &Value) -> Result<Ids, LineError>
 }
 
 pub(crate) fn place(line: &Value) -> Result<Point, LineError>
-    ensures value { result ≡ place (view line.now) }
+    ensures value { result ≡ place_member (view line.now) }
     ensures in_range { IfOk result (λ p. IsTrue (is_near p)) }
 {
     value_at(line, "place").and_then(point)
@@ -102,7 +102,7 @@ pub(crate) fn polygon_points(alloc: Global, line: &Value) -> Result<Form, LineEr
 }
 
 pub(crate) fn colour(line: &Value) -> Result<Rgb, LineError>
-    ensures value { result ≡ colour (view line.now) }
+    ensures value { result ≡ colour_member (view line.now) }
     ensures in_range { IfOk result (λ c. IsTrue (is_colour c)) }
 {
     value_at(line, "colour").and_then(hex_colour)

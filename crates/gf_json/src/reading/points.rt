@@ -4,8 +4,8 @@ ghost use Rattle.std.specs.Prelude.{◌≡◌, ◌⊎◌, All, Ok, Err, IfOk, Is
 ghost use Rattle.serde_json.specs.View.{view, items_view};
 ghost use Rattle.gf_ops.specs.Limits.{is_polygon};
 ghost use Rattle.gf_json.specs.LineValues.{◌&◌, elements, each};
-ghost use Rattle.gf_json.specs.LineLimits.{point, counted, points, points_of};
-ghost use Rattle.gf_json.specs.CheckedPoints.{checked, read_point};
+ghost use Rattle.gf_json.specs.LineLimits.{point_value, counted, points_value, points_of};
+ghost use Rattle.gf_json.specs.CheckedPoints.{checked};
 
 use crate::LineError;
 use crate::reading::values::{both, elements, point};
@@ -16,7 +16,8 @@ use std::alloc::{AllocError, Global};
 
 /// The points of a polygon.
 pub(crate) fn points(alloc: Global, value: &Value) -> Result<Points, LineError>
-    ensures value { (result ≡ Err LineError.OutOfMemory) ⊎ (result ≡ points (view value.now)) }
+    ensures value { (result ≡ Err LineError.OutOfMemory)
+        ⊎ (result ≡ points_value (view value.now)) }
     ensures in_range { IfOk result (λ ps. IsTrue (is_polygon ps)) }
 {
     points_of(alloc, elements(value)?)
@@ -48,7 +49,7 @@ fn counted(count: usize) -> Result<usize, LineError>
 
 /// Success where each value is a point, and else the first fault.
 fn are_points(values: &[Value]) -> Result<(), LineError>
-    ensures { result ≡ checked (each point (elements (items_view values.now))) }
+    ensures { result ≡ checked (each point_value (elements (items_view values.now))) }
 {
     let mut found = Ok(());
     let mut left = values.len();
@@ -69,8 +70,8 @@ fn beside(first: Result<Point, LineError>, others: Result<(), LineError>) -> Res
 
 /// The points that the values are.
 fn checked_points(alloc: Global, values: &[Value]) -> Result<Vec<Point>, AllocError>
-    requires { All (λ v. IsOk (point (view v))) values.now }
-    ensures { IfOk result (λ ps. map (λ v. point (view v)) values.now ≡ map read_point ps.items) }
+    requires { All (λ v. IsOk (point_value (view v))) values.now }
+    ensures { IfOk result (λ ps. map (λ v. point_value (view v)) values.now ≡ map Ok ps.items) }
 {
     let mut points = Vec::new(alloc);
     points.reserve(values.len())?;
@@ -81,8 +82,8 @@ fn checked_points(alloc: Global, values: &[Value]) -> Result<Vec<Point>, AllocEr
 }
 
 fn checked_point(value: &Value) -> Point
-    requires { IsOk (point (view value.now)) }
-    ensures { point (view value.now) ≡ Ok result }
+    requires { IsOk (point_value (view value.now)) }
+    ensures { point_value (view value.now) ≡ Ok result }
 {
     let Ok(point) = point(value) else {
         unreachable!();

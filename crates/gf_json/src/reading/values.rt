@@ -3,9 +3,10 @@
 ghost use Rattle.std.specs.Prelude.{◌≡◌, ◌≤◌, ◌&&◌, pos, negsuc, int_le, IsTrue, Ok, IfOk};
 ghost use Rattle.serde_json.specs.View.{view, items_view};
 ghost use Rattle.gf_ops.specs.Limits.{is_id, is_clock, is_near, is_size, is_layer};
-ghost use Rattle.gf_json.specs.LineValues.{◌&◌, mapped, whole, elements, array, two, truth};
-ghost use Rattle.gf_json.specs.LineLimits.{integer, natural, coordinate, side, side_twice, entry};
-ghost use Rattle.gf_json.specs.LineLimits.{name, size, radius, level, point, clock};
+ghost use Rattle.gf_json.specs.LineValues.{◌&◌, mapped, whole_value, elements, array, two, truth};
+ghost use Rattle.gf_json.specs.LineLimits.{integer, natural_value, coordinate_value, side_value};
+ghost use Rattle.gf_json.specs.LineLimits.{side_twice, entry_value, name, size, radius, level};
+ghost use Rattle.gf_json.specs.LineLimits.{point_value, clock};
 ghost use Rattle.gf_json.specs.LineAims.{numbers};
 
 use crate::LineError;
@@ -30,7 +31,7 @@ pub(crate) fn both<A: Drop, B: Drop>(
 }
 
 fn whole(value: &Value) -> Result<i64, LineError>
-    ensures { result ≡ whole (view value.now) }
+    ensures { result ≡ whole_value (view value.now) }
 {
     value.as_i64().ok_or(LineError::Field)
 }
@@ -48,7 +49,7 @@ fn integer(value: &Value, low: i64, high: i64) -> Result<i64, LineError>
 
 #[tactic(auto, using(std::proofs::lemmas::Int::ints))]
 pub(crate) fn natural(value: &Value, low: u32, high: u32) -> Result<u32, LineError>
-    ensures value { result ≡ natural low high (view value.now) }
+    ensures value { result ≡ natural_value low high (view value.now) }
     ensures within { IfOk result (λ n. (low ≤ n) × (n ≤ high)) }
 {
     let n = integer(value, i64::from(low), i64::from(high))?;
@@ -57,7 +58,7 @@ pub(crate) fn natural(value: &Value, low: u32, high: u32) -> Result<u32, LineErr
 
 #[tactic(auto, using(std::proofs::lemmas::Int::ints))]
 fn coordinate(value: &Value) -> Result<i32, LineError>
-    ensures value { result ≡ coordinate (view value.now) }
+    ensures value { result ≡ coordinate_value (view value.now) }
     ensures within { IfOk result (λ n.
         IsTrue (int_le (negsuc 999999) n && int_le n (pos 1000000))) }
 {
@@ -66,7 +67,7 @@ fn coordinate(value: &Value) -> Result<i32, LineError>
 }
 
 pub(crate) fn side(value: &Value) -> Result<u32, LineError>
-    ensures value { result ≡ side (view value.now) }
+    ensures value { result ≡ side_value (view value.now) }
     ensures within { IfOk result (λ n. IsTrue (is_size n)) }
 {
     natural(value, 1, 1_000_000)
@@ -86,7 +87,7 @@ pub(crate) fn side_twice(first: &Value, second: &Value) -> Result<u32, LineError
 }
 
 fn entry(value: &Value) -> Result<u32, LineError>
-    ensures value { result ≡ entry (view value.now) }
+    ensures value { result ≡ entry_value (view value.now) }
     ensures within { IfOk result (λ n. n ≤ 10000) }
 {
     natural(value, 0, 10_000)
@@ -168,7 +169,7 @@ pub(crate) fn two(value: &Value) -> Result<(&Value, &Value), LineError>
 
 #[tactic(auto, using(std::proofs::lemmas::Int::ints), unfolding(gf_ops::specs::Limits::is_near))]
 pub(crate) fn point(value: &Value) -> Result<Point, LineError>
-    ensures value { result ≡ point (view value.now) }
+    ensures value { result ≡ point_value (view value.now) }
     ensures in_range { IfOk result (λ p. IsTrue (is_near p)) }
 {
     let (x, y) = two(value)?;

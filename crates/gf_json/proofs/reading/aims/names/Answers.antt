@@ -1,9 +1,8 @@
-use Rattle.std.proofs.Common.{◌≡◌, List, map, inr, ap, sym, ◌∙◌}
+use Rattle.std.proofs.Common.{◌≡◌, List, map, inr, ap, sym, ◌∙◌, Ok}
 use Rattle.std.proofs.lemmas.List.{take_all}
 use Rattle.serde_json.specs.declared.value.Value.{Value}
 use Rattle.serde_json.specs.View.{view}
 use Rattle.gf_json.specs.LineLimits.{name}
-use Rattle.gf_json.specs.CheckedIds.{read_name}
 use Rattle.gf_json.proofs.IdLemmas.{names_fault, names_read}
 use Rattle.gf_json.proofs.reading.aims.names.Goals as goal
 
@@ -14,7 +13,7 @@ returns-in-Err c =
 
 pub returns : goal.returns
 returns c =
-    let all : map (λ v. name (view v)) c.args.values.now ≡ map read_name c.loop-value.ids.items =
+    let all : map (λ v. name (view v)) c.args.values.now ≡ map Ok c.loop-value.ids.items =
     ap (λ (vs : List Value). map (λ v. name (view v)) vs)
     (sym (take_all c.loop-value.value-index c.args.values.now c.loop-value-test.false))
     ∙ c.loop-value.invariant in

@@ -1,7 +1,7 @@
 use Rattle.std.proofs.Common.{◌≡◌, ◌≤◌, drop, length}
 use Rattle.serde_json.specs.View.{items_view}
 use Rattle.gf_json.specs.LineValues.{each, elements}
-use Rattle.gf_json.specs.LineLimits.{point}
+use Rattle.gf_json.specs.LineLimits.{point_value}
 use Rattle.gf_json.specs.CheckedPoints.{checked}
 use Rattle.gf_json.proofs.reading.points.are_points.Given as goal
 
@@ -9,7 +9,7 @@ use Rattle.gf_json.proofs.reading.points.are_points.Given as goal
 abbrev pub invariant-loop-left : goal.invariant-loop-left
 invariant-loop-left l = record {
   within : l.left ≤ length l.values;
-  found : l.found ≡ checked (each point (elements (items_view (drop l.left l.values))));
+  found : l.found ≡ checked (each point_value (elements (items_view (drop l.left l.values))));
 }
 
 abbrev pub decreases-loop-left : goal.decreases-loop-left
