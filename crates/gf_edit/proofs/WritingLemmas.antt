@@ -9,14 +9,11 @@ use Rattle.gf_base.proofs.ListLemmas.{not_Contains-nil}
 use Rattle.gf_json.specs.OperationLines.{denoted}
 use Rattle.gf_json.specs.WrittenLines.{op_text}
 use Rattle.gf_keep.specs.MadeOf.{none as each_none}
-use Rattle.gf_keep.specs.declared.faults.KeepFault.TheVariants as keep_fault
 use Rattle.gf_ops.specs.declared.op.Op.{Op}
 use Rattle.gf_ops.specs.declared.change.Change.{Change}
 use Rattle.gf_ops.specs.Accepted.{IsAccepted}
 use Rattle.gf_ops.specs.Limits.{IsInRange}
 use Rattle.gf_site.specs.SiteState.{SiteState, authored}
-use Rattle.gf_studio.specs.declared.studio_error.StudioError.TheVariants as studio
-use Rattle.gf_edit.specs.declared.edit_error.EditError.TheVariants as edit
 use Rattle.gf_edit.specs.declared.edited.Edited.{Edited}
 use Rattle.gf_edit.specs.declared.made.Made.{Made}
 use Rattle.gf_edit.specs.MadeOperations.{made_until}
