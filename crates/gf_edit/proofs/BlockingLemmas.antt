@@ -15,7 +15,7 @@ use Rattle.gf_base.proofs.ListLemmas.{Contains-map, not_Contains-nil}
 use Rattle.gf_base.proofs.RisingLemmas.{below_tail, never_both}
 use Rattle.gf_causal.specs.HeldOperations.{AreHeld, ids_of}
 use Rattle.gf_causal.proofs.HeldLemmas.{ids_total}
-use Rattle.gf_site.specs.SiteState.{SiteState}
+use Rattle.gf_site.specs.ReplicaState.{ReplicaState}
 use Rattle.gf_replay.specs.Taking.{HasTaken}
 use Rattle.gf_replay.specs.Waiting.{AreWaiting}
 use Rattle.gf_edit.specs.EditedText.{Blocks}
@@ -108,8 +108,8 @@ one_of : (a b : Bool) → (a || b) ≡ true → (a ≡ true) ⊎ (b ≡ true)
 one_of true b t = inl refl
 one_of false b t = inr t
 
--- what a site holds is what waits of the operations that it has taken
-pub waiting_taken : (ops : List Op) (x : SiteState) → HasTaken ops x → AreHeld x.held
+-- what a replica holds is what waits of the operations that it has taken
+pub waiting_taken : (ops : List Op) (x : ReplicaState) → HasTaken ops x → AreHeld x.held
     → AreWaiting ops x.ops x.held
 waiting_taken ops x t held = record {
   exactly = λ a. (
@@ -119,7 +119,7 @@ waiting_taken ops x t held = record {
   rising = held.rising;
 }
 
-module _ (s : ℕ) (ops : List Op) (x : SiteState) (w : AreWaiting ops x.ops x.held) where
+module _ (s : ℕ) (ops : List Op) (x : ReplicaState) (w : AreWaiting ops x.ops x.held) where
   blocking_told : (a : Op) → Blocks s x.ops a → is_blocking s x.ops a ≡ true
   blocking_told a b = one_true _ _ (elim b.knows [
     | inl e ↦ inl (eq-eqb a.id.site s e)

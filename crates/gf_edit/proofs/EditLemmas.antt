@@ -1,12 +1,12 @@
 -- What becomes of what was read: the lines that are written, or the refusal.
-use Rattle.std.specs.Prelude.{Some, None, Ok, Err, find, map, Option, IfErr, IfOk, IfSome, Result}
+use Rattle.std.specs.Prelude.{Some, None, Ok, Err, map, Option, IfErr, IfOk, IfSome, Result}
 use Rattle.std.proofs.Common.{◌≡◌, ℕ, List, [], sym, ap, subst, ◌∙◌}
 use Rattle.std.proofs.lemmas.List.{append-nil}
 use Rattle.gf_streams.specs.TextLines.{numbered_lines}
 use Rattle.gf_ops.specs.declared.op.Op.{Op}
 use Rattle.gf_ops.specs.declared.op.OpId.{OpId}
 use Rattle.gf_causal.specs.HeldOperations.{AreHeld}
-use Rattle.gf_site.specs.SiteState.{SiteState}
+use Rattle.gf_site.specs.SiteState.{SiteState, at_site}
 use Rattle.gf_replay.specs.Denoting.{AreLinesOf}
 use Rattle.gf_replay.proofs.TakingLemmas.{delivers}
 use Rattle.gf_studio.specs.declared.studio_error.StudioError.TheVariants as studio
@@ -22,37 +22,34 @@ use Rattle.gf_edit.specs.MakingSteps.{HasPassed, RefusesMaking}
 use Rattle.gf_edit.specs.EditedText.{AreEntriesOf, AreDelivered, entry_at, ops_in}
 use Rattle.gf_edit.specs.EditRun.{Edits, HasBlocking, RefusesEdit, HasRefusedCommand}
 use Rattle.gf_edit.specs.EntrySteps.{HasReadEntries, HoldsBlocking, IsUnblocked, RefusesWaiting}
-use Rattle.gf_edit.specs.Waiting.{is_blocking}
 use Rattle.gf_edit.proofs.BlockingLemmas.{first_blocks, none_blocks, waiting_taken}
 use Rattle.gf_edit.proofs.CleanLemmas.{op_clean}
 use Rattle.gf_edit.proofs.WrittenLemmas.{op_shown, written_from}
 
 module _ (s : ℕ) (bytes : List ℕ) (r : ReadLines) (read : HasReadEntries s bytes [] r)
-    (held : AreHeld r.site.held) where
+    (held : AreHeld r.replica.held) where
   all_lines : AreEntriesOf s (numbered_lines bytes) read.entries
   all_lines = ap (map (entry_at s)) (read.whole ∙ append-nil read.before) ∙ read.lines
 
-  behind : IsUnblocked r.site → AreDelivered s read.entries r.site.ops
+  behind : IsUnblocked (at_site s r.replica) → AreDelivered s read.entries r.replica.ops
   behind none = record {
-    delivers = delivers (ops_in read.entries) r.site read.taken read.none;
+    delivers = delivers (ops_in read.entries) r.replica read.taken read.none;
     accepted = read.taken.accepted;
-    free = none_blocks s (ops_in read.entries) r.site
-        (waiting_taken (ops_in read.entries) r.site read.taken held)
-        (subst (λ n. find (is_blocking n r.site.ops) r.site.held ≡ None) read.number none);
+    free = none_blocks s (ops_in read.entries) r.replica
+        (waiting_taken (ops_in read.entries) r.replica read.taken held) none;
   }
 
   -- the text has the lines of what the commands make
-  pub edited : IsUnblocked r.site → (y : SiteState) (e : Edited)
-      → HasPassed r.site.number r.site.ops r.commands.items y e → Edits s bytes e.text.items e.made
+  pub edited : IsUnblocked (at_site s r.replica) → (y : SiteState) (e : Edited)
+      → HasPassed s r.replica.ops r.commands.items y e → Edits s bytes e.text.items e.made
   edited none y e p = record {
     new = p.new;
     denoted = record {
       entries = read.entries;
       lines = all_lines;
-      history = r.site.ops;
+      history = r.replica.ops;
       behind = behind none;
-      makes = subst (λ (cs : List Numbered). Makes s r.site.ops cs p.new) read.commands
-          (subst (λ n. Makes n r.site.ops r.commands.items p.new) read.number p.makes);
+      makes = subst (λ (cs : List Numbered). Makes s r.replica.ops cs p.new) read.commands p.makes;
     };
     is = p.is;
     told = p.told;
@@ -61,21 +58,23 @@ module _ (s : ℕ) (bytes : List ℕ) (r : ReadLines) (read : HasReadEntries s b
         record { whole = op_clean a; shown = op_shown a; denotes = p.reads a i }));
   }
 
-  refused_command : IsUnblocked r.site → (Refused : ℕ → List Op → EditCommand → Type 0) (n : ℕ)
-      → HasRefused (Refused r.site.number) r.site.number r.site.ops r.commands.items n
+  refused_command : IsUnblocked (at_site s r.replica)
+      → (Refused : ℕ → List Op → EditCommand → Type 0) (n : ℕ)
+      → HasRefused (Refused s) s r.replica.ops r.commands.items n
       → HasRefusedCommand (Refused s) s bytes n
   refused_command none Refused n f = record {
     entries = read.entries;
     lines = all_lines;
-    history = r.site.ops;
+    history = r.replica.ops;
     behind = behind none;
-    refusal = subst (λ (cs : List Numbered). HasRefused (Refused s) s r.site.ops cs n) read.commands
-        (subst (λ k. HasRefused (Refused k) k r.site.ops r.commands.items n) read.number f);
+    refusal = subst (λ (cs : List Numbered). HasRefused (Refused s) s r.replica.ops cs n)
+        read.commands
+        f;
   }
 
   -- what refuses a command refuses the edit
-  pub refused : IsUnblocked r.site → (e : EditError)
-      → RefusesMaking r.site.number r.site.ops r.commands.items e → RefusesEdit s bytes e
+  pub refused : IsUnblocked (at_site s r.replica) → (e : EditError)
+      → RefusesMaking s r.replica.ops r.commands.items e → RefusesEdit s bytes e
   refused none (edit.Refused n why) f = refused_command none (λ k. RefusesFor k why) n f
   refused none (edit.NoVersion n) f = refused_command none (λ k. KeepsNone) n f
   refused none (edit.Waits i j) f = absurd f
@@ -90,22 +89,22 @@ module _ (s : ℕ) (bytes : List ℕ) (r : ReadLines) (read : HasReadEntries s b
   refused none (edit.Run studio.WriteFailed) f = absurd f
 
   -- and so does what blocks the site
-  blocked : (i j : OpId) → HoldsBlocking r.site i j → HasBlocking s bytes i j
+  blocked : (i j : OpId) → HoldsBlocking (at_site s r.replica) i j → HasBlocking s bytes i j
   blocked i j b = record {
     entries = read.entries;
     lines = all_lines;
-    history = r.site.ops;
-    delivers = delivers (ops_in read.entries) r.site read.taken read.none;
+    history = r.replica.ops;
+    delivers = delivers (ops_in read.entries) r.replica read.taken read.none;
     accepted = read.taken.accepted;
     op = b.op;
-    blocking = first_blocks s (ops_in read.entries) r.site
-        (waiting_taken (ops_in read.entries) r.site read.taken held) b.op
-        (subst (λ n. find (is_blocking n r.site.ops) r.site.held ≡ Some b.op) read.number b.first);
+    blocking = first_blocks s (ops_in read.entries) r.replica
+        (waiting_taken (ops_in read.entries) r.replica read.taken held) b.op b.first;
     named = b.named;
     waits = b.waits;
   }
 
-  pub refused_waiting : (e : EditError) → RefusesWaiting r.site e → RefusesEdit s bytes e
+  pub refused_waiting : (e : EditError) → RefusesWaiting (at_site s r.replica) e
+      → RefusesEdit s bytes e
   refused_waiting (edit.Waits i j) f = blocked i j f
   refused_waiting (edit.Refused n why) f = absurd f
   refused_waiting (edit.NoVersion n) f = absurd f
@@ -130,17 +129,17 @@ run_refuses s left items (Ok x) is f = tt
 
 -- ---- both answers of making
 
-pub edited_ok : (r : ReadLines) → AreHeld r.site.held → IsUnblocked r.site
-    → (y : SiteState) (m : Result Edited EditError) →
-    IfOk m (HasPassed r.site.number r.site.ops r.commands.items y)
-    → IfOk m (λ e. (s : ℕ) (bytes : List ℕ) → HasReadEntries s bytes [] r
+pub edited_ok : (s : ℕ) (r : ReadLines) → AreHeld r.replica.held
+    → IsUnblocked (at_site s r.replica) → (y : SiteState) (m : Result Edited EditError) →
+    IfOk m (HasPassed s r.replica.ops r.commands.items y)
+    → IfOk m (λ e. (bytes : List ℕ) → HasReadEntries s bytes [] r
     → Edits s bytes e.text.items e.made)
-edited_ok r held none y (Ok e) p = λ s bytes read. edited s bytes r read held none y e p
-edited_ok r held none y (Err e) p = tt
+edited_ok s r held none y (Ok e) p = λ bytes read. edited s bytes r read held none y e p
+edited_ok s r held none y (Err e) p = tt
 
-pub refused_err : {X : Type 0} (r : ReadLines) → AreHeld r.site.held → IsUnblocked r.site
-    → (m : Result X EditError) →
-    IfErr m (RefusesMaking r.site.number r.site.ops r.commands.items)
-    → IfErr m (λ e. (s : ℕ) (bytes : List ℕ) → HasReadEntries s bytes [] r → RefusesEdit s bytes e)
-refused_err r held none (Ok x) f = tt
-refused_err r held none (Err e) f = λ s bytes read. refused s bytes r read held none e f
+pub refused_err : {X : Type 0} (s : ℕ) (r : ReadLines) → AreHeld r.replica.held
+    → IsUnblocked (at_site s r.replica) → (m : Result X EditError) →
+    IfErr m (RefusesMaking s r.replica.ops r.commands.items)
+    → IfErr m (λ e. (bytes : List ℕ) → HasReadEntries s bytes [] r → RefusesEdit s bytes e)
+refused_err s r held none (Ok x) f = tt
+refused_err s r held none (Err e) f = λ bytes read. refused s bytes r read held none e f

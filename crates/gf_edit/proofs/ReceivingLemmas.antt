@@ -11,7 +11,7 @@ use Rattle.gf_ops.specs.declared.faults.OpFault.{OpFault}
 use Rattle.gf_ops.specs.Accepted.{none as none_accepted}
 use Rattle.gf_base.proofs.ListLemmas.{not_Contains-nil}
 use Rattle.gf_causal.specs.Ready.{NoneIsReady}
-use Rattle.gf_site.specs.SiteState.{SiteState, new_site}
+use Rattle.gf_site.specs.ReplicaState.{ReplicaState, new_replica}
 use Rattle.gf_json.specs.declared.line_error.LineError.{LineError}
 use Rattle.gf_json.specs.declared.line_error.LineError.TheVariants as line
 use Rattle.gf_json.specs.LineValues.{Got}
@@ -53,14 +53,14 @@ entry_read s bytes r a (inr e) f = sym e ∙ f
 
 -- before the first line nothing was taken
 pub HasRead-none : (s : ℕ) (bytes : List ℕ) (left : List (ℕ × List ℕ)) (x : ReadLines)
-    → left ≡ numbered_lines bytes → x.site ≡ new_site s → x.commands.items ≡ []
+    → left ≡ numbered_lines bytes → x.replica ≡ new_replica → x.commands.items ≡ []
     → HasReadEntries s bytes left x
-HasRead-none s bytes left x all site commands = record {
+HasRead-none s bytes left x all new commands = record {
   before = [];
   whole = sym all;
   entries = [];
   lines = refl;
-  taken = subst (HasTaken []) (sym site) (record {
+  taken = subst (HasTaken []) (sym new) (record {
     one = λ a b i j e. absurd (not_Contains-nil a i);
     all = λ a. (
       λ i. absurd (not_Contains-nil a i),
@@ -70,9 +70,8 @@ HasRead-none s bytes left x all site commands = record {
     accepted = none_accepted;
     valid = valid_nil;
   });
-  none = subst (λ (y : SiteState). NoneIsReady y.ops y.held) (sym site)
+  none = subst (λ (y : ReplicaState). NoneIsReady y.ops y.held) (sym new)
       (λ a i r. not_Contains-nil a i);
-  number = ap (λ (y : SiteState). y.number) site;
   commands = commands;
 }
 
@@ -107,12 +106,11 @@ module _ (s : ℕ) (bytes : List ℕ) (n : ℕ) (text : List ℕ) (left : List (
     whole = whole_more;
     entries = read.entries ++ (n, entry.Operation a) ∷ [];
     lines = lines_more (entry.Operation a) denotes;
-    taken = subst (λ l. HasTaken l y.site) (sym (ops_more read.entries n (entry.Operation a)))
-        (HasTaken-moves (ops_in read.entries ++ a ∷ []) g.0.offered y.site
-        (HasTaken-offer (ops_in read.entries) x.site read.taken a g.0.offered g.0.offers)
-        g.0.settles.moves);
-    none = g.0.settles.none;
-    number = g.0.number ∙ read.number;
+    taken = subst (λ l. HasTaken l y.replica) (sym (ops_more read.entries n (entry.Operation a)))
+        (HasTaken-moves (ops_in read.entries ++ a ∷ []) g.0.offered y.replica
+        (HasTaken-offer (ops_in read.entries) x.replica read.taken a g.0.offered g.0.offers)
+        g.0.steps.moves);
+    none = g.0.steps.none;
     commands = g.1 ∙ (read.commands ∙ (sym (append-nil (commands_in read.entries))
         ∙ sym (commands_more read.entries n (entry.Operation a))));
   }
@@ -121,11 +119,10 @@ module _ (s : ℕ) (bytes : List ℕ) (n : ℕ) (text : List ℕ) (left : List (
     whole = whole_more;
     entries = read.entries ++ (n, entry.Command c) ∷ [];
     lines = lines_more (entry.Command c) denotes;
-    taken = subst (λ l. HasTaken l y.site) (sym (append-nil (ops_in read.entries))
+    taken = subst (λ l. HasTaken l y.replica) (sym (append-nil (ops_in read.entries))
         ∙ sym (ops_more read.entries n (entry.Command c)))
         (subst (HasTaken (ops_in read.entries)) (sym g.0) read.taken);
-    none = subst (λ (z : SiteState). NoneIsReady z.ops z.held) (sym g.0) read.none;
-    number = ap (λ (z : SiteState). z.number) g.0 ∙ read.number;
+    none = subst (λ (z : ReplicaState). NoneIsReady z.ops z.held) (sym g.0) read.none;
     commands = g.1 ∙ (ap (λ l. l ++ record { line = n; command = c } ∷ []) read.commands
         ∙ sym (commands_more read.entries n (entry.Command c)));
   }
@@ -140,8 +137,8 @@ module _ (s : ℕ) (bytes : List ℕ) (n : ℕ) (text : List ℕ) (left : List (
     whole = read.whole;
     entries = read.entries;
     lines = read.lines;
-    history = x.site.ops;
-    delivers = delivers (ops_in read.entries) x.site read.taken read.none;
+    history = x.replica.ops;
+    delivers = delivers (ops_in read.entries) x.replica read.taken read.none;
   }
 
   fault_at : (why : LineCause) → IsEntryFault s (ops_in read.entries) text why
@@ -149,10 +146,11 @@ module _ (s : ℕ) (bytes : List ℕ) (n : ℕ) (text : List ℕ) (left : List (
   fault_at why f = record { line = text; at = at_line; fault = f }
 
   dropped : (a : Op) → entry_denoted s text ≡ Ok (entry.Operation a) → (id : OpId) (fault : OpFault)
-      → DropsBehind a x.site id fault → DropsAt s bytes id fault
+      → DropsBehind a x.replica id fault → DropsAt s bytes id fault
   dropped a denotes id fault b =
       let ops = ops_in read.entries ++ a ∷ [] in
-      let offered = HasTaken-offer (ops_in read.entries) x.site read.taken a b.offered b.offers in
+      let offered = HasTaken-offer (ops_in read.entries) x.replica read.taken a b.offered b.offers
+      in
       let moved = HasTaken-moves ops b.offered b.drops.state offered b.drops.moves in
       record {
         number = n;
@@ -172,13 +170,13 @@ module _ (s : ℕ) (bytes : List ℕ) (n : ℕ) (text : List ℕ) (left : List (
       }
 
   refused_op : (a : Op) → entry_denoted s text ≡ Ok (entry.Operation a) → (e : ReadingError)
-      → RefusesOp n a x.site e → RefusesEntries s bytes e
+      → RefusesOp n a x.replica e → RefusesEntries s bytes e
   refused_op a denotes (reading.Line m cause.Clash) r = subst
       (λ k. HasLineFault s bytes k cause.Clash) (sym r.0)
       (fault_at cause.Clash (record {
         op = a;
         denotes = denotes;
-        other = other_taken (ops_in read.entries) x.site read.taken a r.1;
+        other = other_taken (ops_in read.entries) x.replica read.taken a r.1;
       }))
   refused_op a denotes (reading.Line m cause.Json) r = absurd r
   refused_op a denotes (reading.Line m cause.Field) r = absurd r

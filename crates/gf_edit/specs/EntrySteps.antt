@@ -24,14 +24,14 @@ use Rattle.gf_edit.specs.Waiting.{is_blocking}
 -- what was read gains the entry of line n
 abbrev pub GainsEntry : ℕ → Entry → ReadLines → ReadLines → Type 0
 GainsEntry n (entry.Operation a) old new =
-    TakesOp a old.site new.site × (new.commands.items ≡ old.commands.items)
+    TakesOp a old.replica new.replica × (new.commands.items ≡ old.commands.items)
 GainsEntry n (entry.Command c) old new =
-    (new.site ≡ old.site)
+    (new.replica ≡ old.replica)
     × (new.commands.items ≡ old.commands.items ++ record { line = n; command = c } ∷ [])
 
 -- why the entry of line n is not taken
 abbrev pub RefusesGain : ℕ → Entry → ReadLines → ReadingError → Type 0
-RefusesGain n (entry.Operation a) old e = RefusesOp n a old.site e
+RefusesGain n (entry.Operation a) old e = RefusesOp n a old.replica e
 RefusesGain n (entry.Command c) old e = e ≡ reading.OutOfMemory
 
 -- the line denotes an entry, which is gained
@@ -62,9 +62,8 @@ pub record HasReadEntries (s : ℕ) (bytes : List ℕ) (left : List (ℕ × List
   pub whole : numbered_lines bytes ≡ before ++ left
   pub entries : List (ℕ × Entry)
   pub lines : AreEntriesOf s before entries
-  pub taken : HasTaken (ops_in entries) x.site
-  pub none : NoneIsReady x.site.ops x.site.held
-  pub number : x.site.number ≡ s
+  pub taken : HasTaken (ops_in entries) x.replica
+  pub none : NoneIsReady x.replica.ops x.replica.held
   pub commands : x.commands.items ≡ commands_in entries
 
 -- no operation that the site holds blocks it

@@ -11,6 +11,7 @@ use crate::edited::Edited;
 use crate::making::make_all;
 use crate::reading::{ReadLines, read_lines};
 use crate::waiting::check_waiting;
+use gf_site::Site;
 use std::alloc::Global;
 
 /// The lines of the operations that the commands of these bytes make.
@@ -21,21 +22,23 @@ pub(crate) fn edit(alloc: Global, bytes: Vec<u8>, editor: u8) -> Result<Edited, 
     ensures between { IfErr result (λ e. IfSome (of_edit e) IsBetween) }
 {
     let read = read_lines(alloc, bytes, editor)?;
-    make(alloc, read)
+    make(alloc, read, editor)
 }
 
-/// The lines of the operations that these commands make, where nothing that was read blocks the
-/// site.
-fn make(alloc: Global, read: ReadLines) -> Result<Edited, EditError>
-    ensures ok { IfOk result (λ edited. (s : ℕ) (bytes : List ℕ) → HasReadEntries s bytes [] read
-        → Edits s bytes edited.text.items edited.made) }
-    ensures refused { IfErr result (λ e. (s : ℕ) (bytes : List ℕ) → HasReadEntries s bytes [] read
-        → RefusesEdit s bytes e) }
+/// The lines of the operations that the site of this number makes of these commands, where nothing
+/// that was read blocks it.
+fn make(alloc: Global, read: ReadLines, editor: u8) -> Result<Edited, EditError>
+    requires { IsSite editor }
+    ensures ok { IfOk result (λ edited. (bytes : List ℕ) → HasReadEntries editor bytes [] read
+        → Edits editor bytes edited.text.items edited.made) }
+    ensures refused { IfErr result (λ e. (bytes : List ℕ) → HasReadEntries editor bytes [] read
+        → RefusesEdit editor bytes e) }
     ensures between { IfErr result (λ e. IfSome (of_edit e) IsBetween) }
 {
-    let ReadLines { mut site, commands } = read;
-    // The clause of `held` says that what a site holds rises by id.
-    let _ = site.held();
+    let ReadLines { replica, commands } = read;
+    // The clause of `held` says that what a replica holds rises by id.
+    let _ = replica.held();
+    let mut site = Site::with_replica(alloc, editor, replica);
     match check_waiting(alloc, &site) {
         Ok(()) => make_all(alloc, &mut site, commands),
         Err(fault) => Err(fault),

@@ -1,7 +1,6 @@
-//! From the lines of a text to a site and the commands that it is told.
+//! From the lines of a text to a replica and the commands that a site is told.
 
 ghost use Rattle.std.specs.Prelude.{[], IfOk, IfErr, OnOk};
-ghost use Rattle.gf_ops.specs.OperationOrder.{IsSite};
 ghost use Rattle.gf_edit.specs.Entries.{IsEntryInRange};
 ghost use Rattle.gf_edit.specs.EditFaults.{RefusesEntries};
 ghost use Rattle.gf_edit.specs.EntrySteps.{GainsEntry, HasReadEntries, RefusesEntry, RefusesGain};
@@ -14,10 +13,10 @@ use gf_site::{NoTable, Replica};
 use gf_streams::TextLines;
 use std::alloc::Global;
 
-/// What was read: a site with the operations, and the commands in order.
+/// What was read: a replica with the operations, and the commands in order.
 #[derive(Drop)]
 pub(crate) struct ReadLines {
-    pub(crate) site: Replica<NoTable>,
+    pub(crate) replica: Replica<NoTable>,
     pub(crate) commands: Vec<Numbered>,
 }
 
@@ -27,12 +26,11 @@ pub(crate) fn read_lines(
     text: Vec<u8>,
     editor: u8,
 ) -> Result<ReadLines, ReadingError>
-    requires { IsSite editor }
     ensures ok { IfOk result (HasReadEntries editor text.items []) }
     ensures err { IfErr result (RefusesEntries editor text.items) }
 {
     let mut read = ReadLines {
-        site: Replica::new(alloc, editor),
+        replica: Replica::new(alloc),
         commands: Vec::new(alloc),
     };
     let mut lines = TextLines::new(text);
@@ -68,7 +66,7 @@ fn take(read: &mut ReadLines, number: u64, entry: Entry) -> Result<(), ReadingEr
     ensures err { IfErr result (RefusesGain number entry read.old) }
 {
     match entry {
-        Entry::Operation(op) => take_op(&mut read.site, number, op),
+        Entry::Operation(op) => take_op(&mut read.replica, number, op),
         Entry::Command(command) => match read.commands.push(Numbered {
             line: number,
             command,

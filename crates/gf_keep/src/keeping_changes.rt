@@ -16,7 +16,7 @@ use crate::{Keep, KeepFault};
 use gf_base::OutOfMemory;
 use gf_groups::{Group, is_made};
 use gf_ops::{Change, History, Ids, ObjectId, OpId, Value};
-use gf_site::{Replica, Table};
+use gf_site::{Site, Table};
 use std::alloc::Global;
 
 /// The changes by which a site keeps versions of an object. The first one hides the object without
@@ -27,7 +27,7 @@ use std::alloc::Global;
 /// with each operation on the object.
 pub fn keeping<T: Table>(
     alloc: Global,
-    site: &Replica<T>,
+    site: &Site<T>,
     keep: &Keep,
 ) -> Result<Vec<Change>, KeepFault>
     ensures changes { IfOk result (λ changes. AreKeeping site.now.ops keep.now changes.items) }
@@ -44,7 +44,7 @@ pub fn keeping<T: Table>(
 }
 
 /// The versions that are kept, at least one.
-fn kept_in<T: Table>(alloc: Global, site: &Replica<T>, keep: &Keep) -> Result<Vec<Group>, KeepFault>
+fn kept_in<T: Table>(alloc: Global, site: &Site<T>, keep: &Keep) -> Result<Vec<Group>, KeepFault>
     requires { IsMade site.now.ops keep.now.object }
     ensures kept { IfOk result (λ groups. AreKept site.now.ops keep.now groups.items) }
     ensures some { IfOk result (λ groups. groups.items ≢ []) }

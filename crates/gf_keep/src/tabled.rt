@@ -3,12 +3,12 @@
 ghost use Rattle.std.specs.Prelude.{◌≡◌, IfOk};
 
 use gf_base::OutOfMemory;
-use gf_site::{Replica, Site, Table};
+use gf_site::{Site, Table};
 use std::alloc::Global;
 
 /// A site that has the operations of another one, with the table of its versions, and holds
 /// nothing.
-pub(crate) fn with_table<T: Table>(alloc: Global, site: &Replica<T>) -> Result<Site, OutOfMemory>
+pub(crate) fn with_table<T: Table>(alloc: Global, site: &Site<T>) -> Result<Site, OutOfMemory>
     ensures { IfOk result (λ tabled. tabled.ops ≡ site.now.ops) }
 {
     let mut tabled = Site::new(alloc, site.number());

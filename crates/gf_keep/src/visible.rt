@@ -15,7 +15,7 @@ use gf_base::OutOfMemory;
 use gf_components::MOST_SETS;
 use gf_groups::Group;
 use gf_ops::OpId;
-use gf_site::{Replica, Site, Table};
+use gf_site::{Site, Table};
 use gf_visible::visible_groups;
 use std::alloc::Global;
 
@@ -23,7 +23,7 @@ use std::alloc::Global;
 /// more than 1,000 versions of the object are visible.
 pub(crate) fn kept_groups<T: Table>(
     alloc: Global,
-    site: &Replica<T>,
+    site: &Site<T>,
     keep: &Keep,
 ) -> Result<Option<Vec<Group>>, OutOfMemory>
     requires { IsMade site.now.ops keep.now.object }

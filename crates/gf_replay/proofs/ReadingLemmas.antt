@@ -7,7 +7,7 @@ use Rattle.gf_ops.specs.declared.op.OpId.{OpId}
 use Rattle.gf_ops.specs.declared.faults.OpFault.{OpFault}
 use Rattle.gf_json.specs.LineValues.{Got}
 use Rattle.gf_json.specs.OperationLines.{denoted}
-use Rattle.gf_site.specs.SiteState.{SiteState}
+use Rattle.gf_site.specs.ReplicaState.{ReplicaState}
 use Rattle.gf_replay.specs.declared.reading_error.LineCause.{LineCause}
 use Rattle.gf_replay.specs.declared.reading_error.LineCause.TheVariants as cause
 use Rattle.gf_replay.specs.declared.reading_error.ReadingError.{ReadingError}
@@ -24,7 +24,7 @@ use Rattle.gf_replay.proofs.TakingLemmas.{taken_delivery, waiting}
 
 -- one line more is taken
 pub HasRead-line : (bytes : List ℕ) (n : ℕ) (line : List ℕ) (left : List (ℕ × List ℕ))
-    (x y : SiteState) → HasRead bytes ((n, line) ∷ left) x → TakesLine line x y
+    (x y : ReplicaState) → HasRead bytes ((n, line) ∷ left) x → TakesLine line x y
     → HasRead bytes left y
 HasRead-line bytes n line left x y read takes = record {
   before = read.before ++ (n, line) ∷ [];
@@ -37,12 +37,12 @@ HasRead-line bytes n line left x y read takes = record {
       ∙ sym (map-append {B = Got Op} Ok read.ops (takes.op ∷ []))));
   taken = HasTaken-moves (read.ops ++ takes.op ∷ []) takes.takes.offered y
       (HasTaken-offer read.ops x read.taken takes.op takes.takes.offered takes.takes.offers)
-      takes.takes.settles.moves;
-  none = takes.takes.settles.none;
+      takes.takes.steps.moves;
+  none = takes.takes.steps.none;
 }
 
 -- with no line left, all are taken
-pub Denotes-read : (bytes : List ℕ) (x : SiteState) → HasRead bytes [] x → Denotes bytes x.ops
+pub Denotes-read : (bytes : List ℕ) (x : ReplicaState) → HasRead bytes [] x → Denotes bytes x.ops
 Denotes-read bytes x read = record {
   ops = read.ops;
   lines = ap (map (λ (l : ℕ × List ℕ). denoted l.1)) (read.whole ∙ append-nil read.before)
@@ -51,7 +51,7 @@ Denotes-read bytes x read = record {
 }
 
 -- and what is held waits
-pub DenotesWaiting-read : (bytes : List ℕ) (x : SiteState) → HasRead bytes [] x → AreHeld x.held
+pub DenotesWaiting-read : (bytes : List ℕ) (x : ReplicaState) → HasRead bytes [] x → AreHeld x.held
     → DenotesWaiting bytes x.ops x.held
 unfolding Denotes-read
 DenotesWaiting-read bytes x read held =
@@ -63,7 +63,7 @@ DenotesWaiting-read bytes x read held =
       others = waiting read.ops x read.taken held;
     }
 
-module _ (bytes : List ℕ) (n : ℕ) (line : List ℕ) (left : List (ℕ × List ℕ)) (x : SiteState)
+module _ (bytes : List ℕ) (n : ℕ) (line : List ℕ) (left : List (ℕ × List ℕ)) (x : ReplicaState)
     (read : HasRead bytes ((n, line) ∷ left) x) where
   abbrev at_line : IsAt bytes n line
   at_line = record {
@@ -142,7 +142,7 @@ AreOfLines-rest r rs block = let p = parted block.lines r rs block.first in
     record { lines = p.others; first = p.rest }
 
 module _ (text : List ℕ) (r : Reading) (rs : List Reading) (others : List (ℕ × List ℕ))
-    (x : SiteState) (before : IsBefore text (r ∷ rs) others x) where
+    (x : ReplicaState) (before : IsBefore text (r ∷ rs) others x) where
   first_line : IsParted before.lines r rs
   first_line = parted before.lines r rs before.first
 
@@ -150,7 +150,7 @@ module _ (text : List ℕ) (r : Reading) (rs : List Reading) (others : List (ℕ
   read_so_far = subst (λ z. HasRead text z x) first_line.is before.read
 
   -- what was read first is taken
-  pub IsBefore-line : (y : SiteState)
+  pub IsBefore-line : (y : ReplicaState)
       → ((line : ℕ × List ℕ) → IsReading line r → TakesLine line.1 x y) → IsBefore text rs others y
   IsBefore-line y takes = record {
     lines = first_line.others;
@@ -169,6 +169,7 @@ module _ (text : List ℕ) (r : Reading) (rs : List Reading) (others : List (ℕ
 
 -- with nothing left of a block, the lines behind it are left
 pub HasRead-block : (text : List ℕ) (readings : List Reading) (others : List (ℕ × List ℕ))
-    (x : SiteState) → length readings ≡ 0 → IsBefore text readings others x → HasRead text others x
+    (x : ReplicaState) → length readings ≡ 0 → IsBefore text readings others x
+    → HasRead text others x
 HasRead-block text readings others x none before = subst (λ z. HasRead text z x)
     (sym (before.behind ∙ ap (λ n. drop n before.lines) none)) before.read

@@ -1,4 +1,4 @@
--- What offers and steps make of the operations that a site has.
+-- What offers and steps make of the operations that a replica has.
 use Rattle.std.specs.Prelude.{ℕ, ◌⊎◌, ◌↔◌, ◌<◌, Contains, Ok, Err, IfErr, OnOk, Result, ⊤, length}
 use Rattle.std.proofs.Common.{◌≡◌, ◌≢◌, List, [], ◌∷◌, ◌++◌, sym, subst, ap, ◌∙◌, inl, inr, arith}
 use Rattle.std.specs.declared.cmp.Ordering.TheVariants.{Less}
@@ -26,8 +26,8 @@ use Rattle.gf_causal.proofs.HeldLemmas.{ids_total}
 use Rattle.gf_causal.proofs.ListLemmas.{Contains-between, Contains-between_cases}
 use Rattle.gf_causal.proofs.ListLemmas.{Contains-between_itself}
 use Rattle.gf_causal.proofs.CourseLemmas.{number_counted, delivered_part}
-use Rattle.gf_site.specs.SiteState.{SiteState}
-use Rattle.gf_site.specs.Events.{Applies, ForgetsReady}
+use Rattle.gf_site.specs.ReplicaState.{ReplicaState}
+use Rattle.gf_site.specs.ReplicaSteps.{AppliesNext, ForgetsNext}
 use Rattle.gf_site.proofs.CourseLemmas.{all_ready}
 use Rattle.gf_json.specs.LineValues.{Got}
 use Rattle.gf_json.specs.OperationLines.{denoted}
@@ -38,8 +38,8 @@ use Rattle.gf_replay.specs.declared.reading_error.ReadingError.TheVariants as re
 use Rattle.gf_replay.specs.Denoting.{Delivers}
 use Rattle.gf_replay.specs.Waiting.{AreWaiting}
 use Rattle.gf_replay.specs.Taking.{HasOrHolds, HoldsOthers, KeepsAll, Offers, again, new, Moves}
-use Rattle.gf_replay.specs.Taking.{Settles, DropsReady, HasTaken, TakesOp, RefusesOp}
-use Rattle.gf_replay.specs.LineSteps.{TakesLine, RefusesLine, RefusesSettling}
+use Rattle.gf_replay.specs.Taking.{StepsAll, DropsReady, HasTaken, TakesOp, RefusesOp}
+use Rattle.gf_replay.specs.LineSteps.{TakesLine, RefusesLine, RefusesStepping}
 
 -- ---- one operation more
 
@@ -63,31 +63,31 @@ itself_more held more a adds = subst (λ l. Contains l a) (sym adds.with_it)
 -- ---- an offer
 
 -- what was offered is there
-pub offered_there : (x y : SiteState) (a : Op) → Offers x a y → HasOrHolds y a
+pub offered_there : (x y : ReplicaState) (a : Op) → Offers x a y → HasOrHolds y a
 offered_there x y a (again known same) = subst (λ s. HasOrHolds s a) (sym same) known.known
 offered_there x y a (new fresh adds ops) = inl (itself_more x.held y.held a adds)
 
 -- what was there stays
-pub offer_keeps : (x y : SiteState) (a : Op) → Offers x a y → (b : Op) → HasOrHolds x b
+pub offer_keeps : (x y : ReplicaState) (a : Op) → Offers x a y → (b : Op) → HasOrHolds x b
     → HasOrHolds y b
 offer_keeps x y a (again known same) b i = subst (λ s. HasOrHolds s b) (sym same) i
 offer_keeps x y a (new fresh adds ops) b (inl i) = inl (held_more x.held y.held a adds b i)
 offer_keeps x y a (new fresh adds ops) b (inr i) = inr (subst (λ l. Contains l b) (sym ops) i)
 
 -- and nothing else is there
-pub offer_from : (x y : SiteState) (a : Op) → Offers x a y → (b : Op) → HasOrHolds y b
+pub offer_from : (x y : ReplicaState) (a : Op) → Offers x a y → (b : Op) → HasOrHolds y b
     → (b ≡ a) ⊎ HasOrHolds x b
 offer_from x y a (again known same) b i = inr (subst (λ s. HasOrHolds s b) same i)
 offer_from x y a (new fresh adds ops) b (inl i) = elim (more_there x.held y.held a adds b i)
     [ inl e ↦ inl e | inr j ↦ inr (inl j) ]
 offer_from x y a (new fresh adds ops) b (inr i) = inr (inr (subst (λ l. Contains l b) ops i))
 
-offer_ops : (x y : SiteState) (a : Op) → Offers x a y → y.ops ≡ x.ops
-offer_ops x y a (again known same) = ap (λ (s : SiteState). s.ops) same
+offer_ops : (x y : ReplicaState) (a : Op) → Offers x a y → y.ops ≡ x.ops
+offer_ops x y a (again known same) = ap (λ (s : ReplicaState). s.ops) same
 offer_ops x y a (new fresh adds ops) = ops
 
 -- what is held is no part of the history still
-offer_others : (x y : SiteState) (a : Op) → HoldsOthers x → Offers x a y → HoldsOthers y
+offer_others : (x y : ReplicaState) (a : Op) → HoldsOthers x → Offers x a y → HoldsOthers y
 offer_others x y a others (again known same) = subst HoldsOthers (sym same) others
 offer_others x y a others (new fresh adds ops) = λ b i j.
     let there = subst (λ l. Contains l b) ops j in
@@ -96,7 +96,7 @@ offer_others x y a others (new fresh adds ops) = λ b i j.
       | inr k ↦ others b k there
     ]
 
-module _ (ops : List Op) (x : SiteState) (t : HasTaken ops x) (a : Op) where
+module _ (ops : List Op) (x : ReplicaState) (t : HasTaken ops x) (a : Op) where
   -- with an offered operation equal ids are equal operations still
   one_more : ((b : Op) → Contains ops b → b.id ≡ a.id → b ≡ a) → AreOneById (ops ++ a ∷ [])
   one_more same b c i j e = elim (Contains-push_cases ops a b i) [
@@ -110,7 +110,7 @@ module _ (ops : List Op) (x : SiteState) (t : HasTaken ops x) (a : Op) where
     ]
   ]
 
-  offered_one : (y : SiteState) → Offers x a y → AreOneById (ops ++ a ∷ [])
+  offered_one : (y : ReplicaState) → Offers x a y → AreOneById (ops ++ a ∷ [])
   offered_one y (again known same) = one_more (λ b i e. t.one b a i ((t.all a).1 known.known) e)
   offered_one y (new fresh adds is) = one_more
       (λ b i e. elim ((t.all b).0 i) [
@@ -119,7 +119,7 @@ module _ (ops : List Op) (x : SiteState) (t : HasTaken ops x) (a : Op) where
       ])
 
   -- an offered operation is taken
-  pub HasTaken-offer : (y : SiteState) → Offers x a y → HasTaken (ops ++ a ∷ []) y
+  pub HasTaken-offer : (y : ReplicaState) → Offers x a y → HasTaken (ops ++ a ∷ []) y
   HasTaken-offer y offers = record {
     one = offered_one y offers;
     others = offer_others x y a t.others offers;
@@ -154,8 +154,9 @@ module _ (ops : List Op) (x : SiteState) (t : HasTaken ops x) (a : Op) where
 
 -- ---- steps
 
--- where a site moves, what was taken is what it has
-pub HasTaken-moves : (ops : List Op) (x y : SiteState) → HasTaken ops x → Moves x y → HasTaken ops y
+-- where a replica moves, what was taken is what it has
+pub HasTaken-moves : (ops : List Op) (x y : ReplicaState) → HasTaken ops x → Moves x y
+    → HasTaken ops y
 HasTaken-moves ops x y t moves = record {
   one = t.one;
   all = λ a. (
@@ -167,7 +168,7 @@ HasTaken-moves ops x y t moves = record {
   valid = moves.valid;
 }
 
-has_applied : (x y : SiteState) (id : OpId) → Applies x id y → (a : Op) → HasOrHolds x a
+has_applied : (x y : ReplicaState) (id : OpId) → AppliesNext x id y → (a : Op) → HasOrHolds x a
     → HasOrHolds y a
 has_applied x y id s a (inl i) = elim (more_there y.held x.held s.op s.takes.taken a i) [
   | inl e ↦ inr (subst (λ l. Contains l a) (sym s.ops)
@@ -177,7 +178,7 @@ has_applied x y id s a (inl i) = elim (more_there y.held x.held s.op s.takes.tak
 has_applied x y id s a (inr i) = inr
     (subst (λ l. Contains l a) (sym s.ops) (Contains-append_left x.ops (s.op ∷ []) a i))
 
-applied_had : (x y : SiteState) (id : OpId) → Applies x id y → (a : Op) → HasOrHolds y a
+applied_had : (x y : ReplicaState) (id : OpId) → AppliesNext x id y → (a : Op) → HasOrHolds y a
     → HasOrHolds x a
 applied_had x y id s a (inl i) = inl (held_more y.held x.held s.op s.takes.taken a i)
 applied_had x y id s a (inr i) =
@@ -208,7 +209,8 @@ not_another (b ∷ before) after a s i = elim (Contains-cons_cases b (before ++ 
 ]
 
 -- what is taken into the history is held no more
-applied_others : (x y : SiteState) (id : OpId) → AreHeld x.held → HoldsOthers x → Applies x id y
+applied_others : (x y : ReplicaState) (id : OpId) → AreHeld x.held → HoldsOthers x
+    → AppliesNext x id y
     → HoldsOthers y
 applied_others x y id held others s b i j =
     let adds = s.takes.taken in
@@ -221,7 +223,8 @@ applied_others x y id held others s b i j =
     ]
 
 -- a step that adds an operation takes nothing away and brings nothing
-pub keeps_applied : (x y z : SiteState) (id : OpId) → AreHeld y.held → KeepsAll x y → Applies y id z
+pub keeps_applied : (x y z : ReplicaState) (id : OpId) → AreHeld y.held → KeepsAll x y
+    → AppliesNext y id z
     → KeepsAll x z
 keeps_applied x y z id held keeps s = record {
   same = λ a. (
@@ -232,7 +235,8 @@ keeps_applied x y z id held keeps s = record {
 }
 
 -- and what it took out made the held ones more
-pub applied_shorter : (x y : SiteState) (id : OpId) → Applies x id y → length y.held < length x.held
+pub applied_shorter : (x y : ReplicaState) (id : OpId) → AppliesNext x id y
+    → length y.held < length x.held
 applied_shorter x y id s =
     let adds = s.takes.taken in
     subst (λ l. length y.held < length l) (sym adds.with_it)
@@ -240,8 +244,8 @@ applied_shorter x y id s =
     (rw length-append (rw length-append (omega arith))))
 
 -- a step that drops an operation shows one that doesn't fit
-pub dropped_ready : (x y z : SiteState) (id : OpId) (fault : OpFault) → KeepsAll x y
-    → AreAccepted y.ops → IsValid y.ops → ForgetsReady y id fault z → DropsReady x id fault
+pub dropped_ready : (x y z : ReplicaState) (id : OpId) (fault : OpFault) → KeepsAll x y
+    → AreAccepted y.ops → IsValid y.ops → ForgetsNext y id fault z → DropsReady x id fault
 dropped_ready x y z id fault keeps accepted valid d = record {
   state = y;
   moves = record { keeps = keeps; accepted = accepted; valid = valid };
@@ -252,16 +256,16 @@ dropped_ready x y z id fault keeps accepted valid d = record {
   refused = d.refused;
 }
 
--- a step that finds none ready settles the site
-pub idle_settles : (x y z : SiteState) → KeepsAll x y → AreAccepted y.ops → IsValid y.ops
-    → NoneIsReady y.ops y.held × (z ≡ y) → Settles x z
-idle_settles x y z keeps accepted valid idle = subst (Settles x) (sym idle.1)
+-- a step that finds none ready is the last one
+pub idle_steps : (x y z : ReplicaState) → KeepsAll x y → AreAccepted y.ops → IsValid y.ops
+    → NoneIsReady y.ops y.held × (z ≡ y) → StepsAll x z
+idle_steps x y z keeps accepted valid idle = subst (StepsAll x) (sym idle.1)
     (record { moves = record { keeps = keeps; accepted = accepted; valid = valid }; none = idle.0 })
 
 -- ---- delivering
 
 -- a history of what was taken is a delivery of it
-pub taken_delivery : (ops : List Op) (x : SiteState) → HasTaken ops x → IsDelivery ops x.ops
+pub taken_delivery : (ops : List Op) (x : ReplicaState) → HasTaken ops x → IsDelivery ops x.ops
 taken_delivery ops x t = record {
   from_offered = λ a i. (t.all a).1 (inr i);
   once = t.valid.distinct;
@@ -269,7 +273,7 @@ taken_delivery ops x t = record {
 }
 
 -- where no held operation is ready, the history is the delivered part of what was taken
-pub delivers : (ops : List Op) (x : SiteState) → HasTaken ops x → NoneIsReady x.ops x.held
+pub delivers : (ops : List Op) (x : ReplicaState) → HasTaken ops x → NoneIsReady x.ops x.held
     → Delivers ops x.ops
 delivers ops x t none = record {
   one = t.one;
@@ -288,7 +292,7 @@ delivers ops x t none = record {
     }
 
 -- where held operations are no part of the history, they are the others of what was taken
-pub waiting : (ops : List Op) (x : SiteState) → HasTaken ops x → AreHeld x.held
+pub waiting : (ops : List Op) (x : ReplicaState) → HasTaken ops x → AreHeld x.held
     → AreWaiting ops x.ops x.held
 waiting ops x t held = record {
   exactly = λ a. (
@@ -301,29 +305,23 @@ waiting ops x t held = record {
 -- ---- one operation, and the line that denotes it
 
 -- an offer that was not refused holds the operation, or finds it there
-pub offered : (x y : SiteState) (a : Op) (r : Result Offered OfferFault) (o : Offered)
+pub offered : (x y : ReplicaState) (a : Op) (r : Result Offered OfferFault) (o : Offered)
     → (r ≡ Ok offer.Already ↔ (IsInRange a × IsKnown x.held x.ops a)) →
     (r ≡ Ok offer.Held → IsInRange a × IsNew x.held x.ops a × Adds x.held a y.held)
     → (r ≢ Ok offer.Held → y ≡ x) → y ≡ record x { held = y.held } → r ≡ Ok o → Offers x a y
 offered x y a r offer.Already known fresh same kept e = again (known.0 e).1
     (same (λ f. let g = sym e ∙ f in absurd cc))
 offered x y a r offer.Held known fresh same kept e = let f = fresh e in
-    new f.1 f.2 (ap (λ (s : SiteState). s.ops) kept)
+    new f.1 f.2 (ap (λ (s : ReplicaState). s.ops) kept)
 
-pub op_taken : (a : Op) (x y z : SiteState) (r : Result ⊤ ReadingError) → Offers x a y
-    → y.number ≡ x.number → OnOk r (Settles y z) → OnOk r (z.number ≡ y.number)
-    → OnOk r (TakesOp a x z)
-op_taken a x y z (Ok u) offers same settles kept = record {
-  offered = y;
-  offers = offers;
-  settles = settles;
-  number = kept ∙ same;
-}
-op_taken a x y z (Err e) offers same settles kept = tt
+pub op_taken : (a : Op) (x y z : ReplicaState) (r : Result ⊤ ReadingError) → Offers x a y
+    → OnOk r (StepsAll y z) → OnOk r (TakesOp a x z)
+op_taken a x y z (Ok u) offers steps = record { offered = y; offers = offers; steps = steps }
+op_taken a x y z (Err e) offers steps = tt
 
--- an operation behind which the site does not settle is refused for that
-pub op_refused : (n : ℕ) (a : Op) (x y : SiteState) (r : Result ⊤ ReadingError) → Offers x a y
-    → IfErr r (RefusesSettling y) → IfErr r (RefusesOp n a x)
+-- an operation behind which not all is stepped is refused for that
+pub op_refused : (n : ℕ) (a : Op) (x y : ReplicaState) (r : Result ⊤ ReadingError) → Offers x a y
+    → IfErr r (RefusesStepping y) → IfErr r (RefusesOp n a x)
 op_refused n a x y (Ok u) offers refused = tt
 op_refused n a x y (Err (reading.Dropped id fault)) offers refused = record {
   offered = y;
@@ -339,13 +337,13 @@ pub denotes_read : (bytes : List ℕ) (r : Got Op) (a : Op)
 denotes_read bytes r a (inl e) f = let g = sym e ∙ f in absurd cc
 denotes_read bytes r a (inr e) f = sym e ∙ f
 
-pub line_taken : (bytes : List ℕ) (x z : SiteState) (a : Op) (r : Result ⊤ ReadingError)
+pub line_taken : (bytes : List ℕ) (x z : ReplicaState) (a : Op) (r : Result ⊤ ReadingError)
     → denoted bytes ≡ Ok a → OnOk r (TakesOp a x z) → OnOk r (TakesLine bytes x z)
 line_taken bytes x z a (Ok u) denotes takes = record { op = a; denotes = denotes; takes = takes }
 line_taken bytes x z a (Err e) denotes takes = tt
 
 -- a line whose operation is refused is refused for that
-pub line_refused : (n : ℕ) (bytes : List ℕ) (x : SiteState) (a : Op) (r : Result ⊤ ReadingError)
+pub line_refused : (n : ℕ) (bytes : List ℕ) (x : ReplicaState) (a : Op) (r : Result ⊤ ReadingError)
     → denoted bytes ≡ Ok a → IfErr r (RefusesOp n a x) → IfErr r (RefusesLine n bytes x)
 line_refused n bytes x a (Ok u) denotes refused = tt
 line_refused n bytes x a (Err (reading.Line m cause.Clash)) denotes refused = (

@@ -4,7 +4,7 @@ use Rattle.std.specs.List.{AllZip}
 use Rattle.gf_ops.specs.Limits.{IsInRange}
 use Rattle.gf_json.specs.OperationLines.{denoted}
 use Rattle.gf_json.specs.declared.line_error.LineError.TheVariants as fault
-use Rattle.gf_site.specs.SiteState.{SiteState}
+use Rattle.gf_site.specs.ReplicaState.{ReplicaState}
 use Rattle.gf_replay.specs.declared.blocks.Reading.{Reading}
 use Rattle.gf_replay.specs.declared.reading_error.ReadingError.{ReadingError}
 use Rattle.gf_replay.specs.LineSteps.{HasRead}
@@ -41,17 +41,16 @@ pub record IsBlock (lines : List (ℕ × List ℕ)) (readings : List Reading)
 
 -- all lines before those of the readings were taken, and behind these come the others
 pub record IsBefore (text : List ℕ) (readings : List Reading) (others : List (ℕ × List ℕ))
-    (x : SiteState) : Type 0 where
+    (x : ReplicaState) : Type 0 where
   pub lines : List (ℕ × List ℕ)
   pub read : HasRead text lines x
   pub first : AreFirstReadings lines readings
   pub behind : others ≡ drop (length readings) lines
 
--- the site takes what was read, or refuses it
-pub record TakesBlock (readings : List Reading) (x : SiteState)
-    (result : Result SiteState ReadingError) : Type 0 where
+-- the replica takes what was read, or refuses it
+pub record TakesBlock (readings : List Reading) (x : ReplicaState)
+    (result : Result ReplicaState ReadingError) : Type 0 where
   pub ok : (text : List ℕ) (others : List (ℕ × List ℕ)) → IsBefore text readings others x
       → IfOk result (HasRead text others)
-  pub number : IfOk result (λ y. y.number ≡ x.number)
   pub err : (text : List ℕ) (others : List (ℕ × List ℕ)) → IsBefore text readings others x
       → IfErr result (RefusesText text)

@@ -1,7 +1,6 @@
-//! From the bytes of operation lines to a site that has their operations.
+//! From the bytes of operation lines to a replica that has their operations.
 //!
-//! - [`read_replica`]: receives the operation of each line, and steps until nothing is ready;
-//!   [`read_site`]: the same, with the table of the versions.
+//! - [`read_replica`]: receives the operation of each line, and steps until nothing is ready.
 //! - [`take_op`]: receives one operation, and steps until nothing is ready.
 //! - [`line_refusal`]: the refusal of a line for its fault.
 //! - [`ReadingError`], [`LineCause`]: why lines are no history.
@@ -12,6 +11,6 @@ mod reading;
 mod reading_error;
 mod taking;
 
-pub use reading::{read_replica, read_site};
+pub use reading::read_replica;
 pub use reading_error::{LineCause, ReadingError};
 pub use taking::{line_refusal, take_op};

@@ -1,9 +1,8 @@
-//! From the lines of a text to a site.
+//! From the lines of a text to a replica.
 
-ghost use Rattle.std.specs.Prelude.{◌≡◌, ◌≤◌, List, ℕ, IfOk, IfErr, IsTrue, OnOk};
+ghost use Rattle.std.specs.Prelude.{◌≤◌, List, ℕ, IfOk, IfErr, IsTrue, OnOk};
 ghost use denote.Param.Send.{IsSync};
 ghost use Rattle.gf_ops.specs.Limits.{IsInRange};
-ghost use Rattle.gf_ops.specs.OperationOrder.{IsSite};
 ghost use Rattle.gf_replay.specs.Blocks.{AreOfLines, IsBefore, IsBlock, IsReading, TakesBlock};
 ghost use Rattle.gf_replay.specs.Denoting.{Denotes};
 ghost use Rattle.gf_replay.specs.Refusing.{RefusesText};
@@ -12,58 +11,40 @@ ghost use Rattle.gf_replay.specs.LineSteps.{HasRead, RefusesLine, TakesLine};
 
 use crate::blocks::{Block, Reading, read_block};
 use crate::{ReadingError, line_refusal, take_op};
-use gf_site::{Replica, Site, Table};
+use gf_site::{Replica, Table};
 use gf_streams::TextLines;
 use std::alloc::{AllocError, Global};
 use std::thread;
 use std::thread::Threads;
 
-/// A site whose history is that of the operations that the lines of a text denote, with the table
-/// of its versions. It is as [`read_replica`] makes it.
-pub fn read_site<R: Threads + Sync>(
-    rt: &R,
-    alloc: Global,
-    text: Vec<u8>,
-    workers: u8,
-) -> Result<Site, ReadingError>
-    requires { (1 ≤ workers) × (workers ≤ 16) }
-    ensures ok { IfOk result (λ site. Denotes text.items site.ops) }
-    ensures held { IfOk result (λ site. DenotesWaiting text.items site.ops site.held) }
-    ensures err { IfErr result (RefusesText text.items) }
-{
-    read_replica(rt, alloc, 1, text, workers)
-}
-
-/// The site of this number, whose history is that of the operations that the lines of a text
-/// denote. It holds each operation until all that this knows is there. What it holds at the end is
-/// no part of the history, and waits. The lines are read by 1 to 16 workers, and taken in order.
-/// The text's memory is given back as it is read.
+/// A replica whose history is that of the operations that the lines of a text denote. It holds each
+/// operation until all that this knows is there. What it holds at the end is no part of the
+/// history, and waits. The lines are read by 1 to 16 workers, and taken in order. The text's memory
+/// is given back as it is read.
 pub fn read_replica<R: Threads + Sync, T: Table>(
     rt: &R,
     alloc: Global,
-    number: u8,
     text: Vec<u8>,
     workers: u8,
 ) -> Result<Replica<T>, ReadingError>
-    requires site { IsSite number }
-    requires workers { (1 ≤ workers) × (workers ≤ 16) }
-    ensures ok { IfOk result (λ site. Denotes text.items site.ops) }
-    ensures held { IfOk result (λ site. DenotesWaiting text.items site.ops site.held) }
-    ensures number { IfOk result (λ site. site.number ≡ number) }
+    requires { (1 ≤ workers) × (workers ≤ 16) }
+    ensures ok { IfOk result (λ replica. Denotes text.items replica.ops) }
+    ensures held { IfOk result (λ replica.
+        DenotesWaiting text.items replica.ops replica.held) }
     ensures err { IfErr result (RefusesText text.items) }
 {
-    let mut site = Replica::new(alloc, number);
+    let mut replica = Replica::new(alloc);
     let Ok(mut block) = read_block(rt, alloc, TextLines::new(text), workers) else {
         return Err(ReadingError::OutOfMemory);
     };
     while !block.readings.is_empty() {
-        let next = take_and_read(rt, alloc, site, block, workers)?;
-        site = next.0;
+        let next = take_and_read(rt, alloc, replica, block, workers)?;
+        replica = next.0;
         block = next.1;
     }
     // The clause of `held` says that the held ids rise.
-    let _ = site.held();
-    Ok(site)
+    let _ = replica.held();
+    Ok(replica)
 }
 
 /// Takes what the lines of a block read as, and reads the next block. With several workers, one of
@@ -71,25 +52,24 @@ pub fn read_replica<R: Threads + Sync, T: Table>(
 fn take_and_read<R: Threads + Sync, T: Table>(
     rt: &R,
     alloc: Global,
-    site: Replica<T>,
+    replica: Replica<T>,
     block: Block,
     workers: u8,
 ) -> Result<(Replica<T>, Block), ReadingError>
     requires workers { 1 ≤ workers }
     requires block { AreOfLines block.readings.items }
-    ensures ok { (text : List ℕ) → IsBefore text block.readings.items block.behind site
+    ensures ok { (text : List ℕ) → IsBefore text block.readings.items block.behind replica
         → IfOk result (λ next. HasRead text block.behind next.0) }
-    ensures number { IfOk result (λ next. next.0.number ≡ site.number) }
     ensures block { IfOk result (λ next.
         IsBlock block.behind next.1.readings.items next.1.behind) }
-    ensures err { (text : List ℕ) → IsBefore text block.readings.items block.behind site
+    ensures err { (text : List ℕ) → IsBefore text block.readings.items block.behind replica
         → IfErr result (RefusesText text) }
 {
     let Block { readings, behind } = block;
     if !is_read_meanwhile(&behind, workers) {
-        let site = take_block(site, readings)?;
+        let replica = take_block(replica, readings)?;
         return match read_block(rt, alloc, behind, 1) {
-            Ok(block) => Ok((site, block)),
+            Ok(block) => Ok((replica, block)),
             Err(_) => Err(ReadingError::OutOfMemory),
         };
     }
@@ -102,12 +82,12 @@ fn take_and_read<R: Threads + Sync, T: Table>(
         { read_block(rt, alloc, behind, readers) },
         move || -> Result<Replica<T>, ReadingError>
             requires { AreOfLines readings.items }
-            ensures { TakesBlock readings.items site result }
-        { take_block(site, readings) },
+            ensures { TakesBlock readings.items replica result }
+        { take_block(replica, readings) },
     );
-    let site = taken?;
+    let replica = taken?;
     match next {
-        Ok(block) => Ok((site, block)),
+        Ok(block) => Ok((replica, block)),
         Err(_) => Err(ReadingError::OutOfMemory),
     }
 }
@@ -121,31 +101,30 @@ fn is_read_meanwhile(lines: &TextLines, workers: u8) -> bool
 
 /// Takes what the lines of a block read as, in order.
 fn take_block<T: Table>(
-    site: Replica<T>,
+    replica: Replica<T>,
     readings: Vec<Reading>,
 ) -> Result<Replica<T>, ReadingError>
     requires { AreOfLines readings.items }
-    ensures { TakesBlock readings.items site result }
+    ensures { TakesBlock readings.items replica result }
 {
-    let mut site = site;
+    let mut replica = replica;
     for reading in readings {
-        take_reading(&mut site, reading)?;
+        take_reading(&mut replica, reading)?;
     }
-    Ok(site)
+    Ok(replica)
 }
 
 /// Takes what a line reads as.
-fn take_reading<T: Table>(site: &mut Replica<T>, reading: Reading) -> Result<(), ReadingError>
+fn take_reading<T: Table>(replica: &mut Replica<T>, reading: Reading) -> Result<(), ReadingError>
     requires { IfOk reading.op (λ op. IsInRange op) }
     ensures ok { (line : ℕ × List ℕ) → IsReading line reading →
-        OnOk result (TakesLine line.1 site.old site.new) }
-    ensures number { OnOk result (site.new.number ≡ site.old.number) }
+        OnOk result (TakesLine line.1 replica.old replica.new) }
     ensures err { (line : ℕ × List ℕ) → IsReading line reading →
-        IfErr result (RefusesLine line.0 line.1 site.old) }
+        IfErr result (RefusesLine line.0 line.1 replica.old) }
 {
     let Reading { number, op } = reading;
     match op {
-        Ok(op) => take_op(site, number, op),
+        Ok(op) => take_op(replica, number, op),
         Err(fault) => Err(line_refusal(number, fault)),
     }
 }

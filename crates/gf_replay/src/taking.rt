@@ -2,8 +2,8 @@
 
 ghost use Rattle.std.specs.Prelude.{◌≡◌, IfErr, OnOk};
 ghost use Rattle.gf_ops.specs.Limits.{IsInRange};
-ghost use Rattle.gf_replay.specs.LineSteps.{RefusesSettling};
-ghost use Rattle.gf_replay.specs.Taking.{RefusesOp, Settles, TakesOp, of_line};
+ghost use Rattle.gf_replay.specs.LineSteps.{RefusesStepping};
+ghost use Rattle.gf_replay.specs.Taking.{RefusesOp, StepsAll, TakesOp, of_line};
 
 use crate::{LineCause, ReadingError};
 use gf_base::OutOfMemory;
@@ -13,14 +13,14 @@ use gf_ops::Op;
 use gf_site::{Replica, Step, Table};
 
 /// Receives the operation of the line of this number, and steps until nothing is ready. After an
-/// error nothing is promised of the site.
-pub fn take_op<T: Table>(site: &mut Replica<T>, number: u64, op: Op) -> Result<(), ReadingError>
+/// error nothing is promised of the replica.
+pub fn take_op<T: Table>(replica: &mut Replica<T>, number: u64, op: Op) -> Result<(), ReadingError>
     requires { IsInRange op }
-    ensures ok { OnOk result (TakesOp op site.old site.new) }
-    ensures err { IfErr result (RefusesOp number op site.old) }
+    ensures ok { OnOk result (TakesOp op replica.old replica.new) }
+    ensures err { IfErr result (RefusesOp number op replica.old) }
 {
-    match site.receive(op) {
-        Ok(_) => settle(site),
+    match replica.receive(op) {
+        Ok(_) => step_all(replica),
         Err(OfferFault::Clash) => Err(ReadingError::Line(number, LineCause::Clash)),
         Err(OfferFault::Range) => unreachable!(),
         Err(OfferFault::OutOfMemory) => Err(ReadingError::OutOfMemory),
@@ -40,16 +40,15 @@ pub fn line_refusal(number: u64, fault: LineError) -> ReadingError
 }
 
 /// Steps until nothing is ready.
-fn settle<T: Table>(site: &mut Replica<T>) -> Result<(), ReadingError>
-    ensures ok { OnOk result (Settles site.old site.new) }
-    ensures number { OnOk result (site.new.number ≡ site.old.number) }
-    ensures err { IfErr result (RefusesSettling site.old) }
+fn step_all<T: Table>(replica: &mut Replica<T>) -> Result<(), ReadingError>
+    ensures ok { OnOk result (StepsAll replica.old replica.new) }
+    ensures err { IfErr result (RefusesStepping replica.old) }
 {
     loop {
-        // The clauses of both calls say what every site keeps.
-        let _ = site.history();
-        let _ = site.held();
-        match site.step() {
+        // The clauses of both calls say what every replica keeps.
+        let _ = replica.history();
+        let _ = replica.held();
+        match replica.step() {
             Ok(Step::Applied(_)) => {}
             Ok(Step::Dropped(id, fault)) => return Err(ReadingError::Dropped(id, fault)),
             Ok(Step::Idle) => return Ok(()),

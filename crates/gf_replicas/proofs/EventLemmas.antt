@@ -101,23 +101,25 @@ module _ (n : ℕ) (sites : List SiteState) (messages : List Op) (k : ℕ) (h : 
         not_added = λ b d. fresh_id h ready a accepted b d;
       }) (record { before = []; after = []; without = refl; with_it = refl }))) in
       let stepped = next offered
-      (applies {s = suc k} {i = a.id} (got_set_same sites k held (resting k h) at) (record {
-        op = a;
-        id = refl;
-        takes = record {
-          first = record {
-            contained = Contains-cons_head a [];
-            ready = accepted_ready h a accepted;
-            least = λ b d r. least_ready h a b (accepted_ready h a accepted) r
-                (subst (λ (x : Op). a.id.site ≤ x.id.site) (sym (only_one a b d)) (omega arith));
+      (applies {s = suc k} {i = a.id} (got_set_same sites k held (resting k h) at) (
+        record {
+          op = a;
+          id = refl;
+          takes = record {
+            first = record {
+              contained = Contains-cons_head a [];
+              ready = accepted_ready h a accepted;
+              least = λ b d r. least_ready h a b (accepted_ready h a accepted) r
+                  (subst (λ (x : Op). a.id.site ≤ x.id.site) (sym (only_one a b d)) (omega arith));
+            };
+            in_range = in_range;
+            taken = record { before = []; after = []; without = refl; with_it = refl };
           };
-          in_range = in_range;
-          taken = record { before = []; after = []; without = refl; with_it = refl };
-          number = refl;
-        };
-        accepted = accepted;
-        ops = refl;
-      })) in
+          accepted = accepted;
+          ops = refl;
+        },
+        refl,
+      )) in
       record {
         events = (w.events ++ Offer (suc k) m.0 ∷ []) ++ Step (suc k) ∷ [];
         offers = (w.offers ++ offer_in messages (Offer (suc k) m.0)) ++ [];

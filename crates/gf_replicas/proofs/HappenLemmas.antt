@@ -20,12 +20,12 @@ use Rattle.gf_causal.specs.HeldOperations.{HasOther, IsClash, IsKnown, IsNew, Ad
 use Rattle.gf_causal.proofs.PartLemmas.{part_accepts}
 use Rattle.gf_site.specs.declared.faults.AuthorFault.{AuthorFault}
 use Rattle.gf_site.specs.declared.faults.AuthorFault.TheVariants as fault
-use Rattle.gf_site.specs.declared.site.Step.{Step}
-use Rattle.gf_site.specs.declared.site.Step.TheVariants.{Applied, Dropped, Idle}
+use Rattle.gf_site.specs.declared.replica.Step.{Step}
+use Rattle.gf_site.specs.declared.replica.Step.TheVariants.{Applied, Dropped, Idle}
 use Rattle.gf_site.specs.SiteState.{SiteState}
 use Rattle.gf_site.specs.Events.{Refuses, Authors, Steps, ForgetsReady}
 use Rattle.gf_site.proofs.CourseLemmas.{course_ready}
-use Rattle.gf_site.proofs.StepLemmas.{not_refused}
+use Rattle.gf_site.proofs.StepLemmas.{not_refused, same_site}
 use Rattle.gf_replicas.specs.declared.event.Event.TheVariants.{Author, Offer, Step as step_event}
 use Rattle.gf_replicas.specs.World.{WorldState, site_at, with_site, Receives, already, holds}
 use Rattle.gf_replicas.specs.World.{Happens, authors, refuses, receives, applies, idle}
@@ -85,10 +85,10 @@ received messages s x y a (Err OutOfMemory) valid w there m range clash known he
 never_dropped : (messages : List Op) (s : ℕ) (x y : SiteState) (i : OpId) (f : OpFault)
     → IsValid messages → IsSiteOf messages s x → ¬ (ForgetsReady x i f y)
 never_dropped messages s x y i f valid w d =
-    let first = d.takes.first in
-    let accepted = part_accepts messages x.ops valid w.has (course_ready w.course) d.op
-    (w.holds d.op first.contained) first.ready in
-    not_refused x.ops d.op f accepted d.refused
+    let first = d.0.takes.first in
+    let accepted = part_accepts messages x.ops valid w.has (course_ready w.course) d.0.op
+    (w.holds d.0.op first.contained) first.ready in
+    not_refused x.ops d.0.op f accepted d.0.refused
 
 module _ (world : WorldState) (n k : ℕ) (e : n ≡ k + 1) (x y : SiteState)
     (at : slice_get world.sites k ≡ Some x) where
@@ -144,4 +144,4 @@ module _ (world : WorldState) (n k : ℕ) (e : n ≡ k + 1) (x y : SiteState)
       (sound.sites n x there) t)
   steps_here Idle sound t = subst
       (λ l. Happens world (step_event n) (record { sites = l; messages = world.messages }))
-      (sym (unchanged t.1)) (idle there t.0)
+      (sym (unchanged (same_site x y t.0.1 t.1))) (idle there t.0.0)

@@ -19,12 +19,12 @@ use Rattle.gf_causal.proofs.ListLemmas.{Contains-between_cases}
 use Rattle.gf_causal.proofs.PartLemmas.{part_accepts}
 use Rattle.gf_causal.proofs.StandingLemmas.{one_of_pairs}
 use Rattle.gf_causal.proofs.WholeLemmas.{whole_delivered}
-use Rattle.gf_site.specs.declared.site.Step.{Step}
-use Rattle.gf_site.specs.declared.site.Step.TheVariants.{Applied, Dropped, Idle}
+use Rattle.gf_site.specs.declared.replica.Step.{Step}
+use Rattle.gf_site.specs.declared.replica.Step.TheVariants.{Applied, Dropped, Idle}
 use Rattle.gf_site.specs.SiteState.{SiteState, new_site}
 use Rattle.gf_site.specs.Events.{Steps, Applies, ForgetsReady}
 use Rattle.gf_site.proofs.CourseLemmas.{course_ready}
-use Rattle.gf_site.proofs.StepLemmas.{not_refused}
+use Rattle.gf_site.proofs.StepLemmas.{not_refused, same_site}
 use Rattle.gf_replicas.specs.declared.event.Event.{Event}
 use Rattle.gf_replicas.specs.declared.event.Event.TheVariants.{Author, Offer, Step as step_event}
 use Rattle.gf_replicas.specs.World.{WorldState, site_at, with_site, Receives, already, holds}
@@ -73,15 +73,15 @@ receives_has x y a (holds {more} n adds) = inl (subst (λ l. Contains l a) (sym 
 
 applies_keep : (x y : SiteState) (i : OpId) (b : Op) → Applies x i y → Keeps x b → Keeps y b
 applies_keep x y i b t (inl m) =
-    let adds = t.takes.taken in
-    elim (Contains-between_cases adds.before t.op adds.after b
+    let adds = t.0.takes.taken in
+    elim (Contains-between_cases adds.before t.0.op adds.after b
     (subst (λ l. Contains l b) adds.with_it m)) [
-      | inl e ↦ inr (subst (λ l. Contains l b) (sym t.ops)
-          (subst (Contains (x.ops ++ t.op ∷ [])) (sym e) (Contains-push x.ops t.op)))
+      | inl e ↦ inr (subst (λ l. Contains l b) (sym t.0.ops)
+          (subst (Contains (x.ops ++ t.0.op ∷ [])) (sym e) (Contains-push x.ops t.0.op)))
       | inr k ↦ inl (subst (λ l. Contains l b) (sym adds.without) k)
     ]
 applies_keep x y i b t (inr m) = inr
-    (subst (λ l. Contains l b) (sym t.ops) (Contains-append_left x.ops (t.op ∷ []) b m))
+    (subst (λ l. Contains l b) (sym t.0.ops) (Contains-append_left x.ops (t.0.op ∷ []) b m))
 
 -- ---- a world
 
@@ -230,11 +230,12 @@ fed_offer h offers x y a f there (holds {more} n adds) = record {
 fed_applies : (h offers : List Op) (x y : SiteState) (i : OpId) → IsFed h offers x → Applies x i y
     → IsFed h offers y
 fed_applies h offers x y i f t =
-    let first = t.takes.first in
-    let grown = delivery-push h x.ops t.op f.delivery (f.holds t.op first.contained) first.ready in
+    let first = t.0.takes.first in
+    let grown = delivery-push h x.ops t.0.op f.delivery (f.holds t.0.op first.contained)
+    first.ready in
     record {
-      delivery = subst (IsDelivery h) (sym t.ops) grown;
-      holds = λ a m. f.holds a (taken_from y.held t.op x.held t.takes.taken a m);
+      delivery = subst (IsDelivery h) (sym t.0.ops) grown;
+      holds = λ a m. f.holds a (taken_from y.held t.0.op x.held t.0.takes.taken a m);
       all = λ a m. applies_keep x y i a t (f.all a m);
     }
 
@@ -242,15 +243,15 @@ fed_applies h offers x y i f t =
 fed_drops : (h offers : List Op) (x y : SiteState) (i : OpId) (f : OpFault) → IsValid h
     → IsFed h offers x → ¬ (ForgetsReady x i f y)
 fed_drops h offers x y i f valid k d =
-    let first = d.takes.first in
-    not_refused x.ops d.op f (part_accepts h x.ops valid k.delivery.from_offered k.delivery.in_turn
-    d.op (k.holds d.op first.contained) first.ready) d.refused
+    let first = d.0.takes.first in
+    not_refused x.ops d.0.op f (part_accepts h x.ops valid k.delivery.from_offered
+    k.delivery.in_turn d.0.op (k.holds d.0.op first.contained) first.ready) d.0.refused
 
 fed_steps : (h offers : List Op) (x y : SiteState) (s : Step) → IsValid h → IsFed h offers x
     → Steps x s y → IsFed h offers y
 fed_steps h offers x y (Applied i) valid f t = fed_applies h offers x y i f t
 fed_steps h offers x y (Dropped i g) valid f t = absurd (fed_drops h offers x y i g valid f t)
-fed_steps h offers x y Idle valid f t = subst (IsFed h offers) (sym t.1) f
+fed_steps h offers x y Idle valid f t = subst (IsFed h offers) (sym (same_site x y t.0.1 t.1)) f
 
 fed : {n : ℕ} {h offers : List Op} {x : SiteState} → IsValid h → IsOffered n h offers x
     → IsFed h offers x

@@ -89,14 +89,16 @@ not_own messages s x a w there accepted e = fresh_id x.ops (course_ready w.cours
 site_applies : (messages : List Op) (s : ℕ) (x y : SiteState) (i : OpId) → IsSiteOf messages s x
     → Applies x i y → IsSiteOf messages s y
 site_applies messages s x y i w t =
-    let there = w.holds t.op t.takes.first.contained in
-    let valid = valid_push x.ops (course_accepted w.course) (course_valid w.course) t.op
-    t.takes.in_range t.accepted in
-    let sound = site_adds messages s x t.op y.held w there t.accepted valid
-    (λ e. absurd (not_own messages s x t.op w there t.accepted e))
-    (taken_from y.held t.op x.held t.takes.taken) in
+    let a = t.0.op in
+    let k = t.0.takes in
+    let there = w.holds a k.first.contained in
+    let valid = valid_push x.ops (course_accepted w.course) (course_valid w.course) a k.in_range
+    t.0.accepted in
+    let sound = site_adds messages s x a y.held w there t.0.accepted valid
+    (λ e. absurd (not_own messages s x a w there t.0.accepted e))
+    (taken_from y.held a x.held k.taken) in
     subst (IsSiteOf messages s)
-    (λ j. record { number = sym t.takes.number j; ops = sym t.ops j; held = y.held }) sound
+    (λ j. record { number = sym t.1 j; ops = sym t.0.ops j; held = y.held }) sound
 
 -- ---- what a site makes
 

@@ -2,7 +2,7 @@
 -- project's choice, over causal delivery).
 use Rattle.std.specs.Prelude.{ℕ, List, [], ◌∷◌, ◌++◌, Contains}
 use Rattle.gf_ops.specs.declared.op.Op.{Op}
-use Rattle.gf_site.specs.declared.site.Step.{Step}
+use Rattle.gf_site.specs.declared.replica.Step.{Step}
 use Rattle.gf_site.specs.SiteState.{SiteState, new_site}
 use Rattle.gf_site.specs.Events.{Steps}
 use Rattle.gf_replicas.specs.World.{Receives}

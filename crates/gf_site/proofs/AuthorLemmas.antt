@@ -1,15 +1,17 @@
 -- The operation that a site makes of a change.
-use Rattle.std.proofs.Common.{◌≡◌, ℕ, zero, suc, ◌+◌, ◌<◌, Bool, true, false, ◌&&◌, List, refl}
-use Rattle.std.proofs.Common.{arith}
+use Rattle.std.proofs.Common.{◌≡◌, ◌∙◌, ℕ, zero, suc, ◌+◌, ◌<◌, Bool, true, false, ◌&&◌, List}
+use Rattle.std.proofs.Common.{[], ◌∷◌, ◌++◌, ap, arith, refl, subst, sym}
 use Rattle.std.specs.Prelude.{IsTrue, nat_le}
 use Rattle.std.proofs.lemmas.Bool.{le-leb}
 use Rattle.gf_ops.specs.declared.op.Op.{Op}
 use Rattle.gf_ops.specs.declared.change.Change.{Change}
 use Rattle.gf_ops.specs.Limits.{is_clock, is_change, IsInRange}
 use Rattle.gf_ops.specs.OperationOrder.{IsSite, entry, count_of}
-use Rattle.gf_ops.specs.Accepted.{IsNext, AreAccepted}
+use Rattle.gf_ops.specs.Accepted.{IsAccepted, IsNext, AreAccepted}
 use Rattle.gf_ops.specs.ValidHistory.{IsValid}
-use Rattle.gf_site.specs.SiteState.{clock_of, authored}
+use Rattle.gf_site.specs.ReplicaState.{ReplicaState}
+use Rattle.gf_site.specs.SiteState.{at_site, clock_of, authored}
+use Rattle.gf_site.specs.Events.{Authors}
 use Rattle.gf_site.proofs.CourseLemmas.{count_most, known_most}
 
 -- an entry of the clock is the count of that site
@@ -58,3 +60,15 @@ module _ (h : List Op) (run : AreAccepted h) (valid : IsValid h) where
     closed = λ b m p t j. let e = entry-clock_of h t j in let k = known_most h run valid b m t j in
         omega arith;
   }
+
+-- a copy of the operation that a replica adds is what its site made
+pub authors_copy : (n : ℕ) (x y : ReplicaState) (h : List Op) (c : Change) (a copy : Op)
+    → h ≡ x.ops → a ≡ authored n h c → IsInRange a → IsAccepted h a → copy ≡ a
+    → y ≡ record x { ops = x.ops ++ a ∷ [] } → Authors (at_site n x) c copy (at_site n y)
+authors_copy n x y h c a copy e is fits accepted same more = record {
+  is = same ∙ is ∙ ap (λ h. authored n h c) e;
+  in_range = subst IsInRange (sym same) fits;
+  accepted = subst (λ h. IsAccepted h copy) e (subst (IsAccepted h) (sym same) accepted);
+  state = ap (at_site n) more
+      ∙ ap (λ b. record { number = n; ops = x.ops ++ b ∷ []; held = x.held }) (sym same);
+}

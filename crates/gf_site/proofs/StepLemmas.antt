@@ -8,6 +8,7 @@ use Rattle.gf_ops.specs.declared.change.Change.{Change}
 use Rattle.gf_ops.specs.declared.change.Change.TheVariants.{Create, Set}
 use Rattle.gf_ops.specs.KnownObject.{IsFounded, IsSuited}
 use Rattle.gf_ops.specs.Accepted.{IsAccepted, IsRefused, AreAccepted, next}
+use Rattle.gf_site.specs.SiteState.{SiteState, replica_of}
 
 -- an accepted operation goes on
 pub run_more : (h old new : List Op) (a : Op) → AreAccepted h → old ≡ h → IsAccepted h a
@@ -49,3 +50,9 @@ not_refused h a BadClock c r = r c.next
 not_refused h a NoObject c r = r.1 (founded h a a.change c.suited)
 not_refused h a WrongKind c r = r.2 c.suited
 not_refused h a BadAim c r = r.2 c.aimed
+
+-- ---- at a site
+
+-- a site whose replica and number stay is the same
+pub same_site : (x y : SiteState) → replica_of y ≡ replica_of x → y.number ≡ x.number → y ≡ x
+same_site x y e n = λ i. record { number = n i; ops = (e i).ops; held = (e i).held }

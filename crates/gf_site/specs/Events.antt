@@ -1,5 +1,4 @@
--- What happens at one site: a change is made, an operation is offered, or the site steps (this
--- project's choice).
+-- What happens at one site: a change is made, or the site steps (this project's choice).
 use Rattle.std.specs.Prelude.{◌≡◌, ◌<◌, ◌≤◌, ℕ, List, [], ◌∷◌, ◌++◌}
 use Rattle.std.specs.Prelude.{IsTrue}
 use Rattle.gf_ops.specs.declared.op.Op.{Op}
@@ -10,14 +9,12 @@ use Rattle.gf_ops.specs.Aims.{IsAimed}
 use Rattle.gf_ops.specs.Limits.{is_change, IsInRange}
 use Rattle.gf_ops.specs.OperationOrder.{count_of}
 use Rattle.gf_ops.specs.KnownObject.{IsFounded, IsSuited}
-use Rattle.gf_ops.specs.Accepted.{IsAccepted, IsRefused}
-use Rattle.gf_causal.specs.Ready.{NoneIsReady}
-use Rattle.gf_causal.specs.HeldOperations.{Adds, IsFirstReady}
+use Rattle.gf_ops.specs.Accepted.{IsAccepted}
 use Rattle.gf_site.specs.declared.faults.AuthorFault.{AuthorFault}
 use Rattle.gf_site.specs.declared.faults.AuthorFault.TheVariants as fault
-use Rattle.gf_site.specs.declared.site.Step.{Step}
-use Rattle.gf_site.specs.declared.site.Step.TheVariants as step
-use Rattle.gf_site.specs.SiteState.{SiteState, authored}
+use Rattle.gf_site.specs.declared.replica.Step.{Step}
+use Rattle.gf_site.specs.ReplicaSteps.{AppliesNext, ForgetsNext, StepsOnce}
+use Rattle.gf_site.specs.SiteState.{SiteState, authored, replica_of}
 
 -- site s with the history h may make an operation, and the change c keeps the limits
 pub record IsFit (s : ℕ) (h : List Op) (c : Change) : Type 0 where
@@ -44,37 +41,15 @@ pub record Authors (old : SiteState) (c : Change) (a : Op) (new : SiteState) : T
   pub accepted : IsAccepted old.ops a
   pub state : new ≡ record old { ops = old.ops ++ a ∷ [] }
 
--- the site took out a, which of the held operations that were ready had the least id
-pub record Takes (old : SiteState) (a : Op) (new : SiteState) : Type 0 where
-  pub first : IsFirstReady old.held old.ops a
-  pub in_range : IsInRange a
-  pub taken : Adds new.held a old.held
-  pub number : new.number ≡ old.number
+-- the site adds its ready operation with the least id, which has the id i
+abbrev pub Applies : SiteState → OpId → SiteState → Type 0
+Applies old i new = AppliesNext (replica_of old) i (replica_of new) × (new.number ≡ old.number)
 
--- the site took out the ready operation with the least id, which has the id i, and added it
-pub record Applies (old : SiteState) (i : OpId) (new : SiteState) : Type 0 where
-  pub op : Op
-  pub id : op.id ≡ i
-  pub takes : Takes old op new
-  pub accepted : IsAccepted old.ops op
-  pub ops : new.ops ≡ old.ops ++ op ∷ []
-
--- the site forgot the ready operation with the least id, which is i, since its check failed with f
-pub record ForgetsReady (old : SiteState) (i : OpId) (f : OpFault) (new : SiteState) : Type 0 where
-  pub op : Op
-  pub id : op.id ≡ i
-  pub takes : Takes old op new
-  pub refused : IsRefused old.ops op f
-  pub ops : new.ops ≡ old.ops
+-- the site forgets its ready operation with the least id, which is i, since its check failed with f
+abbrev pub ForgetsReady : SiteState → OpId → OpFault → SiteState → Type 0
+ForgetsReady old i f new =
+    ForgetsNext (replica_of old) i f (replica_of new) × (new.number ≡ old.number)
 
 -- what a step did
 abbrev pub Steps : SiteState → Step → SiteState → Type 0
-Steps old (step.Applied i) new = Applies old i new
-Steps old (step.Dropped i f) new = ForgetsReady old i f new
-Steps old step.Idle new = NoneIsReady old.ops old.held × (new ≡ old)
-
--- the site has a ready operation that its history accepts
-pub record HasNext (x : SiteState) : Type 0 where
-  pub op : Op
-  pub first : IsFirstReady x.held x.ops op
-  pub accepted : IsAccepted x.ops op
+Steps old s new = StepsOnce (replica_of old) s (replica_of new) × (new.number ≡ old.number)

@@ -5,12 +5,21 @@ use Rattle.gf_ops.specs.declared.op.Op.{Op}
 use Rattle.gf_ops.specs.declared.op.Clock.{Clock}
 use Rattle.gf_ops.specs.declared.change.Change.{Change}
 use Rattle.gf_ops.specs.OperationOrder.{count_of}
+use Rattle.gf_site.specs.ReplicaState.{ReplicaState}
 
 -- the number, the operations in the order of adding, and the held operations, rising by id
 pub record SiteState : Type 0 where
   pub number : ℕ
   pub ops : List Op
   pub held : List Op
+
+-- the site of the number n that has and holds what the replica does
+abbrev pub at_site : ℕ → ReplicaState → SiteState
+at_site n x = record { number = n; ops = x.ops; held = x.held }
+
+-- what the site has and holds
+abbrev pub replica_of : SiteState → ReplicaState
+replica_of x = record { ops = x.ops; held = x.held }
 
 -- the site of the number n, which has and holds nothing
 abbrev pub new_site : ℕ → SiteState

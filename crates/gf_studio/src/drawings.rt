@@ -16,9 +16,9 @@ use crate::StudioError;
 use gf_drawing::{CompileFault, MOST_VERSIONS, compile};
 use gf_fig_read::read_fig;
 use gf_figures::Drawing;
-use gf_replay::read_site;
+use gf_replay::read_replica;
 use gf_shape::{AnyShape, OutOfMemory, Outline};
-use gf_site::Site;
+use gf_site::Replica;
 use gf_streams::{Source, read_input};
 use gf_versions::Ranked;
 use gf_visible::ranked_within;
@@ -94,27 +94,30 @@ fn draw<T: Threads + Sync>(
     ensures refused { IfErr result (RefusesLines bytes.items) }
     ensures between { IfErr result IsBetween }
 {
-    let site = read_site(rt, alloc, bytes, workers)?;
-    let drawing = draw_site(alloc, &site)?;
-    let waiting = site.held();
+    let replica = read_replica(rt, alloc, bytes, workers)?;
+    let drawing = draw_replica(alloc, &replica)?;
+    let waiting = replica.held();
     Ok(DrawnLines { drawing, waiting })
 }
 
-/// The drawing of a site's history.
-pub fn draw_site(alloc: Global, site: &Site) -> Result<Drawing<AnyShape>, CompileFault>
-    ensures ok { IfOk result (λ drawing. IsDrawn site.now.ops drawing) }
-    ensures err { IfErr result (RefusesHistory site.now.ops) }
+/// The drawing of a replica's history.
+pub fn draw_replica(alloc: Global, replica: &Replica) -> Result<Drawing<AnyShape>, CompileFault>
+    ensures ok { IfOk result (λ drawing. IsDrawn replica.now.ops drawing) }
+    ensures err { IfErr result (RefusesHistory replica.now.ops) }
 {
-    let ranked = ranked_site(alloc, site)?;
+    let ranked = ranked_replica(alloc, replica)?;
     compile(alloc, ranked)
 }
 
-/// The visible versions of a site's history, if they are no more than a drawing has.
-pub(crate) fn ranked_site(alloc: Global, site: &Site) -> Result<Ranked<AnyShape>, CompileFault>
-    ensures ranked { IfOk result (λ ranked. AreRanked site.now.ops ranked.items.items) }
-    ensures err { IfErr result (RefusesHistory site.now.ops) }
+/// The visible versions of a replica's history, if they are no more than a drawing has.
+pub(crate) fn ranked_replica(
+    alloc: Global,
+    replica: &Replica,
+) -> Result<Ranked<AnyShape>, CompileFault>
+    ensures ranked { IfOk result (λ ranked. AreRanked replica.now.ops ranked.items.items) }
+    ensures err { IfErr result (RefusesHistory replica.now.ops) }
 {
-    listed(ranked_within(alloc, &site.versions(), MOST_VERSIONS))
+    listed(ranked_within(alloc, &replica.versions(), MOST_VERSIONS))
 }
 
 /// The list that was made, or why there is none.

@@ -11,9 +11,9 @@ use crate::{StudioError, input};
 use gf_groups::GroupFault;
 use gf_inspect::{lines, top_at_with, top_line, versions_with};
 use gf_ops::ObjectId;
-use gf_replay::read_site;
+use gf_replay::read_replica;
 use gf_shape::{OutOfMemory, Point};
-use gf_site::Site;
+use gf_site::Replica;
 use gf_streams::{Sink, SinkFault, Source, write_whole};
 use std::alloc::Global;
 use std::thread::Threads;
@@ -92,18 +92,18 @@ fn answer<T: Threads + Sync>(
     ensures refused { IfErr result (RefusesAnswer query bytes.items) }
     ensures between { IfErr result IsBetween }
 {
-    let site = read_site(rt, alloc, bytes, workers)?;
-    tell(alloc, &site, query)
+    let replica = read_replica(rt, alloc, bytes, workers)?;
+    tell(alloc, &replica, query)
 }
 
-/// The text that answers a query about the history of a site.
-fn tell(alloc: Global, site: &Site, query: Query) -> Result<Vec<u8>, StudioError>
-    ensures ok { IfOk result (λ text. Tells site.now.ops query text.items) }
-    ensures err { IfErr result (RefusesQuery site.now.ops query) }
+/// The text that answers a query about the history of a replica.
+fn tell(alloc: Global, replica: &Replica, query: Query) -> Result<Vec<u8>, StudioError>
+    ensures ok { IfOk result (λ text. Tells replica.now.ops query text.items) }
+    ensures err { IfErr result (RefusesQuery replica.now.ops query) }
 {
     match query {
-        Query::Object(object) => tell_versions(alloc, site, object),
-        Query::At(point) => match tell_top(alloc, site, point) {
+        Query::Object(object) => tell_versions(alloc, replica, object),
+        Query::At(point) => match tell_top(alloc, replica, point) {
             Ok(text) => Ok(text),
             Err(OutOfMemory) => Err(StudioError::OutOfMemory),
         },
@@ -111,11 +111,11 @@ fn tell(alloc: Global, site: &Site, query: Query) -> Result<Vec<u8>, StudioError
 }
 
 /// The lines of the versions of an object.
-fn tell_versions(alloc: Global, site: &Site, object: ObjectId) -> Result<Vec<u8>, StudioError>
-    ensures ok { IfOk result (λ text. TellsVersions site.now.ops object text.items) }
-    ensures err { IfErr result (RefusesQuery site.now.ops (Query.Object object)) }
+fn tell_versions(alloc: Global, replica: &Replica, object: ObjectId) -> Result<Vec<u8>, StudioError>
+    ensures ok { IfOk result (λ text. TellsVersions replica.now.ops object text.items) }
+    ensures err { IfErr result (RefusesQuery replica.now.ops (Query.Object object)) }
 {
-    match versions_with(alloc, &site.versions(), object) {
+    match versions_with(alloc, &replica.versions(), object) {
         Ok(versions) => match lines(alloc, versions.as_slice()) {
             Ok(text) => Ok(text),
             Err(OutOfMemory) => Err(StudioError::OutOfMemory),
@@ -126,9 +126,9 @@ fn tell_versions(alloc: Global, site: &Site, object: ObjectId) -> Result<Vec<u8>
 }
 
 /// The line of the version on top at a point.
-fn tell_top(alloc: Global, site: &Site, point: Point) -> Result<Vec<u8>, OutOfMemory>
-    ensures { IfOk result (λ text. TellsTop site.now.ops point text.items) }
+fn tell_top(alloc: Global, replica: &Replica, point: Point) -> Result<Vec<u8>, OutOfMemory>
+    ensures { IfOk result (λ text. TellsTop replica.now.ops point text.items) }
 {
-    let name = top_at_with(alloc, &site.versions(), point)?;
+    let name = top_at_with(alloc, &replica.versions(), point)?;
     top_line(alloc, point, name.as_ref())
 }

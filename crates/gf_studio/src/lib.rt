@@ -8,7 +8,7 @@
 //! - [`paint_run`]: reads operation lines and writes the picture of their drawing in a [`Window`].
 //! - [`repaint_run`]: reads a FIG text and writes the picture of the drawing that it reads as.
 //! - [`inspect_run`]: reads operation lines and writes what their history answers to a [`Query`].
-//! - [`input`], [`draw_site`]: what a run begins with, and the drawing of a site's history.
+//! - [`input`], [`draw_replica`]: what a run begins with, and the drawing of a replica's history.
 //! - [`drawing_of_lines`], [`drawing_of_fig`]: the drawing that the bytes of a source denote; of
 //!   lines it is [`DrawnLines`], with how many operations wait.
 //! - [`the_same_operations_draw_alike`], [`the_same_histories_draw_alike`]: the laws that neither
@@ -30,7 +30,7 @@ mod naming;
 mod runs;
 mod studio_error;
 
-pub use drawings::{DrawnLines, draw_site, drawing_of_fig, drawing_of_lines, input};
+pub use drawings::{DrawnLines, draw_replica, drawing_of_fig, drawing_of_lines, input};
 pub use gf_raster::{Gate, OpenGate, Window};
 pub use gf_replay::LineCause;
 pub use gf_streams::{

@@ -10,12 +10,12 @@ ghost use Rattle.gf_studio.specs.RefusedRuns.{RefusesLines};
 ghost use Rattle.gf_studio.specs.RunAnswers.{LeavesSink, ReadsInput};
 
 use crate::StudioError;
-use crate::drawings::{input, ranked_site};
+use crate::drawings::{input, ranked_replica};
 use gf_drawing::CompileFault;
 use gf_fig_named::{named_bytes, thin_polygons};
 use gf_ops::ObjectId;
-use gf_replay::read_site;
-use gf_site::Site;
+use gf_replay::read_replica;
+use gf_site::Replica;
 use gf_streams::{Sink, SinkFault, Source, write_whole};
 use std::alloc::Global;
 use std::thread::Threads;
@@ -114,22 +114,22 @@ fn name<T: Threads + Sync>(
     ensures refused { IfErr result (RefusesLines bytes.items) }
     ensures between { IfErr result IsBetween }
 {
-    let site = read_site(rt, alloc, bytes, workers)?;
-    let named = name_site(alloc, &site)?;
+    let replica = read_replica(rt, alloc, bytes, workers)?;
+    let named = name_replica(alloc, &replica)?;
     Ok(named)
 }
 
-/// The named text of a site's history, and what is told of it.
-fn name_site(alloc: Global, site: &Site) -> Result<NamedLines, CompileFault>
-    ensures ok { IfOk result (λ named. IsNamedText site.now.ops named.text.items) }
-    ensures waiting { IfOk result (λ named. named.run.waiting ≡ length site.now.held) }
-    ensures thin { IfOk result (λ named. AreThinOf site.now.ops named.run.thin.items) }
-    ensures err { IfErr result (RefusesHistory site.now.ops) }
+/// The named text of a replica's history, and what is told of it.
+fn name_replica(alloc: Global, replica: &Replica) -> Result<NamedLines, CompileFault>
+    ensures ok { IfOk result (λ named. IsNamedText replica.now.ops named.text.items) }
+    ensures waiting { IfOk result (λ named. named.run.waiting ≡ length replica.now.held) }
+    ensures thin { IfOk result (λ named. AreThinOf replica.now.ops named.run.thin.items) }
+    ensures err { IfErr result (RefusesHistory replica.now.ops) }
 {
-    let ranked = ranked_site(alloc, site)?;
+    let ranked = ranked_replica(alloc, replica)?;
     let thin = thin_polygons(alloc, &ranked.items)?;
-    let text = named_bytes(alloc, site.history(), ranked)?;
-    let waiting = site.held();
+    let text = named_bytes(alloc, replica.history(), ranked)?;
+    let waiting = replica.held();
     Ok(NamedLines {
         text,
         run: NamedRun { waiting, thin },

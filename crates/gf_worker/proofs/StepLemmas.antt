@@ -15,14 +15,15 @@ use Rattle.gf_causal.specs.Ready.{IsReady, NoneIsReady}
 use Rattle.gf_causal.specs.DeliveredPart.{AreReady}
 use Rattle.gf_causal.specs.HeldOperations.{Adds}
 use Rattle.gf_causal.proofs.ListLemmas.{Contains-between, Contains-between_cases}
+use Rattle.gf_site.specs.ReplicaState.{ReplicaState}
 use Rattle.gf_site.specs.SiteState.{SiteState}
 use Rattle.gf_site.specs.Events.{Steps}
 use Rattle.gf_site.specs.Course.{next}
-use Rattle.gf_site.specs.declared.site.Step.{Step}
-use Rattle.gf_site.specs.declared.site.Step.TheVariants as step
+use Rattle.gf_site.specs.declared.replica.Step.{Step}
+use Rattle.gf_site.specs.declared.replica.Step.TheVariants as step
 use Rattle.gf_causal.proofs.PartLemmas.{part_accepts}
 use Rattle.gf_site.proofs.CourseLemmas.{all_ready, course_ready}
-use Rattle.gf_site.proofs.StepLemmas.{founded}
+use Rattle.gf_site.proofs.StepLemmas.{founded, same_site}
 use Rattle.gf_json.specs.declared.scripts.Command.{Command}
 use Rattle.gf_worker.specs.declared.work.Work.{Work}
 use Rattle.gf_worker.specs.Coming.{HasCome}
@@ -41,8 +42,7 @@ module _ (old : Work) (a : Op) (held : List Op) (site : IsSite old.site.number)
   applied = record old {
     site = record {
       number = old.site.number;
-      ops = old.site.ops ++ a ∷ [
-      ];
+      ops = old.site.ops ++ a ∷ [];
       held = held;
     };
   }
@@ -173,26 +173,27 @@ pub continues_stepping : (old : Work) (st : Step) (new : SiteState) → IsSite n
     → AreAccepted new.ops → IsValid new.ops → Steps old.site st new
     → Continues old (record old { site = new })
 continues_stepping old (step.Applied i) new site run valid t =
-    let a = t.op in
-    let k = t.takes in
+    let a = t.0.op in
+    let k = t.0.takes in
     let is : record {
       number = old.site.number;
       ops = old.site.ops ++ a ∷ [];
       held = new.held;
-    } ≡ new = λ j. record { number = sym k.number j; ops = sym t.ops j; held = new.held } in
+    } ≡ new = λ j. record { number = sym t.1 j; ops = sym t.0.ops j; held = new.held } in
     subst (λ n. Continues old (record old { site = n })) is
-    (continues_applied old a new.held (subst IsSite k.number site) k.first.contained
-    (site_in_range a k.in_range) k.taken t.accepted (subst IsValid t.ops valid))
+    (continues_applied old a new.held (subst IsSite t.1 site) k.first.contained
+    (site_in_range a k.in_range) k.taken t.0.accepted (subst IsValid t.0.ops valid))
 continues_stepping old (step.Dropped i f) new site run valid t =
-    let a = t.op in
-    let k = t.takes in
+    let a = t.0.op in
+    let k = t.0.takes in
     let is : record { number = old.site.number; ops = old.site.ops; held = new.held } ≡ new = λ j.
-    record { number = sym k.number j; ops = sym t.ops j; held = new.held } in
+    record { number = sym t.1 j; ops = sym t.0.ops j; held = new.held } in
     subst (λ n. Continues old (record old { site = n })) is
     (continues_dropped old a new.held f k.taken k.first.contained k.first.ready
-    (all_ready (subst AreAccepted t.ops run)) t.refused)
+    (all_ready (subst AreAccepted t.0.ops run)) t.0.refused)
 continues_stepping old step.Idle new site run valid t = subst
-    (λ n. Continues old (record old { site = n })) (sym t.1) (continues_refl old)
+    (λ n. Continues old (record old { site = n })) (sym (same_site old.site new t.0.1 t.1))
+    (continues_refl old)
 
 -- a worker becomes short
 pub continues_short : (old : Work) (new : SiteState) → new ≡ old.site
@@ -222,7 +223,8 @@ pub idle_step : (old : SiteState) (st : Step) (new : SiteState) → goes_on st �
     → Steps old st new → NoneIsReady new.ops new.held
 idle_step old (step.Applied i) new e t = absurd (true≢false e)
 idle_step old (step.Dropped i f) new e t = absurd (true≢false e)
-idle_step old step.Idle new e t = subst (λ (n : SiteState). NoneIsReady n.ops n.held) (sym t.1) t.0
+idle_step old step.Idle new e t = subst (λ (n : ReplicaState). NoneIsReady n.ops n.held) (sym t.0.1)
+    t.0.0
 
 -- with each other step one operation less is held
 shorter : (held all : List Op) (a : Op) → Adds held a all → length held < length all
@@ -232,6 +234,6 @@ shorter held all a t =
 
 pub fewer_held : (old : SiteState) (st : Step) (new : SiteState) → goes_on st ≡ true
     → Steps old st new → length new.held < length old.held
-fewer_held old (step.Applied i) new e t = shorter new.held old.held t.op t.takes.taken
-fewer_held old (step.Dropped i f) new e t = shorter new.held old.held t.op t.takes.taken
+fewer_held old (step.Applied i) new e t = shorter new.held old.held t.0.op t.0.takes.taken
+fewer_held old (step.Dropped i f) new e t = shorter new.held old.held t.0.op t.0.takes.taken
 fewer_held old step.Idle new e t = absurd (true≢false (sym e))

@@ -12,8 +12,8 @@ use Rattle.gf_ops.specs.declared.op.OpId.{OpId}
 use Rattle.gf_ops.specs.Limits.{IsInRange}
 use Rattle.gf_causal.specs.DeliveredPart.{AreReady}
 use Rattle.gf_site.specs.Course.{IsCourse}
-use Rattle.gf_site.specs.declared.site.Step.{Step}
-use Rattle.gf_site.specs.declared.site.Step.TheVariants as step
+use Rattle.gf_site.specs.declared.replica.Step.{Step}
+use Rattle.gf_site.specs.declared.replica.Step.TheVariants as step
 use Rattle.gf_json.specs.declared.scripts.Command.{Command}
 use Rattle.gf_worker.specs.declared.report.Cause.TheVariants.{NeverComes}
 use Rattle.gf_worker.specs.declared.peer.Peer.{Peer}

@@ -18,14 +18,16 @@ loop-alloc-smaller g c =
 pub returns-clause-ok : goal.returns-clause-ok
 returns-clause-ok g c =
     let none : length c.loop-alloc.block.readings.items ≡ 0 = search rules in
-    Denotes-read c.args.text.items c.loop-alloc.site
-    (rw (c.loop-alloc.invariant.none none) at (HasRead-block c.args.text.items _ _ c.loop-alloc.site
+    Denotes-read c.args.text.items c.loop-alloc.replica
+    (rw (c.loop-alloc.invariant.none none)
+    at (HasRead-block c.args.text.items _ _ c.loop-alloc.replica
     none c.loop-alloc.invariant.before))
 
 pub returns-clause-held : goal.returns-clause-held
 returns-clause-held g c =
     let none : length c.loop-alloc.block.readings.items ≡ 0 = search rules in
-    DenotesWaiting-read c.args.text.items c.loop-alloc.site
-    (rw (c.loop-alloc.invariant.none none) at (HasRead-block c.args.text.items _ _ c.loop-alloc.site
+    DenotesWaiting-read c.args.text.items c.loop-alloc.replica
+    (rw (c.loop-alloc.invariant.none none)
+    at (HasRead-block c.args.text.items _ _ c.loop-alloc.replica
     none c.loop-alloc.invariant.before))
     c.held.ensures.valid

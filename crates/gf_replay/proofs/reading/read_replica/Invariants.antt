@@ -4,9 +4,8 @@ use Rattle.gf_replay.proofs.reading.read_replica.Given as goal
 
 abbrev pub invariant-loop-alloc : goal.invariant-loop-alloc
 invariant-loop-alloc g l = record {
-  before : IsBefore l.fn.text.items l.block.readings.items l.block.behind l.site;
+  before : IsBefore l.fn.text.items l.block.readings.items l.block.behind l.replica;
   none : length l.block.readings.items ≡ 0 → l.block.behind ≡ [];
-  number : l.site.number ≡ l.fn.number;
 }
 
 abbrev pub decreases-loop-alloc : goal.decreases-loop-alloc

@@ -1,18 +1,19 @@
 use Rattle.std.proofs.lemmas.Result.{err_from_is_err_and}
 use Rattle.gf_replay.proofs.reading.take_and_read.Goals as goal
 
-pub returns-in_err-site-clause-err : goal.returns-in_err-site-clause-err
-returns-in_err-site-clause-err g c = λ text before.
+pub returns-in_err-replica-clause-err : goal.returns-in_err-replica-clause-err
+returns-in_err-replica-clause-err g c = λ text before.
     let p = err_from_is_err_and c.from_residual.result c.from_residual.ensures.1 in
-    rw (p.1, p.2) (c.in_err-site.ensures.err text c.args.block.behind before)
+    rw (p.1, p.2) (c.in_err-replica.ensures.err text c.args.block.behind before)
 
-pub returns-in_err-site-2-clause-err : goal.returns-in_err-site-2-clause-err
-returns-in_err-site-2-clause-err g c = λ text before.
-    let p = err_from_is_err_and c.from_residual-in_err-site-2.result
-    c.from_residual-in_err-site-2.ensures.1 in
-    rw (p.1, p.2) (rw c.in_err-site-2.was at c.join-next.ensures.second.err text c.args.block.behind
+pub returns-in_err-replica-2-clause-err : goal.returns-in_err-replica-2-clause-err
+returns-in_err-replica-2-clause-err g c = λ text before.
+    let p = err_from_is_err_and c.from_residual-in_err-replica-2.result
+    c.from_residual-in_err-replica-2.ensures.1 in
+    rw (p.1, p.2) (rw c.in_err-replica-2.was at c.join-next.ensures.second.err text
+    c.args.block.behind
     before)
 
 pub returns-in-Ok-next-clause-ok : goal.returns-in-Ok-next-clause-ok
-returns-in-Ok-next-clause-ok g c = λ text before. rw c.in_ok-site-2.was
+returns-in-Ok-next-clause-ok g c = λ text before. rw c.in_ok-replica-2.was
     at c.join-next.ensures.second.ok text c.args.block.behind before

@@ -1,4 +1,4 @@
-use Rattle.std.proofs.Common.{◌≡◌, ◌∙◌, length, rules, subst, sym}
+use Rattle.std.proofs.Common.{◌≡◌, length, rules, subst, sym}
 use Rattle.std.specs.Vec.Iter.{into_iter_items}
 use Rattle.std.proofs.lemmas.Result.{err_from_is_err_and}
 use Rattle.gf_replay.specs.LineSteps.{RefusesLine}
@@ -12,10 +12,9 @@ loop-reading-preserved g c =
     record {
       block = AreOfLines-rest c.in-Some.reading _ (rw steps at c.loop-reading.invariant.block);
       before = λ text others whole.
-          IsBefore-line text c.in-Some.reading _ others c.loop-reading.site
+          IsBefore-line text c.in-Some.reading _ others c.loop-reading.replica
           (rw steps at c.loop-reading.invariant.before text others whole)
-          c.take_reading.new.site c.in_ok-take_reading.ensures.ok;
-      number = c.in_ok-take_reading.ensures.number ∙ c.loop-reading.invariant.number;
+          c.take_reading.new.replica c.in_ok-take_reading.ensures.ok;
     }
 
 pub returns-in_err-take_reading : goal.returns-in_err-take_reading
@@ -24,11 +23,10 @@ returns-in_err-take_reading g c =
     let p = err_from_is_err_and c.from_residual.result c.from_residual.ensures.1 in
     rw p.1 (record {
       ok = λ text others whole. tt;
-      number = tt;
       err = λ text others whole.
-          RefusesText-first text c.in-Some.reading _ others c.loop-reading.site
+          RefusesText-first text c.in-Some.reading _ others c.loop-reading.replica
           (rw steps at c.loop-reading.invariant.before text others whole) _
-          (λ line reads. subst (λ e. RefusesLine line.0 line.1 c.loop-reading.site e) (sym p.2)
+          (λ line reads. subst (λ e. RefusesLine line.0 line.1 c.loop-reading.replica e) (sym p.2)
           (c.in_err-take_reading.ensures.err line reads));
     })
 
@@ -36,8 +34,7 @@ pub returns : goal.returns
 returns g c = record {
   ok = λ text others whole.
       let none : length (into_iter_items c.loop-reading.reading-iterator) ≡ 0 = search rules in
-      HasRead-block text _ others c.loop-reading.site none
+      HasRead-block text _ others c.loop-reading.replica none
       (c.loop-reading.invariant.before text others whole);
-  number = c.loop-reading.invariant.number;
   err = λ text others whole. tt;
 }

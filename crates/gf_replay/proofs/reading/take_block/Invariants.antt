@@ -1,4 +1,4 @@
-use Rattle.std.proofs.Common.{◌≡◌, List, ℕ}
+use Rattle.std.proofs.Common.{List, ℕ}
 use Rattle.std.specs.Vec.Iter.{into_iter_items}
 use Rattle.gf_replay.specs.Blocks.{AreOfLines, IsBefore}
 use Rattle.gf_replay.proofs.reading.take_block.Given as goal
@@ -8,7 +8,6 @@ abbrev pub invariant-loop-reading : goal.invariant-loop-reading
 invariant-loop-reading g l = record {
   block : AreOfLines (into_iter_items l.reading-iterator);
   before : (text : List ℕ) (others : List (ℕ × List ℕ))
-      → IsBefore text l.fn.readings.items others l.fn.site
-      → IsBefore text (into_iter_items l.reading-iterator) others l.site;
-  number : l.site.number ≡ l.fn.site.number;
+      → IsBefore text l.fn.readings.items others l.fn.replica
+      → IsBefore text (into_iter_items l.reading-iterator) others l.replica;
 }

@@ -4,20 +4,20 @@ use Rattle.gf_visible.specs.ShownVersions.{HasMoreVisible}
 use Rattle.gf_versions.specs.Ranking.{AreRanked}
 use Rattle.gf_studio.specs.FigRun.{RefusesHistory}
 use Rattle.gf_studio.proofs.DrawnLemmas.{list_made, list_refused}
-use Rattle.gf_studio.proofs.drawings.ranked_site.Goals as goal
+use Rattle.gf_studio.proofs.drawings.ranked_replica.Goals as goal
 
 pub returns-clause-ranked : goal.returns-clause-ranked
 returns-clause-ranked c =
     let found = c.ranked_within.result in
     let ranked = subst (λ h. IfOk found (λ f. IfSome f (λ r. AreRanked h r.items.items)))
     c.versions.ensures.ops c.ranked_within.ensures.ranked in
-    subst (λ r. IfOk r (λ r. AreRanked c.args.site.now.ops r.items.items)) (sym c.listed.ensures)
-    (list_made (λ r. AreRanked c.args.site.now.ops r.items.items) found ranked)
+    subst (λ r. IfOk r (λ r. AreRanked c.args.replica.now.ops r.items.items)) (sym c.listed.ensures)
+    (list_made (λ r. AreRanked c.args.replica.now.ops r.items.items) found ranked)
 
 pub returns-clause-err : goal.returns-clause-err
 returns-clause-err c =
     let found = c.ranked_within.result in
     let more = subst (λ h. IfOk found (λ f. IfNone f (HasMoreVisible h 1000)))
     c.versions.ensures.ops c.ranked_within.ensures.more in
-    subst (λ r. IfErr r (RefusesHistory c.args.site.now.ops)) (sym c.listed.ensures)
-    (list_refused c.args.site.now.ops found more)
+    subst (λ r. IfErr r (RefusesHistory c.args.replica.now.ops)) (sym c.listed.ensures)
+    (list_refused c.args.replica.now.ops found more)

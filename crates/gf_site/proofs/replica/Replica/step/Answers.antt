@@ -2,7 +2,7 @@ use Rattle.std.proofs.Common.{◌++◌, ◌∷◌, [], refl, sym, subst, ◌∙�
 use Rattle.std.proofs.lemmas.Result.{err_from_is_err_and}
 use Rattle.gf_ops.specs.Limits.{IsInRange}
 use Rattle.gf_site.proofs.StepLemmas.{run_more, refused_by, same_taken, accepted_same, holds_more}
-use Rattle.gf_site.proofs.site.Replica.step.Goals as goal
+use Rattle.gf_site.proofs.replica.Replica.step.Goals as goal
 
 pub returns-in_default-clause-ok : goal.returns-in_default-clause-ok
 returns-in_default-clause-ok g c = rw (← c.self.view_is) (c.in_default.ensures.none, refl)
@@ -22,7 +22,6 @@ returns-in-Err-clause-ok g c =
         first = first;
         in_range = c.in-Some.ensures.in_range;
         taken = taken.1;
-        number = refl;
       };
       refused = refused;
       ops = refl;
@@ -71,8 +70,7 @@ invariant_of-self-2 g c =
     let stands = subst (λ a. g.T.Table.stands c.grow.new.table (h ++ a ∷ [])) (sym same)
     c.in_ok-grow.ensures.table in
     let accepted = accepted_same h h a b refl same (c.in_default-check.ensures.ok.0 refl) in (
-      c.self.invariant.0,
-      run_more h old new b c.self.invariant.1 history accepted more,
+      run_more h old new b c.self.invariant.0 history accepted more,
       holds_more (g.T.Table.stands c.grow.new.table) h old new b history more stands,
     )
 
@@ -91,7 +89,6 @@ returns-clause-ok g c =
         first = first;
         in_range = c.in-Some.ensures.in_range;
         taken = taken.1;
-        number = refl;
       };
       accepted = c.in_default-check.ensures.ok.0 refl;
       ops = c.push.ensures.ops ∙ ap (λ l. l ++ b ∷ []) c.in_ok-grow.ensures.history

@@ -1,10 +1,9 @@
 use Rattle.std.proofs.Common.{sym, subst}
 use Rattle.gf_ops.specs.Accepted.{AreAccepted, none}
-use Rattle.gf_site.proofs.site.Replica.new.Goals as goal
+use Rattle.gf_site.proofs.replica.Replica.new.Goals as goal
 
 pub invariant_of-result : goal.invariant_of-result
 invariant_of-result g c = (
-  c.requires,
   subst AreAccepted (sym c.new.ensures) none,
   subst (g.T.Table.stands c.new-2.result) (sym c.new.ensures) c.new-2.ensures,
 )

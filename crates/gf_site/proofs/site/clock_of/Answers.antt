@@ -1,9 +1,8 @@
 use Rattle.std.proofs.Common.{refl}
-use Rattle.gf_site.proofs.site.Replica.clock.Goals as goal
+use Rattle.gf_site.proofs.site.clock_of.Goals as goal
 
 pub returns : goal.returns
-returns g c = rw (
-  ← c.self.view_is,
+returns c = rw (
   c.count.ensures,
   c.count-2.ensures,
   c.count-3.ensures,

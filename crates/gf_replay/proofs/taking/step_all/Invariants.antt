@@ -1,0 +1,9 @@
+use Rattle.std.proofs.Common.{length}
+use Rattle.gf_replay.specs.Taking.{KeepsAll}
+use Rattle.gf_replay.proofs.taking.step_all.Given as goal
+
+abbrev pub invariant-loop-id : goal.invariant-loop-id
+invariant-loop-id g l = KeepsAll l.initial.replica l.replica
+
+abbrev pub decreases-loop-id : goal.decreases-loop-id
+decreases-loop-id g l = length l.replica.held

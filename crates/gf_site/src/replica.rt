@@ -1,0 +1,182 @@
+//! A replica: a history with its versions, and what waits.
+
+ghost use Rattle.std.specs.Prelude.{◌≡◌, ◌≢◌, ◌↔◌, ◌<◌, ◌++◌, ◌∷◌, [], length, Some, Ok, Err};
+ghost use Rattle.std.specs.Prelude.{IfOk, OnOk, OnErr, map};
+ghost use Rattle.gf_ops.specs.Limits.{IsInRange};
+ghost use Rattle.gf_ops.specs.Accepted.{IsAccepted, AreAccepted};
+ghost use Rattle.gf_ops.specs.ValidHistory.{IsValid};
+ghost use Rattle.gf_causal.specs.declared.buffer.Offered.{Offered};
+ghost use Rattle.gf_causal.specs.declared.faults.OfferFault.{OfferFault};
+ghost use Rattle.gf_causal.specs.HeldOperations.{AreHeld};
+ghost use Rattle.gf_table.specs.Standing.{StandsFor};
+ghost use Rattle.gf_site.specs.ReplicaState.{new_replica};
+ghost use Rattle.gf_site.specs.ReplicaSteps.{HasNext, StepsOnce};
+ghost use Rattle.gf_site.specs.Offers.{HasOtherThan, HasAlready, IsNewTo, ComesToHold};
+
+use crate::Table;
+use gf_base::OutOfMemory;
+use gf_causal::{Buffer, OfferFault, Offered};
+use gf_ops::{History, Op, OpFault, OpId};
+use gf_table::{GroupTable, VersionedHistory};
+use std::alloc::Global;
+use std::marker::Model;
+
+/// What a step came to.
+#[derive(Clone, Copy, Debug, PartialEq, Eq)]
+pub enum Step {
+    /// The operation under this id was added to the history.
+    Applied(OpId),
+    /// The operation under this id did not fit behind the history, and is forgotten.
+    Dropped(OpId, OpFault),
+    /// No held operation is ready.
+    Idle,
+}
+
+/// A history, a table that stands for it, and the operations held until they are ready.
+#[derive(Debug, Drop)]
+pub struct Replica<T: Table = GroupTable> {
+    history: History,
+    table: T,
+    buffer: Buffer,
+}
+
+impl<T: Table> Model for Replica<T> {
+    ghost use Rattle.gf_ops.specs.Accepted.{AreAccepted};
+    ghost use Rattle.gf_site.specs.ReplicaState.{ReplicaState};
+
+    ghost Value = { ReplicaState };
+
+    ghost view = { λ r. record { ops = r.history.ops; held = r.buffer } };
+
+    ghost invariant = { λ r. AreAccepted r.history.ops × T.stands r.table r.history.ops };
+}
+
+impl Replica<GroupTable> {
+    /// The versions of all objects of the history.
+    pub fn table(&self) -> &GroupTable
+        ensures { StandsFor self.now.ops result.now }
+    {
+        &self.table
+    }
+
+    /// The history with the versions of its objects.
+    pub fn versions(&self) -> VersionedHistory<'_>
+        ensures ops { result ≡ self.now.ops }
+        ensures valid { IsValid self.now.ops }
+    {
+        let _ = self.history.ops();
+        VersionedHistory::new(&self.history, &self.table)
+    }
+}
+
+impl<T: Table> Replica<T> {
+    /// A replica that has and holds nothing.
+    pub fn new(alloc: Global) -> Replica<T>
+        ensures { result ≡ new_replica }
+    {
+        Replica {
+            history: History::new(alloc),
+            table: T::new(alloc),
+            buffer: Buffer::new(alloc),
+        }
+    }
+
+    /// A copy of the replica.
+    pub fn copy(&self, alloc: Global) -> Result<Replica<T>, OutOfMemory>
+        ensures { IfOk result (λ copy. copy ≡ self.now) }
+    {
+        Ok(Replica {
+            history: self.history.copy(alloc)?,
+            table: self.table.copy(alloc)?,
+            buffer: self.buffer.copy(alloc)?,
+        })
+    }
+
+    /// The history.
+    pub fn history(&self) -> &History
+        ensures ops { result.now.ops ≡ self.now.ops }
+        ensures accepted { AreAccepted self.now.ops }
+        ensures valid { IsValid self.now.ops }
+    {
+        let _ = self.history.ops();
+        &self.history
+    }
+
+    /// How many operations are held.
+    pub fn held(&self) -> usize
+        ensures held { result ≡ length self.now.held }
+        ensures valid { AreHeld self.now.held }
+    {
+        self.buffer.held()
+    }
+
+    /// The held operations, rising by id.
+    pub fn held_ops(&self, alloc: Global) -> Result<Vec<&Op>, OutOfMemory>
+        ensures ops { IfOk result (λ ops. map (λ a. a.now) ops.items ≡ self.now.held) }
+        ensures valid { AreHeld self.now.held }
+    {
+        self.buffer.ops(alloc)
+    }
+
+    /// Adds an operation that the history accepts. All memory is there before anything changes.
+    pub fn add(&mut self, op: Op) -> Result<(), OutOfMemory>
+        requires in_range { IsInRange op }
+        requires accepted { IsAccepted self.old.ops op }
+        ensures ok { OnOk result (self.new ≡ record self.old { ops = self.old.ops ++ op ∷ [] }) }
+        ensures err { OnErr result (self.new ≡ self.old) }
+    {
+        grow(&mut self.history, &mut self.table, &op)?;
+        self.history.push(op);
+        Ok(())
+    }
+
+    /// Holds an operation that is neither held nor in the history.
+    pub fn receive(&mut self, op: Op) -> Result<Offered, OfferFault>
+        ensures range { result ≡ Err OfferFault.Range ↔ (¬ (IsInRange op)) }
+        ensures clash { result ≡ Err OfferFault.Clash ↔ HasOtherThan self.old op }
+        ensures already { result ≡ Ok Offered.Already ↔ HasAlready self.old op }
+        ensures held { result ≡ Ok Offered.Held → ComesToHold self.old op self.new }
+        ensures out_of_memory { result ≡ Err OfferFault.OutOfMemory → IsNewTo self.old op }
+        ensures same { result ≢ Ok Offered.Held → self.new ≡ self.old }
+        ensures kept { self.new ≡ record self.old { held = self.new.held } }
+    {
+        self.buffer.offer(op, &self.history)
+    }
+
+    /// Moves the ready held operation with the least id to the history, or forgets it where it
+    /// doesn't fit. All memory is there before anything changes.
+    pub fn step(&mut self) -> Result<Step, OutOfMemory>
+        ensures ok { IfOk result (λ step. StepsOnce self.old step self.new) }
+        ensures out_of_memory { OnErr result (HasNext self.old) }
+        ensures same { OnErr result (self.new ≡ self.old) }
+    {
+        let Some(op) = self.buffer.first_ready(&self.history) else {
+            return Ok(Step::Idle);
+        };
+        let id = op.id;
+        if let Err(fault) = self.history.check(op) {
+            let _ = self.buffer.take(id);
+            return Ok(Step::Dropped(id, fault));
+        }
+        grow(&mut self.history, &mut self.table, op)?;
+        let Some(op) = self.buffer.take(id) else {
+            unreachable!();
+        };
+        self.history.push(op);
+        Ok(Step::Applied(id))
+    }
+}
+
+/// Makes room in the history for an operation that it accepts, and notes it in the table.
+fn grow<T: Table>(history: &mut History, table: &mut T, op: &Op) -> Result<(), OutOfMemory>
+    requires in_range { IsInRange op.now }
+    requires accepted { IsAccepted history.old.ops op.now }
+    requires stands { T.stands table.old history.old.ops }
+    ensures history { history.new.ops ≡ history.old.ops }
+    ensures room { OnOk result (0 < history.new.room) }
+    ensures table { OnOk result (T.stands table.new (history.old.ops ++ op.now ∷ [])) }
+    ensures err { OnErr result (table.new ≡ table.old) }
+{
+    history.room()?;
+    table.add(history, op)
+}
