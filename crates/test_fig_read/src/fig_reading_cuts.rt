@@ -1,10 +1,9 @@
-//! Worked examples of reading FIG texts that are cut or spoilt.
+//! Worked examples of reading FIG texts that are cut.
 
-use crate::readings::{TRIANGLE, fault_at, fault_of};
+use crate::readings::{fault_at, fault_of};
 use gf_fig_read::{FigError, FigFault, read_fig};
 use std::alloc::Global;
-use std::test::Fail;
-use test_kit::{RED_BOX_FIG, at};
+use test_kit::RED_BOX_FIG;
 
 /// What the first `k` bytes of the red box's text have in place of a drawing.
 fn fault_of_cut(k: usize) -> Option<FigError> {
@@ -51,24 +50,4 @@ fn cut_texts_have_the_first_fault(rt: HostRuntime) {
         assert_eq!(rt; fault_of(alloc, front), fault_of_cut(k), "{k}");
         assert_eq!(rt; counts(alloc, front), counts_of_cut(k), "{k}");
     }
-}
-
-/// Reads a text, and asks for a colour where it is a drawing.
-fn try_text(alloc: Global, text: &[u8]) {
-    if let Ok(drawing) = read_fig(alloc, text) {
-        let _colour = drawing.colour_at(at(0, 0));
-    }
-}
-
-#[test]
-fn texts_with_another_byte_are_answered(rt: HostRuntime) -> Result<(), Fail> {
-    let alloc = rt.alloc();
-    for byte in [0u8, b'#', b'-', b'9'] {
-        for k in 0..TRIANGLE.len() {
-            let mut text = Vec::from_slice(alloc, TRIANGLE.as_bytes())?;
-            text[k] = byte;
-            try_text(alloc, &text);
-        }
-    }
-    Ok(())
 }

@@ -5,12 +5,7 @@ use std::alloc::Global;
 use std::test::Fail;
 use test_kit::{EMPTY_FIG, RED_BOX_FIG};
 
-/// The foreign triangle: a red one with corners (0, 0), (1200, 0) and (600, 900), as another
-/// program writes it.
-pub(crate) const TRIANGLE: &str =
-    "#FIG 3.2  Produced by xfig version 3.2.5\nLandscape\nCenter\nInches\nLetter  \n100.00\nSingle\n-2\n1200 2\n# a triangle\n2 3 0 0 4 4 50 -1 20 0.000 0 0 -1 0 0 4\n\t 0 0 1200 0\n\t 600 900 0 0\n";
-
-/// The lines of the triangle's text before the object.
+/// The lines before the object of a foreign triangle, as another program writes it.
 const FRONT: &str =
     "#FIG 3.2  Produced by xfig version 3.2.5\nLandscape\nCenter\nInches\nLetter  \n100.00\nSingle\n-2\n1200 2\n# a triangle\n";
 
