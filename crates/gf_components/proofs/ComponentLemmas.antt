@@ -100,7 +100,7 @@ module _ (c : ℕ → ℕ → Bool) where
 
   -- ---- components in one
 
-  -- where the numbers of the union are
+  -- the numbers of components made one are those of each of them
   pub all_of_fold : (p : ComponentState) (ps : List ComponentState) (a : ℕ)
       → Contains (fold merged p ps).all a ↔ (Contains p.all a ⊎ IsInComponents ps a)
   all_of_fold p [] a = (

@@ -91,18 +91,18 @@ grown d x p = record { all = joined x p.all; sets = grown_sets d x p.sets }
 abbrev pub stays : List ℕ → ℕ → ComponentState → Bool
 stays d x p = is_in p.all x || misses d p.all
 
--- the components after x, which conflicts with no number
+-- the components with x added, a number that conflicts with none
 abbrev pub with_free : ℕ → ComponentsState → ComponentsState
 with_free x s = record { free = joined x s.free; components = s.components }
 
--- the components after x, which connects the numbers d with which it conflicts
+-- the components with x added, which conflicts with the numbers d and so connects them
 abbrev pub connected : List ℕ → ℕ → ComponentsState → ComponentsState
 connected d x s = record {
   free = without d s.free;
   components = filter (stays d x) (s.components ++ grown d x (touched d s) ∷ []);
 }
 
--- the components after x, which conflicts with the numbers d
+-- the components with x added, which conflicts with the numbers d
 abbrev pub after : List ℕ → ℕ → ComponentsState → ComponentsState
 after [] x s = with_free x s
 after (a ∷ d) x s = connected (a ∷ d) x s

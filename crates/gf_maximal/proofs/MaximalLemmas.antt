@@ -1,4 +1,4 @@
--- The sets of a list that lie within no other one.
+-- The sets of a list that are part of no other one.
 use Rattle.std.proofs.Common.{◌≡◌, ℕ, Bool, true, false, List, [], ◌∷◌, ◌++◌, inl, inr, refl, subst}
 use Rattle.std.proofs.Common.{sym}
 use Rattle.std.specs.Prelude.{◌⊎◌, ◌↔◌, Contains, filter, not, ◌||◌, ◌==◌}
@@ -66,7 +66,7 @@ Contains-without d g a = (
 abbrev pub Apart : List ℕ → List ℕ → Type 0
 Apart g k = (is_within g k ≡ false) × (is_within k g ≡ false)
 
--- ms are those of gs that lie within no other one of them, and within none of the others
+-- ms are the sets of gs that are part of no other set of gs, and of none of the sets `others`
 pub record IsMaximal (others gs ms : List (List ℕ)) : Type 0 where
   pub from : (g : List ℕ) → Contains ms g → Contains gs g
   pub free : (g k : List ℕ) → Contains ms g → Contains others k → is_within g k ≡ false

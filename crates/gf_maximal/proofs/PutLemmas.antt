@@ -41,7 +41,7 @@ single_in x a = (λ h. let l = h.0 in let m = h.1 in omega arith, λ e. (omega a
 unequal : (a b : ℕ) → (a == b) ≡ false → a ≡ b → ⊥
 unequal a b f e = let y = (Decides-eqb a b).1 e in cc
 
--- what begins above n
+-- all of the runs begin above n
 abbrev pub StartAbove : ℕ → List Run → Type 0
 StartAbove n qs = (q : Run) → Contains qs q → n < q.start
 

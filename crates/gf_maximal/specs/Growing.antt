@@ -43,7 +43,7 @@ take_up others gs g =
     cond (list_any (is_within g) others || list_any (is_within g) gs) gs
     (filter (λ k. not (is_within k g)) gs ++ g ∷ [])
 
--- the sets of gs that lie within no other one and within none of the others, each once
+-- the sets of gs that are part of no other set of gs, and of none of the sets `others`, each once
 abbrev pub maximal : List (List ℕ) → List (List ℕ) → List (List ℕ)
 maximal others gs = fold (take_up others) [] gs
 

@@ -34,7 +34,7 @@ impl Model for Numbers {
     ghost invariant = { λ s. AreRuns s.runs.items };
 }
 
-/// Whether all of these runs are of the numbers.
+/// Whether the numbers of all of these runs are among the numbers.
 fn all_covered(runs: &[Run], numbers: &Numbers) -> bool
     ensures { result ≡ list_all (λ r. list_all (is_in numbers.now) (numbers_of r)) runs.now }
 {

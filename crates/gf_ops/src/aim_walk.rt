@@ -167,7 +167,7 @@ impl History {
         }
     }
 
-    /// The latest setters of an attribute once this one is behind them.
+    /// The latest setters of an attribute, of which this setter is the last one.
     fn next_latest(&self, latest: Option<Latest>, id: OpId, value: &Value) -> Latest
         ensures { (ids : List OpId) (site : ℕ) → NoneAbove self.now.ops ids site id
             → TellsOne self.now.ops ids site (place_of value.now) latest

@@ -230,7 +230,7 @@ module _ (h : List Op) (o : ObjectId) (cs : List (List Setter)) (chains : AreCha
       subst (λ z. IsNumber cs z q) (sym (number_of-setter_of n))
       (subst (IsNumber cs (chain_number k p)) w.2 (number_in cs k p w.0 inside w.1))
 
-  -- what is no setter's number has no position
+  -- a number of no setter has no position
   pub position_none : (n : ℕ) → ((q : ℕ) → ¬ (IsNumber cs n q)) → position_of cs n ≡ None
   position_none n f = by_case (position_of cs n) refl
     where

@@ -49,7 +49,7 @@ one_in t s (suc k, h, e) = absurd (omega arith)
 module _ (target behind : ℕ → Rgb) (n : ℕ) (old new : Shown) (c run : Columns) (colour : Rgb)
     (taken : IsTaken c old.free new.free run)
     (pushed : new.segments ≡ old.segments ++ record { columns = run; colour = colour } ∷ []) where
-  -- what is free still lies behind the run
+  -- of the columns behind the run those that were free are free still
   still_behind : (k : ℕ) → is_free old.free k ≡ true → is_among run k ≡ false
       → is_among (record { from = run.to; to = c.to }) k ≡ is_among c k
   still_behind k was out = elim (cases_lt k run.from) [

@@ -84,7 +84,7 @@ module _ {S : Type 0} (holds : S → Point → Bool) where
       true_not_false : true ≡ false → ⊥
       true_not_false e = grind arith
 
-  -- the next piece
+  -- the layer of piece i lies over the colours of the pieces behind it
   pub pieces_next : (w : View) (j : ℕ) (ps : List (Piece S)) (i : ℕ) (d : Piece S) (k : ℕ)
       → i < length ps → row_colours holds (layers_of (drop i ps)) w j k ≡ layer_over holds w j
       (row_colours holds (layers_of (drop (i + 1) ps)) w j) (get_or ps i d).layer.now k

@@ -10,7 +10,7 @@ use Rattle.gf_session.specs.Outcome.{Place, IsOutcome}
 abbrev pub done_of : WorkerEnd → Done
 done_of e = record { site = e.site; report = e.report }
 
--- a script with what its site came to
+-- a script, with the number, the operations and the report of its site at the end
 abbrev pub place_of : Script → Done → Place
 place_of s d = record {
   number = d.site.number;
@@ -19,7 +19,7 @@ place_of s d = record {
   report = d.report;
 }
 
--- each script with what its site came to
+-- each script, with the number, the operations and the report of its site at the end
 abbrev pub places : List Script → List Done → List Place
 places [] ds = []
 places (s ∷ ss) [] = []

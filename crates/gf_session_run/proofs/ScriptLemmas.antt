@@ -1,4 +1,4 @@
--- How scripts grow by a command, and what a full one tells.
+-- How scripts grow by a command, and that a script with too many commands is refused.
 use Rattle.std.specs.Prelude.{◌==◌, ◌&&◌, nat_le, Contains, IsTrue, Some, slice_get, ◌⊎◌, ◌↔◌}
 use Rattle.std.specs.Prelude.{vec_len}
 use Rattle.std.proofs.Common.{◌≡◌, ◌≢◌, ℕ, zero, suc, ◌+◌, ◌-◌, ◌<◌, ◌≤◌, Bool, List, [], ◌∷◌, ◌++◌}
