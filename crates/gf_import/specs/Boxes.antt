@@ -11,7 +11,7 @@ use Rattle.gf_ops.specs.declared.change.Form.TheVariants.{Rect}
 use Rattle.gf_ops.specs.SamePoints.{point_eq}
 use Rattle.gf_versions.specs.Ranking.{origin}
 
--- the point at place i, counted from 0
+-- the point at index i
 abbrev pub point_at : List Point → ℕ → Point
 point_at ps i = unwrap_or (slice_get ps i) origin
 

@@ -7,7 +7,7 @@ ghost use Rattle.gf_import.specs.Boxes.{is_box, least_corner, point_at};
 use gf_ops::Form;
 use gf_shape::{Chain, Point};
 
-/// The point at a place of a list, counted from 0.
+/// The point at an index of a list.
 pub(crate) fn point_at(points: &[Point], i: usize) -> Point
     ensures { result ≡ point_at points.now i }
 {

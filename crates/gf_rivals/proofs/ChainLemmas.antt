@@ -123,7 +123,7 @@ module _ (h : List Op) (o : ObjectId) (cs : List (List Setter)) (chains : AreCha
         (sym (get_within h a q (number_within h o cs chains n q k))) ∙ g;
   }
 
-  -- an index of setters is one still behind an operation on another object
+  -- an index of the chains is one in the longer history too
   pub index_other : (ix : List (Fingerprint × List ℕ)) → IsIndex h cs ix → IsIndex longer cs ix
   index_other ix index p n = (
     λ i. given_still p n ((index p n).0 i),

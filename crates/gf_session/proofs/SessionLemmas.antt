@@ -19,10 +19,10 @@ use Rattle.gf_worker.specs.Ending.{HasSent, HasWorked}
 use Rattle.gf_mesh.specs.Settled.{AreAllTaken}
 use Rattle.gf_mesh.proofs.PlacedLemmas.{got_map}
 use Rattle.gf_session.specs.declared.starting.Start.{Start}
-use Rattle.gf_session.specs.Outcome.{Place, IsSiteOutcome}
+use Rattle.gf_session.specs.Outcome.{SiteEnd, IsSiteOutcome}
 use Rattle.gf_session.specs.Joined.{IsFrom, IsComplete, AreJoined, HaveOne}
 use Rattle.gf_session.specs.Starting.{AreStarts, Gave, GaveAll}
-use Rattle.gf_session.specs.Session.{IsSession, done_of, place_of, places}
+use Rattle.gf_session.specs.Session.{IsSession, done_of, site_end, site_ends}
 use Rattle.gf_site.specs.Course.{IsCourse}
 use Rattle.gf_base.proofs.ListLemmas.{Contains-map_from}
 use Rattle.gf_base.proofs.PositionLemmas.{one_value, position_in, position_of as position_at}
@@ -71,7 +71,7 @@ played_full s script peers e q w =
     (sym (p.whole ∙ ap (λ l. p.done ++ l) (p.full q) ∙ append-nil p.done)) p.played
 
 pub site_outcome : (s : ℕ) (script : Script) (peers : List Peer) (e : WorkerEnd) → e.short ≡ false
-    → HasWorked s script.0.items peers e → IsSiteOutcome (place_of script (done_of e))
+    → HasWorked s script.0.items peers e → IsSiteOutcome (site_end script (done_of e))
 site_outcome s script peers e q w = record {
   course = (complete s script.0.items peers e q w).course;
   played = played_full s script.0.items peers e q w;
@@ -82,7 +82,7 @@ pub same_ops : (ends : List WorkerEnd) → HaveOne ends → (e f : WorkerEnd) �
 same_ops ends one e f c d a = let p = one.same e c a in let q = one.same f d a in
     (λ k. q.1 (p.0 k), λ k. p.1 (q.0 k))
 
--- ---- the starts and what their workers gave, by places
+-- ---- the starts and what their workers gave, by their indexes
 
 -- the start at the place of a worker's end
 record Begun (starts : List Start) (k : ℕ) (e : WorkerEnd) : Type 0 where
@@ -104,19 +104,19 @@ begun_at (s ∷ starts) (x ∷ ends) g (suc k) e q = let o = begun_at starts end
     record { start = o.start; at = o.at; gave = o.gave }
 
 -- the worker's end and its start at a place of a session
-record Played (starts : List Start) (ends : List WorkerEnd) (k : ℕ) (p : Place) : Type 0 where
+record Played (starts : List Start) (ends : List WorkerEnd) (k : ℕ) (p : SiteEnd) : Type 0 where
   start : Start
   end : WorkerEnd
   starts_at : slice_get starts k ≡ Some start
   ends_at : slice_get ends k ≡ Some end
-  is : p ≡ place_of start.script (done_of end)
+  is : p ≡ site_end start.script (done_of end)
 
 played_at : (starts : List Start) (ends : List WorkerEnd) → GaveAll starts ends
-    → (k : ℕ) (p : Place) → slice_get (places (map (λ s. s.script) starts) (map done_of ends))
+    → (k : ℕ) (p : SiteEnd) → slice_get (site_ends (map (λ s. s.script) starts) (map done_of ends))
     k ≡ Some p → Played starts ends k p
 played_at [] ends g k p q = absurd cc
 played_at (s ∷ starts) [] g k p q = absurd cc
-played_at (s ∷ starts) (x ∷ ends) g zero p q = let i : place_of s.script (done_of x) ≡ p = cc in
+played_at (s ∷ starts) (x ∷ ends) g zero p q = let i : site_end s.script (done_of x) ≡ p = cc in
     record { start = s; end = x; starts_at = refl; ends_at = refl; is = sym i }
 played_at (s ∷ starts) (x ∷ ends) g (suc k) p q =
     let o = played_at starts ends g.1 k p q in record {
@@ -225,11 +225,11 @@ module _ (scripts : List Script) (rows : List (List Peer)) (starts : List Start)
     }
 
     each_one : (k : ℕ) (s : Start) (e : WorkerEnd) → slice_get starts k ≡ Some s
-        → slice_get ends k ≡ Some e → IsSiteOutcome (place_of s.script (done_of e))
+        → slice_get ends k ≡ Some e → IsSiteOutcome (site_end s.script (done_of e))
     each_one k s e a b =
         let o = begun_at starts ends gave k e b in
         let i : o.start ≡ s = one_value starts k o.start s o.at a in
-        subst (λ (x : Start). IsSiteOutcome (place_of x.script (done_of e))) i
+        subst (λ (x : Start). IsSiteOutcome (site_end x.script (done_of e))) i
         (site_outcome (k + 1) o.start.script o.start.peers.items e (none_short ends long k e b)
         (worked k e b))
 
@@ -260,12 +260,13 @@ module _ (scripts : List Script) (rows : List (List Peer)) (starts : List Start)
 
     outcome_here : IsSession (map (λ s. s.script) starts) (map done_of ends)
     outcome_here =
-        let all : List Place = places (map (λ s. s.script) starts) (map done_of ends) in record {
+        let all : List SiteEnd = site_ends (map (λ s. s.script) starts) (map done_of ends) in
+        record {
           long = length-map ends done_of ∙ same_long starts ends gave
               ∙ sym (length-map starts (λ (s : Start). s.script));
           outcome = record {
             numbers = λ k p q. let t = played_at starts ends gave k p q in
-                ap (λ (x : Place). x.number) t.is ∙ number k t.end t.ends_at;
+                ap (λ (x : SiteEnd). x.number) t.is ∙ number k t.end t.ends_at;
             each = λ p c.
                 let k = position_at all p c in
                 let t = played_at starts ends gave k.0 p k.1 in
@@ -275,7 +276,7 @@ module _ (scripts : List Script) (rows : List (List Peer)) (starts : List Start)
                 let j = position_at all q d in
                 let t = played_at starts ends gave k.0 p k.1 in
                 let u = played_at starts ends gave j.0 q j.1 in
-                subst (λ (x : Place × Place). HaveSame x.0.ops x.1.ops)
+                subst (λ (x : SiteEnd × SiteEnd). HaveSame x.0.ops x.1.ops)
                 (λ i. (sym t.is i, sym u.is i))
                 (same_ops ends have_one t.end u.end (position_in ends k.0 t.end t.ends_at)
                 (position_in ends j.0 u.end u.ends_at));

@@ -4,15 +4,15 @@ use Rattle.gf_worker.specs.declared.script.Script.{Script}
 use Rattle.gf_worker.specs.declared.worker.WorkerEnd.{WorkerEnd}
 use Rattle.gf_session.specs.declared.session.Done.{Done}
 use Rattle.gf_replicas.specs.Courses.{HaveEvents}
-use Rattle.gf_session.specs.Outcome.{Place, IsOutcome}
+use Rattle.gf_session.specs.Outcome.{SiteEnd, IsOutcome}
 
 -- what the site of a worker came to
 abbrev pub done_of : WorkerEnd → Done
 done_of e = record { site = e.site; report = e.report }
 
 -- a script, with the number, the operations and the report of its site at the end
-abbrev pub place_of : Script → Done → Place
-place_of s d = record {
+abbrev pub site_end : Script → Done → SiteEnd
+site_end s d = record {
   number = d.site.number;
   script = s.0.items;
   ops = d.site.ops;
@@ -20,14 +20,14 @@ place_of s d = record {
 }
 
 -- each script, with the number, the operations and the report of its site at the end
-abbrev pub places : List Script → List Done → List Place
-places [] ds = []
-places (s ∷ ss) [] = []
-places (s ∷ ss) (d ∷ ds) = place_of s d ∷ places ss ds
+abbrev pub site_ends : List Script → List Done → List SiteEnd
+site_ends [] ds = []
+site_ends (s ∷ ss) [] = []
+site_ends (s ∷ ss) (d ∷ ds) = site_end s d ∷ site_ends ss ds
 
 -- for each script there is what its site came to, and all these are an outcome. Some events bring
 -- as many sites to their lists
 pub record IsSession (scripts : List Script) (dones : List Done) : Type 0 where
   pub long : length dones ≡ length scripts
-  pub outcome : IsOutcome (places scripts dones)
+  pub outcome : IsOutcome (site_ends scripts dones)
   pub events : HaveEvents (map (λ d. d.site.ops) dones)

@@ -26,7 +26,7 @@ use Rattle.gf_session.specs.declared.session.Done.{Done}
 use Rattle.gf_site.specs.Course.{IsCourse}
 use Rattle.gf_site.specs.Course.{none as course_none, next as course_next}
 use Rattle.gf_replicas.proofs.GrowingLemmas.{valid_nil}
-use Rattle.gf_session.specs.Session.{IsSession, place_of, places}
+use Rattle.gf_session.specs.Session.{IsSession, site_end, site_ends}
 use Rattle.gf_session_run.specs.DenotedScripts.{DenotesScripts}
 use Rattle.gf_session_run.specs.Reports.{report_text}
 use Rattle.gf_session_run.specs.SessionRun.{IsSiteCount, PlaysScripts, TellsSession}
@@ -36,7 +36,7 @@ use Rattle.gf_session_run.specs.declared.session_run_error.SessionRunError.TheVa
 -- the place that a site has in the outcome
 record IsPlace (scripts : List Script) (dones : List Done) (d : Done) : Type 0 where
   script : Script
-  there : Contains (places scripts dones) (place_of script d)
+  there : Contains (site_ends scripts dones) (site_end script d)
 
 has_place : (scripts : List Script) (dones : List Done) → length dones ≡ length scripts → (d : Done)
     → Contains dones d → IsPlace scripts dones d
@@ -45,12 +45,13 @@ has_place [] (x ∷ dones) e d i = absurd (omega (e, arith))
 has_place (s ∷ scripts) (x ∷ dones) e d i = elim (Contains-cons_cases x dones d i) [
   | inl q ↦ record {
     script = s;
-    there = subst (λ y. Contains (place_of s x ∷ places scripts dones) (place_of s y)) (sym q)
-        (Contains-cons_head (place_of s x) (places scripts dones));
+    there = subst (λ y. Contains (site_end s x ∷ site_ends scripts dones) (site_end s y)) (sym q)
+        (Contains-cons_head (site_end s x) (site_ends scripts dones));
   }
   | inr j ↦ let p = has_place scripts dones (omega (e, arith)) d j in record {
     script = p.script;
-    there = Contains-cons_tail (place_of s x) (places scripts dones) (place_of p.script d) p.there;
+    there = Contains-cons_tail (site_end s x) (site_ends scripts dones) (site_end p.script d)
+        p.there;
   }
 ]
 
@@ -59,7 +60,7 @@ pub common_history : (scripts : List Script) (dones : List Done) → IsSession s
 common_history scripts dones session d e i j =
     let p = has_place scripts dones session.long d i in
     let q = has_place scripts dones session.long e j in
-    session.outcome.same (place_of p.script d) (place_of q.script e) p.there q.there
+    session.outcome.same (site_end p.script d) (site_end q.script e) p.there q.there
 
 course_valid : {s : ℕ} {h : List Op} → IsCourse s h → IsValid h
 course_valid course_none = valid_nil
@@ -69,7 +70,7 @@ pub site_valid : (scripts : List Script) (dones : List Done) → IsSession scrip
     → Contains dones d → IsValid d.site.ops
 site_valid scripts dones session d i =
     let p = has_place scripts dones session.long d i in
-    course_valid (session.outcome.each (place_of p.script d) p.there).course
+    course_valid (session.outcome.each (site_end p.script d) p.there).course
 
 -- histories of the same operations have one FIG text, which shows both
 module _ (h k : List Op) (same : HaveSame h k) where
