@@ -5,7 +5,7 @@ ghost use Rattle.gf_visible.specs.ShownAt.{shown_value, shown_by};
 ghost use Rattle.gf_visible.specs.ShownAt.{said_at, shows_or_hides_at, shows_at, later_at};
 ghost use Rattle.gf_visible.specs.ShownAt.{hides_at};
 
-use crate::Setters;
+use crate::Showing;
 use gf_groups::{before_at, conflict_at};
 use gf_ops::{Change, History, Value};
 
@@ -76,7 +76,7 @@ pub(crate) fn hides_at(history: &History, position: usize) -> bool
 #[derive(Drop)]
 pub(crate) struct Timeline<'a>(pub(crate) &'a History);
 
-impl Setters for Timeline<'_> {
+impl Showing for Timeline<'_> {
     ghost use Rattle.gf_groups.specs.Growing.{conflict_at};
     ghost use Rattle.gf_visible.specs.ShownAt.{covers_at, hides_at};
 

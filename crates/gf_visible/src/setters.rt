@@ -13,7 +13,7 @@ use gf_shape::OutOfMemory;
 use std::alloc::Global;
 
 /// What the operations at positions say of each other.
-pub trait Setters {
+pub trait Showing {
     /// Whether the position hides.
     ghost hides: { Self → ℕ → Bool };
 
@@ -48,7 +48,7 @@ pub(crate) fn set_of(alloc: Global, positions: &[usize]) -> Result<Numbers, OutO
 }
 
 /// The positions that conflict with this position.
-fn rivals_of<T: Setters>(
+fn rivals_of<T: Showing>(
     alloc: Global,
     setters: &T,
     positions: &[usize],
@@ -69,7 +69,7 @@ fn rivals_of<T: Setters>(
 }
 
 /// The positions that cover this position.
-fn covers_of<T: Setters>(
+fn covers_of<T: Showing>(
     alloc: Global,
     setters: &T,
     positions: &[usize],
@@ -90,7 +90,7 @@ fn covers_of<T: Setters>(
 }
 
 /// The positions that cover this position, if that hides.
-fn asked_of<T: Setters>(
+fn asked_of<T: Showing>(
     alloc: Global,
     setters: &T,
     positions: &[usize],
@@ -119,7 +119,7 @@ fn alone(alloc: Global, position: usize) -> Result<Numbers, OutOfMemory>
 }
 
 /// The step of one of the positions.
-fn step_of<T: Setters>(
+fn step_of<T: Showing>(
     alloc: Global,
     setters: &T,
     positions: &[usize],
@@ -138,7 +138,7 @@ fn step_of<T: Setters>(
 }
 
 /// The steps of all positions.
-fn steps_of<T: Setters>(
+fn steps_of<T: Showing>(
     alloc: Global,
     setters: &T,
     positions: &[usize],
@@ -161,7 +161,7 @@ fn steps_of<T: Setters>(
 /// Each two positions are compared. Then each step costs a pass over all of them. The search goes
 /// on only where each may still be chosen and covered, or be left out for a rival. No time is
 /// promised for the whole: for some positions the search takes very long.
-pub fn showing_within<T: Setters>(
+pub fn showing_within<T: Showing>(
     alloc: Global,
     setters: &T,
     positions: &[usize],

@@ -5,13 +5,13 @@ use Rattle.gf_visible.proofs.setters.covers_of.Goals as goal
 pub set_of-requires-clause-rising : goal.set_of-requires-clause-rising
 set_of-requires-clause-rising g c =
     let done = c.loop-other-test.false in
-    kept_rising (g.T.Setters.covers c.args.setters.now c.args.position) c.args.positions.now
+    kept_rising (g.T.Showing.covers c.args.setters.now c.args.position) c.args.positions.now
     c.loop-other.other-index c.deref.result.now done
     (c.deref.ensures.value ∙ c.loop-other.invariant) c.requires.rising
 
 pub set_of-requires-clause-bounded : goal.set_of-requires-clause-bounded
 set_of-requires-clause-bounded g c =
     let done = c.loop-other-test.false in
-    kept_bounded 18446744073709551616 (g.T.Setters.covers c.args.setters.now c.args.position)
+    kept_bounded 18446744073709551616 (g.T.Showing.covers c.args.setters.now c.args.position)
     c.args.positions.now c.loop-other.other-index c.deref.result.now done
     (c.deref.ensures.value ∙ c.loop-other.invariant) c.requires.bounded
