@@ -1,7 +1,7 @@
-use Rattle.std.proofs.Common.{rules}
-use Rattle.gf_changes.proofs.PlacedLemmas.{placed_group}
+use Rattle.gf_changes.proofs.PlacedLemmas.{ranked_group}
 use Rattle.gf_changes.proofs.plan.versions_of.Goals as goal
 
 pub settle-requires : goal.settle-requires
-settle-requires c = rw c.in_ok-copy.ensures (placed_group c.args.history.now.ops c.item-item.result
-    ((c.requires.exactly c.item-item.result).1 (search rules)))
+settle-requires c = ranked_group c.args.history.now.ops c.args.items.now c.requires
+    c.loop-item.item-index c.item-item.result c.loop-item-test.true c.item-item.is
+    c.in_ok-copy.field-0 c.in_ok-copy.ensures
