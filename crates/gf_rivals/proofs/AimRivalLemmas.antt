@@ -1,6 +1,6 @@
 -- The rivals of an operation with an aim: what it or its aim meets, and what aims at one of these,
 -- are its conflicts.
-use Rattle.std.proofs.Common.{◌≡◌, ◌≢◌, ℕ, List, [], length, inl, inr, refl, subst, sym, ap, ◌∙◌}
+use Rattle.std.proofs.Common.{◌≡◌, ℕ, List, length, inl, inr, refl, subst, sym, ap, ◌∙◌}
 use Rattle.std.specs.Prelude.{◌⊎◌, ◌↔◌, Contains, Option, Some, None, slice_get}
 use Rattle.std.proofs.lemmas.Option.{slice_get_read}
 use Rattle.gf_maximal.proofs.MaximalLemmas.{meets_one, meets_from}

@@ -1,6 +1,6 @@
 -- The numbers of an aim, the operations that aim at some numbers, and what conflicts with a member,
 -- found one by one.
-use Rattle.std.proofs.Common.{◌≡◌, ◌≢◌, ℕ, ◌<◌, ◌≤◌, ◌+◌, true, List, [], ◌∷◌, ◌++◌, take, length}
+use Rattle.std.proofs.Common.{◌≡◌, ℕ, ◌<◌, ◌≤◌, ◌+◌, true, List, [], ◌∷◌, ◌++◌, take, length}
 use Rattle.std.proofs.Common.{get_or, inl, inr, subst, sym, ap, ◌∙◌, arith}
 use Rattle.std.specs.Prelude.{◌⊎◌, ◌↔◌, Contains, slice_index_or}
 use Rattle.std.proofs.lemmas.Bool.{cases_lt}

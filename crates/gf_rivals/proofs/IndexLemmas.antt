@@ -1,5 +1,5 @@
 -- An index has exactly the setters of the chains, as it is made and as the history becomes longer.
-use Rattle.std.proofs.Common.{◌≡◌, ℕ, ◌<◌, ◌+◌, ◌*◌, true, List, [], length, get_or, inl, inr, refl}
+use Rattle.std.proofs.Common.{◌≡◌, ℕ, ◌<◌, ◌+◌, true, List, [], length, get_or, inl, inr, refl}
 use Rattle.std.proofs.Common.{subst, sym, ap, ◌∙◌, arith}
 use Rattle.std.specs.Prelude.{◌⊎◌, ◌↔◌, Contains, Option, Some, None, slice_get, unwrap_or}
 use Rattle.std.specs.BTreeMap.{is_at}

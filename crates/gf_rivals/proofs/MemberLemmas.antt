@@ -1,6 +1,6 @@
 -- The members of an aim by their chains, and which of them conflict with a setter.
 use Rattle.std.proofs.Common.{◌≡◌, ◌≢◌, ℕ, zero, suc, ◌-◌, Bool, true, false, not, ◌<◌, ◌≤◌, ◌+◌}
-use Rattle.std.proofs.Common.{◌*◌, ◌/◌, List, [], ◌∷◌, ◌++◌, length, inl, inr, refl, subst, sym, ap}
+use Rattle.std.proofs.Common.{List, [], ◌∷◌, ◌++◌, length, inl, inr, refl, subst, sym, ap}
 use Rattle.std.proofs.Common.{◌∙◌, arith}
 use Rattle.std.specs.Prelude.{◌⊎◌, ◌↔◌, Contains, IsTrue, drop, nat_le, Option, Some, None}
 use Rattle.std.specs.Prelude.{slice_get, slice_index_or}

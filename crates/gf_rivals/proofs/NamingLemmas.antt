@@ -1,7 +1,7 @@
 -- Setters found by their ids.
-use Rattle.std.proofs.Common.{◌≡◌, ℕ, ◌<◌, ◌≤◌, ◌+◌, ◌-◌, ◌*◌, List, [], inl, inr, refl, subst, sym}
+use Rattle.std.proofs.Common.{◌≡◌, ℕ, ◌<◌, ◌-◌, List, [], inl, inr, refl, subst, sym}
 use Rattle.std.proofs.Common.{ap, ◌∙◌, arith}
-use Rattle.std.specs.Prelude.{◌⊎◌, ◌↔◌, Contains, IfSome, Option, Some, None, slice_get}
+use Rattle.std.specs.Prelude.{Contains, IfSome, Option, Some, None, slice_get}
 use Rattle.std.specs.Prelude.{slice_index_or}
 use Rattle.gf_maximal.specs.Growing.{joined}
 use Rattle.gf_ops.specs.declared.op.Op.{Op}

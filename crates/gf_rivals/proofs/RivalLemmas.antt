@@ -1,5 +1,5 @@
 -- The rivals of the next operation are those that it conflicts with.
-use Rattle.std.proofs.Common.{◌≡◌, ℕ, ◌<◌, ◌≤◌, ◌+◌, ◌*◌, true, List, [], inl, inr, refl, subst}
+use Rattle.std.proofs.Common.{◌≡◌, ℕ, ◌<◌, ◌≤◌, ◌+◌, true, List, [], inl, inr, refl, subst}
 use Rattle.std.proofs.Common.{sym, ap, ◌∙◌, arith}
 use Rattle.std.specs.Prelude.{◌↔◌, Contains, Option, Some, None, slice_get, unwrap_or}
 use Rattle.std.proofs.lemmas.Bool.{cases_lt}

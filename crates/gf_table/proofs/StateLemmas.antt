@@ -1,5 +1,5 @@
 -- The state of an object, when one operation comes: made, kept or grown.
-use Rattle.std.proofs.Common.{◌≡◌, ◌≢◌, ℕ, true, ◌+◌, ◌-◌, ◌*◌, ◌<◌, List, [], ◌∷◌, ◌++◌, get_or}
+use Rattle.std.proofs.Common.{◌≡◌, ◌≢◌, ℕ, true, ◌-◌, ◌<◌, List, [], ◌∷◌, ◌++◌, get_or}
 use Rattle.std.proofs.Common.{length, inl, inr, refl, subst, sym, ap, ◌∙◌, arith}
 use Rattle.std.specs.Prelude.{◌⊎◌, ◌↔◌, Contains, IfSome, Option, Some, None, slice_get, unwrap_or}
 use Rattle.std.specs.Ordering.{nat_cmp}

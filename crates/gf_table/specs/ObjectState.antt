@@ -1,6 +1,6 @@
 -- What the table has of one object: its setters, by site and by value, and its components. The
 -- table also has what aims, and where the creation stands.
-use Rattle.std.specs.Prelude.{ℕ, ◌-◌, ◌*◌, Bool, List, [], None, Option, unwrap_or}
+use Rattle.std.specs.Prelude.{ℕ, ◌-◌, Bool, List, [], None, Option, unwrap_or}
 use Rattle.gf_ops.specs.declared.op.Op.{Op}
 use Rattle.gf_ops.specs.declared.op.OpId.{OpId}
 use Rattle.gf_ops.specs.declared.change.Attr.{Attr}

@@ -1,4 +1,4 @@
-use Rattle.std.proofs.Common.{◌≡◌, ℕ, take}
+use Rattle.std.proofs.Common.{take}
 use Rattle.gf_rivals.specs.Aimed.{AreNumbersOf}
 use Rattle.gf_rivals.proofs.aims.numbers_of.Given as goal
 

@@ -1,4 +1,4 @@
-use Rattle.std.proofs.Common.{◌≡◌, true, [], subst}
+use Rattle.std.proofs.Common.{◌≡◌, true, subst}
 use Rattle.gf_maximal.specs.Growing.{meets}
 use Rattle.gf_rivals.specs.Aimed.{AimedState}
 use Rattle.gf_rivals.specs.Comparing.{AddsIf}

@@ -1,4 +1,4 @@
-use Rattle.std.proofs.Common.{◌≡◌, ℕ, take}
+use Rattle.std.proofs.Common.{ℕ, take}
 use Rattle.std.specs.Prelude.{◌↔◌, ◌⊎◌, Contains}
 use Rattle.gf_rivals.specs.Aimed.{AimsAtOne}
 use Rattle.gf_rivals.proofs.aims.with_aimed.Given as goal

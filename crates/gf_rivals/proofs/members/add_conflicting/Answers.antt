@@ -1,4 +1,4 @@
-use Rattle.std.proofs.Common.{◌≡◌, sym, ◌∙◌, true≢false}
+use Rattle.std.proofs.Common.{sym, ◌∙◌, true≢false}
 use Rattle.std.proofs.lemmas.Result.{on_ok_weaker}
 use Rattle.gf_rivals.specs.Aimed.{ConflictsWithOne}
 use Rattle.gf_rivals.proofs.GivingLemmas.{adds_joined, adds_none}

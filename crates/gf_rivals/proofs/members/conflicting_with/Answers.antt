@@ -1,5 +1,4 @@
-use Rattle.std.proofs.Common.{◌≡◌, List, ℕ, subst, sym, ◌∙◌}
-use Rattle.std.specs.Prelude.{◌↔◌}
+use Rattle.std.proofs.Common.{List, ℕ, subst, sym, ◌∙◌}
 use Rattle.gf_maximal.specs.Tables.{IsRising}
 use Rattle.gf_rivals.specs.declared.members.Member.{Member}
 use Rattle.gf_rivals.specs.Aimed.{ConflictsWithOne}

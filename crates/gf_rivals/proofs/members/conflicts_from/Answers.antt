@@ -1,4 +1,4 @@
-use Rattle.std.proofs.Common.{◌≡◌, ◌≤◌, arith, inl, inr, ap, sym, subst, ◌∙◌, true≢false}
+use Rattle.std.proofs.Common.{◌≡◌, arith, inl, inr, ap, sym, subst, ◌∙◌, true≢false}
 use Rattle.gf_rivals.specs.declared.members.Member.{Member}
 use Rattle.gf_rivals.specs.Aimed.{ConflictDirectly}
 use Rattle.gf_rivals.proofs.MemberLemmas.{first_conflicts, member_there}

@@ -1,4 +1,4 @@
-use Rattle.std.proofs.Common.{◌≡◌, ◌≤◌, ◌+◌, ap, refl, sym, ◌∙◌, arith, rules, nat_le}
+use Rattle.std.proofs.Common.{◌≡◌, ap, refl, sym, ◌∙◌, arith, rules, nat_le}
 use Rattle.std.specs.Prelude.{length}
 use Rattle.std.proofs.lemmas.Bool.{ltb-true}
 use Rattle.std.proofs.lemmas.Option.{slice_get_read}

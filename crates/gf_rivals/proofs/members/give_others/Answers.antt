@@ -1,4 +1,4 @@
-use Rattle.std.proofs.Common.{◌≡◌, List, subst, ◌∙◌}
+use Rattle.std.proofs.Common.{◌≡◌, List, subst}
 use Rattle.gf_ops.specs.declared.op.Op.{Op}
 use Rattle.gf_rivals.specs.Comparing.{number_gives}
 use Rattle.gf_rivals.proofs.MemberLemmas.{others_differ}

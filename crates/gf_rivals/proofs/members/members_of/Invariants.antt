@@ -1,4 +1,4 @@
-use Rattle.std.proofs.Common.{◌≡◌, ◌-◌, length, drop}
+use Rattle.std.proofs.Common.{◌-◌, length, drop}
 use Rattle.gf_rivals.specs.Members.{AreMembers}
 use Rattle.gf_rivals.proofs.members.members_of.Given as goal
 

@@ -1,4 +1,4 @@
-use Rattle.std.proofs.Common.{◌≡◌, ap, sym, ◌∙◌, true≢false}
+use Rattle.std.proofs.Common.{ap, sym, ◌∙◌, true≢false}
 use Rattle.std.specs.Prelude.{option_copied}
 use Rattle.gf_rivals.specs.declared.setter_index.SetterIndex.{SetterIndex}
 use Rattle.gf_rivals.proofs.MemberLemmas.{other_kept}
