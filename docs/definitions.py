@@ -196,9 +196,10 @@ def rests_on(files, places):
 
 
 def type_of(module, name):
-    """The type of the code that a name of a module that is made from declarations belongs to."""
+    """The type of the code that a name of a module that is made from declarations belongs to, a derived test too."""
     parts = module.split(".")
-    return next((it for it in parts[2:] if it[0].isupper() and not it.startswith("The")), name)
+    found = next((it for it in parts[2:] if it[0].isupper() and not it.startswith("The")), name)
+    return found.removesuffix("PartialEq") if parts[1] == "contracts" else found
 
 
 def page():

@@ -36,7 +36,7 @@ use Rattle.gf_fig_read.specs.FigGrammar.{Reads}
 use Rattle.gf_fig_read.specs.Objects.{Drawn}
 use Rattle.gf_fig_read.proofs.GrammarLemmas.{one_drawing}
 use Rattle.gf_fig_write.specs.FigText.{chain_line, colour_line, disc_numbers, fig_header, fig_text}
-use Rattle.gf_fig_write.specs.FigText.{figure_lines, filling, outline_lines, oval_numbers}
+use Rattle.gf_fig_write.specs.FigText.{figure_lines, filling_fields, outline_lines, oval_numbers}
 use Rattle.gf_fig_write.specs.FigText.{spaced_point}
 use Rattle.gf_fig_write.specs.ShownHistory.{Shows}
 use Rattle.gf_fig_write.proofs.CanonicalLemmas.{figures_outlined, items_bytes, items_outlined}
@@ -62,11 +62,11 @@ outline_ends c d (Chain ring) = record {
       (10 ∷ []));
 }
 outline_ends c d (Disc round) = record {
-  line = codes "1 3 0 0 " ++ filling c d ++ codes " 1 0.0000" ++ disc_numbers round;
+  line = codes "1 3 0 0 " ++ filling_fields c d ++ codes " 1 0.0000" ++ disc_numbers round;
   is = refl;
 }
 outline_ends c d (Oval oblong) = record {
-  line = codes "1 1 0 0 " ++ filling c d ++ codes " 1 0.0000" ++ oval_numbers oblong;
+  line = codes "1 1 0 0 " ++ filling_fields c d ++ codes " 1 0.0000" ++ oval_numbers oblong;
   is = refl;
 }
 

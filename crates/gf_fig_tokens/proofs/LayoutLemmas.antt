@@ -8,7 +8,7 @@ use Rattle.std.proofs.lemmas.List.{nil_from_length, length-drop}
 use Rattle.std.proofs.lemmas.List.Sums.{prefix_len-le-length}
 use Rattle.std.proofs.lemmas.Iterator.Adapters.{position_from-zero}
 use Rattle.std.specs.List.{slice_split, onto_first, position_from, position_or_len}
-use Rattle.gf_fig_tokens.specs.Layout.{is_line_feed, is_blank, is_filled, is_comment, lines, plain}
+use Rattle.gf_fig_tokens.specs.Layout.{is_line_feed, is_space, is_filled, is_comment, lines, plain}
 use Rattle.gf_fig_tokens.specs.Layout.{words, tokens}
 use Rattle.gf_fig_tokens.specs.Stepping.{after_blanks}
 
@@ -66,13 +66,13 @@ lines_cut (b ∷ c ∷ bs) n = elim (cases_Bool (is_line_feed b)) [
 -- the first part of a line, and the tokens behind it
 record Parts (line : List ℕ) : Type 0 where
   others : List (List ℕ)
-  split : slice_split is_blank line ≡ take (position_or_len is_blank line) line ∷ others
-  behind : filter is_filled others ≡ words (drop (position_or_len is_blank line) line)
+  split : slice_split is_space line ≡ take (position_or_len is_space line) line ∷ others
+  behind : filter is_filled others ≡ words (drop (position_or_len is_space line) line)
 
 parts : (line : List ℕ) → Parts line
 parts [] = record { others = []; split = refl; behind = refl }
-parts (b ∷ bs) = elim (cases_Bool (is_blank b)) [
-  | inl t ↦ record { others = slice_split is_blank bs; split = rw t refl; behind = rw (t, t) refl }
+parts (b ∷ bs) = elim (cases_Bool (is_space b)) [
+  | inl t ↦ record { others = slice_split is_space bs; split = rw t refl; behind = rw (t, t) refl }
   | inr t ↦ let p = parts bs in record {
     others = p.others;
     split = rw (t, one_more) (ap (onto_first b) p.split);
@@ -80,19 +80,19 @@ parts (b ∷ bs) = elim (cases_Bool (is_blank b)) [
   }
 ]
 
-first_word : (b : ℕ) (bs : List ℕ) → is_blank b ≡ false
-    → words (b ∷ bs) ≡ take (position_or_len is_blank (b ∷ bs)) (b ∷ bs) ∷ words
-    (drop (position_or_len is_blank (b ∷ bs)) (b ∷ bs))
+first_word : (b : ℕ) (bs : List ℕ) → is_space b ≡ false
+    → words (b ∷ bs) ≡ take (position_or_len is_space (b ∷ bs)) (b ∷ bs) ∷ words
+    (drop (position_or_len is_space (b ∷ bs)) (b ∷ bs))
 first_word b bs t = let p = parts bs in rw (t, one_more, p.split, p.behind) refl
 
-blank_first : (b : ℕ) (bs : List ℕ) → is_blank b ≡ true → words (b ∷ bs) ≡ words bs
+blank_first : (b : ℕ) (bs : List ℕ) → is_space b ≡ true → words (b ∷ bs) ≡ words bs
 blank_first b bs t = rw t refl
 
 pub words_cut : (line : List ℕ) → after_blanks line ≢ []
-    → words line ≡ take (position_or_len is_blank (after_blanks line)) (after_blanks line) ∷ words
-    (drop (position_or_len is_blank (after_blanks line)) (after_blanks line))
+    → words line ≡ take (position_or_len is_space (after_blanks line)) (after_blanks line) ∷ words
+    (drop (position_or_len is_space (after_blanks line)) (after_blanks line))
 words_cut [] n = absurd (n refl)
-words_cut (b ∷ bs) n = elim (cases_Bool (is_blank b)) [
+words_cut (b ∷ bs) n = elim (cases_Bool (is_space b)) [
   | inl t ↦ let after : after_blanks (b ∷ bs) ≡ after_blanks bs = rw (t, one_more) refl in
       rw after (blank_first b bs t ∙ words_cut bs (λ e. n (after ∙ e)))
   | inr t ↦ let after : after_blanks (b ∷ bs) ≡ b ∷ bs = rw t refl in rw after (first_word b bs t)
@@ -100,7 +100,7 @@ words_cut (b ∷ bs) n = elim (cases_Bool (is_blank b)) [
 
 done : (line : List ℕ) → after_blanks line ≡ [] → words line ≡ []
 done [] e = refl
-done (b ∷ bs) e = elim (cases_Bool (is_blank b)) [
+done (b ∷ bs) e = elim (cases_Bool (is_space b)) [
   | inl t ↦ let after : after_blanks (b ∷ bs) ≡ after_blanks bs = rw (t, one_more) refl in
       blank_first b bs t ∙ done bs (sym after ∙ e)
   | inr t ↦ let after : after_blanks (b ∷ bs) ≡ b ∷ bs = rw t refl in
@@ -163,15 +163,15 @@ filled_have [] = omega arith
 filled_have ([] ∷ ls) = let h = filled_have ls in omega (arith, h)
 filled_have ((b ∷ l) ∷ ls) = let h = filled_have ls in omega (arith, h)
 
-bytes-split : (line : List ℕ) → bytes (slice_split is_blank line) ≤ length line
+bytes-split : (line : List ℕ) → bytes (slice_split is_space line) ≤ length line
 bytes-split [] = omega arith
-bytes-split (b ∷ bs) = elim (cases_Bool (is_blank b)) [
+bytes-split (b ∷ bs) = elim (cases_Bool (is_space b)) [
   | inl t ↦ rw t (let h = bytes-split bs in omega (arith, h))
   | inr t ↦ rw (t, bytes-onto_first) (let h = bytes-split bs in omega (arith, h))
 ]
 
 pub few_words : (line : List ℕ) → length (words line) ≤ length line
-few_words line = let h = filled_have (slice_split is_blank line) in let m = bytes-split line in
+few_words line = let h = filled_have (slice_split is_space line) in let m = bytes-split line in
     omega (arith, h, m)
 
 few_in : (ls : List (List ℕ)) → length (tokens ls) ≤ bytes ls

@@ -18,8 +18,8 @@ abbrev pub is_line_feed : ℕ → Bool
 is_line_feed b = b == 10
 
 -- byte b stands between tokens: a blank, a tab, a carriage return or a line feed
-abbrev pub is_blank : ℕ → Bool
-is_blank b = b == 32 || b == 9 || b == 13 || b == 10
+abbrev pub is_space : ℕ → Bool
+is_space b = b == 32 || b == 9 || b == 13 || b == 10
 
 -- the lines of a text, without line feeds; text behind the last line feed is a line, too
 abbrev pub lines : List ℕ → List (List ℕ)
@@ -33,7 +33,7 @@ is_filled (b ∷ bs) = true
 
 -- the tokens of a line: what stands between blanks and is not empty
 abbrev pub words : List ℕ → List Token
-words line = filter is_filled (slice_split is_blank line)
+words line = filter is_filled (slice_split is_space line)
 
 -- the first byte of the line is '#'
 abbrev pub is_comment : List ℕ → Bool

@@ -3,12 +3,12 @@
 ghost use Rattle.std.specs.Prelude.{◌≡◌, ◌<◌, ◌≤◌, [], ◌∷◌, not, length, drop, MatchOption, IfSome};
 ghost use Rattle.std.specs.Prelude.{Some, None};
 ghost use Rattle.std.specs.List.{position_from, position_or_len};
-ghost use Rattle.gf_fig_tokens.specs.Layout.{is_blank, is_line_feed, is_comment, is_version, lines};
+ghost use Rattle.gf_fig_tokens.specs.Layout.{is_space, is_line_feed, is_comment, is_version, lines};
 ghost use Rattle.gf_fig_tokens.specs.Layout.{words, plain};
 ghost use Rattle.gf_fig_tokens.specs.Stepping.{after_blanks};
 
-fn is_blank(b: u8) -> bool
-    ensures { result ≡ is_blank b }
+fn is_space(b: u8) -> bool
+    ensures { result ≡ is_space b }
 {
     b == b' ' || b == b'\t' || b == b'\r' || b == b'\n'
 }
@@ -33,15 +33,15 @@ fn first_line_feed(text: &[u8]) -> Option<usize>
 }
 
 fn first_blank(line: &[u8]) -> Option<usize>
-    ensures { result ≡ position_from is_blank 0 line.now }
+    ensures { result ≡ position_from is_space 0 line.now }
 {
-    line.iter().position(|b| is_blank(*b))
+    line.iter().position(|b| is_space(*b))
 }
 
 fn first_filled(line: &[u8]) -> Option<usize>
-    ensures { result ≡ position_from (λ b. not (is_blank b)) 0 line.now }
+    ensures { result ≡ position_from (λ b. not (is_space b)) 0 line.now }
 {
-    line.iter().position(|b| !is_blank(*b))
+    line.iter().position(|b| !is_space(*b))
 }
 
 /// How many bytes stand before the first line feed, or in all.
@@ -59,7 +59,7 @@ fn line_len(text: &[u8]) -> usize
 /// How many bytes stand before the first blank, or in all.
 #[tactic(auto, using(crate::proofs::LayoutLemmas::found_at, crate::proofs::LayoutLemmas::found_nowhere))]
 fn word_len(line: &[u8]) -> usize
-    ensures len { result ≡ position_or_len is_blank line.now }
+    ensures len { result ≡ position_or_len is_space line.now }
     ensures within { result ≤ length line.now }
 {
     match first_blank(line) {
@@ -71,7 +71,7 @@ fn word_len(line: &[u8]) -> usize
 /// How many blanks a line begins with.
 #[tactic(auto, using(crate::proofs::LayoutLemmas::found_at, crate::proofs::LayoutLemmas::found_nowhere))]
 fn blanks_len(line: &[u8]) -> usize
-    ensures len { result ≡ position_or_len (λ b. not (is_blank b)) line.now }
+    ensures len { result ≡ position_or_len (λ b. not (is_space b)) line.now }
     ensures within { result ≤ length line.now }
 {
     match first_filled(line) {

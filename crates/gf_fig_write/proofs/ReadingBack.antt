@@ -34,7 +34,8 @@ use Rattle.gf_fig_write.proofs.PrintedObjects.{sum_small}
 use Rattle.gf_fig_write.proofs.PrintedFigures.{outline_words, figure_words}
 use Rattle.gf_fig_write.proofs.PrintedDrawings.{drawing_words, drawing_leads, known_small}
 use Rattle.gf_fig_write.proofs.PrintedDrawings.{IsTableEntry, HasLawfulShape}
-use Rattle.gf_fig_write.specs.FigText.{fig_header, colour_line, spaced_point, filling, sub_type}
+use Rattle.gf_fig_write.specs.FigText.{fig_header, colour_line, spaced_point, filling_fields}
+use Rattle.gf_fig_write.specs.FigText.{sub_type}
 use Rattle.gf_fig_write.specs.FigText.{disc_numbers, chain_line, points_line, right_end, disc_line}
 use Rattle.gf_fig_write.specs.FigText.{low_end, oval_numbers, oval_line, outline_lines}
 use Rattle.gf_fig_write.specs.FigText.{figure_lines, fig_text}
@@ -93,7 +94,7 @@ led_end : (b : ℕ) (ws : List (List ℕ)) (rest : List ℕ) → (b ∷ led ws) 
 led_end b ws rest = ap (λ (x : List ℕ). b ∷ x) (led_end_all ws rest)
 
 filling_led : (c d : ℕ) (rest : List ℕ)
-    → filling c d ++ rest ≡ decimal
+    → filling_fields c d ++ rest ≡ decimal
     c ++ (32 ∷ (decimal c ++ (32 ∷ (decimal d ++ (codes " -1 20 0.000" ++ rest)))))
 filling_led c d rest = six (decimal c) (codes " ") (decimal c) (codes " ") (decimal d)
     (codes " -1 20 0.000") rest
@@ -129,7 +130,7 @@ chain_regrouped : (c d : ℕ) (r : Ring) (rest : List ℕ)
     → chain_line c d r ++ rest ≡ (50 ∷ led
     (decimal (sub_type r.boxed) ∷ style_words c d ++ count_words (length r.points))) ++ 10 ∷ rest
 chain_regrouped c d r rest =
-    seven (codes "2 ") (decimal (sub_type r.boxed)) (codes " 0 0 ") (filling c d)
+    seven (codes "2 ") (decimal (sub_type r.boxed)) (codes " 0 0 ") (filling_fields c d)
     (codes " 0 0 -1 0 0 ") (decimal (length r.points)) (codes "\n") rest
     ∙ ap (λ (x : List ℕ). codes "2 " ++ (decimal (sub_type r.boxed) ++ (codes " 0 0 " ++ x)))
     (filling_led c d (codes " 0 0 -1 0 0 " ++ (decimal (length r.points) ++ (codes "\n" ++ rest))))
@@ -222,7 +223,8 @@ disc_regrouped : (c d : ℕ) (r : Round) (rest : List ℕ)
     ∷ rest
 disc_regrouped c d r rest =
     let behind : List ℕ = codes "\n" ++ rest in
-    five (codes "1 3 0 0 ") (filling c d) (codes " 1 0.0000") (disc_numbers r) (codes "\n") rest
+    five (codes "1 3 0 0 ") (filling_fields c d) (codes " 1 0.0000") (disc_numbers r) (codes "\n")
+    rest
     ∙ ap (λ (x : List ℕ). codes "1 3 0 0 " ++ x)
     (filling_led c d (codes " 1 0.0000" ++ (disc_numbers r ++ behind)))
     ∙ ap (λ (x : List ℕ). codes
@@ -283,7 +285,8 @@ oval_regrouped : (c d : ℕ) (o : Oblong) (rest : List ℕ)
     ∷ rest
 oval_regrouped c d o rest =
     let behind : List ℕ = codes "\n" ++ rest in
-    five (codes "1 1 0 0 ") (filling c d) (codes " 1 0.0000") (oval_numbers o) (codes "\n") rest
+    five (codes "1 1 0 0 ") (filling_fields c d) (codes " 1 0.0000") (oval_numbers o) (codes "\n")
+    rest
     ∙ ap (λ (x : List ℕ). codes "1 1 0 0 " ++ x)
     (filling_led c d (codes " 1 0.0000" ++ (oval_numbers o ++ behind)))
     ∙ ap (λ (x : List ℕ). codes

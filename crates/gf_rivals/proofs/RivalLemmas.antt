@@ -13,7 +13,7 @@ use Rattle.gf_ops.specs.declared.change.Change.TheVariants.{Set}
 use Rattle.gf_ops.specs.declared.change.Value.{Value}
 use Rattle.gf_ops.specs.declared.change.Value.TheVariants as value
 use Rattle.gf_ops.specs.Accepted.{IsAccepted}
-use Rattle.gf_ops.specs.Attribute.{attribute_of, change_value, set_value, object_of}
+use Rattle.gf_ops.specs.Attribute.{attribute_of, change_value, value_as, object_of}
 use Rattle.gf_ops.specs.Limits.{IsInRange}
 use Rattle.gf_ops.specs.ValidHistory.{IsValid}
 use Rattle.gf_ops.specs.OperationOrder.{entry, Precedes}
@@ -40,7 +40,7 @@ use Rattle.gf_rivals.proofs.SetterIndexLemmas.{chain_number}
 
 -- ---- values and attributes
 
-pub own_value : (v : Value) → set_value v (attribute_of v) ≡ Some v
+pub own_value : (v : Value) → value_as v (attribute_of v) ≡ Some v
 own_value (value.Place p) = refl
 own_value (value.Points ps) = refl
 own_value (value.Size w k) = refl
@@ -49,7 +49,7 @@ own_value (value.Layer n) = refl
 own_value (value.Shown b) = refl
 
 -- what a value gives to an attribute is itself, and the attribute is its own
-pub given_is : (v : Value) (t : Attr) (w : Value) → set_value v t ≡ Some w
+pub given_is : (v : Value) (t : Attr) (w : Value) → value_as v t ≡ Some w
     → (t ≡ attribute_of v) × (w ≡ v)
 given_is (value.Place p) Place w e = (refl, sym (some_one (value.Place p) w e))
 given_is (value.Points ps) Points w e = (refl, sym (some_one (value.Points ps) w e))
@@ -165,7 +165,7 @@ module _ (h : List Op) (o : ObjectId) (cs : List (List Setter)) (chains : AreCha
               let there : c.position ≡ q = one_position h o cs chains n c.position q k m in
               let b : c.op ≡ g.op = some_one c.op g.op (sym c.at ∙ (ap (slice_get h) there ∙ g.at))
               in
-              let gave : set_value v apart.attribute ≡ Some apart.second =
+              let gave : value_as v apart.attribute ≡ Some apart.second =
               ap (λ z. change_value z apart.attribute) (sym g.change)
               ∙ (ap (λ (z : Op). change_value z.change apart.attribute) (sym b)
               ∙ apart.second_given) in

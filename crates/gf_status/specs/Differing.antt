@@ -9,7 +9,7 @@ use Rattle.gf_ops.specs.declared.change.Attr.{Attr}
 use Rattle.gf_ops.specs.declared.change.Attr.TheVariants.{Place, Points, Size, Colour, Layer, Shown}
 use Rattle.gf_ops.specs.declared.change.Value.{Value}
 use Rattle.gf_ops.specs.declared.change.Value.TheVariants as value
-use Rattle.gf_ops.specs.Attribute.{form_value, points_in, size_in, value_given}
+use Rattle.gf_ops.specs.Attribute.{form_value, value_as, value_given}
 use Rattle.gf_ops.specs.OperationOrder.{Precedes, id_cmp}
 use Rattle.gf_ops.specs.Version.{IsMember}
 use Rattle.gf_groups.specs.declared.group.Group.{Group}
@@ -21,8 +21,8 @@ use Rattle.gf_status.specs.declared.differing.Difference.{Difference}
 -- the value of the attribute t in the version v, if its kind has t
 abbrev pub version_value : Version → Attr → Option Value
 version_value v Place = Some (value.Place v.place)
-version_value v Points = points_in (form_value v.form)
-version_value v Size = size_in (form_value v.form)
+version_value v Points = value_as (form_value v.form) Points
+version_value v Size = value_as (form_value v.form) Size
 version_value v Colour = Some (value.Colour v.colour)
 version_value v Layer = Some (value.Layer v.key.layer)
 version_value v Shown = Some (value.Shown v.shown)

@@ -6,7 +6,8 @@ ghost use Rattle.gf_groups.specs.Versions.{IsVersionGroup};
 ghost use Rattle.gf_visible.specs.ShownVersions.{AreVisibleOn};
 ghost use Rattle.gf_status.specs.Differing.{AreDifferences, AreGivers, attributes};
 ghost use Rattle.gf_status.specs.Differing.{version_value};
-ghost use Rattle.gf_ops.specs.Attribute.{form_value, points_in, size_in};
+ghost use Rattle.gf_ops.specs.Attribute.{form_value, value_as};
+ghost use Rattle.gf_ops.specs.declared.change.Attr.TheVariants as attr;
 ghost use Rattle.gf_ops.specs.declared.change.Value.TheVariants as value;
 ghost use Rattle.std.specs.List.{list_any};
 ghost use Rattle.gf_status.specs.SettersAt.{are_others, some_differ};
@@ -116,8 +117,8 @@ fn differ_in(attribute: Attr, first: &Version, other: &Version) -> bool
 
 /// Whether one form is a polygon and the other is none, or both are and have different points.
 fn points_differ(first: &Form, other: &Form) -> bool
-    ensures { result ≡ are_others (points_in (form_value first.now))
-        (points_in (form_value other.now)) }
+    ensures { result ≡ are_others (value_as (form_value first.now) attr.Points)
+        (value_as (form_value other.now) attr.Points) }
 {
     match (points(first), points(other)) {
         (Some(points), Some(others)) => points != others,
@@ -128,7 +129,8 @@ fn points_differ(first: &Form, other: &Form) -> bool
 
 /// The points of the form, if it is a polygon.
 fn points(form: &Form) -> Option<&Points>
-    ensures { option_map (λ p. value.Points p.now) result ≡ points_in (form_value form.now) }
+    ensures { option_map (λ p. value.Points p.now) result
+        ≡ value_as (form_value form.now) attr.Points }
 {
     match form {
         Form::Polygon(points) => Some(points),
@@ -138,8 +140,8 @@ fn points(form: &Form) -> Option<&Points>
 
 /// Whether one form has a size and the other has none, or both have different sizes.
 fn sizes_differ(first: &Form, other: &Form) -> bool
-    ensures { result ≡ are_others (size_in (form_value first.now))
-        (size_in (form_value other.now)) }
+    ensures { result ≡ are_others (value_as (form_value first.now) attr.Size)
+        (value_as (form_value other.now) attr.Size) }
 {
     match (size(first), size(other)) {
         (Some((width, height)), Some((other_width, other_height))) => {
@@ -152,7 +154,8 @@ fn sizes_differ(first: &Form, other: &Form) -> bool
 
 /// The two numbers of the form's size, if its kind has one.
 fn size(form: &Form) -> Option<(u32, u32)>
-    ensures { option_map (λ s. value.Size s.0 s.1) result ≡ size_in (form_value form.now) }
+    ensures { option_map (λ s. value.Size s.0 s.1) result
+        ≡ value_as (form_value form.now) attr.Size }
 {
     match form {
         Form::Rect(width, height) => Some((*width, *height)),

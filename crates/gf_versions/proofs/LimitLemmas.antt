@@ -14,8 +14,7 @@ use Rattle.gf_ops.specs.declared.change.Start.{Start}
 use Rattle.gf_ops.specs.declared.change.Value.{Value}
 use Rattle.gf_ops.specs.declared.change.Value.TheVariants.{Place, Points, Size, Colour, Layer}
 use Rattle.gf_ops.specs.declared.change.Value.TheVariants.{Shown}
-use Rattle.gf_ops.specs.Attribute.{change_value, form_value, points_in, set_value, size_in}
-use Rattle.gf_ops.specs.Attribute.{start_value}
+use Rattle.gf_ops.specs.Attribute.{change_value, form_value, start_value, value_as}
 use Rattle.gf_ops.specs.Limits.{is_change, is_clock, is_colour, is_form, is_id, is_layer, is_near}
 use Rattle.gf_ops.specs.Limits.{is_size, is_start, is_value, is_aim}
 use Rattle.gf_ops.specs.SettledValue.{IsSettled}
@@ -38,11 +37,13 @@ fits_form (form.Circle radius) fits = (and_parts (is_size radius) (is_size radiu
 fits_form (form.Ellipse rx ry) fits = fits
 fits_form (form.Polygon ps) fits = fits
 
-size_fits : (u v : Value) → IsTrue (is_value u) → size_in u ≡ Some v → IsTrue (is_value v)
+size_fits : (u v : Value) → IsTrue (is_value u) → value_as u attr.Size ≡ Some v
+    → IsTrue (is_value v)
 size_fits (Size m n) v fits e = one_fits (Size m n) v fits e
 size_fits u v fits e = absurd cc
 
-points_fit : (u v : Value) → IsTrue (is_value u) → points_in u ≡ Some v → IsTrue (is_value v)
+points_fit : (u v : Value) → IsTrue (is_value u) → value_as u attr.Points ≡ Some v
+    → IsTrue (is_value v)
 points_fit (Points ps) v fits e = one_fits (Points ps) v fits e
 points_fit u v fits e = absurd cc
 
@@ -69,7 +70,7 @@ start_fits s t v fits e = by_attribute t e
     by_attribute attr.Layer e = one_fits (Layer s.layer) v parts.1 e
     by_attribute attr.Shown e = one_fits (Shown s.shown) v refl e
 
-set_fits : (u v : Value) (t : Attr) → IsTrue (is_value u) → set_value u t ≡ Some v
+set_fits : (u v : Value) (t : Attr) → IsTrue (is_value u) → value_as u t ≡ Some v
     → IsTrue (is_value v)
 set_fits (Place p) v attr.Place fits e = one_fits (Place p) v fits e
 set_fits (Points ps) v attr.Points fits e = one_fits (Points ps) v fits e

@@ -15,8 +15,8 @@ use Rattle.gf_ops.specs.declared.change.Form.TheVariants as form
 use Rattle.gf_ops.specs.declared.change.Start.{Start}
 use Rattle.gf_ops.specs.declared.change.Value.{Value}
 use Rattle.gf_ops.specs.declared.change.Value.TheVariants.{Size}
-use Rattle.gf_ops.specs.Attribute.{Kind, Circle, form_value, value_given, change_value, set_value}
-use Rattle.gf_ops.specs.Attribute.{start_value, size_in, made_kind, kind_of, suits, object_of}
+use Rattle.gf_ops.specs.Attribute.{Kind, Circle, form_value, value_given, change_value, value_as}
+use Rattle.gf_ops.specs.Attribute.{start_value, made_kind, kind_of, suits, object_of}
 use Rattle.gf_ops.specs.Attribute.{changed_object, change_aim}
 use Rattle.gf_ops.specs.DirectConflict.{DirectConflict}
 use Rattle.gf_ops.specs.KnownObject.{IsSuited}
@@ -75,13 +75,14 @@ change_sets (Create s) k t e i = let same : kind_of s.form ≡ k = cc in
 change_sets (Set o v aim) k t e i = absurd cc
 
 -- the size of a circle is its radius twice
-form_round : (f : Form) (m n : ℕ) → kind_of f ≡ Circle → size_in (form_value f) ≡ Some (Size m n)
+form_round : (f : Form) (m n : ℕ) → kind_of f ≡ Circle
+    → value_as (form_value f) attr.Size ≡ Some (Size m n)
     → m ≡ n
 form_round (form.Circle radius) m n k e = cc
 form_round f m n k e = absurd cc
 
 set_round : (v : Value) (m n : ℕ) → IsTrue (suits Circle v)
-    → set_value v attr.Size ≡ Some (Size m n) → m ≡ n
+    → value_as v attr.Size ≡ Some (Size m n) → m ≡ n
 set_round (Size j k) m n s e = let same = (Decides-eqb j k).0 s in cc
 set_round v m n s e = absurd cc
 

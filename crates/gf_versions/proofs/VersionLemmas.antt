@@ -17,7 +17,7 @@ use Rattle.gf_ops.specs.declared.change.Value.{Value}
 use Rattle.gf_ops.specs.declared.change.Value.TheVariants.{Place, Points, Size, Colour, Layer}
 use Rattle.gf_ops.specs.declared.change.Value.TheVariants.{Shown}
 use Rattle.gf_ops.specs.Attribute.{Kind, Box, Circle, Ellipse, Polygon, change_value}
-use Rattle.gf_ops.specs.Attribute.{form_attribute, form_value, kind_of, points_in, size_in}
+use Rattle.gf_ops.specs.Attribute.{form_attribute, form_value, kind_of, value_as}
 use Rattle.gf_ops.specs.SettledValue.{IsSettled}
 use Rattle.gf_ops.specs.ValidHistory.{IsValid}
 use Rattle.gf_ops.specs.Version.{IsOfKind, IsVersion}
@@ -63,7 +63,7 @@ shown_given (Create s) v e = (s.shown, (cc))
 shown_given (Set o (Shown b) aim) v e = (b, (cc))
 shown_given (Set o w aim) v e = absurd cc
 
-form_size : (f : Form) (v : Value) → size_in (form_value f) ≡ Some v
+form_size : (f : Form) (v : Value) → value_as (form_value f) attr.Size ≡ Some v
     → (m : ℕ) × (n : ℕ) × (v ≡ Size m n)
 form_size (form.Rect width height) v e = (width, height, (cc))
 form_size (form.Circle radius) v e = (radius, radius, (cc))
@@ -76,7 +76,7 @@ size_given (Create s) v e = form_size s.form v e
 size_given (Set o (Size m n) aim) v e = (m, n, (cc))
 size_given (Set o w aim) v e = absurd cc
 
-form_points : (f : Form) (v : Value) → points_in (form_value f) ≡ Some v
+form_points : (f : Form) (v : Value) → value_as (form_value f) attr.Points ≡ Some v
     → (ps : List Point) × (v ≡ Points ps)
 form_points (form.Polygon ps) v e = (ps, (cc))
 form_points f v e = absurd cc
