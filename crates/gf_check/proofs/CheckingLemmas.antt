@@ -10,7 +10,7 @@ use Rattle.gf_base.proofs.ListLemmas.{Contains-cons_head, Contains-cons_tail, no
 use Rattle.gf_ops.specs.declared.op.Op.{Op}
 use Rattle.gf_ops.specs.declared.op.OpId.{OpId}
 use Rattle.gf_ops.specs.ValidHistory.{IsValid}
-use Rattle.gf_site.specs.SiteState.{SiteState, new_site}
+use Rattle.gf_site.specs.ReplicaState.{ReplicaState, new_replica}
 use Rattle.gf_replay.specs.declared.reading_error.LineCause.{LineCause}
 use Rattle.gf_replay.specs.declared.reading_error.LineCause.TheVariants as cause
 use Rattle.gf_replay.specs.declared.reading_error.ReadingError.{ReadingError}
@@ -44,7 +44,7 @@ denoted_left editor lines more a d = record {
 }
 
 module _ (editor : Option ℕ) (bytes : List ℕ) (n : ℕ) (text : List ℕ) (left : List (ℕ × List ℕ))
-    (x y : SiteState) (t : Telling) (h : HasChecked editor bytes ((n, text) ∷ left) x t)
+    (x y : ReplicaState) (t : Telling) (h : HasChecked editor bytes ((n, text) ∷ left) x t)
     (all : List Told)
     (l : LeavesLine editor n text x y h.told all) where
   here : Contains (numbered_lines bytes) (n, text)
@@ -152,7 +152,7 @@ module _ (editor : Option ℕ) (bytes : List ℕ) (n : ℕ) (text : List ℕ) (l
   ]
 
 begins_line : (editor : Option ℕ) (bytes : List ℕ) (n : ℕ) (text : List ℕ)
-    (left : List (ℕ × List ℕ)) (x y : SiteState) (told all : List Told)
+    (left : List (ℕ × List ℕ)) (x y : ReplicaState) (told all : List Told)
     → BeginsBefore editor bytes ((n, text) ∷ left) x told →
     BeginsBehind (TakesLine editor text x y) (RefusesLine editor n text x) told all
     → BeginsBefore editor bytes left y all
@@ -167,7 +167,8 @@ begins_line editor bytes n text left x y (t ∷ ts) (u ∷ us) fault b = let sam
     subst (λ (v : Told). BeginsBefore editor bytes left y (v ∷ us)) same fault
 
 checked_by : (editor : Option ℕ) (bytes : List ℕ) (n : ℕ) (text : List ℕ) (left : List (ℕ × List ℕ))
-    (x y : SiteState) (old new : Telling) (h : HasChecked editor bytes ((n, text) ∷ left) x old) →
+    (x y : ReplicaState) (old new : Telling) (h : HasChecked editor bytes ((n, text) ∷ left) x old)
+    →
     TellsLine editor n text x y h.told new → HasChecked editor bytes left y new
 checked_by editor bytes n text left x y old new h t = record {
   told = t.all;
@@ -186,7 +187,7 @@ checked_by editor bytes n text left x y old new h t = record {
 }
 
 pub checked_line : (editor : Option ℕ) (bytes : List ℕ) (n : ℕ) (text : List ℕ)
-    (left : List (ℕ × List ℕ)) (x y : SiteState) (old new : Telling)
+    (left : List (ℕ × List ℕ)) (x y : ReplicaState) (old new : Telling)
     → HasChecked editor bytes ((n, text) ∷ left) x old →
     ((told : List Told) → HasTold told old → TellsLine editor n text x y told new)
     → HasChecked editor bytes left y new
@@ -198,12 +199,12 @@ checked_line editor bytes n text left x y old new h t = checked_by editor bytes 
 no_pairs : {X : Type 0} (R : X → X → Type 0) → AllPairs R []
 no_pairs R i j d lt within = absurd (omega arith)
 
-pub checked_none : (editor : Option ℕ) (bytes : List ℕ) (s : ℕ) (t : Telling) → HasTold [] t
-    → HasChecked editor bytes (numbered_lines bytes) (new_site s) t
-checked_none editor bytes s t is = record {
+pub checked_none : (editor : Option ℕ) (bytes : List ℕ) (t : Telling) → HasTold [] t
+    → HasChecked editor bytes (numbered_lines bytes) new_replica t
+checked_none editor bytes t is = record {
   told = [];
   is = is;
-  first = HasRead-none editor bytes s;
+  first = HasRead-none editor bytes;
   before = [];
   whole = refl;
   each = λ n line e i d. absurd (not_Contains-nil (n, line) i);
@@ -216,10 +217,11 @@ checked_none editor bytes s t is = record {
   one = λ a b i j e. absurd (has_none a i);
 }
   where
-    has_none : (a : Op) → ¬ (HasOrHolds (new_site s) a)
+    has_none : (a : Op) → ¬ (HasOrHolds new_replica a)
     has_none a i = elim i [ inl k ↦ not_Contains-nil a k | inr k ↦ not_Contains-nil a k ]
 
-told_all : (editor : Option ℕ) (bytes : List ℕ) (x : SiteState) (text : List ℕ) (told : List Told)
+told_all : (editor : Option ℕ) (bytes : List ℕ) (x : ReplicaState) (text : List ℕ)
+    (told : List Told)
     → text ≡ told_text told → BeginsBefore editor bytes [] x told
     → TellsEach editor (numbered_lines bytes) told →
     AreKept editor (numbered_lines bytes) told → TellsTrue editor (numbered_lines bytes) told
@@ -239,12 +241,13 @@ told_all editor bytes x text (t ∷ ts) is fault each kept only order plain = fa
   plain = plain;
 })
 
-pub checked_all : (editor : Option ℕ) (bytes : List ℕ) (x : SiteState) (t : Telling) → IsValid x.ops
+pub checked_all : (editor : Option ℕ) (bytes : List ℕ) (x : ReplicaState) (t : Telling)
+    → IsValid x.ops
     → HasChecked editor bytes [] x t → AnswersText editor bytes t.text.items
 checked_all editor bytes x t valid h =
     let all = sym (h.whole ∙ append-nil h.before) in
     told_all editor bytes x t.text.items h.told h.is.text h.first
     (subst (λ lines. TellsEach editor lines h.told) all h.each)
     (subst (λ lines. AreKept editor lines h.told) all
-    (record { site = x; valid = valid; none = h.none; one = h.one; all = h.all })) h.only h.order
+    (record { replica = x; valid = valid; none = h.none; one = h.one; all = h.all })) h.only h.order
     h.is.plain

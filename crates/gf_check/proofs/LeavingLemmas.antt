@@ -1,4 +1,5 @@
--- What steps, offers and lines leave of the operations that a site has, and what is told of them.
+-- What steps, offers and lines leave of the operations that a replica has, and what is told of
+-- them.
 use Rattle.std.specs.Prelude.{ℕ, ◌⊎◌, Contains, Ok, Err, Option}
 use Rattle.std.proofs.Common.{◌≡◌, ◌≢◌, List, [], ◌∷◌, ◌++◌, refl, sym, subst, ap, ◌∙◌, inl, inr}
 use Rattle.gf_ops.specs.declared.op.Op.{Op}
@@ -6,8 +7,8 @@ use Rattle.gf_ops.specs.declared.op.OpId.{OpId}
 use Rattle.gf_ops.specs.declared.faults.OpFault.{OpFault}
 use Rattle.gf_ops.specs.ValidHistory.{IsValid}
 use Rattle.gf_causal.specs.HeldOperations.{AreHeld, IsClash, IsNew}
-use Rattle.gf_site.specs.SiteState.{SiteState}
-use Rattle.gf_site.specs.Events.{Applies, ForgetsReady}
+use Rattle.gf_site.specs.ReplicaState.{ReplicaState}
+use Rattle.gf_site.specs.ReplicaSteps.{AppliesNext, ForgetsNext}
 use Rattle.gf_json.specs.declared.line_error.LineError.{LineError}
 use Rattle.gf_edit.specs.declared.edit_command.EditCommand.{EditCommand}
 use Rattle.gf_replay.specs.declared.reading_error.LineCause.{LineCause}
@@ -50,9 +51,9 @@ dropped_there told u i d = (d.0, error_there told u (reading.Dropped i d.0) d.1)
 
 -- ---- steps
 
--- a site that changes nothing leaves all
+-- a replica that changes nothing leaves all
 pub leaves_same : (P : Op → Type 0) (true_fault : ReadingError → Type 0) (premise : Type 0)
-    (x : SiteState) (told : List Told) → Leaves P true_fault premise x x told told
+    (x : ReplicaState) (told : List Told) → Leaves P true_fault premise x x told told
 leaves_same P true_fault premise x told = record {
   had = λ a i. inl i;
   back = λ a i. inr i;
@@ -61,11 +62,11 @@ leaves_same P true_fault premise x told = record {
   order = λ p o. o;
 }
 
-module _ (x y z : SiteState) (told all : List Told) (l : LeavesSteps x y told all) where
+module _ (x y z : ReplicaState) (told all : List Told) (l : LeavesSteps x y told all) where
   had_before : (a : Op) → HasOrHolds y a → HasOrHolds x a
   had_before a i = elim (l.back a i) [ inl none ↦ absurd none | inr j ↦ j ]
 
-  pub leaves_applied : (id : OpId) → AreHeld y.held → Applies y id z → LeavesSteps x z told all
+  pub leaves_applied : (id : OpId) → AreHeld y.held → AppliesNext y id z → LeavesSteps x z told all
   leaves_applied id held s = record {
     had = λ a i. elim (l.had a i) [ inl j ↦ inl ((keeps.same a).0 j) | inr d ↦ inr d ];
     back = λ a i. l.back a ((keeps.same a).1 i);
@@ -78,7 +79,7 @@ module _ (x y z : SiteState) (told all : List Told) (l : LeavesSteps x y told al
       keeps = keeps_applied y y z id held (record { same = λ a. (λ i. i, λ i. i); others = λ o. o })
           s
 
-  module _ (id : OpId) (fault : OpFault) (s : ForgetsReady y id fault z) where
+  module _ (id : OpId) (fault : OpFault) (s : ForgetsNext y id fault z) where
     left : (more : List Told) → Contains (errors more) (reading.Dropped id fault) → (a : Op)
         → HasOrHolds y a → HasOrHolds z a ⊎ TellsDropped more a.id
     left more c a (inl j) = elim (more_there z.held y.held s.op s.takes.taken a j) [
@@ -135,11 +136,11 @@ module _ (x y z : SiteState) (told all : List Told) (l : LeavesSteps x y told al
 
 -- ---- offers
 
-another : (x : SiteState) (a b : Op) → IsNew x.held x.ops a → HasOrHolds x b → b.id ≢ a.id
+another : (x : ReplicaState) (a b : Op) → IsNew x.held x.ops a → HasOrHolds x b → b.id ≢ a.id
 another x a b fresh (inl i) = fresh.not_held b i
 another x a b fresh (inr i) = fresh.not_added b i
 
-one_offer : (x y : SiteState) (a : Op) → Offers x a y → HasOneById x → HasOneById y
+one_offer : (x y : ReplicaState) (a : Op) → Offers x a y → HasOneById x → HasOneById y
 one_offer x y a (again known same) o = subst HasOneById (sym same) o
 one_offer x y a (new fresh adds ops) o = λ b c i j e.
     elim (offer_from x y a (new fresh adds ops) b i) [
@@ -153,14 +154,15 @@ one_offer x y a (new fresh adds ops) o = λ b c i j e.
       ]
     ]
 
-fault_with : (n : ℕ) (a : Op) (x y : SiteState) → Offers x a y → (e : ReadingError) → IsDropOf y e
+fault_with : (n : ℕ) (a : Op) (x y : ReplicaState) → Offers x a y → (e : ReadingError)
+    → IsDropOf y e
     → IsFaultWith n a x e
 fault_with n a x y offers (reading.Dropped i why) r = among_weaker (HasOrHolds y) (IsOrHas a x) i
     why (λ b h. offer_from x y a offers b h) r
 fault_with n a x y offers (reading.Line m why) r = absurd r
 fault_with n a x y offers reading.OutOfMemory r = absurd r
 
-pub leaves_offered : (n : ℕ) (a : Op) (x y z : SiteState) (told all : List Told) → Offers x a y
+pub leaves_offered : (n : ℕ) (a : Op) (x y z : ReplicaState) (told all : List Told) → Offers x a y
     → LeavesNone y z told all → LeavesOp n a x z told all
 leaves_offered n a x y z told all offers l = record {
   leaves = record {
@@ -179,7 +181,7 @@ leaves_offered n a x y z told all offers l = record {
   own = elim (l.leaves.had a (offered_there x y a offers)) [ inl i ↦ inl i | inr d ↦ inr (inr d) ];
 }
 
-pub leaves_clash : (n : ℕ) (a : Op) (x y : SiteState) (told : List Told) (why : List ℕ) → y ≡ x
+pub leaves_clash : (n : ℕ) (a : Op) (x y : ReplicaState) (told : List Told) (why : List ℕ) → y ≡ x
     → IsClash x.held x.ops a →
     LeavesOp n a x y told (told ++ record { error = reading.Line n cause.Clash; why = why } ∷ [])
 leaves_clash n a x y told why same clash = subst (λ s. LeavesOp n a x s told (told ++ u ∷ []))
@@ -204,7 +206,7 @@ leaves_clash n a x y told why same clash = subst (λ s. LeavesOp n a x s told (t
 
 -- ---- lines
 
-fault_at : (editor : Option ℕ) (n : ℕ) (text : List ℕ) (a : Op) (x : SiteState)
+fault_at : (editor : Option ℕ) (n : ℕ) (text : List ℕ) (a : Op) (x : ReplicaState)
     → IsOfLine editor text a → (e : ReadingError) → IsFaultWith n a x e
     → IsFaultAt editor n text x e
 fault_at editor n text a x d (reading.Line m cause.Clash) r = (
@@ -221,7 +223,7 @@ fault_at editor n text a x d (reading.Dropped i why) r = among_weaker (IsOrHas a
     ]) r
 fault_at editor n text a x d reading.OutOfMemory r = absurd r
 
-pub leaves_line : (editor : Option ℕ) (n : ℕ) (text : List ℕ) (a : Op) (x y : SiteState)
+pub leaves_line : (editor : Option ℕ) (n : ℕ) (text : List ℕ) (a : Op) (x y : ReplicaState)
     (told all : List Told) → IsOfLine editor text a → LeavesOp n a x y told all
     → LeavesLine editor n text x y told all
 leaves_line editor n text a x y told all d l = record {
@@ -244,7 +246,8 @@ leaves_line editor n text a x y told all d l = record {
   each = λ f e. absurd cc;
 }
 
-pub leaves_command : (editor : Option ℕ) (n : ℕ) (text : List ℕ) (c : EditCommand) (x y : SiteState)
+pub leaves_command : (editor : Option ℕ) (n : ℕ) (text : List ℕ) (c : EditCommand)
+    (x y : ReplicaState)
     (told : List Told) → denoted_by editor text ≡ Ok (entry.Command c) → y ≡ x
     → LeavesLine editor n text x y told told
 leaves_command editor n text c x y told d same = subst (λ s. LeavesLine editor n text x s told told)
@@ -257,7 +260,7 @@ leaves_command editor n text c x y told d same = subst (λ s. LeavesLine editor 
     })
 
 pub leaves_fault : (editor : Option ℕ) (n : ℕ) (text : List ℕ) (f : LineError) (why : LineCause)
-    (x : SiteState) (told : List Told) (words : List ℕ) → denoted_by editor text ≡ Err f →
+    (x : ReplicaState) (told : List Told) (words : List ℕ) → denoted_by editor text ≡ Err f →
     of_line n f ≡ reading.Line n why → IsLineFault editor text x why
     → LeavesLine editor n text x x told
     (told ++ record { error = reading.Line n why; why = words } ∷ [])

@@ -11,7 +11,7 @@ use Rattle.gf_ops.specs.declared.op.OpId.{OpId}
 use Rattle.gf_ops.specs.declared.faults.OpFault.{OpFault}
 use Rattle.gf_ops.specs.Accepted.{none as none_accepted}
 use Rattle.gf_causal.specs.Ready.{NoneIsReady}
-use Rattle.gf_site.specs.SiteState.{SiteState, new_site}
+use Rattle.gf_site.specs.ReplicaState.{ReplicaState, new_replica}
 use Rattle.gf_json.specs.LineValues.{Got, mapped}
 use Rattle.gf_json.specs.OperationLines.{denoted}
 use Rattle.gf_json.specs.declared.line_error.LineError.{LineError}
@@ -69,9 +69,9 @@ lines_alone (l ∷ ls) (x ∷ xs) e =
 -- ---- lines so far
 
 -- before the first line nothing was taken
-pub HasRead-none : (editor : Option ℕ) (bytes : List ℕ) (s : ℕ)
-    → HasRead editor bytes (numbered_lines bytes) (new_site s)
-HasRead-none editor bytes s = record {
+pub HasRead-none : (editor : Option ℕ) (bytes : List ℕ)
+    → HasRead editor bytes (numbered_lines bytes) new_replica
+HasRead-none editor bytes = record {
   before = [];
   whole = refl;
   entries = [];
@@ -95,7 +95,7 @@ ops_more entries n e = flat_map-append (λ (x : ℕ × Entry). op_in x.1) entrie
     ∙ ap (λ l. ops_in entries ++ l) (append-nil (op_in e))
 
 -- with no line left, the bytes denote a history
-pub DenotesSome-read : (editor : Option ℕ) (bytes : List ℕ) (x : SiteState)
+pub DenotesSome-read : (editor : Option ℕ) (bytes : List ℕ) (x : ReplicaState)
     → HasRead editor bytes [] x → DenotesSome editor bytes
 DenotesSome-read None bytes x read = record {
   history = x.ops;
@@ -114,7 +114,7 @@ DenotesSome-read (Some s) bytes x read = record {
 }
 
 module _ (editor : Option ℕ) (bytes : List ℕ) (n : ℕ) (text : List ℕ) (left : List (ℕ × List ℕ))
-    (x : SiteState) (read : HasRead editor bytes ((n, text) ∷ left) x) where
+    (x : ReplicaState) (read : HasRead editor bytes ((n, text) ∷ left) x) where
   lines_more : (e : Entry) → denoted_by editor text ≡ Ok e
       → AreEntriesBy editor (read.before ++ (n, text) ∷ []) (read.entries ++ (n, e) ∷ [])
   lines_more e denotes =
@@ -126,7 +126,7 @@ module _ (editor : Option ℕ) (bytes : List ℕ) (n : ℕ) (text : List ℕ) (l
   whole_more : numbered_lines bytes ≡ (read.before ++ (n, text) ∷ []) ++ left
   whole_more = read.whole ∙ sym (append_assoc read.before ((n, text) ∷ []) left)
 
-  gained : (y : SiteState) (e : Entry) → denoted_by editor text ≡ Ok e → TakesEntry e x y
+  gained : (y : ReplicaState) (e : Entry) → denoted_by editor text ≡ Ok e → TakesEntry e x y
       → HasRead editor bytes left y
   gained y (entry.Operation a) denotes takes = record {
     before = read.before ++ (n, text) ∷ [];
@@ -136,8 +136,8 @@ module _ (editor : Option ℕ) (bytes : List ℕ) (n : ℕ) (text : List ℕ) (l
     taken = subst (λ l. HasTaken l y) (sym (ops_more read.entries n (entry.Operation a)))
         (HasTaken-moves (ops_in read.entries ++ a ∷ []) takes.offered y
         (HasTaken-offer (ops_in read.entries) x read.taken a takes.offered takes.offers)
-        takes.settles.moves);
-    none = takes.settles.none;
+        takes.steps.moves);
+    none = takes.steps.none;
   }
   gained y (entry.Command c) denotes same = record {
     before = read.before ++ (n, text) ∷ [];
@@ -147,17 +147,17 @@ module _ (editor : Option ℕ) (bytes : List ℕ) (n : ℕ) (text : List ℕ) (l
     taken = subst (λ l. HasTaken l y) (sym (append-nil (ops_in read.entries))
         ∙ sym (ops_more read.entries n (entry.Command c)))
         (subst (HasTaken (ops_in read.entries)) (sym same) read.taken);
-    none = subst (λ (z : SiteState). NoneIsReady z.ops z.held) (sym same) read.none;
+    none = subst (λ (z : ReplicaState). NoneIsReady z.ops z.held) (sym same) read.none;
   }
 
   -- one line more is taken
-  pub HasRead-line : (y : SiteState) → TakesLine editor text x y → HasRead editor bytes left y
+  pub HasRead-line : (y : ReplicaState) → TakesLine editor text x y → HasRead editor bytes left y
   HasRead-line y takes = gained y takes.taken takes.denotes takes.takes
 
 -- ---- a refused line
 
 -- of operation lines alone
-alone_refused : (n : ℕ) (text : List ℕ) (x : SiteState) (e : ReadingError)
+alone_refused : (n : ℕ) (text : List ℕ) (x : ReplicaState) (e : ReadingError)
     → RefusesLine None n text x e → replay.RefusesLine n text x e
 alone_refused n text x (reading.Line m cause.Json) r = (r.0, is_fault (denoted text) line.Json r.1)
 alone_refused n text x (reading.Line m cause.Field) r =
@@ -176,7 +176,8 @@ alone_refused n text x (reading.Dropped id fault) r = record {
 alone_refused n text x reading.OutOfMemory r = tt
 
 -- of operation lines and commands of site s
-module _ (s : ℕ) (bytes : List ℕ) (n : ℕ) (text : List ℕ) (left : List (ℕ × List ℕ)) (x : SiteState)
+module _ (s : ℕ) (bytes : List ℕ) (n : ℕ) (text : List ℕ) (left : List (ℕ × List ℕ))
+    (x : ReplicaState)
     (read : HasRead (Some s) bytes ((n, text) ∷ left) x) where
   abbrev at_line : IsAtLine s bytes n text
   at_line = record {
@@ -233,7 +234,7 @@ module _ (s : ℕ) (bytes : List ℕ) (n : ℕ) (text : List ℕ) (left : List (
 
 -- what a line is refused for, the text is
 pub Refuses-line : (editor : Option ℕ) (bytes : List ℕ) (n : ℕ) (text : List ℕ)
-    (left : List (ℕ × List ℕ)) (x : SiteState) → HasRead editor bytes ((n, text) ∷ left) x →
+    (left : List (ℕ × List ℕ)) (x : ReplicaState) → HasRead editor bytes ((n, text) ∷ left) x →
     (e : ReadingError) → RefusesLine editor n text x e → RefusesChecked editor bytes e
 Refuses-line None bytes n text left x read e r = RefusesText-line bytes n text left x (record {
   before = read.before;

@@ -1,6 +1,6 @@
 -- How the told faults grow over steps, offers and lines.
 use Rattle.std.specs.Prelude.{ℕ, ◌⊎◌, Contains, Ok, Err, OnOk, Option, Result, ⊤}
-use Rattle.std.proofs.Common.{◌≡◌, ◌≢◌, List, [], ◌∷◌, ◌++◌, refl, sym, ap, subst, ◌∙◌, inl, inr}
+use Rattle.std.proofs.Common.{◌≡◌, ◌≢◌, List, [], ◌∷◌, ◌++◌, refl, sym, subst, ◌∙◌, inl, inr}
 use Rattle.gf_base.proofs.ListLemmas.{not_Contains-nil}
 use Rattle.gf_ops.specs.declared.op.Op.{Op}
 use Rattle.gf_ops.specs.declared.op.OpId.{OpId}
@@ -9,8 +9,8 @@ use Rattle.gf_ops.specs.Accepted.{AreAccepted}
 use Rattle.gf_ops.specs.ValidHistory.{IsValid}
 use Rattle.gf_causal.specs.HeldOperations.{AreHeld, IsClash}
 use Rattle.gf_causal.specs.Ready.{NoneIsReady}
-use Rattle.gf_site.specs.SiteState.{SiteState}
-use Rattle.gf_site.specs.Events.{Applies, ForgetsReady}
+use Rattle.gf_site.specs.ReplicaState.{ReplicaState}
+use Rattle.gf_site.specs.ReplicaSteps.{AppliesNext, ForgetsNext}
 use Rattle.gf_json.specs.LineValues.{Got}
 use Rattle.gf_json.specs.declared.line_error.LineError.{LineError}
 use Rattle.gf_json.specs.declared.line_error.LineError.TheVariants as line
@@ -18,9 +18,9 @@ use Rattle.gf_replay.specs.declared.reading_error.LineCause.{LineCause}
 use Rattle.gf_replay.specs.declared.reading_error.LineCause.TheVariants as cause
 use Rattle.gf_replay.specs.declared.reading_error.ReadingError.{ReadingError}
 use Rattle.gf_replay.specs.declared.reading_error.ReadingError.TheVariants as reading
-use Rattle.gf_replay.specs.LineSteps.{RefusesSettling}
-use Rattle.gf_replay.specs.Taking.{Offers, RefusesOp, TakesOp, of_line}
-use Rattle.gf_replay.proofs.TakingLemmas.{dropped_ready, idle_settles, keeps_applied}
+use Rattle.gf_replay.specs.LineSteps.{RefusesStepping}
+use Rattle.gf_replay.specs.Taking.{KeepsAll, Offers, RefusesOp, StepsAll, TakesOp, of_line}
+use Rattle.gf_replay.proofs.TakingLemmas.{dropped_ready, idle_steps, keeps_applied}
 use Rattle.gf_edit.specs.declared.entries.Entry.{Entry}
 use Rattle.gf_edit.specs.declared.entries.Entry.TheVariants as entry
 use Rattle.gf_check.specs.declared.telling.Telling.{Telling}
@@ -29,8 +29,8 @@ use Rattle.gf_check.specs.FaultLines.{Told, errors}
 use Rattle.gf_check.specs.AllFaults.{IsInputFault}
 use Rattle.gf_check.specs.Telling.{HasTold, TellsOnce, TellsOne, again, anew}
 use Rattle.gf_check.specs.ToldBehind.{BeginsBehind, TellsFrom}
-use Rattle.gf_check.specs.CheckSteps.{KeepsSite, LeavesNone, LeavesOp, LeavesSteps, SettlesIn}
-use Rattle.gf_check.specs.CheckSteps.{TellsDrop, TellsEntry, TellsOffer, TellsSteps}
+use Rattle.gf_check.specs.CheckSteps.{LeavesNone, LeavesOp, LeavesSteps, TellsDrop, TellsEntry}
+use Rattle.gf_check.specs.CheckSteps.{TellsOffer, TellsSteps}
 use Rattle.gf_check.specs.CheckedLines.{IsLineFault, IsOfLine, LeavesLine, RefusesLine, TakesLine}
 use Rattle.gf_check.specs.CheckedLines.{TellsLine}
 use Rattle.gf_check.proofs.LeavingLemmas.{leaves_again, leaves_applied, leaves_clash}
@@ -89,43 +89,42 @@ weaker none more refuses because leaves left told t f g k d = record {
 
 -- ---- steps
 
-pub steps_begin : (x : SiteState) (told : List Told) (t : Telling) → HasTold told t
+pub steps_begin : (x : ReplicaState) (told : List Told) (t : Telling) → HasTold told t
     → TellsDrop x x told t
 steps_begin x told t is = record {
   all = told;
   is = is;
-  first = begins_same (KeepsSite x x) (RefusesSettling x) told (
-    record { same = λ a. (λ i. i, λ i. i); others = λ o. o },
-    refl,
-  );
+  first = begins_same (KeepsAll x x) (RefusesStepping x) told
+      (record { same = λ a. (λ i. i, λ i. i); others = λ o. o });
   after = leaves_same _ _ _ x told;
 }
 
-pub step_applied : (x y z : SiteState) (id : OpId) (told : List Told) (t : Telling) → AreHeld y.held
-    → TellsDrop x y told t → Applies y id z → TellsDrop x z told t
+pub step_applied : (x y z : ReplicaState) (id : OpId) (told : List Told) (t : Telling)
+    → AreHeld y.held
+    → TellsDrop x y told t → AppliesNext y id z → TellsDrop x z told t
 step_applied x y z id told t held d s =
-    weaker (KeepsSite x y) (KeepsSite x z) (RefusesSettling x) (RefusesSettling x)
+    weaker (KeepsAll x y) (KeepsAll x z) (RefusesStepping x) (RefusesStepping x)
     (LeavesSteps x y told) (LeavesSteps x z told) told t
-    (λ p. (keeps_applied x y z id held p.0 s, s.takes.number ∙ p.1)) (λ e f r. r)
+    (λ p. keeps_applied x y z id held p s) (λ e f r. r)
     (λ all l. leaves_applied x y z told all l id held s) d
 
-module _ (x y z : SiteState) (id : OpId) (fault : OpFault) (told : List Told) (mid : Telling)
+module _ (x y z : ReplicaState) (id : OpId) (fault : OpFault) (told : List Told) (mid : Telling)
     (accepted : AreAccepted y.ops) (valid : IsValid y.ops) (d : TellsDrop x y told mid)
-    (s : ForgetsReady y id fault z) where
+    (s : ForgetsNext y id fault z) where
   dropped_by : (t : Telling) → TellsOnce (reading.Dropped id fault) d.all t → TellsDrop x z told t
   dropped_by t (again there is) = record {
     all = d.all;
     is = is;
-    first = begins_there (KeepsSite x y) (KeepsSite x z) (RefusesSettling x)
+    first = begins_there (KeepsAll x y) (KeepsAll x z) (RefusesStepping x)
         (reading.Dropped id fault) told d.all there d.first;
     after = leaves_again x y z told d.all d.after id fault s there;
   }
   dropped_by t (anew fresh one) = record {
     all = d.all ++ record { error = reading.Dropped id fault; why = one.why } ∷ [];
     is = one.is;
-    first = begins_more (KeepsSite x y) (KeepsSite x z) (RefusesSettling x)
+    first = begins_more (KeepsAll x y) (KeepsAll x z) (RefusesStepping x)
         (record { error = reading.Dropped id fault; why = one.why }) tt
-        (λ p. dropped_ready x y z id fault p.0 accepted valid s) told d.all d.first;
+        (λ p. dropped_ready x y z id fault p accepted valid s) told d.all d.first;
     after = leaves_dropped x y z told d.all d.after id fault s one.why valid fresh;
   }
 
@@ -134,39 +133,37 @@ module _ (x y z : SiteState) (id : OpId) (fault : OpFault) (told : List Told) (m
       → TellsDrop x z told t
   step_dropped t tells = dropped_by t (tells d.all d.is)
 
-pub steps_end : (x y z : SiteState) (told : List Told) (t : Telling) → AreAccepted y.ops
+pub steps_end : (x y z : ReplicaState) (told : List Told) (t : Telling) → AreAccepted y.ops
     → IsValid y.ops → TellsDrop x y told t → NoneIsReady y.ops y.held × (z ≡ y)
     → TellsSteps x z told t
 steps_end x y z told t accepted valid d idle =
-    weaker (KeepsSite x y) (SettlesIn x z) (RefusesSettling x) (RefusesSettling x)
+    weaker (KeepsAll x y) (StepsAll x z) (RefusesStepping x) (RefusesStepping x)
     (LeavesSteps x y told) (LeavesNone x z told) told t
-    (λ p. (
-      idle_settles x y z p.0 accepted valid idle,
-      ap (λ (s : SiteState). s.number) idle.1 ∙ p.1,
-    )) (λ e f r. r)
+    (λ p. idle_steps x y z p accepted valid idle) (λ e f r. r)
     (λ all l. subst (λ s. LeavesNone x s told all) (sym idle.1)
     (record { leaves = l; none = idle.0 })) d
 
 -- ---- offers
 
-behind_offer : (n : ℕ) (a : Op) (x y : SiteState) → Offers x a y → (e : ReadingError)
-    → IsInputFault e → RefusesSettling y e → RefusesOp n a x e
+behind_offer : (n : ℕ) (a : Op) (x y : ReplicaState) → Offers x a y → (e : ReadingError)
+    → IsInputFault e → RefusesStepping y e → RefusesOp n a x e
 behind_offer n a x y offers (reading.Line m why) f r = absurd r
 behind_offer n a x y offers (reading.Dropped id fault) f r =
     record { offered = y; offers = offers; drops = r }
 behind_offer n a x y offers reading.OutOfMemory f r = absurd f
 
-pub offer_settles : (n : ℕ) (a : Op) (x y z : SiteState) (told : List Told) (t : Telling)
-    {E : Type 0} (r : Result ⊤ E) → Offers x a y → y.number ≡ x.number →
-    OnOk r (TellsSteps y z told t) → OnOk r (TellsOffer n a x z told t)
-offer_settles n a x y z told t (Ok u) offers same d =
-    weaker (SettlesIn y z) (TakesOp a x z) (RefusesSettling y) (RefusesOp n a x)
+pub offer_steps : (n : ℕ) (a : Op) (x y z : ReplicaState) (told : List Told) (t : Telling)
+    {E : Type 0} (r : Result ⊤ E) → Offers x a y → OnOk r (TellsSteps y z told t)
+    → OnOk r (TellsOffer n a x z told t)
+offer_steps n a x y z told t (Ok u) offers d =
+    weaker (StepsAll y z) (TakesOp a x z) (RefusesStepping y) (RefusesOp n a x)
     (LeavesNone y z told) (LeavesOp n a x z told) told t
-    (λ s. record { offered = y; offers = offers; settles = s.0; number = s.1 ∙ same })
+    (λ s. record { offered = y; offers = offers; steps = s })
     (behind_offer n a x y offers) (λ all l. leaves_offered n a x y z told all offers l) d
-offer_settles n a x y z told t (Err e) offers same d = tt
+offer_steps n a x y z told t (Err e) offers d = tt
 
-pub offer_clashes : (n : ℕ) (a : Op) (x y : SiteState) (told : List Told) (t : Telling) {E : Type 0}
+pub offer_clashes : (n : ℕ) (a : Op) (x y : ReplicaState) (told : List Told) (t : Telling)
+    {E : Type 0}
     (r : Result ⊤ E) → IsClash x.held x.ops a → y ≡ x →
     OnOk r (TellsOne (reading.Line n cause.Clash) told t) → OnOk r (TellsOffer n a x y told t)
 offer_clashes n a x y told t (Ok u) clash same one = record {
@@ -180,7 +177,7 @@ offer_clashes n a x y told t (Err e) clash same one = tt
 
 -- ---- lines
 
-of_offer : (editor : Option ℕ) (n : ℕ) (text : List ℕ) (a : Op) (x : SiteState)
+of_offer : (editor : Option ℕ) (n : ℕ) (text : List ℕ) (a : Op) (x : ReplicaState)
     → IsOfLine editor text a → (e : ReadingError) → IsInputFault e → RefusesOp n a x e
     → RefusesLine editor n text x e
 of_offer editor n text a x d (reading.Line m cause.Clash) f r = (
@@ -194,7 +191,7 @@ of_offer editor n text a x d (reading.Dropped id fault) f r =
     record { op = a; denotes = d; behind = r }
 of_offer editor n text a x d reading.OutOfMemory f r = absurd f
 
-pub line_taken : (editor : Option ℕ) (n : ℕ) (text : List ℕ) (taken : Entry) (x y : SiteState)
+pub line_taken : (editor : Option ℕ) (n : ℕ) (text : List ℕ) (taken : Entry) (x y : ReplicaState)
     (told : List Told) (t : Telling) {E : Type 0} (r : Result ⊤ E)
     → denoted_by editor text ≡ Ok taken →
     OnOk r (TellsEntry n taken x y told t) → OnOk r (TellsLine editor n text x y told t)
@@ -228,7 +225,7 @@ faulted editor text r e (inl m) f other = let same : line.OutOfMemory ≡ e = cc
 faulted editor text r e (inr d) f other = sym d ∙ f
 
 line_faulted : (editor : Option ℕ) (n : ℕ) (text : List ℕ) (f : LineError) (why : LineCause)
-    (x y : SiteState) (told : List Told) (t : Telling) {E : Type 0} (r : Result ⊤ E)
+    (x y : ReplicaState) (told : List Told) (t : Telling) {E : Type 0} (r : Result ⊤ E)
     → denoted_by editor text ≡ Err f →
     of_line n f ≡ reading.Line n why → IsLineFault editor text x why → y ≡ x
     → OnOk r (TellsOne (reading.Line n why) told t) → OnOk r (TellsLine editor n text x y told t)
@@ -242,7 +239,7 @@ line_faulted editor n text f why x y told t (Ok u) d of
       after = leaves_fault editor n text f why x told one.why d of at;
     })
 
-module _ (editor : Option ℕ) (n : ℕ) (text : List ℕ) (g : Got Entry) (x y : SiteState)
+module _ (editor : Option ℕ) (n : ℕ) (text : List ℕ) (g : Got Entry) (x y : ReplicaState)
     (told : List Told) (t : Telling) {E : Type 0} (r : Result ⊤ E)
     (d : (g ≡ Err line.OutOfMemory) ⊎ (g ≡ denoted_by editor text)) where
   pub line_json : g ≡ Err line.Json → y ≡ x → OnOk r (TellsOne (reading.Line n cause.Json) told t)

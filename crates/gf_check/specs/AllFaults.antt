@@ -12,7 +12,7 @@ use Rattle.gf_replay.specs.declared.reading_error.LineCause.TheVariants as cause
 use Rattle.gf_replay.specs.declared.reading_error.ReadingError.{ReadingError}
 use Rattle.gf_replay.specs.declared.reading_error.ReadingError.TheVariants as reading
 use Rattle.gf_replay.specs.Taking.{HasOrHolds, of_line}
-use Rattle.gf_site.specs.SiteState.{SiteState}
+use Rattle.gf_site.specs.ReplicaState.{ReplicaState}
 use Rattle.gf_edit.specs.declared.entries.Entry.TheVariants as entry
 use Rattle.gf_check.specs.FaultLines.{Told, IsOnOneLine, errors, told_text}
 use Rattle.gf_check.specs.CheckedText.{DenotesSome, RefusesChecked, denoted_by}
@@ -42,24 +42,24 @@ TellsDropped told i = (why : OpFault) × Contains (errors told) (reading.Dropped
 abbrev pub TellsOp : List Told → ℕ → OpId → Type 0
 TellsOp told n i = Contains (errors told) (reading.Line n cause.Clash) ⊎ TellsDropped told i
 
--- each operation that a line denotes is told, or the site has or holds it
-abbrev pub KeepsOrTells : Option ℕ → List (ℕ × List ℕ) → List Told → SiteState → Type 0
+-- each operation that a line denotes is told, or the replica has or holds it
+abbrev pub KeepsOrTells : Option ℕ → List (ℕ × List ℕ) → List Told → ReplicaState → Type 0
 KeepsOrTells editor lines told x = (n : ℕ) (line : List ℕ) (a : Op) → Contains lines (n, line)
     → denoted_by editor line ≡ Ok (entry.Operation a) → HasOrHolds x a ⊎ TellsOp told n a.id
 
--- operations with equal ids that the site has or holds are equal
-abbrev pub HasOneById : SiteState → Type 0
+-- operations with equal ids that the replica has or holds are equal
+abbrev pub HasOneById : ReplicaState → Type 0
 HasOneById x = (a b : Op) → HasOrHolds x a → HasOrHolds x b → a.id ≡ b.id → a ≡ b
 
--- the operations that are not told: a site has them in a valid history, or holds them until they
+-- the operations that are not told: a replica has them in a valid history, or holds them until they
 -- are ready
 pub record AreKept (editor : Option ℕ) (lines : List (ℕ × List ℕ)) (told : List Told)
     : Type 0 where
-  pub site : SiteState
-  pub valid : IsValid site.ops
-  pub none : NoneIsReady site.ops site.held
-  pub one : HasOneById site
-  pub all : KeepsOrTells editor lines told site
+  pub replica : ReplicaState
+  pub valid : IsValid replica.ops
+  pub none : NoneIsReady replica.ops replica.held
+  pub one : HasOneById replica
+  pub all : KeepsOrTells editor lines told replica
 
 -- each fault that is told is one that the lines have
 abbrev pub TellsTrue : Option ℕ → List (ℕ × List ℕ) → List Told → Type 0

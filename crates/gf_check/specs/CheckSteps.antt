@@ -3,13 +3,12 @@ use Rattle.std.specs.Prelude.{◌≡◌, ◌⊎◌, ℕ, List, ⊤}
 use Rattle.gf_ops.specs.declared.op.Op.{Op}
 use Rattle.gf_causal.specs.HeldOperations.{IsClash}
 use Rattle.gf_causal.specs.Ready.{NoneIsReady}
-use Rattle.gf_site.specs.SiteState.{SiteState}
+use Rattle.gf_site.specs.ReplicaState.{ReplicaState}
 use Rattle.gf_replay.specs.declared.reading_error.LineCause.TheVariants as cause
 use Rattle.gf_replay.specs.declared.reading_error.ReadingError.{ReadingError}
 use Rattle.gf_replay.specs.declared.reading_error.ReadingError.TheVariants as reading
-use Rattle.gf_replay.specs.LineSteps.{RefusesSettling}
-use Rattle.gf_replay.specs.Taking.{HasOrHolds, KeepsAll, RefusesOp}
-use Rattle.gf_replay.specs.Taking.{Settles, TakesOp}
+use Rattle.gf_replay.specs.LineSteps.{RefusesStepping}
+use Rattle.gf_replay.specs.Taking.{HasOrHolds, KeepsAll, RefusesOp, StepsAll, TakesOp}
 use Rattle.gf_edit.specs.declared.entries.Entry.{Entry}
 use Rattle.gf_edit.specs.declared.entries.Entry.TheVariants as entry
 use Rattle.gf_check.specs.declared.telling.Telling.{Telling}
@@ -25,63 +24,56 @@ abbrev pub IsNone : Op → Type 0
 IsNone a = ⊥
 
 -- an operation of x is ready behind a valid history of others, which refuses it
-abbrev pub IsDropOf : SiteState → ReadingError → Type 0
+abbrev pub IsDropOf : ReplicaState → ReadingError → Type 0
 IsDropOf x (reading.Dropped i why) = RefusesAmong (HasOrHolds x) i why
 IsDropOf x other = ⊥
 
 -- what steps leave
-abbrev pub LeavesSteps : SiteState → SiteState → List Told → List Told → Type 0
+abbrev pub LeavesSteps : ReplicaState → ReplicaState → List Told → List Told → Type 0
 LeavesSteps x y told all = Leaves IsNone (IsDropOf x) ⊤ x y told all
 
 -- the same, and y holds nothing that is ready
-pub record LeavesNone (x y : SiteState) (told all : List Told) : Type 0 where
+pub record LeavesNone (x y : ReplicaState) (told all : List Told) : Type 0 where
   pub leaves : LeavesSteps x y told all
   pub none : NoneIsReady y.ops y.held
 
--- the site keeps the operations that it had, and its number
-abbrev pub KeepsSite : SiteState → SiteState → Type 0
-KeepsSite old new = KeepsAll old new × (new.number ≡ old.number)
-
--- the site settles, and has its number
-abbrev pub SettlesIn : SiteState → SiteState → Type 0
-SettlesIn old new = Settles old new × (new.number ≡ old.number)
-
--- the site steps, or the first fault that is told is that of an operation that didn't fit
-abbrev pub TellsDrop : SiteState → SiteState → List Told → Telling → Type 0
+-- the replica steps, or the first fault that is told is that of an operation that didn't fit
+abbrev pub TellsDrop : ReplicaState → ReplicaState → List Told → Telling → Type 0
 TellsDrop x y told t =
-    TellsFrom (KeepsSite x y) (RefusesSettling x) (LeavesSteps x y told) told t
+    TellsFrom (KeepsAll x y) (RefusesStepping x) (LeavesSteps x y told) told t
 
--- the site settles, or the first fault that is told is that of an operation that didn't fit
-abbrev pub TellsSteps : SiteState → SiteState → List Told → Telling → Type 0
+-- the replica steps until none is ready, or the first fault that is told is that of an operation
+-- that didn't fit
+abbrev pub TellsSteps : ReplicaState → ReplicaState → List Told → Telling → Type 0
 TellsSteps x y told t =
-    TellsFrom (SettlesIn x y) (RefusesSettling x) (LeavesNone x y told) told t
+    TellsFrom (StepsAll x y) (RefusesStepping x) (LeavesNone x y told) told t
 
 -- ---- one operation
 
 -- b is a, or x has or holds it
-abbrev pub IsOrHas : Op → SiteState → Op → Type 0
+abbrev pub IsOrHas : Op → ReplicaState → Op → Type 0
 IsOrHas a x b = (b ≡ a) ⊎ HasOrHolds x b
 
 -- the operation a of line n clashes with one of x, or one of a and x is refused
-abbrev pub IsFaultWith : ℕ → Op → SiteState → ReadingError → Type 0
+abbrev pub IsFaultWith : ℕ → Op → ReplicaState → ReadingError → Type 0
 IsFaultWith n a x (reading.Line m cause.Clash) = (m ≡ n) × IsClash x.held x.ops a
 IsFaultWith n a x (reading.Dropped i why) = RefusesAmong (IsOrHas a x) i why
 IsFaultWith n a x other = ⊥
 
 -- what an offer of the operation a of line n leaves. Where x held nothing that is ready, y holds
 -- nothing that is, and y has or holds a, or a is told
-pub record LeavesOp (n : ℕ) (a : Op) (x y : SiteState) (told all : List Told) : Type 0 where
+pub record LeavesOp (n : ℕ) (a : Op) (x y : ReplicaState) (told all : List Told) : Type 0 where
   pub leaves : Leaves (λ b. b ≡ a) (IsFaultWith n a x) (AreBefore n told) x y told all
   pub one : HasOneById x → HasOneById y
   pub none : NoneIsReady x.ops x.held → NoneIsReady y.ops y.held
   pub own : HasOrHolds y a ⊎ TellsOp all n a.id
 
 -- the operation a of line n is taken, or the first fault that is told refuses it
-abbrev pub TellsOffer : ℕ → Op → SiteState → SiteState → List Told → Telling → Type 0
+abbrev pub TellsOffer : ℕ → Op → ReplicaState → ReplicaState → List Told → Telling → Type 0
 TellsOffer n a x y told t =
     TellsFrom (TakesOp a x y) (RefusesOp n a x) (LeavesOp n a x y told) told t
 
 -- the operation of line n is taken, or a command, which changes nothing
-abbrev pub TellsEntry : ℕ → Entry → SiteState → SiteState → List Told → Telling → Type 0
+abbrev pub TellsEntry : ℕ → Entry → ReplicaState → ReplicaState → List Told → Telling → Type 0
 TellsEntry n (entry.Operation a) x y told t = TellsOffer n a x y told t
 TellsEntry n (entry.Command c) x y told t = (y ≡ x) × HasTold told t

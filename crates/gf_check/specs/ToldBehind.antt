@@ -1,7 +1,7 @@
 -- What is told behind other faults. No public clause cites this module.
 use Rattle.std.specs.Prelude.{◌≡◌, ◌<◌, ◌⊎◌, ℕ, List, [], ◌∷◌, Contains}
 use Rattle.gf_ops.specs.declared.op.Op.{Op}
-use Rattle.gf_site.specs.SiteState.{SiteState}
+use Rattle.gf_site.specs.ReplicaState.{ReplicaState}
 use Rattle.gf_replay.specs.declared.reading_error.LineCause.{LineCause}
 use Rattle.gf_replay.specs.declared.reading_error.ReadingError.{ReadingError}
 use Rattle.gf_replay.specs.declared.reading_error.ReadingError.TheVariants as reading
@@ -47,7 +47,7 @@ AreBefore n told = (m : ℕ) (why : LineCause) → Contains (errors told) (readi
 -- has, x has, or it is of the operations P. What is told besides is true by the second fact. Under
 -- the third one, all stay in order
 pub record Leaves (P : Op → Type 0) (true_fault : ReadingError → Type 0) (premise : Type 0)
-    (x y : SiteState) (told all : List Told) : Type 0 where
+    (x y : ReplicaState) (told all : List Told) : Type 0 where
   pub had : (a : Op) → HasOrHolds x a → HasOrHolds y a ⊎ TellsDropped all a.id
   pub back : (a : Op) → HasOrHolds y a → P a ⊎ HasOrHolds x a
   pub keeps : (e : ReadingError) → Contains (errors told) e → Contains (errors all) e

@@ -26,11 +26,11 @@ use gf_site::{NoTable, Replica, Step};
 use gf_streams::TextLines;
 use std::alloc::Global;
 
-/// A site with the operations so far, the lines by id, the faults so far, and the number of commands
+/// A replica with the operations so far, the lines by id, the faults so far, and the number of commands
 /// so far.
 #[derive(Drop)]
 struct Check {
-    site: Replica<NoTable>,
+    replica: Replica<NoTable>,
     seen: Seen,
     telling: Telling,
     commands: u64,
@@ -43,7 +43,7 @@ pub fn faults_of(alloc: Global, text: Vec<u8>, editor: Option<u8>) -> Result<Vec
     ensures { IfOk result (λ told. AnswersText editor text.items told.items) }
 {
     let mut check = Check {
-        site: Replica::new(alloc, 1),
+        replica: Replica::new(alloc),
         seen: Seen::new(alloc),
         telling: Telling::new(alloc),
         commands: 0,
@@ -54,7 +54,7 @@ pub fn faults_of(alloc: Global, text: Vec<u8>, editor: Option<u8>) -> Result<Vec
         lines.advance();
     }
     // The clause of `history` says that it is valid.
-    let _ = check.site.history();
+    let _ = check.replica.history();
     Ok(check.telling.into_text())
 }
 
@@ -68,7 +68,7 @@ fn take_line(
 ) -> Result<(), OutOfMemory>
     requires { IfSome editor IsSite }
     ensures { (told : List Told) → HasTold told check.old.telling → OnOk result
-        (TellsLine editor number line.now check.old.site check.new.site
+        (TellsLine editor number line.now check.old.replica check.new.replica
         told check.new.telling) }
 {
     match read_line(alloc, line, editor) {
@@ -104,12 +104,12 @@ fn take_entry(
 ) -> Result<(), OutOfMemory>
     requires { IsEntryInRange entry }
     ensures { (told : List Told) → HasTold told check.old.telling → OnOk result
-        (TellsEntry number entry check.old.site check.new.site told check.new.telling) }
+        (TellsEntry number entry check.old.replica check.new.replica told check.new.telling) }
 {
     match entry {
         Entry::Operation(op) => take_op(
             alloc,
-            &mut check.site,
+            &mut check.replica,
             &mut check.seen,
             &mut check.telling,
             number,
@@ -125,7 +125,7 @@ fn take_entry(
 /// Receives an operation, and steps until nothing is ready.
 fn take_op(
     alloc: Global,
-    site: &mut Replica<NoTable>,
+    replica: &mut Replica<NoTable>,
     seen: &mut Seen,
     telling: &mut Telling,
     number: u64,
@@ -133,13 +133,13 @@ fn take_op(
 ) -> Result<(), OutOfMemory>
     requires { IsInRange op }
     ensures { (told : List Told) → HasTold told telling.old → OnOk result
-        (TellsOffer number op site.old site.new told telling.new) }
+        (TellsOffer number op replica.old replica.new told telling.new) }
 {
     let copy = op.copy(alloc)?;
-    match site.receive(op) {
+    match replica.receive(op) {
         Ok(_) => {
             seen.put(number, copy)?;
-            settle(alloc, site, seen, telling)
+            step_all(alloc, replica, seen, telling)
         }
         Err(OfferFault::Clash) => tell_clash(alloc, seen, telling, number, &copy),
         Err(OfferFault::Range) => unreachable!(),
@@ -148,22 +148,22 @@ fn take_op(
 }
 
 /// Steps until nothing is ready, and tells each operation that is dropped.
-fn settle(
+fn step_all(
     alloc: Global,
-    site: &mut Replica<NoTable>,
+    replica: &mut Replica<NoTable>,
     seen: &Seen,
     telling: &mut Telling,
 ) -> Result<(), OutOfMemory>
     ensures { (told : List Told) → HasTold told telling.old → OnOk result
-        (TellsSteps site.old site.new told telling.new) }
+        (TellsSteps replica.old replica.new told telling.new) }
 {
     loop {
-        // The clauses of both calls say what every site keeps.
-        let _ = site.history();
-        let _ = site.held();
-        match site.step() {
+        // The clauses of both calls say what every replica keeps.
+        let _ = replica.history();
+        let _ = replica.held();
+        match replica.step() {
             Ok(Step::Applied(_)) => {}
-            Ok(Step::Dropped(id, fault)) => tell_drop(alloc, site, seen, telling, (id, fault))?,
+            Ok(Step::Dropped(id, fault)) => tell_drop(alloc, replica, seen, telling, (id, fault))?,
             Ok(Step::Idle) => return Ok(()),
             Err(OutOfMemory) => return Err(OutOfMemory),
         }
@@ -181,7 +181,7 @@ fn tell_line(
 ) -> Result<(), OutOfMemory>
     ensures tells { (told : List Told) → HasTold told check.old.telling → OnOk result
         (TellsOne (ReadingError.Line number cause) told check.new.telling) }
-    ensures site { check.new.site ≡ check.old.site }
+    ensures replica { check.new.replica ≡ check.old.replica }
 {
     let why = line_reason(alloc, line, cause, editor, &mut check.commands)?;
     check.telling.tell_line(number, cause, why.as_bytes())
@@ -209,7 +209,7 @@ fn tell_clash(
 /// Tells that an operation was dropped, if no line tells that drop with this cause.
 fn tell_drop(
     alloc: Global,
-    site: &Replica<NoTable>,
+    replica: &Replica<NoTable>,
     seen: &Seen,
     telling: &mut Telling,
     dropped: (OpId, OpFault),
@@ -221,7 +221,7 @@ fn tell_drop(
         return Ok(());
     }
     let reason = match seen.get(dropped.0) {
-        Some(last) => operation_reason(site.history(), &last.op, dropped.1),
+        Some(last) => operation_reason(replica.history(), &last.op, dropped.1),
         None => Reason::Unclear,
     };
     let why = text_of(alloc, reason)?;

@@ -13,8 +13,8 @@ use crate::lines::status_text;
 use crate::{ObjectStatus, State, object_statuses};
 use gf_base::OutOfMemory;
 use gf_ops::{Op, OpId};
-use gf_replay::read_site;
-use gf_site::Site;
+use gf_replay::read_replica;
+use gf_site::Replica;
 use gf_streams::{Sink, SinkFault, Source, write_whole};
 use gf_studio::{StudioError, input};
 use std::alloc::Global;
@@ -91,21 +91,21 @@ fn status_of<T: Threads + Sync>(
     ensures refused { IfErr result (RefusesReading bytes.items) }
     ensures between { IfErr result IsBetween }
 {
-    let site = read_site(rt, alloc, bytes, workers)?;
-    match tell(alloc, &site) {
+    let replica = read_replica(rt, alloc, bytes, workers)?;
+    match tell(alloc, &replica) {
         Ok(status) => Ok(status),
         Err(OutOfMemory) => Err(StudioError::OutOfMemory),
     }
 }
 
-/// The status of a site's history.
-fn tell(alloc: Global, site: &Site) -> Result<Status, OutOfMemory>
+/// The status of a replica's history.
+fn tell(alloc: Global, replica: &Replica) -> Result<Status, OutOfMemory>
     ensures { IfOk result (λ status.
-        TellsStatus site.now.ops site.now.held status.text.items status.state) }
+        TellsStatus replica.now.ops replica.now.held status.text.items status.state) }
 {
-    let history = site.history();
-    let waiting = site.held_ops(alloc)?;
-    let objects = object_statuses(alloc, &site.versions())?;
+    let history = replica.history();
+    let waiting = replica.held_ops(alloc)?;
+    let objects = object_statuses(alloc, &replica.versions())?;
     let text = status_text(alloc, history, &waiting, &objects)?;
     let state = state_of(&waiting, &objects);
     Ok(Status { text, state })

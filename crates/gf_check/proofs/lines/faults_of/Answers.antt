@@ -3,7 +3,7 @@ use Rattle.gf_check.proofs.lines.faults_of.Goals as goal
 
 pub loop-number-init : goal.loop-number-init
 loop-number-init c = rw (c.new-lines.ensures, c.new.ensures)
-    (checked_none c.args.editor c.args.text.items 1 _ c.new-3.ensures)
+    (checked_none c.args.editor c.args.text.items _ c.new-3.ensures)
 
 pub loop-number-preserved : goal.loop-number-preserved
 loop-number-preserved c =
@@ -13,6 +13,6 @@ loop-number-preserved c =
 
 pub returns : goal.returns
 returns c = rw c.into_text.ensures
-    (checked_all c.args.editor c.args.text.items c.loop-number.check.site
+    (checked_all c.args.editor c.args.text.items c.loop-number.check.replica
     c.loop-number.check.telling c.history.ensures.valid
     (rw c.in_default.ensures.none at c.loop-number.invariant))
