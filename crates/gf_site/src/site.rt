@@ -44,6 +44,14 @@ impl<T: Table> Model for Site<T> {
 }
 
 impl Site<GroupTable> {
+    /// A site that has and holds nothing.
+    pub fn new(alloc: Global, number: u8) -> Site
+        requires { IsSite number }
+        ensures { result ≡ new_site number }
+    {
+        Site::with_replica(alloc, number, Replica::new(alloc))
+    }
+
     /// The versions of all objects of the history.
     pub fn table(&self) -> &GroupTable
         ensures { StandsFor self.now.ops result.now }
@@ -61,14 +69,6 @@ impl Site<GroupTable> {
 }
 
 impl<T: Table> Site<T> {
-    /// A site that has and holds nothing.
-    pub fn new(alloc: Global, number: u8) -> Site<T>
-        requires { IsSite number }
-        ensures { result ≡ new_site number }
-    {
-        Site::with_replica(alloc, number, Replica::new(alloc))
-    }
-
     /// The site of this number that has and holds what the replica does.
     pub fn with_replica(alloc: Global, number: u8, replica: Replica<T>) -> Site<T>
         requires { IsSite number }
