@@ -73,7 +73,7 @@ def way():
     picture = Picture(900, 310)
     picture.box(20, 40, 130, 60, "operation lines", "a file a site")
     picture.box(240, 40, 130, 60, "operations", "gf_json")
-    picture.box(460, 20, 190, 100, "site", "buffer   gf_causal", "history  gf_ops", "table    gf_table")
+    picture.box(460, 20, 190, 100, "replica", "buffer   gf_causal", "history  gf_ops", "table    gf_table")
     picture.box(460, 180, 190, 70, "visible versions", "gf_visible, gf_versions", "topmost first")
     picture.box(240, 180, 130, 70, "drawing", "gf_drawing")
     picture.box(20, 150, 130, 50, "FIG text", "gf_fig_write")

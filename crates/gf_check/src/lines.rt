@@ -26,8 +26,7 @@ use gf_site::{NoTable, Replica, Step};
 use gf_streams::TextLines;
 use std::alloc::Global;
 
-/// A replica with the operations so far, the lines by id, the faults so far, and the number of commands
-/// so far.
+/// What was read so far: a replica, the lines by id, the faults, and the number of commands.
 #[derive(Drop)]
 struct Check {
     replica: Replica<NoTable>,

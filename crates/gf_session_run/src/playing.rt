@@ -14,7 +14,7 @@ use gf_gate::Gate;
 use gf_session::{Done, SessionError, run_session};
 use gf_shape::OutOfMemory;
 use gf_site::Site;
-use gf_studio::{StudioError, draw_site};
+use gf_studio::{StudioError, draw_replica};
 use gf_worker::Script;
 use std::alloc::Global;
 use std::sync::Wait;
@@ -60,7 +60,7 @@ fn tell(alloc: Global, dones: &[Done], site: &Site) -> Result<Vec<u8>, StudioErr
     ensures ok { IfOk result (λ text. TellsHistory site.now.ops dones.now text.items) }
     ensures err { IfErr result (RefusesTelling site.now.ops) }
 {
-    let drawing = draw_site(alloc, site)?;
+    let drawing = draw_replica(alloc, site.replica())?;
     let Ok(fig) = fig_bytes(alloc, &drawing) else {
         return Err(StudioError::OutOfMemory);
     };

@@ -11,7 +11,8 @@ use Rattle.gf_ops.specs.declared.op.OpId.{OpId}
 use Rattle.gf_ops.specs.Accepted.{AreAccepted}
 use Rattle.gf_json.specs.OperationLines.{denoted}
 use Rattle.gf_json.specs.WrittenLines.{op_text}
-use Rattle.gf_site.specs.SiteState.{SiteState}
+use Rattle.gf_site.specs.ReplicaState.{ReplicaState}
+use Rattle.gf_site.specs.SiteState.{at_site}
 use Rattle.gf_replay.specs.Denoting.{AreLinesOf}
 use Rattle.gf_replay.specs.Waiting.{DenotesWaiting}
 use Rattle.gf_streams.specs.Taken.{AppendsPrefix}
@@ -54,30 +55,27 @@ use Rattle.gf_take_run.specs.TakeSteps.{TakesSo}
 
 -- ---- what was read
 
-module _ (s : ℕ) (lines : List ℕ) (x : SiteState) (d : DenotesWaiting lines x.ops x.held)
-    (number : x.number ≡ s) where
+module _ (s : ℕ) (lines : List ℕ) (x : ReplicaState) (d : DenotesWaiting lines x.ops x.held) where
   -- lines by which nothing is blocked denote the history
-  pub denotes_lines : AreAccepted x.ops → IsUnblocked x → DenotesLines s lines x.ops
+  pub denotes_lines : AreAccepted x.ops → IsUnblocked (at_site s x) → DenotesLines s lines x.ops
   denotes_lines accepted none = record {
     ops = d.ops;
     denoted = d.lines;
     read = record {
       delivers = d.delivers;
       accepted = accepted;
-      free = none_blocks s d.ops x d.others
-          (subst (λ n. find (is_blocking n x.ops) x.held ≡ None) number none);
+      free = none_blocks s d.ops x d.others none;
     };
   }
 
   -- what blocks the site is in the lines
-  pub has_blocking : (i j : OpId) → HoldsBlocking x i j → HasBlockingLine s lines i j
+  pub has_blocking : (i j : OpId) → HoldsBlocking (at_site s x) i j → HasBlockingLine s lines i j
   has_blocking i j b = record {
     history = x.ops;
     waiting = x.held;
     denoted = d;
     op = b.op;
-    blocking = first_blocks s d.ops x d.others b.op
-        (subst (λ n. find (is_blocking n x.ops) x.held ≡ Some b.op) number b.first);
+    blocking = first_blocks s d.ops x d.others b.op b.first;
     named = b.named;
     waits = b.waits;
   }

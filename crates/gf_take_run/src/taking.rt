@@ -32,7 +32,7 @@ use gf_import::{CreationError, creations};
 use gf_ops::{Change, Clock, Op, OpId};
 use gf_replay::read_replica;
 use gf_shape::{OutOfMemory, Outline};
-use gf_site::{NoTable, Replica, Site};
+use gf_site::{NoTable, Site};
 use gf_studio::StudioError;
 use gf_take::{TakeError, base_site, looks_like, take};
 use std::alloc::Global;
@@ -80,9 +80,9 @@ fn take_parts<T: Threads + Sync>(
     ensures refused { IfErr result (RefusesParts site parts.lines.items parts.fig.items) }
     ensures between { IfErr result (λ e. IfSome (of_take e) IsBetween) }
 {
-    let replica = read_lines(rt, alloc, parts.lines, site, workers)?;
+    let taker = read_lines(rt, alloc, parts.lines, site, workers)?;
     let drawn = read_drawing(alloc, &parts.fig)?;
-    take_drawing(alloc, &replica, drawn)
+    take_drawing(alloc, &taker, drawn)
 }
 
 /// The site that has the operations of these lines, where nothing that waits blocks it.
@@ -92,7 +92,7 @@ fn read_lines<T: Threads + Sync>(
     lines: Vec<u8>,
     site: u8,
     workers: u8,
-) -> Result<Replica<NoTable>, TakeRunError>
+) -> Result<Site<NoTable>, TakeRunError>
     requires site { IsSite site }
     requires workers { (1 ≤ workers) × (workers ≤ 16) }
     ensures ok { IfOk result (λ x. DenotesLines site lines.items x.ops) }
@@ -100,14 +100,15 @@ fn read_lines<T: Threads + Sync>(
     ensures refused { (fig : List ℕ) → IfErr result (RefusesParts site lines.items fig) }
     ensures between { IfErr result (λ e. IfSome (of_take e) IsBetween) }
 {
-    let replica = match read_replica(rt, alloc, site, lines, workers) {
+    let replica = match read_replica(rt, alloc, lines, workers) {
         Ok(replica) => replica,
         Err(fault) => return Err(TakeRunError::Run(StudioError::from(fault))),
     };
     // The clause of `history` says that each operation was accepted.
     let _ = replica.history();
-    match check_waiting(alloc, &replica) {
-        Ok(()) => Ok(replica),
+    let taker = Site::with_replica(alloc, site, replica);
+    match check_waiting(alloc, &taker) {
+        Ok(()) => Ok(taker),
         Err(EditError::Waits(id, other)) => Err(TakeRunError::Waits(id, other)),
         Err(EditError::Run(fault)) => Err(TakeRunError::Run(fault)),
         Err(EditError::Refused(..)) => unreachable!(),
@@ -191,14 +192,14 @@ fn fig_refusal(alloc: Global, fig: &[u8]) -> TakeRunError
 /// What a site takes of a drawing.
 fn take_drawing(
     alloc: Global,
-    replica: &Replica<NoTable>,
+    taker: &Site<NoTable>,
     drawn: ReadDrawing,
 ) -> Result<TakenText, TakeRunError>
-    ensures ok { IfOk result (TakesSo replica.now.number replica.now.ops drawn.drawing drawn.seen) }
+    ensures ok { IfOk result (TakesSo taker.now.number taker.now.ops drawn.drawing drawn.seen) }
     ensures refused { IfErr result
-        (RefusesDrawing replica.now.number replica.now.ops drawn.drawing drawn.seen) }
+        (RefusesDrawing taker.now.number taker.now.ops drawn.drawing drawn.seen) }
 {
-    let (history, site) = (replica.history(), replica.number());
+    let (history, site) = (taker.history(), taker.number());
     check_known(history, site, &drawn.seen)?;
     check_age(history, site, &drawn.seen)?;
     let mut base = base_site(alloc, site, history, &drawn.seen)?;

@@ -20,7 +20,7 @@ use test_kit_drawings::figure;
 
 pub(crate) const NAMES: &str = "
 compile
-draw_site may do without
+draw_replica may do without
 drawing_of_fig
 add_colour
 add_figure
@@ -40,7 +40,7 @@ creations
 pub(crate) fn tried(alloc: Global, name: &str, marks: &mut Marks) -> Option<Came> {
     let came = match name {
         "compile" => compile(alloc, marks),
-        "draw_site" => draw_site(alloc, marks),
+        "draw_replica" => draw_replica(alloc, marks),
         "drawing_of_fig" => Some(drawing_of_fig(alloc, marks)),
         "add_colour" => add_colour(alloc, marks),
         "add_figure" => add_figure(alloc, marks),
@@ -82,14 +82,14 @@ fn is_compiled(alloc: Global, answer: Result<Drawing<AnyShape>, CompileFault>) -
     }
 }
 
-fn draw_site(alloc: Global, marks: &mut Marks) -> Option<Came> {
+fn draw_replica(alloc: Global, marks: &mut Marks) -> Option<Came> {
     let site = site(alloc, RED_BOX_MADE)?;
     marks.begin();
-    let first = gf_studio::draw_site(alloc, &site);
+    let first = gf_studio::draw_replica(alloc, site.replica());
     marks.end();
     Some(match first {
         Err(CompileFault::OutOfMemory) => {
-            let next = gf_studio::draw_site(alloc, &site);
+            let next = gf_studio::draw_replica(alloc, site.replica());
             Came::after_memory(true, is_compiled(alloc, next))
         }
         first => Came::first(is_compiled(alloc, first)),

@@ -9,4 +9,5 @@ returns-in-Ok-told-clause-ok c =
     let dones = c.args.dones.now in
     let is = c.in-Ok-told.ensures ∙ ap (λ t. report_text dones ++ t) c.as_slice.ensures.value in
     told_history c.args.site.now.ops dones c.in-Ok-told.text.items fig c.in_ok-drawing.drawing
-    c.in_ok-drawing.ensures.ok c.in-Ok.ensures.text c.in-Ok.ensures.reads is
+    (rw c.replica.ensures at c.in_ok-drawing.ensures.ok) c.in-Ok.ensures.text c.in-Ok.ensures.reads
+    is

@@ -22,8 +22,8 @@ returns-clause-ok c =
     let written : AreWritten new c.in_ok-lines_of.field-0.items =
     subst (λ (os : List Op). AreWritten os c.in_ok-lines_of.field-0.items) c.deref.ensures.value
     c.in_ok-lines_of.ensures in
-    takes_so c.args.replica.now.number c.number-site.result c.in_ok-base.base.number
-    c.args.replica.now.ops
+    takes_so c.args.taker.now.number c.number-site.result c.in_ok-base.base.number
+    c.args.taker.now.ops
     c.history-history.result.now.ops c.args.drawn.drawing c.args.drawn.seen _ c.in_ok-base.base.ops
     c.in_ok-plan.plan.changes.items new c.number-site.ensures.number c.in_ok-base.ensures.number
     c.history-history.ensures.ops c.in_ok-check_known.ensures.ok c.in_ok-check_age.ensures.ok
@@ -38,8 +38,8 @@ returns-in_err-ops-clause-refused c =
     let base = c.in_ok-base.base in
     let changes = c.in_ok-plan.plan.changes.items in
     let d = c.args.drawn.drawing in
-    rw p.1 (making_refused c.args.replica.now.number c.number-site.result base.number
-    c.args.replica.now.ops c.history-history.result.now.ops base.ops changes d c.args.drawn.seen p.0
+    rw p.1 (making_refused c.args.taker.now.number c.number-site.result base.number
+    c.args.taker.now.ops c.history-history.result.now.ops base.ops changes d c.args.drawn.seen p.0
     c.number-site.ensures.number c.in_ok-base.ensures.number c.history-history.ensures.ops
     c.in_ok-base.ensures.base
     (subst (RefusesMaking base.number base.ops changes d) (sym p.2) c.in_err-ops.ensures.refused))
@@ -50,8 +50,8 @@ returns-in_err-thin-clause-refused c =
     c.from_residual-in_err-thin.ensures.1 in
     let base = c.in_ok-base.base in
     let d = c.args.drawn.drawing in
-    rw p.1 (making_refused c.args.replica.now.number c.number-site.result base.number
-    c.args.replica.now.ops c.history-history.result.now.ops base.ops [] d c.args.drawn.seen p.0
+    rw p.1 (making_refused c.args.taker.now.number c.number-site.result base.number
+    c.args.taker.now.ops c.history-history.result.now.ops base.ops [] d c.args.drawn.seen p.0
     c.number-site.ensures.number c.in_ok-base.ensures.number c.history-history.ensures.ops
     c.in_ok-base.ensures.base
     (subst (RefusesMaking base.number base.ops [] d) (sym p.2) (c.in_err-thin.ensures.refused d)))
