@@ -1,7 +1,7 @@
 -- What was read of operation lines, and what is written of operations.
 use Rattle.std.proofs.Common.{◌≡◌, ℕ, ◌+◌, ◌<◌, List, [], ◌∷◌, ◌++◌, length, get_or, take, refl}
 use Rattle.std.proofs.Common.{sym, ap, subst, ◌∙◌, inl, inr}
-use Rattle.std.specs.Prelude.{All, Err, IfErr, IfOk, IfSome, None, Ok, Option, Result, Some, find}
+use Rattle.std.specs.Prelude.{All, Err, IfErr, IfOk, IfSome, None, Ok, Option, Result, Some}
 use Rattle.std.proofs.lemmas.Grind.{flat_map-append}
 use Rattle.std.proofs.lemmas.List.{append-nil, take_more}
 use Rattle.std.proofs.lemmas.List.Elements.{Contains-push_cases}
@@ -20,7 +20,6 @@ use Rattle.gf_streams.specs.TextLines.{numbered_lines}
 use Rattle.gf_edit.specs.EntrySteps.{HoldsBlocking, IsUnblocked}
 use Rattle.gf_edit.specs.MadeOperations.{made_of, made_until}
 use Rattle.gf_edit.specs.Making.{written_line, written_lines}
-use Rattle.gf_edit.specs.Waiting.{is_blocking}
 use Rattle.gf_edit.proofs.BlockingLemmas.{first_blocks, none_blocks}
 use Rattle.gf_edit.proofs.CleanLemmas.{op_clean}
 use Rattle.gf_edit.proofs.MakingLemmas.{made_push}
