@@ -3,7 +3,7 @@ use Rattle.std.specs.Prelude.{ℕ, zero, suc, [], ◌∷◌, drop, Vec, slice_in
 use Rattle.std.specs.Prelude.{◌-◌, ◌*◌, ◌/◌, ◌%◌, min, List, ◌++◌, length, take, Option}
 use Rattle.std.proofs.Common.{arith, ap, append-nil, append_assoc, sym, refl, subst, Global, ◌∙◌}
 use Rattle.std.specs.Io.KnownBytes.{Appends}
-use Rattle.std.proofs.KnownBytes.{Appends-nil, Appends-trans}
+use Rattle.std.proofs.KnownBytes.{Appends-trans}
 use Rattle.std.proofs.lemmas.List.{length-append, take-append-le}
 use Rattle.std.proofs.Math.Seq.{take-append-add}
 use Rattle.gf_shape.specs.declared.colour.Rgb.{Rgb}
@@ -147,55 +147,3 @@ front_first a b xs whole rest e p =
   where
     longer : (n x r : ℕ) → n ≤ x → n ≤ x + r
     longer n x r l = omega arith
-
--- rows are painted down to `top`: those from `done` on in the pieces, and those before are written
-pub record ArePainted (colour : Point → Rgb) (w : View) (old new : Option (List ℕ))
-    (pieces : List (Vec ℕ Global)) (top : ℕ) : Type 0 where
-  pub done : ℕ
-  pub count : ℕ
-  pub all : top ≡ done + count
-  pub bytes : bytes_in pieces ≡ rows colour w done count
-  pub wrote : Appends old new (rows colour w 0 done)
-
--- the first round is painted, and nothing is written
-pub painted_first : (colour : Point → Rgb) (w : View) (b : BandView) (old : Option (List ℕ))
-    (pieces : List (Vec ℕ Global)) (top : ℕ) → b ≡ record { window = w; top = 0; count = top }
-    → bytes_in pieces ≡ bytes_of colour b → ArePainted colour w old old pieces top
-painted_first colour w b old pieces top e is = record {
-  done = 0;
-  count = top;
-  all = omega arith;
-  bytes = is ∙ ap (bytes_of colour) e;
-  wrote = Appends-nil old;
-}
-
-module _ (colour : Point → Rgb) (w : View) (old mid new : Option (List ℕ))
-    (pieces : List (Vec ℕ Global)) (top : ℕ) (p : ArePainted colour w old mid pieces top) where
-  -- the pieces are written
-  pub painted_written : Appends mid new (bytes_in pieces) → Appends old new (rows colour w 0 top)
-  painted_written wrote = subst (λ n. Appends old new (rows colour w 0 n)) (sym p.all)
-      (rows_written colour w p.done p.count old mid new p.wrote
-      (subst (Appends mid new) p.bytes wrote))
-
-  -- and the next round is painted
-  pub painted_next : (b : BandView) (n : ℕ) (next : List (Vec ℕ Global))
-      → b ≡ record { window = w; top = top; count = n } → Appends mid new (bytes_in pieces)
-      → bytes_in next ≡ bytes_of colour b → ArePainted colour w old new next (top + n)
-  painted_next b n next e wrote is = record {
-    done = top;
-    count = n;
-    all = refl;
-    bytes = is ∙ ap (bytes_of colour) e;
-    wrote = painted_written wrote;
-  }
-
-  -- a front of the pieces is written
-  pub painted_front : (height : ℕ) → top ≤ height → AppendsPrefix mid new (bytes_in pieces)
-      → AppendsPrefix old new (rows colour w 0 height)
-  painted_front height within front =
-      let all = p.all in
-      let inside : p.done + p.count ≤ height = omega (arith, all, within) in
-      front_more old mid new (rows colour w 0 p.done) (rows colour w p.done p.count)
-      (rows colour w 0 height) (rows colour w (p.done + p.count) (height - (p.done + p.count)))
-      (rows_parted colour w height p.done p.count inside) p.wrote
-      (subst (AppendsPrefix mid new) p.bytes front)
