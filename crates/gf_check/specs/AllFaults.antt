@@ -43,7 +43,8 @@ abbrev pub TellsOp : List Told → ℕ → OpId → Type 0
 TellsOp told n i = Contains (errors told) (reading.Line n cause.Clash) ⊎ TellsDropped told i
 
 -- each operation that a line denotes is told, or the replica has or holds it
-abbrev pub KeepsOrTells : Option ℕ → List (ℕ × List ℕ) → List Told → ReplicaState → Type 0
+abbrev pub KeepsOrTells : Option ℕ → List (ℕ × List ℕ) → List Told → ReplicaState
+    → Type 0
 KeepsOrTells editor lines told x = (n : ℕ) (line : List ℕ) (a : Op) → Contains lines (n, line)
     → denoted_by editor line ≡ Ok (entry.Operation a) → HasOrHolds x a ⊎ TellsOp told n a.id
 

@@ -69,11 +69,13 @@ pub record LeavesOp (n : ℕ) (a : Op) (x y : ReplicaState) (told all : List Tol
   pub own : HasOrHolds y a ⊎ TellsOp all n a.id
 
 -- the operation a of line n is taken, or the first fault that is told refuses it
-abbrev pub TellsOffer : ℕ → Op → ReplicaState → ReplicaState → List Told → Telling → Type 0
+abbrev pub TellsOffer : ℕ → Op → ReplicaState → ReplicaState → List Told → Telling
+    → Type 0
 TellsOffer n a x y told t =
     TellsFrom (TakesOp a x y) (RefusesOp n a x) (LeavesOp n a x y told) told t
 
 -- the operation of line n is taken, or a command, which changes nothing
-abbrev pub TellsEntry : ℕ → Entry → ReplicaState → ReplicaState → List Told → Telling → Type 0
+abbrev pub TellsEntry : ℕ → Entry → ReplicaState → ReplicaState → List Told → Telling
+    → Type 0
 TellsEntry n (entry.Operation a) x y told t = TellsOffer n a x y told t
 TellsEntry n (entry.Command c) x y told t = (y ≡ x) × HasTold told t

@@ -60,7 +60,8 @@ IsLineFault editor text x cause.Range = denoted_by editor text ≡ Err line.Rang
 IsLineFault editor text x cause.Clash = ClashesLine editor text x
 
 -- why line n is not taken
-abbrev pub RefusesLine : Option ℕ → ℕ → List ℕ → ReplicaState → ReadingError → Type 0
+abbrev pub RefusesLine : Option ℕ → ℕ → List ℕ → ReplicaState → ReadingError
+    → Type 0
 RefusesLine editor n text x (reading.Line m why) = (m ≡ n) × IsLineFault editor text x why
 RefusesLine editor n text x (reading.Dropped i why) = DropsLine editor text x i why
 RefusesLine editor n text x reading.OutOfMemory = ⊤
@@ -88,7 +89,8 @@ pub record LeavesLine (editor : Option ℕ) (n : ℕ) (text : List ℕ) (x y : R
       → Contains (errors all) (of_line n e)
 
 -- line n is taken, or the first fault that is told refuses it
-abbrev pub TellsLine : Option ℕ → ℕ → List ℕ → ReplicaState → ReplicaState → List Told → Telling
+abbrev pub TellsLine : Option ℕ → ℕ → List ℕ → ReplicaState → ReplicaState
+    → List Told → Telling
     → Type 0
 TellsLine editor n text x y told t = TellsFrom (TakesLine editor text x y)
     (RefusesLine editor n text x) (LeavesLine editor n text x y told) told t
@@ -115,7 +117,8 @@ pub record HasRead (editor : Option ℕ) (bytes : List ℕ) (left : List (ℕ ×
 
 -- the first fault that is told is one of the bytes; without one, the lines before those left were
 -- read
-abbrev pub BeginsBefore : Option ℕ → List ℕ → List (ℕ × List ℕ) → ReplicaState → List Told
+abbrev pub BeginsBefore : Option ℕ → List ℕ → List (ℕ × List ℕ) → ReplicaState
+    → List Told
     → Type 0
 BeginsBefore editor bytes left x [] = HasRead editor bytes left x
 BeginsBefore editor bytes left x (t ∷ ts) = IsFaultOf editor bytes t.error

@@ -1,5 +1,6 @@
 -- Ids that are read one after the other. No public clause cites this module.
-use Rattle.std.specs.Prelude.{Bool, false, ℤ, List, ◌∷◌, Option, Some, None, Ok, Err, if◌then◌else◌}
+use Rattle.std.specs.Prelude.{Bool, false, ℤ, List, ◌∷◌, Option, Some, None, Ok, Err}
+use Rattle.std.specs.Prelude.{if◌then◌else◌}
 use Rattle.std.specs.Ordering.{is_lt}
 use Rattle.gf_ops.specs.OperationOrder.{rises}
 use Rattle.gf_json.specs.LineValues.{Got}

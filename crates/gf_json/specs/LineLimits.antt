@@ -63,7 +63,8 @@ clock ds = if length ds == 8 then mapped (λ ns. record { 0 = ns }) (each entry_
 
 -- a point, by its two coordinates
 abbrev pub point_value : Data → Got Point
-point_value d = mapped (λ p. record { x = p.0; y = p.1 }) (pair coordinate_value coordinate_value d)
+point_value d = mapped (λ p. record { x = p.0; y = p.1 })
+    (pair coordinate_value coordinate_value d)
 
 -- a polygon has 3 to 64 points
 abbrev pub counted : ℕ → Got ℕ

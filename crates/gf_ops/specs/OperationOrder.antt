@@ -1,5 +1,6 @@
 -- Causal order and concurrency of operations (Sun and Chen, ACM TOCHI 9(1), 2002).
-use Rattle.std.specs.Prelude.{◌≢◌, ℕ, ◌-◌, ◌≤◌, Bool, true, ◌&&◌, List, ◌∷◌, slice_index, count_by}
+use Rattle.std.specs.Prelude.{◌≢◌, ℕ, ◌-◌, ◌≤◌, Bool, true, ◌&&◌, List}
+use Rattle.std.specs.Prelude.{◌∷◌, slice_index, count_by}
 use Rattle.std.specs.Prelude.{nat_eq}
 use Rattle.std.specs.declared.cmp.Ordering.{Ordering}
 use Rattle.std.specs.Ordering.{ordering_then, nat_cmp, is_lt}

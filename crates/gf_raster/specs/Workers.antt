@@ -6,7 +6,8 @@ use Rattle.gf_base.specs.declared.memory.OutOfMemory.{OutOfMemory}
 
 -- each of the n values is one that a call of f with its place may give; the equation shows the
 -- prover at which term to use the rest
-abbrev pub GivesAll : {F X : Type 0} → Shared F (ℕ × Unit {0}) (Result X OutOfMemory) → F → ℕ
+abbrev pub GivesAll : {F X : Type 0} → Shared F (ℕ × Unit {0}) (Result X OutOfMemory)
+    → F → ℕ
     → List X → Type 0
 GivesAll {F} {X} g f n xs = (i : ℕ) (d : X) → i < n
     → (slice_index_or xs i d ≡ slice_index_or xs i d)

@@ -17,7 +17,8 @@ use Rattle.gf_replay.specs.Denoting.{AreLinesOf}
 use Rattle.gf_replay.specs.Taking.{DropsBehind, DropsReady, HasTaken, TakesOp}
 
 -- the lines before those that are left denote operations that were taken, and no held one is ready
-pub record HasRead (bytes : List ℕ) (left : List (ℕ × List ℕ)) (x : ReplicaState) : Type 0 where
+pub record HasRead (bytes : List ℕ) (left : List (ℕ × List ℕ))
+    (x : ReplicaState) : Type 0 where
   pub before : List (ℕ × List ℕ)
   pub whole : numbered_lines bytes ≡ before ++ left
   pub ops : List Op
@@ -32,8 +33,8 @@ pub record TakesLine (bytes : List ℕ) (old new : ReplicaState) : Type 0 where
   pub takes : TakesOp op old new
 
 -- the line denotes an operation, with which one under this id doesn't fit, for this fault
-pub record DropsLine (bytes : List ℕ) (x : ReplicaState) (id : OpId) (fault : OpFault) : Type
-    0 where
+pub record DropsLine (bytes : List ℕ) (x : ReplicaState) (id : OpId)
+    (fault : OpFault) : Type 0 where
   pub op : Op
   pub denotes : denoted bytes ≡ Ok op
   pub behind : DropsBehind op x id fault

@@ -1,6 +1,7 @@
 -- The chains that are kept, and the list of all chains that they are seen as. No public clause
 -- cites this module.
-use Rattle.std.specs.Prelude.{◌≡◌, ℕ, zero, suc, ◌+◌, ◌<◌, ◌≤◌, List, [], ◌∷◌, cond, None}
+use Rattle.std.specs.Prelude.{◌≡◌, ℕ, zero, suc, ◌+◌, ◌<◌, ◌≤◌, List, []}
+use Rattle.std.specs.Prelude.{◌∷◌, cond, None}
 use Rattle.std.specs.Prelude.{Some, slice_get, unwrap_or}
 use Rattle.std.specs.BTreeMap.{is_at}
 use Rattle.std.specs.Map.{lookup}

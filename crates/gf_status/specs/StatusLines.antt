@@ -86,7 +86,8 @@ hidings_line o (i ∷ j ∷ ids) = crossed_line o i (j ∷ ids)
 -- the line that the operations under these ids changed of the object o what is hidden
 unfoldable pub changed_line : ObjectId → List OpId → List ℕ
 changed_line o ids =
-    codes "object " ++ id_text o.0 ++ codes " hidden, changed by" ++ spaced_ids_text ids ++ codes "\n"
+    codes "object " ++ id_text o.0 ++ codes " hidden, changed by" ++ spaced_ids_text ids
+    ++ codes "\n"
 
 -- the line of an object of which something is hidden, if operations changed that
 abbrev pub hidden_line : ObjectId → List OpId → List ℕ

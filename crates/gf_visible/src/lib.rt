@@ -7,8 +7,8 @@
 //! - [`ranked_within`]: the ranked list of the visible versions of a history; [`ranked_all`]: the
 //!   same with no bound, as `ranked` gives it; [`ranked_with`]: the same from a history and a table.
 //! - [`showing_within`]: the largest compatible sets of positions that show, but no more than so
-//!   many. A [`Showing`] tells what positions do to each other. Each position is chosen or left out,
-//!   and a partial choice is dropped as soon as it can't hold.
+//!   many. A [`Showing`] tells what positions do to each other. Each position is chosen or left
+//!   out, and a partial choice is dropped as soon as it can't hold.
 //! - [`one_pass_finds_the_largest_sets_that_show`]: the law of the pass;
 //!   [`the_choices_are_the_largest_sets_that_show`]: the law of the search.
 #![tactic(auto)]
